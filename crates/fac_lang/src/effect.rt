@@ -1,0 +1,98 @@
+//! Stack effects, which contracts see as trees.
+ghost use Rattle.std.specs.Prelude.{◌≡◌, IfOk};
+
+use crate::{Duplicate, List, Memory, Text};
+use std::alloc::Global;
+use std::marker::Model;
+
+/// A stack effect: the row variable and the inputs of its left side, and what it leaves. Contracts see it as a tree.
+#[derive(Drop)]
+#[cycle(effect)]
+pub struct Effect {
+    /// The row variable of the inputs, with its two dots.
+    pub row_in: Option<Text>,
+    /// The inputs, the deepest first.
+    pub ins: Vec<Input>,
+    pub outs: Outs,
+}
+
+/// An input, with the effect of a quotation where one is written.
+#[derive(Drop)]
+#[cycle(effect)]
+pub struct Input {
+    pub name: Text,
+    pub quot: Option<Box<Effect>>,
+}
+
+/// What an effect leaves.
+#[derive(Drop)]
+pub enum Outs {
+    /// The word doesn't return.
+    Never,
+    Left {
+        row: Option<Text>,
+        /// The outputs, the deepest first.
+        names: List<Text>,
+    },
+}
+
+impl Model for Effect {
+    ghost use Rattle.fac_lang.specs.Signatures.{Signature, coded_signature};
+
+    ghost Value = { Signature };
+
+    ghost coded = { coded_signature };
+
+    ghost use Rattle.fac_lang.specs.EffectView.{effect_tree};
+    ghost use Rattle.fac_lang.specs.Signatures.{signature_depth};
+
+    ghost view = { effect_tree };
+
+    ghost size = { signature_depth };
+
+    ghost use Rattle.fac_lang.specs.EffectFalls.{deep_falls};
+
+    ghost size_decreases = { λ e h. deep_falls e.ins.items };
+}
+
+impl Duplicate for Outs {
+    fn copy(&self, alloc: Global) -> Result<Outs, Memory> {
+        match self {
+            Outs::Never => Ok(Outs::Never),
+            Outs::Left { row, names } => {
+                let row = row.copy(alloc)?;
+                let names = names.copy(alloc)?;
+                Ok(Outs::Left { row, names })
+            }
+        }
+    }
+}
+
+impl Effect {
+    /// An equal effect.
+    #[cycle(copy)]
+    pub fn copy(&self, alloc: Global) -> Result<Effect, Memory>
+        ensures { IfOk result (λ e. e ≡ self.now) }
+    {
+        let row_in = self.row_in.copy(alloc)?;
+        let outs = self.outs.copy(alloc)?;
+        let mut ins = Vec::new(alloc);
+        for input in &self.ins {
+            let name = input.name.copy(alloc)?;
+            match &input.quot {
+                None => ins.push(Input { name, quot: None })?,
+                Some(effect) => {
+                    let quot = Some(Box::new(alloc, effect.copy(alloc)?)?);
+                    ins.push(Input { name, quot })?;
+                }
+            }
+        }
+        Ok(Effect { row_in, ins, outs })
+    }
+}
+
+impl Duplicate for Effect {
+    fn copy(&self, alloc: Global) -> Result<Effect, Memory> {
+        Effect::copy(self, alloc)
+    }
+}
