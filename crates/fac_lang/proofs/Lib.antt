@@ -5,3 +5,4 @@ pub mod Examples
 pub mod MoreExamples
 pub mod Limits
 pub mod RunningLemmas
+pub mod EffectLemmas

@@ -18,3 +18,5 @@ pub mod Substitution
 pub mod Eval
 pub mod Meaning
 pub mod RunningLaws
+pub mod PrimitiveWords
+pub mod Built

@@ -1,5 +1,6 @@
 //! Stack effects, which contracts see as trees.
-ghost use Rattle.std.specs.Prelude.{◌≡◌, IfOk};
+ghost use Rattle.std.specs.Prelude.{◌≡◌, ◌∷◌, [], IfOk};
+ghost use Rattle.fac_lang.specs.EffectView.{inputs_tree};
 
 use crate::{Duplicate, List, Memory, Text};
 use std::alloc::Global;
@@ -68,6 +69,37 @@ impl Duplicate for Outs {
     }
 }
 
+impl Input {
+    /// An input that stands for the same tree.
+    #[cycle(copy)]
+    fn copy(&self, alloc: Global) -> Result<Input, Memory>
+        ensures { IfOk result (λ input. inputs_tree (input ∷ []) ≡ inputs_tree (self.now ∷ [])) }
+    {
+        let name = self.name.copy(alloc)?;
+        match &self.quot {
+            None => Ok(Input { name, quot: None }),
+            Some(effect) => {
+                let copied = Effect::copy(effect, alloc)?;
+                let quot = Some(Box::new(alloc, copied)?);
+                Ok(Input { name, quot })
+            }
+        }
+    }
+}
+
+// Inputs that stand for the same tree.
+#[cycle(copy)]
+#[tactic(auto, using(crate::proofs::EffectLemmas::more_inputs_trees))]
+fn copy_inputs(alloc: Global, inputs: &[Input]) -> Result<Vec<Input>, Memory>
+    ensures { IfOk result (λ copied. inputs_tree copied.items ≡ inputs_tree inputs.now) }
+{
+    let mut copied = Vec::new(alloc);
+    for input in inputs {
+        copied.push(input.copy(alloc)?)?;
+    }
+    Ok(copied)
+}
+
 impl Effect {
     /// An equal effect.
     #[cycle(copy)]
@@ -75,18 +107,8 @@ impl Effect {
         ensures { IfOk result (λ e. e ≡ self.now) }
     {
         let row_in = self.row_in.copy(alloc)?;
+        let ins = copy_inputs(alloc, &self.ins)?;
         let outs = self.outs.copy(alloc)?;
-        let mut ins = Vec::new(alloc);
-        for input in &self.ins {
-            let name = input.name.copy(alloc)?;
-            match &input.quot {
-                None => ins.push(Input { name, quot: None })?,
-                Some(effect) => {
-                    let quot = Some(Box::new(alloc, effect.copy(alloc)?)?);
-                    ins.push(Input { name, quot })?;
-                }
-            }
-        }
         Ok(Effect { row_in, ins, outs })
     }
 }

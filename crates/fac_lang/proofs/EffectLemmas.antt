@@ -1,0 +1,25 @@
+-- Effects with equal parts.
+use Rattle.std.proofs.Common.{◌≡◌, List, [], ◌∷◌, ◌++◌, Option, Some, None, refl, ap, ◌∙◌, sym}
+use Rattle.std.specs.Prelude.{ℕ}
+use Rattle.fac_lang.specs.declared.effect.Input.{Input}
+use Rattle.fac_lang.specs.declared.effect.Outs.{Outs}
+use Rattle.fac_lang.specs.EffectView.{inputs_tree, outs_leaving}
+use Rattle.fac_lang.specs.Signatures.{Inputs, no_inputs, value, quoted, signature}
+
+-- inputs behind others
+abbrev joined : Inputs → Inputs → Inputs
+joined no_inputs js = js
+joined (value x is) js = value x (joined is js)
+joined (quoted x e is) js = quoted x e (joined is js)
+
+one_joined : (n : List ℕ) (q : _) (is js : List Input) → inputs_tree (is ++ js) ≡ joined (inputs_tree is) (inputs_tree js) → inputs_tree ((record { name = n; quot = q } ∷ is) ++ js) ≡ joined (inputs_tree (record { name = n; quot = q } ∷ is)) (inputs_tree js)
+one_joined n None is js h = ap (value n) h
+one_joined n (Some e) is js h = ap (quoted n e.value) h
+
+tree_joined : (is js : List Input) → inputs_tree (is ++ js) ≡ joined (inputs_tree is) (inputs_tree js)
+tree_joined [] js = refl
+tree_joined (i ∷ is) js = one_joined i.name i.quot is js (tree_joined is js)
+
+pub more_inputs_trees : (is js : List Input) (i j : Input) → inputs_tree is ≡ inputs_tree js → inputs_tree (i ∷ []) ≡ inputs_tree (j ∷ []) → inputs_tree (is ++ i ∷ []) ≡ inputs_tree (js ++ j ∷ [])
+more_inputs_trees is js i j same same_one =
+    tree_joined is (i ∷ []) ∙ ap (λ t. joined t (inputs_tree (i ∷ []))) same ∙ ap (joined (inputs_tree js)) same_one ∙ sym (tree_joined js (j ∷ []))
