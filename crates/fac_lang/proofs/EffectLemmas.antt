@@ -1,6 +1,7 @@
 -- Effects with equal parts.
 use Rattle.std.proofs.Common.{◌≡◌, List, [], ◌∷◌, ◌++◌, Option, Some, None, refl, ap, ◌∙◌, sym}
-use Rattle.std.specs.Prelude.{ℕ}
+use Rattle.std.specs.Prelude.{ℕ, suc, length}
+use Rattle.fac_lang.specs.Effects.{inputs_count}
 use Rattle.fac_lang.specs.declared.effect.Input.{Input}
 use Rattle.fac_lang.specs.declared.effect.Outs.{Outs}
 use Rattle.fac_lang.specs.EffectView.{inputs_tree, outs_leaving}
@@ -23,3 +24,11 @@ tree_joined (i ∷ is) js = one_joined i.name i.quot is js (tree_joined is js)
 pub more_inputs_trees : (is js : List Input) (i j : Input) → inputs_tree is ≡ inputs_tree js → inputs_tree (i ∷ []) ≡ inputs_tree (j ∷ []) → inputs_tree (is ++ i ∷ []) ≡ inputs_tree (js ++ j ∷ [])
 more_inputs_trees is js i j same same_one =
     tree_joined is (i ∷ []) ∙ ap (λ t. joined t (inputs_tree (i ∷ []))) same ∙ ap (joined (inputs_tree js)) same_one ∙ sym (tree_joined js (j ∷ []))
+
+one_counted : (n : List ℕ) (q : _) (is : List Input) → inputs_count (inputs_tree is) ≡ length is → inputs_count (inputs_tree (record { name = n; quot = q } ∷ is)) ≡ length (record { name = n; quot = q } ∷ is)
+one_counted n None is h = ap suc h
+one_counted n (Some e) is h = ap suc h
+
+pub inputs_counted : (is : List Input) → inputs_count (inputs_tree is) ≡ length is
+inputs_counted [] = refl
+inputs_counted (i ∷ is) = one_counted i.name i.quot is (inputs_counted is)

@@ -113,6 +113,29 @@ impl Effect {
     }
 }
 
+impl Effect {
+    ghost use Rattle.std.specs.Prelude.{ℕ};
+    ghost use Rattle.fac_lang.specs.Effects.{effect_height};
+
+    /// The number of inputs.
+    #[tactic(auto, using(crate::proofs::EffectLemmas::inputs_counted))]
+    pub fn inputs(&self) -> usize
+        ensures { result ≡ (effect_height self.now).ins }
+    {
+        self.ins.len()
+    }
+
+    /// The number of outputs, or None where the word never returns.
+    pub fn outputs(&self) -> Option<u32>
+        ensures { result ≡ (effect_height self.now).outs }
+    {
+        match &self.outs {
+            Outs::Never => None,
+            Outs::Left { names, .. } => Some(names.len()),
+        }
+    }
+}
+
 impl Duplicate for Effect {
     fn copy(&self, alloc: Global) -> Result<Effect, Memory> {
         Effect::copy(self, alloc)
