@@ -1,0 +1,52 @@
+-- Programs of the forms built so far.
+use Rattle.std.proofs.Common.{◌≡◌, ◌<◌, ℕ, zero, suc, List, [], ◌∷◌, ◌++◌, length, Option, Some, None, refl, ap, subst, ◌∙◌, arith}
+use Rattle.std.specs.Prelude.{slice_get}
+use Rattle.fac_lang.specs.declared.program.Program.{Program}
+use Rattle.fac_lang.specs.declared.program.WordDef.{WordDef}
+use Rattle.fac_lang.specs.declared.program.Sort.{Sort}
+use Rattle.fac_lang.specs.declared.program.Sort.TheVariants.{Body as body, Prim as prim}
+use Rattle.fac_lang.specs.Built.{IsBuilt, IsBuiltSort, AreBuiltWords, IsPrimitiveWord}
+use Rattle.fac_lang.specs.Meaning.{sort_of, sort_text, word_text}
+
+last_of : (ds : List WordDef) (d : WordDef) → slice_get (ds ++ d ∷ []) (length ds) ≡ Some d
+last_of [] d = refl
+last_of (e ∷ ds) d = last_of ds d
+
+pub top_word : (P : Program) (b : IsBuilt P) → slice_get P.words P.top ≡ Some b.phrase
+top_word P b = rw (b.words_are, b.top_is) (last_of b.primitives b.phrase)
+
+pub sort_at : (P : Program) (w : ℕ) (d : WordDef) → slice_get P.words w ≡ Some d → sort_of P w ≡ Some d.sort
+sort_at P w d e = ap (λ (o : Option WordDef). elim o [ Some d ↦ Some d.sort | None ↦ None ]) e
+
+pub top_sort : (P : Program) (b : IsBuilt P) → sort_of P P.top ≡ Some (body b.text)
+top_sort P b = sort_at P P.top b.phrase (top_word P b) ∙ ap Some b.phrase_is
+
+pub top_text : (P : Program) (b : IsBuilt P) → word_text P P.top ≡ b.text
+top_text P b = ap (sort_text P P.top) (top_sort P b)
+
+built_at : (ds : List WordDef) (w : ℕ) (d : WordDef) → AreBuiltWords ds → slice_get ds w ≡ Some d → IsBuiltSort d d.sort
+built_at [] w d h e = absurd (cc)
+built_at (x ∷ ds) zero d h e = let same : x ≡ d = cc in subst (λ (d : WordDef). IsBuiltSort d d.sort) same h.0
+built_at (x ∷ ds) (suc w) d h e = built_at ds w d h.1 e
+
+get_front : (ds es : List WordDef) (w : ℕ) → w < length ds → (d : WordDef) × (slice_get (ds ++ es) w ≡ Some d) × (slice_get ds w ≡ Some d)
+get_front [] es w lt = absurd (omega arith)
+get_front (d ∷ ds) es zero lt = (d, refl, refl)
+get_front (d ∷ ds) es (suc w) lt = get_front ds es w (omega arith)
+
+-- the word of a number below the top-level phrase's
+pub record Primitive (P : Program) (w : ℕ) : Type 0 where
+  pub def : WordDef
+  pub at : slice_get P.words w ≡ Some def
+  pub number : ℕ
+  pub sort_is : def.sort ≡ prim number
+  pub word_is : IsPrimitiveWord def number
+
+primitive_of : (P : Program) (w : ℕ) (d : WordDef) (s : Sort) → slice_get P.words w ≡ Some d → d.sort ≡ s → IsBuiltSort d s → Primitive P w
+primitive_of P w d (prim k) at e h = record { def = d; at = at; number = k; sort_is = e; word_is = h }
+primitive_of P w d _ at e h = absurd h
+
+pub primitive_at : (P : Program) → IsBuilt P → (w : ℕ) → w < P.top → Primitive P w
+primitive_at P b w lt =
+    let front = get_front b.primitives (b.phrase ∷ []) w (omega (arith, b.top_is)) in
+    primitive_of P w front.0 front.0.sort (rw b.words_are front.1) refl (built_at b.primitives w front.0 b.built front.2)

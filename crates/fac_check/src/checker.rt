@@ -1,0 +1,143 @@
+//! The checker.
+ghost use Rattle.std.specs.Prelude.{◌≡◌, None, Some, IfOk, MatchOption};
+ghost use Rattle.fac_lang.specs.View.{what_item};
+ghost use Rattle.fac_check.specs.Verdict.{item_height, word_height as height_of_word, first_breach as first_breach_of, verdict as verdict_of};
+ghost use Rattle.fac_lang.specs.Meaning.{word_text};
+ghost use Rattle.fac_lang.specs.Built.{IsBuilt};
+ghost use Rattle.fac_check.specs.Checks.{Checks};
+
+use fac_lang::{List, Memory, Phrase, Place, Program, Sort, What, WordDef};
+use std::alloc::Global;
+use thiserror::Error;
+
+/// Why a word is refused, with the numbers that the rule names.
+#[derive(Clone, Copy, Debug, PartialEq, Eq)]
+pub enum Rule {
+    /// An item needs more values than there are.
+    Underflow { needs: u32, has: u32 },
+}
+
+/// The first refused word in source order, with the first rule that it breaks.
+#[derive(Clone, Copy, Debug, PartialEq, Eq)]
+pub struct Refusal {
+    pub word: u32,
+    /// The place of the item that breaks the rule.
+    pub place: Place,
+    pub rule: Rule,
+}
+
+/// Why a program is not accepted.
+#[derive(Debug, Drop, Error)]
+pub enum CheckFault {
+    #[error("the program is refused")]
+    Refused(Refusal),
+    #[error("out of memory")]
+    Memory,
+}
+
+impl From<Memory> for CheckFault {
+    ghost use Rattle.fac_check.specs.declared.checker.CheckFault.TheVariants.{Memory};
+
+    ghost from_gives = { λ _ fault. fault ≡ Memory };
+
+    fn from(_: Memory) -> Self {
+        CheckFault::Memory
+    }
+}
+
+/// An accepted program.
+#[derive(Drop)]
+pub struct Checked {
+    pub program: Program,
+}
+
+// How many values a word takes and leaves.
+fn word_height(word: &WordDef) -> (usize, Option<u32>)
+    ensures { height_of_word (Some word.now) ≡ Some (record { ins = result.0; outs = result.1 }) }
+{
+    (word.effect.inputs(), word.effect.outputs())
+}
+
+// How many values an item takes and leaves.
+fn height(words: &List<WordDef>, what: &What) -> Option<(usize, Option<u32>)>
+    ensures { MatchOption result
+        (item_height words.now (what_item what.now) ≡ None)
+        (λ h. item_height words.now (what_item what.now) ≡ Some (record { ins = h.0; outs = h.1 })) }
+{
+    match what {
+        What::Int(_) | What::True | What::False | What::Str(_) | What::Wref(_) => Some((0, Some(1))),
+        What::Word(number) => match words.get(*number as usize) {
+            Some(word) => Some(word_height(word)),
+            None => None,
+        },
+        _ => None,
+    }
+}
+
+// The number, which no list has room for where it is wider.
+fn narrow(number: usize) -> Result<u32, Memory>
+    ensures { IfOk result (λ n. n ≡ number) }
+{
+    u32::try_from(number).map_err(|_| Memory)
+}
+
+// The first item that breaks a rule.
+fn first_breach(words: &List<WordDef>, phrase: &Phrase) -> Result<Option<(Place, Rule)>, Memory>
+    ensures { IfOk result (λ found. found ≡ first_breach_of words.now 0 phrase.now) }
+{
+    let mut has = 0usize;
+    for item in &phrase.items {
+        let Some((ins, outs)) = height(words, &item.what) else {
+            return Ok(None);
+        };
+        if ins > has {
+            let needs = narrow(ins)?;
+            let has = narrow(has)?;
+            return Ok(Some((item.place, Rule::Underflow { needs, has })));
+        }
+        let Some(outs) = outs else {
+            return Ok(None);
+        };
+        has = (has - ins).checked_add(outs as usize).ok_or(Memory)?;
+    }
+    Ok(None)
+}
+
+// The top-level phrase.
+#[tactic(auto, using(crate::proofs::ProgramLemmas::top_sort))]
+fn top_phrase(program: &Program) -> &Phrase
+    requires { IsBuilt program.now }
+    ensures { result.now ≡ word_text program.now program.now.top }
+{
+    match program.words.get(program.top as usize) {
+        Some(word) => match &word.sort {
+            Sort::Body(phrase) => phrase,
+            _ => unreachable!(),
+        },
+        None => unreachable!(),
+    }
+}
+
+// The refusal of the top-level phrase.
+fn first_refusal(program: &Program) -> Result<Option<Refusal>, Memory>
+    requires { IsBuilt program.now }
+    ensures { IfOk result (λ found. found ≡ verdict_of program.now) }
+{
+    let word = program.top;
+    match first_breach(&program.words, top_phrase(program))? {
+        Some((place, rule)) => Ok(Some(Refusal { word, place, rule })),
+        None => Ok(None),
+    }
+}
+
+/// Accepts a program, or names its first refused word with the first place and rule that it breaks.
+#[tactic(auto, using(crate::proofs::Soundness::sound))]
+pub fn check(program: Program) -> Result<Checked, CheckFault>
+    requires { IsBuilt program }
+    ensures { Checks program result }
+{
+    match first_refusal(&program)? {
+        Some(refusal) => Err(CheckFault::Refused(refusal)),
+        None => Ok(Checked { program }),
+    }
+}
