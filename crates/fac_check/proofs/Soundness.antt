@@ -21,7 +21,7 @@ use Rattle.fac_lang.specs.RunningLaws.{IsNotStuck}
 use Rattle.fac_check.specs.declared.checker.Rule.TheVariants.{Underflow}
 use Rattle.fac_check.specs.Verdict.{Breach, on_item, after_item, first_breach, word_height, refusal_of, verdict}
 use Rattle.fac_check.specs.Sound.{HasLength, Leaves, with_stack, IsSound}
-use Rattle.fac_check.proofs.ProgramLemmas.{Primitive, primitive_at, sort_at, top_text}
+use Rattle.fac_lang.proofs.BuiltLemmas.{Primitive, primitive_at, sort_at, top_text}
 use Rattle.fac_check.proofs.PrimitiveHeights.{RowSuits, Suits, rows_suit, ActLeaves, does_leaves}
 
 prim_leaves : (P : Program) (w : ℕ) (r : Option PrimitiveWord) (row : PrimitiveWord) (q : Option Prim) (inputs below : List Value) (world : World Value) → r ≡ Some row → RowSuits r q → length inputs ≡ (effect_height (written_effect row)).ins → ActLeaves (effect_height (written_effect row)).outs below (prim_act P w q (with_stack (inputs ++ below) world))

@@ -2,11 +2,10 @@
 ghost use Rattle.std.specs.Prelude.{◌≡◌, None, Some, IfOk, MatchOption};
 ghost use Rattle.fac_lang.specs.View.{what_item};
 ghost use Rattle.fac_check.specs.Verdict.{item_height, word_height as height_of_word, first_breach as first_breach_of, verdict as verdict_of};
-ghost use Rattle.fac_lang.specs.Meaning.{word_text};
 ghost use Rattle.fac_lang.specs.Built.{IsBuilt};
 ghost use Rattle.fac_check.specs.Checks.{Checks};
 
-use fac_lang::{List, Memory, Phrase, Place, Program, Sort, What, WordDef};
+use fac_lang::{List, Memory, Phrase, Place, Program, What, WordDef};
 use std::alloc::Global;
 use thiserror::Error;
 
@@ -103,28 +102,13 @@ fn first_breach(words: &List<WordDef>, phrase: &Phrase) -> Result<Option<(Place,
     Ok(None)
 }
 
-// The top-level phrase.
-#[tactic(auto, using(crate::proofs::ProgramLemmas::top_sort))]
-fn top_phrase(program: &Program) -> &Phrase
-    requires { IsBuilt program.now }
-    ensures { result.now ≡ word_text program.now program.now.top }
-{
-    match program.words.get(program.top as usize) {
-        Some(word) => match &word.sort {
-            Sort::Body(phrase) => phrase,
-            _ => unreachable!(),
-        },
-        None => unreachable!(),
-    }
-}
-
 // The refusal of the top-level phrase.
 fn first_refusal(program: &Program) -> Result<Option<Refusal>, Memory>
     requires { IsBuilt program.now }
     ensures { IfOk result (λ found. found ≡ verdict_of program.now) }
 {
     let word = program.top;
-    match first_breach(&program.words, top_phrase(program))? {
+    match first_breach(&program.words, program.top_phrase())? {
         Some((place, rule)) => Ok(Some(Refusal { word, place, rule })),
         None => Ok(None),
     }

@@ -6,3 +6,4 @@ pub mod MoreExamples
 pub mod Limits
 pub mod RunningLemmas
 pub mod EffectLemmas
+pub mod BuiltLemmas

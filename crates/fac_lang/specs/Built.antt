@@ -1,5 +1,5 @@
 -- Programs of the forms that are built so far: integers and words at the top level, and eight primitive words.
-use Rattle.std.specs.Prelude.{◌≡◌, ℕ, List, [], ◌∷◌, ◌++◌, length, Bool, true, false, ◌||◌, nat_eq, nat_lt, Option, Some, None, slice_get}
+use Rattle.std.specs.Prelude.{◌≡◌, ℕ, List, [], ◌∷◌, ◌++◌, length, Bool, true, false, not, ◌||◌, ◌&&◌, nat_eq, nat_lt, Option, Some, None, slice_get}
 use Rattle.fac_lang.specs.Texts.{Plain, int, Text, end, then, Item, lit, word}
 use Rattle.fac_lang.specs.PrimitiveWords.{PrimitiveWord, primitive_word, written_effect}
 use Rattle.fac_lang.specs.declared.program.Program.{Program}
@@ -45,6 +45,19 @@ abbrev pub AreBuiltWords : List WordDef → Type 0
 AreBuiltWords [] = Unit {0}
 AreBuiltWords (d ∷ ds) = IsBuiltSort d d.sort × AreBuiltWords ds
 
+-- the primitives of words, by their numbers
+abbrev pub numbers_before : Sort → List ℕ → List ℕ
+numbers_before (prim k) ks = k ∷ ks
+numbers_before _ ks = ks
+
+abbrev pub primitive_numbers : List WordDef → List ℕ
+primitive_numbers [] = []
+primitive_numbers (d ∷ ds) = numbers_before d.sort (primitive_numbers ds)
+
+abbrev pub has_no_repeats : List ℕ → Bool
+has_no_repeats [] = true
+has_no_repeats (k ∷ ks) = not (is_member k ks) && has_no_repeats ks
+
 pub record IsBuilt (P : Program) : Type 0 where
   -- the primitive words, and behind them the top-level phrase
   pub primitives : List WordDef
@@ -54,6 +67,8 @@ pub record IsBuilt (P : Program) : Type 0 where
   pub top_is : P.top ≡ length primitives
   pub phrase_is : phrase.sort ≡ body text
   pub built : AreBuiltWords primitives
+  -- no two words are the same primitive
+  pub distinct : has_no_repeats (primitive_numbers primitives) ≡ true
   pub text_built : IsBuiltText P.top text
   pub no_arrays : P.arrays ≡ []
   pub no_classes : P.classes ≡ []

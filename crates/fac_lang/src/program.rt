@@ -101,6 +101,27 @@ pub enum Shape {
     Single,
 }
 
+impl Program {
+    ghost use Rattle.std.specs.Prelude.{◌≡◌};
+    ghost use Rattle.fac_lang.specs.Built.{IsBuilt};
+    ghost use Rattle.fac_lang.specs.Meaning.{word_text};
+
+    /// The top-level phrase.
+    #[tactic(auto, using(crate::proofs::BuiltLemmas::top_sort))]
+    pub fn top_phrase(&self) -> &Phrase
+        requires { IsBuilt self.now }
+        ensures { result.now ≡ word_text self.now self.now.top }
+    {
+        match self.words.get(self.top as usize) {
+            Some(word) => match &word.sort {
+                Sort::Body(phrase) => phrase,
+                _ => unreachable!(),
+            },
+            None => unreachable!(),
+        }
+    }
+}
+
 impl Duplicate for Name {
     fn copy(&self, alloc: Global) -> Result<Name, Memory> {
         let vocab = self.vocab.copy(alloc)?;

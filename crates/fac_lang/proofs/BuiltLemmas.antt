@@ -5,7 +5,7 @@ use Rattle.fac_lang.specs.declared.program.Program.{Program}
 use Rattle.fac_lang.specs.declared.program.WordDef.{WordDef}
 use Rattle.fac_lang.specs.declared.program.Sort.{Sort}
 use Rattle.fac_lang.specs.declared.program.Sort.TheVariants.{Body as body, Prim as prim}
-use Rattle.fac_lang.specs.Built.{IsBuilt, IsBuiltSort, AreBuiltWords, IsPrimitiveWord}
+use Rattle.fac_lang.specs.Built.{IsBuilt, IsBuiltText, IsBuiltSort, AreBuiltWords, IsPrimitiveWord}
 use Rattle.fac_lang.specs.Meaning.{sort_of, sort_text, word_text}
 
 last_of : (ds : List WordDef) (d : WordDef) → slice_get (ds ++ d ∷ []) (length ds) ≡ Some d
@@ -23,6 +23,9 @@ top_sort P b = sort_at P P.top b.phrase (top_word P b) ∙ ap Some b.phrase_is
 
 pub top_text : (P : Program) (b : IsBuilt P) → word_text P P.top ≡ b.text
 top_text P b = ap (sort_text P P.top) (top_sort P b)
+
+pub top_built : (P : Program) (b : IsBuilt P) → IsBuiltText P.top (word_text P P.top)
+top_built P b = rw (top_text P b) b.text_built
 
 built_at : (ds : List WordDef) (w : ℕ) (d : WordDef) → AreBuiltWords ds → slice_get ds w ≡ Some d → IsBuiltSort d d.sort
 built_at [] w d h e = absurd (cc)

@@ -1,0 +1,4 @@
+pub mod SamePrimitives
+pub mod FirstWords
+pub mod Follows
+pub mod Carrying
