@@ -1,0 +1,50 @@
+-- What the calls of a folder answer and leave.
+use Rattle.std.specs.Prelude.{◌≡◌, ℕ, ◌<◌, ◌≤◌, List, [], ◌∷◌, length, Some, Result, Ok, Err, ⊤, IfSome, IsSomeAnd, Bool, true, false, ◌||◌, is_none}
+use Rattle.std.specs.declared.option.Option.{Option}
+use Rattle.fac_io.specs.declared.files.Asked.{Asked}
+use Rattle.fac_io.specs.declared.files.Asked.TheVariants.{Load, Save}
+use Rattle.fac_io.specs.declared.files.LoadFault.{LoadFault}
+use Rattle.fac_io.specs.declared.files.LoadFault.TheVariants as load
+use Rattle.fac_io.specs.declared.files.SaveFault.{SaveFault}
+use Rattle.fac_io.specs.declared.files.SaveFault.TheVariants as save
+use Rattle.fac_io.specs.Names.{Held, OthersKept, Holds}
+use Rattle.fac_io.specs.Told.{Told, Stays, Grows}
+
+-- the bytes of the name, or that they are more than the limit
+abbrev pub LoadAnswers : Option Held → List ℕ → ℕ → Result (List ℕ) LoadFault → Type 0
+LoadAnswers held name limit (Ok bytes) = (length bytes ≤ limit) × IfSome held (λ files. files name ≡ Some bytes)
+LoadAnswers held name limit (Err load.TooLong) = IfSome held (λ files. IsSomeAnd (files name) (λ bytes. limit < length bytes))
+LoadAnswers held name limit (Err load.Failed) = ⊤
+LoadAnswers held name limit (Err load.Memory) = ⊤
+
+-- a call for want of memory is not in the list of calls
+abbrev pub LoadAsks : List ℕ → Option (List Asked) → Option (List Asked) → Result (List ℕ) LoadFault → Type 0
+LoadAsks name old new (Ok bytes) = Grows old new (Load name ∷ [])
+LoadAsks name old new (Err load.TooLong) = Grows old new (Load name ∷ [])
+LoadAsks name old new (Err load.Failed) = Grows old new (Load name ∷ [])
+LoadAsks name old new (Err load.Memory) = Stays old new
+
+-- the name holds the bytes, or nothing is known of it after a fault
+abbrev pub SaveLeaves : {A : Type 0} → List ℕ → List ℕ → Option Held → Option Held → Result A SaveFault → Type 0
+SaveLeaves name bytes old new (Ok done) = Told old new (Holds name bytes)
+SaveLeaves name bytes old new (Err save.Failed) = Told old new (OthersKept name)
+SaveLeaves name bytes old new (Err save.Memory) = Stays old new
+
+abbrev pub SaveAsks : {A : Type 0} → List ℕ → Option (List Asked) → Option (List Asked) → Result A SaveFault → Type 0
+SaveAsks name old new (Ok done) = Grows old new (Save name ∷ [])
+SaveAsks name old new (Err save.Failed) = Grows old new (Save name ∷ [])
+SaveAsks name old new (Err save.Memory) = Stays old new
+
+-- what a reader with these bytes left gives, where they are known: all of them, or that they are more than the limit
+abbrev pub ReadsUpTo : Option (List ℕ) → ℕ → Result (List ℕ) LoadFault → Type 0
+ReadsUpTo left limit (Ok bytes) = (length bytes ≤ limit) × IfSome left (λ all. all ≡ bytes)
+ReadsUpTo left limit (Err load.TooLong) = IfSome left (λ all. limit < length all)
+ReadsUpTo left limit (Err load.Failed) = ⊤
+ReadsUpTo left limit (Err load.Memory) = ⊤
+
+-- what a load in memory answers, by whether its call is listed and by the bytes of its name
+abbrev pub AnswersBytes : Bool → Option (List ℕ) → ℕ → Result (List ℕ) LoadFault → Type 0
+AnswersBytes listed found limit (Ok bytes) = (listed ≡ false) × (length bytes ≤ limit) × (found ≡ Some bytes)
+AnswersBytes listed found limit (Err load.TooLong) = (listed ≡ false) × IsSomeAnd found (λ bytes. limit < length bytes)
+AnswersBytes listed found limit (Err load.Failed) = (listed || is_none found) ≡ true
+AnswersBytes listed found limit (Err load.Memory) = ⊤
