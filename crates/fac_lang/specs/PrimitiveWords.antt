@@ -2,6 +2,7 @@
 use Rattle.std.specs.Prelude.{ℕ, List, [], ◌∷◌, ◌++◌, length, Option, Some, None, slice_get, codes}
 use Rattle.fac_lang.specs.Signatures.{Signature, signature, Inputs, no_inputs, value, Leaving, never, leaves}
 
+-- a word as it is written
 pub record PrimitiveWord : Type 0 where
   pub vocab : List ℕ
   pub name : List ℕ
@@ -9,9 +10,11 @@ pub record PrimitiveWord : Type 0 where
   pub ins : List (List ℕ)
   pub outs : Option (List (List ℕ))
 
+-- a row of the table
 abbrev pub word_row : List ℕ → List ℕ → List (List ℕ) → Option (List (List ℕ)) → PrimitiveWord
 word_row vocab name ins outs = record { vocab = vocab; name = name; ins = ins; outs = outs }
 
+-- names that many effects have
 abbrev pub x : List ℕ
 x = codes "x"
 
@@ -48,6 +51,7 @@ shuffle_words =
     word_row (codes "kernel") (codes "2nip") (x ∷ y ∷ z ∷ []) (Some (z ∷ [])) ∷
     []
 
+-- the other words of kernel
 abbrev pub kernel_words : List PrimitiveWord
 kernel_words =
     word_row (codes "kernel") (codes "curry") (codes "obj" ∷ codes "quot" ∷ []) (Some (codes "curry" ∷ [])) ∷
@@ -62,6 +66,7 @@ kernel_words =
     word_row (codes "kernel") (codes "new") (codes "class" ∷ []) (Some (codes "tuple" ∷ [])) ∷
     []
 
+-- the words of math and math.parser
 abbrev pub math_words : List PrimitiveWord
 math_words =
     word_row (codes "math") (codes "+") (x ∷ y ∷ []) (Some (z ∷ [])) ∷
@@ -82,6 +87,7 @@ math_words =
     word_row (codes "math.parser") (codes "string>number") (codes "str" ∷ []) (Some (codes "n/f" ∷ [])) ∷
     []
 
+-- the words of sequences and arrays
 abbrev pub sequence_words : List PrimitiveWord
 sequence_words =
     word_row (codes "sequences") (codes "length") (seq ∷ []) (Some (codes "n" ∷ [])) ∷
@@ -99,6 +105,7 @@ sequence_words =
     word_row (codes "arrays") (codes ">array") (seq ∷ []) (Some (codes "array" ∷ [])) ∷
     []
 
+-- the words of io and prettyprint, and `(no-cond)`
 abbrev pub output_words : List PrimitiveWord
 output_words =
     word_row (codes "io") (codes "write") (codes "str" ∷ []) (Some []) ∷
@@ -109,6 +116,7 @@ output_words =
     word_row (codes "combinators.private") (codes "(no-cond)") [] None ∷
     []
 
+-- the primitive word with this number
 unfoldable pub primitive_word : ℕ → Option PrimitiveWord
 primitive_word k = slice_get (shuffle_words ++ kernel_words ++ math_words ++ sequence_words ++ output_words) k
 
@@ -117,9 +125,11 @@ abbrev pub plain_inputs : List (List ℕ) → Inputs
 plain_inputs [] = no_inputs
 plain_inputs (n ∷ ns) = value n (plain_inputs ns)
 
+-- what an effect of plain values leaves
 abbrev pub plain_leaving : Option (List (List ℕ)) → Leaving
 plain_leaving None = never
 plain_leaving (Some ns) = leaves None ns
 
+-- the effect of a primitive word
 abbrev pub written_effect : PrimitiveWord → Signature
 written_effect w = signature None (plain_inputs w.ins) (plain_leaving w.outs)
