@@ -19,4 +19,6 @@ pub mod Eval
 pub mod Meaning
 pub mod RunningLaws
 pub mod PrimitiveWords
+pub mod CoreWords
+pub mod Whole
 pub mod Built
