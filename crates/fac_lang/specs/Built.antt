@@ -1,6 +1,6 @@
 -- Programs of the forms that are built so far: integers and words at the top level, and eight primitive words.
-use Rattle.std.specs.Prelude.{◌≡◌, ℕ, List, [], ◌∷◌, ◌++◌, length, Bool, true, false, not, ◌||◌, ◌&&◌, nat_eq, nat_lt, Option, Some, None, slice_get}
-use Rattle.fac_lang.specs.Texts.{Plain, int, Text, end, then, Item, lit, word}
+use Rattle.std.specs.Prelude.{◌≡◌, ℕ, List, [], ◌∷◌, ◌++◌, length, Bool, true, false, not, ◌||◌, ◌&&◌, nat_eq, nat_lt, Some}
+use Rattle.fac_lang.specs.Texts.{int, Text, end, then, Item, lit, word}
 use Rattle.fac_lang.specs.PrimitiveWords.{PrimitiveWord, primitive_word, written_effect}
 use Rattle.fac_lang.specs.declared.program.Program.{Program}
 use Rattle.fac_lang.specs.declared.program.WordDef.{WordDef}
