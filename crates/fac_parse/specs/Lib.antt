@@ -1,0 +1,10 @@
+pub mod Words
+pub mod Scanner
+pub mod Digits
+pub mod Spellings
+pub mod Trees
+pub mod Reader
+pub mod Vocabularies
+pub mod Resolution
+pub mod Resolver
+pub mod PlainEffects
