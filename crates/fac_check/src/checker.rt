@@ -4,6 +4,7 @@ ghost use Rattle.fac_lang.specs.View.{what_item};
 ghost use Rattle.fac_check.specs.Verdict.{item_height, word_height as height_of_word, first_breach as first_breach_of, verdict as verdict_of};
 ghost use Rattle.fac_lang.specs.Built.{IsBuilt};
 ghost use Rattle.fac_check.specs.Checks.{Checks};
+ghost use Rattle.fac_check.specs.Sound.{IsSound};
 
 use fac_lang::{List, Memory, Phrase, Place, Program, What, WordDef};
 use std::alloc::Global;
@@ -102,8 +103,8 @@ fn first_breach(words: &List<WordDef>, phrase: &Phrase) -> Result<Option<(Place,
     Ok(None)
 }
 
-// The refusal of the top-level phrase.
-fn first_refusal(program: &Program) -> Result<Option<Refusal>, Memory>
+/// The first refused word of a program with the first place and rule that it breaks. None exactly where it is accepted.
+pub fn first_refusal(program: &Program) -> Result<Option<Refusal>, Memory>
     requires { IsBuilt program.now }
     ensures { IfOk result (λ found. found ≡ verdict_of program.now) }
 {
@@ -114,14 +115,24 @@ fn first_refusal(program: &Program) -> Result<Option<Refusal>, Memory>
     }
 }
 
-/// Accepts a program, or names its first refused word with the first place and rule that it breaks.
+/// Keeps an accepted program as one.
 #[tactic(auto, using(crate::proofs::Soundness::sound))]
+pub fn accept(program: Program) -> Checked
+    requires built { IsBuilt program }
+    requires accepted { verdict_of program ≡ None }
+    ensures program { result.program ≡ program }
+    ensures sound { IsSound program }
+{
+    Checked { program }
+}
+
+/// Accepts a program, or names its first refused word with the first place and rule that it breaks.
 pub fn check(program: Program) -> Result<Checked, CheckFault>
     requires { IsBuilt program }
     ensures { Checks program result }
 {
     match first_refusal(&program)? {
         Some(refusal) => Err(CheckFault::Refused(refusal)),
-        None => Ok(Checked { program }),
+        None => Ok(accept(program)),
     }
 }

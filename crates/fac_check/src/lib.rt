@@ -3,4 +3,4 @@
 
 mod checker;
 
-pub use checker::{CheckFault, Checked, Refusal, Rule, check};
+pub use checker::{CheckFault, Checked, Refusal, Rule, accept, check, first_refusal};

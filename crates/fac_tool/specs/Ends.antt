@@ -1,0 +1,64 @@
+-- How the work of a command ends, before its note is written.
+use Rattle.std.specs.Prelude.{◌≡◌, ◌==◌, ◌≤◌, ℕ, List, None, Some, if◌then◌else◌}
+use Rattle.std.specs.declared.option.Option.{Option}
+use Rattle.fac_io.specs.Faults.{Rose}
+use Rattle.fac_io.specs.Told.{Stays, Grows, GrowsByPrefix}
+use Rattle.fac_lang.specs.declared.program.Program.{Program}
+use Rattle.fac_tool.specs.declared.command.Command.{Command}
+use Rattle.fac_tool.specs.declared.command.Command.TheVariants.{Run}
+use Rattle.fac_tool.specs.declared.ended.Ended.{Ended}
+use Rattle.fac_tool.specs.Answer.{Answer, budget}
+use Rattle.fac_tool.specs.Seen.{SinkSeen, FilesSeen}
+
+-- the kinds of statuses: an answer of the definition, or one that the outside or want of memory brings
+pub data Ending : Type 0 where
+  Told : Ending
+  Usage : Ending
+  FileFault : Ending
+  WriteFault : Ending
+  TooLong : Ending
+  NoMemory : Ending
+
+abbrev pub ending_of : ℕ → Ending
+ending_of status = (if status == 2 then Usage else if status == 8 then FileFault else if status == 10 then WriteFault else if status == 11 then TooLong else if status == 12 then NoMemory else Told)
+
+-- what a command does with the accepted program of its file: nothing, where there is none, or it runs it
+pub data Work : Type 0 where
+  idle : Work
+  runs : Program → Work
+
+abbrev pub work_of : Command → Option Program → Work
+work_of command None = idle
+work_of (Run file) (Some P) = runs P
+
+-- the call's result and output are the answer's
+pub record Matches (answer : Answer) (out : SinkSeen) (ended : Ended) : Type 0 where
+  pub status : ended.status ≡ answer.status
+  pub ticks : ended.ticks ≡ answer.ticks
+  pub stack : ended.stack ≡ answer.stack
+  pub refusal : ended.refusal ≡ answer.refusal
+  pub output : Grows out.before out.now answer.output
+
+-- what the output had taken when the call was cut short: outside a run a prefix of the answer's, with no tick used
+abbrev pub CutShort : Work → Answer → ℕ → SinkSeen → Type 0
+CutShort idle answer ticks out = (ticks ≡ 0) × GrowsByPrefix out.before out.now answer.output
+CutShort (runs P) answer ticks out = ticks ≤ budget
+
+-- there is neither a stack nor a refusal
+pub record IsBare (ended : Ended) : Type 0 where
+  pub stack : ended.stack ≡ None
+  pub refusal : ended.refusal ≡ None
+
+-- the files are as they were, and nothing was asked
+pub record FilesStay (files : FilesSeen) : Type 0 where
+  pub held : Stays files.held_before files.held_now
+  pub asked : Stays files.asked_before files.asked_now
+
+-- how work on a text ends, by the kind of its status
+abbrev pub EndsBy : Ending → Answer → Work → FilesSeen → SinkSeen → Ended → Type 0
+EndsBy Told answer work files out ended = Matches answer out ended × FilesStay files
+EndsBy Usage answer work files out ended = ⊥
+EndsBy TooLong answer work files out ended = ⊥
+EndsBy FileFault answer work files out ended = ⊥
+EndsBy WriteFault answer work files out ended = Rose out.faults_before out.faults_now × CutShort work answer ended.ticks out × IsBare ended × FilesStay files
+EndsBy NoMemory answer work files out ended = CutShort work answer ended.ticks out × IsBare ended × FilesStay files

@@ -1,0 +1,7 @@
+pub mod Command
+pub mod Seen
+pub mod Answer
+pub mod Notes
+pub mod Ends
+pub mod Answers
+pub mod Stops

@@ -1,0 +1,160 @@
+//! The run of an accepted program.
+ghost use Rattle.std.specs.Prelude.{◌≡◌, ◌≤◌, [], ℕ, List, Option, None, Some, IfOk, map};
+ghost use Rattle.fac_io.specs.Faults.{HasCause};
+ghost use Rattle.fac_lang.specs.Built.{IsBuilt};
+ghost use Rattle.fac_check.specs.Verdict.{verdict};
+ghost use Rattle.fac_emit.specs.Carries.{Carries};
+ghost use Rattle.fac_tool.specs.Answer.{budget, meaning, of_run, shown_text, word_name as name_of_word};
+ghost use Rattle.fac_tool.specs.Ends.{ending_of, EndsBy, runs, FilesStay};
+ghost use Rattle.fac_tool.specs.Seen.{sink_seen, FilesSeen};
+ghost use Rattle.fac_tool.specs.Stops.{StopsAs, value_text as text_of_value, machine_report};
+
+use crate::note::{bare, refused};
+use crate::{Ended, Report};
+use fac_check::Checked;
+use fac_emit::compile;
+use fac_io::Sink;
+use fac_lang::{Duplicate, List, Memory, Name, Program, Text};
+use fac_vm::{Image, Machine, RunError, Stop, StopKind, Value};
+use itoa::Buffer;
+use std::alloc::Global;
+
+// The ticks of a run.
+const BUDGET: u64 = 100_000_000;
+
+// A printed form as it is told: three dots where it has more than 1,000 bytes.
+fn shown(alloc: Global, text: &str) -> Result<Text, Memory>
+    ensures { IfOk result (λ shown. shown ≡ shown_text text.now) }
+{
+    if text.len() <= 1000 {
+        Text::from_str(alloc, text)
+    } else {
+        Text::from_str(alloc, "...")
+    }
+}
+
+// The text of a value.
+fn value_text(alloc: Global, value: Value) -> Result<Text, Memory>
+    ensures { IfOk result (λ text. text ≡ text_of_value value) }
+{
+    match value {
+        Value::Int(number) => {
+            let mut buffer = Buffer::new();
+            shown(alloc, buffer.format(number))
+        }
+    }
+}
+
+// The texts of values.
+fn texts(alloc: Global, values: &[Value]) -> Result<List<Text>, Memory>
+    ensures { IfOk result (λ texts. texts ≡ map text_of_value values.now) }
+{
+    let mut texts = List::new(alloc);
+    for value in values {
+        texts.push(value_text(alloc, *value)?)?;
+    }
+    Ok(texts)
+}
+
+// The name of a word by its number.
+fn word_name(alloc: Global, program: &Program, word: u32) -> Result<Name, Memory>
+    ensures { IfOk result (λ name. name ≡ name_of_word program.now word) }
+{
+    match program.words.get(word as usize) {
+        Some(word) => Ok(word.name.copy(alloc)?),
+        None => Ok(Name {
+            vocab: Text::new(alloc),
+            name: Text::from_str(alloc, "unnamed")?,
+        }),
+    }
+}
+
+// The report of a run error.
+fn error_report(alloc: Global, program: &Program, error: RunError) -> Result<Report, Memory>
+    ensures { IfOk result (λ report. report ≡ machine_report program.now error) }
+{
+    let word = word_name(alloc, program, error.word)?;
+    match error.value {
+        None => Ok(Report::Error {
+            name: error.name,
+            word,
+            value: None,
+        }),
+        Some(value) => {
+            let text = value_text(alloc, value)?;
+            Ok(Report::Error {
+                name: error.name,
+                word,
+                value: Some(text),
+            })
+        }
+    }
+}
+
+// Runs the image that a machine has, which carries the program.
+#[tactic(auto, using(crate::proofs::StopLemmas::stops))]
+fn run_machine<K: Sink>(
+    alloc: Global,
+    program: &Program,
+    machine: &mut Machine,
+    out: &mut K,
+) -> Stop
+    requires carries { Carries program.now machine.old.image }
+    requires empty { machine.old.stack ≡ [] }
+    ensures within { result.ticks ≤ budget }
+    ensures stops { StopsAs program.now machine.new.stack result.ticks (K.taken out.old) (K.taken out.new) result.what }
+    ensures cause { HasCause (K.faults out.old) (K.faults out.new) (result.what ≡ StopKind.WriteFault) }
+{
+    machine.run(alloc, out, BUDGET)
+}
+
+// Runs a machine whose image carries the program, and answers.
+fn run_and_answer<K: Sink>(
+    alloc: Global,
+    program: &Program,
+    machine: &mut Machine,
+    out: &mut K,
+) -> Ended
+    requires carries { Carries program.now machine.old.image }
+    requires empty { machine.old.stack ≡ [] }
+    ensures ends { (files : FilesSeen) → FilesStay files → EndsBy (ending_of result.status) (of_run program.now (meaning program.now budget)) (runs program.now) files (sink_seen (K.taken out.old) (K.taken out.new) (K.faults out.old) (K.faults out.new)) result }
+    ensures counts { K.faults out.old ≤ K.faults out.new }
+{
+    let stop = run_machine(alloc, program, machine, out);
+    let ticks = stop.ticks;
+    match stop.what {
+        StopKind::Done => match texts(alloc, machine.stack()) {
+            Ok(texts) => Ended {
+                status: 0,
+                ticks,
+                stack: Some(texts),
+                refusal: None,
+            },
+            Err(_) => bare(12, ticks),
+        },
+        StopKind::Failed(error) => match error_report(alloc, program, error) {
+            Ok(report) => refused(1, ticks, report),
+            Err(_) => bare(12, ticks),
+        },
+        StopKind::Spent => refused(6, ticks, Report::Spent { ticks }),
+        StopKind::Trap { .. } => unreachable!(),
+        StopKind::WriteFault => bare(10, ticks),
+        StopKind::Memory => bare(12, ticks),
+    }
+}
+
+/// Compiles an accepted program and runs it.
+pub fn run_program<K: Sink>(alloc: Global, checked: &Checked, out: &mut K) -> Ended
+    requires built { IsBuilt checked.now.program }
+    requires accepted { verdict checked.now.program ≡ None }
+    ensures ends { (files : FilesSeen) → FilesStay files → EndsBy (ending_of result.status) (of_run checked.now.program (meaning checked.now.program budget)) (runs checked.now.program) files (sink_seen (K.taken out.old) (K.taken out.new) (K.faults out.old) (K.faults out.new)) result }
+    ensures counts { K.faults out.old ≤ K.faults out.new }
+{
+    let Ok(image) = compile(alloc, checked) else {
+        return bare(12, 0);
+    };
+    match Machine::new(alloc, image) {
+        Ok(mut machine) => run_and_answer(alloc, &checked.program, &mut machine, out),
+        Err(_) => bare(12, 0),
+    }
+}
