@@ -1,3 +1,5 @@
-pub mod StopLemmas
+mod Causes
+mod TextLemmas
 pub mod EndLemmas
 pub mod ReadLemmas
+pub mod StopLemmas

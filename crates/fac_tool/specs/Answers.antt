@@ -8,6 +8,7 @@ use Rattle.fac_io.specs.Faults.{Rose}
 use Rattle.fac_io.specs.Names.{Held}
 use Rattle.fac_io.specs.Told.{Stays, Grows, GrowsByPrefix}
 use Rattle.fac_lang.specs.declared.tree.Form.{Form}
+use Rattle.fac_lang.specs.declared.tree.Tree.{Tree}
 use Rattle.fac_parse.specs.Words.{is_readable, numbered, words}
 use Rattle.fac_parse.specs.Trees.{Reads}
 use Rattle.fac_check.specs.Sound.{IsSound}
@@ -24,6 +25,16 @@ use Rattle.fac_tool.specs.Ends.{ending_of, EndsBy, IsBare, FilesStay, work_of}
 abbrev pub IsReadAs : ℕ → List ℕ → Option (List Form) → Type 0
 IsReadAs file text (Some forms) = (list_all is_readable text ≡ true) × Reads (numbered file 1 (words text)) forms
 IsReadAs file text None = list_all is_readable text ≡ true → (forms : List Form) → Reads (numbered file 1 (words text)) forms → ⊥
+
+abbrev pub ReadsTree : ℕ → List ℕ → Option Tree → Type 0
+ReadsTree file text None = IsReadAs file text None
+ReadsTree file text (Some tree) = IsReadAs file text (Some tree.forms)
+
+-- how the work on a text ends, whatever the files are that stay as they are
+pub record WorksOn (command : Command) (text : List ℕ) (out : SinkSeen) (ended : Ended) : Type 0 where
+  pub forms : Option (List Form)
+  pub is_read : IsReadAs 1 text forms
+  pub ends : (files : FilesSeen) → FilesStay files → EndsBy (ending_of ended.status) (answer_on command forms) (work_of command (accepted forms)) files out ended
 
 -- memory was wanted before the file was loaded, and nothing was done
 pub record NotLoaded (files : FilesSeen) (out : SinkSeen) (ended : Ended) : Type 0 where
@@ -126,9 +137,13 @@ pub record IsIdle (files : FilesSeen) (out : SinkSeen) : Type 0 where
 abbrev pub file_names : List (List ℕ) → Command → List (List ℕ)
 file_names words command = codes "prelude" ∷ name_of words command ∷ []
 
+-- the work of a command, and then its note
+abbrev pub Works : Command → List (List ℕ) → FilesSeen → SinkSeen → SinkSeen → Ended → Type 0
+Works command words files out notes ended = (reached : Ended) × Reaches words command files out reached × Tells (file_names words command) reached notes ended
+
 abbrev pub AnswersBy : Option Command → List (List ℕ) → FilesSeen → SinkSeen → SinkSeen → Ended → Type 0
 AnswersBy None words files out notes ended = IsIdle files out × Tells [] usage notes ended
-AnswersBy (Some command) words files out notes ended = (reached : Ended) × Reaches words command files out reached × Tells (file_names words command) reached notes ended
+AnswersBy (Some command) words files out notes ended = Works command words files out notes ended
 
 -- what the tool does on a command line
 abbrev pub Answers : List (List ℕ) → FilesSeen → SinkSeen → SinkSeen → Ended → Type 0

@@ -5,6 +5,9 @@ mod command;
 mod ended;
 mod note;
 mod program_run;
+mod tool;
+mod work;
 
 pub use command::{Command, read_words};
 pub use ended::{Ended, Report};
+pub use tool::factor_top;

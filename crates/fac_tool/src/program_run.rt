@@ -56,8 +56,8 @@ fn texts(alloc: Global, values: &[Value]) -> Result<List<Text>, Memory>
     Ok(texts)
 }
 
-// The name of a word by its number.
-fn word_name(alloc: Global, program: &Program, word: u32) -> Result<Name, Memory>
+/// The name of a word by its number; it is `unnamed` where there is no such word.
+pub fn word_name(alloc: Global, program: &Program, word: u32) -> Result<Name, Memory>
     ensures { IfOk result (λ name. name ≡ name_of_word program.now word) }
 {
     match program.words.get(word as usize) {

@@ -1,0 +1,17 @@
+-- Want of memory before a run.
+use Rattle.std.proofs.Common.{◌≡◌, ◌≤◌, ℕ, List, None, refl, sym, subst, arith}
+use Rattle.std.specs.declared.option.Option.{Option}
+use Rattle.fac_io.specs.Told.{Stays-same, GrowsByPrefix-stays}
+use Rattle.fac_tool.specs.declared.ended.Ended.{Ended}
+use Rattle.fac_tool.specs.Answer.{Answer}
+use Rattle.fac_tool.specs.Seen.{SinkSeen, FilesSeen, sink_seen}
+use Rattle.fac_tool.specs.Ends.{ending_of, EndsBy, Work, idle, runs, CutShort, FilesStay}
+
+cut_before : (work : Work) (answer : Answer) (told : Option (List ℕ)) (m : ℕ) → CutShort work answer 0 (sink_seen told told m m)
+cut_before idle answer told m = (refl, GrowsByPrefix-stays told told answer.output (Stays-same told))
+cut_before (runs P) answer told m = omega arith
+
+pub no_memory : (answer : Answer) (work : Work) (files : FilesSeen) (told : Option (List ℕ)) (m : ℕ) (ended : Ended) → ended ≡ record { status = 12; ticks = 0; stack = None; refusal = None } → FilesStay files → EndsBy (ending_of ended.status) answer work files (sink_seen told told m m) ended
+no_memory answer work files told m ended e stay =
+    let bare : Ended = record { status = 12; ticks = 0; stack = None; refusal = None } in
+    subst (λ (x : Ended). EndsBy (ending_of x.status) answer work files (sink_seen told told m m) x) (sym e) (cut_before work answer told m, record { stack = refl; refusal = refl }, stay)

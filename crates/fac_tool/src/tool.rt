@@ -1,0 +1,89 @@
+//! The top call.
+ghost use Rattle.std.specs.Prelude.{◌≡◌, ◌<◌, ◌⊎◌, None, length, map, string_bytes};
+ghost use Rattle.fac_io.specs.Faults.{Rose};
+ghost use Rattle.fac_tool.specs.Command.{command_of, file_of};
+ghost use Rattle.fac_tool.specs.Seen.{sink_seen, files_seen};
+ghost use Rattle.fac_tool.specs.Answers.{Answers, Reaches, Tells, file_names};
+
+use crate::note::{bare, tell};
+use crate::work::work;
+use crate::{Command, Ended, read_words};
+use fac_io::{Files, Sink};
+use std::alloc::Global;
+
+// Does the work of a command whose file is named among the words.
+fn work_on_words<F: Files, K: Sink>(
+    alloc: Global,
+    command: Command,
+    words: &[String],
+    files: &mut F,
+    out: &mut K,
+) -> Ended
+    requires { file_of command < length words.now }
+    ensures { Reaches (map string_bytes words.now) command
+        (files_seen (F.held files.old) (F.held files.new) (F.asked files.old) (F.asked files.new) (F.faults files.old) (F.faults files.new))
+        (sink_seen (K.taken out.old) (K.taken out.new) (K.faults out.old) (K.faults out.new))
+        result }
+{
+    work(alloc, command, words[command.file()].as_str(), files, out)
+}
+
+// Tells the ending of a command whose file is named among the words.
+fn tell_of_words<N: Sink>(
+    alloc: Global,
+    command: Command,
+    words: &[String],
+    reached: Ended,
+    notes: &mut N,
+) -> Ended
+    requires { file_of command < length words.now }
+    ensures { Tells (file_names (map string_bytes words.now) command) reached (sink_seen (N.taken notes.old) (N.taken notes.new) (N.faults notes.old) (N.faults notes.new)) result }
+{
+    tell(alloc, words[command.file()].as_str(), reached, notes)
+}
+
+// Does what the words of a command line ask for, and tells how it ended.
+fn answer<F: Files, K: Sink, N: Sink>(
+    alloc: Global,
+    words: &[String],
+    files: &mut F,
+    out: &mut K,
+    notes: &mut N,
+) -> Ended
+    ensures { Answers (map string_bytes words.now)
+        (files_seen (F.held files.old) (F.held files.new) (F.asked files.old) (F.asked files.new) (F.faults files.old) (F.faults files.new))
+        (sink_seen (K.taken out.old) (K.taken out.new) (K.faults out.old) (K.faults out.new))
+        (sink_seen (N.taken notes.old) (N.taken notes.new) (N.faults notes.old) (N.faults notes.new))
+        result }
+{
+    match read_words(words) {
+        None => tell(alloc, "", bare(2, 0), notes),
+        Some(command) => {
+            let reached = work_on_words(alloc, command, words, files, out);
+            tell_of_words(alloc, command, words, reached, notes)
+        }
+    }
+}
+
+/// Does what the words of a command line ask for, and tells how it ended.
+pub fn factor_top<F: Files, K: Sink, N: Sink>(
+    alloc: Global,
+    words: &[String],
+    files: &mut F,
+    out: &mut K,
+    notes: &mut N,
+) -> Ended
+    // The status, the ticks, the stack, the refusal, the output and the note, by the command and the bytes of its file.
+    ensures answer { Answers (map string_bytes words.now)
+        (files_seen (F.held files.old) (F.held files.new) (F.asked files.old) (F.asked files.new) (F.faults files.old) (F.faults files.new))
+        (sink_seen (K.taken out.old) (K.taken out.new) (K.faults out.old) (K.faults out.new))
+        (sink_seen (N.taken notes.old) (N.taken notes.new) (N.faults notes.old) (N.faults notes.new))
+        result }
+
+    // The causes, each by itself. They follow from `answer`.
+    ensures usage { result.status ≡ 2 → command_of (map string_bytes words.now) ≡ None }
+    ensures file_fault { result.status ≡ 8 → Rose (F.faults files.old) (F.faults files.new) }
+    ensures write_fault { result.status ≡ 10 → Rose (K.faults out.old) (K.faults out.new) ⊎ Rose (N.faults notes.old) (N.faults notes.new) }
+{
+    answer(alloc, words, files, out, notes)
+}

@@ -1,0 +1,152 @@
+//! The work of a command.
+ghost use Rattle.std.specs.Prelude.{◌≡◌, ◌≤◌, ℕ, List, Option, Some, None, IfOk};
+ghost use Rattle.fac_lang.specs.Built.{IsBuilt};
+ghost use Rattle.fac_check.specs.Verdict.{verdict};
+ghost use Rattle.fac_tool.specs.Answer.{answer_on, on_accepted, on_verdict, if_accepted, accepted, name_text, word_name};
+ghost use Rattle.fac_tool.specs.Ends.{ending_of, EndsBy, FilesStay, work_of};
+ghost use Rattle.fac_tool.specs.Seen.{sink_seen, files_seen, FilesSeen};
+ghost use Rattle.fac_tool.specs.declared.command.Command.{Command as CommandSeen};
+ghost use Rattle.fac_tool.specs.Answers.{ReachesBy, ReadsTree, WorksOn};
+
+use crate::note::{bare, push_name, refused};
+use crate::program_run::{run_program, word_name as name_of_word};
+use crate::{Command, Ended, Report};
+use fac_check::{Checked, Refusal, accept, first_refusal};
+use fac_io::{Files, LoadFault, Sink};
+use fac_lang::{Memory, Program, Text, Tree};
+use fac_parse::{ParseFault, ResolveFault, TokenFault, Why, parse, resolve, tokens};
+use std::alloc::Global;
+
+// The most bytes that are read.
+const LIMIT: u64 = 4_194_304;
+
+// The number of the command's file.
+const FILE: u32 = 1;
+
+// The tree of a text, or that it has none.
+fn read_tree(alloc: Global, text: &[u8]) -> Result<Option<Tree>, Memory>
+    ensures { IfOk result (ReadsTree 1 text.now) }
+{
+    match tokens(alloc, FILE, text) {
+        Err(TokenFault::Memory) => Err(Memory),
+        Err(TokenFault::NotPlain) => Ok(None),
+        Ok(tokens) => match parse(alloc, &tokens) {
+            Err(ParseFault::Memory) => Err(Memory),
+            Err(ParseFault::Syntax { .. }) => Ok(None),
+            Ok(tree) => Ok(Some(tree)),
+        },
+    }
+}
+
+// A word as notes tell it.
+fn word_text(alloc: Global, program: &Program, word: u32) -> Result<Text, Memory>
+    ensures { IfOk result (λ text. text ≡ name_text (word_name program.now word)) }
+{
+    let name = name_of_word(alloc, program, word)?;
+    let mut text = Text::new(alloc);
+    push_name(&mut text, &name)?;
+    Ok(text)
+}
+
+// The refusal of a program.
+fn check_refused(alloc: Global, program: &Program, refusal: Refusal) -> Ended
+    requires { verdict program.now ≡ Some refusal }
+    ensures { (command : CommandSeen) (files : FilesSeen) (told : Option (List ℕ)) (m : ℕ) → FilesStay files → EndsBy (ending_of result.status) (on_verdict command program.now (verdict program.now)) (work_of command (if_accepted program.now (verdict program.now))) files (sink_seen told told m m) result }
+{
+    match word_text(alloc, program, refusal.word) {
+        Ok(word) => refused(5, 0, Report::Check { refusal, word }),
+        Err(_) => bare(12, 0),
+    }
+}
+
+// Does what the command asks for with an accepted program.
+fn on_accepted_program<K: Sink>(
+    alloc: Global,
+    command: Command,
+    checked: &Checked,
+    out: &mut K,
+) -> Ended
+    requires built { IsBuilt checked.now.program }
+    requires accepted { verdict checked.now.program ≡ None }
+    ensures ends { (files : FilesSeen) → FilesStay files → EndsBy (ending_of result.status) (on_accepted command checked.now.program) (work_of command (Some checked.now.program)) files (sink_seen (K.taken out.old) (K.taken out.new) (K.faults out.old) (K.faults out.new)) result }
+    ensures counts { K.faults out.old ≤ K.faults out.new }
+{
+    match command {
+        Command::Run { .. } => run_program(alloc, checked, out),
+    }
+}
+
+// Answers a program.
+fn on_program<K: Sink>(alloc: Global, command: Command, program: Program, out: &mut K) -> Ended
+    requires { IsBuilt program }
+    ensures ends { (files : FilesSeen) → FilesStay files → EndsBy (ending_of result.status) (on_verdict command program (verdict program)) (work_of command (if_accepted program (verdict program))) files (sink_seen (K.taken out.old) (K.taken out.new) (K.faults out.old) (K.faults out.new)) result }
+    ensures counts { K.faults out.old ≤ K.faults out.new }
+{
+    match first_refusal(&program) {
+        Err(_) => bare(12, 0),
+        Ok(Some(refusal)) => check_refused(alloc, &program, refusal),
+        Ok(None) => on_accepted_program(alloc, command, &accept(program), out),
+    }
+}
+
+// Answers a tree.
+fn on_tree<K: Sink>(alloc: Global, command: Command, tree: &Tree, out: &mut K) -> Ended
+    ensures ends { (files : FilesSeen) → FilesStay files → EndsBy (ending_of result.status) (answer_on command (Some tree.now.forms)) (work_of command (accepted (Some tree.now.forms))) files (sink_seen (K.taken out.old) (K.taken out.new) (K.faults out.old) (K.faults out.new)) result }
+    ensures counts { K.faults out.old ≤ K.faults out.new }
+{
+    match resolve(alloc, tree) {
+        Err(ResolveFault::Memory) => bare(12, 0),
+        Err(ResolveFault::Name(fault)) => refused(4, 0, Report::Name(fault)),
+        Ok(program) => on_program(alloc, command, program, out),
+    }
+}
+
+// Answers a text.
+fn on_text<K: Sink>(alloc: Global, command: Command, text: &[u8], out: &mut K) -> Ended
+    ensures works { WorksOn command text.now (sink_seen (K.taken out.old) (K.taken out.new) (K.faults out.old) (K.faults out.new)) result }
+    ensures counts { K.faults out.old ≤ K.faults out.new }
+{
+    match read_tree(alloc, text) {
+        Err(_) => bare(12, 0),
+        Ok(None) => refused(
+            3,
+            0,
+            Report::Syntax {
+                file: FILE,
+                at: 0,
+                why: Why::Other,
+            },
+        ),
+        Ok(Some(tree)) => on_tree(alloc, command, &tree, out),
+    }
+}
+
+/// Does the work of a command on the file of this name.
+pub fn work<F: Files, K: Sink>(
+    alloc: Global,
+    command: Command,
+    name: &str,
+    files: &mut F,
+    out: &mut K,
+) -> Ended
+    ensures files_count { F.faults files.old ≤ F.faults files.new }
+    ensures out_count { K.faults out.old ≤ K.faults out.new }
+    ensures ending { ReachesBy name.now command (files_seen (F.held files.old) (F.held files.new) (F.asked files.old) (F.asked files.new) (F.faults files.old) (F.faults files.new)) (sink_seen (K.taken out.old) (K.taken out.new) (K.faults out.old) (K.faults out.new)) result }
+{
+    let Ok(file) = Text::from_str(alloc, name) else {
+        return bare(12, 0);
+    };
+    match files.load(alloc, name, LIMIT) {
+        Err(LoadFault::Memory) => bare(12, 0),
+        Err(LoadFault::Failed) => refused(8, 0, Report::File { name: file }),
+        Err(LoadFault::TooLong) => refused(
+            11,
+            0,
+            Report::TooLong {
+                name: file,
+                limit: LIMIT,
+            },
+        ),
+        Ok(text) => on_text(alloc, command, text.as_slice(), out),
+    }
+}
