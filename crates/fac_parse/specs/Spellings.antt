@@ -1,0 +1,80 @@
+-- What a token is to the grammar, by how it is spelled.
+use Rattle.std.specs.List.{list_all, list_any}
+use Rattle.std.specs.Prelude.{ℕ, ℤ, ◌==◌, nat_le, nat_eq, Bool, true, false, not, ◌&&◌, ◌||◌, List, [], ◌∷◌, Option, Some, None, is_some, codes, if◌then◌else◌}
+use Rattle.std.specs.Str.{bytes_eq}
+use Rattle.fac_lang.specs.Numbers.{signed_in, integer_in}
+use Rattle.fac_lang.specs.declared.token.TokKind.{TokKind}
+use Rattle.fac_lang.specs.declared.token.TokKind.TheVariants.{Plain, Str}
+use Rattle.fac_parse.specs.declared.spelling.Spelling.{Spelling}
+use Rattle.fac_parse.specs.declared.spelling.Spelling.TheVariants.{Using, Semi, Integer, Name, Other}
+
+abbrev pub is_digit : ℕ → Bool
+is_digit c = nat_le 48 c && nat_le c 57
+
+-- decimal digits, one or more
+abbrev pub are_digits : List ℕ → Bool
+are_digits [] = false
+are_digits (c ∷ cs) = list_all is_digit (c ∷ cs)
+
+-- an optional `-` and decimal digits
+abbrev pub is_decimal : List ℕ → Bool
+is_decimal [] = false
+is_decimal (c ∷ cs) = (if nat_eq c 45 then are_digits cs else are_digits (c ∷ cs))
+
+-- a text in one of the integer forms, in range or not
+unfoldable pub has_integer_form : List ℕ → Bool
+has_integer_form text = is_some (signed_in text)
+
+-- the integer of the decimal form without commas, where it is in range
+unfoldable pub literal_in : List ℕ → Option ℤ
+literal_in text = (if is_decimal text then integer_in text else None)
+
+-- Tokens that are never names.
+unfoldable pub is_reserved_sign : List ℕ → Bool
+is_reserved_sign text =
+    list_any (bytes_eq text) (
+    codes ";" ∷ codes "[" ∷ codes "]" ∷ codes "{" ∷ codes "}" ∷ codes "(" ∷ codes ")" ∷ codes "--" ∷ codes "|" ∷ codes "=>" ∷
+    codes ":" ∷ codes "::" ∷ codes ":>" ∷ (92 ∷ []) ∷ codes "t" ∷ codes "f" ∷ codes "_" ∷ codes "@" ∷ codes "[|" ∷ codes "'[" ∷ [])
+
+unfoldable pub is_reserved_form : List ℕ → Bool
+is_reserved_form text =
+    list_any (bytes_eq text) (
+    codes "IN:" ∷ codes "USE:" ∷ codes "USING:" ∷ codes "FROM:" ∷ codes "QUALIFIED-WITH:" ∷ codes "DEFER:" ∷ codes "SYMBOL:" ∷ codes "MAIN:" ∷
+    codes "<PRIVATE" ∷ codes "PRIVATE>" ∷ codes "CONSTANT:" ∷ codes "TUPLE:" ∷ codes "UNION:" ∷ codes "SINGLETON:" ∷ codes "C:" ∷
+    codes "GENERIC:" ∷ codes "M:" ∷ [])
+
+unfoldable pub is_reserved_word : List ℕ → Bool
+is_reserved_word text =
+    list_any (bytes_eq text) (codes "inline" ∷ codes "recursive" ∷ codes "call(" ∷ codes "execute(" ∷ codes "call-next-method" ∷ codes "foldable" ∷ codes "flushable" ∷ [])
+
+-- what Factor has and this profile leaves out
+unfoldable pub is_left_out : List ℕ → Bool
+is_left_out text =
+    list_any (bytes_eq text) (
+    codes "SYNTAX:" ∷ codes "MACRO:" ∷ codes "MACRO::" ∷ codes "MEMO:" ∷ codes "MEMO::" ∷ codes "PREDICATE:" ∷ codes "MIXIN:" ∷ codes "INSTANCE:" ∷
+    codes "GENERIC#:" ∷ codes "HOOK:" ∷ codes "MATH:" ∷ codes "ERROR:" ∷ codes "ALIAS:" ∷ codes "SYMBOLS:" ∷ codes "SINGLETONS:" ∷
+    codes "QUALIFIED:" ∷ codes "EXCLUDE:" ∷ codes "RENAME:" ∷ codes "POSTPONE:" ∷ codes "M::" ∷ codes "[let" ∷ codes "V{" ∷ codes "H{" ∷
+    codes "T{" ∷ codes "CHAR:" ∷ codes "#!" ∷ [])
+
+unfoldable pub is_reserved : List ℕ → Bool
+is_reserved text = is_reserved_sign text || is_reserved_form text || is_reserved_word text || is_left_out text
+
+-- neither a comment's `!` nor with a quote in it
+unfoldable pub is_quiet : List ℕ → Bool
+is_quiet text = not (bytes_eq text (codes "!")) && list_all (λ c. not (nat_eq c 34)) text
+
+-- a token in no integer form
+unfoldable pub word_spelling : List ℕ → Spelling
+word_spelling text =
+    (if bytes_eq text (codes "USING:") then Using else if bytes_eq text (codes ";") then Semi else if not (is_reserved text) && is_quiet text then Name else Other)
+
+abbrev pub integer_spelling : Option ℤ → Spelling
+integer_spelling (Some z) = Integer z
+integer_spelling None = Other
+
+unfoldable pub spelling_of : List ℕ → Spelling
+spelling_of text = (if has_integer_form text then integer_spelling (literal_in text) else word_spelling text)
+
+abbrev pub token_spelling : TokKind → Spelling
+token_spelling (Plain text) = spelling_of text
+token_spelling (Str text) = Other

@@ -1,0 +1,135 @@
+//! The words that there are before a source is read.
+ghost use Rattle.std.specs.Prelude.{◌≡◌, ◌++◌, ◌∷◌, [], None, Some, map, IfOk, IfSome, OnOk, if◌then◌else◌};
+ghost use Rattle.std.specs.List.{list_any};
+ghost use Rattle.std.specs.Str.{bytes_eq};
+ghost use Rattle.fac_lang.specs.EffectView.{inputs_tree};
+ghost use Rattle.fac_lang.specs.PrimitiveWords.{plain_inputs};
+ghost use Rattle.fac_lang.specs.Signatures.{signature, leaves};
+ghost use Rattle.fac_parse.specs.Resolution.{plain_word, known_words, found, top_word};
+
+use crate::vocabularies::Vocabularies;
+use fac_lang::{Effect, Input, List, Memory, Name, Outs, Phrase, Place, Sort, Text, WordDef};
+use std::alloc::Global;
+
+// Inputs that are plain values.
+fn inputs(alloc: Global, names: &[&str]) -> Result<Vec<Input>, Memory>
+    ensures { IfOk result (λ inputs. inputs_tree inputs.items ≡ plain_inputs (map (λ name. name.now) names.now)) }
+{
+    let mut inputs = Vec::new(alloc);
+    for name in names {
+        inputs.push(Input {
+            name: Text::from_str(alloc, name)?,
+            quot: None,
+        })?;
+    }
+    Ok(inputs)
+}
+
+// A copy of names.
+fn texts(alloc: Global, names: &[&str]) -> Result<List<Text>, Memory>
+    ensures { IfOk result (λ texts. texts ≡ map (λ name. name.now) names.now) }
+{
+    let mut texts = List::new(alloc);
+    for name in names {
+        texts.push(Text::from_str(alloc, name)?)?;
+    }
+    Ok(texts)
+}
+
+// An effect of plain values.
+fn effect(alloc: Global, ins: &[&str], outs: &[&str]) -> Result<Effect, Memory>
+    ensures { IfOk result (λ effect. effect ≡ signature None (plain_inputs (map (λ name. name.now) ins.now)) (leaves None (map (λ name. name.now) outs.now))) }
+{
+    let ins = inputs(alloc, ins)?;
+    let names = texts(alloc, outs)?;
+    Ok(Effect {
+        row_in: None,
+        ins,
+        outs: Outs::Left { row: None, names },
+    })
+}
+
+// A word that no source defines.
+fn word(
+    alloc: Global,
+    vocab: &str,
+    name: &str,
+    sort: Sort,
+    effect: Effect,
+) -> Result<WordDef, Memory>
+    ensures { IfOk result (λ word. word ≡ plain_word vocab.now name.now sort effect) }
+{
+    let vocab = Text::from_str(alloc, vocab)?;
+    let name = Text::from_str(alloc, name)?;
+    Ok(WordDef {
+        name: Name { vocab, name },
+        sort,
+        effect,
+        inline: false,
+        recursive: false,
+        place: Place { file: 0, token: 0 },
+    })
+}
+
+/// The primitive words.
+#[tactic(auto, unfolding(crate::specs::Resolution::known_words, fac_lang::specs::PrimitiveWords::primitive_word))]
+fn primitives(alloc: Global) -> Result<List<WordDef>, Memory>
+    ensures { IfOk result (λ words. words ≡ known_words) }
+{
+    let drop = effect(alloc, &["x"], &[])?;
+    let dup = effect(alloc, &["x"], &["x", "x"])?;
+    let swap = effect(alloc, &["x", "y"], &["y", "x"])?;
+    let over = effect(alloc, &["x", "y"], &["x", "y", "x"])?;
+    let sum = effect(alloc, &["x", "y"], &["z"])?;
+    let difference = effect(alloc, &["x", "y"], &["z"])?;
+    let product = effect(alloc, &["x", "y"], &["z"])?;
+    let print = effect(alloc, &["x"], &[])?;
+    let mut words = List::new(alloc);
+    words.push(word(alloc, "kernel", "drop", Sort::Prim(0), drop)?)?;
+    words.push(word(alloc, "kernel", "dup", Sort::Prim(1), dup)?)?;
+    words.push(word(alloc, "kernel", "swap", Sort::Prim(2), swap)?)?;
+    words.push(word(alloc, "kernel", "over", Sort::Prim(3), over)?)?;
+    words.push(word(alloc, "math", "+", Sort::Prim(26), sum)?)?;
+    words.push(word(alloc, "math", "-", Sort::Prim(27), difference)?)?;
+    words.push(word(alloc, "math", "*", Sort::Prim(28), product)?)?;
+    words.push(word(alloc, "prettyprint", ".", Sort::Prim(59), print)?)?;
+    Ok(words)
+}
+
+/// The words of a program whose top-level phrase this is, which is the last.
+pub fn words_of(alloc: Global, body: Phrase) -> Result<List<WordDef>, Memory>
+    ensures { IfOk result (λ words. words ≡ known_words ++ top_word body ∷ []) }
+{
+    let mut words = primitives(alloc)?;
+    let effect = effect(alloc, &[], &[])?;
+    words.push(word(alloc, "", "top-level", Sort::Body(body), effect)?)?;
+    Ok(words)
+}
+
+// A word's number, where its vocabulary is used.
+fn where_used(used: &Vocabularies, vocab: &str, number: u32) -> Option<u32>
+    ensures { result ≡ (if list_any (bytes_eq vocab.now) used.now then Some number else None) }
+{
+    if used.contains(vocab) {
+        Some(number)
+    } else {
+        None
+    }
+}
+
+/// The number of the word that a name finds.
+pub fn find(used: &Vocabularies, name: &str) -> Option<u32>
+    ensures { result ≡ found used.now name.now }
+{
+    match name {
+        "drop" => where_used(used, "kernel", 0),
+        "dup" => where_used(used, "kernel", 1),
+        "swap" => where_used(used, "kernel", 2),
+        "over" => where_used(used, "kernel", 3),
+        "+" => where_used(used, "math", 4),
+        "-" => where_used(used, "math", 5),
+        "*" => where_used(used, "math", 6),
+        "." => where_used(used, "prettyprint", 7),
+        _ => None,
+    }
+}

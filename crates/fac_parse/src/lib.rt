@@ -1,0 +1,16 @@
+//! Reading a source: its bytes to tokens, tokens to a tree, and a tree to a program.
+#![tactic(auto)]
+
+mod built_words;
+mod integers;
+mod laws;
+mod reader;
+mod resolver;
+mod scanner;
+mod spelling;
+mod vocabularies;
+
+pub use laws::one_tree;
+pub use reader::{ParseFault, Why, parse};
+pub use resolver::{NameFault, NameKind, ResolveFault, resolve};
+pub use scanner::{TokenFault, tokens};

@@ -1,0 +1,179 @@
+//! What a token is to the grammar.
+ghost use Rattle.std.specs.Prelude.{◌≡◌};
+ghost use Rattle.fac_parse.specs.Spellings.{is_reserved_sign, is_reserved_form, is_reserved_word, is_left_out, is_reserved, is_quiet, word_spelling, spelling_of, token_spelling};
+
+use crate::integers::{has_integer_form, literal};
+use fac_lang::TokKind;
+
+/// What a token is to the grammar, by how it is spelled.
+#[derive(Clone, Copy, Debug)]
+pub enum Spelling {
+    /// `USING:`
+    Using,
+    /// `;`
+    Semi,
+    /// Decimal digits without commas, in range.
+    Integer(i128),
+    Name,
+    Other,
+}
+
+#[tactic(auto, unfolding(crate::specs::Spellings::is_reserved_sign))]
+fn is_sign(text: &str) -> bool
+    ensures { result ≡ is_reserved_sign text.now }
+{
+    matches!(
+        text,
+        ";" | "["
+            | "]"
+            | "{"
+            | "}"
+            | "("
+            | ")"
+            | "--"
+            | "|"
+            | "=>"
+            | ":"
+            | "::"
+            | ":>"
+            | "\\"
+            | "t"
+            | "f"
+            | "_"
+            | "@"
+            | "[|"
+            | "'["
+    )
+}
+
+#[tactic(auto, unfolding(crate::specs::Spellings::is_reserved_form))]
+fn is_form(text: &str) -> bool
+    ensures { result ≡ is_reserved_form text.now }
+{
+    matches!(
+        text,
+        "IN:"
+            | "USE:"
+            | "USING:"
+            | "FROM:"
+            | "QUALIFIED-WITH:"
+            | "DEFER:"
+            | "SYMBOL:"
+            | "MAIN:"
+            | "<PRIVATE"
+            | "PRIVATE>"
+            | "CONSTANT:"
+            | "TUPLE:"
+            | "UNION:"
+            | "SINGLETON:"
+            | "C:"
+            | "GENERIC:"
+            | "M:"
+    )
+}
+
+#[tactic(auto, unfolding(crate::specs::Spellings::is_reserved_word))]
+fn is_mark(text: &str) -> bool
+    ensures { result ≡ is_reserved_word text.now }
+{
+    matches!(
+        text,
+        "inline"
+            | "recursive"
+            | "call("
+            | "execute("
+            | "call-next-method"
+            | "foldable"
+            | "flushable"
+    )
+}
+
+#[tactic(auto, unfolding(crate::specs::Spellings::is_left_out))]
+fn is_absent(text: &str) -> bool
+    ensures { result ≡ is_left_out text.now }
+{
+    matches!(
+        text,
+        "SYNTAX:"
+            | "MACRO:"
+            | "MACRO::"
+            | "MEMO:"
+            | "MEMO::"
+            | "PREDICATE:"
+            | "MIXIN:"
+            | "INSTANCE:"
+            | "GENERIC#:"
+            | "HOOK:"
+            | "MATH:"
+            | "ERROR:"
+            | "ALIAS:"
+            | "SYMBOLS:"
+            | "SINGLETONS:"
+            | "QUALIFIED:"
+            | "EXCLUDE:"
+            | "RENAME:"
+            | "POSTPONE:"
+            | "M::"
+            | "[let"
+            | "V{"
+            | "H{"
+            | "T{"
+            | "CHAR:"
+            | "#!"
+    )
+}
+
+#[tactic(auto, unfolding(crate::specs::Spellings::is_reserved))]
+fn reserved(text: &str) -> bool
+    ensures { result ≡ is_reserved text.now }
+{
+    is_sign(text) || is_form(text) || is_mark(text) || is_absent(text)
+}
+
+#[tactic(auto, unfolding(crate::specs::Spellings::is_quiet))]
+fn quiet(text: &str) -> bool
+    ensures { result ≡ is_quiet text.now }
+{
+    text != "!" && text.as_bytes().iter().all(|c| *c != 34)
+}
+
+#[tactic(auto, unfolding(crate::specs::Spellings::word_spelling))]
+fn spelled_word(text: &str) -> Spelling
+    ensures { result ≡ word_spelling text.now }
+{
+    match text {
+        "USING:" => Spelling::Using,
+        ";" => Spelling::Semi,
+        _ => {
+            if !reserved(text) && quiet(text) {
+                Spelling::Name
+            } else {
+                Spelling::Other
+            }
+        }
+    }
+}
+
+#[tactic(auto, unfolding(crate::specs::Spellings::spelling_of))]
+fn spelled(text: &str) -> Spelling
+    ensures { result ≡ spelling_of text.now }
+{
+    if has_integer_form(text.as_bytes()) {
+        match literal(text.as_bytes()) {
+            Some(value) => Spelling::Integer(value),
+            None => Spelling::Other,
+        }
+    } else {
+        spelled_word(text)
+    }
+}
+
+/// What a token is.
+pub fn classify(kind: &TokKind) -> Spelling
+    ensures { result ≡ token_spelling kind.now }
+{
+    match kind {
+        TokKind::Plain(text) => spelled(text.as_str()),
+        TokKind::Str(_) => Spelling::Other,
+    }
+}
