@@ -5,7 +5,7 @@ use Rattle.std.specs.Str.{bytes_eq}
 use Rattle.fac_lang.specs.Built.{built_primitives}
 use Rattle.fac_lang.specs.PrimitiveWords.{PrimitiveWord, primitive_word, written_effect}
 use Rattle.fac_lang.specs.Signatures.{Signature, signature, no_inputs, leaves}
-use Rattle.fac_lang.specs.Texts.{Text, end, then, Item, lit, int, word}
+use Rattle.fac_lang.specs.Texts.{Text, end, then as placed, Item, lit, int, word}
 use Rattle.fac_lang.specs.declared.phrase.Place.{Place}
 use Rattle.fac_lang.specs.declared.program.Program.{Program}
 use Rattle.fac_lang.specs.declared.program.Sort.{Sort}
@@ -74,7 +74,7 @@ uses used [] = Ok used
 uses used (t ∷ ts) = (if is_vocabulary (token_text t.kind) then uses (with_used used (token_text t.kind)) ts else Err (name_fault NoVocab t))
 
 abbrev pub with_item : Item → Place → Result Text NameFault → Result Text NameFault
-with_item item place (Ok text) = Ok (then item place text)
+with_item item place (Ok text) = Ok (placed item place text)
 with_item item place (Err fault) = Err fault
 
 abbrev pub after_uses : Result (List (List ℕ)) NameFault → (List (List ℕ) → Result Text NameFault) → Result Text NameFault

@@ -1,33 +1,25 @@
 -- What a token is to the grammar, by how it is spelled.
 use Rattle.std.specs.List.{list_all, list_any}
-use Rattle.std.specs.Prelude.{ℕ, ℤ, ◌==◌, nat_le, nat_eq, Bool, true, false, not, ◌&&◌, ◌||◌, List, [], ◌∷◌, Option, Some, None, is_some, codes, if◌then◌else◌}
+use Rattle.std.specs.Prelude.{ℕ, ℤ, pos, nat_eq, Bool, true, false, not, ◌&&◌, ◌||◌, List, [], ◌∷◌, Option, Some, None, is_some, codes, if◌then◌else◌}
 use Rattle.std.specs.Str.{bytes_eq}
-use Rattle.fac_lang.specs.Numbers.{signed_in, integer_in}
+use Rattle.fac_lang.specs.Numbers.{signed_in, digits_in, negated, in_range}
 use Rattle.fac_lang.specs.declared.token.TokKind.{TokKind}
 use Rattle.fac_lang.specs.declared.token.TokKind.TheVariants.{Plain, Str}
 use Rattle.fac_parse.specs.declared.spelling.Spelling.{Spelling}
 use Rattle.fac_parse.specs.declared.spelling.Spelling.TheVariants.{Using, Semi, Integer, Name, Other}
 
-abbrev pub is_digit : ℕ → Bool
-is_digit c = nat_le 48 c && nat_le c 57
-
--- decimal digits, one or more
-abbrev pub are_digits : List ℕ → Bool
-are_digits [] = false
-are_digits (c ∷ cs) = list_all is_digit (c ∷ cs)
-
--- an optional `-` and decimal digits
-abbrev pub is_decimal : List ℕ → Bool
-is_decimal [] = false
-is_decimal (c ∷ cs) = (if nat_eq c 45 then are_digits cs else are_digits (c ∷ cs))
-
 -- a text in one of the integer forms, in range or not
 unfoldable pub has_integer_form : List ℕ → Bool
 has_integer_form text = is_some (signed_in text)
 
--- the integer of the decimal form without commas, where it is in range
+abbrev pub signed_value : Bool → Option ℕ → Option ℤ
+signed_value is_negative None = None
+signed_value is_negative (Some n) = in_range (if is_negative then negated n else pos n)
+
+-- the integer that an optional `-` and decimal digits write, where it is in range
 unfoldable pub literal_in : List ℕ → Option ℤ
-literal_in text = (if is_decimal text then integer_in text else None)
+literal_in [] = None
+literal_in (c ∷ cs) = (if nat_eq c 45 then signed_value true (digits_in 10 cs) else signed_value false (digits_in 10 (c ∷ cs)))
 
 -- Tokens that are never names.
 unfoldable pub is_reserved_sign : List ℕ → Bool

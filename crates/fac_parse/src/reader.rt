@@ -45,7 +45,9 @@ pub struct Vocabs {
 }
 
 // The one refusal.
-fn refused() -> ParseFault {
+fn refused() -> ParseFault
+    ensures { result ≡ ParseFault.Syntax 0 Why.Other }
+{
     ParseFault::Syntax {
         at: 0,
         why: Why::Other,

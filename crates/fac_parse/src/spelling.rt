@@ -1,5 +1,6 @@
 //! What a token is to the grammar.
-ghost use Rattle.std.specs.Prelude.{◌≡◌};
+ghost use Rattle.std.specs.Prelude.{◌≡◌, nat_eq, not};
+ghost use Rattle.std.specs.List.{list_all};
 ghost use Rattle.fac_parse.specs.Spellings.{is_reserved_sign, is_reserved_form, is_reserved_word, is_left_out, is_reserved, is_quiet, word_spelling, spelling_of, token_spelling};
 
 use crate::integers::{has_integer_form, literal};
@@ -130,11 +131,22 @@ fn reserved(text: &str) -> bool
     is_sign(text) || is_form(text) || is_mark(text) || is_absent(text)
 }
 
+fn has_no_quote(text: &[u8]) -> bool
+    ensures { result ≡ list_all (λ c. not (nat_eq c 34)) text.now }
+{
+    for c in text {
+        if *c == 34 {
+            return false;
+        }
+    }
+    true
+}
+
 #[tactic(auto, unfolding(crate::specs::Spellings::is_quiet))]
 fn quiet(text: &str) -> bool
     ensures { result ≡ is_quiet text.now }
 {
-    text != "!" && text.as_bytes().iter().all(|c| *c != 34)
+    text != "!" && has_no_quote(text.as_bytes())
 }
 
 #[tactic(auto, unfolding(crate::specs::Spellings::word_spelling))]
