@@ -1,11 +1,11 @@
 -- Texts of digits, and what the code tests of them.
-use Rattle.std.proofs.Common.{◌≡◌, ℕ, ◌+◌, ◌*◌, ◌^◌, ◌<◌, ◌≤◌, Bool, true, false, cond, ◌&&◌, List, [], ◌∷◌, Option, Some, None, length, refl, ap, sym, ◌∙◌, subst, arith}
-use Rattle.std.specs.Prelude.{is_some, nat_eq, nat_le}
+use Rattle.std.proofs.Common.{◌≡◌, ℕ, ◌+◌, ◌*◌, ◌^◌, ◌<◌, ◌≤◌, Bool, true, false, cond, ◌&&◌, List, [], ◌∷◌, Option, Some, None, length, drop, get_or, drop-cons, add-one, refl, ap, sym, ◌∙◌, subst, arith}
+use Rattle.std.specs.Prelude.{is_some, nat_eq, nat_le, if◌then◌else◌}
 use Rattle.std.specs.List.{list_all}
 use Rattle.std.proofs.lemmas.Grind.{common_steps}
 use Rattle.std.proofs.lemmas.Bool.Decides.{Decides-eqb}
 use Rattle.fac_lang.specs.Numbers.{digit_of, digit_below, digits_from, digits_in, decimal_from, decimal_in, magnitude_in}
-use Rattle.fac_parse.specs.Digits.{is_digit_in, is_grouped, within_limit}
+use Rattle.fac_parse.specs.Digits.{is_digit_in, is_grouped, within_limit, base_mark, base_in}
 
 digits_step : (base n : ℕ) (cs : List ℕ) (o : Option ℕ) → ((m : ℕ) → is_some (digits_from base m cs) ≡ list_all (is_digit_in base) cs) → is_some (elim o [ None ↦ None | Some d ↦ digits_from base (base * n + d) cs ]) ≡ (is_some o && list_all (is_digit_in base) cs)
 digits_step base n cs None later = refl
@@ -70,3 +70,45 @@ past n (Some m) h below = let more = below m refl in grind arith
 
 pub past_limit : (n : ℕ) (cs : List ℕ) → 2 ^ 127 < n → within_limit (digits_from 10 n cs) ≡ None
 past_limit n cs h = past n (digits_from 10 n cs) h (λ m e. grows n m cs e)
+
+stop_by : (n d : ℕ) (o : Option ℕ) (cs : List ℕ) → o ≡ Some d → 2 ^ 127 < 10 * n + d → within_limit (elim o [ None ↦ None | Some e ↦ digits_from 10 (10 * n + e) cs ]) ≡ None
+stop_by n d None cs h over = cc
+stop_by n d (Some e) cs h over = let same : e ≡ d = cc in past_limit (10 * n + e) cs (omega arith)
+
+-- one more digit passes the limit
+pub stops : (text : List ℕ) (total : Option ℕ) (i n c d : ℕ) → within_limit total ≡ within_limit (digits_from 10 n (drop i text)) → i < length text → digit_below 10 (digit_of (get_or text i c)) ≡ Some d → 2 ^ 127 < 10 * n + d → within_limit total ≡ None
+stops text total i n c d so_far below e h =
+    let next : drop i text ≡ get_or text i c ∷ drop (i + 1) text = rw (drop-cons text i c below, add-one) refl in
+    so_far ∙ rw next (stop_by n d (digit_below 10 (digit_of (get_or text i c))) (drop (i + 1) text) e h)
+
+pub base_short : (text : List ℕ) → length text < 2 → base_in text ≡ None
+base_short [] h = refl
+base_short (c ∷ []) h = refl
+base_short (c ∷ b ∷ cs) h = absurd (omega arith)
+
+pub base_at : (text : List ℕ) (c b : ℕ) → 2 ≤ length text → base_in text ≡ base_mark (get_or text 0 c) (get_or text 1 b)
+base_at [] c b h = absurd (omega arith)
+base_at (x ∷ []) c b h = absurd (omega arith)
+base_at (x ∷ y ∷ ys) c b h = refl
+
+marked_magnitude : (x o b : Bool) (base : ℕ) (cs ds : List ℕ) → (if x then Some 16 else if o then Some 8 else if b then Some 2 else None) ≡ Some base → elim x [ true ↦ digits_in 16 cs | false ↦ elim o [ true ↦ digits_in 8 cs | false ↦ elim b [ true ↦ digits_in 2 cs | false ↦ decimal_in ds ] ] ] ≡ digits_in base cs
+marked_magnitude true o b base cs ds e = let same : base ≡ 16 = cc in rw same refl
+marked_magnitude false true b base cs ds e = let same : base ≡ 8 = cc in rw same refl
+marked_magnitude false false true base cs ds e = let same : base ≡ 2 = cc in rw same refl
+marked_magnitude false false false base cs ds e = cc
+
+plain_magnitude : (x o b : Bool) (cs ds : List ℕ) → ◌≡◌ {A = Option ℕ} (if x then Some 16 else if o then Some 8 else if b then Some 2 else None) None → elim x [ true ↦ digits_in 16 cs | false ↦ elim o [ true ↦ digits_in 8 cs | false ↦ elim b [ true ↦ digits_in 2 cs | false ↦ decimal_in ds ] ] ] ≡ decimal_in ds
+plain_magnitude true o b cs ds e = cc
+plain_magnitude false true b cs ds e = cc
+plain_magnitude false false true cs ds e = cc
+plain_magnitude false false false cs ds e = refl
+
+pub magnitude_marked : (text : List ℕ) (base : ℕ) → base_in text ≡ Some base → magnitude_in text ≡ digits_in base (drop 2 text)
+magnitude_marked [] base e = cc
+magnitude_marked (c ∷ []) base e = cc
+magnitude_marked (c ∷ b ∷ cs) base e = marked_magnitude (nat_eq c 48 && nat_eq b 120) (nat_eq c 48 && nat_eq b 111) (nat_eq c 48 && nat_eq b 98) base cs (c ∷ b ∷ cs) e
+
+pub magnitude_plain : (text : List ℕ) → base_in text ≡ None → magnitude_in text ≡ decimal_in text
+magnitude_plain [] e = refl
+magnitude_plain (c ∷ []) e = refl
+magnitude_plain (c ∷ b ∷ cs) e = plain_magnitude (nat_eq c 48 && nat_eq b 120) (nat_eq c 48 && nat_eq b 111) (nat_eq c 48 && nat_eq b 98) cs (c ∷ b ∷ cs) e

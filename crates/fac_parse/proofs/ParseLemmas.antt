@@ -1,5 +1,5 @@
 -- The parser's reading of tokens is their tree.
-use Rattle.std.proofs.Common.{◌≡◌, ℕ, ◌≤◌, Bool, true, false, List, [], ◌∷◌, ◌++◌, Option, Some, None, drop, length, refl, ap, sym, ◌∙◌, subst, append_assoc, arith}
+use Rattle.std.proofs.Common.{◌≡◌, ℕ, ◌≤◌, Bool, true, false, List, [], ◌∷◌, ◌++◌, Option, Some, None, Err, drop, length, refl, ap, sym, ◌∙◌, subst, append_assoc, arith}
 use Rattle.std.specs.Prelude.{codes}
 use Rattle.std.specs.Option.{option_map}
 use Rattle.std.proofs.lemmas.List.{append-nil}
@@ -13,8 +13,10 @@ use Rattle.fac_parse.specs.declared.reader.Vocabs.{Vocabs}
 use Rattle.fac_parse.specs.declared.spelling.Spelling.{Spelling}
 use Rattle.fac_parse.specs.declared.spelling.Spelling.TheVariants.{Using, Semi, Integer, Name, Other}
 use Rattle.fac_parse.specs.Spellings.{token_spelling}
-use Rattle.fac_parse.specs.Trees.{plain_token, form_tokens, flatten, AreNames, IsForm, IsWellFormed, Reads}
-use Rattle.fac_parse.specs.Reader.{Step, top_step, vocab_step, step, forms_after, forms_from}
+use Rattle.fac_parse.specs.Trees.{plain_token, form_tokens, flatten, AreNames, IsForm, IsWellFormed, Reads, Parses}
+use Rattle.fac_parse.specs.declared.reader.ParseFault.{ParseFault}
+use Rattle.fac_parse.specs.declared.reader.ParseFault.TheVariants.{Syntax, Memory}
+use Rattle.fac_parse.specs.Reader.{Takes, Step, top_step, vocab_step, step, forms_after, forms_from}
 use Rattle.fac_parse.proofs.SpellingLemmas.{using_is_using, semi_is_semi, using_token, semi_token}
 
 -- the tokens of what is open
@@ -72,7 +74,7 @@ sound_open part t ts fs (Integer z) g h later e = cc
 sound_open part t ts fs Other g h later e = cc
 
 sound : (ts : List Token) → Sound ts
-sound [] None fs g e = record { fits = subst IsWellFormed cc tt; spelled = subst (λ (fs : List Form). flatten fs ≡ []) cc refl }
+sound [] None fs g e = let none : fs ≡ [] = cc in rw none (record { fits = tt; spelled = refl })
 sound [] (Some part) fs g e = cc
 sound (t ∷ ts) None fs g e = sound_top t ts fs (token_spelling t.kind) refl (sound ts) e
 sound (t ∷ ts) (Some part) fs g e = sound_open part t ts fs (token_spelling t.kind) g refl (sound ts) e
@@ -81,19 +83,42 @@ sound (t ∷ ts) (Some part) fs g e = sound_open part t ts fs (token_spelling t.
 pub read_is_tree : (ts : List Token) (fs : List Form) → forms_from None ts ≡ Some fs → Reads ts fs
 read_is_tree ts fs e = sound ts None fs tt e
 
-names_read : (vs : List Token) (part : Vocabs) (c : Place) (rest : List Token) → AreNames vs → forms_from (Some part) (vs ++ plain_token c (codes ";") ∷ rest) ≡ option_map (λ (forms : List Form). (form.Using part.opens (part.names ++ vs) c ∷ []) ++ forms) (forms_from None rest)
+mapped_twice : {A B C : Type 0} (f : B → C) (g : A → B) (h : A → C) (x : Option A) → ((a : A) → f (g a) ≡ h a) → option_map f (option_map g x) ≡ option_map h x
+mapped_twice f g h None e = refl
+mapped_twice f g h (Some a) e = ap (λ c. Some c) (e a)
+
+names_read : (vs : List Token) (part : Vocabs) (c : Place) (rest : List Token) → AreNames vs → forms_from (Some part) (vs ++ plain_token c (codes ";") ∷ rest) ≡ option_map (λ (forms : List Form). form.Using part.opens (part.names ++ vs) c ∷ forms) (forms_from None rest)
 names_read [] part c rest h = rw (semi_is_semi, append-nil) refl
-names_read (v ∷ vs) part c rest h = rw h.0 (rw (names_read vs (record part { names = part.names ++ v ∷ [] }) c rest h.1) (rw append_assoc ?))
+names_read (v ∷ vs) part c rest h =
+    let ih = names_read vs (record part { names = part.names ++ v ∷ [] }) c rest h.1 in
+    let same : (part.names ++ v ∷ []) ++ vs ≡ part.names ++ v ∷ vs = append_assoc part.names (v ∷ []) vs in
+    rw h.0 (ap (option_map (λ (forms : List Form). [] ++ forms)) ih ∙ mapped_twice (λ (forms : List Form). [] ++ forms) (λ (forms : List Form). form.Using part.opens ((part.names ++ v ∷ []) ++ vs) c ∷ forms) (λ (forms : List Form). form.Using part.opens (part.names ++ v ∷ vs) c ∷ forms) (forms_from None rest) (λ forms. ap (λ (us : List Token). form.Using part.opens us c ∷ forms) same))
 
 -- a tree's tokens are read to it
 pub tree_is_read : (fs : List Form) → IsWellFormed fs → forms_from None (flatten fs) ≡ Some fs
 tree_is_read [] h = refl
 tree_is_read (form.Item (term.Name t) ∷ fs) h = rw (h.0, tree_is_read fs h.1) refl
 tree_is_read (form.Item (term.Integer t z) ∷ fs) h = rw (h.0, tree_is_read fs h.1) refl
-tree_is_read (form.Using o vs c ∷ fs) h = ?
+tree_is_read (form.Using o vs c ∷ fs) h =
+    let ih = names_read vs (record { opens = o; names = [] }) c (flatten fs) h.0 in
+    let grouped : (vs ++ plain_token c (codes ";") ∷ []) ++ flatten fs ≡ vs ++ plain_token c (codes ";") ∷ flatten fs = append_assoc vs (plain_token c (codes ";") ∷ []) (flatten fs) in
+    let back : forms_from (Some (record { opens = o; names = [] })) ((vs ++ plain_token c (codes ";") ∷ []) ++ flatten fs) ≡ Some (form.Using o vs c ∷ fs) =
+      ap (forms_from (Some (record { opens = o; names = [] }))) grouped ∙ ih ∙ ap (option_map (λ (forms : List Form). form.Using o vs c ∷ forms)) (tree_is_read fs h.1) in
+    rw using_is_using (ap (option_map (λ (forms : List Form). [] ++ forms)) back)
 
 pub no_tree : (ts : List Token) → forms_from None ts ≡ None → (fs : List Form) → Reads ts fs → ⊥
 no_tree ts e fs r = let back = tree_is_read fs r.fits in let same = r.spelled in cc
 
 pub one_tree : (fs gs : List Form) → IsWellFormed fs → IsWellFormed gs → flatten fs ≡ flatten gs → fs ≡ gs
 one_tree fs gs h k e = let f = tree_is_read fs h in let g = tree_is_read gs k in cc
+
+no_step : (o : Option Vocabs) (t : Token) (ts : List Token) → step o t ≡ None → forms_from o (t ∷ ts) ≡ None
+no_step None t ts e = rw e refl
+no_step (Some part) t ts e = rw e refl
+
+-- a token that is refused ends the reading
+pub token_fails : (e : ParseFault) (ts rest : List Token) (t : Token) (o : Option Vocabs) (old new : List Form) (n : ℕ) → forms_from None ts ≡ option_map (λ (forms : List Form). old ++ forms) (forms_from o (drop n ts)) → drop n ts ≡ t ∷ rest → Takes (step o t) old new (Err e) → Parses ts (Err e)
+token_fails (Syntax at w) ts rest t o old new n so_far next h =
+    let none : forms_from None ts ≡ None = so_far ∙ rw (next, no_step o t rest h.0) refl in
+    (h.1, h.2, no_tree ts none)
+token_fails Memory ts rest t o old new n so_far next h = tt

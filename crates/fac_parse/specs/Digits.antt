@@ -14,3 +14,13 @@ is_grouped after_digit (c ∷ cs) = (if is_digit_in 10 c then is_grouped true cs
 abbrev pub within_limit : Option ℕ → Option ℕ
 within_limit None = None
 within_limit (Some n) = (if nat_le n (2 ^ 127) then Some n else None)
+
+-- the base that two characters write
+abbrev pub base_mark : ℕ → ℕ → Option ℕ
+base_mark c b =
+    (if nat_eq c 48 && nat_eq b 120 then Some 16 else if nat_eq c 48 && nat_eq b 111 then Some 8 else if nat_eq c 48 && nat_eq b 98 then Some 2 else None)
+
+abbrev pub base_in : List ℕ → Option ℕ
+base_in [] = None
+base_in (c ∷ []) = None
+base_in (c ∷ b ∷ cs) = base_mark c b

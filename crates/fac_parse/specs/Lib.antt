@@ -7,3 +7,4 @@ pub mod Reader
 pub mod Vocabularies
 pub mod Resolution
 pub mod Resolver
+pub mod PlainEffects

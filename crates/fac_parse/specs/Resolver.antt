@@ -6,6 +6,8 @@ use Rattle.fac_lang.specs.declared.phrase.Item.{Item}
 use Rattle.fac_lang.specs.declared.phrase.Phrase.{Phrase}
 use Rattle.fac_lang.specs.declared.token.Token.{Token}
 use Rattle.fac_lang.specs.declared.tree.Form.{Form}
+use Rattle.fac_lang.specs.declared.tree.Form.TheVariants as form
+use Rattle.fac_lang.specs.declared.tree.Term.{Term}
 use Rattle.fac_parse.specs.declared.resolver.NameFault.{NameFault}
 use Rattle.fac_parse.specs.declared.resolver.ResolveFault.{ResolveFault}
 use Rattle.fac_parse.specs.declared.resolver.ResolveFault.TheVariants.{Name, Memory}
@@ -37,3 +39,7 @@ abbrev pub ReadsForms : List Form → Result Text ResolveFault → Type 0
 ReadsForms forms (Ok text) = file_text forms ≡ Ok text
 ReadsForms forms (Err (Name fault)) = file_text forms ≡ Err fault
 ReadsForms forms (Err Memory) = Unit {0}
+
+-- the same for an item, which uses no vocabulary
+abbrev pub TakesItem : Term → List (List ℕ) → List Item → List Item → Result Unit ResolveFault → Type 0
+TakesItem item used items items_then answer = TakesForm (form.Item item) used items used items_then answer

@@ -2,9 +2,9 @@
 ghost use Rattle.std.specs.Prelude.{◌≡◌, ◌++◌, ◌∷◌, [], None, Some, map, IfOk, IfSome, OnOk, if◌then◌else◌};
 ghost use Rattle.std.specs.List.{list_any};
 ghost use Rattle.std.specs.Str.{bytes_eq};
-ghost use Rattle.fac_lang.specs.EffectView.{inputs_tree};
 ghost use Rattle.fac_lang.specs.PrimitiveWords.{plain_inputs};
 ghost use Rattle.fac_lang.specs.Signatures.{signature, leaves};
+ghost use Rattle.fac_parse.specs.PlainEffects.{plain_input};
 ghost use Rattle.fac_parse.specs.Resolution.{plain_word, known_words, found, top_word};
 
 use crate::vocabularies::Vocabularies;
@@ -13,7 +13,7 @@ use std::alloc::Global;
 
 // Inputs that are plain values.
 fn inputs(alloc: Global, names: &[&str]) -> Result<Vec<Input>, Memory>
-    ensures { IfOk result (λ inputs. inputs_tree inputs.items ≡ plain_inputs (map (λ name. name.now) names.now)) }
+    ensures { IfOk result (λ inputs. inputs.items ≡ map plain_input (map (λ name. name.now) names.now)) }
 {
     let mut inputs = Vec::new(alloc);
     for name in names {
@@ -37,6 +37,7 @@ fn texts(alloc: Global, names: &[&str]) -> Result<List<Text>, Memory>
 }
 
 // An effect of plain values.
+#[tactic(auto, using(crate::proofs::EffectLemmas::plain_tree))]
 fn effect(alloc: Global, ins: &[&str], outs: &[&str]) -> Result<Effect, Memory>
     ensures { IfOk result (λ effect. effect ≡ signature None (plain_inputs (map (λ name. name.now) ins.now)) (leaves None (map (λ name. name.now) outs.now))) }
 {

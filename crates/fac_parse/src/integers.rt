@@ -1,7 +1,7 @@
 //! Texts that write integers.
 ghost use Rattle.std.specs.Prelude.{◌≡◌, ◌≤◌, ◌^◌, pos, is_some};
 ghost use Rattle.fac_lang.specs.Numbers.{digit_of, digit_below, digits_in, decimal_in, magnitude_in, negated, in_range};
-ghost use Rattle.fac_parse.specs.Digits.{is_digit_in as digit_in, within_limit};
+ghost use Rattle.fac_parse.specs.Digits.{is_digit_in as digit_in, within_limit, base_mark, base_in};
 ghost use Rattle.fac_parse.specs.Spellings.{has_integer_form as integer_form, literal_in};
 
 // The value of a digit, up to those of base 16.
@@ -59,18 +59,38 @@ fn is_decimal(text: &[u8]) -> bool
     after_digit
 }
 
+fn marked_base(first: u8, second: u8) -> Option<u8>
+    ensures { result ≡ base_mark first second }
+{
+    if first != b'0' {
+        return None;
+    }
+    match second {
+        b'x' => Some(16),
+        b'o' => Some(8),
+        b'b' => Some(2),
+        _ => None,
+    }
+}
+
+// The base that a text begins with.
+#[tactic(auto, using(crate::proofs::DigitLemmas::base_at))]
+fn base(text: &[u8]) -> Option<u8>
+    ensures { result ≡ base_in text.now }
+{
+    if text.len() < 2 {
+        return None;
+    }
+    marked_base(text[0], text[1])
+}
+
 // Whether a text is digits behind a base, or decimal digits.
 fn is_magnitude(text: &[u8]) -> bool
     ensures { result ≡ is_some (magnitude_in text.now) }
 {
-    if text.len() < 2 || text[0] != b'0' {
-        return is_decimal(text);
-    }
-    match text[1] {
-        b'x' => are_digits_in(16, &text[2..]),
-        b'o' => are_digits_in(8, &text[2..]),
-        b'b' => are_digits_in(2, &text[2..]),
-        _ => is_decimal(text),
+    match base(text) {
+        Some(base) => are_digits_in(base, &text[2..]),
+        None => is_decimal(text),
     }
 }
 

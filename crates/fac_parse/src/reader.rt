@@ -142,7 +142,10 @@ pub fn parse(alloc: Global, tokens: &List<Token>) -> Result<Tree, ParseFault>
     let mut forms = List::new(alloc);
     let mut part = None;
     for token in tokens.as_slice() {
-        part = take_token(alloc, &mut forms, part, token)?;
+        match take_token(alloc, &mut forms, part, token) {
+            Ok(next) => part = next,
+            Err(fault) => return Err(fault),
+        }
     }
     match part {
         None => Ok(Tree {

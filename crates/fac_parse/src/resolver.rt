@@ -2,7 +2,7 @@
 ghost use Rattle.std.specs.Prelude.{◌≡◌, ◌++◌, ◌∷◌, [], IfOk, OnOk};
 ghost use Rattle.fac_lang.specs.Built.{IsBuilt};
 ghost use Rattle.fac_parse.specs.Resolution.{token_text, name_fault, Resolves};
-ghost use Rattle.fac_parse.specs.Resolver.{Uses, TakesForm, ReadsForms};
+ghost use Rattle.fac_parse.specs.Resolver.{Uses, TakesItem, TakesForm, ReadsForms};
 
 use crate::built_words::{find, words_of};
 use crate::vocabularies::{Vocabularies, is_vocabulary};
@@ -92,6 +92,30 @@ fn add_item(items: &mut Vec<Item>, what: What, place: Place) -> Result<(), Memor
     Ok(())
 }
 
+// Takes an item of the file.
+fn take_item(
+    alloc: Global,
+    used: &Vocabularies,
+    items: &mut Vec<Item>,
+    item: &Term,
+) -> Result<(), ResolveFault>
+    ensures { TakesItem item.now used.now items.old.items items.new.items result }
+{
+    match item {
+        Term::Integer(token, value) => {
+            add_item(items, What::Int(*value), token.place)?;
+            Ok(())
+        }
+        Term::Name(token) => match find(used, text(&token.kind)) {
+            Some(number) => {
+                add_item(items, What::Word(number), token.place)?;
+                Ok(())
+            }
+            None => Err(ResolveFault::Name(refusal(alloc, NameKind::Unknown, token)?)),
+        },
+    }
+}
+
 // Takes a form of the file.
 fn take_form(
     alloc: Global,
@@ -103,17 +127,7 @@ fn take_form(
 {
     match form {
         Form::Using { vocabs, .. } => use_all(alloc, used, vocabs.as_slice()),
-        Form::Item(Term::Integer(token, value)) => {
-            add_item(items, What::Int(*value), token.place)?;
-            Ok(())
-        }
-        Form::Item(Term::Name(token)) => match find(used, text(&token.kind)) {
-            Some(number) => {
-                add_item(items, What::Word(number), token.place)?;
-                Ok(())
-            }
-            None => Err(ResolveFault::Name(refusal(alloc, NameKind::Unknown, token)?)),
-        },
+        Form::Item(item) => take_item(alloc, used, items, item),
     }
 }
 
@@ -125,7 +139,10 @@ fn phrase_of(alloc: Global, forms: &[Form]) -> Result<Phrase, ResolveFault>
     used.add(alloc, "syntax")?;
     let mut items = Vec::new(alloc);
     for form in forms {
-        take_form(alloc, &mut used, &mut items, form)?;
+        match take_form(alloc, &mut used, &mut items, form) {
+            Ok(()) => {}
+            Err(fault) => return Err(fault),
+        }
     }
     Ok(Phrase { items })
 }

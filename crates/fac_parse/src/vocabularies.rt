@@ -31,10 +31,10 @@ fn is_among(texts: &IndexSet<String>, text: &str) -> bool
 }
 
 // Adds a text that may be there.
-fn insert(alloc: Global, texts: &mut IndexSet<String>, text: &str) -> Result<(), Memory>
-    ensures { OnOk result (map string_bytes texts.new.keys ≡ with_used (map string_bytes texts.old.keys) text.now) }
+fn insert(texts: &mut IndexSet<String>, text: String) -> Result<(), Memory>
+    ensures { OnOk result (map string_bytes texts.new.keys ≡ with_used (map string_bytes texts.old.keys) (string_bytes text)) }
 {
-    texts.insert(String::from_str(alloc, text)?)?;
+    texts.insert(text)?;
     Ok(())
 }
 
@@ -58,7 +58,7 @@ impl Vocabularies {
     pub fn add(&mut self, alloc: Global, name: &str) -> Result<(), Memory>
         ensures { OnOk result (self.new ≡ with_used self.old name.now) }
     {
-        insert(alloc, &mut self.names, name)
+        insert(&mut self.names, String::from_str(alloc, name)?)
     }
 }
 
