@@ -67,7 +67,7 @@ sound_open part t ts fs Name g h later e =
 sound_open part t ts fs Semi g h later e =
     let r = ended_form (form.Using part.opens part.names t.place) ts fs later g e in
     let us : (part.names ++ plain_token t.place (codes ";") ∷ []) ++ ts ≡ part.names ++ t ∷ ts =
-      append_assoc part.names (plain_token t.place (codes ";") ∷ []) ts ∙ ap (λ (u : Token). part.names ++ u ∷ ts) (sym (semi_token t h)) in
+    append_assoc part.names (plain_token t.place (codes ";") ∷ []) ts ∙ ap (λ (u : Token). part.names ++ u ∷ ts) (sym (semi_token t h)) in
     subst (λ (us : List Token). Reads (plain_token part.opens (codes "USING:") ∷ us) fs) us r
 sound_open part t ts fs Using g h later e = cc
 sound_open part t ts fs (Integer z) g h later e = cc
@@ -103,7 +103,7 @@ tree_is_read (form.Using o vs c ∷ fs) h =
     let ih = names_read vs (record { opens = o; names = [] }) c (flatten fs) h.0 in
     let grouped : (vs ++ plain_token c (codes ";") ∷ []) ++ flatten fs ≡ vs ++ plain_token c (codes ";") ∷ flatten fs = append_assoc vs (plain_token c (codes ";") ∷ []) (flatten fs) in
     let back : forms_from (Some (record { opens = o; names = [] })) ((vs ++ plain_token c (codes ";") ∷ []) ++ flatten fs) ≡ Some (form.Using o vs c ∷ fs) =
-      ap (forms_from (Some (record { opens = o; names = [] }))) grouped ∙ ih ∙ ap (option_map (λ (forms : List Form). form.Using o vs c ∷ forms)) (tree_is_read fs h.1) in
+    ap (forms_from (Some (record { opens = o; names = [] }))) grouped ∙ ih ∙ ap (option_map (λ (forms : List Form). form.Using o vs c ∷ forms)) (tree_is_read fs h.1) in
     rw using_is_using (ap (option_map (λ (forms : List Form). [] ++ forms)) back)
 
 pub no_tree : (ts : List Token) → forms_from None ts ≡ None → (fs : List Form) → Reads ts fs → ⊥

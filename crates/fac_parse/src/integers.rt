@@ -110,13 +110,7 @@ fn decimal_digit(c: u8) -> Option<u8>
     ensures { result ≡ digit_below 10 (digit_of c) }
 {
     match digit(c) {
-        Some(value) => {
-            if value < 10 {
-                Some(value)
-            } else {
-                None
-            }
-        }
+        Some(value) => { if value < 10 { Some(value) } else { None } }
         None => None,
     }
 }

@@ -8,6 +8,8 @@ mod reader;
 mod resolver;
 mod scanner;
 mod spelling;
+#[cfg(test)]
+mod tests;
 mod vocabularies;
 
 pub use laws::one_tree;

@@ -58,6 +58,9 @@ impl Vocabularies {
     pub fn add(&mut self, alloc: Global, name: &str) -> Result<(), Memory>
         ensures { OnOk result (self.new ≡ with_used self.old name.now) }
     {
+        if self.contains(name) {
+            return Ok(());
+        }
         insert(&mut self.names, String::from_str(alloc, name)?)
     }
 }

@@ -1,0 +1,172 @@
+//! Tests of what no contract says: that calls succeed, and that the definitions mean what was meant.
+use crate::{NameFault, NameKind, ParseFault, ResolveFault, TokenFault, parse, resolve, tokens};
+use fac_lang::{Program, Sort, TokKind, What};
+use std::alloc::Global;
+use std::test::Fail;
+
+// The numbers and spellings of the tokens.
+fn told_tokens(alloc: Global, source: &[u8]) -> Result<String, Fail> {
+    let mut told = String::new(alloc);
+    for token in tokens(alloc, 3, source)?.as_slice() {
+        if let TokKind::Plain(text) = &token.kind {
+            let place = token.place;
+            told.push_str(&format!(in alloc;
+                "{}:{}:{} ",
+                place.file,
+                place.token,
+                text.as_str()
+            )?)?;
+        }
+    }
+    Ok(told)
+}
+
+#[test]
+fn tokens_of_a_text(rt: HostRuntime) -> Result<(), Fail> {
+    let alloc = rt.alloc();
+    assert_eq!(rt;
+        told_tokens(alloc, b"\tUSING: a~!\r\n\x0b;\x0c  -2".as_slice())?.as_str(),
+        "3:1:USING: 3:2:a~! 3:3:; 3:4:-2 "
+    );
+    assert_eq!(rt; told_tokens(alloc, b" \n".as_slice())?.as_str(), "");
+    for byte in [0u8, 8, 14, 31, 127, 128, 255] {
+        match tokens(alloc, 1, &[b'a', byte]) {
+            Ok(_) => assert!(rt; false, "{byte} is taken"),
+            Err(fault) => assert_eq!(rt; fault, TokenFault::NotPlain),
+        }
+    }
+    Ok(())
+}
+
+#[test]
+fn trees_and_refusals(rt: HostRuntime) -> Result<(), Fail> {
+    let alloc = rt.alloc();
+    let sources = [
+        ("", true),
+        ("1 2 + .", true),
+        ("USING: ; USING: math a ;", true),
+        ("USING: math", false),
+        (";", false),
+        ("USING: 1 ;", false),
+        ("USING: USING: ;", false),
+        (": a ( -- ) ;", false),
+        ("170141183460469231731687303715884105727", true),
+        ("170141183460469231731687303715884105728", false),
+        ("-170141183460469231731687303715884105728", true),
+        ("-170141183460469231731687303715884105729", false),
+        ("-0 007 - < 1+ 1, ,1 1,,2 0x 0b2 -0o8 !x 0X1", true),
+        ("1,000", false),
+        ("-0x1F", false),
+        ("0o17", false),
+        ("0b1", false),
+        ("t", false),
+        ("a\"b", false),
+        ("!", false),
+        ("--", false),
+        ("call-next-method", false),
+        ("\\", false),
+        ("H{", false),
+    ];
+    for (source, is_read) in sources {
+        let list = tokens(alloc, 1, source.as_bytes())?;
+        match parse(alloc, &list) {
+            Ok(_) => assert!(rt; is_read, "{source} is read"),
+            Err(ParseFault::Syntax { at, .. }) => {
+                assert!(rt; !is_read, "{source} is refused");
+                assert_eq!(rt; at, 0);
+            }
+            Err(ParseFault::Memory) => assert!(rt; false),
+        }
+    }
+    Ok(())
+}
+
+fn program(alloc: Global, source: &str) -> Result<Result<Program, ResolveFault>, Fail> {
+    let tree = parse(alloc, &tokens(alloc, 1, source.as_bytes())?)?;
+    Ok(resolve(alloc, &tree))
+}
+
+// The items of the top-level phrase, with their places.
+fn told_items(alloc: Global, program: &Program) -> Result<String, Fail> {
+    let mut told = String::new(alloc);
+    if let Some(word) = program.words.get(program.top as usize) {
+        if let Sort::Body(phrase) = &word.sort {
+            for item in &phrase.items {
+                let token = item.place.token;
+                match &item.what {
+                    What::Int(value) => told.push_str(&format!(in alloc; "{token}:{value} ")?)?,
+                    What::Word(number) => told.push_str(&format!(in alloc;
+                        "{token}:word {number} "
+                    )?)?,
+                    _ => told.push_str("another")?,
+                }
+            }
+        }
+    }
+    Ok(told)
+}
+
+#[test]
+fn a_program(rt: HostRuntime) -> Result<(), Fail> {
+    let alloc = rt.alloc();
+    let source = "USING: math prettyprint ; 1 -2 + . USING: kernel math ; drop dup swap over - *";
+    match program(alloc, source)? {
+        Ok(program) => {
+            assert_eq!(rt; program.words.len(), 9);
+            let items = told_items(alloc, &program)?;
+            assert_eq!(rt;
+                items.as_str(),
+                "5:1 6:-2 7:word 4 8:word 7 13:word 0 14:word 1 15:word 2 16:word 3 17:word 5 18:word 6 "
+            );
+        }
+        Err(_) => assert!(rt; false),
+    }
+    Ok(())
+}
+
+#[test]
+fn refused_names(rt: HostRuntime) -> Result<(), Fail> {
+    let alloc = rt.alloc();
+    let sources = [
+        ("1 2 +", NameKind::Unknown, 3, "+"),
+        ("USING: math ; 1 foo bar", NameKind::Unknown, 5, "foo"),
+        ("USING: nope math ; foo", NameKind::NoVocab, 2, "nope"),
+        ("foo USING: math nope ;", NameKind::Unknown, 1, "foo"),
+        ("USING: math nope ; foo", NameKind::NoVocab, 3, "nope"),
+        (
+            "USING: kernel.private scratchpad ; drop",
+            NameKind::Unknown,
+            5,
+            "drop",
+        ),
+        ("drop USING: kernel ;", NameKind::Unknown, 1, "drop"),
+        (
+            "USING: math.private.private sequences.private fry locals accessors ; USING: .private ;",
+            NameKind::NoVocab,
+            9,
+            ".private",
+        ),
+        ("USING: private ;", NameKind::NoVocab, 2, "private"),
+        ("USING: maths ;", NameKind::NoVocab, 2, "maths"),
+    ];
+    for (source, kind, token, name) in sources {
+        match program(alloc, source)? {
+            Err(
+                ResolveFault::Name(
+                    NameFault {
+                        place,
+                        kind: found,
+                        name: text,
+                    },
+                ),
+            ) => {
+                assert_eq!(rt; found, kind, "{source}");
+                assert_eq!(rt; place.token, token, "{source}");
+                assert_eq!(rt; place.file, 1);
+                assert_eq!(rt; text.as_str(), name);
+            }
+            _ => assert!(rt; false, "{source}"),
+        }
+    }
+    Ok(())
+}
