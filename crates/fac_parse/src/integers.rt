@@ -26,7 +26,6 @@ fn is_digit_in(base: u8, c: u8) -> bool
 }
 
 // Whether a text is digits, one or more.
-#[tactic(auto, using(crate::proofs::DigitLemmas::are_digits))]
 fn are_digits_in(base: u8, text: &[u8]) -> bool
     ensures { result ≡ is_some (digits_in base text.now) }
 {
@@ -42,7 +41,6 @@ fn are_digits_in(base: u8, text: &[u8]) -> bool
 }
 
 // Whether a text is decimal digits, one or more, with single commas between two of them.
-#[tactic(auto, using(crate::proofs::DigitLemmas::decimal_is_grouped))]
 fn is_decimal(text: &[u8]) -> bool
     ensures { result ≡ is_some (decimal_in text.now) }
 {
@@ -110,13 +108,12 @@ fn decimal_digit(c: u8) -> Option<u8>
     ensures { result ≡ digit_below 10 (digit_of c) }
 {
     match digit(c) {
-        Some(value) => { if value < 10 { Some(value) } else { None } }
-        None => None,
+        Some(value) if value < 10 => Some(value),
+        _ => None,
     }
 }
 
 // The value of decimal digits, where an integer in range has it.
-#[tactic(auto, using(crate::proofs::DigitLemmas::past_limit))]
 fn value(text: &[u8]) -> Option<u128>
     ensures { result ≡ within_limit (digits_in 10 text.now) }
 {
@@ -156,8 +153,8 @@ fn negative(magnitude: u128) -> Option<i128>
     }
 }
 
-#[tactic(auto, unfolding(crate::specs::Spellings::literal_in))]
 /// The integer that decimal digits without commas write, with or without a `-`, where it is in range.
+#[tactic(auto, unfolding(crate::specs::Spellings::literal_in))]
 pub fn literal(text: &[u8]) -> Option<i128>
     ensures { result ≡ literal_in text.now }
 {
