@@ -72,7 +72,7 @@ fn word(
     })
 }
 
-/// The primitive words.
+// The primitive words.
 #[tactic(auto, unfolding(crate::specs::Resolution::known_words, fac_lang::specs::PrimitiveWords::primitive_word))]
 fn primitives(alloc: Global) -> Result<List<WordDef>, Memory>
     ensures { IfOk result (λ words. words ≡ known_words) }
