@@ -1,9 +1,9 @@
 -- A literal of decimal digits is read as the integer forms are.
-use Rattle.std.proofs.Common.{◌≡◌, ℕ, ◌+◌, ◌*◌, ℤ, pos, Bool, true, false, cond, ◌&&◌, List, [], ◌∷◌, Option, Some, None, refl, ap, sym, ◌∙◌, subst}
+use Rattle.std.proofs.Common.{◌≡◌, ℕ, ◌+◌, ◌*◌, ℤ, pos, Bool, true, false, ◌&&◌, List, [], ◌∷◌, Option, Some, None, refl, sym, ◌∙◌, subst}
 use Rattle.std.specs.Prelude.{nat_eq, if◌then◌else◌}
 use Rattle.std.proofs.lemmas.Bool.Decides.{Decides-eqb}
-use Rattle.fac_lang.specs.Numbers.{digit_of, digit_below, digits_from, digits_in, decimal_from, decimal_in, magnitude_in, negated, in_range, signed_in, integer_in}
-use Rattle.fac_parse.specs.Digits.{base_mark, base_in}
+use Rattle.fac_lang.specs.Numbers.{digit_of, digit_below, digits_from, digits_in, decimal_from, magnitude_in, negated, in_range, integer_in}
+use Rattle.fac_parse.specs.Digits.{base_mark}
 use Rattle.fac_parse.specs.Spellings.{signed_value, literal_in}
 use Rattle.fac_parse.proofs.DigitLemmas.{magnitude_plain}
 

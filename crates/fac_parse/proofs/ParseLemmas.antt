@@ -1,9 +1,8 @@
 -- The parser's reading of tokens is their tree.
-use Rattle.std.proofs.Common.{◌≡◌, ℕ, ◌≤◌, Bool, true, false, List, [], ◌∷◌, ◌++◌, Option, Some, None, Err, drop, length, refl, ap, sym, ◌∙◌, subst, append_assoc, arith}
+use Rattle.std.proofs.Common.{◌≡◌, ℕ, List, [], ◌∷◌, ◌++◌, Option, Some, None, Err, drop, refl, ap, sym, ◌∙◌, subst, append_assoc}
 use Rattle.std.specs.Prelude.{codes}
 use Rattle.std.specs.Option.{option_map}
 use Rattle.std.proofs.lemmas.List.{append-nil}
-use Rattle.std.proofs.lemmas.Grind.{common_steps}
 use Rattle.fac_lang.specs.declared.phrase.Place.{Place}
 use Rattle.fac_lang.specs.declared.token.Token.{Token}
 use Rattle.fac_lang.specs.declared.tree.Term.TheVariants as term
@@ -16,7 +15,7 @@ use Rattle.fac_parse.specs.Spellings.{token_spelling}
 use Rattle.fac_parse.specs.Trees.{plain_token, form_tokens, flatten, AreNames, IsForm, IsWellFormed, Reads, Parses}
 use Rattle.fac_parse.specs.declared.reader.ParseFault.{ParseFault}
 use Rattle.fac_parse.specs.declared.reader.ParseFault.TheVariants.{Syntax, Memory}
-use Rattle.fac_parse.specs.Reader.{Takes, Step, top_step, vocab_step, step, forms_after, forms_from}
+use Rattle.fac_parse.specs.Reader.{Takes, top_step, vocab_step, step, forms_after, forms_from}
 use Rattle.fac_parse.proofs.SpellingLemmas.{using_is_using, semi_is_semi, using_token, semi_token}
 
 -- the tokens of what is open
