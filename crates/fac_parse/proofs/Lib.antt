@@ -6,3 +6,4 @@ pub mod ParseLemmas
 pub mod NameLemmas
 pub mod ResolutionLemmas
 pub mod EffectLemmas
+pub mod LiteralLemmas

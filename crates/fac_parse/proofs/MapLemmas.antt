@@ -1,5 +1,5 @@
 -- Whether a text is among keys, and among their bytes.
-use Rattle.std.proofs.Common.{◌≡◌, ℕ, Bool, true, false, List, [], ◌∷◌, ◌++◌, map, refl, ap, arith, if◌then◌else◌, string_bytes, String}
+use Rattle.std.proofs.Common.{◌≡◌, Bool, true, false, List, [], ◌∷◌, ◌++◌, map, refl, ap, arith, if◌then◌else◌, string_bytes, String}
 use Rattle.std.specs.List.{list_any}
 use Rattle.std.specs.Str.{bytes_eq}
 use Rattle.fac_parse.specs.Vocabularies.{with_used}

@@ -1,17 +1,15 @@
 -- Resolved texts, and that programs are of the forms built.
-use Rattle.std.proofs.Common.{rules, ◌≡◌, ℕ, zero, suc, ◌+◌, ◌<◌, Bool, true, false, cond, ◌&&◌, List, [], ◌∷◌, ◌++◌, Option, Some, None, Result, Ok, Err, length, drop, refl, ap, sym, ◌∙◌, subst, arith}
-use Rattle.std.specs.Prelude.{codes, nat_lt}
+use Rattle.std.proofs.Common.{◌≡◌, ℕ, suc, ◌+◌, ◌<◌, Bool, true, false, cond, ◌&&◌, List, [], ◌∷◌, ◌++◌, Option, Some, None, Result, Ok, Err, length, drop, refl, ap, sym, ◌∙◌, subst, arith}
+use Rattle.std.specs.Prelude.{codes}
 use Rattle.std.specs.List.{list_all}
 use Rattle.std.specs.Str.{bytes_eq}
-use Rattle.std.proofs.lemmas.Grind.{common_steps}
 use Rattle.std.proofs.lemmas.Bool.Decides.{Decides-ltb}
 use Rattle.fac_lang.specs.Built.{IsBuilt, IsBuiltText, AreBuiltWords, built_primitives, is_built_primitive, primitive_numbers, has_no_repeats}
 use Rattle.fac_lang.specs.PrimitiveWords.{PrimitiveWord, primitive_word}
-use Rattle.fac_lang.specs.Texts.{Text, end, then, Item, lit, int, word}
+use Rattle.fac_lang.specs.Texts.{Text, end, then, lit, int, word}
 use Rattle.fac_lang.specs.View.{what_item, items_text}
 use Rattle.fac_lang.specs.declared.phrase.Item.{Item as PlacedItem}
 use Rattle.fac_lang.specs.declared.phrase.Place.{Place}
-use Rattle.fac_lang.specs.declared.program.Program.{Program}
 use Rattle.fac_lang.specs.declared.program.WordDef.{WordDef}
 use Rattle.fac_lang.specs.declared.token.Token.{Token}
 use Rattle.fac_lang.specs.declared.tree.Form.{Form}
@@ -20,7 +18,7 @@ use Rattle.fac_lang.specs.declared.tree.Term.TheVariants as term
 use Rattle.fac_parse.specs.declared.resolver.NameFault.{NameFault}
 use Rattle.fac_parse.specs.declared.resolver.ResolveFault.{ResolveFault}
 use Rattle.fac_parse.specs.declared.resolver.ResolveFault.TheVariants.{Name, Memory}
-use Rattle.fac_parse.specs.Resolution.{primitive_def, primitive_defs, known_words, held_from, or_else, held_by, found, token_text, name_fault, uses, with_item, after_uses, with_word, text_of, file_text, top_word, program_of, with_words, resolved}
+use Rattle.fac_parse.specs.Resolution.{primitive_def, primitive_defs, known_words, held_from, or_else, held_by, found, token_text, uses, with_item, after_uses, with_word, text_of, file_text, top_word}
 use Rattle.fac_parse.specs.Resolver.{items_before, before, TakesForm, ReadsForms}
 
 items_before-push : (items : List PlacedItem) (i : PlacedItem) (t : Text) → items_before items (then (what_item i.what) i.place t) ≡ items_before (items ++ i ∷ []) t

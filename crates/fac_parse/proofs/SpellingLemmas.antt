@@ -1,5 +1,5 @@
 -- Reserved tokens, and how they are spelled.
-use Rattle.std.proofs.Common.{◌≡◌, ℕ, ℤ, Bool, true, false, cond, List, Option, Some, None, refl, ap, sym, ◌∙◌, not, ◌&&◌}
+use Rattle.std.proofs.Common.{◌≡◌, ℕ, ℤ, Bool, true, false, cond, List, Option, Some, None, refl, ap, not, ◌&&◌}
 use Rattle.std.specs.Prelude.{codes}
 use Rattle.std.specs.Str.{bytes_eq}
 use Rattle.std.proofs.lemmas.Slice.Eq.{bytes_eq-Decides}
@@ -7,9 +7,8 @@ use Rattle.fac_lang.specs.declared.phrase.Place.{Place}
 use Rattle.fac_lang.specs.declared.token.Token.{Token}
 use Rattle.fac_lang.specs.declared.token.TokKind.{TokKind}
 use Rattle.fac_lang.specs.declared.token.TokKind.TheVariants.{Plain, Str}
-use Rattle.fac_parse.specs.declared.spelling.Spelling.{Spelling}
-use Rattle.fac_parse.specs.declared.spelling.Spelling.TheVariants.{Using, Semi, Integer, Name, Other}
-use Rattle.fac_parse.specs.Spellings.{has_integer_form, literal_in, is_reserved, is_reserved_sign, is_reserved_form, is_reserved_word, is_left_out, is_quiet, word_spelling, integer_spelling, spelling_of, token_spelling}
+use Rattle.fac_parse.specs.declared.spelling.Spelling.TheVariants.{Using, Semi, Name, Other}
+use Rattle.fac_parse.specs.Spellings.{has_integer_form, literal_in, is_reserved, is_quiet, word_spelling, integer_spelling, spelling_of, token_spelling}
 use Rattle.fac_parse.specs.Trees.{plain_token}
 
 pub using_is_using : spelling_of (codes "USING:") ≡ Using

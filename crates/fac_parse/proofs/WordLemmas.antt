@@ -1,11 +1,10 @@
 -- The words of a source whose first word is known, and their tokens.
-use Rattle.std.proofs.Common.{◌≡◌, ℕ, ◌+◌, Bool, true, false, not, List, [], ◌∷◌, ◌++◌, arith, refl, sym, ap, ◌∙◌, append_assoc, drop, length, ◌≤◌}
-use Rattle.std.specs.List.{list_all}
+use Rattle.std.proofs.Common.{◌≡◌, ℕ, ◌+◌, true, List, [], ◌∷◌, ◌++◌, arith, refl, sym, ap, ◌∙◌, append_assoc, drop, length, ◌≤◌}
 use Rattle.std.proofs.lemmas.List.{append-nil}
 use Rattle.std.proofs.lemmas.Grind.{common_steps}
 use Rattle.fac_lang.specs.declared.token.Token.{Token}
 use Rattle.fac_lang.specs.declared.token.TokKind.TheVariants.{Plain}
-use Rattle.fac_parse.specs.Words.{is_space, begins_word, onto, words, numbered, word_so_far, is_word}
+use Rattle.fac_parse.specs.Words.{is_space, words, numbered, word_so_far, is_word}
 
 words_at_space : (w : List ℕ) (c : ℕ) (rest : List ℕ) → is_word w ≡ true → is_space c ≡ true → words (w ++ c ∷ rest) ≡ word_so_far w ++ words rest
 words_at_space [] c rest h e = grind arith

@@ -1,9 +1,8 @@
 -- How names are resolved, a form at a time.
 use Rattle.std.specs.Prelude.{◌≡◌, ℕ, List, [], ◌∷◌, Result, Ok, Err}
-use Rattle.fac_lang.specs.Texts.{Text, end, then}
+use Rattle.fac_lang.specs.Texts.{Text, then}
 use Rattle.fac_lang.specs.View.{what_item}
 use Rattle.fac_lang.specs.declared.phrase.Item.{Item}
-use Rattle.fac_lang.specs.declared.phrase.Phrase.{Phrase}
 use Rattle.fac_lang.specs.declared.token.Token.{Token}
 use Rattle.fac_lang.specs.declared.tree.Form.{Form}
 use Rattle.fac_lang.specs.declared.tree.Form.TheVariants as form

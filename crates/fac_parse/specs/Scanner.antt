@@ -1,5 +1,5 @@
 -- What taking one byte of a source answers.
-use Rattle.std.specs.Prelude.{◌≡◌, ℕ, ◌+◌, true, false, List, [], ◌∷◌, ◌++◌, length, Result, Ok, Err}
+use Rattle.std.specs.Prelude.{◌≡◌, ℕ, ◌+◌, true, false, List, ◌∷◌, ◌++◌, length, Result, Ok, Err}
 use Rattle.fac_lang.specs.declared.token.Token.{Token}
 use Rattle.fac_parse.specs.declared.scanner.TokenFault.{TokenFault}
 use Rattle.fac_parse.specs.declared.scanner.TokenFault.TheVariants.{NotPlain, Memory}

@@ -1,8 +1,8 @@
 -- What a token is to the grammar, by how it is spelled.
 use Rattle.std.specs.List.{list_all, list_any}
-use Rattle.std.specs.Prelude.{ℕ, ℤ, pos, nat_eq, Bool, true, false, not, ◌&&◌, ◌||◌, List, [], ◌∷◌, Option, Some, None, is_some, codes, if◌then◌else◌}
+use Rattle.std.specs.Prelude.{◌≡◌, ℕ, ℤ, pos, nat_eq, Bool, true, false, not, ◌&&◌, ◌||◌, List, [], ◌∷◌, Option, Some, None, is_some, codes, if◌then◌else◌}
 use Rattle.std.specs.Str.{bytes_eq}
-use Rattle.fac_lang.specs.Numbers.{signed_in, digits_in, negated, in_range}
+use Rattle.fac_lang.specs.Numbers.{signed_in, integer_in, digits_in, negated, in_range}
 use Rattle.fac_lang.specs.declared.token.TokKind.{TokKind}
 use Rattle.fac_lang.specs.declared.token.TokKind.TheVariants.{Plain, Str}
 use Rattle.fac_parse.specs.declared.spelling.Spelling.{Spelling}
@@ -20,6 +20,10 @@ signed_value is_negative (Some n) = in_range (if is_negative then negated n else
 unfoldable pub literal_in : List ℕ → Option ℤ
 literal_in [] = None
 literal_in (c ∷ cs) = (if nat_eq c 45 then signed_value true (digits_in 10 cs) else signed_value false (digits_in 10 (c ∷ cs)))
+
+-- a literal is read as the integer forms are
+abbrev pub LiteralsAreIntegers : Type 0
+LiteralsAreIntegers = (text : List ℕ) (z : ℤ) → literal_in text ≡ Some z → integer_in text ≡ Some z
 
 -- Tokens that are never names.
 unfoldable pub is_reserved_sign : List ℕ → Bool

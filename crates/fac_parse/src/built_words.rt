@@ -1,5 +1,5 @@
 //! The words that there are before a source is read.
-ghost use Rattle.std.specs.Prelude.{◌≡◌, ◌++◌, ◌∷◌, [], None, Some, map, IfOk, IfSome, OnOk, if◌then◌else◌};
+ghost use Rattle.std.specs.Prelude.{◌≡◌, ◌++◌, ◌∷◌, [], None, Some, map, IfOk, if◌then◌else◌};
 ghost use Rattle.std.specs.List.{list_any};
 ghost use Rattle.std.specs.Str.{bytes_eq};
 ghost use Rattle.fac_lang.specs.PrimitiveWords.{plain_inputs};
@@ -72,7 +72,7 @@ fn word(
     })
 }
 
-/// The primitive words.
+// The primitive words.
 #[tactic(auto, unfolding(crate::specs::Resolution::known_words, fac_lang::specs::PrimitiveWords::primitive_word))]
 fn primitives(alloc: Global) -> Result<List<WordDef>, Memory>
     ensures { IfOk result (λ words. words ≡ known_words) }

@@ -1,7 +1,13 @@
 //! Laws of the grammar, each on the contract of a function that does nothing.
+ghost use Rattle.fac_parse.specs.Spellings.{LiteralsAreIntegers};
 ghost use Rattle.fac_parse.specs.Trees.{OneTree};
 
 /// No two trees have the same tokens.
 pub fn one_tree()
     ensures { OneTree }
+{}
+
+/// An integer literal, decimal digits without commas, has the value that the integer forms give it.
+pub fn literals_are_integers()
+    ensures { LiteralsAreIntegers }
 {}

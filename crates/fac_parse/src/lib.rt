@@ -12,7 +12,7 @@ mod spelling;
 mod tests;
 mod vocabularies;
 
-pub use laws::one_tree;
+pub use laws::{literals_are_integers, one_tree};
 pub use reader::{ParseFault, Why, parse};
 pub use resolver::{NameFault, NameKind, ResolveFault, resolve};
 pub use scanner::{TokenFault, tokens};

@@ -39,7 +39,7 @@ impl From<Memory> for ParseFault {
 
 /// A `USING:` that isn't closed, with its names so far.
 #[derive(Drop)]
-pub struct Vocabs {
+pub struct OpenUsing {
     pub opens: Place,
     pub names: List<Token>,
 }
@@ -59,11 +59,11 @@ fn take_at_top(
     alloc: Global,
     forms: &mut List<Form>,
     token: &Token,
-) -> Result<Option<Vocabs>, ParseFault>
+) -> Result<Option<OpenUsing>, ParseFault>
     ensures { Takes (top_step (token_spelling token.now.kind) token.now) forms.old forms.new result }
 {
     match classify(&token.kind) {
-        Spelling::Using => Ok(Some(Vocabs {
+        Spelling::Using => Ok(Some(OpenUsing {
             opens: token.place,
             names: List::new(alloc),
         })),
@@ -84,9 +84,9 @@ fn take_at_top(
 fn take_vocab(
     alloc: Global,
     forms: &mut List<Form>,
-    mut part: Vocabs,
+    mut part: OpenUsing,
     token: &Token,
-) -> Result<Option<Vocabs>, ParseFault>
+) -> Result<Option<OpenUsing>, ParseFault>
     ensures { Takes (vocab_step part (token_spelling token.now.kind) token.now) forms.old forms.new result }
 {
     match classify(&token.kind) {
@@ -95,7 +95,7 @@ fn take_vocab(
             Ok(Some(part))
         }
         Spelling::Semi => {
-            let Vocabs { opens, names } = part;
+            let OpenUsing { opens, names } = part;
             forms.push(Form::Using {
                 opens,
                 vocabs: names,
@@ -113,9 +113,9 @@ fn take_vocab(
 fn take_token(
     alloc: Global,
     forms: &mut List<Form>,
-    part: Option<Vocabs>,
+    part: Option<OpenUsing>,
     token: &Token,
-) -> Result<Option<Vocabs>, ParseFault>
+) -> Result<Option<OpenUsing>, ParseFault>
     ensures { Takes (step part token.now) forms.old forms.new result }
 {
     match part {

@@ -1,5 +1,5 @@
 //! The tokens of a source.
-ghost use Rattle.std.specs.Prelude.{◌≡◌, ◌++◌, ◌∷◌, ◌+◌, ◌<◌, ◌^◌, List, ℕ, length, OnOk, IsTrue};
+ghost use Rattle.std.specs.Prelude.{◌≡◌, ◌++◌, ◌+◌, length, OnOk, IsTrue};
 ghost use Rattle.fac_parse.specs.Words.{is_space, is_plain, numbered, word_so_far, is_word, Tokenizes};
 ghost use Rattle.fac_parse.specs.Scanner.{TakesByte};
 
@@ -78,7 +78,7 @@ fn take_byte(
 }
 
 /// The tokens of a file's bytes: the longest runs of bytes that are not white space (9 to 13 and 32), numbered from 1.
-/// A byte that is neither white space nor one of 33 to 126 is refused.
+/// A byte that is neither white space nor one of 33 to 126 is refused. A token with a number of 2^32 is want of memory.
 pub fn tokens(alloc: Global, file: u32, bytes: &[u8]) -> Result<List<Token>, TokenFault>
     ensures { Tokenizes file bytes.now result }
 {

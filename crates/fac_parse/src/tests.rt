@@ -1,5 +1,5 @@
 //! Tests of what no contract says: that calls succeed, and that the definitions mean what was meant.
-use crate::{NameFault, NameKind, ParseFault, ResolveFault, TokenFault, parse, resolve, tokens};
+use crate::{NameKind, ParseFault, ResolveFault, TokenFault, parse, resolve, tokens};
 use fac_lang::{Program, Sort, TokKind, What};
 use std::alloc::Global;
 use std::test::Fail;
@@ -81,11 +81,6 @@ fn trees_and_refusals(rt: HostRuntime) -> Result<(), Fail> {
     Ok(())
 }
 
-fn program(alloc: Global, source: &str) -> Result<Result<Program, ResolveFault>, Fail> {
-    let tree = parse(alloc, &tokens(alloc, 1, source.as_bytes())?)?;
-    Ok(resolve(alloc, &tree))
-}
-
 // The items of the top-level phrase, with their places.
 fn told_items(alloc: Global, program: &Program) -> Result<String, Fail> {
     let mut told = String::new(alloc);
@@ -106,67 +101,69 @@ fn told_items(alloc: Global, program: &Program) -> Result<String, Fail> {
     Ok(told)
 }
 
-#[test]
-fn a_program(rt: HostRuntime) -> Result<(), Fail> {
-    let alloc = rt.alloc();
-    let source = "USING: math prettyprint ; 1 -2 + . USING: kernel math ; drop dup swap over - *";
-    match program(alloc, source)? {
-        Ok(program) => {
-            assert_eq!(rt; program.words.len(), 9);
-            let items = told_items(alloc, &program)?;
-            assert_eq!(rt;
-                items.as_str(),
-                "5:1 6:-2 7:word 4 8:word 7 13:word 0 14:word 1 15:word 2 16:word 3 17:word 5 18:word 6 "
-            );
+fn told_fault(alloc: Global, fault: &ResolveFault) -> Result<String, Fail> {
+    match fault {
+        ResolveFault::Name(name) => {
+            let place = name.place;
+            let kind = match name.kind {
+                NameKind::Unknown => "unknown",
+                NameKind::NoVocab => "no vocabulary",
+            };
+            Ok(format!(in alloc;
+                "{kind} {}:{} {}",
+                place.file,
+                place.token,
+                name.name.as_str()
+            )?)
         }
-        Err(_) => assert!(rt; false),
+        ResolveFault::Memory => Ok(String::from_str(alloc, "memory")?),
     }
-    Ok(())
+}
+
+// What a source stands for.
+fn told(alloc: Global, source: &str) -> Result<String, Fail> {
+    let tree = parse(alloc, &tokens(alloc, 1, source.as_bytes())?)?;
+    match resolve(alloc, &tree) {
+        Ok(program) => told_items(alloc, &program),
+        Err(fault) => told_fault(alloc, &fault),
+    }
 }
 
 #[test]
-fn refused_names(rt: HostRuntime) -> Result<(), Fail> {
+fn programs_and_refused_names(rt: HostRuntime) -> Result<(), Fail> {
     let alloc = rt.alloc();
     let sources = [
-        ("1 2 +", NameKind::Unknown, 3, "+"),
-        ("USING: math ; 1 foo bar", NameKind::Unknown, 5, "foo"),
-        ("USING: nope math ; foo", NameKind::NoVocab, 2, "nope"),
-        ("foo USING: math nope ;", NameKind::Unknown, 1, "foo"),
-        ("USING: math nope ; foo", NameKind::NoVocab, 3, "nope"),
+        ("", ""),
+        (
+            "USING: math prettyprint ; 1 -2 + .",
+            "5:1 6:-2 7:word 4 8:word 7 ",
+        ),
+        (
+            "USING: kernel math ; drop dup swap USING: kernel ; over - *",
+            "5:word 0 6:word 1 7:word 2 11:word 3 12:word 5 13:word 6 ",
+        ),
+        (
+            "USING: math.private.private sequences.private fry locals accessors ; 7",
+            "8:7 ",
+        ),
+        ("1 2 +", "unknown 1:3 +"),
+        ("USING: math ; 1 foo bar", "unknown 1:5 foo"),
+        ("USING: nope math ; foo", "no vocabulary 1:2 nope"),
+        ("foo USING: math nope ;", "unknown 1:1 foo"),
+        ("USING: math nope ; foo", "no vocabulary 1:3 nope"),
         (
             "USING: kernel.private scratchpad ; drop",
-            NameKind::Unknown,
-            5,
-            "drop",
+            "unknown 1:5 drop",
         ),
-        ("drop USING: kernel ;", NameKind::Unknown, 1, "drop"),
-        (
-            "USING: math.private.private sequences.private fry locals accessors ; USING: .private ;",
-            NameKind::NoVocab,
-            9,
-            ".private",
-        ),
-        ("USING: private ;", NameKind::NoVocab, 2, "private"),
-        ("USING: maths ;", NameKind::NoVocab, 2, "maths"),
+        ("drop USING: kernel ;", "unknown 1:1 drop"),
+        ("USING: .private ;", "no vocabulary 1:2 .private"),
+        ("USING: private ;", "no vocabulary 1:2 private"),
+        ("USING: maths ;", "no vocabulary 1:2 maths"),
+        ("USING: math.privat ;", "no vocabulary 1:2 math.privat"),
     ];
-    for (source, kind, token, name) in sources {
-        match program(alloc, source)? {
-            Err(
-                ResolveFault::Name(
-                    NameFault {
-                        place,
-                        kind: found,
-                        name: text,
-                    },
-                ),
-            ) => {
-                assert_eq!(rt; found, kind, "{source}");
-                assert_eq!(rt; place.token, token, "{source}");
-                assert_eq!(rt; place.file, 1);
-                assert_eq!(rt; text.as_str(), name);
-            }
-            _ => assert!(rt; false, "{source}"),
-        }
+    for (source, want) in sources {
+        let found = told(alloc, source)?;
+        assert_eq!(rt; found.as_str(), want);
     }
     Ok(())
 }

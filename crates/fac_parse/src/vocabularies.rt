@@ -1,5 +1,5 @@
 //! Vocabularies: those that exist, and those that a file uses.
-ghost use Rattle.std.specs.Prelude.{◌≡◌, ◌++◌, ◌∷◌, [], map, string_bytes, IfOk, OnOk, OnErr};
+ghost use Rattle.std.specs.Prelude.{◌≡◌, [], map, string_bytes, OnOk};
 ghost use Rattle.std.specs.List.{list_any};
 ghost use Rattle.std.specs.Str.{bytes_eq};
 ghost use Rattle.fac_parse.specs.Vocabularies.{is_private_after, is_vocabulary as exists_from_start, with_used};

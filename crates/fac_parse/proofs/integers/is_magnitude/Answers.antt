@@ -1,4 +1,4 @@
-use Rattle.std.proofs.Common.{arith, sym, ◌∙◌, ap, is_some}
+use Rattle.std.proofs.Common.{sym, ◌∙◌, ap, is_some}
 use Rattle.fac_parse.proofs.DigitLemmas.{magnitude_plain}
 use Rattle.fac_parse.proofs.integers.is_magnitude.Goals as goal
 

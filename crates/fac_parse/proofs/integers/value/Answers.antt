@@ -1,6 +1,5 @@
 use Rattle.std.proofs.Common.{arith, sym, ◌∙◌, ◌<◌, ◌^◌, ◌+◌, ◌*◌}
 use Rattle.fac_lang.specs.Numbers.{digits_in}
-use Rattle.std.proofs.lemmas.Grind.{common_steps}
 use Rattle.fac_parse.proofs.DigitLemmas.{stops}
 use Rattle.fac_parse.proofs.integers.value.Goals as goal
 

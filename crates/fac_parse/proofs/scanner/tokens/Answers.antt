@@ -1,4 +1,4 @@
-use Rattle.std.proofs.Common.{rules, arith, ◌≡◌, true, sym, ◌∙◌}
+use Rattle.std.proofs.Common.{arith, ◌≡◌, true}
 use Rattle.std.specs.List.{list_all}
 use Rattle.std.proofs.lemmas.Grind.{common_steps}
 use Rattle.fac_parse.specs.Words.{is_readable}

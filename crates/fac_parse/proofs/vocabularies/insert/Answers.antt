@@ -1,4 +1,4 @@
-use Rattle.std.proofs.Common.{sym, ◌∙◌, ap, map, string_bytes}
+use Rattle.std.proofs.Common.{◌∙◌, ap, map, string_bytes}
 use Rattle.fac_parse.proofs.MapLemmas.{with_used_map}
 use Rattle.fac_parse.proofs.vocabularies.insert.Goals as goal
 
