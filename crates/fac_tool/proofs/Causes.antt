@@ -5,10 +5,10 @@ use Rattle.fac_io.specs.Faults.{Rose}
 use Rattle.fac_tool.specs.declared.command.Command.{Command}
 use Rattle.fac_tool.specs.declared.ended.Ended.{Ended}
 use Rattle.fac_tool.specs.Seen.{SinkSeen, FilesSeen, files_seen}
-use Rattle.fac_tool.specs.Command.{command_of, name_of}
+use Rattle.fac_tool.specs.Command.{name_of}
 use Rattle.fac_tool.specs.Answer.{answer_on, accepted}
 use Rattle.fac_tool.specs.Ends.{ending_of, EndsBy, work_of}
-use Rattle.fac_tool.specs.Answers.{Tells, Reaches, ReachesBy, Loaded, AnswersBy, usage, file_names}
+use Rattle.fac_tool.specs.Answers.{Tells, ReachesBy, Loaded, AnswersBy, usage, file_names}
 
 -- a status that is neither a write fault nor want of memory is the one that was reached
 status-Tells : (n : ℕ) (names : List (List ℕ)) (reached : Ended) (notes : SinkSeen) (ended : Ended) → n ≢ 10 → n ≢ 12 → Tells names reached notes ended → ended.status ≡ n → reached.status ≡ n

@@ -1,17 +1,14 @@
 -- Endings of runs.
-use Rattle.std.proofs.Common.{◌≡◌, ◌-◌, ◌≤◌, ℕ, List, [], ◌∷◌, ◌++◌, Some, None, refl, ap, sym, subst, ◌∙◌, arith}
+use Rattle.std.proofs.Common.{◌≡◌, ℕ, List, [], ◌∷◌, Some, None, refl, ap, sym, subst, ◌∙◌}
 use Rattle.std.specs.Prelude.{map, reverse}
 use Rattle.std.proofs.lemmas.List.{map-append, reverse-reverse}
 use mathlib.Core.List.{reverse-cons}
 use Rattle.std.specs.Option.{option_map}
 use Rattle.std.specs.declared.option.Option.{Option}
-use Rattle.fac_io.specs.declared.files.Asked.{Asked}
-use Rattle.fac_io.specs.Names.{Held}
-use Rattle.fac_io.specs.Told.{Stays-same, GrowsByPrefix, GrowsByPrefix-stays}
 use Rattle.fac_lang.specs.declared.program.Program.{Program}
 use Rattle.fac_lang.specs.Texts.{Plain, plain, Value}
-use Rattle.fac_lang.specs.World.{World, State, Error}
-use Rattle.fac_lang.specs.Eval.{Result, Done, Failed, Spent}
+use Rattle.fac_lang.specs.World.{World, Error}
+use Rattle.fac_lang.specs.Eval.{Done, Failed, Spent}
 use Rattle.fac_vm.specs.declared.value.Value.{Value as MachineValue}
 use Rattle.fac_vm.specs.declared.value.Value.TheVariants.{Int}
 use Rattle.fac_vm.specs.declared.machine.RunError.{RunError}
@@ -19,12 +16,11 @@ use Rattle.fac_vm.specs.declared.machine.StopKind.TheVariants as stop
 use Rattle.fac_vm.specs.Seen.{plain_of, stack_of, name_back}
 use Rattle.fac_vm.specs.Runs.{error_of}
 use Rattle.fac_emit.specs.View.{error_view, option_view}
-use Rattle.fac_tool.specs.declared.ended.Ended.{Ended}
 use Rattle.fac_tool.specs.declared.ended.Report.TheVariants as report
-use Rattle.fac_tool.specs.Answer.{Answer, budget, meaning, of_run, shown, word_name, error_report}
-use Rattle.fac_tool.specs.Seen.{sink_seen, files_seen}
+use Rattle.fac_tool.specs.Answer.{Answer, budget, meaning, of_run, shown, error_report}
+use Rattle.fac_tool.specs.Seen.{sink_seen}
 use Rattle.fac_tool.specs.Stops.{StopsAs, value_text, machine_report}
-use Rattle.fac_tool.specs.Ends.{Matches, ending_of, EndsBy, Work, idle, runs, CutShort, IsBare, FilesStay}
+use Rattle.fac_tool.specs.Ends.{Matches}
 
 -- the text of a value of the machine is that of the value in the meaning
 text_same : (P : Program) (w : World Value) (v : MachineValue) → shown P w (plain (plain_of v)) ≡ value_text v
@@ -47,7 +43,7 @@ pub done_matches : (P : Program) (values : List MachineValue) (stack : List Plai
 done_matches P values stack ticks before now m n texts e t h =
     let answer = ap (of_run P) h.2 in
     let matches : Matches (of_run P (Done h.0 h.1)) (sink_seen before now m n) (record { status = 0; ticks = ticks; stack = Some texts; refusal = None }) =
-        record { status = refl; ticks = h.3; stack = ap Some (t ∙ sym (stack_texts P h.0.world values stack h.0.stack e h.5)); refusal = refl; output = h.4 } in
+    record { status = refl; ticks = h.3; stack = ap Some (t ∙ sym (stack_texts P h.0.world values stack h.0.stack e h.5)); refusal = refl; output = h.4 } in
     subst (λ (a : Answer). Matches a (sink_seen before now m n) (record { status = 0; ticks = ticks; stack = Some texts; refusal = None })) (sym answer) matches
 
 value_same : (P : Program) (w : World Value) (v : Option MachineValue) → option_map (shown P w) (option_view (option_map plain_of v)) ≡ option_map value_text v
@@ -61,12 +57,12 @@ pub failed_matches : (P : Program) (e : RunError) (stack : List Plain) (ticks : 
 failed_matches P e stack ticks before now m n h =
     let answer = ap (of_run P) h.3 in
     let matches : Matches (of_run P (Failed h.0 h.1 h.2)) (sink_seen before now m n) (record { status = 1; ticks = ticks; stack = None; refusal = Some (machine_report P e) }) =
-        record { status = refl; ticks = h.4; stack = refl; refusal = ap Some (sym (report_same P h.1.world h.0 e h.6)); output = h.5 } in
+    record { status = refl; ticks = h.4; stack = refl; refusal = ap Some (sym (report_same P h.1.world h.0 e h.6)); output = h.5 } in
     subst (λ (a : Answer). Matches a (sink_seen before now m n) (record { status = 1; ticks = ticks; stack = None; refusal = Some (machine_report P e) })) (sym answer) matches
 
 pub spent_matches : (P : Program) (stack : List Plain) (ticks : ℕ) (before now : Option (List ℕ)) (m n : ℕ) → StopsAs P stack ticks before now stop.Spent → Matches (of_run P (meaning P budget)) (sink_seen before now m n) (record { status = 6; ticks = ticks; stack = None; refusal = Some (report.Spent ticks) })
 spent_matches P stack ticks before now m n h =
     let answer = ap (of_run P) h.2 in
     let matches : Matches (of_run P (Spent h.0 h.1)) (sink_seen before now m n) (record { status = 6; ticks = ticks; stack = None; refusal = Some (report.Spent ticks) }) =
-        record { status = refl; ticks = h.3; stack = refl; refusal = ap (λ (k : ℕ). Some (report.Spent k)) h.3; output = h.4 } in
+    record { status = refl; ticks = h.3; stack = refl; refusal = ap (λ (k : ℕ). Some (report.Spent k)) h.3; output = h.4 } in
     subst (λ (a : Answer). Matches a (sink_seen before now m n) (record { status = 6; ticks = ticks; stack = None; refusal = Some (report.Spent ticks) })) (sym answer) matches

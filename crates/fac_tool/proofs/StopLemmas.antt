@@ -1,11 +1,11 @@
 -- The machine of an image that carries a program stops as the program's meaning ends.
-use Rattle.std.proofs.Common.{◌≡◌, ◌+◌, ◌-◌, ℕ, List, [], ◌∷◌, false, Some, None, refl, ap, sym, subst, ◌∙◌, arith, append_assoc, zero-add}
-use Rattle.std.specs.Prelude.{map, reverse}
+use Rattle.std.proofs.Common.{◌≡◌, ◌+◌, ◌-◌, ℕ, List, [], false, None, refl, ap, sym, subst, ◌∙◌, arith}
+use Rattle.std.specs.Prelude.{map}
 use Rattle.std.specs.declared.option.Option.{Option}
 use Rattle.fac_io.specs.Told.{Grows}
 use Rattle.fac_lang.specs.declared.program.Program.{Program}
-use Rattle.fac_lang.specs.Texts.{Plain, plain, Value, Item}
-use Rattle.fac_lang.specs.World.{World, State, Error}
+use Rattle.fac_lang.specs.Texts.{Plain, plain, Value}
+use Rattle.fac_lang.specs.World.{World, State}
 use Rattle.fac_lang.specs.Eval.{Result, Done, Failed, Spent, Stuck}
 use Rattle.fac_lang.specs.Meaning.{names}
 use Rattle.fac_vm.specs.declared.image.Image.{Image}
@@ -16,7 +16,6 @@ use Rattle.fac_vm.specs.declared.value.TrapWhy.{TrapWhy}
 use Rattle.fac_vm.specs.Machine.{Machine, End, done, failed, spent, trap, Ends, starting}
 use Rattle.fac_vm.specs.Runs.{Runs, error_of}
 use Rattle.fac_vm.proofs.Leading.{one_end}
-use Rattle.fac_emit.specs.View.{state_view, world_view, error_view}
 use Rattle.fac_emit.specs.Carries.{Carries, SameEnd}
 use Rattle.fac_tool.specs.Answer.{meaning, budget}
 use Rattle.fac_tool.specs.Stops.{StopsAs}

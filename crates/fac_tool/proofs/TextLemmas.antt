@@ -1,10 +1,10 @@
 -- Want of memory before a run.
-use Rattle.std.proofs.Common.{◌≡◌, ◌≤◌, ℕ, List, None, refl, sym, subst, arith}
+use Rattle.std.proofs.Common.{◌≡◌, ℕ, List, None, refl, sym, subst, arith}
 use Rattle.std.specs.declared.option.Option.{Option}
 use Rattle.fac_io.specs.Told.{Stays-same, GrowsByPrefix-stays}
 use Rattle.fac_tool.specs.declared.ended.Ended.{Ended}
 use Rattle.fac_tool.specs.Answer.{Answer}
-use Rattle.fac_tool.specs.Seen.{SinkSeen, FilesSeen, sink_seen}
+use Rattle.fac_tool.specs.Seen.{FilesSeen, sink_seen}
 use Rattle.fac_tool.specs.Ends.{ending_of, EndsBy, Work, idle, runs, CutShort, FilesStay}
 
 cut_before : (work : Work) (answer : Answer) (told : Option (List ℕ)) (m : ℕ) → CutShort work answer 0 (sink_seen told told m m)

@@ -1,13 +1,12 @@
 -- What a command answers, as a function of the forms of its file.
-use Rattle.std.specs.Prelude.{◌≡◌, ℕ, ◌-◌, List, [], ◌∷◌, ◌++◌, length, map, reverse, None, Some, codes, nat_le, Bool, true, false, Result, Ok, Err, slice_get, if◌then◌else◌}
+use Rattle.std.specs.Prelude.{ℕ, ◌-◌, List, [], ◌∷◌, ◌++◌, length, map, reverse, None, Some, codes, nat_le, false, Result, Ok, Err, slice_get, if◌then◌else◌}
 use Rattle.std.specs.declared.option.Option.{Option}
 use Rattle.std.specs.Option.{option_map}
-use Rattle.fac_lang.specs.declared.phrase.Height.{Height}
 use Rattle.fac_lang.specs.declared.program.Name.{Name}
 use Rattle.fac_lang.specs.declared.program.Program.{Program}
 use Rattle.fac_lang.specs.declared.program.WordDef.{WordDef}
 use Rattle.fac_lang.specs.declared.tree.Form.{Form}
-use Rattle.fac_lang.specs.Texts.{Value, Callable}
+use Rattle.fac_lang.specs.Texts.{Value}
 use Rattle.fac_lang.specs.World.{World, Error}
 use Rattle.fac_lang.specs.Printed.{printed}
 use Rattle.fac_lang.specs.Eval.{Result as Run, Done, Failed, Spent, Stuck}

@@ -1,5 +1,5 @@
 -- The note of an ending.
-use Rattle.std.specs.Prelude.{◌==◌, ℕ, List, [], ◌∷◌, ◌++◌, None, Some, codes, decimal, slice_get, if◌then◌else◌}
+use Rattle.std.specs.Prelude.{◌==◌, ℕ, List, [], ◌++◌, None, Some, codes, decimal, slice_get, if◌then◌else◌}
 use Rattle.std.specs.declared.option.Option.{Option}
 use Rattle.fac_parse.specs.declared.reader.Why.{Why}
 use Rattle.fac_parse.specs.declared.reader.Why.TheVariants as why
@@ -11,7 +11,6 @@ use Rattle.fac_check.specs.declared.checker.Rule.{Rule}
 use Rattle.fac_check.specs.declared.checker.Rule.TheVariants as rule
 use Rattle.fac_vm.specs.declared.value.ErrorName.{ErrorName}
 use Rattle.fac_vm.specs.declared.value.ErrorName.TheVariants as error
-use Rattle.fac_lang.specs.declared.phrase.Place.{Place}
 use Rattle.fac_lang.specs.declared.program.Name.{Name}
 use Rattle.fac_tool.specs.declared.ended.Report.{Report}
 use Rattle.fac_tool.specs.declared.ended.Report.TheVariants as report

@@ -8,11 +8,18 @@ use fac_vm::ErrorName;
 #[derive(Drop)]
 pub enum Report {
     /// A file has no tree. `at` is 0 where the place isn't told.
-    Syntax { file: u32, at: u32, why: Why },
+    Syntax {
+        file: u32,
+        at: u32,
+        why: Why,
+    },
     /// A name was refused.
     Name(NameFault),
     /// The checker refused the program. `word` is the refused word as notes tell it.
-    Check { refusal: Refusal, word: Text },
+    Check {
+        refusal: Refusal,
+        word: Text,
+    },
     /// The program failed, in this word. `value` is the printed form of the offending value, where the error has one.
     Error {
         name: ErrorName,
@@ -20,11 +27,18 @@ pub enum Report {
         value: Option<Text>,
     },
     /// The budget was spent.
-    Spent { ticks: u64 },
+    Spent {
+        ticks: u64,
+    },
     /// A file was not read.
-    File { name: Text },
+    File {
+        name: Text,
+    },
     /// A file has more bytes than are read.
-    TooLong { name: Text, limit: u64 },
+    TooLong {
+        name: Text,
+        limit: u64,
+    },
 }
 
 /// A call's exit status, the ticks of its run, the stack that it left and the refusal.

@@ -2,6 +2,7 @@
 ghost use Rattle.std.specs.Prelude.{◌≡◌, ◌≤◌, ℕ, List, Option, Some, None, IfOk};
 ghost use Rattle.fac_lang.specs.Built.{IsBuilt};
 ghost use Rattle.fac_check.specs.Verdict.{verdict};
+ghost use Rattle.fac_parse.specs.Resolution.{Resolves};
 ghost use Rattle.fac_tool.specs.Answer.{answer_on, on_accepted, on_verdict, if_accepted, accepted, name_text, word_name};
 ghost use Rattle.fac_tool.specs.Ends.{ending_of, EndsBy, FilesStay, work_of};
 ghost use Rattle.fac_tool.specs.Seen.{sink_seen, files_seen, FilesSeen};
@@ -89,12 +90,20 @@ fn on_program<K: Sink>(alloc: Global, command: Command, program: Program, out: &
     }
 }
 
+// The program of a tree, which is given back to memory.
+fn resolve_all(alloc: Global, tree: Tree) -> Result<Program, ResolveFault>
+    ensures program { Resolves tree.forms result }
+    ensures built { IfOk result (λ program. IsBuilt program) }
+{
+    resolve(alloc, &tree)
+}
+
 // Answers a tree.
-fn on_tree<K: Sink>(alloc: Global, command: Command, tree: &Tree, out: &mut K) -> Ended
-    ensures ends { (files : FilesSeen) → FilesStay files → EndsBy (ending_of result.status) (answer_on command (Some tree.now.forms)) (work_of command (accepted (Some tree.now.forms))) files (sink_seen (K.taken out.old) (K.taken out.new) (K.faults out.old) (K.faults out.new)) result }
+fn on_tree<K: Sink>(alloc: Global, command: Command, tree: Tree, out: &mut K) -> Ended
+    ensures ends { (files : FilesSeen) → FilesStay files → EndsBy (ending_of result.status) (answer_on command (Some tree.forms)) (work_of command (accepted (Some tree.forms))) files (sink_seen (K.taken out.old) (K.taken out.new) (K.faults out.old) (K.faults out.new)) result }
     ensures counts { K.faults out.old ≤ K.faults out.new }
 {
-    match resolve(alloc, tree) {
+    match resolve_all(alloc, tree) {
         Err(ResolveFault::Memory) => bare(12, 0),
         Err(ResolveFault::Name(fault)) => refused(4, 0, Report::Name(fault)),
         Ok(program) => on_program(alloc, command, program, out),
@@ -117,7 +126,7 @@ fn on_text<K: Sink>(alloc: Global, command: Command, text: &[u8], out: &mut K) -
                 why: Why::Other,
             },
         ),
-        Ok(Some(tree)) => on_tree(alloc, command, &tree, out),
+        Ok(Some(tree)) => on_tree(alloc, command, tree, out),
     }
 }
 
