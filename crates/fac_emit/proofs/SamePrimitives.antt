@@ -11,7 +11,7 @@ use Rattle.fac_lang.specs.Built.{is_built_primitive}
 use Rattle.fac_lang.specs.Meaning.{texts}
 use Rattle.fac_vm.specs.Machine.{cells}
 use Rattle.fac_emit.specs.View.{values_view, object_view, world_view, option_view, gives_view}
-use Rattle.fac_check.proofs.PrimitiveHeights.{each_built}
+use Rattle.fac_lang.proofs.BuiltLemmas.{each_built}
 
 -- two functions that do the same, by the number of values that they take
 abbrev pub Same : Fn Plain → Fn Value → Type 0
