@@ -1,9 +1,7 @@
 -- The built primitives take and leave as many values as their written effects say.
-use Rattle.std.proofs.Common.{◌≡◌, ◌+◌, ℕ, zero, suc, List, [], ◌∷◌, ◌++◌, length, Bool, true, false, ◌||◌, Option, Some, None, refl, ap, sym, subst, ◌∙◌, arith, ◌⊎◌, inl, inr}
-use Rattle.std.specs.Prelude.{nat_eq, nat_le, ℤ}
-use Rattle.fac_lang.specs.declared.phrase.Height.{Height}
-use Rattle.fac_lang.specs.declared.program.WordDef.{WordDef}
-use Rattle.fac_lang.specs.Texts.{Plain, int, Value, plain}
+use Rattle.std.proofs.Common.{◌≡◌, ◌+◌, ℕ, List, [], ◌∷◌, ◌++◌, length, Bool, true, false, Option, Some, None, refl, arith}
+use Rattle.std.specs.Prelude.{nat_le, ℤ}
+use Rattle.fac_lang.specs.Texts.{Value}
 use Rattle.fac_lang.specs.World.{World, ErrorName, text_too_long, pile}
 use Rattle.fac_lang.specs.Printed.{Names, printed}
 use Rattle.fac_lang.specs.Effects.{effect_height}
