@@ -1,15 +1,14 @@
 -- The built primitives take and leave as many values as their written effects say.
-use Rattle.std.proofs.Common.{◌≡◌, ◌+◌, ℕ, zero, suc, List, [], ◌∷◌, ◌++◌, length, Bool, true, false, ◌||◌, Option, Some, None, refl, ap, sym, subst, ◌∙◌, arith, ◌⊎◌, inl, inr}
-use Rattle.std.specs.Prelude.{nat_eq, nat_le, ℤ}
-use Rattle.fac_lang.specs.declared.phrase.Height.{Height}
-use Rattle.fac_lang.specs.declared.program.WordDef.{WordDef}
-use Rattle.fac_lang.specs.Texts.{Plain, int, Value, plain}
+use Rattle.std.proofs.Common.{◌≡◌, ◌+◌, ℕ, List, [], ◌∷◌, ◌++◌, length, Bool, true, false, Option, Some, None, refl, arith}
+use Rattle.std.specs.Prelude.{nat_le, ℤ}
+use Rattle.fac_lang.specs.Texts.{Value}
 use Rattle.fac_lang.specs.World.{World, ErrorName, text_too_long, pile}
 use Rattle.fac_lang.specs.Printed.{Names, printed}
 use Rattle.fac_lang.specs.Effects.{effect_height}
 use Rattle.fac_lang.specs.PrimitiveWords.{PrimitiveWord, primitive_word, written_effect}
 use Rattle.fac_lang.specs.Primitives.{Prim, prim_numbered, prim_fn, Gives, gives, bad, Fn, fn0, fn1, fn2, fn3, or_bad, want_integer, integer_or, seen_integer, unless_bad, written, most_elements}
-use Rattle.fac_lang.specs.Built.{is_built_primitive, is_member}
+use Rattle.fac_lang.specs.Built.{is_built_primitive}
+use Rattle.fac_lang.proofs.BuiltLemmas.{each_built}
 use Rattle.fac_lang.specs.Eval.{Act, wrong, fails, goes, binds, runs}
 use Rattle.fac_lang.specs.Meaning.{texts, seen, does, given}
 use Rattle.fac_check.specs.Sound.{HasLength, with_stack}
@@ -77,38 +76,6 @@ mul_suits N = (refl, λ x y w. integer_many (Some 1) x w _ (λ a. integer_many (
 show_suits : RowSuits (primitive_word 59) (prim_numbered 59)
 unfolding primitive_word prim_numbered prim_fn
 show_suits N = (refl, λ x w. let text = printed texts N w x in unless_many (Some 0) (nat_le (length text) most_elements) text_too_long w (written texts (text ++ 10 ∷ []) w) refl)
-
--- a property of each built primitive
-either_one : (k j : ℕ) (b : Bool) → (nat_eq k j || b) ≡ true → (k ≡ j) ⊎ (b ≡ true)
-either_one k j b e = grind arith
-
-no_more : (k : ℕ) → is_member k [] ≡ true → ⊥
-no_more k e = cc
-
-pub each_built : (P : ℕ → Type 0) → P 0 → P 1 → P 2 → P 3 → P 26 → P 27 → P 28 → P 59 → (k : ℕ) → is_built_primitive k ≡ true → P k
-each_built P a b c d e f g h k built =
-    elim (either_one k 0 _ built) [
-      | inl is ↦ subst P (sym is) a
-      | inr more1 ↦ elim (either_one k 1 _ more1) [
-        | inl is ↦ subst P (sym is) b
-        | inr more2 ↦ elim (either_one k 2 _ more2) [
-          | inl is ↦ subst P (sym is) c
-          | inr more3 ↦ elim (either_one k 3 _ more3) [
-            | inl is ↦ subst P (sym is) d
-            | inr more4 ↦ elim (either_one k 26 _ more4) [
-              | inl is ↦ subst P (sym is) e
-              | inr more5 ↦ elim (either_one k 27 _ more5) [
-                | inl is ↦ subst P (sym is) f
-                | inr more6 ↦ elim (either_one k 28 _ more6) [
-                  | inl is ↦ subst P (sym is) g
-                  | inr more7 ↦ elim (either_one k 59 _ more7) [ inl is ↦ subst P (sym is) h | inr more8 ↦ absurd (no_more k more8) ]
-                ]
-              ]
-            ]
-          ]
-        ]
-      ]
-    ]
 
 pub rows_suit : (k : ℕ) → is_built_primitive k ≡ true → RowSuits (primitive_word k) (prim_numbered k)
 rows_suit k built = each_built (λ k. RowSuits (primitive_word k) (prim_numbered k)) drop_suits dup_suits swap_suits over_suits add_suits sub_suits mul_suits show_suits k built

@@ -1,13 +1,12 @@
 -- An accepted program is sound.
-use Rattle.std.proofs.Common.{◌≡◌, ◌≤◌, ◌<◌, ◌+◌, ◌-◌, ℕ, zero, suc, List, [], ◌∷◌, ◌++◌, length, take, drop, Bool, true, false, Option, Some, None, refl, ap, sym, subst, ◌∙◌, arith, take-append-drop, length-drop, length-append}
+use Rattle.std.proofs.Common.{◌≡◌, ◌≤◌, ◌<◌, ◌+◌, ◌-◌, ℕ, zero, suc, List, ◌∷◌, ◌++◌, length, take, drop, Bool, true, false, Option, Some, None, refl, ap, subst, ◌∙◌, arith, take-append-drop, length-drop, length-append}
 use Rattle.std.proofs.lemmas.List.{length-take-le}
 use borrow.Author.Tests.{ltb-true}
-use Rattle.std.specs.Prelude.{slice_get, nat_le, ℤ}
+use Rattle.std.specs.Prelude.{slice_get, nat_le}
 use Rattle.fac_lang.specs.declared.phrase.Height.{Height}
 use Rattle.fac_lang.specs.declared.phrase.Place.{Place}
 use Rattle.fac_lang.specs.declared.program.Program.{Program}
 use Rattle.fac_lang.specs.declared.program.WordDef.{WordDef}
-use Rattle.fac_lang.specs.declared.program.Sort.{Sort}
 use Rattle.fac_lang.specs.declared.program.Sort.TheVariants.{Prim as prim}
 use Rattle.fac_lang.specs.Texts.{int, Text, end, then, Item, lit, word, Value, plain, Callable}
 use Rattle.fac_lang.specs.World.{World, State}
@@ -15,13 +14,13 @@ use Rattle.fac_lang.specs.Effects.{effect_height}
 use Rattle.fac_lang.specs.PrimitiveWords.{PrimitiveWord, written_effect}
 use Rattle.fac_lang.specs.Primitives.{Prim, prim_numbered, prim_fn}
 use Rattle.fac_lang.specs.Built.{IsBuilt, IsBuiltItem, IsBuiltText, IsPrimitiveWord}
-use Rattle.fac_lang.specs.Eval.{Result, Act, wrong, fails, goes, binds, runs, go_on, eval}
+use Rattle.fac_lang.specs.Eval.{Act, wrong, fails, goes, binds, runs, go_on, eval}
 use Rattle.fac_lang.specs.Meaning.{texts, names, sort_of, sort_act, prim_act, act, run, start, word_text, one_item}
 use Rattle.fac_lang.specs.RunningLaws.{IsNotStuck}
 use Rattle.fac_check.specs.declared.checker.Rule.TheVariants.{Underflow}
 use Rattle.fac_check.specs.Verdict.{Breach, on_item, after_item, first_breach, word_height, refusal_of, verdict}
-use Rattle.fac_check.specs.Sound.{HasLength, Leaves, with_stack, IsSound}
-use Rattle.fac_lang.proofs.BuiltLemmas.{Primitive, primitive_at, sort_at, top_text}
+use Rattle.fac_check.specs.Sound.{Leaves, with_stack, IsSound}
+use Rattle.fac_lang.proofs.BuiltLemmas.{primitive_at, sort_at, top_text}
 use Rattle.fac_check.proofs.PrimitiveHeights.{RowSuits, Suits, rows_suit, ActLeaves, does_leaves}
 
 prim_leaves : (P : Program) (w : ℕ) (r : Option PrimitiveWord) (row : PrimitiveWord) (q : Option Prim) (inputs below : List Value) (world : World Value) → r ≡ Some row → RowSuits r q → length inputs ≡ (effect_height (written_effect row)).ins → ActLeaves (effect_height (written_effect row)).outs below (prim_act P w q (with_stack (inputs ++ below) world))

@@ -28,10 +28,10 @@ with_stack stack world = record { stack = stack; world = world }
 pub record IsSound (P : Program) : Type 0 where
   -- each word but the top-level phrase, from each state with its declared inputs on any values, at every budget
   pub words :
-    (fits : Height → Height → Bool) (callable_height : Callable → Option Height) (w : ℕ) (d : WordDef) → w < P.top → slice_get P.words w ≡ Some d →
-    (n : ℕ) (inputs below : List Value) (world : World Value) → length inputs ≡ (effect_height d.effect).ins →
-    Leaves (effect_height d.effect).outs below (run P fits callable_height n (one_item (word w)) (with_stack (inputs ++ below) world))
+      (fits : Height → Height → Bool) (callable_height : Callable → Option Height) (w : ℕ) (d : WordDef) → w < P.top → slice_get P.words w ≡ Some d →
+      (n : ℕ) (inputs below : List Value) (world : World Value) → length inputs ≡ (effect_height d.effect).ins →
+      Leaves (effect_height d.effect).outs below (run P fits callable_height n (one_item (word w)) (with_stack (inputs ++ below) world))
   -- the top-level phrase, with every input, at every budget
   pub top :
-    (fits : Height → Height → Bool) (callable_height : Callable → Option Height) (input : List ℕ) (n : ℕ) →
-    IsNotStuck (run P fits callable_height n (word_text P P.top) (start P input))
+      (fits : Height → Height → Bool) (callable_height : Callable → Option Height) (input : List ℕ) (n : ℕ) →
+      IsNotStuck (run P fits callable_height n (word_text P P.top) (start P input))

@@ -14,23 +14,32 @@ use thiserror::Error;
 #[derive(Clone, Copy, Debug, PartialEq, Eq)]
 pub enum Rule {
     /// An item needs more values than there are.
-    Underflow { needs: u32, has: u32 },
+    Underflow {
+        /// The number of values that it takes.
+        needs: u32,
+        /// The number of values that are there, which is less.
+        has: u32,
+    },
 }
 
 /// The first refused word in source order, with the first rule that it breaks.
 #[derive(Clone, Copy, Debug, PartialEq, Eq)]
 pub struct Refusal {
+    /// The number of the word.
     pub word: u32,
     /// The place of the item that breaks the rule.
     pub place: Place,
+    /// The rule, with its numbers.
     pub rule: Rule,
 }
 
 /// Why a program is not accepted.
 #[derive(Debug, Drop, Error)]
 pub enum CheckFault {
+    /// The program breaks a rule.
     #[error("the program is refused")]
     Refused(Refusal),
+    /// A number was too wide, or a growth was refused.
     #[error("out of memory")]
     Memory,
 }
@@ -48,6 +57,7 @@ impl From<Memory> for CheckFault {
 /// An accepted program.
 #[derive(Drop)]
 pub struct Checked {
+    /// The program, unchanged.
     pub program: Program,
 }
 
@@ -65,7 +75,10 @@ fn height(words: &List<WordDef>, what: &What) -> Option<(usize, Option<u32>)>
         (λ h. item_height words.now (what_item what.now) ≡ Some (record { ins = h.0; outs = h.1 })) }
 {
     match what {
-        What::Int(_) | What::True | What::False | What::Str(_) | What::Wref(_) => Some((0, Some(1))),
+        What::Int(_) | What::True | What::False | What::Str(_) | What::Wref(_) => Some((
+            0,
+            Some(1),
+        )),
         What::Word(number) => match words.get(*number as usize) {
             Some(word) => Some(word_height(word)),
             None => None,
@@ -126,7 +139,9 @@ pub fn accept(program: Program) -> Checked
     Checked { program }
 }
 
-/// Accepts a program, or names its first refused word with the first place and rule that it breaks.
+/// Accepts a program, or names its first refused word with the first place and rule that it breaks. Words that take more than is
+/// there are refused before anything runs, as in the Factor Handbook's chapter on stack effect checking; which word and place is
+/// named first is this profile's own rule.
 pub fn check(program: Program) -> Result<Checked, CheckFault>
     requires { IsBuilt program }
     ensures { Checks program result }

@@ -1,12 +1,11 @@
 -- The image of plain code carries its program.
-use Rattle.std.proofs.Common.{◌≡◌, ℕ, List, [], ◌∷◌, length, drop, Option, Bool, true, false, ◌&&◌, refl, ap, sym, subst, ◌∙◌, arith}
-use Rattle.std.specs.Prelude.{map}
+use Rattle.std.proofs.Common.{◌≡◌, ℕ, List, [], length, drop, Option, Bool, true, false, ◌&&◌, refl, ap, sym, subst, arith}
 use borrow.Author.Tests.{ltb-true}
 use Rattle.fac_lang.specs.declared.phrase.Height.{Height}
 use Rattle.fac_lang.specs.declared.program.Program.{Program}
 use Rattle.fac_lang.specs.declared.program.Lit.{Lit}
 use Rattle.fac_lang.specs.Texts.{int, Text, end, then, Item, lit, word, Value, Callable}
-use Rattle.fac_lang.specs.World.{World, State}
+use Rattle.fac_lang.specs.World.{State}
 use Rattle.fac_lang.specs.Built.{IsBuilt, IsBuiltItem, IsBuiltText}
 use Rattle.fac_lang.specs.Eval.{Result, Done, Failed, Spent, Stuck, eval}
 use Rattle.fac_lang.specs.Meaning.{names, act, run, start, word_text, array_objects, numbers_to}
@@ -57,4 +56,5 @@ carries P M b sound rows code begins = record {
       let first : at 0 [] empty_world ≡ starting M [] = ap (λ (pc : ℕ). at pc [] empty_world) (sym begins) in
       let run_is = follows P fits callable_height M b rows text n n 0 (omega arith) built whole [] empty_world in
       carried P fits callable_height M n (run P fits callable_height n text (start P [])) (sound.top fits callable_height [] n) (subst (λ (s : Machine). Follows P fits callable_height M s n (run P fits callable_height n text (start P []))) first (subst (λ (st : State Value). Follows P fits callable_height M (at 0 [] empty_world) n (eval (act P fits callable_height) n text st n)) begin run_is));
+  rows = rows;
 }

@@ -1,29 +1,28 @@
 -- The machine follows the meaning over plain code, tick for tick.
-use Rattle.std.proofs.Common.{◌≡◌, ◌≢◌, ◌≤◌, ◌<◌, ℕ, zero, suc, ◌+◌, List, [], ◌∷◌, ◌++◌, length, drop, Bool, true, false, not, ◌&&◌, ◌||◌, Option, Some, None, refl, ap, sym, subst, ◌∙◌, arith, ◌⊎◌, inl, inr}
-use Rattle.std.specs.Prelude.{ℤ, map, nat_eq, slice_get}
+use Rattle.std.proofs.Common.{◌≡◌, ◌≢◌, ◌≤◌, ℕ, zero, suc, ◌+◌, List, [], ◌∷◌, ◌++◌, drop, Bool, true, Option, Some, None, refl, ap, ◌∙◌, arith}
+use Rattle.std.specs.Prelude.{ℤ, slice_get}
 use borrow.Author.Tests.{ltb-true}
 use Rattle.fac_lang.specs.declared.phrase.Height.{Height}
 use Rattle.fac_lang.specs.declared.phrase.Place.{Place}
 use Rattle.fac_lang.specs.declared.program.Program.{Program}
 use Rattle.fac_lang.specs.declared.program.WordDef.{WordDef}
-use Rattle.fac_lang.specs.declared.program.Sort.{Sort}
 use Rattle.fac_lang.specs.declared.program.Sort.TheVariants.{Prim as prim_sort, Body as body}
-use Rattle.fac_lang.specs.Texts.{Plain, int, Text, end, then, Item, lit, word, Value, plain, Callable}
+use Rattle.fac_lang.specs.Texts.{Plain, int, Text, end, then, Item, lit, word, Value, Callable}
 use Rattle.fac_lang.specs.World.{World, State, pile}
 use Rattle.fac_lang.specs.Primitives.{Prim, prim_numbered, prim_fn, Gives, gives, bad, Fn, fn0, fn1, fn2, fn3}
-use Rattle.fac_lang.specs.Built.{IsBuilt, IsBuiltItem, IsBuiltText, is_member, primitive_numbers, numbers_before, has_no_repeats}
+use Rattle.fac_lang.specs.Built.{IsBuilt, IsBuiltItem, IsBuiltText, primitive_numbers, numbers_before, has_no_repeats}
 use Rattle.fac_lang.specs.Eval.{Result, Done, Failed, Spent, Stuck, Act, go_on, eval}
-use Rattle.fac_lang.specs.Meaning.{texts, names, sort_of, sort_act, prim_act, does, given, act, run, start, word_text}
-use Rattle.fac_lang.proofs.BuiltLemmas.{Primitive, primitive_at, sort_at, top_text}
+use Rattle.fac_lang.specs.Meaning.{texts, names, sort_of, prim_act, does, given, act}
+use Rattle.fac_lang.proofs.BuiltLemmas.{Primitive, primitive_at, sort_at}
 use Rattle.fac_vm.specs.declared.image.Instr.{Instr}
 use Rattle.fac_vm.specs.declared.image.Instr.TheVariants.{Halt, Int, Prim as prim_instr}
 use Rattle.fac_vm.specs.declared.image.Image.{Image}
 use Rattle.fac_vm.specs.declared.value.TrapWhy.TheVariants.{Kind as t_kind}
-use Rattle.fac_vm.specs.Machine.{Machine, End, done, failed, spent, trap, Step, goes_on, ends, after, cells, given as machine_given, does as machine_does, word_of_prim, or_trap, fetched, step, Ends, starting}
+use Rattle.fac_vm.specs.Machine.{Machine, End, done, failed, spent, goes_on, ends, after, cells, given as machine_given, does as machine_does, word_of_prim, or_trap, fetched, step, Ends}
 use Rattle.fac_vm.specs.Runs.{at}
 use Rattle.fac_vm.proofs.Leading.{leads_step, ends_after, ends_step}
 use Rattle.fac_emit.specs.View.{values_view, world_view, state_view, gives_view}
-use Rattle.fac_emit.specs.Carries.{SameEnd, Carries}
+use Rattle.fac_emit.specs.Carries.{SameEnd}
 use Rattle.fac_emit.specs.Code.{item_instr, word_instr, sort_instr, text_code, word_rows}
 use Rattle.fac_emit.proofs.FirstWords.{first_with}
 use Rattle.fac_emit.proofs.SamePrimitives.{Same, NumberSame, numbers_same}
@@ -121,7 +120,7 @@ module _ (P : Program) (fits : Height → Height → Bool) (callable_height : Ca
       let first : word_of_prim p.number 0 M.words ≡ v = ap (word_of_prim p.number 0) rows ∙ first_word P b v p in
       let s = at pc stack w in
       let steps : step M (names P) s (suc n) ≡ or_trap (prim_numbered p.number) t_kind s n (λ q. machine_does v (prim_fn cells (names P) q) s n (λ s'. goes_on (after s') n)) =
-          fetch s (suc n) (prim_instr p.number) e ∙ ap (λ (a : ℕ). or_trap (prim_numbered p.number) t_kind s n (λ q. machine_does a (prim_fn cells (names P) q) s n (λ s'. goes_on (after s') n))) first in
+      fetch s (suc n) (prim_instr p.number) e ∙ ap (λ (a : ℕ). or_trap (prim_numbered p.number) t_kind s n (λ q. machine_does a (prim_fn cells (names P) q) s n (λ s'. goes_on (after s') n))) first in
       rw sort (number_follows (prim_numbered p.number) f n pc v t s stack w rest (numbers_same (names P) p.number p.word_is.is_built) steps)
 
   item_follows : IsBuilt P → M.words ≡ word_rows P.words → (i : Item) → IsBuiltItem P.top i → (f n pc : ℕ) (t : Text) (stack : List Plain) (w : World Plain) → Rest f n t (pc + 1) → slice_get M.code pc ≡ Some (item_instr P.words i) → Follows (at pc stack w) (suc n) (go_on (eval A f) (A i (state_view stack w)) t n)

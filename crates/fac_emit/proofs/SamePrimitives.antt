@@ -1,17 +1,17 @@
 -- The built primitives do the same with the machine's values as with what they stand for.
-use Rattle.std.proofs.Common.{◌≡◌, ℕ, zero, suc, List, [], ◌∷◌, ◌++◌, Bool, true, false, Option, Some, None, refl, ap, sym, ◌∙◌}
+use Rattle.std.proofs.Common.{◌≡◌, ℕ, zero, suc, List, [], ◌∷◌, ◌++◌, Bool, true, false, Option, Some, None, refl, ap, ◌∙◌}
 use Rattle.std.specs.Prelude.{ℤ, map, length, nat_le, slice_get}
 use Rattle.std.proofs.lemmas.Option.{slice_get-map}
 use Rattle.std.specs.Option.{option_map}
 use Rattle.fac_lang.specs.Texts.{Plain, int, yes, no, str, iota, wrd, arr, tup, Value, plain}
 use Rattle.fac_lang.specs.World.{Object, array, tuple, World, ErrorName, not_integer, text_too_long}
-use Rattle.fac_lang.specs.Printed.{Names, spaced, shown_object, shown, printed}
+use Rattle.fac_lang.specs.Printed.{Names, shown_object, shown, printed}
 use Rattle.fac_lang.specs.Primitives.{Prim, prim_numbered, prim_fn, Gives, Fn, fn0, fn1, fn2, fn3, or_bad, want_integer, integer_or, seen_integer, unless_bad, written, most_elements}
 use Rattle.fac_lang.specs.Built.{is_built_primitive}
 use Rattle.fac_lang.specs.Meaning.{texts}
 use Rattle.fac_vm.specs.Machine.{cells}
-use Rattle.fac_emit.specs.View.{values_view, object_view, world_view, option_view, gives_view}
-use Rattle.fac_check.proofs.PrimitiveHeights.{each_built}
+use Rattle.fac_emit.specs.View.{object_view, world_view, option_view, gives_view}
+use Rattle.fac_lang.proofs.BuiltLemmas.{each_built}
 
 -- two functions that do the same, by the number of values that they take
 abbrev pub Same : Fn Plain → Fn Value → Type 0

@@ -69,7 +69,8 @@ fn code(alloc: Global, words: &List<WordDef>, phrase: &Phrase) -> Result<List<In
     Ok(code)
 }
 
-/// The image of an accepted program, which carries it.
+/// The image of an accepted program, which carries it: an instruction for each item of the top-level phrase and a `halt`, from
+/// place 0 on, and a row for each word. Want of memory is the one error.
 pub fn compile(alloc: Global, checked: &Checked) -> Result<Image, Memory>
     requires built { IsBuilt checked.now.program }
     requires accepted { verdict checked.now.program ≡ None }

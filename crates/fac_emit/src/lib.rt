@@ -4,5 +4,3 @@
 mod compiler;
 
 pub use compiler::compile;
-
-

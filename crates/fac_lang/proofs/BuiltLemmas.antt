@@ -1,11 +1,11 @@
 -- Programs of the forms built so far.
-use Rattle.std.proofs.Common.{◌≡◌, ◌<◌, ℕ, zero, suc, List, [], ◌∷◌, ◌++◌, length, Option, Some, None, refl, ap, subst, ◌∙◌, arith}
-use Rattle.std.specs.Prelude.{slice_get}
+use Rattle.std.proofs.Common.{◌≡◌, ◌<◌, ℕ, zero, suc, List, [], ◌∷◌, ◌++◌, length, Bool, true, ◌||◌, Option, Some, None, refl, ap, sym, subst, ◌∙◌, arith, ◌⊎◌, inl, inr}
+use Rattle.std.specs.Prelude.{nat_eq, slice_get}
 use Rattle.fac_lang.specs.declared.program.Program.{Program}
 use Rattle.fac_lang.specs.declared.program.WordDef.{WordDef}
 use Rattle.fac_lang.specs.declared.program.Sort.{Sort}
 use Rattle.fac_lang.specs.declared.program.Sort.TheVariants.{Body as body, Prim as prim}
-use Rattle.fac_lang.specs.Built.{IsBuilt, IsBuiltText, IsBuiltSort, AreBuiltWords, IsPrimitiveWord}
+use Rattle.fac_lang.specs.Built.{IsBuilt, IsBuiltText, IsBuiltSort, AreBuiltWords, IsPrimitiveWord, is_built_primitive, is_member}
 use Rattle.fac_lang.specs.Meaning.{sort_of, sort_text, word_text}
 
 last_of : (ds : List WordDef) (d : WordDef) → slice_get (ds ++ d ∷ []) (length ds) ≡ Some d
@@ -53,3 +53,35 @@ pub primitive_at : (P : Program) → IsBuilt P → (w : ℕ) → w < P.top → P
 primitive_at P b w lt =
     let front = get_front b.primitives (b.phrase ∷ []) w (omega (arith, b.top_is)) in
     primitive_of P w front.0 front.0.sort (rw b.words_are front.1) refl (built_at b.primitives w front.0 b.built front.2)
+
+-- a property of each built primitive
+either_one : (k j : ℕ) (b : Bool) → (nat_eq k j || b) ≡ true → (k ≡ j) ⊎ (b ≡ true)
+either_one k j b e = grind arith
+
+no_more : (k : ℕ) → is_member k [] ≡ true → ⊥
+no_more k e = cc
+
+pub each_built : (P : ℕ → Type 0) → P 0 → P 1 → P 2 → P 3 → P 26 → P 27 → P 28 → P 59 → (k : ℕ) → is_built_primitive k ≡ true → P k
+each_built P a b c d e f g h k built =
+    elim (either_one k 0 _ built) [
+      | inl is ↦ subst P (sym is) a
+      | inr more1 ↦ elim (either_one k 1 _ more1) [
+        | inl is ↦ subst P (sym is) b
+        | inr more2 ↦ elim (either_one k 2 _ more2) [
+          | inl is ↦ subst P (sym is) c
+          | inr more3 ↦ elim (either_one k 3 _ more3) [
+            | inl is ↦ subst P (sym is) d
+            | inr more4 ↦ elim (either_one k 26 _ more4) [
+              | inl is ↦ subst P (sym is) e
+              | inr more5 ↦ elim (either_one k 27 _ more5) [
+                | inl is ↦ subst P (sym is) f
+                | inr more6 ↦ elim (either_one k 28 _ more6) [
+                  | inl is ↦ subst P (sym is) g
+                  | inr more7 ↦ elim (either_one k 59 _ more7) [ inl is ↦ subst P (sym is) h | inr more8 ↦ absurd (no_more k more8) ]
+                ]
+              ]
+            ]
+          ]
+        ]
+      ]
+    ]

@@ -9,6 +9,8 @@ mod memory;
 pub mod phrase;
 pub mod program;
 mod running;
+#[cfg(test)]
+mod tests;
 mod text;
 mod token;
 mod tree;

@@ -26,6 +26,7 @@ impl<T> Model for List<T> {
 }
 
 impl<T> List<T> {
+    /// An empty list.
     pub fn new(alloc: Global) -> Self
         ensures { result ≡ [] }
     {
@@ -46,18 +47,21 @@ impl<T> List<T> {
         Ok(List { vec })
     }
 
+    /// The elements, in order.
     pub fn as_slice(&self) -> &[T]
         ensures { result.now ≡ self.now }
     {
         self.vec.as_slice()
     }
 
+    /// The number of elements.
     pub fn len(&self) -> u32
         ensures { result ≡ length self.now }
     {
         self.vec.len() as u32
     }
 
+    /// The element of this number, counted from 0. None where the list is too short.
     pub fn get(&self, index: usize) -> Option<&T>
         ensures { option_copied result ≡ slice_get self.now index }
     {

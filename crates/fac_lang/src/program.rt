@@ -5,7 +5,9 @@ use std::alloc::Global;
 /// The full name of a word or class.
 #[derive(Drop)]
 pub struct Name {
+    /// The vocabulary in which it is defined.
     pub vocab: Text,
+    /// The name in that vocabulary.
     pub name: Text,
 }
 
@@ -14,7 +16,9 @@ pub struct Name {
 pub struct Program {
     /// The words in source order.
     pub words: List<WordDef>,
+    /// The literal arrays in source order, an inner one before the one around it.
     pub arrays: List<List<Lit>>,
+    /// The classes.
     pub classes: List<ClassDef>,
     /// The word of the top-level phrase.
     pub top: u32,
@@ -26,7 +30,9 @@ pub struct WordDef {
     pub name: Name,
     pub sort: Sort,
     pub effect: Effect,
+    /// Whether `inline` stands behind the definition.
     pub inline: bool,
+    /// Whether `recursive` stands behind the definition.
     pub recursive: bool,
     /// The place of its name.
     pub place: Place,
@@ -39,6 +45,7 @@ pub enum Sort {
     Prim(u32),
     /// A core word, by its number: 0 `call`, 1 `dip`, 2 `if`, 3 `execute`, 4 `boa`, 9 `cond`.
     Core(u32),
+    /// A word that is defined by its body, or the top-level phrase.
     Body(Phrase),
     /// An earlier top-level phrase of a session, which no name finds.
     Past(Phrase),
@@ -54,6 +61,7 @@ pub enum Sort {
     Setter(Text),
     /// `s<<` for a slot s.
     Putter(Text),
+    /// A generic word, which runs the chosen method.
     Generic,
     /// A method on a class, of the generic with this word.
     Method {
@@ -72,6 +80,7 @@ pub enum Lit {
     Str(Text),
     /// An earlier literal array.
     Arr(u32),
+    /// A word as a value, by its number.
     Wref(u32),
     Quot(Phrase),
     /// In a closed program, a quotation by the number of its template.
@@ -91,13 +100,16 @@ pub enum Shape {
     /// A built-in class: 0 to 7 are those of the kinds `integer`, `t`, `f`, `string`, `iota`, `word`, `array` and `callable`,
     /// of which `word` has all singletons too; 8 is `boolean`, 9 `sequence`, 10 `tuple` and 11 `object`.
     Kind(u32),
+    /// A tuple class.
     Tuple {
+        /// The number of the class that it extends.
         parent: Option<u32>,
         /// The class's own slots.
         slots: List<Text>,
     },
-    /// The members.
+    /// A union: the numbers of its members.
     Union(List<u32>),
+    /// A singleton, whose one value is its word.
     Single,
 }
 
@@ -106,7 +118,7 @@ impl Program {
     ghost use Rattle.fac_lang.specs.Built.{IsBuilt};
     ghost use Rattle.fac_lang.specs.Meaning.{word_text};
 
-    /// The top-level phrase.
+    /// The body of the word `top`.
     #[tactic(auto, using(crate::proofs::BuiltLemmas::top_sort))]
     pub fn top_phrase(&self) -> &Phrase
         requires { IsBuilt self.now }

@@ -1,4 +1,4 @@
-use Rattle.std.proofs.Common.{◌≡◌, refl, ap, ◌∙◌}
+use Rattle.std.proofs.Common.{refl, ap, ◌∙◌}
 use Rattle.fac_lang.specs.Meaning.{word_text}
 use Rattle.fac_lang.proofs.BuiltLemmas.{top_built}
 use Rattle.fac_check.proofs.Soundness.{sound}
