@@ -1,5 +1,5 @@
 mod Causes
-mod TextLemmas
+pub mod TextLemmas
 pub mod EndLemmas
 pub mod ReadLemmas
 pub mod StopLemmas

@@ -3,13 +3,19 @@ use Rattle.std.proofs.Common.{◌≡◌, ℕ, List, None, refl, sym, subst, arit
 use Rattle.std.specs.declared.option.Option.{Option}
 use Rattle.fac_io.specs.Told.{Stays-same, GrowsByPrefix-stays}
 use Rattle.fac_tool.specs.declared.ended.Ended.{Ended}
-use Rattle.fac_tool.specs.Answer.{Answer}
+use Rattle.fac_lang.specs.declared.program.Program.{Program}
+use Rattle.fac_tool.specs.Answer.{Answer, meaning}
 use Rattle.fac_tool.specs.Seen.{FilesSeen, sink_seen}
-use Rattle.fac_tool.specs.Ends.{ending_of, EndsBy, Work, idle, runs, CutShort, FilesStay}
+use Rattle.fac_tool.specs.Ends.{ending_of, EndsBy, Work, idle, runs, run_output, StopsWithin, CutShort, FilesStay}
+
+-- a run that was not begun
+pub not_begun : (P : Program) (told : Option (List ℕ)) (m : ℕ) → StopsWithin P 0 (sink_seen told told m m)
+not_begun P told m =
+    record { within = omega arith; spent_before = λ some. absurd (omega (arith, some)); at_most = GrowsByPrefix-stays told told (run_output (meaning P 0)) (Stays-same told) }
 
 cut_before : (work : Work) (answer : Answer) (told : Option (List ℕ)) (m : ℕ) → CutShort work answer 0 (sink_seen told told m m)
 cut_before idle answer told m = (refl, GrowsByPrefix-stays told told answer.output (Stays-same told))
-cut_before (runs P) answer told m = omega arith
+cut_before (runs P) answer told m = not_begun P told m
 
 pub no_memory : (answer : Answer) (work : Work) (files : FilesSeen) (told : Option (List ℕ)) (m : ℕ) (ended : Ended) → ended ≡ record { status = 12; ticks = 0; stack = None; refusal = None } → FilesStay files → EndsBy (ending_of ended.status) answer work files (sink_seen told told m m) ended
 no_memory answer work files told m ended e stay =

@@ -1,13 +1,17 @@
 -- How the work of a command ends, before its note is written.
-use Rattle.std.specs.Prelude.{◌≡◌, ◌==◌, ◌≤◌, ℕ, None, Some, if◌then◌else◌}
+use Rattle.std.specs.Prelude.{◌≡◌, ◌==◌, ◌≤◌, ℕ, None, Some, if◌then◌else◌, List, [], ◌<◌, ◌-◌}
 use Rattle.std.specs.declared.option.Option.{Option}
 use Rattle.fac_io.specs.Faults.{Rose}
 use Rattle.fac_io.specs.Told.{Stays, Grows, GrowsByPrefix}
 use Rattle.fac_lang.specs.declared.program.Program.{Program}
+use Rattle.fac_lang.specs.Texts.{Item, Value}
+use Rattle.fac_lang.specs.World.{State}
+use Rattle.fac_lang.specs.Eval.{Result as Run, Done, Failed, Spent, Stuck}
+use Rattle.fac_vm.specs.Runs.{GrowsBeyond}
 use Rattle.fac_tool.specs.declared.command.Command.{Command}
-use Rattle.fac_tool.specs.declared.command.Command.TheVariants.{Run}
+use Rattle.fac_tool.specs.declared.command.Command.TheVariants as command
 use Rattle.fac_tool.specs.declared.ended.Ended.{Ended}
-use Rattle.fac_tool.specs.Answer.{Answer, budget}
+use Rattle.fac_tool.specs.Answer.{Answer, budget, meaning}
 use Rattle.fac_tool.specs.Seen.{SinkSeen, FilesSeen}
 
 -- the kinds of statuses: an answer of the definition, or one that the outside or want of memory brings
@@ -28,8 +32,8 @@ pub data Work : Type 0 where
   runs : Program → Work
 
 abbrev pub work_of : Command → Option Program → Work
-work_of command None = idle
-work_of (Run file) (Some P) = runs P
+work_of c None = idle
+work_of (command.Run file) (Some P) = runs P
 
 -- the call's result and output are the answer's
 pub record Matches (answer : Answer) (out : SinkSeen) (ended : Ended) : Type 0 where
@@ -39,10 +43,24 @@ pub record Matches (answer : Answer) (out : SinkSeen) (ended : Ended) : Type 0 w
   pub refusal : ended.refusal ≡ answer.refusal
   pub output : Grows out.before out.now answer.output
 
+-- what a run wrote so far
+abbrev pub run_output : Run → List ℕ
+run_output (Done st left) = st.world.output
+run_output (Failed e st left) = st.world.output
+run_output (Spent st i) = st.world.output
+run_output Stuck = []
+
+-- How far a run came that used so many ticks, however it ended. With one tick less the meaning is spent, and what it wrote till
+-- then was taken. Of what it writes in these ticks a prefix was taken.
+pub record StopsWithin (P : Program) (ticks : ℕ) (out : SinkSeen) : Type 0 where
+  pub within : ticks ≤ budget
+  pub spent_before : 0 < ticks → (st : State Value) × (i : Option Item) × (meaning P (ticks - 1) ≡ Spent st i) × GrowsBeyond out.before out.now st.world.output
+  pub at_most : GrowsByPrefix out.before out.now (run_output (meaning P ticks))
+
 -- what the output had taken when the call was cut short: outside a run a prefix of the answer's, with no tick used
 abbrev pub CutShort : Work → Answer → ℕ → SinkSeen → Type 0
 CutShort idle answer ticks out = (ticks ≡ 0) × GrowsByPrefix out.before out.now answer.output
-CutShort (runs P) answer ticks out = ticks ≤ budget
+CutShort (runs P) answer ticks out = StopsWithin P ticks out
 
 -- there is neither a stack nor a refusal
 pub record IsBare (ended : Ended) : Type 0 where

@@ -5,7 +5,7 @@ ghost use Rattle.fac_lang.specs.Built.{IsBuilt};
 ghost use Rattle.fac_check.specs.Verdict.{verdict};
 ghost use Rattle.fac_emit.specs.Carries.{Carries};
 ghost use Rattle.fac_tool.specs.Answer.{budget, meaning, of_run, shown_text, word_name as name_of_word};
-ghost use Rattle.fac_tool.specs.Ends.{ending_of, EndsBy, runs, FilesStay};
+ghost use Rattle.fac_tool.specs.Ends.{ending_of, EndsBy, runs, FilesStay, StopsWithin};
 ghost use Rattle.fac_tool.specs.Seen.{sink_seen, FilesSeen};
 ghost use Rattle.fac_tool.specs.Stops.{StopsAs, value_text as text_of_value, machine_report};
 
@@ -101,7 +101,7 @@ fn run_machine<K: Sink>(
 ) -> Stop
     requires carries { Carries program.now machine.old.image }
     requires empty { machine.old.stack ≡ [] }
-    ensures within { result.ticks ≤ budget }
+    ensures within { StopsWithin program.now result.ticks (sink_seen (K.taken out.old) (K.taken out.new) (K.faults out.old) (K.faults out.new)) }
     ensures stops { StopsAs program.now machine.new.stack result.ticks (K.taken out.old) (K.taken out.new) result.what }
     ensures cause { HasCause (K.faults out.old) (K.faults out.new) (result.what ≡ StopKind.WriteFault) }
 {
