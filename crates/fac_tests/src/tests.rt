@@ -1,6 +1,8 @@
 //! Tests of the worked examples, and of each fault of the files and streams.
+use fac_check::{CheckFault, Rule, check};
 use fac_io::{Asked, MemFiles, MemSink};
 use fac_lang::{Bytes, List, Memory, Text};
+use fac_parse::{parse, resolve, tokens};
 use fac_tool::{Ended, factor_top};
 use std::alloc::Global;
 use std::process::Abort;
@@ -288,6 +290,31 @@ fn notes_that_fail(rt: HostRuntime) -> Result<(), Fail> {
         let call = call(alloc, &["run", "a"], files, sink(alloc, &[])?, notes)?;
         assert_call(&rt, text, &call, 10, ticks, "", note);
         assert!(rt; call.ended.refusal.is_none());
+    }
+    Ok(())
+}
+
+#[test]
+fn the_checker_alone(rt: HostRuntime) -> Result<(), Fail> {
+    let alloc = rt.alloc();
+    let cases = [
+        ("USING: kernel ; 1 dup", None),
+        (
+            "USING: kernel ; 1 over dup",
+            Some(Rule::Underflow { needs: 2, has: 1 }),
+        ),
+    ];
+    for (text, rule) in cases {
+        let tree = parse(alloc, &tokens(alloc, 1, text.as_bytes())?)?;
+        match check(resolve(alloc, &tree)?) {
+            Ok(_) => assert!(rt; rule.is_none(), "at {text}"),
+            Err(CheckFault::Refused(refusal)) => assert_eq!(rt;
+                Some(refusal.rule),
+                rule,
+                "at {text}"
+            ),
+            Err(CheckFault::Memory) => assert!(rt; false, "no memory at {text}"),
+        }
     }
     Ok(())
 }
