@@ -1,5 +1,5 @@
 -- The cause of each answer, out of the whole clause.
-use Rattle.std.proofs.Common.{◌≡◌, ◌≢◌, ℕ, List, [], None, Some, ◌⊎◌, inl, inr, refl, ap, sym, subst, ◌∙◌, arith}
+use Rattle.std.proofs.Common.{◌≡◌, ◌≢◌, ℕ, List, None, Some, ◌⊎◌, inl, inr, refl, ap, sym, subst, ◌∙◌, arith}
 use Rattle.std.specs.declared.option.Option.{Option}
 use Rattle.fac_io.specs.Faults.{Rose}
 use Rattle.fac_tool.specs.declared.command.Command.{Command}
@@ -8,7 +8,7 @@ use Rattle.fac_tool.specs.Seen.{SinkSeen, FilesSeen, files_seen}
 use Rattle.fac_tool.specs.Command.{name_of}
 use Rattle.fac_tool.specs.Answer.{answer_on, accepted}
 use Rattle.fac_tool.specs.Ends.{ending_of, EndsBy, work_of}
-use Rattle.fac_tool.specs.Answers.{Tells, ReachesBy, Loaded, AnswersBy, usage, file_names}
+use Rattle.fac_tool.specs.Answers.{Tells, ReachesBy, Loaded, AnswersBy, TellsUsage, file_names}
 
 -- a status that is neither a write fault nor want of memory is the one that was reached
 status-Tells : (n : ℕ) (names : List (List ℕ)) (reached : Ended) (notes : SinkSeen) (ended : Ended) → n ≢ 10 → n ≢ 12 → Tells names reached notes ended → ended.status ≡ n → reached.status ≡ n
@@ -22,6 +22,11 @@ ten_of names reached notes ended (inl whole) e = inl (ap (λ (x : Ended). x.stat
 ten_of names reached notes ended (inr (inl part)) e = inr part.rose
 ten_of names reached notes ended (inr (inr (inl none))) e = absurd (omega (arith, none.status, e))
 ten_of names reached notes ended (inr (inr (inr part))) e = inr part.rose
+
+-- usage and a write fault are the statuses of words that meet no form
+of_usage : (notes : SinkSeen) (ended : Ended) → TellsUsage notes ended → (ended.status ≡ 2) ⊎ ((ended.status ≡ 10) × Rose notes.faults_before notes.faults_now)
+of_usage notes ended (inl whole) = inl (ap (λ (x : Ended). x.status) whole.same)
+of_usage notes ended (inr part) = inr (part.status, part.rose)
 
 -- the ending of the work on a text at a given status
 loaded_ends : (status : ℕ) (name : List ℕ) (command : Command) (files : FilesSeen) (out : SinkSeen) (ended : Ended) (h : Loaded name command files out ended) → ended.status ≡ status → EndsBy (ending_of status) (answer_on command h.forms) (work_of command (accepted h.forms)) (files_seen h.mid_held files.held_now h.mid_asked files.asked_now h.mid_faults files.faults_now) out ended
@@ -47,12 +52,12 @@ no_usage name command files out ended (inr (inr (inl long))) e = omega (arith, l
 no_usage name command files out ended (inr (inr (inr h))) e = loaded_ends 2 name command files out ended h e
 
 pub file_cause : (c : Option Command) (words : List (List ℕ)) (files : FilesSeen) (out notes : SinkSeen) (ended : Ended) → AnswersBy c words files out notes ended → ended.status ≡ 8 → Rose files.faults_before files.faults_now
-file_cause None words files out notes ended h e = absurd (omega (arith, status-Tells 8 [] usage notes ended (omega arith) (omega arith) h.1 e))
+file_cause None words files out notes ended h e = elim (of_usage notes ended h.1) [ inl r ↦ absurd (omega (arith, r, e)) | inr r ↦ absurd (omega (arith, r.0, e)) ]
 file_cause (Some command) words files out notes ended h e =
     files_rise (name_of words command) command files out h.0 h.1.ending (status-Tells 8 (file_names words command) h.0 notes ended (omega arith) (omega arith) h.2 e)
 
 pub write_cause : (c : Option Command) (words : List (List ℕ)) (files : FilesSeen) (out notes : SinkSeen) (ended : Ended) → AnswersBy c words files out notes ended → ended.status ≡ 10 → Rose out.faults_before out.faults_now ⊎ Rose notes.faults_before notes.faults_now
-write_cause None words files out notes ended h e = elim (ten_of [] usage notes ended h.1 e) [ inl r ↦ absurd (omega (arith, r)) | inr r ↦ inr r ]
+write_cause None words files out notes ended h e = elim (of_usage notes ended h.1) [ inl r ↦ absurd (omega (arith, r, e)) | inr r ↦ inr r.1 ]
 write_cause (Some command) words files out notes ended h e =
     elim (ten_of (file_names words command) h.0 notes ended h.2 e) [ inl r ↦ inl (out_rises (name_of words command) command files out h.0 h.1.ending r) | inr r ↦ inr r ]
 

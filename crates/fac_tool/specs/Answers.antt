@@ -17,7 +17,7 @@ use Rattle.fac_tool.specs.declared.ended.Ended.{Ended}
 use Rattle.fac_tool.specs.declared.ended.Report.TheVariants as report
 use Rattle.fac_tool.specs.Command.{command_of, name_of}
 use Rattle.fac_tool.specs.Answer.{answer_on, limit, accepted}
-use Rattle.fac_tool.specs.Notes.{note_of, memory_note}
+use Rattle.fac_tool.specs.Notes.{note_of, memory_note, usage_note}
 use Rattle.fac_tool.specs.Seen.{SinkSeen, FilesSeen, files_seen}
 use Rattle.fac_tool.specs.Ends.{ending_of, EndsBy, IsBare, FilesStay, work_of}
 
@@ -125,6 +125,10 @@ Tells names reached notes ended = TellsNote (note_of names reached.status reache
 abbrev pub usage : Ended
 usage = record { status = 2; ticks = 0; stack = None; refusal = None }
 
+-- usage is told, which takes no memory
+abbrev pub TellsUsage : SinkSeen → Ended → Type 0
+TellsUsage notes ended = NoteWhole usage_note usage notes ended ⊎ NotePart usage_note usage notes ended
+
 -- nothing was done with the files and the output
 pub record IsIdle (files : FilesSeen) (out : SinkSeen) : Type 0 where
   pub files_count : files.faults_now ≡ files.faults_before
@@ -142,7 +146,7 @@ abbrev pub Works : Command → List (List ℕ) → FilesSeen → SinkSeen → Si
 Works command words files out notes ended = (reached : Ended) × Reaches words command files out reached × Tells (file_names words command) reached notes ended
 
 abbrev pub AnswersBy : Option Command → List (List ℕ) → FilesSeen → SinkSeen → SinkSeen → Ended → Type 0
-AnswersBy None words files out notes ended = IsIdle files out × Tells [] usage notes ended
+AnswersBy None words files out notes ended = IsIdle files out × TellsUsage notes ended
 AnswersBy (Some command) words files out notes ended = Works command words files out notes ended
 
 -- what the tool does on a command line

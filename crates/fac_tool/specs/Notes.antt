@@ -93,10 +93,13 @@ line_of names (report.TooLong name most) = too_long_line name most
 abbrev pub memory_note : List ℕ
 memory_note = codes "out of memory\n"
 
--- the note of a status that comes without a report
+abbrev pub usage_note : List ℕ
+usage_note = codes "usage: factorc check, run, build, exec, list, listen or gen\n"
+
+-- the note of a status that comes without a report; usage has a note of its own
 abbrev pub note_of_status : ℕ → ℕ → List ℕ
 note_of_status status ticks =
-    (if status == 2 then codes "usage: factorc check, run, build, exec, list, listen or gen\n" else if status == 10 then codes "write fault after " ++ decimal ticks ++ codes " ticks\n" else if status == 12 then memory_note else [])
+    (if status == 10 then codes "write fault after " ++ decimal ticks ++ codes " ticks\n" else if status == 12 then memory_note else [])
 
 abbrev pub note_of : List (List ℕ) → ℕ → ℕ → Option Report → List ℕ
 note_of names status ticks None = note_of_status status ticks

@@ -5,7 +5,7 @@ ghost use Rattle.fac_io.specs.Told.{Grows, GrowsByPrefix};
 ghost use Rattle.fac_tool.specs.Answer.{name_text};
 ghost use Rattle.fac_tool.specs.Notes.{line_of, file_name as name_of_file, place_text, why_text, kind_text, underflow_text, rule_text, error_text, value_text, syntax_line as syntax_line_of, name_line as name_line_of, check_line as check_line_of, error_line as error_line_of, too_long_line as too_long_line_of, note_of, note_of_status};
 ghost use Rattle.fac_tool.specs.Seen.{sink_seen};
-ghost use Rattle.fac_tool.specs.Answers.{Tells};
+ghost use Rattle.fac_tool.specs.Answers.{Tells, TellsUsage};
 
 use crate::{Ended, Report};
 use fac_check::{Refusal, Rule};
@@ -228,9 +228,7 @@ fn report_line(alloc: Global, name: &str, report: &Report) -> Result<Text, Memor
 fn status_note(alloc: Global, status: u8, ticks: u64) -> Result<Text, Memory>
     ensures { IfOk result (λ note. note ≡ note_of_status status ticks) }
 {
-    let note = if status == 2 {
-        format!(in alloc; "usage: factorc check, run, build, exec, list, listen or gen\n")?
-    } else if status == 10 {
+    let note = if status == 10 {
         format!(in alloc; "write fault after {ticks} ticks\n")?
     } else if status == 12 {
         format!(in alloc; "out of memory\n")?
@@ -300,5 +298,18 @@ pub fn tell<N: Sink>(alloc: Global, name: &str, reached: Ended, notes: &mut N) -
             Ok(()) => bare(12, ticks),
             Err(_) => bare(10, ticks),
         },
+    }
+}
+
+/// Tells that the words of the command line meet no form. It takes no memory.
+pub fn tell_usage<N: Sink>(notes: &mut N) -> Ended
+    ensures { TellsUsage (sink_seen (N.taken notes.old) (N.taken notes.new) (N.faults notes.old) (N.faults notes.new)) result }
+{
+    match write_note(
+        notes,
+        b"usage: factorc check, run, build, exec, list, listen or gen\n".as_slice(),
+    ) {
+        Ok(()) => bare(2, 0),
+        Err(_) => bare(10, 0),
     }
 }

@@ -5,7 +5,7 @@ ghost use Rattle.fac_tool.specs.Command.{command_of, file_of};
 ghost use Rattle.fac_tool.specs.Seen.{sink_seen, files_seen};
 ghost use Rattle.fac_tool.specs.Answers.{Answers, Reaches, Tells, file_names};
 
-use crate::note::{bare, tell};
+use crate::note::{tell, tell_usage};
 use crate::work::work;
 use crate::{Command, Ended, read_words};
 use fac_io::{Files, Sink};
@@ -57,7 +57,7 @@ fn answer<F: Files, K: Sink, N: Sink>(
         result }
 {
     match read_words(words) {
-        None => tell(alloc, "", bare(2, 0), notes),
+        None => tell_usage(notes),
         Some(command) => {
             let reached = work_on_words(alloc, command, words, files, out);
             tell_of_words(alloc, command, words, reached, notes)
