@@ -1,7 +1,7 @@
 -- What the checker answers.
 use Rattle.std.specs.Prelude.{◌≡◌, Some, None, Result, Ok, Err}
 use Rattle.fac_lang.specs.declared.program.Program.{Program}
-use Rattle.fac_check.specs.declared.checker.Checked.{Checked}
+use Rattle.fac_check.specs.declared.accepted.Checked.{Checked}
 use Rattle.fac_check.specs.declared.checker.CheckFault.{CheckFault}
 use Rattle.fac_check.specs.declared.checker.CheckFault.TheVariants.{Refused, Memory}
 use Rattle.fac_check.specs.Verdict.{verdict}

@@ -6,6 +6,7 @@ ghost use Rattle.fac_lang.specs.Built.{IsBuilt};
 ghost use Rattle.fac_check.specs.Checks.{Checks};
 ghost use Rattle.fac_check.specs.Sound.{IsSound};
 
+use crate::Checked;
 use fac_lang::{List, Memory, Phrase, Place, Program, What, WordDef};
 use std::alloc::Global;
 use thiserror::Error;
@@ -52,13 +53,6 @@ impl From<Memory> for CheckFault {
     fn from(_: Memory) -> Self {
         CheckFault::Memory
     }
-}
-
-/// An accepted program.
-#[derive(Drop)]
-pub struct Checked {
-    /// The program, unchanged.
-    pub program: Program,
 }
 
 // How many values a word takes and leaves.

@@ -1,6 +1,8 @@
 //! The stack checker: it refuses every program in which an item could take more values than are there.
 #![tactic(auto)]
 
+mod accepted;
 mod checker;
 
-pub use checker::{CheckFault, Checked, Refusal, Rule, accept, check, first_refusal};
+pub use accepted::Checked;
+pub use checker::{CheckFault, Refusal, Rule, accept, check, first_refusal};

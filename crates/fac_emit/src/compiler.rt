@@ -2,7 +2,6 @@
 ghost use Rattle.std.specs.Prelude.{◌≡◌, None, IfOk};
 ghost use Rattle.fac_lang.specs.View.{what_item};
 ghost use Rattle.fac_lang.specs.Built.{IsBuilt};
-ghost use Rattle.fac_check.specs.Verdict.{verdict};
 ghost use Rattle.fac_emit.specs.Carries.{Carries};
 ghost use Rattle.fac_emit.specs.Code.{item_instr, sort_instr, sort_action, word_rows, text_code};
 
@@ -72,8 +71,7 @@ fn code(alloc: Global, words: &List<WordDef>, phrase: &Phrase) -> Result<List<In
 /// The image of an accepted program, which carries it: an instruction for each item of the top-level phrase and a `halt`, from
 /// place 0 on, and a row for each word. Want of memory is the one error.
 pub fn compile(alloc: Global, checked: &Checked) -> Result<Image, Memory>
-    requires built { IsBuilt checked.now.program }
-    requires accepted { verdict checked.now.program ≡ None }
+    requires { IsBuilt checked.now.program }
     ensures { IfOk result (Carries checked.now.program) }
 {
     let words = rows(alloc, &checked.program.words)?;

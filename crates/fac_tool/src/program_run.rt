@@ -2,7 +2,6 @@
 ghost use Rattle.std.specs.Prelude.{◌≡◌, ◌≤◌, [], ℕ, List, Option, None, Some, IfOk, map};
 ghost use Rattle.fac_io.specs.Faults.{HasCause};
 ghost use Rattle.fac_lang.specs.Built.{IsBuilt};
-ghost use Rattle.fac_check.specs.Verdict.{verdict};
 ghost use Rattle.fac_emit.specs.Carries.{Carries};
 ghost use Rattle.fac_tool.specs.Answer.{budget, meaning, of_run, shown_text, word_name as name_of_word};
 ghost use Rattle.fac_tool.specs.Ends.{ending_of, EndsBy, runs, FilesStay, StopsWithin};
@@ -145,8 +144,7 @@ fn run_and_answer<K: Sink>(
 
 /// Compiles an accepted program and runs it.
 pub fn run_program<K: Sink>(alloc: Global, checked: &Checked, out: &mut K) -> Ended
-    requires built { IsBuilt checked.now.program }
-    requires accepted { verdict checked.now.program ≡ None }
+    requires { IsBuilt checked.now.program }
     ensures ends { (files : FilesSeen) → FilesStay files → EndsBy (ending_of result.status) (of_run checked.now.program (meaning checked.now.program budget)) (runs checked.now.program) files (sink_seen (K.taken out.old) (K.taken out.new) (K.faults out.old) (K.faults out.new)) result }
     ensures counts { K.faults out.old ≤ K.faults out.new }
 {

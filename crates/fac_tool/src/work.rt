@@ -67,8 +67,7 @@ fn on_accepted_program<K: Sink>(
     checked: &Checked,
     out: &mut K,
 ) -> Ended
-    requires built { IsBuilt checked.now.program }
-    requires accepted { verdict checked.now.program ≡ None }
+    requires { IsBuilt checked.now.program }
     ensures ends { (files : FilesSeen) → FilesStay files → EndsBy (ending_of result.status) (on_accepted command checked.now.program) (work_of command (Some checked.now.program)) files (sink_seen (K.taken out.old) (K.taken out.new) (K.faults out.old) (K.faults out.new)) result }
     ensures counts { K.faults out.old ≤ K.faults out.new }
 {
