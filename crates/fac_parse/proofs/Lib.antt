@@ -5,5 +5,6 @@ pub mod MapLemmas
 pub mod ParseLemmas
 pub mod NameLemmas
 pub mod ResolutionLemmas
+pub mod WholePrograms
 pub mod EffectLemmas
 pub mod LiteralLemmas

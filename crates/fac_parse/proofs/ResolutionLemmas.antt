@@ -76,7 +76,7 @@ after_uses_built : (r : Result (List (List ℕ)) NameFault) (rest : List (List �
 after_uses_built (Ok used) rest t later e = later used e
 after_uses_built (Err f) rest t later e = cc
 
-text_built : (forms : List Form) (used : List (List ℕ)) (t : Text) → text_of used forms ≡ Ok t → IsBuiltText 8 t
+pub text_built : (forms : List Form) (used : List (List ℕ)) (t : Text) → text_of used forms ≡ Ok t → IsBuiltText 8 t
 text_built [] used t e = let same : end ≡ t = cc in subst (IsBuiltText 8) same tt
 text_built (form.Using o vs c ∷ fs) used t e = after_uses_built (uses used vs) (λ more. text_of more fs) t (λ more h. text_built fs more t h) e
 text_built (form.Item (term.Integer tok z) ∷ fs) used t e = with_int_built z tok.place (text_of used fs) t (λ u h. text_built fs used u h) e

@@ -1,6 +1,7 @@
 //! Names to words.
 ghost use Rattle.std.specs.Prelude.{◌≡◌, ◌++◌, ◌∷◌, [], IfOk, OnOk};
 ghost use Rattle.fac_lang.specs.Built.{IsBuilt};
+ghost use Rattle.fac_lang.specs.Whole.{IsWhole};
 ghost use Rattle.fac_parse.specs.Resolution.{token_text, name_fault, Resolves};
 ghost use Rattle.fac_parse.specs.Resolver.{Uses, TakesItem, TakesForm, ReadsForms};
 
@@ -152,6 +153,7 @@ fn phrase_of(alloc: Global, forms: &[Form]) -> Result<Phrase, ResolveFault>
 pub fn resolve(alloc: Global, tree: &Tree) -> Result<Program, ResolveFault>
     ensures program { Resolves tree.now.forms result }
     ensures built { IfOk result (λ program. IsBuilt program) }
+    ensures whole { IfOk result (λ program. IsWhole program) }
 {
     let body = phrase_of(alloc, tree.forms.as_slice())?;
     let words = words_of(alloc, body)?;
