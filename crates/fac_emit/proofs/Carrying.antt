@@ -1,5 +1,5 @@
 -- The image of plain code carries its program.
-use Rattle.std.proofs.Common.{◌≡◌, ℕ, List, [], length, drop, Option, Bool, true, false, ◌&&◌, refl, ap, sym, subst, arith}
+use Rattle.std.proofs.Common.{◌≡◌, ℕ, List, [], drop, Option, Bool, true, false, ◌&&◌, refl, ap, sym, subst, arith}
 use borrow.Author.Tests.{ltb-true}
 use Rattle.fac_lang.specs.declared.phrase.Height.{Height}
 use Rattle.fac_lang.specs.declared.program.Program.{Program}
@@ -8,7 +8,7 @@ use Rattle.fac_lang.specs.Texts.{int, Text, end, then, Item, lit, word, Value, C
 use Rattle.fac_lang.specs.World.{State}
 use Rattle.fac_lang.specs.Built.{IsBuilt, IsBuiltItem, IsBuiltText}
 use Rattle.fac_lang.specs.Eval.{Result, Done, Failed, Spent, Stuck, eval}
-use Rattle.fac_lang.specs.Meaning.{names, act, run, start, word_text, array_objects, numbers_to}
+use Rattle.fac_lang.specs.Meaning.{names, act, run, start, word_text, with_arrays}
 use Rattle.fac_lang.specs.RunningLaws.{IsNotStuck}
 use Rattle.fac_check.specs.Sound.{IsSound}
 use Rattle.fac_lang.proofs.BuiltLemmas.{primitive_at, top_built}
@@ -44,7 +44,7 @@ carried P fits callable_height M n (Spent st i) runs h = h
 carried P fits callable_height M n Stuck runs h = absurd runs
 
 no_literals : (P : Program) (input : List ℕ) → IsBuilt P → start P input ≡ record { stack = []; world = record { objects = []; literals = []; input = input; output = [] } }
-no_literals P input b = ap (λ (arrays : List (List Lit)). record { stack = []; world = record { objects = array_objects P 0 arrays; literals = numbers_to P 0 (length arrays); input = input; output = [] } }) b.no_arrays
+no_literals P input b = ap (λ (arrays : List (List Lit)). record { stack = []; world = with_arrays P 0 arrays (record { objects = []; literals = []; input = input; output = [] }) }) b.no_arrays
 
 pub carries : (P : Program) (M : Image) → IsBuilt P → IsSound P → M.words ≡ word_rows P.words → M.code ≡ text_code P.words (word_text P P.top) → M.start ≡ 0 → Carries P M
 carries P M b sound rows code begins = record {

@@ -167,7 +167,7 @@ fn programs_that_fail(rt: HostRuntime) -> Result<(), Fail> {
     let alloc = rt.alloc();
     let cases = [
         (
-            "USING: math prettyprint ; 170141183460469231731687303715884105727 1 + .",
+            "USING: kernel math sequences arrays io prettyprint combinators accessors math.parser ; 170141183460469231731687303715884105727 1 + .",
             "",
             3,
             "error: overflow in math:+\n",

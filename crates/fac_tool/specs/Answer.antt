@@ -1,5 +1,5 @@
 -- What a command answers, as a function of the forms of its file.
-use Rattle.std.specs.Prelude.{ℕ, ◌-◌, List, [], ◌∷◌, ◌++◌, length, map, reverse, None, Some, codes, nat_le, false, Result, Ok, Err, slice_get, if◌then◌else◌}
+use Rattle.std.specs.Prelude.{◌==◌, ℕ, ◌-◌, List, [], ◌∷◌, ◌++◌, length, map, reverse, None, Some, codes, nat_le, false, Result, Ok, Err, slice_get, if◌then◌else◌}
 use Rattle.std.specs.declared.option.Option.{Option}
 use Rattle.std.specs.Option.{option_map}
 use Rattle.fac_lang.specs.declared.program.Name.{Name}
@@ -52,13 +52,17 @@ shown_text text = (if nat_le (length text) 1000 then text else codes "...")
 abbrev pub shown : Program → World Value → Value → List ℕ
 shown P w v = shown_text (printed texts (names P) w v)
 
--- the name of a word, or `unnamed` where there is no such word
-abbrev pub name_or : Option WordDef → Name
-name_or (Some d) = d.name
-name_or None = record { vocab = []; name = codes "unnamed" }
+-- the name of a number that no word has: the tests of `call( )` and `execute( )` have the two greatest numbers
+abbrev pub name_without_word : ℕ → List ℕ
+name_without_word w = (if w == 4294967294 then codes "call(" else if w == 4294967295 then codes "execute(" else codes "unnamed")
+
+-- the name of a word by its number
+abbrev pub name_or : ℕ → Option WordDef → Name
+name_or w (Some d) = d.name
+name_or w None = record { vocab = []; name = name_without_word w }
 
 abbrev pub word_name : Program → ℕ → Name
-word_name P w = name_or (slice_get P.words w)
+word_name P w = name_or w (slice_get P.words w)
 
 -- how a name is told: vocabulary, colon and name, and without a colon where the vocabulary is empty
 abbrev pub text_by : List ℕ → List ℕ → List ℕ

@@ -3,7 +3,7 @@ ghost use Rattle.std.specs.Prelude.{◌≡◌, ◌≤◌, [], ℕ, List, Option,
 ghost use Rattle.fac_io.specs.Faults.{HasCause};
 ghost use Rattle.fac_lang.specs.Built.{IsBuilt};
 ghost use Rattle.fac_emit.specs.Carries.{Carries};
-ghost use Rattle.fac_tool.specs.Answer.{budget, meaning, of_run, shown_text, word_name as name_of_word};
+ghost use Rattle.fac_tool.specs.Answer.{budget, meaning, of_run, shown_text, name_without_word as name_without_word_of, word_name as name_of_word};
 ghost use Rattle.fac_tool.specs.Ends.{ending_of, EndsBy, runs, FilesStay, StopsWithin};
 ghost use Rattle.fac_tool.specs.Seen.{sink_seen, FilesSeen};
 ghost use Rattle.fac_tool.specs.Stops.{StopsAs, value_text as text_of_value, machine_report};
@@ -55,7 +55,20 @@ fn texts(alloc: Global, values: &[Value]) -> Result<List<Text>, Memory>
     Ok(texts)
 }
 
-/// The name of a word by its number; it is `unnamed` where there is no such word.
+// The name of a number that no word has.
+fn name_without_word(word: u32) -> &'static str
+    ensures { result.now ≡ name_without_word_of word }
+{
+    if word == 4_294_967_294 {
+        "call("
+    } else if word == 4_294_967_295 {
+        "execute("
+    } else {
+        "unnamed"
+    }
+}
+
+/// The name of a word by its number; a number that no word has has a name of its own, with an empty vocabulary.
 pub fn word_name(alloc: Global, program: &Program, word: u32) -> Result<Name, Memory>
     ensures { IfOk result (λ name. name ≡ name_of_word program.now word) }
 {
@@ -63,7 +76,7 @@ pub fn word_name(alloc: Global, program: &Program, word: u32) -> Result<Name, Me
         Some(word) => Ok(word.name.copy(alloc)?),
         None => Ok(Name {
             vocab: Text::new(alloc),
-            name: Text::from_str(alloc, "unnamed")?,
+            name: Text::from_str(alloc, name_without_word(word))?,
         }),
     }
 }
