@@ -1,12 +1,12 @@
 #!/usr/bin/env python3
-"""Measures factorc on sources of 1 MiB and 4 MiB, and checks that its time stays near linear.
+"""Measures factorc on large sources and long runs, and checks that its time stays near linear.
 
     python3 bench/speed.py [PROGRAM]
 
-PROGRAM is the built program, by default crates/factorc/out/factorc. The script makes two sorts of sources, numbers with
-`drop`s and one long chain of `+`, runs `PROGRAM run FILE` on each several times, and prints the shortest time, the longest
-time and the greatest peak of memory. It ends with status 1 where a run answers wrongly or a limit is passed: the time for
-4 MiB may be at most five times that for 1 MiB, and it must be below two seconds.
+PROGRAM is the built program, by default crates/factorc/out/factorc. The script makes its sources, runs `PROGRAM run FILE` on
+each several times, and prints the shortest time, the longest time and the greatest peak of memory. It ends with status 1 where
+a run answers wrongly or a limit is passed: where a sort of source stands in two sizes, the larger is four times the smaller and
+may take at most five times as long; and each sort has a most of seconds for its larger size.
 
 The peak is what the system counts for the process. It is never less than this script's own size, some fourteen megabytes.
 """
@@ -20,7 +20,6 @@ RUNS = 5
 SMALL = 1 << 20
 LARGE = 1 << 22
 MOST_RATIO = 5.0
-MOST_SECONDS = 2.0
 
 DEFAULT = os.path.join(os.path.dirname(os.path.abspath(__file__)), "..", "crates", "factorc", "out", "factorc")
 
@@ -42,16 +41,59 @@ def numbers_and_drops(path, size):
     """Numbers of several widths, each dropped. Nothing is printed."""
     unit = b"7 drop -12345 drop 3 40 drop drop 170141183460469231731687303715884105727 drop\n"
     write_source(path, b"USING: kernel ;\n", unit, b"", size)
-    return b""
+    return 0, b"", b""
 
 
 def chain_of_sums(path, size):
     """One long sum of ones, which is printed."""
     count = write_source(path, b"USING: math prettyprint ;\n0", b" 1 +", b" .\n", size)
-    return b"%d\n" % count
+    return 0, b"%d\n" % count, b""
 
 
-SORTS = [("numbers and drops", numbers_and_drops), ("chain of +", chain_of_sums)]
+def small_words(path, count):
+    """So many words of some hundred bytes each, each of which names the one before; the last is run."""
+    body = b"dup dup * over + swap drop 3 * 7 + dup over - drop 2 - dup drop 1 + drop"
+    with open(path, "wb") as file:
+        file.write(b"USING: kernel math prettyprint ;\n: word-0 ( x -- y ) 1 + ;\n")
+        for number in range(1, count):
+            file.write(b": word-%d ( x -- y ) word-%d %s 5 ;\n" % (number, number - 1, body))
+        file.write(b"4 word-%d .\n" % (count - 1))
+    return 0, b"5\n", b""
+
+
+def chain_of_calls(path, count):
+    """So many words, each of which calls the one before it, so that the calls are as deep."""
+    with open(path, "wb") as file:
+        file.write(b"USING: math prettyprint ;\n: w0 ( x -- y ) 1 + ;\n")
+        for number in range(1, count):
+            file.write(b": w%d ( x -- y ) w%d ;\n" % (number, number - 1))
+        file.write(b"41 w%d .\n" % (count - 1))
+    return 0, b"42\n", b""
+
+
+def recursion(path, _):
+    """A word that calls itself until the budget is spent, which is a hundred million calls deep."""
+    with open(path, "wb") as file:
+        file.write(b": f ( -- ) f ; f\n")
+    return 6, b"", b"spent: 100000000 ticks\n"
+
+
+def mebibytes(size):
+    return f"{size >> 20} MiB"
+
+
+def words(count):
+    return f"{count:,}"
+
+
+# name, what makes the source, its sizes, how a size is told, and the most seconds for the last size
+SORTS = [
+    ("numbers and drops", numbers_and_drops, (SMALL, LARGE), mebibytes, 2.0),
+    ("chain of +", chain_of_sums, (SMALL, LARGE), mebibytes, 2.0),
+    ("small words", small_words, (2_500, 10_000), words, 1.0),
+    ("chain of calls", chain_of_calls, (25_000, 100_000), words, 2.0),
+    ("recursion", recursion, (100_000_000,), words, 20.0),
+]
 
 
 def run_once(program, source, folder):
@@ -73,17 +115,18 @@ def run_once(program, source, folder):
 
 
 def measure(program, make, size, folder):
-    """The times and the greatest peak of several runs on a source of this size. A wrong answer ends the script."""
+    """The length of the source of this size, and the times and the greatest peak of several runs on it. A wrong answer ends the
+    script."""
     source = os.path.join(folder, "source.factor")
     wanted = make(source, size)
     times, peak = [], 0
     for _ in range(RUNS):
         seconds, memory, status, printed, noted = run_once(program, source, folder)
-        if (status, printed, noted) != (0, wanted, b""):
+        if (status, printed, noted) != wanted:
             sys.exit(f"wrong answer: status {status}, output {printed[:80]!r}, note {noted[:80]!r}")
         times.append(seconds)
         peak = max(peak, memory)
-    return times, peak
+    return os.path.getsize(source), times, peak
 
 
 def main():
@@ -92,22 +135,22 @@ def main():
     program = os.path.abspath(sys.argv[1] if len(sys.argv) == 2 else DEFAULT)
     if not os.access(program, os.X_OK):
         sys.exit(f"there is no program {program}: build it first, as README.md says")
-    print(f"{'source':<20}{'size':>8}{'shortest':>12}{'longest':>12}{'peak memory':>14}")
+    print(f"{'source':<20}{'size':>14}{'bytes':>10}{'shortest':>12}{'longest':>12}{'peak memory':>14}")
     failed = []
     with tempfile.TemporaryDirectory() as folder:
-        for name, make in SORTS:
-            shortest = {}
-            for size in (SMALL, LARGE):
-                times, peak = measure(program, make, size, folder)
-                shortest[size] = min(times)
-                mib = f"{size >> 20} MiB"
-                print(f"{name:<20}{mib:>8}{min(times):>10.3f} s{max(times):>10.3f} s{peak / 1024:>10.1f} MiB")
-            ratio = shortest[LARGE] / shortest[SMALL]
-            print(f"{name:<20}4 MiB takes {ratio:.2f} times as long as 1 MiB")
-            if ratio > MOST_RATIO:
-                failed.append(f"{name}: {ratio:.2f} times as long, more than {MOST_RATIO:g}")
-            if shortest[LARGE] >= MOST_SECONDS:
-                failed.append(f"{name}: {shortest[LARGE]:.3f} s for 4 MiB, not below {MOST_SECONDS:g} s")
+        for name, make, sizes, told, most_seconds in SORTS:
+            shortest = []
+            for size in sizes:
+                length, times, peak = measure(program, make, size, folder)
+                shortest.append(min(times))
+                print(f"{name:<20}{told(size):>14}{length:>10}{min(times):>10.3f} s{max(times):>10.3f} s{peak / 1024:>10.1f} MiB")
+            if len(sizes) == 2:
+                ratio = shortest[1] / shortest[0]
+                print(f"{name:<20}the larger takes {ratio:.2f} times as long")
+                if ratio > MOST_RATIO:
+                    failed.append(f"{name}: {ratio:.2f} times as long, more than {MOST_RATIO:g}")
+            if shortest[-1] >= most_seconds:
+                failed.append(f"{name}: {shortest[-1]:.3f} s, not below {most_seconds:g} s")
     for line in failed:
         print(f"FAILED {line}")
     print("failed" if failed else "passed")

@@ -1,2 +1,3 @@
 pub mod PrimitiveHeights
 pub mod Soundness
+pub mod ExamplesOfVerdicts

@@ -1,3 +1,4 @@
 pub mod Verdict
+pub mod Walks
 pub mod Sound
 pub mod Checks

@@ -1,4 +1,5 @@
-//! The stack checker: it refuses every program in which an item could take more values than are there.
+//! The stack checker: it refuses every program in which an item could take more values than are there, or a word could leave another
+//! number of values than its effect declares.
 #![tactic(auto)]
 
 mod accepted;

@@ -1,4 +1,5 @@
 pub mod SamePrimitives
 pub mod FirstWords
-pub mod Follows
+pub mod Simulation
+pub mod Placed
 pub mod Carrying

@@ -23,4 +23,4 @@ pub record Carries (P : Program) (M : Image) : Type 0 where
       (fits : Height → Height → Bool) (callable_height : Callable → Option Height) (n : ℕ) →
       (e : End) × Ends M (names P) (starting M []) n e × SameEnd (run P fits callable_height n (word_text P P.top) (start P [])) e
   -- each word of the program has its row, under the same number
-  pub rows : M.words ≡ word_rows P.words
+  pub rows : M.words ≡ word_rows P

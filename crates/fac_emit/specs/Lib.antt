@@ -1,3 +1,4 @@
 pub mod View
 pub mod Carries
 pub mod Code
+pub mod Stands

@@ -1,21 +1,22 @@
 //! The compiler.
-ghost use Rattle.std.specs.Prelude.{◌≡◌, None, IfOk};
+ghost use Rattle.std.specs.Prelude.{◌≡◌, ◌++◌, ℕ, Some, IfOk, OnOk, slice_get};
 ghost use Rattle.fac_lang.specs.View.{what_item};
 ghost use Rattle.fac_lang.specs.Built.{IsBuilt};
 ghost use Rattle.fac_emit.specs.Carries.{Carries};
-ghost use Rattle.fac_emit.specs.Code.{item_instr, sort_instr, sort_action, word_rows, text_code};
+ghost use Rattle.fac_emit.specs.Code.{item_instr, sort_instr, sort_action, sort_code, last_instr, text_code, program_code, word_rows};
 
 use fac_check::Checked;
-use fac_lang::{List, Memory, Phrase, Sort, What, WordDef};
+use fac_lang::{List, Memory, Phrase, Program, Sort, What, WordDef};
 use fac_vm::{Action, Image, Instr, WordRow};
 use std::alloc::Global;
 
-// The instruction of a word by its sort.
-fn instr_of_sort(sort: &Sort) -> Instr
-    ensures { result ≡ sort_instr sort.now }
+// The instruction of the word with this number, by its sort.
+fn instr_of_sort(word: u32, sort: &Sort) -> Instr
+    ensures { result ≡ sort_instr word sort.now }
 {
     match sort {
         Sort::Prim(number) => Instr::Prim(*number),
+        Sort::Body(_) => Instr::Callw { word, tail: false },
         _ => Instr::Halt,
     }
 }
@@ -27,58 +28,99 @@ fn instr_of(words: &List<WordDef>, what: &What) -> Instr
     match what {
         What::Int(value) => Instr::Int(*value),
         What::Word(number) => match words.get(*number as usize) {
-            Some(word) => instr_of_sort(&word.sort),
+            Some(word) => instr_of_sort(*number, &word.sort),
             None => Instr::Halt,
         },
         _ => Instr::Halt,
     }
 }
 
-// What a word does.
-fn action_of(word: &WordDef) -> Action
-    ensures { result ≡ sort_action word.now.sort }
+// What a word does whose code, where it has code, stands at a place.
+fn action_of(place: u32, sort: &Sort) -> Action
+    ensures { result ≡ sort_action place sort.now }
 {
-    match &word.sort {
+    match sort {
         Sort::Prim(number) => Action::Prim(*number),
-        _ => Action::Code(0),
+        _ => Action::Code(place),
     }
 }
 
-// The table of the words.
-fn rows(alloc: Global, words: &List<WordDef>) -> Result<List<WordRow>, Memory>
-    ensures { IfOk result (λ rows. rows ≡ word_rows words.now) }
+// The instruction behind the last item of a word's text.
+fn last(is_top: bool) -> Instr
+    ensures { result ≡ last_instr is_top }
 {
-    let mut rows = List::new(alloc);
-    for word in words.as_slice() {
-        let action = action_of(word);
-        rows.push(WordRow { action })?;
-    }
-    Ok(rows)
+    if is_top { Instr::Halt } else { Instr::Ret }
 }
 
-// The code of a phrase.
-fn code(alloc: Global, words: &List<WordDef>, phrase: &Phrase) -> Result<List<Instr>, Memory>
-    ensures { IfOk result (λ code. code ≡ text_code words.now phrase.now) }
+// Adds the code of a text.
+fn add_text(
+    code: &mut List<Instr>,
+    words: &List<WordDef>,
+    phrase: &Phrase,
+    last: Instr,
+) -> Result<(), Memory>
+    ensures { OnOk result (code.new ≡ code.old ++ text_code words.now last phrase.now) }
 {
-    let mut code = List::new(alloc);
     for item in &phrase.items {
         code.push(instr_of(words, &item.what))?;
     }
-    code.push(Instr::Halt)?;
-    Ok(code)
+    code.push(last)
 }
 
-/// The image of an accepted program, which carries it: an instruction for each item of the top-level phrase and a `halt`, from
-/// place 0 on, and a row for each word. Want of memory is the one error.
+// Adds the code of a word, where it is defined by a text.
+fn add_word(
+    code: &mut List<Instr>,
+    words: &List<WordDef>,
+    is_top: bool,
+    sort: &Sort,
+) -> Result<(), Memory>
+    ensures { OnOk result (code.new ≡ code.old ++ sort_code words.now is_top sort.now) }
+{
+    match sort {
+        Sort::Body(phrase) => add_text(code, words, phrase, last(is_top)),
+        _ => Ok(()),
+    }
+}
+
+// The code of a program and the table of its words.
+fn link(alloc: Global, program: &Program) -> Result<(List<Instr>, List<WordRow>), Memory>
+    ensures { IfOk result (λ parts. (parts.0 ≡ program_code program.now) × (parts.1 ≡ word_rows program.now)) }
+{
+    let mut code = List::new(alloc);
+    let mut rows = List::new(alloc);
+    let _count = program.words.len();
+    let mut number = 0u32;
+    for word in program.words.as_slice() {
+        let action = action_of(code.len(), &word.sort);
+        rows.push(WordRow { action })?;
+        add_word(&mut code, &program.words, number == program.top, &word.sort)?;
+        number += 1;
+    }
+    Ok((code, rows))
+}
+
+// The place of a word's code.
+fn place(rows: &List<WordRow>, word: u32) -> u32
+    requires { (a : ℕ) × (slice_get rows.now word ≡ Some (record { action = Action.Code a })) }
+    ensures { slice_get rows.now word ≡ Some (record { action = Action.Code result }) }
+{
+    match rows.get(word as usize) {
+        Some(row) => match row.action {
+            Action::Code(place) => place,
+            Action::Prim(_) => unreachable!(),
+        },
+        None => unreachable!(),
+    }
+}
+
+/// The image of an accepted program, which carries it. Each word that is defined by a text has its code: an instruction for each
+/// item, and behind them a `ret`, or a `halt` for the top-level phrase, where the image starts. The code of the words stands in their
+/// order. Want of memory is the one error.
 pub fn compile(alloc: Global, checked: &Checked) -> Result<Image, Memory>
     requires { IsBuilt checked.now.program }
     ensures { IfOk result (Carries checked.now.program) }
 {
-    let words = rows(alloc, &checked.program.words)?;
-    let code = code(alloc, &checked.program.words, checked.program.top_phrase())?;
-    Ok(Image {
-        words,
-        code,
-        start: 0,
-    })
+    let (code, words) = link(alloc, &checked.program)?;
+    let start = place(&words, checked.program.top);
+    Ok(Image { words, code, start })
 }

@@ -4,8 +4,9 @@ use Rattle.std.specs.Prelude.{nat_eq, slice_get}
 use Rattle.fac_lang.specs.declared.program.Program.{Program}
 use Rattle.fac_lang.specs.declared.program.WordDef.{WordDef}
 use Rattle.fac_lang.specs.declared.program.Sort.{Sort}
-use Rattle.fac_lang.specs.declared.program.Sort.TheVariants.{Body as body, Prim as prim}
-use Rattle.fac_lang.specs.Built.{IsBuilt, IsBuiltText, IsBuiltSort, AreBuiltWords, IsPrimitiveWord, is_built_primitive, is_member}
+use Rattle.fac_lang.specs.declared.program.Sort.TheVariants.{Body as body}
+use Rattle.fac_lang.specs.Texts.{Text}
+use Rattle.fac_lang.specs.Built.{IsBuilt, IsBuiltText, IsBuiltSort, AreBuiltWords, is_built_primitive, is_member, primitive_numbers, numbers_before, has_no_repeats}
 use Rattle.fac_lang.specs.Meaning.{sort_of, sort_text, word_text}
 
 last_of : (ds : List WordDef) (d : WordDef) → slice_get (ds ++ d ∷ []) (length ds) ≡ Some d
@@ -13,24 +14,24 @@ last_of [] d = refl
 last_of (e ∷ ds) d = last_of ds d
 
 pub top_word : (P : Program) (b : IsBuilt P) → slice_get P.words P.top ≡ Some b.phrase
-top_word P b = rw (b.words_are, b.top_is) (last_of b.primitives b.phrase)
+top_word P b = rw (b.words_are, b.top_is) (last_of b.words b.phrase)
 
 pub sort_at : (P : Program) (w : ℕ) (d : WordDef) → slice_get P.words w ≡ Some d → sort_of P w ≡ Some d.sort
 sort_at P w d e = ap (λ (o : Option WordDef). elim o [ Some d ↦ Some d.sort | None ↦ None ]) e
 
 pub top_sort : (P : Program) (b : IsBuilt P) → sort_of P P.top ≡ Some (body b.text)
-top_sort P b = sort_at P P.top b.phrase (top_word P b) ∙ ap Some b.phrase_is
+top_sort P b = sort_at P P.top b.phrase (top_word P b) ∙ ap Some b.phrase_is.sort_is
 
 pub top_text : (P : Program) (b : IsBuilt P) → word_text P P.top ≡ b.text
 top_text P b = ap (sort_text P P.top) (top_sort P b)
 
 pub top_built : (P : Program) (b : IsBuilt P) → IsBuiltText P.top (word_text P P.top)
-top_built P b = rw (top_text P b) b.text_built
+top_built P b = rw (top_text P b) b.phrase_is.text_built
 
-built_at : (ds : List WordDef) (w : ℕ) (d : WordDef) → AreBuiltWords ds → slice_get ds w ≡ Some d → IsBuiltSort d d.sort
-built_at [] w d h e = absurd (cc)
-built_at (x ∷ ds) zero d h e = let same : x ≡ d = cc in subst (λ (d : WordDef). IsBuiltSort d d.sort) same h.0
-built_at (x ∷ ds) (suc w) d h e = built_at ds w d h.1 e
+built_at : (bound : ℕ) (ds : List WordDef) (w : ℕ) (d : WordDef) → AreBuiltWords bound ds → slice_get ds w ≡ Some d → IsBuiltSort bound d d.sort
+built_at bound [] w d h e = absurd (cc)
+built_at bound (x ∷ ds) zero d h e = let same : x ≡ d = cc in subst (λ (d : WordDef). IsBuiltSort bound d d.sort) same h.0
+built_at bound (x ∷ ds) (suc w) d h e = built_at bound ds w d h.1 e
 
 get_front : (ds es : List WordDef) (w : ℕ) → w < length ds → (d : WordDef) × (slice_get (ds ++ es) w ≡ Some d) × (slice_get ds w ≡ Some d)
 get_front [] es w lt = absurd (omega arith)
@@ -38,21 +39,38 @@ get_front (d ∷ ds) es zero lt = (d, refl, refl)
 get_front (d ∷ ds) es (suc w) lt = get_front ds es w (omega arith)
 
 -- the word of a number below the top-level phrase's
-pub record Primitive (P : Program) (w : ℕ) : Type 0 where
+pub record WordBelow (P : Program) (w : ℕ) : Type 0 where
   pub def : WordDef
   pub at : slice_get P.words w ≡ Some def
-  pub number : ℕ
-  pub sort_is : def.sort ≡ prim number
-  pub word_is : IsPrimitiveWord def number
+  pub built : IsBuiltSort P.top def def.sort
 
-primitive_of : (P : Program) (w : ℕ) (d : WordDef) (s : Sort) → slice_get P.words w ≡ Some d → d.sort ≡ s → IsBuiltSort d s → Primitive P w
-primitive_of P w d (prim k) at e h = record { def = d; at = at; number = k; sort_is = e; word_is = h }
-primitive_of P w d _ at e h = absurd h
+pub word_below : (P : Program) → IsBuilt P → (w : ℕ) → w < P.top → WordBelow P w
+word_below P b w lt = let front = get_front b.words (b.phrase ∷ []) w (omega (arith, b.top_is)) in record { def = front.0; at = rw b.words_are front.1; built = built_at P.top b.words w front.0 b.built front.2 }
 
-pub primitive_at : (P : Program) → IsBuilt P → (w : ℕ) → w < P.top → Primitive P w
-primitive_at P b w lt =
-    let front = get_front b.primitives (b.phrase ∷ []) w (omega (arith, b.top_is)) in
-    primitive_of P w front.0 front.0.sort (rw b.words_are front.1) refl (built_at b.primitives w front.0 b.built front.2)
+-- a number below the top-level phrase's names that word
+pub built_word : (P : Program) → IsBuilt P → (w : ℕ) (d : WordDef) → w < P.top → slice_get P.words w ≡ Some d → IsBuiltSort P.top d d.sort
+built_word P b w d lt at =
+    let found = word_below P b w lt in
+    let same : found.def ≡ d = (let there = found.at in cc) in
+    subst (λ (d : WordDef). IsBuiltSort P.top d d.sort) same found.built
+
+get_last : (ds : List WordDef) (e d : WordDef) (w : ℕ) → slice_get (ds ++ e ∷ []) w ≡ Some d → (w < length ds) ⊎ ((w ≡ length ds) × (e ≡ d))
+get_last [] e d zero h = inr (refl, cc)
+get_last [] e d (suc w) h = absurd (cc)
+get_last (x ∷ ds) e d zero h = inl (omega arith)
+get_last (x ∷ ds) e d (suc w) h = elim (get_last ds e d w h) [ inl lt ↦ inl (omega (arith, lt)) | inr last ↦ inr (omega (arith, last.0), last.1) ]
+
+-- each word is one of those before the top-level phrase, or is that phrase
+pub below_or_top : (P : Program) (b : IsBuilt P) (w : ℕ) (d : WordDef) → slice_get P.words w ≡ Some d → (w < P.top) ⊎ ((w ≡ P.top) × (b.phrase ≡ d))
+below_or_top P b w d at =
+    elim (get_last b.words b.phrase d w (rw b.words_are at at)) [ inl lt ↦ inl (omega (arith, lt, b.top_is)) | inr last ↦ inr (last.0 ∙ sym b.top_is, last.1) ]
+
+phrase_alone : (ds : List WordDef) (d : WordDef) (t : Text) → d.sort ≡ body t → primitive_numbers (ds ++ d ∷ []) ≡ primitive_numbers ds
+phrase_alone [] d t e = rw e refl
+phrase_alone (x ∷ ds) d t e = ap (numbers_before x.sort) (phrase_alone ds d t e)
+
+pub all_distinct : (P : Program) (b : IsBuilt P) → has_no_repeats (primitive_numbers P.words) ≡ true
+all_distinct P b = rw (b.words_are, phrase_alone b.words b.phrase b.text b.phrase_is.sort_is) b.distinct
 
 -- a property of each built primitive
 either_one : (k j : ℕ) (b : Bool) → (nat_eq k j || b) ≡ true → (k ≡ j) ⊎ (b ≡ true)

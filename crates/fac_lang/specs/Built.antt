@@ -1,7 +1,8 @@
--- Programs of the forms that are built so far: integers and words at the top level, and eight primitive words.
-use Rattle.std.specs.Prelude.{◌≡◌, ℕ, List, [], ◌∷◌, ◌++◌, length, Bool, true, false, not, ◌||◌, ◌&&◌, nat_eq, nat_lt, Some}
+-- Programs of the forms that are built so far: integers and words, in definitions and at the top level, and eight primitive words.
+use Rattle.std.specs.Prelude.{◌≡◌, ℕ, List, [], ◌∷◌, ◌++◌, length, Bool, true, false, not, ◌||◌, ◌&&◌, nat_eq, nat_lt, None, Some}
 use Rattle.fac_lang.specs.Texts.{int, Text, end, then, Item, lit, word}
 use Rattle.fac_lang.specs.PrimitiveWords.{PrimitiveWord, primitive_word, written_effect}
+use Rattle.fac_lang.specs.Signatures.{Signature, signature, Inputs, no_inputs, value, quoted, Leaving, never, leaves}
 use Rattle.fac_lang.specs.declared.program.Program.{Program}
 use Rattle.fac_lang.specs.declared.program.WordDef.{WordDef}
 use Rattle.fac_lang.specs.declared.program.Sort.{Sort}
@@ -28,6 +29,21 @@ abbrev pub IsBuiltText : ℕ → Text → Type 0
 IsBuiltText bound end = Unit {0}
 IsBuiltText bound (then i p t) = IsBuiltItem bound i × IsBuiltText bound t
 
+-- inputs that are plain values
+abbrev pub ArePlainInputs : Inputs → Type 0
+ArePlainInputs no_inputs = Unit {0}
+ArePlainInputs (value x is) = ArePlainInputs is
+ArePlainInputs (quoted x e is) = ⊥
+
+-- outputs that are plain values; a word of the forms built so far always returns
+abbrev pub IsPlainLeaving : Leaving → Type 0
+IsPlainLeaving never = ⊥
+IsPlainLeaving (leaves row names) = row ≡ None
+
+-- an effect of plain values
+abbrev pub IsPlainEffect : Signature → Type 0
+IsPlainEffect (signature row is l) = (row ≡ None) × ArePlainInputs is × IsPlainLeaving l
+
 -- a primitive word with its number and the effect as it is written
 pub record IsPrimitiveWord (d : WordDef) (k : ℕ) : Type 0 where
   pub row : PrimitiveWord
@@ -35,15 +51,24 @@ pub record IsPrimitiveWord (d : WordDef) (k : ℕ) : Type 0 where
   pub is_built : is_built_primitive k ≡ true
   pub effect_is : d.effect ≡ written_effect row
   pub not_inline : d.inline ≡ false
+  pub not_recursive : d.recursive ≡ false
 
-abbrev pub IsBuiltSort : WordDef → Sort → Type 0
-IsBuiltSort d (prim k) = IsPrimitiveWord d k
-IsBuiltSort d _ = ⊥
+-- a word that is defined by its text, where words have numbers below a bound
+pub record IsDefinedWord (bound : ℕ) (d : WordDef) (t : Text) : Type 0 where
+  pub text_built : IsBuiltText bound t
+  pub plain : IsPlainEffect d.effect
+  pub not_inline : d.inline ≡ false
+  pub not_recursive : d.recursive ≡ false
 
--- each word but the last is a primitive
-abbrev pub AreBuiltWords : List WordDef → Type 0
-AreBuiltWords [] = Unit {0}
-AreBuiltWords (d ∷ ds) = IsBuiltSort d d.sort × AreBuiltWords ds
+abbrev pub IsBuiltSort : ℕ → WordDef → Sort → Type 0
+IsBuiltSort bound d (prim k) = IsPrimitiveWord d k
+IsBuiltSort bound d (body t) = IsDefinedWord bound d t
+IsBuiltSort bound d _ = ⊥
+
+-- each of these words is a primitive or is defined by its text
+abbrev pub AreBuiltWords : ℕ → List WordDef → Type 0
+AreBuiltWords bound [] = Unit {0}
+AreBuiltWords bound (d ∷ ds) = IsBuiltSort bound d d.sort × AreBuiltWords bound ds
 
 -- the primitives of words, by their numbers
 abbrev pub numbers_before : Sort → List ℕ → List ℕ
@@ -58,17 +83,24 @@ abbrev pub has_no_repeats : List ℕ → Bool
 has_no_repeats [] = true
 has_no_repeats (k ∷ ks) = not (is_member k ks) && has_no_repeats ks
 
+-- the word of a top-level phrase, which takes and leaves nothing by its effect
+pub record IsTopPhrase (bound : ℕ) (d : WordDef) (t : Text) : Type 0 where
+  pub sort_is : d.sort ≡ body t
+  pub text_built : IsBuiltText bound t
+  pub effect_is : d.effect ≡ signature None no_inputs (leaves None [])
+  pub not_inline : d.inline ≡ false
+  pub not_recursive : d.recursive ≡ false
+
 pub record IsBuilt (P : Program) : Type 0 where
-  -- the primitive words, and behind them the top-level phrase
-  pub primitives : List WordDef
+  -- the words, and behind them the top-level phrase, which no text names
+  pub words : List WordDef
   pub phrase : WordDef
   pub text : Text
-  pub words_are : P.words ≡ primitives ++ phrase ∷ []
-  pub top_is : P.top ≡ length primitives
-  pub phrase_is : phrase.sort ≡ body text
-  pub built : AreBuiltWords primitives
+  pub words_are : P.words ≡ words ++ phrase ∷ []
+  pub top_is : P.top ≡ length words
+  pub phrase_is : IsTopPhrase P.top phrase text
+  pub built : AreBuiltWords P.top words
   -- no two words are the same primitive
-  pub distinct : has_no_repeats (primitive_numbers primitives) ≡ true
-  pub text_built : IsBuiltText P.top text
+  pub distinct : has_no_repeats (primitive_numbers words) ≡ true
   pub no_arrays : P.arrays ≡ []
   pub no_classes : P.classes ≡ []

@@ -27,4 +27,4 @@ pub use running::{
 };
 pub use text::Text;
 pub use token::{TokKind, Token};
-pub use tree::{Form, Term, Tree};
+pub use tree::{Form, Term, Tree, WrittenEffect};

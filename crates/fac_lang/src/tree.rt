@@ -19,8 +19,28 @@ pub enum Form {
         vocabs: List<Token>,
         closes: Place,
     },
+    /// The definition of a word: `:`, its name, its effect, its items, and `;`.
+    Define {
+        opens: Place,
+        name: Token,
+        effect: WrittenEffect,
+        items: List<Term>,
+        closes: Place,
+    },
     /// An item at the top level.
     Item(Term),
+}
+
+/// A stack effect as it is written: `(`, the names of the inputs, `--`, the names of the outputs, and `)`.
+#[derive(Drop)]
+pub struct WrittenEffect {
+    pub opens: Place,
+    /// The inputs, the deepest first.
+    pub ins: List<Token>,
+    pub dashes: Place,
+    /// The outputs, the deepest first.
+    pub outs: List<Token>,
+    pub closes: Place,
 }
 
 /// An item as it is written.
@@ -41,6 +61,20 @@ impl Duplicate for Term {
     }
 }
 
+impl Duplicate for WrittenEffect {
+    fn copy(&self, alloc: Global) -> Result<WrittenEffect, Memory> {
+        let ins = self.ins.copy(alloc)?;
+        let outs = self.outs.copy(alloc)?;
+        Ok(WrittenEffect {
+            opens: self.opens,
+            ins,
+            dashes: self.dashes,
+            outs,
+            closes: self.closes,
+        })
+    }
+}
+
 impl Duplicate for Form {
     fn copy(&self, alloc: Global) -> Result<Form, Memory> {
         match self {
@@ -53,6 +87,24 @@ impl Duplicate for Form {
                 vocabs: vocabs.copy(alloc)?,
                 closes: *closes,
             }),
+            Form::Define {
+                opens,
+                name,
+                effect,
+                items,
+                closes,
+            } => {
+                let name = name.copy(alloc)?;
+                let effect = effect.copy(alloc)?;
+                let items = items.copy(alloc)?;
+                Ok(Form::Define {
+                    opens: *opens,
+                    name,
+                    effect,
+                    items,
+                    closes: *closes,
+                })
+            }
             Form::Item(term) => Ok(Form::Item(term.copy(alloc)?)),
         }
     }

@@ -5,6 +5,7 @@ pub mod MapLemmas
 pub mod ParseLemmas
 pub mod NameLemmas
 pub mod ResolutionLemmas
+pub mod BuiltPrograms
 pub mod WholePrograms
 pub mod EffectLemmas
 pub mod LiteralLemmas

@@ -1,118 +1,175 @@
--- Resolved texts, and that programs are of the forms built.
-use Rattle.std.proofs.Common.{◌≡◌, ℕ, suc, ◌+◌, ◌<◌, Bool, true, false, cond, ◌&&◌, List, [], ◌∷◌, ◌++◌, Option, Some, None, Result, Ok, Err, length, drop, refl, ap, sym, ◌∙◌, subst, arith}
-use Rattle.std.specs.Prelude.{codes}
-use Rattle.std.specs.List.{list_all}
+-- Taking items and forms, a step at a time.
+use Rattle.std.proofs.Common.{◌≡◌, ℕ, Bool, true, false, List, [], ◌∷◌, ◌++◌, Option, Some, None, Result, Ok, Err, drop, refl, ap, sym, ◌∙◌, subst, append_assoc, append-nil}
+use Rattle.std.specs.List.{list_any}
 use Rattle.std.specs.Str.{bytes_eq}
-use Rattle.std.proofs.lemmas.Bool.Decides.{Decides-ltb}
-use Rattle.fac_lang.specs.Built.{IsBuilt, IsBuiltText, AreBuiltWords, built_primitives, is_built_primitive, primitive_numbers, has_no_repeats}
-use Rattle.fac_lang.specs.PrimitiveWords.{PrimitiveWord, primitive_word}
-use Rattle.fac_lang.specs.Texts.{Text, end, then, lit, int, word}
+use Rattle.fac_lang.specs.Texts.{Text, end, then}
 use Rattle.fac_lang.specs.View.{what_item, items_text}
 use Rattle.fac_lang.specs.declared.phrase.Item.{Item as PlacedItem}
 use Rattle.fac_lang.specs.declared.phrase.Place.{Place}
+use Rattle.fac_lang.specs.declared.program.Name.{Name as FullName}
 use Rattle.fac_lang.specs.declared.program.WordDef.{WordDef}
 use Rattle.fac_lang.specs.declared.token.Token.{Token}
 use Rattle.fac_lang.specs.declared.tree.Form.{Form}
 use Rattle.fac_lang.specs.declared.tree.Form.TheVariants as form
+use Rattle.fac_lang.specs.declared.tree.Term.{Term}
 use Rattle.fac_lang.specs.declared.tree.Term.TheVariants as term
+use Rattle.fac_lang.specs.declared.tree.WrittenEffect.{WrittenEffect}
 use Rattle.fac_parse.specs.declared.resolver.NameFault.{NameFault}
+use Rattle.fac_parse.specs.declared.resolver.NameKind.TheVariants.{Twice}
 use Rattle.fac_parse.specs.declared.resolver.ResolveFault.{ResolveFault}
 use Rattle.fac_parse.specs.declared.resolver.ResolveFault.TheVariants.{Name, Memory}
-use Rattle.fac_parse.specs.Resolution.{primitive_def, primitive_defs, known_words, held_from, or_else, held_by, found, token_text, uses, with_item, after_uses, with_word, text_of, file_text, top_word}
-use Rattle.fac_parse.specs.Resolver.{items_before, before, TakesForm, ReadsForms}
+use Rattle.fac_parse.specs.declared.resolver.SoFar.{SoFar}
+use Rattle.fac_parse.specs.OwnNames.{names_with}
+use Rattle.fac_parse.specs.Resolution.{known_words, found, is_taken, name_fault, with_item, with_word, text_of, defined_word, Contents, with_top_item, with_top_word, with_defined, after_text, unless_taken, contents_of, file_contents}
+use Rattle.fac_parse.specs.Resolver.{found_item, term_item, with_new, TakesItem, items_before, before, ReadsText, after_made, contents_after, defining, IsDefined, DefinitionFails, Defines, TakesForm, ReadsForms}
+use Rattle.fac_parse.specs.Trees.{token_text}
+use Rattle.fac_parse.proofs.NameLemmas.{taken_own, names_push}
 
 items_before-push : (items : List PlacedItem) (i : PlacedItem) (t : Text) → items_before items (then (what_item i.what) i.place t) ≡ items_before (items ++ i ∷ []) t
 items_before-push [] i t = refl
 items_before-push (j ∷ js) i t = ap (then (what_item j.what) j.place) (items_before-push js i t)
 
-pub before-push : (items : List PlacedItem) (i : PlacedItem) (r : Result Text NameFault) → before items (with_item (what_item i.what) i.place r) ≡ before (items ++ i ∷ []) r
-before-push items i (Ok t) = ap (λ (u : Text). Ok u) (items_before-push items i t)
-before-push items i (Err f) = refl
-
-pub items_before-end : (items : List PlacedItem) → items_before items end ≡ items_text items
+items_before-end : (items : List PlacedItem) → items_before items end ≡ items_text items
 items_before-end [] = refl
 items_before-end (i ∷ is) = ap (then (what_item i.what) i.place) (items_before-end is)
 
+-- Items of a word.
+
+abbrev item_first : Result PlacedItem NameFault → Result Text NameFault → Result Text NameFault
+item_first (Ok i) rest = with_item (what_item i.what) i.place rest
+item_first (Err f) rest = Err f
+
+word_first : (o : Option ℕ) (t : Token) (rest : Result Text NameFault) → with_word o t rest ≡ item_first (found_item o t) rest
+word_first (Some n) t rest = refl
+word_first None t rest = refl
+
+text_first : (known : List FullName) (used : List (List ℕ)) (item : Term) (rest : List Term) → text_of known used (item ∷ rest) ≡ item_first (term_item known used item) (text_of known used rest)
+text_first known used (term.Integer t value) rest = refl
+text_first known used (term.Name t) rest = word_first (found known used (token_text t.kind)) t (text_of known used rest)
+
+before_push : (items : List PlacedItem) (i : PlacedItem) (r : Result Text NameFault) → before items (with_item (what_item i.what) i.place r) ≡ before (items ++ i ∷ []) r
+before_push items i (Ok t) = ap (λ (u : Text). Ok u) (items_before-push items i t)
+before_push items i (Err f) = refl
+
+text_taken : (r : Result PlacedItem NameFault) (items items_then : List PlacedItem) (rest : Result Text NameFault) → with_new items r ≡ Ok items_then → before items (item_first r rest) ≡ before items_then rest
+text_taken (Ok i) items items_then rest e = let same : items ++ i ∷ [] ≡ items_then = cc in before_push items i rest ∙ ap (λ (is : List PlacedItem). before is rest) same
+text_taken (Err f) items items_then rest e = cc
+
+-- the text with an item more
+pub text_goes_on : (known : List FullName) (used : List (List ℕ)) (all rest : List Term) (item : Term) (items items_then : List PlacedItem) (n : ℕ) → text_of known used all ≡ before items (text_of known used (drop n all)) → drop n all ≡ item ∷ rest → with_new items (term_item known used item) ≡ Ok items_then → text_of known used all ≡ before items_then (text_of known used rest)
+text_goes_on known used all rest item items items_then n so_far next taken =
+    so_far ∙ ap (λ (ts : List Term). before items (text_of known used ts)) next ∙ ap (before items) (text_first known used item rest) ∙ text_taken (term_item known used item) items items_then (text_of known used rest) taken
+
+-- a refused item ends the text
+pub text_fails : (e : ResolveFault) (known : List FullName) (used : List (List ℕ)) (all rest : List Term) (item : Term) (items items_then : List PlacedItem) (n : ℕ) → text_of known used all ≡ before items (text_of known used (drop n all)) → drop n all ≡ item ∷ rest → TakesItem known used item items items_then (Err e) → ReadsText known used all (Err e)
+text_fails (Name fault) known used all rest item items items_then n so_far next h =
+    so_far ∙ ap (λ (ts : List Term). before items (text_of known used ts)) next ∙ ap (before items) (text_first known used item rest ∙ ap (λ (r : Result PlacedItem NameFault). item_first r (text_of known used rest)) h)
+text_fails Memory known used all rest item items items_then n so_far next h = tt
+
+pub text_ends : (known : List FullName) (used : List (List ℕ)) (all : List Term) (items : List PlacedItem) (n : ℕ) → text_of known used all ≡ before items (text_of known used (drop n all)) → drop n all ≡ [] → text_of known used all ≡ Ok (items_text items)
+text_ends known used all items n so_far none = so_far ∙ ap (λ (ts : List Term). before items (text_of known used ts)) none ∙ ap (λ (t : Text). Ok t) (items_before-end items)
+
+-- Forms.
+
+abbrev item_on_top : Result PlacedItem NameFault → Result Contents NameFault → Result Contents NameFault
+item_on_top (Ok i) rest = with_top_item (what_item i.what) i.place rest
+item_on_top (Err f) rest = Err f
+
+word_on_top : (o : Option ℕ) (t : Token) (rest : Result Contents NameFault) → with_top_word o t rest ≡ item_on_top (found_item o t) rest
+word_on_top (Some n) t rest = refl
+word_on_top None t rest = refl
+
+top_item : (known : List FullName) (used : List (List ℕ)) (item : Term) (rest : List Form) → contents_of known used (form.Item item ∷ rest) ≡ item_on_top (term_item known used item) (contents_of known used rest)
+top_item known used (term.Integer t value) rest = refl
+top_item known used (term.Name t) rest = word_on_top (found known used (token_text t.kind)) t (contents_of known used rest)
+
+after_push : (words : List WordDef) (items : List PlacedItem) (i : PlacedItem) (r : Result Contents NameFault) → after_made words items (with_top_item (what_item i.what) i.place r) ≡ after_made words (items ++ i ∷ []) r
+after_push words items i (Ok c) = ap (λ (t : Text). Ok (record { words = words ++ c.words; text = t })) (items_before-push items i c.text)
+after_push words items i (Err f) = refl
+
+top_taken : (r : Result PlacedItem NameFault) (words : List WordDef) (items items_then : List PlacedItem) (rest : Result Contents NameFault) → with_new items r ≡ Ok items_then → after_made words items (item_on_top r rest) ≡ after_made words items_then rest
+top_taken (Ok i) words items items_then rest e = let same : items ++ i ∷ [] ≡ items_then = cc in after_push words items i rest ∙ ap (λ (is : List PlacedItem). after_made words is rest) same
+top_taken (Err f) words items items_then rest e = cc
+
+item_taken : (e : Result Unit ResolveFault) (s s_then : SoFar) (item : Term) → TakesItem (names_with s.own) s.used item s.items.items s_then.items.items e → s_then.own ≡ s.own → s_then.used ≡ s.used → s_then.words ≡ s.words → TakesForm s (form.Item item) s_then e
+item_taken (Ok done) s s_then item h own used words = λ rest.
+    ap (after_made s.words s.items.items) (top_item (names_with s.own) s.used item rest)
+    ∙ top_taken (term_item (names_with s.own) s.used item) s.words s.items.items s_then.items.items (contents_of (names_with s.own) s.used rest) h
+    ∙ ap (λ (ws : List WordDef). after_made ws s_then.items.items (contents_of (names_with s.own) s.used rest)) (sym words)
+    ∙ ap (λ (o : List (List ℕ)). after_made s_then.words s_then.items.items (contents_of (names_with o) s.used rest)) (sym own)
+    ∙ ap (λ (u : List (List ℕ)). after_made s_then.words s_then.items.items (contents_of (names_with s_then.own) u rest)) (sym used)
+item_taken (Err (Name fault)) s s_then item h own used words = λ rest.
+    top_item (names_with s.own) s.used item rest ∙ ap (λ (r : Result PlacedItem NameFault). item_on_top r (contents_of (names_with s.own) s.used rest)) h
+item_taken (Err Memory) s s_then item h own used words = tt
+
+pub item_form : (e : Result Unit ResolveFault) (s s_then : SoFar) (f : Form) (item : Term) → f ≡ form.Item item → TakesItem (names_with s.own) s.used item s.items.items s_then.items.items e → s_then.own ≡ s.own → s_then.used ≡ s.used → s_then.words ≡ s.words → TakesForm s f s_then e
+item_form e s s_then f item is h own used words = subst (λ (g : Form). TakesForm s g s_then e) (sym is) (item_taken e s s_then item h own used words)
+
+-- Definitions.
+
+definition_is : (s : SoFar) (name : Token) (effect : WrittenEffect) (items : List Term) (opens closes : Place) (rest : List Form) → contents_of (names_with s.own) s.used (form.Define opens name effect items closes ∷ rest) ≡ defining s name effect items (contents_of (names_with (s.own ++ token_text name.kind ∷ [])) s.used rest)
+definition_is s name effect items opens closes rest =
+    ap (λ (more : List FullName). unless_taken (is_taken (names_with s.own) (token_text name.kind)) name (after_text name effect (text_of more s.used items) (contents_of more s.used rest))) (names_push s.own (token_text name.kind))
+
+definition_taken : (e : Result Unit ResolveFault) (s s_then : SoFar) (name : Token) (effect : WrittenEffect) (items : List Term) (opens closes : Place) → Defines s name effect items s_then e → TakesForm s (form.Define opens name effect items closes) s_then e
+definition_taken (Ok done) s s_then name effect items opens closes h = λ rest.
+    let own = s.own ++ token_text name.kind ∷ [] in
+    ap (after_made s.words s.items.items) (definition_is s name effect items opens closes rest)
+    ∙ h.made (contents_of (names_with own) s.used rest)
+    ∙ ap (λ (o : List (List ℕ)). after_made s_then.words s_then.items.items (contents_of (names_with o) s.used rest)) (sym h.own)
+    ∙ ap (λ (u : List (List ℕ)). after_made s_then.words s_then.items.items (contents_of (names_with s_then.own) u rest)) (sym h.used)
+definition_taken (Err (Name fault)) s s_then name effect items opens closes h = λ rest.
+    definition_is s name effect items opens closes rest ∙ h (contents_of (names_with (s.own ++ token_text name.kind ∷ [])) s.used rest)
+definition_taken (Err Memory) s s_then name effect items opens closes h = tt
+
+pub definition_form : (e : Result Unit ResolveFault) (s s_then : SoFar) (f : Form) (name : Token) (effect : WrittenEffect) (listed items : List Term) (opens closes : Place) → f ≡ form.Define opens name effect items closes → listed ≡ items → Defines s name effect listed s_then e → TakesForm s f s_then e
+definition_form e s s_then f name effect listed items opens closes is same h =
+    subst (λ (g : Form). TakesForm s g s_then e) (sym is) (definition_taken e s s_then name effect items opens closes (subst (λ (ts : List Term). Defines s name effect ts s_then e) same h))
+
+-- a name that is defined already
+pub defined_twice : (s : SoFar) (name : Token) (effect : WrittenEffect) (items : List Term) (fault : NameFault) → list_any (bytes_eq (token_text name.kind)) s.own ≡ true → fault ≡ name_fault Twice name → (rest : Result Contents NameFault) → defining s name effect items rest ≡ Err fault
+defined_twice s name effect items fault there e rest =
+    ap (λ (b : Bool). unless_taken b name (after_text name effect (text_of (names_with (s.own ++ token_text name.kind ∷ [])) s.used items) rest)) (taken_own s.own (token_text name.kind) ∙ there)
+    ∙ ap (λ (f : NameFault). Err f) (sym e)
+
+defining_new : (s : SoFar) (name : Token) (effect : WrittenEffect) (items : List Term) (own : List (List ℕ)) (r : Result Text NameFault) → list_any (bytes_eq (token_text name.kind)) s.own ≡ false → own ≡ s.own ++ token_text name.kind ∷ [] → text_of (names_with own) s.used items ≡ r → (rest : Result Contents NameFault) → defining s name effect items rest ≡ after_text name effect r rest
+defining_new s name effect items own r new e h rest =
+    ap (λ (b : Bool). unless_taken b name (after_text name effect (text_of (names_with (s.own ++ token_text name.kind ∷ [])) s.used items) rest)) (taken_own s.own (token_text name.kind) ∙ new)
+    ∙ ap (λ (o : List (List ℕ)). after_text name effect (text_of (names_with o) s.used items) rest) (sym e)
+    ∙ ap (λ (t : Result Text NameFault). after_text name effect t rest) h
+
+-- a refused name in the items of a definition
+pub definition_fails : (e : ResolveFault) (s : SoFar) (name : Token) (effect : WrittenEffect) (items : List Term) (own : List (List ℕ)) → list_any (bytes_eq (token_text name.kind)) s.own ≡ false → own ≡ s.own ++ token_text name.kind ∷ [] → ReadsText (names_with own) s.used items (Err e) → DefinitionFails s name effect items e
+definition_fails (Name fault) s name effect items own new e h = λ rest. defining_new s name effect items own (Err fault) new e h rest
+definition_fails Memory s name effect items own new e h = tt
+
+after_word : (s_words words : List WordDef) (items : List PlacedItem) (name : Token) (effect : WrittenEffect) (text : Text) (rest : Result Contents NameFault) → words ≡ s_words ++ defined_word name effect text ∷ [] → after_made s_words items (with_defined name effect text rest) ≡ after_made words items rest
+after_word s_words words items name effect text (Ok c) e =
+    ap (λ (ws : List WordDef). Ok (record { words = ws; text = items_before items c.text })) (sym (append_assoc s_words (defined_word name effect text ∷ []) c.words) ∙ ap (λ (ws : List WordDef). ws ++ c.words) (sym e))
+after_word s_words words items name effect text (Err f) e = refl
+
+pub definition_done : (s s_then : SoFar) (name : Token) (effect : WrittenEffect) (items : List Term) (text : Text) → list_any (bytes_eq (token_text name.kind)) s.own ≡ false → s_then.own ≡ s.own ++ token_text name.kind ∷ [] → text_of (names_with s_then.own) s.used items ≡ Ok text → s_then.words ≡ s.words ++ defined_word name effect text ∷ [] → s_then.used ≡ s.used → s_then.items.items ≡ s.items.items → IsDefined s name effect items s_then
+definition_done s s_then name effect items text new own h words used same =
+    record {
+      made = λ rest. ap (after_made s.words s.items.items) (defining_new s name effect items s_then.own (Ok text) new own h rest) ∙ after_word s.words s_then.words s.items.items name effect text rest words ∙ ap (λ (is : List PlacedItem). after_made s_then.words is rest) (sym same);
+      own = own;
+      used = used;
+    }
+
+-- All forms.
+
+only_fault : (words : List WordDef) (items : List PlacedItem) (r : Result Contents NameFault) (fault : NameFault) → after_made words items r ≡ Err fault → r ≡ Err fault
+only_fault words items (Ok c) fault e = cc
+only_fault words items (Err f) fault e = e
+
 -- a refused form ends the reading
-pub form_fails : (e : ResolveFault) (forms rest : List Form) (f : Form) (used used_then : List (List ℕ)) (items items_then : List PlacedItem) (n : ℕ) → file_text forms ≡ before items (text_of used (drop n forms)) → drop n forms ≡ f ∷ rest → TakesForm f used items used_then items_then (Err e) → ReadsForms forms (Err e)
-form_fails (Name fault) forms rest f used used_then items items_then n so_far next h = so_far ∙ rw next (ap (before items) (h rest))
-form_fails Memory forms rest f used used_then items items_then n so_far next h = tt
+pub form_fails : (e : ResolveFault) (forms rest : List Form) (f : Form) (s s_then : SoFar) (n : ℕ) → after_made known_words [] (file_contents forms) ≡ contents_after s (drop n forms) → drop n forms ≡ f ∷ rest → TakesForm s f s_then (Err e) → ReadsForms forms (Err e)
+form_fails (Name fault) forms rest f s s_then n so_far next h =
+    only_fault known_words [] (file_contents forms) fault (so_far ∙ ap (contents_after s) next ∙ ap (after_made s.words s.items.items) (h rest))
+form_fails Memory forms rest f s s_then n so_far next h = tt
 
-held_below_by : (b : Bool) (k n : ℕ) (ds : List WordDef) (vocab name : List ℕ) → (held_from (k + 1) ds vocab name ≡ Some n → n < k + 1 + length ds) → cond b (Some k) (held_from (k + 1) ds vocab name) ≡ Some n → n < k + suc (length ds)
-held_below_by true k n ds vocab name later e = let same : k ≡ n = cc in omega arith
-held_below_by false k n ds vocab name later e = let below = later e in omega arith
-
-held_below : (k n : ℕ) (ds : List WordDef) (vocab name : List ℕ) → held_from k ds vocab name ≡ Some n → n < k + length ds
-held_below k n [] vocab name e = cc
-held_below k n (d ∷ ds) vocab name e = held_below_by (bytes_eq name d.name.name && bytes_eq vocab d.name.vocab) k n ds vocab name (held_below (k + 1) n ds vocab name) e
-
-eight_words : length known_words ≡ 8
-unfolding known_words primitive_word
-eight_words = refl
-
-either_below : (n : ℕ) (o p : Option ℕ) → (o ≡ Some n → n < 8) → (p ≡ Some n → n < 8) → or_else o p ≡ Some n → n < 8
-either_below n (Some m) p h k e = h e
-either_below n None p h k e = k e
-
-held_by_below : (n : ℕ) (used : List (List ℕ)) (name : List ℕ) → held_by used name ≡ Some n → n < 8
-held_by_below n [] name e = cc
-held_by_below n (u ∷ us) name e =
-    either_below n (held_from 0 known_words u name) (held_by us name) (λ h. let below = held_below 0 n known_words u name h in let eight = eight_words in omega arith) (held_by_below n us name) e
-
-found_below : (n : ℕ) (used : List (List ℕ)) (name : List ℕ) → found used name ≡ Some n → n < 8
-unfolding found
-found_below n used name e = held_by_below n (codes "scratchpad" ∷ used) name e
-
-with_int_built : (z : _) (p : Place) (r : Result Text NameFault) (t : Text) → ((u : Text) → r ≡ Ok u → IsBuiltText 8 u) → with_item (lit (int z)) p r ≡ Ok t → IsBuiltText 8 t
-with_int_built z p (Ok u) t later e = let same : then (lit (int z)) p u ≡ t = cc in subst (IsBuiltText 8) same (tt, later u refl)
-with_int_built z p (Err f) t later e = cc
-
-with_word_built : (o : Option ℕ) (tok : Token) (r : Result Text NameFault) (t : Text) → ((n : ℕ) → o ≡ Some n → n < 8) → ((u : Text) → r ≡ Ok u → IsBuiltText 8 u) → with_word o tok r ≡ Ok t → IsBuiltText 8 t
-with_word_built (Some n) tok (Ok u) t below later e = let same : then (word n) tok.place u ≡ t = cc in subst (IsBuiltText 8) same ((Decides-ltb n 8).1 (below n refl), later u refl)
-with_word_built (Some n) tok (Err f) t below later e = cc
-with_word_built None tok r t below later e = cc
-
-after_uses_built : (r : Result (List (List ℕ)) NameFault) (rest : List (List ℕ) → Result Text NameFault) (t : Text) → ((used : List (List ℕ)) → rest used ≡ Ok t → IsBuiltText 8 t) → after_uses r rest ≡ Ok t → IsBuiltText 8 t
-after_uses_built (Ok used) rest t later e = later used e
-after_uses_built (Err f) rest t later e = cc
-
-pub text_built : (forms : List Form) (used : List (List ℕ)) (t : Text) → text_of used forms ≡ Ok t → IsBuiltText 8 t
-text_built [] used t e = let same : end ≡ t = cc in subst (IsBuiltText 8) same tt
-text_built (form.Using o vs c ∷ fs) used t e = after_uses_built (uses used vs) (λ more. text_of more fs) t (λ more h. text_built fs more t h) e
-text_built (form.Item (term.Integer tok z) ∷ fs) used t e = with_int_built z tok.place (text_of used fs) t (λ u h. text_built fs used u h) e
-text_built (form.Item (term.Name tok) ∷ fs) used t e = with_word_built (found used (token_text tok.kind)) tok (text_of used fs) t (λ n h. found_below n used (token_text tok.kind) h) (λ u h. text_built fs used u h) e
-
-both_true : (a b : Bool) → (a && b) ≡ true → (a ≡ true) × (b ≡ true)
-both_true true b h = (refl, h)
-both_true false b h = cc
-
-one_built : (k : ℕ) (ks : List ℕ) (o : Option PrimitiveWord) → primitive_word k ≡ o → is_built_primitive k ≡ true → AreBuiltWords (primitive_defs ks) → AreBuiltWords (elim o [ None ↦ primitive_defs ks | Some row ↦ primitive_def k row ∷ primitive_defs ks ])
-one_built k ks None e b rest = rest
-one_built k ks (Some row) e b rest = (record { row = row; row_is = e; is_built = b; effect_is = refl; not_inline = refl }, rest)
-
-all_built : (ks : List ℕ) → list_all is_built_primitive ks ≡ true → AreBuiltWords (primitive_defs ks)
-all_built [] h = tt
-all_built (k ∷ ks) h = one_built k ks (primitive_word k) refl (both_true (is_built_primitive k) (list_all is_built_primitive ks) h).0 (all_built ks (both_true (is_built_primitive k) (list_all is_built_primitive ks) h).1)
-
-known_built : AreBuiltWords known_words
-unfolding known_words
-known_built = all_built built_primitives refl
-
-known_distinct : has_no_repeats (primitive_numbers known_words) ≡ true
-unfolding known_words primitive_word
-known_distinct = refl
-
-pub built_from : (forms : List Form) (t : Text) (words : List WordDef) (arrays : _) (classes : _) → file_text forms ≡ Ok t → words ≡ known_words ++ top_word t ∷ [] → arrays ≡ [] → classes ≡ [] → IsBuilt (record { words = words; arrays = arrays; classes = classes; top = 8 })
-built_from forms t words arrays classes e w a c = record {
-  primitives = known_words;
-  phrase = top_word t;
-  text = t;
-  words_are = w;
-  top_is = sym eight_words;
-  phrase_is = refl;
-  built = known_built;
-  distinct = known_distinct;
-  text_built = text_built forms (codes "syntax" ∷ []) t e;
-  no_arrays = a;
-  no_classes = c;
-}
+pub forms_end : (forms : List Form) (s : SoFar) (n : ℕ) → after_made known_words [] (file_contents forms) ≡ contents_after s (drop n forms) → drop n forms ≡ [] → ReadsForms forms (Ok s)
+forms_end forms s n so_far none =
+    so_far ∙ ap (contents_after s) none
+    ∙ ap (λ (ws : List WordDef). Ok (record { words = ws; text = items_before s.items.items end })) (append-nil s.words)
+    ∙ ap (λ (t : Text). Ok (record { words = s.words; text = t })) (items_before-end s.items.items)

@@ -1,5 +1,5 @@
--- Reserved tokens, and how they are spelled.
-use Rattle.std.proofs.Common.{◌≡◌, ℕ, ℤ, Bool, true, false, cond, List, Option, Some, None, refl, ap, not, ◌&&◌}
+-- The tokens that forms are made of, and how they are spelled.
+use Rattle.std.proofs.Common.{◌≡◌, ℕ, ℤ, Bool, true, false, cond, List, [], Option, Some, None, refl, ap, sym, subst, ◌∙◌, not, ◌&&◌}
 use Rattle.std.specs.Prelude.{codes}
 use Rattle.std.specs.Str.{bytes_eq}
 use Rattle.std.proofs.lemmas.Slice.Eq.{bytes_eq-Decides}
@@ -7,52 +7,84 @@ use Rattle.fac_lang.specs.declared.phrase.Place.{Place}
 use Rattle.fac_lang.specs.declared.token.Token.{Token}
 use Rattle.fac_lang.specs.declared.token.TokKind.{TokKind}
 use Rattle.fac_lang.specs.declared.token.TokKind.TheVariants.{Plain, Str}
-use Rattle.fac_parse.specs.declared.spelling.Spelling.TheVariants.{Using, Semi, Name, Other}
-use Rattle.fac_parse.specs.Spellings.{has_integer_form, literal_in, is_reserved, is_quiet, word_spelling, integer_spelling, spelling_of, token_spelling}
+use Rattle.fac_parse.specs.declared.spelling.Spelling.{Spelling}
+use Rattle.fac_parse.specs.declared.spelling.Spelling.TheVariants.{Using, Colon, Semi, Opens, Closes, Dashes, Integer, Name, Other}
+use Rattle.fac_parse.specs.Spellings.{has_integer_form, literal_in, is_reserved, is_quiet, sign_spelling, word_spelling, integer_spelling, spelling_of, token_spelling}
 use Rattle.fac_parse.specs.Trees.{plain_token}
 
 pub using_is_using : spelling_of (codes "USING:") ≡ Using
 unfolding spelling_of has_integer_form word_spelling
 using_is_using = refl
 
+pub colon_is_colon : spelling_of (codes ":") ≡ Colon
+unfolding spelling_of has_integer_form word_spelling
+colon_is_colon = refl
+
 pub semi_is_semi : spelling_of (codes ";") ≡ Semi
 unfolding spelling_of has_integer_form word_spelling
 semi_is_semi = refl
 
-using_picked : (b c d e : Bool) (o : Option ℤ) → cond b (integer_spelling o) (cond c Using (cond d Semi (cond e Name Other))) ≡ Using → c ≡ true
-using_picked true c d e None h = cc
-using_picked true c d e (Some z) h = cc
-using_picked false true d e o h = refl
-using_picked false false true e o h = cc
-using_picked false false false true o h = cc
-using_picked false false false false o h = cc
+pub opens_is_opens : spelling_of (codes "(") ≡ Opens
+unfolding spelling_of has_integer_form word_spelling
+opens_is_opens = refl
 
-semi_picked : (b c d e : Bool) (o : Option ℤ) → cond b (integer_spelling o) (cond c Using (cond d Semi (cond e Name Other))) ≡ Semi → d ≡ true
-semi_picked true c d e None h = cc
-semi_picked true c d e (Some z) h = cc
-semi_picked false true d e o h = cc
-semi_picked false false true e o h = refl
-semi_picked false false false true o h = cc
-semi_picked false false false false o h = cc
+pub closes_is_closes : spelling_of (codes ")") ≡ Closes
+unfolding spelling_of has_integer_form word_spelling
+closes_is_closes = refl
 
-text_of_using : (text : List ℕ) → spelling_of text ≡ Using → text ≡ codes "USING:"
+pub dashes_is_dashes : spelling_of (codes "--") ≡ Dashes
+unfolding spelling_of has_integer_form word_spelling
+dashes_is_dashes = refl
+
+-- spellings of one text
+abbrev pub IsSign : Spelling → Type 0
+IsSign (Integer z) = ⊥
+IsSign Name = ⊥
+IsSign Other = ⊥
+IsSign _ = Unit {0}
+
+-- that text
+abbrev pub sign_text : Spelling → List ℕ
+sign_text Using = codes "USING:"
+sign_text Colon = codes ":"
+sign_text Semi = codes ";"
+sign_text Opens = codes "("
+sign_text Closes = codes ")"
+sign_text Dashes = codes "--"
+sign_text _ = []
+
+abbrev Says : List ℕ → Option Spelling → Type 0
+Says text None = Unit {0}
+Says text (Some s) = text ≡ sign_text s
+
+one_says : (text sign : List ℕ) (s : Spelling) (rest : Option Spelling) (b : Bool) → bytes_eq text sign ≡ b → sign ≡ sign_text s → Says text rest → Says text (cond b (Some s) rest)
+one_says text sign s rest true h e later = (bytes_eq-Decides text sign).0 h ∙ e
+one_says text sign s rest false h e later = later
+
+says : (text : List ℕ) → Says text (sign_spelling text)
+says text =
+    one_says text (codes "USING:") Using _ _ refl refl (
+    one_says text (codes ":") Colon _ _ refl refl (
+    one_says text (codes ";") Semi _ _ refl refl (
+    one_says text (codes "(") Opens _ _ refl refl (
+    one_says text (codes ")") Closes _ _ refl refl (
+    one_says text (codes "--") Dashes None _ refl refl tt)))))
+
+sign_picked : (b c : Bool) (o : Option ℤ) (s : Option Spelling) → IsSign (cond b (integer_spelling o) (elim s [ Some s ↦ s | None ↦ cond c Name Other ])) → s ≡ Some (cond b (integer_spelling o) (elim s [ Some s ↦ s | None ↦ cond c Name Other ]))
+sign_picked true c None s h = absurd h
+sign_picked true c (Some z) s h = absurd h
+sign_picked false c o (Some s) h = refl
+sign_picked false true o None h = absurd h
+sign_picked false false o None h = absurd h
+
+sign_only : (text : List ℕ) → IsSign (spelling_of text) → sign_spelling text ≡ Some (spelling_of text)
 unfolding spelling_of word_spelling
-text_of_using text h = (bytes_eq-Decides text (codes "USING:")).0 (using_picked (has_integer_form text) (bytes_eq text (codes "USING:")) (bytes_eq text (codes ";")) (not (is_reserved text) && is_quiet text) (literal_in text) h)
+sign_only text h = sign_picked (has_integer_form text) (not (is_reserved text) && is_quiet text) (literal_in text) (sign_spelling text) h
 
-text_of_semi : (text : List ℕ) → spelling_of text ≡ Semi → text ≡ codes ";"
-unfolding spelling_of word_spelling
-text_of_semi text h = (bytes_eq-Decides text (codes ";")).0 (semi_picked (has_integer_form text) (bytes_eq text (codes "USING:")) (bytes_eq text (codes ";")) (not (is_reserved text) && is_quiet text) (literal_in text) h)
+sign_kind : (p : Place) (k : TokKind) → IsSign (token_spelling k) → record { place = p; kind = k } ≡ plain_token p (sign_text (token_spelling k))
+sign_kind p (Plain text) h = ap (plain_token p) (subst (Says text) (sign_only text h) (says text))
+sign_kind p (Str text) h = absurd h
 
-using_kind : (p : Place) (k : TokKind) → token_spelling k ≡ Using → record { place = p; kind = k } ≡ plain_token p (codes "USING:")
-using_kind p (Plain text) h = ap (plain_token p) (text_of_using text h)
-using_kind p (Str text) h = cc
-
-semi_kind : (p : Place) (k : TokKind) → token_spelling k ≡ Semi → record { place = p; kind = k } ≡ plain_token p (codes ";")
-semi_kind p (Plain text) h = ap (plain_token p) (text_of_semi text h)
-semi_kind p (Str text) h = cc
-
-pub using_token : (t : Token) → token_spelling t.kind ≡ Using → t ≡ plain_token t.place (codes "USING:")
-using_token t h = using_kind t.place t.kind h
-
-pub semi_token : (t : Token) → token_spelling t.kind ≡ Semi → t ≡ plain_token t.place (codes ";")
-semi_token t h = semi_kind t.place t.kind h
+-- a token that is spelled as a sign is that sign
+pub sign_token : (t : Token) (s : Spelling) → token_spelling t.kind ≡ s → IsSign s → t ≡ plain_token t.place (sign_text s)
+sign_token t s e h = subst (λ (s : Spelling). t ≡ plain_token t.place (sign_text s)) e (sign_kind t.place t.kind (subst IsSign (sym e) h))

@@ -1,122 +1,300 @@
--- Every resolved program is whole.
-use Rattle.std.proofs.Common.{◌≡◌, ℕ, Bool, true, ◌&&◌, List, [], ◌∷◌, ◌++◌, Ok, refl, sym, subst, arith}
+-- Every program of the forms built is whole where its effects have few names, and so is every resolved program.
+use Rattle.std.proofs.Common.{◌≡◌, ℕ, suc, ◌<◌, Bool, true, false, not, ◌&&◌, ◌||◌, List, [], ◌∷◌, ◌++◌, Option, Some, None, Result, Ok, Err, length, refl, ap, sym, ◌∙◌, subst, arith, append-nil}
 use Rattle.std.proofs.lemmas.Bool.Decides.{Decides-ltb}
-use Rattle.std.specs.Prelude.{zero, suc, ℤ, codes, nat_lt}
-use Rattle.fac_lang.specs.Built.{IsBuiltItem, IsBuiltText}
-use Rattle.fac_lang.specs.PrimitiveWords.{primitive_word}
+use Rattle.std.proofs.lemmas.List.{length_push}
+use Rattle.std.proofs.lemmas.List.Folds.{list_all-append}
+use Rattle.std.proofs.lemmas.Slice.Eq.{bytes_eq-Decides}
+use Rattle.std.specs.Prelude.{IfOk, ◌+◌, ℤ, codes, nat_lt, nat_le, nat_eq}
+use Rattle.std.specs.List.{list_all, list_any}
+use Rattle.std.specs.Str.{bytes_eq}
+use Rattle.fac_lang.specs.Built.{IsBuilt, IsBuiltItem, IsBuiltText, IsBuiltSort, AreBuiltWords, IsPrimitiveWord, IsDefinedWord, IsTopPhrase, IsPlainEffect, is_member, numbers_before, primitive_numbers, has_no_repeats}
+use Rattle.fac_lang.specs.Meaning.{sort_of}
+use Rattle.fac_lang.specs.PrimitiveWords.{PrimitiveWord, primitive_word, plain_inputs, plain_leaving, written_effect}
 use Rattle.fac_lang.specs.Texts.{Text, end, then, Item, lit, int, yes, no, str, iota, wrd, arr, tup, lit_arr, quot, word, bind, local, fry, hole, call_eff, exec_eff, next_method, made, next_after, held, known}
-use Rattle.fac_lang.specs.Whole.{IsWhole, each_item, each_inner, locals_bound, holes_within, item_fits, item_spares, tests_small}
+use Rattle.fac_lang.specs.Whole.{IsWhole, each_item, each_inner, each_numbered, locals_bound, holes_within, item_fits, item_spares, is_past, is_body, tests_small, word_texts, sort_fits, has_written_effect, has_generic_effect, marks_fit, effect_eq, inputs_eq, leaving_eq, names_eq, name_count, no_two, same_word, same_method}
 use Rattle.fac_lang.specs.declared.phrase.Place.{Place}
-use Rattle.fac_lang.specs.declared.program.ClassDef.{ClassDef}
-use Rattle.fac_lang.specs.declared.program.Lit.{Lit}
+use Rattle.fac_lang.specs.declared.program.Program.{Program}
+use Rattle.fac_lang.specs.declared.program.Sort.{Sort}
+use Rattle.fac_lang.specs.declared.program.Sort.TheVariants.{Prim as prim, Core as core, Body as body, Past as past, Itself as itself, Class as class, Isa as isa, Getter as getter, Setter as setter, Putter as putter, Generic as generic, Method as method}
 use Rattle.fac_lang.specs.declared.program.WordDef.{WordDef}
 use Rattle.fac_lang.specs.declared.tree.Form.{Form}
-use Rattle.fac_parse.specs.Resolution.{known_words, file_text, top_word, program_of}
-use Rattle.fac_parse.proofs.ResolutionLemmas.{text_built}
+use Rattle.fac_parse.specs.declared.resolver.NameFault.{NameFault}
+use Rattle.fac_parse.specs.declared.resolver.ResolveFault.{ResolveFault}
+use Rattle.fac_parse.specs.Resolution.{known_words, Contents, file_contents, top_word, program_of, with_contents, Resolves}
+use Rattle.fac_parse.specs.Trees.{IsWellFormed}
+use Rattle.fac_parse.proofs.BuiltPrograms.{AreOwnWords, contents_built, program_built}
+use Rattle.fac_lang.proofs.BuiltLemmas.{word_below, sort_at, top_sort, all_distinct}
 
--- What holds of each integer and of each of the eight words holds of each item of a resolved text.
-built_item : (M : Item → Type 0) → ((z : ℤ) → M (lit (int z))) → ((w : ℕ) → nat_lt w 8 ≡ true → M (word w)) → (i : Item) → IsBuiltItem 8 i → M i
-built_item M ints words (lit (int z)) h = ints z
-built_item M ints words (lit yes) h = absurd h
-built_item M ints words (lit no) h = absurd h
-built_item M ints words (lit (str bs)) h = absurd h
-built_item M ints words (lit (iota n)) h = absurd h
-built_item M ints words (lit (wrd w)) h = absurd h
-built_item M ints words (lit (arr a)) h = absurd h
-built_item M ints words (lit (tup a)) h = absurd h
-built_item M ints words (lit_arr a) h = absurd h
-built_item M ints words (quot t) h = absurd h
-built_item M ints words (word w) h = words w h
-built_item M ints words (bind x) h = absurd h
-built_item M ints words (local x) h = absurd h
-built_item M ints words (fry t n) h = absurd h
-built_item M ints words (hole k) h = absurd h
-built_item M ints words (call_eff e) h = absurd h
-built_item M ints words (exec_eff e) h = absurd h
-built_item M ints words next_method h = absurd h
-built_item M ints words (made k) h = absurd h
-built_item M ints words (next_after m) h = absurd h
-built_item M ints words (held v) h = absurd h
-built_item M ints words (known m) h = absurd h
+-- Texts.
+
+-- What holds of each integer and of each word of the program holds of each item of a built text.
+built_item : (bound : ℕ) (M : Item → Type 0) → ((z : ℤ) → M (lit (int z))) → ((w : ℕ) → nat_lt w bound ≡ true → M (word w)) → (i : Item) → IsBuiltItem bound i → M i
+built_item bound M ints words (lit (int z)) h = ints z
+built_item bound M ints words (lit yes) h = absurd h
+built_item bound M ints words (lit no) h = absurd h
+built_item bound M ints words (lit (str bs)) h = absurd h
+built_item bound M ints words (lit (iota n)) h = absurd h
+built_item bound M ints words (lit (wrd w)) h = absurd h
+built_item bound M ints words (lit (arr a)) h = absurd h
+built_item bound M ints words (lit (tup a)) h = absurd h
+built_item bound M ints words (lit_arr a) h = absurd h
+built_item bound M ints words (quot t) h = absurd h
+built_item bound M ints words (word w) h = words w h
+built_item bound M ints words (bind x) h = absurd h
+built_item bound M ints words (local x) h = absurd h
+built_item bound M ints words (fry t n) h = absurd h
+built_item bound M ints words (hole k) h = absurd h
+built_item bound M ints words (call_eff e) h = absurd h
+built_item bound M ints words (exec_eff e) h = absurd h
+built_item bound M ints words next_method h = absurd h
+built_item bound M ints words (made k) h = absurd h
+built_item bound M ints words (next_after m) h = absurd h
+built_item bound M ints words (held v) h = absurd h
+built_item bound M ints words (known m) h = absurd h
 
 three_true : (a b c : Bool) → a ≡ true → b ≡ true → c ≡ true → (a && b && c) ≡ true
 three_true a b c h k l = rw (h, k, l) refl
 
-each_built : (f : Item → Bool) → ((z : ℤ) → f (lit (int z)) ≡ true) → ((w : ℕ) → nat_lt w 8 ≡ true → f (word w) ≡ true) → (t : Text) → IsBuiltText 8 t → each_item f t ≡ true
-each_built f ints words end h = refl
-each_built f ints words (then i p t) h = three_true (f i) (each_inner f i) (each_item f t) (built_item (λ j. f j ≡ true) ints words i h.0) (built_item (λ j. each_inner f j ≡ true) (λ z. refl) (λ w k. refl) i h.0) (each_built f ints words t h.1)
+both_are : (a b : Bool) → a ≡ true → b ≡ true → (a && b) ≡ true
+both_are a b h k = rw (h, k) refl
 
-bound_after : (t : Text) (p : Place) → locals_bound [] t ≡ true → (i : Item) → IsBuiltItem 8 i → locals_bound [] (then i p t) ≡ true
-bound_after t p later i h = built_item (λ j. locals_bound [] (then j p t) ≡ true) (λ z. later) (λ w k. later) i h
+items_pass : (bound : ℕ) (f : Item → Bool) → ((z : ℤ) → f (lit (int z)) ≡ true) → ((w : ℕ) → nat_lt w bound ≡ true → f (word w) ≡ true) → (t : Text) → IsBuiltText bound t → each_item f t ≡ true
+items_pass bound f ints words end h = refl
+items_pass bound f ints words (then i p t) h =
+    three_true (f i) (each_inner f i) (each_item f t) (built_item bound (λ j. f j ≡ true) ints words i h.0) (built_item bound (λ j. each_inner f j ≡ true) (λ z. refl) (λ w k. refl) i h.0) (items_pass bound f ints words t h.1)
 
-built_bound : (t : Text) → IsBuiltText 8 t → locals_bound [] t ≡ true
-built_bound end h = refl
-built_bound (then i p t) h = bound_after t p (built_bound t h.1) i h.0
+bound_after : (bound : ℕ) (t : Text) (p : Place) → locals_bound [] t ≡ true → (i : Item) → IsBuiltItem bound i → locals_bound [] (then i p t) ≡ true
+bound_after bound t p later i h = built_item bound (λ j. locals_bound [] (then j p t) ≡ true) (λ z. later) (λ w k. later) i h
 
-without_holes : (t : Text) (p : Place) → holes_within 0 t ≡ true → (i : Item) → IsBuiltItem 8 i → holes_within 0 (then i p t) ≡ true
-without_holes t p later i h = built_item (λ j. holes_within 0 (then j p t) ≡ true) (λ z. later) (λ w k. later) i h
+text_bound : (bound : ℕ) (t : Text) → IsBuiltText bound t → locals_bound [] t ≡ true
+text_bound bound end h = refl
+text_bound bound (then i p t) h = bound_after bound t p (text_bound bound t h.1) i h.0
 
-built_without_holes : (t : Text) → IsBuiltText 8 t → holes_within 0 t ≡ true
-built_without_holes end h = refl
-built_without_holes (then i p t) h = without_holes t p (built_without_holes t h.1) i h.0
+without_holes : (bound : ℕ) (t : Text) (p : Place) → holes_within 0 t ≡ true → (i : Item) → IsBuiltItem bound i → holes_within 0 (then i p t) ≡ true
+without_holes bound t p later i h = built_item bound (λ j. holes_within 0 (then j p t) ≡ true) (λ z. later) (λ w k. later) i h
 
--- Each of the eight words, by its number.
-each_of_eight : (M : ℕ → Type 0) → M 0 → M 1 → M 2 → M 3 → M 4 → M 5 → M 6 → M 7 → (w : ℕ) → nat_lt w 8 ≡ true → M w
-each_of_eight M a b c d e f g i zero h = a
-each_of_eight M a b c d e f g i (suc zero) h = b
-each_of_eight M a b c d e f g i (suc (suc zero)) h = c
-each_of_eight M a b c d e f g i (suc (suc (suc zero))) h = d
-each_of_eight M a b c d e f g i (suc (suc (suc (suc zero)))) h = e
-each_of_eight M a b c d e f g i (suc (suc (suc (suc (suc zero))))) h = f
-each_of_eight M a b c d e f g i (suc (suc (suc (suc (suc (suc zero)))))) h = g
-each_of_eight M a b c d e f g i (suc (suc (suc (suc (suc (suc (suc zero))))))) h = i
-each_of_eight M a b c d e f g i (suc (suc (suc (suc (suc (suc (suc (suc n)))))))) h = let below = (Decides-ltb (suc (suc (suc (suc (suc (suc (suc (suc n)))))))) 8).0 h in absurd (omega arith)
+text_without_holes : (bound : ℕ) (t : Text) → IsBuiltText bound t → holes_within 0 t ≡ true
+text_without_holes bound end h = refl
+text_without_holes bound (then i p t) h = without_holes bound t p (text_without_holes bound t h.1) i h.0
 
-word_fits : (t : Text) (w : ℕ) → nat_lt w 8 ≡ true → item_fits (program_of t) (word w) ≡ true
-unfolding known_words primitive_word
-word_fits t w h = each_of_eight (λ v. item_fits (program_of t) (word v) ≡ true) refl refl refl refl refl refl refl refl w h
+-- Words.
 
-word_spares : (t : Text) (w : ℕ) → nat_lt w 8 ≡ true → item_spares (program_of t) (word w) ≡ true
-unfolding known_words primitive_word
-word_spares t w h = each_of_eight (λ v. item_spares (program_of t) (word v) ≡ true) refl refl refl refl refl refl refl refl w h
+-- what holds of each primitive and of each word that is defined by a text holds of each built word
+built_sort : (bound : ℕ) (d : WordDef) (M : Sort → Type 0) → ((k : ℕ) → IsPrimitiveWord d k → M (prim k)) → ((t : Text) → IsDefinedWord bound d t → M (body t)) → (s : Sort) → IsBuiltSort bound d s → M s
+built_sort bound d M prims bodies (prim k) h = prims k h
+built_sort bound d M prims bodies (core k) h = absurd h
+built_sort bound d M prims bodies (body t) h = bodies t h
+built_sort bound d M prims bodies (past t) h = absurd h
+built_sort bound d M prims bodies itself h = absurd h
+built_sort bound d M prims bodies (class c) h = absurd h
+built_sort bound d M prims bodies (isa c) h = absurd h
+built_sort bound d M prims bodies (getter s) h = absurd h
+built_sort bound d M prims bodies (setter s) h = absurd h
+built_sort bound d M prims bodies (putter s) h = absurd h
+built_sort bound d M prims bodies generic h = absurd h
+built_sort bound d M prims bodies (method c g t) h = absurd h
 
--- a test of the one text
-one_text : (b : Bool) → b ≡ true → (b && true) ≡ true
-one_text b h = rw h refl
+words_pass : (bound : ℕ) (f : WordDef → Bool) → ((d : WordDef) → IsBuiltSort bound d d.sort → f d ≡ true) → (ds : List WordDef) → AreBuiltWords bound ds → list_all f ds ≡ true
+words_pass bound f each [] h = refl
+words_pass bound f each (d ∷ ds) h = both_are (f d) (list_all f ds) (each d h.0) (words_pass bound f each ds h.1)
 
-pub whole : (t : Text) → IsBuiltText 8 t → IsWhole (program_of t)
-unfolding known_words primitive_word
-whole t h =
+-- the texts of words
+texts_pass : (bound : ℕ) (f : Text → Bool) → ((t : Text) → IsBuiltText bound t → f t ≡ true) → (ds : List WordDef) → AreBuiltWords bound ds → list_all f (word_texts ds) ≡ true
+texts_pass bound f each [] h = refl
+texts_pass bound f each (d ∷ ds) h =
+    let later = texts_pass bound f each ds h.1 in
+    built_sort bound d (λ s. list_all f (elim s [ body t ↦ t ∷ word_texts ds | past t ↦ t ∷ word_texts ds | method c g t ↦ t ∷ word_texts ds | _ ↦ word_texts ds ]) ≡ true)
+    (λ k prim_is. later) (λ u own. both_are (f u) (list_all f (word_texts ds)) (each u own.text_built) later) d.sort h.0
+
+all_texts_pass : (bound : ℕ) (f : Text → Bool) → ((t : Text) → IsBuiltText bound t → f t ≡ true) → (ds : List WordDef) → AreBuiltWords bound ds → list_all f (word_texts ds ++ []) ≡ true
+all_texts_pass bound f each ds h = ap (list_all f) (append-nil (word_texts ds)) ∙ texts_pass bound f each ds h
+
+all_items_pass : (bound : ℕ) (f : Item → Bool) → ((z : ℤ) → f (lit (int z)) ≡ true) → ((w : ℕ) → nat_lt w bound ≡ true → f (word w) ≡ true) → (ds : List WordDef) → AreBuiltWords bound ds → list_all (each_item f) (word_texts ds ++ []) ≡ true
+all_items_pass bound f ints words ds h = all_texts_pass bound (each_item f) (λ t built. items_pass bound f ints words t built) ds h
+
+-- the words with the top-level phrase
+all_built : (P : Program) (b : IsBuilt P) → AreBuiltWords P.top P.words
+all_built P b = subst (AreBuiltWords P.top) (sym b.words_are) (phrase_last P.top b.words b.phrase b.text b.built b.phrase_is)
+  where
+    phrase_built : (bound : ℕ) (p : WordDef) (t : Text) → IsTopPhrase bound p t → IsBuiltSort bound p p.sort
+    phrase_built bound p t h =
+        subst (IsBuiltSort bound p) (sym h.sort_is) (record { text_built = h.text_built; plain = subst IsPlainEffect (sym h.effect_is) (refl, tt, refl); not_inline = h.not_inline; not_recursive = h.not_recursive })
+
+    phrase_last : (bound : ℕ) (ds : List WordDef) (p : WordDef) (t : Text) → AreBuiltWords bound ds → IsTopPhrase bound p t → AreBuiltWords bound (ds ++ p ∷ [])
+    phrase_last bound [] p t h is = (phrase_built bound p t is, tt)
+    phrase_last bound (d ∷ ds) p t h is = (h.0, phrase_last bound ds p t h.1 is)
+
+-- Tests of one word.
+
+sort_passes : (P : Program) (bound : ℕ) (d : WordDef) → IsBuiltSort bound d d.sort → sort_fits P d.sort ≡ true
+sort_passes P bound d h = built_sort bound d (λ s. sort_fits P s ≡ true) (λ k is. rw is.row_is refl) (λ t is. refl) d.sort h
+
+names_same : (xs : List (List ℕ)) → names_eq xs xs ≡ true
+names_same [] = refl
+names_same (x ∷ xs) = both_are (bytes_eq x x) (names_eq xs xs) ((bytes_eq-Decides x x).1 refl) (names_same xs)
+
+inputs_same : (xs : List (List ℕ)) → inputs_eq (plain_inputs xs) (plain_inputs xs) ≡ true
+inputs_same [] = refl
+inputs_same (x ∷ xs) = both_are (bytes_eq x x) (inputs_eq (plain_inputs xs) (plain_inputs xs)) ((bytes_eq-Decides x x).1 refl) (inputs_same xs)
+
+leaving_same : (outs : Option (List (List ℕ))) → leaving_eq (plain_leaving outs) (plain_leaving outs) ≡ true
+leaving_same None = refl
+leaving_same (Some xs) = names_same xs
+
+effect_same : (row : PrimitiveWord) → effect_eq (written_effect row) (written_effect row) ≡ true
+effect_same row = both_are (inputs_eq (plain_inputs row.ins) (plain_inputs row.ins)) (leaving_eq (plain_leaving row.outs) (plain_leaving row.outs)) (inputs_same row.ins) (leaving_same row.outs)
+
+effect_passes : (bound : ℕ) (d : WordDef) → IsBuiltSort bound d d.sort → has_written_effect d ≡ true
+effect_passes bound d h =
+    built_sort bound d (λ s. d.sort ≡ s → has_written_effect d ≡ true) (λ k p is. rw (is, p.row_is, p.effect_is) (effect_same p.row)) (λ t p is. rw is refl) d.sort h refl
+
+generic_effect_passes : (P : Program) (bound : ℕ) (d : WordDef) → IsBuiltSort bound d d.sort → has_generic_effect P d ≡ true
+generic_effect_passes P bound d h = built_sort bound d (λ s. d.sort ≡ s → has_generic_effect P d ≡ true) (λ k p is. rw is refl) (λ t p is. rw is refl) d.sort h refl
+
+unmarked : (bound : ℕ) (d : WordDef) → IsBuiltSort bound d d.sort → (d.inline ≡ false) × (d.recursive ≡ false)
+unmarked bound d h = built_sort bound d (λ s. (d.inline ≡ false) × (d.recursive ≡ false)) (λ k p. (p.not_inline, p.not_recursive)) (λ t p. (p.not_inline, p.not_recursive)) d.sort h
+
+marks_pass : (P : Program) (bound : ℕ) (n : ℕ) (ds : List WordDef) → AreBuiltWords bound ds → each_numbered (marks_fit P) n ds ≡ true
+marks_pass P bound n [] h = refl
+marks_pass P bound n (d ∷ ds) h =
+    let none = unmarked bound d h.0 in both_are (marks_fit P n d) (each_numbered (marks_fit P) (suc n) ds) (rw (none.0, none.1) refl) (marks_pass P bound (suc n) ds h.1)
+
+-- Numbers of words.
+
+is_other : (a b : ℕ) → a < b → nat_eq a b ≡ false
+is_other a b lt = grind arith
+
+not_past : (bound : ℕ) (d : WordDef) → IsBuiltSort bound d d.sort → is_past (Some d.sort) ≡ false
+not_past bound d h = built_sort bound d (λ s. is_past (Some s) ≡ false) (λ k p. refl) (λ t p. refl) d.sort h
+
+words_counted : (P : Program) → IsBuilt P → length P.words ≡ suc P.top
+words_counted P b = let all = ap length b.words_are ∙ length_push b.words b.phrase in let top = b.top_is in omega (arith, all, top)
+
+word_fits : (P : Program) → IsBuilt P → (w : ℕ) → nat_lt w P.top ≡ true → item_fits P (word w) ≡ true
+word_fits P b w h = let below = (Decides-ltb w P.top).0 h in let all = words_counted P b in (Decides-ltb w (length P.words)).1 (omega (arith, below, all))
+
+word_spares : (P : Program) → IsBuilt P → (w : ℕ) → nat_lt w P.top ≡ true → item_spares P (word w) ≡ true
+word_spares P b w h =
+    let below = (Decides-ltb w P.top).0 h in
+    let there = word_below P b w below in
+    both_are (not (nat_eq w P.top)) (not (is_past (sort_of P w))) (ap not (is_other w P.top below)) (ap not (ap is_past (sort_at P w there.def there.at) ∙ not_past P.top there.def there.built))
+
+-- Words that are there once.
+
+none_passes : {A : Type 0} (f : A → Bool) → ((x : A) → f x ≡ false) → (xs : List A) → list_any f xs ≡ false
+none_passes f each [] = refl
+none_passes f each (x ∷ xs) = rw (each x) (none_passes f each xs)
+
+same_primitive : (c d : WordDef) (j k : ℕ) → c.sort ≡ prim j → d.sort ≡ prim k → same_word c d ≡ nat_eq j k
+same_primitive c d j k is there = rw (is, there) refl
+
+not_defined : (c d : WordDef) (j : ℕ) (t : Text) → c.sort ≡ prim j → d.sort ≡ body t → same_word c d ≡ false
+not_defined c d j t is there = rw (is, there) refl
+
+either : (a b c d : Bool) → a ≡ c → b ≡ d → (a || b) ≡ (c || d)
+either a b c d h k = rw (h, k) refl
+
+-- a primitive is alike to the words of its number alone
+alike : (bound : ℕ) (c : WordDef) (j : ℕ) (ds : List WordDef) → c.sort ≡ prim j → AreBuiltWords bound ds → list_any (same_word c) ds ≡ is_member j (primitive_numbers ds)
+alike bound c j [] is h = refl
+alike bound c j (d ∷ ds) is h =
+    let later = alike bound c j ds is h.1 in
+    built_sort bound d (λ s. d.sort ≡ s → (same_word c d || list_any (same_word c) ds) ≡ is_member j (numbers_before s (primitive_numbers ds)))
+    (λ k p there. either (same_word c d) (list_any (same_word c) ds) (nat_eq j k) (is_member j (primitive_numbers ds)) (same_primitive c d j k is there) later)
+    (λ t p there. either (same_word c d) (list_any (same_word c) ds) false (is_member j (primitive_numbers ds)) (not_defined c d j t is there) later)
+    d.sort h.0 refl
+
+both_true : (a b : Bool) → (a && b) ≡ true → (a ≡ true) × (b ≡ true)
+both_true true b h = (refl, h)
+both_true false b h = cc
+
+first_alone : (bound : ℕ) (d : WordDef) (ds : List WordDef) → AreBuiltWords bound ds → (s : Sort) → IsBuiltSort bound d s → d.sort ≡ s → has_no_repeats (numbers_before s (primitive_numbers ds)) ≡ true → (not (list_any (same_word d) ds) ≡ true) × (has_no_repeats (primitive_numbers ds) ≡ true)
+first_alone bound d ds h s built =
+    built_sort bound d (λ s. d.sort ≡ s → has_no_repeats (numbers_before s (primitive_numbers ds)) ≡ true → (not (list_any (same_word d) ds) ≡ true) × (has_no_repeats (primitive_numbers ds) ≡ true))
+    (λ k p is once. let both = both_true (not (is_member k (primitive_numbers ds))) (has_no_repeats (primitive_numbers ds)) once in (ap not (alike bound d k ds is h) ∙ both.0, both.1))
+    (λ t p is once. (ap not (none_passes (same_word d) (λ e. rw is refl) ds), once))
+    s built
+
+words_alone : (bound : ℕ) (ds : List WordDef) → AreBuiltWords bound ds → has_no_repeats (primitive_numbers ds) ≡ true → no_two same_word ds ≡ true
+words_alone bound [] h once = refl
+words_alone bound (d ∷ ds) h once =
+    let first = first_alone bound d ds h.1 d.sort h.0 refl once in both_are (not (list_any (same_word d) ds)) (no_two same_word ds) first.0 (words_alone bound ds h.1 first.1)
+
+no_methods : (bound : ℕ) (ds : List WordDef) → AreBuiltWords bound ds → no_two same_method ds ≡ true
+no_methods bound [] h = refl
+no_methods bound (d ∷ ds) h =
+    let other : (e : WordDef) → same_method d e ≡ false = built_sort bound d (λ s. d.sort ≡ s → (e : WordDef) → same_method d e ≡ false) (λ k p is e. rw is refl) (λ t p is e. rw is refl) d.sort h.0 refl in
+    both_are (not (list_any (same_method d) ds)) (no_two same_method ds) (ap not (none_passes (same_method d) other ds)) (no_methods bound ds h.1)
+
+pub whole : (words : List WordDef) (top : ℕ) → IsBuilt (record { words = words; arrays = []; classes = []; top = top }) → list_all (λ (d : WordDef). nat_le (name_count d.effect) 65) words ≡ true → IsWhole (record { words = words; arrays = []; classes = []; top = top })
+whole words top b few =
+    let P : Program = record { words = words; arrays = []; classes = []; top = top } in
+    let all = all_built P b in
     record {
-      items_fit = one_text (each_item (item_fits (program_of t)) t) (each_built (item_fits (program_of t)) (λ z. refl) (word_fits t) t h);
+      items_fit = all_items_pass top (item_fits P) (λ z. refl) (word_fits P b) words all;
       literals_fit = refl;
-      sorts_fit = refl;
+      sorts_fit = words_pass top (λ d. sort_fits P d.sort) (sort_passes P top) words all;
       shapes_fit = refl;
       arrays_earlier = refl;
       arrays_once = refl;
-      top_last = refl;
-      top_phrase = refl;
-      items_spare = one_text (each_item (item_spares (program_of t)) t) (each_built (item_spares (program_of t)) (λ z. refl) (word_spares t) t h);
+      top_last = words_counted P b;
+      top_phrase = ap is_body (top_sort P b);
+      items_spare = all_items_pass top (item_spares P) (λ z. refl) (word_spares P b) words all;
       literals_spare = refl;
-      bound = one_text (locals_bound [] t) (built_bound t h);
-      holes_in_fries = one_text (holes_within 0 t) (built_without_holes t h);
-      written_effects = refl;
-      method_effects = refl;
-      marks_of_bodies = refl;
-      few_names = refl;
-      small_tests = one_text (each_item tests_small t) (each_built tests_small (λ z. refl) (λ w k. refl) t h);
+      bound = all_texts_pass top (locals_bound []) (text_bound top) words all;
+      holes_in_fries = all_texts_pass top (holes_within 0) (text_without_holes top) words all;
+      written_effects = words_pass top has_written_effect (effect_passes top) words all;
+      method_effects = words_pass top (has_generic_effect P) (generic_effect_passes P top) words all;
+      marks_of_bodies = marks_pass P top 0 words all;
+      few_names = few;
+      small_tests = all_items_pass top tests_small (λ z. refl) (λ w k. refl) words all;
       slots_differ = refl;
       few_slots = refl;
       class_names_differ = refl;
       classes_end = refl;
-      words_differ = refl;
-      methods_differ = refl;
+      words_differ = words_alone top words all (all_distinct P b);
+      methods_differ = no_methods top words all;
     }
 
--- the program that is made of a resolved text
-pub whole_from : (forms : List Form) (t : Text) (words : List WordDef) (arrays : List (List Lit)) (classes : List ClassDef) → file_text forms ≡ Ok t → words ≡ known_words ++ top_word t ∷ [] → arrays ≡ [] → classes ≡ [] → IsWhole (record { words = words; arrays = arrays; classes = classes; top = 8 })
-whole_from forms t words arrays classes e w a c =
-    subst (λ (ws : List WordDef). IsWhole (record { words = ws; arrays = arrays; classes = classes; top = 8 })) (sym w)
-    (subst (λ (ls : List (List Lit)). IsWhole (record { words = known_words ++ top_word t ∷ []; arrays = ls; classes = classes; top = 8 })) (sym a)
-    (subst (λ (cs : List ClassDef). IsWhole (record { words = known_words ++ top_word t ∷ []; arrays = []; classes = cs; top = 8 })) (sym c)
-    (whole t (text_built forms (codes "syntax" ∷ []) t e))))
+-- Resolved programs.
+
+abbrev has_few_names : WordDef → Bool
+has_few_names d = nat_le (name_count d.effect) 65
+
+own_few : (bound : ℕ) (ds : List WordDef) → AreOwnWords bound ds → list_all has_few_names ds ≡ true
+own_few bound [] h = refl
+own_few bound (d ∷ ds) h = both_are (has_few_names d) (list_all has_few_names ds) h.0.few (own_few bound ds h.1)
+
+known_few : list_all has_few_names known_words ≡ true
+unfolding known_words primitive_word
+known_few = refl
+
+all_few : (bound : ℕ) (c : Contents) → AreOwnWords bound c.words → list_all has_few_names (known_words ++ c.words ++ top_word c.text ∷ []) ≡ true
+all_few bound c own =
+    list_all-append has_few_names (known_words ++ c.words) (top_word c.text ∷ [])
+    ∙ both_are (list_all has_few_names (known_words ++ c.words)) true
+    (list_all-append has_few_names known_words c.words ∙ both_are (list_all has_few_names known_words) (list_all has_few_names c.words) known_few (own_few bound c.words own))
+    refl
+
+program_built_of : (forms : List Form) (r : Result Contents NameFault) (P : Program) → IsWellFormed forms → file_contents forms ≡ r → with_contents r ≡ Ok P → IsBuilt P
+program_built_of forms (Ok c) P fits e is =
+    let same : program_of c ≡ P = cc in
+    let built = contents_built forms (codes "syntax" ∷ []) c fits e in
+    subst IsBuilt same (program_built c built.0 built.1)
+program_built_of forms (Err f) P fits e is = cc
+
+program_whole_of : (forms : List Form) (r : Result Contents NameFault) (P : Program) → IsWellFormed forms → file_contents forms ≡ r → with_contents r ≡ Ok P → IsWhole P
+program_whole_of forms (Ok c) P fits e is =
+    let same : program_of c ≡ P = cc in
+    let top = length known_words + length c.words in
+    let built = contents_built forms (codes "syntax" ∷ []) c fits e in
+    subst IsWhole same (whole (known_words ++ c.words ++ top_word c.text ∷ []) top (program_built c built.0 built.1) (all_few top c built.0))
+program_whole_of forms (Err f) P fits e is = cc
+
+pub resolved_built : (forms : List Form) (e : Result Program ResolveFault) → IsWellFormed forms → Resolves forms e → IfOk e (λ P. IsBuilt P)
+resolved_built forms (Ok P) fits h = program_built_of forms (file_contents forms) P fits refl h
+resolved_built forms (Err f) fits h = tt
+
+pub resolved_whole : (forms : List Form) (e : Result Program ResolveFault) → IsWellFormed forms → Resolves forms e → IfOk e (λ P. IsWhole P)
+resolved_whole forms (Ok P) fits h = program_whole_of forms (file_contents forms) P fits refl h
+resolved_whole forms (Err f) fits h = tt

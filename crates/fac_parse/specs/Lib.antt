@@ -6,5 +6,6 @@ pub mod Trees
 pub mod Reader
 pub mod Vocabularies
 pub mod Resolution
+pub mod OwnNames
 pub mod Resolver
 pub mod PlainEffects

@@ -1,16 +1,52 @@
 -- How names are resolved, a form at a time.
-use Rattle.std.specs.Prelude.{◌≡◌, ℕ, List, [], ◌∷◌, Result, Ok, Err}
+use Rattle.std.specs.Prelude.{◌≡◌, ℕ, List, [], ◌∷◌, ◌++◌, length, Option, Some, None, Result, Ok, Err}
 use Rattle.fac_lang.specs.Texts.{Text, then}
-use Rattle.fac_lang.specs.View.{what_item}
+use Rattle.fac_lang.specs.View.{what_item, items_text}
 use Rattle.fac_lang.specs.declared.phrase.Item.{Item}
+use Rattle.fac_lang.specs.declared.phrase.What.TheVariants.{Int, Word}
+use Rattle.fac_lang.specs.declared.program.Name.{Name as FullName}
+use Rattle.fac_lang.specs.declared.program.Program.{Program}
+use Rattle.fac_lang.specs.declared.program.WordDef.{WordDef}
 use Rattle.fac_lang.specs.declared.token.Token.{Token}
 use Rattle.fac_lang.specs.declared.tree.Form.{Form}
-use Rattle.fac_lang.specs.declared.tree.Form.TheVariants as form
 use Rattle.fac_lang.specs.declared.tree.Term.{Term}
+use Rattle.fac_lang.specs.declared.tree.Term.TheVariants as term
+use Rattle.fac_lang.specs.declared.tree.WrittenEffect.{WrittenEffect}
 use Rattle.fac_parse.specs.declared.resolver.NameFault.{NameFault}
+use Rattle.fac_parse.specs.declared.resolver.NameKind.TheVariants.{Unknown}
 use Rattle.fac_parse.specs.declared.resolver.ResolveFault.{ResolveFault}
 use Rattle.fac_parse.specs.declared.resolver.ResolveFault.TheVariants.{Name, Memory}
-use Rattle.fac_parse.specs.Resolution.{uses, text_of, file_text}
+use Rattle.fac_parse.specs.declared.resolver.SoFar.{SoFar}
+use Rattle.fac_parse.specs.OwnNames.{names_with}
+use Rattle.fac_parse.specs.Resolution.{known_words, found, is_taken, name_fault, uses, text_of, Contents, unless_taken, after_text, contents_of, file_contents, top_word}
+use Rattle.fac_parse.specs.Trees.{token_text}
+
+-- what using vocabularies answers
+abbrev pub Uses : List (List ℕ) → List Token → List (List ℕ) → Result Unit ResolveFault → Type 0
+Uses old vocabs new (Ok done) = uses old vocabs ≡ Ok new
+Uses old vocabs new (Err (Name fault)) = uses old vocabs ≡ Err fault
+Uses old vocabs new (Err Memory) = Unit {0}
+
+-- Items.
+
+abbrev pub found_item : Option ℕ → Token → Result Item NameFault
+found_item (Some n) t = Ok (record { what = Word n; place = t.place })
+found_item None t = Err (name_fault Unknown t)
+
+-- an item, or that its name is refused
+abbrev pub term_item : List FullName → List (List ℕ) → Term → Result Item NameFault
+term_item known used (term.Integer t value) = Ok (record { what = Int value; place = t.place })
+term_item known used (term.Name t) = found_item (found known used (token_text t.kind)) t
+
+abbrev pub with_new : List Item → Result Item NameFault → Result (List Item) NameFault
+with_new items (Ok item) = Ok (items ++ item ∷ [])
+with_new items (Err fault) = Err fault
+
+-- what taking an item answers, with the items before and after it
+abbrev pub TakesItem : List FullName → List (List ℕ) → Term → List Item → List Item → Result Unit ResolveFault → Type 0
+TakesItem known used item items items_then (Ok done) = with_new items (term_item known used item) ≡ Ok items_then
+TakesItem known used item items items_then (Err (Name fault)) = term_item known used item ≡ Err fault
+TakesItem known used item items items_then (Err Memory) = Unit {0}
 
 -- items before a text
 abbrev pub items_before : List Item → Text → Text
@@ -21,24 +57,60 @@ abbrev pub before : List Item → Result Text NameFault → Result Text NameFaul
 before items (Ok text) = Ok (items_before items text)
 before items (Err fault) = Err fault
 
--- what using vocabularies answers
-abbrev pub Uses : List (List ℕ) → List Token → List (List ℕ) → Result Unit ResolveFault → Type 0
-Uses old vocabs new (Ok done) = uses old vocabs ≡ Ok new
-Uses old vocabs new (Err (Name fault)) = uses old vocabs ≡ Err fault
-Uses old vocabs new (Err Memory) = Unit {0}
+-- what reading the items of a word answers
+abbrev pub ReadsText : List FullName → List (List ℕ) → List Term → Result Text ResolveFault → Type 0
+ReadsText known used items (Ok text) = text_of known used items ≡ Ok text
+ReadsText known used items (Err (Name fault)) = text_of known used items ≡ Err fault
+ReadsText known used items (Err Memory) = Unit {0}
 
--- what taking a form answers, with the used vocabularies and the items before and after
-abbrev pub TakesForm : Form → List (List ℕ) → List Item → List (List ℕ) → List Item → Result Unit ResolveFault → Type 0
-TakesForm form used items used_then items_then (Ok done) = (rest : List Form) → before items (text_of used (form ∷ rest)) ≡ before items_then (text_of used_then rest)
-TakesForm form used items used_then items_then (Err (Name fault)) = (rest : List Form) → text_of used (form ∷ rest) ≡ Err fault
-TakesForm form used items used_then items_then (Err Memory) = Unit {0}
+-- Forms.
+
+-- words and items before what follows
+abbrev pub after_made : List WordDef → List Item → Result Contents NameFault → Result Contents NameFault
+after_made words items (Ok c) = Ok (record { words = words ++ c.words; text = items_before items c.text })
+after_made words items (Err fault) = Err fault
+
+-- what was made so far, and then what the forms from here on define and do
+abbrev pub contents_after : SoFar → List Form → Result Contents NameFault
+contents_after s forms = after_made s.words s.items.items (contents_of (names_with s.own) s.used forms)
+
+-- a definition before what follows
+abbrev pub defining : SoFar → Token → WrittenEffect → List Term → Result Contents NameFault → Result Contents NameFault
+defining s name effect items rest =
+    unless_taken (is_taken (names_with s.own) (token_text name.kind)) name (after_text name effect (text_of (names_with (s.own ++ token_text name.kind ∷ [])) s.used items) rest)
+
+-- the definition adds its word and its name, and nothing else
+pub record IsDefined (s : SoFar) (name : Token) (effect : WrittenEffect) (items : List Term) (s_then : SoFar) : Type 0 where
+  pub made : (rest : Result Contents NameFault) → after_made s.words s.items.items (defining s name effect items rest) ≡ after_made s_then.words s_then.items.items rest
+  pub own : s_then.own ≡ s.own ++ token_text name.kind ∷ []
+  pub used : s_then.used ≡ s.used
+
+-- a name of the definition is refused
+abbrev pub DefinitionFails : SoFar → Token → WrittenEffect → List Term → ResolveFault → Type 0
+DefinitionFails s name effect items (Name fault) = (rest : Result Contents NameFault) → defining s name effect items rest ≡ Err fault
+DefinitionFails s name effect items Memory = Unit {0}
+
+-- what taking a definition answers, with what was made before and after it
+abbrev pub Defines : SoFar → Token → WrittenEffect → List Term → SoFar → Result Unit ResolveFault → Type 0
+Defines s name effect items s_then (Ok done) = IsDefined s name effect items s_then
+Defines s name effect items s_then (Err fault) = DefinitionFails s name effect items fault
+
+-- what taking a form answers, with what was made before and after it
+abbrev pub TakesForm : SoFar → Form → SoFar → Result Unit ResolveFault → Type 0
+TakesForm s form s_then (Ok done) = (rest : List Form) → contents_after s (form ∷ rest) ≡ contents_after s_then rest
+TakesForm s form s_then (Err (Name fault)) = (rest : List Form) → contents_of (names_with s.own) s.used (form ∷ rest) ≡ Err fault
+TakesForm s form s_then (Err Memory) = Unit {0}
+
+-- before the first form
+abbrev pub IsFirst : SoFar → Type 0
+IsFirst s = (forms : List Form) → contents_after s forms ≡ after_made known_words [] (file_contents forms)
 
 -- what reading all forms answers
-abbrev pub ReadsForms : List Form → Result Text ResolveFault → Type 0
-ReadsForms forms (Ok text) = file_text forms ≡ Ok text
-ReadsForms forms (Err (Name fault)) = file_text forms ≡ Err fault
+abbrev pub ReadsForms : List Form → Result SoFar ResolveFault → Type 0
+ReadsForms forms (Ok s) = after_made known_words [] (file_contents forms) ≡ Ok (record { words = s.words; text = items_text s.items.items })
+ReadsForms forms (Err (Name fault)) = file_contents forms ≡ Err fault
 ReadsForms forms (Err Memory) = Unit {0}
 
--- the same for an item, which uses no vocabulary
-abbrev pub TakesItem : Term → List (List ℕ) → List Item → List Item → Result Unit ResolveFault → Type 0
-TakesItem item used items items_then answer = TakesForm (form.Item item) used items used items_then answer
+-- the program of these words and this top-level phrase
+abbrev pub program_with : List WordDef → Text → Program
+program_with words text = record { words = words ++ top_word text ∷ []; arrays = []; classes = []; top = length words }

@@ -1,12 +1,12 @@
 -- What a token is to the grammar, by how it is spelled.
 use Rattle.std.specs.List.{list_all, list_any}
-use Rattle.std.specs.Prelude.{◌≡◌, ℕ, ℤ, pos, nat_eq, Bool, true, false, not, ◌&&◌, ◌||◌, List, [], ◌∷◌, Option, Some, None, is_some, codes, if◌then◌else◌}
+use Rattle.std.specs.Prelude.{◌≡◌, ℕ, ℤ, pos, nat_eq, Bool, true, false, not, ◌&&◌, ◌||◌, List, [], ◌∷◌, Option, Some, None, is_some, codes, take, drop, length, ◌-◌, if◌then◌else◌}
 use Rattle.std.specs.Str.{bytes_eq}
 use Rattle.fac_lang.specs.Numbers.{signed_in, integer_in, digits_in, negated, in_range}
 use Rattle.fac_lang.specs.declared.token.TokKind.{TokKind}
 use Rattle.fac_lang.specs.declared.token.TokKind.TheVariants.{Plain, Str}
 use Rattle.fac_parse.specs.declared.spelling.Spelling.{Spelling}
-use Rattle.fac_parse.specs.declared.spelling.Spelling.TheVariants.{Using, Semi, Integer, Name, Other}
+use Rattle.fac_parse.specs.declared.spelling.Spelling.TheVariants.{Using, Colon, Semi, Opens, Closes, Dashes, Integer, Name, Other}
 
 -- a text in one of the integer forms, in range or not
 unfoldable pub has_integer_form : List ℕ → Bool
@@ -59,10 +59,20 @@ is_reserved text = is_reserved_sign text || is_reserved_form text || is_reserved
 unfoldable pub is_quiet : List ℕ → Bool
 is_quiet text = not (bytes_eq text (codes "!")) && list_all (λ c. not (nat_eq c 34)) text
 
+-- the tokens that forms are made of
+abbrev pub sign_spelling : List ℕ → Option Spelling
+sign_spelling text =
+    (if bytes_eq text (codes "USING:") then Some Using
+    else if bytes_eq text (codes ":") then Some Colon
+    else if bytes_eq text (codes ";") then Some Semi
+    else if bytes_eq text (codes "(") then Some Opens
+    else if bytes_eq text (codes ")") then Some Closes
+    else if bytes_eq text (codes "--") then Some Dashes
+    else None)
+
 -- a token in no integer form
 unfoldable pub word_spelling : List ℕ → Spelling
-word_spelling text =
-    (if bytes_eq text (codes "USING:") then Using else if bytes_eq text (codes ";") then Semi else if not (is_reserved text) && is_quiet text then Name else Other)
+word_spelling text = elim (sign_spelling text) [ Some s ↦ s | None ↦ if not (is_reserved text) && is_quiet text then Name else Other ]
 
 abbrev pub integer_spelling : Option ℤ → Spelling
 integer_spelling (Some z) = Integer z
@@ -74,3 +84,14 @@ spelling_of text = (if has_integer_form text then integer_spelling (literal_in t
 abbrev pub token_spelling : TokKind → Spelling
 token_spelling (Plain text) = spelling_of text
 token_spelling (Str text) = Other
+
+-- Names in effects. One that begins with two dots is a row variable, and one that ends in a colon is followed by a class or an effect.
+abbrev pub is_row_name : List ℕ → Bool
+is_row_name text = bytes_eq (take 2 text) (codes "..")
+
+abbrev pub is_described_name : List ℕ → Bool
+is_described_name text = bytes_eq (drop (length text - 1) text) (codes ":")
+
+-- a name of an effect that only counts a value
+unfoldable pub is_value_name : List ℕ → Bool
+is_value_name text = not (is_row_name text) && not (is_described_name text)

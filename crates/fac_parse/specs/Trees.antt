@@ -1,18 +1,21 @@
 -- Trees, their tokens, and which trees are well-formed.
-use Rattle.std.specs.Prelude.{◌≡◌, ℕ, List, [], ◌∷◌, ◌++◌, codes, Result, Ok, Err}
+use Rattle.std.specs.Prelude.{◌≡◌, ◌≤◌, ◌+◌, ℕ, List, [], ◌∷◌, ◌++◌, length, Bool, true, false, codes, Result, Ok, Err}
+use Rattle.std.specs.Str.{bytes_eq}
 use Rattle.fac_lang.specs.declared.phrase.Place.{Place}
 use Rattle.fac_lang.specs.declared.token.Token.{Token}
-use Rattle.fac_lang.specs.declared.token.TokKind.TheVariants.{Plain}
+use Rattle.fac_lang.specs.declared.token.TokKind.{TokKind}
+use Rattle.fac_lang.specs.declared.token.TokKind.TheVariants.{Plain, Str}
 use Rattle.fac_lang.specs.declared.tree.Tree.{Tree}
 use Rattle.fac_lang.specs.declared.tree.Term.{Term}
 use Rattle.fac_lang.specs.declared.tree.Term.TheVariants as term
 use Rattle.fac_lang.specs.declared.tree.Form.{Form}
-use Rattle.fac_lang.specs.declared.tree.Form.TheVariants.{Using, Item}
+use Rattle.fac_lang.specs.declared.tree.Form.TheVariants.{Using, Define, Item}
+use Rattle.fac_lang.specs.declared.tree.WrittenEffect.{WrittenEffect}
 use Rattle.fac_parse.specs.declared.spelling.Spelling.TheVariants as spelled
 use Rattle.fac_parse.specs.declared.reader.ParseFault.{ParseFault}
 use Rattle.fac_parse.specs.declared.reader.ParseFault.TheVariants.{Syntax, Memory}
 use Rattle.fac_parse.specs.declared.reader.Why.TheVariants.{Other}
-use Rattle.fac_parse.specs.Spellings.{token_spelling}
+use Rattle.fac_parse.specs.Spellings.{token_spelling, is_value_name}
 
 -- a plain token at a place
 abbrev pub plain_token : Place → List ℕ → Token
@@ -22,8 +25,17 @@ abbrev pub term_tokens : Term → List Token
 term_tokens (term.Name token) = token ∷ []
 term_tokens (term.Integer token value) = token ∷ []
 
+-- the tokens of items, in order
+abbrev pub terms_tokens : List Term → List Token
+terms_tokens [] = []
+terms_tokens (item ∷ items) = term_tokens item ++ terms_tokens items
+
+abbrev pub effect_tokens : WrittenEffect → List Token
+effect_tokens e = plain_token e.opens (codes "(") ∷ e.ins ++ plain_token e.dashes (codes "--") ∷ e.outs ++ plain_token e.closes (codes ")") ∷ []
+
 abbrev pub form_tokens : Form → List Token
 form_tokens (Using opens vocabs closes) = plain_token opens (codes "USING:") ∷ vocabs ++ plain_token closes (codes ";") ∷ []
+form_tokens (Define opens name effect items closes) = plain_token opens (codes ":") ∷ name ∷ effect_tokens effect ++ terms_tokens items ++ plain_token closes (codes ";") ∷ []
 form_tokens (Item item) = term_tokens item
 
 -- the tokens of the forms, in order
@@ -39,8 +51,38 @@ abbrev pub IsTerm : Term → Type 0
 IsTerm (term.Name token) = token_spelling token.kind ≡ spelled.Name
 IsTerm (term.Integer token value) = token_spelling token.kind ≡ spelled.Integer value
 
+abbrev pub AreTerms : List Term → Type 0
+AreTerms [] = Unit {0}
+AreTerms (item ∷ items) = IsTerm item × AreTerms items
+
+-- a token's spelling, or a string's content
+abbrev pub token_text : TokKind → List ℕ
+token_text (Plain text) = text
+token_text (Str text) = text
+
+-- names that only count values
+abbrev pub AreValueNames : List Token → Type 0
+AreValueNames [] = Unit {0}
+AreValueNames (token ∷ tokens) = (token_spelling token.kind ≡ spelled.Name) × (is_value_name (token_text token.kind) ≡ true) × AreValueNames tokens
+
+-- whether the only output is `*`, which says that a word never returns
+abbrev pub is_star : List Token → Bool
+is_star (token ∷ []) = bytes_eq (token_text token.kind) (codes "*")
+is_star _ = false
+
+-- the most names of an effect
+abbrev pub most_names : ℕ
+most_names = 64
+
+pub record IsEffect (effect : WrittenEffect) : Type 0 where
+  pub ins : AreValueNames effect.ins
+  pub outs : AreValueNames effect.outs
+  pub returns : is_star effect.outs ≡ false
+  pub few : length effect.ins + length effect.outs ≤ most_names
+
 abbrev pub IsForm : Form → Type 0
 IsForm (Using opens vocabs closes) = AreNames vocabs
+IsForm (Define opens name effect items closes) = (token_spelling name.kind ≡ spelled.Name) × IsEffect effect × AreTerms items
 IsForm (Item item) = IsTerm item
 
 abbrev pub IsWellFormed : List Form → Type 0

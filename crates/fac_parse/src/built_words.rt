@@ -1,14 +1,21 @@
-//! The words that there are before a source is read.
+//! The words of a program: those that there are before a source is read, those that it defines, and the top-level phrase.
 ghost use Rattle.std.specs.Prelude.{◌≡◌, ◌++◌, ◌∷◌, [], None, Some, map, IfOk, if◌then◌else◌};
 ghost use Rattle.std.specs.List.{list_any};
 ghost use Rattle.std.specs.Str.{bytes_eq};
 ghost use Rattle.fac_lang.specs.PrimitiveWords.{plain_inputs};
 ghost use Rattle.fac_lang.specs.Signatures.{signature, leaves};
 ghost use Rattle.fac_parse.specs.PlainEffects.{plain_input};
-ghost use Rattle.fac_parse.specs.Resolution.{plain_word, known_words, found, top_word};
+ghost use Rattle.fac_parse.specs.OwnNames.{names_with};
+ghost use Rattle.fac_parse.specs.Resolution.{plain_word, known_words, first_names, found, effect_of, defined_word, top_word};
+ghost use Rattle.fac_parse.specs.Trees.{token_text};
 
-use crate::vocabularies::Vocabularies;
-use fac_lang::{Effect, Input, List, Memory, Name, Outs, Phrase, Place, Sort, Text, WordDef};
+use crate::own_names::OwnNames;
+use crate::spelling::text;
+use crate::text_set::TextSet;
+use fac_lang::{
+    Effect, Input, List, Memory, Name, Outs, Phrase, Place, Sort, Text, Token, WordDef,
+    WrittenEffect,
+};
 use std::alloc::Global;
 
 // Inputs that are plain values.
@@ -72,9 +79,9 @@ fn word(
     })
 }
 
-// The primitive words.
+/// The primitive words.
 #[tactic(auto, unfolding(crate::specs::Resolution::known_words, fac_lang::specs::PrimitiveWords::primitive_word))]
-fn primitives(alloc: Global) -> Result<List<WordDef>, Memory>
+pub fn primitives(alloc: Global) -> Result<List<WordDef>, Memory>
     ensures { IfOk result (λ words. words ≡ known_words) }
 {
     let drop = effect(alloc, &["x"], &[])?;
@@ -97,18 +104,77 @@ fn primitives(alloc: Global) -> Result<List<WordDef>, Memory>
     Ok(words)
 }
 
-/// The words of a program whose top-level phrase this is, which is the last.
-pub fn words_of(alloc: Global, body: Phrase) -> Result<List<WordDef>, Memory>
-    ensures { IfOk result (λ words. words ≡ known_words ++ top_word body ∷ []) }
+/// The word of the top-level phrase.
+pub fn phrase_word(alloc: Global, body: Phrase) -> Result<WordDef, Memory>
+    ensures { IfOk result (λ word. word ≡ top_word body) }
 {
-    let mut words = primitives(alloc)?;
     let effect = effect(alloc, &[], &[])?;
-    words.push(word(alloc, "", "top-level", Sort::Body(body), effect)?)?;
-    Ok(words)
+    word(alloc, "", "top-level", Sort::Body(body), effect)
+}
+
+// Inputs that are plain values, as they are written.
+fn written_inputs(alloc: Global, names: &[Token]) -> Result<Vec<Input>, Memory>
+    ensures { IfOk result (λ inputs. inputs.items ≡ map plain_input (map (λ token. token_text token.kind) names.now)) }
+{
+    let mut inputs = Vec::new(alloc);
+    for token in names {
+        inputs.push(Input {
+            name: Text::from_str(alloc, text(&token.kind))?,
+            quot: None,
+        })?;
+    }
+    Ok(inputs)
+}
+
+// Outputs as they are written.
+fn written_outputs(alloc: Global, names: &[Token]) -> Result<List<Text>, Memory>
+    ensures { IfOk result (λ texts. texts ≡ map (λ token. token_text token.kind) names.now) }
+{
+    let mut texts = List::new(alloc);
+    for token in names {
+        texts.push(Text::from_str(alloc, text(&token.kind))?)?;
+    }
+    Ok(texts)
+}
+
+// The effect that is written.
+#[tactic(auto, using(crate::proofs::EffectLemmas::plain_tree, crate::proofs::EffectLemmas::texts_map))]
+fn written(alloc: Global, effect: &WrittenEffect) -> Result<Effect, Memory>
+    ensures { IfOk result (λ written. written ≡ effect_of effect.now) }
+{
+    let ins = written_inputs(alloc, effect.ins.as_slice())?;
+    let names = written_outputs(alloc, effect.outs.as_slice())?;
+    Ok(Effect {
+        row_in: None,
+        ins,
+        outs: Outs::Left { row: None, names },
+    })
+}
+
+/// A word that a file defines.
+pub fn defined(
+    alloc: Global,
+    name: &Token,
+    effect: &WrittenEffect,
+    body: Phrase,
+) -> Result<WordDef, Memory>
+    ensures { IfOk result (λ word. word ≡ defined_word name.now effect.now body) }
+{
+    let effect = written(alloc, effect)?;
+    let vocab = Text::from_str(alloc, "scratchpad")?;
+    let own = Text::from_str(alloc, text(&name.kind))?;
+    Ok(WordDef {
+        name: Name { vocab, name: own },
+        sort: Sort::Body(body),
+        effect,
+        inline: false,
+        recursive: false,
+        place: name.place,
+    })
 }
 
 // A word's number, where its vocabulary is used.
-fn where_used(used: &Vocabularies, vocab: &str, number: u32) -> Option<u32>
+fn where_used(used: &TextSet, vocab: &str, number: u32) -> Option<u32>
     ensures { result ≡ (if list_any (bytes_eq vocab.now) used.now then Some number else None) }
 {
     if used.contains(vocab) {
@@ -118,9 +184,9 @@ fn where_used(used: &Vocabularies, vocab: &str, number: u32) -> Option<u32>
     }
 }
 
-/// The number of the word that a name finds.
-pub fn find(used: &Vocabularies, name: &str) -> Option<u32>
-    ensures { result ≡ found used.now name.now }
+// The number of the primitive that a name finds.
+fn find_primitive(used: &TextSet, name: &str) -> Option<u32>
+    ensures { result ≡ found first_names used.now name.now }
 {
     match name {
         "drop" => where_used(used, "kernel", 0),
@@ -132,5 +198,15 @@ pub fn find(used: &Vocabularies, name: &str) -> Option<u32>
         "*" => where_used(used, "math", 6),
         "." => where_used(used, "prettyprint", 7),
         _ => None,
+    }
+}
+
+/// The number of the word that a name finds, where a file has defined words of its own.
+pub fn find(own: &OwnNames, used: &TextSet, name: &str) -> Option<u32>
+    ensures { result ≡ found (names_with own.now) used.now name.now }
+{
+    match own.number(name) {
+        Some(number) => Some(number),
+        None => find_primitive(used, name),
     }
 }

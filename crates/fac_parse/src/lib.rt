@@ -4,12 +4,14 @@
 mod built_words;
 mod integers;
 mod laws;
+mod own_names;
 mod reader;
 mod resolver;
 mod scanner;
 mod spelling;
 #[cfg(test)]
 mod tests;
+mod text_set;
 mod vocabularies;
 
 pub use laws::{literals_are_integers, one_tree};

@@ -2,13 +2,19 @@
 ghost use Rattle.std.specs.Prelude.{◌≡◌, ◌++◌, ◌∷◌, [], IfOk, OnOk};
 ghost use Rattle.fac_lang.specs.Built.{IsBuilt};
 ghost use Rattle.fac_lang.specs.Whole.{IsWhole};
-ghost use Rattle.fac_parse.specs.Resolution.{token_text, name_fault, Resolves};
-ghost use Rattle.fac_parse.specs.Resolver.{Uses, TakesItem, TakesForm, ReadsForms};
+ghost use Rattle.fac_parse.specs.OwnNames.{names_with};
+ghost use Rattle.fac_parse.specs.Resolution.{name_fault, defined_word, Resolves};
+ghost use Rattle.fac_parse.specs.Resolver.{Uses, TakesItem, ReadsText, Defines, TakesForm, IsFirst, ReadsForms, program_with};
+ghost use Rattle.fac_parse.specs.Trees.{IsWellFormed};
 
-use crate::built_words::{find, words_of};
-use crate::vocabularies::{Vocabularies, is_vocabulary};
+use crate::built_words::{defined, find, phrase_word, primitives};
+use crate::own_names::OwnNames;
+use crate::spelling::text;
+use crate::text_set::TextSet;
+use crate::vocabularies::is_vocabulary;
 use fac_lang::{
-    Form, Item, List, Memory, Phrase, Place, Program, Term, Text, TokKind, Token, Tree, What,
+    Form, Item, List, Memory, Phrase, Place, Program, Term, Text, Token, Tree, What, WordDef,
+    WrittenEffect,
 };
 use std::alloc::Global;
 use thiserror::Error;
@@ -36,6 +42,8 @@ pub struct NameFault {
 pub enum NameKind {
     /// The search finds no word.
     Unknown,
+    /// A word of this name is defined already.
+    Twice,
     /// `USING:` names no vocabulary that exists.
     NoVocab,
 }
@@ -47,16 +55,6 @@ impl From<Memory> for ResolveFault {
 
     fn from(_: Memory) -> Self {
         ResolveFault::Memory
-    }
-}
-
-// A token's spelling, or a string's content.
-fn text(kind: &TokKind) -> &str
-    ensures { result.now ≡ token_text kind.now }
-{
-    match kind {
-        TokKind::Plain(text) => text.as_str(),
-        TokKind::Str(text) => text.as_str(),
     }
 }
 
@@ -72,8 +70,21 @@ fn refusal(alloc: Global, kind: NameKind, token: &Token) -> Result<NameFault, Me
     })
 }
 
+// What a file has made so far.
+#[derive(Drop)]
+struct SoFar {
+    // The used vocabularies.
+    used: TextSet,
+    // The names of the words that the file has defined.
+    own: OwnNames,
+    // The primitive words, and those that the file has defined.
+    words: List<WordDef>,
+    // The items at the top level.
+    items: Vec<Item>,
+}
+
 // Uses the vocabularies of a `USING:`.
-fn use_all(alloc: Global, used: &mut Vocabularies, vocabs: &[Token]) -> Result<(), ResolveFault>
+fn use_all(alloc: Global, used: &mut TextSet, vocabs: &[Token]) -> Result<(), ResolveFault>
     ensures { Uses used.old vocabs.now used.new result }
 {
     for token in vocabs {
@@ -93,21 +104,22 @@ fn add_item(items: &mut Vec<Item>, what: What, place: Place) -> Result<(), Memor
     Ok(())
 }
 
-// Takes an item of the file.
+// Takes an item.
 fn take_item(
     alloc: Global,
-    used: &Vocabularies,
+    own: &OwnNames,
+    used: &TextSet,
     items: &mut Vec<Item>,
     item: &Term,
 ) -> Result<(), ResolveFault>
-    ensures { TakesItem item.now used.now items.old.items items.new.items result }
+    ensures { TakesItem (names_with own.now) used.now item.now items.old.items items.new.items result }
 {
     match item {
         Term::Integer(token, value) => {
             add_item(items, What::Int(*value), token.place)?;
             Ok(())
         }
-        Term::Name(token) => match find(used, text(&token.kind)) {
+        Term::Name(token) => match find(own, used, text(&token.kind)) {
             Some(number) => {
                 add_item(items, What::Word(number), token.place)?;
                 Ok(())
@@ -117,30 +129,18 @@ fn take_item(
     }
 }
 
-// Takes a form of the file.
-fn take_form(
+// The text of a word's items.
+fn body_of(
     alloc: Global,
-    used: &mut Vocabularies,
-    items: &mut Vec<Item>,
-    form: &Form,
-) -> Result<(), ResolveFault>
-    ensures { TakesForm form.now used.old items.old.items used.new items.new.items result }
+    own: &OwnNames,
+    used: &TextSet,
+    terms: &[Term],
+) -> Result<Phrase, ResolveFault>
+    ensures { ReadsText (names_with own.now) used.now terms.now result }
 {
-    match form {
-        Form::Using { vocabs, .. } => use_all(alloc, used, vocabs.as_slice()),
-        Form::Item(item) => take_item(alloc, used, items, item),
-    }
-}
-
-// The text of a file's items.
-fn phrase_of(alloc: Global, forms: &[Form]) -> Result<Phrase, ResolveFault>
-    ensures { ReadsForms forms.now result }
-{
-    let mut used = Vocabularies::new(alloc);
-    used.add(alloc, "syntax")?;
     let mut items = Vec::new(alloc);
-    for form in forms {
-        match take_form(alloc, &mut used, &mut items, form) {
+    for item in terms {
+        match take_item(alloc, own, used, &mut items, item) {
             Ok(()) => {}
             Err(fault) => return Err(fault),
         }
@@ -148,19 +148,123 @@ fn phrase_of(alloc: Global, forms: &[Form]) -> Result<Phrase, ResolveFault>
     Ok(Phrase { items })
 }
 
-/// The program of a tree: the eight primitive words, numbered 0 to 7, and as word 8 the top-level phrase, whose items are those of the tree.
-/// A vocabulary of a `USING:` must exist, and a name must find a word: in `scratchpad`, or else in a vocabulary that is used before it.
-pub fn resolve(alloc: Global, tree: &Tree) -> Result<Program, ResolveFault>
-    ensures program { Resolves tree.now.forms result }
-    ensures built { IfOk result (λ program. IsBuilt program) }
-    ensures whole { IfOk result (λ program. IsWhole program) }
+// Adds the word of a definition.
+fn add_word(
+    alloc: Global,
+    words: &mut List<WordDef>,
+    name: &Token,
+    effect: &WrittenEffect,
+    body: Phrase,
+) -> Result<(), Memory>
+    ensures { OnOk result (words.new ≡ words.old ++ defined_word name.now effect.now body ∷ []) }
 {
-    let body = phrase_of(alloc, tree.forms.as_slice())?;
-    let words = words_of(alloc, body)?;
+    let word = defined(alloc, name, effect, body)?;
+    words.push(word)?;
+    Ok(())
+}
+
+// Takes a definition, whose own name is known in its items.
+fn define(
+    alloc: Global,
+    so_far: &mut SoFar,
+    name: &Token,
+    effect: &WrittenEffect,
+    items: &[Term],
+) -> Result<(), ResolveFault>
+    ensures { Defines so_far.old name.now effect.now items.now so_far.new result }
+{
+    if so_far.own.contains(text(&name.kind)) {
+        return Err(ResolveFault::Name(refusal(alloc, NameKind::Twice, name)?));
+    }
+    so_far.own.add(alloc, text(&name.kind))?;
+    match body_of(alloc, &so_far.own, &so_far.used, items) {
+        Ok(body) => {
+            add_word(alloc, &mut so_far.words, name, effect, body)?;
+            Ok(())
+        }
+        Err(fault) => Err(fault),
+    }
+}
+
+// Takes a form.
+fn take_form(alloc: Global, so_far: &mut SoFar, form: &Form) -> Result<(), ResolveFault>
+    ensures { TakesForm so_far.old form.now so_far.new result }
+{
+    match form {
+        Form::Using { vocabs, .. } => use_all(alloc, &mut so_far.used, vocabs.as_slice()),
+        Form::Define {
+            name,
+            effect,
+            items,
+            ..
+        } => define(alloc, so_far, name, effect, items.as_slice()),
+        Form::Item(item) => take_item(alloc, &so_far.own, &so_far.used, &mut so_far.items, item),
+    }
+}
+
+// What there is before the first form.
+fn first(alloc: Global) -> Result<SoFar, Memory>
+    ensures { IfOk result (λ so_far. IsFirst so_far) }
+{
+    let mut used = TextSet::new(alloc);
+    used.add(alloc, "syntax")?;
+    let words = primitives(alloc)?;
+    Ok(SoFar {
+        used,
+        own: OwnNames::new(alloc),
+        words,
+        items: Vec::new(alloc),
+    })
+}
+
+// What the forms of a file make.
+fn read_forms(alloc: Global, forms: &[Form]) -> Result<SoFar, ResolveFault>
+    ensures { ReadsForms forms.now result }
+{
+    let mut so_far = first(alloc)?;
+    for form in forms {
+        match take_form(alloc, &mut so_far, form) {
+            Ok(()) => {}
+            Err(fault) => return Err(fault),
+        }
+    }
+    Ok(so_far)
+}
+
+// The program of words and a top-level phrase.
+fn with_phrase(alloc: Global, mut words: List<WordDef>, body: Phrase) -> Result<Program, Memory>
+    ensures { IfOk result (λ program. program ≡ program_with words body) }
+{
+    let top = words.len();
+    let phrase = phrase_word(alloc, body)?;
+    words.push(phrase)?;
     Ok(Program {
         words,
         arrays: List::new(alloc),
         classes: List::new(alloc),
-        top: 8,
+        top,
     })
+}
+
+// The program of a file's forms.
+fn program_of(alloc: Global, forms: &[Form]) -> Result<Program, ResolveFault>
+    ensures { Resolves forms.now result }
+{
+    let so_far = read_forms(alloc, forms)?;
+    let SoFar { words, items, .. } = so_far;
+    let program = with_phrase(alloc, words, Phrase { items })?;
+    Ok(program)
+}
+
+/// The program of a tree: the eight primitive words, numbered 0 to 7, then the words that the file defines in its order, numbered from 8 on,
+/// and as the last word the top-level phrase.
+/// A vocabulary of a `USING:` must exist. A word is known in its own text and behind it, and its name may be defined once in a file.
+/// A name must find a word: among those that the file has defined so far, or else in the first vocabulary used before it that holds the name.
+pub fn resolve(alloc: Global, tree: &Tree) -> Result<Program, ResolveFault>
+    requires { IsWellFormed tree.now.forms }
+    ensures program { Resolves tree.now.forms result }
+    ensures built { IfOk result (λ program. IsBuilt program) }
+    ensures whole { IfOk result (λ program. IsWhole program) }
+{
+    program_of(alloc, tree.forms.as_slice())
 }

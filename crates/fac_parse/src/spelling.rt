@@ -1,18 +1,28 @@
 //! What a token is to the grammar.
-ghost use Rattle.std.specs.Prelude.{◌≡◌, nat_eq, not};
+ghost use Rattle.std.specs.Prelude.{◌≡◌, codes, nat_eq, not};
 ghost use Rattle.std.specs.List.{list_all};
-ghost use Rattle.fac_parse.specs.Spellings.{is_reserved_sign, is_reserved_form, is_reserved_word, is_left_out, is_reserved, is_quiet, word_spelling, spelling_of, token_spelling};
+ghost use Rattle.std.specs.Str.{bytes_eq};
+ghost use Rattle.fac_parse.specs.Spellings.{is_reserved_sign, is_reserved_form, is_reserved_word, is_left_out, is_reserved, is_quiet, word_spelling, spelling_of, token_spelling, is_row_name, is_described_name, is_value_name};
+ghost use Rattle.fac_parse.specs.Trees.{token_text};
 
 use crate::integers::{has_integer_form, literal};
-use fac_lang::TokKind;
+use fac_lang::{TokKind, Token};
 
 /// What a token is to the grammar, by how it is spelled.
 #[derive(Clone, Copy, Debug)]
 pub enum Spelling {
     /// `USING:`
     Using,
+    /// `:`
+    Colon,
     /// `;`
     Semi,
+    /// `(`
+    Opens,
+    /// `)`
+    Closes,
+    /// `--`
+    Dashes,
     /// Decimal digits without commas, in range.
     Integer(i128),
     Name,
@@ -155,7 +165,11 @@ fn spelled_word(text: &str) -> Spelling
 {
     match text {
         "USING:" => Spelling::Using,
+        ":" => Spelling::Colon,
         ";" => Spelling::Semi,
+        "(" => Spelling::Opens,
+        ")" => Spelling::Closes,
+        "--" => Spelling::Dashes,
         _ => {
             if !reserved(text) && quiet(text) {
                 Spelling::Name
@@ -188,4 +202,47 @@ pub fn classify(kind: &TokKind) -> Spelling
         TokKind::Plain(text) => spelled(text.as_str()),
         TokKind::Str(_) => Spelling::Other,
     }
+}
+
+/// A token's spelling, or a string's content.
+pub fn text(kind: &TokKind) -> &str
+    ensures { result.now ≡ token_text kind.now }
+{
+    match kind {
+        TokKind::Plain(text) => text.as_str(),
+        TokKind::Str(text) => text.as_str(),
+    }
+}
+
+fn begins_with_dots(text: &str) -> bool
+    ensures { result ≡ is_row_name text.now }
+{
+    text.as_bytes().starts_with(b"..".as_slice())
+}
+
+fn ends_with_colon(text: &str) -> bool
+    ensures { result ≡ is_described_name text.now }
+{
+    text.as_bytes().ends_with(b":".as_slice())
+}
+
+#[tactic(auto, unfolding(crate::specs::Spellings::is_value_name))]
+fn counts_a_value(text: &str) -> bool
+    ensures { result ≡ is_value_name text.now }
+{
+    !begins_with_dots(text) && !ends_with_colon(text)
+}
+
+/// Whether the name of a token only counts a value in an effect. Others begin with two dots, or end in a colon.
+pub fn names_a_value(token: &Token) -> bool
+    ensures { result ≡ is_value_name (token_text token.now.kind) }
+{
+    counts_a_value(text(&token.kind))
+}
+
+/// Whether a token is `*`.
+pub fn is_asterisk(token: &Token) -> bool
+    ensures { result ≡ bytes_eq (token_text token.now.kind) (codes "*") }
+{
+    text(&token.kind) == "*"
 }

@@ -1,6 +1,6 @@
 //! Tests of what no contract says: that calls succeed, and that the definitions mean what was meant.
 use crate::{NameKind, ParseFault, ResolveFault, TokenFault, parse, resolve, tokens};
-use fac_lang::{Program, Sort, TokKind, What};
+use fac_lang::{Form, List, Phrase, Program, Sort, Term, TokKind, Token, What};
 use std::alloc::Global;
 use std::test::Fail;
 
@@ -49,7 +49,7 @@ fn trees_and_refusals(rt: HostRuntime) -> Result<(), Fail> {
         (";", false),
         ("USING: 1 ;", false),
         ("USING: USING: ;", false),
-        (": a ( -- ) ;", false),
+        (": a ( -- ) ;", true),
         ("170141183460469231731687303715884105727", true),
         ("170141183460469231731687303715884105728", false),
         ("-170141183460469231731687303715884105728", true),
@@ -81,21 +81,30 @@ fn trees_and_refusals(rt: HostRuntime) -> Result<(), Fail> {
     Ok(())
 }
 
-// The items of the top-level phrase, with their places.
-fn told_items(alloc: Global, program: &Program) -> Result<String, Fail> {
+// The items of a text, with their places.
+fn told_items(alloc: Global, told: &mut String, phrase: &Phrase) -> Result<(), Fail> {
+    for item in &phrase.items {
+        let token = item.place.token;
+        match &item.what {
+            What::Int(value) => told.push_str(&format!(in alloc; "{token}:{value} ")?)?,
+            What::Word(number) => told.push_str(&format!(in alloc; "{token}:word {number} ")?)?,
+            _ => told.push_str("another")?,
+        }
+    }
+    Ok(())
+}
+
+// The words that a source defines, with the places of their names, and the top-level phrase.
+fn told_program(alloc: Global, program: &Program) -> Result<String, Fail> {
     let mut told = String::new(alloc);
-    if let Some(word) = program.words.get(program.top as usize) {
+    for word in program.words.as_slice() {
         if let Sort::Body(phrase) = &word.sort {
-            for item in &phrase.items {
-                let token = item.place.token;
-                match &item.what {
-                    What::Int(value) => told.push_str(&format!(in alloc; "{token}:{value} ")?)?,
-                    What::Word(number) => told.push_str(&format!(in alloc;
-                        "{token}:word {number} "
-                    )?)?,
-                    _ => told.push_str("another")?,
-                }
+            let token = word.place.token;
+            if token > 0 {
+                told.push_str(word.name.name.as_str())?;
+                told.push_str(&format!(in alloc; "@{token} ")?)?;
             }
+            told_items(alloc, &mut told, phrase)?;
         }
     }
     Ok(told)
@@ -107,6 +116,7 @@ fn told_fault(alloc: Global, fault: &ResolveFault) -> Result<String, Fail> {
             let place = name.place;
             let kind = match name.kind {
                 NameKind::Unknown => "unknown",
+                NameKind::Twice => "twice",
                 NameKind::NoVocab => "no vocabulary",
             };
             Ok(format!(in alloc;
@@ -124,7 +134,7 @@ fn told_fault(alloc: Global, fault: &ResolveFault) -> Result<String, Fail> {
 fn told(alloc: Global, source: &str) -> Result<String, Fail> {
     let tree = parse(alloc, &tokens(alloc, 1, source.as_bytes())?)?;
     match resolve(alloc, &tree) {
-        Ok(program) => told_items(alloc, &program),
+        Ok(program) => told_program(alloc, &program),
         Err(fault) => told_fault(alloc, &fault),
     }
 }
@@ -160,10 +170,123 @@ fn programs_and_refused_names(rt: HostRuntime) -> Result<(), Fail> {
         ("USING: private ;", "no vocabulary 1:2 private"),
         ("USING: maths ;", "no vocabulary 1:2 maths"),
         ("USING: math.privat ;", "no vocabulary 1:2 math.privat"),
+        (
+            "USING: math ; : inc ( x -- y ) 1 + ; : twice ( x -- y ) inc inc ; 5 twice",
+            "inc@5 11:1 12:word 4 twice@15 21:word 8 22:word 8 24:5 25:word 9 ",
+        ),
+        (": f ( -- ) f ;", "f@2 6:word 8 "),
+        (": f ( -- ) g ; : g ( -- ) ;", "unknown 1:6 g"),
+        (": f ( -- ) ; : f ( -- ) nope ;", "twice 1:8 f"),
+        (
+            "USING: kernel scratchpad ; dup : dup ( -- ) dup ; dup",
+            "dup@7 11:word 8 5:word 1 13:word 8 ",
+        ),
     ];
     for (source, want) in sources {
         let found = told(alloc, source)?;
         assert_eq!(rt; found.as_str(), want);
+    }
+    Ok(())
+}
+
+fn push_numbers(alloc: Global, told: &mut String, list: &List<Token>) -> Result<(), Fail> {
+    for token in list.as_slice() {
+        told.push_str(&format!(in alloc; "{} ", token.place.token)?)?;
+    }
+    Ok(())
+}
+
+fn push_terms(alloc: Global, told: &mut String, terms: &List<Term>) -> Result<(), Fail> {
+    for term in terms.as_slice() {
+        match term {
+            Term::Name(token) => told.push_str(&format!(in alloc; "{} ", token.place.token)?)?,
+            Term::Integer(token, value) => {
+                told.push_str(&format!(in alloc; "{}={value} ", token.place.token)?)?
+            }
+        }
+    }
+    Ok(())
+}
+
+// The numbers of a definition's tokens, as they stand in the tree.
+fn told_form(alloc: Global, form: &Form) -> Result<String, Fail> {
+    let mut told = String::new(alloc);
+    if let Form::Define {
+        opens,
+        name,
+        effect,
+        items,
+        closes,
+    } = form
+    {
+        let first = opens.token;
+        let named = name.place.token;
+        told.push_str(&format!(in alloc; ": {first} {named} ( {} ", effect.opens.token)?)?;
+        push_numbers(alloc, &mut told, &effect.ins)?;
+        told.push_str(&format!(in alloc; "-- {} ", effect.dashes.token)?)?;
+        push_numbers(alloc, &mut told, &effect.outs)?;
+        told.push_str(&format!(in alloc; ") {} ", effect.closes.token)?)?;
+        push_terms(alloc, &mut told, items)?;
+        told.push_str(&format!(in alloc; "; {}", closes.token)?)?;
+    }
+    Ok(told)
+}
+
+// The last form of a source.
+fn told_last(alloc: Global, source: &str) -> Result<String, Fail> {
+    match parse(alloc, &tokens(alloc, 1, source.as_bytes())?) {
+        Ok(tree) => match tree.forms.as_slice().last() {
+            Some(form) => told_form(alloc, form),
+            None => Ok(String::new(alloc)),
+        },
+        Err(ParseFault::Syntax { .. }) => Ok(String::from_str(alloc, "refused")?),
+        Err(ParseFault::Memory) => Ok(String::from_str(alloc, "memory")?),
+    }
+}
+
+// A definition whose effect has two names more than this.
+fn wide_definition(alloc: Global, count: u32) -> Result<String, Fail> {
+    let mut source = String::from_str(alloc, ": w ( a ")?;
+    for _ in 0..count {
+        source.push_str("x ")?;
+    }
+    source.push_str("-- b ) ;")?;
+    Ok(source)
+}
+
+#[test]
+fn definitions_and_refusals(rt: HostRuntime) -> Result<(), Fail> {
+    let alloc = rt.alloc();
+    let sources = [
+        (
+            "1 : w ( x y -- z ) 7 dup ;",
+            ": 2 3 ( 4 5 6 -- 7 8 ) 9 10=7 11 ; 12",
+        ),
+        (
+            "USING: ; : w ( * -- * .x ) ;",
+            ": 3 4 ( 5 6 -- 7 8 9 ) 10 ; 11",
+        ),
+        (": w ( -- * ) ;", "refused"),
+        (": w ( ..a -- ) ;", "refused"),
+        (": w ( -- x: ) ;", "refused"),
+        (": w ( x ) ;", "refused"),
+        (": w ( -- -- ) ;", "refused"),
+        (": w ( -- 1 ) ;", "refused"),
+        (": 1 ( -- ) ;", "refused"),
+        (": w ;", "refused"),
+        (": w ( -- ) 1", "refused"),
+        (": w ( -- ) : v ( -- ) ; ;", "refused"),
+        (": w ( -- ) USING: ; ;", "refused"),
+        ("( -- )", "refused"),
+    ];
+    for (source, want) in sources {
+        let found = told_last(alloc, source)?;
+        assert_eq!(rt; found.as_str(), want);
+    }
+    for (count, is_read) in [(62u32, true), (63, false)] {
+        let source = wide_definition(alloc, count)?;
+        let found = told_last(alloc, source.as_str())?;
+        assert_eq!(rt; found.as_str() != "refused", is_read);
     }
     Ok(())
 }

@@ -1,9 +1,11 @@
 //! Tests of the worked examples, and of each fault of the files and streams.
 use fac_check::{CheckFault, Rule, check};
+use fac_emit::compile;
 use fac_io::{Asked, MemFiles, MemSink};
 use fac_lang::{Bytes, List, Memory, Text};
 use fac_parse::{parse, resolve, tokens};
 use fac_tool::{Ended, factor_top};
+use fac_vm::{Machine, StopKind};
 use std::alloc::Global;
 use std::process::Abort;
 use std::test::Fail;
@@ -114,6 +116,24 @@ fn programs_that_run(rt: HostRuntime) -> Result<(), Fail> {
             3,
             "-170141183460469231731687303715884105728 ",
         ),
+        (
+            "USING: kernel math prettyprint ; : square ( x -- y ) dup * ; : fourth ( x -- y ) square square ; 3 fourth .",
+            "81\n",
+            9,
+            "",
+        ),
+        (
+            ": two ( -- x y ) 1 2 ; two USING: math ; : sum ( x y -- z ) + ; two sum",
+            "",
+            8,
+            "1 2 3 ",
+        ),
+        (
+            "USING: kernel prettyprint ; : dup ( x -- x ) ; : f ( x -- ) dup . ; 5 f : * ( * -- * x ) 6 ; 7 *",
+            "5\n",
+            7,
+            "7 6 ",
+        ),
     ];
     for (text, output, ticks, left) in cases {
         let call = run(alloc, text.as_bytes())?;
@@ -153,6 +173,46 @@ fn programs_that_are_refused(rt: HostRuntime) -> Result<(), Fail> {
             5,
             "check: top-level, a token 9: underflow, needs 1, has 0\n",
         ),
+        (": w ( -- ) 1", 3, syntax),
+        (": w ( -- * ) ;", 3, syntax),
+        (": w ( ..a -- ) ;", 3, syntax),
+        (": w ( x: -- ) ;", 3, syntax),
+        (": w : v ( -- ) ; ( -- ) ;", 3, syntax),
+        (
+            "w : w ( -- ) ;",
+            4,
+            "name: a token 1: unknown w\n",
+        ),
+        (
+            ": w ( -- ) ; : w ( -- ) nothing ;",
+            4,
+            "name: a token 8: twice w\n",
+        ),
+        (
+            ": w ( -- ) w v ; : v ( -- ) ;",
+            4,
+            "name: a token 7: unknown v\n",
+        ),
+        (
+            "USING: kernel math ; : w ( x -- y ) dup ;",
+            5,
+            "check: scratchpad:w, a token 6: outputs, declared 1, found 2\n",
+        ),
+        (
+            "USING: math ; : w ( -- y ) + ;",
+            5,
+            "check: scratchpad:w, a token 10: underflow, needs 2, has 0\n",
+        ),
+        (
+            "USING: math ; + : v ( -- x ) ; : w ( x -- ) ;",
+            5,
+            "check: scratchpad:v, a token 6: outputs, declared 1, found 0\n",
+        ),
+        (
+            "USING: math ; + : v ( x -- x ) v ;",
+            5,
+            "check: top-level, a token 4: underflow, needs 2, has 0\n",
+        ),
     ];
     for (text, status, note) in cases {
         let call = run(alloc, text.as_bytes())?;
@@ -182,6 +242,12 @@ fn programs_that_fail(rt: HostRuntime) -> Result<(), Fail> {
             "USING: kernel math ; 170141183460469231731687303715884105727 dup *",
             "",
             3,
+            "error: overflow in math:*\n",
+        ),
+        (
+            "USING: kernel math ; : square ( x -- y ) dup * ; : f ( x -- y ) square ; 170141183460469231731687303715884105727 f",
+            "",
+            5,
             "error: overflow in math:*\n",
         ),
     ];
@@ -252,14 +318,15 @@ fn files_that_are_not_read(rt: HostRuntime) -> Result<(), Fail> {
 #[test]
 fn outputs_that_fail(rt: HostRuntime) -> Result<(), Fail> {
     let alloc = rt.alloc();
-    let text = b"USING: prettyprint ; 1 . 234 . 5 .".as_slice();
+    let text = b"USING: prettyprint ; : show ( x -- ) . ; 1 show 234 show 5 .".as_slice();
     let cases = [
-        (1u64, 0u64, 2u64, "", "write fault after 2 ticks\n"),
-        (1, 1, 2, "1", "write fault after 2 ticks\n"),
-        (2, 0, 4, "1\n", "write fault after 4 ticks\n"),
-        (2, 2, 4, "1\n23", "write fault after 4 ticks\n"),
-        (3, 0, 6, "1\n234\n", "write fault after 6 ticks\n"),
-        (3, 2, 6, "1\n234\n5\n", "write fault after 6 ticks\n"),
+        (1u64, 0u64, 3u64, "", "write fault after 3 ticks\n"),
+        (1, 1, 3, "1", "write fault after 3 ticks\n"),
+        (2, 0, 6, "1\n", "write fault after 6 ticks\n"),
+        (2, 1, 6, "1\n2", "write fault after 6 ticks\n"),
+        (2, 4, 6, "1\n234\n", "write fault after 6 ticks\n"),
+        (3, 0, 8, "1\n234\n", "write fault after 8 ticks\n"),
+        (3, 1, 8, "1\n234\n5", "write fault after 8 ticks\n"),
     ];
     for (number, takes, ticks, output, note) in cases {
         let files = folder(alloc, text, &[])?;
@@ -295,6 +362,47 @@ fn notes_that_fail(rt: HostRuntime) -> Result<(), Fail> {
 }
 
 #[test]
+fn budgets_that_are_spent(rt: HostRuntime) -> Result<(), Fail> {
+    let alloc = rt.alloc();
+    let call = run(alloc, b": f ( -- ) f ; f".as_slice())?;
+    let note = "spent: 100000000 ticks\n";
+    assert_call(&rt, note, &call, 6, 100_000_000, "", note);
+    assert!(rt; call.ended.stack.is_none());
+    Ok(())
+}
+
+// Checks and compiles a text, and runs it within a budget: how it ended and what was written.
+fn run_with(alloc: Global, text: &str, ticks: u64) -> Result<(u64, StopKind, MemSink), Fail> {
+    let tree = parse(alloc, &tokens(alloc, 1, text.as_bytes())?)?;
+    let checked = check(resolve(alloc, &tree)?)?;
+    let mut machine = Machine::new(alloc, compile(alloc, &checked)?)?;
+    let mut out = sink(alloc, &[])?;
+    let stop = machine.run(alloc, &mut out, ticks);
+    Ok((stop.ticks, stop.what, out))
+}
+
+#[test]
+fn smaller_budgets(rt: HostRuntime) -> Result<(), Fail> {
+    let alloc = rt.alloc();
+    let sum = "USING: math prettyprint ; 1 2 + .";
+    let word = "USING: prettyprint ; : f ( x -- ) . ; 1 f";
+    let cases = [
+        (sum, 3u64, StopKind::Spent, ""),
+        (sum, 4, StopKind::Done, "3\n"),
+        (word, 2, StopKind::Spent, ""),
+        (word, 3, StopKind::Done, "1\n"),
+        ("", 0, StopKind::Done, ""),
+    ];
+    for (text, ticks, what, output) in cases {
+        let (used, how, out) = run_with(alloc, text, ticks)?;
+        assert_eq!(rt; used, ticks, "at {text}");
+        assert_eq!(rt; how, what, "at {text}");
+        assert_eq!(rt; out.taken(), output.as_bytes(), "at {text}");
+    }
+    Ok(())
+}
+
+#[test]
 fn the_checker_alone(rt: HostRuntime) -> Result<(), Fail> {
     let alloc = rt.alloc();
     let cases = [
@@ -302,6 +410,13 @@ fn the_checker_alone(rt: HostRuntime) -> Result<(), Fail> {
         (
             "USING: kernel ; 1 over dup",
             Some(Rule::Underflow { needs: 2, has: 1 }),
+        ),
+        (
+            ": w ( -- x x ) 1 ;",
+            Some(Rule::Outputs {
+                declared: 2,
+                found: 1,
+            }),
         ),
     ];
     for (text, rule) in cases {

@@ -4,14 +4,14 @@ use Rattle.std.specs.List.{list_all}
 use Rattle.std.specs.declared.option.Option.{Option}
 use Rattle.fac_lang.specs.declared.program.Program.{Program}
 use Rattle.fac_lang.specs.declared.tree.Form.{Form}
-use Rattle.fac_lang.specs.Texts.{Text}
 use Rattle.fac_lang.specs.Built.{IsBuilt}
 use Rattle.fac_parse.specs.declared.resolver.NameFault.{NameFault}
 use Rattle.fac_parse.specs.Words.{is_readable, numbered, words}
 use Rattle.fac_parse.specs.Reader.{forms_from}
-use Rattle.fac_parse.specs.Resolution.{file_text, program_of, with_words, resolved}
+use Rattle.fac_parse.specs.Trees.{IsWellFormed}
+use Rattle.fac_parse.specs.Resolution.{resolved}
 use Rattle.fac_parse.proofs.ParseLemmas.{read_is_tree, no_tree}
-use Rattle.fac_parse.proofs.ResolutionLemmas.{built_from}
+use Rattle.fac_parse.proofs.WholePrograms.{resolved_built}
 use Rattle.fac_check.specs.declared.checker.Refusal.{Refusal}
 use Rattle.fac_check.specs.Verdict.{verdict}
 use Rattle.fac_check.specs.Sound.{IsSound}
@@ -30,21 +30,14 @@ read_text file text false e = (None, λ plain forms reads. cc)
 pub is_read : (file : ℕ) (text : List ℕ) → (forms : Option (List Form)) × IsReadAs file text forms
 is_read file text = read_text file text (list_all is_readable text) refl
 
-built_by : (forms : List Form) (P : Program) (r : Result Text NameFault) → file_text forms ≡ r → with_words r ≡ Ok P → IsBuilt P
-built_by forms P (Ok t) e h = let same : program_of t ≡ P = cc in subst IsBuilt same (built_from forms t _ [] [] e refl refl refl)
-built_by forms P (Err fault) e h = absurd (cc)
-
-pub resolved_built : (forms : List Form) (P : Program) → resolved forms ≡ Ok P → IsBuilt P
-resolved_built forms P e = built_by forms P (file_text forms) refl e
-
 verdict_sound : (P : Program) (v : Option Refusal) → IsBuilt P → verdict P ≡ v → IfSome (if_accepted P v) IsSound
 verdict_sound P (Some refusal) b e = tt
 verdict_sound P None b e = sound P b e
 
-resolved_sound : (forms : List Form) (r : Result Program NameFault) → resolved forms ≡ r → IfSome (accepted_of r) IsSound
-resolved_sound forms (Ok P) e = verdict_sound P (verdict P) (resolved_built forms P e) refl
-resolved_sound forms (Err fault) e = tt
+resolved_sound : (forms : List Form) (r : Result Program NameFault) → IsWellFormed forms → resolved forms ≡ r → IfSome (accepted_of r) IsSound
+resolved_sound forms (Ok P) fits e = verdict_sound P (verdict P) (resolved_built forms (Ok P) fits e) refl
+resolved_sound forms (Err fault) fits e = tt
 
-pub accepted_sound : (forms : Option (List Form)) → IfSome (accepted forms) IsSound
-accepted_sound None = tt
-accepted_sound (Some forms) = resolved_sound forms (resolved forms) refl
+pub accepted_sound : (file : ℕ) (text : List ℕ) (forms : Option (List Form)) → IsReadAs file text forms → IfSome (accepted forms) IsSound
+accepted_sound file text None read = tt
+accepted_sound file text (Some forms) read = resolved_sound forms (resolved forms) read.1.fits refl

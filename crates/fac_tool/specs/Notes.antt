@@ -34,13 +34,18 @@ why_text why.Other = codes "not expected"
 
 abbrev pub kind_text : NameKind → List ℕ
 kind_text kind.Unknown = codes "unknown"
+kind_text kind.Twice = codes "twice"
 kind_text kind.NoVocab = codes "no-vocabulary"
 
 abbrev pub underflow_text : ℕ → ℕ → List ℕ
 underflow_text needs has = codes "underflow, needs " ++ decimal needs ++ codes ", has " ++ decimal has
 
+abbrev pub outputs_text : ℕ → ℕ → List ℕ
+outputs_text declared found = codes "outputs, declared " ++ decimal declared ++ codes ", found " ++ decimal found
+
 abbrev pub rule_text : Rule → List ℕ
 rule_text (rule.Underflow needs has) = underflow_text needs has
+rule_text (rule.Outputs declared found) = outputs_text declared found
 
 abbrev pub error_text : ErrorName → List ℕ
 error_text error.NotInteger = codes "not-integer"

@@ -3,7 +3,7 @@ ghost use Rattle.std.specs.Prelude.{◌≡◌, ◌++◌, ◌∷◌, [], codes, d
 ghost use Rattle.fac_io.specs.Faults.{HasCause};
 ghost use Rattle.fac_io.specs.Told.{Grows, GrowsByPrefix};
 ghost use Rattle.fac_tool.specs.Answer.{name_text};
-ghost use Rattle.fac_tool.specs.Notes.{line_of, file_name as name_of_file, place_text, why_text, kind_text, underflow_text, rule_text, error_text, value_text, syntax_line as syntax_line_of, name_line as name_line_of, check_line as check_line_of, error_line as error_line_of, too_long_line as too_long_line_of, note_of, note_of_status};
+ghost use Rattle.fac_tool.specs.Notes.{line_of, file_name as name_of_file, place_text, why_text, kind_text, underflow_text, outputs_text, rule_text, error_text, value_text, syntax_line as syntax_line_of, name_line as name_line_of, check_line as check_line_of, error_line as error_line_of, too_long_line as too_long_line_of, note_of, note_of_status};
 ghost use Rattle.fac_tool.specs.Seen.{sink_seen};
 ghost use Rattle.fac_tool.specs.Answers.{Tells, TellsUsage};
 
@@ -59,6 +59,7 @@ fn kind(kind: NameKind) -> &'static str
 {
     match kind {
         NameKind::Unknown => "unknown",
+        NameKind::Twice => "twice",
         NameKind::NoVocab => "no-vocabulary",
     }
 }
@@ -98,12 +99,24 @@ fn underflow(alloc: Global, needs: u32, has: u32) -> Result<Text, Memory>
     Ok(text)
 }
 
+// The text of other outputs than are declared.
+fn outputs(alloc: Global, declared: u32, found: u32) -> Result<Text, Memory>
+    ensures { IfOk result (λ text. text ≡ outputs_text declared found) }
+{
+    let mut text = Text::from_str(alloc, "outputs, declared ")?;
+    push_number(&mut text, u64::from(declared))?;
+    text.push_str(", found ")?;
+    push_number(&mut text, u64::from(found))?;
+    Ok(text)
+}
+
 // The text of a rule with its numbers.
 fn rule(alloc: Global, rule: Rule) -> Result<Text, Memory>
     ensures { IfOk result (λ text. text ≡ rule_text rule) }
 {
     match rule {
         Rule::Underflow { needs, has } => underflow(alloc, needs, has),
+        Rule::Outputs { declared, found } => outputs(alloc, declared, found),
     }
 }
 

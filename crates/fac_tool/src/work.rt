@@ -3,6 +3,7 @@ ghost use Rattle.std.specs.Prelude.{◌≡◌, ◌≤◌, ℕ, List, Option, Som
 ghost use Rattle.fac_lang.specs.Built.{IsBuilt};
 ghost use Rattle.fac_check.specs.Verdict.{verdict};
 ghost use Rattle.fac_parse.specs.Resolution.{Resolves};
+ghost use Rattle.fac_parse.specs.Trees.{IsWellFormed};
 ghost use Rattle.fac_tool.specs.Answer.{answer_on, on_accepted, on_verdict, if_accepted, accepted, name_text, word_name};
 ghost use Rattle.fac_tool.specs.Ends.{ending_of, EndsBy, FilesStay, work_of};
 ghost use Rattle.fac_tool.specs.Seen.{sink_seen, files_seen, FilesSeen};
@@ -91,6 +92,7 @@ fn on_program<K: Sink>(alloc: Global, command: Command, program: Program, out: &
 
 // The program of a tree, which is given back to memory.
 fn resolve_all(alloc: Global, tree: Tree) -> Result<Program, ResolveFault>
+    requires { IsWellFormed tree.forms }
     ensures program { Resolves tree.forms result }
     ensures built { IfOk result (λ program. IsBuilt program) }
 {
@@ -99,6 +101,7 @@ fn resolve_all(alloc: Global, tree: Tree) -> Result<Program, ResolveFault>
 
 // Answers a tree.
 fn on_tree<K: Sink>(alloc: Global, command: Command, tree: Tree, out: &mut K) -> Ended
+    requires { IsWellFormed tree.forms }
     ensures ends { (files : FilesSeen) → FilesStay files → EndsBy (ending_of result.status) (answer_on command (Some tree.forms)) (work_of command (accepted (Some tree.forms))) files (sink_seen (K.taken out.old) (K.taken out.new) (K.faults out.old) (K.faults out.new)) result }
     ensures counts { K.faults out.old ≤ K.faults out.new }
 {

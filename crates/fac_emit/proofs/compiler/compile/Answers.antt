@@ -1,17 +1,15 @@
-use Rattle.std.proofs.Common.{refl, ap, ◌∙◌}
-use Rattle.fac_lang.specs.Meaning.{word_text}
-use Rattle.fac_lang.proofs.BuiltLemmas.{top_built}
 use Rattle.fac_check.proofs.Soundness.{sound}
-use Rattle.fac_emit.specs.Code.{text_code}
 use Rattle.fac_emit.proofs.Carrying.{code_built, carries}
+use Rattle.fac_emit.proofs.Placed.{top_row}
 use Rattle.fac_emit.proofs.compiler.compile.Goals as goal
 
+pub place-start-requires : goal.place-start-requires
+place-start-requires c = top_row c.args.checked.now.program c.requires c.in_ok-code.words c.in_ok-code.ensures.1
+
 pub invariant_of-result : goal.invariant_of-result
-invariant_of-result c =
-    let P = c.args.checked.now.program in
-    record { built = rw (c.in_ok-code.ensures, c.top_phrase.ensures) (code_built P c.requires (word_text P P.top) (top_built P c.requires)) }
+invariant_of-result c = record { built = rw c.in_ok-code.ensures.0 (code_built c.args.checked.now.program c.requires) }
 
 pub returns : goal.returns
 returns c =
     let P = c.args.checked.now.program in
-    carries P _ c.requires (sound P c.requires c.args.checked.now.accepted) c.in_ok-words.ensures (c.in_ok-code.ensures ∙ ap (text_code P.words) c.top_phrase.ensures) refl
+    carries P _ c.requires (sound P c.requires c.args.checked.now.accepted) c.in_ok-code.ensures.1 c.in_ok-code.ensures.0 c.place-start.ensures

@@ -22,6 +22,6 @@ returns-in-Ok-load-clause-ending g c =
       asked = c.in-Ok-load.ensures.asked;
       count = c.in-Ok-load.ensures.cause.later;
       is_read = works.is_read;
-      sound = accepted_sound works.forms;
+      sound = accepted_sound 1 c.as_slice.result.now works.forms works.is_read;
       ends = works.ends (files_seen held held asked asked faults faults) (record { held = Stays-same held; asked = Stays-same asked });
     })))

@@ -1,0 +1,228 @@
+-- Every resolved program is of the forms built.
+use Rattle.std.proofs.Common.{◌≡◌, ℕ, suc, ◌+◌, ◌<◌, ◌≤◌, Bool, true, false, cond, ◌&&◌, List, [], ◌∷◌, ◌++◌, Option, Some, None, Result, Ok, Err, length, refl, ap, sym, ◌∙◌, subst, arith, length-append}
+use Rattle.std.specs.Prelude.{nat_le, nat_lt, ℤ}
+use Rattle.std.specs.List.{list_all}
+use Rattle.std.specs.Str.{bytes_eq}
+use Rattle.std.proofs.lemmas.Bool.Decides.{Decides-ltb}
+use Rattle.std.proofs.lemmas.List.{length_push}
+use Rattle.fac_lang.specs.Built.{IsBuilt, IsBuiltText, IsBuiltSort, AreBuiltWords, IsDefinedWord, ArePlainInputs, built_primitives, is_built_primitive, primitive_numbers, has_no_repeats, numbers_before}
+use Rattle.fac_lang.specs.PrimitiveWords.{PrimitiveWord, primitive_word, plain_inputs}
+use Rattle.fac_lang.specs.Texts.{Text, end, then, Item, lit, int, word}
+use Rattle.fac_lang.specs.Whole.{name_count, inputs_name_count}
+use Rattle.fac_lang.specs.declared.phrase.Place.{Place}
+use Rattle.fac_lang.specs.declared.program.Name.{Name as FullName}
+use Rattle.fac_lang.specs.declared.program.Sort.TheVariants.{Prim, Body}
+use Rattle.fac_lang.specs.declared.program.WordDef.{WordDef}
+use Rattle.fac_lang.specs.declared.token.Token.{Token}
+use Rattle.fac_lang.specs.declared.tree.Form.{Form}
+use Rattle.fac_lang.specs.declared.tree.Form.TheVariants as form
+use Rattle.fac_lang.specs.declared.tree.Term.{Term}
+use Rattle.fac_lang.specs.declared.tree.Term.TheVariants as term
+use Rattle.fac_lang.specs.declared.tree.WrittenEffect.{WrittenEffect}
+use Rattle.fac_parse.specs.declared.resolver.NameFault.{NameFault}
+use Rattle.fac_parse.specs.Resolution.{primitive_def, primitive_defs, known_words, names_of, first_names, held_from, or_else, held_by, current, found, own_name, is_taken, uses, with_item, with_word, text_of, token_texts, effect_of, defined_word, Contents, after_uses, with_top_item, with_top_word, after_text, unless_taken, contents_of, top_word, program_of}
+use Rattle.fac_parse.specs.Trees.{token_text, IsEffect, IsWellFormed}
+
+-- What a name finds is known.
+
+held_below_by : (b : Bool) (k n m : ℕ) (r : Option ℕ) → (r ≡ Some n → n < k + 1 + m) → cond b (Some k) r ≡ Some n → n < k + suc m
+held_below_by true k n m r later e = let same : k ≡ n = cc in omega (arith, same)
+held_below_by false k n m r later e = let below = later e in omega (arith, below)
+
+held_below : (k n : ℕ) (xs : List FullName) (vocab name : List ℕ) → held_from k xs vocab name ≡ Some n → n < k + length xs
+held_below k n [] vocab name e = cc
+held_below k n (x ∷ xs) vocab name e = held_below_by (bytes_eq name x.name && bytes_eq vocab x.vocab) k n (length xs) (held_from (k + 1) xs vocab name) (held_below (k + 1) n xs vocab name) e
+
+either_below : (m n : ℕ) (o p : Option ℕ) → (o ≡ Some n → n < m) → (p ≡ Some n → n < m) → or_else o p ≡ Some n → n < m
+either_below m n (Some k) p h l e = h e
+either_below m n None p h l e = l e
+
+held_by_below : (n : ℕ) (known : List FullName) (used : List (List ℕ)) (name : List ℕ) → held_by known used name ≡ Some n → n < length known
+held_by_below n known [] name e = cc
+held_by_below n known (u ∷ us) name e =
+    either_below (length known) n (held_from 0 known u name) (held_by known us name) (λ h. let below = held_below 0 n known u name h in omega (arith, below)) (held_by_below n known us name) e
+
+found_below : (n : ℕ) (known : List FullName) (used : List (List ℕ)) (name : List ℕ) → found known used name ≡ Some n → n < length known
+unfolding found
+found_below n known used name e = held_by_below n known (current ∷ used) name e
+
+found_within : (bound n : ℕ) (known : List FullName) (used : List (List ℕ)) (name : List ℕ) → length known ≤ bound → found known used name ≡ Some n → nat_lt n bound ≡ true
+found_within bound n known used name few e = let below = found_below n known used name e in (Decides-ltb n bound).1 (omega (arith, below, few))
+
+-- Texts.
+
+int_built : (bound : ℕ) (z : ℤ) (p : Place) (r : Result Text NameFault) (t : Text) → ((u : Text) → r ≡ Ok u → IsBuiltText bound u) → with_item (lit (int z)) p r ≡ Ok t → IsBuiltText bound t
+int_built bound z p (Ok u) t later e = let same : then (lit (int z)) p u ≡ t = cc in subst (IsBuiltText bound) same (tt, later u refl)
+int_built bound z p (Err f) t later e = cc
+
+word_built : (bound : ℕ) (o : Option ℕ) (tok : Token) (r : Result Text NameFault) (t : Text) → ((n : ℕ) → o ≡ Some n → nat_lt n bound ≡ true) → ((u : Text) → r ≡ Ok u → IsBuiltText bound u) → with_word o tok r ≡ Ok t → IsBuiltText bound t
+word_built bound (Some n) tok (Ok u) t below later e = let same : then (word n) tok.place u ≡ t = cc in subst (IsBuiltText bound) same (below n refl, later u refl)
+word_built bound (Some n) tok (Err f) t below later e = cc
+word_built bound None tok r t below later e = cc
+
+text_built : (bound : ℕ) (known : List FullName) (used : List (List ℕ)) (items : List Term) (t : Text) → length known ≤ bound → text_of known used items ≡ Ok t → IsBuiltText bound t
+text_built bound known used [] t few e = let same : end ≡ t = cc in subst (IsBuiltText bound) same tt
+text_built bound known used (term.Integer tok z ∷ items) t few e = int_built bound z tok.place (text_of known used items) t (λ u h. text_built bound known used items u few h) e
+text_built bound known used (term.Name tok ∷ items) t few e =
+    word_built bound (found known used (token_text tok.kind)) tok (text_of known used items) t (λ n h. found_within bound n known used (token_text tok.kind) few h) (λ u h. text_built bound known used items u few h) e
+
+-- Words that a file defines.
+
+pub record IsOwnWord (bound : ℕ) (d : WordDef) : Type 0 where
+  pub text : Text
+  pub sort_is : d.sort ≡ Body text
+  pub defined : IsDefinedWord bound d text
+  pub few : nat_le (name_count d.effect) 65 ≡ true
+
+abbrev pub AreOwnWords : ℕ → List WordDef → Type 0
+AreOwnWords bound [] = Unit {0}
+AreOwnWords bound (d ∷ ds) = IsOwnWord bound d × AreOwnWords bound ds
+
+are_plain : (names : List (List ℕ)) → ArePlainInputs (plain_inputs names)
+are_plain [] = tt
+are_plain (n ∷ ns) = are_plain ns
+
+inputs_counted : (names : List (List ℕ)) → inputs_name_count (plain_inputs names) ≡ length names
+inputs_counted [] = refl
+inputs_counted (n ∷ ns) = let rest = inputs_counted ns in omega (arith, rest)
+
+texts_counted : (tokens : List Token) → length (token_texts tokens) ≡ length tokens
+texts_counted [] = refl
+texts_counted (t ∷ ts) = ap suc (texts_counted ts)
+
+at_most : (a b : ℕ) → a ≤ b → nat_le a b ≡ true
+at_most a b few = grind arith
+
+few_names : (effect : WrittenEffect) → IsEffect effect → nat_le (name_count (effect_of effect)) 65 ≡ true
+few_names effect h =
+    let ins = inputs_counted (token_texts effect.ins) ∙ texts_counted effect.ins in
+    let outs = texts_counted effect.outs in
+    let few = h.few in
+    at_most (name_count (effect_of effect)) 65 (omega (arith, ins, outs, few))
+
+own_word : (bound : ℕ) (name : Token) (effect : WrittenEffect) (t : Text) → IsEffect effect → IsBuiltText bound t → IsOwnWord bound (defined_word name effect t)
+own_word bound name effect t fits built =
+    record {
+      text = t;
+      sort_is = refl;
+      defined = record { text_built = built; plain = (refl, are_plain (token_texts effect.ins), refl); not_inline = refl; not_recursive = refl };
+      few = few_names effect fits;
+    }
+
+-- Contents.
+
+abbrev AreBuilt : ℕ → Contents → Type 0
+AreBuilt bound c = AreOwnWords bound c.words × IsBuiltText bound c.text
+
+-- where there are at most as many words as the bound says, what was made is built
+abbrev BuildsWithin : ℕ → ℕ → Result Contents NameFault → Type 0
+BuildsWithin bound known r = (c : Contents) → r ≡ Ok c → known + length c.words ≤ bound → AreBuilt bound c
+
+uses_build : (bound k : ℕ) (r : Result (List (List ℕ)) NameFault) (rest : List (List ℕ) → Result Contents NameFault) → ((used : List (List ℕ)) → BuildsWithin bound k (rest used)) → BuildsWithin bound k (after_uses r rest)
+uses_build bound k (Ok used) rest later = later used
+uses_build bound k (Err f) rest later = λ c e few. cc
+
+item_builds : (bound k : ℕ) (i : Item) (p : Place) (r : Result Contents NameFault) → (k ≤ bound → IsBuiltText bound (then i p end)) → BuildsWithin bound k r → BuildsWithin bound k (with_top_item i p r)
+item_builds bound k i p (Ok d) item later = λ c e few.
+    let same : record { words = d.words; text = then i p d.text } ≡ c = cc in
+    subst (AreBuilt bound) same (let fits : k + length d.words ≤ bound = subst (λ (x : Contents). k + length x.words ≤ bound) (sym same) few in
+    let rest = later d refl fits in (rest.0, ((item (omega (arith, fits))).0, rest.1)))
+item_builds bound k i p (Err f) item later = λ c e few. cc
+
+word_builds : (bound k : ℕ) (o : Option ℕ) (tok : Token) (r : Result Contents NameFault) → ((n : ℕ) → k ≤ bound → o ≡ Some n → nat_lt n bound ≡ true) → BuildsWithin bound k r → BuildsWithin bound k (with_top_word o tok r)
+word_builds bound k (Some n) tok r below later = item_builds bound k (word n) tok.place r (λ few. (below n few refl, tt)) later
+word_builds bound k None tok r below later = λ c e few. cc
+
+definition_builds : (bound k : ℕ) (b : Bool) (name : Token) (effect : WrittenEffect) (r : Result Text NameFault) (q : Result Contents NameFault) → IsEffect effect → ((t : Text) → k + 1 ≤ bound → r ≡ Ok t → IsBuiltText bound t) → BuildsWithin bound (k + 1) q → BuildsWithin bound k (unless_taken b name (after_text name effect r q))
+definition_builds bound k true name effect r q fits text later = λ c e few. cc
+definition_builds bound k false name effect (Err f) q fits text later = λ c e few. cc
+definition_builds bound k false name effect (Ok t) (Err f) fits text later = λ c e few. cc
+definition_builds bound k false name effect (Ok t) (Ok d) fits text later = λ c e few.
+    let same : record { words = defined_word name effect t ∷ d.words; text = d.text } ≡ c = cc in
+    let within : k + suc (length d.words) ≤ bound = subst (λ (x : Contents). k + length x.words ≤ bound) (sym same) few in
+    let rest = later d refl (omega (arith, within)) in
+    subst (AreBuilt bound) same ((own_word bound name effect t fits (text t (omega (arith, within)) refl), rest.0), rest.1)
+
+at_length : (bound : ℕ) (known : List FullName) (x : FullName) (r : Result Contents NameFault) → BuildsWithin bound (length (known ++ x ∷ [])) r → BuildsWithin bound (length known + 1) r
+at_length bound known x r h = subst (λ (k : ℕ). BuildsWithin bound k r) (length_push known x) h
+
+contents_build : (bound : ℕ) (forms : List Form) (known : List FullName) (used : List (List ℕ)) → IsWellFormed forms → BuildsWithin bound (length known) (contents_of known used forms)
+contents_build bound [] known used fits = λ c e few. let same : record { words = []; text = end } ≡ c = cc in subst (AreBuilt bound) same (tt, tt)
+contents_build bound (form.Using opens vocabs closes ∷ forms) known used fits =
+    uses_build bound (length known) (uses used vocabs) (λ more. contents_of known more forms) (λ more. contents_build bound forms known more fits.1)
+contents_build bound (form.Define opens name effect items closes ∷ forms) known used fits =
+    let x = own_name (token_text name.kind) in
+    let more = known ++ x ∷ [] in
+    definition_builds bound (length known) (is_taken known (token_text name.kind)) name effect (text_of more used items) (contents_of more used forms) fits.0.1
+    (λ t few h. text_built bound more used items t (let pushed = length_push known x in omega (arith, pushed, few)) h)
+    (at_length bound known x (contents_of more used forms) (contents_build bound forms more used fits.1))
+contents_build bound (form.Item (term.Integer t value) ∷ forms) known used fits =
+    item_builds bound (length known) (lit (int value)) t.place (contents_of known used forms) (λ few. (tt, tt)) (contents_build bound forms known used fits.1)
+contents_build bound (form.Item (term.Name t) ∷ forms) known used fits =
+    word_builds bound (length known) (found known used (token_text t.kind)) t (contents_of known used forms) (λ n few h. found_within bound n known used (token_text t.kind) few h) (contents_build bound forms known used fits.1)
+
+names_counted : (ds : List WordDef) → length (names_of ds) ≡ length ds
+names_counted [] = refl
+names_counted (d ∷ ds) = ap suc (names_counted ds)
+
+-- what the forms of a file make, with the number of the top-level phrase as the bound
+pub contents_built : (forms : List Form) (used : List (List ℕ)) (c : Contents) → IsWellFormed forms → contents_of first_names used forms ≡ Ok c → AreOwnWords (length known_words + length c.words) c.words × IsBuiltText (length known_words + length c.words) c.text
+contents_built forms used c fits e = contents_build (length known_words + length c.words) forms first_names used fits c e (let counted = names_counted known_words in omega (arith, counted))
+
+-- Words that are known from the start.
+
+both_true : (a b : Bool) → (a && b) ≡ true → (a ≡ true) × (b ≡ true)
+both_true true b h = (refl, h)
+both_true false b h = cc
+
+one_built : (bound k : ℕ) (ks : List ℕ) (o : Option PrimitiveWord) → primitive_word k ≡ o → is_built_primitive k ≡ true → AreBuiltWords bound (primitive_defs ks) → AreBuiltWords bound (elim o [ None ↦ primitive_defs ks | Some row ↦ primitive_def k row ∷ primitive_defs ks ])
+one_built bound k ks None e b rest = rest
+one_built bound k ks (Some row) e b rest = (record { row = row; row_is = e; is_built = b; effect_is = refl; not_inline = refl; not_recursive = refl }, rest)
+
+all_built : (bound : ℕ) (ks : List ℕ) → list_all is_built_primitive ks ≡ true → AreBuiltWords bound (primitive_defs ks)
+all_built bound [] h = tt
+all_built bound (k ∷ ks) h =
+    let both = both_true (is_built_primitive k) (list_all is_built_primitive ks) h in
+    one_built bound k ks (primitive_word k) refl both.0 (all_built bound ks both.1)
+
+known_built : (bound : ℕ) → AreBuiltWords bound known_words
+unfolding known_words
+known_built bound = all_built bound built_primitives refl
+
+known_distinct : has_no_repeats (primitive_numbers known_words) ≡ true
+unfolding known_words primitive_word
+known_distinct = refl
+
+-- All words.
+
+built_with : (bound : ℕ) (ds es : List WordDef) → AreBuiltWords bound ds → AreBuiltWords bound es → AreBuiltWords bound (ds ++ es)
+built_with bound [] es h k = k
+built_with bound (d ∷ ds) es h k = (h.0, built_with bound ds es h.1 k)
+
+own_built : (bound : ℕ) (ds : List WordDef) → AreOwnWords bound ds → AreBuiltWords bound ds
+own_built bound [] h = tt
+own_built bound (d ∷ ds) h = (subst (IsBuiltSort bound d) (sym h.0.sort_is) h.0.defined, own_built bound ds h.1)
+
+no_numbers : (bound : ℕ) (ds : List WordDef) → AreOwnWords bound ds → primitive_numbers ds ≡ []
+no_numbers bound [] h = refl
+no_numbers bound (d ∷ ds) h = rw h.0.sort_is (no_numbers bound ds h.1)
+
+numbers_with : (bound : ℕ) (ds es : List WordDef) → AreOwnWords bound es → primitive_numbers (ds ++ es) ≡ primitive_numbers ds
+numbers_with bound [] es h = no_numbers bound es h
+numbers_with bound (d ∷ ds) es h = ap (numbers_before d.sort) (numbers_with bound ds es h)
+
+pub program_built : (c : Contents) → AreOwnWords (length known_words + length c.words) c.words → IsBuiltText (length known_words + length c.words) c.text → IsBuilt (program_of c)
+program_built c own text =
+    let n = length known_words + length c.words in
+    record {
+      words = known_words ++ c.words;
+      phrase = top_word c.text;
+      text = c.text;
+      words_are = refl;
+      top_is = sym (length-append known_words c.words);
+      phrase_is = record { sort_is = refl; text_built = text; effect_is = refl; not_inline = refl; not_recursive = refl };
+      built = built_with n known_words c.words (known_built n) (own_built n c.words own);
+      distinct = ap has_no_repeats (numbers_with n known_words c.words own) ∙ known_distinct;
+      no_arrays = refl;
+      no_classes = refl;
+    }
