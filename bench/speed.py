@@ -74,7 +74,7 @@ def chain_of_calls(path, count):
 def recursion(path, _):
     """A word that calls itself until the budget is spent, which is a hundred million calls deep."""
     with open(path, "wb") as file:
-        file.write(b": f ( -- ) f ; f\n")
+        file.write(b": spin ( -- ) spin ; spin\n")
     return 6, b"", b"spent: 100000000 ticks\n"
 
 

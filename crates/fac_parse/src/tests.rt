@@ -174,9 +174,9 @@ fn programs_and_refused_names(rt: HostRuntime) -> Result<(), Fail> {
             "USING: math ; : inc ( x -- y ) 1 + ; : twice ( x -- y ) inc inc ; 5 twice",
             "inc@5 11:1 12:word 4 twice@15 21:word 8 22:word 8 24:5 25:word 9 ",
         ),
-        (": f ( -- ) f ;", "f@2 6:word 8 "),
-        (": f ( -- ) g ; : g ( -- ) ;", "unknown 1:6 g"),
-        (": f ( -- ) ; : f ( -- ) nope ;", "twice 1:8 f"),
+        (": go ( -- ) go ;", "go@2 6:word 8 "),
+        (": go ( -- ) on ; : on ( -- ) ;", "unknown 1:6 on"),
+        (": go ( -- ) ; : go ( -- ) nope ;", "twice 1:8 go"),
         (
             "USING: kernel scratchpad ; dup : dup ( -- ) dup ; dup",
             "dup@7 11:word 8 5:word 1 13:word 8 ",

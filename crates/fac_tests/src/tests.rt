@@ -129,7 +129,7 @@ fn programs_that_run(rt: HostRuntime) -> Result<(), Fail> {
             "1 2 3 ",
         ),
         (
-            "USING: kernel prettyprint ; : dup ( x -- x ) ; : f ( x -- ) dup . ; 5 f : * ( * -- * x ) 6 ; 7 *",
+            "USING: kernel prettyprint ; : dup ( x -- x ) ; : show ( x -- ) dup . ; 5 show : * ( * -- * x ) 6 ; 7 *",
             "5\n",
             7,
             "7 6 ",
@@ -245,7 +245,7 @@ fn programs_that_fail(rt: HostRuntime) -> Result<(), Fail> {
             "error: overflow in math:*\n",
         ),
         (
-            "USING: kernel math ; : square ( x -- y ) dup * ; : f ( x -- y ) square ; 170141183460469231731687303715884105727 f",
+            "USING: kernel math ; : square ( x -- y ) dup * ; : twice ( x -- y ) square square ; 170141183460469231731687303715884105727 twice",
             "",
             5,
             "error: overflow in math:*\n",
@@ -364,7 +364,7 @@ fn notes_that_fail(rt: HostRuntime) -> Result<(), Fail> {
 #[test]
 fn budgets_that_are_spent(rt: HostRuntime) -> Result<(), Fail> {
     let alloc = rt.alloc();
-    let call = run(alloc, b": f ( -- ) f ; f".as_slice())?;
+    let call = run(alloc, b": spin ( -- ) spin ; spin".as_slice())?;
     let note = "spent: 100000000 ticks\n";
     assert_call(&rt, note, &call, 6, 100_000_000, "", note);
     assert!(rt; call.ended.stack.is_none());
@@ -385,7 +385,7 @@ fn run_with(alloc: Global, text: &str, ticks: u64) -> Result<(u64, StopKind, Mem
 fn smaller_budgets(rt: HostRuntime) -> Result<(), Fail> {
     let alloc = rt.alloc();
     let sum = "USING: math prettyprint ; 1 2 + .";
-    let word = "USING: prettyprint ; : f ( x -- ) . ; 1 f";
+    let word = "USING: prettyprint ; : show ( x -- ) . ; 1 show";
     let cases = [
         (sum, 3u64, StopKind::Spent, ""),
         (sum, 4, StopKind::Done, "3\n"),
