@@ -178,11 +178,7 @@ fn programs_that_are_refused(rt: HostRuntime) -> Result<(), Fail> {
         (": w ( ..a -- ) ;", 3, syntax),
         (": w ( x: -- ) ;", 3, syntax),
         (": w : v ( -- ) ; ( -- ) ;", 3, syntax),
-        (
-            "w : w ( -- ) ;",
-            4,
-            "name: a token 1: unknown w\n",
-        ),
+        ("w : w ( -- ) ;", 4, "name: a token 1: unknown w\n"),
         (
             ": w ( -- ) ; : w ( -- ) nothing ;",
             4,
