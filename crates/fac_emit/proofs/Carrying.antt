@@ -2,13 +2,12 @@
 use Rattle.std.proofs.Common.{◌≡◌, ◌≢◌, ℕ, suc, List, [], ◌∷◌, ◌++◌, Option, Bool, true, false, ◌&&◌, Some, refl, ap, sym, subst, ◌∙◌, arith, None}
 use Rattle.std.proofs.lemmas.Bool.{ltb-true}
 use Rattle.std.specs.Prelude.{nat_eq, slice_get}
-use Rattle.fac_lang.specs.declared.phrase.Height.{Height}
 use Rattle.fac_lang.specs.declared.program.Program.{Program}
 use Rattle.fac_lang.specs.declared.program.WordDef.{WordDef}
 use Rattle.fac_lang.specs.declared.program.Sort.{Sort}
 use Rattle.fac_lang.specs.declared.program.Sort.TheVariants.{Prim as prim_sort, Body as body}
 use Rattle.fac_lang.specs.declared.program.Lit.{Lit}
-use Rattle.fac_lang.specs.Texts.{int, Text, end, then, Item, lit, word, Value, Callable}
+use Rattle.fac_lang.specs.Texts.{int, Text, end, then, Item, lit, word, Value}
 use Rattle.fac_lang.specs.World.{State}
 use Rattle.fac_lang.specs.Built.{IsBuilt, IsBuiltItem, IsBuiltText, IsBuiltSort, AreBuiltWords}
 use Rattle.fac_lang.specs.Eval.{Result, Done, Failed, Spent, Stuck, eval}
@@ -22,12 +21,12 @@ use Rattle.fac_vm.specs.declared.image.Image.{Image}
 use Rattle.fac_vm.specs.declared.image.Action.TheVariants.{Code as code_action}
 use Rattle.fac_vm.specs.declared.image.WordRow.{WordRow}
 use Rattle.fac_vm.specs.Code.{is_built_instr, has_built_code}
-use Rattle.fac_vm.specs.Machine.{Machine, End, Ends, starting, empty_world}
+use Rattle.fac_vm.specs.Machine.{End, Ends, starting, empty_world}
 use Rattle.fac_emit.specs.View.{state_view}
 use Rattle.fac_emit.specs.Carries.{SameEnd, Carries}
-use Rattle.fac_emit.specs.Code.{item_instr, word_instr, sort_instr, text_code, last_instr, sort_code, piece, code_from, program_code, word_rows}
+use Rattle.fac_emit.specs.Code.{item_instr, text_code, last_instr, sort_code, piece, code_from, program_code, word_rows}
 use Rattle.fac_emit.specs.Stands.{Stands}
-use Rattle.fac_emit.proofs.Simulation.{here, carried}
+use Rattle.fac_emit.proofs.Simulation.{carried}
 use Rattle.fac_emit.proofs.Placed.{coded, top_stands}
 
 -- the code of a built program has built primitives alone

@@ -1,7 +1,6 @@
 -- The code of a program stands for its texts.
 use Rattle.std.proofs.Common.{◌≡◌, ◌<◌, ℕ, zero, suc, ◌+◌, List, [], ◌∷◌, ◌++◌, length, drop, Bool, true, false, Some, refl, ap, sym, subst, ◌∙◌, arith}
 use Rattle.std.proofs.lemmas.Bool.{ltb-true, ne_eqb}
-use Rattle.std.proofs.lemmas.List.{append-nil}
 use Rattle.std.proofs.Math.Seq.{drop-append_seam}
 use Rattle.std.specs.Prelude.{nat_eq, slice_get}
 use Rattle.fac_lang.specs.declared.program.Program.{Program}
@@ -11,9 +10,9 @@ use Rattle.fac_lang.specs.declared.program.Sort.TheVariants.{Prim as prim_sort, 
 use Rattle.fac_lang.specs.Texts.{Plain, int, Text, end, then, Item, lit, word}
 use Rattle.fac_lang.specs.Built.{IsBuilt, IsBuiltItem, IsBuiltText, IsBuiltSort}
 use Rattle.fac_lang.specs.Meaning.{sort_of, word_text}
-use Rattle.fac_lang.proofs.BuiltLemmas.{WordBelow, word_below, sort_at, top_word, top_text, all_distinct}
+use Rattle.fac_lang.proofs.BuiltLemmas.{word_below, sort_at, top_word, top_text, all_distinct}
 use Rattle.fac_vm.specs.declared.image.Instr.{Instr}
-use Rattle.fac_vm.specs.declared.image.Instr.TheVariants.{Halt, Int, Prim, Callw, Ret}
+use Rattle.fac_vm.specs.declared.image.Instr.TheVariants.{Halt, Prim}
 use Rattle.fac_vm.specs.declared.image.Action.TheVariants.{Code as code_action}
 use Rattle.fac_vm.specs.declared.image.Image.{Image}
 use Rattle.fac_vm.specs.declared.image.WordRow.{WordRow}

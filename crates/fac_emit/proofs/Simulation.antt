@@ -1,21 +1,19 @@
 -- The machine follows the meaning, tick for tick.
-use Rattle.std.proofs.Common.{◌≡◌, ◌≢◌, ◌≤◌, ℕ, zero, suc, ◌+◌, List, [], ◌∷◌, Bool, true, false, Option, Some, None, refl, ap, subst, ◌∙◌, arith}
-use Rattle.std.specs.Prelude.{ℤ, slice_get}
+use Rattle.std.proofs.Common.{◌≡◌, ◌≢◌, ◌≤◌, ℕ, zero, suc, ◌+◌, List, [], ◌∷◌, Bool, false, Option, Some, None, refl, ap, subst, ◌∙◌, arith}
+use Rattle.std.specs.Prelude.{slice_get}
 use Rattle.fac_lang.specs.declared.phrase.Height.{Height}
-use Rattle.fac_lang.specs.declared.phrase.Place.{Place}
 use Rattle.fac_lang.specs.declared.program.Program.{Program}
-use Rattle.fac_lang.specs.declared.program.Sort.TheVariants.{Prim as prim_sort, Body as body}
-use Rattle.fac_lang.specs.Texts.{Plain, int, Text, end, then, Item, lit, word, Value, Callable}
+use Rattle.fac_lang.specs.Texts.{Plain, int, Text, end, then, Item, Value, Callable}
 use Rattle.fac_lang.specs.World.{World, State, Error, pile, push_each}
 use Rattle.fac_lang.specs.Primitives.{Prim, prim_numbered, prim_fn, Gives, gives, bad, Fn, fn0, fn1, fn2, fn3}
 use Rattle.fac_lang.specs.Eval.{Result, Done, Failed, Spent, Stuck, then_do, Act, go_on, eval}
-use Rattle.fac_lang.specs.Meaning.{texts, names, sort_of, prim_act, does, given, act}
+use Rattle.fac_lang.specs.Meaning.{texts, names, prim_act, does, given, act}
 use Rattle.fac_lang.proofs.Laws.{Within, within}
 use Rattle.fac_vm.specs.declared.image.Instr.{Instr}
 use Rattle.fac_vm.specs.declared.image.Instr.TheVariants.{Halt, Int, Prim as prim_instr, Callw, Ret}
 use Rattle.fac_vm.specs.declared.image.Image.{Image}
 use Rattle.fac_vm.specs.declared.value.TrapWhy.TheVariants.{Kind as t_kind}
-use Rattle.fac_vm.specs.Machine.{Machine, Entry, resume, End, done, failed, spent, goes_on, ends, after, cells, given as machine_given, does as machine_does, word_of_prim, or_trap, code_of, fetched, step, Ends}
+use Rattle.fac_vm.specs.Machine.{Machine, Entry, resume, End, done, failed, spent, goes_on, ends, after, cells, given as machine_given, does as machine_does, or_trap, code_of, fetched, step, Ends}
 use Rattle.fac_vm.proofs.Leading.{Leads, leads_on, leads_none, leads_step, ends_after, ends_step}
 use Rattle.fac_emit.specs.View.{values_view, world_view, state_view, gives_view, error_view}
 use Rattle.fac_emit.specs.Carries.{SameEnd}
