@@ -46,24 +46,6 @@ pub record WordBelow (P : Program) (w : ℕ) : Type 0 where
 pub word_below : (P : Program) → IsBuilt P → (w : ℕ) → w < P.top → WordBelow P w
 word_below P b w lt = let front = get_front b.words (b.phrase ∷ []) w (omega (arith, b.top_is)) in record { def = front.0; at = rw b.words_are front.1; built = built_at P.top b.words w front.0 b.built front.2 }
 
--- a number below the top-level phrase's names that word
-pub built_word : (P : Program) → IsBuilt P → (w : ℕ) (d : WordDef) → w < P.top → slice_get P.words w ≡ Some d → IsBuiltSort P.top d d.sort
-built_word P b w d lt at =
-    let found = word_below P b w lt in
-    let same : found.def ≡ d = (let there = found.at in cc) in
-    subst (λ (d : WordDef). IsBuiltSort P.top d d.sort) same found.built
-
-get_last : (ds : List WordDef) (e d : WordDef) (w : ℕ) → slice_get (ds ++ e ∷ []) w ≡ Some d → (w < length ds) ⊎ ((w ≡ length ds) × (e ≡ d))
-get_last [] e d zero h = inr (refl, cc)
-get_last [] e d (suc w) h = absurd (cc)
-get_last (x ∷ ds) e d zero h = inl (omega arith)
-get_last (x ∷ ds) e d (suc w) h = elim (get_last ds e d w h) [ inl lt ↦ inl (omega (arith, lt)) | inr last ↦ inr (omega (arith, last.0), last.1) ]
-
--- each word is one of those before the top-level phrase, or is that phrase
-pub below_or_top : (P : Program) (b : IsBuilt P) (w : ℕ) (d : WordDef) → slice_get P.words w ≡ Some d → (w < P.top) ⊎ ((w ≡ P.top) × (b.phrase ≡ d))
-below_or_top P b w d at =
-    elim (get_last b.words b.phrase d w (rw b.words_are at at)) [ inl lt ↦ inl (omega (arith, lt, b.top_is)) | inr last ↦ inr (last.0 ∙ sym b.top_is, last.1) ]
-
 phrase_alone : (ds : List WordDef) (d : WordDef) (t : Text) → d.sort ≡ body t → primitive_numbers (ds ++ d ∷ []) ≡ primitive_numbers ds
 phrase_alone [] d t e = rw e refl
 phrase_alone (x ∷ ds) d t e = ap (numbers_before x.sort) (phrase_alone ds d t e)
