@@ -78,6 +78,13 @@ def recursion(path, _):
     return 6, b"", b"spent: 100000000 ticks\n"
 
 
+def recursion_with_values(path, _):
+    """The same with a value on the stack for each open call, fifty million of both."""
+    with open(path, "wb") as file:
+        file.write(b"USING: kernel ; : pile ( -- x ) 1 pile drop ; pile\n")
+    return 6, b"", b"spent: 100000000 ticks\n"
+
+
 def mebibytes(size):
     return f"{size >> 20} MiB"
 
@@ -93,6 +100,7 @@ SORTS = [
     ("small words", small_words, (2_500, 10_000), words, 1.0),
     ("chain of calls", chain_of_calls, (25_000, 100_000), words, 2.0),
     ("recursion", recursion, (100_000_000,), words, 20.0),
+    ("recursion, values", recursion_with_values, (50_000_000,), words, 20.0),
 ]
 
 

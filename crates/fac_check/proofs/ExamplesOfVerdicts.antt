@@ -37,7 +37,7 @@ primitives = primitives_from 0 (shuffle_words ++ kernel_words ++ math_words ++ s
 abbrev program : List WordDef → List Item → Program
 program own is =
     record {
-      words = primitives ++ own ++ word_of (codes "scratchpad") (codes "top-level") (body (items_at 9 1 is)) (signature None no_inputs (leaves None [])) false false ∷ [];
+      words = primitives ++ own ++ word_of [] (codes "top-level") (body (items_at 9 1 is)) (signature None no_inputs (leaves None [])) false false ∷ [];
       arrays = [];
       classes = [];
       top = length primitives + length own;

@@ -24,7 +24,7 @@ use Rattle.fac_vm.specs.Code.{is_built_instr, has_built_code}
 use Rattle.fac_vm.specs.Machine.{End, Ends, starting, empty_world}
 use Rattle.fac_emit.specs.View.{state_view}
 use Rattle.fac_emit.specs.Carries.{SameEnd, Carries}
-use Rattle.fac_emit.specs.Code.{item_instr, text_code, last_instr, sort_code, piece, code_from, program_code, word_rows}
+use Rattle.fac_emit.specs.Code.{item_instr, text_code, last_instr, sort_code, piece, code_from, program_code, IsPlain}
 use Rattle.fac_emit.specs.Stands.{Stands}
 use Rattle.fac_emit.proofs.Simulation.{carried}
 use Rattle.fac_emit.proofs.Placed.{coded, top_stands}
@@ -86,16 +86,15 @@ abbrev place_of : Option WordRow → ℕ
 place_of None = 0
 place_of (Some r) = elim r.action [ code_action a ↦ a | _ ↦ 0 ]
 
-pub carries : (P : Program) (M : Image) → IsBuilt P → IsSound P → M.words ≡ word_rows P → M.code ≡ program_code P → slice_get M.words P.top ≡ Some (record { action = code_action M.start }) → Carries P M
-carries P M b sound rows code begins = record {
+pub carries : (P : Program) (M : Image) → IsBuilt P → IsSound P → IsPlain P M → Carries P M
+carries P M b sound plain = record {
   same_end = λ fits callable_height n.
       let text = word_text P P.top in
-      let top = top_stands P M b rows code in
-      let there : top.0 ≡ M.start = ap place_of (sym top.1 ∙ begins) in
+      let top = top_stands P M b plain.rows plain.code in
+      let there : top.0 ≡ M.start = ap place_of (sym top.1 ∙ plain.begins) in
       let stands = subst (λ (a : ℕ). Stands P M Halt [] a text) there top.2 in
       let begin : state_view [] empty_world ≡ start P [] = sym (no_literals P b []) in
       let never = not_stuck (run P fits callable_height n text (start P [])) (sound.top fits callable_height [] n) in
       subst (λ (st : State Value). (e : End) × Ends M (names P) (starting M []) n e × SameEnd (eval (act P fits callable_height) n text st n) e) begin
-      (carried P fits callable_height M (coded P M b rows code) M.start text stands [] empty_world n (subst (λ (st : State Value). eval (act P fits callable_height) n text st n ≢ Stuck) (sym begin) never));
-  rows = rows;
+      (carried P fits callable_height M (coded P M b plain.rows plain.code) M.start text stands [] empty_world n (subst (λ (st : State Value). eval (act P fits callable_height) n text st n ≢ Stuck) (sym begin) never));
 }

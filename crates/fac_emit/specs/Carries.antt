@@ -1,4 +1,4 @@
--- When an image carries a program: its machine ends as the program does, and its table has the program's words.
+-- When an image carries a program: its machine ends as the program does.
 use Rattle.std.specs.Prelude.{◌≡◌, ℕ, [], Option, Bool}
 use Rattle.fac_lang.specs.declared.phrase.Height.{Height}
 use Rattle.fac_lang.specs.declared.program.Program.{Program}
@@ -8,7 +8,6 @@ use Rattle.fac_lang.specs.Meaning.{run, start, word_text, names}
 use Rattle.fac_vm.specs.declared.image.Image.{Image}
 use Rattle.fac_vm.specs.Machine.{End, done, failed, spent, Ends, starting}
 use Rattle.fac_emit.specs.View.{state_view, world_view, error_view}
-use Rattle.fac_emit.specs.Code.{word_rows}
 
 -- the same end: a stuck run and a trap are the same as nothing
 abbrev pub SameEnd : Result → End → Type 0
@@ -22,5 +21,3 @@ pub record Carries (P : Program) (M : Image) : Type 0 where
   pub same_end :
       (fits : Height → Height → Bool) (callable_height : Callable → Option Height) (n : ℕ) →
       (e : End) × Ends M (names P) (starting M []) n e × SameEnd (run P fits callable_height n (word_text P P.top) (start P [])) e
-  -- each word of the program has its row, under the same number
-  pub rows : M.words ≡ word_rows P

@@ -1,6 +1,6 @@
 -- The plain code of a program: that of each text is an instruction for each item and one behind them, and the texts of the words stand one
 -- behind the other.
-use Rattle.std.specs.Prelude.{ℕ, suc, ◌+◌, List, [], ◌∷◌, ◌++◌, length, nat_eq, Bool, true, false, Option, Some, None, slice_get}
+use Rattle.std.specs.Prelude.{◌≡◌, ℕ, suc, ◌+◌, List, [], ◌∷◌, ◌++◌, length, nat_eq, Bool, true, false, Option, Some, None, slice_get}
 use Rattle.fac_lang.specs.declared.program.Program.{Program}
 use Rattle.fac_lang.specs.declared.program.WordDef.{WordDef}
 use Rattle.fac_lang.specs.declared.program.Sort.{Sort}
@@ -11,6 +11,7 @@ use Rattle.fac_vm.specs.declared.image.Instr.TheVariants.{Halt, Int, Prim, Callw
 use Rattle.fac_vm.specs.declared.image.Action.{Action}
 use Rattle.fac_vm.specs.declared.image.Action.TheVariants.{Prim as prim_action, Code as code_action}
 use Rattle.fac_vm.specs.declared.image.WordRow.{WordRow}
+use Rattle.fac_vm.specs.declared.image.Image.{Image}
 
 -- a primitive is done in place, and a word that is defined by a text is called
 abbrev pub sort_instr : ℕ → Sort → Instr
@@ -62,8 +63,16 @@ module _ (P : Program) where
   rows_from at w [] = []
   rows_from at w (d ∷ ds) = (record { action = sort_action at d.sort }) ∷ rows_from (at + length (piece w d)) (suc w) ds
 
+  -- all code
   abbrev pub program_code : List Instr
   program_code = code_from 0 P.words
 
+  -- all rows
   abbrev pub word_rows : List WordRow
   word_rows = rows_from 0 0 P.words
+
+-- the image is the program's plain code, with a row for each word under its number, and starts at the top-level phrase's place
+pub record IsPlain (P : Program) (M : Image) : Type 0 where
+  pub code : M.code ≡ program_code P
+  pub rows : M.words ≡ word_rows P
+  pub begins : slice_get M.words P.top ≡ Some (record { action = code_action M.start })

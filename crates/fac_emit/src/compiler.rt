@@ -3,7 +3,7 @@ ghost use Rattle.std.specs.Prelude.{◌≡◌, ◌++◌, ℕ, Some, IfOk, OnOk, 
 ghost use Rattle.fac_lang.specs.View.{what_item};
 ghost use Rattle.fac_lang.specs.Built.{IsBuilt};
 ghost use Rattle.fac_emit.specs.Carries.{Carries};
-ghost use Rattle.fac_emit.specs.Code.{item_instr, sort_instr, sort_action, sort_code, last_instr, text_code, program_code, word_rows};
+ghost use Rattle.fac_emit.specs.Code.{item_instr, sort_instr, sort_action, sort_code, last_instr, text_code, program_code, word_rows, IsPlain};
 
 use fac_check::Checked;
 use fac_lang::{List, Memory, Phrase, Program, Sort, What, WordDef};
@@ -118,7 +118,8 @@ fn place(rows: &List<WordRow>, word: u32) -> u32
 /// order. Want of memory is the one error.
 pub fn compile(alloc: Global, checked: &Checked) -> Result<Image, Memory>
     requires { IsBuilt checked.now.program }
-    ensures { IfOk result (Carries checked.now.program) }
+    ensures carries { IfOk result (Carries checked.now.program) }
+    ensures plain { IfOk result (IsPlain checked.now.program) }
 {
     let (code, words) = link(alloc, &checked.program)?;
     let start = place(&words, checked.program.top);

@@ -24,9 +24,6 @@ top_sort P b = sort_at P P.top b.phrase (top_word P b) ∙ ap Some b.phrase_is.s
 pub top_text : (P : Program) (b : IsBuilt P) → word_text P P.top ≡ b.text
 top_text P b = ap (sort_text P P.top) (top_sort P b)
 
-pub top_built : (P : Program) (b : IsBuilt P) → IsBuiltText P.top (word_text P P.top)
-top_built P b = rw (top_text P b) b.phrase_is.text_built
-
 built_at : (bound : ℕ) (ds : List WordDef) (w : ℕ) (d : WordDef) → AreBuiltWords bound ds → slice_get ds w ≡ Some d → IsBuiltSort bound d d.sort
 built_at bound [] w d h e = absurd (cc)
 built_at bound (x ∷ ds) zero d h e = let same : x ≡ d = cc in subst (λ (d : WordDef). IsBuiltSort bound d d.sort) same h.0

@@ -1,7 +1,7 @@
 //! Tests of what no contract says: that calls succeed where there is memory.
 use crate::{
     Bytes, ClassDef, Duplicate, Effect, Form, Input, Item, List, Lit, Memory, Name, Outs, Phrase,
-    Place, Program, Shape, Sort, Term, Text, TokKind, Token, Tree, What, WordDef,
+    Place, Program, Shape, Sort, Term, Text, TokKind, Token, Tree, What, WordDef, WrittenEffect,
 };
 use std::alloc::Global;
 use std::test::Fail;
@@ -87,15 +87,31 @@ fn program(alloc: Global) -> Result<Program, Memory> {
     })
 }
 
-fn tree(alloc: Global) -> Result<Tree, Memory> {
-    let token = Token {
+fn token(alloc: Global, text: &str) -> Result<Token, Memory> {
+    Ok(Token {
         place: place(),
-        kind: TokKind::Plain(Text::from_str(alloc, "5")?),
-    };
-    Ok(Tree {
-        file: 1,
-        forms: list_of(alloc, Form::Item(Term::Integer(token, 5)))?,
+        kind: TokKind::Plain(Text::from_str(alloc, text)?),
     })
+}
+
+// An item, and a definition of a word with an input, an output and a named item.
+fn tree(alloc: Global) -> Result<Tree, Memory> {
+    let mut forms = list_of(alloc, Form::Item(Term::Integer(token(alloc, "5")?, 5)))?;
+    let effect = WrittenEffect {
+        opens: place(),
+        ins: list_of(alloc, token(alloc, "x")?)?,
+        dashes: place(),
+        outs: list_of(alloc, token(alloc, "y")?)?,
+        closes: place(),
+    };
+    forms.push(Form::Define {
+        opens: place(),
+        name: token(alloc, "w")?,
+        effect,
+        items: list_of(alloc, Term::Name(token(alloc, "v")?))?,
+        closes: place(),
+    })?;
+    Ok(Tree { file: 1, forms })
 }
 
 #[test]
@@ -104,7 +120,7 @@ fn copies_are_made(rt: HostRuntime) -> Result<(), Fail> {
     let program = program(alloc)?.copy(alloc)?;
     assert_eq!(rt; program.words.len(), 1);
     let tree = tree(alloc)?.copy(alloc)?;
-    assert_eq!(rt; tree.forms.len(), 1);
+    assert_eq!(rt; tree.forms.len(), 2);
     Ok(())
 }
 

@@ -59,10 +59,3 @@ failed_matches P e stack ticks before now m n h =
     let matches : Matches (of_run P (Failed h.0 h.1 h.2)) (sink_seen before now m n) (record { status = 1; ticks = ticks; stack = None; refusal = Some (machine_report P e) }) =
     record { status = refl; ticks = h.4; stack = refl; refusal = ap Some (sym (report_same P h.1.world h.0 e h.6)); output = h.5 } in
     subst (λ (a : Answer). Matches a (sink_seen before now m n) (record { status = 1; ticks = ticks; stack = None; refusal = Some (machine_report P e) })) (sym answer) matches
-
-pub spent_matches : (P : Program) (stack : List Plain) (ticks : ℕ) (before now : Option (List ℕ)) (m n : ℕ) → StopsAs P stack ticks before now stop.Spent → Matches (of_run P (meaning P budget)) (sink_seen before now m n) (record { status = 6; ticks = ticks; stack = None; refusal = Some (report.Spent ticks) })
-spent_matches P stack ticks before now m n h =
-    let answer = ap (of_run P) h.2 in
-    let matches : Matches (of_run P (Spent h.0 h.1)) (sink_seen before now m n) (record { status = 6; ticks = ticks; stack = None; refusal = Some (report.Spent ticks) }) =
-    record { status = refl; ticks = h.3; stack = refl; refusal = ap (λ (k : ℕ). Some (report.Spent k)) h.3; output = h.4 } in
-    subst (λ (a : Answer). Matches a (sink_seen before now m n) (record { status = 6; ticks = ticks; stack = None; refusal = Some (report.Spent ticks) })) (sym answer) matches
