@@ -8,7 +8,7 @@ use Rattle.std.specs.declared.option.Option.{Option}
 use Rattle.fac_lang.specs.declared.program.Program.{Program}
 use Rattle.fac_lang.specs.Texts.{Plain, plain, Value}
 use Rattle.fac_lang.specs.World.{World, Error}
-use Rattle.fac_lang.specs.Eval.{Done, Failed, Spent}
+use Rattle.fac_lang.specs.Eval.{Done, Failed}
 use Rattle.fac_vm.specs.declared.value.Value.{Value as MachineValue}
 use Rattle.fac_vm.specs.declared.value.Value.TheVariants.{Int}
 use Rattle.fac_vm.specs.declared.machine.RunError.{RunError}
@@ -16,7 +16,6 @@ use Rattle.fac_vm.specs.declared.machine.StopKind.TheVariants as stop
 use Rattle.fac_vm.specs.Seen.{plain_of, stack_of, name_back}
 use Rattle.fac_vm.specs.Runs.{error_of}
 use Rattle.fac_emit.specs.View.{error_view, option_view}
-use Rattle.fac_tool.specs.declared.ended.Report.TheVariants as report
 use Rattle.fac_tool.specs.Answer.{Answer, budget, meaning, of_run, shown, error_report}
 use Rattle.fac_tool.specs.Seen.{sink_seen}
 use Rattle.fac_tool.specs.Stops.{StopsAs, value_text, machine_report}
