@@ -2,3 +2,9 @@ pub mod Verdict
 pub mod Walks
 pub mod Sound
 pub mod Checks
+pub mod Marks
+pub mod Rows
+pub mod Flow
+pub mod Verdicts
+pub mod CallableEffects
+pub mod Standing

@@ -1,0 +1,152 @@
+-- What the checker knows of a value and of a stack, and the rules that it tests.
+use Rattle.std.specs.Prelude.{ℕ, zero, suc, max, ℤ, pos, negsuc, List, [], ◌∷◌, Bool, true, false, ◌&&◌, nat_eq, nat_le, Option, Some, None}
+use Rattle.std.specs.Str.{bytes_eq}
+use Rattle.fac_lang.specs.Texts.{Text, end, then, Item, quot, fry, known, Mark, any, lit_mark, cur_mark, com_mark, wrd_mark, par_mark}
+use Rattle.fac_lang.specs.Codes.{Token, mark_tokens}
+
+-- A row: the one hidden row of an effect that names none, or a row variable.
+pub data Row : Type 0 where
+  hidden : Row
+  named_row : List ℕ → Row
+
+-- A stack as the checker knows it: dead after something that never returns, else a base with marks on it, the top first. The base is a row of the word that is checked; where it is none, nothing is said of what lies below.
+pub data AbstractStack : Type 0 where
+  dead : AbstractStack
+  on : Option Row → List Mark → AbstractStack
+
+-- The rules that a word can break, with their numbers.
+pub data Rule : Type 0 where
+  -- an item needs more values than stand on the base: how many it needs, and how many there are
+  underflow : ℕ → ℕ → Rule
+  -- a callable or a word has another mark than the item needs
+  not_known : Rule
+  -- `boa` on a known word that is no tuple class
+  not_a_class : Rule
+  -- both branches of `if` return, with other lengths or bases: the two lengths
+  branches : ℕ → ℕ → Rule
+  -- the own recursive call has another mark in place k than the word's input k: k
+  recursive_input : ℕ → Rule
+  -- a row isn't what it has to be: the number of the input, 0 for the own recursive call, and the lengths expected and found
+  rows : ℕ → ℕ → ℕ → Rule
+  -- an inline word's text leads back to it, otherwise than directly in a word marked `recursive`
+  undeclared_recursion : Rule
+  -- a word with a row variable isn't inline, or its rows can't be bound
+  row_declaration : Rule
+  -- a generic has no input, a row variable or an input with an effect; or `call-next-method` stands outside a method
+  method_effect : Rule
+  -- one nested application too many is entered
+  too_deep : Rule
+  -- one item too many is walked
+  too_large : Rule
+  -- a word leaves another base or number of values than declared: how many are declared, and how many found
+  outputs : ℕ → ℕ → Rule
+  -- a word that is declared never to return can return
+  must_return : Rule
+
+-- equality of integers
+abbrev pub int_eq : ℤ → ℤ → Bool
+int_eq (pos a) (pos b) = nat_eq a b
+int_eq (negsuc a) (negsuc b) = nat_eq a b
+int_eq (pos a) (negsuc b) = false
+int_eq (negsuc a) (pos b) = false
+
+-- equality of the tokens of a code
+abbrev pub token_eq : Token → Token → Bool
+token_eq s t = nat_eq s.0 t.0 && (int_eq s.1.0 t.1.0 && bytes_eq s.1.1 t.1.1)
+
+-- equality of codes
+abbrev pub tokens_eq : List Token → List Token → Bool
+tokens_eq [] [] = true
+tokens_eq [] (t ∷ ts) = false
+tokens_eq (s ∷ ss) [] = false
+tokens_eq (s ∷ ss) (t ∷ ts) = token_eq s t && tokens_eq ss ts
+
+-- Equality of marks: two marks are equal where their codes are. So two literals are the same mark only where they are the same literal of the program with the same marks put in.
+unfoldable pub mark_eq : Mark → Mark → Bool
+mark_eq m n = tokens_eq (mark_tokens m []) (mark_tokens n [])
+
+-- equality of rows, by the names of row variables
+abbrev pub row_eq : Row → Row → Bool
+row_eq hidden hidden = true
+row_eq hidden (named_row y) = false
+row_eq (named_row x) hidden = false
+row_eq (named_row x) (named_row y) = bytes_eq x y
+
+-- equality of bases
+abbrev pub base_eq : Option Row → Option Row → Bool
+base_eq None None = true
+base_eq None (Some s) = false
+base_eq (Some r) None = false
+base_eq (Some r) (Some s) = row_eq r s
+
+-- The depth of a mark: 0 without parts and captures, else one more than the deepest of them. What a literal captures stands in its text.
+abbrev mutual
+  pub mark_depth : Mark → ℕ
+  mark_depth any = 0
+  mark_depth (lit_mark l t) = text_marks t
+  mark_depth (cur_mark m c) = suc (max (mark_depth m) (mark_depth c))
+  mark_depth (com_mark c d) = suc (max (mark_depth c) (mark_depth d))
+  mark_depth (wrd_mark w) = 0
+  mark_depth (par_mark k) = 0
+
+  -- 0 where no mark stands in the text, else one more than the depth of the deepest
+  pub text_marks : Text → ℕ
+  text_marks end = 0
+  text_marks (then i p t) = max (item_marks i) (text_marks t)
+
+  pub item_marks : Item → ℕ
+  item_marks (quot t) = text_marks t
+  item_marks (fry t n) = text_marks t
+  item_marks (known m) = suc (mark_depth m)
+  item_marks _ = 0
+
+-- the greatest depth of a mark
+abbrev pub deepest_mark : ℕ
+deepest_mark = 64
+
+-- a mark that would be deeper is `any`
+abbrev pub limited : Mark → Mark
+limited m = elim (nat_le (mark_depth m) deepest_mark) [ true ↦ m | false ↦ any ]
+
+-- whether a mark stands for callables alone
+abbrev pub is_callable : Mark → Bool
+is_callable any = false
+is_callable (lit_mark l t) = true
+is_callable (cur_mark m c) = true
+is_callable (com_mark c d) = true
+is_callable (wrd_mark w) = false
+is_callable (par_mark k) = true
+
+-- what `curry` makes
+abbrev pub curried_mark : Mark → Mark → Mark
+curried_mark m c = elim (is_callable c) [ true ↦ limited (cur_mark m c) | false ↦ any ]
+
+-- what `compose` makes
+abbrev pub composed_mark : Mark → Mark → Mark
+composed_mark c d = elim (is_callable c && is_callable d) [ true ↦ limited (com_mark c d) | false ↦ any ]
+
+-- a join keeps equal marks and makes others `any`
+abbrev pub join_mark : Mark → Mark → Mark
+join_mark m n = elim (mark_eq m n) [ true ↦ m | false ↦ any ]
+
+-- likewise for each of two stacks of one length
+abbrev pub join_marks : List Mark → List Mark → List Mark
+join_marks [] ns = []
+join_marks (m ∷ ms) [] = []
+join_marks (m ∷ ms) (n ∷ ns) = join_mark m n ∷ join_marks ms ns
+
+-- n times `any` on the marks
+abbrev pub unknowns : ℕ → List Mark → List Mark
+unknowns zero ms = ms
+unknowns (suc n) ms = any ∷ unknowns n ms
+
+-- the first n marks, the deepest first and on those that were taken before, and the rest
+abbrev pub popped : ℕ → List Mark → List Mark → Option (List Mark × List Mark)
+popped zero taken ms = Some (taken, ms)
+popped (suc n) taken [] = None
+popped (suc n) taken (m ∷ ms) = popped n (m ∷ taken) ms
+
+-- marks put on others: the last of the first list becomes the top
+abbrev pub piled : List Mark → List Mark → List Mark
+piled [] ms = ms
+piled (m ∷ taken) ms = piled taken (m ∷ ms)

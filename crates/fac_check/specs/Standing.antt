@@ -1,0 +1,69 @@
+-- What the marks and stacks of the checker stand for: values, running texts and lists of values.
+use Rattle.std.specs.Prelude.{ℕ, ◌≡◌, List, [], ◌∷◌, length, true, nat_lt, Option, Some, slice_get}
+use Rattle.fac_lang.specs.declared.phrase.Place.{Place}
+use Rattle.fac_lang.specs.Texts.{wrd, Text, end, then, Item, lit, lit_arr, quot, word, bind, local, fry, hole, call_eff, exec_eff, next_method, made, next_after, held, known, Value, plain, fun, Callable, text, cur, both, Mark, any, lit_mark, cur_mark, com_mark, wrd_mark, par_mark}
+use Rattle.fac_lang.specs.World.{World, State}
+use Rattle.fac_lang.specs.declared.program.Program.{Program}
+use Rattle.fac_lang.specs.Eval.{Result, Done, Failed, Spent, Stuck}
+use Rattle.fac_check.specs.Marks.{Row, AbstractStack, dead, on}
+
+-- an item that no running text has, and that is stuck where one has it
+abbrev pub Unmeant : Item → Type 0
+Unmeant (made k) = Unit {0}
+Unmeant (known m) = Unit {0}
+Unmeant _ = ⊥
+
+module _ (inputs : ℕ → Callable → Type 0) where
+  -- A value stands for a mark: any value where nothing is known, and for a literal a running text that stands for its text. Where the mark is an input of the row word that is checked, the callable is one of those that `inputs` allows.
+  abbrev mutual
+    pub Stands : Mark → Value → Type 0
+    Stands any v = Unit {0}
+    Stands (lit_mark p t) v = (u : Text) × (v ≡ fun (text u)) × StandsText t u
+    Stands (cur_mark m c) v = (x : Value) × (d : Callable) × (v ≡ fun (cur x d)) × Stands m x × Stands c (fun d)
+    Stands (com_mark c d) v = (e : Callable) × (f : Callable) × (v ≡ fun (both e f)) × Stands c (fun e) × Stands d (fun f)
+    Stands (wrd_mark w) v = v ≡ plain (wrd w)
+    Stands (par_mark k) v = (c : Callable) × (v ≡ fun c) × inputs k c
+
+    -- a running text, for a text in which marks stand in place of held values
+    pub StandsText : Text → Text → Type 0
+    StandsText end u = u ≡ end
+    StandsText (then i p t) u = (j : Item) × (q : Place) × (s : Text) × (u ≡ then j q s) × StandsItem i j × StandsText t s
+
+    pub StandsItem : Item → Item → Type 0
+    StandsItem (quot t) j = (u : Text) × (j ≡ quot u) × StandsText t u
+    StandsItem (fry t n) j = (u : Text) × (j ≡ fry u n) × StandsText t u
+    StandsItem (known m) j = (v : Value) × (j ≡ held v) × Stands m v
+    StandsItem (made k) j = Unmeant j
+    StandsItem (lit p) j = j ≡ lit p
+    StandsItem (lit_arr a) j = j ≡ lit_arr a
+    StandsItem (word w) j = j ≡ word w
+    StandsItem (bind y) j = j ≡ bind y
+    StandsItem (local y) j = j ≡ local y
+    StandsItem (hole k) j = j ≡ hole k
+    StandsItem (call_eff h) j = j ≡ call_eff h
+    StandsItem (exec_eff h) j = j ≡ exec_eff h
+    StandsItem next_method j = j ≡ next_method
+    StandsItem (next_after m) j = j ≡ next_after m
+    StandsItem (held v) j = j ≡ held v
+
+  module _ (row : Option Row → List Value → Type 0) where
+    -- Values for the marks on a base, and below them a list that stands for the base.
+    abbrev pub StandsOn : Option Row → List Mark → List Value → Type 0
+    StandsOn b [] s = row b s
+    StandsOn b (m ∷ ms) s = (v : Value) × (r : List Value) × (s ≡ v ∷ r) × Stands m v × StandsOn b ms r
+
+    -- a list for a stack; none stands for a dead one
+    abbrev pub StandsStack : AbstractStack → List Value → Type 0
+    StandsStack dead s = ⊥
+    StandsStack (on b ms) s = StandsOn b ms s
+
+-- Of a state soundness needs this alone: each literal array has its address.
+abbrev pub Valid : Program → World Value → Type 0
+Valid P w = (a : ℕ) → nat_lt a (length P.arrays) ≡ true → (k : ℕ) × (slice_get w.literals a ≡ Some k)
+
+-- a run that isn't stuck, and if it is done satisfies this
+abbrev pub EndsSo : (State Value → Type 0) → Result → Type 0
+EndsSo good (Done st m) = good st
+EndsSo good (Failed e st m) = Unit {0}
+EndsSo good (Spent st i) = Unit {0}
+EndsSo good Stuck = ⊥

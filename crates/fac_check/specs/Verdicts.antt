@@ -1,0 +1,173 @@
+-- The verdict on each word and on the program.
+use Rattle.std.specs.Prelude.{ℕ, zero, suc, List, [], ◌∷◌, ◌++◌, length, Bool, true, false, ◌&&◌, ◌||◌, not, nat_eq, Option, Some, None, slice_get}
+use Rattle.fac_lang.specs.declared.phrase.Place.{Place}
+use Rattle.fac_lang.specs.Texts.{wrd, Text, end, then, Item, lit, quot, word, fry, Mark, any, par_mark}
+use Rattle.fac_lang.specs.Signatures.{Signature, Inputs, no_inputs, value, quoted, Leaving, never, leaves}
+use Rattle.fac_lang.specs.Effects.{inputs_count}
+use Rattle.fac_lang.specs.Substitution.{of_method}
+use Rattle.fac_lang.specs.declared.program.Program.{Program}
+use Rattle.fac_lang.specs.declared.program.WordDef.{WordDef}
+use Rattle.fac_lang.specs.declared.program.Sort.{Sort}
+use Rattle.fac_lang.specs.declared.program.Sort.TheVariants.{Body as body, Past as past, Generic as generic, Method as method}
+use Rattle.fac_check.specs.Marks.{Row, AbstractStack, dead, on, Rule, undeclared_recursion, row_declaration, method_effect, outputs, must_return, base_eq, unknowns}
+use Rattle.fac_check.specs.Rows.{effect_inputs, effect_leaving, outer_in, outer_out, has_rows, bindable, is_row}
+use Rattle.fac_check.specs.Flow.{Walked, found, refused, walked}
+
+-- a broken rule, and where
+pub record Refusal : Type 0 where
+  pub rule : Rule
+  pub place : Place
+
+-- refused by this rule
+abbrev pub refusal : Rule → Place → Option Refusal
+refusal r p = Some (record { rule = r; place = p })
+
+-- whether a number is in a list
+abbrev pub one_of : ℕ → List ℕ → Bool
+one_of x [] = false
+one_of x (y ∷ ys) = nat_eq x y || one_of x ys
+
+-- the numbers of the first list that aren't in the second, put before it
+abbrev pub more_of : List ℕ → List ℕ → List ℕ
+more_of [] ys = ys
+more_of (x ∷ xs) ys = elim (one_of x ys) [ true ↦ more_of xs ys | false ↦ more_of xs (x ∷ ys) ]
+
+-- the marks of a row word's inputs, from input k on, put on others
+abbrev pub inputs_marks : ℕ → Inputs → List Mark → List Mark
+inputs_marks k no_inputs ms = ms
+inputs_marks k (value x is) ms = inputs_marks (suc k) is (any ∷ ms)
+inputs_marks k (quoted x e is) ms = inputs_marks (suc k) is (par_mark k ∷ ms)
+
+module _ (P : Program) where
+  -- the number of a word, where it is an inline word with a text
+  abbrev pub inline_body : ℕ → Option WordDef → List ℕ
+  inline_body w None = []
+  inline_body w (Some d) = elim d.sort [ body t ↦ elim d.inline [ true ↦ w ∷ [] | false ↦ [] ] | _ ↦ [] ]
+
+  -- The inline words that a text names, as items or by `\`, also in its quotations and fry bodies. What stands in a literal array isn't followed.
+  abbrev mutual
+    pub inline_words : Text → List ℕ
+    inline_words end = []
+    inline_words (then i p t) = item_words i ++ inline_words t
+
+    pub item_words : Item → List ℕ
+    item_words (word w) = inline_body w (slice_get P.words w)
+    item_words (lit (wrd w)) = inline_body w (slice_get P.words w)
+    item_words (quot t) = inline_words t
+    item_words (fry t n) = inline_words t
+    item_words _ = []
+
+  -- the inline words that a word's text names
+  abbrev pub body_words : Option WordDef → List ℕ
+  body_words None = []
+  body_words (Some d) = elim d.sort [ body t ↦ inline_words t | _ ↦ [] ]
+
+  -- these words, and those that their texts name
+  abbrev pub named_by : List ℕ → List ℕ → List ℕ
+  named_by [] seen = seen
+  named_by (w ∷ ws) seen = more_of (body_words (slice_get P.words w)) (named_by ws seen)
+
+  -- all words that these lead to, in at most so many steps
+  abbrev pub led_to : ℕ → List ℕ → List ℕ
+  led_to zero ws = ws
+  led_to (suc n) ws = led_to n (named_by ws ws)
+
+  -- a list without one number
+  abbrev pub without : ℕ → List ℕ → List ℕ
+  without w [] = []
+  without w (v ∷ vs) = elim (nat_eq w v) [ true ↦ without w vs | false ↦ v ∷ without w vs ]
+
+  -- whether the text of an inline word leads back to it, otherwise than directly where it is marked recursive
+  abbrev pub leads_back : ℕ → Bool → Text → Bool
+  leads_back w recursive t = one_of w (led_to (length P.words) (elim recursive [ true ↦ without w (inline_words t) | false ↦ inline_words t ]))
+
+  -- whether a word breaks `undeclared-recursion`
+  abbrev pub undeclared : ℕ → WordDef → Bool
+  undeclared w d = elim d.sort [ body t ↦ d.inline && leads_back w d.recursive t | _ ↦ false ]
+
+  -- whether a word is inline
+  abbrev pub is_inline_body : WordDef → Bool
+  is_inline_body d = elim d.sort [ body t ↦ d.inline | _ ↦ false ]
+
+  -- whether a word breaks `row-declaration`; past and top-level phrases are spared
+  abbrev pub bad_rows : ℕ → WordDef → Bool
+  bad_rows w d = elim d.sort [ past t ↦ false | _ ↦ not (nat_eq w P.top) && (has_rows d.effect && not (is_inline_body d && bindable d.effect)) ]
+
+  -- whether an input has an effect
+  abbrev pub any_quoted : Inputs → Bool
+  any_quoted no_inputs = false
+  any_quoted (value x is) = any_quoted is
+  any_quoted (quoted x e is) = true
+
+  -- whether an effect is none for a generic
+  abbrev pub no_generic_effect : Signature → Bool
+  no_generic_effect e = nat_eq (inputs_count (effect_inputs e)) 0 || (has_rows e || any_quoted (effect_inputs e))
+
+  -- whether a word of this sort and effect is a generic that breaks `method-effect`
+  abbrev pub bad_generic : Sort → Signature → Bool
+  bad_generic generic e = no_generic_effect e
+  bad_generic _ e = false
+
+  -- What a word breaks that leaves this stack, where it declares to leave these outputs on this row. What never returns leaves what any word declares.
+  abbrev pub kept_word : Leaving → Option Row → Place → AbstractStack → Option Refusal
+  kept_word l r p dead = None
+  kept_word never r p (on b ms) = refusal must_return p
+  kept_word (leaves s names) r p (on b ms) = elim (base_eq b r && nat_eq (length ms) (length names)) [ true ↦ None | false ↦ refusal (outputs (length names) (length ms)) p ]
+
+  -- the verdict on a walk
+  abbrev pub end_of : Walked AbstractStack → (AbstractStack → Option Refusal) → Option Refusal
+  end_of (found A n) go = go A
+  end_of (refused r p) go = refusal r p
+
+  -- an ordinary word or a method starts from its inputs, of which nothing is known, over no base
+  abbrev pub ordinary_verdict : ℕ → Text → WordDef → Option Refusal
+  ordinary_verdict w t d = end_of (walked P None None w t None (unknowns (inputs_count (effect_inputs d.effect)) [])) (kept_word (effect_leaving d.effect) None d.place)
+
+  -- a row word starts from its input row, with a mark of its own for each quotation input
+  abbrev pub row_verdict : ℕ → Text → WordDef → Option Refusal
+  row_verdict w t d = end_of (walked P (Some d.effect) (Some w) w t (outer_in d.effect) (inputs_marks 1 (effect_inputs d.effect) [])) (kept_word (effect_leaving d.effect) (outer_out d.effect) d.place)
+
+  -- an expanded word isn't walked at its definition
+  abbrev pub inline_verdict : Bool → ℕ → Text → WordDef → Option Refusal
+  inline_verdict true w t d = row_verdict w t d
+  inline_verdict false w t d = None
+
+  -- a word with a text, by its mark `inline`
+  abbrev pub body_verdict : Bool → ℕ → Text → WordDef → Option Refusal
+  body_verdict true w t d = inline_verdict (is_row d.recursive d.effect) w t d
+  body_verdict false w t d = ordinary_verdict w t d
+
+  -- the top-level phrase starts on so many values, and promises nothing
+  abbrev pub top_verdict : ℕ → ℕ → Text → Option Refusal
+  top_verdict start w t = end_of (walked P None None w t None (unknowns start [])) (λ A. None)
+
+  -- the top-level phrase, or a word with a text
+  abbrev pub phrase_verdict : Bool → ℕ → ℕ → Text → WordDef → Option Refusal
+  phrase_verdict true start w t d = top_verdict start w t
+  phrase_verdict false start w t d = body_verdict d.inline w t d
+
+  -- by the walk of the word's text; earlier top-level phrases are accepted, and words without a text have none to walk
+  abbrev pub sort_verdict : ℕ → ℕ → WordDef → Sort → Option Refusal
+  sort_verdict start w d (body t) = phrase_verdict (nat_eq w P.top) start w t d
+  sort_verdict start w d (method c g t) = ordinary_verdict w (of_method w t) d
+  sort_verdict start w d _ = None
+
+  -- the rules that need no walk come first, and stand at the word's name
+  abbrev pub ruled_verdict : Bool → Bool → Bool → ℕ → ℕ → WordDef → Option Refusal
+  ruled_verdict true r g start w d = refusal undeclared_recursion d.place
+  ruled_verdict false true g start w d = refusal row_declaration d.place
+  ruled_verdict false false true start w d = refusal method_effect d.place
+  ruled_verdict false false false start w d = sort_verdict start w d d.sort
+
+  -- the verdict on word w
+  abbrev pub word_verdict : ℕ → ℕ → WordDef → Option Refusal
+  word_verdict start w d = ruled_verdict (undeclared w d) (bad_rows w d) (bad_generic d.sort d.effect) start w d
+
+  -- the first refused word, counted from w
+  abbrev pub verdict_from : ℕ → ℕ → List WordDef → Option (ℕ × Refusal)
+  verdict_from start w [] = None
+  verdict_from start w (d ∷ ds) = elim (word_verdict start w d) [ Some r ↦ Some (w, r) | None ↦ verdict_from start (suc w) ds ]
+
+  -- accepted, or the first refused word in the order of numbers with its first rule and place; the top-level phrase starts on so many values
+  abbrev pub verdict : ℕ → Option (ℕ × Refusal)
+  verdict start = verdict_from start 0 P.words
