@@ -1,0 +1,5 @@
+pub mod ScanLemmas
+pub mod OneReading
+pub mod StepLemmas
+pub mod AnswerLemmas
+pub mod ExamplesOfTokens
