@@ -104,14 +104,14 @@ SORTS = [
 ]
 
 
-def run_once(program, source, folder):
-    """Runs the program on a file: its time in seconds, its peak in KiB, its status, what it printed and its note."""
+def run_once(words, folder):
+    """Runs a program with its words: its time in seconds, its peak in KiB, its status, what it printed and its note."""
     out = os.path.join(folder, "out")
     note = os.path.join(folder, "note")
     flags = os.O_WRONLY | os.O_CREAT | os.O_TRUNC
     actions = [(os.POSIX_SPAWN_OPEN, 1, out, flags, 0o600), (os.POSIX_SPAWN_OPEN, 2, note, flags, 0o600)]
     start = time.perf_counter()
-    child = os.posix_spawn(program, [program, "run", source], os.environ, file_actions=actions)
+    child = os.posix_spawn(words[0], words, os.environ, file_actions=actions)
     _, ended, used = os.wait4(child, 0)
     seconds = time.perf_counter() - start
     with open(out, "rb") as file:
@@ -129,7 +129,7 @@ def measure(program, make, size, folder):
     wanted = make(source, size)
     times, peak = [], 0
     for _ in range(RUNS):
-        seconds, memory, status, printed, noted = run_once(program, source, folder)
+        seconds, memory, status, printed, noted = run_once([program, "run", source], folder)
         if (status, printed, noted) != wanted:
             sys.exit(f"wrong answer: status {status}, output {printed[:80]!r}, note {noted[:80]!r}")
         times.append(seconds)
