@@ -19,17 +19,18 @@ use Rattle.fac_lang.specs.declared.program.WordDef.{WordDef}
 use Rattle.fac_lang.specs.declared.program.Sort.{Sort}
 use Rattle.fac_lang.specs.declared.program.Sort.TheVariants.{Prim as prim, Body as body, Past as past, Itself as itself, Class as class, Isa as isa, Getter as getter, Setter as setter, Putter as putter, Generic as generic, Method as method}
 use Rattle.fac_lang.specs.Meaning.{texts, names, sort_of, word_text, with_arrays, literal_value, array_method, start, run}
-use Rattle.fac_lang.specs.Whole.{IsWhole, each_item, each_inner, item_fits, word_texts, joined, quotations, has_written_effect, effect_written, is_effect, plain_effect, has_generic_effect, effect_of, sort_fits, is_generic, is_class, is_body, is_past}
+use Rattle.fac_lang.specs.Whole.{IsWhole, each_item, each_inner, item_fits, word_texts, joined, quotations, has_written_effect, effect_written, is_effect, plain_effect, has_generic_effect, effect_of, sort_fits, is_generic, is_class, is_body}
 use Rattle.fac_lang.proofs.WholeLemmas.{same_effect}
-use Rattle.fac_check.specs.Rows.{has_rows, bindable, is_row}
-use Rattle.fac_check.specs.Verdicts.{Refusal, any_quoted, is_inline_body, inline_verdict, row_verdict, undeclared, bad_rows, bad_generic, no_generic_effect, ordinary_verdict, body_verdict, top_verdict, phrase_verdict, sort_verdict, ruled_verdict, word_verdict, verdict_from, verdict}
+use Rattle.fac_check.specs.Rows.{has_rows, bindable, is_row, outer_in, outer_out, effect_inputs, effect_leaving, leaving_on}
+use Rattle.fac_check.specs.Verdicts.{Refusal, inputs_marks, any_quoted, is_inline_body, inline_verdict, row_verdict, undeclared, bad_rows, bad_generic, no_generic_effect, ordinary_verdict, body_verdict, top_verdict, phrase_verdict, sort_verdict, ruled_verdict, word_verdict, verdict_from, verdict}
 use Rattle.fac_check.proofs.EqualMarks.{never_true, and_first, and_second}
 use Rattle.fac_check.proofs.StandingLaws.{Unmarked, UnmarkedItem}
 use Rattle.fac_check.specs.CallableEffects.{fits, callable_height}
 use Rattle.fac_check.specs.Standing.{Valid, EndsSo}
+use Rattle.fac_check.proofs.WalksFit.{Context, OnState, StackState}
 use Rattle.fac_check.proofs.ItemsFit.{RegularFn, Over, Leaves}
 use Rattle.fac_check.proofs.PrimitivesKeep.{prim_numbers, prim_regular, getter_regular, setter_regular, putter_regular, written_numbers, prim_found}
-use Rattle.fac_check.proofs.SoundPrograms.{Accepted, AcceptedMethod, height_of, Phrases, word_sound, top_sound}
+use Rattle.fac_check.proofs.SoundPrograms.{Accepted, AcceptedMethod, height_of, Good, word_sound, row_word_sound, top_sound}
 
 -- One of a list, of which all pass a test, passes it.
 one_passes : {X : Type 0} (test : X → Bool) (xs : List X) → list_all test xs ≡ true → (k : ℕ) (x : X) → slice_get xs k ≡ Some x → test x ≡ true
@@ -387,35 +388,28 @@ module _ (P : Program) where
   pub start_valid : (input : List ℕ) → Valid P (start P input).world
   start_valid input a h = there_is (start P input).world.literals a (length P.arrays) (let z = arrays_made 0 P.arrays (record { objects = []; literals = []; input = input; output = [] }) in z ∙ omega arith) h
 
-  -- What `kept_phrases` asks of a program, from tests that can be computed: it has no earlier top-level phrase, and its own leaves what its effect declares.
-  not_past : (s : Sort) (t : Text) → not (is_past (Some s)) ≡ true → s ≡ past t → ⊥
-  not_past (past u) t h e = never_true h
-  not_past (body u) t h e = absurd (cc)
-  not_past s t h e = absurd (cc)
-
-  pub no_past_words : list_all (λ d. not (is_past (Some d.sort))) P.words ≡ true → (w : ℕ) (d : WordDef) (t : Text) → slice_get P.words w ≡ Some d → d.sort ≡ past t → ⊥
-  no_past_words h w d t e s = not_past d.sort t (one_passes (λ c. not (is_past (Some c.sort))) P.words h w d e) s
-
-  sort_there : (w : ℕ) (d : WordDef) (t : Text) → slice_get P.words w ≡ Some d → d.sort ≡ body t → sort_of P w ≡ Some (body t)
-  sort_there w d t e s = same_sort P w d e ∙ ap (λ x. Some x) s
-
   text_there : (w : ℕ) (t : Text) → sort_of P w ≡ Some (body t) → word_text P w ≡ t
   text_there w t e = ap (λ o. elim o [ Some x ↦ elim x [ body u ↦ u | past u ↦ u | method k g u ↦ of_method w u | _ ↦ end ] | None ↦ end ]) e
 
-  pub kept_phrase : (c : WordDef) → slice_get P.words P.top ≡ Some c → ordinary_verdict P P.top (word_text P P.top) c ≡ None → (w : ℕ) (d : WordDef) (t : Text) → slice_get P.words w ≡ Some d → d.sort ≡ body t → nat_eq w P.top ≡ true → ordinary_verdict P w t d ≡ None
-  kept_phrase c there h w d t e s z =
-      (let at : w ≡ P.top = eqb-true w P.top z in let here : slice_get P.words P.top ≡ Some d = subst (λ i. slice_get P.words i ≡ Some d) at e in let same : c ≡ d = cc in subst (λ i. ordinary_verdict P i t d ≡ None) (sym at) (subst (λ u. ordinary_verdict P P.top u d ≡ None) (text_there P.top t (sort_there P.top d t here s)) (subst (λ x. ordinary_verdict P P.top (word_text P P.top) x ≡ None) same h)))
-
-  module _ (whole : IsWhole P) (accepted : verdict P 0 ≡ None) (phrases : Phrases P) where
-    -- Of a whole program that is accepted: an ordinary word, from every state with its declared inputs on any values, at every budget, isn't stuck, and where it is done exactly its declared outputs stand on those values.
+  module _ (k : ℕ) (whole : IsWhole P) (accepted : verdict P k ≡ None) where
+    -- Of a whole program that is accepted, with k values on the list before its top-level phrase: an ordinary word, from every state with its declared inputs on any values, at every budget, isn't stuck, and where it is done exactly its declared outputs stand on those values.
     pub ordinary_sound : (w : ℕ) (d : WordDef) (t : Text) → slice_get P.words w ≡ Some d → d.sort ≡ body t → not (nat_eq w P.top) ≡ true → d.inline ≡ false → (below : List Value) (st : State Value) (n : ℕ) → Over (height_of d).ins below st.stack → Valid P st.world → EndsSo (Leaves P (height_of d).outs below) (run P fits (callable_height P) n t st)
-    ordinary_sound w d t e q z i below st n o v = word_sound P (accepted_program P whole 0 accepted) phrases w d t e q z i below st n o v
+    ordinary_sound w d t e q z i below st n o v = word_sound P (accepted_program P whole k accepted) w d t e q z i below st n o v
+
+    -- Likewise a row word, in every context in which what may be handed in for its inputs does what its effect says.
+    pub row_sound : (w : ℕ) (d : WordDef) (t : Text) → slice_get P.words w ≡ Some d → d.sort ≡ body t → not (nat_eq w P.top) ≡ true → d.inline ≡ true → is_row d.recursive d.effect ≡ true → (C : Context) → C.own ≡ Some d.effect → C.word ≡ Some w → (n : ℕ) → Good P n C → (st : State Value) → OnState P C (outer_in d.effect) (inputs_marks 1 (effect_inputs d.effect) []) st → EndsSo (StackState P C (leaving_on (effect_leaving d.effect) (outer_out d.effect) [])) (run P fits (callable_height P) n t st)
+    row_sound w d t e q z i x C own is_word n good st o = row_word_sound P (accepted_program P whole k accepted) w d t e q z i x C own is_word n good st o
 
     found_body : (o : Option Sort) → is_body o ≡ true → (t : Text) × (o ≡ Some (body t))
     found_body (Some (body t)) h = (t, refl)
     found_body o h = absurd (never_true h)
 
-    -- The top-level phrase, with every input, at every budget, isn't stuck.
+    -- The top-level phrase, from every state with those k values, at every budget, isn't stuck.
+    pub phrase_sound_on : (st : State Value) (n : ℕ) → Over k [] st.stack → Valid P st.world → EndsSo (λ st'. Unit {0}) (run P fits (callable_height P) n (word_text P P.top) st)
+    phrase_sound_on st n o v =
+        (let z = found_body (sort_of P P.top) whole.top_phrase in let y = found_word P (slice_get P.words P.top) (body z.0) z.1 in let text_is : word_text P P.top ≡ z.0 = text_there P.top z.0 z.1 in subst (λ t. EndsSo (λ st'. Unit {0}) (run P fits (callable_height P) n t st)) (sym text_is) (top_sound P (accepted_program P whole k accepted) P.top z.0 k (unmarked_word P whole P.top y.0 z.0 y.1 (subst (λ s. HasText P s z.0) (sym y.2) refl)) (top_accepted P k accepted P.top y.0 z.0 y.1 y.2 (eq-eqb P.top P.top refl)) st n o v))
+
+  module _ (whole : IsWhole P) (accepted : verdict P 0 ≡ None) where
+    -- The top-level phrase of a program that begins with no value, with every input, at every budget, isn't stuck.
     pub phrase_sound : (input : List ℕ) (n : ℕ) → EndsSo (λ st. Unit {0}) (run P fits (callable_height P) n (word_text P P.top) (start P input))
-    phrase_sound input n =
-        (let z = found_body (sort_of P P.top) whole.top_phrase in let y = found_word P (slice_get P.words P.top) (body z.0) z.1 in let text_is : word_text P P.top ≡ z.0 = text_there P.top z.0 z.1 in subst (λ t. EndsSo (λ st. Unit {0}) (run P fits (callable_height P) n t (start P input))) (sym text_is) (top_sound P (accepted_program P whole 0 accepted) phrases P.top z.0 0 (unmarked_word P whole P.top y.0 z.0 y.1 (subst (λ s. HasText P s z.0) (sym y.2) refl)) (top_accepted P 0 accepted P.top y.0 z.0 y.1 y.2 (eq-eqb P.top P.top refl)) (start P input) n refl (start_valid input)))
+    phrase_sound input n = phrase_sound_on 0 whole accepted (start P input) n refl (start_valid input)

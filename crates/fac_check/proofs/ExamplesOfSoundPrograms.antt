@@ -11,8 +11,11 @@ use Rattle.fac_check.specs.Marks.{mark_eq}
 use Rattle.fac_check.specs.CallableEffects.{fits, callable_height}
 use Rattle.fac_check.specs.Verdicts.{verdict}
 use Rattle.fac_check.specs.Standing.{EndsSo}
-use Rattle.fac_check.proofs.SoundPrograms.{Accepted, Phrases, kept_phrases}
-use Rattle.fac_check.proofs.AcceptedPrograms.{accepted_program, no_past_words, kept_phrase, phrase_sound}
+use Rattle.fac_check.proofs.AcceptedPrograms.{phrase_sound}
+
+-- what `phrase_sound` says of a program: its top-level phrase isn't stuck, with every input and at every budget
+abbrev pub NeverStuck : Program → Type 0
+NeverStuck P = (input : List ℕ) (n : ℕ) → EndsSo (λ st. Unit {0}) (run P fits (callable_height P) n (word_text P P.top) (start P input))
 
 -- 1 2 + . with every primitive word, the core words and words of the prelude, row words among them
 abbrev sum : Program
@@ -22,26 +25,21 @@ sum_accepted : verdict sum 0 ≡ None
 unfolding prim_numbered core_numbered mark_eq
 sum_accepted = refl
 
-sum_phrases : Phrases sum
-unfolding prim_numbered core_numbered mark_eq
-sum_phrases = kept_phrases sum (accepted_program sum sum_whole 0 sum_accepted) (no_past_words sum refl) (kept_phrase sum _ refl refl)
-
--- It isn't stuck, with every input and at every budget, and no premise is left.
-pub sum_sound : (input : List ℕ) (n : ℕ) → EndsSo (λ st. Unit {0}) (run sum fits (callable_height sum) n (word_text sum sum.top) (start sum input))
-sum_sound input n = phrase_sound sum sum_whole sum_accepted sum_phrases input n
+pub sum_sound : NeverStuck sum
+sum_sound = phrase_sound sum sum_whole sum_accepted
 
 -- tuple classes with a parent, a union, a generic with two methods
 pub shapes_accepted : verdict (shapes (number 7 ∷ name ∷ show ∷ [])) 0 ≡ None
 unfolding prim_numbered core_numbered mark_eq
 shapes_accepted = refl
 
-pub shapes_sound : Accepted (shapes (number 7 ∷ name ∷ show ∷ []))
-shapes_sound = accepted_program (shapes (number 7 ∷ name ∷ show ∷ [])) shapes_whole 0 shapes_accepted
+pub shapes_sound : NeverStuck (shapes (number 7 ∷ name ∷ show ∷ []))
+shapes_sound = phrase_sound (shapes (number 7 ∷ name ∷ show ∷ [])) shapes_whole shapes_accepted
 
 -- a method whose text has a literal array with a quotation
 pub kept_accepted : verdict (kept_in_array (number 7 ∷ own 0 ∷ [])) 0 ≡ None
 unfolding prim_numbered core_numbered mark_eq
 kept_accepted = refl
 
-pub kept_sound : Accepted (kept_in_array (number 7 ∷ own 0 ∷ []))
-kept_sound = accepted_program (kept_in_array (number 7 ∷ own 0 ∷ [])) kept_whole 0 kept_accepted
+pub kept_sound : NeverStuck (kept_in_array (number 7 ∷ own 0 ∷ []))
+kept_sound = phrase_sound (kept_in_array (number 7 ∷ own 0 ∷ [])) kept_whole kept_accepted

@@ -375,7 +375,7 @@ module _ (P : Program) (C : Context) where
     abbrev pub H : WordDef → Height
     H d = effect_height d.effect
 
-    -- What the items rest on, up to f ticks: the premises of `item_does`. `SoundPrograms` gives all of them for an accepted program, of which `executed` rests on its premise `Phrases`.
+    -- What the items rest on, up to f ticks: the premises of `item_does`. `SoundPrograms` gives all of them for an accepted program.
     pub record Facts : Type 0 where
       -- an ordinary word takes and leaves what it declares
       pub ordinary : (w : ℕ) (d : WordDef) (t : Text) → slice_get P.words w ≡ Some d → d.sort ≡ body t → not (nat_eq w P.top) ≡ true → d.inline ≡ false → Keeps (H d).ins (H d).outs (text t)

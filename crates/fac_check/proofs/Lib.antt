@@ -17,3 +17,4 @@ pub mod CallablesKeep
 pub mod PrimitivesKeep
 pub mod AcceptedPrograms
 pub mod ExamplesOfSoundPrograms
+pub mod Promised

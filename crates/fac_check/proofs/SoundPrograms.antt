@@ -5,7 +5,7 @@ use Rattle.std.proofs.lemmas.Slice.Eq.{bytes_eq-Decides}
 use Rattle.std.proofs.lemmas.Bool.{eqb-true}
 use Rattle.fac_lang.specs.declared.phrase.Height.{Height}
 use Rattle.fac_lang.specs.Texts.{Text, end, Value, text, word, Mark, any, par_mark}
-use Rattle.fac_lang.specs.World.{State, pile, push_each}
+use Rattle.fac_lang.specs.World.{State, pile}
 use Rattle.fac_lang.specs.Signatures.{Signature, signature, Inputs, no_inputs, value, quoted, never, leaves}
 use Rattle.fac_lang.specs.Primitives.{Prim, prim_numbered, prim_fn}
 use Rattle.fac_lang.specs.Objects.{get_slot, set_slot, put_slot}
@@ -15,8 +15,8 @@ use Rattle.fac_lang.specs.declared.program.Program.{Program}
 use Rattle.fac_lang.specs.declared.program.WordDef.{WordDef}
 use Rattle.fac_lang.specs.declared.program.Sort.{Sort}
 use Rattle.fac_lang.specs.declared.program.Sort.TheVariants.{Prim as prim, Core as core, Body as body, Past as past, Itself as itself, Class as class, Isa as isa, Getter as getter, Setter as setter, Putter as putter, Generic as generic, Method as method}
-use Rattle.fac_lang.specs.Eval.{Result, Done, Failed, Spent, Stuck, then_do, Act, go_on, eval}
-use Rattle.fac_lang.specs.Meaning.{texts, names, sort_of, word_text, word_fits, one_item, run_text, sort_act, nowhere}
+use Rattle.fac_lang.specs.Eval.{Result, Act, go_on, eval}
+use Rattle.fac_lang.specs.Meaning.{texts, names, sort_of, is_past, is_phrase, word_text, word_fits, one_item, run_text, sort_act, nowhere}
 use Rattle.fac_lang.specs.Effects.{effect_height, inputs_count, word_height}
 use Rattle.fac_check.specs.Marks.{Row, hidden, named_row, AbstractStack, dead, on, Rule, underflow, not_known, rows, recursive_input, row_eq, base_eq, mark_eq, popped, unknowns}
 use Rattle.fac_check.specs.Rows.{is_row, bindable, inputs_rows, nested_one_sided, bound_all, bound_rows, outer_in, outer_out, effect_inputs, effect_leaving, Binding, stack_or_dead, row_bound, row_binding, inputs_known, other_input, leaving_on}
@@ -72,6 +72,15 @@ OwnWord P (Some e) (Some w) = (d : WordDef) × (slice_get P.words w ≡ Some d) 
 le_self : (n : ℕ) → n ≤ n
 le_self n = omega arith
 
+-- of two tests neither passes
+neither_first : (a b : Bool) → not (a || b) ≡ true → not a ≡ true
+neither_first true b h = h
+neither_first false b h = refl
+
+neither_second : (a b : Bool) → not (a || b) ≡ true → not b ≡ true
+neither_second true b h = absurd (never_true h)
+neither_second false b h = h
+
 row_self : (r : Row) → row_eq r r ≡ true
 row_self hidden = refl
 row_self (named_row x) = grind (arith, bytes_eq-Decides x x)
@@ -113,19 +122,13 @@ module _ (P : Program) where
   abbrev pub All : ℕ → Type 0
   All f = (s : List Value) → Known P f (on_values P s)
 
+  -- whether there is a word, and it has an effect that fits
+  abbrev declared_fits : Height → Option WordDef → Bool
+  declared_fits h o = elim o [ Some d ↦ elim (word_height d) [ Some k ↦ fits k h | None ↦ false ] | None ↦ false ]
+
   -- the item of a word that `execute( )` finds, and whose effect fits, takes and leaves as tested
   abbrev pub Executed : ℕ → Type 0
   Executed f = (h : Height) (w : ℕ) → word_fits P fits h w ≡ true → KeepsNumbers P f h.ins h.outs (text (one_item (word w)))
-
-  -- whether a word of this sort is a top-level phrase
-  abbrev pub Phrase : ℕ → Sort → Type 0
-  Phrase w (body t) = nat_eq w P.top ≡ true
-  Phrase w (past t) = Unit {0}
-  Phrase w _ = ⊥
-
-  -- The premise that is left open: the same of top-level phrases, the program's and earlier ones. A phrase promises nothing, so it can't be shown of one that leaves values. No run of a whole program has the word of a phrase as a value, but that isn't shown here. Where the phrase leaves what its effect declares, `kept_phrases` gives it.
-  abbrev pub Phrases : Type 1
-  Phrases = (f : ℕ) → AllKnown f → (w : ℕ) (d : WordDef) → slice_get P.words w ≡ Some d → Phrase w d.sort → (h : Height) → fits (height_of d) h ≡ true → KeepsNumbers P f h.ins h.outs (text (one_item (word w)))
 
   popped_unknowns : (n : ℕ) (taken : List Mark) → (x : List Mark) × (popped n taken (unknowns n []) ≡ Some (x, []))
   popped_unknowns zero taken = (taken, refl)
@@ -310,8 +313,8 @@ module _ (P : Program) where
       sort_ends x n le =
           ended (height_of d).outs (go_on (eval (A P) f) (sort_act P w (Some d.sort) st) end n) (does_fits P C (walk_in P C 0) (eval (A P) f) f (within (A P) f) (known f (le_self f) C (good_values f r) 0) ((good_values f r).inputs_fit f (le_self f)) (gives (left_on P C (height_of d).outs None [])) (sort_act P w (Some d.sort) st) nowhere 0 (first_of_word 0) 1 end end n le refl (all_taken (height_of d).ins (height_of d).outs (sort_act P w (Some d.sort) st) (effect_does P C (walk_in P C 0) (eval (A P) f) f (within (A P) f) (known f (le_self f) C (good_values f r) 0) ((good_values f r).inputs_fit f (le_self f)) (facts_at f known executed C (good_values f r) 0) w d d.sort is_word refl not_inline x None (unknowns (height_of d).ins []) st (over_marks P r (height_of d).ins st.stack over, valid))))
 
-    -- The item of a word that has an effect, with one tick more.
-    module _ (f : ℕ) (known : AllKnown f) (executed : Executed f) (phrases : Phrases) (all : AllKnown (suc f)) (h : Height) (w : ℕ) where
+    -- The item of a word that has an effect and is no top-level phrase, with one tick more.
+    module _ (f : ℕ) (known : AllKnown f) (executed : Executed f) (h : Height) (w : ℕ) (no_phrase : not (is_phrase P w) ≡ true) where
       abbrev Wanted : Type 0
       Wanted = KeepsNumbers P (suc f) h.ins h.outs (text (one_item (word w)))
 
@@ -327,20 +330,13 @@ module _ (P : Program) where
         from_word i x e =
             more_keeps P (suc f) (text (one_item (word w))) (height_of d).ins h.ins (height_of d).outs h.outs (and_first (nat_le (height_of d).ins h.ins) (fits_outs (height_of d).ins (height_of d).outs h.ins h.outs) e) (and_second (nat_le (height_of d).ins h.ins) (fits_outs (height_of d).ins (height_of d).outs h.ins h.outs) e) (item_keeps i x)
 
-        from_phrase : Phrase w d.sort → fits (height_of d) h ≡ true → Wanted
-        from_phrase x e = phrases (suc f) all w d is_word x h e
-
         abbrev sort_fits_so : Sort → Bool
         sort_fits_so s = (let o : Option Height = elim s [ core k ↦ None | _ ↦ Some (effect_height d.effect) ] in elim o [ Some k ↦ fits k h | None ↦ false ])
 
-        by_text : (q : Bool) (t : Text) → nat_eq w P.top ≡ q → d.inline ≡ false → d.sort ≡ body t → fits (height_of d) h ≡ true → Wanted
-        by_text true t z i s e = from_phrase (subst (Phrase w) (sym s) z) e
-        by_text false t z i s e = from_word i (subst (HasEffect P w) (sym s) (rw z refl)) e
-
         by_sort : (s : Sort) → d.inline ≡ false → d.sort ≡ s → sort_fits_so s ≡ true → Wanted
         by_sort (core k) i s e = absurd (never_true e)
-        by_sort (past t) i s e = from_phrase (subst (Phrase w) (sym s) tt) e
-        by_sort (body t) i s e = by_text (nat_eq w P.top) t refl i s e
+        by_sort (past t) i s e = absurd (never_true (subst (λ o. not (is_past o) ≡ true) (is_sort ∙ ap (λ x. Some x) s) (neither_second (nat_eq w P.top) (is_past (sort_of P w)) no_phrase)))
+        by_sort (body t) i s e = from_word i (subst (HasEffect P w) (sym s) (neither_first (nat_eq w P.top) (is_past (sort_of P w)) no_phrase)) e
         by_sort (prim k) i s e = from_word i (subst (HasEffect P w) (sym s) tt) e
         by_sort itself i s e = from_word i (subst (HasEffect P w) (sym s) tt) e
         by_sort (class c) i s e = from_word i (subst (HasEffect P w) (sym s) tt) e
@@ -358,43 +354,17 @@ module _ (P : Program) where
         by_inline true i e = absurd (never_true e)
         by_inline false i e = by_sort d.sort i refl e
 
-      by_word : (o : Option WordDef) → slice_get P.words w ≡ o → (let q : Bool = elim o [ Some d ↦ elim (word_height d) [ Some k ↦ fits k h | None ↦ false ] | None ↦ false ] in q ≡ true) → Wanted
+      by_word : (o : Option WordDef) → slice_get P.words w ≡ o → declared_fits h o ≡ true → Wanted
       by_word None z e = absurd (never_true e)
       by_word (Some d) z e = by_inline d z d.inline refl e
-
-    -- A phrase that leaves what its effect declares, in a program without earlier ones.
-    module _ (no_past : (w : ℕ) (d : WordDef) (t : Text) → slice_get P.words w ≡ Some d → d.sort ≡ past t → ⊥) (kept : (w : ℕ) (d : WordDef) (t : Text) → slice_get P.words w ≡ Some d → d.sort ≡ body t → nat_eq w P.top ≡ true → ordinary_verdict P w t d ≡ None) where
-      done_then : (f : ℕ) (good : State Value → Type 0) (res : Result) → EndsSo good res → EndsSo good (then_do res (λ st m. eval (A P) f end (push_each [] st) m))
-      done_then zero good (Done st m) h = h
-      done_then (suc f) good (Done st m) h = h
-      done_then f good (Failed e st m) h = tt
-      done_then f good (Spent st i) h = tt
-      done_then f good Stuck h = absurd h
-
-      phrase_keeps : (f : ℕ) → AllKnown f → (w : ℕ) (d : WordDef) (t : Text) → slice_get P.words w ≡ Some d → d.sort ≡ body t → nat_eq w P.top ≡ true → KeepsNumbers P (suc f) (height_of d).ins (height_of d).outs (text (one_item (word w)))
-      phrase_keeps f known w d t e s z r st zero le o v = tt
-      phrase_keeps f known w d t e s z r st (suc n) le o v =
-          (let is_sort : sort_of P w ≡ Some (body t) = ap (λ q. elim q [ Some c ↦ Some c.sort | None ↦ None ]) e ∙ ap (λ q. Some q) s in subst (λ q. EndsSo (Leaves P (height_of d).outs r) (go_on (eval (A P) f) (sort_act P w q st) end n)) (sym is_sort) (done_then f (Leaves P (height_of d).outs r) (eval (A P) f t st n) (accepted_keeps P w d t (kept w d t e s z) f r (all_of f known r) (self_text (λ k c. ⊥) t (accepted.unmarked w d t e s)) st n (omega (arith, le)) o v)))
-
-      phrase_fits : (f : ℕ) → AllKnown f → (w : ℕ) (d : WordDef) (t : Text) → slice_get P.words w ≡ Some d → d.sort ≡ body t → nat_eq w P.top ≡ true → (h : Height) → fits (height_of d) h ≡ true → KeepsNumbers P f h.ins h.outs (text (one_item (word w)))
-      phrase_fits zero known w d t e s z h x = λ r st n le o v. tt
-      phrase_fits (suc f) known w d t e s z h x =
-          more_keeps P (suc f) (text (one_item (word w))) (height_of d).ins h.ins (height_of d).outs h.outs (and_first (nat_le (height_of d).ins h.ins) (fits_outs (height_of d).ins (height_of d).outs h.ins h.outs) x) (and_second (nat_le (height_of d).ins h.ins) (fits_outs (height_of d).ins (height_of d).outs h.ins h.outs) x) (phrase_keeps f (λ g le C good. known g (omega (arith, le)) C good) w d t e s z)
-
-      by_phrase : (f : ℕ) → AllKnown f → (w : ℕ) (d : WordDef) → slice_get P.words w ≡ Some d → (s : Sort) → d.sort ≡ s → Phrase w s → (h : Height) → fits (height_of d) h ≡ true → KeepsNumbers P f h.ins h.outs (text (one_item (word w)))
-      by_phrase f known w d e (body t) s z h x = phrase_fits f known w d t e s z h x
-      by_phrase f known w d e (past t) s z h x = absurd (no_past w d t e s)
-      by_phrase f known w d e q s z h x = absurd z
-
-      pub kept_phrases : Phrases
-      kept_phrases f known w d e z h x = by_phrase f known w d e d.sort refl z h x
 
     less_known : (f : ℕ) → AllKnown (suc f) → AllKnown f
     less_known f known g le C good = known g (omega (arith, le)) C good
 
-    executed_at : Phrases → (f : ℕ) → AllKnown f → Executed f
-    executed_at phrases zero known h w e = λ r st n le o v. tt
-    executed_at phrases (suc f) known h w e = by_word f (less_known f known) (executed_at phrases f (less_known f known)) phrases known h w (slice_get P.words w) refl e
+    executed_at : (f : ℕ) → AllKnown f → Executed f
+    executed_at zero known h w e = λ r st n le o v. tt
+    executed_at (suc f) known h w e =
+        by_word f (less_known f known) (executed_at f (less_known f known)) h w (and_first (not (is_phrase P w)) (declared_fits h (slice_get P.words w)) e) (slice_get P.words w) refl (and_second (not (is_phrase P w)) (declared_fits h (slice_get P.words w)) e)
 
     one_more : (g : ℕ) → AllKnown g → Executed g → (C : Context) → Good (suc g) C → Known P (suc g) C
     one_more g below executed C good = step (good_less (suc g) g C (omega arith) good)
@@ -403,24 +373,23 @@ module _ (P : Program) where
         step less = known_more P C g (below g (le_self g) C less) (less.inputs_fit g (le_self g)) (facts_at g below executed C less)
 
     -- In every context every walk fits its run, at every number of ticks.
-    pub all_known : Phrases → (f : ℕ) → AllKnown f
-    all_known phrases f zero le C good = known_none P C
-    all_known phrases zero (suc g) le C good = absurd (omega (arith, le))
-    all_known phrases (suc f) (suc g) le C good =
-        (let below : AllKnown g = λ h le' B good'. all_known phrases f h (omega (arith, le, le')) B good' in one_more g below (executed_at phrases g below) C good)
+    pub all_known : (f : ℕ) → AllKnown f
+    all_known f zero le C good = known_none P C
+    all_known zero (suc g) le C good = absurd (omega (arith, le))
+    all_known (suc f) (suc g) le C good =
+        (let below : AllKnown g = λ h le' B good'. all_known f h (omega (arith, le, le')) B good' in one_more g below (executed_at g below) C good)
 
-    module _ (phrases : Phrases) where
-      known_values : (n : ℕ) (s : List Value) → Known P n (on_values P s)
-      known_values n s = all_known phrases n n (omega arith) (on_values P s) (good_values n s)
+    known_values : (n : ℕ) (s : List Value) → Known P n (on_values P s)
+    known_values n s = all_known n n (omega arith) (on_values P s) (good_values n s)
 
-      -- An ordinary word takes and leaves what it declares, and touches nothing below.
-      pub word_sound : (w : ℕ) (d : WordDef) (t : Text) → slice_get P.words w ≡ Some d → d.sort ≡ body t → not (nat_eq w P.top) ≡ true → d.inline ≡ false → (s : List Value) (st : State Value) (n : ℕ) → Over (height_of d).ins s st.stack → Valid P st.world → EndsSo (Leaves P (height_of d).outs s) (eval (A P) n t st n)
-      word_sound w d t e q z i s st n o v = accepted_keeps P w d t (accepted.accepted w d t e q z i) n s (known_values n s) (self_text (λ k c. ⊥) t (accepted.unmarked w d t e q)) st n (omega arith) o v
+    -- An ordinary word takes and leaves what it declares, and touches nothing below.
+    pub word_sound : (w : ℕ) (d : WordDef) (t : Text) → slice_get P.words w ≡ Some d → d.sort ≡ body t → not (nat_eq w P.top) ≡ true → d.inline ≡ false → (s : List Value) (st : State Value) (n : ℕ) → Over (height_of d).ins s st.stack → Valid P st.world → EndsSo (Leaves P (height_of d).outs s) (eval (A P) n t st n)
+    word_sound w d t e q z i s st n o v = accepted_keeps P w d t (accepted.accepted w d t e q z i) n s (known_values n s) (self_text (λ k c. ⊥) t (accepted.unmarked w d t e q)) st n (omega arith) o v
 
-      -- A row word, in every context in which what may be handed in for its inputs does what its effect says: on a list for its input row with its inputs on it, it leaves its outputs on a list for its output row.
-      pub row_word_sound : (w : ℕ) (d : WordDef) (t : Text) → slice_get P.words w ≡ Some d → d.sort ≡ body t → not (nat_eq w P.top) ≡ true → d.inline ≡ true → is_row d.recursive d.effect ≡ true → (C : Context) → C.own ≡ Some d.effect → C.word ≡ Some w → (n : ℕ) → Good n C → (st : State Value) → OnState P C (outer_in d.effect) (inputs_marks 1 (effect_inputs d.effect) []) st → EndsSo (StackState P C (leaving_on (effect_leaving d.effect) (outer_out d.effect) [])) (eval (A P) n t st n)
-      row_word_sound w d t e q z i x C own is_word n good st o = accepted_row P C w d t (accepted.row_accepted w d t e q z i x) own is_word n (all_known phrases n n (omega arith) C good) (self_text C.inputs t (accepted.unmarked w d t e q)) st n (omega arith) o
+    -- A row word, in every context in which what may be handed in for its inputs does what its effect says: on a list for its input row with its inputs on it, it leaves its outputs on a list for its output row.
+    pub row_word_sound : (w : ℕ) (d : WordDef) (t : Text) → slice_get P.words w ≡ Some d → d.sort ≡ body t → not (nat_eq w P.top) ≡ true → d.inline ≡ true → is_row d.recursive d.effect ≡ true → (C : Context) → C.own ≡ Some d.effect → C.word ≡ Some w → (n : ℕ) → Good n C → (st : State Value) → OnState P C (outer_in d.effect) (inputs_marks 1 (effect_inputs d.effect) []) st → EndsSo (StackState P C (leaving_on (effect_leaving d.effect) (outer_out d.effect) [])) (eval (A P) n t st n)
+    row_word_sound w d t e q z i x C own is_word n good st o = accepted_row P C w d t (accepted.row_accepted w d t e q z i x) own is_word n (all_known n n (omega arith) C good) (self_text C.inputs t (accepted.unmarked w d t e q)) st n (omega arith) o
 
-      -- The top-level phrase isn't stuck.
-      pub top_sound : (w : ℕ) (t : Text) (start : ℕ) → Unmarked t → top_verdict P start w t ≡ None → (st : State Value) (n : ℕ) → Over start [] st.stack → Valid P st.world → EndsSo (λ st'. Unit {0}) (eval (A P) n t st n)
-      top_sound w t start u e st n o v = top_runs P w t start e n (known_values n []) (self_text (λ k c. ⊥) t u) st n (omega arith) o v
+    -- The top-level phrase isn't stuck.
+    pub top_sound : (w : ℕ) (t : Text) (start : ℕ) → Unmarked t → top_verdict P start w t ≡ None → (st : State Value) (n : ℕ) → Over start [] st.stack → Valid P st.world → EndsSo (λ st'. Unit {0}) (eval (A P) n t st n)
+    top_sound w t start u e st n o v = top_runs P w t start e n (known_values n []) (self_text (λ k c. ⊥) t u) st n (omega arith) o v

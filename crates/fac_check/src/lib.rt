@@ -4,6 +4,8 @@
 
 mod accepted;
 mod checker;
+mod laws;
 
 pub use accepted::Checked;
 pub use checker::{CheckFault, Refusal, Rule, accept, check, first_refusal};
+pub use laws::accepted_programs_are_safe;

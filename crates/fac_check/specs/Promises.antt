@@ -1,0 +1,28 @@
+-- What a program promises that is accepted by the checker of the whole language, in terms of the meaning alone.
+use Rattle.std.specs.Prelude.{◌≡◌, ◌≢◌, ℕ, List, ◌++◌, length, false, Some, None, slice_get}
+use Rattle.fac_lang.specs.declared.program.Program.{Program}
+use Rattle.fac_lang.specs.declared.program.WordDef.{WordDef}
+use Rattle.fac_lang.specs.declared.program.Sort.TheVariants.{Body as body}
+use Rattle.fac_lang.specs.Texts.{Text, Value}
+use Rattle.fac_lang.specs.World.{World}
+use Rattle.fac_lang.specs.Effects.{effect_height}
+use Rattle.fac_lang.specs.Meaning.{run, start, word_text}
+use Rattle.fac_lang.specs.RunningLaws.{IsNotStuck}
+use Rattle.fac_lang.specs.Whole.{IsWhole}
+use Rattle.fac_check.specs.Sound.{Leaves, with_stack}
+use Rattle.fac_check.specs.Standing.{Valid}
+use Rattle.fac_check.specs.CallableEffects.{callable_height, fits}
+use Rattle.fac_check.specs.Verdicts.{verdict}
+
+pub record IsSafe (P : Program) : Type 0 where
+  -- Each ordinary word, from each state with its declared inputs on any values, at every budget: it isn't stuck, and where it is done exactly its declared outputs stand on those values.
+  pub words :
+      (w : ℕ) (d : WordDef) (t : Text) → slice_get P.words w ≡ Some d → d.sort ≡ body t → w ≢ P.top → d.inline ≡ false →
+      (n : ℕ) (inputs below : List Value) (world : World Value) → Valid P world → length inputs ≡ (effect_height d.effect).ins →
+      Leaves (effect_height d.effect).outs below (run P fits (callable_height P) n t (with_stack (inputs ++ below) world))
+  -- the top-level phrase, with every input, at every budget
+  pub phrase : (input : List ℕ) (n : ℕ) → IsNotStuck (run P fits (callable_height P) n (word_text P P.top) (start P input))
+
+-- Whatever quotations, row variables, recursion, locals, objects and methods are in it.
+abbrev pub AcceptedAreSafe : Type 0
+AcceptedAreSafe = (P : Program) → IsWhole P → verdict P 0 ≡ None → IsSafe P
