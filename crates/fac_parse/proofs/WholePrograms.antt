@@ -8,10 +8,10 @@ use Rattle.std.specs.Prelude.{IfOk, ◌+◌, ℤ, codes, nat_lt, nat_le, nat_eq}
 use Rattle.std.specs.List.{list_all, list_any}
 use Rattle.std.specs.Str.{bytes_eq}
 use Rattle.fac_lang.specs.Built.{IsBuilt, IsBuiltItem, IsBuiltText, IsBuiltSort, AreBuiltWords, IsPrimitiveWord, IsDefinedWord, IsTopPhrase, IsPlainEffect, is_member, numbers_before, primitive_numbers, has_no_repeats}
-use Rattle.fac_lang.specs.Meaning.{sort_of}
+use Rattle.fac_lang.specs.Meaning.{sort_of, is_past}
 use Rattle.fac_lang.specs.PrimitiveWords.{PrimitiveWord, primitive_word, plain_inputs, plain_leaving, written_effect}
 use Rattle.fac_lang.specs.Texts.{Text, end, then, Item, lit, int, yes, no, str, iota, wrd, arr, tup, lit_arr, quot, word, bind, local, fry, hole, call_eff, exec_eff, next_method, made, next_after, held, known}
-use Rattle.fac_lang.specs.Whole.{IsWhole, each_item, each_inner, each_numbered, locals_bound, holes_within, item_fits, item_spares, is_past, is_body, tests_small, word_texts, sort_fits, has_written_effect, has_generic_effect, marks_fit, effect_eq, inputs_eq, leaving_eq, names_eq, name_count, no_two, same_word, same_method}
+use Rattle.fac_lang.specs.Whole.{IsWhole, each_item, each_inner, each_numbered, locals_bound, holes_within, item_fits, item_spares, is_body, tests_small, word_texts, sort_fits, has_written_effect, has_generic_effect, marks_fit, effect_eq, inputs_eq, leaving_eq, names_eq, name_count, no_two, same_word, same_method}
 use Rattle.fac_lang.specs.declared.phrase.Place.{Place}
 use Rattle.fac_lang.specs.declared.program.Program.{Program}
 use Rattle.fac_lang.specs.declared.program.Sort.{Sort}
@@ -173,11 +173,14 @@ words_counted P b = let all = ap length b.words_are ∙ length_push b.words b.ph
 word_fits : (P : Program) → IsBuilt P → (w : ℕ) → nat_lt w P.top ≡ true → item_fits P (word w) ≡ true
 word_fits P b w h = let below = (Decides-ltb w P.top).0 h in let all = words_counted P b in (Decides-ltb w (length P.words)).1 (omega (arith, below, all))
 
+neither : (a b : Bool) → a ≡ false → b ≡ false → not (a || b) ≡ true
+neither a b e h = rw (e, h) refl
+
 word_spares : (P : Program) → IsBuilt P → (w : ℕ) → nat_lt w P.top ≡ true → item_spares P (word w) ≡ true
 word_spares P b w h =
     let below = (Decides-ltb w P.top).0 h in
     let there = word_below P b w below in
-    both_are (not (nat_eq w P.top)) (not (is_past (sort_of P w))) (ap not (is_other w P.top below)) (ap not (ap is_past (sort_at P w there.def there.at) ∙ not_past P.top there.def there.built))
+    neither (nat_eq w P.top) (is_past (sort_of P w)) (is_other w P.top below) (ap is_past (sort_at P w there.def there.at) ∙ not_past P.top there.def there.built)
 
 -- Words that are there once.
 
