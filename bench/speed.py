@@ -122,14 +122,14 @@ def run_once(words, folder):
     return seconds, used.ru_maxrss, status, printed, noted
 
 
-def measure(program, make, size, folder):
-    """The length of the source of this size, and the times and the greatest peak of several runs on it. A wrong answer ends the
-    script."""
+def measure(words, make, size, folder):
+    """The length of the file of this size, and the times and the greatest peak of several runs of these words on it. A wrong answer
+    ends the script."""
     source = os.path.join(folder, "source.factor")
     wanted = make(source, size)
     times, peak = [], 0
     for _ in range(RUNS):
-        seconds, memory, status, printed, noted = run_once([program, "run", source], folder)
+        seconds, memory, status, printed, noted = run_once(words + [source], folder)
         if (status, printed, noted) != wanted:
             sys.exit(f"wrong answer: status {status}, output {printed[:80]!r}, note {noted[:80]!r}")
         times.append(seconds)
@@ -137,32 +137,48 @@ def measure(program, make, size, folder):
     return os.path.getsize(source), times, peak
 
 
-def main():
+def program_or(default):
+    """The program that the command line names, or this one. Where there is none the script ends."""
     if len(sys.argv) > 2:
-        sys.exit("usage: speed.py [PROGRAM]")
-    program = os.path.abspath(sys.argv[1] if len(sys.argv) == 2 else DEFAULT)
+        sys.exit(f"usage: {os.path.basename(sys.argv[0])} [PROGRAM]")
+    program = os.path.abspath(sys.argv[1] if len(sys.argv) == 2 else default)
     if not os.access(program, os.X_OK):
-        sys.exit(f"there is no program {program}: build it first, as README.md says")
+        sys.exit(f"there is no program {program}: build it first")
+    return program
+
+
+def compare(name, shortest, failed):
+    """Prints how many times as long the larger of two files takes, and adds a failure where that is too much."""
+    ratio = shortest[1] / shortest[0]
+    print(f"{name:<20}the larger takes {ratio:.2f} times as long")
+    if ratio > MOST_RATIO:
+        failed.append(f"{name}: {ratio:.2f} times as long, more than {MOST_RATIO:g}")
+
+
+def finish(failed):
+    """Prints what failed, and gives the status."""
+    for line in failed:
+        print(f"FAILED {line}")
+    print("failed" if failed else "passed")
+    return 1 if failed else 0
+
+
+def main():
+    program = program_or(DEFAULT)
     print(f"{'source':<20}{'size':>14}{'bytes':>10}{'shortest':>12}{'longest':>12}{'peak memory':>14}")
     failed = []
     with tempfile.TemporaryDirectory() as folder:
         for name, make, sizes, told, most_seconds in SORTS:
             shortest = []
             for size in sizes:
-                length, times, peak = measure(program, make, size, folder)
+                length, times, peak = measure([program, "run"], make, size, folder)
                 shortest.append(min(times))
                 print(f"{name:<20}{told(size):>14}{length:>10}{min(times):>10.3f} s{max(times):>10.3f} s{peak / 1024:>10.1f} MiB")
             if len(sizes) == 2:
-                ratio = shortest[1] / shortest[0]
-                print(f"{name:<20}the larger takes {ratio:.2f} times as long")
-                if ratio > MOST_RATIO:
-                    failed.append(f"{name}: {ratio:.2f} times as long, more than {MOST_RATIO:g}")
+                compare(name, shortest, failed)
             if shortest[-1] >= most_seconds:
                 failed.append(f"{name}: {shortest[-1]:.3f} s, not below {most_seconds:g} s")
-    for line in failed:
-        print(f"FAILED {line}")
-    print("failed" if failed else "passed")
-    return 1 if failed else 0
+    return finish(failed)
 
 
 if __name__ == "__main__":
