@@ -23,7 +23,7 @@ use Rattle.fac_lang.specs.Whole.{IsWhole, each_item, each_inner, item_fits, word
 use Rattle.fac_lang.proofs.WholeLemmas.{same_effect}
 use Rattle.fac_check.specs.Rows.{has_rows, bindable, is_row, outer_in, outer_out, effect_inputs, effect_leaving, leaving_on}
 use Rattle.fac_check.specs.Verdicts.{Refusal, inputs_marks, any_quoted, is_inline_body, inline_verdict, row_verdict, undeclared, bad_rows, bad_generic, no_generic_effect, ordinary_verdict, body_verdict, top_verdict, phrase_verdict, sort_verdict, ruled_verdict, word_verdict, verdict_from, verdict}
-use Rattle.fac_check.proofs.EqualMarks.{never_true, and_first, and_second}
+use Rattle.fac_abs.proofs.EqualMarks.{never_true, and_first, and_second}
 use Rattle.fac_check.proofs.StandingLaws.{Unmarked, UnmarkedItem}
 use Rattle.fac_check.specs.CallableEffects.{fits, callable_height}
 use Rattle.fac_check.specs.Standing.{Valid, EndsSo}

@@ -15,8 +15,9 @@ use Rattle.fac_lang.specs.Meaning.{core_numbered}
 use Rattle.fac_lang.proofs.DemoPrelude.{word_of, shared_words, built_in_classes}
 use Rattle.fac_lang.proofs.DemoWords.{phrase, number, quotation, fried, itself, tested-call, own, t as yes, drop, dup, swap, + as plus, curry, compose, throw, call, dip, if, execute, boa, cond, sq, times}
 use Rattle.fac_lang.proofs.Demo.{program, tuple_words, tuple_of}
-use Rattle.fac_check.specs.Marks.{AbstractStack, dead, on, Rule, underflow, not_known, not_a_class, branches, recursive_input, rows, undeclared_recursion, row_declaration, method_effect, too_deep, too_large, outputs, must_return, mark_eq}
-use Rattle.fac_check.specs.Flow.{Walked, found, refused, first_of_word, walk, doing, most_nested}
+use Rattle.fac_abs.specs.Marks.{AbstractStack, dead, on, Rule, underflow, not_known, not_a_class, branches, recursive_input, rows, undeclared_recursion, row_declaration, method_effect, too_deep, too_large, outputs, must_return, mark_eq}
+use Rattle.fac_locals.specs.Literals.{first_of_word}
+use Rattle.fac_check.specs.Flow.{Walked, found, refused, walk, doing, most_nested}
 use Rattle.fac_check.specs.Verdicts.{Refusal, verdict, verdict_from}
 use Rattle.fac_check.specs.CallableEffects.{curried_height, composed_height, least_height, callable_height, fits}
 

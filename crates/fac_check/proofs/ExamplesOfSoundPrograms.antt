@@ -7,7 +7,7 @@ use Rattle.fac_lang.proofs.DemoWords.{number, own, +, show}
 use Rattle.fac_lang.proofs.Demo.{plain_program}
 use Rattle.fac_lang.proofs.ExamplesOfObjects.{name, shapes, kept_in_array}
 use Rattle.fac_lang.proofs.ExamplesOfWhole.{sum_whole, shapes_whole, kept_whole}
-use Rattle.fac_check.specs.Marks.{mark_eq}
+use Rattle.fac_abs.specs.Marks.{mark_eq}
 use Rattle.fac_check.specs.CallableEffects.{fits, callable_height}
 use Rattle.fac_check.specs.Verdicts.{verdict}
 use Rattle.fac_check.specs.Standing.{EndsSo}

@@ -8,11 +8,11 @@ use Rattle.fac_lang.specs.Signatures.{Signature, signature, Inputs, no_inputs, v
 use Rattle.fac_lang.specs.Effects.{inputs_count, leaving_outs}
 use Rattle.fac_lang.specs.declared.program.Program.{Program}
 use Rattle.fac_lang.specs.Eval.{Run, run_callable}
-use Rattle.fac_check.specs.Marks.{Row, named_row, AbstractStack, dead, on, rows, base_eq, unknowns}
+use Rattle.fac_abs.specs.Marks.{Row, named_row, AbstractStack, dead, on, rows, base_eq, unknowns}
 use Rattle.fac_check.specs.Rows.{Binding, bound_to, stack_or_dead, leaving_row, effect_inputs, input_effect, leaving_on, Called, call_breaks, called_if, calls_input}
 use Rattle.fac_check.specs.Flow.{Walk, called}
 use Rattle.fac_check.specs.Standing.{Stands, StandsOn, StandsStack, Valid}
-use Rattle.fac_check.proofs.EqualMarks.{and_first, and_second, length_same, base_same}
+use Rattle.fac_abs.proofs.EqualMarks.{and_first, and_second, length_same, base_same}
 use Rattle.std.proofs.lemmas.Bool.{ltb-false}
 use Rattle.fac_check.proofs.WalksFit.{Context, OnState, StackState, Fits, InputsFit}
 use Rattle.fac_check.proofs.ItemsFit.{Over, Leaves, ends_map, over_unknowns}

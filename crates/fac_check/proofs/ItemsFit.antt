@@ -16,13 +16,13 @@ use Rattle.fac_lang.specs.Objects.{made_tuple, get_slot, set_slot, put_slot, kin
 use Rattle.fac_lang.specs.Classes.{has_kind, pick, next}
 use Rattle.fac_lang.specs.Eval.{Result, Done, Failed, Spent, Stuck, Act, fails, goes, binds, runs, Run, run_callable}
 use Rattle.fac_lang.specs.Meaning.{texts, names, seen, curry_of, compose_of, taking1, taking2, taking3, taking, with_callable, given, does, does_call, does_dip, does_if, Core, does_execute, does_boa, with_word, error, word_call, makes_tuple, run_text, one_item, core_act, prim_act, core_numbered, generic_of, pushes_array, c_call, c_dip, c_if, c_execute, c_boa, either, sort_of, sort_act, callable_fits, tested_call, act, word_text, enters, tested_execute, word_execute, word_fits, truth_value}
-use Rattle.fac_check.specs.Marks.{Row, AbstractStack, dead, on, Rule, underflow, not_known, limited, mark_depth, deepest_mark, is_callable, unknowns, popped, piled, curried_mark, composed_mark}
+use Rattle.fac_abs.specs.Marks.{Row, AbstractStack, dead, on, Rule, underflow, not_known, limited, mark_depth, deepest_mark, is_callable, unknowns, popped, piled, curried_mark, composed_mark}
 use Rattle.fac_check.specs.Flow.{Doing, breaks, gives, expands, walks, forks, again, Walk, needing, by_height, callable_or, marks_moved, core_doing, curry_doing, compose_doing, known_word, makes_by, word_doing, sort_doing, prim_doing, inline_doing, row_or_text, generic_doing, next_doing, doing, lit_doing, is_own}
 use Rattle.fac_check.specs.Rows.{is_row}
 use Rattle.fac_check.specs.CallableEffects.{fits, callable_height}
 use Rattle.fac_check.specs.Standing.{Stands, StandsText, StandsItem, StandsOn, Valid, EndsSo}
 use Rattle.fac_lang.proofs.Laws.{Sparing}
-use Rattle.fac_check.proofs.EqualMarks.{never_true, and_first, and_second}
+use Rattle.fac_abs.proofs.EqualMarks.{never_true, and_first, and_second}
 use Rattle.fac_check.proofs.StandingLaws.{Each, holes_text}
 use Rattle.fac_check.proofs.WalksFit.{Context, OnState, StackState, TextsFit, InputsFit, Does, Back}
 

@@ -1,7 +1,6 @@
 pub mod PrimitiveHeights
 pub mod Soundness
 pub mod ExamplesOfVerdicts
-pub mod EqualMarks
 pub mod StandingLaws
 pub mod WalksFit
 pub mod ItemsFit

@@ -6,11 +6,12 @@ use Rattle.fac_lang.specs.Texts.{Text, Value}
 use Rattle.fac_lang.specs.World.{State}
 use Rattle.fac_lang.specs.declared.program.Program.{Program}
 use Rattle.fac_lang.specs.Eval.{eval}
-use Rattle.fac_check.specs.Marks.{AbstractStack, dead, on, unknowns}
-use Rattle.fac_check.specs.Flow.{Walked, found, refused, first_of_word, walked, most_walked, most_steps, most_nested}
+use Rattle.fac_abs.specs.Marks.{AbstractStack, dead, on, unknowns}
+use Rattle.fac_locals.specs.Literals.{first_of_word}
+use Rattle.fac_check.specs.Flow.{Walked, found, refused, walked, most_walked, most_steps, most_nested}
 use Rattle.fac_check.specs.CallableEffects.{forgotten, least_height, most_outputs}
 use Rattle.fac_check.specs.Standing.{Valid, EndsSo}
-use Rattle.fac_check.proofs.EqualMarks.{never_true}
+use Rattle.fac_abs.proofs.EqualMarks.{never_true}
 use Rattle.fac_check.proofs.StandingLaws.{forgotten_stands}
 use Rattle.fac_check.proofs.WalksFit.{Fits, StackState}
 use Rattle.fac_check.proofs.ItemsFit.{Over, Leaves, ends_map}

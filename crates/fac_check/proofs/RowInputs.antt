@@ -4,11 +4,11 @@ use Rattle.fac_lang.specs.Texts.{Value, fun, Callable, text, cur, both, Mark, an
 use Rattle.fac_lang.specs.World.{pile}
 use Rattle.fac_lang.specs.Signatures.{Inputs, no_inputs, value, quoted}
 use Rattle.fac_lang.specs.declared.program.Program.{Program}
-use Rattle.fac_check.specs.Marks.{Row, is_callable}
+use Rattle.fac_abs.specs.Marks.{Row, is_callable}
 use Rattle.fac_check.specs.Rows.{inputs_known}
 use Rattle.fac_check.specs.Verdicts.{inputs_marks}
 use Rattle.fac_check.specs.Standing.{Stands, StandsOn}
-use Rattle.fac_check.proofs.EqualMarks.{never_true, and_first, and_second}
+use Rattle.fac_abs.proofs.EqualMarks.{never_true, and_first, and_second}
 use Rattle.fac_check.proofs.WalksFit.{Context}
 use Rattle.fac_check.proofs.InsideRowWords.{Given}
 

@@ -8,12 +8,13 @@ use Rattle.fac_lang.specs.Signatures.{Signature, Leaving, never, leaves}
 use Rattle.fac_lang.specs.declared.program.Program.{Program}
 use Rattle.fac_lang.specs.declared.program.WordDef.{WordDef}
 use Rattle.fac_lang.specs.Eval.{Result, Run, eval}
-use Rattle.fac_check.specs.Marks.{Row, AbstractStack, dead, on, outputs, must_return, base_eq, unknowns}
+use Rattle.fac_abs.specs.Marks.{Row, AbstractStack, dead, on, outputs, must_return, base_eq, unknowns}
 use Rattle.fac_check.specs.Rows.{Binding, effect_inputs, effect_leaving, outer_in, outer_out, leaving_on}
-use Rattle.fac_check.specs.Flow.{Walked, found, refused, and_then, Walk, row_result, walked, most_walked, most_steps, most_nested, first_of_word}
+use Rattle.fac_locals.specs.Literals.{first_of_word}
+use Rattle.fac_check.specs.Flow.{Walked, found, refused, and_then, Walk, row_result, walked, most_walked, most_steps, most_nested}
 use Rattle.fac_check.specs.Verdicts.{Refusal, refusal, end_of, kept_word, row_verdict, inputs_marks}
 use Rattle.fac_check.specs.Standing.{StandsText, StandsOn, EndsSo}
-use Rattle.fac_check.proofs.EqualMarks.{and_first, and_second, length_same, base_same}
+use Rattle.fac_abs.proofs.EqualMarks.{and_first, and_second, length_same, base_same}
 use Rattle.fac_check.proofs.WalksFit.{Context, OnState, StackState, Fits}
 use Rattle.fac_check.proofs.ItemsFit.{Over, ends_map, over_unknowns}
 use Rattle.fac_check.proofs.SoundWalks.{A, Known, some_none}

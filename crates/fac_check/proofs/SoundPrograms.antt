@@ -18,14 +18,15 @@ use Rattle.fac_lang.specs.declared.program.Sort.TheVariants.{Prim as prim, Core 
 use Rattle.fac_lang.specs.Eval.{Result, Act, go_on, eval}
 use Rattle.fac_lang.specs.Meaning.{texts, names, sort_of, is_past, is_phrase, word_text, word_fits, one_item, run_text, sort_act, nowhere}
 use Rattle.fac_lang.specs.Effects.{effect_height, inputs_count, word_height}
-use Rattle.fac_check.specs.Marks.{Row, hidden, named_row, AbstractStack, dead, on, Rule, underflow, not_known, rows, recursive_input, row_eq, base_eq, mark_eq, popped, unknowns}
+use Rattle.fac_abs.specs.Marks.{Row, hidden, named_row, AbstractStack, dead, on, Rule, underflow, not_known, rows, recursive_input, row_eq, base_eq, mark_eq, popped, unknowns}
 use Rattle.fac_check.specs.Rows.{is_row, bindable, inputs_rows, nested_one_sided, bound_all, bound_rows, outer_in, outer_out, effect_inputs, effect_leaving, Binding, stack_or_dead, row_bound, row_binding, inputs_known, other_input, leaving_on}
-use Rattle.fac_check.specs.Flow.{Walked, found, refused, and_then, Walk, walk_on, first_of_word, Doing, breaks, gives, uses, by_height, callable_or, walk_inputs, row_result, is_own, own_rest, own_doing, row_doing, row_or_text}
+use Rattle.fac_locals.specs.Literals.{first_of_word}
+use Rattle.fac_check.specs.Flow.{Walked, found, refused, and_then, Walk, walk_on, Doing, breaks, gives, uses, by_height, callable_or, walk_inputs, row_result, is_own, own_rest, own_doing, row_doing, row_or_text}
 use Rattle.fac_check.specs.CallableEffects.{fits, fits_outs}
 use Rattle.fac_check.specs.Verdicts.{inputs_marks, ordinary_verdict, row_verdict, top_verdict}
 use Rattle.fac_check.specs.Standing.{Stands, StandsOn, StandsStack, Valid, EndsSo}
 use Rattle.fac_lang.proofs.Laws.{within}
-use Rattle.fac_check.proofs.EqualMarks.{never_true, and_first, and_second, length_same, base_same, mark_same}
+use Rattle.fac_abs.proofs.EqualMarks.{never_true, and_first, and_second, length_same, base_same, mark_same}
 use Rattle.fac_check.proofs.StandingLaws.{Unmarked, self_text}
 use Rattle.fac_check.proofs.WalksFit.{Context, OnState, StackState, Fits, InputsFit, Does, does_fits}
 use Rattle.fac_check.proofs.ItemsFit.{Over, Leaves, RegularFn, Facts, if_callable, ends_map, left_on, HasEffect, effect_does}

@@ -10,14 +10,15 @@ use Rattle.fac_lang.specs.declared.program.Program.{Program}
 use Rattle.fac_lang.specs.declared.program.WordDef.{WordDef}
 use Rattle.fac_lang.specs.Eval.{Result, Done, Failed, Spent, Stuck, Act, Run, eval}
 use Rattle.fac_lang.specs.Meaning.{act, run}
-use Rattle.fac_check.specs.Marks.{Row, AbstractStack, dead, on, Rule, outputs, must_return, base_eq, unknowns}
+use Rattle.fac_abs.specs.Marks.{Row, AbstractStack, dead, on, Rule, outputs, must_return, base_eq, unknowns}
 use Rattle.fac_check.specs.Rows.{effect_inputs, effect_leaving}
-use Rattle.fac_check.specs.Flow.{Walked, found, refused, walk, doing, first_of_word, behind, walked, most_walked, most_steps, most_nested}
+use Rattle.fac_locals.specs.Literals.{first_of_word, behind}
+use Rattle.fac_check.specs.Flow.{Walked, found, refused, walk, doing, walked, most_walked, most_steps, most_nested}
 use Rattle.fac_check.specs.CallableEffects.{fits, callable_height}
 use Rattle.fac_check.specs.Verdicts.{Refusal, refusal, end_of, kept_word, ordinary_verdict, top_verdict}
 use Rattle.fac_check.specs.Standing.{StandsText, StandsOn, Valid, EndsSo}
 use Rattle.fac_lang.proofs.Laws.{within}
-use Rattle.fac_check.proofs.EqualMarks.{never_true, and_second, length_same}
+use Rattle.fac_abs.proofs.EqualMarks.{never_true, and_second, length_same}
 use Rattle.fac_check.proofs.WalksFit.{Context, StackState, Fits, TextsFit, InputsFit, any_spent, does_fits}
 use Rattle.fac_check.proofs.ItemsFit.{Over, Leaves, Facts, item_does, ends_map}
 

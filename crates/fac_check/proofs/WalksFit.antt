@@ -10,13 +10,14 @@ use Rattle.fac_lang.specs.Signatures.{Signature}
 use Rattle.fac_lang.specs.declared.program.Program.{Program}
 use Rattle.fac_lang.specs.Eval.{Result, Done, Failed, Spent, Stuck, then_do, Act, wrong, fails, goes, binds, runs, Run, run_callable, go_on}
 use Rattle.fac_lang.specs.Meaning.{one_item, nowhere}
-use Rattle.fac_check.specs.Marks.{Row, AbstractStack, dead, on, Rule, branches, base_eq, mark_eq, join_marks, piled}
+use Rattle.fac_abs.specs.Marks.{Row, AbstractStack, dead, on, Rule, branches, base_eq, mark_eq, join_marks, piled}
 use Rattle.fac_check.specs.Rows.{calls_own}
-use Rattle.fac_check.specs.Flow.{Walked, found, refused, and_then, living, Doing, breaks, gives, names_local, expands, walks, forks, again, uses, Walk, counted, inside, called, join, marks_back, first_of_word, first_of_literal, walk_text, walk_mark, walk_use, text_rule, first_rule, unless_broken, walk_on}
+use Rattle.fac_locals.specs.Literals.{first_of_word, first_of_literal}
+use Rattle.fac_check.specs.Flow.{Walked, found, refused, and_then, living, Doing, breaks, gives, names_local, expands, walks, forks, again, uses, Walk, counted, inside, called, join, marks_back, walk_text, walk_mark, walk_use, text_rule, first_rule, unless_broken, walk_on}
 use Rattle.fac_check.specs.Standing.{Stands, StandsText, StandsOn, StandsStack, Valid, EndsSo}
 use Rattle.fac_lang.proofs.Laws.{Within, Sparing, within_call}
 use Rattle.fac_check.proofs.StandingLaws.{put_text}
-use Rattle.fac_check.proofs.EqualMarks.{mark_same, base_same, length_same, and_first, and_second}
+use Rattle.fac_abs.proofs.EqualMarks.{mark_same, base_same, length_same, and_first, and_second}
 
 -- In which a text is walked: the row word that is checked, what its quotation inputs may be, and which lists stand for each base.
 pub record Context : Type 1 where

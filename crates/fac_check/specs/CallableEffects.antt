@@ -3,7 +3,7 @@ use Rattle.std.specs.Prelude.{ℕ, zero, suc, ◌+◌, ◌-◌, [], length, Bool
 use Rattle.fac_lang.specs.declared.phrase.Height.{Height}
 use Rattle.fac_lang.specs.declared.program.Program.{Program}
 use Rattle.fac_lang.specs.Texts.{Text, end, then, Item, lit, lit_arr, quot, word, bind, local, fry, hole, call_eff, exec_eff, next_method, made, next_after, held, known, any, Callable, text, cur, both}
-use Rattle.fac_check.specs.Marks.{dead, on, unknowns}
+use Rattle.fac_abs.specs.Marks.{dead, on, unknowns}
 use Rattle.fac_check.specs.Flow.{found, refused, walked}
 
 -- A running text as the checker walks it: nothing is known of a held value. A mark never stands in a running text; one there would be an item that breaks a rule.

@@ -12,33 +12,9 @@ use Rattle.fac_lang.specs.declared.program.WordDef.{WordDef}
 use Rattle.fac_lang.specs.declared.program.Sort.{Sort}
 use Rattle.fac_lang.specs.declared.program.Sort.TheVariants.{Prim as prim, Core as core, Body as body, Past as past, Itself as itself, Class as class, Method as method}
 use Rattle.fac_lang.specs.Meaning.{sort_of, names, Core, c_call, c_dip, c_if, c_execute, c_boa, core_numbered}
-use Rattle.fac_check.specs.Marks.{Row, AbstractStack, dead, on, Rule, underflow, not_known, not_a_class, branches, recursive_input, rows, method_effect, too_deep, too_large, base_eq, limited, is_callable, curried_mark, composed_mark, join_marks, unknowns, popped, piled}
+use Rattle.fac_abs.specs.Marks.{Row, AbstractStack, dead, on, Rule, underflow, not_known, not_a_class, branches, recursive_input, rows, method_effect, too_deep, too_large, base_eq, limited, is_callable, curried_mark, composed_mark, join_marks, unknowns, popped, piled}
+use Rattle.fac_locals.specs.Literals.{first_of_word, first_of_literal, behind}
 use Rattle.fac_check.specs.Rows.{effect_inputs, effect_leaving, outer_in, outer_out, bindable, Binding, Tied, tied, untied, tie, start_row, inputs_known, other_input, leaving_on, Called, call_breaks, call_leaves, calls_own, stack_or_dead, row_bound, row_binding, row_name, is_row}
-
--- How many items stand in a text, with those of its quotations and fry bodies. A mark or a value that was put for a local or a hole is one item, as that was.
-abbrev mutual
-  pub items_in : Text → ℕ
-  items_in end = 0
-  items_in (then i p t) = suc (items_inside i + items_in t)
-
-  pub items_inside : Item → ℕ
-  items_inside (quot t) = items_in t
-  items_inside (fry t n) = items_in t
-  items_inside _ = 0
-
--- Where an item stands is said as for a literal: by the word in whose text it is and the number of items before it. So a quotation that stands there is that literal.
-
--- the first item of a word's text
-abbrev pub first_of_word : ℕ → Literal
-first_of_word w = record { word = w; index = 0 }
-
--- the first item of a literal's text
-abbrev pub first_of_literal : Literal → Literal
-first_of_literal l = record { word = l.word; index = suc l.index }
-
--- the item behind one that stands here
-abbrev pub behind : Literal → Item → Literal
-behind l i = record { word = l.word; index = suc (l.index + items_inside i) }
 
 -- How a walk ends: with what it found and the number of items that may still be walked, or at the first broken rule.
 pub data Walked (A : Type 0) : Type 0 where

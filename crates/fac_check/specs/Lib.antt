@@ -2,7 +2,6 @@ pub mod Verdict
 pub mod Walks
 pub mod Sound
 pub mod Checks
-pub mod Marks
 pub mod Rows
 pub mod Flow
 pub mod Verdicts

@@ -3,7 +3,7 @@ use Rattle.std.specs.Prelude.{ℕ, zero, suc, ◌+◌, List, [], ◌∷◌, leng
 use Rattle.fac_lang.specs.Texts.{Mark, any, par_mark}
 use Rattle.fac_lang.specs.Signatures.{Signature, signature, Inputs, no_inputs, value, quoted, Leaving, never, leaves}
 use Rattle.fac_lang.specs.Effects.{inputs_count}
-use Rattle.fac_check.specs.Marks.{Row, hidden, named_row, AbstractStack, dead, on, Rule, rows, base_eq, row_eq, mark_eq, unknowns, is_callable}
+use Rattle.fac_abs.specs.Marks.{Row, hidden, named_row, AbstractStack, dead, on, Rule, rows, base_eq, row_eq, mark_eq, unknowns, is_callable}
 
 -- the row of one side of an effect
 abbrev pub row_of : Option (List ℕ) → Option Row

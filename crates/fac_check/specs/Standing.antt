@@ -5,7 +5,7 @@ use Rattle.fac_lang.specs.Texts.{wrd, Text, end, then, Item, lit, lit_arr, quot,
 use Rattle.fac_lang.specs.World.{World, State}
 use Rattle.fac_lang.specs.declared.program.Program.{Program}
 use Rattle.fac_lang.specs.Eval.{Result, Done, Failed, Spent, Stuck}
-use Rattle.fac_check.specs.Marks.{Row, AbstractStack, dead, on}
+use Rattle.fac_abs.specs.Marks.{Row, AbstractStack, dead, on}
 
 -- an item that no running text has, and that is stuck where one has it
 abbrev pub Unmeant : Item → Type 0

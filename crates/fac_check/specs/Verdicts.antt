@@ -9,7 +9,7 @@ use Rattle.fac_lang.specs.declared.program.Program.{Program}
 use Rattle.fac_lang.specs.declared.program.WordDef.{WordDef}
 use Rattle.fac_lang.specs.declared.program.Sort.{Sort}
 use Rattle.fac_lang.specs.declared.program.Sort.TheVariants.{Body as body, Past as past, Generic as generic, Method as method}
-use Rattle.fac_check.specs.Marks.{Row, AbstractStack, dead, on, Rule, undeclared_recursion, row_declaration, method_effect, outputs, must_return, base_eq, unknowns}
+use Rattle.fac_abs.specs.Marks.{Row, AbstractStack, dead, on, Rule, undeclared_recursion, row_declaration, method_effect, outputs, must_return, base_eq, unknowns}
 use Rattle.fac_check.specs.Rows.{effect_inputs, effect_leaving, outer_in, outer_out, has_rows, bindable, is_row}
 use Rattle.fac_check.specs.Flow.{Walked, found, refused, walked}
 

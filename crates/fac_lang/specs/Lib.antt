@@ -22,3 +22,4 @@ pub mod PrimitiveWords
 pub mod CoreWords
 pub mod Whole
 pub mod Built
+pub mod Forms

@@ -1,0 +1,2 @@
+//! What the checker knows of values and stacks.
+#![tactic(auto)]

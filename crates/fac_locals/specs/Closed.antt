@@ -1,0 +1,78 @@
+-- When a closed program stands for a program: each quotation in a text is made by the template of its literal, and a template's text is closed likewise.
+use Rattle.std.specs.Prelude.{◌≡◌, ℕ, suc, List, [], ◌∷◌, length, Option, Some, None, slice_get}
+use Rattle.fac_lang.specs.Texts.{Literal, Text, end, then, Item, lit, lit_arr, quot, word, bind, local, fry, hole, call_eff, exec_eff, next_method, made, next_after, held, known}
+use Rattle.fac_lang.specs.Substitution.{of_method}
+use Rattle.fac_lang.specs.declared.phrase.Template.{Template}
+use Rattle.fac_lang.specs.declared.program.Program.{Program}
+use Rattle.fac_lang.specs.declared.program.WordDef.{WordDef}
+use Rattle.fac_lang.specs.declared.program.Sort.{Sort}
+use Rattle.fac_lang.specs.declared.program.Sort.TheVariants.{Body as body, Past as past, Method as method}
+use Rattle.fac_locals.specs.Literals.{Quoted, behind, first_of_word, first_of_literal, literals, literal_numbered}
+
+module _ (P : Program) where
+  -- the template with this number makes the quotation that stands here with this text
+  abbrev pub IsMadeBy : Literal → Text → ℕ → Type 0
+  IsMadeBy at t k = let l : Quoted = (at, t) in literal_numbered P k ≡ l
+
+  -- An item for one that stands here. Texts with locals, holes and fries aren't closed yet.
+  abbrev pub ClosesItem : Literal → Item → Item → Type 0
+  ClosesItem at (quot t) j = (k : ℕ) × (j ≡ made k) × IsMadeBy at t k
+  ClosesItem at (next_after m) j = j ≡ next_method
+  ClosesItem at (lit p) j = j ≡ lit p
+  ClosesItem at (lit_arr a) j = j ≡ lit_arr a
+  ClosesItem at (word w) j = j ≡ word w
+  ClosesItem at (call_eff h) j = j ≡ call_eff h
+  ClosesItem at (exec_eff h) j = j ≡ exec_eff h
+  ClosesItem at next_method j = j ≡ next_method
+  ClosesItem at (bind x) j = ⊥
+  ClosesItem at (local x) j = ⊥
+  ClosesItem at (fry t n) j = ⊥
+  ClosesItem at (hole k) j = ⊥
+  ClosesItem at (made k) j = ⊥
+  ClosesItem at (held v) j = ⊥
+  ClosesItem at (known m) j = ⊥
+
+  -- a text for one whose first item stands here
+  abbrev pub ClosesText : Literal → Text → Text → Type 0
+  ClosesText at end c = c ≡ end
+  ClosesText at (then i p t) c = (j : Item) × (s : Text) × (c ≡ then j p s) × ClosesItem at i j × ClosesText (behind at i) t s
+
+  -- what word w is, for what it is in the program
+  abbrev pub ClosesSort : ℕ → Sort → Sort → Type 0
+  ClosesSort w (body t) s = (c : Text) × (s ≡ body c) × ClosesText (first_of_word w) t c
+  ClosesSort w (past t) s = (c : Text) × (s ≡ past c) × ClosesText (first_of_word w) t c
+  ClosesSort w (method n g t) s = (c : Text) × (s ≡ method n g c) × ClosesText (first_of_word w) (of_method w t) c
+  ClosesSort w o s = s ≡ o
+
+  -- word w, for the word in the program
+  pub record ClosesWord (w : ℕ) (d c : WordDef) : Type 0 where
+    pub name : c.name ≡ d.name
+    pub sort : ClosesSort w d.sort c.sort
+    pub effect : c.effect ≡ d.effect
+    pub inline : c.inline ≡ d.inline
+    pub recursive : c.recursive ≡ d.recursive
+    pub place : c.place ≡ d.place
+
+  -- words for those of the program, from word w on
+  abbrev pub CloseWords : ℕ → List WordDef → List WordDef → Type 0
+  CloseWords w [] cs = cs ≡ []
+  CloseWords w (d ∷ ds) cs = (c : WordDef) × (r : List WordDef) × (cs ≡ c ∷ r) × ClosesWord w d c × CloseWords (suc w) ds r
+
+  -- the template of this literal: it captures nothing yet, and has no holes
+  pub record ClosesLiteral (l : Quoted) (t : Template) : Type 0 where
+    pub body : ClosesText (first_of_literal l.0) l.1 t.body
+    pub captures : t.captures ≡ []
+    pub holes : t.holes ≡ 0
+
+  -- templates for literals, one by one
+  abbrev pub CloseLiterals : List Quoted → List Template → Type 0
+  CloseLiterals [] ts = ts ≡ []
+  CloseLiterals (l ∷ ls) ts = (t : Template) × (r : List Template) × (ts ≡ t ∷ r) × ClosesLiteral l t × CloseLiterals ls r
+
+-- a closed program with these templates stands for this one
+pub record Closes (P C : Program) (templates : List Template) : Type 0 where
+  pub words : CloseWords P 0 P.words C.words
+  pub templates_are : CloseLiterals P (literals P) templates
+  pub arrays : C.arrays ≡ P.arrays
+  pub classes : C.classes ≡ P.classes
+  pub top : C.top ≡ P.top

@@ -1,0 +1,2 @@
+//! Closing: quotations become numbered templates.
+#![tactic(auto)]
