@@ -17,3 +17,12 @@ pub mod PrimitivesKeep
 pub mod AcceptedPrograms
 pub mod ExamplesOfSoundPrograms
 pub mod Promised
+pub mod StepByStep
+pub mod BuiltWords
+pub mod PrimitiveDoings
+pub mod BuiltMarks
+pub mod DoingLemmas
+pub mod WordItems
+pub mod ClosedItems
+pub mod WalkLemmas
+pub mod MarkWalks

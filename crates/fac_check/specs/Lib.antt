@@ -8,3 +8,5 @@ pub mod Verdicts
 pub mod CallableEffects
 pub mod Standing
 pub mod Promises
+pub mod ItemWalk
+pub mod Walking

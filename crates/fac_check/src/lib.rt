@@ -4,7 +4,10 @@
 
 mod accepted;
 mod checker;
+mod doing;
 mod laws;
+mod rule;
+mod walker;
 
 pub use accepted::Checked;
 pub use checker::{CheckFault, Refusal, Rule, accept, check, first_refusal};

@@ -1,0 +1,126 @@
+-- What the checker's definitions say of the words of built programs.
+use Rattle.std.proofs.Common.{◌≡◌, ◌⊎◌, ℕ, zero, suc, List, [], ◌∷◌, ◌++◌, length, Bool, true, false, Option, Some, None, refl, sym, ap, subst, ◌∙◌, arith}
+use Rattle.std.specs.Prelude.{nat_eq, nat_lt, not, ◌&&◌, ◌||◌, slice_get}
+use mathlib.Core.Logic.{inl, inr}
+use Rattle.fac_lang.specs.declared.program.Program.{Program}
+use Rattle.fac_lang.specs.declared.program.WordDef.{WordDef}
+use Rattle.fac_lang.specs.declared.program.Sort.{Sort}
+use Rattle.fac_lang.specs.declared.program.Sort.TheVariants.{Prim as prim, Core as core, Body as body, Past as past, Itself as itself, Class as class, Isa as isa, Getter as getter, Setter as setter, Putter as putter, Generic as generic, Method as method}
+use Rattle.fac_lang.specs.PrimitiveWords.{PrimitiveWord, written_effect, plain_inputs, plain_leaving}
+use Rattle.fac_lang.specs.Signatures.{Signature, signature, Inputs, no_inputs, value, quoted, Leaving, never, leaves}
+use Rattle.fac_lang.specs.Forms.{IsBuilt, IsBuiltSort, AreBuiltWords, IsDefinedWord, IsPrimitiveWord, IsCoreWord, IsTopPhrase, IsPlainEffect, ArePlainInputs, IsPlainLeaving, is_built_primitive, is_built_core}
+use Rattle.fac_check.specs.Rows.{has_rows, inputs_rows, leaving_row, row_of, some_row, is_row}
+use Rattle.fac_check.specs.Verdicts.{bad_rows, bad_generic, is_inline_body}
+
+module _ {A : Type 0} where
+  -- an element of a list with one more at its end
+  pub at_or_last : (xs : List A) (y : A) (k : ℕ) (z : A) → slice_get (xs ++ y ∷ []) k ≡ Some z → (slice_get xs k ≡ Some z) ⊎ ((k ≡ length xs) × (y ≡ z))
+  at_or_last [] y zero z e = inr (refl, cc)
+  at_or_last [] y (suc k) z e = absurd (cc)
+  at_or_last (x ∷ xs) y zero z e = inl e
+  at_or_last (x ∷ xs) y (suc k) z e = more (at_or_last xs y k z e)
+    where
+      more : (slice_get xs k ≡ Some z) ⊎ ((k ≡ length xs) × (y ≡ z)) → (slice_get xs k ≡ Some z) ⊎ ((suc k ≡ suc (length xs)) × (y ≡ z))
+      more (inl f) = inl f
+      more (inr f) = inr (ap suc f.0, f.1)
+
+built_there : (bound : ℕ) (ds : List WordDef) → AreBuiltWords bound ds → (k : ℕ) (d : WordDef) → slice_get ds k ≡ Some d → IsBuiltSort bound d d.sort
+built_there bound [] h k d e = absurd (cc)
+built_there bound (c ∷ ds) h zero d e = (let same : c ≡ d = cc in subst (λ x. IsBuiltSort bound x x.sort) same h.0)
+built_there bound (c ∷ ds) h (suc k) d e = built_there bound ds h.1 k d e
+
+plain_no_rows : (is : Inputs) → ArePlainInputs is → inputs_rows is ≡ false
+plain_no_rows no_inputs h = refl
+plain_no_rows (value x is) h = plain_no_rows is h
+plain_no_rows (quoted x e is) h = absurd h
+
+-- an effect of plain values has no row variable
+pub plain_effect_rows : (e : Signature) → IsPlainEffect e → has_rows e ≡ false
+plain_effect_rows (signature None is never) h = plain_no_rows is h.1
+plain_effect_rows (signature None is (leaves None names)) h = plain_no_rows is h.1
+plain_effect_rows (signature None is (leaves (Some r) names)) h = absurd (cc)
+plain_effect_rows (signature (Some r) is l) h = absurd (cc)
+
+written_inputs : (xs : List (List ℕ)) → inputs_rows (plain_inputs xs) ≡ false
+written_inputs [] = refl
+written_inputs (x ∷ xs) = written_inputs xs
+
+written_rows : (xs : List (List ℕ)) (o : Option (List (List ℕ))) → has_rows (signature None (plain_inputs xs) (plain_leaving o)) ≡ false
+written_rows xs None = written_inputs xs
+written_rows xs (Some ys) = written_inputs xs
+
+-- the words of a built program, by their sorts
+pub data BuiltAs (P : Program) (w : ℕ) (d : WordDef) : Type 0 where
+  as_primitive : (k : ℕ) → d.sort ≡ prim k → is_built_primitive k ≡ true → d.inline ≡ false → has_rows d.effect ≡ false → BuiltAs P w d
+  as_core : (k : ℕ) → d.sort ≡ core k → is_built_core k ≡ true → d.inline ≡ false → has_rows d.effect ≡ false → BuiltAs P w d
+  as_defined : (t : _) → d.sort ≡ body t → (d.inline && d.recursive) ≡ false → has_rows d.effect ≡ false → BuiltAs P w d
+
+built_so : (P : Program) (w : ℕ) (bound : ℕ) (d : WordDef) (s : Sort) → d.sort ≡ s → IsBuiltSort bound d s → BuiltAs P w d
+built_so P w bound d (prim k) e h = as_primitive k e h.is_built h.not_inline (subst (λ x. has_rows x ≡ false) (sym h.effect_is) (written_rows h.row.ins h.row.outs))
+built_so P w bound d (core k) e h = as_core k e h.is_built h.not_inline (subst (λ x. has_rows x ≡ false) (sym h.effect_is) (written_rows h.row.ins h.row.outs))
+built_so P w bound d (body t) e h = as_defined t e h.no_row_word (plain_effect_rows d.effect h.plain)
+built_so P w bound d (past t) e h = absurd h
+built_so P w bound d itself e h = absurd h
+built_so P w bound d (class c) e h = absurd h
+built_so P w bound d (isa c) e h = absurd h
+built_so P w bound d (getter s) e h = absurd h
+built_so P w bound d (setter s) e h = absurd h
+built_so P w bound d (putter s) e h = absurd h
+built_so P w bound d generic e h = absurd h
+built_so P w bound d (method c g t) e h = absurd h
+
+top_so : (P : Program) (w bound : ℕ) (d : WordDef) (t : _) → IsTopPhrase bound d t → BuiltAs P w d
+top_so P w bound d t h = as_defined t h.sort_is (rw h.not_inline refl) (subst (λ x. has_rows x ≡ false) (sym h.effect_is) refl)
+
+-- each word of a built program is a primitive, a core word or is defined by a text
+pub built_as : (P : Program) → IsBuilt P → (w : ℕ) (d : WordDef) → slice_get P.words w ≡ Some d → BuiltAs P w d
+built_as P b w d e = which (at_or_last b.words b.phrase w d (subst (λ ws. slice_get ws w ≡ Some d) b.words_are e))
+  where
+    which : (slice_get b.words w ≡ Some d) ⊎ ((w ≡ length b.words) × (b.phrase ≡ d)) → BuiltAs P w d
+    which (inl f) = built_so P w P.top d d.sort refl (built_there P.top b.words b.built w d f)
+    which (inr f) = subst (λ x. BuiltAs P w x) f.1 (top_so P w P.top b.phrase b.text b.phrase_is)
+
+-- no word has a row variable
+pub built_rows : (P : Program) (w : ℕ) (d : WordDef) → BuiltAs P w d → has_rows d.effect ≡ false
+built_rows P w d (as_primitive k s b i r) = r
+built_rows P w d (as_core k s b i r) = r
+built_rows P w d (as_defined t s i r) = r
+
+and_false : (a b : Bool) → b ≡ false → (a && b) ≡ false
+and_false true b e = e
+and_false false b e = refl
+
+bad_rows_by : (P : Program) (w : ℕ) (d : WordDef) (s : Sort) → d.sort ≡ s → has_rows d.effect ≡ false → bad_rows P w d ≡ false
+bad_rows_by P w d (prim k) e r = rw (e, r) (and_false _ false refl)
+bad_rows_by P w d (core k) e r = rw (e, r) (and_false _ false refl)
+bad_rows_by P w d (body t) e r = rw (e, r) (and_false _ false refl)
+bad_rows_by P w d (past t) e r = rw e refl
+bad_rows_by P w d itself e r = rw (e, r) (and_false _ false refl)
+bad_rows_by P w d (class c) e r = rw (e, r) (and_false _ false refl)
+bad_rows_by P w d (isa c) e r = rw (e, r) (and_false _ false refl)
+bad_rows_by P w d (getter s) e r = rw (e, r) (and_false _ false refl)
+bad_rows_by P w d (setter s) e r = rw (e, r) (and_false _ false refl)
+bad_rows_by P w d (putter s) e r = rw (e, r) (and_false _ false refl)
+bad_rows_by P w d generic e r = rw (e, r) (and_false _ false refl)
+bad_rows_by P w d (method c g t) e r = rw (e, r) (and_false _ false refl)
+
+-- so none breaks `row-declaration`
+pub no_bad_rows : (P : Program) (w : ℕ) (d : WordDef) → BuiltAs P w d → bad_rows P w d ≡ false
+no_bad_rows P w d b = bad_rows_by P w d d.sort refl (built_rows P w d b)
+
+-- and none is a generic
+pub no_bad_generic : (P : Program) (w : ℕ) (d : WordDef) → BuiltAs P w d → bad_generic P d.sort d.effect ≡ false
+no_bad_generic P w d (as_primitive k s b i r) = rw s refl
+no_bad_generic P w d (as_core k s b i r) = rw s refl
+no_bad_generic P w d (as_defined t s i r) = rw s refl
+
+-- an inline word is no row word
+pub no_row_word : (P : Program) (w : ℕ) (d : WordDef) → BuiltAs P w d → d.inline ≡ true → is_row d.recursive d.effect ≡ false
+no_row_word P w d (as_primitive k s b i r) e = absurd (cc)
+no_row_word P w d (as_core k s b i r) e = absurd (cc)
+no_row_word P w d (as_defined t s i r) e = row_free d.inline d.recursive (has_rows d.effect) e i r
+  where
+    row_free : (a b c : Bool) → a ≡ true → (a && b) ≡ false → c ≡ false → (b || c) ≡ false
+    row_free true true c e i r = absurd (cc)
+    row_free true false c e i r = r
+    row_free false b c e i r = absurd (cc)
