@@ -7,11 +7,12 @@ use Rattle.fac_abs.specs.InTurn.{in_turn, FitsInTurn}
 use Rattle.fac_abs.specs.Marks.{mark_depth}
 use Rattle.fac_abs.specs.Trees.{Naming, tree, trees, node_depth, depths, HasPartsBelow, IsTable}
 use Rattle.fac_abs.proofs.InTurnLemmas.{in_turn_length, in_turn_append, in_turn_early, in_turn_at, fits_push, fits_at}
+use Rattle.fac_abs.proofs.StackLemmas.{map_push}
 use Rattle.std.proofs.Math.ListN.{get_or-map}
 
 module _ (N : Naming) where
   -- a node's mark depends on its parts alone
-  tree_alike : (n : Node) (xs ys : List Mark) → HasPartsBelow (length xs) n → ((k : ℕ) → k < length xs → get_or ys k any ≡ get_or xs k any) → tree N xs n ≡ tree N ys n
+  pub tree_alike : (n : Node) (xs ys : List Mark) → HasPartsBelow (length xs) n → ((k : ℕ) → k < length xs → get_or ys k any ≡ get_or xs k any) → tree N xs n ≡ tree N ys n
   tree_alike Any xs ys h e = refl
   tree_alike (Lit q) xs ys h e = refl
   tree_alike (Cur a b) xs ys h e = rw (e a h.0, e b h.1) refl
@@ -63,3 +64,12 @@ module _ (N : Naming) where
   step_depth made (Com a b) = rw (get_or-map mark_depth made a any, get_or-map mark_depth made b any) refl
   step_depth made (Wrd w) = refl
   step_depth made (Par k) = refl
+
+  depths_from : (ns : List Node) (made : List Mark) → in_turn node_depth ns (map mark_depth made) ≡ map mark_depth (in_turn (tree N) ns made)
+  depths_from [] made = refl
+  depths_from (n ∷ ns) made =
+      ap (λ (d : ℕ). in_turn node_depth ns (map mark_depth made ++ d ∷ [])) (sym (step_depth made n)) ∙ ap (in_turn node_depth ns) (sym (map_push mark_depth made (tree N made n))) ∙ depths_from ns (made ++ tree N made n ∷ [])
+
+  -- the depths that are kept are those of the marks
+  pub depths_are : (ns : List Node) → depths ns ≡ map mark_depth (trees N ns)
+  depths_are ns = depths_from ns []
