@@ -1,5 +1,6 @@
 pub mod EqualMarks
 pub mod InTurnLemmas
+pub mod LimitLemmas
 pub mod MoveLemmas
 pub mod NodeEquality
 pub mod SeenLemmas

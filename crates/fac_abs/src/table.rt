@@ -9,9 +9,9 @@ ghost use Rattle.fac_abs.specs.Trees.{Naming, tree, trees, node_depth, depths, H
 ghost use Rattle.fac_abs.specs.Seen.{mark_of, stack_of, IsMark, IsStack, Grows};
 ghost use Rattle.fac_abs.specs.Promises.{IsMarkOf, IsStackOf, IsStackWhere, IsNodeOf, HasTopWhere, IsJoinedWhere};
 
+use crate::Node;
 use crate::cells::Cells;
 use crate::nodes::Nodes;
-use crate::Node;
 use fac_lang::Memory;
 use std::alloc::Global;
 use std::marker::Model;
