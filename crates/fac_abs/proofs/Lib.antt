@@ -1,3 +1,4 @@
+pub mod CallerLemmas
 pub mod EqualMarks
 pub mod InTurnLemmas
 pub mod LimitLemmas

@@ -256,3 +256,15 @@ module _ {E : Type 0} where
   pub shuffle_by : (ns : List Node) (ss ts : List (List ℕ)) (s row : ℕ) (r : Result (Option ℕ) E) → IfOk r (λ o. IsWhere ts o (moved (moves (shuffle_numbered row)) (get_or ss s []))) → IsTable ns → are_below (length ns) (get_or ss s []) ≡ true → IfOk r (λ o. IsStackWhere (seen ns ts) o (λ N. moved (moves (shuffle_numbered row)) (stack_of N (seen ns ss) s)))
   shuffle_by ns ss ts s row r f t low =
       where_by ns ss ts (moved (moves (shuffle_numbered row)) (get_or ss s [])) (λ N. moved (moves (shuffle_numbered row)) (stack_of N (seen ns ss) s)) (λ ys e. moved_below (length ns) (shuffle_numbered row) (get_or ss s []) ys (below_is 0 (length ns) t.some) low e) (λ N. ap (moved (moves (shuffle_numbered row))) (stack_reads N (seen ns ss) s) ∙ moved_map (mark_of N (seen ns ss)) (shuffle_numbered row) (get_or ss s [])) r f
+
+-- two tests that hold together are one
+one_test : (a b : Bool) → (a ≡ true → b ≡ true) → (b ≡ true → a ≡ true) → a ≡ b
+one_test true b f g = sym (f refl)
+one_test false true f g = g refl
+one_test false false f g = refl
+
+-- numbers are equal where their marks are
+pub same_numbers : (N : Naming) (ns : List Node) (ss : List (List ℕ)) → IsTable ns → (a b : ℕ) → a < length ns → b < length ns → nat_eq a b ≡ mark_eq (mark_of N (seen ns ss) a) (mark_of N (seen ns ss) b)
+same_numbers N ns ss t a b h g =
+    let f : ℕ → Mark = mark_of N (seen ns ss) in
+    one_test (nat_eq a b) (mark_eq (f a) (f b)) (λ e. ap (λ (k : ℕ). mark_eq (f a) (f k)) (sym (eqb-true a b e)) ∙ mark_itself (f a)) (λ e. eq-eqb a b (one_number N ns t a b h g (sym (mark_reads N (seen ns ss) a) ∙ mark_same (f a) (f b) e ∙ mark_reads N (seen ns ss) b)))

@@ -1,6 +1,7 @@
 //! Stacks of marks, which share what lies below.
 ghost use Rattle.std.specs.Prelude.{◌≡◌, ◌∷◌, ◌++◌, ◌<◌, ℕ, [], length, get_or, map, Some, None, IfOk, OnErr};
 ghost use Rattle.fac_lang.specs.Primitives.{moves};
+ghost use Rattle.fac_lang.specs.Texts.{Mark};
 ghost use Rattle.fac_abs.specs.InTurn.{heaped, under, zeros, needs, arranged, moved, joined_number, joined_numbers};
 ghost use Rattle.fac_abs.specs.Keeping.{Keeps, Is, Uncovers, IsWhere, Joins, shuffle_numbered};
 
@@ -178,7 +179,7 @@ impl Cells {
         ensures keeps { Keeps self.old self.new }
         ensures made { IfOk result (λ o. IsWhere self.new o (moved (moves (shuffle_numbered row)) (get_or self.old stack []))) }
     {
-        let count = shuffle_needs(row);
+        let count = needed(row);
         let Some((z, under_one)) = self.pop(stack) else {
             return Ok(None);
         };
@@ -250,8 +251,8 @@ impl Cells {
     }
 }
 
-/// How many values the shuffle with this number takes, where a number past the last is that of `drop`.
-pub fn shuffle_needs(row: u32) -> u32
+// How many values the shuffle with this number takes.
+fn needed(row: u32) -> u32
     ensures { result ≡ needs (moves {A = ℕ} (shuffle_numbered row)) }
 {
     match row {
@@ -260,6 +261,13 @@ pub fn shuffle_needs(row: u32) -> u32
         4 | 5 | 6 | 9 | 12 | 13 | 14 | 15 => 3,
         _ => 1,
     }
+}
+
+/// How many values the shuffle with this number takes, where a number past the last is that of `drop`.
+pub fn shuffle_needs(row: u32) -> u32
+    ensures { result ≡ needs (moves {A = Mark} (shuffle_numbered row)) }
+{
+    needed(row)
 }
 
 // A number that two agree on, else 0.

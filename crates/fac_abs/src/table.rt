@@ -4,7 +4,7 @@ ghost use Rattle.fac_lang.specs.Texts.{any, lit_mark, wrd_mark, par_mark};
 ghost use Rattle.fac_lang.specs.Primitives.{moves};
 ghost use Rattle.fac_abs.specs.InTurn.{under, moved};
 ghost use Rattle.fac_abs.specs.Keeping.{shuffle_numbered};
-ghost use Rattle.fac_abs.specs.Marks.{mark_depth, is_callable, curried_mark, composed_mark, unknowns};
+ghost use Rattle.fac_abs.specs.Marks.{mark_eq, mark_depth, is_callable, curried_mark, composed_mark, unknowns};
 ghost use Rattle.fac_abs.specs.Trees.{Naming, tree, trees, node_depth, depths, HasPartsBelow};
 ghost use Rattle.fac_abs.specs.Seen.{mark_of, stack_of, IsMark, IsStack, Grows};
 ghost use Rattle.fac_abs.specs.Promises.{IsMarkOf, IsStackOf, IsStackWhere, IsNodeOf, HasTopWhere, IsJoinedWhere};
@@ -125,6 +125,16 @@ impl Marks {
             Node::Wrd(_) => false,
             Node::Par(_) => true,
         }
+    }
+
+    /// Whether two marks are the same.
+    pub fn same(&self, a: u32, b: u32) -> bool
+        requires first { IsMark self.now a }
+        requires second { IsMark self.now b }
+        ensures { (N : Naming) → result ≡ mark_eq (mark_of N self.now a) (mark_of N self.now b) }
+    {
+        let _first = self.nodes.first();
+        a == b
     }
 
     /// The mark of what `curry` makes of a value with the mark `mark` and a callable with the mark `callable`.
