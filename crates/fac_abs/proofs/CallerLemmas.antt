@@ -1,14 +1,14 @@
 -- What callers cite of marks and stacks.
-use Rattle.std.proofs.Common.{◌≡◌, ℕ, zero, suc, ◌<◌, ◌≤◌, List, [], ◌∷◌, Option, Some, None, option_map, length, drop, slice_get, get_or, refl, sym, ap, subst, ◌∙◌, arith}
+use Rattle.std.proofs.Common.{◌≡◌, ℕ, zero, suc, ◌<◌, ◌≤◌, List, [], ◌∷◌, Some, None, option_map, length, drop, slice_get, get_or, refl, sym, ap, ◌∙◌, arith}
 use Rattle.std.proofs.lemmas.Option.{get_or_from_slice_get}
 use Rattle.fac_lang.specs.Texts.{Mark, any}
-use Rattle.fac_lang.specs.Primitives.{Moves, moves1, moves2, moves3, moves, Shuffle, s_drop, shuffles}
+use Rattle.fac_lang.specs.Primitives.{Moves, moves1, moves2, moves3, Shuffle, s_drop, shuffles}
 use Rattle.fac_abs.specs.InTurn.{heaped, under, needs, moved}
 use Rattle.fac_abs.specs.Keeping.{shuffle_numbered}
 use Rattle.fac_abs.specs.Marks.{popped, piled}
 use Rattle.fac_abs.specs.declared.node.Node.{Node}
 use Rattle.fac_abs.specs.Trees.{Naming, trees}
-use Rattle.fac_abs.specs.Seen.{MarksSeen, mark_of, stack_of, IsMark, IsStack, Grows}
+use Rattle.fac_abs.specs.Seen.{MarksSeen, Grows}
 use Rattle.fac_abs.specs.Promises.{IsMarkOf, IsStackOf}
 use Rattle.fac_abs.proofs.SeenLemmas.{mark_within, within_mark, mark_reads}
 

@@ -1,5 +1,6 @@
 pub mod CallerLemmas
 pub mod EqualMarks
+mod ExamplesOfMarks
 pub mod InTurnLemmas
 pub mod LimitLemmas
 pub mod MoveLemmas

@@ -1,12 +1,11 @@
 -- Marks within the limit of depth.
-use Rattle.std.proofs.Common.{◌≡◌, ℕ, suc, ◌<◌, ◌≤◌, max, Bool, true, false, nat_le, Result, Ok, Err, IfOk, refl, sym, ap, ◌∙◌, arith, List, get_or}
+use Rattle.std.proofs.Common.{◌≡◌, ℕ, suc, ◌<◌, max, Bool, true, false, nat_le, Result, Ok, Err, IfOk, refl, ap, ◌∙◌, arith}
 use Rattle.std.proofs.lemmas.Bool.{le-leb}
 use Rattle.fac_lang.specs.Texts.{Mark, any, cur_mark, com_mark}
-use Rattle.fac_abs.specs.declared.node.Node.{Node}
-use Rattle.fac_abs.specs.declared.node.Node.TheVariants.{Any, Lit, Cur, Com, Wrd, Par}
+use Rattle.fac_abs.specs.declared.node.Node.TheVariants.{Cur, Com}
 use Rattle.fac_abs.specs.Marks.{mark_depth, is_callable, limited, curried_mark, composed_mark}
 use Rattle.fac_abs.specs.Trees.{Naming, tree, trees}
-use Rattle.fac_abs.specs.Seen.{MarksSeen, mark_of, IsMark}
+use Rattle.fac_abs.specs.Seen.{MarksSeen, mark_of}
 use Rattle.fac_abs.specs.Promises.{IsMarkOf}
 use Rattle.fac_abs.proofs.SeenLemmas.{both}
 

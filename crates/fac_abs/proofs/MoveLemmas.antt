@@ -1,5 +1,5 @@
 -- Marks move as their numbers do.
-use Rattle.std.proofs.Common.{◌≡◌, ℕ, zero, suc, ◌<◌, ℤ, pos, negsuc, List, [], ◌∷◌, Bool, true, false, cond, ◌&&◌, nat_lt, nat_eq, Option, Some, None, Result, Ok, Err, IfOk, option_map, length, get_or, map, refl, sym, ap, ◌∙◌, arith, eq-eqb}
+use Rattle.std.proofs.Common.{◌≡◌, ℕ, zero, suc, ◌<◌, ℤ, pos, negsuc, List, [], ◌∷◌, Bool, true, false, cond, nat_lt, nat_eq, Option, Some, None, Result, Ok, Err, IfOk, option_map, length, get_or, map, refl, sym, ap, ◌∙◌, arith, eq-eqb}
 use Rattle.std.specs.Str.{bytes_eq}
 use Rattle.std.proofs.lemmas.Bool.{eqb-true}
 use Rattle.std.proofs.lemmas.Slice.Eq.{bytes_eq-Decides}
@@ -10,10 +10,10 @@ use Rattle.fac_lang.specs.Primitives.{Moves, moves1, moves2, moves3, moves, Shuf
 use Rattle.fac_abs.specs.declared.node.Node.{Node}
 use Rattle.fac_abs.specs.InTurn.{heaped, under, zeros, needs, arranged, moved, joined_number, joined_numbers}
 use Rattle.fac_abs.specs.Keeping.{IsWhere, Is, Joins, shuffle_numbered}
-use Rattle.fac_abs.specs.Marks.{int_eq, token_eq, tokens_eq, mark_eq, join_mark, join_marks, unknowns, popped, piled}
-use Rattle.fac_abs.specs.Trees.{Naming, trees, IsTable}
-use Rattle.fac_abs.specs.Seen.{MarksSeen, mark_of, stack_of, are_below, IsStack}
-use Rattle.fac_abs.specs.Promises.{IsStackOf, IsStackWhere, IsJoined, IsJoinedWhere}
+use Rattle.fac_abs.specs.Marks.{int_eq, token_eq, tokens_eq, mark_eq, join_mark, join_marks, unknowns}
+use Rattle.fac_abs.specs.Trees.{Naming, IsTable}
+use Rattle.fac_abs.specs.Seen.{mark_of, stack_of, are_below}
+use Rattle.fac_abs.specs.Promises.{IsStackOf, IsStackWhere, IsJoinedWhere}
 use Rattle.fac_abs.proofs.EqualMarks.{and_first, and_second, never_true, mark_same}
 use Rattle.fac_abs.proofs.TreeLemmas.{one_number}
 use Rattle.fac_abs.proofs.SeenLemmas.{seen, is_below, below_is, both, within_stack, mark_reads, stack_reads, marks_stay, first_mark, made_stack, stack_by}

@@ -1,5 +1,5 @@
 -- The test of equality of nodes.
-use Rattle.std.proofs.Common.{◌≡◌, ℕ, zero, suc, ◌+◌, ◌<◌, cond, Bool, true, false, ◌&&◌, List, [], ◌∷◌, Option, Some, None, position, length, get_or, refl, sym, ap, ◌∙◌, arith, slice_get, option_map, nat_eq, eq-eqb, is_some}
+use Rattle.std.proofs.Common.{◌≡◌, ℕ, zero, suc, ◌+◌, ◌<◌, cond, Bool, true, false, List, [], ◌∷◌, Option, Some, None, position, length, get_or, refl, sym, ap, ◌∙◌, arith, nat_eq, eq-eqb, is_some}
 use Rattle.std.proofs.lemmas.Bool.{eqb-true}
 use Rattle.std.proofs.lemmas.List.Quantifiers.{position-Some}
 use Rattle.std.specs.List.{position_from}

@@ -1,18 +1,17 @@
 -- Marks and stacks by their numbers.
-use Rattle.std.proofs.Common.{◌≡◌, ℕ, zero, suc, ◌+◌, ◌<◌, ◌≤◌, max, List, [], ◌∷◌, ◌++◌, Bool, true, false, cond, ◌&&◌, nat_lt, nat_eq, nat_le, Option, Some, None, Result, Ok, Err, IfOk, OnErr, option_map, length, get_or, map, refl, sym, ap, subst, ◌∙◌, arith, length-append, eqb}
+use Rattle.std.proofs.Common.{◌≡◌, ℕ, ◌<◌, ◌≤◌, List, [], ◌∷◌, ◌++◌, Bool, true, ◌&&◌, nat_lt, Option, Some, None, Result, Ok, Err, IfOk, OnErr, length, get_or, map, refl, sym, ap, subst, ◌∙◌, arith, length-append}
 use Rattle.std.proofs.lemmas.Bool.{ltb-true, lt-ltb}
 use Rattle.std.proofs.Math.ListN.{get_or-map}
-use Rattle.fac_lang.specs.Texts.{Text, Literal, Mark, any, lit_mark, cur_mark, com_mark, wrd_mark, par_mark}
+use Rattle.fac_lang.specs.Texts.{Mark, any, cur_mark, com_mark}
 use Rattle.fac_abs.specs.declared.node.Node.{Node}
 use Rattle.fac_abs.specs.declared.node.Node.TheVariants.{Any, Lit, Cur, Com, Wrd, Par}
-use Rattle.fac_abs.specs.InTurn.{in_turn, FitsInTurn}
 use Rattle.fac_abs.specs.Interning.{Interns}
-use Rattle.fac_abs.specs.Keeping.{Keeps, Is, Uncovers, IsWhere, Joins}
+use Rattle.fac_abs.specs.Keeping.{Keeps, Is, Uncovers}
 use Rattle.fac_abs.specs.Marks.{mark_depth}
-use Rattle.fac_abs.specs.Trees.{Naming, tree, trees, node_depth, depths, HasPartsBelow, IsTable}
+use Rattle.fac_abs.specs.Trees.{Naming, tree, trees, depths, HasPartsBelow, IsTable}
 use Rattle.fac_abs.specs.Seen.{MarksSeen, mark_of, numbers_of, stack_of, are_below, is_mark, is_stack, IsMark, IsStack, Grows}
-use Rattle.fac_abs.specs.Promises.{IsMarkOf, IsStackOf, IsStackWhere, IsMadeOf, IsNodeOf, HasTop, HasTopWhere, IsJoined, IsJoinedWhere}
-use Rattle.fac_abs.proofs.EqualMarks.{and_first, and_second, never_true}
+use Rattle.fac_abs.specs.Promises.{IsMarkOf, IsStackOf, IsMadeOf, IsNodeOf, HasTopWhere}
+use Rattle.fac_abs.proofs.EqualMarks.{and_first, and_second}
 use Rattle.fac_abs.proofs.InTurnLemmas.{in_turn_append, in_turn_early, fits_at}
 use Rattle.fac_abs.proofs.TreeLemmas.{trees_length, tree_alike, tree_at, depths_are}
 

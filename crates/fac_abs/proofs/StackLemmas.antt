@@ -1,11 +1,11 @@
 -- Stacks that cells make.
-use Rattle.std.proofs.Common.{◌≡◌, ℕ, zero, suc, ◌+◌, ◌-◌, ◌<◌, ◌≤◌, List, [], ◌∷◌, ◌++◌, Bool, true, false, cond, nat_eq, Option, Some, None, length, get_or, map, drop, refl, sym, ap, subst, ◌∙◌, arith, length-append, append_assoc}
+use Rattle.std.proofs.Common.{◌≡◌, ℕ, zero, suc, ◌+◌, ◌-◌, ◌<◌, ◌≤◌, List, [], ◌∷◌, ◌++◌, None, length, get_or, map, refl, sym, ap, subst, ◌∙◌, arith, length-append}
 use Rattle.std.proofs.lemmas.List.{get_or_append_left, get_or-map}
 use Rattle.std.proofs.Math.Seq.{get_or-append_seam}
-use Rattle.fac_lang.specs.Primitives.{Moves, moves1, moves2, moves3, s_drop, shuffles}
+use Rattle.fac_lang.specs.Primitives.{s_drop, shuffles}
 use Rattle.fac_abs.specs.declared.cells.Cell.{Cell}
-use Rattle.fac_abs.specs.InTurn.{in_turn, FitsInTurn, heaped, under, zeros, needs, arranged, moved, joined_number, joined_numbers}
-use Rattle.fac_abs.specs.Keeping.{Keeps, Is, Uncovers, IsWhere, Joins}
+use Rattle.fac_abs.specs.InTurn.{under, zeros, joined_numbers}
+use Rattle.fac_abs.specs.Keeping.{Keeps, Is}
 use Rattle.fac_abs.specs.Stacks.{covered, stacks_of, said_height, TellHeights, LiesOnEarlier, LieOnEarlier}
 use Rattle.fac_abs.proofs.InTurnLemmas.{in_turn_length, in_turn_append, in_turn_early, in_turn_at, fits_push, fits_at}
 

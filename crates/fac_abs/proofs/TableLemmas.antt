@@ -1,11 +1,10 @@
 -- The table of marks grows.
-use Rattle.std.proofs.Common.{◌≡◌, ℕ, zero, suc, ◌+◌, ◌<◌, ◌≤◌, ◌⊎◌, inl, inr, List, [], ◌∷◌, ◌++◌, Result, Ok, Err, IfOk, OnErr, length, get_or, map, refl, sym, ap, subst, ◌∙◌, arith, length-append, append-nil}
+use Rattle.std.proofs.Common.{◌≡◌, ℕ, zero, suc, ◌+◌, ◌<◌, ◌⊎◌, inl, inr, List, [], ◌∷◌, ◌++◌, Result, Ok, Err, IfOk, OnErr, length, get_or, refl, sym, ap, subst, ◌∙◌, arith, length-append, append-nil}
 use Rattle.std.proofs.lemmas.List.{get_or_append_left}
 use Rattle.std.proofs.Math.Seq.{get_or-append_seam}
 use Rattle.std.specs.Map.{keys_of, values_of}
 use Rattle.fac_abs.specs.declared.node.Node.{Node}
-use Rattle.fac_abs.specs.declared.node.Node.TheVariants.{Any, Lit, Cur, Com, Wrd, Par}
-use Rattle.fac_abs.specs.InTurn.{in_turn, FitsInTurn}
+use Rattle.fac_abs.specs.declared.node.Node.TheVariants.{Any}
 use Rattle.fac_abs.specs.Interning.{Numbers, there, added, Interns}
 use Rattle.fac_abs.specs.Trees.{node_depth, depths, HasPartsBelow, IsTable}
 use Rattle.fac_abs.proofs.InTurnLemmas.{in_turn_append, fits_push}

@@ -1,12 +1,12 @@
 -- Numbers of a table stand for different marks.
-use Rattle.std.proofs.Common.{◌≡◌, ℕ, zero, suc, ◌+◌, ◌<◌, ◌≤◌, max, List, [], ◌∷◌, ◌++◌, length, get_or, map, refl, sym, ap, subst, ◌∙◌, arith}
-use Rattle.fac_lang.specs.Texts.{Text, Literal, Mark, any, lit_mark, cur_mark, com_mark, wrd_mark, par_mark}
+use Rattle.std.proofs.Common.{◌≡◌, ℕ, zero, suc, ◌<◌, List, [], ◌∷◌, ◌++◌, length, get_or, map, refl, sym, ap, ◌∙◌, arith}
+use Rattle.fac_lang.specs.Texts.{Mark, any}
 use Rattle.fac_abs.specs.declared.node.Node.{Node}
 use Rattle.fac_abs.specs.declared.node.Node.TheVariants.{Any, Lit, Cur, Com, Wrd, Par}
 use Rattle.fac_abs.specs.InTurn.{in_turn, FitsInTurn}
 use Rattle.fac_abs.specs.Marks.{mark_depth}
 use Rattle.fac_abs.specs.Trees.{Naming, tree, trees, node_depth, depths, HasPartsBelow, IsTable}
-use Rattle.fac_abs.proofs.InTurnLemmas.{in_turn_length, in_turn_append, in_turn_early, in_turn_at, fits_push, fits_at}
+use Rattle.fac_abs.proofs.InTurnLemmas.{in_turn_length, in_turn_at, fits_at}
 use Rattle.fac_abs.proofs.StackLemmas.{map_push}
 use Rattle.std.proofs.Math.ListN.{get_or-map}
 

@@ -1,5 +1,5 @@
 -- Lists that are made from left to right.
-use Rattle.std.specs.Prelude.{ℕ, zero, suc, List, [], ◌∷◌, ◌++◌, Option, Some, None, get_or, length, ◌≡◌, ◌<◌, ◌≤◌, cond, nat_eq}
+use Rattle.std.specs.Prelude.{ℕ, zero, suc, List, [], ◌∷◌, ◌++◌, Option, Some, None, cond, nat_eq}
 use Rattle.fac_lang.specs.Primitives.{Moves, moves1, moves2, moves3}
 
 -- Each element of a list makes one value from the values before it.

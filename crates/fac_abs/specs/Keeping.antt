@@ -1,5 +1,5 @@
 -- What calls promise of stacks of numbers.
-use Rattle.std.specs.Prelude.{ℕ, zero, suc, List, [], ◌∷◌, ◌++◌, Option, Some, None, Result, Ok, Err, get_or, length, true, false, nat_eq, ◌≡◌, ◌<◌, ◌≤◌}
+use Rattle.std.specs.Prelude.{ℕ, List, [], ◌∷◌, Option, Some, None, get_or, length, true, false, nat_eq, ◌≡◌, ◌<◌, ◌≤◌}
 use Rattle.fac_abs.specs.InTurn.{joined_numbers}
 use Rattle.fac_lang.specs.Primitives.{Shuffle, s_drop, shuffles}
 

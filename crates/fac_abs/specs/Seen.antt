@@ -1,9 +1,7 @@
 -- Marks and stacks of marks, as contracts see them.
-use Rattle.std.specs.Prelude.{ℕ, List, [], ◌∷◌, Bool, true, false, ◌&&◌, nat_lt, nat_eq, Option, Some, None, get_or, length, map, ◌≡◌, ◌<◌}
-use Rattle.fac_lang.specs.Texts.{Mark, any, lit_mark, cur_mark, com_mark, wrd_mark, par_mark}
+use Rattle.std.specs.Prelude.{ℕ, List, [], ◌∷◌, Bool, true, ◌&&◌, nat_lt, get_or, length, map, ◌≡◌}
+use Rattle.fac_lang.specs.Texts.{Mark, any}
 use Rattle.fac_abs.specs.declared.node.Node.{Node}
-use Rattle.fac_abs.specs.declared.node.Node.TheVariants.{Any, Lit, Cur, Com, Wrd, Par}
-use Rattle.fac_abs.specs.Marks.{join_marks}
 use Rattle.fac_abs.specs.Trees.{Naming, trees}
 
 -- Nodes, of which each stands for the mark with its number, and stacks with the top first, of which each stands for the stack with its number.

@@ -1,6 +1,5 @@
 -- Stacks of numbers, each by its own number.
-use Rattle.std.specs.Prelude.{ℕ, zero, suc, List, [], ◌∷◌, ◌++◌, Option, Some, None, Result, Ok, Err, get_or, length, map, ◌≡◌, ◌<◌, ◌≤◌}
-use Rattle.fac_lang.specs.Primitives.{Shuffle, s_drop, shuffles}
+use Rattle.std.specs.Prelude.{ℕ, List, [], ◌∷◌, get_or, length, map, ◌≡◌, ◌<◌}
 use Rattle.fac_abs.specs.declared.cells.Cell.{Cell}
 use Rattle.fac_abs.specs.InTurn.{in_turn, FitsInTurn}
 

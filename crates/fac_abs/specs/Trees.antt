@@ -1,5 +1,5 @@
 -- The marks that nodes stand for.
-use Rattle.std.specs.Prelude.{ℕ, zero, suc, max, List, [], ◌∷◌, ◌++◌, Bool, true, false, ◌&&◌, nat_lt, get_or, length, ◌≡◌, ◌<◌}
+use Rattle.std.specs.Prelude.{ℕ, suc, max, List, [], get_or, length, ◌≡◌, ◌<◌}
 use Rattle.fac_lang.specs.Texts.{Text, Literal, Mark, any, lit_mark, cur_mark, com_mark, wrd_mark, par_mark}
 use Rattle.fac_abs.specs.declared.node.Node.{Node}
 use Rattle.fac_abs.specs.declared.node.Node.TheVariants.{Any, Lit, Cur, Com, Wrd, Par}

@@ -1,4 +1,4 @@
-use Rattle.std.proofs.Common.{ℕ, List, ◌≡◌, IfOk, length, subst, sym}
+use Rattle.std.proofs.Common.{List, ◌≡◌, IfOk, length, subst, sym}
 use Rattle.std.specs.Map.{keys_of}
 use Rattle.fac_abs.specs.declared.node.Node.{Node}
 use Rattle.fac_abs.specs.Interning.{Interns}

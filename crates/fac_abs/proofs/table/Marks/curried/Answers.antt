@@ -1,4 +1,4 @@
-use Rattle.std.proofs.Common.{◌≡◌, ◌<◌, true, subst, sym, ◌∙◌, arith}
+use Rattle.std.proofs.Common.{◌≡◌, ◌<◌, true, sym, ◌∙◌, arith}
 use Rattle.fac_abs.specs.declared.node.Node.TheVariants.{Cur}
 use Rattle.fac_abs.specs.Marks.{mark_depth, is_callable, curried_mark}
 use Rattle.fac_abs.specs.Trees.{Naming, tree, trees}

@@ -1,4 +1,4 @@
-use Rattle.std.proofs.Common.{Bool, nat_eq, ap, ◌∙◌, ◌≡◌}
+use Rattle.std.proofs.Common.{ap, ◌∙◌}
 use Rattle.fac_abs.specs.Marks.{mark_eq}
 use Rattle.fac_abs.specs.Seen.{MarksSeen, mark_of}
 use Rattle.fac_abs.proofs.SeenLemmas.{mark_in}
