@@ -1,1 +1,11 @@
+pub mod CallerLemmas
 pub mod EqualMarks
+mod ExamplesOfMarks
+pub mod InTurnLemmas
+pub mod LimitLemmas
+pub mod MoveLemmas
+pub mod NodeEquality
+pub mod SeenLemmas
+pub mod StackLemmas
+pub mod TableLemmas
+pub mod TreeLemmas

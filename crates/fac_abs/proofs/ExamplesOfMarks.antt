@@ -1,0 +1,98 @@
+-- Small tables of marks and stacks.
+use Rattle.std.proofs.Common.{◌≡◌, ℕ, List, [], ◌∷◌, true, false, Some, None, refl, ap}
+use Rattle.fac_lang.specs.Texts.{end, Literal, Mark, any, lit_mark, cur_mark, com_mark, wrd_mark, par_mark}
+use Rattle.fac_lang.specs.Primitives.{moves, s_rot, s_over}
+use Rattle.fac_abs.specs.declared.cells.Cell.{Cell}
+use Rattle.fac_abs.specs.declared.node.Node.TheVariants.{Any, Lit, Cur, Com}
+use Rattle.fac_abs.specs.InTurn.{under, moved, zeros, joined_numbers}
+use Rattle.fac_abs.specs.Marks.{curried_mark, composed_mark}
+use Rattle.fac_abs.specs.Stacks.{stacks_of}
+use Rattle.fac_abs.specs.Trees.{Naming, depths}
+use Rattle.fac_abs.specs.Seen.{MarksSeen, mark_of, numbers_of, stack_of, is_mark, is_stack}
+
+-- template k is literal k of word 0, and empty
+abbrev sample : Naming
+sample = record {
+  literal = λ k. (record { word = 0; index = k }, end);
+  apart = λ j k e. ap (λ (l : Literal). l.index) e;
+  unmarked = λ k. refl;
+}
+
+abbrev five : Mark
+five = lit_mark (record { word = 0; index = 5 }) end
+
+-- nothing known, a literal, what `curry` makes of these two, and what `compose` makes of that twice; and four cells
+abbrev cells : List Cell
+cells = record { mark = 1; below = 0; height = 1 } ∷ record { mark = 3; below = 1; height = 2 } ∷ record { mark = 2; below = 1; height = 2 } ∷ record { mark = 0; below = 3; height = 3 } ∷ []
+
+abbrev table : MarksSeen
+table = record { nodes = Any ∷ Lit 5 ∷ Cur 0 1 ∷ Com 2 2 ∷ []; stacks = stacks_of cells }
+
+stacks_share_what_lies_below : stacks_of cells ≡ [] ∷ (1 ∷ []) ∷ (3 ∷ 1 ∷ []) ∷ (2 ∷ 1 ∷ []) ∷ (0 ∷ 2 ∷ 1 ∷ []) ∷ []
+stacks_share_what_lies_below = refl
+
+first_is_any : mark_of sample table 0 ≡ any
+unfolding mark_of
+first_is_any = refl
+
+parts_are_trees : mark_of sample table 3 ≡ com_mark (cur_mark any five) (cur_mark any five)
+unfolding mark_of
+parts_are_trees = refl
+
+no_mark_is_any : mark_of sample table 4 ≡ any
+unfolding mark_of
+no_mark_is_any = refl
+
+depths_by_parts : depths table.nodes ≡ 0 ∷ 0 ∷ 1 ∷ 2 ∷ []
+depths_by_parts = refl
+
+top_first : stack_of sample table 4 ≡ any ∷ cur_mark any five ∷ five ∷ []
+unfolding stack_of numbers_of mark_of
+top_first = refl
+
+no_stack_is_empty : stack_of sample table 5 ≡ []
+unfolding stack_of numbers_of mark_of
+no_stack_is_empty = refl
+
+is_there : is_mark table 3 ≡ true
+unfolding is_mark
+is_there = refl
+
+is_not_there : is_mark table 4 ≡ false
+unfolding is_mark
+is_not_there = refl
+
+stack_is_there : is_stack table 4 ≡ true
+unfolding is_stack numbers_of
+stack_is_there = refl
+
+stack_is_not_there : is_stack table 5 ≡ false
+unfolding is_stack numbers_of
+stack_is_not_there = refl
+
+-- equal marks are kept
+numbers_joined : joined_numbers (3 ∷ 2 ∷ 1 ∷ []) (3 ∷ 1 ∷ 1 ∷ []) ≡ 3 ∷ 0 ∷ 1 ∷ []
+numbers_joined = refl
+
+unknown_values : zeros 2 (7 ∷ []) ≡ 0 ∷ 0 ∷ 7 ∷ []
+unknown_values = refl
+
+what_lies_under : under {A = ℕ} 2 (7 ∷ 8 ∷ 9 ∷ []) ≡ Some (9 ∷ [])
+what_lies_under = refl
+
+nothing_lies_under : under {A = ℕ} 2 (7 ∷ []) ≡ None
+nothing_lies_under = refl
+
+-- the third from the top comes to the top
+rotated : moved {A = ℕ} (moves s_rot) (3 ∷ 2 ∷ 1 ∷ 0 ∷ []) ≡ Some (1 ∷ 3 ∷ 2 ∷ 0 ∷ [])
+rotated = refl
+
+too_few : moved {A = ℕ} (moves s_over) (1 ∷ []) ≡ None
+too_few = refl
+
+-- what `curry` makes of no callable is unknown
+not_curried : curried_mark five (wrd_mark 3) ≡ any
+not_curried = refl
+
+composed_in_order : composed_mark five (par_mark 1) ≡ com_mark five (par_mark 1)
+composed_in_order = refl

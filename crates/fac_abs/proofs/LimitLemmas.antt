@@ -1,0 +1,36 @@
+-- Marks within the limit of depth.
+use Rattle.std.proofs.Common.{◌≡◌, ℕ, suc, ◌<◌, max, Bool, true, false, nat_le, Result, Ok, Err, IfOk, refl, ap, ◌∙◌, arith}
+use Rattle.std.proofs.lemmas.Bool.{le-leb}
+use Rattle.fac_lang.specs.Texts.{Mark, any, cur_mark, com_mark}
+use Rattle.fac_abs.specs.declared.node.Node.TheVariants.{Cur, Com}
+use Rattle.fac_abs.specs.Marks.{mark_depth, is_callable, limited, curried_mark, composed_mark}
+use Rattle.fac_abs.specs.Trees.{Naming, tree, trees}
+use Rattle.fac_abs.specs.Seen.{MarksSeen, mark_of}
+use Rattle.fac_abs.specs.Promises.{IsMarkOf}
+use Rattle.fac_abs.proofs.SeenLemmas.{both}
+
+within_limit : (m n : ℕ) → m < 64 → n < 64 → nat_le (suc (max m n)) 64 ≡ true
+within_limit m n h g = le-leb (suc (max m n)) 64 (omega arith)
+
+limited_kept : (m : Mark) → nat_le (mark_depth m) 64 ≡ true → limited m ≡ m
+limited_kept m e = ap (λ (b : Bool). elim b [ true ↦ m | false ↦ any ]) e
+
+pub curried_kept : (a b : Mark) → is_callable b ≡ true → mark_depth a < 64 → mark_depth b < 64 → curried_mark a b ≡ cur_mark a b
+curried_kept a b e h g = ap (λ (c : Bool). elim c [ true ↦ limited (cur_mark a b) | false ↦ any ]) e ∙ limited_kept (cur_mark a b) (within_limit (mark_depth a) (mark_depth b) h g)
+
+pub composed_kept : (a b : Mark) → is_callable a ≡ true → is_callable b ≡ true → mark_depth a < 64 → mark_depth b < 64 → composed_mark a b ≡ com_mark a b
+composed_kept a b d e h g =
+    ap (λ (c : Bool). elim c [ true ↦ limited (com_mark a b) | false ↦ any ]) (both (is_callable a) (is_callable b) d e) ∙ limited_kept (com_mark a b) (within_limit (mark_depth a) (mark_depth b) h g)
+
+pub cur_reads : (N : Naming) (M : MarksSeen) (a b : ℕ) → tree N (trees N M.nodes) (Cur a b) ≡ cur_mark (mark_of N M a) (mark_of N M b)
+unfolding mark_of
+cur_reads N M a b = refl
+
+pub com_reads : (N : Naming) (M : MarksSeen) (a b : ℕ) → tree N (trees N M.nodes) (Com a b) ≡ com_mark (mark_of N M a) (mark_of N M b)
+unfolding mark_of
+com_reads N M a b = refl
+
+-- a mark that was made goes by another name
+pub renamed : {E : Type 0} (L : MarksSeen) (x y : Naming → Mark) → ((N : Naming) → x N ≡ y N) → (r : Result ℕ E) → IfOk r (λ k. IsMarkOf L k x) → IfOk r (λ k. IsMarkOf L k y)
+renamed L x y same (Ok k) f = record { valid = f.valid; is = λ N. f.is N ∙ same N }
+renamed L x y same (Err e) f = tt

@@ -1,0 +1,120 @@
+-- Stacks that cells make.
+use Rattle.std.proofs.Common.{◌≡◌, ℕ, zero, suc, ◌+◌, ◌-◌, ◌<◌, ◌≤◌, List, [], ◌∷◌, ◌++◌, None, length, get_or, map, refl, sym, ap, subst, ◌∙◌, arith, length-append}
+use Rattle.std.proofs.lemmas.List.{get_or_append_left, get_or-map}
+use Rattle.std.proofs.Math.Seq.{get_or-append_seam}
+use Rattle.fac_lang.specs.Primitives.{s_drop, shuffles}
+use Rattle.fac_abs.specs.declared.cells.Cell.{Cell}
+use Rattle.fac_abs.specs.InTurn.{under, zeros, joined_numbers}
+use Rattle.fac_abs.specs.Keeping.{Keeps, Is}
+use Rattle.fac_abs.specs.Stacks.{covered, stacks_of, said_height, TellHeights, LiesOnEarlier, LieOnEarlier}
+use Rattle.fac_abs.proofs.InTurnLemmas.{in_turn_length, in_turn_append, in_turn_early, in_turn_at, fits_push, fits_at}
+
+pub keeps_refl : (ss : List (List ℕ)) → Keeps ss ss
+keeps_refl ss = record { longer = omega arith; same = λ k h. refl }
+
+pub keeps_trans : (rs ss ts : List (List ℕ)) → Keeps rs ss → Keeps ss ts → Keeps rs ts
+keeps_trans rs ss ts f g =
+    let shorter = f.longer in
+    record { longer = omega (arith, f.longer, g.longer); same = λ k h. g.same k (omega (arith, f.longer)) ∙ f.same k h }
+
+pub keeps_push : (ss : List (List ℕ)) (xs : List ℕ) → Keeps ss (ss ++ xs ∷ [])
+keeps_push ss xs = record { longer = omega (arith, length-append ss (xs ∷ [])); same = λ k h. get_or_append_left ss (xs ∷ []) [] k h }
+
+pub is_push : (ss : List (List ℕ)) (xs : List ℕ) → Is (ss ++ xs ∷ []) (length ss) xs
+is_push ss xs = record { within = omega (arith, length-append ss (xs ∷ [])); marks_are = get_or-append_seam ss xs [] [] }
+
+pub stacks_length : (cells : List Cell) → length (stacks_of cells) ≡ suc (length cells)
+stacks_length cells = omega (arith, in_turn_length covered cells ([] ∷ []))
+
+pub stack_zero : (cells : List Cell) → get_or (stacks_of cells) 0 [] ≡ []
+stack_zero cells = in_turn_early covered cells ([] ∷ []) 0 [] (omega arith)
+
+covered_alike : (c : Cell) (xs ys : List (List ℕ)) → LiesOnEarlier (length xs) c → ((k : ℕ) → k < length xs → get_or ys k [] ≡ get_or xs k []) → covered xs c ≡ covered ys c
+covered_alike c xs ys h e = rw (e c.below h) refl
+
+module _ (d : Cell) (cells : List Cell) where
+  pub stack_at : (s : ℕ) → LieOnEarlier cells → 0 < s → s < suc (length cells) → get_or (stacks_of cells) s [] ≡ covered (stacks_of cells) (get_or cells (s - 1) d)
+  stack_at s f h l = in_turn_at covered LiesOnEarlier d [] covered_alike cells ([] ∷ []) (s - 1) s (omega arith) (omega arith) f
+
+  pub below_within : (s : ℕ) → LieOnEarlier cells → 0 < s → s < suc (length cells) → (get_or cells (s - 1) d).below < s
+  below_within s f h l = fits_at LiesOnEarlier cells 1 (s - 1) s d f (omega arith) (omega arith)
+
+  height_next : (k : ℕ) → TellHeights cells → k < length cells → (get_or cells k d).height ≡ length (get_or (stacks_of cells) (suc k) [])
+  height_next k f l =
+      sym (get_or-map said_height cells k d 0 l) ∙ ap (λ (hs : List ℕ). get_or hs (suc k) 0) f ∙ get_or-map length (stacks_of cells) (suc k) [] 0 (omega (arith, stacks_length cells))
+
+  pub height_at : (s : ℕ) → TellHeights cells → 0 < s → s < suc (length cells) → (get_or cells (s - 1) d).height ≡ length (get_or (stacks_of cells) s [])
+  height_at s f h l =
+      let next : suc (s - 1) ≡ s = omega arith in
+      height_next (s - 1) f (omega arith) ∙ ap (λ (k : ℕ). length (get_or (stacks_of cells) k [])) next
+
+pub map_push : {A B : Type 0} (f : A → B) (xs : List A) (x : A) → map f (xs ++ x ∷ []) ≡ map f xs ++ f x ∷ []
+map_push f [] x = refl
+map_push f (y ∷ xs) x = ap (λ t. f y ∷ t) (map_push f xs x)
+
+pub stacks_push : (cells : List Cell) (c : Cell) → stacks_of (cells ++ c ∷ []) ≡ stacks_of cells ++ covered (stacks_of cells) c ∷ []
+stacks_push cells c = in_turn_append covered cells (c ∷ []) ([] ∷ [])
+
+pub tell_push : (cells : List Cell) (c : Cell) → TellHeights cells → c.height ≡ suc (length (get_or (stacks_of cells) c.below [])) → TellHeights (cells ++ c ∷ [])
+tell_push cells c f e = ap (λ t. 0 ∷ t) (map_push said_height cells c) ∙ ap (λ t. t ++ c.height ∷ []) f ∙ ap (λ t. map length (stacks_of cells) ++ t ∷ []) e ∙ sym (map_push length (stacks_of cells) (covered (stacks_of cells) c)) ∙ ap (map length) (sym (stacks_push cells c))
+
+pub lie_push : (cells : List Cell) (c : Cell) → LieOnEarlier cells → c.below < suc (length cells) → LieOnEarlier (cells ++ c ∷ [])
+lie_push cells c f h = fits_push LiesOnEarlier cells 1 (suc (length cells)) c f (omega arith) h
+
+-- A read of a cell, where the stacks go by another name.
+module _ (d : Cell) (given cells : List Cell) (ss : List (List ℕ)) (s : ℕ) (e : given ≡ cells) (v : stacks_of cells ≡ ss) where
+  few : s < length ss → s < suc (length cells)
+  few h = let n : length (stacks_of cells) ≡ length ss = ap length v in omega (arith, stacks_length cells)
+
+  pub height_read : TellHeights cells → 0 < s → s < length ss → (get_or given (s - 1) d).height ≡ length (get_or ss s [])
+  height_read f h l = ap (λ (xs : List Cell). (get_or xs (s - 1) d).height) e ∙ height_at d cells s f h (few l) ∙ ap (λ (t : List (List ℕ)). length (get_or t s [])) v
+
+  read_at : LieOnEarlier cells → 0 < s → s < length ss → (let c : Cell = get_or cells (s - 1) d in (c.below < length ss) × (get_or ss s [] ≡ c.mark ∷ get_or ss c.below []))
+  read_at f h l =
+      let lower = below_within d cells s f h (few l) in
+      let c : Cell = get_or cells (s - 1) d in
+      (omega arith, sym (ap (λ (t : List (List ℕ)). get_or t s []) v) ∙ stack_at d cells s f h (few l) ∙ ap (λ (t : List (List ℕ)). c.mark ∷ get_or t c.below []) v)
+
+  pub pop_read : LieOnEarlier cells → 0 < s → s < length ss → (let c : Cell = get_or given (s - 1) d in (c.below < length ss) × (get_or ss s [] ≡ c.mark ∷ get_or ss c.below []))
+  pop_read f h l =
+      subst (λ (xs : List Cell). ((get_or xs (s - 1) d).below < length ss) × (get_or ss s [] ≡ (get_or xs (s - 1) d).mark ∷ get_or ss (get_or xs (s - 1) d).below [])) (sym e) (read_at f h l)
+
+-- One cell more, where the stacks go by another name.
+module _ (cells new : List Cell) (c : Cell) (ss : List (List ℕ)) (e : new ≡ cells ++ c ∷ []) (v : stacks_of cells ≡ ss) where
+  pub pushed_tell : TellHeights cells → c.height ≡ suc (length (get_or ss c.below [])) → TellHeights new
+  pushed_tell f h = subst TellHeights (sym e) (tell_push cells c f (h ∙ ap (λ (t : List (List ℕ)). suc (length (get_or t c.below []))) (sym v)))
+
+  pub pushed_lie : LieOnEarlier cells → c.below < length ss → LieOnEarlier new
+  pushed_lie f h = let n : length (stacks_of cells) ≡ length ss = ap length v in subst LieOnEarlier (sym e) (lie_push cells c f (omega (arith, stacks_length cells)))
+
+  new_stacks : stacks_of new ≡ ss ++ (c.mark ∷ get_or ss c.below []) ∷ []
+  new_stacks = ap stacks_of e ∙ stacks_push cells c ∙ ap (λ (t : List (List ℕ)). t ++ (c.mark ∷ get_or t c.below []) ∷ []) v
+
+  pub pushed_keeps : Keeps ss (stacks_of new)
+  pushed_keeps = subst (λ (t : List (List ℕ)). Keeps ss t) (sym new_stacks) (keeps_push ss (c.mark ∷ get_or ss c.below []))
+
+  pub pushed_is : (n : ℕ) → n ≡ length cells → Is (stacks_of new) (n + 1) (c.mark ∷ get_or ss c.below [])
+  pushed_is n h =
+      let k : length (stacks_of cells) ≡ length ss = ap length v in
+      let place : n + 1 ≡ length ss = omega (arith, stacks_length cells) in
+      rw place (subst (λ (t : List (List ℕ)). Is t (length ss) (c.mark ∷ get_or ss c.below [])) (sym new_stacks) (is_push ss (c.mark ∷ get_or ss c.below [])))
+
+-- Steps of loops.
+pub zeros_step : (n : ℕ) (xs : List ℕ) → 0 < n → zeros n xs ≡ zeros (n - 1) (0 ∷ xs)
+zeros_step zero xs h = absurd (omega arith)
+zeros_step (suc n) xs h = let e : suc n - 1 ≡ n = omega arith in rw e refl
+
+pub under_step : (n : ℕ) (x : ℕ) (xs : List ℕ) → 0 < n → under n (x ∷ xs) ≡ under (n - 1) xs
+under_step zero x xs h = absurd (omega arith)
+under_step (suc n) x xs h = let e : suc n - 1 ≡ n = omega arith in rw e refl
+
+pub under_none : (n : ℕ) (xs : List ℕ) → 0 < n → xs ≡ [] → under n xs ≡ None
+under_none zero xs h e = absurd (omega arith)
+under_none (suc n) xs h e = rw e refl
+
+pub joined_same : (xs : List ℕ) → joined_numbers xs xs ≡ xs
+joined_same [] = refl
+joined_same (x ∷ xs) = let ih = joined_same xs in grind (arith, ih)
+
+pub shuffle_past : (row : ℕ) → 16 ≤ row → get_or shuffles row s_drop ≡ s_drop
+shuffle_past row h = grind arith

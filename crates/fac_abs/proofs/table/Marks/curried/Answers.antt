@@ -1,0 +1,22 @@
+use Rattle.std.proofs.Common.{◌≡◌, ◌<◌, true, sym, ◌∙◌, arith}
+use Rattle.fac_abs.specs.declared.node.Node.TheVariants.{Cur}
+use Rattle.fac_abs.specs.Marks.{mark_depth, is_callable, curried_mark}
+use Rattle.fac_abs.specs.Trees.{Naming, tree, trees}
+use Rattle.fac_abs.specs.Seen.{mark_of}
+use Rattle.fac_abs.proofs.LimitLemmas.{curried_kept, cur_reads, renamed}
+use Rattle.fac_abs.proofs.SeenLemmas.{mark_within}
+use Rattle.fac_abs.proofs.table.Marks.curried.Goals as goal
+
+pub make-requires-clause-parts : goal.make-requires-clause-parts
+make-requires-clause-parts c = (mark_within c.args.self.now c.args.mark c.requires.mark, mark_within c.args.self.now c.args.callable c.requires.callable)
+
+pub returns-clause-made : goal.returns-clause-made
+returns-clause-made c =
+    let M = c.args.self.now in
+    let made : (N : Naming) → tree N (trees N M.nodes) (Cur c.args.mark c.args.callable) ≡ curried_mark (mark_of N M c.args.mark) (mark_of N M c.args.callable) =
+    λ N.
+    let callable : is_callable (mark_of N M c.args.callable) ≡ true = sym (c.is_callable.ensures N) ∙ c.if-not-is_callable.false in
+    let first : mark_depth (mark_of N M c.args.mark) < 64 = omega (arith, c.depth-first.ensures.is N) in
+    let second : mark_depth (mark_of N M c.args.callable) < 64 = omega (arith, c.depth-second.ensures.is N) in
+    cur_reads N M c.args.mark c.args.callable ∙ sym (curried_kept (mark_of N M c.args.mark) (mark_of N M c.args.callable) callable first second) in
+    renamed c.make.new.self _ _ made c.make.result c.make.ensures.made

@@ -1,0 +1,278 @@
+//! Stacks of marks, which share what lies below.
+ghost use Rattle.std.specs.Prelude.{◌≡◌, ◌∷◌, ◌++◌, ◌<◌, ℕ, [], length, get_or, map, Some, None, IfOk, OnErr};
+ghost use Rattle.fac_lang.specs.Primitives.{moves};
+ghost use Rattle.fac_lang.specs.Texts.{Mark};
+ghost use Rattle.fac_abs.specs.InTurn.{heaped, under, zeros, needs, arranged, moved, joined_number, joined_numbers};
+ghost use Rattle.fac_abs.specs.Keeping.{Keeps, Is, Uncovers, IsWhere, Joins, shuffle_numbered};
+
+use fac_lang::Memory;
+use std::alloc::Global;
+use std::marker::Model;
+
+// A mark on a stack, with the height of the whole.
+#[derive(Clone, Copy)]
+struct Cell {
+    mark: u32,
+    below: u32,
+    height: u32,
+}
+
+/// Stacks of numbers, each by its own number. Number 0 is the empty stack, and cell k makes stack k + 1.
+#[derive(Drop)]
+pub struct Cells {
+    alloc: Global,
+    cells: Vec<Cell>,
+}
+
+impl Model for Cells {
+    ghost use Rattle.std.specs.Prelude.{List, ℕ, ◌<◌, ◌+◌, ◌^◌, vec_len};
+
+    ghost Value = { List (List ℕ) };
+
+    ghost use Rattle.fac_abs.specs.Stacks.{stacks_of, TellHeights, LieOnEarlier};
+
+    ghost view = { λ a. stacks_of a.cells.items };
+
+    ghost invariant = { λ a. (vec_len a.cells + 1 < 2 ^ 32) × TellHeights a.cells.items × LieOnEarlier a.cells.items };
+}
+
+impl Cells {
+    /// The empty stack alone.
+    pub fn new(alloc: Global) -> Cells
+        ensures { result ≡ [] ∷ [] }
+    {
+        Cells {
+            alloc,
+            cells: Vec::new(alloc),
+        }
+    }
+
+    /// Forgets all stacks but the empty one, and keeps their memory for others.
+    pub fn clear(&mut self)
+        ensures { self.new ≡ [] ∷ [] }
+    {
+        self.cells.clear();
+    }
+
+    /// The number of marks of a stack.
+    pub fn height(&self, stack: u32) -> u32
+        requires { stack < length self.now }
+        ensures { result ≡ length (get_or self.now stack []) }
+    {
+        let cells = self.cells.as_slice();
+        if stack == 0 {
+            return 0;
+        }
+        cells[stack as usize - 1].height
+    }
+
+    /// The top mark of a stack, and the stack below it. None where the stack is empty.
+    pub fn pop(&self, stack: u32) -> Option<(u32, u32)>
+        requires { stack < length self.now }
+        ensures { Uncovers self.now stack result }
+    {
+        let cells = self.cells.as_slice();
+        if stack == 0 {
+            return None;
+        }
+        let cell = cells[stack as usize - 1];
+        Some((cell.mark, cell.below))
+    }
+
+    /// A stack with one mark more.
+    pub fn push(&mut self, below: u32, mark: u32) -> Result<u32, Memory>
+        requires { below < length self.old }
+        ensures keeps { Keeps self.old self.new }
+        ensures made { IfOk result (λ r. Is self.new r (mark ∷ get_or self.old below [])) }
+        ensures err { OnErr result (self.new ≡ self.old) }
+    {
+        let Some(height) = self.height(below).checked_add(1) else {
+            return Err(Memory);
+        };
+        let count = self.cells.len();
+        if count >= u32::MAX as usize - 1 {
+            return Err(Memory);
+        }
+        self.cells.push(Cell {
+            mark,
+            below,
+            height,
+        })?;
+        Ok(count as u32 + 1)
+    }
+
+    /// A stack with marks on another: the last of them becomes the top. Want of memory can come after some of them.
+    pub fn pile(&mut self, below: u32, marks: &[u32]) -> Result<u32, Memory>
+        requires { below < length self.old }
+        ensures keeps { Keeps self.old self.new }
+        ensures made { IfOk result (λ r. Is self.new r (heaped marks.now (get_or self.old below []))) }
+    {
+        let mut stack = below;
+        for mark in marks {
+            stack = self.push(stack, *mark)?;
+        }
+        Ok(stack)
+    }
+
+    /// A stack with so many marks 0 on another.
+    pub fn zeros(&mut self, below: u32, count: u32) -> Result<u32, Memory>
+        requires { below < length self.old }
+        ensures keeps { Keeps self.old self.new }
+        ensures made { IfOk result (λ r. Is self.new r (zeros count (get_or self.old below []))) }
+    {
+        let mut stack = below;
+        let mut left = count;
+        while left > 0 {
+            stack = self.push(stack, 0)?;
+            left -= 1;
+        }
+        Ok(stack)
+    }
+
+    /// What lies under so many marks. None where there are fewer.
+    pub fn under(&self, stack: u32, count: u32) -> Option<u32>
+        requires { stack < length self.now }
+        ensures { IsWhere self.now result (under count (get_or self.now stack [])) }
+    {
+        let mut rest = stack;
+        let mut left = count;
+        while left > 0 {
+            let Some((_, below)) = self.pop(rest) else {
+                return None;
+            };
+            rest = below;
+            left -= 1;
+        }
+        Some(rest)
+    }
+
+    // The marks of a shuffle's row on a stack, from those that it took: `x` is the deepest of three, and `z` was the top.
+    fn arrange(&mut self, row: u32, below: u32, x: u32, y: u32, z: u32) -> Result<u32, Memory>
+        requires { below < length self.old }
+        ensures keeps { Keeps self.old self.new }
+        ensures made { IfOk result (λ r. Is self.new r (heaped (arranged (moves (shuffle_numbered row)) x y z) (get_or self.old below []))) }
+    {
+        match row {
+            1 => self.pile(below, &[z, z]),
+            2 => self.pile(below, &[z, y]),
+            3 => self.pile(below, &[y, z, y]),
+            4 => self.pile(below, &[x, y, z, x]),
+            5 => self.pile(below, &[y, z, x]),
+            6 => self.pile(below, &[z, x, y]),
+            7 => self.pile(below, &[z]),
+            8 => self.pile(below, &[y, y, z]),
+            9 => self.pile(below, &[y, x, z]),
+            10 => Ok(below),
+            11 => self.pile(below, &[y, z, y, z]),
+            12 => Ok(below),
+            13 => self.pile(below, &[x, y, z, x, y, z]),
+            14 => self.pile(below, &[x, y, z, x, y]),
+            15 => self.pile(below, &[z]),
+            _ => Ok(below),
+        }
+    }
+
+    /// The stack after the shuffle with this number, where a number past the last is that of `drop`. None where there are fewer marks than it
+    /// takes. Want of memory can come after some marks are there.
+    pub fn shuffle(&mut self, stack: u32, row: u32) -> Result<Option<u32>, Memory>
+        requires { stack < length self.old }
+        ensures keeps { Keeps self.old self.new }
+        ensures made { IfOk result (λ o. IsWhere self.new o (moved (moves (shuffle_numbered row)) (get_or self.old stack []))) }
+    {
+        let count = needed(row);
+        let Some((z, under_one)) = self.pop(stack) else {
+            return Ok(None);
+        };
+        if count == 1 {
+            return Ok(Some(self.arrange(row, under_one, 0, 0, z)?));
+        }
+        let Some((y, under_two)) = self.pop(under_one) else {
+            return Ok(None);
+        };
+        if count == 2 {
+            return Ok(Some(self.arrange(row, under_two, 0, y, z)?));
+        }
+        let Some((x, under_three)) = self.pop(under_two) else {
+            return Ok(None);
+        };
+        Ok(Some(self.arrange(row, under_three, x, y, z)?))
+    }
+
+    // Walks down two stacks of one height to what they share: the joined marks above it, the top first, and the stack that is shared.
+    fn differing(&self, a: u32, b: u32) -> Result<(Vec<u32>, u32), Memory>
+        requires first { a < length self.now }
+        requires second { b < length self.now }
+        requires heights { length (get_or self.now a []) ≡ length (get_or self.now b []) }
+        ensures { IfOk result (λ r. (r.1 < length self.now) × (joined_numbers (get_or self.now a []) (get_or self.now b []) ≡ r.0.items ++ get_or self.now r.1 [])) }
+    {
+        let mut marks = Vec::new(self.alloc);
+        let mut left = a;
+        let mut right = b;
+        while left != right {
+            let Some((x, under_left)) = self.pop(left) else {
+                return Ok((marks, left));
+            };
+            let Some((y, under_right)) = self.pop(right) else {
+                return Ok((marks, left));
+            };
+            marks.push(joined(x, y))?;
+            left = under_left;
+            right = under_right;
+        }
+        Ok((marks, left))
+    }
+
+    // Marks on a stack, the top first.
+    fn lay(&mut self, below: u32, marks: Vec<u32>) -> Result<u32, Memory>
+        requires { below < length self.old }
+        ensures keeps { Keeps self.old self.new }
+        ensures made { IfOk result (λ r. Is self.new r (marks.items ++ get_or self.old below [])) }
+    {
+        let mut left = marks;
+        let mut stack = below;
+        while let Some(mark) = left.pop() {
+            stack = self.push(stack, mark)?;
+        }
+        Ok(stack)
+    }
+
+    /// What two stacks agree on, and 0 elsewhere. None where their heights differ. It takes the time of the marks that they don't share.
+    pub fn join(&mut self, a: u32, b: u32) -> Result<Option<u32>, Memory>
+        requires first { a < length self.old }
+        requires second { b < length self.old }
+        ensures keeps { Keeps self.old self.new }
+        ensures made { IfOk result (λ o. Joins self.new o (get_or self.old a []) (get_or self.old b [])) }
+    {
+        if self.height(a) != self.height(b) {
+            return Ok(None);
+        }
+        let (marks, shared) = self.differing(a, b)?;
+        Ok(Some(self.lay(shared, marks)?))
+    }
+}
+
+// How many values the shuffle with this number takes.
+fn needed(row: u32) -> u32
+    ensures { result ≡ needs (moves {A = ℕ} (shuffle_numbered row)) }
+{
+    match row {
+        0 | 1 => 1,
+        2 | 3 | 7 | 8 | 10 | 11 => 2,
+        4 | 5 | 6 | 9 | 12 | 13 | 14 | 15 => 3,
+        _ => 1,
+    }
+}
+
+/// How many values the shuffle with this number takes, where a number past the last is that of `drop`.
+pub fn shuffle_needs(row: u32) -> u32
+    ensures { result ≡ needs (moves {A = Mark} (shuffle_numbered row)) }
+{
+    needed(row)
+}
+
+// A number that two agree on, else 0.
+fn joined(x: u32, y: u32) -> u32
+    ensures { result ≡ joined_number x y }
+{
+    if x == y { x } else { 0 }
+}

@@ -1,0 +1,256 @@
+//! Marks and stacks of marks, each by a number.
+ghost use Rattle.std.specs.Prelude.{◌≡◌, ◌∷◌, ◌<◌, [], length, get_or, map, Some, None, IfOk, OnOk, OnErr};
+ghost use Rattle.fac_lang.specs.Texts.{any, lit_mark, wrd_mark, par_mark};
+ghost use Rattle.fac_lang.specs.Primitives.{moves};
+ghost use Rattle.fac_abs.specs.InTurn.{under, moved};
+ghost use Rattle.fac_abs.specs.Keeping.{shuffle_numbered};
+ghost use Rattle.fac_abs.specs.Marks.{mark_eq, mark_depth, is_callable, curried_mark, composed_mark, unknowns};
+ghost use Rattle.fac_abs.specs.Trees.{Naming, tree, trees, node_depth, depths, HasPartsBelow};
+ghost use Rattle.fac_abs.specs.Seen.{mark_of, stack_of, IsMark, IsStack, Grows};
+ghost use Rattle.fac_abs.specs.Promises.{IsMarkOf, IsStackOf, IsStackWhere, IsNodeOf, HasTopWhere, IsJoinedWhere};
+
+use crate::Node;
+use crate::cells::Cells;
+use crate::nodes::Nodes;
+use fac_lang::Memory;
+use std::alloc::Global;
+use std::marker::Model;
+
+// The greatest depth of a mark.
+const DEEPEST: u32 = 64;
+
+/// Marks and stacks of marks, each by a number. Marks are numbered in the order in which they were first made, so that two of them are equal
+/// where their numbers are, and number 0 is the mark of a value of which nothing is known. Stack 0 is empty. Numbers stay what they are until
+/// the stacks are cleared. The one error is want of memory, which comes too at the 2^32-th mark or stack; what was there before such an error
+/// stays.
+#[derive(Drop)]
+pub struct Marks {
+    nodes: Nodes,
+    cells: Cells,
+}
+
+impl Model for Marks {
+    ghost use Rattle.fac_abs.specs.Seen.{MarksSeen};
+
+    ghost Value = { MarksSeen };
+
+    ghost view = { λ a. record { nodes = a.nodes; stacks = a.cells } };
+}
+
+impl Marks {
+    /// The mark of nothing known, with number 0, and the empty stack, with number 0.
+    pub fn new(alloc: Global) -> Result<Marks, Memory>
+        ensures mark { IfOk result (λ marks. IsMarkOf marks 0 (λ N. any)) }
+        ensures stack { IfOk result (λ marks. IsStackOf marks 0 (λ N. [])) }
+    {
+        Ok(Marks {
+            nodes: Nodes::new(alloc)?,
+            cells: Cells::new(alloc),
+        })
+    }
+
+    /// What a mark is, by the numbers of its parts, which are lower than its own.
+    pub fn node(&self, mark: u32) -> Node
+        requires { IsMark self.now mark }
+        ensures { IsNodeOf self.now mark result }
+    {
+        self.nodes.at(mark).0
+    }
+
+    /// The mark of nothing known.
+    pub fn unknown(&self) -> u32
+        ensures zero { result ≡ 0 }
+        ensures any { IsMarkOf self.now result (λ N. any) }
+    {
+        self.nodes.first()
+    }
+
+    // The mark of a node.
+    fn make(&mut self, node: Node, depth: u32) -> Result<u32, Memory>
+        requires parts { HasPartsBelow (length self.old.nodes) node }
+        requires depth { depth ≡ node_depth (depths self.old.nodes) node }
+        ensures grows { Grows self.old self.new }
+        ensures made { IfOk result (λ r. IsMarkOf self.new r (λ N. tree N (trees N self.old.nodes) node)) }
+        ensures err { OnErr result (self.new ≡ self.old) }
+    {
+        self.nodes.intern(node, depth)
+    }
+
+    /// The mark of a literal, by the number of its template.
+    pub fn lit(&mut self, template: u32) -> Result<u32, Memory>
+        ensures grows { Grows self.old self.new }
+        ensures made { IfOk result (λ r. IsMarkOf self.new r (λ N. lit_mark (N.literal template).0 (N.literal template).1)) }
+        ensures err { OnErr result (self.new ≡ self.old) }
+    {
+        self.make(Node::Lit(template), 0)
+    }
+
+    /// The mark of a word, by its number.
+    pub fn wrd(&mut self, word: u32) -> Result<u32, Memory>
+        ensures grows { Grows self.old self.new }
+        ensures made { IfOk result (λ r. IsMarkOf self.new r (λ N. wrd_mark word)) }
+        ensures err { OnErr result (self.new ≡ self.old) }
+    {
+        self.make(Node::Wrd(word), 0)
+    }
+
+    /// The mark of an input of the row word that is checked, by its number.
+    pub fn par(&mut self, input: u32) -> Result<u32, Memory>
+        ensures grows { Grows self.old self.new }
+        ensures made { IfOk result (λ r. IsMarkOf self.new r (λ N. par_mark input)) }
+        ensures err { OnErr result (self.new ≡ self.old) }
+    {
+        self.make(Node::Par(input), 0)
+    }
+
+    // The depth of a mark.
+    fn depth(&self, mark: u32) -> u32
+        requires { IsMark self.now mark }
+        ensures told { result ≡ get_or (depths self.now.nodes) mark 0 }
+        ensures is { (N : Naming) → result ≡ mark_depth (mark_of N self.now mark) }
+    {
+        self.nodes.at(mark).1
+    }
+
+    /// Whether a mark stands for callables alone.
+    pub fn is_callable(&self, mark: u32) -> bool
+        requires { IsMark self.now mark }
+        ensures { (N : Naming) → result ≡ is_callable (mark_of N self.now mark) }
+    {
+        match self.node(mark) {
+            Node::Any => false,
+            Node::Lit(_) => true,
+            Node::Cur(_, _) => true,
+            Node::Com(_, _) => true,
+            Node::Wrd(_) => false,
+            Node::Par(_) => true,
+        }
+    }
+
+    /// Whether two marks are the same.
+    pub fn same(&self, a: u32, b: u32) -> bool
+        requires first { IsMark self.now a }
+        requires second { IsMark self.now b }
+        ensures { (N : Naming) → result ≡ mark_eq (mark_of N self.now a) (mark_of N self.now b) }
+    {
+        let _first = self.nodes.first();
+        a == b
+    }
+
+    /// The mark of what `curry` makes of a value with the mark `mark` and a callable with the mark `callable`.
+    pub fn curried(&mut self, mark: u32, callable: u32) -> Result<u32, Memory>
+        requires mark { IsMark self.old mark }
+        requires callable { IsMark self.old callable }
+        ensures grows { Grows self.old self.new }
+        ensures made { IfOk result (λ r. IsMarkOf self.new r (λ N. curried_mark (mark_of N self.old mark) (mark_of N self.old callable))) }
+        ensures err { OnErr result (self.new ≡ self.old) }
+    {
+        if !self.is_callable(callable) {
+            return Ok(self.unknown());
+        }
+        let first = self.depth(mark);
+        let second = self.depth(callable);
+        if first >= DEEPEST || second >= DEEPEST {
+            return Ok(self.unknown());
+        }
+        self.make(Node::Cur(mark, callable), first.max(second) + 1)
+    }
+
+    /// The mark of what `compose` makes of two callables, of which `first` runs first.
+    pub fn composed(&mut self, first: u32, second: u32) -> Result<u32, Memory>
+        requires first { IsMark self.old first }
+        requires second { IsMark self.old second }
+        ensures grows { Grows self.old self.new }
+        ensures made { IfOk result (λ r. IsMarkOf self.new r (λ N. composed_mark (mark_of N self.old first) (mark_of N self.old second))) }
+        ensures err { OnErr result (self.new ≡ self.old) }
+    {
+        if !self.is_callable(first) {
+            return Ok(self.unknown());
+        }
+        if !self.is_callable(second) {
+            return Ok(self.unknown());
+        }
+        let deep = self.depth(first);
+        let other = self.depth(second);
+        if deep >= DEEPEST || other >= DEEPEST {
+            return Ok(self.unknown());
+        }
+        self.make(Node::Com(first, second), deep.max(other) + 1)
+    }
+
+    /// The number of marks of a stack.
+    pub fn height(&self, stack: u32) -> u32
+        requires { IsStack self.now stack }
+        ensures { (N : Naming) → result ≡ length (stack_of N self.now stack) }
+    {
+        self.cells.height(stack)
+    }
+
+    /// The top mark of a stack, and the stack below it. None where the stack is empty.
+    pub fn pop(&self, stack: u32) -> Option<(u32, u32)>
+        requires { IsStack self.now stack }
+        ensures { HasTopWhere self.now stack result }
+    {
+        self.cells.pop(stack)
+    }
+
+    /// What lies below the first `count` marks of a stack. None where there are fewer. It takes the time of `count` steps.
+    pub fn below(&self, stack: u32, count: u32) -> Option<u32>
+        requires { IsStack self.now stack }
+        ensures { IsStackWhere self.now result (λ N. under count (stack_of N self.now stack)) }
+    {
+        self.cells.under(stack, count)
+    }
+
+    /// A stack with one mark more.
+    pub fn push(&mut self, stack: u32, mark: u32) -> Result<u32, Memory>
+        requires stack { IsStack self.old stack }
+        requires mark { IsMark self.old mark }
+        ensures grows { Grows self.old self.new }
+        ensures made { IfOk result (λ r. IsStackOf self.new r (λ N. mark_of N self.old mark ∷ stack_of N self.old stack)) }
+        ensures err { OnErr result (self.new ≡ self.old) }
+    {
+        self.cells.push(stack, mark)
+    }
+
+    /// A stack with `count` more values of which nothing is known.
+    pub fn unknowns(&mut self, stack: u32, count: u32) -> Result<u32, Memory>
+        requires { IsStack self.old stack }
+        ensures grows { Grows self.old self.new }
+        ensures made { IfOk result (λ r. IsStackOf self.new r (λ N. unknowns count (stack_of N self.old stack))) }
+    {
+        let _first = self.nodes.first();
+        self.cells.zeros(stack, count)
+    }
+
+    /// The stack after the shuffle with the number `row`, where a number past the last is that of `drop`. None where there are fewer marks than
+    /// it takes, which `shuffle_needs` tells.
+    pub fn shuffle(&mut self, stack: u32, row: u32) -> Result<Option<u32>, Memory>
+        requires { IsStack self.old stack }
+        ensures grows { Grows self.old self.new }
+        ensures made { IfOk result (λ o. IsStackWhere self.new o (λ N. moved (moves (shuffle_numbered row)) (stack_of N self.old stack))) }
+    {
+        let _first = self.nodes.first();
+        self.cells.shuffle(stack, row)
+    }
+
+    /// The join of two stacks, which keeps the marks that both have and knows nothing of the others. None where their heights differ. It takes
+    /// the time of the marks above what the two share.
+    pub fn join(&mut self, a: u32, b: u32) -> Result<Option<u32>, Memory>
+        requires first { IsStack self.old a }
+        requires second { IsStack self.old b }
+        ensures grows { Grows self.old self.new }
+        ensures made { IfOk result (λ o. IsJoinedWhere self.old self.new a b o) }
+    {
+        let _first = self.nodes.first();
+        self.cells.join(a, b)
+    }
+
+    /// Forgets all stacks but the empty one, so that their memory serves again. The marks stay.
+    pub fn clear_stacks(&mut self)
+        ensures nodes { self.new.nodes ≡ self.old.nodes }
+        ensures stack { IsStackOf self.new 0 (λ N. []) }
+    {
+        self.cells.clear();
+    }
+}
