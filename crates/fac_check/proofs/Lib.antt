@@ -1,6 +1,3 @@
-pub mod PrimitiveHeights
-pub mod Soundness
-pub mod ExamplesOfVerdicts
 pub mod StandingLaws
 pub mod WalksFit
 pub mod ItemsFit
@@ -26,3 +23,9 @@ pub mod WordItems
 pub mod ClosedItems
 pub mod WalkLemmas
 pub mod MarkWalks
+pub mod VerdictLemmas
+pub mod NamedWords
+pub mod EdgesOfWords
+pub mod LeadingBack
+pub mod UndeclaredWords
+pub mod JudgeLemmas

@@ -6,9 +6,8 @@ use Rattle.fac_lang.specs.Texts.{Value}
 use Rattle.fac_lang.specs.World.{State}
 use Rattle.fac_lang.specs.Eval.{Result, Done, Failed, Spent, Stuck}
 use Rattle.fac_lang.specs.RunningLaws.{IsNotStuck}
-use Rattle.fac_check.specs.Sound.{Leaves as LeavesMany}
 use Rattle.fac_check.specs.Standing.{EndsSo}
-use Rattle.fac_check.specs.Promises.{AcceptedAreSafe}
+use Rattle.fac_check.specs.Promises.{AcceptedAreSafe, Leaves as LeavesMany}
 use Rattle.fac_check.proofs.ItemsFit.{Over, Leaves}
 use Rattle.fac_check.proofs.AcceptedPrograms.{ordinary_sound, phrase_sound}
 

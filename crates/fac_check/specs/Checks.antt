@@ -1,14 +1,29 @@
--- What the checker answers.
-use Rattle.std.specs.Prelude.{◌≡◌, Some, None, Result, Ok, Err}
+-- What the checker promises of a program that it accepts, and how it answers.
+use Rattle.std.specs.Prelude.{◌≡◌, Some, Result, Ok, Err}
 use Rattle.fac_lang.specs.declared.program.Program.{Program}
+use Rattle.fac_lang.specs.Forms.{IsBuilt}
+use Rattle.fac_lang.specs.Whole.{IsWhole}
+use Rattle.fac_locals.specs.Closed.{Closes}
+use Rattle.fac_locals.specs.declared.closing.Closed.{Closed}
+use Rattle.fac_check.specs.Verdicts.{verdict}
+use Rattle.fac_check.specs.Promises.{IsSafe}
+use Rattle.fac_check.specs.Judged.{OfEach, IsAccepted, refusal_seen}
 use Rattle.fac_check.specs.declared.accepted.Checked.{Checked}
-use Rattle.fac_check.specs.declared.checker.CheckFault.{CheckFault}
-use Rattle.fac_check.specs.declared.checker.CheckFault.TheVariants.{Refused, Memory}
-use Rattle.fac_check.specs.Verdict.{verdict}
-use Rattle.fac_check.specs.Sound.{IsSound}
+use Rattle.fac_check.specs.declared.rule.Refusal.{Refusal}
+use Rattle.fac_check.specs.declared.rule.CheckFault.{CheckFault}
+use Rattle.fac_check.specs.declared.rule.CheckFault.TheVariants.{Refused, Memory}
 
--- the program itself, which is sound, where it is accepted
-abbrev pub Checks : Program → Result Checked CheckFault → Type 0
-Checks P (Ok checked) = (verdict P ≡ None) × (checked.program ≡ P) × IsSound P
-Checks P (Err (Refused refusal)) = verdict P ≡ Some refusal
-Checks P (Err Memory) = Unit {0}
+-- each whole program for which this stands is safe, where its top-level phrase starts from no value
+abbrev pub IsKept : Closed → Type 0
+IsKept closed = closed.start ≡ 0 → OfEach closed (λ P. IsWhole P → IsSafe P)
+
+-- the closed program itself, whose program is accepted and safe; or the first refused word in source order, with its first rule and place
+abbrev pub Gathers : Closed → Result Checked Refusal → Type 0
+Gathers closed (Ok checked) = (checked.closed ≡ closed) × IsAccepted closed × IsKept closed
+Gathers closed (Err refusal) = OfEach closed (λ P. verdict P closed.start ≡ Some (refusal_seen refusal))
+
+-- likewise, or want of memory
+abbrev pub Checks : Closed → Result Checked CheckFault → Type 0
+Checks closed (Ok checked) = (checked.closed ≡ closed) × IsAccepted closed × IsKept closed
+Checks closed (Err (Refused refusal)) = OfEach closed (λ P. verdict P closed.start ≡ Some (refusal_seen refusal))
+Checks closed (Err Memory) = Unit {0}

@@ -1,7 +1,3 @@
-pub mod Verdict
-pub mod Walks
-pub mod Sound
-pub mod Checks
 pub mod Rows
 pub mod Flow
 pub mod Verdicts
@@ -10,3 +6,6 @@ pub mod Standing
 pub mod Promises
 pub mod ItemWalk
 pub mod Walking
+pub mod Judged
+pub mod UndeclaredRecursion
+pub mod Checks

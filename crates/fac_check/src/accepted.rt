@@ -1,14 +1,13 @@
 //! Accepted programs.
-ghost use Rattle.std.specs.Prelude.{◌≡◌, None};
-ghost use Rattle.fac_check.specs.Verdict.{verdict};
+ghost use Rattle.fac_check.specs.Judged.{IsAccepted};
 
-use fac_lang::Program;
+use fac_locals::Closed;
 
 /// An accepted program.
 #[derive(Drop)]
 pub struct Checked {
-    /// The program, unchanged.
-    pub program: Program,
-    // Its verdict is that it is accepted.
-    ghost accepted: { verdict program ≡ None },
+    /// The closed program, unchanged.
+    pub closed: Closed,
+    // The program for which it stands is accepted.
+    ghost accepted: { IsAccepted closed },
 }

@@ -5,10 +5,15 @@
 mod accepted;
 mod checker;
 mod doing;
+mod judge;
 mod laws;
+mod recursion;
 mod rule;
 mod walker;
 
 pub use accepted::Checked;
-pub use checker::{CheckFault, Refusal, Rule, accept, check, first_refusal};
+pub use checker::Verdict;
+pub use judge::{accept, check, check_word, check_words, first_refused, gather};
 pub use laws::accepted_programs_are_safe;
+pub use recursion::undeclared_words;
+pub use rule::{CheckFault, Refusal, Rule};

@@ -1,0 +1,102 @@
+//! The verdict on a program.
+ghost use Rattle.std.specs.Prelude.{◌≡◌, ◌≤◌, map, IfOk};
+ghost use Rattle.fac_check.specs.UndeclaredRecursion.{AreUndeclared};
+ghost use Rattle.fac_check.specs.Judged.{AreVerdicts, IsVerdict, IsAccepted, verdict_seen, refusal_if, first_of};
+ghost use Rattle.fac_check.specs.Checks.{IsKept, Checks, Gathers};
+
+use crate::Checked;
+use crate::checker::{Verdict, word_breach};
+use crate::recursion::undeclared_words;
+use crate::rule::{CheckFault, Refusal};
+use fac_lang::{List, Memory};
+use fac_locals::Closed;
+use std::alloc::Global;
+
+/// The verdict on the word of this number: the first rule that it breaks, with its place. `undeclared` has for each word whether its text
+/// leads back to it through inline words, as `check_words` finds it for all words at once. A number that no word has is want of memory.
+pub fn check_word(
+    alloc: Global,
+    closed: &Closed,
+    undeclared: &List<bool>,
+    number: u32,
+) -> Result<Verdict, Memory>
+    requires { AreUndeclared closed.now.program closed.now.templates undeclared.now }
+    ensures { IfOk result (IsVerdict closed.now number) }
+{
+    match closed.program.words.get(number as usize) {
+        Some(word) => match undeclared.get(number as usize) {
+            Some(leads_back) => {
+                match word_breach(alloc, closed, *leads_back, number, word)? {
+                    Some((place, rule)) => Ok(Verdict::Refused(Refusal {
+                        word: number,
+                        place,
+                        rule,
+                    })),
+                    None => Ok(Verdict::Accepted),
+                }
+            }
+            None => Err(Memory),
+        },
+        None => Err(Memory),
+    }
+}
+
+/// The verdicts on all words, in their order. Each word is walked from the inputs that its effect declares, the top-level phrase from as
+/// many unknown values as the closed program says, and an expanded word where it is used.
+pub fn check_words(alloc: Global, closed: &Closed) -> Result<List<Verdict>, Memory>
+    ensures { IfOk result (AreVerdicts closed.now) }
+{
+    let undeclared = undeclared_words(alloc, closed)?;
+    let mut verdicts = List::new(alloc);
+    for number in 0..closed.program.words.len() {
+        verdicts.push(check_word(alloc, closed, &undeclared, number)?)?;
+    }
+    Ok(verdicts)
+}
+
+/// The first refusal among the verdicts on words in their order. None where all are accepted.
+pub fn first_refused(verdicts: &List<Verdict>) -> Option<Refusal>
+    ensures { refusal_if result ≡ first_of (map verdict_seen verdicts.now) }
+{
+    for verdict in verdicts.as_slice() {
+        match verdict {
+            Verdict::Accepted => {}
+            Verdict::Refused(refusal) => return Some(*refusal),
+        }
+    }
+    None
+}
+
+/// Keeps an accepted program as one.
+pub fn accept(closed: Closed) -> Checked
+    requires { IsAccepted closed }
+    ensures closed { result.closed ≡ closed }
+    ensures kept { IsKept closed }
+{
+    Checked { closed }
+}
+
+/// Accepts a program, or names its first refused word, by the verdicts on its words in their order.
+pub fn gather(closed: Closed, verdicts: &List<Verdict>) -> Result<Checked, Refusal>
+    requires { AreVerdicts closed verdicts.now }
+    ensures { Gathers closed result }
+{
+    match first_refused(verdicts) {
+        Some(refusal) => Err(refusal),
+        None => Ok(accept(closed)),
+    }
+}
+
+/// Accepts a program, or names its first refused word with the first place and rule that it breaks. An item that takes more values than
+/// are there is refused before anything runs, and so is a word that leaves another number of values than its effect declares, as in the
+/// Factor Handbook's chapter on stack effect checking; the rules of callables, and which word and place is named first, are this
+/// profile's own.
+pub fn check(alloc: Global, closed: Closed) -> Result<Checked, CheckFault>
+    ensures { Checks closed result }
+{
+    let verdicts = check_words(alloc, &closed)?;
+    match gather(closed, &verdicts) {
+        Ok(checked) => Ok(checked),
+        Err(refusal) => Err(CheckFault::Refused(refusal)),
+    }
+}
