@@ -137,7 +137,8 @@ impl Marks {
         a == b
     }
 
-    /// The mark of what `curry` makes of a value with the mark `mark` and a callable with the mark `callable`.
+    /// The mark of what `curry` makes of a value with the mark `mark` and a callable with the mark `callable`. Where `callable` doesn't stand for
+    /// callables alone, or the mark would be deeper than 64, nothing is known.
     pub fn curried(&mut self, mark: u32, callable: u32) -> Result<u32, Memory>
         requires mark { IsMark self.old mark }
         requires callable { IsMark self.old callable }
@@ -156,7 +157,8 @@ impl Marks {
         self.make(Node::Cur(mark, callable), first.max(second) + 1)
     }
 
-    /// The mark of what `compose` makes of two callables, of which `first` runs first.
+    /// The mark of what `compose` makes of two callables, of which `first` runs first. Where one of them doesn't stand for callables alone, or the
+    /// mark would be deeper than 64, nothing is known.
     pub fn composed(&mut self, first: u32, second: u32) -> Result<u32, Memory>
         requires first { IsMark self.old first }
         requires second { IsMark self.old second }
@@ -213,7 +215,7 @@ impl Marks {
         self.cells.push(stack, mark)
     }
 
-    /// A stack with `count` more values of which nothing is known.
+    /// A stack with `count` more values of which nothing is known. Want of memory can come after some of them.
     pub fn unknowns(&mut self, stack: u32, count: u32) -> Result<u32, Memory>
         requires { IsStack self.old stack }
         ensures grows { Grows self.old self.new }

@@ -8,7 +8,10 @@ use Rattle.fac_abs.proofs.SeenLemmas.{mark_within}
 use Rattle.fac_abs.proofs.table.Marks.composed.Goals as goal
 
 pub make-requires-clause-parts : goal.make-requires-clause-parts
-make-requires-clause-parts c = (mark_within c.args.self.now c.args.first c.requires.first, mark_within c.args.self.now c.args.second c.requires.second)
+make-requires-clause-parts c =
+    let one = mark_within c.args.self.now c.args.first c.requires.first in
+    let other = mark_within c.args.self.now c.args.second c.requires.second in
+    (omega arith, omega arith)
 
 pub returns-clause-made : goal.returns-clause-made
 returns-clause-made c =
