@@ -1,5 +1,3 @@
 pub mod SamePrimitives
-pub mod FirstWords
+pub mod KeptPrimitives
 pub mod Simulation
-pub mod Placed
-pub mod Carrying

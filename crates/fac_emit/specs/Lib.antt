@@ -1,4 +1,4 @@
 pub mod View
 pub mod Carries
-pub mod Code
+pub mod Whole
 pub mod Stands

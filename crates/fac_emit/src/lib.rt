@@ -1,6 +1,2 @@
-//! Compilation of accepted programs to images.
+//! Compilation of closed programs to images.
 #![tactic(auto)]
-
-mod compiler;
-
-pub use compiler::compile;

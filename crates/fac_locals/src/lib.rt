@@ -1,2 +1,6 @@
 //! Closing: quotations become numbered templates.
 #![tactic(auto)]
+
+mod closing;
+
+pub use closing::Closed;
