@@ -1,3 +1,5 @@
 pub mod SamePrimitives
 pub mod KeptPrimitives
 pub mod Simulation
+pub mod Places
+pub mod Closings

@@ -2,3 +2,4 @@ pub mod View
 pub mod Carries
 pub mod Whole
 pub mod Stands
+pub mod Code
