@@ -252,8 +252,8 @@ module _ (P : Program) where
   first_is at t c (c_quot u k e h) = inr (record { quoted = (at, u); more = _; are = refl; numbered = e })
 
   -- so the template of a text's first quotation has the number of the literals before
-  pub first_number : (at : Literal) (t c : Text) (k : ℕ) (more : List Quoted) → at.word < length P.words → Closing at t c → drop k (literals P) ≡ literals_in at t ++ more → (quotations c ≡ 0) ⊎ (first_template c ≡ k)
-  first_number at t c k more lt h e = numbered (first_is at t c h)
+  pub first_number : (at : Literal) (t c : Text) (k : ℕ) (more : List Quoted) → Closing at t c → drop k (literals P) ≡ literals_in at t ++ more → (quotations c ≡ 0) ⊎ (first_template c ≡ k)
+  first_number at t c k more h e = numbered (first_is at t c h)
     where
       numbered : (quotations c ≡ 0) ⊎ FirstIs (literals_in at t) (first_template c) → (quotations c ≡ 0) ⊎ (first_template c ≡ k)
       numbered (inl none) = inl none
