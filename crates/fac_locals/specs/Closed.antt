@@ -1,5 +1,5 @@
 -- When a closed program stands for a program: each quotation in a text is made by the template of its literal, and a template's text is closed likewise.
-use Rattle.std.specs.Prelude.{◌≡◌, ℕ, suc, List, [], ◌∷◌, length, Option, Some, None, slice_get}
+use Rattle.std.specs.Prelude.{◌≡◌, ℕ, suc, List, [], ◌∷◌}
 use Rattle.fac_lang.specs.Texts.{Literal, Text, end, then, Item, lit, lit_arr, quot, word, bind, local, fry, hole, call_eff, exec_eff, next_method, made, next_after, held, known}
 use Rattle.fac_lang.specs.Substitution.{of_method}
 use Rattle.fac_lang.specs.declared.phrase.Template.{Template}

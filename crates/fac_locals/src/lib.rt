@@ -2,5 +2,7 @@
 #![tactic(auto)]
 
 mod closing;
+#[cfg(test)]
+mod tests;
 
-pub use closing::Closed;
+pub use closing::{Closed, close};
