@@ -10,10 +10,10 @@ use Rattle.fac_lang.specs.declared.program.Sort.{Sort}
 use Rattle.fac_lang.specs.declared.program.Sort.TheVariants.{Prim as prim, Core as core, Body as body, Past as past, Itself as itself, Class as class, Isa as isa, Getter as getter, Setter as setter, Putter as putter, Generic as generic, Method as method}
 use Rattle.fac_lang.specs.Texts.{int, yes, no, Literal, Text, end, then, Item, lit, quot, word, made}
 use Rattle.fac_lang.specs.Forms.{IsBuilt, IsBuiltText, IsBuiltSort, AreBuiltWords, primitive_numbers, numbers_before}
-use Rattle.fac_locals.specs.Literals.{Quoted, behind, first_of_word, first_of_literal, literals_in, literals_at, sort_literals, word_literals, literals, literal_numbered}
+use Rattle.fac_locals.specs.Literals.{Quoted, behind, first_of_word, first_of_literal, literals_in, literals_at, sort_literals, word_literals, literals, literal_or, literal_numbered}
 use Rattle.fac_locals.specs.Closed.{ClosesText, ClosesSort, ClosesWord, CloseWords, ClosesLiteral, CloseLiterals}
 use Rattle.fac_emit.specs.Code.{quotations, first_template}
-use Rattle.fac_emit.proofs.Places.{in_a_word, is_listed, is_numbered}
+use Rattle.fac_locals.proofs.Places.{literal_apart}
 
 -- lists behind a part of them
 behind_none : {A : Type 0} (xs ys : List A) → [] ≡ xs ++ ys → [] ≡ ys
@@ -30,7 +30,7 @@ drop_behind list zero xs ys e = let none : 0 + length xs ≡ length xs = omega a
 drop_behind [] (suc at) xs ys e = let more : suc at + length xs ≡ suc (at + length xs) = omega arith in rw more (behind_none xs ys e)
 drop_behind (c ∷ list) (suc at) xs ys e = let more : suc at + length xs ≡ suc (at + length xs) = omega arith in rw more (drop_behind list at xs ys e)
 
-get_at : {A : Type 0} (list : List A) (at : ℕ) (x : A) (xs : List A) → drop at list ≡ x ∷ xs → slice_get list at ≡ Some x
+pub get_at : {A : Type 0} (list : List A) (at : ℕ) (x : A) (xs : List A) → drop at list ≡ x ∷ xs → slice_get list at ≡ Some x
 get_at [] zero x xs e = absurd (cc)
 get_at [] (suc at) x xs e = absurd (cc)
 get_at (y ∷ list) zero x xs e = let same : y ≡ x = cc in ap Some same
@@ -55,87 +55,6 @@ module _ (P : Program) where
   closing at (then (quot u) p t) c h b = rw (h.2, h.3.1) (c_quot u h.3.0 h.3.2 (closing (behind at (quot u)) t h.1 h.4 b.1))
   closing at (then _ p t) c h b = absurd b.0
 
-  -- what the words of a built program are
-  abbrev pub IsBuiltWord : Sort → Type 0
-  IsBuiltWord (prim k) = Unit {0}
-  IsBuiltWord (core k) = Unit {0}
-  IsBuiltWord (body t) = IsBuiltText P.top t
-  IsBuiltWord _ = ⊥
-
-  abbrev pub EachBuilt : List WordDef → Type 0
-  EachBuilt [] = Unit {0}
-  EachBuilt (d ∷ ds) = IsBuiltWord d.sort × EachBuilt ds
-
-  built_word : (d : WordDef) (s : Sort) → IsBuiltSort P.top d s → IsBuiltWord s
-  built_word d (prim k) h = tt
-  built_word d (core k) h = tt
-  built_word d (body t) h = h.text_built
-  built_word d _ h = absurd h
-
-  built_words : (ds : List WordDef) (d : WordDef) → AreBuiltWords P.top ds → IsBuiltWord d.sort → EachBuilt (ds ++ d ∷ [])
-  built_words [] d h k = (k, tt)
-  built_words (x ∷ ds) d h k = (built_word x x.sort h.0, built_words ds d h.1 k)
-
-  pub each_built : IsBuilt P → EachBuilt P.words
-  each_built b = rw b.words_are (built_words b.words b.phrase b.built (subst IsBuiltWord (sym b.phrase_is.sort_is) b.phrase_is.text_built))
-
-  -- the literals of a built program have built texts
-  abbrev Texts : List Quoted → Type 0
-  Texts [] = Unit {0}
-  Texts (l ∷ ls) = IsBuiltText P.top l.1 × Texts ls
-
-  texts_both : (ks ls : List Quoted) → Texts ks → Texts ls → Texts (ks ++ ls)
-  texts_both [] ls h k = k
-  texts_both (l ∷ ks) ls h k = (h.0, texts_both ks ls h.1 k)
-
-  texts_get : (ls : List Quoted) (k : ℕ) (l : Quoted) → Texts ls → slice_get ls k ≡ Some l → IsBuiltText P.top l.1
-  texts_get [] k l h e = absurd (cc)
-  texts_get (m ∷ ls) zero l h e = let same : m ≡ l = cc in subst (λ (q : Quoted). IsBuiltText P.top q.1) same h.0
-  texts_get (m ∷ ls) (suc k) l h e = texts_get ls k l h.1 e
-
-  text_texts : (at : Literal) (t : Text) → IsBuiltText P.top t → Texts (literals_in at t)
-  text_texts at end b = tt
-  text_texts at (then (lit (int z)) p t) b = text_texts (behind at (lit (int z))) t b.1
-  text_texts at (then (lit yes) p t) b = text_texts (behind at (lit yes)) t b.1
-  text_texts at (then (lit no) p t) b = text_texts (behind at (lit no)) t b.1
-  text_texts at (then (word w) p t) b = text_texts (behind at (word w)) t b.1
-  text_texts at (then (quot u) p t) b = (b.0, texts_both (literals_in (first_of_literal at) u) (literals_in (behind at (quot u)) t) (text_texts (first_of_literal at) u b.0) (text_texts (behind at (quot u)) t b.1))
-  text_texts at (then _ p t) b = absurd b.0
-
-  sort_texts : (w : ℕ) (s : Sort) → IsBuiltWord s → Texts (sort_literals w s)
-  sort_texts w (prim k) b = tt
-  sort_texts w (core k) b = tt
-  sort_texts w (body t) b = text_texts (first_of_word w) t b
-  sort_texts w _ b = absurd b
-
-  words_texts : (w : ℕ) (ds : List WordDef) → EachBuilt ds → Texts (word_literals w ds)
-  words_texts w [] b = tt
-  words_texts w (d ∷ ds) b = texts_both (sort_literals w d.sort) (word_literals (suc w) ds) (sort_texts w d.sort b.0) (words_texts (suc w) ds b.1)
-
-  pub literal_built : IsBuilt P → (k : ℕ) (l : Quoted) → slice_get (literals P) k ≡ Some l → IsBuiltText P.top l.1
-  literal_built b k l e = texts_get (literals P) k l (words_texts 0 P.words (each_built b)) e
-
-  -- words by their numbers
-  pub record WordClosed (w : ℕ) (d : WordDef) (cs : List WordDef) (at : ℕ) : Type 0 where
-    pub word : WordDef
-    pub there : slice_get cs at ≡ Some word
-    pub sort : ClosesSort P w d.sort word.sort
-
-  pub word_closed : (v : ℕ) (ds cs : List WordDef) (w : ℕ) (d : WordDef) → CloseWords P v ds cs → slice_get ds w ≡ Some d → WordClosed (v + w) d cs w
-  word_closed v [] cs w d h e = absurd (cc)
-  word_closed v (x ∷ ds) cs zero d h e =
-      let same : x ≡ d = cc in
-      let n : v ≡ v + zero = omega arith in
-      record {
-        word = h.0;
-        there = ap (λ (cs : List WordDef). slice_get cs 0) h.2;
-        sort = subst (λ (k : ℕ). ClosesSort P k d.sort h.0.sort) n (subst (λ (d : WordDef). ClosesSort P v d.sort h.0.sort) same h.3.sort);
-      }
-  word_closed v (x ∷ ds) cs (suc w) d h e =
-      let n : suc v + w ≡ v + suc w = omega arith in
-      let later = word_closed (suc v) ds h.1 w d h.4 e in
-      record { word = later.word; there = ap (λ (cs : List WordDef). slice_get cs (suc w)) h.2 ∙ later.there; sort = subst (λ (k : ℕ). ClosesSort P k d.sort later.word.sort) n later.sort }
-
   -- the primitives are the same
   same_numbers : (w : ℕ) (s c : Sort) (ks : List ℕ) → ClosesSort P w s c → numbers_before c ks ≡ numbers_before s ks
   same_numbers w (body t) c ks h = rw h.1 refl
@@ -154,36 +73,6 @@ module _ (P : Program) where
   pub same_primitives : (w : ℕ) (ds cs : List WordDef) → CloseWords P w ds cs → primitive_numbers cs ≡ primitive_numbers ds
   same_primitives w [] cs h = rw h refl
   same_primitives w (d ∷ ds) cs h = rw h.2 (same_numbers w d.sort h.0.sort (primitive_numbers h.1) h.3.sort ∙ ap (numbers_before d.sort) (same_primitives (suc w) ds h.1 h.4))
-
-  -- templates by their numbers
-  pub record LiteralClosed (l : Quoted) (ts : List Template) (k : ℕ) : Type 0 where
-    pub template : Template
-    pub there : slice_get ts k ≡ Some template
-    pub closes : ClosesLiteral P l template
-
-  pub literal_closed : (ls : List Quoted) (ts : List Template) (k : ℕ) (l : Quoted) → CloseLiterals P ls ts → slice_get ls k ≡ Some l → LiteralClosed l ts k
-  literal_closed [] ts k l h e = absurd (cc)
-  literal_closed (m ∷ ls) ts zero l h e = let same : m ≡ l = cc in record { template = h.0; there = ap (λ (ts : List Template). slice_get ts 0) h.2; closes = subst (λ (q : Quoted). ClosesLiteral P q h.0) same h.3 }
-  literal_closed (m ∷ ls) ts (suc k) l h e = let later = literal_closed ls h.1 k l h.4 e in record { template = later.template; there = ap (λ (ts : List Template). slice_get ts (suc k)) h.2 ∙ later.there; closes = later.closes }
-
-  pub record TemplateOf (ls : List Quoted) (k : ℕ) (t : Template) : Type 0 where
-    pub quoted : Quoted
-    pub there : slice_get ls k ≡ Some quoted
-    pub closes : ClosesLiteral P quoted t
-
-  -- each template is that of a literal
-  template_in : (t : Template) (ls : List Quoted) (ts us : List Template) (k : ℕ) → ts ≡ us → CloseLiterals P ls ts → slice_get us k ≡ Some t → TemplateOf ls k t
-  template_in t [] ts us k same h e = let none : us ≡ [] = sym same ∙ h in absurd (let gone : slice_get [] k ≡ Some t = rw none at e in cc)
-  template_in t (l ∷ ls) ts [] k same h e = absurd (cc)
-  template_in t (l ∷ ls) ts (u ∷ us) zero same h e = let is : u ≡ t = cc in let first : h.0 ≡ u = let both : h.0 ∷ h.1 ≡ u ∷ us = sym h.2 ∙ same in cc in record { quoted = l; there = refl; closes = subst (ClosesLiteral P l) (first ∙ is) h.3 }
-  template_in t (l ∷ ls) ts (u ∷ us) (suc k) same h e =
-      let both : h.0 ∷ h.1 ≡ u ∷ us = sym h.2 ∙ same in
-      let tail : h.1 ≡ us = cc in
-      let later = template_in t ls h.1 us k tail h.4 e in
-      record { quoted = later.quoted; there = later.there; closes = later.closes }
-
-  pub template_of : (ls : List Quoted) (ts : List Template) (k : ℕ) (t : Template) → CloseLiterals P ls ts → slice_get ts k ≡ Some t → TemplateOf ls k t
-  template_of ls ts k t h e = template_in t ls ts ts k refl h e
 
   -- templates of two lists of literals
   pub record Split (ks ls : List Quoted) (ts : List Template) : Type 0 where
@@ -259,5 +148,5 @@ module _ (P : Program) where
       numbered (inl none) = inl none
       numbered (inr f) =
           let there : slice_get (literals P) k ≡ Some f.quoted = get_at (literals P) k f.quoted (f.more ++ more) (e ∙ ap (λ (ls : List Quoted). ls ++ more) f.are) in
-          let listed = is_listed P (first_template c) f.quoted (in_a_word P k f.quoted there) f.numbered in
-          inr (is_numbered P (first_template c) k f.quoted listed there)
+          let here : literal_numbered P k ≡ f.quoted = ap (literal_or P k) there in
+          inr (literal_apart P (first_template c) k (ap (λ (l : Quoted). l.0) (f.numbered ∙ sym here)))

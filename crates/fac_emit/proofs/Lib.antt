@@ -1,7 +1,10 @@
 pub mod SamePrimitives
 pub mod KeptPrimitives
 pub mod Simulation
-pub mod Places
+pub mod LiteralWords
 pub mod Closings
 pub mod BuiltWords
 pub mod FirstWords
+pub mod Placed
+pub mod BuiltCode
+pub mod Carrying

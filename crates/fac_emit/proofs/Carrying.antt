@@ -1,0 +1,53 @@
+-- The image of plain code carries its program.
+use Rattle.std.proofs.Common.{◌≡◌, ◌≢◌, ℕ, List, [], Option, None, Some, refl, ap, sym, subst, ◌∙◌}
+use Rattle.std.specs.Prelude.{slice_get}
+use Rattle.fac_lang.specs.declared.phrase.Template.{Template}
+use Rattle.fac_lang.specs.declared.program.Program.{Program}
+use Rattle.fac_lang.specs.declared.program.Lit.{Lit}
+use Rattle.fac_lang.specs.Texts.{Value}
+use Rattle.fac_lang.specs.World.{State}
+use Rattle.fac_lang.specs.Forms.{IsBuilt}
+use Rattle.fac_lang.specs.Eval.{Result, Done, Failed, Spent, Stuck, eval}
+use Rattle.fac_lang.specs.Meaning.{names, act, start, word_text, with_arrays}
+use Rattle.fac_lang.specs.RunningLaws.{IsNotStuck}
+use Rattle.fac_locals.specs.Closed.{Closes}
+use Rattle.fac_code.specs.declared.image.Instr.TheVariants.{Halt}
+use Rattle.fac_code.specs.declared.image.Image.{Image}
+use Rattle.fac_code.specs.declared.image.Action.TheVariants.{Code as code_action}
+use Rattle.fac_code.specs.declared.image.WordRow.{WordRow}
+use Rattle.fac_vm.specs.Machine.{End, Ends, starting, empty_world}
+use Rattle.fac_emit.specs.View.{template_texts, state_view}
+use Rattle.fac_emit.specs.Carries.{SameEnd, Carries, IsNeverStuck, top_run}
+use Rattle.fac_emit.specs.Code.{IsPlain}
+use Rattle.fac_emit.specs.Stands.{Stands}
+use Rattle.fac_emit.proofs.Simulation.{carried}
+use Rattle.fac_emit.proofs.Placed.{coded, top_stands}
+
+no_literals : (P : Program) → IsBuilt P → (input : List ℕ) → start P input ≡ record { stack = []; world = record { objects = []; literals = []; input = input; output = [] } }
+no_literals P b input = ap (λ (arrays : List (List Lit)). record { stack = []; world = with_arrays P 0 arrays (record { objects = []; literals = []; input = input; output = [] }) }) b.no_arrays
+
+not_stuck : (r : Result) → IsNotStuck r → r ≢ Stuck
+not_stuck (Done st m) h e = cc
+not_stuck (Failed x st m) h e = cc
+not_stuck (Spent st i) h e = cc
+not_stuck Stuck h e = absurd h
+
+-- the place of a row's code
+abbrev place_of : Option WordRow → ℕ
+place_of None = 0
+place_of (Some r) = elim r.action [ code_action a ↦ a | _ ↦ 0 ]
+
+pub carries : (P C : Program) (templates : List Template) (M : Image) → IsBuilt P → Closes P C templates → IsPlain C templates M → IsNeverStuck P → Carries P M
+carries P C templates M b closes is_plain never = record {
+  same_end = λ fits callable_height n.
+      let text = word_text P P.top in
+      let T = template_texts P in
+      let top = top_stands P C templates M b closes is_plain in
+      let begins : slice_get M.words P.top ≡ Some (record { action = code_action M.start }) = sym (ap (slice_get M.words) closes.top) ∙ is_plain.begins in
+      let there : top.0 ≡ M.start = ap place_of (sym top.1 ∙ begins) in
+      let stands = subst (λ (a : ℕ). Stands P M T Halt [] a text) there top.2 in
+      let begin : state_view T [] empty_world ≡ start P [] = sym (no_literals P b []) in
+      let never_stuck = not_stuck (top_run P fits callable_height n) (never fits callable_height n) in
+      subst (λ (st : State Value). (e : End) × Ends M (names P) (starting M []) n e × SameEnd T (eval (act P fits callable_height) n text st n) e) begin
+      (carried P fits callable_height M T (coded P C templates M b closes is_plain) M.start text stands [] empty_world (record { cells = tt; values = tt; objects = tt }) n (subst (λ (st : State Value). eval (act P fits callable_height) n text st n ≢ Stuck) (sym begin) never_stuck));
+}
