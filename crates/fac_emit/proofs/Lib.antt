@@ -8,3 +8,4 @@ pub mod FirstWords
 pub mod Placed
 pub mod BuiltCode
 pub mod Carrying
+pub mod EmitLemmas

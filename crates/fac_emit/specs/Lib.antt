@@ -3,3 +3,4 @@ pub mod Carries
 pub mod Whole
 pub mod Stands
 pub mod Code
+pub mod Pieces
