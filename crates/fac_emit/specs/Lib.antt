@@ -4,3 +4,4 @@ pub mod Whole
 pub mod Stands
 pub mod Code
 pub mod Pieces
+pub mod Parts

@@ -1,8 +1,8 @@
 //! Compilation of closed programs to images.
 #![tactic(auto)]
 
-
-
+mod compiler;
 mod emitter;
 
+pub use compiler::compile;
 pub use emitter::{Piece, emit_word};
