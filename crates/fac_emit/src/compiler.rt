@@ -55,11 +55,7 @@ fn moved(place: u32, row: TemplateRow) -> Result<TemplateRow, Memory>
 }
 
 // Adds the rows of a piece that stands at a place.
-fn add_rows(
-    rows: &mut List<TemplateRow>,
-    place: u32,
-    more: List<TemplateRow>,
-) -> Result<(), Memory>
+fn add_rows(rows: &mut List<TemplateRow>, place: u32, more: List<TemplateRow>) -> Result<(), Memory>
     ensures { OnOk result (rows.new ≡ rows.old ++ map (moved_row place) more) }
 {
     for row in more.into_vec() {

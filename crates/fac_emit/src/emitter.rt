@@ -171,12 +171,7 @@ fn last(is_top: bool) -> Instr
 }
 
 // The piece of a word that is defined by this text.
-fn emit_text(
-    alloc: Global,
-    closed: &Closed,
-    is_top: bool,
-    phrase: &Phrase,
-) -> Result<Piece, Memory>
+fn emit_text(alloc: Global, closed: &Closed, is_top: bool, phrase: &Phrase) -> Result<Piece, Memory>
     ensures { IfOk result (λ piece. (piece.code ≡ sort_code closed.now.program.words closed.now.templates is_top (Sort.Body phrase.now)) × (piece.templates ≡ sort_rows closed.now.program.words closed.now.templates 0 is_top (Sort.Body phrase.now))) }
 {
     let mut code = List::new(alloc);
@@ -184,7 +179,14 @@ fn emit_text(
     let words = &closed.program.words;
     add_text(&mut code, words, phrase, last(is_top))?;
     let inner = from_number(&closed.templates, first_template(phrase));
-    add_templates(alloc, &mut code, &mut templates, words, inner, quotations(phrase))?;
+    add_templates(
+        alloc,
+        &mut code,
+        &mut templates,
+        words,
+        inner,
+        quotations(phrase),
+    )?;
     Ok(Piece { code, templates })
 }
 

@@ -3,6 +3,8 @@
 
 mod compiler;
 mod emitter;
+#[cfg(test)]
+mod tests;
 
 pub use compiler::compile;
 pub use emitter::{Piece, emit_word};
