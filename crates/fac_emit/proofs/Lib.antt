@@ -1,5 +1,11 @@
 pub mod SamePrimitives
-pub mod FirstWords
+pub mod KeptPrimitives
 pub mod Simulation
+pub mod LiteralWords
+pub mod Closings
+pub mod BuiltWords
+pub mod FirstWords
 pub mod Placed
+pub mod BuiltCode
 pub mod Carrying
+pub mod EmitLemmas

@@ -1,131 +1,308 @@
--- The code of a program stands for its texts.
-use Rattle.std.proofs.Common.{◌≡◌, ◌<◌, ℕ, zero, suc, ◌+◌, List, [], ◌∷◌, ◌++◌, length, drop, Bool, true, false, Some, refl, ap, sym, subst, ◌∙◌, arith}
+-- The plain code of a closed program stands for the texts of its program.
+use Rattle.std.proofs.Common.{◌≡◌, ◌<◌, ℕ, zero, suc, ◌+◌, List, [], ◌∷◌, ◌++◌, length, drop, Bool, true, false, Option, Some, None, refl, ap, sym, subst, ◌∙◌, arith, ◌⊎◌, inl, inr, append_assoc, length-append}
 use Rattle.std.proofs.lemmas.Bool.{ltb-true, ne_eqb}
-use Rattle.std.proofs.Math.Seq.{drop-append_seam}
-use Rattle.std.specs.Prelude.{nat_eq, slice_get}
+use Rattle.std.specs.Prelude.{ℤ, nat_eq, slice_get}
+use Rattle.fac_lang.specs.declared.phrase.Template.{Template}
 use Rattle.fac_lang.specs.declared.program.Program.{Program}
 use Rattle.fac_lang.specs.declared.program.WordDef.{WordDef}
 use Rattle.fac_lang.specs.declared.program.Sort.{Sort}
-use Rattle.fac_lang.specs.declared.program.Sort.TheVariants.{Prim as prim_sort, Body as body}
-use Rattle.fac_lang.specs.Texts.{Plain, int, Text, end, then, Item, lit, word}
-use Rattle.fac_lang.specs.Built.{IsBuilt, IsBuiltItem, IsBuiltText, IsBuiltSort}
-use Rattle.fac_lang.specs.Meaning.{sort_of, word_text}
-use Rattle.fac_lang.proofs.BuiltLemmas.{word_below, sort_at, top_word, top_text, all_distinct}
-use Rattle.fac_vm.specs.declared.image.Instr.{Instr}
-use Rattle.fac_vm.specs.declared.image.Instr.TheVariants.{Halt, Prim}
-use Rattle.fac_vm.specs.declared.image.Action.TheVariants.{Code as code_action}
-use Rattle.fac_vm.specs.declared.image.Image.{Image}
-use Rattle.fac_vm.specs.declared.image.WordRow.{WordRow}
+use Rattle.fac_lang.specs.declared.program.Sort.TheVariants.{Prim as prim_sort, Core as core_sort, Body as body, Past as past, Itself as itself, Class as class, Isa as isa, Getter as getter, Setter as setter, Putter as putter, Generic as generic, Method as method}
+use Rattle.fac_lang.specs.Texts.{int, Literal, Text, end, then, Item, lit, quot, word, made}
+use Rattle.fac_lang.specs.Forms.{IsBuilt, IsBuiltText, IsBuiltSort, is_built_core, has_no_repeats}
+use Rattle.fac_lang.specs.Meaning.{sort_of, word_text, core_numbered}
+use Rattle.fac_locals.specs.Literals.{Quoted, first_of_word, first_of_literal, behind, literals_in, sort_literals, word_literals, literals, literal_or, literal_numbered}
+use Rattle.fac_locals.specs.Closed.{Closes, ClosesText, ClosesSort, ClosesWord, CloseWords, ClosesLiteral, CloseLiterals}
+use Rattle.fac_locals.proofs.ClosedPrograms.{HasBuiltText, HaveBuiltTexts, built_texts}
+use Rattle.fac_locals.proofs.Places.{literal_built}
+use Rattle.fac_locals.proofs.Lookups.{word_closed, template_closed, template_closed_none, templates_count}
+use Rattle.fac_code.specs.declared.image.Instr.{Instr}
+use Rattle.fac_code.specs.declared.image.Instr.TheVariants.{Halt, Int, True, False, Quot, Prim, Callw, Call, Dip, If, Ret}
+use Rattle.fac_code.specs.declared.image.Action.TheVariants.{Code as code_action}
+use Rattle.fac_code.specs.declared.image.Image.{Image}
+use Rattle.fac_code.specs.declared.image.TemplateRow.{TemplateRow}
+use Rattle.fac_code.specs.declared.image.WordRow.{WordRow}
+use Rattle.fac_prim.specs.Cells.{MValue, kept_list, cells_at}
 use Rattle.fac_vm.specs.Machine.{word_of_prim}
-use Rattle.fac_emit.specs.Code.{item_instr, word_instr, sort_instr, text_code, last_instr, sort_code, sort_action, piece, code_from, rows_from, program_code, word_rows}
-use Rattle.fac_emit.specs.Stands.{Translates, t_int, t_prim, t_word, Stands, s_end, s_item, Coded}
+use Rattle.fac_emit.specs.View.{template_texts}
+use Rattle.fac_emit.specs.Code.{core_instr, sort_instr, word_instr, item_instr, text_code, quotations, first_template, templates_code, row_at, template_rows, last_instr, sort_action, sort_code, sort_rows, piece, code_from, words_from, templates_from, program_code, IsPlain}
+use Rattle.fac_emit.specs.Stands.{Translates, t_int, t_true, t_false, t_quot, t_prim, t_word, t_call, t_dip, t_if, Stands, s_end, s_item, Coded}
+use Rattle.fac_emit.proofs.LiteralWords.{in_a_word, is_listed}
+use Rattle.fac_emit.proofs.Closings.{drop_behind, get_at, Closing, c_end, c_int, c_true, c_false, c_word, c_quot, closing, same_primitives, Split, split, Forest, text_forest, first_number}
+use Rattle.fac_emit.proofs.BuiltWords.{word_below, sort_at, top_word, top_text, all_distinct}
 use Rattle.fac_emit.proofs.FirstWords.{first_with}
 
 -- the code from a place on
 code_at : (code : List Instr) (pc : ℕ) (i : Instr) (rest : List Instr) → drop pc code ≡ i ∷ rest → (slice_get code pc ≡ Some i) × (drop (pc + 1) code ≡ rest)
-code_at [] zero i rest e = absurd (cc)
-code_at [] (suc pc) i rest e = absurd (cc)
-code_at (j ∷ js) zero i rest e = let same : j ≡ i = cc in let tail : js ≡ rest = cc in (ap Some same, tail)
-code_at (j ∷ js) (suc pc) i rest e = let found = code_at js pc i rest e in let more : suc pc + 1 ≡ suc (pc + 1) = omega arith in (found.0, rw more found.1)
+code_at code pc i rest e = (get_at code pc i rest e, drop_behind code pc (i ∷ []) rest e)
 
--- the code behind a part of it
-behind_none : (xs ys : List Instr) → [] ≡ xs ++ ys → [] ≡ ys
-behind_none [] ys e = e
-behind_none (x ∷ xs) ys e = absurd (cc)
+get_other : {A B : Type 0} (xs : List A) (ys : List B) (k : ℕ) (x : A) → length xs ≡ length ys → slice_get xs k ≡ Some x → (y : B) × (slice_get ys k ≡ Some y)
+get_other [] ys k x n e = absurd (cc)
+get_other (z ∷ xs) [] k x n e = absurd (omega (arith, n))
+get_other (z ∷ xs) (y ∷ ys) zero x n e = (y, refl)
+get_other (z ∷ xs) (y ∷ ys) (suc k) x n e = get_other xs ys k x (omega (arith, n)) e
 
-code_behind : (code : List Instr) (at : ℕ) (xs ys : List Instr) → drop at code ≡ xs ++ ys → drop (at + length xs) code ≡ ys
-code_behind code zero xs ys e = let none : 0 + length xs ≡ length xs = omega arith in rw none (ap (drop (length xs)) e ∙ drop-append_seam xs ys)
-code_behind [] (suc at) xs ys e = let more : suc at + length xs ≡ suc (at + length xs) = omega arith in rw more (behind_none xs ys e)
-code_behind (c ∷ code) (suc at) xs ys e = let more : suc at + length xs ≡ suc (at + length xs) = omega arith in rw more (code_behind code at xs ys e)
+regroup : (code xs ys zs : List Instr) → code ≡ (xs ++ ys) ++ zs → code ≡ xs ++ (ys ++ zs)
+regroup code xs ys zs e = e ∙ append_assoc xs ys zs
 
-module _ (P : Program) where
+-- Where the rows of templates are, and the code of each.
+module _ (words : List WordDef) (code : List Instr) where
+  pub record IsRowOf (r : TemplateRow) (t : Template) : Type 0 where
+    pub at : ℕ
+    pub row : r ≡ row_at at t
+    pub more : List Instr
+    pub there : drop at code ≡ text_code words Ret t.body ++ more
+
+  abbrev pub Rows : List TemplateRow → List Template → Type 0
+  Rows [] [] = Unit {0}
+  Rows (r ∷ rs) (t ∷ ts) = IsRowOf r t × Rows rs ts
+  Rows _ _ = ⊥
+
+  rows_both : (rs qs : List TemplateRow) (ts us : List Template) → Rows rs ts → Rows qs us → Rows (rs ++ qs) (ts ++ us)
+  rows_both [] qs [] us h k = k
+  rows_both [] qs (t ∷ ts) us h k = absurd h
+  rows_both (r ∷ rs) qs [] us h k = absurd h
+  rows_both (r ∷ rs) qs (t ∷ ts) us h k = (h.0, rows_both rs qs ts us h.1 k)
+
+  pub record RowThere (rs : List TemplateRow) (k : ℕ) (t : Template) : Type 0 where
+    pub row : TemplateRow
+    pub there : slice_get rs k ≡ Some row
+    pub of : IsRowOf row t
+
+  pub row_of : (rs : List TemplateRow) (ts : List Template) (k : ℕ) (t : Template) → Rows rs ts → slice_get ts k ≡ Some t → RowThere rs k t
+  row_of [] [] k t h e = absurd (cc)
+  row_of [] (u ∷ ts) k t h e = absurd h
+  row_of (r ∷ rs) [] k t h e = absurd h
+  row_of (r ∷ rs) (u ∷ ts) zero t h e = let same : u ≡ t = cc in record { row = r; there = refl; of = subst (IsRowOf r) same h.0 }
+  row_of (r ∷ rs) (u ∷ ts) (suc k) t h e = let later = row_of rs ts k t h.1 e in record { row = later.row; there = later.there; of = later.of }
+
+  pub record TemplateThere (ts : List Template) (k : ℕ) (r : TemplateRow) : Type 0 where
+    pub template : Template
+    pub there : slice_get ts k ≡ Some template
+    pub of : IsRowOf r template
+
+  pub template_at : (rs : List TemplateRow) (ts : List Template) (k : ℕ) (r : TemplateRow) → Rows rs ts → slice_get rs k ≡ Some r → TemplateThere ts k r
+  template_at [] [] k r h e = absurd (cc)
+  template_at [] (u ∷ ts) k r h e = absurd h
+  template_at (q ∷ rs) [] k r h e = absurd h
+  template_at (q ∷ rs) (u ∷ ts) zero r h e = let same : q ≡ r = cc in record { template = u; there = refl; of = subst (λ (r : TemplateRow). IsRowOf r u) same h.0 }
+  template_at (q ∷ rs) (u ∷ ts) (suc k) r h e = let later = template_at rs ts k r h.1 e in record { template = later.template; there = later.there; of = later.of }
+
+  -- templates whose code stands one behind the other
+  forest_rows : (P : Program) (n at : ℕ) (ts us : List Template) (more : List Instr) → Forest P n ts → drop at code ≡ templates_code words n (ts ++ us) ++ more → Rows (template_rows words at n (ts ++ us)) ts
+  forest_rows P zero at [] us more h e = tt
+  forest_rows P zero at (t ∷ ts) us more h e = absurd h
+  forest_rows P (suc n) at [] us more h e = absurd h
+  forest_rows P (suc n) at (t ∷ ts) us more h e =
+      let own = text_code words Ret t.body in
+      let others = templates_code words (n + quotations t.body) (ts ++ us) in
+      let there = regroup (drop at code) own others more e in
+      (record { at = at; row = refl; more = others ++ more; there = there }, forest_rows P (n + quotations t.body) (at + length own) ts us more h (drop_behind code at own (others ++ more) there))
+
+-- one of two places is the same where no template is to follow
+code_from_place : (words : List WordDef) (templates : List Template) (n f k : ℕ) → (n ≡ 0) ⊎ (f ≡ k) → templates_code words n (drop f templates) ≡ templates_code words n (drop k templates)
+code_from_place words templates n f k (inl none) = rw none refl
+code_from_place words templates n f k (inr same) = ap (λ (k : ℕ). templates_code words n (drop k templates)) same
+
+rows_from_place : (words : List WordDef) (templates : List Template) (at n f k : ℕ) → (n ≡ 0) ⊎ (f ≡ k) → template_rows words at n (drop f templates) ≡ template_rows words at n (drop k templates)
+rows_from_place words templates at n f k (inl none) = rw none refl
+rows_from_place words templates at n f k (inr same) = ap (λ (k : ℕ). template_rows words at n (drop k templates)) same
+
+module _ (P : Program) (words : List WordDef) (templates : List Template) (top : ℕ) (code : List Instr) where
+  -- the templates of a text, whose code stands behind the text's
+  text_rows : (w k at : ℕ) (is_top : Bool) (t c : Text) (ts us : List Template) (ls : List Quoted) (more : List Instr) → ClosesText P (first_of_word w) t c → IsBuiltText P.top t → CloseLiterals P (literals_in (first_of_word w) t) ts → drop k (literals P) ≡ literals_in (first_of_word w) t ++ ls → drop k templates ≡ ts ++ us → drop at code ≡ sort_code words templates is_top (body c) ++ more → Rows words code (sort_rows words templates at is_top (body c)) ts
+  text_rows w k at is_top t c ts us ls more h b l number all e =
+      let own = text_code words (last_instr is_top) c in
+      let n = quotations c in
+      let start = first_number P (first_of_word w) t c k ls (closing P (first_of_word w) t c h b) number in
+      let there = drop_behind code at own (templates_code words n (drop (first_template c) templates) ++ more) (regroup (drop at code) own (templates_code words n (drop (first_template c) templates)) more e) in
+      let same = code_from_place words templates n (first_template c) k start ∙ ap (templates_code words n) all in
+      let placed = forest_rows words code P n (at + length own) ts us more (text_forest P (first_of_word w) t c ts h b l) (there ∙ ap (λ (c : List Instr). c ++ more) same) in
+      subst (λ (rs : List TemplateRow). Rows words code rs ts) (sym (rows_from_place words templates (at + length own) n (first_template c) k start ∙ ap (template_rows words (at + length own) n) all)) placed
+
+  no_rows : (rs : List TemplateRow) (ts : List Template) → rs ≡ [] → ts ≡ [] → Rows words code rs ts
+  no_rows rs ts e f = rw (e, f) tt
+
+  rows_of_sort : (w k at : ℕ) (is_top : Bool) (s c : Sort) (ts us : List Template) (ls : List Quoted) (more : List Instr) → ClosesSort P w s c → HasBuiltText P.top s → CloseLiterals P (sort_literals w s) ts → drop k (literals P) ≡ sort_literals w s ++ ls → drop k templates ≡ ts ++ us → drop at code ≡ sort_code words templates is_top c ++ more → Rows words code (sort_rows words templates at is_top c) ts
+  rows_of_sort w k at is_top (body t) c ts us ls more h b l number all e =
+      rw h.1 (text_rows w k at is_top t h.0 ts us ls more h.2 b l number all (e ∙ ap (λ (s : Sort). sort_code words templates is_top s ++ more) h.1))
+  rows_of_sort w k at is_top (past t) c ts us ls more h b l number all e = absurd b
+  rows_of_sort w k at is_top (method n g t) c ts us ls more h b l number all e = absurd b
+  rows_of_sort w k at is_top s c ts us ls more h b l number all e = no_rows _ ts (ap (sort_rows words templates at is_top) h) l
+
+  -- the templates of words
+  pub rows_of_words : (k at v : ℕ) (ds cs : List WordDef) (ts : List Template) → CloseWords P v ds cs → HaveBuiltTexts P.top ds → CloseLiterals P (word_literals v ds) ts → drop k (literals P) ≡ word_literals v ds → drop k templates ≡ ts → drop at code ≡ code_from words templates top v cs → Rows words code (templates_from words templates top at v cs) ts
+  rows_of_words k at v [] cs ts h b l number all e = rw (h, l) tt
+  rows_of_words k at v (d ∷ ds) cs ts h b l number all e =
+      let c = h.0 in
+      let parts = split P (sort_literals v d.sort) (word_literals (suc v) ds) ts l in
+      let own = piece words templates top v c in
+      let others = code_from words templates top (suc v) h.1 in
+      let here : drop at code ≡ own ++ others = e ∙ ap (code_from words templates top v) h.2 in
+      let both : drop k templates ≡ parts.front ++ parts.back = all ∙ parts.are in
+      let first = rows_of_sort v k at (nat_eq v top) d.sort c.sort parts.front parts.back (word_literals (suc v) ds) others h.3.sort b.0 parts.front_closes number both here in
+      let behind = drop_behind (literals P) k (sort_literals v d.sort) (word_literals (suc v) ds) number in
+      let left = ap (λ (n : ℕ). drop (k + n) templates) (sym parts.count) ∙ drop_behind templates k parts.front parts.back both in
+      let later = rows_of_words (k + length (sort_literals v d.sort)) (at + length own) (suc v) ds h.1 parts.back h.4 b.1 parts.back_closes behind left (drop_behind code at own others here) in
+      rw (h.2, parts.are) (rows_both words code (sort_rows words templates at (nat_eq v top) c.sort) (templates_from words templates top (at + length own) (suc v) h.1) parts.front parts.back first later)
+
   -- a word's row, and the place of its code
-  pub record Placed (code : List Instr) (rows : List WordRow) (w v : ℕ) (d : WordDef) : Type 0 where
+  pub record Placed (rows : List WordRow) (w v : ℕ) (d : WordDef) : Type 0 where
     pub at : ℕ
     pub row : slice_get rows w ≡ Some (record { action = sort_action at d.sort })
     pub more : List Instr
-    pub there : drop at code ≡ piece P v d ++ more
+    pub there : drop at code ≡ piece words templates top v d ++ more
 
-  pub placed : (code : List Instr) (at v : ℕ) (ds : List WordDef) (w : ℕ) (d : WordDef) → drop at code ≡ code_from P v ds → slice_get ds w ≡ Some d → Placed code (rows_from P at v ds) w (v + w) d
-  placed code at v [] w d e found = absurd (cc)
-  placed code at v (x ∷ ds) zero d e found =
+  pub placed : (at v : ℕ) (ds : List WordDef) (w : ℕ) (d : WordDef) → drop at code ≡ code_from words templates top v ds → slice_get ds w ≡ Some d → Placed (words_from words templates top at v ds) w (v + w) d
+  placed at v [] w d e found = absurd (cc)
+  placed at v (x ∷ ds) zero d e found =
       let same : x ≡ d = cc in
       let number : v + zero ≡ v = omega arith in
+      let others = code_from words templates top (suc v) ds in
       record {
         at = at;
         row = ap (λ (d : WordDef). Some (record { action = sort_action at d.sort })) same;
-        more = code_from P (suc v) ds;
-        there = e ∙ ap (λ (d : WordDef). piece P v d ++ code_from P (suc v) ds) same ∙ ap (λ (k : ℕ). piece P k d ++ code_from P (suc v) ds) (sym number);
+        more = others;
+        there = e ∙ ap (λ (d : WordDef). piece words templates top v d ++ others) same ∙ ap (λ (k : ℕ). piece words templates top k d ++ others) (sym number);
       }
-  placed code at v (x ∷ ds) (suc w) d e found =
-      let later = placed code (at + length (piece P v x)) (suc v) ds w d (code_behind code at (piece P v x) (code_from P (suc v) ds) e) found in
+  placed at v (x ∷ ds) (suc w) d e found =
+      let own = piece words templates top v x in
+      let later = placed (at + length own) (suc v) ds w d (drop_behind code at own (code_from words templates top (suc v) ds) e) found in
       let number : suc v + w ≡ v + suc w = omega arith in
-      record {
-        at = later.at;
-        row = later.row;
-        more = later.more;
-        there = later.there ∙ ap (λ (k : ℕ). piece P k d ++ later.more) number;
-      }
+      record { at = later.at; row = later.row; more = later.more; there = later.there ∙ ap (λ (k : ℕ). piece words templates top k d ++ later.more) number }
 
--- the row of the top-level phrase, whatever the code is
-pub top_row : (P : Program) → IsBuilt P → (rows : List WordRow) → rows ≡ word_rows P → (a : ℕ) × (slice_get rows P.top ≡ Some (record { action = code_action a }))
-top_row P b rows e =
-    let put = placed P (program_code P) 0 0 P.words P.top b.phrase refl (top_word P b) in
-    (put.at, ap (λ (rs : List WordRow). slice_get rs P.top) e ∙ put.row ∙ ap (λ (s : Sort). Some (record { action = sort_action put.at s })) b.phrase_is.sort_is)
+-- A plain image of a closed program that stands for a built one.
+module _ (P C : Program) (templates : List Template) (M : Image) (b : IsBuilt P) (closes : Closes P C templates) (is_plain : IsPlain C templates M) where
+  all_rows : Rows C.words M.code M.templates templates
+  all_rows =
+      subst (λ (rs : List TemplateRow). Rows C.words M.code rs templates) (sym is_plain.template_rows_are) (rows_of_words P C.words templates C.top M.code 0 0 0 P.words C.words templates closes.words (built_texts P b) closes.templates_are refl refl is_plain.code)
 
-module _ (P : Program) (M : Image) (b : IsBuilt P) (rows : M.words ≡ word_rows P) where
-  first_word : (w k : ℕ) (d : WordDef) → slice_get P.words w ≡ Some d → d.sort ≡ prim_sort k → word_of_prim k 0 M.words ≡ w
-  first_word w k d at is = ap (word_of_prim k 0) rows ∙ first_with P 0 0 P.words w 0 k d at is (all_distinct P b) ∙ (omega arith)
+  -- the row of the template that makes a quotation
+  pub record RowFor (q : ℕ) : Type 0 where
+    pub row : TemplateRow
+    pub there : slice_get M.templates q ≡ Some row
+    pub cells : row.cells ≡ []
+    pub holes : row.holes ≡ 0
 
-  instr_is : (w : ℕ) (d : WordDef) (s : Sort) → slice_get P.words w ≡ Some d → d.sort ≡ s → item_instr P.words (word w) ≡ sort_instr w s
-  instr_is w d s at is = ap (word_instr w) at ∙ ap (sort_instr w) is
+  row_or : (q : ℕ) (l : Quoted) (o : Option Template) → slice_get (literals P) q ≡ Some l → slice_get templates q ≡ o → RowFor q
+  row_or q l None listed e = let none = template_closed_none P C templates closes q e in absurd (let clash : None ≡ Some l = sym none ∙ listed in cc)
+  row_or q l (Some t) listed e =
+      let found = row_of C.words M.code M.templates templates q t all_rows e in
+      let closed = template_closed P C templates closes q t e in
+      record { row = found.row; there = found.there; cells = ap (λ (r : TemplateRow). r.cells) found.of.row ∙ closed.captures; holes = ap (λ (r : TemplateRow). r.holes) found.of.row ∙ closed.holes }
 
-  word_translates : (F : List Plain) (w : ℕ) (d : WordDef) (s : Sort) → w < P.top → slice_get P.words w ≡ Some d → d.sort ≡ s → IsBuiltSort P.top d s → Translates P M F (word w) (item_instr P.words (word w))
-  word_translates F w d (prim_sort k) lt at is h = rw (instr_is w d (prim_sort k) at is) (t_prim w k (sort_at P w d at ∙ ap Some is) h.is_built (first_word w k d at is))
-  word_translates F w d (body t) lt at is h = rw (instr_is w d (body t) at is) (t_word w t lt (sort_at P w d at ∙ ap Some is))
-  word_translates F w d _ lt at is h = absurd h
+  quotation_row : (q : ℕ) (l : Quoted) → l.0.word < length P.words → literal_numbered P q ≡ l → RowFor q
+  quotation_row q l lt e = row_or q l (slice_get templates q) (is_listed P q l lt e) refl
 
-  item_translates : (F : List Plain) (i : Item) → IsBuiltItem P.top i → Translates P M F i (item_instr P.words i)
-  item_translates F (lit (int z)) h = t_int z
-  item_translates F (word w) h = let lt = ltb-true w P.top h in let found = word_below P b w lt in word_translates F w found.def found.def.sort lt found.at refl found.built
-  item_translates F _ h = absurd h
+  -- the item of a word
+  first_word : (w k : ℕ) (c : WordDef) → slice_get C.words w ≡ Some c → c.sort ≡ prim_sort k → word_of_prim k 0 M.words ≡ w
+  first_word w k c at is =
+      let numbers = same_primitives P 0 P.words C.words closes.words in
+      ap (word_of_prim k 0) is_plain.word_rows_are ∙ first_with C.words templates C.top 0 0 C.words w 0 k c at is (ap has_no_repeats numbers ∙ all_distinct P b) ∙ (omega arith)
 
-  -- the code of a text stands for it under every frame, since no value is put into a frame yet
-  pub text_stands : (last : Instr) (F : List Plain) (pc : ℕ) (t : Text) (more : List Instr) → IsBuiltText P.top t → drop pc M.code ≡ text_code P.words last t ++ more → Stands P M last F pc t
-  text_stands last F pc end more h e = s_end (code_at M.code pc last more e).0
-  text_stands last F pc (then i p t) more h e =
-      let found = code_at M.code pc (item_instr P.words i) (text_code P.words last t ++ more) e in s_item (item_instr P.words i) found.0 (item_translates F i h.0) (text_stands last F (pc + 1) t more h.1 found.1)
+  instr_is : (w : ℕ) (c : WordDef) (s : Sort) → slice_get C.words w ≡ Some c → c.sort ≡ s → item_instr C.words (word w) ≡ sort_instr w s
+  instr_is w c s at is = ap (word_instr w) at ∙ ap (sort_instr w) is
+
+  core_translates : (F : List MValue) (w k : ℕ) → is_built_core k ≡ true → sort_of P w ≡ Some (core_sort k) → Translates P M (template_texts P) F (word w) (core_instr k)
+  unfolding core_numbered
+  core_translates F w zero h e = t_call w 0 e refl
+  core_translates F w (suc zero) h e = t_dip w 1 e refl
+  core_translates F w (suc (suc zero)) h e = t_if w 2 e refl
+  core_translates F w (suc (suc (suc k))) h e = absurd (let lt : suc (suc (suc k)) < 3 = ltb-true (suc (suc (suc k))) 3 h in omega (arith, lt))
+
+  word_translates : (F : List MValue) (w : ℕ) (d c : WordDef) (s : Sort) → w < P.top → slice_get P.words w ≡ Some d → slice_get C.words w ≡ Some c → d.sort ≡ s → ClosesSort P w s c.sort → IsBuiltSort P.top d s → Translates P M (template_texts P) F (word w) (item_instr C.words (word w))
+  word_translates F w d c (prim_sort k) lt at closed is h built = rw (instr_is w c (prim_sort k) closed h) (t_prim w k (sort_at P w d at ∙ ap Some is) built.is_built (first_word w k c closed h))
+  word_translates F w d c (core_sort k) lt at closed is h built = rw (instr_is w c (core_sort k) closed h) (core_translates F w k built.is_built (sort_at P w d at ∙ ap Some is))
+  word_translates F w d c (body t) lt at closed is h built = rw (instr_is w c (body h.0) closed h.1) (t_word w t lt (sort_at P w d at ∙ ap Some is))
+  word_translates F w d c _ lt at closed is h built = absurd built
+
+  word_item : (F : List MValue) (w : ℕ) → w < P.top → Translates P M (template_texts P) F (word w) (item_instr C.words (word w))
+  word_item F w lt =
+      let found = word_below P b w lt in
+      let closed = word_closed P C templates closes w found.def found.at in
+      word_translates F w found.def closed.closed found.def.sort lt found.at closed.at refl closed.closes.sort found.built
+
+  quotation_translates : (F : List MValue) (q : ℕ) (at : Literal) (u : Text) → at.word < length P.words → (let l : Quoted = (at, u) in literal_numbered P q ≡ l) → Translates P M (template_texts P) F (quot u) (Quot q)
+  unfolding template_texts
+  quotation_translates F q at u lt e =
+      let found = quotation_row q (at, u) lt e in
+      let none : cells_at found.row.cells F ≡ Some [] = ap (λ (ks : List ℕ). cells_at ks F) found.cells in
+      subst (λ (t : Text). Translates P M (template_texts P) F (quot t) (Quot q)) (ap (λ (l : Quoted). l.1) e) (t_quot q found.row [] found.there found.holes none)
+
+  -- The code of a closed text stands for its text, whatever comes behind. It stands so under every frame, since no value is put into a frame yet.
+
+  pub text_stands : (last : Instr) (F : List MValue) (pc : ℕ) (at : Literal) (t c : Text) (more : List Instr) → Closing P at t c → at.word < length P.words → drop pc M.code ≡ text_code C.words last c ++ more → Stands P M (template_texts P) last F pc t
+  text_stands last F pc at t c more c_end lt e = s_end (code_at M.code pc last more e).0
+  text_stands last F pc at t c more (c_int {c = c'} z h) lt e =
+      let found = code_at M.code pc (Int z) (text_code C.words last c' ++ more) e in s_item (Int z) found.0 (t_int z) (text_stands last F (pc + 1) _ _ c' more h lt found.1)
+  text_stands last F pc at t c more (c_true {c = c'} h) lt e =
+      let found = code_at M.code pc True (text_code C.words last c' ++ more) e in s_item True found.0 t_true (text_stands last F (pc + 1) _ _ c' more h lt found.1)
+  text_stands last F pc at t c more (c_false {c = c'} h) lt e =
+      let found = code_at M.code pc False (text_code C.words last c' ++ more) e in s_item False found.0 t_false (text_stands last F (pc + 1) _ _ c' more h lt found.1)
+  text_stands last F pc at t c more (c_word {c = c'} w below h) lt e =
+      let x = item_instr C.words (word w) in
+      let found = code_at M.code pc x (text_code C.words last c' ++ more) e in s_item x found.0 (word_item F w below) (text_stands last F (pc + 1) _ _ c' more h lt found.1)
+  text_stands last F pc at t c more (c_quot {c = c'} u q is h) lt e =
+      let found = code_at M.code pc (Quot q) (text_code C.words last c' ++ more) e in s_item (Quot q) found.0 (quotation_translates F q at u lt is) (text_stands last F (pc + 1) _ _ c' more h lt found.1)
 
   -- the code of a word that is defined by a text
-  piece_is : (w : ℕ) (d : WordDef) (t : Text) (is_top : Bool) → nat_eq w P.top ≡ is_top → d.sort ≡ body t → piece P w d ≡ text_code P.words (last_instr is_top) t
-  piece_is w d t is_top which is = ap (λ (s : Sort). sort_code P.words (nat_eq w P.top) s) is ∙ ap (λ (b : Bool). text_code P.words (last_instr b) t) which
-
-  body_stands : M.code ≡ program_code P → (w : ℕ) (d : WordDef) (t : Text) (is_top : Bool) → nat_eq w P.top ≡ is_top → slice_get P.words w ≡ Some d → d.sort ≡ body t → IsBuiltText P.top t → (a : ℕ) × (slice_get M.words w ≡ Some (record { action = code_action a })) × Stands P M (last_instr is_top) [] a t
-  body_stands code w d t is_top which at is h =
-      let put = placed P M.code 0 0 P.words w d code at in
+  body_stands : (w : ℕ) (d : WordDef) (t : Text) (is_top : Bool) → nat_eq w C.top ≡ is_top → slice_get P.words w ≡ Some d → d.sort ≡ body t → w < length P.words → IsBuiltText P.top t → (a : ℕ) × (slice_get M.words w ≡ Some (record { action = code_action a })) × Stands P M (template_texts P) (last_instr is_top) [] a t
+  body_stands w d t is_top which at is lt built =
+      let closed = word_closed P C templates closes w d at in
+      let sort = subst (λ (s : Sort). ClosesSort P w s closed.closed.sort) is closed.closes.sort in
+      let put = placed P C.words templates C.top M.code 0 0 C.words w closed.closed is_plain.code closed.at in
       let number : 0 + w ≡ w = omega arith in
-      let there : drop put.at M.code ≡ text_code P.words (last_instr is_top) t ++ put.more = put.there ∙ ap (λ (k : ℕ). piece P k d ++ put.more) number ∙ ap (λ (c : List Instr). c ++ put.more) (piece_is w d t is_top which is) in (
+      let own = text_code C.words (last_instr is_top) sort.0 in
+      let others = templates_code C.words (quotations sort.0) (drop (first_template sort.0) templates) in
+      let piece_is : piece C.words templates C.top w closed.closed ≡ own ++ others = ap (sort_code C.words templates (nat_eq w C.top)) sort.1 ∙ ap (λ (b : Bool). sort_code C.words templates b (body sort.0)) which in
+      let there : drop put.at M.code ≡ (own ++ others) ++ put.more = put.there ∙ ap (λ (k : ℕ). piece C.words templates C.top k closed.closed ++ put.more) number ∙ ap (λ (c : List Instr). c ++ put.more) piece_is in (
         put.at,
-        ap (λ (rs : List WordRow). slice_get rs w) rows ∙ put.row ∙ ap (λ (s : Sort). Some (record { action = sort_action put.at s })) is,
-        text_stands (last_instr is_top) [] put.at t put.more h there,
+        ap (λ (rs : List WordRow). slice_get rs w) is_plain.word_rows_are ∙ put.row ∙ ap (λ (s : Sort). Some (record { action = sort_action put.at s })) sort.1,
+        text_stands (last_instr is_top) [] put.at (first_of_word w) t sort.0 (others ++ put.more) (closing P (first_of_word w) t sort.0 sort.2 built) lt (regroup (drop put.at M.code) own others put.more there),
       )
 
-  -- an equation of sorts
+  -- the code of a template
+  literal_of : (q : ℕ) (t : Template) → slice_get templates q ≡ Some t → (literal_numbered P q).0.word < length P.words
+  literal_of q t e = let found = get_other templates (literals P) q t (templates_count P C templates closes) e in subst (λ (l : Quoted). l.0.word < length P.words) (sym (ap (literal_or P q) found.1)) (in_a_word P q found.0 found.1)
+
+  template_stands : (q : ℕ) (r : TemplateRow) (F : List MValue) → slice_get M.templates q ≡ Some r → Stands P M (template_texts P) Ret F r.entry (template_texts P q)
+  unfolding template_texts
+  template_stands q r F e =
+      let found = template_at C.words M.code M.templates templates q r all_rows e in
+      let l = literal_numbered P q in
+      let closed = template_closed P C templates closes q found.template found.there in
+      let entry : found.of.at ≡ r.entry = sym (ap (λ (r : TemplateRow). r.entry) found.of.row) in
+      subst (λ (a : ℕ). Stands P M (template_texts P) Ret F a l.1) entry (text_stands Ret F found.of.at (first_of_literal l.0) l.1 found.template.body found.of.more (closing P (first_of_literal l.0) l.1 found.template.body closed.body (literal_built P b q)) (literal_of q found.template found.there) found.of.there)
+
   sort_is : (w : ℕ) (d : WordDef) (t : Text) → slice_get P.words w ≡ Some d → sort_of P w ≡ Some (body t) → d.sort ≡ body t
   sort_is w d t at e = let found = sort_at P w d at in cc
 
-  pub coded : M.code ≡ program_code P → Coded P M
-  coded code = record {
+  below_length : (w : ℕ) → w < P.top → w < length P.words
+  below_length w lt = let n = ap length b.words_are ∙ length-append b.words (b.phrase ∷ []) in omega (arith, n, lt, b.top_is)
+
+  pub coded : Coded P M (template_texts P)
+  coded = record {
     bodies = λ w t lt e.
         let found = word_below P b w lt in
         let is = sort_is w found.def t found.at e in
         let built = subst (IsBuiltSort P.top found.def) is found.built in
-        let stands = body_stands code w found.def t false (ne_eqb w P.top (λ same. omega (arith, lt, same))) found.at is built.text_built in (record { action = code_action stands.0 }, stands.0, stands.1, refl, stands.2);
+        let stands = body_stands w found.def t false (ne_eqb w C.top (λ same. let top = closes.top in omega (arith, lt, same, top))) found.at is (below_length w lt) built.text_built in (record { action = code_action stands.0 }, stands.0, stands.1, refl, stands.2);
+    templates = λ q r k e n whole. template_stands q r (kept_list k) e;
   }
 
   -- the code of the top-level phrase stands at its word's place, and then `halt`
-  pub top_stands : M.code ≡ program_code P → (a : ℕ) × (slice_get M.words P.top ≡ Some (record { action = code_action a })) × Stands P M Halt [] a (word_text P P.top)
-  top_stands code =
-      let same : nat_eq P.top P.top ≡ true = grind arith in
-      let stands = body_stands code P.top b.phrase b.text true same (top_word P b) b.phrase_is.sort_is b.phrase_is.text_built in
+  pub top_stands : (a : ℕ) × (slice_get M.words P.top ≡ Some (record { action = code_action a })) × Stands P M (template_texts P) Halt [] a (word_text P P.top)
+  top_stands =
+      let top = closes.top in
+      let same : nat_eq P.top C.top ≡ true = grind (arith, top) in
+      let n = ap length b.words_are ∙ length-append b.words (b.phrase ∷ []) in
+      let stands = body_stands P.top b.phrase b.text true same (top_word P b) b.phrase_is.sort_is (omega (arith, n, b.top_is)) b.phrase_is.text_built in
       (stands.0, stands.1, rw (top_text P b) stands.2)
+
+-- the row of the top-level phrase, whatever the code is
+pub top_row : (P C : Program) (templates : List Template) → IsBuilt P → Closes P C templates → (rows : List WordRow) → rows ≡ words_from C.words templates C.top 0 0 C.words → (a : ℕ) × (slice_get rows C.top ≡ Some (record { action = code_action a }))
+top_row P C templates b closes rows e =
+    let closed = word_closed P C templates closes P.top b.phrase (top_word P b) in
+    let sort = subst (λ (s : Sort). ClosesSort P P.top s closed.closed.sort) b.phrase_is.sort_is closed.closes.sort in
+    let at : slice_get C.words C.top ≡ Some closed.closed = ap (slice_get C.words) closes.top ∙ closed.at in
+    let put = placed P C.words templates C.top (program_code C templates) 0 0 C.words C.top closed.closed refl at in
+    (put.at, ap (λ (rs : List WordRow). slice_get rs C.top) e ∙ put.row ∙ ap (λ (s : Sort). Some (record { action = sort_action put.at s })) sort.1)

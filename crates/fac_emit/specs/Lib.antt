@@ -1,4 +1,7 @@
 pub mod View
 pub mod Carries
-pub mod Code
+pub mod Whole
 pub mod Stands
+pub mod Code
+pub mod Pieces
+pub mod Parts

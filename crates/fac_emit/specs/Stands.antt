@@ -1,32 +1,44 @@
 -- Which code stands for which text. The relation is of running texts, under the frame of the code that runs, and whatever stands around the
 -- code.
-use Rattle.std.specs.Prelude.{◌≡◌, ◌<◌, ◌+◌, ℕ, ℤ, List, [], true, false, Some, slice_get}
+use Rattle.std.specs.Prelude.{◌≡◌, ◌<◌, ◌+◌, ℕ, ℤ, List, [], length, true, false, Some, slice_get}
 use Rattle.fac_lang.specs.declared.phrase.Place.{Place}
 use Rattle.fac_lang.specs.declared.program.Program.{Program}
-use Rattle.fac_lang.specs.declared.program.Sort.TheVariants.{Prim as prim_sort, Body as body}
-use Rattle.fac_lang.specs.Texts.{Plain, int, Text, end, then, Item, lit, word}
-use Rattle.fac_lang.specs.Built.{is_built_primitive}
-use Rattle.fac_lang.specs.Meaning.{sort_of}
-use Rattle.fac_vm.specs.declared.image.Instr.{Instr}
-use Rattle.fac_vm.specs.declared.image.Instr.TheVariants.{Int, Prim, Callw, Ret}
-use Rattle.fac_vm.specs.declared.image.Action.TheVariants.{Code as code_action}
-use Rattle.fac_vm.specs.declared.image.Image.{Image}
-use Rattle.fac_vm.specs.declared.image.WordRow.{WordRow}
+use Rattle.fac_lang.specs.declared.program.Sort.TheVariants.{Prim as prim_sort, Core as core_sort, Body as body}
+use Rattle.fac_lang.specs.Texts.{int, yes, no, Text, end, then, Item, lit, quot, word}
+use Rattle.fac_lang.specs.Forms.{is_built_primitive}
+use Rattle.fac_lang.specs.Meaning.{sort_of, core_numbered, c_call, c_dip, c_if}
+use Rattle.fac_code.specs.declared.image.Instr.{Instr}
+use Rattle.fac_code.specs.declared.image.Instr.TheVariants.{Int, True, False, Quot, Prim, Callw, Call, Dip, If, Ret}
+use Rattle.fac_code.specs.declared.image.Action.TheVariants.{Code as code_action}
+use Rattle.fac_code.specs.declared.image.Image.{Image}
+use Rattle.fac_code.specs.declared.image.TemplateRow.{TemplateRow}
+use Rattle.fac_code.specs.declared.image.WordRow.{WordRow}
+use Rattle.fac_prim.specs.Cells.{MValue, Kept, kept_list, cells_at}
 use Rattle.fac_vm.specs.Machine.{word_of_prim}
+use Rattle.fac_emit.specs.View.{Templates}
+use Rattle.fac_emit.specs.Whole.{WholeKept}
 
-module _ (P : Program) (M : Image) where
-  -- An item and its instruction, where the frame is F. A run error of a primitive names the first word of the image that does it, so that is to
-  -- be the item's word.
-  pub data Translates (F : List Plain) : Item → Instr → Type 0 where
+module _ (P : Program) (M : Image) (T : Templates) where
+  -- An item and its plain instruction, where the frame is F and T has the texts of the templates. A run error of a primitive names the first word
+  -- of the image that does it, so that is to be the item's word.
+  pub data Translates (F : List MValue) : Item → Instr → Type 0 where
     t_int : (z : ℤ) → Translates F (lit (int z)) (Int z)
+    t_true : Translates F (lit yes) True
+    t_false : Translates F (lit no) False
+    t_quot : (q : ℕ) (r : TemplateRow) (vs : List MValue) → slice_get M.templates q ≡ Some r → r.holes ≡ 0 → cells_at r.cells F ≡ Some vs → Translates F (quot (T q)) (Quot q)
     t_prim : (w k : ℕ) → sort_of P w ≡ Some (prim_sort k) → is_built_primitive k ≡ true → word_of_prim k 0 M.words ≡ w → Translates F (word w) (Prim k)
     t_word : (w : ℕ) (t : Text) → w < P.top → sort_of P w ≡ Some (body t) → Translates F (word w) (Callw w false)
+    t_call : (w k : ℕ) → sort_of P w ≡ Some (core_sort k) → core_numbered k ≡ Some c_call → Translates F (word w) (Call false)
+    t_dip : (w k : ℕ) → sort_of P w ≡ Some (core_sort k) → core_numbered k ≡ Some c_dip → Translates F (word w) Dip
+    t_if : (w k : ℕ) → sort_of P w ≡ Some (core_sort k) → core_numbered k ≡ Some c_if → Translates F (word w) (If false)
 
-  -- The instructions of a text stand at this place under the frame F, and behind them the last one.
-  pub data Stands (last : Instr) : List Plain → ℕ → Text → Type 0 where
-    s_end : {F : List Plain} {pc : ℕ} → slice_get M.code pc ≡ Some last → Stands last F pc end
-    s_item : {F : List Plain} {pc : ℕ} {i : Item} {p : Place} {t : Text} (x : Instr) → slice_get M.code pc ≡ Some x → Translates F i x → Stands last F (pc + 1) t → Stands last F pc (then i p t)
+  -- The plain instructions of a text stand at this place under the frame F, and behind them the last one.
+  pub data Stands (last : Instr) : List MValue → ℕ → Text → Type 0 where
+    s_end : {F : List MValue} {pc : ℕ} → slice_get M.code pc ≡ Some last → Stands last F pc end
+    s_item : {F : List MValue} {pc : ℕ} {i : Item} {p : Place} {t : Text} (x : Instr) → slice_get M.code pc ≡ Some x → Translates F i x → Stands last F (pc + 1) t → Stands last F pc (then i p t)
 
-  -- each word that is defined by a text, but for the top-level phrase, has its code, which ends in `ret`
+  -- Each word that is defined by a text, but for the top-level phrase, has its code, which ends in `ret`; and so has each template, under the values
+  -- that its callables keep.
   pub record Coded : Type 0 where
     pub bodies : (w : ℕ) (t : Text) → w < P.top → sort_of P w ≡ Some (body t) → (r : WordRow) × (a : ℕ) × (slice_get M.words w ≡ Some r) × (r.action ≡ code_action a) × Stands Ret [] a t
+    pub templates : (q : ℕ) (r : TemplateRow) (k : Kept) → slice_get M.templates q ≡ Some r → length (kept_list k) ≡ length r.cells + r.holes → WholeKept M k → Stands Ret (kept_list k) r.entry (T q)

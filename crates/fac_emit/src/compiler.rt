@@ -1,39 +1,18 @@
-//! The compiler.
-ghost use Rattle.std.specs.Prelude.{◌≡◌, ◌++◌, ℕ, Some, IfOk, OnOk, slice_get};
-ghost use Rattle.fac_lang.specs.View.{what_item};
-ghost use Rattle.fac_lang.specs.Built.{IsBuilt};
-ghost use Rattle.fac_emit.specs.Carries.{Carries};
-ghost use Rattle.fac_emit.specs.Code.{item_instr, sort_instr, sort_action, sort_code, last_instr, text_code, program_code, word_rows, IsPlain};
+//! The compiler: the pieces of the words are linked to an image.
+ghost use Rattle.std.specs.Prelude.{◌≡◌, ◌++◌, ◌∷◌, [], length, ℕ, Some, IfOk, OnOk, map, slice_get};
+ghost use Rattle.fac_lang.specs.declared.program.Program.{Program as Source};
+ghost use Rattle.fac_lang.specs.Forms.{IsBuilt};
+ghost use Rattle.fac_locals.specs.Closed.{Closes};
+ghost use Rattle.fac_emit.specs.Carries.{Carries, IsNeverStuck};
+ghost use Rattle.fac_emit.specs.Code.{sort_action, IsPlain};
+ghost use Rattle.fac_emit.specs.Parts.{AreParts};
+ghost use Rattle.fac_emit.specs.Pieces.{moved as moved_row};
 
-use fac_check::Checked;
-use fac_lang::{List, Memory, Phrase, Program, Sort, What, WordDef};
-use fac_vm::{Action, Image, Instr, WordRow};
+use crate::{Piece, emit_word};
+use fac_code::{Action, Image, Instr, TemplateRow, WordRow};
+use fac_lang::{List, Memory, Sort};
+use fac_locals::Closed;
 use std::alloc::Global;
-
-// The instruction of the word with this number, by its sort.
-fn instr_of_sort(word: u32, sort: &Sort) -> Instr
-    ensures { result ≡ sort_instr word sort.now }
-{
-    match sort {
-        Sort::Prim(number) => Instr::Prim(*number),
-        Sort::Body(_) => Instr::Callw { word, tail: false },
-        _ => Instr::Halt,
-    }
-}
-
-// The instruction of an item.
-fn instr_of(words: &List<WordDef>, what: &What) -> Instr
-    ensures { result ≡ item_instr words.now (what_item what.now) }
-{
-    match what {
-        What::Int(value) => Instr::Int(*value),
-        What::Word(number) => match words.get(*number as usize) {
-            Some(word) => instr_of_sort(*number, &word.sort),
-            None => Instr::Halt,
-        },
-        _ => Instr::Halt,
-    }
-}
 
 // What a word does whose code, where it has code, stands at a place.
 fn action_of(place: u32, sort: &Sort) -> Action
@@ -41,62 +20,88 @@ fn action_of(place: u32, sort: &Sort) -> Action
 {
     match sort {
         Sort::Prim(number) => Action::Prim(*number),
+        Sort::Core(number) => Action::Core(*number),
         _ => Action::Code(place),
     }
 }
 
-// The instruction behind the last item of a word's text.
-fn last(is_top: bool) -> Instr
-    ensures { result ≡ last_instr is_top }
+// Adds code behind other code.
+fn add_code(code: &mut List<Instr>, more: &List<Instr>) -> Result<(), Memory>
+    ensures { OnOk result (code.new ≡ code.old ++ more.now) }
 {
-    if is_top { Instr::Halt } else { Instr::Ret }
-}
-
-// Adds the code of a text.
-fn add_text(
-    code: &mut List<Instr>,
-    words: &List<WordDef>,
-    phrase: &Phrase,
-    last: Instr,
-) -> Result<(), Memory>
-    ensures { OnOk result (code.new ≡ code.old ++ text_code words.now last phrase.now) }
-{
-    for item in &phrase.items {
-        code.push(instr_of(words, &item.what))?;
+    for instr in more.as_slice() {
+        code.push(*instr)?;
     }
-    code.push(last)
+    Ok(())
 }
 
-// Adds the code of a word, where it is defined by a text.
-fn add_word(
-    code: &mut List<Instr>,
-    words: &List<WordDef>,
-    is_top: bool,
-    sort: &Sort,
-) -> Result<(), Memory>
-    ensures { OnOk result (code.new ≡ code.old ++ sort_code words.now is_top sort.now) }
+// The row of a template whose piece stands at a place.
+fn moved(place: u32, row: TemplateRow) -> Result<TemplateRow, Memory>
+    ensures { IfOk result (λ moved. moved ≡ moved_row place row) }
 {
-    match sort {
-        Sort::Body(phrase) => add_text(code, words, phrase, last(is_top)),
-        _ => Ok(()),
+    let TemplateRow {
+        entry,
+        cells,
+        holes,
+    } = row;
+    match place.checked_add(entry) {
+        Some(entry) => Ok(TemplateRow {
+            entry,
+            cells,
+            holes,
+        }),
+        None => Err(Memory),
     }
 }
 
-// The code of a program and the table of its words.
-fn link(alloc: Global, program: &Program) -> Result<(List<Instr>, List<WordRow>), Memory>
-    ensures { IfOk result (λ parts. (parts.0 ≡ program_code program.now) × (parts.1 ≡ word_rows program.now)) }
+// Adds the rows of a piece that stands at a place.
+fn add_rows(rows: &mut List<TemplateRow>, place: u32, more: List<TemplateRow>) -> Result<(), Memory>
+    ensures { OnOk result (rows.new ≡ rows.old ++ map (moved_row place) more) }
 {
-    let mut code = List::new(alloc);
-    let mut rows = List::new(alloc);
-    let _count = program.words.len();
+    for row in more.into_vec() {
+        rows.push(moved(place, row)?)?;
+    }
+    Ok(())
+}
+
+// The parts of an image.
+#[derive(Drop)]
+struct Parts {
+    code: List<Instr>,
+    templates: List<TemplateRow>,
+    words: List<WordRow>,
+}
+
+// Adds a piece, and the row of its word.
+fn add_piece(parts: &mut Parts, sort: &Sort, piece: Piece) -> Result<(), Memory>
+    ensures { OnOk result ((parts.new.code ≡ parts.old.code ++ piece.code) × (parts.new.templates ≡ parts.old.templates ++ map (moved_row (length parts.old.code)) piece.templates) × (parts.new.words ≡ parts.old.words ++ record { action = sort_action (length parts.old.code) sort.now } ∷ [])) }
+{
+    let Piece { code, templates } = piece;
+    let place = parts.code.len();
+    parts.words.push(WordRow {
+        action: action_of(place, sort),
+    })?;
+    add_rows(&mut parts.templates, place, templates)?;
+    add_code(&mut parts.code, &code)
+}
+
+// The code of a closed program, one word behind the other, and its tables.
+fn link(alloc: Global, closed: &Closed) -> Result<Parts, Memory>
+    ensures { IfOk result (AreParts closed.now.program closed.now.templates) }
+{
+    let mut parts = Parts {
+        code: List::new(alloc),
+        templates: List::new(alloc),
+        words: List::new(alloc),
+    };
+    let _count = closed.program.words.len();
     let mut number = 0u32;
-    for word in program.words.as_slice() {
-        let action = action_of(code.len(), &word.sort);
-        rows.push(WordRow { action })?;
-        add_word(&mut code, &program.words, number == program.top, &word.sort)?;
+    for word in closed.program.words.as_slice() {
+        let piece = emit_word(alloc, closed, number)?;
+        add_piece(&mut parts, &word.sort, piece)?;
         number += 1;
     }
-    Ok((code, rows))
+    Ok(parts)
 }
 
 // The place of a word's code.
@@ -108,20 +113,30 @@ fn place(rows: &List<WordRow>, word: u32) -> u32
         Some(row) => match row.action {
             Action::Code(place) => place,
             Action::Prim(_) => unreachable!(),
+            Action::Core(_) => unreachable!(),
         },
         None => unreachable!(),
     }
 }
 
-/// The image of an accepted program, which carries it. Each word that is defined by a text has its code: an instruction for each
-/// item, and behind them a `ret`, or a `halt` for the top-level phrase, where the image starts. The code of the words stands in their
-/// order. Want of memory is the one error.
-pub fn compile(alloc: Global, checked: &Checked) -> Result<Image, Memory>
-    requires { IsBuilt checked.now.program }
-    ensures carries { IfOk result (Carries checked.now.program) }
-    ensures plain { IfOk result (IsPlain checked.now.program) }
+/// The image of a closed program of the built forms. It carries the program that this one stands for, where that is never stuck. Its code
+/// is plain: the pieces of the words, one behind the other in their order, with a row for each template and each word; it starts at the
+/// top-level phrase. Want of memory is the one error.
+pub fn compile(alloc: Global, closed: &Closed) -> Result<Image, Memory>
+    requires { (P : Source) × Closes P closed.now.program closed.now.templates × IsBuilt P }
+    ensures carries { IfOk result (λ image. (P : Source) → Closes P closed.now.program closed.now.templates → IsBuilt P → IsNeverStuck P → Carries P image) }
+    ensures plain { IfOk result (IsPlain closed.now.program closed.now.templates) }
 {
-    let (code, words) = link(alloc, &checked.program)?;
-    let start = place(&words, checked.program.top);
-    Ok(Image { words, code, start })
+    let Parts {
+        code,
+        templates,
+        words,
+    } = link(alloc, closed)?;
+    let start = place(&words, closed.program.top);
+    Ok(Image {
+        templates,
+        words,
+        code,
+        start,
+    })
 }

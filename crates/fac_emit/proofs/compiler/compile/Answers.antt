@@ -1,18 +1,16 @@
-use Rattle.fac_check.proofs.Soundness.{sound}
-use Rattle.fac_emit.proofs.Carrying.{code_built, carries}
+use Rattle.fac_emit.proofs.BuiltCode.{code_built}
+use Rattle.fac_emit.proofs.Carrying.{carries}
 use Rattle.fac_emit.proofs.Placed.{top_row}
 use Rattle.fac_emit.proofs.compiler.compile.Goals as goal
 
 pub place-start-requires : goal.place-start-requires
-place-start-requires c = top_row c.args.checked.now.program c.requires c.in_ok-code.words c.in_ok-code.ensures.1
+place-start-requires c = let closed = c.args.closed.now in top_row c.requires.0 closed.program closed.templates c.requires.2 c.requires.1 c.in_ok-code.field-0.words c.in_ok-code.ensures.word_rows
 
 pub invariant_of-result : goal.invariant_of-result
-invariant_of-result c = record { built = rw c.in_ok-code.ensures.0 (code_built c.args.checked.now.program c.requires) }
+invariant_of-result c = let closed = c.args.closed.now in record { built = rw c.in_ok-code.ensures.code (code_built c.requires.0 closed.program closed.templates c.requires.2 c.requires.1) }
 
 pub returns-clause-carries : goal.returns-clause-carries
-returns-clause-carries c =
-    let P = c.args.checked.now.program in
-    carries P _ c.requires (sound P c.requires c.args.checked.now.accepted) (record { code = c.in_ok-code.ensures.0; rows = c.in_ok-code.ensures.1; begins = c.place-start.ensures })
-
-pub returns-clause-plain : goal.returns-clause-plain
-returns-clause-plain c = record { code = c.in_ok-code.ensures.0; rows = c.in_ok-code.ensures.1; begins = c.place-start.ensures }
+returns-clause-carries c = λ P closes built never.
+    let closed = c.args.closed.now in
+    let parts = c.in_ok-code.ensures in
+    carries P closed.program closed.templates _ built closes (record { code = parts.code; template_rows_are = parts.template_rows; word_rows_are = parts.word_rows; begins = c.place-start.ensures }) never

@@ -1,0 +1,88 @@
+//! Images: the code of a program, with the tables of its templates and words.
+ghost use Rattle.std.specs.Prelude.{◌≡◌, true};
+ghost use Rattle.fac_code.specs.Code.{has_built_code};
+
+use fac_lang::List;
+
+/// An instruction.
+#[derive(Clone, Copy, Debug, PartialEq, Eq)]
+pub enum Instr {
+    /// The run is done. It costs no tick.
+    Halt,
+    /// Pushes an integer, at a tick.
+    Int(i128),
+    /// Pushes `t`, at a tick.
+    True,
+    /// Pushes `f`, at a tick.
+    False,
+    /// Pushes a callable of the template with this number, at a tick. It keeps the values that the template names in the frame.
+    Quot(u32),
+    /// Does the primitive of this number, at a tick.
+    Prim(u32),
+    /// Goes to the code of a word, at a tick.
+    Callw {
+        /// The number of the word.
+        word: u32,
+        /// Whether the call is the last that is done here, so that nothing is to be done after it. It then leaves no return entry.
+        tail: bool,
+    },
+    /// Takes a callable and enters it, at a tick.
+    Call {
+        /// As that of `Callw`.
+        tail: bool,
+    },
+    /// Takes a callable and a value below it, enters the callable, and puts the value back behind it. It costs a tick.
+    Dip,
+    /// Takes two callables and a value below them, and enters the upper callable where the value is `f`, else the lower one. It costs a
+    /// tick.
+    If {
+        /// As that of `Callw`.
+        tail: bool,
+    },
+    /// Takes the next return entry and goes on there. It costs no tick.
+    Ret,
+}
+
+/// What a word does.
+#[derive(Clone, Copy, Debug, PartialEq, Eq)]
+pub enum Action {
+    /// The primitive of this number.
+    Prim(u32),
+    /// The core word of this number: 0 is `call`, 1 is `dip` and 2 is `if`.
+    Core(u32),
+    /// The code at this place.
+    Code(u32),
+}
+
+/// A word of an image.
+#[derive(Clone, Copy, Debug, PartialEq, Eq)]
+pub struct WordRow {
+    /// What it does. Only code can be gone to by a call.
+    pub action: Action,
+}
+
+/// A template: the code of a quotation, of which callables are made.
+#[derive(Drop)]
+pub struct TemplateRow {
+    /// The place of its first instruction.
+    pub entry: u32,
+    /// The cells of the frame whose values a callable of it keeps.
+    pub cells: List<u32>,
+    /// How many values a callable of it takes from the stack, to be kept behind those of the frame.
+    pub holes: u32,
+}
+
+/// The code of a program. Its words have the numbers of the program's words.
+#[derive(Drop)]
+pub struct Image {
+    /// One row for each template, by its number.
+    pub templates: List<TemplateRow>,
+    /// One row for each word of the program, by its number.
+    pub words: List<WordRow>,
+    /// The instructions, at places from 0.
+    pub code: List<Instr>,
+    /// The place of the first instruction.
+    pub start: u32,
+    // Each primitive in the code is one that the machine has.
+    ghost built: { has_built_code code ≡ true },
+}

@@ -1,0 +1,115 @@
+-- The plain code of a closed program has built primitives alone.
+use Rattle.std.proofs.Common.{◌≡◌, ℕ, zero, suc, ◌+◌, List, [], ◌∷◌, ◌++◌, drop, Bool, true, false, ◌&&◌, Option, Some, None, refl, subst, sym, arith}
+use Rattle.std.specs.Prelude.{ℤ, nat_eq, slice_get}
+use Rattle.fac_lang.specs.declared.phrase.Template.{Template}
+use Rattle.fac_lang.specs.declared.program.Program.{Program}
+use Rattle.fac_lang.specs.declared.program.WordDef.{WordDef}
+use Rattle.fac_lang.specs.declared.program.Sort.{Sort}
+use Rattle.fac_lang.specs.declared.program.Sort.TheVariants.{Prim as prim, Core as core, Body as body, Past as past, Itself as itself, Class as class, Isa as isa, Getter as getter, Setter as setter, Putter as putter, Generic as generic, Method as method}
+use Rattle.fac_lang.specs.Texts.{int, yes, no, Text, end, then, Item, lit, word, made}
+use Rattle.fac_lang.specs.Forms.{IsBuilt, IsBuiltSort, AreBuiltWords, is_built_primitive}
+use Rattle.fac_locals.specs.Closed.{Closes, ClosesSort, CloseWords}
+use Rattle.fac_code.specs.declared.image.Instr.{Instr}
+use Rattle.fac_code.specs.declared.image.Instr.TheVariants.{Ret}
+use Rattle.fac_code.specs.Code.{is_built_instr, has_built_code}
+use Rattle.fac_emit.specs.Code.{core_instr, sort_instr, word_instr, item_instr, text_code, quotations, first_template, templates_code, last_instr, sort_code, code_from, program_code}
+
+-- a word that isn't a primitive that isn't built
+abbrev Fits : Sort → Type 0
+Fits (prim k) = is_built_primitive k ≡ true
+Fits _ = Unit {0}
+
+abbrev AllFit : List WordDef → Type 0
+AllFit [] = Unit {0}
+AllFit (d ∷ ds) = Fits d.sort × AllFit ds
+
+module _ (P : Program) where
+  built_fits : (d : WordDef) (s : Sort) → IsBuiltSort P.top d s → Fits s
+  built_fits d (prim k) h = h.is_built
+  built_fits d _ h = tt
+
+  closed_fits : (w : ℕ) (s c : Sort) → ClosesSort P w s c → Fits s → Fits c
+  closed_fits w (body t) c h f = rw h.1 tt
+  closed_fits w (past t) c h f = rw h.1 tt
+  closed_fits w (method n g t) c h f = rw h.1 tt
+  closed_fits w (prim k) c h f = rw h f
+  closed_fits w (core k) c h f = rw h tt
+  closed_fits w itself c h f = rw h tt
+  closed_fits w (class k) c h f = rw h tt
+  closed_fits w (isa k) c h f = rw h tt
+  closed_fits w (getter s) c h f = rw h tt
+  closed_fits w (setter s) c h f = rw h tt
+  closed_fits w (putter s) c h f = rw h tt
+  closed_fits w generic c h f = rw h tt
+
+  built_fit : (ds : List WordDef) (d : WordDef) → AreBuiltWords P.top ds → Fits d.sort → AllFit (ds ++ d ∷ [])
+  built_fit [] d h f = (f, tt)
+  built_fit (x ∷ ds) d h f = (built_fits x x.sort h.0, built_fit ds d h.1 f)
+
+  closed_fit : (w : ℕ) (ds cs : List WordDef) → CloseWords P w ds cs → AllFit ds → AllFit cs
+  closed_fit w [] cs h f = rw h tt
+  closed_fit w (d ∷ ds) cs h f = rw h.2 (closed_fits w d.sort h.0.sort h.3.sort f.0, closed_fit (suc w) ds h.1 h.4 f.1)
+
+  all_fit : (C : Program) (templates : List Template) → IsBuilt P → Closes P C templates → AllFit C.words
+  all_fit C templates b closes =
+      let phrase : Fits b.phrase.sort = rw b.phrase_is.sort_is tt in
+      closed_fit 0 P.words C.words closes.words (subst AllFit (sym b.words_are) (built_fit b.words b.phrase b.built phrase))
+
+and_true : (b c : Bool) → b ≡ true → c ≡ true → (b && c) ≡ true
+and_true true c e h = h
+and_true false c e h = absurd (cc)
+
+both_built : (xs ys : List Instr) → has_built_code xs ≡ true → has_built_code ys ≡ true → has_built_code (xs ++ ys) ≡ true
+both_built [] ys h k = k
+both_built (x ∷ xs) ys h k = let later = both_built xs ys in grind (arith, later)
+
+last_built : (is_top : Bool) → is_built_instr (last_instr is_top) ≡ true
+last_built true = refl
+last_built false = refl
+
+core_built : (k : ℕ) → is_built_instr (core_instr k) ≡ true
+core_built zero = refl
+core_built (suc zero) = refl
+core_built (suc (suc zero)) = refl
+core_built (suc (suc (suc k))) = refl
+
+sort_built : (w : ℕ) (s : Sort) → Fits s → is_built_instr (sort_instr w s) ≡ true
+sort_built w (prim k) h = h
+sort_built w (core k) h = core_built k
+sort_built w _ h = refl
+
+word_built : (ds : List WordDef) (w k : ℕ) → AllFit ds → is_built_instr (word_instr w (slice_get ds k)) ≡ true
+word_built [] w k h = refl
+word_built (d ∷ ds) w zero h = sort_built w d.sort h.0
+word_built (d ∷ ds) w (suc k) h = word_built ds w k h.1
+
+module _ (words : List WordDef) (fit : AllFit words) where
+  item_built : (i : Item) → is_built_instr (item_instr words i) ≡ true
+  item_built (lit (int z)) = refl
+  item_built (lit yes) = refl
+  item_built (lit no) = refl
+  item_built (word w) = word_built words w w fit
+  item_built (made q) = refl
+  item_built _ = refl
+
+  text_built : (last : Instr) (t : Text) → is_built_instr last ≡ true → has_built_code (text_code words last t) ≡ true
+  text_built last end l = and_true (is_built_instr last) true l refl
+  text_built last (then i p t) l = and_true (is_built_instr (item_instr words i)) (has_built_code (text_code words last t)) (item_built i) (text_built last t l)
+
+  templates_built : (ts : List Template) (n : ℕ) → has_built_code (templates_code words n ts) ≡ true
+  templates_built [] zero = refl
+  templates_built [] (suc n) = refl
+  templates_built (t ∷ ts) zero = refl
+  templates_built (t ∷ ts) (suc n) = let more = n + quotations t.body in both_built (text_code words Ret t.body) (templates_code words more ts) (text_built Ret t.body refl) (templates_built ts more)
+
+  module _ (templates : List Template) (top : ℕ) where
+    piece_built : (is_top : Bool) (s : Sort) → has_built_code (sort_code words templates is_top s) ≡ true
+    piece_built is_top (body t) = both_built (text_code words (last_instr is_top) t) (templates_code words (quotations t) (drop (first_template t) templates)) (text_built (last_instr is_top) t (last_built is_top)) (templates_built (drop (first_template t) templates) (quotations t))
+    piece_built is_top _ = refl
+
+    words_built : (w : ℕ) (ds : List WordDef) → has_built_code (code_from words templates top w ds) ≡ true
+    words_built w [] = refl
+    words_built w (d ∷ ds) = both_built (sort_code words templates (nat_eq w top) d.sort) (code_from words templates top (suc w) ds) (piece_built (nat_eq w top) d.sort) (words_built (suc w) ds)
+
+pub code_built : (P C : Program) (templates : List Template) → IsBuilt P → Closes P C templates → has_built_code (program_code C templates) ≡ true
+code_built P C templates b closes = words_built C.words (all_fit P C templates b closes) templates C.top 0 C.words
