@@ -1,6 +1,6 @@
 -- Every resolved program is of the forms built.
 use Rattle.std.proofs.Common.{◌≡◌, ℕ, suc, ◌+◌, ◌<◌, ◌≤◌, Bool, true, false, cond, ◌&&◌, List, [], ◌∷◌, ◌++◌, Option, Some, None, Result, Ok, Err, length, refl, ap, sym, ◌∙◌, subst, arith, zero-add, length-append}
-use Rattle.std.specs.Prelude.{nat_le, nat_lt, ℤ}
+use Rattle.std.specs.Prelude.{nat_le, nat_lt}
 use Rattle.std.specs.List.{list_all}
 use Rattle.std.specs.Str.{bytes_eq}
 use Rattle.std.proofs.lemmas.Bool.Decides.{Decides-ltb}
@@ -9,7 +9,7 @@ use Rattle.fac_lang.specs.Forms.{IsBuilt, IsBuiltText, IsBuiltItem, IsBuiltSort,
 use Rattle.fac_lang.specs.CoreWords.{core_word}
 use Rattle.fac_lang.specs.Signatures.{never, leaves}
 use Rattle.fac_lang.specs.PrimitiveWords.{PrimitiveWord, primitive_word, plain_inputs}
-use Rattle.fac_lang.specs.Texts.{Text, end, then, Item, lit, int, quot, word}
+use Rattle.fac_lang.specs.Texts.{Text, end, then, Item, quot, word}
 use Rattle.fac_lang.specs.Whole.{name_count, inputs_name_count, leaving_count}
 use Rattle.fac_lang.specs.declared.phrase.Place.{Place}
 use Rattle.fac_lang.specs.declared.program.Name.{Name as FullName}
@@ -26,7 +26,7 @@ use Rattle.fac_lang.specs.declared.tree.Term.{Term}
 use Rattle.fac_lang.specs.declared.tree.Term.TheVariants as term
 use Rattle.fac_lang.specs.declared.tree.WrittenEffect.{WrittenEffect}
 use Rattle.fac_parse.specs.declared.resolver.NameFault.{NameFault}
-use Rattle.fac_parse.specs.Resolution.{primitive_def, primitive_if_any, primitive_defs, core_def, core_if_any, core_defs, built_cores, known_words, names_of, first_names, held_from, or_else, held_by, current, found, own_name, is_taken, uses, result_map, word_item, item_of, term_place, Following, with_item, with_quotation, opened, closed, following, text_of, token_texts, is_star, leaving_of, effect_of, is_inline, is_recursive, defined_word, Contents, after_uses, with_top_item, with_defined, unless_taken, contents_of, top_word, program_of}
+use Rattle.fac_parse.specs.Resolution.{primitive_if_any, primitive_defs, core_if_any, core_defs, built_cores, known_words, names_of, first_names, held_from, or_else, held_by, current, found, own_name, is_taken, uses, result_map, word_item, item_of, term_place, Following, with_item, with_quotation, opened, closed, following, text_of, token_texts, is_star, leaving_of, effect_of, is_inline, is_recursive, defined_word, Contents, after_uses, with_top_item, with_defined, unless_taken, contents_of, top_word, program_of}
 use Rattle.fac_parse.specs.Trees.{token_text, IsEffect, IsWellFormed}
 
 -- What a name finds is known.

@@ -1,5 +1,5 @@
 -- The parser's reading of tokens is their tree.
-use Rattle.std.proofs.Common.{◌≡◌, ℕ, zero, suc, ◌≤◌, ◌<◌, ◌+◌, ◌-◌, Bool, true, false, cond, ◌&&◌, List, [], ◌∷◌, ◌++◌, length, Option, Some, None, Ok, Err, drop, refl, ap, sym, ◌∙◌, subst, append_assoc, arith}
+use Rattle.std.proofs.Common.{◌≡◌, ℕ, ◌≤◌, ◌+◌, ◌-◌, Bool, true, false, cond, ◌&&◌, List, [], ◌∷◌, ◌++◌, length, Option, Some, None, Ok, Err, drop, refl, ap, sym, ◌∙◌, subst, append_assoc, arith}
 use Rattle.std.specs.Prelude.{codes, nat_eq, nat_lt}
 use Rattle.std.specs.Option.{option_map}
 use Rattle.std.proofs.lemmas.Bool.{eqb-true}
@@ -7,7 +7,6 @@ use Rattle.std.proofs.lemmas.Bool.Decides.{Decides-ltb}
 use Rattle.std.proofs.lemmas.List.{append-nil}
 use Rattle.fac_lang.specs.declared.phrase.Place.{Place}
 use Rattle.fac_lang.specs.declared.token.Token.{Token}
-use Rattle.fac_lang.specs.declared.tree.Term.{Term}
 use Rattle.fac_lang.specs.declared.tree.Term.TheVariants as term
 use Rattle.fac_lang.specs.declared.tree.Piece.{Piece}
 use Rattle.fac_lang.specs.declared.tree.Piece.TheVariants as piece
@@ -30,7 +29,7 @@ use Rattle.fac_parse.specs.declared.reader.ParseFault.TheVariants.{Syntax, Memor
 use Rattle.fac_parse.specs.declared.spelling.Spelling.{Spelling}
 use Rattle.fac_parse.specs.declared.spelling.Spelling.TheVariants.{Using, Colon, Semi, Opens, Closes, Dashes, OpensQuotation, ClosesQuotation, True, False, Inline, Recursive, Integer, Name}
 use Rattle.fac_parse.specs.Spellings.{token_spelling, is_value_name, is_semi, is_closing}
-use Rattle.fac_parse.specs.Trees.{plain_token, term_tokens, piece_tokens, items_tokens, mark_tokens, effect_tokens, form_tokens, flatten, token_text, AreNames, AreValueNames, IsTerm, most_levels, MayStand, depth_behind, Lead, most_names, IsEffect, IsForm, IsWellFormed, Reads, Parses}
+use Rattle.fac_parse.specs.Trees.{plain_token, piece_tokens, items_tokens, mark_tokens, effect_tokens, form_tokens, flatten, token_text, AreNames, AreValueNames, most_levels, MayStand, depth_behind, Lead, most_names, IsEffect, IsForm, IsWellFormed, Reads, Parses}
 use Rattle.fac_parse.specs.Reader.{Step, only_if, no_items, top_step, names_step, colon_step, named_step, inputs_step, is_fit, written, outputs_step, with_piece, piece_step, body_step, quotation_step, part_step, mark_of, defined_form, behind_step, step, unmarked, form_before, next_state, ended_form, last_forms, forms_after, forms_from, Takes}
 use Rattle.fac_parse.proofs.SpellingLemmas.{using_is_using, colon_is_colon, semi_is_semi, opens_is_opens, closes_is_closes, dashes_is_dashes, bracket_is_bracket, end_is_end, t_is_true, f_is_false, inline_is_inline, recursive_is_recursive, sign_token}
 

@@ -1,9 +1,9 @@
 -- Taking items and forms, a step at a time.
-use Rattle.std.proofs.Common.{◌≡◌, ℕ, zero, suc, ◌+◌, ◌-◌, ◌<◌, Bool, true, false, List, [], ◌∷◌, ◌++◌, length, Option, Some, None, Result, Ok, Err, drop, refl, ap, sym, ◌∙◌, subst, append_assoc, append-nil, arith}
+use Rattle.std.proofs.Common.{◌≡◌, ℕ, zero, suc, Bool, true, false, List, [], ◌∷◌, ◌++◌, length, Option, Some, None, Result, Ok, Err, drop, refl, ap, sym, ◌∙◌, subst, append_assoc, append-nil, arith}
 use Rattle.std.specs.List.{list_any}
 use Rattle.std.specs.Str.{bytes_eq}
 use Rattle.std.proofs.lemmas.List.{length_push}
-use Rattle.fac_lang.specs.Texts.{Text, end, then, Item, quot}
+use Rattle.fac_lang.specs.Texts.{Text, end, then, quot}
 use Rattle.fac_lang.specs.View.{what_item, items_text}
 use Rattle.fac_lang.specs.declared.phrase.Item.{Item as PlacedItem}
 use Rattle.fac_lang.specs.declared.phrase.What.TheVariants.{Quot}
@@ -28,8 +28,8 @@ use Rattle.fac_parse.specs.declared.resolver.Nest.{Nest}
 use Rattle.fac_parse.specs.declared.resolver.SoFar.{SoFar}
 use Rattle.fac_parse.specs.OwnNames.{names_with}
 use Rattle.fac_parse.specs.Resolution.{known_words, found, is_taken, name_fault, result_map, word_item, item_of, term_place, Following, with_item, opened, closed, following, text_of, defined_word, Contents, with_top_item, with_defined, unless_taken, contents_of, file_contents}
-use Rattle.fac_parse.specs.Resolver.{found_item, term_item, with_new, TakesItem, items_before, enclosed, nested, after_nest, Closes, IsClosable, IsAdded, TakesPiece, AreClosed, ReadsText, after_made, contents_after, defining, IsDefined, DefinitionFails, Defines, TakesQuotation, TakesForm, ReadsForms}
-use Rattle.fac_parse.specs.Trees.{token_text, MayStand, depth_behind, Lead, AreItems, IsForm, IsWellFormed}
+use Rattle.fac_parse.specs.Resolver.{found_item, term_item, with_new, TakesItem, items_before, enclosed, nested, after_nest, Closes, IsAdded, TakesPiece, ReadsText, after_made, contents_after, defining, IsDefined, DefinitionFails, Defines, TakesQuotation, TakesForm, ReadsForms}
+use Rattle.fac_parse.specs.Trees.{token_text, Lead, IsForm, IsWellFormed}
 use Rattle.fac_parse.proofs.NameLemmas.{taken_own, names_push}
 
 items_before-push : (items : List PlacedItem) (i : PlacedItem) (t : Text) → items_before items (then (what_item i.what) i.place t) ≡ items_before (items ++ i ∷ []) t
@@ -132,30 +132,9 @@ close_added known used p place n n_then is c =
       depth = let popped = ap length c.outer ∙ length_push n_then.outer.items c.last in omega (arith, popped);
     })
 
-closable_by : (most depth : ℕ) (p : Piece) → MayStand most depth p → IsClosable depth p
-closable_by most depth (piece.Item item) h = tt
-closable_by most depth (piece.Opens place) h = tt
-closable_by most depth (piece.Closes place) h = h
-
 -- the number of open quotations leads on to none
 abbrev pub Leads : Nest → List Piece → Type 0
 Leads n pieces = (most : ℕ) × Lead most (length n.outer.items) pieces 0
-
-pub closable : (n : Nest) (p : Piece) (all rest : List Piece) → Leads n all → all ≡ p ∷ rest → IsClosable (length n.outer.items) p
-closable n p all rest h e = let led = subst (λ (ps : List Piece). Lead h.0 (length n.outer.items) ps 0) e h.1 in closable_by h.0 (length n.outer.items) p led.0
-
-pub leads_on : (known : List FullName) (used : List (List ℕ)) (n n_then : Nest) (p : Piece) (all rest : List Piece) → Leads n all → all ≡ p ∷ rest → IsAdded known used p n n_then → Leads n_then rest
-leads_on known used n n_then p all rest h e a = let led = subst (λ (ps : List Piece). Lead h.0 (length n.outer.items) ps 0) e h.1 in (h.0, subst (λ (d : ℕ). Lead h.0 d rest 0) (sym a.depth) led.1)
-
--- the text with a piece more
-pub text_goes_on : (known : List FullName) (used : List (List ℕ)) (all rest : List Piece) (p : Piece) (n n_then : Nest) (k : ℕ) → following known used all ≡ after_nest n (following known used (drop k all)) → drop k all ≡ p ∷ rest → IsAdded known used p n n_then → following known used all ≡ after_nest n_then (following known used rest)
-text_goes_on known used all rest p n n_then k so_far next a = so_far ∙ ap (λ (ps : List Piece). after_nest n (following known used ps)) next ∙ a.text rest
-
--- a refused piece ends the text
-pub text_fails : (e : ResolveFault) (known : List FullName) (used : List (List ℕ)) (all rest : List Piece) (p : Piece) (n : Nest) (k : ℕ) → following known used all ≡ after_nest n (following known used (drop k all)) → drop k all ≡ p ∷ rest → TakesPiece known used p n (Err e) → ReadsText known used all (Err e)
-text_fails (Name fault) known used all rest p n k so_far next h =
-    ap (result_map (λ (f : Following). f.here)) (so_far ∙ ap (λ (ps : List Piece). after_nest n (following known used ps)) next ∙ ap (after_nest n) (h rest))
-text_fails Memory known used all rest p n k so_far next h = tt
 
 none_open : (os : List OpenQuotation) → length os ≡ 0 → os ≡ []
 none_open [] e = refl
@@ -167,18 +146,6 @@ text_ends known used all n k so_far none led =
     ap (result_map (λ (f : Following). f.here)) (so_far ∙ ap (λ (ps : List Piece). after_nest n (following known used ps)) none)
     ∙ ap (λ (os : List OpenQuotation). Ok (nested os n.items.items (text_with end [])).here) closed
     ∙ ap (λ (t : Text). Ok t) (items_before-end n.items.items)
-
--- before the first piece
-first_nested : (r : Result Following NameFault) → r ≡ result_map (nested [] []) r
-first_nested (Ok f) = refl
-first_nested (Err fault) = refl
-
-pub text_begins : (r : Result Following NameFault) (n : Nest) → n.outer.items ≡ [] → n.items.items ≡ [] → r ≡ after_nest n r
-text_begins r n none no_items =
-    first_nested r ∙ ap (λ (os : List OpenQuotation). result_map (nested os []) r) (sym none) ∙ ap (λ (is : List PlacedItem). result_map (nested n.outer.items is) r) (sym no_items)
-
-pub begins_closed : (n : Nest) (pieces : List Piece) → n.outer.items ≡ [] → AreClosed pieces → Leads n pieces
-begins_closed n pieces none h = (h.0, subst (λ (d : ℕ). Lead h.0 d pieces 0) (sym (ap length none)) h.1)
 
 -- Forms.
 
@@ -244,14 +211,6 @@ top_quotation_taken (Err Memory) s s_then opens closes items h same = tt
 pub quotation_form : (e : Result Unit ResolveFault) (s s_then : SoFar) (f : Form) (opens closes : Place) (listed items : List Piece) → f ≡ form.Quotation opens items closes → listed ≡ items → TakesQuotation (names_with s.own) s.used opens listed s.items.items s_then.items.items e → s_then.own ≡ s.own → s_then.used ≡ s.used → s_then.words ≡ s.words → TakesForm s f s_then e
 quotation_form e s s_then f opens closes listed items is same h own used words =
     subst (λ (g : Form). TakesForm s g s_then e) (sym is) (top_quotation_taken e s s_then opens closes items (subst (λ (ps : List Piece). TakesQuotation (names_with s.own) s.used opens ps s.items.items s_then.items.items e) same h) (record { own = own; used = used; words = words }))
-
--- the items of a definition or a quotation
-pub defined_items : (f : Form) (opens : Place) (name : Token) (effect : WrittenEffect) (listed items : List Piece) (closes : Place) (mark : Option Mark) → IsForm f → f ≡ form.Define opens name effect items closes mark → listed ≡ items → AreItems 256 listed
-defined_items f opens name effect listed items closes mark h is same =
-    let fits = subst IsForm is h in subst (AreItems 256) (sym same) fits.2
-
-pub quoted_items : (f : Form) (opens : Place) (listed items : List Piece) (closes : Place) → IsForm f → f ≡ form.Quotation opens items closes → listed ≡ items → AreItems 255 listed
-quoted_items f opens listed items closes h is same = let fits = subst IsForm is h in subst (AreItems 255) (sym same) fits
 
 -- Definitions.
 

@@ -7,16 +7,14 @@ use Rattle.std.proofs.lemmas.Slice.Eq.{bytes_eq-Decides}
 use Rattle.std.specs.Prelude.{IfOk, ◌+◌, ℤ, codes, nat_lt, nat_le, nat_eq}
 use Rattle.std.specs.List.{list_all, list_any}
 use Rattle.std.specs.Str.{bytes_eq}
-use Rattle.fac_lang.specs.CoreWords.{core_word}
 use Rattle.fac_lang.specs.Forms.{IsBuilt, IsBuiltText, IsBuiltSort, AreBuiltWords, IsPrimitiveWord, IsCoreWord, IsDefinedWord, IsTopPhrase, IsPlainEffect, is_member, numbers_before, primitive_numbers, has_no_repeats}
 use Rattle.fac_lang.specs.Meaning.{sort_of, is_past}
 use Rattle.fac_lang.specs.PrimitiveWords.{PrimitiveWord, primitive_word, plain_inputs, plain_leaving, written_effect}
-use Rattle.fac_lang.specs.Texts.{Text, end, then, Item, lit, int, yes, no, str, iota, wrd, arr, tup, lit_arr, quot, word, bind, local, fry, hole, call_eff, exec_eff, next_method, made, next_after, held, known}
-use Rattle.fac_lang.specs.Whole.{IsWhole, each_item, each_inner, each_numbered, locals_bound, holes_within, item_fits, item_spares, is_body, tests_small, word_texts, sort_fits, has_written_effect, has_generic_effect, marks_fit, effect_eq, inputs_eq, leaving_eq, names_eq, name_count, no_two, same_word, same_method}
-use Rattle.fac_lang.specs.declared.phrase.Place.{Place}
+use Rattle.fac_lang.specs.Texts.{Text, end, then, Item, lit, int, yes, no, quot, word}
+use Rattle.fac_lang.specs.Whole.{IsWhole, each_item, each_numbered, locals_bound, holes_within, item_fits, item_spares, is_body, tests_small, word_texts, sort_fits, has_written_effect, has_generic_effect, marks_fit, effect_eq, inputs_eq, leaving_eq, names_eq, name_count, no_two, same_word, same_method}
 use Rattle.fac_lang.specs.declared.program.Program.{Program}
 use Rattle.fac_lang.specs.declared.program.Sort.{Sort}
-use Rattle.fac_lang.specs.declared.program.Sort.TheVariants.{Prim as prim, Core as core, Body as body, Past as past, Itself as itself, Class as class, Isa as isa, Getter as getter, Setter as setter, Putter as putter, Generic as generic, Method as method}
+use Rattle.fac_lang.specs.declared.program.Sort.TheVariants.{Prim as prim, Core as core, Body as body, Past as past, Method as method}
 use Rattle.fac_lang.specs.declared.program.WordDef.{WordDef}
 use Rattle.fac_lang.specs.declared.tree.Form.{Form}
 use Rattle.fac_parse.specs.declared.resolver.NameFault.{NameFault}

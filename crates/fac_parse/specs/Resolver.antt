@@ -1,6 +1,6 @@
 -- How names are resolved, a form at a time.
 use Rattle.std.specs.Prelude.{◌≡◌, ℕ, ◌<◌, List, [], ◌∷◌, ◌++◌, length, Option, Some, None, Result, Ok, Err}
-use Rattle.fac_lang.specs.Texts.{Text, then, quot}
+use Rattle.fac_lang.specs.Texts.{Text, then}
 use Rattle.fac_lang.specs.View.{what_item, items_text}
 use Rattle.fac_lang.specs.declared.phrase.Item.{Item}
 use Rattle.fac_lang.specs.declared.phrase.Place.{Place}

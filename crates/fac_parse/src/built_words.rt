@@ -127,13 +127,69 @@ fn add_first_shuffles(alloc: Global, words: &mut List<WordDef>) -> Result<(), Me
     ensures { OnOk result (words.new ≡ words.old ++ primitive_defs (0 ∷ 1 ∷ 2 ∷ 3 ∷ 4 ∷ 5 ∷ 6 ∷ 7 ∷ [])) }
 {
     add_word(alloc, words, "kernel", "drop", Sort::Prim(0), &["x"], &[])?;
-    add_word(alloc, words, "kernel", "dup", Sort::Prim(1), &["x"], &["x", "x"])?;
-    add_word(alloc, words, "kernel", "swap", Sort::Prim(2), &["x", "y"], &["y", "x"])?;
-    add_word(alloc, words, "kernel", "over", Sort::Prim(3), &["x", "y"], &["x", "y", "x"])?;
-    add_word(alloc, words, "kernel", "pick", Sort::Prim(4), &["x", "y", "z"], &["x", "y", "z", "x"])?;
-    add_word(alloc, words, "kernel", "rot", Sort::Prim(5), &["x", "y", "z"], &["y", "z", "x"])?;
-    add_word(alloc, words, "kernel", "-rot", Sort::Prim(6), &["x", "y", "z"], &["z", "x", "y"])?;
-    add_word(alloc, words, "kernel", "nip", Sort::Prim(7), &["x", "y"], &["y"])?;
+    add_word(
+        alloc,
+        words,
+        "kernel",
+        "dup",
+        Sort::Prim(1),
+        &["x"],
+        &["x", "x"],
+    )?;
+    add_word(
+        alloc,
+        words,
+        "kernel",
+        "swap",
+        Sort::Prim(2),
+        &["x", "y"],
+        &["y", "x"],
+    )?;
+    add_word(
+        alloc,
+        words,
+        "kernel",
+        "over",
+        Sort::Prim(3),
+        &["x", "y"],
+        &["x", "y", "x"],
+    )?;
+    add_word(
+        alloc,
+        words,
+        "kernel",
+        "pick",
+        Sort::Prim(4),
+        &["x", "y", "z"],
+        &["x", "y", "z", "x"],
+    )?;
+    add_word(
+        alloc,
+        words,
+        "kernel",
+        "rot",
+        Sort::Prim(5),
+        &["x", "y", "z"],
+        &["y", "z", "x"],
+    )?;
+    add_word(
+        alloc,
+        words,
+        "kernel",
+        "-rot",
+        Sort::Prim(6),
+        &["x", "y", "z"],
+        &["z", "x", "y"],
+    )?;
+    add_word(
+        alloc,
+        words,
+        "kernel",
+        "nip",
+        Sort::Prim(7),
+        &["x", "y"],
+        &["y"],
+    )?;
     Ok(())
 }
 
@@ -141,14 +197,78 @@ fn add_first_shuffles(alloc: Global, words: &mut List<WordDef>) -> Result<(), Me
 fn add_last_shuffles(alloc: Global, words: &mut List<WordDef>) -> Result<(), Memory>
     ensures { OnOk result (words.new ≡ words.old ++ primitive_defs (8 ∷ 9 ∷ 10 ∷ 11 ∷ 12 ∷ 13 ∷ 14 ∷ 15 ∷ [])) }
 {
-    add_word(alloc, words, "kernel", "dupd", Sort::Prim(8), &["x", "y"], &["x", "x", "y"])?;
-    add_word(alloc, words, "kernel", "swapd", Sort::Prim(9), &["x", "y", "z"], &["y", "x", "z"])?;
-    add_word(alloc, words, "kernel", "2drop", Sort::Prim(10), &["x", "y"], &[])?;
-    add_word(alloc, words, "kernel", "2dup", Sort::Prim(11), &["x", "y"], &["x", "y", "x", "y"])?;
-    add_word(alloc, words, "kernel", "3drop", Sort::Prim(12), &["x", "y", "z"], &[])?;
-    add_word(alloc, words, "kernel", "3dup", Sort::Prim(13), &["x", "y", "z"], &["x", "y", "z", "x", "y", "z"])?;
-    add_word(alloc, words, "kernel", "2over", Sort::Prim(14), &["x", "y", "z"], &["x", "y", "z", "x", "y"])?;
-    add_word(alloc, words, "kernel", "2nip", Sort::Prim(15), &["x", "y", "z"], &["z"])?;
+    add_word(
+        alloc,
+        words,
+        "kernel",
+        "dupd",
+        Sort::Prim(8),
+        &["x", "y"],
+        &["x", "x", "y"],
+    )?;
+    add_word(
+        alloc,
+        words,
+        "kernel",
+        "swapd",
+        Sort::Prim(9),
+        &["x", "y", "z"],
+        &["y", "x", "z"],
+    )?;
+    add_word(
+        alloc,
+        words,
+        "kernel",
+        "2drop",
+        Sort::Prim(10),
+        &["x", "y"],
+        &[],
+    )?;
+    add_word(
+        alloc,
+        words,
+        "kernel",
+        "2dup",
+        Sort::Prim(11),
+        &["x", "y"],
+        &["x", "y", "x", "y"],
+    )?;
+    add_word(
+        alloc,
+        words,
+        "kernel",
+        "3drop",
+        Sort::Prim(12),
+        &["x", "y", "z"],
+        &[],
+    )?;
+    add_word(
+        alloc,
+        words,
+        "kernel",
+        "3dup",
+        Sort::Prim(13),
+        &["x", "y", "z"],
+        &["x", "y", "z", "x", "y", "z"],
+    )?;
+    add_word(
+        alloc,
+        words,
+        "kernel",
+        "2over",
+        Sort::Prim(14),
+        &["x", "y", "z"],
+        &["x", "y", "z", "x", "y"],
+    )?;
+    add_word(
+        alloc,
+        words,
+        "kernel",
+        "2nip",
+        Sort::Prim(15),
+        &["x", "y", "z"],
+        &["z"],
+    )?;
     Ok(())
 }
 
@@ -156,13 +276,61 @@ fn add_last_shuffles(alloc: Global, words: &mut List<WordDef>) -> Result<(), Mem
 fn add_kernel_words(alloc: Global, words: &mut List<WordDef>) -> Result<(), Memory>
     ensures { OnOk result (words.new ≡ words.old ++ primitive_defs (16 ∷ 17 ∷ 18 ∷ 19 ∷ 20 ∷ 21 ∷ 22 ∷ [])) }
 {
-    add_word(alloc, words, "kernel", "curry", Sort::Prim(16), &["obj", "quot"], &["curry"])?;
-    add_word(alloc, words, "kernel", "compose", Sort::Prim(17), &["p", "q"], &["compose"])?;
+    add_word(
+        alloc,
+        words,
+        "kernel",
+        "curry",
+        Sort::Prim(16),
+        &["obj", "quot"],
+        &["curry"],
+    )?;
+    add_word(
+        alloc,
+        words,
+        "kernel",
+        "compose",
+        Sort::Prim(17),
+        &["p", "q"],
+        &["compose"],
+    )?;
     add_throw(alloc, words)?;
-    add_word(alloc, words, "kernel", "not", Sort::Prim(19), &["x"], &["?"])?;
-    add_word(alloc, words, "kernel", "and", Sort::Prim(20), &["x", "y"], &["z"])?;
-    add_word(alloc, words, "kernel", "or", Sort::Prim(21), &["x", "y"], &["z"])?;
-    add_word(alloc, words, "kernel", "?", Sort::Prim(22), &["?", "x", "y"], &["z"])?;
+    add_word(
+        alloc,
+        words,
+        "kernel",
+        "not",
+        Sort::Prim(19),
+        &["x"],
+        &["?"],
+    )?;
+    add_word(
+        alloc,
+        words,
+        "kernel",
+        "and",
+        Sort::Prim(20),
+        &["x", "y"],
+        &["z"],
+    )?;
+    add_word(
+        alloc,
+        words,
+        "kernel",
+        "or",
+        Sort::Prim(21),
+        &["x", "y"],
+        &["z"],
+    )?;
+    add_word(
+        alloc,
+        words,
+        "kernel",
+        "?",
+        Sort::Prim(22),
+        &["?", "x", "y"],
+        &["z"],
+    )?;
     Ok(())
 }
 
@@ -170,10 +338,42 @@ fn add_kernel_words(alloc: Global, words: &mut List<WordDef>) -> Result<(), Memo
 fn add_math_words(alloc: Global, words: &mut List<WordDef>) -> Result<(), Memory>
     ensures { OnOk result (words.new ≡ words.old ++ primitive_defs (26 ∷ 27 ∷ 28 ∷ 59 ∷ [])) }
 {
-    add_word(alloc, words, "math", "+", Sort::Prim(26), &["x", "y"], &["z"])?;
-    add_word(alloc, words, "math", "-", Sort::Prim(27), &["x", "y"], &["z"])?;
-    add_word(alloc, words, "math", "*", Sort::Prim(28), &["x", "y"], &["z"])?;
-    add_word(alloc, words, "prettyprint", ".", Sort::Prim(59), &["x"], &[])?;
+    add_word(
+        alloc,
+        words,
+        "math",
+        "+",
+        Sort::Prim(26),
+        &["x", "y"],
+        &["z"],
+    )?;
+    add_word(
+        alloc,
+        words,
+        "math",
+        "-",
+        Sort::Prim(27),
+        &["x", "y"],
+        &["z"],
+    )?;
+    add_word(
+        alloc,
+        words,
+        "math",
+        "*",
+        Sort::Prim(28),
+        &["x", "y"],
+        &["z"],
+    )?;
+    add_word(
+        alloc,
+        words,
+        "prettyprint",
+        ".",
+        Sort::Prim(59),
+        &["x"],
+        &[],
+    )?;
     Ok(())
 }
 
@@ -181,9 +381,33 @@ fn add_math_words(alloc: Global, words: &mut List<WordDef>) -> Result<(), Memory
 fn add_core_words(alloc: Global, words: &mut List<WordDef>) -> Result<(), Memory>
     ensures { OnOk result (words.new ≡ words.old ++ core_defs built_cores) }
 {
-    add_word(alloc, words, "kernel", "call", Sort::Core(0), &["quot"], &[])?;
-    add_word(alloc, words, "kernel", "dip", Sort::Core(1), &["x", "quot"], &["x"])?;
-    add_word(alloc, words, "kernel", "if", Sort::Core(2), &["?", "true", "false"], &[])?;
+    add_word(
+        alloc,
+        words,
+        "kernel",
+        "call",
+        Sort::Core(0),
+        &["quot"],
+        &[],
+    )?;
+    add_word(
+        alloc,
+        words,
+        "kernel",
+        "dip",
+        Sort::Core(1),
+        &["x", "quot"],
+        &["x"],
+    )?;
+    add_word(
+        alloc,
+        words,
+        "kernel",
+        "if",
+        Sort::Core(2),
+        &["?", "true", "false"],
+        &[],
+    )?;
     Ok(())
 }
 

@@ -5,7 +5,9 @@ ghost use Rattle.fac_parse.specs.Reader.{step, top_step, names_step, colon_step,
 ghost use Rattle.fac_parse.specs.Spellings.{token_spelling};
 
 use crate::spelling::{Spelling, classify, closes_quotation, is_semicolon, names_a_value};
-use fac_lang::{Duplicate, Form, List, Mark, Memory, Piece, Place, Term, Token, Tree, WrittenEffect};
+use fac_lang::{
+    Duplicate, Form, List, Mark, Memory, Piece, Place, Term, Token, Tree, WrittenEffect,
+};
 use std::alloc::Global;
 use thiserror::Error;
 
@@ -326,17 +328,18 @@ fn with(items: Items, piece: Piece, depth: u32) -> Result<Items, Memory>
     Ok(Items { pieces, depth })
 }
 
-// Takes a token among items, where so many quotations may be open.
+// Takes a token of this spelling among items, where so many quotations may be open.
 fn take_piece(
     alloc: Global,
     most: u32,
     items: Items,
+    spelling: Spelling,
     token: &Token,
 ) -> Result<Items, ParseFault>
-    ensures { AnswersItems (piece_step most items (token_spelling token.now.kind) token.now) result }
+    ensures { AnswersItems (piece_step most items spelling token.now) result }
 {
     let depth = items.depth;
-    match classify(&token.kind) {
+    match spelling {
         Spelling::Integer(value) => {
             let item = Term::Integer(token.copy(alloc)?, value);
             Ok(with(items, Piece::Item(item), depth)?)
@@ -376,7 +379,8 @@ fn take_in_body(
 ) -> Result<Taken, ParseFault>
     ensures { Answers (body_step opens name effect items (token_spelling token.now.kind) token.now) result }
 {
-    if is_semicolon(&token.kind) && items.depth == 0 {
+    let spelling = classify(&token.kind);
+    if is_semicolon(spelling) && items.depth == 0 {
         Ok(Taken::Completes(Definition {
             opens,
             name,
@@ -385,7 +389,7 @@ fn take_in_body(
             closes: token.place,
         }))
     } else {
-        match take_piece(alloc, MOST_LEVELS, items, token) {
+        match take_piece(alloc, MOST_LEVELS, items, spelling, token) {
             Ok(items) => Ok(Taken::Goes(Part::Body {
                 opens,
                 name,
@@ -406,14 +410,15 @@ fn take_in_quotation(
 ) -> Result<Taken, ParseFault>
     ensures { Answers (quotation_step opens items (token_spelling token.now.kind) token.now) result }
 {
-    if closes_quotation(&token.kind) && items.depth == 0 {
+    let spelling = classify(&token.kind);
+    if closes_quotation(spelling) && items.depth == 0 {
         Ok(Taken::Ends(Form::Quotation {
             opens,
             items: items.pieces,
             closes: token.place,
         }))
     } else {
-        match take_piece(alloc, MOST_LEVELS - 1, items, token) {
+        match take_piece(alloc, MOST_LEVELS - 1, items, spelling, token) {
             Ok(items) => Ok(Taken::Goes(Part::Quotation { opens, items })),
             Err(fault) => Err(fault),
         }
@@ -492,11 +497,7 @@ fn add(forms: &mut List<Form>, taken: Taken) -> Result<State, Memory>
 }
 
 // Takes a token outside of all forms, and adds the form that it ends.
-fn take_outside(
-    alloc: Global,
-    forms: &mut List<Form>,
-    token: &Token,
-) -> Result<State, ParseFault>
+fn take_outside(alloc: Global, forms: &mut List<Form>, token: &Token) -> Result<State, ParseFault>
     ensures { Takes [] (top_step (token_spelling token.now.kind) token.now) forms.old forms.new result }
 {
     match take_at_top(alloc, token) {

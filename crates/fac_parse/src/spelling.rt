@@ -223,20 +223,20 @@ pub fn classify(kind: &TokKind) -> Spelling
 }
 
 /// Whether a token is `;`.
-pub fn is_semicolon(kind: &TokKind) -> bool
-    ensures { result ≡ is_semi (token_spelling kind.now) }
+pub fn is_semicolon(spelling: Spelling) -> bool
+    ensures { result ≡ is_semi spelling }
 {
-    match classify(kind) {
+    match spelling {
         Spelling::Semi => true,
         _ => false,
     }
 }
 
 /// Whether a token is `]`.
-pub fn closes_quotation(kind: &TokKind) -> bool
-    ensures { result ≡ is_closing (token_spelling kind.now) }
+pub fn closes_quotation(spelling: Spelling) -> bool
+    ensures { result ≡ is_closing spelling }
 {
-    match classify(kind) {
+    match spelling {
         Spelling::ClosesQuotation => true,
         _ => false,
     }
