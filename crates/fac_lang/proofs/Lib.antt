@@ -17,4 +17,5 @@ pub mod ExamplesOfWhole
 pub mod RunningLemmas
 pub mod EffectLemmas
 pub mod BuiltLemmas
+pub mod FormsLemmas
 pub mod WholeLemmas

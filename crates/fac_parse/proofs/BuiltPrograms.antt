@@ -1,14 +1,16 @@
 -- Every resolved program is of the forms built.
-use Rattle.std.proofs.Common.{◌≡◌, ℕ, suc, ◌+◌, ◌<◌, ◌≤◌, Bool, true, false, cond, ◌&&◌, List, [], ◌∷◌, ◌++◌, Option, Some, None, Result, Ok, Err, length, refl, ap, sym, ◌∙◌, subst, arith, length-append}
-use Rattle.std.specs.Prelude.{nat_le, nat_lt, ℤ}
+use Rattle.std.proofs.Common.{◌≡◌, ℕ, suc, ◌+◌, ◌<◌, ◌≤◌, Bool, true, false, cond, ◌&&◌, List, [], ◌∷◌, ◌++◌, Option, Some, None, Result, Ok, Err, length, refl, ap, sym, ◌∙◌, subst, arith, zero-add, length-append}
+use Rattle.std.specs.Prelude.{nat_le, nat_lt}
 use Rattle.std.specs.List.{list_all}
 use Rattle.std.specs.Str.{bytes_eq}
 use Rattle.std.proofs.lemmas.Bool.Decides.{Decides-ltb}
 use Rattle.std.proofs.lemmas.List.{length_push}
-use Rattle.fac_lang.specs.Built.{IsBuilt, IsBuiltText, IsBuiltSort, AreBuiltWords, IsDefinedWord, ArePlainInputs, built_primitives, is_built_primitive, primitive_numbers, has_no_repeats, numbers_before}
+use Rattle.fac_lang.specs.Forms.{IsBuilt, IsBuiltText, IsBuiltItem, IsBuiltSort, AreBuiltWords, IsDefinedWord, ArePlainInputs, IsPlainLeaving, built_primitives, is_built_primitive, is_built_core, primitive_numbers, has_no_repeats, numbers_before}
+use Rattle.fac_lang.specs.CoreWords.{core_word}
+use Rattle.fac_lang.specs.Signatures.{never, leaves}
 use Rattle.fac_lang.specs.PrimitiveWords.{PrimitiveWord, primitive_word, plain_inputs}
-use Rattle.fac_lang.specs.Texts.{Text, end, then, Item, lit, int, word}
-use Rattle.fac_lang.specs.Whole.{name_count, inputs_name_count}
+use Rattle.fac_lang.specs.Texts.{Text, end, then, Item, quot, word}
+use Rattle.fac_lang.specs.Whole.{name_count, inputs_name_count, leaving_count}
 use Rattle.fac_lang.specs.declared.phrase.Place.{Place}
 use Rattle.fac_lang.specs.declared.program.Name.{Name as FullName}
 use Rattle.fac_lang.specs.declared.program.Sort.TheVariants.{Prim, Body}
@@ -16,11 +18,15 @@ use Rattle.fac_lang.specs.declared.program.WordDef.{WordDef}
 use Rattle.fac_lang.specs.declared.token.Token.{Token}
 use Rattle.fac_lang.specs.declared.tree.Form.{Form}
 use Rattle.fac_lang.specs.declared.tree.Form.TheVariants as form
+use Rattle.fac_lang.specs.declared.tree.Mark.{Mark}
+use Rattle.fac_lang.specs.declared.tree.Mark.TheVariants.{Inline, Recursive}
+use Rattle.fac_lang.specs.declared.tree.Piece.{Piece}
+use Rattle.fac_lang.specs.declared.tree.Piece.TheVariants as piece
 use Rattle.fac_lang.specs.declared.tree.Term.{Term}
 use Rattle.fac_lang.specs.declared.tree.Term.TheVariants as term
 use Rattle.fac_lang.specs.declared.tree.WrittenEffect.{WrittenEffect}
 use Rattle.fac_parse.specs.declared.resolver.NameFault.{NameFault}
-use Rattle.fac_parse.specs.Resolution.{primitive_def, primitive_defs, known_words, names_of, first_names, held_from, or_else, held_by, current, found, own_name, is_taken, uses, with_item, with_word, text_of, token_texts, effect_of, defined_word, Contents, after_uses, with_top_item, with_top_word, after_text, unless_taken, contents_of, top_word, program_of}
+use Rattle.fac_parse.specs.Resolution.{primitive_if_any, primitive_defs, core_if_any, core_defs, built_cores, known_words, names_of, first_names, held_from, or_else, held_by, current, found, own_name, is_taken, uses, result_map, word_item, item_of, term_place, Following, with_item, with_quotation, opened, closed, following, text_of, token_texts, is_star, leaving_of, effect_of, is_inline, is_recursive, defined_word, Contents, after_uses, with_top_item, with_defined, unless_taken, contents_of, top_word, program_of}
 use Rattle.fac_parse.specs.Trees.{token_text, IsEffect, IsWellFormed}
 
 -- What a name finds is known.
@@ -51,20 +57,54 @@ found_within bound n known used name few e = let below = found_below n known use
 
 -- Texts.
 
-int_built : (bound : ℕ) (z : ℤ) (p : Place) (r : Result Text NameFault) (t : Text) → ((u : Text) → r ≡ Ok u → IsBuiltText bound u) → with_item (lit (int z)) p r ≡ Ok t → IsBuiltText bound t
-int_built bound z p (Ok u) t later e = let same : then (lit (int z)) p u ≡ t = cc in subst (IsBuiltText bound) same (tt, later u refl)
-int_built bound z p (Err f) t later e = cc
+word_built : (bound : ℕ) (o : Option ℕ) (t : Token) (i : Item) → ((n : ℕ) → o ≡ Some n → nat_lt n bound ≡ true) → word_item o t ≡ Ok i → IsBuiltItem bound i
+word_built bound (Some n) t i below e = let same : word n ≡ i = cc in subst (IsBuiltItem bound) same (below n refl)
+word_built bound None t i below e = cc
 
-word_built : (bound : ℕ) (o : Option ℕ) (tok : Token) (r : Result Text NameFault) (t : Text) → ((n : ℕ) → o ≡ Some n → nat_lt n bound ≡ true) → ((u : Text) → r ≡ Ok u → IsBuiltText bound u) → with_word o tok r ≡ Ok t → IsBuiltText bound t
-word_built bound (Some n) tok (Ok u) t below later e = let same : then (word n) tok.place u ≡ t = cc in subst (IsBuiltText bound) same (below n refl, later u refl)
-word_built bound (Some n) tok (Err f) t below later e = cc
-word_built bound None tok r t below later e = cc
+literal_built : (bound : ℕ) (i j : Item) (r : Result Item NameFault) → IsBuiltItem bound i → r ≡ Ok i → r ≡ Ok j → IsBuiltItem bound j
+literal_built bound i j r h is e = let same : i ≡ j = cc in subst (IsBuiltItem bound) same h
 
-text_built : (bound : ℕ) (known : List FullName) (used : List (List ℕ)) (items : List Term) (t : Text) → length known ≤ bound → text_of known used items ≡ Ok t → IsBuiltText bound t
-text_built bound known used [] t few e = let same : end ≡ t = cc in subst (IsBuiltText bound) same tt
-text_built bound known used (term.Integer tok z ∷ items) t few e = int_built bound z tok.place (text_of known used items) t (λ u h. text_built bound known used items u few h) e
-text_built bound known used (term.Name tok ∷ items) t few e =
-    word_built bound (found known used (token_text tok.kind)) tok (text_of known used items) t (λ n h. found_within bound n known used (token_text tok.kind) few h) (λ u h. text_built bound known used items u few h) e
+item_built : (bound : ℕ) (known : List FullName) (used : List (List ℕ)) (item : Term) (i : Item) → length known ≤ bound → item_of known used item ≡ Ok i → IsBuiltItem bound i
+item_built bound known used (term.Name t) i few e = word_built bound (found known used (token_text t.kind)) t i (λ n h. found_within bound n known used (token_text t.kind) few h) e
+item_built bound known used (term.Integer t z) i few e = literal_built bound _ i _ tt refl e
+item_built bound known used (term.True place) i few e = literal_built bound _ i _ tt refl e
+item_built bound known used (term.False place) i few e = literal_built bound _ i _ tt refl e
+
+abbrev AreBuiltTexts : ℕ → List Text → Type 0
+AreBuiltTexts bound [] = Unit {0}
+AreBuiltTexts bound (t ∷ ts) = IsBuiltText bound t × AreBuiltTexts bound ts
+
+abbrev IsBuiltFollowing : ℕ → Following → Type 0
+IsBuiltFollowing bound f = IsBuiltText bound f.here × AreBuiltTexts bound f.around
+
+-- what follows is built, where no name is refused
+abbrev Builds : ℕ → Result Following NameFault → Type 0
+Builds bound r = (f : Following) → r ≡ Ok f → IsBuiltFollowing bound f
+
+mapped_builds : (bound : ℕ) (g : Following → Following) (r : Result Following NameFault) → ((f : Following) → IsBuiltFollowing bound f → IsBuiltFollowing bound (g f)) → Builds bound r → Builds bound (result_map g r)
+mapped_builds bound g (Ok d) keeps later = λ f e. let same : g d ≡ f = cc in subst (IsBuiltFollowing bound) same (keeps d (later d refl))
+mapped_builds bound g (Err fault) keeps later = λ f e. cc
+
+item_before : (bound : ℕ) (r : Result Item NameFault) (place : Place) (rest : Result Following NameFault) → ((i : Item) → r ≡ Ok i → IsBuiltItem bound i) → Builds bound rest → Builds bound (with_item r place rest)
+item_before bound (Err fault) place rest item later = λ f e. cc
+item_before bound (Ok i) place rest item later = mapped_builds bound (λ f. record { here = then i place f.here; around = f.around }) rest (λ f h. ((item i refl, h.0), h.1)) later
+
+quotation_built : (bound : ℕ) (place : Place) (t : Text) (ts : List Text) → IsBuiltText bound t → AreBuiltTexts bound ts → IsBuiltFollowing bound (with_quotation place t ts)
+quotation_built bound place t [] h k = ((h, tt), tt)
+quotation_built bound place t (u ∷ us) h k = ((h, k.0), k.1)
+
+pieces_build : (bound : ℕ) (known : List FullName) (used : List (List ℕ)) (items : List Piece) → length known ≤ bound → Builds bound (following known used items)
+pieces_build bound known used [] few = λ f e. let same : record { here = end; around = [] } ≡ f = cc in subst (IsBuiltFollowing bound) same (tt, tt)
+pieces_build bound known used (piece.Item item ∷ items) few = item_before bound (item_of known used item) (term_place item) (following known used items) (λ i h. item_built bound known used item i few h) (pieces_build bound known used items few)
+pieces_build bound known used (piece.Opens place ∷ items) few = mapped_builds bound (opened place) (following known used items) (λ f h. quotation_built bound place f.here f.around h.0 h.1) (pieces_build bound known used items few)
+pieces_build bound known used (piece.Closes place ∷ items) few = mapped_builds bound closed (following known used items) (λ f h. (tt, h)) (pieces_build bound known used items few)
+
+here_built : (bound : ℕ) (r : Result Following NameFault) (t : Text) → Builds bound r → result_map (λ f. f.here) r ≡ Ok t → IsBuiltText bound t
+here_built bound (Ok f) t h e = let same : f.here ≡ t = cc in subst (IsBuiltText bound) same (h f refl).0
+here_built bound (Err fault) t h e = cc
+
+text_built : (bound : ℕ) (known : List FullName) (used : List (List ℕ)) (items : List Piece) (t : Text) → length known ≤ bound → text_of known used items ≡ Ok t → IsBuiltText bound t
+text_built bound known used items t few e = here_built bound (following known used items) t (pieces_build bound known used items few) e
 
 -- Words that a file defines.
 
@@ -93,19 +133,37 @@ texts_counted (t ∷ ts) = ap suc (texts_counted ts)
 at_most : (a b : ℕ) → a ≤ b → nat_le a b ≡ true
 at_most a b few = grind arith
 
+star_counted : (b : Bool) (names : List (List ℕ)) → length names ≡ 1 → leaving_count (cond b never (leaves None names)) ≡ length names
+star_counted true names e = sym e
+star_counted false names e = zero-add (length names)
+
+leaving_counted : (outs : List Token) → leaving_count (leaving_of outs) ≡ length (token_texts outs)
+leaving_counted [] = zero-add 0
+leaving_counted (t ∷ []) = star_counted (is_star (t ∷ [])) (token_texts (t ∷ [])) refl
+leaving_counted (t ∷ u ∷ ts) = zero-add (length (token_texts (t ∷ u ∷ ts)))
+
 few_names : (effect : WrittenEffect) → IsEffect effect → nat_le (name_count (effect_of effect)) 65 ≡ true
 few_names effect h =
     let ins = inputs_counted (token_texts effect.ins) ∙ texts_counted effect.ins in
-    let outs = texts_counted effect.outs in
+    let outs = leaving_counted effect.outs ∙ texts_counted effect.outs in
     let few = h.few in
     at_most (name_count (effect_of effect)) 65 (omega (arith, ins, outs, few))
 
-own_word : (bound : ℕ) (name : Token) (effect : WrittenEffect) (t : Text) → IsEffect effect → IsBuiltText bound t → IsOwnWord bound (defined_word name effect t)
-own_word bound name effect t fits built =
+star_plain : (b : Bool) (names : List (List ℕ)) → IsPlainLeaving (cond b never (leaves None names))
+star_plain true names = tt
+star_plain false names = refl
+
+no_row_word : (mark : Option Mark) → (is_inline mark && is_recursive mark) ≡ false
+no_row_word None = refl
+no_row_word (Some (Inline place)) = refl
+no_row_word (Some (Recursive place)) = refl
+
+own_word : (bound : ℕ) (name : Token) (effect : WrittenEffect) (mark : Option Mark) (t : Text) → IsEffect effect → IsBuiltText bound t → IsOwnWord bound (defined_word name effect mark t)
+own_word bound name effect mark t fits built =
     record {
       text = t;
       sort_is = refl;
-      defined = record { text_built = built; plain = (refl, are_plain (token_texts effect.ins), refl); not_inline = refl; not_recursive = refl };
+      defined = record { text_built = built; plain = (refl, are_plain (token_texts effect.ins), star_plain (is_star effect.outs) (token_texts effect.outs)); no_row_word = no_row_word mark };
       few = few_names effect fits;
     }
 
@@ -122,26 +180,28 @@ uses_build : (bound k : ℕ) (r : Result (List (List ℕ)) NameFault) (rest : Li
 uses_build bound k (Ok used) rest later = later used
 uses_build bound k (Err f) rest later = λ c e few. cc
 
-item_builds : (bound k : ℕ) (i : Item) (p : Place) (r : Result Contents NameFault) → (k ≤ bound → IsBuiltText bound (then i p end)) → BuildsWithin bound k r → BuildsWithin bound k (with_top_item i p r)
-item_builds bound k i p (Ok d) item later = λ c e few.
+item_builds : (bound k : ℕ) (r : Result Item NameFault) (p : Place) (q : Result Contents NameFault) → ((i : Item) → k ≤ bound → r ≡ Ok i → IsBuiltItem bound i) → BuildsWithin bound k q → BuildsWithin bound k (with_top_item r p q)
+item_builds bound k (Err f) p q item later = λ c e few. cc
+item_builds bound k (Ok i) p (Err f) item later = λ c e few. cc
+item_builds bound k (Ok i) p (Ok d) item later = λ c e few.
     let same : record { words = d.words; text = then i p d.text } ≡ c = cc in
     subst (AreBuilt bound) same (let fits : k + length d.words ≤ bound = subst (λ (x : Contents). k + length x.words ≤ bound) (sym same) few in
-    let rest = later d refl fits in (rest.0, ((item (omega (arith, fits))).0, rest.1)))
-item_builds bound k i p (Err f) item later = λ c e few. cc
+    let rest = later d refl fits in (rest.0, (item i (omega (arith, fits)) refl, rest.1)))
 
-word_builds : (bound k : ℕ) (o : Option ℕ) (tok : Token) (r : Result Contents NameFault) → ((n : ℕ) → k ≤ bound → o ≡ Some n → nat_lt n bound ≡ true) → BuildsWithin bound k r → BuildsWithin bound k (with_top_word o tok r)
-word_builds bound k (Some n) tok r below later = item_builds bound k (word n) tok.place r (λ few. (below n few refl, tt)) later
-word_builds bound k None tok r below later = λ c e few. cc
+-- a quotation is an item as built as its text
+quoted_built : (bound : ℕ) (r : Result Text NameFault) (i : Item) → ((t : Text) → r ≡ Ok t → IsBuiltText bound t) → result_map quot r ≡ Ok i → IsBuiltItem bound i
+quoted_built bound (Ok t) i text e = let same : quot t ≡ i = cc in subst (IsBuiltItem bound) same (text t refl)
+quoted_built bound (Err f) i text e = cc
 
-definition_builds : (bound k : ℕ) (b : Bool) (name : Token) (effect : WrittenEffect) (r : Result Text NameFault) (q : Result Contents NameFault) → IsEffect effect → ((t : Text) → k + 1 ≤ bound → r ≡ Ok t → IsBuiltText bound t) → BuildsWithin bound (k + 1) q → BuildsWithin bound k (unless_taken b name (after_text name effect r q))
-definition_builds bound k true name effect r q fits text later = λ c e few. cc
-definition_builds bound k false name effect (Err f) q fits text later = λ c e few. cc
-definition_builds bound k false name effect (Ok t) (Err f) fits text later = λ c e few. cc
-definition_builds bound k false name effect (Ok t) (Ok d) fits text later = λ c e few.
-    let same : record { words = defined_word name effect t ∷ d.words; text = d.text } ≡ c = cc in
+definition_builds : (bound k : ℕ) (b : Bool) (name : Token) (effect : WrittenEffect) (mark : Option Mark) (r : Result Text NameFault) (q : Result Contents NameFault) → IsEffect effect → ((t : Text) → k + 1 ≤ bound → r ≡ Ok t → IsBuiltText bound t) → BuildsWithin bound (k + 1) q → BuildsWithin bound k (unless_taken b name (with_defined (result_map (defined_word name effect mark) r) q))
+definition_builds bound k true name effect mark r q fits text later = λ c e few. cc
+definition_builds bound k false name effect mark (Err f) q fits text later = λ c e few. cc
+definition_builds bound k false name effect mark (Ok t) (Err f) fits text later = λ c e few. cc
+definition_builds bound k false name effect mark (Ok t) (Ok d) fits text later = λ c e few.
+    let same : record { words = defined_word name effect mark t ∷ d.words; text = d.text } ≡ c = cc in
     let within : k + suc (length d.words) ≤ bound = subst (λ (x : Contents). k + length x.words ≤ bound) (sym same) few in
     let rest = later d refl (omega (arith, within)) in
-    subst (AreBuilt bound) same ((own_word bound name effect t fits (text t (omega (arith, within)) refl), rest.0), rest.1)
+    subst (AreBuilt bound) same ((own_word bound name effect mark t fits (text t (omega (arith, within)) refl), rest.0), rest.1)
 
 at_length : (bound : ℕ) (known : List FullName) (x : FullName) (r : Result Contents NameFault) → BuildsWithin bound (length (known ++ x ∷ [])) r → BuildsWithin bound (length known + 1) r
 at_length bound known x r h = subst (λ (k : ℕ). BuildsWithin bound k r) (length_push known x) h
@@ -150,16 +210,16 @@ contents_build : (bound : ℕ) (forms : List Form) (known : List FullName) (used
 contents_build bound [] known used fits = λ c e few. let same : record { words = []; text = end } ≡ c = cc in subst (AreBuilt bound) same (tt, tt)
 contents_build bound (form.Using opens vocabs closes ∷ forms) known used fits =
     uses_build bound (length known) (uses used vocabs) (λ more. contents_of known more forms) (λ more. contents_build bound forms known more fits.1)
-contents_build bound (form.Define opens name effect items closes ∷ forms) known used fits =
+contents_build bound (form.Define opens name effect items closes mark ∷ forms) known used fits =
     let x = own_name (token_text name.kind) in
     let more = known ++ x ∷ [] in
-    definition_builds bound (length known) (is_taken known (token_text name.kind)) name effect (text_of more used items) (contents_of more used forms) fits.0.1
+    definition_builds bound (length known) (is_taken known (token_text name.kind)) name effect mark (text_of more used items) (contents_of more used forms) fits.0.1
     (λ t few h. text_built bound more used items t (let pushed = length_push known x in omega (arith, pushed, few)) h)
     (at_length bound known x (contents_of more used forms) (contents_build bound forms more used fits.1))
-contents_build bound (form.Item (term.Integer t value) ∷ forms) known used fits =
-    item_builds bound (length known) (lit (int value)) t.place (contents_of known used forms) (λ few. (tt, tt)) (contents_build bound forms known used fits.1)
-contents_build bound (form.Item (term.Name t) ∷ forms) known used fits =
-    word_builds bound (length known) (found known used (token_text t.kind)) t (contents_of known used forms) (λ n few h. found_within bound n known used (token_text t.kind) few h) (contents_build bound forms known used fits.1)
+contents_build bound (form.Item item ∷ forms) known used fits =
+    item_builds bound (length known) (item_of known used item) (term_place item) (contents_of known used forms) (λ i few h. item_built bound known used item i few h) (contents_build bound forms known used fits.1)
+contents_build bound (form.Quotation opens items closes ∷ forms) known used fits =
+    item_builds bound (length known) (result_map quot (text_of known used items)) opens (contents_of known used forms) (λ i few h. quoted_built bound (text_of known used items) i (λ t e. text_built bound known used items t few e) h) (contents_build bound forms known used fits.1)
 
 names_counted : (ds : List WordDef) → length (names_of ds) ≡ length ds
 names_counted [] = refl
@@ -175,29 +235,39 @@ both_true : (a b : Bool) → (a && b) ≡ true → (a ≡ true) × (b ≡ true)
 both_true true b h = (refl, h)
 both_true false b h = cc
 
-one_built : (bound k : ℕ) (ks : List ℕ) (o : Option PrimitiveWord) → primitive_word k ≡ o → is_built_primitive k ≡ true → AreBuiltWords bound (primitive_defs ks) → AreBuiltWords bound (elim o [ None ↦ primitive_defs ks | Some row ↦ primitive_def k row ∷ primitive_defs ks ])
-one_built bound k ks None e b rest = rest
-one_built bound k ks (Some row) e b rest = (record { row = row; row_is = e; is_built = b; effect_is = refl; not_inline = refl; not_recursive = refl }, rest)
+built_with : (bound : ℕ) (ds es : List WordDef) → AreBuiltWords bound ds → AreBuiltWords bound es → AreBuiltWords bound (ds ++ es)
+built_with bound [] es h k = k
+built_with bound (d ∷ ds) es h k = (h.0, built_with bound ds es h.1 k)
 
-all_built : (bound : ℕ) (ks : List ℕ) → list_all is_built_primitive ks ≡ true → AreBuiltWords bound (primitive_defs ks)
-all_built bound [] h = tt
-all_built bound (k ∷ ks) h =
+primitive_built : (bound k : ℕ) (o : Option PrimitiveWord) → primitive_word k ≡ o → is_built_primitive k ≡ true → AreBuiltWords bound (primitive_if_any k o)
+primitive_built bound k None e b = tt
+primitive_built bound k (Some row) e b = (record { row = row; row_is = e; is_built = b; effect_is = refl; not_inline = refl; not_recursive = refl }, tt)
+
+primitives_built : (bound : ℕ) (ks : List ℕ) → list_all is_built_primitive ks ≡ true → AreBuiltWords bound (primitive_defs ks)
+primitives_built bound [] h = tt
+primitives_built bound (k ∷ ks) h =
     let both = both_true (is_built_primitive k) (list_all is_built_primitive ks) h in
-    one_built bound k ks (primitive_word k) refl both.0 (all_built bound ks both.1)
+    built_with bound (primitive_if_any k (primitive_word k)) (primitive_defs ks) (primitive_built bound k (primitive_word k) refl both.0) (primitives_built bound ks both.1)
+
+core_built : (bound k : ℕ) (o : Option PrimitiveWord) → core_word k ≡ o → is_built_core k ≡ true → AreBuiltWords bound (core_if_any k o)
+core_built bound k None e b = tt
+core_built bound k (Some row) e b = (record { row = row; row_is = e; is_built = b; effect_is = refl; not_inline = refl; not_recursive = refl }, tt)
+
+cores_built : (bound : ℕ) (ks : List ℕ) → list_all is_built_core ks ≡ true → AreBuiltWords bound (core_defs ks)
+cores_built bound [] h = tt
+cores_built bound (k ∷ ks) h =
+    let both = both_true (is_built_core k) (list_all is_built_core ks) h in
+    built_with bound (core_if_any k (core_word k)) (core_defs ks) (core_built bound k (core_word k) refl both.0) (cores_built bound ks both.1)
 
 known_built : (bound : ℕ) → AreBuiltWords bound known_words
 unfolding known_words
-known_built bound = all_built bound built_primitives refl
+known_built bound = built_with bound (primitive_defs built_primitives) (core_defs built_cores) (primitives_built bound built_primitives refl) (cores_built bound built_cores refl)
 
 known_distinct : has_no_repeats (primitive_numbers known_words) ≡ true
 unfolding known_words primitive_word
 known_distinct = refl
 
 -- All words.
-
-built_with : (bound : ℕ) (ds es : List WordDef) → AreBuiltWords bound ds → AreBuiltWords bound es → AreBuiltWords bound (ds ++ es)
-built_with bound [] es h k = k
-built_with bound (d ∷ ds) es h k = (h.0, built_with bound ds es h.1 k)
 
 own_built : (bound : ℕ) (ds : List WordDef) → AreOwnWords bound ds → AreBuiltWords bound ds
 own_built bound [] h = tt

@@ -3,6 +3,7 @@ pub mod SpellingLemmas
 pub mod WordLemmas
 pub mod MapLemmas
 pub mod ParseLemmas
+pub mod FirstWordLemmas
 pub mod NameLemmas
 pub mod ResolutionLemmas
 pub mod BuiltPrograms

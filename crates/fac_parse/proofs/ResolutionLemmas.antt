@@ -1,16 +1,21 @@
 -- Taking items and forms, a step at a time.
-use Rattle.std.proofs.Common.{◌≡◌, ℕ, Bool, true, false, List, [], ◌∷◌, ◌++◌, Option, Some, None, Result, Ok, Err, drop, refl, ap, sym, ◌∙◌, subst, append_assoc, append-nil}
+use Rattle.std.proofs.Common.{◌≡◌, ℕ, zero, suc, Bool, true, false, List, [], ◌∷◌, ◌++◌, length, Option, Some, None, Result, Ok, Err, drop, refl, ap, sym, ◌∙◌, subst, append_assoc, append-nil, arith}
 use Rattle.std.specs.List.{list_any}
 use Rattle.std.specs.Str.{bytes_eq}
-use Rattle.fac_lang.specs.Texts.{Text, end, then}
+use Rattle.std.proofs.lemmas.List.{length_push}
+use Rattle.fac_lang.specs.Texts.{Text, end, then, quot}
 use Rattle.fac_lang.specs.View.{what_item, items_text}
 use Rattle.fac_lang.specs.declared.phrase.Item.{Item as PlacedItem}
+use Rattle.fac_lang.specs.declared.phrase.What.TheVariants.{Quot}
 use Rattle.fac_lang.specs.declared.phrase.Place.{Place}
 use Rattle.fac_lang.specs.declared.program.Name.{Name as FullName}
 use Rattle.fac_lang.specs.declared.program.WordDef.{WordDef}
 use Rattle.fac_lang.specs.declared.token.Token.{Token}
 use Rattle.fac_lang.specs.declared.tree.Form.{Form}
 use Rattle.fac_lang.specs.declared.tree.Form.TheVariants as form
+use Rattle.fac_lang.specs.declared.tree.Mark.{Mark}
+use Rattle.fac_lang.specs.declared.tree.Piece.{Piece}
+use Rattle.fac_lang.specs.declared.tree.Piece.TheVariants as piece
 use Rattle.fac_lang.specs.declared.tree.Term.{Term}
 use Rattle.fac_lang.specs.declared.tree.Term.TheVariants as term
 use Rattle.fac_lang.specs.declared.tree.WrittenEffect.{WrittenEffect}
@@ -18,11 +23,13 @@ use Rattle.fac_parse.specs.declared.resolver.NameFault.{NameFault}
 use Rattle.fac_parse.specs.declared.resolver.NameKind.TheVariants.{Twice}
 use Rattle.fac_parse.specs.declared.resolver.ResolveFault.{ResolveFault}
 use Rattle.fac_parse.specs.declared.resolver.ResolveFault.TheVariants.{Name, Memory}
+use Rattle.fac_parse.specs.declared.resolver.OpenQuotation.{OpenQuotation}
+use Rattle.fac_parse.specs.declared.resolver.Nest.{Nest}
 use Rattle.fac_parse.specs.declared.resolver.SoFar.{SoFar}
 use Rattle.fac_parse.specs.OwnNames.{names_with}
-use Rattle.fac_parse.specs.Resolution.{known_words, found, is_taken, name_fault, with_item, with_word, text_of, defined_word, Contents, with_top_item, with_top_word, with_defined, after_text, unless_taken, contents_of, file_contents}
-use Rattle.fac_parse.specs.Resolver.{found_item, term_item, with_new, TakesItem, items_before, before, ReadsText, after_made, contents_after, defining, IsDefined, DefinitionFails, Defines, TakesForm, ReadsForms}
-use Rattle.fac_parse.specs.Trees.{token_text}
+use Rattle.fac_parse.specs.Resolution.{known_words, found, is_taken, name_fault, result_map, word_item, item_of, term_place, Following, with_item, opened, closed, following, text_of, defined_word, Contents, with_top_item, with_defined, unless_taken, contents_of, file_contents}
+use Rattle.fac_parse.specs.Resolver.{found_item, term_item, with_new, TakesItem, items_before, enclosed, nested, after_nest, Closes, IsAdded, TakesPiece, ReadsText, after_made, contents_after, defining, IsDefined, DefinitionFails, Defines, TakesQuotation, TakesForm, ReadsForms}
+use Rattle.fac_parse.specs.Trees.{token_text, Lead, IsForm, IsWellFormed}
 use Rattle.fac_parse.proofs.NameLemmas.{taken_own, names_push}
 
 items_before-push : (items : List PlacedItem) (i : PlacedItem) (t : Text) → items_before items (then (what_item i.what) i.place t) ≡ items_before (items ++ i ∷ []) t
@@ -33,125 +40,229 @@ items_before-end : (items : List PlacedItem) → items_before items end ≡ item
 items_before-end [] = refl
 items_before-end (i ∷ is) = ap (then (what_item i.what) i.place) (items_before-end is)
 
--- Items of a word.
+-- Items in open quotations.
 
-abbrev item_first : Result PlacedItem NameFault → Result Text NameFault → Result Text NameFault
-item_first (Ok i) rest = with_item (what_item i.what) i.place rest
-item_first (Err f) rest = Err f
+abbrev text_with : Text → List Text → Following
+text_with here around = record { here = here; around = around }
 
-word_first : (o : Option ℕ) (t : Token) (rest : Result Text NameFault) → with_word o t rest ≡ item_first (found_item o t) rest
+nested_item : (os : List OpenQuotation) (items : List PlacedItem) (i : PlacedItem) (f : Following) → nested os items (text_with (then (what_item i.what) i.place f.here) f.around) ≡ nested os (items ++ i ∷ []) f
+nested_item [] items i f = ap (λ (t : Text). text_with t f.around) (items_before-push items i f.here)
+nested_item (o ∷ os) items i f = ap (enclosed o) (nested_item os items i f)
+
+nested_open : (os : List OpenQuotation) (o : OpenQuotation) (f : Following) → nested os o.before.items (opened o.place f) ≡ nested (os ++ o ∷ []) [] f
+nested_open [] o f = refl
+nested_open (q ∷ os) o f = ap (enclosed q) (nested_open os o f)
+
+abbrev quotation_item : List PlacedItem → Place → PlacedItem
+quotation_item items place = record { what = Quot (items_text items); place = place }
+
+nested_close : (os : List OpenQuotation) (o : OpenQuotation) (items : List PlacedItem) (f : Following) → nested (os ++ o ∷ []) items (closed f) ≡ nested os (o.before.items ++ quotation_item items o.place ∷ []) f
+nested_close [] o items f =
+    ap (λ (t : Text). text_with (items_before o.before.items (then (quot t) o.place f.here)) f.around) (items_before-end items)
+    ∙ ap (λ (t : Text). text_with t f.around) (items_before-push o.before.items (quotation_item items o.place) f.here)
+nested_close (q ∷ os) o items f = ap (enclosed q) (nested_close os o items f)
+
+-- Pieces.
+
+map_twice : {A B C : Type 0} (f : B → C) (g : A → B) (h : A → C) (r : Result A NameFault) → ((a : A) → f (g a) ≡ h a) → result_map f (result_map g r) ≡ result_map h r
+map_twice f g h (Ok a) e = ap (λ c. Ok c) (e a)
+map_twice f g h (Err fault) e = refl
+
+-- an item as it is made
+abbrev placed_first : Result PlacedItem NameFault → Result Following NameFault → Result Following NameFault
+placed_first (Ok i) rest = result_map (λ f. text_with (then (what_item i.what) i.place f.here) f.around) rest
+placed_first (Err f) rest = Err f
+
+word_first : (o : Option ℕ) (t : Token) (rest : Result Following NameFault) → with_item (word_item o t) t.place rest ≡ placed_first (found_item o t) rest
 word_first (Some n) t rest = refl
 word_first None t rest = refl
 
-text_first : (known : List FullName) (used : List (List ℕ)) (item : Term) (rest : List Term) → text_of known used (item ∷ rest) ≡ item_first (term_item known used item) (text_of known used rest)
-text_first known used (term.Integer t value) rest = refl
-text_first known used (term.Name t) rest = word_first (found known used (token_text t.kind)) t (text_of known used rest)
+item_first : (known : List FullName) (used : List (List ℕ)) (item : Term) (rest : Result Following NameFault) → with_item (item_of known used item) (term_place item) rest ≡ placed_first (term_item known used item) rest
+item_first known used (term.Integer t value) rest = refl
+item_first known used (term.Name t) rest = word_first (found known used (token_text t.kind)) t rest
+item_first known used (term.True place) rest = refl
+item_first known used (term.False place) rest = refl
 
-before_push : (items : List PlacedItem) (i : PlacedItem) (r : Result Text NameFault) → before items (with_item (what_item i.what) i.place r) ≡ before (items ++ i ∷ []) r
-before_push items i (Ok t) = ap (λ (u : Text). Ok u) (items_before-push items i t)
-before_push items i (Err f) = refl
+item_taken : (os : List OpenQuotation) (items items_then : List PlacedItem) (r : Result PlacedItem NameFault) (rest : Result Following NameFault) → with_new items r ≡ Ok items_then → result_map (nested os items) (placed_first r rest) ≡ result_map (nested os items_then) rest
+item_taken os items items_then (Ok i) rest e =
+    let same : items ++ i ∷ [] ≡ items_then = cc in
+    map_twice (nested os items) (λ (f : Following). text_with (then (what_item i.what) i.place f.here) f.around) (nested os (items ++ i ∷ [])) rest (nested_item os items i)
+    ∙ ap (λ (is : List PlacedItem). result_map (nested os is) rest) same
+item_taken os items items_then (Err f) rest e = cc
 
-text_taken : (r : Result PlacedItem NameFault) (items items_then : List PlacedItem) (rest : Result Text NameFault) → with_new items r ≡ Ok items_then → before items (item_first r rest) ≡ before items_then rest
-text_taken (Ok i) items items_then rest e = let same : items ++ i ∷ [] ≡ items_then = cc in before_push items i rest ∙ ap (λ (is : List PlacedItem). before is rest) same
-text_taken (Err f) items items_then rest e = cc
+-- the pieces are these with an item more
+pub item_added : (known : List FullName) (used : List (List ℕ)) (p : Piece) (item : Term) (n n_then : Nest) → p ≡ piece.Item item → with_new n.items.items (term_item known used item) ≡ Ok n_then.items.items → n_then.outer.items ≡ n.outer.items → IsAdded known used p n n_then
+item_added known used p item n n_then is taken same =
+    subst (λ (q : Piece). IsAdded known used q n n_then) (sym is) (record {
+      text = λ rest.
+          ap (after_nest n) (item_first known used item (following known used rest))
+          ∙ item_taken n.outer.items n.items.items n_then.items.items (term_item known used item) (following known used rest) taken
+          ∙ ap (λ (os : List OpenQuotation). result_map (nested os n_then.items.items) (following known used rest)) (sym same);
+      depth = ap length same;
+    })
 
--- the text with an item more
-pub text_goes_on : (known : List FullName) (used : List (List ℕ)) (all rest : List Term) (item : Term) (items items_then : List PlacedItem) (n : ℕ) → text_of known used all ≡ before items (text_of known used (drop n all)) → drop n all ≡ item ∷ rest → with_new items (term_item known used item) ≡ Ok items_then → text_of known used all ≡ before items_then (text_of known used rest)
-text_goes_on known used all rest item items items_then n so_far next taken =
-    so_far ∙ ap (λ (ts : List Term). before items (text_of known used ts)) next ∙ ap (before items) (text_first known used item rest) ∙ text_taken (term_item known used item) items items_then (text_of known used rest) taken
+refused_item : (known : List FullName) (used : List (List ℕ)) (item : Term) (n : Nest) (items_then : List PlacedItem) (e : ResolveFault) → TakesItem known used item n.items.items items_then (Err e) → TakesPiece known used (piece.Item item) n (Err e)
+refused_item known used item n items_then (Name fault) h = λ rest. item_first known used item (following known used rest) ∙ ap (λ (r : Result PlacedItem NameFault). placed_first r (following known used rest)) h
+refused_item known used item n items_then Memory h = tt
 
--- a refused item ends the text
-pub text_fails : (e : ResolveFault) (known : List FullName) (used : List (List ℕ)) (all rest : List Term) (item : Term) (items items_then : List PlacedItem) (n : ℕ) → text_of known used all ≡ before items (text_of known used (drop n all)) → drop n all ≡ item ∷ rest → TakesItem known used item items items_then (Err e) → ReadsText known used all (Err e)
-text_fails (Name fault) known used all rest item items items_then n so_far next h =
-    so_far ∙ ap (λ (ts : List Term). before items (text_of known used ts)) next ∙ ap (before items) (text_first known used item rest ∙ ap (λ (r : Result PlacedItem NameFault). item_first r (text_of known used rest)) h)
-text_fails Memory known used all rest item items items_then n so_far next h = tt
+-- an item that is refused
+pub item_refused : (known : List FullName) (used : List (List ℕ)) (p : Piece) (item : Term) (n : Nest) (items_then : List PlacedItem) (e : ResolveFault) → p ≡ piece.Item item → TakesItem known used item n.items.items items_then (Err e) → TakesPiece known used p n (Err e)
+item_refused known used p item n items_then e is h = subst (λ (q : Piece). TakesPiece known used q n (Err e)) (sym is) (refused_item known used item n items_then e h)
 
-pub text_ends : (known : List FullName) (used : List (List ℕ)) (all : List Term) (items : List PlacedItem) (n : ℕ) → text_of known used all ≡ before items (text_of known used (drop n all)) → drop n all ≡ [] → text_of known used all ≡ Ok (items_text items)
-text_ends known used all items n so_far none = so_far ∙ ap (λ (ts : List Term). before items (text_of known used ts)) none ∙ ap (λ (t : Text). Ok t) (items_before-end items)
+-- a quotation that is opened
+pub open_added : (known : List FullName) (used : List (List ℕ)) (p : Piece) (place : Place) (n n_then : Nest) → p ≡ piece.Opens place → n_then.items.items ≡ [] → n_then.outer.items ≡ n.outer.items ++ (record { before = n.items; place = place }) ∷ [] → IsAdded known used p n n_then
+open_added known used p place n n_then is none more =
+    let o : OpenQuotation = record { before = n.items; place = place } in
+    subst (λ (q : Piece). IsAdded known used q n n_then) (sym is) (record {
+      text = λ rest.
+          map_twice (nested n.outer.items n.items.items) (opened place) (nested (n.outer.items ++ o ∷ []) []) (following known used rest) (nested_open n.outer.items o)
+          ∙ ap (λ (is : List PlacedItem). result_map (nested (n.outer.items ++ o ∷ []) is) (following known used rest)) (sym none)
+          ∙ ap (λ (os : List OpenQuotation). result_map (nested os n_then.items.items) (following known used rest)) (sym more);
+      depth = let pushed = ap length more ∙ length_push n.outer.items o in omega (arith, pushed);
+    })
+
+-- a quotation that is closed
+pub close_added : (known : List FullName) (used : List (List ℕ)) (p : Piece) (place : Place) (n n_then : Nest) → p ≡ piece.Closes place → Closes n n_then → IsAdded known used p n n_then
+close_added known used p place n n_then is c =
+    subst (λ (q : Piece). IsAdded known used q n n_then) (sym is) (record {
+      text = λ rest.
+          ap (λ (os : List OpenQuotation). result_map (nested os n.items.items) (result_map closed (following known used rest))) c.outer
+          ∙ map_twice (nested (n_then.outer.items ++ c.last ∷ []) n.items.items) closed (nested n_then.outer.items (c.last.before.items ++ quotation_item n.items.items c.last.place ∷ [])) (following known used rest) (nested_close n_then.outer.items c.last n.items.items)
+          ∙ ap (λ (is : List PlacedItem). result_map (nested n_then.outer.items is) (following known used rest)) (sym c.items);
+      depth = let popped = ap length c.outer ∙ length_push n_then.outer.items c.last in omega (arith, popped);
+    })
+
+-- the number of open quotations leads on to none
+abbrev pub Leads : Nest → List Piece → Type 0
+Leads n pieces = (most : ℕ) × Lead most (length n.outer.items) pieces 0
+
+none_open : (os : List OpenQuotation) → length os ≡ 0 → os ≡ []
+none_open [] e = refl
+none_open (o ∷ os) e = absurd (omega (arith, e))
+
+pub text_ends : (known : List FullName) (used : List (List ℕ)) (all : List Piece) (n : Nest) (k : ℕ) → following known used all ≡ after_nest n (following known used (drop k all)) → drop k all ≡ [] → Leads n (drop k all) → text_of known used all ≡ Ok (items_text n.items.items)
+text_ends known used all n k so_far none led =
+    let closed = none_open n.outer.items (subst (λ (ps : List Piece). Lead led.0 (length n.outer.items) ps 0) none led.1) in
+    ap (result_map (λ (f : Following). f.here)) (so_far ∙ ap (λ (ps : List Piece). after_nest n (following known used ps)) none)
+    ∙ ap (λ (os : List OpenQuotation). Ok (nested os n.items.items (text_with end [])).here) closed
+    ∙ ap (λ (t : Text). Ok t) (items_before-end n.items.items)
 
 -- Forms.
 
-abbrev item_on_top : Result PlacedItem NameFault → Result Contents NameFault → Result Contents NameFault
-item_on_top (Ok i) rest = with_top_item (what_item i.what) i.place rest
-item_on_top (Err f) rest = Err f
+abbrev placed_on_top : Result PlacedItem NameFault → Result Contents NameFault → Result Contents NameFault
+placed_on_top (Ok i) rest = result_map (λ c. record { words = c.words; text = then (what_item i.what) i.place c.text }) rest
+placed_on_top (Err f) rest = Err f
 
-word_on_top : (o : Option ℕ) (t : Token) (rest : Result Contents NameFault) → with_top_word o t rest ≡ item_on_top (found_item o t) rest
+word_on_top : (o : Option ℕ) (t : Token) (rest : Result Contents NameFault) → with_top_item (word_item o t) t.place rest ≡ placed_on_top (found_item o t) rest
 word_on_top (Some n) t rest = refl
 word_on_top None t rest = refl
 
-top_item : (known : List FullName) (used : List (List ℕ)) (item : Term) (rest : List Form) → contents_of known used (form.Item item ∷ rest) ≡ item_on_top (term_item known used item) (contents_of known used rest)
-top_item known used (term.Integer t value) rest = refl
-top_item known used (term.Name t) rest = word_on_top (found known used (token_text t.kind)) t (contents_of known used rest)
+item_on_top : (known : List FullName) (used : List (List ℕ)) (item : Term) (rest : Result Contents NameFault) → with_top_item (item_of known used item) (term_place item) rest ≡ placed_on_top (term_item known used item) rest
+item_on_top known used (term.Integer t value) rest = refl
+item_on_top known used (term.Name t) rest = word_on_top (found known used (token_text t.kind)) t rest
+item_on_top known used (term.True place) rest = refl
+item_on_top known used (term.False place) rest = refl
 
-after_push : (words : List WordDef) (items : List PlacedItem) (i : PlacedItem) (r : Result Contents NameFault) → after_made words items (with_top_item (what_item i.what) i.place r) ≡ after_made words (items ++ i ∷ []) r
+quotation_on_top : (r : Result Text NameFault) (place : Place) (rest : Result Contents NameFault) → with_top_item (result_map quot r) place rest ≡ placed_on_top (result_map (λ (t : Text). record { what = Quot t; place = place }) r) rest
+quotation_on_top (Ok t) place rest = refl
+quotation_on_top (Err f) place rest = refl
+
+after_push : (words : List WordDef) (items : List PlacedItem) (i : PlacedItem) (r : Result Contents NameFault) → after_made words items (placed_on_top (Ok i) r) ≡ after_made words (items ++ i ∷ []) r
 after_push words items i (Ok c) = ap (λ (t : Text). Ok (record { words = words ++ c.words; text = t })) (items_before-push items i c.text)
 after_push words items i (Err f) = refl
 
-top_taken : (r : Result PlacedItem NameFault) (words : List WordDef) (items items_then : List PlacedItem) (rest : Result Contents NameFault) → with_new items r ≡ Ok items_then → after_made words items (item_on_top r rest) ≡ after_made words items_then rest
+top_taken : (r : Result PlacedItem NameFault) (words : List WordDef) (items items_then : List PlacedItem) (rest : Result Contents NameFault) → with_new items r ≡ Ok items_then → after_made words items (placed_on_top r rest) ≡ after_made words items_then rest
 top_taken (Ok i) words items items_then rest e = let same : items ++ i ∷ [] ≡ items_then = cc in after_push words items i rest ∙ ap (λ (is : List PlacedItem). after_made words is rest) same
 top_taken (Err f) words items items_then rest e = cc
 
-item_taken : (e : Result Unit ResolveFault) (s s_then : SoFar) (item : Term) → TakesItem (names_with s.own) s.used item s.items.items s_then.items.items e → s_then.own ≡ s.own → s_then.used ≡ s.used → s_then.words ≡ s.words → TakesForm s (form.Item item) s_then e
-item_taken (Ok done) s s_then item h own used words = λ rest.
-    ap (after_made s.words s.items.items) (top_item (names_with s.own) s.used item rest)
+-- what was made, but for its items, is the same
+record SameBut (s s_then : SoFar) : Type 0 where
+  own : s_then.own ≡ s.own
+  used : s_then.used ≡ s.used
+  words : s_then.words ≡ s.words
+
+rest_same : (s s_then : SoFar) (rest : List Form) → SameBut s s_then → after_made s.words s_then.items.items (contents_of (names_with s.own) s.used rest) ≡ contents_after s_then rest
+rest_same s s_then rest same =
+    ap (λ (ws : List WordDef). after_made ws s_then.items.items (contents_of (names_with s.own) s.used rest)) (sym same.words)
+    ∙ ap (λ (o : List (List ℕ)). after_made s_then.words s_then.items.items (contents_of (names_with o) s.used rest)) (sym same.own)
+    ∙ ap (λ (u : List (List ℕ)). after_made s_then.words s_then.items.items (contents_of (names_with s_then.own) u rest)) (sym same.used)
+
+top_item_taken : (e : Result Unit ResolveFault) (s s_then : SoFar) (item : Term) → TakesItem (names_with s.own) s.used item s.items.items s_then.items.items e → SameBut s s_then → TakesForm s (form.Item item) s_then e
+top_item_taken (Ok done) s s_then item h same = λ rest.
+    ap (after_made s.words s.items.items) (item_on_top (names_with s.own) s.used item (contents_of (names_with s.own) s.used rest))
     ∙ top_taken (term_item (names_with s.own) s.used item) s.words s.items.items s_then.items.items (contents_of (names_with s.own) s.used rest) h
-    ∙ ap (λ (ws : List WordDef). after_made ws s_then.items.items (contents_of (names_with s.own) s.used rest)) (sym words)
-    ∙ ap (λ (o : List (List ℕ)). after_made s_then.words s_then.items.items (contents_of (names_with o) s.used rest)) (sym own)
-    ∙ ap (λ (u : List (List ℕ)). after_made s_then.words s_then.items.items (contents_of (names_with s_then.own) u rest)) (sym used)
-item_taken (Err (Name fault)) s s_then item h own used words = λ rest.
-    top_item (names_with s.own) s.used item rest ∙ ap (λ (r : Result PlacedItem NameFault). item_on_top r (contents_of (names_with s.own) s.used rest)) h
-item_taken (Err Memory) s s_then item h own used words = tt
+    ∙ rest_same s s_then rest same
+top_item_taken (Err (Name fault)) s s_then item h same = λ rest.
+    item_on_top (names_with s.own) s.used item (contents_of (names_with s.own) s.used rest) ∙ ap (λ (r : Result PlacedItem NameFault). placed_on_top r (contents_of (names_with s.own) s.used rest)) h
+top_item_taken (Err Memory) s s_then item h same = tt
 
 pub item_form : (e : Result Unit ResolveFault) (s s_then : SoFar) (f : Form) (item : Term) → f ≡ form.Item item → TakesItem (names_with s.own) s.used item s.items.items s_then.items.items e → s_then.own ≡ s.own → s_then.used ≡ s.used → s_then.words ≡ s.words → TakesForm s f s_then e
-item_form e s s_then f item is h own used words = subst (λ (g : Form). TakesForm s g s_then e) (sym is) (item_taken e s s_then item h own used words)
+item_form e s s_then f item is h own used words = subst (λ (g : Form). TakesForm s g s_then e) (sym is) (top_item_taken e s s_then item h (record { own = own; used = used; words = words }))
+
+top_quotation_taken : (e : Result Unit ResolveFault) (s s_then : SoFar) (opens closes : Place) (items : List Piece) → TakesQuotation (names_with s.own) s.used opens items s.items.items s_then.items.items e → SameBut s s_then → TakesForm s (form.Quotation opens items closes) s_then e
+top_quotation_taken (Ok done) s s_then opens closes items h same = λ rest.
+    let text = text_of (names_with s.own) s.used items in
+    ap (after_made s.words s.items.items) (quotation_on_top text opens (contents_of (names_with s.own) s.used rest))
+    ∙ top_taken (result_map (λ (t : Text). record { what = Quot t; place = opens }) text) s.words s.items.items s_then.items.items (contents_of (names_with s.own) s.used rest) h
+    ∙ rest_same s s_then rest same
+top_quotation_taken (Err (Name fault)) s s_then opens closes items h same = λ rest. ap (λ (r : Result Text NameFault). with_top_item (result_map quot r) opens (contents_of (names_with s.own) s.used rest)) h
+top_quotation_taken (Err Memory) s s_then opens closes items h same = tt
+
+pub quotation_form : (e : Result Unit ResolveFault) (s s_then : SoFar) (f : Form) (opens closes : Place) (listed items : List Piece) → f ≡ form.Quotation opens items closes → listed ≡ items → TakesQuotation (names_with s.own) s.used opens listed s.items.items s_then.items.items e → s_then.own ≡ s.own → s_then.used ≡ s.used → s_then.words ≡ s.words → TakesForm s f s_then e
+quotation_form e s s_then f opens closes listed items is same h own used words =
+    subst (λ (g : Form). TakesForm s g s_then e) (sym is) (top_quotation_taken e s s_then opens closes items (subst (λ (ps : List Piece). TakesQuotation (names_with s.own) s.used opens ps s.items.items s_then.items.items e) same h) (record { own = own; used = used; words = words }))
 
 -- Definitions.
 
-definition_is : (s : SoFar) (name : Token) (effect : WrittenEffect) (items : List Term) (opens closes : Place) (rest : List Form) → contents_of (names_with s.own) s.used (form.Define opens name effect items closes ∷ rest) ≡ defining s name effect items (contents_of (names_with (s.own ++ token_text name.kind ∷ [])) s.used rest)
-definition_is s name effect items opens closes rest =
-    ap (λ (more : List FullName). unless_taken (is_taken (names_with s.own) (token_text name.kind)) name (after_text name effect (text_of more s.used items) (contents_of more s.used rest))) (names_push s.own (token_text name.kind))
+definition_is : (s : SoFar) (name : Token) (effect : WrittenEffect) (items : List Piece) (mark : Option Mark) (opens closes : Place) (rest : List Form) → contents_of (names_with s.own) s.used (form.Define opens name effect items closes mark ∷ rest) ≡ defining s name effect items mark (contents_of (names_with (s.own ++ token_text name.kind ∷ [])) s.used rest)
+definition_is s name effect items mark opens closes rest =
+    ap (λ (more : List FullName). unless_taken (is_taken (names_with s.own) (token_text name.kind)) name (with_defined (result_map (defined_word name effect mark) (text_of more s.used items)) (contents_of more s.used rest))) (names_push s.own (token_text name.kind))
 
-definition_taken : (e : Result Unit ResolveFault) (s s_then : SoFar) (name : Token) (effect : WrittenEffect) (items : List Term) (opens closes : Place) → Defines s name effect items s_then e → TakesForm s (form.Define opens name effect items closes) s_then e
-definition_taken (Ok done) s s_then name effect items opens closes h = λ rest.
+definition_taken : (e : Result Unit ResolveFault) (s s_then : SoFar) (name : Token) (effect : WrittenEffect) (items : List Piece) (mark : Option Mark) (opens closes : Place) → Defines s name effect items mark s_then e → TakesForm s (form.Define opens name effect items closes mark) s_then e
+definition_taken (Ok done) s s_then name effect items mark opens closes h = λ rest.
     let own = s.own ++ token_text name.kind ∷ [] in
-    ap (after_made s.words s.items.items) (definition_is s name effect items opens closes rest)
+    ap (after_made s.words s.items.items) (definition_is s name effect items mark opens closes rest)
     ∙ h.made (contents_of (names_with own) s.used rest)
     ∙ ap (λ (o : List (List ℕ)). after_made s_then.words s_then.items.items (contents_of (names_with o) s.used rest)) (sym h.own)
     ∙ ap (λ (u : List (List ℕ)). after_made s_then.words s_then.items.items (contents_of (names_with s_then.own) u rest)) (sym h.used)
-definition_taken (Err (Name fault)) s s_then name effect items opens closes h = λ rest.
-    definition_is s name effect items opens closes rest ∙ h (contents_of (names_with (s.own ++ token_text name.kind ∷ [])) s.used rest)
-definition_taken (Err Memory) s s_then name effect items opens closes h = tt
+definition_taken (Err (Name fault)) s s_then name effect items mark opens closes h = λ rest.
+    definition_is s name effect items mark opens closes rest ∙ h (contents_of (names_with (s.own ++ token_text name.kind ∷ [])) s.used rest)
+definition_taken (Err Memory) s s_then name effect items mark opens closes h = tt
 
-pub definition_form : (e : Result Unit ResolveFault) (s s_then : SoFar) (f : Form) (name : Token) (effect : WrittenEffect) (listed items : List Term) (opens closes : Place) → f ≡ form.Define opens name effect items closes → listed ≡ items → Defines s name effect listed s_then e → TakesForm s f s_then e
-definition_form e s s_then f name effect listed items opens closes is same h =
-    subst (λ (g : Form). TakesForm s g s_then e) (sym is) (definition_taken e s s_then name effect items opens closes (subst (λ (ts : List Term). Defines s name effect ts s_then e) same h))
+pub definition_form : (e : Result Unit ResolveFault) (s s_then : SoFar) (f : Form) (name : Token) (effect : WrittenEffect) (listed items : List Piece) (mark : Option Mark) (opens closes : Place) → f ≡ form.Define opens name effect items closes mark → listed ≡ items → Defines s name effect listed mark s_then e → TakesForm s f s_then e
+definition_form e s s_then f name effect listed items mark opens closes is same h =
+    subst (λ (g : Form). TakesForm s g s_then e) (sym is) (definition_taken e s s_then name effect items mark opens closes (subst (λ (ps : List Piece). Defines s name effect ps mark s_then e) same h))
+
+-- the word of a definition, or its first refused name
+abbrev made_word : Token → WrittenEffect → Option Mark → Result Text NameFault → Result WordDef NameFault
+made_word name effect mark r = result_map (defined_word name effect mark) r
 
 -- a name that is defined already
-pub defined_twice : (s : SoFar) (name : Token) (effect : WrittenEffect) (items : List Term) (fault : NameFault) → list_any (bytes_eq (token_text name.kind)) s.own ≡ true → fault ≡ name_fault Twice name → (rest : Result Contents NameFault) → defining s name effect items rest ≡ Err fault
-defined_twice s name effect items fault there e rest =
-    ap (λ (b : Bool). unless_taken b name (after_text name effect (text_of (names_with (s.own ++ token_text name.kind ∷ [])) s.used items) rest)) (taken_own s.own (token_text name.kind) ∙ there)
+pub defined_twice : (s : SoFar) (name : Token) (effect : WrittenEffect) (items : List Piece) (mark : Option Mark) (fault : NameFault) → list_any (bytes_eq (token_text name.kind)) s.own ≡ true → fault ≡ name_fault Twice name → (rest : Result Contents NameFault) → defining s name effect items mark rest ≡ Err fault
+defined_twice s name effect items mark fault there e rest =
+    ap (λ (b : Bool). unless_taken b name (with_defined (made_word name effect mark (text_of (names_with (s.own ++ token_text name.kind ∷ [])) s.used items)) rest)) (taken_own s.own (token_text name.kind) ∙ there)
     ∙ ap (λ (f : NameFault). Err f) (sym e)
 
-defining_new : (s : SoFar) (name : Token) (effect : WrittenEffect) (items : List Term) (own : List (List ℕ)) (r : Result Text NameFault) → list_any (bytes_eq (token_text name.kind)) s.own ≡ false → own ≡ s.own ++ token_text name.kind ∷ [] → text_of (names_with own) s.used items ≡ r → (rest : Result Contents NameFault) → defining s name effect items rest ≡ after_text name effect r rest
-defining_new s name effect items own r new e h rest =
-    ap (λ (b : Bool). unless_taken b name (after_text name effect (text_of (names_with (s.own ++ token_text name.kind ∷ [])) s.used items) rest)) (taken_own s.own (token_text name.kind) ∙ new)
-    ∙ ap (λ (o : List (List ℕ)). after_text name effect (text_of (names_with o) s.used items) rest) (sym e)
-    ∙ ap (λ (t : Result Text NameFault). after_text name effect t rest) h
+defining_new : (s : SoFar) (name : Token) (effect : WrittenEffect) (items : List Piece) (mark : Option Mark) (own : List (List ℕ)) (r : Result Text NameFault) → list_any (bytes_eq (token_text name.kind)) s.own ≡ false → own ≡ s.own ++ token_text name.kind ∷ [] → text_of (names_with own) s.used items ≡ r → (rest : Result Contents NameFault) → defining s name effect items mark rest ≡ with_defined (made_word name effect mark r) rest
+defining_new s name effect items mark own r new e h rest =
+    ap (λ (b : Bool). unless_taken b name (with_defined (made_word name effect mark (text_of (names_with (s.own ++ token_text name.kind ∷ [])) s.used items)) rest)) (taken_own s.own (token_text name.kind) ∙ new)
+    ∙ ap (λ (o : List (List ℕ)). with_defined (made_word name effect mark (text_of (names_with o) s.used items)) rest) (sym e)
+    ∙ ap (λ (t : Result Text NameFault). with_defined (made_word name effect mark t) rest) h
 
 -- a refused name in the items of a definition
-pub definition_fails : (e : ResolveFault) (s : SoFar) (name : Token) (effect : WrittenEffect) (items : List Term) (own : List (List ℕ)) → list_any (bytes_eq (token_text name.kind)) s.own ≡ false → own ≡ s.own ++ token_text name.kind ∷ [] → ReadsText (names_with own) s.used items (Err e) → DefinitionFails s name effect items e
-definition_fails (Name fault) s name effect items own new e h = λ rest. defining_new s name effect items own (Err fault) new e h rest
-definition_fails Memory s name effect items own new e h = tt
+pub definition_fails : (e : ResolveFault) (s : SoFar) (name : Token) (effect : WrittenEffect) (items : List Piece) (mark : Option Mark) (own : List (List ℕ)) → list_any (bytes_eq (token_text name.kind)) s.own ≡ false → own ≡ s.own ++ token_text name.kind ∷ [] → ReadsText (names_with own) s.used items (Err e) → DefinitionFails s name effect items mark e
+definition_fails (Name fault) s name effect items mark own new e h = λ rest. defining_new s name effect items mark own (Err fault) new e h rest
+definition_fails Memory s name effect items mark own new e h = tt
 
-after_word : (s_words words : List WordDef) (items : List PlacedItem) (name : Token) (effect : WrittenEffect) (text : Text) (rest : Result Contents NameFault) → words ≡ s_words ++ defined_word name effect text ∷ [] → after_made s_words items (with_defined name effect text rest) ≡ after_made words items rest
-after_word s_words words items name effect text (Ok c) e =
-    ap (λ (ws : List WordDef). Ok (record { words = ws; text = items_before items c.text })) (sym (append_assoc s_words (defined_word name effect text ∷ []) c.words) ∙ ap (λ (ws : List WordDef). ws ++ c.words) (sym e))
-after_word s_words words items name effect text (Err f) e = refl
+after_word : (s_words words : List WordDef) (items : List PlacedItem) (d : WordDef) (rest : Result Contents NameFault) → words ≡ s_words ++ d ∷ [] → after_made s_words items (with_defined (Ok d) rest) ≡ after_made words items rest
+after_word s_words words items d (Ok c) e =
+    ap (λ (ws : List WordDef). Ok (record { words = ws; text = items_before items c.text })) (sym (append_assoc s_words (d ∷ []) c.words) ∙ ap (λ (ws : List WordDef). ws ++ c.words) (sym e))
+after_word s_words words items d (Err f) e = refl
 
-pub definition_done : (s s_then : SoFar) (name : Token) (effect : WrittenEffect) (items : List Term) (text : Text) → list_any (bytes_eq (token_text name.kind)) s.own ≡ false → s_then.own ≡ s.own ++ token_text name.kind ∷ [] → text_of (names_with s_then.own) s.used items ≡ Ok text → s_then.words ≡ s.words ++ defined_word name effect text ∷ [] → s_then.used ≡ s.used → s_then.items.items ≡ s.items.items → IsDefined s name effect items s_then
-definition_done s s_then name effect items text new own h words used same =
+pub definition_done : (s s_then : SoFar) (name : Token) (effect : WrittenEffect) (items : List Piece) (mark : Option Mark) (text : Text) → list_any (bytes_eq (token_text name.kind)) s.own ≡ false → s_then.own ≡ s.own ++ token_text name.kind ∷ [] → text_of (names_with s_then.own) s.used items ≡ Ok text → s_then.words ≡ s.words ++ defined_word name effect mark text ∷ [] → s_then.used ≡ s.used → s_then.items.items ≡ s.items.items → IsDefined s name effect items mark s_then
+definition_done s s_then name effect items mark text new own h words used same =
     record {
-      made = λ rest. ap (after_made s.words s.items.items) (defining_new s name effect items s_then.own (Ok text) new own h rest) ∙ after_word s.words s_then.words s.items.items name effect text rest words ∙ ap (λ (is : List PlacedItem). after_made s_then.words is rest) (sym same);
+      made = λ rest. ap (after_made s.words s.items.items) (defining_new s name effect items mark s_then.own (Ok text) new own h rest) ∙ after_word s.words s_then.words s.items.items (defined_word name effect mark text) rest words ∙ ap (λ (is : List PlacedItem). after_made s_then.words is rest) (sym same);
       own = own;
       used = used;
     }
@@ -161,6 +272,13 @@ definition_done s s_then name effect items text new own h words used same =
 only_fault : (words : List WordDef) (items : List PlacedItem) (r : Result Contents NameFault) (fault : NameFault) → after_made words items r ≡ Err fault → r ≡ Err fault
 only_fault words items (Ok c) fault e = cc
 only_fault words items (Err f) fault e = e
+
+-- a form of a tree is well-formed
+pub form_at : (forms rest : List Form) (f : Form) (n : ℕ) → IsWellFormed forms → drop n forms ≡ f ∷ rest → IsForm f
+form_at [] rest f zero h e = cc
+form_at [] rest f (suc n) h e = cc
+form_at (g ∷ forms) rest f zero h e = let same : g ≡ f = cc in subst IsForm same h.0
+form_at (g ∷ forms) rest f (suc n) h e = form_at forms rest f n h.1 e
 
 -- a refused form ends the reading
 pub form_fails : (e : ResolveFault) (forms rest : List Form) (f : Form) (s s_then : SoFar) (n : ℕ) → after_made known_words [] (file_contents forms) ≡ contents_after s (drop n forms) → drop n forms ≡ f ∷ rest → TakesForm s f s_then (Err e) → ReadsForms forms (Err e)

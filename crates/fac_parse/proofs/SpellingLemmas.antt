@@ -8,7 +8,7 @@ use Rattle.fac_lang.specs.declared.token.Token.{Token}
 use Rattle.fac_lang.specs.declared.token.TokKind.{TokKind}
 use Rattle.fac_lang.specs.declared.token.TokKind.TheVariants.{Plain, Str}
 use Rattle.fac_parse.specs.declared.spelling.Spelling.{Spelling}
-use Rattle.fac_parse.specs.declared.spelling.Spelling.TheVariants.{Using, Colon, Semi, Opens, Closes, Dashes, Integer, Name, Other}
+use Rattle.fac_parse.specs.declared.spelling.Spelling.TheVariants.{Using, Colon, Semi, Opens, Closes, Dashes, OpensQuotation, ClosesQuotation, True, False, Inline, Recursive, Integer, Name, Other}
 use Rattle.fac_parse.specs.Spellings.{has_integer_form, literal_in, is_reserved, is_quiet, sign_spelling, word_spelling, integer_spelling, spelling_of, token_spelling}
 use Rattle.fac_parse.specs.Trees.{plain_token}
 
@@ -36,6 +36,30 @@ pub dashes_is_dashes : spelling_of (codes "--") ≡ Dashes
 unfolding spelling_of has_integer_form word_spelling
 dashes_is_dashes = refl
 
+pub bracket_is_bracket : spelling_of (codes "[") ≡ OpensQuotation
+unfolding spelling_of has_integer_form word_spelling
+bracket_is_bracket = refl
+
+pub end_is_end : spelling_of (codes "]") ≡ ClosesQuotation
+unfolding spelling_of has_integer_form word_spelling
+end_is_end = refl
+
+pub t_is_true : spelling_of (codes "t") ≡ True
+unfolding spelling_of has_integer_form word_spelling
+t_is_true = refl
+
+pub f_is_false : spelling_of (codes "f") ≡ False
+unfolding spelling_of has_integer_form word_spelling
+f_is_false = refl
+
+pub inline_is_inline : spelling_of (codes "inline") ≡ Inline
+unfolding spelling_of has_integer_form word_spelling
+inline_is_inline = refl
+
+pub recursive_is_recursive : spelling_of (codes "recursive") ≡ Recursive
+unfolding spelling_of has_integer_form word_spelling
+recursive_is_recursive = refl
+
 -- spellings of one text
 abbrev pub IsSign : Spelling → Type 0
 IsSign (Integer z) = ⊥
@@ -51,6 +75,12 @@ sign_text Semi = codes ";"
 sign_text Opens = codes "("
 sign_text Closes = codes ")"
 sign_text Dashes = codes "--"
+sign_text OpensQuotation = codes "["
+sign_text ClosesQuotation = codes "]"
+sign_text True = codes "t"
+sign_text False = codes "f"
+sign_text Inline = codes "inline"
+sign_text Recursive = codes "recursive"
 sign_text _ = []
 
 abbrev Says : List ℕ → Option Spelling → Type 0
@@ -68,7 +98,13 @@ says text =
     one_says text (codes ";") Semi _ _ refl refl (
     one_says text (codes "(") Opens _ _ refl refl (
     one_says text (codes ")") Closes _ _ refl refl (
-    one_says text (codes "--") Dashes None _ refl refl tt)))))
+    one_says text (codes "--") Dashes _ _ refl refl (
+    one_says text (codes "[") OpensQuotation _ _ refl refl (
+    one_says text (codes "]") ClosesQuotation _ _ refl refl (
+    one_says text (codes "t") True _ _ refl refl (
+    one_says text (codes "f") False _ _ refl refl (
+    one_says text (codes "inline") Inline _ _ refl refl (
+    one_says text (codes "recursive") Recursive None _ refl refl tt)))))))))))
 
 sign_picked : (b c : Bool) (o : Option ℤ) (s : Option Spelling) → IsSign (cond b (integer_spelling o) (elim s [ Some s ↦ s | None ↦ cond c Name Other ])) → s ≡ Some (cond b (integer_spelling o) (elim s [ Some s ↦ s | None ↦ cond c Name Other ]))
 sign_picked true c None s h = absurd h

@@ -1,5 +1,5 @@
 -- Every program of the forms built is whole where its effects have few names, and so is every resolved program.
-use Rattle.std.proofs.Common.{◌≡◌, ℕ, suc, ◌<◌, Bool, true, false, not, ◌&&◌, ◌||◌, List, [], ◌∷◌, ◌++◌, Option, Some, None, Result, Ok, Err, length, refl, ap, sym, ◌∙◌, subst, arith, append-nil}
+use Rattle.std.proofs.Common.{◌≡◌, ℕ, suc, ◌<◌, ◌≤◌, Bool, true, false, not, ◌&&◌, ◌||◌, List, [], ◌∷◌, ◌++◌, Option, Some, None, Result, Ok, Err, length, refl, ap, sym, ◌∙◌, subst, arith, append-nil}
 use Rattle.std.proofs.lemmas.Bool.Decides.{Decides-ltb}
 use Rattle.std.proofs.lemmas.List.{length_push}
 use Rattle.std.proofs.lemmas.List.Folds.{list_all-append}
@@ -7,50 +7,24 @@ use Rattle.std.proofs.lemmas.Slice.Eq.{bytes_eq-Decides}
 use Rattle.std.specs.Prelude.{IfOk, ◌+◌, ℤ, codes, nat_lt, nat_le, nat_eq}
 use Rattle.std.specs.List.{list_all, list_any}
 use Rattle.std.specs.Str.{bytes_eq}
-use Rattle.fac_lang.specs.Built.{IsBuilt, IsBuiltItem, IsBuiltText, IsBuiltSort, AreBuiltWords, IsPrimitiveWord, IsDefinedWord, IsTopPhrase, IsPlainEffect, is_member, numbers_before, primitive_numbers, has_no_repeats}
+use Rattle.fac_lang.specs.Forms.{IsBuilt, IsBuiltText, IsBuiltSort, AreBuiltWords, IsPrimitiveWord, IsCoreWord, IsDefinedWord, IsTopPhrase, IsPlainEffect, is_member, numbers_before, primitive_numbers, has_no_repeats}
 use Rattle.fac_lang.specs.Meaning.{sort_of, is_past}
 use Rattle.fac_lang.specs.PrimitiveWords.{PrimitiveWord, primitive_word, plain_inputs, plain_leaving, written_effect}
-use Rattle.fac_lang.specs.Texts.{Text, end, then, Item, lit, int, yes, no, str, iota, wrd, arr, tup, lit_arr, quot, word, bind, local, fry, hole, call_eff, exec_eff, next_method, made, next_after, held, known}
-use Rattle.fac_lang.specs.Whole.{IsWhole, each_item, each_inner, each_numbered, locals_bound, holes_within, item_fits, item_spares, is_body, tests_small, word_texts, sort_fits, has_written_effect, has_generic_effect, marks_fit, effect_eq, inputs_eq, leaving_eq, names_eq, name_count, no_two, same_word, same_method}
-use Rattle.fac_lang.specs.declared.phrase.Place.{Place}
+use Rattle.fac_lang.specs.Texts.{Text, end, then, Item, lit, int, yes, no, quot, word}
+use Rattle.fac_lang.specs.Whole.{IsWhole, each_item, each_numbered, locals_bound, holes_within, item_fits, item_spares, is_body, tests_small, word_texts, sort_fits, has_written_effect, has_generic_effect, marks_fit, effect_eq, inputs_eq, leaving_eq, names_eq, name_count, no_two, same_word, same_method}
 use Rattle.fac_lang.specs.declared.program.Program.{Program}
 use Rattle.fac_lang.specs.declared.program.Sort.{Sort}
-use Rattle.fac_lang.specs.declared.program.Sort.TheVariants.{Prim as prim, Core as core, Body as body, Past as past, Itself as itself, Class as class, Isa as isa, Getter as getter, Setter as setter, Putter as putter, Generic as generic, Method as method}
+use Rattle.fac_lang.specs.declared.program.Sort.TheVariants.{Prim as prim, Core as core, Body as body, Past as past, Method as method}
 use Rattle.fac_lang.specs.declared.program.WordDef.{WordDef}
 use Rattle.fac_lang.specs.declared.tree.Form.{Form}
 use Rattle.fac_parse.specs.declared.resolver.NameFault.{NameFault}
 use Rattle.fac_parse.specs.declared.resolver.ResolveFault.{ResolveFault}
-use Rattle.fac_parse.specs.Resolution.{known_words, Contents, file_contents, top_word, program_of, with_contents, Resolves}
+use Rattle.fac_parse.specs.Resolution.{known_words, Contents, file_contents, top_word, program_of, result_map, Resolves}
 use Rattle.fac_parse.specs.Trees.{IsWellFormed}
 use Rattle.fac_parse.proofs.BuiltPrograms.{AreOwnWords, contents_built, program_built}
-use Rattle.fac_lang.proofs.BuiltLemmas.{word_below, sort_at, top_sort, all_distinct}
+use Rattle.fac_lang.proofs.FormsLemmas.{word_below, sort_at, top_sort, all_distinct}
 
 -- Texts.
-
--- What holds of each integer and of each word of the program holds of each item of a built text.
-built_item : (bound : ℕ) (M : Item → Type 0) → ((z : ℤ) → M (lit (int z))) → ((w : ℕ) → nat_lt w bound ≡ true → M (word w)) → (i : Item) → IsBuiltItem bound i → M i
-built_item bound M ints words (lit (int z)) h = ints z
-built_item bound M ints words (lit yes) h = absurd h
-built_item bound M ints words (lit no) h = absurd h
-built_item bound M ints words (lit (str bs)) h = absurd h
-built_item bound M ints words (lit (iota n)) h = absurd h
-built_item bound M ints words (lit (wrd w)) h = absurd h
-built_item bound M ints words (lit (arr a)) h = absurd h
-built_item bound M ints words (lit (tup a)) h = absurd h
-built_item bound M ints words (lit_arr a) h = absurd h
-built_item bound M ints words (quot t) h = absurd h
-built_item bound M ints words (word w) h = words w h
-built_item bound M ints words (bind x) h = absurd h
-built_item bound M ints words (local x) h = absurd h
-built_item bound M ints words (fry t n) h = absurd h
-built_item bound M ints words (hole k) h = absurd h
-built_item bound M ints words (call_eff e) h = absurd h
-built_item bound M ints words (exec_eff e) h = absurd h
-built_item bound M ints words next_method h = absurd h
-built_item bound M ints words (made k) h = absurd h
-built_item bound M ints words (next_after m) h = absurd h
-built_item bound M ints words (held v) h = absurd h
-built_item bound M ints words (known m) h = absurd h
 
 three_true : (a b c : Bool) → a ≡ true → b ≡ true → c ≡ true → (a && b && c) ≡ true
 three_true a b c h k l = rw (h, k, l) refl
@@ -58,41 +32,49 @@ three_true a b c h k l = rw (h, k, l) refl
 both_are : (a b : Bool) → a ≡ true → b ≡ true → (a && b) ≡ true
 both_are a b h k = rw (h, k) refl
 
-items_pass : (bound : ℕ) (f : Item → Bool) → ((z : ℤ) → f (lit (int z)) ≡ true) → ((w : ℕ) → nat_lt w bound ≡ true → f (word w) ≡ true) → (t : Text) → IsBuiltText bound t → each_item f t ≡ true
-items_pass bound f ints words end h = refl
-items_pass bound f ints words (then i p t) h =
-    three_true (f i) (each_inner f i) (each_item f t) (built_item bound (λ j. f j ≡ true) ints words i h.0) (built_item bound (λ j. each_inner f j ≡ true) (λ z. refl) (λ w k. refl) i h.0) (items_pass bound f ints words t h.1)
+-- a test that each item of a built text passes
+record Passes (bound : ℕ) (f : Item → Bool) : Type 0 where
+  ints : (z : ℤ) → f (lit (int z)) ≡ true
+  truth : f (lit yes) ≡ true
+  falsity : f (lit no) ≡ true
+  quotations : (t : Text) → f (quot t) ≡ true
+  words : (w : ℕ) → nat_lt w bound ≡ true → f (word w) ≡ true
 
-bound_after : (bound : ℕ) (t : Text) (p : Place) → locals_bound [] t ≡ true → (i : Item) → IsBuiltItem bound i → locals_bound [] (then i p t) ≡ true
-bound_after bound t p later i h = built_item bound (λ j. locals_bound [] (then j p t) ≡ true) (λ z. later) (λ w k. later) i h
+items_pass : (bound : ℕ) (f : Item → Bool) → Passes bound f → (t : Text) → IsBuiltText bound t → each_item f t ≡ true
+items_pass bound f p end h = refl
+items_pass bound f p (then (lit (int z)) place t) h = three_true (f (lit (int z))) true (each_item f t) (p.ints z) refl (items_pass bound f p t h.1)
+items_pass bound f p (then (lit yes) place t) h = three_true (f (lit yes)) true (each_item f t) p.truth refl (items_pass bound f p t h.1)
+items_pass bound f p (then (lit no) place t) h = three_true (f (lit no)) true (each_item f t) p.falsity refl (items_pass bound f p t h.1)
+items_pass bound f p (then (quot u) place t) h = three_true (f (quot u)) (each_item f u) (each_item f t) (p.quotations u) (items_pass bound f p u h.0) (items_pass bound f p t h.1)
+items_pass bound f p (then (word w) place t) h = three_true (f (word w)) true (each_item f t) (p.words w h.0) refl (items_pass bound f p t h.1)
+items_pass bound f p (then i place t) h = absurd h.0
 
-text_bound : (bound : ℕ) (t : Text) → IsBuiltText bound t → locals_bound [] t ≡ true
-text_bound bound end h = refl
-text_bound bound (then i p t) h = bound_after bound t p (text_bound bound t h.1) i h.0
-
-without_holes : (bound : ℕ) (t : Text) (p : Place) → holes_within 0 t ≡ true → (i : Item) → IsBuiltItem bound i → holes_within 0 (then i p t) ≡ true
-without_holes bound t p later i h = built_item bound (λ j. holes_within 0 (then j p t) ≡ true) (λ z. later) (λ w k. later) i h
+text_bound : (bound : ℕ) (xs : List ℕ) (t : Text) → IsBuiltText bound t → locals_bound xs t ≡ true
+text_bound bound xs end h = refl
+text_bound bound xs (then (lit (int z)) place t) h = text_bound bound xs t h.1
+text_bound bound xs (then (lit yes) place t) h = text_bound bound xs t h.1
+text_bound bound xs (then (lit no) place t) h = text_bound bound xs t h.1
+text_bound bound xs (then (quot u) place t) h = both_are (locals_bound xs u) (locals_bound xs t) (text_bound bound xs u h.0) (text_bound bound xs t h.1)
+text_bound bound xs (then (word w) place t) h = text_bound bound xs t h.1
+text_bound bound xs (then i place t) h = absurd h.0
 
 text_without_holes : (bound : ℕ) (t : Text) → IsBuiltText bound t → holes_within 0 t ≡ true
 text_without_holes bound end h = refl
-text_without_holes bound (then i p t) h = without_holes bound t p (text_without_holes bound t h.1) i h.0
+text_without_holes bound (then (lit (int z)) place t) h = text_without_holes bound t h.1
+text_without_holes bound (then (lit yes) place t) h = text_without_holes bound t h.1
+text_without_holes bound (then (lit no) place t) h = text_without_holes bound t h.1
+text_without_holes bound (then (quot u) place t) h = both_are (holes_within 0 u) (holes_within 0 t) (text_without_holes bound u h.0) (text_without_holes bound t h.1)
+text_without_holes bound (then (word w) place t) h = text_without_holes bound t h.1
+text_without_holes bound (then i place t) h = absurd h.0
 
 -- Words.
 
--- what holds of each primitive and of each word that is defined by a text holds of each built word
-built_sort : (bound : ℕ) (d : WordDef) (M : Sort → Type 0) → ((k : ℕ) → IsPrimitiveWord d k → M (prim k)) → ((t : Text) → IsDefinedWord bound d t → M (body t)) → (s : Sort) → IsBuiltSort bound d s → M s
-built_sort bound d M prims bodies (prim k) h = prims k h
-built_sort bound d M prims bodies (core k) h = absurd h
-built_sort bound d M prims bodies (body t) h = bodies t h
-built_sort bound d M prims bodies (past t) h = absurd h
-built_sort bound d M prims bodies itself h = absurd h
-built_sort bound d M prims bodies (class c) h = absurd h
-built_sort bound d M prims bodies (isa c) h = absurd h
-built_sort bound d M prims bodies (getter s) h = absurd h
-built_sort bound d M prims bodies (setter s) h = absurd h
-built_sort bound d M prims bodies (putter s) h = absurd h
-built_sort bound d M prims bodies generic h = absurd h
-built_sort bound d M prims bodies (method c g t) h = absurd h
+-- what holds of each primitive, each core word and each word that is defined by a text holds of each built word
+built_sort : (bound : ℕ) (d : WordDef) (M : Sort → Type 0) → ((k : ℕ) → IsPrimitiveWord d k → M (prim k)) → ((k : ℕ) → IsCoreWord d k → M (core k)) → ((t : Text) → IsDefinedWord bound d t → M (body t)) → (s : Sort) → IsBuiltSort bound d s → M s
+built_sort bound d M prims cores bodies (prim k) h = prims k h
+built_sort bound d M prims cores bodies (core k) h = cores k h
+built_sort bound d M prims cores bodies (body t) h = bodies t h
+built_sort bound d M prims cores bodies s h = absurd h
 
 words_pass : (bound : ℕ) (f : WordDef → Bool) → ((d : WordDef) → IsBuiltSort bound d d.sort → f d ≡ true) → (ds : List WordDef) → AreBuiltWords bound ds → list_all f ds ≡ true
 words_pass bound f each [] h = refl
@@ -104,13 +86,13 @@ texts_pass bound f each [] h = refl
 texts_pass bound f each (d ∷ ds) h =
     let later = texts_pass bound f each ds h.1 in
     built_sort bound d (λ s. list_all f (elim s [ body t ↦ t ∷ word_texts ds | past t ↦ t ∷ word_texts ds | method c g t ↦ t ∷ word_texts ds | _ ↦ word_texts ds ]) ≡ true)
-    (λ k prim_is. later) (λ u own. both_are (f u) (list_all f (word_texts ds)) (each u own.text_built) later) d.sort h.0
+    (λ k prim_is. later) (λ k core_is. later) (λ u own. both_are (f u) (list_all f (word_texts ds)) (each u own.text_built) later) d.sort h.0
 
 all_texts_pass : (bound : ℕ) (f : Text → Bool) → ((t : Text) → IsBuiltText bound t → f t ≡ true) → (ds : List WordDef) → AreBuiltWords bound ds → list_all f (word_texts ds ++ []) ≡ true
 all_texts_pass bound f each ds h = ap (list_all f) (append-nil (word_texts ds)) ∙ texts_pass bound f each ds h
 
-all_items_pass : (bound : ℕ) (f : Item → Bool) → ((z : ℤ) → f (lit (int z)) ≡ true) → ((w : ℕ) → nat_lt w bound ≡ true → f (word w) ≡ true) → (ds : List WordDef) → AreBuiltWords bound ds → list_all (each_item f) (word_texts ds ++ []) ≡ true
-all_items_pass bound f ints words ds h = all_texts_pass bound (each_item f) (λ t built. items_pass bound f ints words t built) ds h
+all_items_pass : (bound : ℕ) (f : Item → Bool) → Passes bound f → (ds : List WordDef) → AreBuiltWords bound ds → list_all (each_item f) (word_texts ds ++ []) ≡ true
+all_items_pass bound f p ds h = all_texts_pass bound (each_item f) (λ t built. items_pass bound f p t built) ds h
 
 -- the words with the top-level phrase
 all_built : (P : Program) (b : IsBuilt P) → AreBuiltWords P.top P.words
@@ -118,7 +100,7 @@ all_built P b = subst (AreBuiltWords P.top) (sym b.words_are) (phrase_last P.top
   where
     phrase_built : (bound : ℕ) (p : WordDef) (t : Text) → IsTopPhrase bound p t → IsBuiltSort bound p p.sort
     phrase_built bound p t h =
-        subst (IsBuiltSort bound p) (sym h.sort_is) (record { text_built = h.text_built; plain = subst IsPlainEffect (sym h.effect_is) (refl, tt, refl); not_inline = h.not_inline; not_recursive = h.not_recursive })
+        subst (IsBuiltSort bound p) (sym h.sort_is) (record { text_built = h.text_built; plain = subst IsPlainEffect (sym h.effect_is) (refl, tt, refl); no_row_word = rw h.not_inline refl })
 
     phrase_last : (bound : ℕ) (ds : List WordDef) (p : WordDef) (t : Text) → AreBuiltWords bound ds → IsTopPhrase bound p t → AreBuiltWords bound (ds ++ p ∷ [])
     phrase_last bound [] p t h is = (phrase_built bound p t is, tt)
@@ -127,7 +109,7 @@ all_built P b = subst (AreBuiltWords P.top) (sym b.words_are) (phrase_last P.top
 -- Tests of one word.
 
 sort_passes : (P : Program) (bound : ℕ) (d : WordDef) → IsBuiltSort bound d d.sort → sort_fits P d.sort ≡ true
-sort_passes P bound d h = built_sort bound d (λ s. sort_fits P s ≡ true) (λ k is. rw is.row_is refl) (λ t is. refl) d.sort h
+sort_passes P bound d h = built_sort bound d (λ s. sort_fits P s ≡ true) (λ k is. rw is.row_is refl) (λ k is. rw is.row_is refl) (λ t is. refl) d.sort h
 
 names_same : (xs : List (List ℕ)) → names_eq xs xs ≡ true
 names_same [] = refl
@@ -146,26 +128,43 @@ effect_same row = both_are (inputs_eq (plain_inputs row.ins) (plain_inputs row.i
 
 effect_passes : (bound : ℕ) (d : WordDef) → IsBuiltSort bound d d.sort → has_written_effect d ≡ true
 effect_passes bound d h =
-    built_sort bound d (λ s. d.sort ≡ s → has_written_effect d ≡ true) (λ k p is. rw (is, p.row_is, p.effect_is) (effect_same p.row)) (λ t p is. rw is refl) d.sort h refl
+    built_sort bound d (λ s. d.sort ≡ s → has_written_effect d ≡ true) (λ k p is. rw (is, p.row_is, p.effect_is) (effect_same p.row)) (λ k p is. rw (is, p.row_is, p.effect_is) (effect_same p.row)) (λ t p is. rw is refl) d.sort h refl
 
 generic_effect_passes : (P : Program) (bound : ℕ) (d : WordDef) → IsBuiltSort bound d d.sort → has_generic_effect P d ≡ true
-generic_effect_passes P bound d h = built_sort bound d (λ s. d.sort ≡ s → has_generic_effect P d ≡ true) (λ k p is. rw is refl) (λ t p is. rw is refl) d.sort h refl
-
-unmarked : (bound : ℕ) (d : WordDef) → IsBuiltSort bound d d.sort → (d.inline ≡ false) × (d.recursive ≡ false)
-unmarked bound d h = built_sort bound d (λ s. (d.inline ≡ false) × (d.recursive ≡ false)) (λ k p. (p.not_inline, p.not_recursive)) (λ t p. (p.not_inline, p.not_recursive)) d.sort h
-
-marks_pass : (P : Program) (bound : ℕ) (n : ℕ) (ds : List WordDef) → AreBuiltWords bound ds → each_numbered (marks_fit P) n ds ≡ true
-marks_pass P bound n [] h = refl
-marks_pass P bound n (d ∷ ds) h =
-    let none = unmarked bound d h.0 in both_are (marks_fit P n d) (each_numbered (marks_fit P) (suc n) ds) (rw (none.0, none.1) refl) (marks_pass P bound (suc n) ds h.1)
-
--- Numbers of words.
+generic_effect_passes P bound d h = built_sort bound d (λ s. d.sort ≡ s → has_generic_effect P d ≡ true) (λ k p is. rw is refl) (λ k p is. rw is refl) (λ t p is. rw is refl) d.sort h refl
 
 is_other : (a b : ℕ) → a < b → nat_eq a b ≡ false
 is_other a b lt = grind arith
 
+without_marks : (P : Program) (n : ℕ) (d : WordDef) → d.inline ≡ false → d.recursive ≡ false → marks_fit P n d ≡ true
+without_marks P n d i r = rw (i, r) refl
+
+or_true : (b c : Bool) → c ≡ true → (b || c) ≡ true
+or_true true c h = refl
+or_true false c h = h
+
+with_body : (P : Program) (n : ℕ) (d : WordDef) (t : Text) → d.sort ≡ body t → n < P.top → marks_fit P n d ≡ true
+with_body P n d t is below =
+    or_true (not (d.inline || d.recursive)) (is_body (Some d.sort) && not (nat_eq n P.top)) (both_are (is_body (Some d.sort)) (not (nat_eq n P.top)) (ap (λ (s : Sort). is_body (Some s)) is) (ap not (is_other n P.top below)))
+
+mark_passes : (P : Program) (bound n : ℕ) (d : WordDef) → IsBuiltSort bound d d.sort → n < P.top → marks_fit P n d ≡ true
+mark_passes P bound n d h below =
+    built_sort bound d (λ s. d.sort ≡ s → marks_fit P n d ≡ true) (λ k p is. without_marks P n d p.not_inline p.not_recursive) (λ k p is. without_marks P n d p.not_inline p.not_recursive) (λ t p is. with_body P n d t is below) d.sort h refl
+
+marks_pass : (P : Program) (bound n : ℕ) (ds : List WordDef) (last : WordDef) → AreBuiltWords bound ds → n + length ds ≤ P.top → last.inline ≡ false → last.recursive ≡ false → each_numbered (marks_fit P) n (ds ++ last ∷ []) ≡ true
+marks_pass P bound n [] last h few i r = both_are (marks_fit P n last) true (without_marks P n last i r) refl
+marks_pass P bound n (d ∷ ds) last h few i r =
+    both_are (marks_fit P n d) (each_numbered (marks_fit P) (suc n) (ds ++ last ∷ [])) (mark_passes P bound n d h.0 (omega (arith, few))) (marks_pass P bound (suc n) ds last h.1 (omega (arith, few)) i r)
+
+all_marks : (P : Program) (b : IsBuilt P) → each_numbered (marks_fit P) 0 P.words ≡ true
+all_marks P b =
+    ap (each_numbered (marks_fit P) 0) b.words_are
+    ∙ marks_pass P P.top 0 b.words b.phrase b.built (let top = b.top_is in omega (arith, top)) b.phrase_is.not_inline b.phrase_is.not_recursive
+
+-- Numbers of words.
+
 not_past : (bound : ℕ) (d : WordDef) → IsBuiltSort bound d d.sort → is_past (Some d.sort) ≡ false
-not_past bound d h = built_sort bound d (λ s. is_past (Some s) ≡ false) (λ k p. refl) (λ t p. refl) d.sort h
+not_past bound d h = built_sort bound d (λ s. is_past (Some s) ≡ false) (λ k p. refl) (λ k p. refl) (λ t p. refl) d.sort h
 
 words_counted : (P : Program) → IsBuilt P → length P.words ≡ suc P.top
 words_counted P b = let all = ap length b.words_are ∙ length_push b.words b.phrase in let top = b.top_is in omega (arith, all, top)
@@ -194,6 +193,9 @@ same_primitive c d j k is there = rw (is, there) refl
 not_defined : (c d : WordDef) (j : ℕ) (t : Text) → c.sort ≡ prim j → d.sort ≡ body t → same_word c d ≡ false
 not_defined c d j t is there = rw (is, there) refl
 
+not_core : (c d : WordDef) (j k : ℕ) → c.sort ≡ prim j → d.sort ≡ core k → same_word c d ≡ false
+not_core c d j k is there = rw (is, there) refl
+
 either : (a b c d : Bool) → a ≡ c → b ≡ d → (a || b) ≡ (c || d)
 either a b c d h k = rw (h, k) refl
 
@@ -204,6 +206,7 @@ alike bound c j (d ∷ ds) is h =
     let later = alike bound c j ds is h.1 in
     built_sort bound d (λ s. d.sort ≡ s → (same_word c d || list_any (same_word c) ds) ≡ is_member j (numbers_before s (primitive_numbers ds)))
     (λ k p there. either (same_word c d) (list_any (same_word c) ds) (nat_eq j k) (is_member j (primitive_numbers ds)) (same_primitive c d j k is there) later)
+    (λ k p there. either (same_word c d) (list_any (same_word c) ds) false (is_member j (primitive_numbers ds)) (not_core c d j k is there) later)
     (λ t p there. either (same_word c d) (list_any (same_word c) ds) false (is_member j (primitive_numbers ds)) (not_defined c d j t is there) later)
     d.sort h.0 refl
 
@@ -215,6 +218,7 @@ first_alone : (bound : ℕ) (d : WordDef) (ds : List WordDef) → AreBuiltWords 
 first_alone bound d ds h s built =
     built_sort bound d (λ s. d.sort ≡ s → has_no_repeats (numbers_before s (primitive_numbers ds)) ≡ true → (not (list_any (same_word d) ds) ≡ true) × (has_no_repeats (primitive_numbers ds) ≡ true))
     (λ k p is once. let both = both_true (not (is_member k (primitive_numbers ds))) (has_no_repeats (primitive_numbers ds)) once in (ap not (alike bound d k ds is h) ∙ both.0, both.1))
+    (λ k p is once. (ap not (none_passes (same_word d) (λ e. rw is refl) ds), once))
     (λ t p is once. (ap not (none_passes (same_word d) (λ e. rw is refl) ds), once))
     s built
 
@@ -226,7 +230,7 @@ words_alone bound (d ∷ ds) h once =
 no_methods : (bound : ℕ) (ds : List WordDef) → AreBuiltWords bound ds → no_two same_method ds ≡ true
 no_methods bound [] h = refl
 no_methods bound (d ∷ ds) h =
-    let other : (e : WordDef) → same_method d e ≡ false = built_sort bound d (λ s. d.sort ≡ s → (e : WordDef) → same_method d e ≡ false) (λ k p is e. rw is refl) (λ t p is e. rw is refl) d.sort h.0 refl in
+    let other : (e : WordDef) → same_method d e ≡ false = built_sort bound d (λ s. d.sort ≡ s → (e : WordDef) → same_method d e ≡ false) (λ k p is e. rw is refl) (λ k p is e. rw is refl) (λ t p is e. rw is refl) d.sort h.0 refl in
     both_are (not (list_any (same_method d) ds)) (no_two same_method ds) (ap not (none_passes (same_method d) other ds)) (no_methods bound ds h.1)
 
 pub whole : (words : List WordDef) (top : ℕ) → IsBuilt (record { words = words; arrays = []; classes = []; top = top }) → list_all (λ (d : WordDef). nat_le (name_count d.effect) 65) words ≡ true → IsWhole (record { words = words; arrays = []; classes = []; top = top })
@@ -234,7 +238,7 @@ whole words top b few =
     let P : Program = record { words = words; arrays = []; classes = []; top = top } in
     let all = all_built P b in
     record {
-      items_fit = all_items_pass top (item_fits P) (λ z. refl) (word_fits P b) words all;
+      items_fit = all_items_pass top (item_fits P) (record { ints = λ z. refl; truth = refl; falsity = refl; quotations = λ t. refl; words = word_fits P b }) words all;
       literals_fit = refl;
       sorts_fit = words_pass top (λ d. sort_fits P d.sort) (sort_passes P top) words all;
       shapes_fit = refl;
@@ -242,15 +246,15 @@ whole words top b few =
       arrays_once = refl;
       top_last = words_counted P b;
       top_phrase = ap is_body (top_sort P b);
-      items_spare = all_items_pass top (item_spares P) (λ z. refl) (word_spares P b) words all;
+      items_spare = all_items_pass top (item_spares P) (record { ints = λ z. refl; truth = refl; falsity = refl; quotations = λ t. refl; words = word_spares P b }) words all;
       literals_spare = refl;
-      bound = all_texts_pass top (locals_bound []) (text_bound top) words all;
+      bound = all_texts_pass top (locals_bound []) (text_bound top []) words all;
       holes_in_fries = all_texts_pass top (holes_within 0) (text_without_holes top) words all;
       written_effects = words_pass top has_written_effect (effect_passes top) words all;
       method_effects = words_pass top (has_generic_effect P) (generic_effect_passes P top) words all;
-      marks_of_bodies = marks_pass P top 0 words all;
+      marks_of_bodies = all_marks P b;
       few_names = few;
-      small_tests = all_items_pass top tests_small (λ z. refl) (λ w k. refl) words all;
+      small_tests = all_items_pass top tests_small (record { ints = λ z. refl; truth = refl; falsity = refl; quotations = λ t. refl; words = λ w k. refl }) words all;
       slots_differ = refl;
       few_slots = refl;
       class_names_differ = refl;
@@ -279,14 +283,14 @@ all_few bound c own =
     (list_all-append has_few_names known_words c.words ∙ both_are (list_all has_few_names known_words) (list_all has_few_names c.words) known_few (own_few bound c.words own))
     refl
 
-program_built_of : (forms : List Form) (r : Result Contents NameFault) (P : Program) → IsWellFormed forms → file_contents forms ≡ r → with_contents r ≡ Ok P → IsBuilt P
+program_built_of : (forms : List Form) (r : Result Contents NameFault) (P : Program) → IsWellFormed forms → file_contents forms ≡ r → result_map program_of r ≡ Ok P → IsBuilt P
 program_built_of forms (Ok c) P fits e is =
     let same : program_of c ≡ P = cc in
     let built = contents_built forms (codes "syntax" ∷ []) c fits e in
     subst IsBuilt same (program_built c built.0 built.1)
 program_built_of forms (Err f) P fits e is = cc
 
-program_whole_of : (forms : List Form) (r : Result Contents NameFault) (P : Program) → IsWellFormed forms → file_contents forms ≡ r → with_contents r ≡ Ok P → IsWhole P
+program_whole_of : (forms : List Form) (r : Result Contents NameFault) (P : Program) → IsWellFormed forms → file_contents forms ≡ r → result_map program_of r ≡ Ok P → IsWhole P
 program_whole_of forms (Ok c) P fits e is =
     let same : program_of c ≡ P = cc in
     let top = length known_words + length c.words in

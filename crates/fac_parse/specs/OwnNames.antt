@@ -16,4 +16,4 @@ names_with own = first_names ++ own_names own
 
 -- the number of the word of this name that a file has defined
 abbrev pub own_number : List (List ℕ) → List ℕ → Option ℕ
-own_number own name = option_map (λ i. i + 8) (position (bytes_eq name) own)
+own_number own name = option_map (λ i. i + 30) (position (bytes_eq name) own)

@@ -1,21 +1,26 @@
 -- The program of a tree, or its first refused name.
 use Rattle.std.specs.Prelude.{◌≡◌, ℕ, ◌+◌, Bool, true, false, ◌&&◌, List, [], ◌∷◌, ◌++◌, length, Option, Some, None, is_some, Result, Ok, Err, codes, if◌then◌else◌}
 use Rattle.std.specs.Str.{bytes_eq}
-use Rattle.fac_lang.specs.Built.{built_primitives}
+use Rattle.fac_lang.specs.CoreWords.{core_word}
+use Rattle.fac_lang.specs.Forms.{built_primitives}
 use Rattle.fac_lang.specs.PrimitiveWords.{PrimitiveWord, primitive_word, written_effect, plain_inputs}
-use Rattle.fac_lang.specs.Signatures.{Signature, signature, no_inputs, leaves}
-use Rattle.fac_lang.specs.Texts.{Text, end, then as placed, Item, lit, int, word}
+use Rattle.fac_lang.specs.Signatures.{Signature, signature, no_inputs, Leaving, never, leaves}
+use Rattle.fac_lang.specs.Texts.{Text, end, then as placed, Item, lit, int, yes, no, quot, word}
 use Rattle.fac_lang.specs.declared.phrase.Place.{Place}
 use Rattle.fac_lang.specs.declared.program.Name.{Name as FullName}
 use Rattle.fac_lang.specs.declared.program.Program.{Program}
 use Rattle.fac_lang.specs.declared.program.Sort.{Sort}
-use Rattle.fac_lang.specs.declared.program.Sort.TheVariants.{Prim, Body}
+use Rattle.fac_lang.specs.declared.program.Sort.TheVariants.{Prim, Core, Body}
 use Rattle.fac_lang.specs.declared.program.WordDef.{WordDef}
 use Rattle.fac_lang.specs.declared.token.Token.{Token}
 use Rattle.fac_lang.specs.declared.tree.Form.{Form}
 use Rattle.fac_lang.specs.declared.tree.Form.TheVariants as form
 use Rattle.fac_lang.specs.declared.tree.Term.{Term}
 use Rattle.fac_lang.specs.declared.tree.Term.TheVariants as term
+use Rattle.fac_lang.specs.declared.tree.Piece.{Piece}
+use Rattle.fac_lang.specs.declared.tree.Piece.TheVariants as piece
+use Rattle.fac_lang.specs.declared.tree.Mark.{Mark}
+use Rattle.fac_lang.specs.declared.tree.Mark.TheVariants.{Inline, Recursive}
 use Rattle.fac_lang.specs.declared.tree.WrittenEffect.{WrittenEffect}
 use Rattle.fac_parse.specs.declared.resolver.NameFault.{NameFault}
 use Rattle.fac_parse.specs.declared.resolver.NameKind.{NameKind}
@@ -36,13 +41,33 @@ plain_word vocab name sort effect = record { name = record { vocab = vocab; name
 abbrev pub primitive_def : ℕ → PrimitiveWord → WordDef
 primitive_def k row = plain_word row.vocab row.name (Prim k) (written_effect row)
 
+abbrev pub primitive_if_any : ℕ → Option PrimitiveWord → List WordDef
+primitive_if_any k None = []
+primitive_if_any k (Some row) = primitive_def k row ∷ []
+
 abbrev pub primitive_defs : List ℕ → List WordDef
 primitive_defs [] = []
-primitive_defs (k ∷ ks) = elim (primitive_word k) [ None ↦ primitive_defs ks | Some row ↦ primitive_def k row ∷ primitive_defs ks ]
+primitive_defs (k ∷ ks) = primitive_if_any k (primitive_word k) ++ primitive_defs ks
+
+-- the word of a core word
+abbrev pub core_def : ℕ → PrimitiveWord → WordDef
+core_def k row = plain_word row.vocab row.name (Core k) (written_effect row)
+
+abbrev pub core_if_any : ℕ → Option PrimitiveWord → List WordDef
+core_if_any k None = []
+core_if_any k (Some row) = core_def k row ∷ []
+
+abbrev pub core_defs : List ℕ → List WordDef
+core_defs [] = []
+core_defs (k ∷ ks) = core_if_any k (core_word k) ++ core_defs ks
+
+-- the core words that are built: `call`, `dip` and `if`
+abbrev pub built_cores : List ℕ
+built_cores = 0 ∷ 1 ∷ 2 ∷ []
 
 -- the words that there are before a source is read
 unfoldable pub known_words : List WordDef
-known_words = primitive_defs built_primitives
+known_words = primitive_defs built_primitives ++ core_defs built_cores
 
 -- the names of words
 abbrev pub names_of : List WordDef → List FullName
@@ -87,33 +112,91 @@ abbrev pub uses : List (List ℕ) → List Token → Result (List (List ℕ)) Na
 uses used [] = Ok used
 uses used (t ∷ ts) = (if is_vocabulary (token_text t.kind) then uses (with_used used (token_text t.kind)) ts else Err (name_fault NoVocab t))
 
--- an item before the others of a text
-abbrev pub with_item : Item → Place → Result Text NameFault → Result Text NameFault
-with_item item place (Ok text) = Ok (placed item place text)
-with_item item place (Err fault) = Err fault
+abbrev pub result_map : {A B : Type 0} → (A → B) → Result A NameFault → Result B NameFault
+result_map f (Ok a) = Ok (f a)
+result_map f (Err fault) = Err fault
 
-abbrev pub with_word : Option ℕ → Token → Result Text NameFault → Result Text NameFault
-with_word (Some n) t rest = with_item (word n) t.place rest
-with_word None t rest = Err (name_fault Unknown t)
+abbrev pub word_item : Option ℕ → Token → Result Item NameFault
+word_item (Some n) t = Ok (word n)
+word_item None t = Err (name_fault Unknown t)
 
--- the text of a word's items, or the first refused name in it
-abbrev pub text_of : List FullName → List (List ℕ) → List Term → Result Text NameFault
-text_of known used [] = Ok end
-text_of known used (term.Integer t value ∷ items) = with_item (lit (int value)) t.place (text_of known used items)
-text_of known used (term.Name t ∷ items) = with_word (found known used (token_text t.kind)) t (text_of known used items)
+-- an item of one token, or that its name is refused
+abbrev pub item_of : List FullName → List (List ℕ) → Term → Result Item NameFault
+item_of known used (term.Name t) = word_item (found known used (token_text t.kind)) t
+item_of known used (term.Integer t value) = Ok (lit (int value))
+item_of known used (term.True place) = Ok (lit yes)
+item_of known used (term.False place) = Ok (lit no)
+
+abbrev pub term_place : Term → Place
+term_place (term.Name t) = t.place
+term_place (term.Integer t value) = t.place
+term_place (term.True place) = place
+term_place (term.False place) = place
+
+-- What follows a place among items: the rest of the text in which it stands, and the rests of the texts around that one, from the inside out.
+pub record Following : Type 0 where
+  pub here : Text
+  pub around : List Text
+
+-- an item before what follows
+abbrev pub with_item : Result Item NameFault → Place → Result Following NameFault → Result Following NameFault
+with_item (Err fault) place rest = Err fault
+with_item (Ok item) place rest = result_map (λ f. record { here = placed item place f.here; around = f.around }) rest
+
+-- A quotation with this text, before the texts around it. One that nothing ends reaches to the end.
+abbrev pub with_quotation : Place → Text → List Text → Following
+with_quotation place text [] = record { here = placed (quot text) place end; around = [] }
+with_quotation place text (t ∷ ts) = record { here = placed (quot text) place t; around = ts }
+
+-- a `[` before what follows: the text behind it is the quotation's
+abbrev pub opened : Place → Following → Following
+opened place f = with_quotation place f.here f.around
+
+-- a `]` before what follows: the text ends here, and what follows is the text around it
+abbrev pub closed : Following → Following
+closed f = record { here = end; around = f.here ∷ f.around }
+
+-- what these pieces are, or the first refused name among them
+abbrev pub following : List FullName → List (List ℕ) → List Piece → Result Following NameFault
+following known used [] = Ok (record { here = end; around = [] })
+following known used (piece.Item item ∷ items) = with_item (item_of known used item) (term_place item) (following known used items)
+following known used (piece.Opens place ∷ items) = result_map (opened place) (following known used items)
+following known used (piece.Closes place ∷ items) = result_map closed (following known used items)
+
+-- the text of items, or the first refused name in it
+abbrev pub text_of : List FullName → List (List ℕ) → List Piece → Result Text NameFault
+text_of known used items = result_map (λ f. f.here) (following known used items)
 
 -- the spellings of tokens
 abbrev pub token_texts : List Token → List (List ℕ)
 token_texts [] = []
 token_texts (t ∷ ts) = token_text t.kind ∷ token_texts ts
 
+-- whether the only output is `*`
+abbrev pub is_star : List Token → Bool
+is_star (token ∷ []) = bytes_eq (token_text token.kind) (codes "*")
+is_star _ = false
+
+-- what is left: nothing where `*` is the only output, since the word never returns
+abbrev pub leaving_of : List Token → Leaving
+leaving_of outs = (if is_star outs then never else leaves None (token_texts outs))
+
 -- the effect that is written
 abbrev pub effect_of : WrittenEffect → Signature
-effect_of e = signature None (plain_inputs (token_texts e.ins)) (leaves None (token_texts e.outs))
+effect_of e = signature None (plain_inputs (token_texts e.ins)) (leaving_of e.outs)
+
+abbrev pub is_inline : Option Mark → Bool
+is_inline (Some (Inline place)) = true
+is_inline _ = false
+
+abbrev pub is_recursive : Option Mark → Bool
+is_recursive (Some (Recursive place)) = true
+is_recursive _ = false
 
 -- a word that a file defines
-abbrev pub defined_word : Token → WrittenEffect → Text → WordDef
-defined_word name effect text = record { name = own_name (token_text name.kind); sort = Body text; effect = effect_of effect; inline = false; recursive = false; place = name.place }
+abbrev pub defined_word : Token → WrittenEffect → Option Mark → Text → WordDef
+defined_word name effect mark text =
+    record { name = own_name (token_text name.kind); sort = Body text; effect = effect_of effect; inline = is_inline mark; recursive = is_recursive mark; place = name.place }
 
 -- the words that a file defines, and the text of its items
 pub record Contents : Type 0 where
@@ -125,22 +208,14 @@ after_uses (Ok used) rest = rest used
 after_uses (Err fault) rest = Err fault
 
 -- an item at the top level before what follows
-abbrev pub with_top_item : Item → Place → Result Contents NameFault → Result Contents NameFault
-with_top_item item place (Ok c) = Ok (record { words = c.words; text = placed item place c.text })
-with_top_item item place (Err fault) = Err fault
-
-abbrev pub with_top_word : Option ℕ → Token → Result Contents NameFault → Result Contents NameFault
-with_top_word (Some n) t rest = with_top_item (word n) t.place rest
-with_top_word None t rest = Err (name_fault Unknown t)
+abbrev pub with_top_item : Result Item NameFault → Place → Result Contents NameFault → Result Contents NameFault
+with_top_item (Err fault) place rest = Err fault
+with_top_item (Ok item) place rest = result_map (λ c. record { words = c.words; text = placed item place c.text }) rest
 
 -- a word before what follows
-abbrev pub with_defined : Token → WrittenEffect → Text → Result Contents NameFault → Result Contents NameFault
-with_defined name effect text (Ok c) = Ok (record { words = defined_word name effect text ∷ c.words; text = c.text })
-with_defined name effect text (Err fault) = Err fault
-
-abbrev pub after_text : Token → WrittenEffect → Result Text NameFault → Result Contents NameFault → Result Contents NameFault
-after_text name effect (Ok text) rest = with_defined name effect text rest
-after_text name effect (Err fault) rest = Err fault
+abbrev pub with_defined : Result WordDef NameFault → Result Contents NameFault → Result Contents NameFault
+with_defined (Err fault) rest = Err fault
+with_defined (Ok d) rest = result_map (λ c. record { words = d ∷ c.words; text = c.text }) rest
 
 -- a name that is taken already is refused
 abbrev pub unless_taken : Bool → Token → Result Contents NameFault → Result Contents NameFault
@@ -152,11 +227,11 @@ unless_taken false name rest = rest
 abbrev pub contents_of : List FullName → List (List ℕ) → List Form → Result Contents NameFault
 contents_of known used [] = Ok (record { words = []; text = end })
 contents_of known used (form.Using opens vocabs closes ∷ forms) = after_uses (uses used vocabs) (λ more. contents_of known more forms)
-contents_of known used (form.Define opens name effect items closes ∷ forms) =
+contents_of known used (form.Define opens name effect items closes mark ∷ forms) =
     let more = known ++ own_name (token_text name.kind) ∷ [] in
-    unless_taken (is_taken known (token_text name.kind)) name (after_text name effect (text_of more used items) (contents_of more used forms))
-contents_of known used (form.Item (term.Integer t value) ∷ forms) = with_top_item (lit (int value)) t.place (contents_of known used forms)
-contents_of known used (form.Item (term.Name t) ∷ forms) = with_top_word (found known used (token_text t.kind)) t (contents_of known used forms)
+    unless_taken (is_taken known (token_text name.kind)) name (with_defined (result_map (defined_word name effect mark) (text_of more used items)) (contents_of more used forms))
+contents_of known used (form.Item item ∷ forms) = with_top_item (item_of known used item) (term_place item) (contents_of known used forms)
+contents_of known used (form.Quotation opens items closes ∷ forms) = with_top_item (result_map quot (text_of known used items)) opens (contents_of known used forms)
 
 -- the names that are known before a source is read
 abbrev pub first_names : List FullName
@@ -174,13 +249,9 @@ top_word text = plain_word [] (codes "top-level") (Body text) (signature None no
 abbrev pub program_of : Contents → Program
 program_of c = record { words = known_words ++ c.words ++ top_word c.text ∷ []; arrays = []; classes = []; top = length known_words + length c.words }
 
-abbrev pub with_contents : Result Contents NameFault → Result Program NameFault
-with_contents (Ok c) = Ok (program_of c)
-with_contents (Err fault) = Err fault
-
 -- the program of a tree, or the first refused name by place
 abbrev pub resolved : List Form → Result Program NameFault
-resolved forms = with_contents (file_contents forms)
+resolved forms = result_map program_of (file_contents forms)
 
 abbrev pub Resolves : List Form → Result Program ResolveFault → Type 0
 Resolves forms (Ok program) = resolved forms ≡ Ok program

@@ -1,9 +1,10 @@
 -- How names are resolved, a form at a time.
-use Rattle.std.specs.Prelude.{◌≡◌, ℕ, List, [], ◌∷◌, ◌++◌, length, Option, Some, None, Result, Ok, Err}
+use Rattle.std.specs.Prelude.{◌≡◌, ℕ, ◌<◌, List, [], ◌∷◌, ◌++◌, length, Option, Some, None, Result, Ok, Err}
 use Rattle.fac_lang.specs.Texts.{Text, then}
 use Rattle.fac_lang.specs.View.{what_item, items_text}
 use Rattle.fac_lang.specs.declared.phrase.Item.{Item}
-use Rattle.fac_lang.specs.declared.phrase.What.TheVariants.{Int, Word}
+use Rattle.fac_lang.specs.declared.phrase.Place.{Place}
+use Rattle.fac_lang.specs.declared.phrase.What.TheVariants.{Int, True, False, Quot, Word}
 use Rattle.fac_lang.specs.declared.program.Name.{Name as FullName}
 use Rattle.fac_lang.specs.declared.program.Program.{Program}
 use Rattle.fac_lang.specs.declared.program.WordDef.{WordDef}
@@ -11,15 +12,20 @@ use Rattle.fac_lang.specs.declared.token.Token.{Token}
 use Rattle.fac_lang.specs.declared.tree.Form.{Form}
 use Rattle.fac_lang.specs.declared.tree.Term.{Term}
 use Rattle.fac_lang.specs.declared.tree.Term.TheVariants as term
+use Rattle.fac_lang.specs.declared.tree.Piece.{Piece}
+use Rattle.fac_lang.specs.declared.tree.Piece.TheVariants as piece
+use Rattle.fac_lang.specs.declared.tree.Mark.{Mark}
 use Rattle.fac_lang.specs.declared.tree.WrittenEffect.{WrittenEffect}
 use Rattle.fac_parse.specs.declared.resolver.NameFault.{NameFault}
 use Rattle.fac_parse.specs.declared.resolver.NameKind.TheVariants.{Unknown}
 use Rattle.fac_parse.specs.declared.resolver.ResolveFault.{ResolveFault}
 use Rattle.fac_parse.specs.declared.resolver.ResolveFault.TheVariants.{Name, Memory}
+use Rattle.fac_parse.specs.declared.resolver.OpenQuotation.{OpenQuotation}
+use Rattle.fac_parse.specs.declared.resolver.Nest.{Nest}
 use Rattle.fac_parse.specs.declared.resolver.SoFar.{SoFar}
 use Rattle.fac_parse.specs.OwnNames.{names_with}
-use Rattle.fac_parse.specs.Resolution.{known_words, found, is_taken, name_fault, uses, text_of, Contents, unless_taken, after_text, contents_of, file_contents, top_word}
-use Rattle.fac_parse.specs.Trees.{token_text}
+use Rattle.fac_parse.specs.Resolution.{known_words, found, is_taken, name_fault, uses, result_map, Following, with_quotation, following, text_of, defined_word, Contents, unless_taken, with_defined, contents_of, file_contents, top_word}
+use Rattle.fac_parse.specs.Trees.{token_text, depth_behind, AreItems}
 
 -- what using vocabularies answers
 abbrev pub Uses : List (List ℕ) → List Token → List (List ℕ) → Result Unit ResolveFault → Type 0
@@ -37,6 +43,8 @@ found_item None t = Err (name_fault Unknown t)
 abbrev pub term_item : List FullName → List (List ℕ) → Term → Result Item NameFault
 term_item known used (term.Integer t value) = Ok (record { what = Int value; place = t.place })
 term_item known used (term.Name t) = found_item (found known used (token_text t.kind)) t
+term_item known used (term.True place) = Ok (record { what = True; place = place })
+term_item known used (term.False place) = Ok (record { what = False; place = place })
 
 abbrev pub with_new : List Item → Result Item NameFault → Result (List Item) NameFault
 with_new items (Ok item) = Ok (items ++ item ∷ [])
@@ -53,12 +61,49 @@ abbrev pub items_before : List Item → Text → Text
 items_before [] text = text
 items_before (i ∷ is) text = then (what_item i.what) i.place (items_before is text)
 
-abbrev pub before : List Item → Result Text NameFault → Result Text NameFault
-before items (Ok text) = Ok (items_before items text)
-before items (Err fault) = Err fault
+-- Pieces.
 
--- what reading the items of a word answers
-abbrev pub ReadsText : List FullName → List (List ℕ) → List Term → Result Text ResolveFault → Type 0
+-- a quotation that is open, before what follows in it
+abbrev pub enclosed : OpenQuotation → Following → Following
+enclosed o f = let outer = with_quotation o.place f.here f.around in record { here = items_before o.before.items outer.here; around = outer.around }
+
+-- items in open quotations, the outermost of these first, before what follows
+abbrev pub nested : List OpenQuotation → List Item → Following → Following
+nested [] items f = record { here = items_before items f.here; around = f.around }
+nested (o ∷ os) items f = enclosed o (nested os items f)
+
+-- what was read so far, before what follows
+abbrev pub after_nest : Nest → Result Following NameFault → Result Following NameFault
+after_nest n r = result_map (nested n.outer.items n.items.items) r
+
+-- the innermost quotation ends, and is an item behind those before it
+pub record Closes (n n_then : Nest) : Type 0 where
+  pub last : OpenQuotation
+  pub outer : n.outer.items ≡ n_then.outer.items ++ last ∷ []
+  pub items : n_then.items.items ≡ last.before.items ++ (record { what = Quot (items_text n.items.items); place = last.place }) ∷ []
+
+-- whether a piece may stand where so many quotations are open
+abbrev pub IsClosable : ℕ → Piece → Type 0
+IsClosable depth (piece.Closes place) = 0 < depth
+IsClosable depth _ = Unit {0}
+
+-- the piece is behind the others
+pub record IsAdded (known : List FullName) (used : List (List ℕ)) (piece : Piece) (n n_then : Nest) : Type 0 where
+  pub text : (rest : List Piece) → after_nest n (following known used (piece ∷ rest)) ≡ after_nest n_then (following known used rest)
+  pub depth : length n_then.outer.items ≡ depth_behind (length n.outer.items) piece
+
+-- what taking a piece answers
+abbrev pub TakesPiece : List FullName → List (List ℕ) → Piece → Nest → Result Nest ResolveFault → Type 0
+TakesPiece known used piece n (Ok n_then) = IsAdded known used piece n n_then
+TakesPiece known used piece n (Err (Name fault)) = (rest : List Piece) → following known used (piece ∷ rest) ≡ Err fault
+TakesPiece known used piece n (Err Memory) = Unit {0}
+
+-- items whose brackets match
+abbrev pub AreClosed : List Piece → Type 0
+AreClosed items = (most : ℕ) × AreItems most items
+
+-- what reading items answers
+abbrev pub ReadsText : List FullName → List (List ℕ) → List Piece → Result Text ResolveFault → Type 0
 ReadsText known used items (Ok text) = text_of known used items ≡ Ok text
 ReadsText known used items (Err (Name fault)) = text_of known used items ≡ Err fault
 ReadsText known used items (Err Memory) = Unit {0}
@@ -75,25 +120,31 @@ abbrev pub contents_after : SoFar → List Form → Result Contents NameFault
 contents_after s forms = after_made s.words s.items.items (contents_of (names_with s.own) s.used forms)
 
 -- a definition before what follows
-abbrev pub defining : SoFar → Token → WrittenEffect → List Term → Result Contents NameFault → Result Contents NameFault
-defining s name effect items rest =
-    unless_taken (is_taken (names_with s.own) (token_text name.kind)) name (after_text name effect (text_of (names_with (s.own ++ token_text name.kind ∷ [])) s.used items) rest)
+abbrev pub defining : SoFar → Token → WrittenEffect → List Piece → Option Mark → Result Contents NameFault → Result Contents NameFault
+defining s name effect items mark rest =
+    unless_taken (is_taken (names_with s.own) (token_text name.kind)) name (with_defined (result_map (defined_word name effect mark) (text_of (names_with (s.own ++ token_text name.kind ∷ [])) s.used items)) rest)
 
 -- the definition adds its word and its name, and nothing else
-pub record IsDefined (s : SoFar) (name : Token) (effect : WrittenEffect) (items : List Term) (s_then : SoFar) : Type 0 where
-  pub made : (rest : Result Contents NameFault) → after_made s.words s.items.items (defining s name effect items rest) ≡ after_made s_then.words s_then.items.items rest
+pub record IsDefined (s : SoFar) (name : Token) (effect : WrittenEffect) (items : List Piece) (mark : Option Mark) (s_then : SoFar) : Type 0 where
+  pub made : (rest : Result Contents NameFault) → after_made s.words s.items.items (defining s name effect items mark rest) ≡ after_made s_then.words s_then.items.items rest
   pub own : s_then.own ≡ s.own ++ token_text name.kind ∷ []
   pub used : s_then.used ≡ s.used
 
 -- a name of the definition is refused
-abbrev pub DefinitionFails : SoFar → Token → WrittenEffect → List Term → ResolveFault → Type 0
-DefinitionFails s name effect items (Name fault) = (rest : Result Contents NameFault) → defining s name effect items rest ≡ Err fault
-DefinitionFails s name effect items Memory = Unit {0}
+abbrev pub DefinitionFails : SoFar → Token → WrittenEffect → List Piece → Option Mark → ResolveFault → Type 0
+DefinitionFails s name effect items mark (Name fault) = (rest : Result Contents NameFault) → defining s name effect items mark rest ≡ Err fault
+DefinitionFails s name effect items mark Memory = Unit {0}
 
 -- what taking a definition answers, with what was made before and after it
-abbrev pub Defines : SoFar → Token → WrittenEffect → List Term → SoFar → Result Unit ResolveFault → Type 0
-Defines s name effect items s_then (Ok done) = IsDefined s name effect items s_then
-Defines s name effect items s_then (Err fault) = DefinitionFails s name effect items fault
+abbrev pub Defines : SoFar → Token → WrittenEffect → List Piece → Option Mark → SoFar → Result Unit ResolveFault → Type 0
+Defines s name effect items mark s_then (Ok done) = IsDefined s name effect items mark s_then
+Defines s name effect items mark s_then (Err fault) = DefinitionFails s name effect items mark fault
+
+-- what taking a quotation at the top level answers, with the items before and after it
+abbrev pub TakesQuotation : List FullName → List (List ℕ) → Place → List Piece → List Item → List Item → Result Unit ResolveFault → Type 0
+TakesQuotation known used place pieces items items_then (Ok done) = with_new items (result_map (λ text. record { what = Quot text; place = place }) (text_of known used pieces)) ≡ Ok items_then
+TakesQuotation known used place pieces items items_then (Err (Name fault)) = text_of known used pieces ≡ Err fault
+TakesQuotation known used place pieces items items_then (Err Memory) = Unit {0}
 
 -- what taking a form answers, with what was made before and after it
 abbrev pub TakesForm : SoFar → Form → SoFar → Result Unit ResolveFault → Type 0

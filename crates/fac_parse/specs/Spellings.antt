@@ -6,7 +6,7 @@ use Rattle.fac_lang.specs.Numbers.{signed_in, integer_in, digits_in, negated, in
 use Rattle.fac_lang.specs.declared.token.TokKind.{TokKind}
 use Rattle.fac_lang.specs.declared.token.TokKind.TheVariants.{Plain, Str}
 use Rattle.fac_parse.specs.declared.spelling.Spelling.{Spelling}
-use Rattle.fac_parse.specs.declared.spelling.Spelling.TheVariants.{Using, Colon, Semi, Opens, Closes, Dashes, Integer, Name, Other}
+use Rattle.fac_parse.specs.declared.spelling.Spelling.TheVariants.{Using, Colon, Semi, Opens, Closes, Dashes, OpensQuotation, ClosesQuotation, True, False, Inline, Recursive, Integer, Name, Other}
 
 -- a text in one of the integer forms, in range or not
 unfoldable pub has_integer_form : List ℕ → Bool
@@ -68,6 +68,12 @@ sign_spelling text =
     else if bytes_eq text (codes "(") then Some Opens
     else if bytes_eq text (codes ")") then Some Closes
     else if bytes_eq text (codes "--") then Some Dashes
+    else if bytes_eq text (codes "[") then Some OpensQuotation
+    else if bytes_eq text (codes "]") then Some ClosesQuotation
+    else if bytes_eq text (codes "t") then Some True
+    else if bytes_eq text (codes "f") then Some False
+    else if bytes_eq text (codes "inline") then Some Inline
+    else if bytes_eq text (codes "recursive") then Some Recursive
     else None)
 
 -- a token in no integer form
@@ -84,6 +90,16 @@ spelling_of text = (if has_integer_form text then integer_spelling (literal_in t
 abbrev pub token_spelling : TokKind → Spelling
 token_spelling (Plain text) = spelling_of text
 token_spelling (Str text) = Other
+
+-- whether a token ends a definition's items
+abbrev pub is_semi : Spelling → Bool
+is_semi Semi = true
+is_semi _ = false
+
+-- whether a token ends a quotation
+abbrev pub is_closing : Spelling → Bool
+is_closing ClosesQuotation = true
+is_closing _ = false
 
 -- Names in effects. One that begins with two dots is a row variable, and one that ends in a colon is followed by a class or an effect.
 abbrev pub is_row_name : List ℕ → Bool

@@ -1,6 +1,5 @@
 -- Trees, their tokens, and which trees are well-formed.
-use Rattle.std.specs.Prelude.{◌≡◌, ◌≤◌, ◌+◌, ℕ, List, [], ◌∷◌, ◌++◌, length, Bool, true, false, codes, Result, Ok, Err}
-use Rattle.std.specs.Str.{bytes_eq}
+use Rattle.std.specs.Prelude.{◌≡◌, ◌≤◌, ◌<◌, ◌+◌, ◌-◌, ℕ, Option, Some, None, List, [], ◌∷◌, ◌++◌, length, true, codes, Result, Ok, Err}
 use Rattle.fac_lang.specs.declared.phrase.Place.{Place}
 use Rattle.fac_lang.specs.declared.token.Token.{Token}
 use Rattle.fac_lang.specs.declared.token.TokKind.{TokKind}
@@ -8,8 +7,12 @@ use Rattle.fac_lang.specs.declared.token.TokKind.TheVariants.{Plain, Str}
 use Rattle.fac_lang.specs.declared.tree.Tree.{Tree}
 use Rattle.fac_lang.specs.declared.tree.Term.{Term}
 use Rattle.fac_lang.specs.declared.tree.Term.TheVariants as term
+use Rattle.fac_lang.specs.declared.tree.Piece.{Piece}
+use Rattle.fac_lang.specs.declared.tree.Piece.TheVariants as piece
+use Rattle.fac_lang.specs.declared.tree.Mark.{Mark}
+use Rattle.fac_lang.specs.declared.tree.Mark.TheVariants.{Inline, Recursive}
 use Rattle.fac_lang.specs.declared.tree.Form.{Form}
-use Rattle.fac_lang.specs.declared.tree.Form.TheVariants.{Using, Define, Item}
+use Rattle.fac_lang.specs.declared.tree.Form.TheVariants.{Using, Define, Item, Quotation}
 use Rattle.fac_lang.specs.declared.tree.WrittenEffect.{WrittenEffect}
 use Rattle.fac_parse.specs.declared.spelling.Spelling.TheVariants as spelled
 use Rattle.fac_parse.specs.declared.reader.ParseFault.{ParseFault}
@@ -24,19 +27,32 @@ plain_token place text = record { place = place; kind = Plain text }
 abbrev pub term_tokens : Term → List Token
 term_tokens (term.Name token) = token ∷ []
 term_tokens (term.Integer token value) = token ∷ []
+term_tokens (term.True place) = plain_token place (codes "t") ∷ []
+term_tokens (term.False place) = plain_token place (codes "f") ∷ []
+
+abbrev pub piece_tokens : Piece → List Token
+piece_tokens (piece.Item item) = term_tokens item
+piece_tokens (piece.Opens place) = plain_token place (codes "[") ∷ []
+piece_tokens (piece.Closes place) = plain_token place (codes "]") ∷ []
 
 -- the tokens of items, in order
-abbrev pub terms_tokens : List Term → List Token
-terms_tokens [] = []
-terms_tokens (item ∷ items) = term_tokens item ++ terms_tokens items
+abbrev pub items_tokens : List Piece → List Token
+items_tokens [] = []
+items_tokens (piece ∷ pieces) = piece_tokens piece ++ items_tokens pieces
+
+abbrev pub mark_tokens : Option Mark → List Token
+mark_tokens None = []
+mark_tokens (Some (Inline place)) = plain_token place (codes "inline") ∷ []
+mark_tokens (Some (Recursive place)) = plain_token place (codes "recursive") ∷ []
 
 abbrev pub effect_tokens : WrittenEffect → List Token
 effect_tokens e = plain_token e.opens (codes "(") ∷ e.ins ++ plain_token e.dashes (codes "--") ∷ e.outs ++ plain_token e.closes (codes ")") ∷ []
 
 abbrev pub form_tokens : Form → List Token
 form_tokens (Using opens vocabs closes) = plain_token opens (codes "USING:") ∷ vocabs ++ plain_token closes (codes ";") ∷ []
-form_tokens (Define opens name effect items closes) = plain_token opens (codes ":") ∷ name ∷ effect_tokens effect ++ terms_tokens items ++ plain_token closes (codes ";") ∷ []
+form_tokens (Define opens name effect items closes mark) = plain_token opens (codes ":") ∷ name ∷ effect_tokens effect ++ items_tokens items ++ plain_token closes (codes ";") ∷ mark_tokens mark
 form_tokens (Item item) = term_tokens item
+form_tokens (Quotation opens items closes) = plain_token opens (codes "[") ∷ items_tokens items ++ plain_token closes (codes "]") ∷ []
 
 -- the tokens of the forms, in order
 abbrev pub flatten : List Form → List Token
@@ -50,10 +66,33 @@ AreNames (token ∷ tokens) = (token_spelling token.kind ≡ spelled.Name) × Ar
 abbrev pub IsTerm : Term → Type 0
 IsTerm (term.Name token) = token_spelling token.kind ≡ spelled.Name
 IsTerm (term.Integer token value) = token_spelling token.kind ≡ spelled.Integer value
+IsTerm (term.True place) = Unit {0}
+IsTerm (term.False place) = Unit {0}
 
-abbrev pub AreTerms : List Term → Type 0
-AreTerms [] = Unit {0}
-AreTerms (item ∷ items) = IsTerm item × AreTerms items
+-- Quotations nest at most so deep.
+abbrev pub most_levels : ℕ
+most_levels = 256
+
+-- whether a piece may stand where `depth` quotations are open, of which there may be `most`
+abbrev pub MayStand : ℕ → ℕ → Piece → Type 0
+MayStand most depth (piece.Item item) = IsTerm item
+MayStand most depth (piece.Opens place) = depth < most
+MayStand most depth (piece.Closes place) = 0 < depth
+
+-- the number of open quotations behind a piece
+abbrev pub depth_behind : ℕ → Piece → ℕ
+depth_behind depth (piece.Item item) = depth
+depth_behind depth (piece.Opens place) = depth + 1
+depth_behind depth (piece.Closes place) = depth - 1
+
+-- each of these pieces may stand where it does, with so many quotations open before them and so many behind
+abbrev pub Lead : ℕ → ℕ → List Piece → ℕ → Type 0
+Lead most depth [] last = depth ≡ last
+Lead most depth (piece ∷ pieces) last = MayStand most depth piece × Lead most (depth_behind depth piece) pieces last
+
+-- items whose brackets match, with at most so many quotations in one another
+abbrev pub AreItems : ℕ → List Piece → Type 0
+AreItems most pieces = Lead most 0 pieces 0
 
 -- a token's spelling, or a string's content
 abbrev pub token_text : TokKind → List ℕ
@@ -65,11 +104,6 @@ abbrev pub AreValueNames : List Token → Type 0
 AreValueNames [] = Unit {0}
 AreValueNames (token ∷ tokens) = (token_spelling token.kind ≡ spelled.Name) × (is_value_name (token_text token.kind) ≡ true) × AreValueNames tokens
 
--- whether the only output is `*`, which says that a word never returns
-abbrev pub is_star : List Token → Bool
-is_star (token ∷ []) = bytes_eq (token_text token.kind) (codes "*")
-is_star _ = false
-
 -- the most names of an effect
 abbrev pub most_names : ℕ
 most_names = 64
@@ -77,13 +111,13 @@ most_names = 64
 pub record IsEffect (effect : WrittenEffect) : Type 0 where
   pub ins : AreValueNames effect.ins
   pub outs : AreValueNames effect.outs
-  pub returns : is_star effect.outs ≡ false
   pub few : length effect.ins + length effect.outs ≤ most_names
 
 abbrev pub IsForm : Form → Type 0
 IsForm (Using opens vocabs closes) = AreNames vocabs
-IsForm (Define opens name effect items closes) = (token_spelling name.kind ≡ spelled.Name) × IsEffect effect × AreTerms items
+IsForm (Define opens name effect items closes mark) = (token_spelling name.kind ≡ spelled.Name) × IsEffect effect × AreItems most_levels items
 IsForm (Item item) = IsTerm item
+IsForm (Quotation opens items closes) = AreItems (most_levels - 1) items
 
 abbrev pub IsWellFormed : List Form → Type 0
 IsWellFormed [] = Unit {0}

@@ -10,10 +10,10 @@ use std::alloc::Global;
 use std::marker::Model;
 
 // The number of the first word that a file defines.
-const FIRST: u32 = 8;
+const FIRST: u32 = 30;
 
 // The most words that a file may define, so that their numbers fit a `u32`.
-const MOST: usize = 4_294_967_280;
+const MOST: usize = 4_294_967_200;
 
 /// The names of the words that a file defines, without repeats, in the order of the words.
 #[derive(Drop)]
@@ -28,7 +28,7 @@ impl Model for OwnNames {
 
     ghost view = { λ own. own.names };
 
-    ghost invariant = { λ own. length own.names ≤ 4294967280 };
+    ghost invariant = { λ own. length own.names ≤ 4294967200 };
 }
 
 impl OwnNames {

@@ -1,11 +1,13 @@
 //! The tree of a source's tokens.
-ghost use Rattle.std.specs.Prelude.{◌≡◌};
-ghost use Rattle.fac_parse.specs.Trees.{Parses, file_of, is_star};
-ghost use Rattle.fac_parse.specs.Reader.{step, top_step, names_step, colon_step, named_step, inputs_step, is_fit, outputs_step, items_step, part_step, Answers, Takes};
+ghost use Rattle.std.specs.Prelude.{◌≡◌, ◌++◌, ◌∷◌, [], OnOk, IfOk};
+ghost use Rattle.fac_parse.specs.Trees.{Parses, file_of};
+ghost use Rattle.fac_parse.specs.Reader.{step, top_step, names_step, colon_step, named_step, inputs_step, is_fit, outputs_step, with_piece, piece_step, body_step, quotation_step, part_step, mark_of, defined_form, behind_step, unmarked, form_before, next_state, ended_form, Answers, AnswersItems, Takes};
 ghost use Rattle.fac_parse.specs.Spellings.{token_spelling};
 
-use crate::spelling::{Spelling, classify, is_asterisk, names_a_value};
-use fac_lang::{Duplicate, Form, List, Memory, Place, Term, Token, Tree, WrittenEffect};
+use crate::spelling::{Spelling, classify, closes_quotation, is_semicolon, names_a_value};
+use fac_lang::{
+    Duplicate, Form, List, Mark, Memory, Piece, Place, Term, Token, Tree, WrittenEffect,
+};
 use std::alloc::Global;
 use thiserror::Error;
 
@@ -47,6 +49,14 @@ pub struct Head {
     pub starts: Place,
 }
 
+/// Items in which quotations may be open.
+#[derive(Drop)]
+pub struct Items {
+    pub pieces: List<Piece>,
+    /// The number of quotations that are open.
+    pub depth: u32,
+}
+
 /// A form that isn't closed, with what was read of it.
 #[derive(Drop)]
 pub enum Part {
@@ -77,12 +87,38 @@ pub enum Part {
         outs: List<Token>,
     },
     /// A definition as far as some of its items.
-    Items {
+    Body {
         opens: Place,
         name: Token,
         effect: WrittenEffect,
-        items: List<Term>,
+        items: Items,
     },
+    /// A quotation at the top level as far as some of its items.
+    Quotation {
+        opens: Place,
+        items: Items,
+    },
+}
+
+/// A definition as far as its `;`.
+#[derive(Drop)]
+pub struct Definition {
+    pub opens: Place,
+    pub name: Token,
+    pub effect: WrittenEffect,
+    pub items: List<Piece>,
+    pub closes: Place,
+}
+
+/// What stands before a token.
+#[derive(Drop)]
+pub enum State {
+    /// Whole forms.
+    Top,
+    /// A definition that a mark may follow.
+    Behind(Definition),
+    /// A form that isn't closed.
+    Inside(Part),
 }
 
 /// What a token does.
@@ -92,6 +128,8 @@ pub enum Taken {
     Goes(Part),
     /// It ends a form.
     Ends(Form),
+    /// It is the `;` of a definition.
+    Completes(Definition),
 }
 
 // The one refusal.
@@ -114,10 +152,19 @@ fn take_at_top(alloc: Global, token: &Token) -> Result<Taken, ParseFault>
             names: List::new(alloc),
         })),
         Spelling::Colon => Ok(Taken::Goes(Part::Colon { opens: token.place })),
+        Spelling::OpensQuotation => Ok(Taken::Goes(Part::Quotation {
+            opens: token.place,
+            items: Items {
+                pieces: List::new(alloc),
+                depth: 0,
+            },
+        })),
         Spelling::Integer(value) => Ok(Taken::Ends(Form::Item(Term::Integer(
             token.copy(alloc)?,
             value,
         )))),
+        Spelling::True => Ok(Taken::Ends(Form::Item(Term::True(token.place)))),
+        Spelling::False => Ok(Taken::Ends(Form::Item(Term::False(token.place)))),
         Spelling::Name => Ok(Taken::Ends(Form::Item(Term::Name(token.copy(alloc)?)))),
         _ => Err(refused()),
     }
@@ -204,16 +251,6 @@ fn take_input(
     }
 }
 
-// Whether the only output is `*`.
-fn never_returns(outs: &[Token]) -> bool
-    ensures { result ≡ is_star outs.now }
-{
-    match outs {
-        [token] => is_asterisk(token),
-        _ => false,
-    }
-}
-
 // The most names of an effect.
 const MOST_NAMES: u64 = 64;
 
@@ -221,7 +258,7 @@ const MOST_NAMES: u64 = 64;
 fn fits(ins: &List<Token>, outs: &List<Token>) -> bool
     ensures { result ≡ is_fit ins.now outs.now }
 {
-    !never_returns(outs.as_slice()) && ins.len() as u64 + outs.len() as u64 <= MOST_NAMES
+    ins.len() as u64 + outs.len() as u64 <= MOST_NAMES
 }
 
 // Takes a token among the outputs of an effect.
@@ -256,7 +293,7 @@ fn take_output(
                     name,
                     starts,
                 } = head;
-                Ok(Taken::Goes(Part::Items {
+                Ok(Taken::Goes(Part::Body {
                     opens,
                     name,
                     effect: WrittenEffect {
@@ -266,7 +303,10 @@ fn take_output(
                         outs,
                         closes: token.place,
                     },
-                    items: List::new(alloc),
+                    items: Items {
+                        pieces: List::new(alloc),
+                        depth: 0,
+                    },
                 }))
             } else {
                 Err(refused())
@@ -276,44 +316,112 @@ fn take_output(
     }
 }
 
+// How deep quotations may nest.
+const MOST_LEVELS: u32 = 256;
+
+// Items with a piece more, behind which so many quotations are open.
+fn with(items: Items, piece: Piece, depth: u32) -> Result<Items, Memory>
+    ensures { IfOk result (λ more. more ≡ with_piece items piece depth) }
+{
+    let Items { mut pieces, .. } = items;
+    pieces.push(piece)?;
+    Ok(Items { pieces, depth })
+}
+
+// Takes a token of this spelling among items, where so many quotations may be open.
+fn take_piece(
+    alloc: Global,
+    most: u32,
+    items: Items,
+    spelling: Spelling,
+    token: &Token,
+) -> Result<Items, ParseFault>
+    ensures { AnswersItems (piece_step most items spelling token.now) result }
+{
+    let depth = items.depth;
+    match spelling {
+        Spelling::Integer(value) => {
+            let item = Term::Integer(token.copy(alloc)?, value);
+            Ok(with(items, Piece::Item(item), depth)?)
+        }
+        Spelling::Name => {
+            let item = Term::Name(token.copy(alloc)?);
+            Ok(with(items, Piece::Item(item), depth)?)
+        }
+        Spelling::True => Ok(with(items, Piece::Item(Term::True(token.place)), depth)?),
+        Spelling::False => Ok(with(items, Piece::Item(Term::False(token.place)), depth)?),
+        Spelling::OpensQuotation => {
+            if depth < most {
+                Ok(with(items, Piece::Opens(token.place), depth + 1)?)
+            } else {
+                Err(refused())
+            }
+        }
+        Spelling::ClosesQuotation => {
+            if 0 < depth {
+                Ok(with(items, Piece::Closes(token.place), depth - 1)?)
+            } else {
+                Err(refused())
+            }
+        }
+        _ => Err(refused()),
+    }
+}
+
 // Takes a token among the items of a definition.
-fn take_item(
+fn take_in_body(
     alloc: Global,
     opens: Place,
     name: Token,
     effect: WrittenEffect,
-    mut items: List<Term>,
+    items: Items,
     token: &Token,
 ) -> Result<Taken, ParseFault>
-    ensures { Answers (items_step opens name effect items (token_spelling token.now.kind) token.now) result }
+    ensures { Answers (body_step opens name effect items (token_spelling token.now.kind) token.now) result }
 {
-    match classify(&token.kind) {
-        Spelling::Integer(value) => {
-            items.push(Term::Integer(token.copy(alloc)?, value))?;
-            Ok(Taken::Goes(Part::Items {
-                opens,
-                name,
-                effect,
-                items,
-            }))
-        }
-        Spelling::Name => {
-            items.push(Term::Name(token.copy(alloc)?))?;
-            Ok(Taken::Goes(Part::Items {
-                opens,
-                name,
-                effect,
-                items,
-            }))
-        }
-        Spelling::Semi => Ok(Taken::Ends(Form::Define {
+    let spelling = classify(&token.kind);
+    if is_semicolon(spelling) && items.depth == 0 {
+        Ok(Taken::Completes(Definition {
             opens,
             name,
             effect,
-            items,
+            items: items.pieces,
             closes: token.place,
-        })),
-        _ => Err(refused()),
+        }))
+    } else {
+        match take_piece(alloc, MOST_LEVELS, items, spelling, token) {
+            Ok(items) => Ok(Taken::Goes(Part::Body {
+                opens,
+                name,
+                effect,
+                items,
+            })),
+            Err(fault) => Err(fault),
+        }
+    }
+}
+
+// Takes a token among the items of a quotation at the top level.
+fn take_in_quotation(
+    alloc: Global,
+    opens: Place,
+    items: Items,
+    token: &Token,
+) -> Result<Taken, ParseFault>
+    ensures { Answers (quotation_step opens items (token_spelling token.now.kind) token.now) result }
+{
+    let spelling = classify(&token.kind);
+    if closes_quotation(spelling) && items.depth == 0 {
+        Ok(Taken::Ends(Form::Quotation {
+            opens,
+            items: items.pieces,
+            closes: token.place,
+        }))
+    } else {
+        match take_piece(alloc, MOST_LEVELS - 1, items, spelling, token) {
+            Ok(items) => Ok(Taken::Goes(Part::Quotation { opens, items })),
+            Err(fault) => Err(fault),
+        }
     }
 }
 
@@ -332,41 +440,109 @@ fn take_inside(alloc: Global, part: Part, token: &Token) -> Result<Taken, ParseF
             dashes,
             outs,
         } => take_output(alloc, head, ins, dashes, outs, token),
-        Part::Items {
+        Part::Body {
             opens,
             name,
             effect,
             items,
-        } => take_item(alloc, opens, name, effect, items, token),
+        } => take_in_body(alloc, opens, name, effect, items, token),
+        Part::Quotation { opens, items } => take_in_quotation(alloc, opens, items, token),
     }
 }
 
-// What a token does.
-fn take(alloc: Global, part: Option<Part>, token: &Token) -> Result<Taken, ParseFault>
-    ensures { Answers (step part token.now) result }
+// The mark that a token is.
+fn mark(token: &Token) -> Option<Mark>
+    ensures { result ≡ mark_of (token_spelling token.now.kind) token.now.place }
 {
-    match part {
-        None => take_at_top(alloc, token),
-        Some(part) => take_inside(alloc, part, token),
+    match classify(&token.kind) {
+        Spelling::Inline => Some(Mark::Inline(token.place)),
+        Spelling::Recursive => Some(Mark::Recursive(token.place)),
+        _ => None,
     }
 }
 
-// Takes a token, and adds the form that it ends.
+// The form of a definition.
+fn defined(definition: Definition, mark: Option<Mark>) -> Form
+    ensures { result ≡ defined_form definition mark }
+{
+    let Definition {
+        opens,
+        name,
+        effect,
+        items,
+        closes,
+    } = definition;
+    Form::Define {
+        opens,
+        name,
+        effect,
+        items,
+        closes,
+        mark,
+    }
+}
+
+// Adds the form that a token ends.
+fn add(forms: &mut List<Form>, taken: Taken) -> Result<State, Memory>
+    ensures { IfOk result (λ next. (next_state taken ≡ next) × (forms.new ≡ forms.old ++ ended_form taken)) }
+{
+    match taken {
+        Taken::Goes(part) => Ok(State::Inside(part)),
+        Taken::Ends(form) => {
+            forms.push(form)?;
+            Ok(State::Top)
+        }
+        Taken::Completes(definition) => Ok(State::Behind(definition)),
+    }
+}
+
+// Takes a token outside of all forms, and adds the form that it ends.
+fn take_outside(alloc: Global, forms: &mut List<Form>, token: &Token) -> Result<State, ParseFault>
+    ensures { Takes [] (top_step (token_spelling token.now.kind) token.now) forms.old forms.new result }
+{
+    match take_at_top(alloc, token) {
+        Ok(taken) => Ok(add(forms, taken)?),
+        Err(fault) => Err(fault),
+    }
+}
+
+// Takes a token behind a definition, and adds the forms that end with it or before it.
+fn take_behind(
+    alloc: Global,
+    forms: &mut List<Form>,
+    definition: Definition,
+    token: &Token,
+) -> Result<State, ParseFault>
+    ensures { Takes (form_before (State.Behind definition) token.now) (step (State.Behind definition) token.now) forms.old forms.new result }
+{
+    match mark(token) {
+        Some(mark) => {
+            forms.push(defined(definition, Some(mark)))?;
+            Ok(State::Top)
+        }
+        None => {
+            forms.push(defined(definition, None))?;
+            take_outside(alloc, forms, token)
+        }
+    }
+}
+
+// Takes a token, and adds the forms that end with it or before it.
 fn take_token(
     alloc: Global,
     forms: &mut List<Form>,
-    part: Option<Part>,
+    state: State,
     token: &Token,
-) -> Result<Option<Part>, ParseFault>
-    ensures { Takes (step part token.now) forms.old forms.new result }
+) -> Result<State, ParseFault>
+    ensures { Takes (form_before state token.now) (step state token.now) forms.old forms.new result }
 {
-    match take(alloc, part, token) {
-        Ok(Taken::Goes(part)) => Ok(Some(part)),
-        Ok(Taken::Ends(form)) => {
-            forms.push(form)?;
-            Ok(None)
-        }
-        Err(fault) => Err(fault),
+    match state {
+        State::Top => take_outside(alloc, forms, token),
+        State::Behind(definition) => take_behind(alloc, forms, definition, token),
+        State::Inside(part) => match take_inside(alloc, part, token) {
+            Ok(taken) => Ok(add(forms, taken)?),
+            Err(fault) => Err(fault),
+        },
     }
 }
 
@@ -380,25 +556,32 @@ fn file(tokens: &[Token]) -> u32
     }
 }
 
-/// The tree of a file's tokens: any number of `USING: name* ;`, of `: name ( name* -- name* ) item* ;`, and of items.
-/// An item is a name or an integer. The names of an effect are at most 64, begin with no two dots and end in no colon, and its
-/// outputs aren't `*` alone. No tokens make the empty tree of file 0.
+/// The tree of a file's tokens: any number of `USING: name* ;`, of `: name ( name* -- name* ) item* ;` with `inline` or `recursive`
+/// behind it or neither, and of items. An item is a name, an integer, `t`, `f`, or a quotation `[ item* ]`. Quotations nest at most 256
+/// deep. The names of an effect are at most 64, begin with no two dots and end in no colon. No tokens make the empty tree of file 0.
 pub fn parse(alloc: Global, tokens: &List<Token>) -> Result<Tree, ParseFault>
     ensures { Parses tokens.now result }
 {
     let mut forms = List::new(alloc);
-    let mut part = None;
+    let mut state = State::Top;
     for token in tokens.as_slice() {
-        match take_token(alloc, &mut forms, part, token) {
-            Ok(next) => part = next,
+        match take_token(alloc, &mut forms, state, token) {
+            Ok(next) => state = next,
             Err(fault) => return Err(fault),
         }
     }
-    match part {
-        None => Ok(Tree {
+    match state {
+        State::Top => Ok(Tree {
             file: file(tokens.as_slice()),
             forms,
         }),
-        Some(_) => Err(refused()),
+        State::Behind(definition) => {
+            forms.push(defined(definition, None))?;
+            Ok(Tree {
+                file: file(tokens.as_slice()),
+                forms,
+            })
+        }
+        State::Inside(_) => Err(refused()),
     }
 }

@@ -1,20 +1,20 @@
 //! Names to words.
-ghost use Rattle.std.specs.Prelude.{◌≡◌, ◌++◌, ◌∷◌, [], IfOk, OnOk};
-ghost use Rattle.fac_lang.specs.Built.{IsBuilt};
+ghost use Rattle.std.specs.Prelude.{◌≡◌, ◌<◌, ◌-◌, ◌++◌, ◌∷◌, [], length, IfOk, OnOk};
+ghost use Rattle.fac_lang.specs.Forms.{IsBuilt};
 ghost use Rattle.fac_lang.specs.Whole.{IsWhole};
 ghost use Rattle.fac_parse.specs.OwnNames.{names_with};
 ghost use Rattle.fac_parse.specs.Resolution.{name_fault, defined_word, Resolves};
-ghost use Rattle.fac_parse.specs.Resolver.{Uses, TakesItem, ReadsText, Defines, TakesForm, IsFirst, ReadsForms, program_with};
-ghost use Rattle.fac_parse.specs.Trees.{IsWellFormed};
+ghost use Rattle.fac_parse.specs.Resolver.{Uses, TakesItem, Closes, IsClosable, TakesPiece, AreClosed, ReadsText, TakesQuotation, Defines, TakesForm, IsFirst, ReadsForms, program_with};
+ghost use Rattle.fac_parse.specs.Trees.{AreItems, most_levels, IsForm, IsWellFormed};
 
-use crate::built_words::{defined, find, phrase_word, primitives};
+use crate::built_words::{defined, find, first_words, phrase_word};
 use crate::own_names::OwnNames;
 use crate::spelling::text;
 use crate::text_set::TextSet;
 use crate::vocabularies::is_vocabulary;
 use fac_lang::{
-    Form, Item, List, Memory, Phrase, Place, Program, Term, Text, Token, Tree, What, WordDef,
-    WrittenEffect,
+    Form, Item, List, Mark, Memory, Phrase, Piece, Place, Program, Term, Text, Token, Tree, What,
+    WordDef, WrittenEffect,
 };
 use std::alloc::Global;
 use thiserror::Error;
@@ -77,7 +77,7 @@ struct SoFar {
     used: TextSet,
     // The names of the words that the file has defined.
     own: OwnNames,
-    // The primitive words, and those that the file has defined.
+    // The words that there are from the start, and those that the file has defined.
     words: List<WordDef>,
     // The items at the top level.
     items: Vec<Item>,
@@ -126,26 +126,113 @@ fn take_item(
             }
             None => Err(ResolveFault::Name(refusal(alloc, NameKind::Unknown, token)?)),
         },
+        Term::True(place) => {
+            add_item(items, What::True, *place)?;
+            Ok(())
+        }
+        Term::False(place) => {
+            add_item(items, What::False, *place)?;
+            Ok(())
+        }
     }
 }
 
-// The text of a word's items.
+// A quotation that is open.
+#[derive(Drop)]
+struct OpenQuotation {
+    // The items before it in the text around it.
+    before: Vec<Item>,
+    place: Place,
+}
+
+// Items as far as they were read.
+#[derive(Drop)]
+struct Nest {
+    // The quotations that are open, the outermost first.
+    outer: Vec<OpenQuotation>,
+    // The items in the innermost of them, or outside of all where none is open.
+    items: Vec<Item>,
+}
+
+// Opens a quotation.
+fn open_quotation(alloc: Global, nest: Nest, place: Place) -> Result<Nest, Memory>
+    ensures { IfOk result (λ more. (more.items.items ≡ []) × (more.outer.items ≡ nest.outer.items ++ (record { before = nest.items; place = place }) ∷ [])) }
+{
+    let Nest { mut outer, items } = nest;
+    outer.push(OpenQuotation {
+        before: items,
+        place,
+    })?;
+    Ok(Nest {
+        outer,
+        items: Vec::new(alloc),
+    })
+}
+
+// Closes the innermost quotation.
+fn close_quotation(nest: Nest) -> Result<Nest, Memory>
+    requires { 0 < length nest.outer.items }
+    ensures { IfOk result (λ more. Closes nest more) }
+{
+    let Nest {
+        mut outer,
+        items: inner,
+    } = nest;
+    match outer.pop() {
+        Some(OpenQuotation { before, place }) => {
+            let mut items = before;
+            add_item(&mut items, What::Quot(Phrase { items: inner }), place)?;
+            Ok(Nest { outer, items })
+        }
+        None => unreachable!(),
+    }
+}
+
+// Takes a piece of items.
+fn take_piece(
+    alloc: Global,
+    own: &OwnNames,
+    used: &TextSet,
+    nest: Nest,
+    piece: &Piece,
+) -> Result<Nest, ResolveFault>
+    requires { IsClosable (length nest.outer.items) piece.now }
+    ensures { TakesPiece (names_with own.now) used.now piece.now nest result }
+{
+    match piece {
+        Piece::Item(item) => {
+            let Nest { outer, mut items } = nest;
+            match take_item(alloc, own, used, &mut items, item) {
+                Ok(()) => Ok(Nest { outer, items }),
+                Err(fault) => Err(fault),
+            }
+        }
+        Piece::Opens(place) => Ok(open_quotation(alloc, nest, *place)?),
+        Piece::Closes(_) => Ok(close_quotation(nest)?),
+    }
+}
+
+// The text of items.
 fn body_of(
     alloc: Global,
     own: &OwnNames,
     used: &TextSet,
-    terms: &[Term],
+    pieces: &[Piece],
 ) -> Result<Phrase, ResolveFault>
-    ensures { ReadsText (names_with own.now) used.now terms.now result }
+    requires { AreClosed pieces.now }
+    ensures { ReadsText (names_with own.now) used.now pieces.now result }
 {
-    let mut items = Vec::new(alloc);
-    for item in terms {
-        match take_item(alloc, own, used, &mut items, item) {
-            Ok(()) => {}
+    let mut nest = Nest {
+        outer: Vec::new(alloc),
+        items: Vec::new(alloc),
+    };
+    for piece in pieces {
+        match take_piece(alloc, own, used, nest, piece) {
+            Ok(next) => nest = next,
             Err(fault) => return Err(fault),
         }
     }
-    Ok(Phrase { items })
+    Ok(Phrase { items: nest.items })
 }
 
 // Adds the word of a definition.
@@ -154,11 +241,12 @@ fn add_word(
     words: &mut List<WordDef>,
     name: &Token,
     effect: &WrittenEffect,
+    mark: Option<Mark>,
     body: Phrase,
 ) -> Result<(), Memory>
-    ensures { OnOk result (words.new ≡ words.old ++ defined_word name.now effect.now body ∷ []) }
+    ensures { OnOk result (words.new ≡ words.old ++ defined_word name.now effect.now mark body ∷ []) }
 {
-    let word = defined(alloc, name, effect, body)?;
+    let word = defined(alloc, name, effect, mark, body)?;
     words.push(word)?;
     Ok(())
 }
@@ -169,9 +257,11 @@ fn define(
     so_far: &mut SoFar,
     name: &Token,
     effect: &WrittenEffect,
-    items: &[Term],
+    items: &[Piece],
+    mark: Option<Mark>,
 ) -> Result<(), ResolveFault>
-    ensures { Defines so_far.old name.now effect.now items.now so_far.new result }
+    requires { AreItems most_levels items.now }
+    ensures { Defines so_far.old name.now effect.now items.now mark so_far.new result }
 {
     if so_far.own.contains(text(&name.kind)) {
         return Err(ResolveFault::Name(refusal(alloc, NameKind::Twice, name)?));
@@ -179,7 +269,28 @@ fn define(
     so_far.own.add(alloc, text(&name.kind))?;
     match body_of(alloc, &so_far.own, &so_far.used, items) {
         Ok(body) => {
-            add_word(alloc, &mut so_far.words, name, effect, body)?;
+            add_word(alloc, &mut so_far.words, name, effect, mark, body)?;
+            Ok(())
+        }
+        Err(fault) => Err(fault),
+    }
+}
+
+// Takes a quotation at the top level.
+fn take_quotation(
+    alloc: Global,
+    own: &OwnNames,
+    used: &TextSet,
+    items: &mut Vec<Item>,
+    place: Place,
+    pieces: &[Piece],
+) -> Result<(), ResolveFault>
+    requires { AreItems (most_levels - 1) pieces.now }
+    ensures { TakesQuotation (names_with own.now) used.now place pieces.now items.old.items items.new.items result }
+{
+    match body_of(alloc, own, used, pieces) {
+        Ok(body) => {
+            add_item(items, What::Quot(body), place)?;
             Ok(())
         }
         Err(fault) => Err(fault),
@@ -188,6 +299,7 @@ fn define(
 
 // Takes a form.
 fn take_form(alloc: Global, so_far: &mut SoFar, form: &Form) -> Result<(), ResolveFault>
+    requires { IsForm form.now }
     ensures { TakesForm so_far.old form.now so_far.new result }
 {
     match form {
@@ -196,9 +308,18 @@ fn take_form(alloc: Global, so_far: &mut SoFar, form: &Form) -> Result<(), Resol
             name,
             effect,
             items,
+            mark,
             ..
-        } => define(alloc, so_far, name, effect, items.as_slice()),
+        } => define(alloc, so_far, name, effect, items.as_slice(), *mark),
         Form::Item(item) => take_item(alloc, &so_far.own, &so_far.used, &mut so_far.items, item),
+        Form::Quotation { opens, items, .. } => take_quotation(
+            alloc,
+            &so_far.own,
+            &so_far.used,
+            &mut so_far.items,
+            *opens,
+            items.as_slice(),
+        ),
     }
 }
 
@@ -208,7 +329,7 @@ fn first(alloc: Global) -> Result<SoFar, Memory>
 {
     let mut used = TextSet::new(alloc);
     used.add(alloc, "syntax")?;
-    let words = primitives(alloc)?;
+    let words = first_words(alloc)?;
     Ok(SoFar {
         used,
         own: OwnNames::new(alloc),
@@ -219,6 +340,7 @@ fn first(alloc: Global) -> Result<SoFar, Memory>
 
 // What the forms of a file make.
 fn read_forms(alloc: Global, forms: &[Form]) -> Result<SoFar, ResolveFault>
+    requires { IsWellFormed forms.now }
     ensures { ReadsForms forms.now result }
 {
     let mut so_far = first(alloc)?;
@@ -248,6 +370,7 @@ fn with_phrase(alloc: Global, mut words: List<WordDef>, body: Phrase) -> Result<
 
 // The program of a file's forms.
 fn program_of(alloc: Global, forms: &[Form]) -> Result<Program, ResolveFault>
+    requires { IsWellFormed forms.now }
     ensures { Resolves forms.now result }
 {
     let so_far = read_forms(alloc, forms)?;
@@ -256,8 +379,8 @@ fn program_of(alloc: Global, forms: &[Form]) -> Result<Program, ResolveFault>
     Ok(program)
 }
 
-/// The program of a tree: the eight primitive words, numbered 0 to 7, then the words that the file defines in its order, numbered from 8 on,
-/// and as the last word the top-level phrase.
+/// The program of a tree: the primitive words that are built, numbered from 0 in the order of the primitives, then `call`, `dip` and
+/// `if`, then the words that the file defines in its order, numbered from 30 on, and as the last word the top-level phrase.
 /// A vocabulary of a `USING:` must exist. A word is known in its own text and behind it, and its name may be defined once in a file.
 /// A name must find a word: among those that the file has defined so far, or else in the first vocabulary used before it that holds the name.
 pub fn resolve(alloc: Global, tree: &Tree) -> Result<Program, ResolveFault>

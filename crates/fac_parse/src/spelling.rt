@@ -2,7 +2,7 @@
 ghost use Rattle.std.specs.Prelude.{◌≡◌, codes, nat_eq, not};
 ghost use Rattle.std.specs.List.{list_all};
 ghost use Rattle.std.specs.Str.{bytes_eq};
-ghost use Rattle.fac_parse.specs.Spellings.{is_reserved_sign, is_reserved_form, is_reserved_word, is_left_out, is_reserved, is_quiet, word_spelling, spelling_of, token_spelling, is_row_name, is_described_name, is_value_name};
+ghost use Rattle.fac_parse.specs.Spellings.{is_reserved_sign, is_reserved_form, is_reserved_word, is_left_out, is_reserved, is_quiet, word_spelling, spelling_of, token_spelling, is_semi, is_closing, is_row_name, is_described_name, is_value_name};
 ghost use Rattle.fac_parse.specs.Trees.{token_text};
 
 use crate::integers::{has_integer_form, literal};
@@ -23,6 +23,18 @@ pub enum Spelling {
     Closes,
     /// `--`
     Dashes,
+    /// `[`
+    OpensQuotation,
+    /// `]`
+    ClosesQuotation,
+    /// `t`
+    True,
+    /// `f`
+    False,
+    /// `inline`
+    Inline,
+    /// `recursive`
+    Recursive,
     /// Decimal digits without commas, in range.
     Integer(i128),
     Name,
@@ -170,6 +182,12 @@ fn spelled_word(text: &str) -> Spelling
         "(" => Spelling::Opens,
         ")" => Spelling::Closes,
         "--" => Spelling::Dashes,
+        "[" => Spelling::OpensQuotation,
+        "]" => Spelling::ClosesQuotation,
+        "t" => Spelling::True,
+        "f" => Spelling::False,
+        "inline" => Spelling::Inline,
+        "recursive" => Spelling::Recursive,
         _ => {
             if !reserved(text) && quiet(text) {
                 Spelling::Name
@@ -201,6 +219,26 @@ pub fn classify(kind: &TokKind) -> Spelling
     match kind {
         TokKind::Plain(text) => spelled(text.as_str()),
         TokKind::Str(_) => Spelling::Other,
+    }
+}
+
+/// Whether a token is `;`.
+pub fn is_semicolon(spelling: Spelling) -> bool
+    ensures { result ≡ is_semi spelling }
+{
+    match spelling {
+        Spelling::Semi => true,
+        _ => false,
+    }
+}
+
+/// Whether a token is `]`.
+pub fn closes_quotation(spelling: Spelling) -> bool
+    ensures { result ≡ is_closing spelling }
+{
+    match spelling {
+        Spelling::ClosesQuotation => true,
+        _ => false,
     }
 }
 

@@ -1,7 +1,7 @@
 use Rattle.std.proofs.Common.{arith, ◌≡◌, suc, [], ◌∷◌, drop, drop-cons, sym, ◌∙◌, ap}
 use Rattle.std.proofs.lemmas.Grind.{common_steps}
 use Rattle.fac_lang.specs.declared.tree.Form.{Form}
-use Rattle.fac_parse.proofs.ResolutionLemmas.{form_fails, forms_end}
+use Rattle.fac_parse.proofs.ResolutionLemmas.{form_at, form_fails, forms_end}
 use Rattle.fac_parse.proofs.resolver.read_forms.Goals as goal
 
 pub returns-in-Err : goal.returns-in-Err
@@ -16,3 +16,11 @@ pub returns : goal.returns
 returns c =
     let none : drop c.loop-form.form-index c.args.forms.now ≡ [] = grind (arith, common_steps) in
     forms_end c.args.forms.now c.loop-form.so_far c.loop-form.form-index c.loop-form.invariant none
+
+pub take_form-requires : goal.take_form-requires
+take_form-requires c =
+    let forms = c.args.forms.now in
+    let i = c.loop-form.form-index in
+    let f = c.form-item.result in
+    let next : drop i forms ≡ f ∷ drop (suc i) forms = drop-cons forms i f c.loop-form-test.true ∙ ap (λ (g : Form). g ∷ drop (suc i) forms) (sym c.form-item.is) in
+    form_at forms (drop (suc i) forms) f i c.requires next
