@@ -1,6 +1,6 @@
 -- The plain code of a closed program has built primitives alone.
-use Rattle.std.proofs.Common.{◌≡◌, ℕ, zero, suc, ◌+◌, List, [], ◌∷◌, ◌++◌, drop, Bool, true, false, ◌&&◌, Option, Some, None, refl, subst, sym, arith}
-use Rattle.std.specs.Prelude.{ℤ, nat_eq, slice_get}
+use Rattle.std.proofs.Common.{◌≡◌, ℕ, zero, suc, ◌+◌, List, [], ◌∷◌, ◌++◌, drop, Bool, true, false, ◌&&◌, refl, subst, sym, arith}
+use Rattle.std.specs.Prelude.{nat_eq, slice_get}
 use Rattle.fac_lang.specs.declared.phrase.Template.{Template}
 use Rattle.fac_lang.specs.declared.program.Program.{Program}
 use Rattle.fac_lang.specs.declared.program.WordDef.{WordDef}

@@ -1,5 +1,5 @@
 -- What a closed program has of its program.
-use Rattle.std.proofs.Common.{◌≡◌, ◌<◌, ℕ, zero, suc, ◌+◌, List, [], ◌∷◌, ◌++◌, length, drop, Option, Some, None, refl, ap, sym, subst, ◌∙◌, ◌⊎◌, inl, inr, arith}
+use Rattle.std.proofs.Common.{◌≡◌, ◌<◌, ℕ, zero, suc, ◌+◌, List, [], ◌∷◌, ◌++◌, length, drop, Some, refl, ap, sym, subst, ◌∙◌, ◌⊎◌, inl, inr, arith}
 use Rattle.std.proofs.lemmas.Bool.{ltb-true}
 use Rattle.std.specs.Prelude.{ℤ, slice_get}
 use Rattle.fac_lang.specs.declared.phrase.Place.{Place}
@@ -8,10 +8,10 @@ use Rattle.fac_lang.specs.declared.program.Program.{Program}
 use Rattle.fac_lang.specs.declared.program.WordDef.{WordDef}
 use Rattle.fac_lang.specs.declared.program.Sort.{Sort}
 use Rattle.fac_lang.specs.declared.program.Sort.TheVariants.{Prim as prim, Core as core, Body as body, Past as past, Itself as itself, Class as class, Isa as isa, Getter as getter, Setter as setter, Putter as putter, Generic as generic, Method as method}
-use Rattle.fac_lang.specs.Texts.{int, yes, no, Literal, Text, end, then, Item, lit, quot, word, made}
-use Rattle.fac_lang.specs.Forms.{IsBuilt, IsBuiltText, IsBuiltSort, AreBuiltWords, primitive_numbers, numbers_before}
-use Rattle.fac_locals.specs.Literals.{Quoted, behind, first_of_word, first_of_literal, literals_in, literals_at, sort_literals, word_literals, literals, literal_or, literal_numbered}
-use Rattle.fac_locals.specs.Closed.{ClosesText, ClosesSort, ClosesWord, CloseWords, ClosesLiteral, CloseLiterals}
+use Rattle.fac_lang.specs.Texts.{int, yes, no, Literal, Text, end, then, lit, quot, word, made}
+use Rattle.fac_lang.specs.Forms.{IsBuiltText, primitive_numbers, numbers_before}
+use Rattle.fac_locals.specs.Literals.{Quoted, behind, first_of_literal, literals_in, literals, literal_or, literal_numbered}
+use Rattle.fac_locals.specs.Closed.{ClosesText, ClosesSort, CloseWords, CloseLiterals}
 use Rattle.fac_emit.specs.Code.{quotations, first_template}
 use Rattle.fac_locals.proofs.Places.{literal_apart}
 

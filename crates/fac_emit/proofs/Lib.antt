@@ -9,3 +9,4 @@ pub mod Placed
 pub mod BuiltCode
 pub mod Carrying
 pub mod EmitLemmas
+pub mod ExamplesOfCode

@@ -1,22 +1,22 @@
 -- The plain code of a closed program stands for the texts of its program.
 use Rattle.std.proofs.Common.{◌≡◌, ◌<◌, ℕ, zero, suc, ◌+◌, List, [], ◌∷◌, ◌++◌, length, drop, Bool, true, false, Option, Some, None, refl, ap, sym, subst, ◌∙◌, arith, ◌⊎◌, inl, inr, append_assoc, length-append}
 use Rattle.std.proofs.lemmas.Bool.{ltb-true, ne_eqb}
-use Rattle.std.specs.Prelude.{ℤ, nat_eq, slice_get}
+use Rattle.std.specs.Prelude.{nat_eq, slice_get}
 use Rattle.fac_lang.specs.declared.phrase.Template.{Template}
 use Rattle.fac_lang.specs.declared.program.Program.{Program}
 use Rattle.fac_lang.specs.declared.program.WordDef.{WordDef}
 use Rattle.fac_lang.specs.declared.program.Sort.{Sort}
-use Rattle.fac_lang.specs.declared.program.Sort.TheVariants.{Prim as prim_sort, Core as core_sort, Body as body, Past as past, Itself as itself, Class as class, Isa as isa, Getter as getter, Setter as setter, Putter as putter, Generic as generic, Method as method}
-use Rattle.fac_lang.specs.Texts.{int, Literal, Text, end, then, Item, lit, quot, word, made}
+use Rattle.fac_lang.specs.declared.program.Sort.TheVariants.{Prim as prim_sort, Core as core_sort, Body as body, Past as past, Method as method}
+use Rattle.fac_lang.specs.Texts.{Literal, Text, quot, word}
 use Rattle.fac_lang.specs.Forms.{IsBuilt, IsBuiltText, IsBuiltSort, is_built_core, has_no_repeats}
 use Rattle.fac_lang.specs.Meaning.{sort_of, word_text, core_numbered}
-use Rattle.fac_locals.specs.Literals.{Quoted, first_of_word, first_of_literal, behind, literals_in, sort_literals, word_literals, literals, literal_or, literal_numbered}
-use Rattle.fac_locals.specs.Closed.{Closes, ClosesText, ClosesSort, ClosesWord, CloseWords, ClosesLiteral, CloseLiterals}
+use Rattle.fac_locals.specs.Literals.{Quoted, first_of_word, first_of_literal, literals_in, sort_literals, word_literals, literals, literal_or, literal_numbered}
+use Rattle.fac_locals.specs.Closed.{Closes, ClosesText, ClosesSort, CloseWords, CloseLiterals}
 use Rattle.fac_locals.proofs.ClosedPrograms.{HasBuiltText, HaveBuiltTexts, built_texts}
 use Rattle.fac_locals.proofs.Places.{literal_built}
 use Rattle.fac_locals.proofs.Lookups.{word_closed, template_closed, template_closed_none, templates_count}
 use Rattle.fac_code.specs.declared.image.Instr.{Instr}
-use Rattle.fac_code.specs.declared.image.Instr.TheVariants.{Halt, Int, True, False, Quot, Prim, Callw, Call, Dip, If, Ret}
+use Rattle.fac_code.specs.declared.image.Instr.TheVariants.{Halt, Int, True, False, Quot, Prim, Ret}
 use Rattle.fac_code.specs.declared.image.Action.TheVariants.{Code as code_action}
 use Rattle.fac_code.specs.declared.image.Image.{Image}
 use Rattle.fac_code.specs.declared.image.TemplateRow.{TemplateRow}
@@ -27,7 +27,7 @@ use Rattle.fac_emit.specs.View.{template_texts}
 use Rattle.fac_emit.specs.Code.{core_instr, sort_instr, word_instr, item_instr, text_code, quotations, first_template, templates_code, row_at, template_rows, last_instr, sort_action, sort_code, sort_rows, piece, code_from, words_from, templates_from, program_code, IsPlain}
 use Rattle.fac_emit.specs.Stands.{Translates, t_int, t_true, t_false, t_quot, t_prim, t_word, t_call, t_dip, t_if, Stands, s_end, s_item, Coded}
 use Rattle.fac_emit.proofs.LiteralWords.{in_a_word, is_listed}
-use Rattle.fac_emit.proofs.Closings.{drop_behind, get_at, Closing, c_end, c_int, c_true, c_false, c_word, c_quot, closing, same_primitives, Split, split, Forest, text_forest, first_number}
+use Rattle.fac_emit.proofs.Closings.{drop_behind, get_at, Closing, c_end, c_int, c_true, c_false, c_word, c_quot, closing, same_primitives, split, Forest, text_forest, first_number}
 use Rattle.fac_emit.proofs.BuiltWords.{word_below, sort_at, top_word, top_text, all_distinct}
 use Rattle.fac_emit.proofs.FirstWords.{first_with}
 

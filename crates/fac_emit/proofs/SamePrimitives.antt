@@ -3,14 +3,14 @@ use Rattle.std.proofs.Common.{◌≡◌, ℕ, zero, suc, List, [], ◌∷◌, �
 use Rattle.std.specs.Prelude.{ℤ, map, length, nat_le, nat_eq, slice_get}
 use Rattle.std.proofs.lemmas.Option.{slice_get-map}
 use Rattle.std.specs.Option.{option_map}
-use Rattle.fac_lang.specs.Texts.{Plain, int, yes, no, str, iota, wrd, arr, tup, Value, plain, fun}
-use Rattle.fac_lang.specs.World.{Object, array, tuple, World, ErrorName, not_integer, overflow, text_too_long, wrong_values}
+use Rattle.fac_lang.specs.Texts.{int, yes, no, str, iota, wrd, arr, tup, Value}
+use Rattle.fac_lang.specs.World.{Object, array, tuple, World, ErrorName, not_integer, overflow, text_too_long}
 use Rattle.fac_lang.specs.Printed.{Names, shown_object, shown, printed}
 use Rattle.fac_lang.specs.Primitives.{Shuffle, s_drop, s_dup, s_swap, s_over, s_pick, s_rot, s_unrot, s_nip, s_dupd, s_swapd, s_2drop, s_2dup, s_3drop, s_3dup, s_2over, s_2nip, moves, moved, Prim, shuffle, p_curry, p_compose, p_throw, p_not, p_and, p_or, p_choose, p_add, p_sub, p_mul, p_show, prim_numbered, prim_fn, Gives, gives, Fn, fn0, fn1, fn2, fn3, or_bad, want_integer, integer_or, seen_integer, seen_no, unless_bad, written, most_elements, give1, truth}
 use Rattle.fac_lang.specs.Forms.{is_member, built_primitives, is_built_primitive}
 use Rattle.fac_lang.specs.Meaning.{texts, seen}
 use Rattle.fac_prim.specs.Cells.{MValue, m_plain, m_fun, m_seen, cells}
-use Rattle.fac_emit.specs.View.{Templates, value_view, object_view, world_view, option_view, gives_view}
+use Rattle.fac_emit.specs.View.{Templates, value_view, values_view, object_view, world_view, option_view, gives_view}
 
 -- a property of each number of a list
 abbrev pub Each : (ℕ → Type 0) → List ℕ → Type 0
@@ -103,6 +103,10 @@ module _ (T : Templates) where
         ap (shown_object texts N (shown texts N l (world_view T w))) (slice_get-map (object_view T) w.objects a) ∙ object_same (shown texts N l (world_view T w)) (shown cells N l w) (shown_same l w) (slice_get w.objects a)
     shown_same (suc l) w (m_plain (tup a)) =
         ap (shown_object texts N (shown texts N l (world_view T w))) (slice_get-map (object_view T) w.objects a) ∙ object_same (shown texts N l (world_view T w)) (shown cells N l w) (shown_same l w) (slice_get w.objects a)
+
+    -- so the values of a stack have the printed forms of what they stand for
+    pub stack_printed : (w : World MValue) (vs : List MValue) → map (printed texts N (world_view T w)) (values_view T vs) ≡ map (printed cells N w) vs
+    stack_printed w vs = map_same V (printed texts N (world_view T w)) (printed cells N w) (shown_same 16 w) vs
 
   unless_same : (b : Bool) (e : ErrorName) (w : World MValue) (g : Gives Value) (f : Gives MValue) → g ≡ gives_view T f → unless_bad texts b e (world_view T w) g ≡ gives_view T (unless_bad cells b e w f)
   unless_same true e w g f h = h

@@ -1,9 +1,9 @@
 -- The machine follows the meaning, tick for tick.
-use Rattle.std.proofs.Common.{◌≡◌, ◌≢◌, ℕ, zero, suc, ◌+◌, ◌≤◌, List, [], ◌∷◌, ◌++◌, length, Bool, true, false, Option, Some, None, refl, ap, subst, ◌∙◌, arith}
+use Rattle.std.proofs.Common.{◌≡◌, ◌≢◌, ℕ, zero, suc, ◌+◌, ◌≤◌, List, [], ◌∷◌, length, Bool, true, false, Option, Some, None, refl, ap, subst, ◌∙◌, arith}
 use Rattle.std.specs.Prelude.{slice_get}
 use Rattle.fac_lang.specs.declared.phrase.Height.{Height}
 use Rattle.fac_lang.specs.declared.program.Program.{Program}
-use Rattle.fac_lang.specs.Texts.{int, yes, no, Text, end, then, Item, Value, Callable, text}
+use Rattle.fac_lang.specs.Texts.{int, yes, no, Text, end, then, Item, Value, Callable}
 use Rattle.fac_lang.specs.World.{World, State, Error, pile, push_each}
 use Rattle.fac_lang.specs.Primitives.{Prim, prim_numbered, prim_fn, Gives, gives, bad, Fn, fn0, fn1, fn2, fn3, seen_no}
 use Rattle.fac_lang.specs.Eval.{Result, Done, Failed, Spent, Stuck, then_do, Act, runs, run_callable, go_on, eval}

@@ -1,6 +1,6 @@
 //! The compiler: the pieces of the words are linked to an image.
 ghost use Rattle.std.specs.Prelude.{◌≡◌, ◌++◌, ◌∷◌, [], length, ℕ, Some, IfOk, OnOk, map, slice_get};
-ghost use Rattle.fac_lang.specs.declared.program.Program.{Program as Source};
+ghost use Rattle.fac_lang.specs.declared.program.Program.{Program};
 ghost use Rattle.fac_lang.specs.Forms.{IsBuilt};
 ghost use Rattle.fac_locals.specs.Closed.{Closes};
 ghost use Rattle.fac_emit.specs.Carries.{Carries, IsNeverStuck};
@@ -123,8 +123,8 @@ fn place(rows: &List<WordRow>, word: u32) -> u32
 /// is plain: the pieces of the words, one behind the other in their order, with a row for each template and each word; it starts at the
 /// top-level phrase. Want of memory is the one error.
 pub fn compile(alloc: Global, closed: &Closed) -> Result<Image, Memory>
-    requires { (P : Source) × Closes P closed.now.program closed.now.templates × IsBuilt P }
-    ensures carries { IfOk result (λ image. (P : Source) → Closes P closed.now.program closed.now.templates → IsBuilt P → IsNeverStuck P → Carries P image) }
+    requires { (P : Program) × Closes P closed.now.program closed.now.templates × IsBuilt P }
+    ensures carries { IfOk result (λ image. (P : Program) → Closes P closed.now.program closed.now.templates → IsBuilt P → IsNeverStuck P → Carries P image) }
     ensures plain { IfOk result (IsPlain closed.now.program closed.now.templates) }
 {
     let Parts {

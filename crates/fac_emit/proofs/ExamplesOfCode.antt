@@ -1,0 +1,65 @@
+-- Plain code, computed: that of a small program, and what the machine does with it.
+use Rattle.std.proofs.Common.{◌≡◌, ℕ, List, [], ◌∷◌, false, refl, Option, Some, None}
+use Rattle.std.specs.Prelude.{pos}
+use Rattle.fac_lang.specs.Signatures.{signature, no_inputs, never}
+use Rattle.fac_lang.specs.declared.phrase.Template.{Template}
+use Rattle.fac_lang.specs.declared.program.Program.{Program}
+use Rattle.fac_lang.specs.declared.program.WordDef.{WordDef}
+use Rattle.fac_lang.specs.declared.program.Sort.{Sort}
+use Rattle.fac_lang.specs.declared.program.Sort.TheVariants.{Prim as prim, Core as core, Body as body}
+use Rattle.fac_lang.specs.Texts.{int, Text, end, then, Item, lit, quot, word}
+use Rattle.fac_lang.specs.Primitives.{prim_numbered, prim_fn}
+use Rattle.fac_lang.specs.Meaning.{nowhere, names}
+use Rattle.fac_locals.specs.Numbering.{closed_words, words_templates}
+use Rattle.fac_code.specs.declared.image.Instr.TheVariants.{Halt, Int, Quot, Prim, Callw, Call, Dip, Ret}
+use Rattle.fac_code.specs.declared.image.Action.TheVariants.{Prim as prim_action, Core as core_action, Code as code_action}
+use Rattle.fac_code.specs.declared.image.Image.{Image}
+use Rattle.fac_prim.specs.Cells.{MValue, m_plain}
+use Rattle.fac_vm.specs.Machine.{End, done, steps, starting}
+use Rattle.fac_emit.specs.Code.{program_code, words_from, templates_from}
+
+abbrev items : List Item → Text
+items [] = end
+items (i ∷ is) = then i nowhere (items is)
+
+abbrev number : ℕ → Item
+number n = lit (int (pos n))
+
+abbrev named : Sort → WordDef
+named s = record { name = record { vocab = []; name = [] }; sort = s; effect = signature None no_inputs never; inline = false; recursive = false; place = nowhere }
+
+-- : w [ 2 ] [ [ 3 ] call + ] compose ;   1 w [ 4 ] dip call
+abbrev source : List WordDef
+source =
+    named (prim 26) ∷ named (core 0) ∷ named (core 1) ∷ named (prim 17) ∷ named (body (items (quot (items (number 2 ∷ [])) ∷ quot (items (quot (items (number 3 ∷ [])) ∷ word 1 ∷ word 0 ∷ [])) ∷ word 3 ∷ []))) ∷ named (body (items (number 1 ∷ word 4 ∷ quot (items (number 4 ∷ [])) ∷ word 2 ∷ word 1 ∷ []))) ∷ []
+
+abbrev closed : Program
+closed = record { words = closed_words 0 source; arrays = []; classes = []; top = 5 }
+
+abbrev templates : List Template
+templates = words_templates 0 source
+
+-- the word's text, its three quotations with the inner one last, the top-level phrase and its quotation
+pub code_is : program_code closed templates ≡ Quot 0 ∷ Quot 1 ∷ Prim 17 ∷ Ret ∷ Int (pos 2) ∷ Ret ∷ Quot 2 ∷ Call false ∷ Prim 26 ∷ Ret ∷ Int (pos 3) ∷ Ret ∷ Int (pos 1) ∷ Callw 4 false ∷ Quot 3 ∷ Dip ∷ Call false ∷ Halt ∷ Int (pos 4) ∷ Ret ∷ []
+code_is = refl
+
+pub template_rows_are :
+    templates_from closed.words templates 5 0 0 closed.words ≡ record { entry = 4; cells = []; holes = 0 } ∷ record { entry = 6; cells = []; holes = 0 } ∷ record { entry = 10; cells = []; holes = 0 } ∷ record { entry = 18; cells = []; holes = 0 } ∷ []
+template_rows_are = refl
+
+pub word_rows_are :
+    words_from closed.words templates 5 0 0 closed.words ≡ record { action = prim_action 26 } ∷ record { action = core_action 0 } ∷ record { action = core_action 1 } ∷ record { action = prim_action 17 } ∷ record { action = code_action 0 } ∷ record { action = code_action 12 } ∷ []
+word_rows_are = refl
+
+abbrev image : Image
+image = record { templates = templates_from closed.words templates 5 0 0 closed.words; words = words_from closed.words templates 5 0 0 closed.words; code = program_code closed templates; start = 12; built = refl }
+
+-- the stack and the ticks left where it is done
+abbrev ended : Option End → Option (List MValue × ℕ)
+ended (Some (done s n)) = Some (s.stack, n)
+ended _ = None
+
+-- 1 4 [ 2 [ 3 ] call + ] call, with the ticks of `w`, `dip` and what `compose` made
+pub ends_so : ended (steps image (names closed) 40 (starting image []) 20) ≡ Some (m_plain (int (pos 5)) ∷ m_plain (int (pos 4)) ∷ m_plain (int (pos 1)) ∷ [], 5)
+unfolding prim_fn prim_numbered
+ends_so = refl
