@@ -17,3 +17,7 @@ pub mod PrimitivesKeep
 pub mod AcceptedPrograms
 pub mod ExamplesOfSoundPrograms
 pub mod Promised
+pub mod NamedWords
+pub mod LeadingBack
+pub mod EdgesOfWords
+pub mod UndeclaredWords

@@ -8,3 +8,4 @@ pub mod Verdicts
 pub mod CallableEffects
 pub mod Standing
 pub mod Promises
+pub mod UndeclaredRecursion

@@ -5,6 +5,7 @@
 mod accepted;
 mod checker;
 mod laws;
+mod recursion;
 
 pub use accepted::Checked;
 pub use checker::{CheckFault, Refusal, Rule, accept, check, first_refusal};

@@ -1,5 +1,5 @@
 -- Each literal of a program has a place of its own: in reading order places grow.
-use Rattle.std.proofs.Common.{◌≡◌, ◌<◌, ◌≤◌, ◌⊎◌, inl, inr, ℕ, zero, suc, ◌+◌, List, [], ◌∷◌, ◌++◌, length, Option, Some, None, refl, sym, ap, ◌∙◌, arith}
+use Rattle.std.proofs.Common.{◌≡◌, ◌<◌, ◌≤◌, inl, inr, ℕ, zero, suc, ◌+◌, List, [], ◌∷◌, ◌++◌, length, Option, Some, None, refl, sym, ap, ◌∙◌, arith}
 use Rattle.std.specs.Prelude.{slice_get}
 use Rattle.fac_lang.specs.Texts.{Literal, Text, end, then, Item, lit, lit_arr, quot, word, bind, local, fry, hole, call_eff, exec_eff, next_method, made, next_after, held, known}
 use Rattle.fac_lang.specs.Substitution.{of_method}
@@ -8,19 +8,16 @@ use Rattle.fac_lang.specs.declared.program.WordDef.{WordDef}
 use Rattle.fac_lang.specs.declared.program.Sort.{Sort}
 use Rattle.fac_lang.specs.declared.program.Sort.TheVariants.{Prim as prim, Core as core, Body as body, Past as past, Itself as itself, Class as class, Isa as isa, Getter as getter, Setter as setter, Putter as putter, Generic as generic, Method as method}
 use Rattle.fac_lang.specs.Forms.{IsBuilt, IsBuiltText, IsBuiltItem}
-use Rattle.fac_locals.specs.Literals.{Quoted, items_in, first_of_word, first_of_literal, behind, literals_in, literals_at, sort_literals, word_literals, literals, literal_or, literal_numbered}
+use Rattle.fac_locals.specs.Literals.{NotBefore, Quoted, items_in, first_of_word, first_of_literal, behind, literals_in, literals_at, sort_literals, word_literals, literals, literal_or, literal_numbered}
 use Rattle.fac_locals.proofs.ClosedPrograms.{HasBuiltText, HaveBuiltTexts, built_texts}
-
--- a place is at another one or behind it
-abbrev pub NotBefore : Literal → Literal → Type 0
-NotBefore a b = (a.word < b.word) ⊎ ((a.word ≡ b.word) × (a.index ≤ b.index))
 
 -- places of literals grow from one place on, and all stand before another
 abbrev pub Between : Literal → Literal → List Quoted → Type 0
 Between a b [] = NotBefore a b
 Between a b (l ∷ ls) = NotBefore a l.0 × Between (first_of_literal l.0) b ls
 
-not_before : (a b c : Literal) → NotBefore a b → NotBefore b c → NotBefore a c
+-- the order of places is transitive
+pub not_before : (a b c : Literal) → NotBefore a b → NotBefore b c → NotBefore a c
 not_before a b c (inl p) (inl q) = inl (omega arith)
 not_before a b c (inl p) (inr q) = inl (omega (arith, q.0))
 not_before a b c (inr p) (inl q) = inl (omega (arith, p.0))
@@ -141,6 +138,48 @@ apart_or P j k None None o p e = ap (λ (l : Literal). l.index) e
 -- no two numbers of templates name the same literal
 pub literal_apart : (P : Program) (j k : ℕ) → (literal_numbered P j).0 ≡ (literal_numbered P k).0 → j ≡ k
 literal_apart P j k e = apart_or P j k (slice_get (literals P) j) (slice_get (literals P) k) refl refl e
+
+grows : (a b : Literal) (ls : List Quoted) (j k : ℕ) (l m : Quoted) → Between a b ls → slice_get ls k ≡ Some l → slice_get ls j ≡ Some m → NotBefore (first_of_literal l.0) m.0 → k < j
+grows a b [] j k l m h p q e = absurd cc
+grows a b (x ∷ ls) zero zero l m h p q e =
+    let same : m ≡ l = cc in
+    absurd (not_behind_itself l.0 m.0 e (sym (ap (λ (y : Quoted). y.0) same)))
+grows a b (x ∷ ls) zero (suc k) l m h p q e =
+    let same : x ≡ m = cc in
+    let behind_x = not_earlier (first_of_literal x.0) b ls k l h.1 p in
+    let behind_l : NotBefore l.0 m.0 = not_before l.0 (first_of_literal l.0) m.0 (inr (refl, omega arith)) e in
+    absurd (not_behind_itself x.0 m.0 (not_before (first_of_literal x.0) l.0 m.0 behind_x behind_l) (ap (λ (y : Quoted). y.0) same))
+grows a b (x ∷ ls) (suc j) zero l m h p q e = omega arith
+grows a b (x ∷ ls) (suc j) (suc k) l m h p q e =
+    let more = grows (first_of_literal x.0) b ls j k l m h.1 p q e in
+    omega (arith, more)
+
+some_before_none : {A : Type 0} (xs : List A) (j k : ℕ) (x : A) → slice_get xs k ≡ Some x → slice_get xs j ≡ None → k < j
+some_before_none [] j k x p q = absurd cc
+some_before_none (y ∷ xs) zero k x p q = absurd cc
+some_before_none (y ∷ xs) (suc j) zero x p q = omega arith
+some_before_none (y ∷ xs) (suc j) (suc k) x p q =
+    let more = some_before_none xs j k x p q in
+    omega (arith, more)
+
+beyond : (n k : ℕ) (m : Literal) → NotBefore (first_of_literal m) (first_of_word n) → NotBefore (first_of_literal (record { word = n; index = k })) m → ⊥
+beyond n k m (inl p) (inl q) = omega (arith, p, q)
+beyond n k m (inl p) (inr q) = omega (arith, p, q.0)
+beyond n k m (inr p) q = omega (arith, p.1)
+
+last_numbers : (n j k : ℕ) → NotBefore (first_of_literal (record { word = n; index = k })) (record { word = n; index = j }) → k < j
+last_numbers n j k (inl p) = absurd (omega (arith, p))
+last_numbers n j k (inr p) = omega (arith, p.1)
+
+grows_or : (P : Program) (j k : ℕ) (o p : Option Quoted) → slice_get (literals P) k ≡ o → slice_get (literals P) j ≡ p → NotBefore (first_of_literal (literal_or P k o).0) (literal_or P j p).0 → k < j
+grows_or P j k (Some l) (Some m) o p e = grows (first_of_word 0) (first_of_word (length P.words)) (literals P) j k l m (program_between P) o p e
+grows_or P j k (Some l) None o p e = some_before_none (literals P) j k l o p
+grows_or P j k None (Some m) o p e = absurd (beyond (length P.words) k m.0 (earlier (first_of_word 0) (first_of_word (length P.words)) (literals P) j m (program_between P) p) e)
+grows_or P j k None None o p e = last_numbers (length P.words) j k e
+
+-- numbers grow as places do
+pub literal_behind : (P : Program) (j k : ℕ) → NotBefore (first_of_literal (literal_numbered P k).0) (literal_numbered P j).0 → k < j
+literal_behind P j k e = grows_or P j k (slice_get (literals P) k) (slice_get (literals P) j) refl refl e
 
 -- each of these literals has a text of the built forms
 abbrev AreBuiltLiterals : ℕ → List Quoted → Type 0

@@ -1,5 +1,5 @@
 -- The literal quotations of a program: which literal each is, and the texts that they have.
-use Rattle.std.specs.Prelude.{ℕ, suc, ◌+◌, List, [], ◌∷◌, ◌++◌, length, Option, Some, None, slice_get}
+use Rattle.std.specs.Prelude.{◌≡◌, ◌<◌, ◌≤◌, ◌⊎◌, ℕ, suc, ◌+◌, List, [], ◌∷◌, ◌++◌, length, Option, Some, None, slice_get}
 use Rattle.fac_lang.specs.Texts.{Literal, Text, end, then, Item, quot, fry}
 use Rattle.fac_lang.specs.Substitution.{of_method}
 use Rattle.fac_lang.specs.declared.program.Program.{Program}
@@ -31,6 +31,10 @@ first_of_literal l = record { word = l.word; index = suc l.index }
 -- the item behind one that stands here
 abbrev pub behind : Literal → Item → Literal
 behind l i = record { word = l.word; index = suc (l.index + items_inside i) }
+
+-- a place is at another one or behind it
+abbrev pub NotBefore : Literal → Literal → Type 0
+NotBefore a b = (a.word < b.word) ⊎ ((a.word ≡ b.word) × (a.index ≤ b.index))
 
 -- A literal of a program, and its text.
 abbrev pub Quoted : Type 0

@@ -1,0 +1,216 @@
+-- The words that a text names are those that its closed form names.
+use Rattle.std.proofs.Common.{◌≡◌, ◌<◌, ◌≤◌, ℕ, zero, suc, ◌+◌, List, [], ◌∷◌, ◌++◌, length, Bool, true, false, Option, Some, None, refl, sym, ap, ◌∙◌, append_assoc, subst, inr, arith}
+use Rattle.std.specs.Prelude.{slice_get, Result, Ok, Err, OnOk}
+use Rattle.std.proofs.lemmas.List.{append-nil}
+use Rattle.fac_lang.specs.Texts.{Plain, int, yes, no, str, iota, wrd, arr, tup, Literal, Text, end, then, Item, lit, lit_arr, quot, word, bind, local, fry, hole, call_eff, exec_eff, next_method, made, next_after, held, known}
+use Rattle.fac_lang.specs.declared.phrase.Place.{Place}
+use Rattle.fac_lang.specs.declared.phrase.Template.{Template}
+use Rattle.fac_lang.specs.declared.program.Program.{Program}
+use Rattle.fac_lang.specs.declared.program.WordDef.{WordDef}
+use Rattle.fac_lang.specs.declared.program.Sort.{Sort}
+use Rattle.fac_lang.specs.declared.program.Sort.TheVariants.{Prim as prim, Core as core, Body as body, Past as past, Itself as itself, Class as class, Isa as isa, Getter as getter, Setter as setter, Putter as putter, Generic as generic, Method as method}
+use Rattle.fac_locals.specs.Literals.{Quoted, behind, first_of_literal, literal_or, literal_numbered}
+use Rattle.fac_locals.specs.Closed.{Closes, ClosesSort, ClosesText, ClosesItem}
+use Rattle.fac_locals.proofs.Places.{not_before, literal_behind}
+use Rattle.fac_locals.proofs.Lookups.{word_closed, word_closed_none, template_closed, template_closed_none}
+use Rattle.fac_check.specs.Verdicts.{inline_body, inline_words, item_words}
+use Rattle.fac_check.specs.UndeclaredRecursion.{named_word, made_template, inline_text, one_if, inline_word, NumbersFrom, NamesLeft, AddsNames, AddsItemNames, AddsMadeNames}
+
+inline_sort : (w : ℕ) (b : Bool) (s : Sort) → one_if (inline_text b s) w ≡ elim s [ body t ↦ elim b [ true ↦ w ∷ [] | false ↦ [] ] | _ ↦ [] ]
+inline_sort w true (body t) = refl
+inline_sort w false (body t) = refl
+inline_sort w b (prim k) = refl
+inline_sort w b (core k) = refl
+inline_sort w b (past t) = refl
+inline_sort w b itself = refl
+inline_sort w b (class k) = refl
+inline_sort w b (isa k) = refl
+inline_sort w b (getter x) = refl
+inline_sort w b (setter x) = refl
+inline_sort w b (putter x) = refl
+inline_sort w b generic = refl
+inline_sort w b (method c g t) = refl
+
+pub inline_same : (P : Program) (w : ℕ) (o : Option WordDef) → inline_word w o ≡ inline_body P w o
+inline_same P w None = refl
+inline_same P w (Some d) = inline_sort w d.inline d.sort
+
+closes_inline : (P : Program) (w : ℕ) (b : Bool) (s c : Sort) → ClosesSort P w s c → inline_text b c ≡ inline_text b s
+closes_inline P w b (body t) c h = ap (inline_text b) h.1
+closes_inline P w b (past t) c h = ap (inline_text b) h.1
+closes_inline P w b (method n g t) c h = ap (inline_text b) h.1
+closes_inline P w b (prim k) c h = ap (inline_text b) h
+closes_inline P w b (core k) c h = ap (inline_text b) h
+closes_inline P w b itself c h = ap (inline_text b) h
+closes_inline P w b (class k) c h = ap (inline_text b) h
+closes_inline P w b (isa k) c h = ap (inline_text b) h
+closes_inline P w b (getter x) c h = ap (inline_text b) h
+closes_inline P w b (setter x) c h = ap (inline_text b) h
+closes_inline P w b (putter x) c h = ap (inline_text b) h
+closes_inline P w b generic c h = ap (inline_text b) h
+
+inline_closed_at : (P C : Program) (ts : List Template) (h : Closes P C ts) (w : ℕ) (o : Option WordDef) → slice_get P.words w ≡ o → inline_word w (slice_get C.words w) ≡ inline_word w o
+inline_closed_at P C ts h w None e = ap (inline_word w) (word_closed_none P C ts h w e)
+inline_closed_at P C ts h w (Some d) e =
+    let found = word_closed P C ts h w d e in
+    ap (inline_word w) found.at ∙ ap (λ (b : Bool). one_if b w) (ap (λ (b : Bool). inline_text b found.closed.sort) found.closes.inline ∙ closes_inline P w d.inline d.sort found.closed.sort found.closes.sort)
+
+-- a closed program has the inline words of the program
+pub inline_closed : (P C : Program) (ts : List Template) → Closes P C ts → (w : ℕ) → inline_word w (slice_get C.words w) ≡ inline_body P w (slice_get P.words w)
+inline_closed P C ts h w = inline_closed_at P C ts h w (slice_get P.words w) refl ∙ inline_same P w (slice_get P.words w)
+
+lit_named : (P : Program) (p : Plain) (n : ℕ) → named_word (lit p) ≡ Some n → item_words P (lit p) ≡ inline_body P n (slice_get P.words n)
+lit_named P (wrd w) n e = let same : w ≡ n = cc in ap (λ (v : ℕ). inline_body P v (slice_get P.words v)) same
+lit_named P (int z) n e = absurd cc
+lit_named P yes n e = absurd cc
+lit_named P no n e = absurd cc
+lit_named P (str s) n e = absurd cc
+lit_named P (iota k) n e = absurd cc
+lit_named P (arr k) n e = absurd cc
+lit_named P (tup k) n e = absurd cc
+
+lit_unnamed : (P : Program) (p : Plain) → named_word (lit p) ≡ None → item_words P (lit p) ≡ []
+lit_unnamed P (wrd w) e = absurd cc
+lit_unnamed P (int z) e = refl
+lit_unnamed P yes e = refl
+lit_unnamed P no e = refl
+lit_unnamed P (str s) e = refl
+lit_unnamed P (iota k) e = refl
+lit_unnamed P (arr k) e = refl
+lit_unnamed P (tup k) e = refl
+
+clash : {A : Type 0} (n : ℕ) → None ≡ Some n → A
+clash n e = absurd cc
+
+-- a closed item that names a word
+named_item : (P : Program) (at : Literal) (i j : Item) (n : ℕ) → ClosesItem P at i j → named_word j ≡ Some n → item_words P i ≡ inline_body P n (slice_get P.words n)
+named_item P at (word w) j n h e =
+    let here : Some w ≡ Some n = sym (ap named_word h) ∙ e in
+    let same : w ≡ n = cc in
+    ap (λ (v : ℕ). inline_body P v (slice_get P.words v)) same
+named_item P at (lit p) j n h e = lit_named P p n (sym (ap named_word h) ∙ e)
+named_item P at (quot t) j n h e = clash n (sym (ap named_word h.1) ∙ e)
+named_item P at (lit_arr a) j n h e = clash n (sym (ap named_word h) ∙ e)
+named_item P at (call_eff f) j n h e = clash n (sym (ap named_word h) ∙ e)
+named_item P at (exec_eff f) j n h e = clash n (sym (ap named_word h) ∙ e)
+named_item P at next_method j n h e = clash n (sym (ap named_word h) ∙ e)
+named_item P at (next_after m) j n h e = clash n (sym (ap named_word h) ∙ e)
+named_item P at (bind x) j n h e = absurd h
+named_item P at (local x) j n h e = absurd h
+named_item P at (fry t k) j n h e = absurd h
+named_item P at (hole k) j n h e = absurd h
+named_item P at (made k) j n h e = absurd h
+named_item P at (held v) j n h e = absurd h
+named_item P at (known m) j n h e = absurd h
+
+-- one that names neither a word nor a template
+unnamed_item : (P : Program) (at : Literal) (i j : Item) → ClosesItem P at i j → named_word j ≡ None → made_template j ≡ None → item_words P i ≡ []
+unnamed_item P at (word w) j h e m = clash w (sym (sym (ap named_word h) ∙ e))
+unnamed_item P at (lit p) j h e m = lit_unnamed P p (sym (ap named_word h) ∙ e)
+unnamed_item P at (quot t) j h e m = clash h.0 (sym (sym (ap made_template h.1) ∙ m))
+unnamed_item P at (lit_arr a) j h e m = refl
+unnamed_item P at (call_eff f) j h e m = refl
+unnamed_item P at (exec_eff f) j h e m = refl
+unnamed_item P at next_method j h e m = refl
+unnamed_item P at (next_after k) j h e m = refl
+unnamed_item P at (bind x) j h e m = absurd h
+unnamed_item P at (local x) j h e m = absurd h
+unnamed_item P at (fry t k) j h e m = absurd h
+unnamed_item P at (hole k) j h e m = absurd h
+unnamed_item P at (made k) j h e m = absurd h
+unnamed_item P at (held v) j h e m = absurd h
+unnamed_item P at (known k) j h e m = absurd h
+
+-- one that names a template
+made_item : (P : Program) (at : Literal) (i j : Item) (k : ℕ) → ClosesItem P at i j → made_template j ≡ Some k → (at ≡ (literal_numbered P k).0) × (item_words P i ≡ inline_words P (literal_numbered P k).1)
+made_item P at (quot t) j k h e =
+    let here : Some h.0 ≡ Some k = sym (ap made_template h.1) ∙ e in
+    let same : h.0 ≡ k = cc in
+    let is = subst (λ (n : ℕ). literal_numbered P n ≡ (at, t)) same h.2 in
+    (sym (ap (λ (l : Quoted). l.0) is), sym (ap (λ (l : Quoted). inline_words P l.1) is))
+made_item P at (lit p) j k h e = clash k (sym (ap made_template h) ∙ e)
+made_item P at (word w) j k h e = clash k (sym (ap made_template h) ∙ e)
+made_item P at (lit_arr a) j k h e = clash k (sym (ap made_template h) ∙ e)
+made_item P at (call_eff f) j k h e = clash k (sym (ap made_template h) ∙ e)
+made_item P at (exec_eff f) j k h e = clash k (sym (ap made_template h) ∙ e)
+made_item P at next_method j k h e = clash k (sym (ap made_template h) ∙ e)
+made_item P at (next_after m) j k h e = clash k (sym (ap made_template h) ∙ e)
+made_item P at (bind x) j k h e = absurd h
+made_item P at (local x) j k h e = absurd h
+made_item P at (fry t n) j k h e = absurd h
+made_item P at (hole n) j k h e = absurd h
+made_item P at (made n) j k h e = absurd h
+made_item P at (held v) j k h e = absurd h
+made_item P at (known m) j k h e = absurd h
+
+-- an item that names a template adds the names of its text
+pub adds_made : (C : Program) (ts : List Template) (from k : ℕ) (j : Item) (before after : List ℕ) → made_template j ≡ Some k → AddsMadeNames C ts from k before after → AddsItemNames C ts from j before after
+adds_made C ts from k j before after is adds =
+    λ P h at i closes numbers. let found = made_item P at i j k closes is in adds P h at found.0 numbers ∙ ap (λ (vs : List ℕ). before ++ vs) (sym found.1)
+
+-- one that names a word adds it
+pub adds_named : (C : Program) (ts : List Template) (from n : ℕ) (j : Item) (before after : List ℕ) → named_word j ≡ Some n → after ≡ before ++ inline_word n (slice_get C.words n) → AddsItemNames C ts from j before after
+adds_named C ts from n j before after is adds =
+    λ P h at i closes numbers. adds ∙ ap (λ (vs : List ℕ). before ++ vs) (inline_closed P C ts h n ∙ sym (named_item P at i j n closes is))
+
+-- others add nothing
+pub adds_none : (C : Program) (ts : List Template) (from : ℕ) (j : Item) (before : List ℕ) → named_word j ≡ None → made_template j ≡ None → AddsItemNames C ts from j before before
+adds_none C ts from j before is made_is = λ P h at i closes numbers. sym (ap (λ (vs : List ℕ). before ++ vs) (unnamed_item P at i j closes is made_is) ∙ append-nil before)
+
+-- a template has no lower number than those of the text around it
+pub adds_earlier : (C : Program) (ts : List Template) (from k : ℕ) (before after : List ℕ) → k < from → AddsMadeNames C ts from k before after
+adds_earlier C ts from k before after lt =
+    λ P h at is numbers. let le : from ≤ k = numbers k (inr (ap (λ (l : Literal). l.word) is, omega (arith, ap (λ (l : Literal). l.index) is))) in absurd (omega (arith, le, lt))
+
+-- a number without a template has no text
+pub adds_nothing : (C : Program) (ts : List Template) (from k : ℕ) (before : List ℕ) → slice_get ts k ≡ None → AddsMadeNames C ts from k before before
+adds_nothing C ts from k before none = λ P h at is numbers. sym (ap (λ (o : Option Quoted). before ++ inline_words P (literal_or P k o).1) (template_closed_none P C ts h k none) ∙ append-nil before)
+
+-- the text of a template adds its names
+pub adds_template : (C : Program) (ts : List Template) (from k : ℕ) (t : Template) (before after : List ℕ) → slice_get ts k ≡ Some t → AddsNames C ts (k + 1) t.body before after → AddsMadeNames C ts from k before after
+adds_template C ts from k t before after is adds =
+    λ P h at here numbers. adds P h (first_of_literal (literal_numbered P k).0) (literal_numbered P k).1 (template_closed P C ts h k t is).body (λ j e. let lt = literal_behind P j k e in omega (arith, lt))
+
+-- a text before its first item
+pub names_begin : (P : Program) (from : ℕ) (at : Literal) (t left : Text) (named : List ℕ) → ClosesText P at t left → NumbersFrom P at from → NamesLeft P from left (named ++ inline_words P t) named
+names_begin P from at t left named closes numbers = record { at = at; text = t; closes = closes; numbers = numbers; so_far = refl }
+
+step_text : (P : Program) (C : Program) (ts : List Template) (h : Closes P C ts) (from : ℕ) (at : Literal) (t : Text) (j : Item) (p : Place) (s : Text) (whole before after : List ℕ) → ClosesText P at t (then j p s) → NumbersFrom P at from → whole ≡ before ++ inline_words P t → AddsItemNames C ts from j before after → NamesLeft P from s whole after
+step_text P C ts h from at end j p s whole before after closes numbers so_far adds = absurd cc
+step_text P C ts h from at (then i q t) j p s whole before after closes numbers so_far adds =
+    let same_item : closes.0 ≡ j = cc in
+    let same_text : closes.1 ≡ s = cc in
+    let item_closes = subst (λ (x : Item). ClosesItem P at i x) same_item closes.3 in
+    record {
+      at = behind at i;
+      text = t;
+      closes = subst (λ (x : Text). ClosesText P (behind at i) t x) same_text closes.4;
+      numbers = λ k e. numbers k (not_before at (behind at i) (literal_numbered P k).0 (inr (refl, omega arith)) e);
+      so_far = so_far ∙ sym (append_assoc before (item_words P i) (inline_words P t)) ∙ ap (λ (vs : List ℕ). vs ++ inline_words P t) (sym (adds P h at i item_closes numbers));
+    }
+
+-- one item further
+pub names_step : (P : Program) (C : Program) (ts : List Template) (h : Closes P C ts) (from : ℕ) (left : Text) (j : Item) (p : Place) (s : Text) (whole before after : List ℕ) → NamesLeft P from left whole before → left ≡ then j p s → AddsItemNames C ts from j before after → NamesLeft P from s whole after
+names_step P C ts h from left j p s whole before after names is adds =
+    step_text P C ts h from names.at names.text j p s whole before after (subst (λ (x : Text). ClosesText P names.at names.text x) is names.closes) names.numbers names.so_far adds
+
+last_text : (P : Program) (at : Literal) (t : Text) (whole named : List ℕ) → ClosesText P at t end → whole ≡ named ++ inline_words P t → named ≡ whole
+last_text P at end whole named closes so_far = sym (so_far ∙ append-nil named)
+last_text P at (then i q t) whole named closes so_far = absurd cc
+
+-- behind the last item
+pub names_end : (P : Program) (from : ℕ) (left : Text) (whole named : List ℕ) → NamesLeft P from left whole named → left ≡ end → named ≡ whole
+names_end P from left whole named names is = last_text P names.at names.text whole named (subst (λ (x : Text). ClosesText P names.at names.text x) is names.closes) names.so_far
+
+-- what follows from a call's fact
+pub on_ok : {T E A B : Type 0} (r : Result T E) → (A → B) → OnOk r A → OnOk r B
+on_ok (Ok x) f h = f h
+on_ok (Err x) f h = tt
+
+-- an element has a number below the length
+pub number_below : {A : Type 0} (xs : List A) (k : ℕ) (x : A) → slice_get xs k ≡ Some x → k < length xs
+number_below [] k x e = absurd cc
+number_below (y ∷ xs) zero x e = omega arith
+number_below (y ∷ xs) (suc k) x e =
+    let lt = number_below xs k x e in
+    omega (arith, lt)

@@ -1,0 +1,297 @@
+-- A word leads back to itself by the words that each word leads to exactly where it does so in the program.
+use Rattle.std.proofs.Common.{◌≡◌, ◌<◌, ◌⊎◌, inl, inr, ℕ, zero, suc, ◌+◌, List, [], ◌∷◌, length, Bool, true, false, Option, Some, None, refl, sym, ap, ◌∙◌, subst, arith}
+use Rattle.std.specs.Prelude.{slice_get, nat_eq, ◌&&◌}
+use Rattle.fac_lang.specs.Texts.{Plain, int, yes, no, str, iota, wrd, arr, tup, Text, end, then, Item, lit, lit_arr, quot, word, bind, local, fry, hole, call_eff, exec_eff, next_method, made, next_after, held, known}
+use Rattle.fac_lang.specs.declared.phrase.Template.{Template}
+use Rattle.fac_lang.specs.declared.program.Program.{Program}
+use Rattle.fac_lang.specs.declared.program.WordDef.{WordDef}
+use Rattle.fac_lang.specs.declared.program.Sort.{Sort}
+use Rattle.fac_lang.specs.declared.program.Sort.TheVariants.{Prim as prim, Core as core, Body as body, Past as past, Itself as itself, Class as class, Isa as isa, Getter as getter, Setter as setter, Putter as putter, Generic as generic, Method as method}
+use Rattle.fac_check.specs.Verdicts.{one_of, more_of, inline_body, inline_words, item_words, body_words, named_by, led_to, without, leads_back, undeclared}
+use Rattle.fac_check.specs.UndeclaredRecursion.{IsOneOf, one_if, inline_text, inline_word, list_or_none, led_from, IsWithin, StaysInside, Decides, DecidesAll, text_edges, inline_edges, sort_edges, word_edges, edges_from, undeclared_from, AreEdges, AreUndeclared}
+use Rattle.fac_check.proofs.NamedWords.{inline_same, number_below}
+use Rattle.fac_check.proofs.LeadingBack.{or_left, or_right, or_either, same_number, in_either, in_one}
+
+-- adding numbers to a list
+more_keeps_by : (b : Bool) (x : ℕ) (xs ys : List ℕ) (v : ℕ) → ((zs : List ℕ) → IsOneOf v zs → IsOneOf v (more_of xs zs)) → IsOneOf v ys → IsOneOf v (elim b [ true ↦ more_of xs ys | false ↦ more_of xs (x ∷ ys) ])
+more_keeps_by true x xs ys v keeps e = keeps ys e
+more_keeps_by false x xs ys v keeps e = keeps (x ∷ ys) (or_right (nat_eq v x) (one_of v ys) e)
+
+more_keeps : (xs ys : List ℕ) (v : ℕ) → IsOneOf v ys → IsOneOf v (more_of xs ys)
+more_keeps [] ys v e = e
+more_keeps (x ∷ xs) ys v e = more_keeps_by (one_of x ys) x xs ys v (λ zs h. more_keeps xs zs v h) e
+
+more_first : (b : Bool) (x : ℕ) (xs ys : List ℕ) → one_of x ys ≡ b → IsOneOf x (elim b [ true ↦ more_of xs ys | false ↦ more_of xs (x ∷ ys) ])
+more_first true x xs ys e = more_keeps xs ys x e
+more_first false x xs ys e = more_keeps xs (x ∷ ys) x (in_one x ys)
+
+more_rest : (b : Bool) (x : ℕ) (xs ys : List ℕ) (v : ℕ) → ((zs : List ℕ) → IsOneOf v (more_of xs zs)) → IsOneOf v (elim b [ true ↦ more_of xs ys | false ↦ more_of xs (x ∷ ys) ])
+more_rest true x xs ys v adds = adds ys
+more_rest false x xs ys v adds = adds (x ∷ ys)
+
+more_adds : (xs ys : List ℕ) (v : ℕ) → IsOneOf v xs → IsOneOf v (more_of xs ys)
+more_adds [] ys v e = absurd cc
+more_adds (x ∷ xs) ys v e =
+    elim (or_either (nat_eq v x) (one_of v xs) e) [
+      | inl p ↦ subst (λ (u : ℕ). IsOneOf u (more_of (x ∷ xs) ys)) (sym (same_number v x p)) (more_first (one_of x ys) x xs ys refl)
+      | inr p ↦ more_rest (one_of x ys) x xs ys v (λ zs. more_adds xs zs v p)
+    ]
+
+more_only_by : (b : Bool) (x : ℕ) (xs ys : List ℕ) (v : ℕ) → ((zs : List ℕ) → IsOneOf v (more_of xs zs) → IsOneOf v xs ⊎ IsOneOf v zs) → IsOneOf v (elim b [ true ↦ more_of xs ys | false ↦ more_of xs (x ∷ ys) ]) → IsOneOf v (x ∷ xs) ⊎ IsOneOf v ys
+more_only_by true x xs ys v only e = elim (only ys e) [ inl p ↦ inl (or_right (nat_eq v x) (one_of v xs) p) | inr p ↦ inr p ]
+more_only_by false x xs ys v only e =
+    elim (only (x ∷ ys) e) [
+      | inl p ↦ inl (or_right (nat_eq v x) (one_of v xs) p)
+      | inr p ↦ elim (or_either (nat_eq v x) (one_of v ys) p) [ inl q ↦ inl (or_left (nat_eq v x) (one_of v xs) q) | inr q ↦ inr q ]
+    ]
+
+more_only : (xs ys : List ℕ) (v : ℕ) → IsOneOf v (more_of xs ys) → IsOneOf v xs ⊎ IsOneOf v ys
+more_only [] ys v e = inr e
+more_only (x ∷ xs) ys v e = more_only_by (one_of x ys) x xs ys v (λ zs h. more_only xs zs v h) e
+
+without_only_by : (b : Bool) (u : ℕ) (us vs : List ℕ) (v : ℕ) → (IsOneOf v us → IsOneOf v vs) → IsOneOf v (elim b [ true ↦ us | false ↦ u ∷ us ]) → IsOneOf v (u ∷ vs)
+without_only_by true u us vs v only e = or_right (nat_eq v u) (one_of v vs) (only e)
+without_only_by false u us vs v only e = elim (or_either (nat_eq v u) (one_of v us) e) [ inl p ↦ or_left (nat_eq v u) (one_of v vs) p | inr p ↦ or_right (nat_eq v u) (one_of v vs) (only p) ]
+
+without_only : (P : Program) (w : ℕ) (vs : List ℕ) (v : ℕ) → IsOneOf v (without P w vs) → IsOneOf v vs
+without_only P w [] v e = e
+without_only P w (u ∷ vs) v e = without_only_by (nat_eq w u) u (without P w vs) vs v (without_only P w vs v) e
+
+without_keeps_by : (b : Bool) (w u : ℕ) (us : List ℕ) (v : ℕ) → nat_eq w u ≡ b → (v ≡ w → ⊥) → (nat_eq v u ≡ true) ⊎ IsOneOf v us → IsOneOf v (elim b [ true ↦ us | false ↦ u ∷ us ])
+without_keeps_by true w u us v is other (inl p) = absurd (other (same_number v u p ∙ sym (same_number w u is)))
+without_keeps_by true w u us v is other (inr p) = p
+without_keeps_by false w u us v is other (inl p) = or_left (nat_eq v u) (one_of v us) p
+without_keeps_by false w u us v is other (inr p) = or_right (nat_eq v u) (one_of v us) p
+
+without_keeps : (P : Program) (w : ℕ) (vs : List ℕ) (v : ℕ) → (v ≡ w → ⊥) → IsOneOf v vs → IsOneOf v (without P w vs)
+without_keeps P w [] v other e = e
+without_keeps P w (u ∷ vs) v other e =
+    without_keeps_by (nat_eq w u) w u (without P w vs) v refl other (elim (or_either (nat_eq v u) (one_of v vs) e) [ inl p ↦ inl p | inr p ↦ inr (without_keeps P w vs v other p) ])
+
+-- an inline word with a text
+pub record InlineWord (P : Program) (v : ℕ) : Type 0 where
+  pub def : WordDef
+  pub text : Text
+  pub at : slice_get P.words v ≡ Some def
+  pub sort_is : def.sort ≡ body text
+  pub inline_is : def.inline ≡ true
+
+body_sort : (b : Bool) (s : Sort) → inline_text b s ≡ true → (t : Text) × (s ≡ body t) × (b ≡ true)
+body_sort b (body t) e = (t, refl, e)
+body_sort b (past t) e = absurd cc
+body_sort b (method n g t) e = absurd cc
+body_sort b (prim k) e = absurd cc
+body_sort b (core k) e = absurd cc
+body_sort b itself e = absurd cc
+body_sort b (class k) e = absurd cc
+body_sort b (isa k) e = absurd cc
+body_sort b (getter x) e = absurd cc
+body_sort b (setter x) e = absurd cc
+body_sort b (putter x) e = absurd cc
+body_sort b generic e = absurd cc
+
+one_if_true : (b : Bool) (w v : ℕ) → IsOneOf v (one_if b w) → (b ≡ true) × (v ≡ w)
+one_if_true true w v e = (refl, elim (or_either (nat_eq v w) (one_of v []) e) [ inl p ↦ same_number v w p | inr p ↦ absurd cc ])
+one_if_true false w v e = absurd cc
+
+module _ (P : Program) where
+  inline_found : (w v : ℕ) (o : Option WordDef) → slice_get P.words w ≡ o → IsOneOf v (inline_word w o) → InlineWord P v
+  inline_found w v None is e = absurd cc
+  inline_found w v (Some d) is e =
+      let one = one_if_true (inline_text d.inline d.sort) w v e in
+      let sort = body_sort d.inline d.sort one.0 in
+      record { def = d; text = sort.0; at = ap (slice_get P.words) one.1 ∙ is; sort_is = sort.1; inline_is = sort.2 }
+
+  named_inline : (w v : ℕ) → IsOneOf v (inline_body P w (slice_get P.words w)) → InlineWord P v
+  named_inline w v e = inline_found w v (slice_get P.words w) refl (subst (λ (vs : List ℕ). IsOneOf v vs) (sym (inline_same P w (slice_get P.words w))) e)
+
+  lit_inline : (p : Plain) (v : ℕ) → IsOneOf v (item_words P (lit p)) → InlineWord P v
+  lit_inline (wrd w) v e = named_inline w v e
+  lit_inline (int z) v e = absurd cc
+  lit_inline yes v e = absurd cc
+  lit_inline no v e = absurd cc
+  lit_inline (str s) v e = absurd cc
+  lit_inline (iota k) v e = absurd cc
+  lit_inline (arr k) v e = absurd cc
+  lit_inline (tup k) v e = absurd cc
+
+  -- the words that a text names are inline words
+  mutual
+    words_inline : (t : Text) (v : ℕ) → IsOneOf v (inline_words P t) → InlineWord P v
+    words_inline end v e = absurd cc
+    words_inline (then i p t) v e = elim (in_either v (item_words P i) (inline_words P t) e) [ inl h ↦ item_inline i v h | inr h ↦ words_inline t v h ]
+
+    item_inline : (i : Item) (v : ℕ) → IsOneOf v (item_words P i) → InlineWord P v
+    item_inline (word w) v e = named_inline w v e
+    item_inline (lit p) v e = lit_inline p v e
+    item_inline (quot t) v e = words_inline t v e
+    item_inline (fry t n) v e = words_inline t v e
+    item_inline (lit_arr a) v e = absurd cc
+    item_inline (bind x) v e = absurd cc
+    item_inline (local x) v e = absurd cc
+    item_inline (hole k) v e = absurd cc
+    item_inline (call_eff h) v e = absurd cc
+    item_inline (exec_eff h) v e = absurd cc
+    item_inline next_method v e = absurd cc
+    item_inline (made k) v e = absurd cc
+    item_inline (next_after m) v e = absurd cc
+    item_inline (held x) v e = absurd cc
+    item_inline (known m) v e = absurd cc
+
+  -- one step of following words
+  named_keeps : (ws seen : List ℕ) (v : ℕ) → IsOneOf v seen → IsOneOf v (named_by P ws seen)
+  named_keeps [] seen v e = e
+  named_keeps (w ∷ ws) seen v e = more_keeps (body_words P (slice_get P.words w)) (named_by P ws seen) v (named_keeps ws seen v e)
+
+  named_adds : (ws seen : List ℕ) (u v : ℕ) → IsOneOf u ws → IsOneOf v (body_words P (slice_get P.words u)) → IsOneOf v (named_by P ws seen)
+  named_adds [] seen u v e h = absurd cc
+  named_adds (w ∷ ws) seen u v e h =
+      elim (or_either (nat_eq u w) (one_of u ws) e) [
+        | inl p ↦ more_adds (body_words P (slice_get P.words w)) (named_by P ws seen) v (subst (λ (x : ℕ). IsOneOf v (body_words P (slice_get P.words x))) (same_number u w p) h)
+        | inr p ↦ more_keeps (body_words P (slice_get P.words w)) (named_by P ws seen) v (named_adds ws seen u v p h)
+      ]
+
+  named_only : (ws seen : List ℕ) (v : ℕ) → IsOneOf v (named_by P ws seen) → IsOneOf v seen ⊎ ((u : ℕ) × IsOneOf u ws × IsOneOf v (body_words P (slice_get P.words u)))
+  named_only [] seen v e = inl e
+  named_only (w ∷ ws) seen v e =
+      elim (more_only (body_words P (slice_get P.words w)) (named_by P ws seen) v e) [
+        | inl p ↦ inr (w, in_one w ws, p)
+        | inr p ↦ elim (named_only ws seen v p) [ inl q ↦ inl q | inr q ↦ inr (q.0, or_right (nat_eq q.0 w) (one_of q.0 ws) q.1, q.2) ]
+      ]
+
+  -- the last step of several
+  led_last : (n : ℕ) (ws : List ℕ) → led_to P (suc n) ws ≡ named_by P (led_to P n ws) (led_to P n ws)
+  led_last zero ws = refl
+  led_last (suc n) ws = led_last n (named_by P ws ws)
+
+  -- the words that one leads to
+  edges_at : (w k u : ℕ) (ds : List WordDef) (d : WordDef) → u ≡ w + k → slice_get ds k ≡ Some d → list_or_none (slice_get (edges_from P w ds) k) ≡ word_edges P u d
+  edges_at w k u [] d is e = absurd cc
+  edges_at w zero u (x ∷ ds) d is e =
+      let same : x ≡ d = cc in
+      let here : w ≡ u = omega (arith, is) in
+      ap (word_edges P w) same ∙ ap (λ (y : ℕ). word_edges P y d) here
+  edges_at w (suc k) u (x ∷ ds) d is e = edges_at (suc w) k u ds d (omega (arith, is)) e
+
+  edges_none : (w k : ℕ) (ds : List WordDef) → slice_get ds k ≡ None → list_or_none (slice_get (edges_from P w ds) k) ≡ []
+  edges_none w k [] e = refl
+  edges_none w zero (x ∷ ds) e = absurd cc
+  edges_none w (suc k) (x ∷ ds) e = edges_none (suc w) k ds e
+
+  edges_count : (w : ℕ) (ds : List WordDef) → length (edges_from P w ds) ≡ length ds
+  edges_count w [] = refl
+  edges_count w (d ∷ ds) = ap suc (edges_count (suc w) ds)
+
+  abbrev edges : List (List ℕ)
+  edges = edges_from P 0 P.words
+
+  text_edges_named : (w : ℕ) (r : Bool) (t : Text) (v : ℕ) → IsOneOf v (text_edges P w r t) → IsOneOf v (inline_words P t)
+  text_edges_named w true t v e = without_only P w (inline_words P t) v e
+  text_edges_named w false t v e = e
+
+  sort_edges_named : (w : ℕ) (i r : Bool) (s : Sort) (v : ℕ) → IsOneOf v (sort_edges P w i r s) → IsOneOf v (elim s [ body t ↦ inline_words P t | _ ↦ [] ])
+  sort_edges_named w true r (body t) v e = text_edges_named w r t v e
+  sort_edges_named w false r (body t) v e = absurd cc
+  sort_edges_named w i r (past t) v e = absurd cc
+  sort_edges_named w i r (method n g t) v e = absurd cc
+  sort_edges_named w i r (prim k) v e = absurd cc
+  sort_edges_named w i r (core k) v e = absurd cc
+  sort_edges_named w i r itself v e = absurd cc
+  sort_edges_named w i r (class k) v e = absurd cc
+  sort_edges_named w i r (isa k) v e = absurd cc
+  sort_edges_named w i r (getter x) v e = absurd cc
+  sort_edges_named w i r (setter x) v e = absurd cc
+  sort_edges_named w i r (putter x) v e = absurd cc
+  sort_edges_named w i r generic v e = absurd cc
+
+  led_named : (u v : ℕ) (o : Option WordDef) → slice_get P.words u ≡ o → IsOneOf v (led_from edges u) → IsOneOf v (body_words P o)
+  led_named u v None is e = absurd (let none : IsOneOf v [] = subst (λ (vs : List ℕ). IsOneOf v vs) (edges_none 0 u P.words is) e in cc)
+  led_named u v (Some d) is e = sort_edges_named u d.inline d.recursive d.sort v (subst (λ (vs : List ℕ). IsOneOf v vs) (edges_at 0 u u P.words d (omega arith) is) e)
+
+  -- what is led to in so many steps
+  within_led : (starts : List ℕ) (n v : ℕ) → IsWithin edges starts n v → IsOneOf v (led_to P n starts)
+  within_led starts zero v h = h
+  within_led starts (suc n) v (inl p) = rw (led_last n starts) (named_keeps (led_to P n starts) (led_to P n starts) v (within_led starts n v p))
+  within_led starts (suc n) v (inr p) = rw (led_last n starts) (named_adds (led_to P n starts) (led_to P n starts) p.0 v (within_led starts n p.0 p.1) (led_named p.0 v (slice_get P.words p.0) refl p.2))
+
+  text_edges_other : (u : ℕ) (r : Bool) (t : Text) (v : ℕ) → (v ≡ u → ⊥) → IsOneOf v (inline_words P t) → IsOneOf v (text_edges P u r t)
+  text_edges_other u true t v other e = without_keeps P u (inline_words P t) v other e
+  text_edges_other u false t v other e = e
+
+  inline_edges_are : (u : ℕ) (f : InlineWord P u) → led_from edges u ≡ text_edges P u f.def.recursive f.text
+  inline_edges_are u f = edges_at 0 u u P.words f.def (omega arith) f.at ∙ ap (sort_edges P u f.def.inline f.def.recursive) f.sort_is ∙ ap (λ (b : Bool). inline_edges P u b f.def.recursive f.text) f.inline_is
+
+  inline_named : (u v : ℕ) (f : InlineWord P u) → IsOneOf v (body_words P (slice_get P.words u)) → IsOneOf v (inline_words P f.text)
+  inline_named u v f e = subst (λ (vs : List ℕ). IsOneOf v vs) (ap (body_words P) f.at ∙ ap (λ (s : Sort). elim s [ body t ↦ inline_words P t | _ ↦ [] ]) f.sort_is) e
+
+  is_below : (v : ℕ) → InlineWord P v → v < length edges
+  is_below v f =
+      let lt = number_below P.words v f.def f.at in
+      omega (arith, lt, edges_count 0 P.words)
+
+  stays_by : (w : ℕ) (s : StaysInside edges w) (u v : ℕ) (b : Bool) → nat_eq v u ≡ b → s.inside u ≡ true → (f : InlineWord P u) → IsOneOf v (inline_words P f.text) → v < length edges → s.inside v ≡ true
+  stays_by w s u v true is inside f e lt = ap s.inside (same_number v u is) ∙ inside
+  stays_by w s u v false is inside f e lt =
+      s.closed u v inside (subst (λ (vs : List ℕ). IsOneOf v vs) (sym (inline_edges_are u f)) (text_edges_other u f.def.recursive f.text v (λ same. let itself : nat_eq u u ≡ false = ap (λ (x : ℕ). nat_eq x u) (sym same) ∙ is in absurd (grind arith)) e)) lt
+
+  -- all words that these lead to stay inside
+  stays_led : (w : ℕ) (s : StaysInside edges w) (n : ℕ) (ws : List ℕ) → ((v : ℕ) → IsOneOf v ws → (s.inside v ≡ true) × InlineWord P v) → (v : ℕ) → IsOneOf v (led_to P n ws) → s.inside v ≡ true
+  stays_led w s zero ws all v e = (all v e).0
+  stays_led w s (suc n) ws all v e =
+      stays_led w s n (named_by P ws ws) (λ u h. elim (named_only ws ws u h) [
+        | inl p ↦ all u p
+        | inr p ↦ let from = all p.0 p.1 in let named = inline_named p.0 u from.1 p.2 in let found = words_inline from.1.text u named in (stays_by w s p.0 u (nat_eq u p.0) refl from.0 from.1 named (is_below u found), found)
+      ]) v e
+
+  nowhere : (n v : ℕ) → IsWithin edges [] n v → ⊥
+  nowhere zero v h = cc
+  nowhere (suc n) v (inl p) = nowhere n v p
+  nowhere (suc n) v (inr p) = nowhere n p.0 p.1
+
+  no_start : (w : ℕ) (b : Bool) → led_from edges w ≡ [] → Decides edges w b → b ≡ false
+  no_start w true is h = absurd (nowhere (length edges) w (subst (λ (vs : List ℕ). IsWithin edges vs (length edges) w) is h))
+  no_start w false is h = refl
+
+  not_both : (b : Bool) → (b ≡ true → ⊥) → false ≡ b
+  not_both true h = absurd (h refl)
+  not_both false h = refl
+
+  begins_text : (w : ℕ) (r : Bool) (t : Text) → text_edges P w r t ≡ elim r [ true ↦ without P w (inline_words P t) | false ↦ inline_words P t ]
+  begins_text w true t = refl
+  begins_text w false t = refl
+
+  decides_inline : (w : ℕ) (r : Bool) (t : Text) (b : Bool) → led_from edges w ≡ text_edges P w r t → Decides edges w b → b ≡ one_of w (led_to P (length P.words) (text_edges P w r t))
+  decides_inline w r t true is h = sym (within_led (text_edges P w r t) (length P.words) w (subst (λ (n : ℕ). IsWithin edges (text_edges P w r t) n w) (edges_count 0 P.words) (subst (λ (vs : List ℕ). IsWithin edges vs (length edges) w) is h)))
+  decides_inline w r t false is h =
+      not_both (one_of w (led_to P (length P.words) (text_edges P w r t))) (λ e. let back = stays_led w h (length P.words) (text_edges P w r t) (λ v f. let found = words_inline t v (text_edges_named w r t v f) in (h.begins v (subst (λ (vs : List ℕ). IsOneOf v vs) (sym is) f) (is_below v found), found)) w e in let clash : true ≡ false = sym back ∙ h.apart in cc)
+
+  decides_sort : (w : ℕ) (i r : Bool) (s : Sort) (b : Bool) → led_from edges w ≡ sort_edges P w i r s → Decides edges w b → b ≡ elim s [ body t ↦ i && leads_back P w r t | _ ↦ false ]
+  decides_sort w true r (body t) b is h = decides_inline w r t b is h ∙ ap (λ (vs : List ℕ). one_of w (led_to P (length P.words) vs)) (begins_text w r t)
+  decides_sort w false r (body t) b is h = no_start w b is h
+  decides_sort w i r (past t) b is h = no_start w b is h
+  decides_sort w i r (method n g t) b is h = no_start w b is h
+  decides_sort w i r (prim k) b is h = no_start w b is h
+  decides_sort w i r (core k) b is h = no_start w b is h
+  decides_sort w i r itself b is h = no_start w b is h
+  decides_sort w i r (class k) b is h = no_start w b is h
+  decides_sort w i r (isa k) b is h = no_start w b is h
+  decides_sort w i r (getter x) b is h = no_start w b is h
+  decides_sort w i r (setter x) b is h = no_start w b is h
+  decides_sort w i r (putter x) b is h = no_start w b is h
+  decides_sort w i r generic b is h = no_start w b is h
+
+  decides_word : (w : ℕ) (d : WordDef) (b : Bool) → slice_get P.words w ≡ Some d → Decides edges w b → b ≡ undeclared P w d
+  decides_word w d b at h = decides_sort w d.inline d.recursive d.sort b (edges_at 0 w w P.words d (omega arith) at) h
+
+  flags_from : (w : ℕ) (ds : List WordDef) (flags : List Bool) → length flags ≡ length ds → ((k u : ℕ) (b : Bool) (d : WordDef) → u ≡ w + k → slice_get flags k ≡ Some b → slice_get ds k ≡ Some d → b ≡ undeclared P u d) → flags ≡ undeclared_from P w ds
+  flags_from w [] [] e all = refl
+  flags_from w [] (b ∷ flags) e all = absurd (omega (arith, e))
+  flags_from w (d ∷ ds) [] e all = absurd (omega (arith, e))
+  flags_from w (d ∷ ds) (b ∷ flags) e all =
+      ap (λ (c : Bool). c ∷ flags) (all 0 w b d (omega arith) refl refl) ∙ ap (λ (fs : List Bool). undeclared P w d ∷ fs) (flags_from (suc w) ds flags (omega (arith, e)) (λ k u c x is at found. all (suc k) u c x (omega (arith, is)) at found))
+
+-- the flags of all words
+pub flags_are : (C : Program) (ts : List Template) (edges : List (List ℕ)) (flags : List Bool) → AreEdges C ts edges → DecidesAll edges flags → AreUndeclared C ts flags
+flags_are C ts edges flags are decides = λ P h. (
+    let all = subst (λ (es : List (List ℕ)). DecidesAll es flags) (are P h) decides in flags_from P 0 P.words flags (all.same_length ∙ edges_count P 0 P.words) (λ k u b d is at found. let here : k ≡ u = omega (arith, is) in decides_word P u d b (ap (slice_get P.words) (sym here) ∙ found) (all.each u b (ap (slice_get flags) (sym here) ∙ at)))
+    )
