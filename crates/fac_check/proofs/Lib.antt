@@ -21,3 +21,4 @@ pub mod NamedWords
 pub mod LeadingBack
 pub mod EdgesOfWords
 pub mod UndeclaredWords
+pub mod ExamplesOfRecursion
