@@ -29,3 +29,4 @@ pub mod EdgesOfWords
 pub mod LeadingBack
 pub mod UndeclaredWords
 pub mod JudgeLemmas
+pub mod ExamplesOfRecursion
