@@ -24,29 +24,36 @@ MOST_RATIO = 5.0
 DEFAULT = os.path.join(os.path.dirname(os.path.abspath(__file__)), "..", "crates", "factorc", "out", "factorc")
 
 
-def write_source(path, head, unit, tail, size):
-    """Writes a file of exactly this size: the head, as many units as there is room for, the tail and newlines. Gives the
-    number of units. It writes in pieces, so that this script stays small."""
-    count = (size - len(head) - len(tail)) // len(unit)
+# How many items a word may have; a word of the sources that follow has fewer.
+UNITS_IN_A_WORD = 1_000
+
+
+def write_words(path, head, effect, unit, begin, end, size):
+    """Writes a file of at most this size: the head, words of so many units each, and the phrase that runs them all between its begin
+    and its end. Gives the number of units."""
+    word = b": w%d ( " + effect + b" )" + unit * UNITS_IN_A_WORD + b" ;\n"
+    count = (size - len(head) - len(begin) - len(end)) // (len(word) + 14)
     with open(path, "wb") as file:
         file.write(head)
-        for first in range(0, count, 1024):
-            file.write(unit * min(1024, count - first))
-        file.write(tail)
-        file.write(b"\n" * (size - file.tell()))
-    return count
+        for number in range(count):
+            file.write(word % number)
+        file.write(begin)
+        for number in range(count):
+            file.write(b" w%d" % number)
+        file.write(end)
+    return count * UNITS_IN_A_WORD
 
 
 def numbers_and_drops(path, size):
     """Numbers of several widths, each dropped. Nothing is printed."""
-    unit = b"7 drop -12345 drop 3 40 drop drop 170141183460469231731687303715884105727 drop\n"
-    write_source(path, b"USING: kernel ;\n", unit, b"", size)
+    unit = b" 7 drop -12345 drop 3 40 drop drop 170141183460469231731687303715884105727 drop\n"
+    write_words(path, b"USING: kernel ;\n", b"--", unit, b"", b"\n", size)
     return 0, b"", b""
 
 
-def chain_of_sums(path, size):
-    """One long sum of ones, which is printed."""
-    count = write_source(path, b"USING: math prettyprint ;\n0", b" 1 +", b" .\n", size)
+def chains_of_sums(path, size):
+    """Long sums of ones, one after the other, which are printed as one."""
+    count = write_words(path, b"USING: math prettyprint ;\n", b"x -- y", b" 1 +", b"0", b" .\n", size)
     return 0, b"%d\n" % count, b""
 
 
@@ -85,6 +92,54 @@ def recursion_with_values(path, _):
     return 6, b"", b"spent: 100000000 ticks\n"
 
 
+def nested_quotations(path, count):
+    """So many words, each with quotations in quotations that run; the last is run."""
+    with open(path, "wb") as file:
+        file.write(b"USING: kernel math prettyprint ;\n")
+        for number in range(count):
+            file.write(b": word-%d ( x -- y ) [ 2 * ] call t [ 1 - ] [ [ 3 ] call * ] if t [ [ 1 + ] call ] [ [ [ 2 * ] call ] call ] if ;\n" % number)
+        file.write(b"4 word-%d .\n" % (count - 1))
+    return 0, b"8\n", b""
+
+
+def branches_over_a_tall_stack(path, count):
+    """So many values, and over them a fifth as many branches; each word of the file may have 200,000 items."""
+    with open(path, "wb") as file:
+        file.write(b"USING: kernel ;\n" + b"1 " * count + b"t [ ] [ ] if " * (count // 5) + b"\n")
+    return 0, b"", b""
+
+
+def inline_words(path, count):
+    """So many inline words, each of which names the one before it and none twice, and one that uses the last ones."""
+    with open(path, "wb") as file:
+        file.write(b"USING: kernel math prettyprint ;\n: w0 ( x -- y ) 1 + ; inline\n")
+        for number in range(1, count):
+            file.write(b": w%d ( x -- y ) %s 1 + ; inline\n" % (number, b"w%d" % (number - 1) if number % 50 else b""))
+        file.write(b"0 w%d .\n" % (count - 1))
+    return 0, b"%d\n" % ((count - 1) % 50 + 1), b""
+
+
+def composed_twice(path, count):
+    """So many times `dup compose` in a row, which as a tree has 2 to that power parts."""
+    with open(path, "wb") as file:
+        file.write(b"USING: kernel ; [ ]" + b" dup compose" * count + b" drop\n")
+    return 0, b"", b""
+
+
+def recursion_through_if(path, _):
+    """A word that calls itself in a branch until the budget is spent, at five ticks a turn and twenty million deep."""
+    with open(path, "wb") as file:
+        file.write(b"USING: kernel ; : spin ( ? -- ) [ t spin ] [ ] if ; t spin\n")
+    return 6, b"", b"spent: 100000000 ticks\n"
+
+
+def composing(path, _):
+    """A word that composes a callable with another at each turn until the budget is spent, at four ticks a turn."""
+    with open(path, "wb") as file:
+        file.write(b"USING: kernel ; : grow ( q -- q ) [ ] compose grow ; [ ] grow\n")
+    return 6, b"", b"spent: 100000000 ticks\n"
+
+
 def mebibytes(size):
     return f"{size >> 20} MiB"
 
@@ -96,9 +151,15 @@ def words(count):
 # name, what makes the source, its sizes, how a size is told, and the most seconds for the last size
 SORTS = [
     ("numbers and drops", numbers_and_drops, (SMALL, LARGE), mebibytes, 2.0),
-    ("chain of +", chain_of_sums, (SMALL, LARGE), mebibytes, 2.0),
+    ("chains of +", chains_of_sums, (SMALL, LARGE), mebibytes, 2.0),
     ("small words", small_words, (2_500, 10_000), words, 1.0),
     ("chain of calls", chain_of_calls, (25_000, 100_000), words, 2.0),
+    ("nested quotations", nested_quotations, (2_500, 10_000), words, 2.0),
+    ("ifs, tall stack", branches_over_a_tall_stack, (25_000, 100_000), words, 2.0),
+    ("inline words", inline_words, (2_500, 10_000), words, 2.0),
+    ("dup compose", composed_twice, (63,), words, 0.5),
+    ("recursion, if", recursion_through_if, (20_000_000,), words, 20.0),
+    ("composing", composing, (25_000_000,), words, 20.0),
     ("recursion", recursion, (100_000_000,), words, 20.0),
     ("recursion, values", recursion_with_values, (50_000_000,), words, 20.0),
 ]
