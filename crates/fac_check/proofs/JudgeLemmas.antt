@@ -68,9 +68,9 @@ verdicts_next closed vs v n l is so = λ P closes built.
     let word = there P.words n (omega (arith, l, count)) in
     let next : drop n P.words ≡ word.0 ∷ drop (n + 1) P.words = rw add-one (dropped P.words n word.0 word.1) in
     one_more vs v (verdicts_from P closed.start (n + 1) (drop (n + 1) P.words))
-      ∙ ap (λ x. map verdict_seen vs ++ x ∷ verdicts_from P closed.start (n + 1) (drop (n + 1) P.words)) (is P closes built word.0 word.1)
-      ∙ step P word.0 next
-      ∙ so P closes built
+    ∙ ap (λ x. map verdict_seen vs ++ x ∷ verdicts_from P closed.start (n + 1) (drop (n + 1) P.words)) (is P closes built word.0 word.1)
+    ∙ step P word.0 next
+    ∙ so P closes built
   where
     step : (P : Program) (d : WordDef) → drop n P.words ≡ d ∷ drop (n + 1) P.words → map verdict_seen vs ++ numbered n (word_verdict P closed.start n d) ∷ verdicts_from P closed.start (n + 1) (drop (n + 1) P.words) ≡ map verdict_seen vs ++ verdicts_from P closed.start n (drop n P.words)
     step P d e = (let s : n + 1 ≡ suc n = omega arith in ap (λ m. map verdict_seen vs ++ numbered n (word_verdict P closed.start n d) ∷ verdicts_from P closed.start m (drop (n + 1) P.words)) s ∙ ap (λ ds. map verdict_seen vs ++ verdicts_from P closed.start n ds) (sym e))

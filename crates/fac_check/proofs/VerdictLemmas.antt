@@ -59,9 +59,9 @@ module _ (P C : Program) (templates : List Template) (closes : Closes P C templa
       let N = O.naming in
       let count : ins ≡ inputs_count (effect_inputs d.effect) = many ∙ ap (λ e. (effect_height e).ins) word.effect ∙ height_inputs d.effect in
       kept P N
-        ∙ ap (λ x. end_of P x (kept_word P (effect_leaving c.effect) None c.place)) (walks O (first_of_word w) t most_steps text (omega arith) ∙ ap (λ ms. go_at O most_steps (first_of_word w) 64 t None ms 200000) (stack N ∙ ap (λ n. unknowns n []) count))
-        ∙ ap (λ e. end_of P (go_at O most_steps (first_of_word w) 64 t None (unknowns (inputs_count (effect_inputs d.effect)) []) 200000) (kept_word P (effect_leaving e) None c.place)) word.effect
-        ∙ ap (λ p. end_of P (go_at O most_steps (first_of_word w) 64 t None (unknowns (inputs_count (effect_inputs d.effect)) []) 200000) (kept_word P (effect_leaving d.effect) None p)) word.place
+      ∙ ap (λ x. end_of P x (kept_word P (effect_leaving c.effect) None c.place)) (walks O (first_of_word w) t most_steps text (omega arith) ∙ ap (λ ms. go_at O most_steps (first_of_word w) 64 t None ms 200000) (stack N ∙ ap (λ n. unknowns n []) count))
+      ∙ ap (λ e. end_of P (go_at O most_steps (first_of_word w) 64 t None (unknowns (inputs_count (effect_inputs d.effect)) []) 200000) (kept_word P (effect_leaving e) None c.place)) word.effect
+      ∙ ap (λ p. end_of P (go_at O most_steps (first_of_word w) 64 t None (unknowns (inputs_count (effect_inputs d.effect)) []) 200000) (kept_word P (effect_leaving d.effect) None p)) word.place
 
   pub top_is :
       (w : ℕ) (t phrase : Text) (M K : MarksSeen) (s start : ℕ) (W : Walked) (b : Option (Place × Rule)) →
@@ -78,8 +78,8 @@ module _ (P : Program) (built : IsBuilt P) (w : ℕ) (d : WordDef) (at : slice_g
   pub expanded_is : (start : ℕ) (t : Text) → w ≢ P.top → d.inline ≡ true → None ≡ phrase_verdict P (nat_eq w P.top) start w t d
   expanded_is start t other inline =
       not_walked (is_row d.recursive d.effect) (no_row_word P w d (built_as P built w d at) inline)
-        ∙ ap (λ i. body_verdict P i w t d) (sym inline)
-        ∙ ap (λ q. phrase_verdict P q start w t d) (sym (ne_eqb w P.top other))
+      ∙ ap (λ i. body_verdict P i w t d) (sym inline)
+      ∙ ap (λ q. phrase_verdict P q start w t d) (sym (ne_eqb w P.top other))
     where
       not_walked : (r : Bool) → r ≡ false → None ≡ inline_verdict P r w t d
       not_walked true e = absurd (cc)

@@ -66,8 +66,8 @@ module _ {C : Program} {templates : List Template} (O : Opened C templates) wher
       go_at O (suc f) at nested (then i p t) None (stack_of O.naming M s) n ≡ and_then (walked_seen O.naming K W) (rest None (go_at O f) nested (behind at i) t)
   behind_item at i p t f nested n s M L K D W does walks =
       walk_on_item None (go_at O f) nested (behind at i) t (doing O.program None at i None (stack_of O.naming M s)) p n (subst IsAlone does (alone O.naming L (body_text O.program) D))
-        ∙ ap (λ x. and_then (item_walk None (go_at O f) x p nested n) (rest None (go_at O f) nested (behind at i) t)) (sym does)
-        ∙ ap (λ x. and_then x (rest None (go_at O f) nested (behind at i) t)) (sym walks)
+      ∙ ap (λ x. and_then (item_walk None (go_at O f) x p nested n) (rest None (go_at O f) nested (behind at i) t)) (sym does)
+      ∙ ap (λ x. and_then x (rest None (go_at O f) nested (behind at i) t)) (sym walks)
 
 -- What the code's calls for an item say, with a program at hand.
 abbrev pub DoesItem : {C : Program} {templates : List Template} → Opened C templates → MarksSeen → MarksSeen → ℕ → PlacedItem → Doing → Type 0
@@ -94,15 +94,17 @@ module _ {C : Program} {templates : List Template} (O : Opened C templates) wher
     where
       first : Begins O o.here o.text (what_item i.what) i.place (items_text items)
       first = begins O o.here o.text (what_item i.what) i.place (items_text items) o.closes
+
       ends : (g : ℕ) → n < suc g → (V : Walked) → IsBelow n V → go_at O f at nested t None ms most ≡ and_then (walked_seen O.naming K V) (rest None (go_at O g) nested (behind o.here first.item) first.more) → Behind at t f nested ms most K items V
       ends g l (Found Dead k) b e = e
       ends g l (Found (On q) k) b e = record { here = behind o.here first.item; text = first.more; steps = g; closes = first.closes_more; enough = omega (arith, b, l); same = e }
       ends g l (Refused r p) b e = e
+
       by_steps : (g : ℕ) → n < g → go_at O f at nested t None ms most ≡ go_at O g o.here nested o.text None (stack_of O.naming M s) n → Behind at t f nested ms most K items W
       by_steps zero l e = absurd (omega (arith, l))
       by_steps (suc g) l e =
           ends g l W below
-            (e ∙ ap (λ x. go_at O (suc g) o.here nested x None (stack_of O.naming M s) n) first.is ∙ behind_item O o.here first.item i.place first.more g nested n s M L K D W (does o.here first.item first.closes_item) (walks g (omega (arith, l))))
+          (e ∙ ap (λ x. go_at O (suc g) o.here nested x None (stack_of O.naming M s) n) first.is ∙ behind_item O o.here first.item i.place first.more g nested n s M L K D W (does o.here first.item first.closes_item) (walks g (omega (arith, l))))
 
   -- at the end
   pub onward_end : (at : Literal) (t : Text) (f nested : ℕ) (ms : List Mark) (most : ℕ) (M : MarksSeen) (s n : ℕ) → Onward O at t f nested ms most M s [] n → found (on None (stack_of O.naming M s)) n ≡ go_at O f at nested t None ms most

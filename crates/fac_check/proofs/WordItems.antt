@@ -99,6 +99,7 @@ module _ (P : Program) (w : ℕ) (d c : WordDef) (closes : ClosesWord P w d c) w
     where
       same_number : (n : ℕ) → nat_eq n n ≡ true
       same_number n = eq-eqb n n refl
+
       top : (b : Bool) → b ≡ true → breaks not_known ≡ callable_or (not b) not_known (inline_doing P None d.inline w d t None ms)
       top true q = refl
       top false q = absurd (cc)
@@ -109,9 +110,11 @@ module _ (P : Program) (w : ℕ) (d c : WordDef) (closes : ClosesWord P w d c) w
     where
       text_is : body_text P w ≡ t
       text_is = ap text_of at ∙ ap sort_text s
+
       expanded : (r : Bool) → r ≡ false → expands w t None ms ≡ row_or_text P None r false w t d.effect None ms
       expanded true q = absurd (cc)
       expanded false q = refl
+
       chosen : (a a' : Bool) → a ≡ a' → (a' ≡ true → is_row d.recursive d.effect ≡ false) → (if a then expands w (body_text P w) None ms else by_height i o None ms) ≡ inline_doing P None a' w d t None ms
       chosen true true q r = ap (λ u. expands w u None ms) text_is ∙ expanded (is_row d.recursive d.effect) (r refl)
       chosen true false q r = absurd (cc)

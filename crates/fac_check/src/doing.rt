@@ -38,7 +38,10 @@ pub enum Doing {
     /// It does nothing more.
     Gives(Reached),
     /// The text of an expanded word is to be walked.
-    Expands { word: u32, stack: u32 },
+    Expands {
+        word: u32,
+        stack: u32,
+    },
     /// A callable is to be walked, and then a mark put back.
     Walks {
         mark: u32,
@@ -46,7 +49,11 @@ pub enum Doing {
         back: Option<u32>,
     },
     /// Two callables are to be walked from one stack, and joined.
-    Forks { first: u32, second: u32, stack: u32 },
+    Forks {
+        first: u32,
+        second: u32,
+        stack: u32,
+    },
 }
 
 // An item that needs more values than there are.
@@ -71,12 +78,7 @@ fn put(marks: &mut Marks, stack: u32, mark: u32) -> Result<Doing, Memory>
 }
 
 // Takes so many values and leaves unknown ones, or never returns.
-fn by_height(
-    marks: &mut Marks,
-    stack: u32,
-    ins: u32,
-    outs: Option<u32>,
-) -> Result<Doing, Memory>
+fn by_height(marks: &mut Marks, stack: u32, ins: u32, outs: Option<u32>) -> Result<Doing, Memory>
     requires { IsStack marks.old stack }
     ensures grows { Grows marks.old marks.new }
     ensures there { IfOk result (λ doing. IsDoing marks.new doing) }

@@ -9,6 +9,8 @@ mod judge;
 mod laws;
 mod recursion;
 mod rule;
+#[cfg(test)]
+mod tests;
 mod walker;
 
 pub use accepted::Checked;

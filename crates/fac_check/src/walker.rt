@@ -414,7 +414,9 @@ fn walk_fork(
 {
     match walk_mark(closed, marks, first, place, nested, stack, left)? {
         Walked::Refused(rule, place) => Ok(Walked::Refused(rule, place)),
-        Walked::Found(upper, rest) => match walk_mark(closed, marks, second, place, nested, stack, rest)? {
+        Walked::Found(upper, rest) => match walk_mark(
+            closed, marks, second, place, nested, stack, rest,
+        )? {
             Walked::Refused(rule, place) => Ok(Walked::Refused(rule, place)),
             Walked::Found(lower, rest) => joined(marks, upper, lower, place, rest),
         },

@@ -7,10 +7,10 @@ use Rattle.fac_check.proofs.checker.word_breach.Goals as goal
 pub returns-in-Body : goal.returns-in-Body
 returns-in-Body c =
     ok_maps c.phrase_breach.result
-      (λ b breach P closes built d at word leads.
-        let sort = is_body P c.args.number d c.args.word.now word (built_as P built c.args.number d at) _ c.in-Body.is in
-        body_verdict_is P built c.args.number d at c.args.closed.now.start sort.0 _ sort.1 (sym c.if-leads_back.false ∙ leads) (breach P closes built d sort.0 at word sort.2))
-      c.phrase_breach.ensures
+    (λ b breach P closes built d at word leads.
+    let sort = is_body P c.args.number d c.args.word.now word (built_as P built c.args.number d at) _ c.in-Body.is in
+    body_verdict_is P built c.args.number d at c.args.closed.now.start sort.0 _ sort.1 (sym c.if-leads_back.false ∙ leads) (breach P closes built d sort.0 at word sort.2))
+    c.phrase_breach.ensures
 
 pub returns-in_default : goal.returns-in_default
 returns-in_default c = λ P closes built d at word leads.

@@ -9,10 +9,10 @@ pub returns-in-Some-clause-does : goal.returns-in-Some-clause-does
 returns-in-Some-clause-does c =
     let C = c.args.closed.now in
     ok_maps c.word_item.result
-      (λ r does O N.
-        let there = word_open O.program C.program C.templates O.closes c.args.number c.in-Some.word.now (sym c.in-Some.ensures) in
-        does O.program there.def (sym O.closes.top) there.at O.built there.closes N ∙ ap (λ o. word_doing O.program None c.args.number o None (stack_of N c.args.marks.now c.args.stack)) (sym there.at))
-      c.word_item.ensures.does
+    (λ r does O N.
+    let there = word_open O.program C.program C.templates O.closes c.args.number c.in-Some.word.now (sym c.in-Some.ensures) in
+    does O.program there.def (sym O.closes.top) there.at O.built there.closes N ∙ ap (λ o. word_doing O.program None c.args.number o None (stack_of N c.args.marks.now c.args.stack)) (sym there.at))
+    c.word_item.ensures.does
 
 pub returns-in-None-clause-does : goal.returns-in-None-clause-does
 returns-in-None-clause-does c = λ O N.

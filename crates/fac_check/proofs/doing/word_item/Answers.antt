@@ -10,18 +10,18 @@ returns-in-Prim-clause-does c =
     let k = c.in-Prim.primitive_number in
     let w = c.args.word.now in
     ok_maps c.primitive.result
-      (λ r does P d top at built closes N.
-        let sort = is_prim P c.args.number d w closes (built_as P built c.args.number d at) k c.in-Prim.is in
-        let there = built_numbered k sort.1 in
-        prim_item P c.args.number d w closes k _ _ _ (stack_of N c.args.marks.now c.args.stack) sort.0 (c.in_ok-ins.ensures ∙ c.inputs.ensures) c.outputs-outs.ensures (does P there.0 there.1 N (body_text P)))
-      c.primitive.ensures.does
+    (λ r does P d top at built closes N.
+    let sort = is_prim P c.args.number d w closes (built_as P built c.args.number d at) k c.in-Prim.is in
+    let there = built_numbered k sort.1 in
+    prim_item P c.args.number d w closes k _ _ _ (stack_of N c.args.marks.now c.args.stack) sort.0 (c.in_ok-ins.ensures ∙ c.inputs.ensures) c.outputs-outs.ensures (does P there.0 there.1 N (body_text P)))
+    c.primitive.ensures.does
 
 pub returns-else-number-top-clause-does : goal.returns-else-number-top-clause-does
 returns-else-number-top-clause-does c =
     let w = c.args.word.now in
     ok_maps c.defined.result
-      (λ r does P d top at built closes N.
-        let b = built_as P built c.args.number d at in
-        let sort = is_body P c.args.number d w closes b _ c.in-Body.is in
-        body_item P c.args.number d w closes sort.0 _ _ _ (stack_of N c.args.marks.now c.args.stack) b at sort.1 (λ e. c.if-number-top.false (e ∙ top)) (c.in_ok-ins.ensures ∙ c.inputs.ensures) c.outputs-outs.ensures (does N (body_text P)))
-      c.defined.ensures.does
+    (λ r does P d top at built closes N.
+    let b = built_as P built c.args.number d at in
+    let sort = is_body P c.args.number d w closes b _ c.in-Body.is in
+    body_item P c.args.number d w closes sort.0 _ _ _ (stack_of N c.args.marks.now c.args.stack) b at sort.1 (λ e. c.if-number-top.false (e ∙ top)) (c.in_ok-ins.ensures ∙ c.inputs.ensures) c.outputs-outs.ensures (does N (body_text P)))
+    c.defined.ensures.does

@@ -43,6 +43,6 @@ invariant-walk_phrase-loop-item l = record {
   stack : IsStack l.marks l.stack;
   within : l.left ≤ l.initial.left;
   onward :
-    (O : Opened l.closed.program l.closed.templates) (at : Literal) (t : Text) (f : ℕ) → ClosesText O.program at t l.phrase → l.initial.left < f →
-    Onward O at t f l.nested (stack_of O.naming l.initial.marks l.initial.stack) l.initial.left l.marks l.stack (drop l.item-index l.item-items) l.left;
+      (O : Opened l.closed.program l.closed.templates) (at : Literal) (t : Text) (f : ℕ) → ClosesText O.program at t l.phrase → l.initial.left < f →
+      Onward O at t f l.nested (stack_of O.naming l.initial.marks l.initial.stack) l.initial.left l.marks l.stack (drop l.item-index l.item-items) l.left;
 }
