@@ -1,10 +1,11 @@
 -- The image of plain code carries its program.
-use Rattle.std.proofs.Common.{◌≡◌, ◌≢◌, ℕ, List, [], Option, None, Some, refl, ap, sym, subst, ◌∙◌}
+use Rattle.std.proofs.Common.{◌≡◌, ◌≢◌, ℕ, List, [], Option, None, Some, Bool, refl, ap, sym, subst, ◌∙◌}
 use Rattle.std.specs.Prelude.{slice_get}
+use Rattle.fac_lang.specs.declared.phrase.Height.{Height}
 use Rattle.fac_lang.specs.declared.phrase.Template.{Template}
 use Rattle.fac_lang.specs.declared.program.Program.{Program}
 use Rattle.fac_lang.specs.declared.program.Lit.{Lit}
-use Rattle.fac_lang.specs.Texts.{Value}
+use Rattle.fac_lang.specs.Texts.{Value, Callable}
 use Rattle.fac_lang.specs.World.{State}
 use Rattle.fac_lang.specs.Forms.{IsBuilt}
 use Rattle.fac_lang.specs.Eval.{Result, Done, Failed, Spent, Stuck, eval}
@@ -37,9 +38,11 @@ abbrev place_of : Option WordRow → ℕ
 place_of None = 0
 place_of (Some r) = elim r.action [ code_action a ↦ a | _ ↦ 0 ]
 
-pub carries : (P C : Program) (templates : List Template) (M : Image) → IsBuilt P → Closes P C templates → IsPlain C templates M → IsNeverStuck P → Carries P M
-carries P C templates M b closes is_plain never = record {
-  same_end = λ fits callable_height n.
+pub carries :
+    (P C : Program) (templates : List Template) (M : Image) (fits : Height → Height → Bool) (callable_height : Callable → Option Height) →
+    IsBuilt P → Closes P C templates → IsPlain C templates M → IsNeverStuck P fits callable_height → Carries P fits callable_height M
+carries P C templates M fits callable_height b closes is_plain never = record {
+  same_end = λ n.
       let text = word_text P P.top in
       let T = template_texts P in
       let top = top_stands P C templates M b closes is_plain in
@@ -47,7 +50,7 @@ carries P C templates M b closes is_plain never = record {
       let there : top.0 ≡ M.start = ap place_of (sym top.1 ∙ begins) in
       let stands = subst (λ (a : ℕ). Stands P M T Halt [] a text) there top.2 in
       let begin : state_view T [] empty_world ≡ start P [] = sym (no_literals P b []) in
-      let never_stuck = not_stuck (top_run P fits callable_height n) (never fits callable_height n) in
+      let never_stuck = not_stuck (top_run P fits callable_height n) (never n) in
       subst (λ (st : State Value). (e : End) × Ends M (names P) (starting M []) n e × SameEnd T (eval (act P fits callable_height) n text st n) e) begin
       (carried P fits callable_height M T (coded P C templates M b closes is_plain) M.start text stands [] empty_world (record { cells = tt; values = tt; objects = tt }) n (subst (λ (st : State Value). eval (act P fits callable_height) n text st n ≢ Stuck) (sym begin) never_stuck));
 }

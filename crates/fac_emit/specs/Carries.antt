@@ -21,10 +21,10 @@ SameEnd T _ _ = ⊥
 abbrev pub top_run : Program → (Height → Height → Bool) → (Callable → Option Height) → ℕ → Result
 top_run P fits callable_height n = run P fits callable_height n (word_text P P.top) (start P [])
 
--- At every budget the machine ends as the top-level phrase does: with the same values and ticks, the same error, the same output and objects.
-pub record Carries (P : Program) (M : Image) : Type 0 where
-  pub same_end : (fits : Height → Height → Bool) (callable_height : Callable → Option Height) (n : ℕ) → (e : End) × Ends M (names P) (starting M []) n e × SameEnd (template_texts P) (top_run P fits callable_height n) e
+-- With this test of effects the machine ends at every budget as the top-level phrase does: with the same values and ticks, the same error, the same output and objects.
+pub record Carries (P : Program) (fits : Height → Height → Bool) (callable_height : Callable → Option Height) (M : Image) : Type 0 where
+  pub same_end : (n : ℕ) → (e : End) × Ends M (names P) (starting M []) n e × SameEnd (template_texts P) (top_run P fits callable_height n) e
 
--- The top-level phrase isn't stuck, at any budget and with any test of effects.
-abbrev pub IsNeverStuck : Program → Type 0
-IsNeverStuck P = (fits : Height → Height → Bool) (callable_height : Callable → Option Height) (n : ℕ) → IsNotStuck (top_run P fits callable_height n)
+-- With this test of effects the top-level phrase isn't stuck at any budget.
+abbrev pub IsNeverStuck : Program → (Height → Height → Bool) → (Callable → Option Height) → Type 0
+IsNeverStuck P fits callable_height = (n : ℕ) → IsNotStuck (top_run P fits callable_height n)

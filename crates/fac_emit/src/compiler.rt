@@ -1,7 +1,9 @@
 //! The compiler: the pieces of the words are linked to an image.
-ghost use Rattle.std.specs.Prelude.{◌≡◌, ◌++◌, ◌∷◌, [], length, ℕ, Some, IfOk, OnOk, map, slice_get};
+ghost use Rattle.std.specs.Prelude.{◌≡◌, ◌++◌, ◌∷◌, [], length, ℕ, Some, IfOk, OnOk, map, slice_get, Bool, Option};
+ghost use Rattle.fac_lang.specs.declared.phrase.Height.{Height};
 ghost use Rattle.fac_lang.specs.declared.program.Program.{Program as Source};
 ghost use Rattle.fac_lang.specs.Forms.{IsBuilt};
+ghost use Rattle.fac_lang.specs.Texts.{Callable};
 ghost use Rattle.fac_locals.specs.Closed.{Closes};
 ghost use Rattle.fac_emit.specs.Carries.{Carries, IsNeverStuck};
 ghost use Rattle.fac_emit.specs.Code.{sort_action, IsPlain};
@@ -124,7 +126,7 @@ fn place(rows: &List<WordRow>, word: u32) -> u32
 /// top-level phrase. Want of memory is the one error.
 pub fn compile(alloc: Global, closed: &Closed) -> Result<Image, Memory>
     requires { (P : Source) × Closes P closed.now.program closed.now.templates × IsBuilt P }
-    ensures carries { IfOk result (λ image. (P : Source) → Closes P closed.now.program closed.now.templates → IsBuilt P → IsNeverStuck P → Carries P image) }
+    ensures carries { IfOk result (λ image. (P : Source) (fits : Height → Height → Bool) (callable_height : Callable → Option Height) → Closes P closed.now.program closed.now.templates → IsBuilt P → IsNeverStuck P fits callable_height → Carries P fits callable_height image) }
     ensures plain { IfOk result (IsPlain closed.now.program closed.now.templates) }
 {
     let Parts {
