@@ -1,10 +1,14 @@
 -- What a closed program keeps of the one for which it stands, and the checker's refusals both ways.
-use Rattle.std.proofs.Common.{◌≡◌, ℕ, zero, suc, List, [], ◌∷◌, Some, None, refl, ap, sym, subst, ◌∙◌}
+use Rattle.std.proofs.Common.{◌≡◌, ℕ, zero, suc, List, [], ◌∷◌, Some, None, Bool, Result, Ok, Err, IfOk, refl, ap, sym, subst, ◌∙◌}
 use Rattle.std.specs.Prelude.{slice_get}
 use Rattle.std.specs.declared.option.Option.{Option}
+use Rattle.fac_lang.specs.declared.memory.Memory.{Memory}
+use Rattle.fac_lang.specs.declared.phrase.Height.{Height}
 use Rattle.fac_lang.specs.declared.phrase.Template.{Template}
 use Rattle.fac_lang.specs.declared.program.Program.{Program}
 use Rattle.fac_lang.specs.declared.program.WordDef.{WordDef}
+use Rattle.fac_lang.specs.Texts.{Callable}
+use Rattle.fac_lang.specs.Forms.{IsBuilt}
 use Rattle.fac_locals.specs.Closed.{Closes, CloseWords}
 use Rattle.fac_locals.specs.declared.closing.Closed.{Closed}
 use Rattle.fac_check.specs.CallableEffects.{callable_height, fits}
@@ -15,10 +19,11 @@ use Rattle.fac_check.specs.declared.rule.Rule.{Rule}
 use Rattle.fac_check.specs.declared.rule.Rule.TheVariants.{Underflow, NotKnown, NotAClass, Branches, RecursiveInput, Rows, UndeclaredRecursion, RowDeclaration, MethodEffect, TooDeep, TooLarge, Outputs, MustReturn}
 use Rattle.fac_check.specs.declared.rule.Refusal.{Refusal}
 use Rattle.fac_check.specs.Promises.{IsSafe}
-use Rattle.fac_emit.specs.Carries.{IsNeverStuck}
+use Rattle.fac_code.specs.declared.image.Image.{Image}
+use Rattle.fac_emit.specs.Carries.{Carries, IsNeverStuck}
 use Rattle.fac_tool.specs.Answer.{name_or, word_name}
 use Rattle.fac_tool.specs.Refusals.{rule_of, refusal_of}
-use Rattle.fac_tool.specs.Stops.{SameNames, StandsFor, StandsForSafe}
+use Rattle.fac_tool.specs.Stops.{SameNames, Carried, StandsFor, StandsForSafe}
 
 -- each word of a closed program has the name of the word for which it stands
 named_at : (P : Program) (n w k : ℕ) (ds cs : List WordDef) → CloseWords P n ds cs → name_or k (slice_get cs w) ≡ name_or k (slice_get ds w)
@@ -56,5 +61,13 @@ pub safe_one : (closed : Closed) (P : Program) → IsKept closed → closed.star
 safe_one closed P kept start stands = record { closes = stands.closes; built = stands.built; safe = kept start P stands.closes stands.built stands.whole }
 
 -- so it is never stuck with the checker's test of effects
-pub never_stuck : (P : Program) → IsSafe P → IsNeverStuck P fits (callable_height P)
+never_stuck : (P : Program) → IsSafe P → IsNeverStuck P fits (callable_height P)
 never_stuck P safe n = safe.phrase [] n
+
+-- so its image carries it with that test
+pub if_carried :
+    (closed : Closed) (r : Result Image Memory) →
+    IfOk r (λ image. (P : Program) (fits : Height → Height → Bool) (callable_height : Callable → Option Height) → Closes P closed.program closed.templates → IsBuilt P → IsNeverStuck P fits callable_height → Carries P fits callable_height image) →
+    IfOk r (λ image. (P : Program) → StandsForSafe closed P → Carried P image)
+if_carried closed (Ok image) h = λ P stands. h P fits (callable_height P) stands.closes stands.built (never_stuck P stands.safe)
+if_carried closed (Err e) h = tt

@@ -1,15 +1,16 @@
 -- Endings of runs.
-use Rattle.std.proofs.Common.{◌≡◌, ℕ, List, [], ◌∷◌, Some, None, refl, ap, sym, subst, ◌∙◌}
+use Rattle.std.proofs.Common.{◌≡◌, ℕ, List, [], ◌∷◌, Some, None, Result, Ok, Err, IfOk, refl, ap, sym, subst, ◌∙◌}
 use Rattle.std.specs.Prelude.{map, reverse}
 use Rattle.std.proofs.lemmas.List.{map-append, reverse-reverse}
 use mathlib.Core.List.{reverse-cons}
 use Rattle.std.specs.Option.{option_map}
 use Rattle.std.specs.declared.option.Option.{Option}
+use Rattle.fac_lang.specs.declared.memory.Memory.{Memory}
 use Rattle.fac_lang.specs.declared.program.Program.{Program}
-use Rattle.fac_lang.specs.Texts.{Value, int, no}
+use Rattle.fac_lang.specs.Texts.{Value}
 use Rattle.fac_lang.specs.World.{World, Error}
 use Rattle.fac_lang.specs.Printed.{Names, printed}
-use Rattle.fac_lang.specs.Eval.{Done, Failed}
+use Rattle.fac_lang.specs.Eval.{Done, Failed, Spent}
 use Rattle.fac_prim.specs.Cells.{MValue, MCallable, cells}
 use Rattle.fac_prim.specs.Trees.{value_in, values_in}
 use Rattle.fac_prim.specs.ErrorNames.{name_back}
@@ -20,6 +21,7 @@ use Rattle.fac_vm.specs.declared.machine.StopKind.TheVariants as stop
 use Rattle.fac_vm.specs.Machine.{empty_world}
 use Rattle.fac_vm.specs.Runs.{error_of}
 use Rattle.fac_emit.specs.View.{template_texts, value_view, values_view, error_view, option_view}
+use Rattle.fac_tool.specs.declared.ended.Report.TheVariants as report
 use Rattle.fac_tool.specs.Answer.{Answer, budget, meaning, of_run, shown, error_report}
 use Rattle.fac_tool.specs.Seen.{sink_seen}
 use Rattle.fac_tool.specs.Stops.{StopsAs, SameNames, value_form, value_text, machine_report}
@@ -32,11 +34,15 @@ Prints v text = (N : Names) (T : List MCallable) (w : World MValue) → text ≡
 no_names : Names
 no_names = record { word_name = λ w. []; kind_name = λ k. []; kind_slots = λ k. []; word_kind = λ w. 0; tuple_class = λ w. None }
 
-pub form_is : (v : MachineValue) (text : List ℕ) → Prints v text → text ≡ value_form v
+form_is : (v : MachineValue) (text : List ℕ) → Prints v text → text ≡ value_form v
 form_is (Int z) text e = e no_names [] empty_world
 form_is True text e = e no_names [] empty_world
 form_is False text e = e no_names [] empty_world
 form_is (Callable k) text e = e no_names [] empty_world
+
+pub if_form : (v : MachineValue) (r : Result (List ℕ) Memory) → IfOk r (λ text. Prints v text) → IfOk r (λ text. text ≡ value_form v)
+if_form v (Ok text) h = form_is v text h
+if_form v (Err e) h = tt
 
 -- the text of a value of the machine is that of the value in the meaning
 text_same : (P : Program) (T : List MCallable) (w : World Value) (v : MachineValue) → shown P w (value_view (template_texts P) (value_in T v)) ≡ value_text v
@@ -80,3 +86,10 @@ failed_matches P C T e stack ticks before now m n named h =
     let matches : Matches (of_run P (Failed h.0 h.1 h.2)) (sink_seen before now m n) (record { status = 1; ticks = ticks; stack = None; refusal = Some (machine_report C e) }) =
     record { status = refl; ticks = h.4; stack = refl; refusal = ap Some (sym (report_same P C T h.1.world h.0 e named h.6)); output = h.5 } in
     subst (λ (a : Answer). Matches a (sink_seen before now m n) (record { status = 1; ticks = ticks; stack = None; refusal = Some (machine_report C e) })) (sym answer) matches
+
+pub spent_matches : (P : Program) (T : List MCallable) (stack : List MValue) (ticks : ℕ) (before now : Option (List ℕ)) (m n : ℕ) → StopsAs P T stack ticks before now stop.Spent → Matches (of_run P (meaning P budget)) (sink_seen before now m n) (record { status = 6; ticks = ticks; stack = None; refusal = Some (report.Spent ticks) })
+spent_matches P T stack ticks before now m n h =
+    let answer = ap (of_run P) h.2 in
+    let matches : Matches (of_run P (Spent h.0 h.1)) (sink_seen before now m n) (record { status = 6; ticks = ticks; stack = None; refusal = Some (report.Spent ticks) }) =
+    record { status = refl; ticks = h.3; stack = refl; refusal = ap (λ (k : ℕ). Some (report.Spent k)) h.3; output = h.4 } in
+    subst (λ (a : Answer). Matches a (sink_seen before now m n) (record { status = 6; ticks = ticks; stack = None; refusal = Some (report.Spent ticks) })) (sym answer) matches

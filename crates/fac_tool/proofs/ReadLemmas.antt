@@ -7,8 +7,7 @@ use Rattle.fac_lang.specs.declared.tree.Form.{Form}
 use Rattle.fac_lang.specs.Whole.{IsWhole}
 use Rattle.fac_parse.specs.declared.resolver.NameFault.{NameFault}
 use Rattle.fac_parse.specs.Words.{is_readable, numbered, words}
-use Rattle.fac_parse.specs.Reader.{Top, forms_from}
-use Rattle.fac_parse.specs.Trees.{IsWellFormed}
+use Rattle.fac_parse.specs.Trees.{IsWellFormed, Reads}
 use Rattle.fac_parse.specs.Resolution.{resolved}
 use Rattle.fac_parse.proofs.ParseLemmas.{read_is_tree, no_tree}
 use Rattle.fac_parse.proofs.WholePrograms.{resolved_whole}
@@ -18,12 +17,15 @@ use Rattle.fac_check.proofs.Promised.{accepted_are_safe}
 use Rattle.fac_tool.specs.Answer.{if_accepted, accepted_of, accepted}
 use Rattle.fac_tool.specs.Answers.{IsReadAs}
 
-read_tokens : (file : ℕ) (text : List ℕ) (fs : Option (List Form)) → forms_from Top (numbered file 1 (words text)) ≡ fs → list_all is_readable text ≡ true → IsReadAs file text fs
-read_tokens file text (Some fs) e plain = (plain, read_is_tree (numbered file 1 (words text)) fs e)
-read_tokens file text None e plain = λ plain forms. no_tree (numbered file 1 (words text)) e forms
+-- where a reader of tokens finds each tree that they have
+read_by :
+    (file : ℕ) (text : List ℕ) (fs : Option (List Form)) → ((forms : List Form) → fs ≡ Some forms → Reads (numbered file 1 (words text)) forms) →
+    (fs ≡ None → (forms : List Form) → Reads (numbered file 1 (words text)) forms → ⊥) → list_all is_readable text ≡ true → IsReadAs file text fs
+read_by file text (Some forms) found none plain = (plain, found forms refl)
+read_by file text None found none plain = λ again forms. none refl forms
 
 read_text : (file : ℕ) (text : List ℕ) (b : Bool) → list_all is_readable text ≡ b → (forms : Option (List Form)) × IsReadAs file text forms
-read_text file text true e = (forms_from Top (numbered file 1 (words text)), read_tokens file text (forms_from Top (numbered file 1 (words text))) refl e)
+read_text file text true e = let tokens = numbered file 1 (words text) in (_, read_by file text _ (read_is_tree tokens) (no_tree tokens) e)
 read_text file text false e = (None, λ plain forms reads. cc)
 
 pub is_read : (file : ℕ) (text : List ℕ) → (forms : Option (List Form)) × IsReadAs file text forms
