@@ -20,12 +20,12 @@ returns-in-Ok-error_report-clause-ends g c P named carries files stay =
 
 pub returns-in-Err-error_report-clause-ends : goal.returns-in-Err-error_report-clause-ends
 returns-in-Err-error_report-clause-ends g c P named carries files stay =
-    no_memory_in_run P (of_run P (meaning P budget)) files _ _ _ c.bare-in-Err.ensures (c.run_machine-stop.ensures.within P carries) stay
+    no_memory_in_run P (of_run P (meaning P budget)) files _ _ _ c.bare-in-Err-error_report.ensures (c.run_machine-stop.ensures.within P carries) stay
 
 pub returns-in-Spent-clause-ends : goal.returns-in-Spent-clause-ends
 returns-in-Spent-clause-ends g c P named carries files stay =
     let stops = rw c.in-Spent.is at (c.run_machine-stop.ensures.stops P carries) in
-    rw c.refused-in-Spent.ensures (spent_matches P _ [] c.run_machine-stop.result.ticks _ _ _ _ stops, stay)
+    rw c.refused-in-Spent.ensures (spent_matches P [] [] c.run_machine-stop.result.ticks _ _ _ _ stops, stay)
 
 pub unreachable-requires : goal.unreachable-requires
 unreachable-requires g c = rw c.in-Trap.is at (c.run_machine-stop.ensures.stops c.requires.carries.0 c.requires.carries.1)
