@@ -1,8 +1,14 @@
 //! Tests of the worked examples, and of each fault of the files and streams.
+ghost use Rattle.std.specs.Prelude.{IfOk};
+ghost use Rattle.fac_lang.specs.declared.program.Program.{Program as Source};
+ghost use Rattle.fac_lang.specs.Forms.{IsBuilt};
+ghost use Rattle.fac_locals.specs.Closed.{Closes};
+
 use fac_check::{CheckFault, Rule, check};
 use fac_emit::compile;
 use fac_io::{Asked, MemFiles, MemSink};
 use fac_lang::{Bytes, List, Memory, Text};
+use fac_locals::{Closed, close};
 use fac_parse::{parse, resolve, tokens};
 use fac_tool::{Ended, factor_top};
 use fac_vm::{Machine, StopKind};
@@ -96,6 +102,25 @@ fn assert_call(
     assert_eq!(rt; call.notes.taken(), note.as_bytes(), "at {at}");
 }
 
+// Whether a call ended well, with this output and these texts of its stack, each with a space behind it.
+fn assert_done(
+    alloc: Global,
+    rt: &impl Abort,
+    at: &str,
+    call: &Left,
+    ticks: u64,
+    output: &str,
+    left: &str,
+) -> Result<(), Fail> {
+    assert_call(rt, at, call, 0, ticks, output, "");
+    assert!(rt; call.ended.refusal.is_none());
+    match stack(alloc, &call.ended)? {
+        Some(told) => assert_eq!(rt; told.as_str(), left, "at {at}"),
+        None => assert!(rt; false, "no stack at {at}"),
+    }
+    Ok(())
+}
+
 #[test]
 fn programs_that_run(rt: HostRuntime) -> Result<(), Fail> {
     let alloc = rt.alloc();
@@ -137,12 +162,78 @@ fn programs_that_run(rt: HostRuntime) -> Result<(), Fail> {
     ];
     for (text, output, ticks, left) in cases {
         let call = run(alloc, text.as_bytes())?;
-        assert_call(&rt, text, &call, 0, ticks, output, "");
-        assert!(rt; call.ended.refusal.is_none());
-        match stack(alloc, &call.ended)? {
-            Some(told) => assert_eq!(rt; told.as_str(), left, "at {text}"),
-            None => assert!(rt; false, "no stack at {text}"),
-        }
+        assert_done(alloc, &rt, text, &call, ticks, output, left)?;
+    }
+    Ok(())
+}
+
+// Each item takes one tick, and so does the entry of what `curry` or `compose` made.
+#[test]
+fn quotations_that_run(rt: HostRuntime) -> Result<(), Fail> {
+    let alloc = rt.alloc();
+    let cases = [
+        (
+            "USING: kernel prettyprint ; : j ( -- x ) 7 ; : k ( -- x y ) 5 [ j ] dip ; k . .",
+            "5\n7\n",
+            8,
+            "",
+        ),
+        ("USING: kernel ; 1 2 [ drop ] curry call", "", 7, "1 "),
+        ("USING: kernel math ; 10 3 [ - ] curry call", "", 7, "7 "),
+        ("USING: kernel ; [ 1 ] [ 2 ] compose call", "", 7, "1 2 "),
+        (
+            "USING: kernel prettyprint ; t [ 1 ] [ 2 ] if .",
+            "1\n",
+            6,
+            "",
+        ),
+        (
+            "USING: kernel prettyprint ; f [ 1 ] [ 2 ] if .",
+            "2\n",
+            6,
+            "",
+        ),
+        ("USING: kernel ; 0 [ 1 ] [ 2 ] if", "", 5, "1 "),
+        ("USING: kernel ; 1 2 t ?", "", 4, "2 "),
+        (
+            "USING: kernel ; 1 not f not 1 2 and f 2 and 1 2 or f 2 or",
+            "",
+            16,
+            "f t 2 f 1 2 ",
+        ),
+        ("USING: kernel ; 1 2 3 pick -rot nip", "", 6, "1 1 3 "),
+        ("USING: prettyprint ; [ 1 ] .", "[ ... ]\n", 2, ""),
+        (
+            "USING: kernel ; [ 1 ] [ 2 3 ] dup",
+            "",
+            3,
+            "[ ... ] [ ... ] [ ... ] ",
+        ),
+        ("USING: kernel ; t f [ drop ]", "", 3, "t f [ ... ] "),
+        (
+            "USING: kernel ; : flip ( ? -- ) [ f flip ] [ ] if ; t flip",
+            "",
+            10,
+            "",
+        ),
+        (
+            "USING: kernel math prettyprint ; : twice ( x q -- x ) dup dip call ; inline 5 [ 1 + ] twice [ 2 * ] twice .",
+            "28\n",
+            20,
+            "",
+        ),
+        (
+            "USING: kernel ; : wrong ( -- ) drop ; inline 1",
+            "",
+            1,
+            "1 ",
+        ),
+        (": more ( -- ) 1 2 ; inline more", "", 3, "1 2 "),
+        (": never ( -- * ) never ;", "", 0, ""),
+    ];
+    for (text, output, ticks, left) in cases {
+        let call = run(alloc, text.as_bytes())?;
+        assert_done(alloc, &rt, text, &call, ticks, output, left)?;
     }
     Ok(())
 }
@@ -174,7 +265,10 @@ fn programs_that_are_refused(rt: HostRuntime) -> Result<(), Fail> {
             "check: top-level, a token 9: underflow, needs 1, has 0\n",
         ),
         (": w ( -- ) 1", 3, syntax),
-        (": w ( -- * ) ;", 3, syntax),
+        ("[ 1", 3, syntax),
+        ("1 ]", 3, syntax),
+        ("1 inline", 3, syntax),
+        (": w ( -- ) ; inline recursive", 3, syntax),
         (": w ( ..a -- ) ;", 3, syntax),
         (": w ( x: -- ) ;", 3, syntax),
         (": w : v ( -- ) ; ( -- ) ;", 3, syntax),
@@ -209,11 +303,121 @@ fn programs_that_are_refused(rt: HostRuntime) -> Result<(), Fail> {
             5,
             "check: top-level, a token 4: underflow, needs 2, has 0\n",
         ),
+        ("[ 1 foo ]", 4, "name: a token 3: unknown foo\n"),
     ];
     for (text, status, note) in cases {
         let call = run(alloc, text.as_bytes())?;
         assert_call(&rt, text, &call, status, 0, "", note);
         assert!(rt; call.ended.stack.is_none());
+    }
+    Ok(())
+}
+
+#[test]
+fn quotations_that_are_refused(rt: HostRuntime) -> Result<(), Fail> {
+    let alloc = rt.alloc();
+    let cases = [
+        (
+            "USING: kernel ; : g ( ? -- x ) [ 1 ] [ 1 2 ] if ;",
+            "check: scratchpad:g, a token 18: branches, 1 and 2\n",
+        ),
+        (
+            "USING: kernel ; : h ( q -- ) call ;",
+            "check: scratchpad:h, a token 10: not-known\n",
+        ),
+        (
+            "USING: kernel ; 1 2 curry call",
+            "check: top-level, a token 7: not-known\n",
+        ),
+        (
+            "USING: kernel ; t [ 1 ] 2 if",
+            "check: top-level, a token 9: not-known\n",
+        ),
+        (
+            "USING: kernel ; [ dup call ] dup call",
+            "check: top-level, a token 6: too-deep\n",
+        ),
+        (
+            "USING: kernel ; : lp ( q -- ) dup call lp ; inline",
+            "check: scratchpad:lp, a token 5: undeclared-recursion\n",
+        ),
+        (
+            ": w ( -- * ) ;",
+            "check: scratchpad:w, a token 2: must-return\n",
+        ),
+        (
+            "USING: kernel ; [ drop ] call",
+            "check: top-level, a token 5: underflow, needs 1, has 0\n",
+        ),
+        (
+            "USING: kernel ; [ 1 ] dip",
+            "check: top-level, a token 7: underflow, needs 2, has 1\n",
+        ),
+        (
+            "USING: kernel ; 1 [ ] if",
+            "check: top-level, a token 7: underflow, needs 3, has 2\n",
+        ),
+        (
+            "USING: kernel ; : wrong ( -- ) drop ; inline wrong",
+            "check: top-level, a token 9: underflow, needs 1, has 0\n",
+        ),
+        (
+            ": a ( -- ) ; inline : b ( -- x ) a ;",
+            "check: scratchpad:b, a token 9: outputs, declared 1, found 0\n",
+        ),
+    ];
+    for (text, note) in cases {
+        let call = run(alloc, text.as_bytes())?;
+        assert_call(&rt, text, &call, 5, 0, "", note);
+        assert!(rt; call.ended.stack.is_none());
+    }
+    Ok(())
+}
+
+// A text that begins and ends so, with another text so many times between them.
+fn repeated(alloc: Global, begin: &str, part: &str, count: u32, end: &str) -> Result<Text, Memory> {
+    let mut text = Text::from_str(alloc, begin)?;
+    for _ in 0..count {
+        text.push_str(part)?;
+    }
+    text.push_str(end)?;
+    Ok(text)
+}
+
+// 200,000 items are walked, and not one more.
+#[test]
+fn large_words(rt: HostRuntime) -> Result<(), Fail> {
+    let alloc = rt.alloc();
+    let begin = "USING: kernel ; : w ( -- ) ";
+    let cases = [
+        (";", 0, ""),
+        (
+            "1 ;",
+            5,
+            "check: scratchpad:w, a token 200009: too-large\n",
+        ),
+    ];
+    for (end, status, note) in cases {
+        let text = repeated(alloc, begin, "1 drop ", 100_000, end)?;
+        let call = run(alloc, text.as_str().as_bytes())?;
+        assert_call(&rt, end, &call, status, 0, "", note);
+    }
+    Ok(())
+}
+
+// 64 nested applications are entered, and not one more. Each takes a tick for its quotation and one for its `call`.
+#[test]
+fn nested_applications(rt: HostRuntime) -> Result<(), Fail> {
+    let alloc = rt.alloc();
+    let cases = [
+        (64u32, 0, 128, ""),
+        (65, 5, 0, "check: top-level, a token 70: too-deep\n"),
+    ];
+    for (levels, status, ticks, note) in cases {
+        let inner = repeated(alloc, "", "] call ", levels, "")?;
+        let text = repeated(alloc, "USING: kernel ; ", "[ ", levels, inner.as_str())?;
+        let call = run(alloc, text.as_str().as_bytes())?;
+        assert_call(&rt, note, &call, status, ticks, "", note);
     }
     Ok(())
 }
@@ -245,6 +449,60 @@ fn programs_that_fail(rt: HostRuntime) -> Result<(), Fail> {
             "",
             5,
             "error: overflow in math:*\n",
+        ),
+        (
+            "USING: kernel prettyprint ; : w ( -- ) 5 throw ; w",
+            "",
+            3,
+            "error: thrown in kernel:throw: 5\n",
+        ),
+        (
+            "USING: kernel ; : w ( -- * ) 5 throw ; w",
+            "",
+            3,
+            "error: thrown in kernel:throw: 5\n",
+        ),
+        (
+            "USING: kernel math ; : w ( -- * ) 5 throw ; w + drop",
+            "",
+            3,
+            "error: thrown in kernel:throw: 5\n",
+        ),
+        (
+            "USING: kernel prettyprint ; 1 . [ 1 ] throw",
+            "1\n",
+            4,
+            "error: thrown in kernel:throw: [ ... ]\n",
+        ),
+        (
+            "USING: math ; t 1 +",
+            "",
+            3,
+            "error: not-integer in math:+: t\n",
+        ),
+        (
+            "USING: kernel math ; [ 1 f ] [ * ] compose call",
+            "",
+            8,
+            "error: not-integer in math:*: f\n",
+        ),
+        (
+            "USING: kernel ; 1 2 curry",
+            "",
+            3,
+            "error: wrong-values in kernel:curry: 2\n",
+        ),
+        (
+            "USING: kernel ; 1 2 compose",
+            "",
+            3,
+            "error: wrong-values in kernel:compose: 1\n",
+        ),
+        (
+            "USING: kernel ; [ 1 ] 2 compose",
+            "",
+            3,
+            "error: wrong-values in kernel:compose: 2\n",
         ),
     ];
     for (text, output, ticks, note) in cases {
@@ -367,11 +625,19 @@ fn budgets_that_are_spent(rt: HostRuntime) -> Result<(), Fail> {
     Ok(())
 }
 
-// Checks and compiles a text, and runs it within a budget: how it ended and what was written.
-fn run_with(alloc: Global, text: &str, ticks: u64) -> Result<(u64, StopKind, MemSink), Fail> {
+// The closed program of a text.
+fn closed_text(alloc: Global, text: &str) -> Result<Closed, Fail>
+    ensures { IfOk result (λ closed. (P : Source) × Closes P closed.program closed.templates × IsBuilt P) }
+{
     let tree = parse(alloc, &tokens(alloc, 1, text.as_bytes())?)?;
-    let checked = check(resolve(alloc, &tree)?)?;
-    let mut machine = Machine::new(alloc, compile(alloc, &checked)?)?;
+    let program = resolve(alloc, &tree)?;
+    Ok(close(alloc, program, 0)?)
+}
+
+// Compiles a text, and runs it within a budget: how it ended and what was written.
+fn run_with(alloc: Global, text: &str, ticks: u64) -> Result<(u64, StopKind, MemSink), Fail> {
+    let closed = closed_text(alloc, text)?;
+    let mut machine = Machine::new(alloc, compile(alloc, &closed)?)?;
     let mut out = sink(alloc, &[])?;
     let stop = machine.run(alloc, &mut out, ticks);
     Ok((stop.ticks, stop.what, out))
@@ -416,8 +682,7 @@ fn the_checker_alone(rt: HostRuntime) -> Result<(), Fail> {
         ),
     ];
     for (text, rule) in cases {
-        let tree = parse(alloc, &tokens(alloc, 1, text.as_bytes())?)?;
-        match check(resolve(alloc, &tree)?) {
+        match check(alloc, closed_text(alloc, text)?) {
             Ok(_) => assert!(rt; rule.is_none(), "at {text}"),
             Err(CheckFault::Refused(refusal)) => assert_eq!(rt;
                 Some(refusal.rule),

@@ -3,3 +3,4 @@ pub mod TextLemmas
 pub mod EndLemmas
 pub mod ReadLemmas
 pub mod StopLemmas
+pub mod ClosedLemmas

@@ -1,5 +1,5 @@
 -- What a command answers, as a function of the forms of its file.
-use Rattle.std.specs.Prelude.{◌==◌, ℕ, ◌-◌, List, [], ◌∷◌, ◌++◌, length, map, reverse, None, Some, codes, nat_le, false, Result, Ok, Err, slice_get, if◌then◌else◌}
+use Rattle.std.specs.Prelude.{◌==◌, ℕ, ◌-◌, List, [], ◌∷◌, ◌++◌, length, map, reverse, None, Some, codes, nat_le, Result, Ok, Err, slice_get, if◌then◌else◌}
 use Rattle.std.specs.declared.option.Option.{Option}
 use Rattle.std.specs.Option.{option_map}
 use Rattle.fac_lang.specs.declared.program.Name.{Name}
@@ -14,13 +14,14 @@ use Rattle.fac_lang.specs.Meaning.{texts, names, run, start, word_text}
 use Rattle.fac_parse.specs.declared.reader.Why.TheVariants.{Other}
 use Rattle.fac_parse.specs.declared.resolver.NameFault.{NameFault}
 use Rattle.fac_parse.specs.Resolution.{resolved}
-use Rattle.fac_check.specs.declared.checker.Refusal.{Refusal}
-use Rattle.fac_check.specs.Verdict.{verdict}
-use Rattle.fac_vm.specs.Seen.{name_from}
+use Rattle.fac_check.specs.CallableEffects.{callable_height, fits}
+use Rattle.fac_check.specs.Verdicts.{Refusal, verdict}
+use Rattle.fac_prim.specs.ErrorNames.{name_from}
 use Rattle.fac_tool.specs.declared.command.Command.{Command}
 use Rattle.fac_tool.specs.declared.command.Command.TheVariants as command
 use Rattle.fac_tool.specs.declared.ended.Report.{Report}
 use Rattle.fac_tool.specs.declared.ended.Report.TheVariants as report
+use Rattle.fac_tool.specs.Refusals.{refusal_of}
 
 -- the most bytes that are read
 abbrev pub limit : ℕ
@@ -41,9 +42,9 @@ pub record Answer : Type 0 where
 abbrev pub refused : ℕ → Report → Answer
 refused status why = record { status = status; ticks = 0; stack = None; refusal = Some why; output = [] }
 
--- a run of the top-level phrase with so many ticks; no item of the forms built so far tests an effect
+-- a run of the top-level phrase with so many ticks, where callables are tested by the effects that the checker finds
 abbrev pub meaning : Program → ℕ → Run
-meaning P n = run P (λ h k. false) (λ c. None) n (word_text P P.top) (start P [])
+meaning P n = run P fits (callable_height P) n (word_text P P.top) (start P [])
 
 -- a printed form, or three dots where it has more than 1,000 bytes
 abbrev pub shown_text : List ℕ → List ℕ
@@ -86,27 +87,29 @@ of_run P Stuck = record { status = 7; ticks = 0; stack = None; refusal = None; o
 abbrev pub on_accepted : Command → Program → Answer
 on_accepted (command.Run file) P = of_run P (meaning P budget)
 
-abbrev pub on_verdict : Command → Program → Option Refusal → Answer
-on_verdict c P (Some refusal) = refused 5 (report.Check refusal (name_text (word_name P refusal.word)))
+-- the first refused word by its number, with its refusal, or an accepted program
+abbrev pub on_verdict : Command → Program → Option (ℕ × Refusal) → Answer
+on_verdict c P (Some first) = refused 5 (report.Check (refusal_of first) (name_text (word_name P first.0)))
 on_verdict c P None = on_accepted c P
 
+-- a refused name, or a program, whose top-level phrase starts from no value
 abbrev pub on_resolved : Command → Result Program NameFault → Answer
 on_resolved c (Err fault) = refused 4 (report.Name fault)
-on_resolved c (Ok P) = on_verdict c P (verdict P)
+on_resolved c (Ok P) = on_verdict c P (verdict P 0)
 
--- the forms of the file, or that it has no tree
+-- by the forms of the file, or that it has no tree
 abbrev pub answer_on : Command → Option (List Form) → Answer
 answer_on c None = refused 3 (report.Syntax 1 0 Other)
 answer_on c (Some forms) = on_resolved c (resolved forms)
 
 -- the accepted program of the forms
-abbrev pub if_accepted : Program → Option Refusal → Option Program
-if_accepted P (Some refusal) = None
+abbrev pub if_accepted : Program → Option (ℕ × Refusal) → Option Program
+if_accepted P (Some first) = None
 if_accepted P None = Some P
 
 abbrev pub accepted_of : Result Program NameFault → Option Program
 accepted_of (Err fault) = None
-accepted_of (Ok P) = if_accepted P (verdict P)
+accepted_of (Ok P) = if_accepted P (verdict P 0)
 
 abbrev pub accepted : Option (List Form) → Option Program
 accepted None = None

@@ -11,7 +11,7 @@ use Rattle.fac_lang.specs.declared.tree.Form.{Form}
 use Rattle.fac_lang.specs.declared.tree.Tree.{Tree}
 use Rattle.fac_parse.specs.Words.{is_readable, numbered, words}
 use Rattle.fac_parse.specs.Trees.{Reads}
-use Rattle.fac_check.specs.Sound.{IsSound}
+use Rattle.fac_check.specs.Promises.{IsSafe}
 use Rattle.fac_tool.specs.declared.command.Command.{Command}
 use Rattle.fac_tool.specs.declared.ended.Ended.{Ended}
 use Rattle.fac_tool.specs.declared.ended.Report.TheVariants as report
@@ -66,7 +66,7 @@ pub record LoadTooLong (name : List ℕ) (files : FilesSeen) (out : SinkSeen) (e
   pub longer : IfSome files.held_before (λ held. IsSomeAnd (held name) (λ text. limit < length text))
   pub ends : LoadEnds name files out ended
 
--- a text was loaded, and the work on it went on from the files as the load left them; an accepted program is sound
+-- a text was loaded, and the work on it went on from the files as the load left them; an accepted program is safe
 pub record Loaded (name : List ℕ) (command : Command) (files : FilesSeen) (out : SinkSeen) (ended : Ended) : Type 0 where
   pub text : List ℕ
   pub forms : Option (List Form)
@@ -79,7 +79,7 @@ pub record Loaded (name : List ℕ) (command : Command) (files : FilesSeen) (out
   pub asked : Grows files.asked_before mid_asked (Load name ∷ [])
   pub count : files.faults_before ≤ mid_faults
   pub is_read : IsReadAs 1 text forms
-  pub sound : IfSome (accepted forms) IsSound
+  pub sound : IfSome (accepted forms) IsSafe
   pub ends : EndsBy (ending_of ended.status) (answer_on command forms) (work_of command (accepted forms)) (files_seen mid_held files.held_now mid_asked files.asked_now mid_faults files.faults_now) out ended
 
 -- the work of a command on its file

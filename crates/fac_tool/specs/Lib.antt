@@ -1,5 +1,6 @@
 pub mod Command
 pub mod Seen
+pub mod Refusals
 pub mod Answer
 pub mod Notes
 pub mod Ends

@@ -6,11 +6,11 @@ use Rattle.fac_parse.specs.declared.reader.Why.TheVariants as why
 use Rattle.fac_parse.specs.declared.resolver.NameKind.{NameKind}
 use Rattle.fac_parse.specs.declared.resolver.NameKind.TheVariants as kind
 use Rattle.fac_parse.specs.declared.resolver.NameFault.{NameFault}
-use Rattle.fac_check.specs.declared.checker.Refusal.{Refusal}
-use Rattle.fac_check.specs.declared.checker.Rule.{Rule}
-use Rattle.fac_check.specs.declared.checker.Rule.TheVariants as rule
-use Rattle.fac_vm.specs.declared.value.ErrorName.{ErrorName}
-use Rattle.fac_vm.specs.declared.value.ErrorName.TheVariants as error
+use Rattle.fac_check.specs.declared.rule.Refusal.{Refusal}
+use Rattle.fac_check.specs.declared.rule.Rule.{Rule}
+use Rattle.fac_check.specs.declared.rule.Rule.TheVariants as rule
+use Rattle.fac_code.specs.declared.names.ErrorName.{ErrorName}
+use Rattle.fac_code.specs.declared.names.ErrorName.TheVariants as error
 use Rattle.fac_lang.specs.declared.program.Name.{Name}
 use Rattle.fac_tool.specs.declared.ended.Report.{Report}
 use Rattle.fac_tool.specs.declared.ended.Report.TheVariants as report
@@ -43,9 +43,30 @@ underflow_text needs has = codes "underflow, needs " ++ decimal needs ++ codes "
 abbrev pub outputs_text : ℕ → ℕ → List ℕ
 outputs_text declared found = codes "outputs, declared " ++ decimal declared ++ codes ", found " ++ decimal found
 
+abbrev pub branches_text : ℕ → ℕ → List ℕ
+branches_text first second = codes "branches, " ++ decimal first ++ codes " and " ++ decimal second
+
+abbrev pub recursive_input_text : ℕ → List ℕ
+recursive_input_text input = codes "recursive-input, input " ++ decimal input
+
+abbrev pub rows_text : ℕ → ℕ → ℕ → List ℕ
+rows_text input expected found = codes "rows, input " ++ decimal input ++ codes ", expected " ++ decimal expected ++ codes ", found " ++ decimal found
+
+-- a rule with its numbers
 abbrev pub rule_text : Rule → List ℕ
 rule_text (rule.Underflow needs has) = underflow_text needs has
+rule_text rule.NotKnown = codes "not-known"
+rule_text rule.NotAClass = codes "not-a-class"
+rule_text (rule.Branches first second) = branches_text first second
+rule_text (rule.RecursiveInput input) = recursive_input_text input
+rule_text (rule.Rows input expected found) = rows_text input expected found
+rule_text rule.UndeclaredRecursion = codes "undeclared-recursion"
+rule_text rule.RowDeclaration = codes "row-declaration"
+rule_text rule.MethodEffect = codes "method-effect"
+rule_text rule.TooDeep = codes "too-deep"
+rule_text rule.TooLarge = codes "too-large"
 rule_text (rule.Outputs declared found) = outputs_text declared found
+rule_text rule.MustReturn = codes "must-return"
 
 abbrev pub error_text : ErrorName → List ℕ
 error_text error.NotInteger = codes "not-integer"

@@ -1,36 +1,73 @@
 -- A run of the machine that carries a program, in terms of the program's meaning.
-use Rattle.std.specs.Prelude.{◌≡◌, ℕ, ◌-◌, List, map}
+use Rattle.std.specs.Prelude.{◌≡◌, ℕ, ◌-◌, List, codes}
 use Rattle.std.specs.declared.option.Option.{Option}
 use Rattle.std.specs.Option.{option_map}
 use Rattle.std.specs.Fmt.{signed_decimal}
 use Rattle.fac_io.specs.Told.{Grows}
 use Rattle.fac_lang.specs.declared.program.Program.{Program}
-use Rattle.fac_lang.specs.Texts.{Plain, Item, Value, plain}
+use Rattle.fac_lang.specs.Texts.{Item, Value}
 use Rattle.fac_lang.specs.World.{State, Error}
 use Rattle.fac_lang.specs.Eval.{Done, Failed, Spent}
-use Rattle.fac_vm.specs.declared.value.Value.{Value as MachineValue}
-use Rattle.fac_vm.specs.declared.value.Value.TheVariants.{Int}
+use Rattle.fac_lang.specs.Forms.{IsBuilt}
+use Rattle.fac_lang.specs.Whole.{IsWhole}
+use Rattle.fac_locals.specs.Closed.{Closes}
+use Rattle.fac_locals.specs.declared.closing.Closed.{Closed}
+use Rattle.fac_check.specs.CallableEffects.{callable_height, fits}
+use Rattle.fac_check.specs.Promises.{IsSafe}
+use Rattle.fac_code.specs.declared.image.Image.{Image}
+use Rattle.fac_prim.specs.Cells.{MValue, MCallable}
+use Rattle.fac_prim.specs.declared.value.Value.{Value as MachineValue}
+use Rattle.fac_prim.specs.declared.value.Value.TheVariants.{Int, True, False, Callable}
 use Rattle.fac_vm.specs.declared.machine.RunError.{RunError}
 use Rattle.fac_vm.specs.declared.machine.StopKind.{StopKind}
 use Rattle.fac_vm.specs.declared.machine.StopKind.TheVariants as stop
 use Rattle.fac_vm.specs.Runs.{error_of}
-use Rattle.fac_emit.specs.View.{error_view}
+use Rattle.fac_emit.specs.Carries.{Carries}
+use Rattle.fac_emit.specs.View.{template_texts, values_view, error_view}
 use Rattle.fac_tool.specs.declared.ended.Report.{Report}
 use Rattle.fac_tool.specs.declared.ended.Report.TheVariants as report
 use Rattle.fac_tool.specs.Answer.{meaning, budget, shown_text, word_name}
 
-abbrev pub StopsAs : Program → List Plain → ℕ → Option (List ℕ) → Option (List ℕ) → StopKind → Type 0
-StopsAs P stack ticks before now stop.Done = (st : State Value) × (left : ℕ) × (meaning P budget ≡ Done st left) × (ticks ≡ budget - left) × Grows before now st.world.output × (st.stack ≡ map plain stack)
-StopsAs P stack ticks before now (stop.Failed e) = (x : Error Value) × (st : State Value) × (left : ℕ) × (meaning P budget ≡ Failed x st left) × (ticks ≡ budget - left) × Grows before now st.world.output × (x ≡ error_view (error_of e))
-StopsAs P stack ticks before now stop.Spent = (st : State Value) × (i : Option Item) × (meaning P budget ≡ Spent st i) × (ticks ≡ budget) × Grows before now st.world.output
-StopsAs P stack ticks before now (stop.Trap pc why) = ⊥
-StopsAs P stack ticks before now stop.WriteFault = Unit {0}
-StopsAs P stack ticks before now stop.Memory = Unit {0}
+-- the program for which a closed one stands
+pub record StandsFor (closed : Closed) (P : Program) : Type 0 where
+  pub closes : Closes P closed.program closed.templates
+  pub built : IsBuilt P
+  pub whole : IsWhole P
 
--- the text of a value of the machine
+-- which is accepted, so that it is safe
+pub record StandsForSafe (closed : Closed) (P : Program) : Type 0 where
+  pub closes : Closes P closed.program closed.templates
+  pub built : IsBuilt P
+  pub safe : IsSafe P
+
+-- the words of two programs have the same names
+abbrev pub SameNames : Program → Program → Type 0
+SameNames P C = (w : ℕ) → word_name C w ≡ word_name P w
+
+-- the image carries the program with the checker's test of effects
+abbrev pub Carried : Program → Image → Type 0
+Carried P M = Carries P fits (callable_height P) M
+
+-- how a run stopped that left this stack, where the machine's callables are these
+abbrev pub StopsAs : Program → List MCallable → List MValue → ℕ → Option (List ℕ) → Option (List ℕ) → StopKind → Type 0
+StopsAs P T stack ticks before now stop.Done = (st : State Value) × (left : ℕ) × (meaning P budget ≡ Done st left) × (ticks ≡ budget - left) × Grows before now st.world.output × (st.stack ≡ values_view (template_texts P) stack)
+StopsAs P T stack ticks before now (stop.Failed e) = (x : Error Value) × (st : State Value) × (left : ℕ) × (meaning P budget ≡ Failed x st left) × (ticks ≡ budget - left) × Grows before now st.world.output × (x ≡ error_view (template_texts P) (error_of T e))
+StopsAs P T stack ticks before now stop.Spent = (st : State Value) × (i : Option Item) × (meaning P budget ≡ Spent st i) × (ticks ≡ budget) × Grows before now st.world.output
+StopsAs P T stack ticks before now (stop.Trap pc why) = ⊥
+StopsAs P T stack ticks before now stop.WriteFault = Unit {0}
+StopsAs P T stack ticks before now stop.Memory = Unit {0}
+
+-- the printed form of a value of the machine
+abbrev pub value_form : MachineValue → List ℕ
+value_form (Int z) = signed_decimal z
+value_form True = codes "t"
+value_form False = codes "f"
+value_form (Callable k) = codes "[ ... ]"
+
+-- and as it is told
 abbrev pub value_text : MachineValue → List ℕ
-value_text (Int z) = shown_text (signed_decimal z)
+value_text v = shown_text (value_form v)
 
 -- the report of a run error of the machine
 abbrev pub machine_report : Program → RunError → Report
-machine_report P e = report.Error e.name (word_name P e.word) (option_map value_text e.value)
+machine_report C e = report.Error e.name (word_name C e.word) (option_map value_text e.value)

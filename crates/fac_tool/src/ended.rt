@@ -1,8 +1,8 @@
 //! How a call ends.
 use fac_check::Refusal;
+use fac_code::ErrorName;
 use fac_lang::{List, Name, Text};
 use fac_parse::{NameFault, Why};
-use fac_vm::ErrorName;
 
 /// Why a call was refused or failed. Files are named by their numbers: 0 is the prelude, and the command's files count from 1.
 #[derive(Drop)]

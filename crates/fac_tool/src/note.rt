@@ -3,16 +3,16 @@ ghost use Rattle.std.specs.Prelude.{◌≡◌, ◌++◌, ◌∷◌, [], codes, d
 ghost use Rattle.fac_io.specs.Faults.{HasCause};
 ghost use Rattle.fac_io.specs.Told.{Grows, GrowsByPrefix};
 ghost use Rattle.fac_tool.specs.Answer.{name_text};
-ghost use Rattle.fac_tool.specs.Notes.{line_of, file_name as name_of_file, place_text, why_text, kind_text, underflow_text, outputs_text, rule_text, error_text, value_text, syntax_line as syntax_line_of, name_line as name_line_of, check_line as check_line_of, error_line as error_line_of, too_long_line as too_long_line_of, note_of, note_of_status};
+ghost use Rattle.fac_tool.specs.Notes.{line_of, file_name as name_of_file, place_text, why_text, kind_text, underflow_text, outputs_text, branches_text, recursive_input_text, rows_text, rule_text, error_text, value_text, syntax_line as syntax_line_of, name_line as name_line_of, check_line as check_line_of, error_line as error_line_of, too_long_line as too_long_line_of, note_of, note_of_status};
 ghost use Rattle.fac_tool.specs.Seen.{sink_seen};
 ghost use Rattle.fac_tool.specs.Answers.{Tells, TellsUsage};
 
 use crate::{Ended, Report};
 use fac_check::{Refusal, Rule};
+use fac_code::ErrorName;
 use fac_io::{Failed, Sink};
 use fac_lang::{Memory, Name, Text};
 use fac_parse::{NameFault, NameKind, Why};
-use fac_vm::ErrorName;
 use itoa::Buffer;
 use std::alloc::Global;
 
@@ -110,13 +110,61 @@ fn outputs(alloc: Global, declared: u32, found: u32) -> Result<Text, Memory>
     Ok(text)
 }
 
+// The text of branches that leave other numbers of values.
+fn branches(alloc: Global, first: u32, second: u32) -> Result<Text, Memory>
+    ensures { IfOk result (λ text. text ≡ branches_text first second) }
+{
+    let mut text = Text::from_str(alloc, "branches, ")?;
+    push_number(&mut text, u64::from(first))?;
+    text.push_str(" and ")?;
+    push_number(&mut text, u64::from(second))?;
+    Ok(text)
+}
+
+// The text of a recursive call with another input.
+fn recursive_input(alloc: Global, input: u32) -> Result<Text, Memory>
+    ensures { IfOk result (λ text. text ≡ recursive_input_text input) }
+{
+    let mut text = Text::from_str(alloc, "recursive-input, input ")?;
+    push_number(&mut text, u64::from(input))?;
+    Ok(text)
+}
+
+// The text of a row that isn't what it has to be.
+fn rows(alloc: Global, input: u32, expected: u32, found: u32) -> Result<Text, Memory>
+    ensures { IfOk result (λ text. text ≡ rows_text input expected found) }
+{
+    let mut text = Text::from_str(alloc, "rows, input ")?;
+    push_number(&mut text, u64::from(input))?;
+    text.push_str(", expected ")?;
+    push_number(&mut text, u64::from(expected))?;
+    text.push_str(", found ")?;
+    push_number(&mut text, u64::from(found))?;
+    Ok(text)
+}
+
 // The text of a rule with its numbers.
 fn rule(alloc: Global, rule: Rule) -> Result<Text, Memory>
     ensures { IfOk result (λ text. text ≡ rule_text rule) }
 {
     match rule {
         Rule::Underflow { needs, has } => underflow(alloc, needs, has),
+        Rule::NotKnown => Text::from_str(alloc, "not-known"),
+        Rule::NotAClass => Text::from_str(alloc, "not-a-class"),
+        Rule::Branches { first, second } => branches(alloc, first, second),
+        Rule::RecursiveInput { input } => recursive_input(alloc, input),
+        Rule::Rows {
+            input,
+            expected,
+            found,
+        } => rows(alloc, input, expected, found),
+        Rule::UndeclaredRecursion => Text::from_str(alloc, "undeclared-recursion"),
+        Rule::RowDeclaration => Text::from_str(alloc, "row-declaration"),
+        Rule::MethodEffect => Text::from_str(alloc, "method-effect"),
+        Rule::TooDeep => Text::from_str(alloc, "too-deep"),
+        Rule::TooLarge => Text::from_str(alloc, "too-large"),
         Rule::Outputs { declared, found } => outputs(alloc, declared, found),
+        Rule::MustReturn => Text::from_str(alloc, "must-return"),
     }
 }
 

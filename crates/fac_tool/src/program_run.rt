@@ -1,21 +1,22 @@
 //! The run of an accepted program.
 ghost use Rattle.std.specs.Prelude.{◌≡◌, ◌≤◌, [], ℕ, List, Option, None, Some, IfOk, map};
 ghost use Rattle.fac_io.specs.Faults.{HasCause};
-ghost use Rattle.fac_lang.specs.Built.{IsBuilt};
-ghost use Rattle.fac_emit.specs.Carries.{Carries};
+ghost use Rattle.fac_lang.specs.declared.program.Program.{Program as Source};
+ghost use Rattle.fac_vm.specs.Seen.{callables_in, stack_in};
 ghost use Rattle.fac_tool.specs.Answer.{budget, meaning, of_run, shown_text, name_without_word as name_without_word_of, word_name as name_of_word};
 ghost use Rattle.fac_tool.specs.Ends.{ending_of, EndsBy, runs, FilesStay, StopsWithin};
 ghost use Rattle.fac_tool.specs.Seen.{sink_seen, FilesSeen};
-ghost use Rattle.fac_tool.specs.Stops.{StopsAs, value_text as text_of_value, machine_report};
+ghost use Rattle.fac_tool.specs.Stops.{StopsAs, Carried, SameNames, StandsForSafe, value_form, value_text as text_of_value, machine_report};
 
 use crate::note::{bare, refused};
 use crate::{Ended, Report};
 use fac_check::Checked;
+use fac_code::Image;
 use fac_emit::compile;
 use fac_io::Sink;
 use fac_lang::{Duplicate, List, Memory, Name, Program, Text};
-use fac_vm::{Image, Machine, RunError, Stop, StopKind, Value};
-use itoa::Buffer;
+use fac_prim::{Value, printed_form};
+use fac_vm::{Machine, RunError, Stop, StopKind};
 use std::alloc::Global;
 
 // The ticks of a run.
@@ -32,16 +33,19 @@ fn shown(alloc: Global, text: &str) -> Result<Text, Memory>
     }
 }
 
+// The printed form of a value.
+fn form(alloc: Global, value: Value) -> Result<Text, Memory>
+    ensures { IfOk result (λ form. form ≡ value_form value) }
+{
+    printed_form(alloc, value)
+}
+
 // The text of a value.
 fn value_text(alloc: Global, value: Value) -> Result<Text, Memory>
     ensures { IfOk result (λ text. text ≡ text_of_value value) }
 {
-    match value {
-        Value::Int(number) => {
-            let mut buffer = Buffer::new();
-            shown(alloc, buffer.format(number))
-        }
-    }
+    let form = form(alloc, value)?;
+    shown(alloc, form.as_str())
 }
 
 // The texts of values.
@@ -103,36 +107,29 @@ fn error_report(alloc: Global, program: &Program, error: RunError) -> Result<Rep
     }
 }
 
-// Runs the image that a machine has, which carries the program.
-#[tactic(auto, using(crate::proofs::StopLemmas::stops))]
-fn run_machine<K: Sink>(
-    alloc: Global,
-    program: &Program,
-    machine: &mut Machine,
-    out: &mut K,
-) -> Stop
-    requires carries { Carries program.now machine.old.image }
-    requires empty { machine.old.stack ≡ [] }
-    ensures within { StopsWithin program.now result.ticks (sink_seen (K.taken out.old) (K.taken out.new) (K.faults out.old) (K.faults out.new)) }
-    ensures stops { StopsAs program.now machine.new.stack result.ticks (K.taken out.old) (K.taken out.new) result.what }
+// Runs the image of a machine with an empty stack. What is said goes for each program that the image carries.
+fn run_machine<K: Sink>(alloc: Global, machine: &mut Machine, out: &mut K) -> Stop
+    requires empty { machine.old.values ≡ [] }
+    ensures within { (P : Source) → Carried P machine.old.image → StopsWithin P result.ticks (sink_seen (K.taken out.old) (K.taken out.new) (K.faults out.old) (K.faults out.new)) }
+    ensures stops { (P : Source) → Carried P machine.old.image → StopsAs P (callables_in machine.new) (stack_in machine.new) result.ticks (K.taken out.old) (K.taken out.new) result.what }
     ensures cause { HasCause (K.faults out.old) (K.faults out.new) (result.what ≡ StopKind.WriteFault) }
 {
     machine.run(alloc, out, BUDGET)
 }
 
-// Runs a machine whose image carries the program, and answers.
+// Runs a machine whose image carries a program, and answers. The names of words are taken from this program, which has the same.
 fn run_and_answer<K: Sink>(
     alloc: Global,
     program: &Program,
     machine: &mut Machine,
     out: &mut K,
 ) -> Ended
-    requires carries { Carries program.now machine.old.image }
-    requires empty { machine.old.stack ≡ [] }
-    ensures ends { (files : FilesSeen) → FilesStay files → EndsBy (ending_of result.status) (of_run program.now (meaning program.now budget)) (runs program.now) files (sink_seen (K.taken out.old) (K.taken out.new) (K.faults out.old) (K.faults out.new)) result }
+    requires carries { (P : Source) × Carried P machine.old.image }
+    requires empty { machine.old.values ≡ [] }
+    ensures ends { (P : Source) → SameNames P program.now → Carried P machine.old.image → (files : FilesSeen) → FilesStay files → EndsBy (ending_of result.status) (of_run P (meaning P budget)) (runs P) files (sink_seen (K.taken out.old) (K.taken out.new) (K.faults out.old) (K.faults out.new)) result }
     ensures counts { K.faults out.old ≤ K.faults out.new }
 {
-    let stop = run_machine(alloc, program, machine, out);
+    let stop = run_machine(alloc, machine, out);
     let ticks = stop.ticks;
     match stop.what {
         StopKind::Done => match texts(alloc, machine.stack()) {
@@ -155,17 +152,25 @@ fn run_and_answer<K: Sink>(
     }
 }
 
+// The image of an accepted program.
+fn image_of(alloc: Global, checked: &Checked) -> Result<Image, Memory>
+    requires { (P : Source) × StandsForSafe checked.now.closed P }
+    ensures { IfOk result (λ image. (P : Source) → StandsForSafe checked.now.closed P → Carried P image) }
+{
+    compile(alloc, &checked.closed)
+}
+
 /// Compiles an accepted program and runs it.
 pub fn run_program<K: Sink>(alloc: Global, checked: &Checked, out: &mut K) -> Ended
-    requires { IsBuilt checked.now.program }
-    ensures ends { (files : FilesSeen) → FilesStay files → EndsBy (ending_of result.status) (of_run checked.now.program (meaning checked.now.program budget)) (runs checked.now.program) files (sink_seen (K.taken out.old) (K.taken out.new) (K.faults out.old) (K.faults out.new)) result }
+    requires { (P : Source) × StandsForSafe checked.now.closed P }
+    ensures ends { (P : Source) → StandsForSafe checked.now.closed P → (files : FilesSeen) → FilesStay files → EndsBy (ending_of result.status) (of_run P (meaning P budget)) (runs P) files (sink_seen (K.taken out.old) (K.taken out.new) (K.faults out.old) (K.faults out.new)) result }
     ensures counts { K.faults out.old ≤ K.faults out.new }
 {
-    let Ok(image) = compile(alloc, checked) else {
+    let Ok(image) = image_of(alloc, checked) else {
         return bare(12, 0);
     };
     match Machine::new(alloc, image) {
-        Ok(mut machine) => run_and_answer(alloc, &checked.program, &mut machine, out),
+        Ok(mut machine) => run_and_answer(alloc, &checked.closed.program, &mut machine, out),
         Err(_) => bare(12, 0),
     }
 }

@@ -1,21 +1,26 @@
 //! The work of a command.
 ghost use Rattle.std.specs.Prelude.{◌≡◌, ◌≤◌, ℕ, List, Option, Some, None, IfOk};
-ghost use Rattle.fac_lang.specs.Built.{IsBuilt};
-ghost use Rattle.fac_check.specs.Verdict.{verdict};
+ghost use Rattle.fac_lang.specs.declared.program.Program.{Program as Source};
+ghost use Rattle.fac_lang.specs.Forms.{IsBuilt};
+ghost use Rattle.fac_lang.specs.Whole.{IsWhole};
+ghost use Rattle.fac_check.specs.Judged.{OfEach, refusal_if, refusal_seen};
+ghost use Rattle.fac_check.specs.Verdicts.{verdict};
 ghost use Rattle.fac_parse.specs.Resolution.{Resolves};
 ghost use Rattle.fac_parse.specs.Trees.{IsWellFormed};
 ghost use Rattle.fac_tool.specs.Answer.{answer_on, on_accepted, on_verdict, if_accepted, accepted, name_text, word_name};
 ghost use Rattle.fac_tool.specs.Ends.{ending_of, EndsBy, FilesStay, work_of};
 ghost use Rattle.fac_tool.specs.Seen.{sink_seen, files_seen, FilesSeen};
+ghost use Rattle.fac_tool.specs.Stops.{SameNames, StandsFor, StandsForSafe};
 ghost use Rattle.fac_tool.specs.declared.command.Command.{Command as CommandSeen};
 ghost use Rattle.fac_tool.specs.Answers.{ReachesBy, ReadsTree, WorksOn};
 
 use crate::note::{bare, push_name, refused};
 use crate::program_run::{run_program, word_name as name_of_word};
 use crate::{Command, Ended, Report};
-use fac_check::{Checked, Refusal, accept, first_refusal};
+use fac_check::{Checked, Refusal, accept, check_words, first_refused};
 use fac_io::{Files, LoadFault, Sink};
 use fac_lang::{Memory, Program, Text, Tree};
+use fac_locals::{Closed, close};
 use fac_parse::{ParseFault, ResolveFault, TokenFault, Why, parse, resolve, tokens};
 use std::alloc::Global;
 
@@ -24,6 +29,9 @@ const LIMIT: u64 = 4_194_304;
 
 // The number of the command's file.
 const FILE: u32 = 1;
+
+// The number of values that the top-level phrase starts from.
+const START: u64 = 0;
 
 // The tree of a text, or that it has none.
 fn read_tree(alloc: Global, text: &[u8]) -> Result<Option<Tree>, Memory>
@@ -50,10 +58,17 @@ fn word_text(alloc: Global, program: &Program, word: u32) -> Result<Text, Memory
     Ok(text)
 }
 
-// The refusal of a program.
+// The first refusal of a closed program.
+fn refusal_of(alloc: Global, closed: &Closed) -> Result<Option<Refusal>, Memory>
+    ensures { IfOk result (λ refusal. OfEach closed.now (λ P. verdict P closed.now.start ≡ refusal_if refusal)) }
+{
+    let verdicts = check_words(alloc, closed)?;
+    Ok(first_refused(&verdicts))
+}
+
+// The refusal of a program. The name of its word is taken from this program, which has the same names.
 fn check_refused(alloc: Global, program: &Program, refusal: Refusal) -> Ended
-    requires { verdict program.now ≡ Some refusal }
-    ensures { (command : CommandSeen) (files : FilesSeen) (told : Option (List ℕ)) (m : ℕ) → FilesStay files → EndsBy (ending_of result.status) (on_verdict command program.now (verdict program.now)) (work_of command (if_accepted program.now (verdict program.now))) files (sink_seen told told m m) result }
+    ensures { (P : Source) → SameNames P program.now → verdict P 0 ≡ Some (refusal_seen refusal) → (command : CommandSeen) (files : FilesSeen) (told : Option (List ℕ)) (m : ℕ) → FilesStay files → EndsBy (ending_of result.status) (on_verdict command P (verdict P 0)) (work_of command (if_accepted P (verdict P 0))) files (sink_seen told told m m) result }
 {
     match word_text(alloc, program, refusal.word) {
         Ok(word) => refused(5, 0, Report::Check { refusal, word }),
@@ -68,8 +83,8 @@ fn on_accepted_program<K: Sink>(
     checked: &Checked,
     out: &mut K,
 ) -> Ended
-    requires { IsBuilt checked.now.program }
-    ensures ends { (files : FilesSeen) → FilesStay files → EndsBy (ending_of result.status) (on_accepted command checked.now.program) (work_of command (Some checked.now.program)) files (sink_seen (K.taken out.old) (K.taken out.new) (K.faults out.old) (K.faults out.new)) result }
+    requires { (P : Source) × StandsForSafe checked.now.closed P }
+    ensures ends { (P : Source) → StandsForSafe checked.now.closed P → (files : FilesSeen) → FilesStay files → EndsBy (ending_of result.status) (on_accepted command P) (work_of command (Some P)) files (sink_seen (K.taken out.old) (K.taken out.new) (K.faults out.old) (K.faults out.new)) result }
     ensures counts { K.faults out.old ≤ K.faults out.new }
 {
     match command {
@@ -77,16 +92,30 @@ fn on_accepted_program<K: Sink>(
     }
 }
 
-// Answers a program.
-fn on_program<K: Sink>(alloc: Global, command: Command, program: Program, out: &mut K) -> Ended
-    requires { IsBuilt program }
-    ensures ends { (files : FilesSeen) → FilesStay files → EndsBy (ending_of result.status) (on_verdict command program (verdict program)) (work_of command (if_accepted program (verdict program))) files (sink_seen (K.taken out.old) (K.taken out.new) (K.faults out.old) (K.faults out.new)) result }
+// Answers a closed program.
+fn on_closed<K: Sink>(alloc: Global, command: Command, closed: Closed, out: &mut K) -> Ended
+    requires start { closed.start ≡ 0 }
+    requires stands { (P : Source) × StandsFor closed P }
+    ensures ends { (P : Source) → StandsFor closed P → (files : FilesSeen) → FilesStay files → EndsBy (ending_of result.status) (on_verdict command P (verdict P 0)) (work_of command (if_accepted P (verdict P 0))) files (sink_seen (K.taken out.old) (K.taken out.new) (K.faults out.old) (K.faults out.new)) result }
     ensures counts { K.faults out.old ≤ K.faults out.new }
 {
-    match first_refusal(&program) {
+    match refusal_of(alloc, &closed) {
         Err(_) => bare(12, 0),
-        Ok(Some(refusal)) => check_refused(alloc, &program, refusal),
-        Ok(None) => on_accepted_program(alloc, command, &accept(program), out),
+        Ok(Some(refusal)) => check_refused(alloc, &closed.program, refusal),
+        Ok(None) => on_accepted_program(alloc, command, &accept(closed), out),
+    }
+}
+
+// Answers a program.
+fn on_program<K: Sink>(alloc: Global, command: Command, program: Program, out: &mut K) -> Ended
+    requires built { IsBuilt program }
+    requires whole { IsWhole program }
+    ensures ends { (files : FilesSeen) → FilesStay files → EndsBy (ending_of result.status) (on_verdict command program (verdict program 0)) (work_of command (if_accepted program (verdict program 0))) files (sink_seen (K.taken out.old) (K.taken out.new) (K.faults out.old) (K.faults out.new)) result }
+    ensures counts { K.faults out.old ≤ K.faults out.new }
+{
+    match close(alloc, program, START) {
+        Err(_) => bare(12, 0),
+        Ok(closed) => on_closed(alloc, command, closed, out),
     }
 }
 
@@ -95,6 +124,7 @@ fn resolve_all(alloc: Global, tree: Tree) -> Result<Program, ResolveFault>
     requires { IsWellFormed tree.forms }
     ensures program { Resolves tree.forms result }
     ensures built { IfOk result (λ program. IsBuilt program) }
+    ensures whole { IfOk result (λ program. IsWhole program) }
 {
     resolve(alloc, &tree)
 }

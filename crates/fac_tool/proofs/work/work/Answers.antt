@@ -1,7 +1,7 @@
 use Rattle.std.proofs.Common.{inr}
 use Rattle.fac_io.specs.Told.{Stays-same}
 use Rattle.fac_tool.specs.Seen.{files_seen}
-use Rattle.fac_tool.proofs.ReadLemmas.{accepted_sound}
+use Rattle.fac_tool.proofs.ReadLemmas.{accepted_safe}
 use Rattle.fac_tool.proofs.work.work.Goals as goal
 
 pub returns-in-Ok-load-clause-ending : goal.returns-in-Ok-load-clause-ending
@@ -22,6 +22,6 @@ returns-in-Ok-load-clause-ending g c =
       asked = c.in-Ok-load.ensures.asked;
       count = c.in-Ok-load.ensures.cause.later;
       is_read = works.is_read;
-      sound = accepted_sound 1 c.as_slice.result.now works.forms works.is_read;
+      sound = accepted_safe 1 c.as_slice.result.now works.forms works.is_read;
       ends = works.ends (files_seen held held asked asked faults faults) (record { held = Stays-same held; asked = Stays-same asked });
     })))
