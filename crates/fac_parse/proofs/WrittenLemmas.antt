@@ -1,6 +1,6 @@
 -- The text of items is written as the items are.
-use Rattle.std.proofs.Common.{◌≡◌, ℕ, suc, ◌+◌, ◌-◌, ◌<◌, List, [], ◌∷◌, ◌++◌, length, Option, Some, None, Result, Ok, Err, refl, ap, sym, ◌∙◌, append_assoc, append-nil, arith}
-use Rattle.fac_lang.specs.Texts.{Text, end, then, Item, quot, word}
+use Rattle.std.proofs.Common.{◌≡◌, ℕ, ◌+◌, ◌-◌, ◌<◌, List, [], ◌∷◌, ◌++◌, length, Option, Some, None, Result, Ok, Err, refl, ap, sym, ◌∙◌, append_assoc, append-nil, arith}
+use Rattle.fac_lang.specs.Texts.{Text, Item, word}
 use Rattle.fac_lang.specs.declared.phrase.Place.{Place}
 use Rattle.fac_lang.specs.declared.program.Name.{Name as FullName}
 use Rattle.fac_lang.specs.declared.token.Token.{Token}
@@ -9,9 +9,9 @@ use Rattle.fac_lang.specs.declared.tree.Piece.TheVariants as piece
 use Rattle.fac_lang.specs.declared.tree.Term.{Term}
 use Rattle.fac_lang.specs.declared.tree.Term.TheVariants as term
 use Rattle.fac_parse.specs.declared.resolver.NameFault.{NameFault}
-use Rattle.fac_parse.specs.Resolution.{found, result_map, word_item, item_of, term_place, Following, with_item, with_quotation, opened, closed, following, text_of}
-use Rattle.fac_parse.specs.Trees.{token_text, depth_behind, Lead}
-use Rattle.fac_parse.specs.Written.{Sign, one, opens, closes, text_signs, item_signs, piece_sign, with_sign, pieces_signs, TextsAreWrittenAsItems}
+use Rattle.fac_parse.specs.Resolution.{found, result_map, word_item, item_of, term_place, Following, with_item, with_quotation, opened, closed, following}
+use Rattle.fac_parse.specs.Trees.{token_text, Lead}
+use Rattle.fac_parse.specs.Written.{Sign, one, opens, closes, text_signs, item_signs, with_sign, pieces_signs, TextsAreWrittenAsItems}
 
 -- the texts around, each behind the bracket that ends the one before
 abbrev around_signs : List Text → List Sign
