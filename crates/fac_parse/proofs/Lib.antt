@@ -6,6 +6,7 @@ pub mod ParseLemmas
 pub mod FirstWordLemmas
 pub mod NameLemmas
 pub mod ResolutionLemmas
+pub mod WrittenLemmas
 pub mod BuiltPrograms
 pub mod WholePrograms
 pub mod EffectLemmas

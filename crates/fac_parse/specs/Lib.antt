@@ -6,6 +6,7 @@ pub mod Trees
 pub mod Reader
 pub mod Vocabularies
 pub mod Resolution
+pub mod Written
 pub mod FirstWords
 pub mod OwnNames
 pub mod Resolver

@@ -1,6 +1,7 @@
 //! Laws of the grammar, each on the contract of a function that does nothing.
 ghost use Rattle.fac_parse.specs.Spellings.{LiteralsAreIntegers};
 ghost use Rattle.fac_parse.specs.Trees.{OneTree};
+ghost use Rattle.fac_parse.specs.Written.{TextsAreWrittenAsItems};
 
 /// No two trees have the same tokens.
 pub fn one_tree()
@@ -10,4 +11,9 @@ pub fn one_tree()
 /// An integer literal, decimal digits without commas, has the value that the integer forms give it.
 pub fn literals_are_integers()
     ensures { LiteralsAreIntegers }
+{}
+
+/// The text of items is written as the items are, with their names resolved, and its first refused name is theirs.
+pub fn texts_are_written_as_items()
+    ensures { TextsAreWrittenAsItems }
 {}

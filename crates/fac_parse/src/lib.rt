@@ -14,7 +14,7 @@ mod tests;
 mod text_set;
 mod vocabularies;
 
-pub use laws::{literals_are_integers, one_tree};
+pub use laws::{literals_are_integers, one_tree, texts_are_written_as_items};
 pub use reader::{ParseFault, Why, parse};
 pub use resolver::{NameFault, NameKind, ResolveFault, resolve};
 pub use scanner::{TokenFault, tokens};
