@@ -9,8 +9,6 @@ mod judge;
 mod laws;
 mod recursion;
 mod rule;
-#[cfg(test)]
-mod tests;
 mod walker;
 
 pub use accepted::Checked;
