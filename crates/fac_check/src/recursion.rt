@@ -7,9 +7,6 @@ use fac_lang::{List, Memory, Phrase, Sort, What, WordDef};
 use fac_locals::Closed;
 use std::alloc::Global;
 
-#[cfg(test)]
-mod tests;
-
 // The word that an item names, as an item or by `\`.
 fn named_in(what: &What) -> Option<u32>
     ensures { result ≡ named_word (what_item what.now) }
