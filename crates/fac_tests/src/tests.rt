@@ -391,11 +391,7 @@ fn large_words(rt: HostRuntime) -> Result<(), Fail> {
     let begin = "USING: kernel ; : w ( -- ) ";
     let cases = [
         (";", 0, ""),
-        (
-            "1 ;",
-            5,
-            "check: scratchpad:w, a token 200009: too-large\n",
-        ),
+        ("1 ;", 5, "check: scratchpad:w, a token 200009: too-large\n"),
     ];
     for (end, status, note) in cases {
         let text = repeated(alloc, begin, "1 drop ", 100_000, end)?;
