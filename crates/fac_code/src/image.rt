@@ -1,6 +1,7 @@
 //! Images: the code of a program, with the tables of its templates and words.
 ghost use Rattle.std.specs.Prelude.{◌≡◌, true};
 ghost use Rattle.fac_code.specs.Code.{has_built_code};
+ghost use Rattle.fac_code.specs.References.{refers as all_refer};
 
 use fac_lang::List;
 
@@ -85,4 +86,6 @@ pub struct Image {
     pub start: u32,
     // Each primitive in the code is one that the machine has.
     ghost built: { has_built_code code ≡ true },
+    // Each number in the tables and the code names something of its kind.
+    ghost refers: { all_refer templates words code start ≡ true },
 }

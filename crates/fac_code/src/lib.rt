@@ -2,7 +2,9 @@
 #![tactic(auto)]
 
 mod image;
+mod making;
 mod names;
+mod references;
 
 pub use image::{Action, Image, Instr, TemplateRow, WordRow};
 pub use names::{ErrorName, TrapWhy};

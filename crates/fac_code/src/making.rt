@@ -1,0 +1,37 @@
+//! Images made of tables and code.
+ghost use Rattle.fac_code.specs.Images.{IsImageWhere};
+
+use crate::references::{are_built, refers};
+use crate::{Image, Instr, TemplateRow, WordRow};
+use fac_lang::List;
+
+impl Image {
+    /// The image of these tables and this code, which begins at the place `start`. None exactly where a number in them names nothing of its
+    /// kind, or the machine lacks a primitive.
+    pub fn new(
+        templates: List<TemplateRow>,
+        words: List<WordRow>,
+        code: List<Instr>,
+        start: u32,
+    ) -> Option<Image>
+        ensures { IsImageWhere templates words code start result }
+    {
+        if !are_built(code.as_slice()) {
+            return None;
+        }
+        if !refers(
+            templates.as_slice(),
+            words.as_slice(),
+            code.as_slice(),
+            start,
+        ) {
+            return None;
+        }
+        Some(Image {
+            templates,
+            words,
+            code,
+            start,
+        })
+    }
+}

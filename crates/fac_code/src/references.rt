@@ -1,0 +1,167 @@
+//! Whether the numbers in tables and code name something.
+ghost use Rattle.std.specs.Prelude.{◌≡◌, length, slice_get};
+ghost use Rattle.std.specs.List.{list_all};
+ghost use Rattle.fac_lang.specs.Forms.{is_built_primitive, is_built_core};
+ghost use Rattle.fac_code.specs.Code.{is_built_instr, has_built_code};
+ghost use Rattle.fac_code.specs.References.{is_code as does_code, names_code, names_quotation, instr_refers, action_refers, word_refers, template_refers, refers as all_refer};
+
+use crate::{Action, Instr, TemplateRow, WordRow};
+
+// The primitives that the machine has.
+const PRIMITIVES: [u32; 27] = [
+    0, 1, 2, 3, 4, 5, 6, 7, 8, 9, 10, 11, 12, 13, 14, 15, 16, 17, 18, 19, 20, 21, 22, 26, 27, 28,
+    59,
+];
+
+// Whether the machine has the primitive of this number.
+fn is_primitive(number: u32) -> bool
+    ensures { result ≡ is_built_primitive number }
+{
+    PRIMITIVES.contains(&number)
+}
+
+// Whether the machine has the core word of this number.
+fn is_core(number: u32) -> bool
+    ensures { result ≡ is_built_core number }
+{
+    number < 3
+}
+
+// Whether a word does code.
+fn is_code(action: Action) -> bool
+    ensures { result ≡ does_code action }
+{
+    match action {
+        Action::Code(_) => true,
+        Action::Prim(_) => false,
+        Action::Core(_) => false,
+    }
+}
+
+// Whether a number names a word that does code.
+fn is_code_word(words: &[WordRow], word: u32) -> bool
+    ensures { result ≡ names_code (slice_get words.now word) }
+{
+    match words.get(word as usize) {
+        Some(row) => is_code(row.action),
+        None => false,
+    }
+}
+
+// Whether a number names a template that takes no values from the stack.
+fn is_quotation(templates: &[TemplateRow], template: u32) -> bool
+    ensures { result ≡ names_quotation (slice_get templates.now template) }
+{
+    match templates.get(template as usize) {
+        Some(row) => row.holes == 0,
+        None => false,
+    }
+}
+
+// Whether what an instruction names is there.
+fn refers_instr(templates: &[TemplateRow], words: &[WordRow], instr: Instr) -> bool
+    ensures { result ≡ instr_refers templates.now words.now instr }
+{
+    match instr {
+        Instr::Callw { word, .. } => is_code_word(words, word),
+        Instr::Quot(template) => is_quotation(templates, template),
+        Instr::Halt
+        | Instr::Int(_)
+        | Instr::True
+        | Instr::False
+        | Instr::Prim(_)
+        | Instr::Call { .. }
+        | Instr::Dip
+        | Instr::If { .. }
+        | Instr::Ret => true,
+    }
+}
+
+// Whether what a word does is there, in code of so many instructions.
+fn refers_action(size: usize, action: Action) -> bool
+    ensures { result ≡ action_refers size action }
+{
+    match action {
+        Action::Prim(number) => is_primitive(number),
+        Action::Core(number) => is_core(number),
+        Action::Code(place) => (place as usize) < size,
+    }
+}
+
+// Whether what each word does is there.
+fn words_refer(size: usize, words: &[WordRow]) -> bool
+    ensures { result ≡ list_all (word_refers size) words.now }
+{
+    for row in words {
+        if !refers_action(size, row.action) {
+            return false;
+        }
+    }
+    true
+}
+
+// Whether each template's code begins in the code.
+fn templates_refer(size: usize, templates: &[TemplateRow]) -> bool
+    ensures { result ≡ list_all (template_refers size) templates.now }
+{
+    for row in templates {
+        if (row.entry as usize) >= size {
+            return false;
+        }
+    }
+    true
+}
+
+// Whether what each instruction names is there.
+fn instrs_refer(templates: &[TemplateRow], words: &[WordRow], code: &[Instr]) -> bool
+    ensures { result ≡ list_all (instr_refers templates.now words.now) code.now }
+{
+    for instr in code {
+        if !refers_instr(templates, words, *instr) {
+            return false;
+        }
+    }
+    true
+}
+
+/// Whether each number in the tables and the code names something of its kind, and the start is a place in the code.
+pub fn refers(templates: &[TemplateRow], words: &[WordRow], code: &[Instr], start: u32) -> bool
+    ensures { result ≡ all_refer templates.now words.now code.now start }
+{
+    let size = code.len();
+    templates_refer(size, templates)
+        && words_refer(size, words)
+        && instrs_refer(templates, words, code)
+        && (start as usize) < size
+}
+
+// Whether the machine has the primitive of an instruction, where it is one.
+fn is_built(instr: Instr) -> bool
+    ensures { result ≡ is_built_instr instr }
+{
+    match instr {
+        Instr::Prim(number) => is_primitive(number),
+        Instr::Halt
+        | Instr::Int(_)
+        | Instr::True
+        | Instr::False
+        | Instr::Quot(_)
+        | Instr::Callw { .. }
+        | Instr::Call { .. }
+        | Instr::Dip
+        | Instr::If { .. }
+        | Instr::Ret => true,
+    }
+}
+
+/// Whether the machine has each primitive of the code.
+pub fn are_built(code: &[Instr]) -> bool
+    ensures { result ≡ has_built_code code.now }
+{
+    for instr in code {
+        if !is_built(*instr) {
+            return false;
+        }
+    }
+    true
+}
