@@ -55,7 +55,7 @@ module _ (P : Program) where
       let phrase : Fits b.phrase.sort = rw b.phrase_is.sort_is tt in
       closed_fit 0 P.words C.words closes.words (subst AllFit (sym b.words_are) (built_fit b.words b.phrase b.built phrase))
 
-and_true : (b c : Bool) → b ≡ true → c ≡ true → (b && c) ≡ true
+pub and_true : (b c : Bool) → b ≡ true → c ≡ true → (b && c) ≡ true
 and_true true c e h = h
 and_true false c e h = absurd (cc)
 

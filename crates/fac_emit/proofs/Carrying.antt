@@ -20,7 +20,7 @@ use Rattle.fac_vm.specs.Machine.{End, Ends, starting, empty_world}
 use Rattle.fac_emit.specs.View.{template_texts, state_view}
 use Rattle.fac_emit.specs.Carries.{SameEnd, Carries, IsNeverStuck, top_run}
 use Rattle.fac_emit.specs.Code.{IsPlain}
-use Rattle.fac_emit.specs.Stands.{Stands}
+use Rattle.fac_emit.specs.Stands.{Stands, PlainCode}
 use Rattle.fac_emit.proofs.Simulation.{carried}
 use Rattle.fac_emit.proofs.Placed.{coded, top_stands}
 
@@ -38,6 +38,13 @@ abbrev place_of : Option WordRow → ℕ
 place_of None = 0
 place_of (Some r) = elim r.action [ code_action a ↦ a | _ ↦ 0 ]
 
+pub plain_code : (P C : Program) (templates : List Template) (M : Image) → IsBuilt P → Closes P C templates → IsPlain C templates M → PlainCode P M
+plain_code P C templates M b closes is_plain =
+    let top = top_stands P C templates M b closes is_plain in
+    let begins : slice_get M.words P.top ≡ Some (record { action = code_action M.start }) = sym (ap (slice_get M.words) closes.top) ∙ is_plain.begins in
+    let there : top.0 ≡ M.start = ap place_of (sym top.1 ∙ begins) in
+    record { coded = coded P C templates M b closes is_plain; phrase = subst (λ (a : ℕ). Stands P M (template_texts P) Halt [] a (word_text P P.top)) there top.2 }
+
 pub carries :
     (P C : Program) (templates : List Template) (M : Image) (fits : Height → Height → Bool) (callable_height : Callable → Option Height) →
     IsBuilt P → Closes P C templates → IsPlain C templates M → IsNeverStuck P fits callable_height → Carries P fits callable_height M
@@ -45,12 +52,9 @@ carries P C templates M fits callable_height b closes is_plain never = record {
   same_end = λ n.
       let text = word_text P P.top in
       let T = template_texts P in
-      let top = top_stands P C templates M b closes is_plain in
-      let begins : slice_get M.words P.top ≡ Some (record { action = code_action M.start }) = sym (ap (slice_get M.words) closes.top) ∙ is_plain.begins in
-      let there : top.0 ≡ M.start = ap place_of (sym top.1 ∙ begins) in
-      let stands = subst (λ (a : ℕ). Stands P M T Halt [] a text) there top.2 in
+      let code = plain_code P C templates M b closes is_plain in
       let begin : state_view T [] empty_world ≡ start P [] = sym (no_literals P b []) in
       let never_stuck = not_stuck (top_run P fits callable_height n) (never n) in
       subst (λ (st : State Value). (e : End) × Ends M (names P) (starting M []) n e × SameEnd T (eval (act P fits callable_height) n text st n) e) begin
-      (carried P fits callable_height M T (coded P C templates M b closes is_plain) M.start text stands [] empty_world (record { cells = tt; values = tt; objects = tt }) n (subst (λ (st : State Value). eval (act P fits callable_height) n text st n ≢ Stuck) (sym begin) never_stuck));
+      (carried P fits callable_height M T code.coded M.start text code.phrase [] empty_world (record { cells = tt; values = tt; objects = tt }) n (subst (λ (st : State Value). eval (act P fits callable_height) n text st n ≢ Stuck) (sym begin) never_stuck));
 }

@@ -52,7 +52,7 @@ pub word_rows_are :
 word_rows_are = refl
 
 abbrev image : Image
-image = record { templates = templates_from closed.words templates 5 0 0 closed.words; words = words_from closed.words templates 5 0 0 closed.words; code = program_code closed templates; start = 12; built = refl }
+image = record { templates = templates_from closed.words templates 5 0 0 closed.words; words = words_from closed.words templates 5 0 0 closed.words; code = program_code closed templates; start = 12; built = refl; refers = refl }
 
 -- the stack and the ticks left where it is done
 abbrev ended : Option End → Option (List MValue × ℕ)

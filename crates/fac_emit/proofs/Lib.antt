@@ -3,9 +3,9 @@ pub mod KeptPrimitives
 pub mod Simulation
 pub mod LiteralWords
 pub mod Closings
-pub mod BuiltWords
 pub mod FirstWords
 pub mod Placed
+pub mod References
 pub mod BuiltCode
 pub mod Carrying
 pub mod EmitLemmas

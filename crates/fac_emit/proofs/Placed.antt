@@ -28,7 +28,7 @@ use Rattle.fac_emit.specs.Code.{core_instr, sort_instr, word_instr, item_instr, 
 use Rattle.fac_emit.specs.Stands.{Translates, t_int, t_true, t_false, t_quot, t_prim, t_word, t_call, t_dip, t_if, Stands, s_end, s_item, Coded}
 use Rattle.fac_emit.proofs.LiteralWords.{in_a_word, is_listed}
 use Rattle.fac_emit.proofs.Closings.{drop_behind, get_at, Closing, c_end, c_int, c_true, c_false, c_word, c_quot, closing, same_primitives, split, Forest, text_forest, first_number}
-use Rattle.fac_emit.proofs.BuiltWords.{word_below, sort_at, top_word, top_text, all_distinct}
+use Rattle.fac_lang.proofs.FormsLemmas.{word_below, sort_at, top_word, top_text, all_distinct}
 use Rattle.fac_emit.proofs.FirstWords.{first_with}
 
 -- the code from a place on
@@ -41,7 +41,7 @@ get_other (z ∷ xs) [] k x n e = absurd (omega (arith, n))
 get_other (z ∷ xs) (y ∷ ys) zero x n e = (y, refl)
 get_other (z ∷ xs) (y ∷ ys) (suc k) x n e = get_other xs ys k x (omega (arith, n)) e
 
-regroup : (code xs ys zs : List Instr) → code ≡ (xs ++ ys) ++ zs → code ≡ xs ++ (ys ++ zs)
+pub regroup : (code xs ys zs : List Instr) → code ≡ (xs ++ ys) ++ zs → code ≡ xs ++ (ys ++ zs)
 regroup code xs ys zs e = e ∙ append_assoc xs ys zs
 
 -- Where the rows of templates are, and the code of each.
@@ -170,29 +170,36 @@ module _ (P : Program) (words : List WordDef) (templates : List Template) (top :
       let number : suc v + w ≡ v + suc w = omega arith in
       record { at = later.at; row = later.row; more = later.more; there = later.there ∙ ap (λ (k : ℕ). piece words templates top k d ++ later.more) number }
 
+-- The rows of the templates of a closed program that stands for a built one.
+module _ (P C : Program) (templates : List Template) (b : IsBuilt P) (closes : Closes P C templates) where
+  -- each template is that of a literal in a word
+  pub literal_of : (q : ℕ) (t : Template) → slice_get templates q ≡ Some t → (literal_numbered P q).0.word < length P.words
+  literal_of q t e = let found = get_other templates (literals P) q t (templates_count P C templates closes) e in subst (λ (l : Quoted). l.0.word < length P.words) (sym (ap (literal_or P q) found.1)) (in_a_word P q found.0 found.1)
+
+  module _ (code : List Instr) (rows : List TemplateRow) (code_is : code ≡ program_code C templates) (rows_are : rows ≡ templates_from C.words templates C.top 0 0 C.words) where
+    pub all_rows : Rows C.words code rows templates
+    all_rows =
+        subst (λ (rs : List TemplateRow). Rows C.words code rs templates) (sym rows_are) (rows_of_words P C.words templates C.top code 0 0 0 P.words C.words templates closes.words (built_texts P b) closes.templates_are refl refl code_is)
+
+    -- the row of the template that makes a quotation
+    pub record RowFor (q : ℕ) : Type 0 where
+      pub row : TemplateRow
+      pub there : slice_get rows q ≡ Some row
+      pub cells : row.cells ≡ []
+      pub holes : row.holes ≡ 0
+
+    row_or : (q : ℕ) (l : Quoted) (o : Option Template) → slice_get (literals P) q ≡ Some l → slice_get templates q ≡ o → RowFor q
+    row_or q l None listed e = let none = template_closed_none P C templates closes q e in absurd (let clash : None ≡ Some l = sym none ∙ listed in cc)
+    row_or q l (Some t) listed e =
+        let found = row_of C.words code rows templates q t all_rows e in
+        let closed = template_closed P C templates closes q t e in
+        record { row = found.row; there = found.there; cells = ap (λ (r : TemplateRow). r.cells) found.of.row ∙ closed.captures; holes = ap (λ (r : TemplateRow). r.holes) found.of.row ∙ closed.holes }
+
+    pub quotation_row : (q : ℕ) (l : Quoted) → l.0.word < length P.words → literal_numbered P q ≡ l → RowFor q
+    quotation_row q l lt e = row_or q l (slice_get templates q) (is_listed P q l lt e) refl
+
 -- A plain image of a closed program that stands for a built one.
 module _ (P C : Program) (templates : List Template) (M : Image) (b : IsBuilt P) (closes : Closes P C templates) (is_plain : IsPlain C templates M) where
-  all_rows : Rows C.words M.code M.templates templates
-  all_rows =
-      subst (λ (rs : List TemplateRow). Rows C.words M.code rs templates) (sym is_plain.template_rows_are) (rows_of_words P C.words templates C.top M.code 0 0 0 P.words C.words templates closes.words (built_texts P b) closes.templates_are refl refl is_plain.code)
-
-  -- the row of the template that makes a quotation
-  pub record RowFor (q : ℕ) : Type 0 where
-    pub row : TemplateRow
-    pub there : slice_get M.templates q ≡ Some row
-    pub cells : row.cells ≡ []
-    pub holes : row.holes ≡ 0
-
-  row_or : (q : ℕ) (l : Quoted) (o : Option Template) → slice_get (literals P) q ≡ Some l → slice_get templates q ≡ o → RowFor q
-  row_or q l None listed e = let none = template_closed_none P C templates closes q e in absurd (let clash : None ≡ Some l = sym none ∙ listed in cc)
-  row_or q l (Some t) listed e =
-      let found = row_of C.words M.code M.templates templates q t all_rows e in
-      let closed = template_closed P C templates closes q t e in
-      record { row = found.row; there = found.there; cells = ap (λ (r : TemplateRow). r.cells) found.of.row ∙ closed.captures; holes = ap (λ (r : TemplateRow). r.holes) found.of.row ∙ closed.holes }
-
-  quotation_row : (q : ℕ) (l : Quoted) → l.0.word < length P.words → literal_numbered P q ≡ l → RowFor q
-  quotation_row q l lt e = row_or q l (slice_get templates q) (is_listed P q l lt e) refl
-
   -- the item of a word
   first_word : (w k : ℕ) (c : WordDef) → slice_get C.words w ≡ Some c → c.sort ≡ prim_sort k → word_of_prim k 0 M.words ≡ w
   first_word w k c at is =
@@ -224,7 +231,7 @@ module _ (P C : Program) (templates : List Template) (M : Image) (b : IsBuilt P)
   quotation_translates : (F : List MValue) (q : ℕ) (at : Literal) (u : Text) → at.word < length P.words → (let l : Quoted = (at, u) in literal_numbered P q ≡ l) → Translates P M (template_texts P) F (quot u) (Quot q)
   unfolding template_texts
   quotation_translates F q at u lt e =
-      let found = quotation_row q (at, u) lt e in
+      let found = quotation_row P C templates b closes M.code M.templates is_plain.code is_plain.template_rows_are q (at, u) lt e in
       let none : cells_at found.row.cells F ≡ Some [] = ap (λ (ks : List ℕ). cells_at ks F) found.cells in
       subst (λ (t : Text). Translates P M (template_texts P) F (quot t) (Quot q)) (ap (λ (l : Quoted). l.1) e) (t_quot q found.row [] found.there found.holes none)
 
@@ -261,17 +268,14 @@ module _ (P C : Program) (templates : List Template) (M : Image) (b : IsBuilt P)
       )
 
   -- the code of a template
-  literal_of : (q : ℕ) (t : Template) → slice_get templates q ≡ Some t → (literal_numbered P q).0.word < length P.words
-  literal_of q t e = let found = get_other templates (literals P) q t (templates_count P C templates closes) e in subst (λ (l : Quoted). l.0.word < length P.words) (sym (ap (literal_or P q) found.1)) (in_a_word P q found.0 found.1)
-
   template_stands : (q : ℕ) (r : TemplateRow) (F : List MValue) → slice_get M.templates q ≡ Some r → Stands P M (template_texts P) Ret F r.entry (template_texts P q)
   unfolding template_texts
   template_stands q r F e =
-      let found = template_at C.words M.code M.templates templates q r all_rows e in
+      let found = template_at C.words M.code M.templates templates q r (all_rows P C templates b closes M.code M.templates is_plain.code is_plain.template_rows_are) e in
       let l = literal_numbered P q in
       let closed = template_closed P C templates closes q found.template found.there in
       let entry : found.of.at ≡ r.entry = sym (ap (λ (r : TemplateRow). r.entry) found.of.row) in
-      subst (λ (a : ℕ). Stands P M (template_texts P) Ret F a l.1) entry (text_stands Ret F found.of.at (first_of_literal l.0) l.1 found.template.body found.of.more (closing P (first_of_literal l.0) l.1 found.template.body closed.body (literal_built P b q)) (literal_of q found.template found.there) found.of.there)
+      subst (λ (a : ℕ). Stands P M (template_texts P) Ret F a l.1) entry (text_stands Ret F found.of.at (first_of_literal l.0) l.1 found.template.body found.of.more (closing P (first_of_literal l.0) l.1 found.template.body closed.body (literal_built P b q)) (literal_of P C templates b closes q found.template found.there) found.of.there)
 
   sort_is : (w : ℕ) (d : WordDef) (t : Text) → slice_get P.words w ≡ Some d → sort_of P w ≡ Some (body t) → d.sort ≡ body t
   sort_is w d t at e = let found = sort_at P w d at in cc

@@ -5,3 +5,4 @@ pub mod Stands
 pub mod Code
 pub mod Pieces
 pub mod Parts
+pub mod PrintedForms

@@ -6,16 +6,16 @@ use Rattle.fac_lang.specs.declared.program.Program.{Program}
 use Rattle.fac_lang.specs.declared.program.Sort.TheVariants.{Prim as prim_sort, Core as core_sort, Body as body}
 use Rattle.fac_lang.specs.Texts.{int, yes, no, Text, end, then, Item, lit, quot, word}
 use Rattle.fac_lang.specs.Forms.{is_built_primitive}
-use Rattle.fac_lang.specs.Meaning.{sort_of, core_numbered, c_call, c_dip, c_if}
+use Rattle.fac_lang.specs.Meaning.{sort_of, word_text, core_numbered, c_call, c_dip, c_if}
 use Rattle.fac_code.specs.declared.image.Instr.{Instr}
-use Rattle.fac_code.specs.declared.image.Instr.TheVariants.{Int, True, False, Quot, Prim, Callw, Call, Dip, If, Ret}
+use Rattle.fac_code.specs.declared.image.Instr.TheVariants.{Halt, Int, True, False, Quot, Prim, Callw, Call, Dip, If, Ret}
 use Rattle.fac_code.specs.declared.image.Action.TheVariants.{Code as code_action}
 use Rattle.fac_code.specs.declared.image.Image.{Image}
 use Rattle.fac_code.specs.declared.image.TemplateRow.{TemplateRow}
 use Rattle.fac_code.specs.declared.image.WordRow.{WordRow}
 use Rattle.fac_prim.specs.Cells.{MValue, Kept, kept_list, cells_at}
 use Rattle.fac_vm.specs.Machine.{word_of_prim}
-use Rattle.fac_emit.specs.View.{Templates}
+use Rattle.fac_emit.specs.View.{Templates, template_texts}
 use Rattle.fac_emit.specs.Whole.{WholeKept}
 
 module _ (P : Program) (M : Image) (T : Templates) where
@@ -42,3 +42,8 @@ module _ (P : Program) (M : Image) (T : Templates) where
   pub record Coded : Type 0 where
     pub bodies : (w : ℕ) (t : Text) → w < P.top → sort_of P w ≡ Some (body t) → (r : WordRow) × (a : ℕ) × (slice_get M.words w ≡ Some r) × (r.action ≡ code_action a) × Stands Ret [] a t
     pub templates : (q : ℕ) (r : TemplateRow) (k : Kept) → slice_get M.templates q ≡ Some r → length (kept_list k) ≡ length r.cells + r.holes → WholeKept M k → Stands Ret (kept_list k) r.entry (T q)
+
+-- The code of an image stands for the texts of a program: those of its words, of its templates, and of the top-level phrase, where it starts.
+pub record PlainCode (P : Program) (M : Image) : Type 0 where
+  pub coded : Coded P M (template_texts P)
+  pub phrase : Stands P M (template_texts P) Halt [] M.start (word_text P P.top)

@@ -9,6 +9,7 @@ ghost use Rattle.fac_emit.specs.Carries.{Carries, IsNeverStuck};
 ghost use Rattle.fac_emit.specs.Code.{sort_action, IsPlain};
 ghost use Rattle.fac_emit.specs.Parts.{AreParts};
 ghost use Rattle.fac_emit.specs.Pieces.{moved as moved_row};
+ghost use Rattle.fac_emit.specs.Stands.{PlainCode};
 
 use crate::{Piece, emit_word};
 use fac_code::{Action, Image, Instr, TemplateRow, WordRow};
@@ -122,11 +123,12 @@ fn place(rows: &List<WordRow>, word: u32) -> u32
 }
 
 /// The image of a closed program of the built forms. It carries the program that this one stands for, where that is never stuck. Its code
-/// is plain: the pieces of the words, one behind the other in their order, with a row for each template and each word; it starts at the
-/// top-level phrase. Want of memory is the one error.
+/// stands for the texts of that program, item by item, and is plain: the pieces of the words, one behind the other in their order, with a
+/// row for each template and each word; it starts at the top-level phrase. Want of memory is the one error.
 pub fn compile(alloc: Global, closed: &Closed) -> Result<Image, Memory>
     requires { (P : Source) × Closes P closed.now.program closed.now.templates × IsBuilt P }
     ensures carries { IfOk result (λ image. (P : Source) (fits : Height → Height → Bool) (callable_height : Callable → Option Height) → Closes P closed.now.program closed.now.templates → IsBuilt P → IsNeverStuck P fits callable_height → Carries P fits callable_height image) }
+    ensures stands { IfOk result (λ image. (P : Source) → Closes P closed.now.program closed.now.templates → IsBuilt P → PlainCode P image) }
     ensures plain { IfOk result (IsPlain closed.now.program closed.now.templates) }
 {
     let Parts {

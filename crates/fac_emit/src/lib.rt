@@ -3,8 +3,10 @@
 
 mod compiler;
 mod emitter;
+mod laws;
 #[cfg(test)]
 mod tests;
 
 pub use compiler::compile;
 pub use emitter::{Piece, emit_word};
+pub use laws::printed_forms_are_equal;

@@ -1,0 +1,222 @@
+-- Each number in plain code and its tables names something.
+use Rattle.std.proofs.Common.{◌≡◌, ◌<◌, ℕ, zero, suc, ◌+◌, List, [], ◌∷◌, ◌++◌, length, drop, Bool, true, false, ◌&&◌, Option, Some, None, refl, ap, sym, subst, ◌∙◌, arith}
+use Rattle.std.proofs.lemmas.Bool.{lt-ltb}
+use Rattle.std.proofs.lemmas.List.Folds.{list_all-append}
+use Rattle.std.specs.Prelude.{nat_eq, nat_lt, slice_get}
+use Rattle.std.specs.List.{list_all}
+use Rattle.fac_lang.specs.declared.phrase.Template.{Template}
+use Rattle.fac_lang.specs.declared.program.Program.{Program}
+use Rattle.fac_lang.specs.declared.program.WordDef.{WordDef}
+use Rattle.fac_lang.specs.declared.program.Sort.{Sort}
+use Rattle.fac_lang.specs.declared.program.Sort.TheVariants.{Prim as prim_sort, Core as core_sort, Body as body}
+use Rattle.fac_lang.specs.Texts.{Literal, Text, end, then}
+use Rattle.fac_lang.specs.Forms.{IsBuilt, IsBuiltSort, IsBuiltText, AreBuiltWords, is_built_primitive, is_built_core}
+use Rattle.fac_locals.specs.Literals.{Quoted, first_of_word, first_of_literal, literal_numbered}
+use Rattle.fac_locals.specs.Closed.{Closes, ClosesSort}
+use Rattle.fac_locals.proofs.Places.{literal_built}
+use Rattle.fac_locals.proofs.Lookups.{word_open, template_closed}
+use Rattle.fac_code.specs.declared.image.Instr.{Instr}
+use Rattle.fac_code.specs.declared.image.Instr.TheVariants.{Ret}
+use Rattle.fac_code.specs.declared.image.Action.TheVariants.{Code as code_action}
+use Rattle.fac_code.specs.declared.image.TemplateRow.{TemplateRow}
+use Rattle.fac_code.specs.declared.image.WordRow.{WordRow}
+use Rattle.fac_code.specs.References.{names_code, names_quotation, instr_refers, action_refers, word_refers, template_refers, refers}
+use Rattle.fac_emit.specs.Code.{core_instr, sort_instr, word_instr, item_instr, text_code, quotations, first_template, templates_code, last_instr, sort_action, sort_code, piece, code_from, words_from, templates_from, program_code}
+use Rattle.fac_emit.proofs.BuiltCode.{and_true}
+use Rattle.fac_emit.proofs.Closings.{drop_behind, Closing, c_end, c_int, c_true, c_false, c_word, c_quot, closing}
+use Rattle.fac_emit.proofs.Placed.{regroup, Rows, placed, literal_of, all_rows, quotation_row}
+
+-- a place from which something stands is in the list
+within : {A : Type 0} (xs : List A) (at : ℕ) (y : A) (ys : List A) → drop at xs ≡ y ∷ ys → at < length xs
+within [] zero y ys e = absurd (cc)
+within [] (suc at) y ys e = absurd (cc)
+within (x ∷ xs) zero y ys e = omega arith
+within (x ∷ xs) (suc at) y ys e = let later = within xs at y ys e in omega (arith, later)
+
+-- what is found has a number below the length
+found_within : {A : Type 0} (xs : List A) (k : ℕ) (x : A) → slice_get xs k ≡ Some x → k < length xs
+found_within [] k x e = absurd (cc)
+found_within (y ∷ xs) zero x e = omega arith
+found_within (y ∷ xs) (suc k) x e = let later = found_within xs k x e in omega (arith, later)
+
+get_drop : {A : Type 0} (xs : List A) (f k : ℕ) (x : A) → slice_get (drop f xs) k ≡ Some x → slice_get xs (f + k) ≡ Some x
+get_drop xs zero k x e = let n : 0 + k ≡ k = omega arith in rw n e
+get_drop [] (suc f) k x e = absurd (cc)
+get_drop (y ∷ xs) (suc f) k x e = let n : suc f + k ≡ suc (f + k) = omega arith in rw n (get_drop xs f k x e)
+
+both_pass : {A : Type 0} (test : A → Bool) (xs ys : List A) → list_all test xs ≡ true → list_all test ys ≡ true → list_all test (xs ++ ys) ≡ true
+both_pass test xs ys h k = list_all-append test xs ys ∙ and_true (list_all test xs) (list_all test ys) h k
+
+first_true : (b c : Bool) → (b && c) ≡ true → (b ≡ true) × (c ≡ true)
+first_true true c e = (refl, e)
+first_true false c e = absurd (cc)
+
+one_passes : {A : Type 0} (test : A → Bool) (xs : List A) (k : ℕ) (x : A) → list_all test xs ≡ true → slice_get xs k ≡ Some x → test x ≡ true
+one_passes test [] k x h e = absurd (cc)
+one_passes test (y ∷ xs) zero x h e = let same : y ≡ x = cc in subst (λ (z : _). test z ≡ true) same (first_true (test y) (list_all test xs) h).0
+one_passes test (y ∷ xs) (suc k) x h e = one_passes test xs k x (first_true (test y) (list_all test xs) h).1 e
+
+-- code of a text isn't empty
+text_first : (words : List WordDef) (last : Instr) (t : Text) → (x : Instr) × (more : List Instr) × (text_code words last t ≡ x ∷ more)
+text_first words last end = (last, [], refl)
+text_first words last (then i p t) = (item_instr words i, text_code words last t, refl)
+
+-- so it begins at a place in the code
+begins_within : (code : List Instr) (words : List WordDef) (last : Instr) (t : Text) (at : ℕ) (more : List Instr) → drop at code ≡ text_code words last t ++ more → nat_lt at (length code) ≡ true
+begins_within code words last t at more e =
+    let first = text_first words last t in lt-ltb at (length code) (within code at first.0 (first.1 ++ more) (e ∙ ap (λ (is : List Instr). is ++ more) first.2))
+
+core_refers : (rows : List TemplateRow) (words : List WordRow) (k : ℕ) → instr_refers rows words (core_instr k) ≡ true
+core_refers rows words zero = refl
+core_refers rows words (suc zero) = refl
+core_refers rows words (suc (suc zero)) = refl
+core_refers rows words (suc (suc (suc k))) = refl
+
+last_refers : (rows : List TemplateRow) (words : List WordRow) (is_top : Bool) → instr_refers rows words (last_instr is_top) ≡ true
+last_refers rows words true = refl
+last_refers rows words false = refl
+
+module _ (P : Program) where
+  -- what each word of a built program is
+  abbrev HasBuilt : Sort → Type 0
+  HasBuilt (prim_sort k) = is_built_primitive k ≡ true
+  HasBuilt (core_sort k) = is_built_core k ≡ true
+  HasBuilt (body t) = IsBuiltText P.top t
+  HasBuilt _ = ⊥
+
+  sort_built : (d : WordDef) (s : Sort) → IsBuiltSort P.top d s → HasBuilt s
+  sort_built d (prim_sort k) h = h.is_built
+  sort_built d (core_sort k) h = h.is_built
+  sort_built d (body t) h = h.text_built
+  sort_built d _ h = absurd h
+
+  among : (ds : List WordDef) (d : WordDef) (w : ℕ) (x : WordDef) → AreBuiltWords P.top ds → HasBuilt d.sort → slice_get (ds ++ d ∷ []) w ≡ Some x → HasBuilt x.sort
+  among [] d zero x h f e = let same : d ≡ x = cc in subst (λ (y : WordDef). HasBuilt y.sort) same f
+  among [] d (suc w) x h f e = absurd (cc)
+  among (y ∷ ds) d zero x h f e = let same : y ≡ x = cc in subst (λ (z : WordDef). HasBuilt z.sort) same (sort_built y y.sort h.0)
+  among (y ∷ ds) d (suc w) x h f e = among ds d w x h.1 f e
+
+  word_built : IsBuilt P → (w : ℕ) (d : WordDef) → slice_get P.words w ≡ Some d → HasBuilt d.sort
+  word_built b w d e =
+      let phrase : HasBuilt b.phrase.sort = subst HasBuilt (sym b.phrase_is.sort_is) b.phrase_is.text_built in
+      among b.words b.phrase w d b.built phrase (subst (λ (ds : List WordDef). slice_get ds w ≡ Some d) b.words_are e)
+
+  -- what a word of the closed program is, with the number w
+  abbrev ClosedAs : ℕ → Sort → Type 0
+  ClosedAs w (prim_sort k) = is_built_primitive k ≡ true
+  ClosedAs w (core_sort k) = is_built_core k ≡ true
+  ClosedAs w (body c) = (t : Text) × Closing P (first_of_word w) t c × (w < length P.words)
+  ClosedAs w _ = ⊥
+
+  closed_as : (w : ℕ) (s c : Sort) → ClosesSort P w s c → HasBuilt s → w < length P.words → ClosedAs w c
+  closed_as w (prim_sort k) c h f lt = rw h f
+  closed_as w (core_sort k) c h f lt = rw h f
+  closed_as w (body t) c h f lt = rw h.1 (t, closing P (first_of_word w) t h.0 h.2 f, lt)
+  closed_as w _ c h f lt = absurd f
+
+module _ (P C : Program) (templates : List Template) (b : IsBuilt P) (closes : Closes P C templates) where
+  abbrev code : List Instr
+  code = program_code C templates
+
+  abbrev rows : List TemplateRow
+  rows = templates_from C.words templates C.top 0 0 C.words
+
+  abbrev words : List WordRow
+  words = words_from C.words templates C.top 0 0 C.words
+
+  word_is : (w : ℕ) (c : WordDef) → slice_get C.words w ≡ Some c → ClosedAs P w c.sort
+  word_is w c e = let found = word_open P C templates closes w c e in closed_as P w found.def.sort c.sort found.closes.sort (word_built P b w found.def found.at) (found_within P.words w found.def found.at)
+
+  -- instructions
+  sort_refers : (w : ℕ) (c : WordDef) (s : Sort) → slice_get C.words w ≡ Some c → c.sort ≡ s → instr_refers rows words (sort_instr w s) ≡ true
+  sort_refers w c (prim_sort k) e is = refl
+  sort_refers w c (core_sort k) e is = core_refers rows words k
+  sort_refers w c (body t) e is =
+      let put = placed P C.words templates C.top code 0 0 C.words w c refl e in ap names_code (put.row ∙ ap (λ (s : Sort). Some (record { action = sort_action put.at s })) is)
+  sort_refers w c _ e is = refl
+
+  word_refers_to : (w : ℕ) (o : Option WordDef) → slice_get C.words w ≡ o → instr_refers rows words (word_instr w o) ≡ true
+  word_refers_to w None e = refl
+  word_refers_to w (Some c) e = sort_refers w c c.sort e refl
+
+  quotation_refers : (q : ℕ) (at : Literal) (u : Text) → at.word < length P.words → (let l : Quoted = (at, u) in literal_numbered P q ≡ l) → names_quotation (slice_get rows q) ≡ true
+  quotation_refers q at u lt e = let found = quotation_row P C templates b closes code rows refl refl q (at, u) lt e in rw found.there (rw found.holes refl)
+
+  abbrev Refers : List Instr → Type 0
+  Refers is = list_all (instr_refers rows words) is ≡ true
+
+  text_refers : (last : Instr) (at : Literal) (t c : Text) → instr_refers rows words last ≡ true → Closing P at t c → at.word < length P.words → Refers (text_code C.words last c)
+  text_refers last at t c l c_end lt = and_true (instr_refers rows words last) true l refl
+  text_refers last at t c l (c_int z h) lt = text_refers last _ _ _ l h lt
+  text_refers last at t c l (c_true h) lt = text_refers last _ _ _ l h lt
+  text_refers last at t c l (c_false h) lt = text_refers last _ _ _ l h lt
+  text_refers last at t c l (c_word {c = d} w below h) lt = and_true (instr_refers rows words (word_instr w (slice_get C.words w))) (list_all (instr_refers rows words) (text_code C.words last d)) (word_refers_to w (slice_get C.words w) refl) (text_refers last _ _ _ l h lt)
+  text_refers last at t c l (c_quot {c = d} u q is h) lt = and_true (names_quotation (slice_get rows q)) (list_all (instr_refers rows words) (text_code C.words last d)) (quotation_refers q at u lt is) (text_refers last _ _ _ l h lt)
+
+  template_refers_to : (q : ℕ) (t : Template) → slice_get templates q ≡ Some t → Refers (text_code C.words Ret t.body)
+  template_refers_to q t e =
+      let l = literal_numbered P q in
+      let closed = template_closed P C templates closes q t e in
+      text_refers Ret (first_of_literal l.0) l.1 t.body refl (closing P (first_of_literal l.0) l.1 t.body closed.body (literal_built P b q)) (literal_of P C templates b closes q t e)
+
+  templates_refer : (ts : List Template) (n : ℕ) → ((k : ℕ) (t : Template) → slice_get ts k ≡ Some t → Refers (text_code C.words Ret t.body)) → Refers (templates_code C.words n ts)
+  templates_refer [] zero h = refl
+  templates_refer [] (suc n) h = refl
+  templates_refer (t ∷ ts) zero h = refl
+  templates_refer (t ∷ ts) (suc n) h =
+      let more = n + quotations t.body in both_pass (instr_refers rows words) (text_code C.words Ret t.body) (templates_code C.words more ts) (h 0 t refl) (templates_refer ts more (λ k u e. h (suc k) u e))
+
+  piece_refers : (w : ℕ) (is_top : Bool) (s : Sort) → ClosedAs P w s → Refers (sort_code C.words templates is_top s)
+  piece_refers w is_top (body c) h =
+      let first = first_template c in
+      both_pass (instr_refers rows words) (text_code C.words (last_instr is_top) c) (templates_code C.words (quotations c) (drop first templates)) (text_refers (last_instr is_top) (first_of_word w) h.0 c (last_refers rows words is_top) h.1 h.2) (templates_refer (drop first templates) (quotations c) (λ k t e. template_refers_to (first + k) t (get_drop templates first k t e)))
+  piece_refers w is_top _ h = refl
+
+  -- words from number w on
+  abbrev AreClosed : ℕ → List WordDef → Type 0
+  AreClosed w ds = (k : ℕ) (c : WordDef) → slice_get ds k ≡ Some c → ClosedAs P (w + k) c.sort
+
+  first_closed : (w : ℕ) (d : WordDef) (ds : List WordDef) → AreClosed w (d ∷ ds) → ClosedAs P w d.sort
+  first_closed w d ds h = let n : w + 0 ≡ w = omega arith in subst (λ (v : ℕ). ClosedAs P v d.sort) n (h 0 d refl)
+
+  rest_closed : (w : ℕ) (d : WordDef) (ds : List WordDef) → AreClosed w (d ∷ ds) → AreClosed (suc w) ds
+  rest_closed w d ds h = λ k c e. let n : w + suc k ≡ suc w + k = omega arith in subst (λ (v : ℕ). ClosedAs P v c.sort) n (h (suc k) c e)
+
+  code_refers : (w : ℕ) (ds : List WordDef) → AreClosed w ds → Refers (code_from C.words templates C.top w ds)
+  code_refers w [] h = refl
+  code_refers w (d ∷ ds) h = both_pass (instr_refers rows words) (piece C.words templates C.top w d) (code_from C.words templates C.top (suc w) ds) (piece_refers w (nat_eq w C.top) d.sort (first_closed w d ds h)) (code_refers (suc w) ds (rest_closed w d ds h))
+
+  -- rows of words
+  action_within : (at w : ℕ) (is_top : Bool) (s : Sort) (more : List Instr) → ClosedAs P w s → drop at code ≡ sort_code C.words templates is_top s ++ more → action_refers (length code) (sort_action at s) ≡ true
+  action_within at w is_top (prim_sort k) more h e = h
+  action_within at w is_top (core_sort k) more h e = h
+  action_within at w is_top (body c) more h e =
+      let own = text_code C.words (last_instr is_top) c in
+      let others = templates_code C.words (quotations c) (drop (first_template c) templates) in
+      begins_within code C.words (last_instr is_top) c at (others ++ more) (regroup (drop at code) own others more e)
+  action_within at w is_top _ more h e = absurd h
+
+  words_within : (at w : ℕ) (ds : List WordDef) → AreClosed w ds → drop at code ≡ code_from C.words templates C.top w ds → list_all (word_refers (length code)) (words_from C.words templates C.top at w ds) ≡ true
+  words_within at w [] h e = refl
+  words_within at w (d ∷ ds) h e =
+      let own = piece C.words templates C.top w d in
+      let others = code_from C.words templates C.top (suc w) ds in
+      and_true (action_refers (length code) (sort_action at d.sort)) (list_all (word_refers (length code)) (words_from C.words templates C.top (at + length own) (suc w) ds)) (action_within at w (nat_eq w C.top) d.sort others (first_closed w d ds h) e) (words_within (at + length own) (suc w) ds (rest_closed w d ds h) (drop_behind code at own others e))
+
+  -- rows of templates
+  rows_within : (rs : List TemplateRow) (ts : List Template) → Rows C.words code rs ts → list_all (template_refers (length code)) rs ≡ true
+  rows_within [] [] h = refl
+  rows_within [] (t ∷ ts) h = absurd h
+  rows_within (r ∷ rs) [] h = absurd h
+  rows_within (r ∷ rs) (t ∷ ts) h =
+      and_true (template_refers (length code) r) (list_all (template_refers (length code)) rs) (ap (template_refers (length code)) h.0.row ∙ begins_within code C.words Ret t.body h.0.at h.0.more h.0.there) (rows_within rs ts h.1)
+
+  all_closed : AreClosed 0 C.words
+  all_closed k c e = let n : k ≡ 0 + k = omega arith in subst (λ (v : ℕ). ClosedAs P v c.sort) n (word_is k c e)
+
+  -- the plain code, which starts at a word's place
+  pub plain_refers : (start : ℕ) → slice_get words C.top ≡ Some (record { action = code_action start }) → refers rows words code start ≡ true
+  plain_refers start e =
+      let within_words = words_within 0 0 C.words all_closed refl in
+      let started = one_passes (word_refers (length code)) words C.top (record { action = code_action start }) within_words e in
+      and_true (list_all (template_refers (length code)) rows) (list_all (word_refers (length code)) words && (list_all (instr_refers rows words) code && nat_lt start (length code))) (rows_within rows templates (all_rows P C templates b closes code rows refl refl)) (and_true (list_all (word_refers (length code)) words) (list_all (instr_refers rows words) code && nat_lt start (length code)) within_words (and_true (list_all (instr_refers rows words) code) (nat_lt start (length code)) (code_refers 0 C.words all_closed) started))
