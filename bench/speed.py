@@ -78,18 +78,15 @@ def chain_of_calls(path, count):
     return 0, b"42\n", b""
 
 
-def recursion(path, _):
-    """A word that calls itself until the budget is spent, which is a hundred million calls deep."""
-    with open(path, "wb") as file:
-        file.write(b": spin ( -- ) spin ; spin\n")
-    return 6, b"", b"spent: 100000000 ticks\n"
+def spending(text):
+    """What makes a source of this text, which runs until the budget is spent."""
 
+    def make(path, _):
+        with open(path, "wb") as file:
+            file.write(text)
+        return 6, b"", b"spent: 100000000 ticks\n"
 
-def recursion_with_values(path, _):
-    """The same with a value on the stack for each open call, fifty million of both."""
-    with open(path, "wb") as file:
-        file.write(b"USING: kernel ; : pile ( -- x ) 1 pile drop ; pile\n")
-    return 6, b"", b"spent: 100000000 ticks\n"
+    return make
 
 
 def nested_quotations(path, count):
@@ -126,18 +123,17 @@ def composed_twice(path, count):
     return 0, b"", b""
 
 
-def recursion_through_if(path, _):
-    """A word that calls itself in a branch until the budget is spent, at five ticks a turn and twenty million deep."""
-    with open(path, "wb") as file:
-        file.write(b"USING: kernel ; : spin ( ? -- ) [ t spin ] [ ] if ; t spin\n")
-    return 6, b"", b"spent: 100000000 ticks\n"
+# A word that calls itself: a call is all that it does, so a hundred million calls are open when the budget is spent.
+RECURSION = b": spin ( -- ) spin ; spin\n"
 
+# The same with a value on the stack for each open call, fifty million of both.
+RECURSION_WITH_VALUES = b"USING: kernel ; : pile ( -- x ) 1 pile drop ; pile\n"
 
-def composing(path, _):
-    """A word that composes a callable with another at each turn until the budget is spent, at four ticks a turn."""
-    with open(path, "wb") as file:
-        file.write(b"USING: kernel ; : grow ( q -- q ) [ ] compose grow ; [ ] grow\n")
-    return 6, b"", b"spent: 100000000 ticks\n"
+# A word that calls itself in a branch, at five ticks a turn and twenty million deep.
+RECURSION_THROUGH_IF = b"USING: kernel ; : spin ( ? -- ) [ t spin ] [ ] if ; t spin\n"
+
+# A word that composes a callable with another at each turn, at four ticks a turn.
+COMPOSING = b"USING: kernel ; : grow ( q -- q ) [ ] compose grow ; [ ] grow\n"
 
 
 def mebibytes(size):
@@ -158,10 +154,10 @@ SORTS = [
     ("ifs, tall stack", branches_over_a_tall_stack, (25_000, 100_000), words, 2.0),
     ("inline words", inline_words, (2_500, 10_000), words, 2.0),
     ("dup compose", composed_twice, (63,), words, 0.5),
-    ("recursion, if", recursion_through_if, (20_000_000,), words, 20.0),
-    ("composing", composing, (25_000_000,), words, 20.0),
-    ("recursion", recursion, (100_000_000,), words, 20.0),
-    ("recursion, values", recursion_with_values, (50_000_000,), words, 20.0),
+    ("recursion, if", spending(RECURSION_THROUGH_IF), (20_000_000,), words, 20.0),
+    ("composing", spending(COMPOSING), (25_000_000,), words, 20.0),
+    ("recursion", spending(RECURSION), (100_000_000,), words, 20.0),
+    ("recursion, values", spending(RECURSION_WITH_VALUES), (50_000_000,), words, 20.0),
 ]
 
 

@@ -21,6 +21,19 @@ LARGE = 1 << 24
 DEFAULT = os.path.join(os.path.dirname(os.path.abspath(__file__)), "..", "crates", "fac_count", "out", "fac_count")
 
 
+def write_source(path, head, unit, tail, size):
+    """Writes a file of exactly this size: the head, as many units as there is room for, the tail and newlines. Gives the number of
+    units. It writes in pieces, so that this script stays small."""
+    count = (size - len(head) - len(tail)) // len(unit)
+    with open(path, "wb") as file:
+        file.write(head)
+        for first in range(0, count, 1024):
+            file.write(unit * min(1024, count - first))
+        file.write(tail)
+        file.write(b"\n" * (size - file.tell()))
+    return count
+
+
 def counted(number):
     """The status, the output and the note where so many tokens are counted."""
     return 0, b"%d\n" % number, b""
@@ -28,24 +41,24 @@ def counted(number):
 
 def short_tokens(path, size):
     """Tokens of one character."""
-    return counted(speed.write_source(path, b"", b"a ", b"", size))
+    return counted(write_source(path, b"", b"a ", b"", size))
 
 
 def one_token(path, size):
     """One plain token."""
-    speed.write_source(path, b"", b"a", b"", size)
+    write_source(path, b"", b"a", b"", size)
     return counted(1)
 
 
 def escapes(path, size):
     """One string of escapes."""
-    speed.write_source(path, b'"', b'\\n\\"', b'"', size)
+    write_source(path, b'"', b'\\n\\"', b'"', size)
     return counted(1)
 
 
 def comments(path, size):
     """Comments of some forty characters, with characters of two bytes in them."""
-    speed.write_source(path, b"", "! a comment with a quote \" and an é in it\n".encode(), b"", size)
+    write_source(path, b"", "! a comment with a quote \" and an é in it\n".encode(), b"", size)
     return counted(0)
 
 
