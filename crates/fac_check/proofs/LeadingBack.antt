@@ -3,7 +3,7 @@ use Rattle.std.proofs.Common.{◌≡◌, ◌<◌, ◌≤◌, ◌⊎◌, inl, inr
 use Rattle.std.specs.Prelude.{slice_get, nat_eq, nat_lt, ◌||◌, ◌&&◌}
 use Rattle.std.proofs.lemmas.List.{append-nil, length-replicate}
 use Rattle.fac_check.specs.Verdicts.{one_of}
-use Rattle.fac_check.specs.UndeclaredRecursion.{IsOneOf, list_or_none, led_from, IsWithin, StaysInside, Decides, rank_of, all_lower, leads_lower, all_descend, count_one, trues, Adds, Searches, Finds}
+use Rattle.fac_check.specs.UndeclaredRecursion.{IsOneOf, list_or_none, led_from, IsWithin, StaysInside, Decides, rank_of, same_or_lower, all_lower, leads_lower, all_descend, count_one, trues, Adds, Searches, Finds}
 
 pub or_left : (a b : Bool) → a ≡ true → (a || b) ≡ true
 or_left true b e = refl
@@ -276,23 +276,23 @@ search_misses edges w marks f e = unmarked edges w marks f (ap is_marked e)
 abbrev lower : ℕ → ℕ → Bool
 lower a b = nat_lt 0 a && nat_lt a b
 
-lower_each : (ranks : List ℕ) (r v : ℕ) (vs : List ℕ) → all_lower ranks r vs ≡ true → IsOneOf v vs → lower (rank_of ranks v) r ≡ true
-lower_each ranks r v [] h e = absurd cc
-lower_each ranks r v (x ∷ vs) h e = elim (or_either (nat_eq v x) (one_of v vs) e) [
-  | inl p ↦ ap (λ (y : ℕ). lower (rank_of ranks y) r) (same_number v x p) ∙ and_left (lower (rank_of ranks x) r) (all_lower ranks r vs) h
-  | inr p ↦ lower_each ranks r v vs (and_right (lower (rank_of ranks x) r) (all_lower ranks r vs) h) p
+lower_each : (ranks : List ℕ) (w r v : ℕ) (vs : List ℕ) → all_lower ranks w r vs ≡ true → IsOneOf v vs → same_or_lower ranks w r v ≡ true
+lower_each ranks w r v [] h e = absurd cc
+lower_each ranks w r v (x ∷ vs) h e = elim (or_either (nat_eq v x) (one_of v vs) e) [
+  | inl p ↦ ap (same_or_lower ranks w r) (same_number v x p) ∙ and_left (same_or_lower ranks w r x) (all_lower ranks w r vs) h
+  | inr p ↦ lower_each ranks w r v vs (and_right (same_or_lower ranks w r x) (all_lower ranks w r vs) h) p
 ]
 
-leads_each : (ranks : List ℕ) (r v : ℕ) (vs : List ℕ) → leads_lower ranks r vs ≡ true → 0 < r → IsOneOf v vs → lower (rank_of ranks v) r ≡ true
-leads_each ranks zero v vs h lt e = absurd (omega (arith, lt))
-leads_each ranks (suc r) v vs h lt e = lower_each ranks (suc r) v vs h e
+leads_each : (ranks : List ℕ) (w r v : ℕ) (vs : List ℕ) → leads_lower ranks w r vs ≡ true → 0 < r → IsOneOf v vs → same_or_lower ranks w r v ≡ true
+leads_each ranks w zero v vs h lt e = absurd (omega (arith, lt))
+leads_each ranks w (suc r) v vs h lt e = lower_each ranks w (suc r) v vs h e
 
-descends_each : (ranks : List ℕ) (w k u v : ℕ) (edges : List (List ℕ)) → u ≡ w + k → all_descend ranks w edges ≡ true → 0 < rank_of ranks u → IsOneOf v (list_or_none (slice_get edges k)) → lower (rank_of ranks v) (rank_of ranks u) ≡ true
+descends_each : (ranks : List ℕ) (w k u v : ℕ) (edges : List (List ℕ)) → u ≡ w + k → all_descend ranks w edges ≡ true → 0 < rank_of ranks u → IsOneOf v (list_or_none (slice_get edges k)) → same_or_lower ranks u (rank_of ranks u) v ≡ true
 descends_each ranks w k u v [] is h lt e = absurd cc
 descends_each ranks w zero u v (vs ∷ edges) is h lt e =
     let here : u ≡ w = omega (arith, is) in
-    leads_each ranks (rank_of ranks u) v vs (ap (λ (x : ℕ). leads_lower ranks (rank_of ranks x) vs) here ∙ and_left (leads_lower ranks (rank_of ranks w) vs) (all_descend ranks (suc w) edges) h) lt e
-descends_each ranks w (suc k) u v (vs ∷ edges) is h lt e = descends_each ranks (suc w) k u v edges (omega (arith, is)) (and_right (leads_lower ranks (rank_of ranks w) vs) (all_descend ranks (suc w) edges) h) lt e
+    leads_each ranks u (rank_of ranks u) v vs (ap (λ (x : ℕ). leads_lower ranks x (rank_of ranks x) vs) here ∙ and_left (leads_lower ranks w (rank_of ranks w) vs) (all_descend ranks (suc w) edges) h) lt e
+descends_each ranks w (suc k) u v (vs ∷ edges) is h lt e = descends_each ranks (suc w) k u v edges (omega (arith, is)) (and_right (leads_lower ranks w (rank_of ranks w) vs) (all_descend ranks (suc w) edges) h) lt e
 
 lower_than : (a b c : ℕ) → lower a b ≡ true → lower b c ≡ true → lower a c ≡ true
 lower_than a b c p q = grind arith
@@ -303,11 +303,21 @@ lower_first a b p = grind arith
 not_lower : (a : ℕ) → lower a a ≡ false
 not_lower a = grind arith
 
--- a word with a rank stays among those with lower ranks
-pub ranked_stays : (edges : List (List ℕ)) (ranks : List ℕ) (w : ℕ) → all_descend ranks 0 edges ≡ true → 0 < rank_of ranks w → StaysInside edges w
-ranked_stays edges ranks w h lt = record {
+-- a word with a rank that doesn't name itself stays among those with lower ranks
+pub ranked_stays : (edges : List (List ℕ)) (ranks : List ℕ) (w : ℕ) → all_descend ranks 0 edges ≡ true → 0 < rank_of ranks w → one_of w (led_from edges w) ≡ false → StaysInside edges w
+ranked_stays edges ranks w h lt alone = record {
   inside = λ u. lower (rank_of ranks u) (rank_of ranks w);
-  begins = λ v e below. descends_each ranks 0 w w v edges (omega arith) h lt e;
-  closed = λ u v p e below. lower_than (rank_of ranks v) (rank_of ranks u) (rank_of ranks w) (descends_each ranks 0 u u v edges (omega arith) h (lower_first (rank_of ranks u) (rank_of ranks w) p) e) p;
+  begins = λ v e below. elim (or_either (nat_eq v w) (lower (rank_of ranks v) (rank_of ranks w)) (descends_each ranks 0 w w v edges (omega arith) h lt e)) [
+    | inl p ↦ absurd (let named : one_of w (led_from edges w) ≡ true = subst (λ (x : ℕ). IsOneOf x (led_from edges w)) (same_number v w p) e in let clash : true ≡ false = sym named ∙ alone in cc)
+    | inr q ↦ q
+  ];
+  closed = λ u v p e below. elim (or_either (nat_eq v u) (lower (rank_of ranks v) (rank_of ranks u)) (descends_each ranks 0 u u v edges (omega arith) h (lower_first (rank_of ranks u) (rank_of ranks w) p) e)) [
+    | inl q ↦ ap (λ (x : ℕ). lower (rank_of ranks x) (rank_of ranks w)) (same_number v u q) ∙ p
+    | inr q ↦ lower_than (rank_of ranks v) (rank_of ranks u) (rank_of ranks w) q p
+  ];
   apart = not_lower (rank_of ranks w);
 }
+
+-- a word that names itself leads back to itself
+pub itself_leads : (edges : List (List ℕ)) (w : ℕ) → one_of w (led_from edges w) ≡ true → IsWithin edges (led_from edges w) (length edges) w
+itself_leads edges w named = within_more edges (led_from edges w) 0 (length edges) w (omega arith) named

@@ -1,5 +1,5 @@
 -- How the rule of undeclared recursion is decided for all words of a program: by the words that each inline word leads to.
-use Rattle.std.specs.Prelude.{◌≡◌, ◌<◌, ◌≤◌, ◌++◌, ◌⊎◌, ℕ, zero, suc, List, [], ◌∷◌, length, Bool, true, false, nat_eq, nat_lt, ◌&&◌, Option, Some, None, slice_get}
+use Rattle.std.specs.Prelude.{◌≡◌, ◌<◌, ◌≤◌, ◌++◌, ◌⊎◌, ℕ, zero, suc, List, [], ◌∷◌, length, Bool, true, false, nat_eq, nat_lt, ◌&&◌, ◌||◌, Option, Some, None, slice_get}
 use Rattle.fac_lang.specs.Texts.{wrd, Literal, Text, Item, lit, word, made}
 use Rattle.fac_lang.specs.declared.phrase.Template.{Template}
 use Rattle.fac_lang.specs.declared.program.Program.{Program}
@@ -84,24 +84,24 @@ number_or_zero None = 0
 abbrev pub rank_of : List ℕ → ℕ → ℕ
 rank_of ranks u = number_or_zero (slice_get ranks u)
 
--- a word with a rank leads to words with lower ones
-abbrev pub Descends : List (List ℕ) → List ℕ → Type 0
-Descends edges ranks = (u v : ℕ) → 0 < rank_of ranks u → IsOneOf v (led_from edges u) → (0 < rank_of ranks v) × (rank_of ranks v < rank_of ranks u)
+-- whether word v is word w, or has a rank lower than this one
+abbrev pub same_or_lower : List ℕ → ℕ → ℕ → ℕ → Bool
+same_or_lower ranks w r v = nat_eq v w || (nat_lt 0 (rank_of ranks v) && nat_lt (rank_of ranks v) r)
 
--- whether all these words have ranks lower than this one
-abbrev pub all_lower : List ℕ → ℕ → List ℕ → Bool
-all_lower ranks r [] = true
-all_lower ranks r (v ∷ vs) = (nat_lt 0 (rank_of ranks v) && nat_lt (rank_of ranks v) r) && all_lower ranks r vs
+-- whether all these words are word w or have ranks lower than this one
+abbrev pub all_lower : List ℕ → ℕ → ℕ → List ℕ → Bool
+all_lower ranks w r [] = true
+all_lower ranks w r (v ∷ vs) = same_or_lower ranks w r v && all_lower ranks w r vs
 
--- whether a word of this rank leads to words with lower ones; it may have none
-abbrev pub leads_lower : List ℕ → ℕ → List ℕ → Bool
-leads_lower ranks zero vs = true
-leads_lower ranks (suc r) vs = all_lower ranks (suc r) vs
+-- whether word w of this rank leads to itself and to words with lower ones alone; it may have none
+abbrev pub leads_lower : List ℕ → ℕ → ℕ → List ℕ → Bool
+leads_lower ranks w zero vs = true
+leads_lower ranks w (suc r) vs = all_lower ranks w (suc r) vs
 
--- whether each word from word w on with a rank leads to words with lower ones
+-- whether each word from word w on with a rank leads to itself and to words with lower ones alone
 abbrev pub all_descend : List ℕ → ℕ → List (List ℕ) → Bool
 all_descend ranks w [] = true
-all_descend ranks w (vs ∷ edges) = leads_lower ranks (rank_of ranks w) vs && all_descend ranks (suc w) edges
+all_descend ranks w (vs ∷ edges) = leads_lower ranks w (rank_of ranks w) vs && all_descend ranks (suc w) edges
 
 -- how many are true
 abbrev pub count_one : Bool → ℕ → ℕ

@@ -1,7 +1,8 @@
 //! The rule of undeclared recursion.
 ghost use Rattle.std.specs.Prelude.{◌≡◌, ◌++◌, ◌∷◌, ◌<◌, ◌-◌, [], true, false, length, drop, IsTrue, IfOk, OnOk, slice_get};
 ghost use Rattle.fac_lang.specs.View.{what_item};
-ghost use Rattle.fac_check.specs.UndeclaredRecursion.{named_word, made_template, inline_text, inline_word, left_out, led_from, Decides, rank_of, all_lower, leads_lower, all_descend, Adds, Finds, DecidesAll, AddsNames, AddsItemNames, AddsMadeNames, LedBy, LedByText, AreEdges, AreUndeclared};
+ghost use Rattle.fac_check.specs.Verdicts.{one_of};
+ghost use Rattle.fac_check.specs.UndeclaredRecursion.{named_word, made_template, inline_text, inline_word, left_out, led_from, Decides, rank_of, same_or_lower, all_lower, leads_lower, all_descend, Adds, Finds, DecidesAll, AddsNames, AddsItemNames, AddsMadeNames, LedBy, LedByText, AreEdges, AreUndeclared};
 
 use fac_lang::{List, Memory, Phrase, Sort, What, WordDef};
 use fac_locals::Closed;
@@ -183,36 +184,47 @@ struct Ranking {
     // For each word the first link of those that lead to it.
     first: Vec<usize>,
     links: Vec<Link>,
-    // For each word how many words that it leads to have no rank yet.
+    // For each word how many other words that it leads to have no rank yet.
     waits: Vec<usize>,
     // The words that wait for none, in the order in which they get their ranks.
     ready: Vec<u32>,
     ranks: Vec<u32>,
 }
 
-// Links a word to each that it leads to.
-fn add_links(ranking: &mut Ranking, word: u32, led_to: &[u32]) -> Result<(), Memory> {
+// Links a word to another that it leads to, and tells whether there is one.
+fn add_link(ranking: &mut Ranking, word: u32, other: u32) -> Result<bool, Memory> {
+    let number = ranking.links.len();
+    if let Some(first) = ranking.first.get_mut(other as usize) {
+        ranking.links.push(Link { word, next: *first })?;
+        *first = number.saturating_add(1);
+        return Ok(true);
+    }
+    Ok(false)
+}
+
+// Links a word to each other one that it leads to, and counts them.
+fn add_links(ranking: &mut Ranking, word: u32, led_to: &[u32]) -> Result<usize, Memory> {
+    let mut count = 0usize;
     for other in led_to {
-        let number = ranking.links.len();
-        if let Some(first) = ranking.first.get_mut(*other as usize) {
-            ranking.links.push(Link { word, next: *first })?;
-            *first = number.saturating_add(1);
+        if *other != word && add_link(ranking, word, *other)? {
+            count = count.saturating_add(1);
         }
+    }
+    Ok(count)
+}
+
+// Adds a word that waits for the others that it leads to.
+fn add_waiting(ranking: &mut Ranking, word: u32, led_to: &[u32]) -> Result<(), Memory> {
+    let count = add_links(ranking, word, led_to)?;
+    ranking.waits.push(count)?;
+    ranking.ranks.push(0)?;
+    if count == 0 {
+        ranking.ready.push(word)?;
     }
     Ok(())
 }
 
-// Adds a word that waits for those that it leads to.
-fn add_waiting(ranking: &mut Ranking, word: u32, led_to: &[u32]) -> Result<(), Memory> {
-    ranking.waits.push(led_to.len())?;
-    ranking.ranks.push(0)?;
-    if led_to.len() == 0 {
-        ranking.ready.push(word)?;
-    }
-    add_links(ranking, word, led_to)
-}
-
-// All words wait for those that they lead to.
+// All words wait for the others that they lead to.
 fn waiting(alloc: Global, edges: &List<List<u32>>) -> Result<Ranking, Memory> {
     let mut ranking = Ranking {
         first: vec![in alloc; 0; edges.as_slice().len()]?,
@@ -274,7 +286,8 @@ fn rank_next(ranking: &mut Ranking, step: u32) -> Result<(), Memory> {
     release_all(ranking, word)
 }
 
-// Ranks of words, by which a word should lead to words with lower ones. A word that leads to itself or to one that does has none.
+// Ranks of words, by which a word should lead to itself and to words with lower ones. A word of a cycle of several words has none, and so
+// has one that leads to such a cycle.
 fn ranks_of(alloc: Global, edges: &List<List<u32>>) -> Result<Vec<u32>, Memory> {
     let mut ranking = waiting(alloc, edges)?;
     for step in 0..edges.len() {
@@ -294,37 +307,44 @@ fn rank_at(ranks: &[u32], word: u32) -> u32
     }
 }
 
-// Whether all these words have ranks lower than this one.
-fn are_lower(ranks: &[u32], rank: u32, words: &[u32]) -> bool
-    ensures { result ≡ all_lower ranks.now rank words.now }
+// Whether another word is this one, or has a rank lower than this one's.
+fn is_lower(ranks: &[u32], word: u32, rank: u32, other: u32) -> bool
+    ensures { result ≡ same_or_lower ranks.now word rank other }
 {
-    for word in words {
-        let other = rank_at(ranks, *word);
-        if other == 0 || other >= rank {
+    let found = rank_at(ranks, other);
+    other == word || (found > 0 && found < rank)
+}
+
+// Whether all these words are this one, or have ranks lower than this one's.
+fn are_lower(ranks: &[u32], word: u32, rank: u32, words: &[u32]) -> bool
+    ensures { result ≡ all_lower ranks.now word rank words.now }
+{
+    for other in words {
+        if !is_lower(ranks, word, rank, *other) {
             return false;
         }
     }
     true
 }
 
-// Whether a word leads to words with lower ranks, where it has a rank.
-fn goes_lower(ranks: &[u32], rank: u32, words: &[u32]) -> bool
-    ensures { result ≡ leads_lower ranks.now rank words.now }
+// Whether a word leads to itself and to words with lower ranks alone, where it has a rank.
+fn goes_lower(ranks: &[u32], word: u32, rank: u32, words: &[u32]) -> bool
+    ensures { result ≡ leads_lower ranks.now word rank words.now }
 {
     if rank == 0 {
         return true;
     }
-    are_lower(ranks, rank, words)
+    are_lower(ranks, word, rank, words)
 }
 
-// Whether each word with a rank leads to words with lower ones.
+// Whether each word with a rank leads to itself and to words with lower ones alone.
 fn descends(ranks: &[u32], edges: &List<List<u32>>) -> bool
     ensures { result ≡ all_descend ranks.now 0 edges.now }
 {
     let _count = edges.len();
     let mut word = 0u32;
     for led_to in edges.as_slice() {
-        if !goes_lower(ranks, rank_at(ranks, word), led_to.as_slice()) {
+        if !goes_lower(ranks, word, rank_at(ranks, word), led_to.as_slice()) {
             return false;
         }
         word += 1;
@@ -402,7 +422,19 @@ fn leads_back(alloc: Global, edges: &List<List<u32>>, word: u32) -> Result<bool,
     }
 }
 
-// Whether a word leads back to itself. One with a rank doesn't, where ranks go down.
+// Whether a word names itself.
+fn names_itself(edges: &List<List<u32>>, word: u32) -> bool
+    ensures { result ≡ one_of word (led_from edges.now word) }
+{
+    for other in led_to(edges, word) {
+        if word == *other {
+            return true;
+        }
+    }
+    false
+}
+
+// Whether a word leads back to itself. One with a rank does so only where it names itself, where ranks go down.
 fn decide(
     alloc: Global,
     edges: &List<List<u32>>,
@@ -414,6 +446,9 @@ fn decide(
     ensures { IfOk result (Decides edges.now word) }
 {
     if down && rank_at(ranks, word) > 0 {
+        if names_itself(edges, word) {
+            return Ok(true);
+        }
         return Ok(false);
     }
     leads_back(alloc, edges, word)
@@ -433,8 +468,9 @@ fn decide_all(alloc: Global, edges: &List<List<u32>>, ranks: &[u32]) -> Result<L
 
 /// For each word of a closed program whether it breaks the rule of undeclared recursion: whether the text of an inline word, followed
 /// through the inline words that it names, leads back to the word, otherwise than directly where it is marked recursive.
-/// Where no word does, the time is about that of one walk through all texts. Else each word that leads to one that does, or is one,
-/// is decided by a search of its own. Want of memory is the one error.
+/// The time is about that of one walk through all texts, but that a word of a cycle of several words, or one that leads to such a cycle, is
+/// decided by a search of its own. In a source whose names are used after their definitions there is no such cycle. Want of memory is the
+/// one error.
 pub fn undeclared_words(alloc: Global, closed: &Closed) -> Result<List<bool>, Memory>
     ensures { IfOk result (AreUndeclared closed.now.program closed.now.templates) }
 {

@@ -159,6 +159,12 @@ fn programs_that_run(rt: HostRuntime) -> Result<(), Fail> {
             7,
             "7 6 ",
         ),
+        (
+            "USING: math prettyprint ; : a ( -- n ) 0 ; : b ( -- n ) 1 ; : c ( -- n ) b a + ; : d ( -- n ) c b + ; : e ( -- n ) d c + ; : f5 ( -- n ) e d + ; f5 .",
+            "5\n",
+            32,
+            "",
+        ),
     ];
     for (text, output, ticks, left) in cases {
         let call = run(alloc, text.as_bytes())?;
