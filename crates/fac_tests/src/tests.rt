@@ -162,7 +162,7 @@ fn programs_that_run(rt: HostRuntime) -> Result<(), Fail> {
         (
             "USING: math prettyprint ; : a ( -- n ) 0 ; : b ( -- n ) 1 ; : c ( -- n ) b a + ; : d ( -- n ) c b + ; : e ( -- n ) d c + ; : f5 ( -- n ) e d + ; f5 .",
             "5\n",
-            32,
+            31,
             "",
         ),
     ];
