@@ -1,7 +1,7 @@
 -- What closing makes stands for the program.
 use Rattle.std.proofs.Common.{◌≡◌, ℕ, zero, suc, List, [], ◌∷◌, ◌++◌, length, Some, refl, sym, ap, ◌∙◌, append_assoc, length-append, arith}
-use Rattle.std.specs.Prelude.{slice_get}
-use Rattle.std.proofs.lemmas.List.{append-nil}
+use Rattle.std.specs.Prelude.{map, slice_get}
+use Rattle.std.proofs.lemmas.List.{append-nil, map-append}
 use Rattle.fac_lang.specs.Texts.{Literal, Text, end, then, Item, lit, lit_arr, quot, word, bind, local, fry, hole, call_eff, exec_eff, next_method, made, next_after, held, known}
 use Rattle.fac_lang.specs.declared.phrase.Place.{Place}
 use Rattle.fac_lang.specs.declared.phrase.Template.{Template}
@@ -10,7 +10,7 @@ use Rattle.fac_lang.specs.declared.program.WordDef.{WordDef}
 use Rattle.fac_lang.specs.declared.program.Sort.{Sort}
 use Rattle.fac_lang.specs.declared.program.Sort.TheVariants.{Prim as prim, Core as core, Body as body, Past as past, Itself as itself, Class as class, Isa as isa, Getter as getter, Setter as setter, Putter as putter, Generic as generic, Method as method}
 use Rattle.fac_lang.specs.Forms.{IsBuilt, IsBuiltText, IsBuiltItem, IsBuiltSort, AreBuiltWords}
-use Rattle.fac_locals.specs.Literals.{Quoted, first_of_word, first_of_literal, behind, literals_in, literals_at, sort_literals, word_literals, literals, literal_or}
+use Rattle.fac_locals.specs.Literals.{Quoted, first_of_word, first_of_literal, behind, literals_in, literals_at, sort_literals, word_literals, literals, places_in, places_at, sort_places, word_places, literal_or}
 use Rattle.fac_locals.specs.Closed.{Closes, CloseWords, ClosesSort, ClosesText, ClosesItem, CloseLiterals}
 use Rattle.fac_locals.specs.Numbering.{text_behind, item_behind, closed_item, closed_text, template_of, text_templates, item_templates, closed_sort, sort_behind, sort_templates, closed_word, closed_words, words_templates, WordsClose}
 
@@ -201,7 +201,54 @@ module _ (P : Program) (bound : ℕ) where
   words_templates_close n w before (d ∷ ds) h e is =
       literals_append P (sort_literals w d.sort) (word_literals (suc w) ds) (sort_templates n d.sort) (words_templates (sort_behind n d.sort) ds) (sort_templates_close n w before (word_literals (suc w) ds) d.sort h.0 e is) (words_templates_close (sort_behind n d.sort) (suc w) (before ++ sort_literals w d.sort) ds h.1 (sort_literals_counted bound n before w d.sort h.0 e) (is ∙ sym (append_assoc before (sort_literals w d.sort) (word_literals (suc w) ds))))
 
+abbrev place_of : Template → Place
+place_of t = t.place
+
+both_placed : (ts us : List Template) (ps qs : List Place) → map place_of ts ≡ ps → map place_of us ≡ qs → map place_of (ts ++ us) ≡ ps ++ qs
+both_placed ts us ps qs e f = map-append place_of ts us ∙ rw (e, f) refl
+
+-- a text's templates stand at the places of its quotations
+mutual
+  text_placed : (bound n : ℕ) (t : Text) → IsBuiltText bound t → map place_of (text_templates n t) ≡ places_in t
+  text_placed bound n end h = refl
+  text_placed bound n (then i p t) h = both_placed (item_templates n p i) (text_templates (item_behind n i) t) (places_at p i) (places_in t) (item_placed bound n p i h.0) (text_placed bound (item_behind n i) t h.1)
+
+  item_placed : (bound n : ℕ) (p : Place) (i : Item) → IsBuiltItem bound i → map place_of (item_templates n p i) ≡ places_at p i
+  item_placed bound n p (quot t) h = ap (λ (ps : List Place). p ∷ ps) (text_placed bound (suc n) t h)
+  item_placed bound n p (lit q) h = refl
+  item_placed bound n p (word w) h = refl
+  item_placed bound n p (lit_arr a) h = absurd h
+  item_placed bound n p (bind x) h = absurd h
+  item_placed bound n p (local x) h = absurd h
+  item_placed bound n p (fry t k) h = absurd h
+  item_placed bound n p (hole k) h = absurd h
+  item_placed bound n p (call_eff f) h = absurd h
+  item_placed bound n p (exec_eff f) h = absurd h
+  item_placed bound n p next_method h = absurd h
+  item_placed bound n p (made k) h = absurd h
+  item_placed bound n p (next_after m) h = absurd h
+  item_placed bound n p (held v) h = absurd h
+  item_placed bound n p (known m) h = absurd h
+
+sort_placed : (bound n w : ℕ) (s : Sort) → HasBuiltText bound s → map place_of (sort_templates n s) ≡ sort_places w s
+sort_placed bound n w (body t) h = text_placed bound n t h
+sort_placed bound n w (prim k) h = refl
+sort_placed bound n w (core k) h = refl
+sort_placed bound n w (past t) h = absurd h
+sort_placed bound n w itself h = refl
+sort_placed bound n w (class k) h = refl
+sort_placed bound n w (isa k) h = refl
+sort_placed bound n w (getter x) h = refl
+sort_placed bound n w (setter x) h = refl
+sort_placed bound n w (putter x) h = refl
+sort_placed bound n w generic h = refl
+sort_placed bound n w (method c g t) h = absurd h
+
+words_placed : (bound n w : ℕ) (ds : List WordDef) → HaveBuiltTexts bound ds → map place_of (words_templates n ds) ≡ word_places w ds
+words_placed bound n w [] h = refl
+words_placed bound n w (d ∷ ds) h = both_placed (sort_templates n d.sort) (words_templates (sort_behind n d.sort) ds) (sort_places w d.sort) (word_places (suc w) ds) (sort_placed bound n w d.sort h.0) (words_placed bound (sort_behind n d.sort) (suc w) ds h.1)
+
 -- words and templates that closing makes of a program's words
 pub closes_program : (P : Program) → IsBuilt P → (words : List WordDef) (templates : List Template) → WordsClose P.words words templates → Closes P (record { words = words; arrays = P.arrays; classes = P.classes; top = P.top }) templates
 closes_program P b words templates made_of =
-    let built = built_texts P b in record { words = rw made_of.words_are (words_close P P.top 0 0 [] P.words built refl refl); templates_are = rw made_of.templates_are (words_templates_close P P.top 0 0 [] P.words built refl refl); arrays = refl; classes = refl; top = refl }
+    let built = built_texts P b in record { words = rw made_of.words_are (words_close P P.top 0 0 [] P.words built refl refl); templates_are = rw made_of.templates_are (words_templates_close P P.top 0 0 [] P.words built refl refl); places = rw made_of.templates_are (words_placed P.top 0 0 P.words built); arrays = refl; classes = refl; top = refl }

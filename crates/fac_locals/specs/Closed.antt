@@ -1,5 +1,5 @@
 -- When a closed program stands for a program: each quotation in a text is made by the template of its literal, and a template's text is closed likewise.
-use Rattle.std.specs.Prelude.{◌≡◌, ℕ, suc, List, [], ◌∷◌}
+use Rattle.std.specs.Prelude.{◌≡◌, ℕ, suc, List, [], ◌∷◌, map}
 use Rattle.fac_lang.specs.Texts.{Literal, Text, end, then, Item, lit, lit_arr, quot, word, bind, local, fry, hole, call_eff, exec_eff, next_method, made, next_after, held, known}
 use Rattle.fac_lang.specs.Substitution.{of_method}
 use Rattle.fac_lang.specs.declared.phrase.Template.{Template}
@@ -7,7 +7,7 @@ use Rattle.fac_lang.specs.declared.program.Program.{Program}
 use Rattle.fac_lang.specs.declared.program.WordDef.{WordDef}
 use Rattle.fac_lang.specs.declared.program.Sort.{Sort}
 use Rattle.fac_lang.specs.declared.program.Sort.TheVariants.{Body as body, Past as past, Method as method}
-use Rattle.fac_locals.specs.Literals.{Quoted, behind, first_of_word, first_of_literal, literals, literal_numbered}
+use Rattle.fac_locals.specs.Literals.{Quoted, behind, first_of_word, first_of_literal, literals, literal_places, literal_numbered}
 
 module _ (P : Program) where
   -- the template with this number makes the quotation that stands here with this text
@@ -69,10 +69,11 @@ module _ (P : Program) where
   CloseLiterals [] ts = ts ≡ []
   CloseLiterals (l ∷ ls) ts = (t : Template) × (r : List Template) × (ts ≡ t ∷ r) × ClosesLiteral l t × CloseLiterals ls r
 
--- a closed program with these templates stands for this one
+-- a closed program with these templates, each at the place of its literal, stands for this one
 pub record Closes (P C : Program) (templates : List Template) : Type 0 where
   pub words : CloseWords P 0 P.words C.words
   pub templates_are : CloseLiterals P (literals P) templates
+  pub places : map (λ (t : Template). t.place) templates ≡ literal_places P
   pub arrays : C.arrays ≡ P.arrays
   pub classes : C.classes ≡ P.classes
   pub top : C.top ≡ P.top

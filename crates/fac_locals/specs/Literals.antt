@@ -2,6 +2,7 @@
 use Rattle.std.specs.Prelude.{◌≡◌, ◌<◌, ◌≤◌, ◌⊎◌, ℕ, suc, ◌+◌, List, [], ◌∷◌, ◌++◌, length, Option, Some, None, slice_get}
 use Rattle.fac_lang.specs.Texts.{Literal, Text, end, then, Item, quot, fry}
 use Rattle.fac_lang.specs.Substitution.{of_method}
+use Rattle.fac_lang.specs.declared.phrase.Place.{Place}
 use Rattle.fac_lang.specs.declared.program.Program.{Program}
 use Rattle.fac_lang.specs.declared.program.WordDef.{WordDef}
 use Rattle.fac_lang.specs.declared.program.Sort.{Sort}
@@ -66,6 +67,33 @@ word_literals w (d ∷ ds) = sort_literals w d.sort ++ word_literals (suc w) ds
 -- The literals of a program, word by word. A literal's number in this list is that of its template.
 abbrev pub literals : Program → List Quoted
 literals P = word_literals 0 P.words
+
+-- The places of a text's quotations, in the order of its literals: a quotation is at the place of its item.
+abbrev mutual
+  pub places_in : Text → List Place
+  places_in end = []
+  places_in (then i p t) = places_at p i ++ places_in t
+
+  pub places_at : Place → Item → List Place
+  places_at p (quot t) = p ∷ places_in t
+  places_at p (fry t n) = p ∷ places_in t
+  places_at p _ = []
+
+-- those of a word's text, where it has one
+abbrev pub sort_places : ℕ → Sort → List Place
+sort_places w (body t) = places_in t
+sort_places w (past t) = places_in t
+sort_places w (method c g t) = places_in (of_method w t)
+sort_places w _ = []
+
+-- those of words, from word w on
+abbrev pub word_places : ℕ → List WordDef → List Place
+word_places w [] = []
+word_places w (d ∷ ds) = sort_places w d.sort ++ word_places (suc w) ds
+
+-- The places of a program's literals, by the same numbers.
+abbrev pub literal_places : Program → List Place
+literal_places P = word_places 0 P.words
 
 -- The literal of this number. A number behind the last one names a literal with no items of a word that isn't there, so that no two numbers name the same literal.
 abbrev pub literal_or : Program → ℕ → Option Quoted → Quoted
