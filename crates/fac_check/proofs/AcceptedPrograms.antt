@@ -405,11 +405,6 @@ module _ (P : Program) where
     found_body o h = absurd (never_true h)
 
     -- The top-level phrase, from every state with those k values, at every budget, isn't stuck.
-    pub phrase_sound_on : (st : State Value) (n : ℕ) → Over k [] st.stack → Valid P st.world → EndsSo (λ st'. Unit {0}) (run P fits (callable_height P) n (word_text P P.top) st)
-    phrase_sound_on st n o v =
+    pub phrase_sound : (st : State Value) (n : ℕ) → Over k [] st.stack → Valid P st.world → EndsSo (λ st'. Unit {0}) (run P fits (callable_height P) n (word_text P P.top) st)
+    phrase_sound st n o v =
         (let z = found_body (sort_of P P.top) whole.top_phrase in let y = found_word P (slice_get P.words P.top) (body z.0) z.1 in let text_is : word_text P P.top ≡ z.0 = text_there P.top z.0 z.1 in subst (λ t. EndsSo (λ st'. Unit {0}) (run P fits (callable_height P) n t st)) (sym text_is) (top_sound P (accepted_program P whole k accepted) P.top z.0 k (unmarked_word P whole P.top y.0 z.0 y.1 (subst (λ s. HasText P s z.0) (sym y.2) refl)) (top_accepted P k accepted P.top y.0 z.0 y.1 y.2 (eq-eqb P.top P.top refl)) st n o v))
-
-  module _ (whole : IsWhole P) (accepted : verdict P 0 ≡ None) where
-    -- The top-level phrase of a program that begins with no value, with every input, at every budget, isn't stuck.
-    pub phrase_sound : (input : List ℕ) (n : ℕ) → EndsSo (λ st. Unit {0}) (run P fits (callable_height P) n (word_text P P.top) (start P input))
-    phrase_sound input n = phrase_sound_on 0 whole accepted (start P input) n refl (start_valid input)

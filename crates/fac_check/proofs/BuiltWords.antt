@@ -1,16 +1,16 @@
 -- What the checker's definitions say of the words of built programs.
-use Rattle.std.proofs.Common.{◌≡◌, ◌⊎◌, ℕ, zero, suc, List, [], ◌∷◌, ◌++◌, length, Bool, true, false, Option, Some, None, refl, sym, ap, subst, ◌∙◌, arith}
-use Rattle.std.specs.Prelude.{nat_eq, nat_lt, not, ◌&&◌, ◌||◌, slice_get}
+use Rattle.std.proofs.Common.{◌≡◌, ◌⊎◌, ℕ, zero, suc, List, [], ◌∷◌, ◌++◌, length, Bool, true, false, Option, Some, None, refl, sym, ap, subst}
+use Rattle.std.specs.Prelude.{◌&&◌, ◌||◌, slice_get}
 use mathlib.Core.Logic.{inl, inr}
 use Rattle.fac_lang.specs.declared.program.Program.{Program}
 use Rattle.fac_lang.specs.declared.program.WordDef.{WordDef}
 use Rattle.fac_lang.specs.declared.program.Sort.{Sort}
 use Rattle.fac_lang.specs.declared.program.Sort.TheVariants.{Prim as prim, Core as core, Body as body, Past as past, Itself as itself, Class as class, Isa as isa, Getter as getter, Setter as setter, Putter as putter, Generic as generic, Method as method}
-use Rattle.fac_lang.specs.PrimitiveWords.{PrimitiveWord, written_effect, plain_inputs, plain_leaving}
-use Rattle.fac_lang.specs.Signatures.{Signature, signature, Inputs, no_inputs, value, quoted, Leaving, never, leaves}
-use Rattle.fac_lang.specs.Forms.{IsBuilt, IsBuiltSort, AreBuiltWords, IsDefinedWord, IsPrimitiveWord, IsCoreWord, IsTopPhrase, IsPlainEffect, ArePlainInputs, IsPlainLeaving, is_built_primitive, is_built_core}
-use Rattle.fac_check.specs.Rows.{has_rows, inputs_rows, leaving_row, row_of, some_row, is_row}
-use Rattle.fac_check.specs.Verdicts.{bad_rows, bad_generic, is_inline_body}
+use Rattle.fac_lang.specs.PrimitiveWords.{plain_inputs, plain_leaving}
+use Rattle.fac_lang.specs.Signatures.{Signature, signature, Inputs, no_inputs, value, quoted, never, leaves}
+use Rattle.fac_lang.specs.Forms.{IsBuilt, IsBuiltSort, AreBuiltWords, IsTopPhrase, IsPlainEffect, ArePlainInputs, is_built_primitive, is_built_core}
+use Rattle.fac_check.specs.Rows.{has_rows, inputs_rows, is_row}
+use Rattle.fac_check.specs.Verdicts.{bad_rows, bad_generic}
 
 module _ {A : Type 0} where
   -- an element of a list with one more at its end

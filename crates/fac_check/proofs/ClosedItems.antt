@@ -1,13 +1,13 @@
 -- Which item stands for which, where the closed one is known.
-use Rattle.std.proofs.Common.{◌≡◌, ℕ, Option, Some, None, refl, sym, ap, subst, ◌∙◌, List, [], ◌∷◌}
-use Rattle.std.specs.Prelude.{slice_get, nat_le, Bool, true, false}
+use Rattle.std.proofs.Common.{◌≡◌, ℕ, Option, None, refl, sym, ap, subst, ◌∙◌, List, ◌∷◌}
+use Rattle.std.specs.Prelude.{nat_le, true, false}
 use Rattle.fac_lang.specs.declared.program.Program.{Program}
 use Rattle.fac_lang.specs.Texts.{Literal, Plain, Text, Item, lit, lit_arr, quot, word, bind, local, fry, hole, call_eff, exec_eff, next_method, made, next_after, held, known, Mark, any, lit_mark}
 use Rattle.fac_locals.specs.Literals.{Quoted, literal_numbered}
 use Rattle.fac_locals.specs.Closed.{ClosesItem, IsMadeBy}
 use Rattle.fac_abs.specs.Marks.{Row, on, limited, text_marks, deepest_mark}
 use Rattle.fac_abs.specs.Trees.{Naming}
-use Rattle.fac_check.specs.Flow.{Doing, gives, doing}
+use Rattle.fac_check.specs.Flow.{gives, doing}
 
 module _ (P : Program) (at : Literal) where
   pub closes_literal : (i : Item) (p : Plain) → ClosesItem P at i (lit p) → i ≡ lit p

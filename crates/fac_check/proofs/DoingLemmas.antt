@@ -1,13 +1,12 @@
 -- What items do at once, from what is known of the stack.
-use Rattle.std.proofs.Common.{◌≡◌, ◌<◌, ℕ, zero, suc, List, [], ◌∷◌, ◌++◌, length, Bool, true, false, Option, Some, None, refl, sym, ap, subst, ◌∙◌, arith}
-use Rattle.std.specs.Prelude.{◌&&◌}
+use Rattle.std.proofs.Common.{◌≡◌, ◌<◌, ℕ, zero, suc, List, [], ◌∷◌, length, true, false, Option, Some, None, refl, sym, ap, subst, arith}
 use Rattle.fac_lang.specs.declared.program.Program.{Program}
 use Rattle.fac_lang.specs.Texts.{Mark}
-use Rattle.fac_lang.specs.Meaning.{c_call, c_dip, c_if}
+use Rattle.fac_lang.specs.Meaning.{c_dip, c_if}
 use Rattle.fac_lang.specs.Primitives.{Moves, moves1, moves2, moves3}
-use Rattle.fac_abs.specs.Marks.{Row, dead, on, underflow, not_known, is_callable, unknowns, popped, piled, curried_mark, composed_mark}
+use Rattle.fac_abs.specs.Marks.{Row, dead, on, underflow, not_known, is_callable, unknowns, popped, piled}
 use Rattle.fac_abs.specs.InTurn.{heaped, needs, moved, under}
-use Rattle.fac_check.specs.Flow.{Doing, breaks, gives, walks, forks, by_height, marks_moved, curry_doing, compose_doing, core_doing}
+use Rattle.fac_check.specs.Flow.{breaks, gives, forks, by_height, marks_moved, curry_doing, compose_doing, core_doing}
 
 -- what is taken off a stack, where this lies below it
 pub taken_above : (n : ℕ) (before ms rest : List Mark) → under n ms ≡ Some rest → (taken : List Mark) × (let p : List Mark × List Mark = (taken, rest) in popped n before ms ≡ Some p)

@@ -3,13 +3,12 @@ use Rattle.std.proofs.Common.{◌≡◌, ◌<◌, ◌≤◌, ◌+◌, ℕ, zero,
 use Rattle.std.specs.Prelude.{slice_get}
 use Rattle.fac_lang.specs.declared.program.Program.{Program}
 use Rattle.fac_lang.specs.declared.program.WordDef.{WordDef}
-use Rattle.fac_lang.specs.Forms.{IsBuilt}
 use Rattle.fac_locals.specs.Closed.{Closes}
 use Rattle.fac_locals.specs.declared.closing.Closed.{Closed}
 use Rattle.fac_locals.proofs.Lookups.{words_closed_count}
 use Rattle.fac_check.specs.UndeclaredRecursion.{undeclared_from, AreUndeclared}
 use Rattle.fac_check.specs.Verdicts.{Refusal as RefusalSeen, undeclared, word_verdict, verdict_from, verdict}
-use Rattle.fac_check.specs.Judged.{OfEach, IsVerdict, AreVerdicts, IsAccepted, Numbered, first_of, numbered, verdicts_from, all_verdicts, verdict_seen}
+use Rattle.fac_check.specs.Judged.{OfEach, IsVerdict, AreVerdicts, Numbered, first_of, numbered, verdicts_from, all_verdicts, verdict_seen}
 use Rattle.fac_check.specs.declared.checker.Verdict.{Verdict}
 
 -- the flag of a word

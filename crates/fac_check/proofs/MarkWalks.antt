@@ -1,5 +1,5 @@
 -- The walk of a callable by the walks of its parts.
-use Rattle.std.proofs.Common.{◌≡◌, ◌≢◌, ◌<◌, ◌≤◌, ◌-◌, ℕ, zero, suc, List, [], ◌∷◌, Option, Some, None, Ok, refl, sym, ap, subst, ◌∙◌, arith}
+use Rattle.std.proofs.Common.{◌≡◌, ◌≢◌, ◌-◌, ℕ, zero, suc, List, ◌∷◌, Some, None, Ok, refl, sym, ap, subst, ◌∙◌, arith}
 use Rattle.std.specs.Prelude.{slice_get}
 use Rattle.fac_lang.specs.declared.phrase.Place.{Place}
 use Rattle.fac_lang.specs.declared.phrase.Template.{Template}
@@ -7,11 +7,11 @@ use Rattle.fac_lang.specs.declared.program.Program.{Program}
 use Rattle.fac_lang.specs.declared.program.WordDef.{WordDef}
 use Rattle.fac_lang.specs.declared.program.Sort.TheVariants.{Body as body}
 use Rattle.fac_lang.specs.Texts.{Literal, Text, Mark, cur_mark, com_mark}
-use Rattle.fac_locals.specs.Literals.{Quoted, first_of_word, first_of_literal, literal_numbered}
-use Rattle.fac_locals.specs.Closed.{ClosesText, ClosesLiteral}
+use Rattle.fac_locals.specs.Literals.{Quoted, first_of_word, first_of_literal}
+use Rattle.fac_locals.specs.Closed.{ClosesText}
 use Rattle.fac_locals.proofs.Lookups.{word_open, template_closed}
-use Rattle.fac_abs.specs.Marks.{AbstractStack, dead, on}
-use Rattle.fac_check.specs.Flow.{Walked, found, refused, and_then, living, inside, Walk, walk_text, walk_mark}
+use Rattle.fac_abs.specs.Marks.{AbstractStack}
+use Rattle.fac_check.specs.Flow.{Walked, and_then, living, inside, Walk, walk_text, walk_mark}
 use Rattle.fac_check.specs.Walking.{Opened, Enters, part_walk, body_text, text_of, sort_text}
 use Rattle.fac_check.proofs.BuiltWords.{built_as}
 use Rattle.fac_check.proofs.WordItems.{is_body}

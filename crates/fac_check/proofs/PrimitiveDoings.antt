@@ -1,14 +1,14 @@
 -- What the primitives do in the checker's walk, by their numbers.
-use Rattle.std.proofs.Common.{◌≡◌, ◌≤◌, ◌<◌, ◌+◌, ◌-◌, ℕ, zero, suc, List, [], ◌∷◌, Bool, true, false, Option, Some, None, refl, sym, ap, subst, ◌∙◌, arith}
+use Rattle.std.proofs.Common.{◌≡◌, ◌≤◌, ◌<◌, ◌+◌, ◌-◌, ℕ, zero, suc, List, [], ◌∷◌, Bool, true, false, Option, Some, None, refl, sym, ap, subst, arith}
 use Rattle.std.specs.Prelude.{slice_get, length, drop, map, get_or, ◌++◌}
 use Rattle.std.specs.List.{list_all}
 use Rattle.fac_lang.specs.declared.phrase.Height.{Height}
 use Rattle.fac_lang.specs.declared.program.Program.{Program}
 use Rattle.fac_lang.specs.Texts.{Mark}
 use Rattle.fac_lang.specs.Primitives.{Prim, shuffle, p_curry, p_compose, prims, prim_numbered, Shuffle, s_drop, shuffles, moves}
-use Rattle.fac_abs.specs.Marks.{Row, not_known}
+use Rattle.fac_abs.specs.Marks.{Row}
 use Rattle.fac_abs.proofs.EqualMarks.{and_first, and_second}
-use Rattle.fac_check.specs.Flow.{Doing, breaks, by_height, prim_doing, marks_moved}
+use Rattle.fac_check.specs.Flow.{by_height, prim_doing, marks_moved}
 
 -- whether a primitive is a shuffle, `curry` or `compose`
 abbrev is_moving : Prim → Bool

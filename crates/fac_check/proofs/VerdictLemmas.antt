@@ -1,13 +1,12 @@
 -- The verdict on a word, from the walk of its closed text.
-use Rattle.std.proofs.Common.{◌≡◌, ◌≢◌, ◌<◌, ℕ, suc, List, [], ◌∷◌, length, Bool, true, false, Option, Some, None, refl, sym, ap, subst, ◌∙◌, arith}
+use Rattle.std.proofs.Common.{◌≡◌, ◌≢◌, ◌<◌, ℕ, List, [], Bool, true, false, Option, Some, None, refl, sym, ap, subst, ◌∙◌, arith}
 use Rattle.std.specs.Prelude.{nat_eq, slice_get}
 use Rattle.std.proofs.lemmas.Bool.{ne_eqb}
 use Rattle.fac_lang.specs.declared.phrase.Place.{Place}
 use Rattle.fac_lang.specs.declared.phrase.Template.{Template}
 use Rattle.fac_lang.specs.declared.program.Program.{Program}
 use Rattle.fac_lang.specs.declared.program.WordDef.{WordDef}
-use Rattle.fac_lang.specs.declared.program.Sort.{Sort}
-use Rattle.fac_lang.specs.declared.program.Sort.TheVariants.{Prim as prim, Core as core, Body as body}
+use Rattle.fac_lang.specs.declared.program.Sort.TheVariants.{Body as body}
 use Rattle.fac_lang.specs.Texts.{Literal, Text}
 use Rattle.fac_lang.specs.Signatures.{Signature, signature}
 use Rattle.fac_lang.specs.Effects.{effect_height, inputs_count}
@@ -15,19 +14,18 @@ use Rattle.fac_lang.specs.Forms.{IsBuilt}
 use Rattle.fac_locals.specs.Literals.{first_of_word, literal_numbered}
 use Rattle.fac_locals.specs.Closed.{Closes, ClosesText, ClosesSort, ClosesWord}
 use Rattle.fac_locals.proofs.Places.{literal_apart, literal_built}
-use Rattle.fac_abs.specs.Marks.{AbstractStack, unknowns}
+use Rattle.fac_abs.specs.Marks.{unknowns}
 use Rattle.fac_abs.specs.Trees.{Naming}
 use Rattle.fac_abs.specs.Seen.{MarksSeen, stack_of}
 use Rattle.fac_check.specs.declared.rule.Rule.{Rule}
 use Rattle.fac_check.specs.declared.walker.Walked.{Walked}
 use Rattle.fac_check.specs.Rows.{effect_inputs, effect_leaving, is_row}
-use Rattle.fac_check.specs.Flow.{Walked as WalkedText, most_steps, most_walked, most_nested}
+use Rattle.fac_check.specs.Flow.{most_steps}
 use Rattle.fac_check.specs.Verdicts.{Refusal, end_of, kept_word, ordinary_verdict, top_verdict, inline_verdict, body_verdict, phrase_verdict, sort_verdict, ruled_verdict, word_verdict, undeclared, bad_rows, bad_generic}
 use Rattle.fac_check.specs.Walking.{Opened, walked_seen, go_at}
 use Rattle.fac_check.specs.Judged.{breach_seen}
 use Rattle.fac_check.proofs.BuiltMarks.{built_unmarked}
 use Rattle.fac_check.proofs.BuiltWords.{BuiltAs, as_primitive, as_core, as_defined, built_as, no_bad_rows, no_bad_generic, no_row_word}
-use Rattle.fac_check.proofs.WordItems.{is_body}
 
 -- the templates of a built program's closed one name its literals
 abbrev pub opened : (P C : Program) (templates : List Template) → Closes P C templates → IsBuilt P → Opened C templates

@@ -1,5 +1,5 @@
 -- How the walk of a text goes on behind an item.
-use Rattle.std.proofs.Common.{◌≡◌, ◌<◌, ◌≤◌, ℕ, zero, suc, List, [], ◌∷◌, Option, Some, None, refl, sym, ap, subst, ◌∙◌, arith}
+use Rattle.std.proofs.Common.{◌≡◌, ◌<◌, ◌≤◌, ℕ, zero, suc, List, [], ◌∷◌, None, refl, sym, ap, subst, ◌∙◌, arith}
 use Rattle.fac_lang.specs.declared.phrase.Place.{Place}
 use Rattle.fac_lang.specs.declared.phrase.Template.{Template}
 use Rattle.fac_lang.specs.declared.phrase.Item.{Item as PlacedItem}
@@ -8,14 +8,12 @@ use Rattle.fac_lang.specs.Texts.{Literal, Text, end, then, Item, Mark}
 use Rattle.fac_lang.specs.View.{what_item, items_text}
 use Rattle.fac_locals.specs.Literals.{behind}
 use Rattle.fac_locals.specs.Closed.{ClosesItem, ClosesText}
-use Rattle.fac_abs.specs.Marks.{AbstractStack, dead, on}
+use Rattle.fac_abs.specs.Marks.{dead, on}
 use Rattle.fac_abs.specs.Trees.{Naming}
-use Rattle.fac_abs.specs.Seen.{MarksSeen, mark_of, stack_of}
-use Rattle.fac_check.specs.Flow.{Walked as WalkedText, found, refused, and_then, doing}
+use Rattle.fac_abs.specs.Seen.{MarksSeen, stack_of}
+use Rattle.fac_check.specs.Flow.{found, refused, and_then, doing}
 use Rattle.fac_check.specs.ItemWalk.{IsAlone, item_walk}
-use Rattle.fac_check.specs.Walking.{Opened, doing_seen, walked_seen, reached_seen, rule_seen, body_text, go_at, IsBelow}
-use Rattle.fac_check.specs.declared.rule.Rule.{Rule}
-use Rattle.fac_check.specs.declared.doing.Reached.{Reached}
+use Rattle.fac_check.specs.Walking.{Opened, doing_seen, walked_seen, rule_seen, body_text, go_at, IsBelow}
 use Rattle.fac_check.specs.declared.doing.Reached.TheVariants.{Dead, On}
 use Rattle.fac_check.specs.declared.doing.Doing.{Doing}
 use Rattle.fac_check.specs.declared.doing.Doing.TheVariants.{Breaks, Gives, Expands, Walks, Forks}

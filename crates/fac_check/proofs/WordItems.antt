@@ -1,6 +1,6 @@
 -- What the items of a built program's words do in the checker's walk.
-use Rattle.std.proofs.Common.{◌≡◌, ◌≢◌, ◌≤◌, ◌<◌, ℕ, zero, suc, List, [], ◌∷◌, length, Bool, true, false, Option, Some, None, refl, sym, ap, subst, ◌∙◌, arith, Result, Ok, Err}
-use Rattle.std.specs.Prelude.{nat_eq, nat_lt, not, ◌&&◌, ◌||◌, slice_get, IfOk, if◌then◌else◌}
+use Rattle.std.proofs.Common.{◌≡◌, ◌≢◌, ◌<◌, ℕ, zero, suc, List, [], ◌∷◌, length, Bool, true, false, Option, Some, None, refl, sym, ap, subst, ◌∙◌, arith, Result, Ok, Err}
+use Rattle.std.specs.Prelude.{nat_eq, nat_lt, not, ◌||◌, slice_get, IfOk, if◌then◌else◌}
 use Rattle.std.specs.List.{list_all}
 use Rattle.std.proofs.lemmas.Bool.{eqb-true, eq-eqb, leb-true, ne_eqb}
 use Rattle.fac_lang.specs.declared.phrase.Height.{Height}
@@ -12,15 +12,15 @@ use Rattle.fac_lang.specs.Texts.{Text, Mark}
 use Rattle.fac_lang.specs.Effects.{effect_height}
 use Rattle.fac_lang.specs.Primitives.{Prim, prims, prim_numbered}
 use Rattle.fac_lang.specs.Meaning.{core_numbered, c_call, c_dip, c_if}
-use Rattle.fac_lang.specs.Forms.{IsBuilt, is_member, built_primitives, is_built_primitive}
+use Rattle.fac_lang.specs.Forms.{is_member, built_primitives, is_built_primitive}
 use Rattle.fac_locals.specs.Literals.{first_of_word}
 use Rattle.fac_locals.specs.Closed.{ClosesWord, ClosesSort, ClosesText}
 use Rattle.fac_abs.specs.Marks.{Row, not_known}
 use Rattle.fac_check.specs.Rows.{is_row}
-use Rattle.fac_check.specs.Flow.{Doing, breaks, expands, by_height, callable_or, prim_doing, core_doing, sort_doing, body_doing, inline_doing, row_or_text, curry_doing, compose_doing}
+use Rattle.fac_check.specs.Flow.{Doing, breaks, expands, by_height, callable_or, prim_doing, core_doing, sort_doing, inline_doing, row_or_text, curry_doing, compose_doing}
 use Rattle.fac_check.specs.Walking.{body_text, text_of, sort_text}
 use Rattle.fac_abs.proofs.EqualMarks.{and_first, and_second}
-use Rattle.fac_check.proofs.BuiltWords.{BuiltAs, as_primitive, as_core, as_defined, built_as, no_row_word}
+use Rattle.fac_check.proofs.BuiltWords.{BuiltAs, as_primitive, as_core, as_defined, no_row_word}
 
 -- an answer's fact out of another
 pub ok_maps : {A E : Type 0} {Q R : A → Type 0} (r : Result A E) → ((x : A) → Q x → R x) → IfOk r Q → IfOk r R

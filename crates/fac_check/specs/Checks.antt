@@ -1,9 +1,6 @@
 -- What the checker promises of a program that it accepts, and how it answers.
 use Rattle.std.specs.Prelude.{◌≡◌, Some, Result, Ok, Err}
-use Rattle.fac_lang.specs.declared.program.Program.{Program}
-use Rattle.fac_lang.specs.Forms.{IsBuilt}
 use Rattle.fac_lang.specs.Whole.{IsWhole}
-use Rattle.fac_locals.specs.Closed.{Closes}
 use Rattle.fac_locals.specs.declared.closing.Closed.{Closed}
 use Rattle.fac_check.specs.Verdicts.{verdict}
 use Rattle.fac_check.specs.Promises.{IsSafe}
@@ -13,9 +10,9 @@ use Rattle.fac_check.specs.declared.rule.Refusal.{Refusal}
 use Rattle.fac_check.specs.declared.rule.CheckFault.{CheckFault}
 use Rattle.fac_check.specs.declared.rule.CheckFault.TheVariants.{Refused, Memory}
 
--- each whole program for which this stands is safe, where its top-level phrase starts from no value
+-- each whole program for which this stands is safe, with its top-level phrase on as many values as this starts on
 abbrev pub IsKept : Closed → Type 0
-IsKept closed = closed.start ≡ 0 → OfEach closed (λ P. IsWhole P → IsSafe P)
+IsKept closed = OfEach closed (λ P. IsWhole P → IsSafe P closed.start)
 
 -- the closed program itself, whose program is accepted and safe; or the first refused word in source order, with its first rule and place
 abbrev pub Gathers : Closed → Result Checked Refusal → Type 0

@@ -1,10 +1,9 @@
 -- What one item comes to, apart from the rest of its text. Only the contracts of inner functions cite this.
-use Rattle.std.specs.Prelude.{ℕ, List, Option, Some, None}
+use Rattle.std.specs.Prelude.{ℕ, Option}
 use Rattle.fac_lang.specs.declared.phrase.Place.{Place}
 use Rattle.fac_lang.specs.Signatures.{Signature}
-use Rattle.fac_lang.specs.Texts.{Mark}
 use Rattle.fac_locals.specs.Literals.{first_of_word}
-use Rattle.fac_abs.specs.Marks.{Row, AbstractStack, Rule, too_large}
+use Rattle.fac_abs.specs.Marks.{AbstractStack, too_large}
 use Rattle.fac_check.specs.Flow.{Walked, found, refused, and_then, Doing, breaks, gives, names_local, expands, walks, forks, again, uses, Walk, counted, join, marks_back, walk_text, walk_mark, text_rule, first_rule, unless_broken}
 
 -- whether the rest of the text has no part in what an item does, and no other item

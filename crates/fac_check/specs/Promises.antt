@@ -29,15 +29,20 @@ Leaves outs below Stuck = ⊥
 abbrev pub with_stack : List Value → World Value → State Value
 with_stack stack world = record { stack = stack; world = world }
 
-pub record IsSafe (P : Program) : Type 0 where
+-- The top-level phrase starts on so many values.
+pub record IsSafe (P : Program) (count : ℕ) : Type 0 where
   -- Each ordinary word, from each state with its declared inputs on any values, at every budget: it isn't stuck, and where it is done exactly its declared outputs stand on those values.
   pub words :
       (w : ℕ) (d : WordDef) (t : Text) → slice_get P.words w ≡ Some d → d.sort ≡ body t → w ≢ P.top → d.inline ≡ false →
       (n : ℕ) (inputs below : List Value) (world : World Value) → Valid P world → length inputs ≡ (effect_height d.effect).ins →
       Leaves (effect_height d.effect).outs below (run P fits (callable_height P) n t (with_stack (inputs ++ below) world))
-  -- the top-level phrase, with every input, at every budget
-  pub phrase : (input : List ℕ) (n : ℕ) → IsNotStuck (run P fits (callable_height P) n (word_text P P.top) (start P input))
+  -- the top-level phrase, from each state with so many values, at every budget
+  pub phrase :
+      (values : List Value) (world : World Value) (n : ℕ) → Valid P world → length values ≡ count →
+      IsNotStuck (run P fits (callable_height P) n (word_text P P.top) (with_stack values world))
+  -- the state before the first item is one of those from which the words and the phrase are meant, with every input
+  pub begins : (input : List ℕ) → Valid P (start P input).world
 
--- Whatever quotations, row variables, recursion, locals, objects and methods are in it.
+-- Whatever quotations, row variables, recursion, locals, objects and methods are in it, and however many values its top-level phrase starts on.
 abbrev pub AcceptedAreSafe : Type 0
-AcceptedAreSafe = (P : Program) → IsWhole P → verdict P 0 ≡ None → IsSafe P
+AcceptedAreSafe = (P : Program) (count : ℕ) → IsWhole P → verdict P count ≡ None → IsSafe P count

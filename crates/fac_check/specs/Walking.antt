@@ -12,7 +12,7 @@ use Rattle.fac_lang.specs.Texts.{Text, end, Mark}
 use Rattle.fac_lang.specs.Forms.{IsBuilt}
 use Rattle.fac_locals.specs.Literals.{literal_numbered}
 use Rattle.fac_locals.specs.Closed.{Closes}
-use Rattle.fac_abs.specs.Marks.{Row, AbstractStack, dead, on, Rule as BrokenRule, underflow, not_known, not_a_class, branches, recursive_input, rows, undeclared_recursion, row_declaration, method_effect, too_deep, too_large, outputs, must_return}
+use Rattle.fac_abs.specs.Marks.{AbstractStack, dead, on, Rule as BrokenRule, underflow, not_known, not_a_class, branches, recursive_input, rows, undeclared_recursion, row_declaration, method_effect, too_deep, too_large, outputs, must_return}
 use Rattle.fac_abs.specs.Trees.{Naming}
 use Rattle.fac_abs.specs.Seen.{MarksSeen, mark_of, stack_of, IsMark, IsStack}
 use Rattle.fac_check.specs.Flow.{Walked as WalkedText, found, refused, Doing as DoingAtOnce, breaks, gives, expands, walks, forks, unless_broken, counted, inside, Walk, walk, walk_mark, doing}

@@ -1,5 +1,5 @@
 -- What a closed program keeps of the one for which it stands, and the checker's refusals both ways.
-use Rattle.std.proofs.Common.{◌≡◌, ℕ, zero, suc, List, [], ◌∷◌, Bool, Result, Ok, Err, IfOk, refl, ap, ◌∙◌}
+use Rattle.std.proofs.Common.{◌≡◌, ℕ, zero, suc, List, [], ◌∷◌, Bool, Result, Ok, Err, IfOk, refl, ap, subst, ◌∙◌}
 use Rattle.std.specs.Prelude.{slice_get}
 use Rattle.std.specs.declared.option.Option.{Option}
 use Rattle.fac_lang.specs.declared.memory.Memory.{Memory}
@@ -8,6 +8,7 @@ use Rattle.fac_lang.specs.declared.phrase.Template.{Template}
 use Rattle.fac_lang.specs.declared.program.Program.{Program}
 use Rattle.fac_lang.specs.declared.program.WordDef.{WordDef}
 use Rattle.fac_lang.specs.Texts.{Callable}
+use Rattle.fac_lang.specs.Meaning.{start}
 use Rattle.fac_lang.specs.Forms.{IsBuilt}
 use Rattle.fac_locals.specs.Closed.{Closes, CloseWords}
 use Rattle.fac_locals.specs.declared.closing.Closed.{Closed}
@@ -58,11 +59,11 @@ refusal_back r =
 
 -- an accepted program is safe
 pub safe_one : (closed : Closed) (P : Program) → IsKept closed → closed.start ≡ 0 → StandsFor closed P → StandsForSafe closed P
-safe_one closed P kept start stands = record { closes = stands.closes; built = stands.built; safe = kept start P stands.closes stands.built stands.whole }
+safe_one closed P kept start stands = record { closes = stands.closes; built = stands.built; safe = subst (λ count. IsSafe P count) start (kept P stands.closes stands.built stands.whole) }
 
 -- so it is never stuck with the checker's test of effects
-never_stuck : (P : Program) → IsSafe P → IsNeverStuck P fits (callable_height P)
-never_stuck P safe n = safe.phrase [] n
+never_stuck : (P : Program) → IsSafe P 0 → IsNeverStuck P fits (callable_height P)
+never_stuck P safe n = safe.phrase [] (start P []).world n (safe.begins []) refl
 
 -- so its image carries it with that test
 pub if_carried :

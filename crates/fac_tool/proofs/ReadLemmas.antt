@@ -31,14 +31,14 @@ read_text file text false e = (None, λ plain forms reads. cc)
 pub is_read : (file : ℕ) (text : List ℕ) → (forms : Option (List Form)) × IsReadAs file text forms
 is_read file text = read_text file text (list_all is_readable text) refl
 
-verdict_safe : (P : Program) (v : Option (ℕ × Refusal)) → IsWhole P → verdict P 0 ≡ v → IfSome (if_accepted P v) IsSafe
+verdict_safe : (P : Program) (v : Option (ℕ × Refusal)) → IsWhole P → verdict P 0 ≡ v → IfSome (if_accepted P v) (λ Q. IsSafe Q 0)
 verdict_safe P (Some first) whole e = tt
-verdict_safe P None whole e = accepted_are_safe P whole e
+verdict_safe P None whole e = accepted_are_safe P 0 whole e
 
-resolved_safe : (forms : List Form) (r : Result Program NameFault) → IsWellFormed forms → resolved forms ≡ r → IfSome (accepted_of r) IsSafe
+resolved_safe : (forms : List Form) (r : Result Program NameFault) → IsWellFormed forms → resolved forms ≡ r → IfSome (accepted_of r) (λ Q. IsSafe Q 0)
 resolved_safe forms (Ok P) fits e = verdict_safe P (verdict P 0) (resolved_whole forms (Ok P) fits e) refl
 resolved_safe forms (Err fault) fits e = tt
 
-pub accepted_safe : (file : ℕ) (text : List ℕ) (forms : Option (List Form)) → IsReadAs file text forms → IfSome (accepted forms) IsSafe
+pub accepted_safe : (file : ℕ) (text : List ℕ) (forms : Option (List Form)) → IsReadAs file text forms → IfSome (accepted forms) (λ P. IsSafe P 0)
 accepted_safe file text None read = tt
 accepted_safe file text (Some forms) read = resolved_safe forms (resolved forms) read.1.fits refl

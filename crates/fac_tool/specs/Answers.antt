@@ -79,7 +79,7 @@ pub record Loaded (name : List ℕ) (command : Command) (files : FilesSeen) (out
   pub asked : Grows files.asked_before mid_asked (Load name ∷ [])
   pub count : files.faults_before ≤ mid_faults
   pub is_read : IsReadAs 1 text forms
-  pub sound : IfSome (accepted forms) IsSafe
+  pub sound : IfSome (accepted forms) (λ P. IsSafe P 0)
   pub ends : EndsBy (ending_of ended.status) (answer_on command forms) (work_of command (accepted forms)) (files_seen mid_held files.held_now mid_asked files.asked_now mid_faults files.faults_now) out ended
 
 -- the work of a command on its file

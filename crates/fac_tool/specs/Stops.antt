@@ -34,11 +34,11 @@ pub record StandsFor (closed : Closed) (P : Program) : Type 0 where
   pub built : IsBuilt P
   pub whole : IsWhole P
 
--- which is accepted, so that it is safe
+-- which is accepted, so that it is safe, and starts on no value
 pub record StandsForSafe (closed : Closed) (P : Program) : Type 0 where
   pub closes : Closes P closed.program closed.templates
   pub built : IsBuilt P
-  pub safe : IsSafe P
+  pub safe : IsSafe P 0
 
 -- the words of two programs have the same names
 abbrev pub SameNames : Program → Program → Type 0

@@ -1,5 +1,4 @@
 use Rattle.std.proofs.Common.{◌∙◌, ap, sym, None}
-use Rattle.fac_check.specs.declared.doing.Reached.{Reached}
 use Rattle.fac_check.specs.declared.walker.Walked.TheVariants.{Found}
 use Rattle.fac_check.specs.Rows.{effect_leaving}
 use Rattle.fac_check.specs.Verdicts.{end_of, kept_word}

@@ -1,4 +1,4 @@
-use Rattle.std.proofs.Common.{◌∙◌, ap, [], ◌∷◌}
+use Rattle.std.proofs.Common.{◌∙◌, ap}
 use Rattle.fac_abs.specs.Marks.{unknowns}
 use Rattle.fac_check.proofs.VerdictLemmas.{ordinary_is}
 use Rattle.fac_check.proofs.checker.ordinary_breach.Goals as goal

@@ -1,4 +1,4 @@
-use Rattle.std.proofs.Common.{◌∙◌, ap, [], ◌∷◌, ◌≡◌}
+use Rattle.std.proofs.Common.{◌∙◌, ap, []}
 use Rattle.fac_abs.specs.Marks.{unknowns}
 use Rattle.fac_check.proofs.VerdictLemmas.{top_is}
 use Rattle.fac_check.proofs.checker.top_breach.Goals as goal

@@ -1,4 +1,4 @@
-use Rattle.std.proofs.Common.{None, sym, ◌∙◌}
+use Rattle.std.proofs.Common.{None}
 use Rattle.fac_abs.specs.Seen.{mark_of, stack_of}
 use Rattle.fac_check.proofs.DoingLemmas.{if_unknown_first, if_unknown_second, if_known}
 use Rattle.fac_check.proofs.doing.branch.Goals as goal

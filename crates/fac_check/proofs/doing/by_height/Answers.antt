@@ -1,4 +1,4 @@
-use Rattle.std.proofs.Common.{Some, None, ◌∙◌}
+use Rattle.std.proofs.Common.{None, ◌∙◌}
 use Rattle.fac_abs.specs.Seen.{stack_of}
 use Rattle.fac_check.proofs.DoingLemmas.{height_lacks, height_dead, height_leaves}
 use Rattle.fac_check.proofs.doing.by_height.Goals as goal

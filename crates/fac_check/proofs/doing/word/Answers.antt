@@ -1,4 +1,4 @@
-use Rattle.std.proofs.Common.{None, Some, sym, ◌∙◌, ap}
+use Rattle.std.proofs.Common.{None, sym, ◌∙◌, ap}
 use Rattle.fac_abs.specs.Seen.{stack_of}
 use Rattle.fac_locals.proofs.Lookups.{word_open, word_open_none}
 use Rattle.fac_check.specs.Flow.{word_doing}

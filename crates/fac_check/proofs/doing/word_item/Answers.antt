@@ -1,8 +1,8 @@
-use Rattle.std.proofs.Common.{None, sym, ◌∙◌, arith, ◌≡◌, subst}
+use Rattle.std.proofs.Common.{◌∙◌}
 use Rattle.fac_abs.specs.Seen.{stack_of}
 use Rattle.fac_check.proofs.BuiltWords.{built_as}
 use Rattle.fac_check.specs.Walking.{body_text}
-use Rattle.fac_check.proofs.WordItems.{ok_maps, is_prim, is_body, is_core, prim_item, body_item, core_item, built_numbered}
+use Rattle.fac_check.proofs.WordItems.{ok_maps, is_prim, is_body, prim_item, body_item, built_numbered}
 use Rattle.fac_check.proofs.doing.word_item.Goals as goal
 
 pub returns-in-Prim-clause-does : goal.returns-in-Prim-clause-does

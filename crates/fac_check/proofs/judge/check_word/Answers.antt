@@ -1,4 +1,4 @@
-use Rattle.std.proofs.Common.{◌≡◌, Some, sym, ap, subst, ◌∙◌}
+use Rattle.std.proofs.Common.{◌≡◌, sym, ap, subst}
 use Rattle.fac_locals.specs.Closed.{ClosesWord}
 use Rattle.fac_locals.proofs.Lookups.{word_open}
 use Rattle.fac_check.specs.Judged.{breach_seen, numbered}

@@ -1,4 +1,4 @@
-use Rattle.std.proofs.Common.{◌≡◌, ◌+◌, ◌++◌, ◌∷◌, [], List, map, drop, sym, ap, subst, ◌∙◌, arith}
+use Rattle.std.proofs.Common.{◌+◌, List, sym, subst, arith}
 use Rattle.fac_check.specs.declared.checker.Verdict.{Verdict}
 use Rattle.fac_check.proofs.JudgeLemmas.{VerdictsSo, verdicts_next, verdicts_done}
 use Rattle.fac_check.proofs.judge.check_words.Goals as goal

@@ -1,4 +1,3 @@
-use Rattle.std.proofs.Common.{◌≤◌, length}
 use Rattle.fac_check.proofs.JudgeLemmas.{VerdictsSo}
 use Rattle.fac_check.proofs.judge.check_words.Given as goal
 

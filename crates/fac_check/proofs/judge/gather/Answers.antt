@@ -1,4 +1,4 @@
-use Rattle.std.proofs.Common.{None, Some, ◌∙◌, sym, ap, subst}
+use Rattle.std.proofs.Common.{◌∙◌, ap}
 use Rattle.fac_check.specs.Judged.{refusal_if}
 use Rattle.fac_check.proofs.JudgeLemmas.{judged_by}
 use Rattle.fac_check.proofs.judge.gather.Goals as goal

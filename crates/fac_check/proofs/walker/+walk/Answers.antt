@@ -1,11 +1,10 @@
-use Rattle.std.proofs.Common.{◌≡◌, ◌<◌, ◌+◌, suc, Some, None, [], ◌∷◌, sym, ap, subst, ◌∙◌, arith, drop, drop-cons, add-one}
+use Rattle.std.proofs.Common.{◌≡◌, ◌+◌, suc, None, [], ◌∷◌, sym, ap, subst, ◌∙◌, arith, drop, drop-cons, add-one}
 use Rattle.std.proofs.lemmas.Grind.{common_steps}
 use Rattle.fac_lang.specs.declared.phrase.Item.{Item as PlacedItem}
 use Rattle.fac_lang.specs.View.{items_text}
 use Rattle.fac_locals.specs.Closed.{ClosesText}
 use Rattle.fac_abs.proofs.SeenLemmas.{grows_refl, grows_trans}
 use Rattle.fac_check.proofs.WalkLemmas.{Onward, Behind, onward_start, onward_end, onward}
-use Rattle.fac_lang.specs.Texts.{cur_mark, com_mark}
 use Rattle.fac_locals.specs.Literals.{first_of_word, first_of_literal}
 use Rattle.fac_abs.specs.Seen.{mark_of, stack_of}
 use Rattle.fac_check.specs.Flow.{walk_mark}

@@ -1,4 +1,4 @@
-use Rattle.std.proofs.Common.{◌≡◌, ◌<◌, ◌≤◌, ◌+◌, ◌*◌, ℕ, drop}
+use Rattle.std.proofs.Common.{◌<◌, ◌≤◌, ◌+◌, ◌*◌, ℕ, drop}
 use Rattle.fac_lang.specs.Texts.{Literal, Text}
 use Rattle.fac_locals.specs.Closed.{ClosesText}
 use Rattle.fac_abs.specs.Seen.{Grows, IsStack, stack_of}
