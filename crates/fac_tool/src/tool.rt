@@ -66,6 +66,13 @@ fn answer<F: Files, K: Sink, N: Sink>(
 }
 
 /// Does what the words of a command line ask for, and tells how it ended.
+///
+/// For every source, input and tick budget, the tool refuses the source, naming the first place and rule that it breaks, or builds code
+/// which, run alone, writes exactly the bytes and ends with the stack, named error or spent budget of the source's concatenative meaning; and
+/// no accepted program underflows a stack or changes its height other than its declared effects say.
+///
+/// The clause `answer` says so of the commands that there are, by cases on the command and on what its file holds. Want of memory may be
+/// answered at any point; a fault only where the object that was handed in counted one.
 pub fn factor_top<F: Files, K: Sink, N: Sink>(
     alloc: Global,
     words: &[String],
