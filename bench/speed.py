@@ -116,6 +116,15 @@ def inline_words(path, count):
     return 0, b"%d\n" % ((count - 1) % 50 + 1), b""
 
 
+def led_to_a_recursive_word(path, count):
+    """So many inline words, each of which names the one before it, and the first of them itself, so that the file is refused."""
+    with open(path, "wb") as file:
+        file.write(b": w0 ( -- ) w0 ; inline\n")
+        for number in range(1, count):
+            file.write(b": w%d ( -- ) w%d ; inline\n" % (number, number - 1))
+    return 5, b"", b"check: scratchpad:w0, %s token 2: undeclared-recursion\n" % os.fsencode(path)
+
+
 def composed_twice(path, count):
     """So many times `dup compose` in a row, which as a tree has 2 to that power parts."""
     with open(path, "wb") as file:
@@ -153,6 +162,7 @@ SORTS = [
     ("nested quotations", nested_quotations, (2_500, 10_000), words, 2.0),
     ("ifs, tall stack", branches_over_a_tall_stack, (25_000, 100_000), words, 2.0),
     ("inline words", inline_words, (2_500, 10_000), words, 2.0),
+    ("inline recursion", led_to_a_recursive_word, (25_000, 100_000), words, 2.0),
     ("dup compose", composed_twice, (63,), words, 0.5),
     ("recursion, if", spending(RECURSION_THROUGH_IF), (20_000_000,), words, 20.0),
     ("composing", spending(COMPOSING), (25_000_000,), words, 20.0),
