@@ -30,3 +30,4 @@ pub mod LeadingBack
 pub mod UndeclaredWords
 pub mod JudgeLemmas
 pub mod ExamplesOfRecursion
+pub mod OneProgram

@@ -9,3 +9,4 @@ pub mod Walking
 pub mod Judged
 pub mod UndeclaredRecursion
 pub mod Checks
+pub mod OneProgram

@@ -1,4 +1,5 @@
-//! A law of the definitions of the whole language's checker, on the contract of a function that does nothing.
+//! Laws of the definitions, each on the contract of a function that does nothing.
+ghost use Rattle.fac_check.specs.OneProgram.{StandsForOne};
 ghost use Rattle.fac_check.specs.Promises.{AcceptedAreSafe};
 
 /// What the checker of the whole language accepts is safe: by its definitions a whole program with an accepted verdict never finds too
@@ -6,4 +7,10 @@ ghost use Rattle.fac_check.specs.Promises.{AcceptedAreSafe};
 /// ordinary words leaves what it declares.
 pub fn accepted_programs_are_safe()
     ensures { AcceptedAreSafe }
+{}
+
+/// A closed program stands for at most one built program. So what the calls of this crate say of each program for which one stands, they say
+/// of that one.
+pub fn closed_stands_for_one()
+    ensures { StandsForOne }
 {}

@@ -14,6 +14,6 @@ mod walker;
 pub use accepted::Checked;
 pub use checker::Verdict;
 pub use judge::{accept, check, check_word, check_words, first_refused, gather};
-pub use laws::accepted_programs_are_safe;
+pub use laws::{accepted_programs_are_safe, closed_stands_for_one};
 pub use recursion::undeclared_words;
 pub use rule::{CheckFault, Refusal, Rule};

@@ -1,0 +1,170 @@
+-- A closed program stands for at most one built program: its texts and templates tell what was closed.
+use Rattle.std.proofs.Common.{◌≡◌, ℕ, suc, List, [], ◌∷◌, Bool, true, false, Option, Some, None, refl, sym, ap, ◌∙◌, subst}
+use Rattle.std.specs.Prelude.{slice_get}
+use Rattle.fac_lang.specs.declared.phrase.Place.{Place}
+use Rattle.fac_lang.specs.declared.phrase.Template.{Template}
+use Rattle.fac_lang.specs.declared.program.ClassDef.{ClassDef}
+use Rattle.fac_lang.specs.declared.program.Lit.{Lit}
+use Rattle.fac_lang.specs.declared.program.Name.{Name}
+use Rattle.fac_lang.specs.declared.program.Program.{Program}
+use Rattle.fac_lang.specs.declared.program.WordDef.{WordDef}
+use Rattle.fac_lang.specs.declared.program.Sort.{Sort}
+use Rattle.fac_lang.specs.declared.program.Sort.TheVariants.{Prim as prim, Core as core, Body as body, Past as past, Itself as itself, Class as class, Isa as isa, Getter as getter, Setter as setter, Putter as putter, Generic as generic, Method as method}
+use Rattle.fac_lang.specs.Texts.{Literal, Text, end, then, Item, lit, lit_arr, quot, word, bind, local, fry, hole, call_eff, exec_eff, next_method, made, next_after, held, known}
+use Rattle.fac_lang.specs.Signatures.{Signature}
+use Rattle.fac_lang.specs.Forms.{IsBuilt, IsBuiltText, IsBuiltItem}
+use Rattle.fac_locals.specs.Literals.{Quoted, behind, first_of_word, first_of_literal, literal_or, literal_numbered}
+use Rattle.fac_locals.specs.Closed.{Closes, ClosesItem, ClosesText, ClosesSort, ClosesWord, CloseWords, IsMadeBy}
+use Rattle.fac_locals.proofs.ClosedPrograms.{HasBuiltText, HaveBuiltTexts, built_texts}
+use Rattle.fac_locals.proofs.Lookups.{template_closed, template_closed_none}
+use Rattle.fac_check.specs.OneProgram.{StandsForOne}
+use Rattle.fac_check.proofs.ClosedItems.{closes_literal, closes_word, closes_made}
+
+-- a text by its closed one
+module _ (Q : Program) where
+  end_only : (at : Literal) (u : Text) → ClosesText Q at u end → u ≡ end
+  end_only at end f = refl
+  end_only at (then i p u) f = absurd (let e = f.2 in cc)
+
+  pub record Then (at : Literal) (u : Text) (j : Item) (p : Place) (s : Text) : Type 0 where
+    pub item : Item
+    pub rest : Text
+    pub are : u ≡ then item p rest
+    pub item_closes : ClosesItem Q at item j
+    pub rest_closes : ClosesText Q (behind at item) rest s
+
+  then_only : (at : Literal) (u : Text) (j : Item) (p : Place) (s : Text) → ClosesText Q at u (then j p s) → Then at u j p s
+  then_only at end j p s f = absurd (cc)
+  then_only at (then i r u) j p s f =
+      let e = f.2 in
+      let items : f.0 ≡ j = cc in
+      let places : r ≡ p = cc in
+      let texts : f.1 ≡ s = cc in
+      record {
+        item = i;
+        rest = u;
+        are = ap (λ (x : Place). then i x u) places;
+        item_closes = subst (λ (x : Item). ClosesItem Q at i x) items f.3;
+        rest_closes = subst (λ (x : Text). ClosesText Q (behind at i) u x) texts f.4;
+      }
+
+-- whether a word of this sort has a text
+abbrev has_text : Sort → Bool
+has_text (body t) = true
+has_text (past t) = true
+has_text (method c g t) = true
+has_text _ = false
+
+not_both : (s : Sort) → has_text s ≡ true → has_text s ≡ false → ⊥
+not_both s e f = let clash : true ≡ false = sym e ∙ f in cc
+
+-- a sort by its closed one
+module _ (Q : Program) (w : ℕ) where
+  plain_only : (s c : Sort) → ClosesSort Q w s c → has_text c ≡ false → s ≡ c
+  plain_only (body t) c f n = absurd (not_both c (ap has_text f.1) n)
+  plain_only (past t) c f n = absurd (not_both c (ap has_text f.1) n)
+  plain_only (method k g t) c f n = absurd (not_both c (ap has_text f.1) n)
+  plain_only (prim k) c f n = sym f
+  plain_only (core k) c f n = sym f
+  plain_only itself c f n = sym f
+  plain_only (class k) c f n = sym f
+  plain_only (isa k) c f n = sym f
+  plain_only (getter x) c f n = sym f
+  plain_only (setter x) c f n = sym f
+  plain_only (putter x) c f n = sym f
+  plain_only generic c f n = sym f
+
+  body_only : (s : Sort) (c : Text) → ClosesSort Q w s (body c) → (t : Text) × (s ≡ body t) × ClosesText Q (first_of_word w) t c
+  body_only (body t) c f = let same : f.0 ≡ c = (let e = f.1 in cc) in (t, refl, subst (λ (x : Text). ClosesText Q (first_of_word w) t x) same f.2)
+  body_only (past t) c f = absurd (let e = f.1 in cc)
+  body_only (method k g t) c f = absurd (let e = f.1 in cc)
+  body_only (prim k) c f = absurd (cc)
+  body_only (core k) c f = absurd (cc)
+  body_only itself c f = absurd (cc)
+  body_only (class k) c f = absurd (cc)
+  body_only (isa k) c f = absurd (cc)
+  body_only (getter x) c f = absurd (cc)
+  body_only (setter x) c f = absurd (cc)
+  body_only (putter x) c f = absurd (cc)
+  body_only generic c f = absurd (cc)
+
+same_word : (d e : WordDef) → d.name ≡ e.name → d.sort ≡ e.sort → d.effect ≡ e.effect → d.inline ≡ e.inline → d.recursive ≡ e.recursive → d.place ≡ e.place → d ≡ e
+same_word d e n s f i r p =
+    ap (λ (x : Name). record d { name = x }) n ∙ ap (λ (x : Sort). record d { name = e.name; sort = x }) s ∙ ap (λ (x : Signature). record d { name = e.name; sort = e.sort; effect = x }) f ∙ ap (λ (x : Bool). record e { inline = x; recursive = d.recursive; place = d.place }) i ∙ ap (λ (x : Bool). record e { recursive = x; place = d.place }) r ∙ ap (λ (x : Place). record e { place = x }) p
+
+same_program : (P Q : Program) → P.words ≡ Q.words → P.arrays ≡ Q.arrays → P.classes ≡ Q.classes → P.top ≡ Q.top → P ≡ Q
+same_program P Q w a c t = ap (λ (x : List WordDef). record P { words = x }) w ∙ ap (λ (x : List (List Lit)). record P { words = Q.words; arrays = x }) a ∙ ap (λ (x : List ClassDef). record Q { classes = x; top = P.top }) c ∙ ap (λ (x : ℕ). record Q { top = x }) t
+
+module _ (P Q C : Program) (templates : List Template) (p : Closes P C templates) (q : Closes Q C templates) where
+  -- the quotations that one template makes
+  quotation_one : (at : Literal) (t u : Text) (k : ℕ) → ((c : Text) → ClosesText P (first_of_literal at) t c → ClosesText Q (first_of_literal at) u c → t ≡ u) → IsMadeBy P at t k → IsMadeBy Q at u k → (o : Option Template) → slice_get templates k ≡ o → t ≡ u
+  quotation_one at t u k one h g None e =
+      let first : end ≡ t = ap (λ (l : Quoted). l.1) (sym (ap (literal_or P k) (template_closed_none P C templates p k e)) ∙ h) in
+      let second : end ≡ u = ap (λ (l : Quoted). l.1) (sym (ap (literal_or Q k) (template_closed_none Q C templates q k e)) ∙ g) in
+      sym first ∙ second
+  quotation_one at t u k one h g (Some r) e =
+      let first = subst (λ (l : Quoted). ClosesText P (first_of_literal l.0) l.1 r.body) h (template_closed P C templates p k r e).body in
+      let second = subst (λ (l : Quoted). ClosesText Q (first_of_literal l.0) l.1 r.body) g (template_closed Q C templates q k r e).body in
+      one r.body first second
+
+  mutual
+    text_one : (bound : ℕ) (at : Literal) (t u c : Text) → IsBuiltText bound t → ClosesText P at t c → ClosesText Q at u c → t ≡ u
+    text_one bound at end u c h e f = sym (end_only Q at u (subst (λ (x : Text). ClosesText Q at u x) e f))
+    text_one bound at (then i r t) u c h e f =
+        let other = then_only Q at u e.0 r e.1 (subst (λ (x : Text). ClosesText Q at u x) e.2 f) in
+        let item : i ≡ other.item = item_one bound at i other.item e.0 h.0 e.3 other.item_closes in
+        let rest : t ≡ other.rest = text_one bound (behind at i) t other.rest e.1 h.1 e.4 (subst (λ (x : Item). ClosesText Q (behind at x) other.rest e.1) (sym item) other.rest_closes) in
+        ap (λ (x : Item). then x r t) item ∙ ap (λ (x : Text). then other.item r x) rest ∙ sym other.are
+
+    item_one : (bound : ℕ) (at : Literal) (i k j : Item) → IsBuiltItem bound i → ClosesItem P at i j → ClosesItem Q at k j → i ≡ k
+    item_one bound at (lit x) k j h e f = sym (closes_literal Q at k x (subst (λ (y : Item). ClosesItem Q at k y) e f))
+    item_one bound at (word w) k j h e f = sym (closes_word Q at k w (subst (λ (y : Item). ClosesItem Q at k y) e f))
+    item_one bound at (quot t) k j h e f =
+        let other = closes_made Q at k e.0 (subst (λ (y : Item). ClosesItem Q at k y) e.1 f) in
+        ap quot (quotation_one at t other.0 e.0 (λ c g l. text_one bound (first_of_literal at) t other.0 c h g l) e.2 other.2 (slice_get templates e.0) refl) ∙ sym other.1
+    item_one bound at (lit_arr a) k j h e f = absurd h
+    item_one bound at (bind x) k j h e f = absurd h
+    item_one bound at (local x) k j h e f = absurd h
+    item_one bound at (fry t n) k j h e f = absurd h
+    item_one bound at (hole n) k j h e f = absurd h
+    item_one bound at (call_eff g) k j h e f = absurd h
+    item_one bound at (exec_eff g) k j h e f = absurd h
+    item_one bound at next_method k j h e f = absurd h
+    item_one bound at (made n) k j h e f = absurd h
+    item_one bound at (next_after m) k j h e f = absurd h
+    item_one bound at (held v) k j h e f = absurd h
+    item_one bound at (known m) k j h e f = absurd h
+
+  sort_one : (bound w : ℕ) (s z c : Sort) → HasBuiltText bound s → ClosesSort P w s c → ClosesSort Q w z c → s ≡ z
+  sort_one bound w (body t) z c h e f =
+      let other = body_only Q w z e.0 (subst (λ (x : Sort). ClosesSort Q w z x) e.1 f) in ap body (text_one bound (first_of_word w) t other.0 e.0 h e.2 other.2) ∙ sym other.1
+  sort_one bound w (past t) z c h e f = absurd h
+  sort_one bound w (method k g t) z c h e f = absurd h
+  sort_one bound w (prim k) z c h e f = sym e ∙ sym (plain_only Q w z c f (ap has_text e))
+  sort_one bound w (core k) z c h e f = sym e ∙ sym (plain_only Q w z c f (ap has_text e))
+  sort_one bound w itself z c h e f = sym e ∙ sym (plain_only Q w z c f (ap has_text e))
+  sort_one bound w (class k) z c h e f = sym e ∙ sym (plain_only Q w z c f (ap has_text e))
+  sort_one bound w (isa k) z c h e f = sym e ∙ sym (plain_only Q w z c f (ap has_text e))
+  sort_one bound w (getter x) z c h e f = sym e ∙ sym (plain_only Q w z c f (ap has_text e))
+  sort_one bound w (setter x) z c h e f = sym e ∙ sym (plain_only Q w z c f (ap has_text e))
+  sort_one bound w (putter x) z c h e f = sym e ∙ sym (plain_only Q w z c f (ap has_text e))
+  sort_one bound w generic z c h e f = sym e ∙ sym (plain_only Q w z c f (ap has_text e))
+
+  word_one : (bound w : ℕ) (d g c : WordDef) → HasBuiltText bound d.sort → ClosesWord P w d c → ClosesWord Q w g c → d ≡ g
+  word_one bound w d g c h e f = same_word d g (sym e.name ∙ f.name) (sort_one bound w d.sort g.sort c.sort h e.sort f.sort) (sym e.effect ∙ f.effect) (sym e.inline ∙ f.inline) (sym e.recursive ∙ f.recursive) (sym e.place ∙ f.place)
+
+  words_one : (bound w : ℕ) (ds gs cs : List WordDef) → HaveBuiltTexts bound ds → CloseWords P w ds cs → CloseWords Q w gs cs → ds ≡ gs
+  words_one bound w [] [] cs h e f = refl
+  words_one bound w [] (g ∷ gs) cs h e f = absurd (let clash : [] ≡ f.0 ∷ f.1 = sym e ∙ f.2 in cc)
+  words_one bound w (d ∷ ds) [] cs h e f = absurd (let clash : [] ≡ e.0 ∷ e.1 = sym f ∙ e.2 in cc)
+  words_one bound w (d ∷ ds) (g ∷ gs) cs h e f =
+      let both : f.0 ∷ f.1 ≡ e.0 ∷ e.1 = sym f.2 ∙ e.2 in
+      let heads : f.0 ≡ e.0 = cc in
+      let tails : f.1 ≡ e.1 = cc in
+      let first : d ≡ g = word_one bound w d g e.0 h.0 e.3 (subst (λ (x : WordDef). ClosesWord Q w g x) heads f.3) in
+      let rest : ds ≡ gs = words_one bound (suc w) ds gs e.1 h.1 e.4 (subst (λ (x : List WordDef). CloseWords Q (suc w) gs x) tails f.4) in
+      ap (λ (x : WordDef). x ∷ ds) first ∙ ap (λ (x : List WordDef). g ∷ x) rest
+
+pub stands_for_one : StandsForOne
+stands_for_one P Q C templates p b q d =
+    same_program P Q (words_one P Q C templates p q P.top 0 P.words Q.words C.words (built_texts P b) p.words q.words) (sym p.arrays ∙ q.arrays) (sym p.classes ∙ q.classes) (sym p.top ∙ q.top)
