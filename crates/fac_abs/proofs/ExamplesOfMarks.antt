@@ -4,8 +4,8 @@ use Rattle.fac_lang.specs.Texts.{end, Literal, Mark, any, lit_mark, cur_mark, co
 use Rattle.fac_lang.specs.Primitives.{moves, s_rot, s_over}
 use Rattle.fac_abs.specs.declared.cells.Cell.{Cell}
 use Rattle.fac_abs.specs.declared.node.Node.TheVariants.{Any, Lit, Cur, Com}
-use Rattle.fac_abs.specs.InTurn.{under, moved, zeros, joined_numbers}
-use Rattle.fac_abs.specs.Marks.{curried_mark, composed_mark}
+use Rattle.fac_abs.specs.InTurn.{under, moved, zeros, joined_numbers, cover_numbers}
+use Rattle.fac_abs.specs.Marks.{mark_eq, curried_mark, composed_mark, cover_marks}
 use Rattle.fac_abs.specs.Stacks.{stacks_of}
 use Rattle.fac_abs.specs.Trees.{Naming, depths}
 use Rattle.fac_abs.specs.Seen.{MarksSeen, mark_of, numbers_of, stack_of, is_mark, is_stack}
@@ -73,6 +73,28 @@ stack_is_not_there = refl
 -- equal marks are kept
 numbers_joined : joined_numbers (3 ∷ 2 ∷ 1 ∷ []) (3 ∷ 1 ∷ 1 ∷ []) ≡ 3 ∷ 0 ∷ 1 ∷ []
 numbers_joined = refl
+
+-- 0 covers all, and each number itself
+numbers_covered : cover_numbers (0 ∷ 2 ∷ []) (3 ∷ 2 ∷ []) ≡ true
+numbers_covered = refl
+
+numbers_not_covered : cover_numbers (0 ∷ 2 ∷ []) (3 ∷ 1 ∷ []) ≡ false
+numbers_not_covered = refl
+
+-- an unknown mark covers all, and each mark itself
+marks_covered : cover_marks (any ∷ five ∷ []) (wrd_mark 3 ∷ five ∷ []) ≡ true
+unfolding mark_eq
+marks_covered = refl
+
+-- a known mark covers no other
+another_not_covered : cover_marks (any ∷ five ∷ []) (five ∷ wrd_mark 3 ∷ []) ≡ false
+unfolding mark_eq
+another_not_covered = refl
+
+-- nor an unknown one
+unknown_not_covered : cover_marks (five ∷ []) (any ∷ []) ≡ false
+unfolding mark_eq
+unknown_not_covered = refl
 
 unknown_values : zeros 2 (7 ∷ []) ≡ 0 ∷ 0 ∷ 7 ∷ []
 unknown_values = refl

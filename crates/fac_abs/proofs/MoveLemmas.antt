@@ -1,5 +1,5 @@
 -- Marks move as their numbers do.
-use Rattle.std.proofs.Common.{◌≡◌, ℕ, zero, suc, ◌<◌, ℤ, pos, negsuc, List, [], ◌∷◌, Bool, true, false, cond, nat_lt, nat_eq, Option, Some, None, Result, Ok, Err, IfOk, option_map, length, get_or, map, refl, sym, ap, ◌∙◌, arith, eq-eqb}
+use Rattle.std.proofs.Common.{◌≡◌, ℕ, zero, suc, ◌<◌, ℤ, pos, negsuc, List, [], ◌∷◌, Bool, true, false, ◌&&◌, ◌||◌, cond, nat_lt, nat_eq, Option, Some, None, Result, Ok, Err, IfOk, option_map, length, get_or, map, refl, sym, ap, ◌∙◌, arith, eq-eqb}
 use Rattle.std.specs.Str.{bytes_eq}
 use Rattle.std.proofs.lemmas.Bool.{eqb-true}
 use Rattle.std.proofs.lemmas.Slice.Eq.{bytes_eq-Decides}
@@ -8,9 +8,9 @@ use Rattle.fac_lang.specs.Codes.{Token, mark_tokens}
 use Rattle.fac_lang.specs.Texts.{Mark, any}
 use Rattle.fac_lang.specs.Primitives.{Moves, moves1, moves2, moves3, moves, Shuffle, s_drop, s_dup, s_swap, s_over, s_pick, s_rot, s_unrot, s_nip, s_dupd, s_swapd, s_2drop, s_2dup, s_3drop, s_3dup, s_2over, s_2nip}
 use Rattle.fac_abs.specs.declared.node.Node.{Node}
-use Rattle.fac_abs.specs.InTurn.{heaped, under, zeros, needs, arranged, moved, joined_number, joined_numbers}
+use Rattle.fac_abs.specs.InTurn.{heaped, under, zeros, needs, arranged, moved, joined_number, joined_numbers, cover_numbers}
 use Rattle.fac_abs.specs.Keeping.{IsWhere, Is, Joins, shuffle_numbered}
-use Rattle.fac_abs.specs.Marks.{int_eq, token_eq, tokens_eq, mark_eq, join_mark, join_marks, unknowns}
+use Rattle.fac_abs.specs.Marks.{int_eq, token_eq, tokens_eq, mark_eq, join_mark, join_marks, cover_marks, unknowns}
 use Rattle.fac_abs.specs.Trees.{Naming, IsTable}
 use Rattle.fac_abs.specs.Seen.{mark_of, stack_of, are_below}
 use Rattle.fac_abs.specs.Promises.{IsStackOf, IsStackWhere, IsJoinedWhere}
@@ -191,6 +191,12 @@ pub zeros_map : (f : ℕ → Mark) → f 0 ≡ any → (n : ℕ) (xs : List ℕ)
 zeros_map f e zero xs = refl
 zeros_map f e (suc n) xs = zeros_map f e n (0 ∷ xs) ∙ ap (λ (m : Mark). unknowns n (m ∷ map f xs)) e ∙ unknowns_more n (map f xs)
 
+-- two tests that hold together are one
+one_test : (a b : Bool) → (a ≡ true → b ≡ true) → (b ≡ true → a ≡ true) → a ≡ b
+one_test true b f g = sym (f refl)
+one_test false true f g = g refl
+one_test false false f g = refl
+
 module _ (f : ℕ → Mark) (k : ℕ) (first : f 0 ≡ any) (one : (x y : ℕ) → x < k → y < k → f x ≡ f y → x ≡ y) where
   by_marks : (a b : Bool) (m n : Mark) → m ≡ n → mark_eq m n ≡ a → a ≡ true
   by_marks a b m n e g = sym g ∙ ap (mark_eq m) (sym e) ∙ mark_itself m
@@ -210,6 +216,22 @@ module _ (f : ℕ → Mark) (k : ℕ) (first : f 0 ≡ any) (one : (x y : ℕ) �
       let low = is_below x k (and_first (nat_lt x k) _ h) in
       let lower = is_below y k (and_first (nat_lt y k) _ g) in
       ap (λ (m : Mark). m ∷ map f (joined_numbers xs ys)) (joined_same (nat_eq x y) (mark_eq (f x) (f y)) x y low lower refl refl) ∙ ap (λ (t : List Mark). join_mark (f x) (f y) ∷ t) (joins_map xs ys (and_second (nat_lt x k) _ h) (and_second (nat_lt y k) _ g))
+
+  -- numbers are equal where their marks are
+  test_same : (x y : ℕ) → x < k → y < k → nat_eq x y ≡ mark_eq (f x) (f y)
+  test_same x y h g = one_test (nat_eq x y) (mark_eq (f x) (f y)) (λ e. ap (λ (j : ℕ). mark_eq (f x) (f j)) (sym (eqb-true x y e)) ∙ mark_itself (f x)) (λ e. eq-eqb x y (one x y h g (mark_same (f x) (f y) e)))
+
+  covers_one : (x y : ℕ) → 0 < k → x < k → y < k → (nat_eq x 0 || nat_eq x y) ≡ (mark_eq (f x) any || mark_eq (f x) (f y))
+  covers_one x y o h g = ap (λ (b : Bool). b || nat_eq x y) (test_same x 0 h o ∙ ap (mark_eq (f x)) first) ∙ ap (λ (b : Bool). mark_eq (f x) any || b) (test_same x y h g)
+
+  -- numbers cover others where their marks do
+  pub covers_map : (xs ys : List ℕ) → 0 < k → are_below k xs ≡ true → are_below k ys ≡ true → cover_numbers xs ys ≡ cover_marks (map f xs) (map f ys)
+  covers_map [] ys o h g = refl
+  covers_map (x ∷ xs) [] o h g = refl
+  covers_map (x ∷ xs) (y ∷ ys) o h g =
+      let low = is_below x k (and_first (nat_lt x k) _ h) in
+      let lower = is_below y k (and_first (nat_lt y k) _ g) in
+      ap (λ (b : Bool). b && cover_numbers xs ys) (covers_one x y o low lower) ∙ ap (λ (b : Bool). (mark_eq (f x) any || mark_eq (f x) (f y)) && b) (covers_map xs ys o (and_second (nat_lt x k) _ h) (and_second (nat_lt y k) _ g))
 
 -- Answers that may be none.
 
@@ -257,14 +279,18 @@ module _ {E : Type 0} where
   shuffle_by ns ss ts s row r f t low =
       where_by ns ss ts (moved (moves (shuffle_numbered row)) (get_or ss s [])) (λ N. moved (moves (shuffle_numbered row)) (stack_of N (seen ns ss) s)) (λ ys e. moved_below (length ns) (shuffle_numbered row) (get_or ss s []) ys (below_is 0 (length ns) t.some) low e) (λ N. ap (moved (moves (shuffle_numbered row))) (stack_reads N (seen ns ss) s) ∙ moved_map (mark_of N (seen ns ss)) (shuffle_numbered row) (get_or ss s [])) r f
 
--- two tests that hold together are one
-one_test : (a b : Bool) → (a ≡ true → b ≡ true) → (b ≡ true → a ≡ true) → a ≡ b
-one_test true b f g = sym (f refl)
-one_test false true f g = g refl
-one_test false false f g = refl
+module _ (N : Naming) (ns : List Node) (ss : List (List ℕ)) (t : IsTable ns) where
+  apart : (x y : ℕ) → x < length ns → y < length ns → mark_of N (seen ns ss) x ≡ mark_of N (seen ns ss) y → x ≡ y
+  apart x y h g e = one_number N ns t x y h g (sym (mark_reads N (seen ns ss) x) ∙ e ∙ mark_reads N (seen ns ss) y)
 
--- numbers are equal where their marks are
-pub same_numbers : (N : Naming) (ns : List Node) (ss : List (List ℕ)) → IsTable ns → (a b : ℕ) → a < length ns → b < length ns → nat_eq a b ≡ mark_eq (mark_of N (seen ns ss) a) (mark_of N (seen ns ss) b)
-same_numbers N ns ss t a b h g =
+  -- numbers are equal where their marks are
+  pub same_numbers : (a b : ℕ) → a < length ns → b < length ns → nat_eq a b ≡ mark_eq (mark_of N (seen ns ss) a) (mark_of N (seen ns ss) b)
+  same_numbers a b h g = test_same (mark_of N (seen ns ss)) (length ns) ((first_mark ns ss t).is N) apart a b h g
+
+-- stacks of one height cover others where their marks do
+pub covers_are : (N : Naming) (ns : List Node) (ss : List (List ℕ)) (a b : ℕ) → IsTable ns → are_below (length ns) (get_or ss a []) ≡ true → are_below (length ns) (get_or ss b []) ≡ true → (nat_eq (length (get_or ss a [])) (length (get_or ss b [])) && cover_numbers (get_or ss a []) (get_or ss b [])) ≡ (nat_eq (length (stack_of N (seen ns ss) a)) (length (stack_of N (seen ns ss) b)) && cover_marks (stack_of N (seen ns ss) a) (stack_of N (seen ns ss) b))
+covers_are N ns ss a b t h g =
+    let xs : List ℕ = get_or ss a [] in
+    let ys : List ℕ = get_or ss b [] in
     let f : ℕ → Mark = mark_of N (seen ns ss) in
-    one_test (nat_eq a b) (mark_eq (f a) (f b)) (λ e. ap (λ (k : ℕ). mark_eq (f a) (f k)) (sym (eqb-true a b e)) ∙ mark_itself (f a)) (λ e. eq-eqb a b (one_number N ns t a b h g (sym (mark_reads N (seen ns ss) a) ∙ mark_same (f a) (f b) e ∙ mark_reads N (seen ns ss) b)))
+    ap (λ (q : Bool). q && cover_numbers xs ys) (sym (heights_are N ns ss a b)) ∙ ap (λ (q : Bool). nat_eq (length (stack_of N (seen ns ss) a)) (length (stack_of N (seen ns ss) b)) && q) (covers_map f (length ns) ((first_mark ns ss t).is N) (apart N ns ss t) xs ys t.some h g ∙ ap (λ (ms : List Mark). cover_marks ms (map f ys)) (sym (stack_reads N (seen ns ss) a)) ∙ ap (cover_marks (stack_of N (seen ns ss) a)) (sym (stack_reads N (seen ns ss) b)))

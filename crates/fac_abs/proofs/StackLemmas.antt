@@ -1,10 +1,10 @@
 -- Stacks that cells make.
-use Rattle.std.proofs.Common.{◌≡◌, ℕ, zero, suc, ◌+◌, ◌-◌, ◌<◌, ◌≤◌, List, [], ◌∷◌, ◌++◌, None, length, get_or, map, refl, sym, ap, subst, ◌∙◌, arith, length-append}
+use Rattle.std.proofs.Common.{◌≡◌, ℕ, zero, suc, ◌+◌, ◌-◌, ◌<◌, ◌≤◌, List, [], ◌∷◌, ◌++◌, Bool, true, false, ◌&&◌, ◌||◌, nat_eq, None, length, get_or, map, refl, sym, ap, subst, ◌∙◌, arith, length-append, eq-eqb}
 use Rattle.std.proofs.lemmas.List.{get_or_append_left, get_or-map}
 use Rattle.std.proofs.Math.Seq.{get_or-append_seam}
 use Rattle.fac_lang.specs.Primitives.{s_drop, shuffles}
 use Rattle.fac_abs.specs.declared.cells.Cell.{Cell}
-use Rattle.fac_abs.specs.InTurn.{under, zeros, joined_numbers}
+use Rattle.fac_abs.specs.InTurn.{under, zeros, joined_numbers, cover_numbers}
 use Rattle.fac_abs.specs.Keeping.{Keeps, Is}
 use Rattle.fac_abs.specs.Stacks.{covered, stacks_of, said_height, TellHeights, LiesOnEarlier, LieOnEarlier}
 use Rattle.fac_abs.proofs.InTurnLemmas.{in_turn_length, in_turn_append, in_turn_early, in_turn_at, fits_push, fits_at}
@@ -115,6 +115,15 @@ under_none (suc n) xs h e = rw e refl
 pub joined_same : (xs : List ℕ) → joined_numbers xs xs ≡ xs
 joined_same [] = refl
 joined_same (x ∷ xs) = let ih = joined_same xs in grind (arith, ih)
+
+-- numbers cover themselves
+pub covers_same : (xs : List ℕ) → cover_numbers xs xs ≡ true
+covers_same [] = refl
+covers_same (x ∷ xs) = rw (eq-eqb x x refl) (either (nat_eq x 0) (covers_same xs))
+  where
+    either : (b : Bool) → cover_numbers xs xs ≡ true → ((b || true) && cover_numbers xs xs) ≡ true
+    either true e = e
+    either false e = e
 
 pub shuffle_past : (row : ℕ) → 16 ≤ row → get_or shuffles row s_drop ≡ s_drop
 shuffle_past row h = grind arith

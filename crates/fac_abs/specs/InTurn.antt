@@ -1,5 +1,5 @@
 -- Lists that are made from left to right.
-use Rattle.std.specs.Prelude.{ℕ, zero, suc, List, [], ◌∷◌, ◌++◌, Option, Some, None, cond, nat_eq}
+use Rattle.std.specs.Prelude.{ℕ, zero, suc, List, [], ◌∷◌, ◌++◌, Bool, true, false, ◌&&◌, ◌||◌, Option, Some, None, cond, nat_eq}
 use Rattle.fac_lang.specs.Primitives.{Moves, moves1, moves2, moves3}
 
 -- Each element of a list makes one value from the values before it.
@@ -64,3 +64,9 @@ abbrev pub joined_numbers : List ℕ → List ℕ → List ℕ
 joined_numbers [] ys = []
 joined_numbers (x ∷ xs) [] = []
 joined_numbers (x ∷ xs) (y ∷ ys) = joined_number x y ∷ joined_numbers xs ys
+
+-- whether numbers cover others: each is 0 or equal
+abbrev pub cover_numbers : List ℕ → List ℕ → Bool
+cover_numbers [] ys = true
+cover_numbers (x ∷ xs) [] = false
+cover_numbers (x ∷ xs) (y ∷ ys) = (nat_eq x 0 || nat_eq x y) && cover_numbers xs ys

@@ -1,5 +1,5 @@
 -- What the checker knows of a value and of a stack, and the rules that it tests.
-use Rattle.std.specs.Prelude.{ℕ, zero, suc, max, ℤ, pos, negsuc, List, [], ◌∷◌, Bool, true, false, ◌&&◌, nat_eq, nat_le, Option, Some, None}
+use Rattle.std.specs.Prelude.{ℕ, zero, suc, max, ℤ, pos, negsuc, List, [], ◌∷◌, Bool, true, false, ◌&&◌, ◌||◌, nat_eq, nat_le, Option, Some, None}
 use Rattle.std.specs.Str.{bytes_eq}
 use Rattle.fac_lang.specs.Texts.{Text, end, then, Item, quot, fry, known, Mark, any, lit_mark, cur_mark, com_mark, wrd_mark, par_mark}
 use Rattle.fac_lang.specs.Codes.{Token, mark_tokens}
@@ -134,6 +134,12 @@ abbrev pub join_marks : List Mark → List Mark → List Mark
 join_marks [] ns = []
 join_marks (m ∷ ms) [] = []
 join_marks (m ∷ ms) (n ∷ ns) = join_mark m n ∷ join_marks ms ns
+
+-- whether marks cover others: each is `any` or equal
+abbrev pub cover_marks : List Mark → List Mark → Bool
+cover_marks [] ns = true
+cover_marks (m ∷ ms) [] = false
+cover_marks (m ∷ ms) (n ∷ ns) = (mark_eq m any || mark_eq m n) && cover_marks ms ns
 
 -- n times `any` on the marks
 abbrev pub unknowns : ℕ → List Mark → List Mark

@@ -1,8 +1,8 @@
 //! Stacks of marks, which share what lies below.
-ghost use Rattle.std.specs.Prelude.{◌≡◌, ◌∷◌, ◌++◌, ◌<◌, ℕ, [], length, get_or, map, Some, None, IfOk, OnErr};
+ghost use Rattle.std.specs.Prelude.{◌≡◌, ◌∷◌, ◌++◌, ◌<◌, ◌&&◌, ◌||◌, ℕ, [], length, get_or, map, nat_eq, Some, None, IfOk, OnErr};
 ghost use Rattle.fac_lang.specs.Primitives.{moves};
 ghost use Rattle.fac_lang.specs.Texts.{Mark};
-ghost use Rattle.fac_abs.specs.InTurn.{heaped, under, zeros, needs, arranged, moved, joined_number, joined_numbers};
+ghost use Rattle.fac_abs.specs.InTurn.{heaped, under, zeros, needs, arranged, moved, joined_number, joined_numbers, cover_numbers};
 ghost use Rattle.fac_abs.specs.Keeping.{Keeps, Is, Uncovers, IsWhere, Joins, shuffle_numbered};
 
 use fac_lang::Memory;
@@ -249,6 +249,43 @@ impl Cells {
         let (marks, shared) = self.differing(a, b)?;
         Ok(Some(self.lay(shared, marks)?))
     }
+
+    // Walks down two stacks to what they share, or to a place where the first doesn't cover the second.
+    fn covers_above(&self, bound: u32, got: u32) -> bool
+        requires bound { bound < length self.now }
+        requires got { got < length self.now }
+        ensures { result ≡ cover_numbers (get_or self.now bound []) (get_or self.now got []) }
+    {
+        let mut left = bound;
+        let mut right = got;
+        while left != right {
+            let Some((x, under_left)) = self.pop(left) else {
+                return true;
+            };
+            let Some((y, under_right)) = self.pop(right) else {
+                return false;
+            };
+            if !covered(x, y) {
+                return false;
+            }
+            left = under_left;
+            right = under_right;
+        }
+        true
+    }
+
+    /// Whether each mark of a stack is 0 or that of another at the same place, where both have one height. It takes the time of the marks that
+    /// they don't share.
+    pub fn covers(&self, bound: u32, got: u32) -> bool
+        requires bound { bound < length self.now }
+        requires got { got < length self.now }
+        ensures { result ≡ (nat_eq (length (get_or self.now bound [])) (length (get_or self.now got [])) && cover_numbers (get_or self.now bound []) (get_or self.now got [])) }
+    {
+        if self.height(bound) != self.height(got) {
+            return false;
+        }
+        self.covers_above(bound, got)
+    }
 }
 
 // How many values the shuffle with this number takes.
@@ -275,4 +312,11 @@ fn joined(x: u32, y: u32) -> u32
     ensures { result ≡ joined_number x y }
 {
     if x == y { x } else { 0 }
+}
+
+// Whether a number is 0 or the other.
+fn covered(x: u32, y: u32) -> bool
+    ensures { result ≡ (nat_eq x 0 || nat_eq x y) }
+{
+    x == 0 || x == y
 }

@@ -1,10 +1,10 @@
 //! Marks and stacks of marks, each by a number.
-ghost use Rattle.std.specs.Prelude.{◌≡◌, ◌∷◌, ◌<◌, [], length, get_or, map, Some, None, IfOk, OnOk, OnErr};
+ghost use Rattle.std.specs.Prelude.{◌≡◌, ◌∷◌, ◌<◌, ◌&&◌, [], length, get_or, map, nat_eq, Some, None, IfOk, OnOk, OnErr};
 ghost use Rattle.fac_lang.specs.Texts.{any, lit_mark, wrd_mark, par_mark};
 ghost use Rattle.fac_lang.specs.Primitives.{moves};
 ghost use Rattle.fac_abs.specs.InTurn.{under, moved};
 ghost use Rattle.fac_abs.specs.Keeping.{shuffle_numbered};
-ghost use Rattle.fac_abs.specs.Marks.{mark_eq, mark_depth, is_callable, curried_mark, composed_mark, unknowns};
+ghost use Rattle.fac_abs.specs.Marks.{mark_eq, mark_depth, is_callable, curried_mark, composed_mark, cover_marks, unknowns};
 ghost use Rattle.fac_abs.specs.Trees.{Naming, tree, trees, node_depth, depths, HasPartsBelow};
 ghost use Rattle.fac_abs.specs.Seen.{mark_of, stack_of, IsMark, IsStack, Grows};
 ghost use Rattle.fac_abs.specs.Promises.{IsMarkOf, IsStackOf, IsStackWhere, IsNodeOf, HasTopWhere, IsJoinedWhere};
@@ -246,6 +246,17 @@ impl Marks {
     {
         let _first = self.nodes.first();
         self.cells.join(a, b)
+    }
+
+    /// Whether a stack covers another: both have one height, and each mark of `bound` is that of nothing known or the mark of `got` at the same
+    /// place. It takes no memory, and the time of the marks above what the two share.
+    pub fn covers(&self, bound: u32, got: u32) -> bool
+        requires bound { IsStack self.now bound }
+        requires got { IsStack self.now got }
+        ensures { (N : Naming) → result ≡ (nat_eq (length (stack_of N self.now bound)) (length (stack_of N self.now got)) && cover_marks (stack_of N self.now bound) (stack_of N self.now got)) }
+    {
+        let _first = self.nodes.first();
+        self.cells.covers(bound, got)
     }
 
     /// Forgets all stacks but the empty one, so that their memory serves again. The marks stay.

@@ -46,6 +46,37 @@ fn branches(marks: &mut Marks, stack: u32, times: u32) -> Result<u32, Memory>
     Ok(top)
 }
 
+// A literal on a stack, or for template 0 a mark of nothing known.
+fn placed(marks: &mut Marks, below: u32, template: u32) -> Result<u32, Memory>
+    requires { IsStack marks.old below }
+    ensures grows { Grows marks.old marks.new }
+    ensures made { IfOk result (λ r. IsStack marks.new r) }
+{
+    if template == 0 {
+        return marks.unknowns(below, 1);
+    }
+    stacked(marks, below, template)
+}
+
+// Two of them, the lower one first.
+fn laid(marks: &mut Marks, below: u32, templates: [u32; 2]) -> Result<u32, Memory>
+    requires { IsStack marks.old below }
+    ensures grows { Grows marks.old marks.new }
+    ensures made { IfOk result (λ r. IsStack marks.new r) }
+{
+    let lower = placed(marks, below, templates[0])?;
+    placed(marks, lower, templates[1])
+}
+
+// Whether one such stack covers another that is laid on the same one.
+fn covering(alloc: Global, bound: [u32; 2], got: [u32; 2]) -> Result<bool, Memory> {
+    let mut marks = Marks::new(alloc)?;
+    let below = stacked(&mut marks, 0, 9)?;
+    let first = laid(&mut marks, below, bound)?;
+    let second = laid(&mut marks, below, got)?;
+    Ok(marks.covers(first, second))
+}
+
 // The templates of the four top marks, the top first, with 0 where there is none.
 fn templates(marks: &Marks, stack: u32) -> [u32; 4]
     requires { IsStack marks.now stack }
@@ -123,6 +154,32 @@ fn shuffles(rt: HostRuntime) -> Result<(), Fail> {
     for (row, left) in cases {
         assert_eq!(rt; shuffled(rt.alloc(), row)?, left, "row {row}");
     }
+    Ok(())
+}
+
+#[test]
+fn covers(rt: HostRuntime) -> Result<(), Fail> {
+    let cases = [
+        ([1, 2], [1, 2], true),
+        ([0, 2], [1, 2], true),
+        ([0, 0], [1, 0], true),
+        ([1, 2], [3, 2], false),
+        ([1, 2], [1, 3], false),
+        ([1, 2], [0, 2], false),
+    ];
+    for (bound, got, answer) in cases {
+        assert_eq!(rt;
+            covering(rt.alloc(), bound, got)?,
+            answer,
+            "bound {bound:?} got {got:?}"
+        );
+    }
+    let mut marks = Marks::new(rt.alloc())?;
+    let low = marks.unknowns(0, 1)?;
+    let high = marks.unknowns(low, 1)?;
+    assert_eq!(rt; marks.covers(high, high), true);
+    assert_eq!(rt; marks.covers(low, high), false);
+    assert_eq!(rt; marks.covers(high, low), false);
     Ok(())
 }
 

@@ -9,8 +9,8 @@ use Rattle.fac_lang.specs.Signatures.{Signature, signature, Inputs, no_inputs, v
 use Rattle.fac_lang.specs.Effects.{inputs_count, leaving_outs}
 use Rattle.fac_lang.specs.declared.program.Program.{Program}
 use Rattle.fac_lang.specs.Eval.{Run, run_callable}
-use Rattle.fac_abs.specs.Marks.{Row, named_row, AbstractStack, dead, on, rows, row_eq, base_eq, mark_eq, unknowns}
-use Rattle.fac_check.specs.Rows.{Binding, bound_to, stack_or_dead, row_of, row_name, effect_leaving, Tied, tied, untied, tied_if, tie, tie_row, cover_marks, start_row}
+use Rattle.fac_abs.specs.Marks.{Row, named_row, AbstractStack, dead, on, rows, row_eq, base_eq, mark_eq, unknowns, cover_marks}
+use Rattle.fac_check.specs.Rows.{Binding, bound_to, stack_or_dead, row_of, row_name, effect_leaving, Tied, tied, untied, tied_if, tie, tie_row, start_row}
 use Rattle.fac_check.specs.Flow.{Walked, found, refused, and_then, Walk, walk_from, walk_inputs, started, tied_on}
 use Rattle.fac_check.specs.Standing.{Stands, StandsOn, StandsStack, Valid, EndsSo}
 use Rattle.std.proofs.lemmas.Slice.Eq.{bytes_eq-Decides}

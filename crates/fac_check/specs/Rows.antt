@@ -1,9 +1,9 @@
 -- Row variables: which effects have them, how a use of a row word binds them, and what they are inside the row word. A row word is an inline word that has a row variable or is marked `recursive`.
 use Rattle.std.specs.Prelude.{ℕ, zero, suc, ◌+◌, List, [], ◌∷◌, length, drop, Bool, true, false, ◌&&◌, ◌||◌, not, nat_eq, nat_lt, Option, Some, None}
-use Rattle.fac_lang.specs.Texts.{Mark, any, par_mark}
+use Rattle.fac_lang.specs.Texts.{Mark, par_mark}
 use Rattle.fac_lang.specs.Signatures.{Signature, signature, Inputs, no_inputs, value, quoted, Leaving, never, leaves}
 use Rattle.fac_lang.specs.Effects.{inputs_count}
-use Rattle.fac_abs.specs.Marks.{Row, hidden, named_row, AbstractStack, dead, on, Rule, rows, base_eq, row_eq, mark_eq, unknowns, is_callable}
+use Rattle.fac_abs.specs.Marks.{Row, hidden, named_row, AbstractStack, dead, on, Rule, rows, base_eq, row_eq, mark_eq, unknowns, cover_marks, is_callable}
 
 -- the row of one side of an effect
 abbrev pub row_of : Option (List ℕ) → Option Row
@@ -113,12 +113,6 @@ Binding = List (Row × AbstractStack)
 abbrev pub bound_to : Row → Binding → Option AbstractStack
 bound_to r [] = None
 bound_to r (b ∷ bs) = elim (row_eq r b.0) [ true ↦ Some b.1 | false ↦ bound_to r bs ]
-
--- whether marks cover others: each is `any` or equal
-abbrev pub cover_marks : List Mark → List Mark → Bool
-cover_marks [] ns = true
-cover_marks (m ∷ ms) [] = false
-cover_marks (m ∷ ms) (n ∷ ns) = (mark_eq m any || mark_eq m n) && cover_marks ms ns
 
 -- What a quotation input left, against its declared output: the rows as they are bound then, or a broken rule.
 pub data Tied : Type 0 where
