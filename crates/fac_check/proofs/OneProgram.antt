@@ -12,8 +12,8 @@ use Rattle.fac_lang.specs.declared.program.Sort.{Sort}
 use Rattle.fac_lang.specs.declared.program.Sort.TheVariants.{Prim as prim, Core as core, Body as body, Past as past, Itself as itself, Class as class, Isa as isa, Getter as getter, Setter as setter, Putter as putter, Generic as generic, Method as method}
 use Rattle.fac_lang.specs.Texts.{Literal, Text, end, then, Item, lit, lit_arr, quot, word, bind, local, fry, hole, call_eff, exec_eff, next_method, made, next_after, held, known}
 use Rattle.fac_lang.specs.Signatures.{Signature}
-use Rattle.fac_lang.specs.Forms.{IsBuilt, IsBuiltText, IsBuiltItem}
-use Rattle.fac_locals.specs.Literals.{Quoted, behind, first_of_word, first_of_literal, literal_or, literal_numbered}
+use Rattle.fac_lang.specs.Forms.{IsBuiltText, IsBuiltItem}
+use Rattle.fac_locals.specs.Literals.{Quoted, behind, first_of_word, first_of_literal, literal_or}
 use Rattle.fac_locals.specs.Closed.{Closes, ClosesItem, ClosesText, ClosesSort, ClosesWord, CloseWords, IsMadeBy}
 use Rattle.fac_locals.proofs.ClosedPrograms.{HasBuiltText, HaveBuiltTexts, built_texts}
 use Rattle.fac_locals.proofs.Lookups.{template_closed, template_closed_none}
