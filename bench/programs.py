@@ -38,46 +38,42 @@ COUNTDOWN_TICKS = (2 * 2**HALVINGS - 1) + 2 * 2**HALVINGS + 2
 FIBONACCI_TICKS = (2 * fibonacci(NUMBER + 1) - 1) + fibonacci(NUMBER + 1) + (fibonacci(NUMBER + 1) - 1) + 1
 
 
-def factor_countdown():
-    lines = ["USING: math prettyprint ;", ": down-0 ( x -- y ) 1 - ;"]
-    lines += [f": down-{k} ( x -- y ) down-{k - 1} down-{k - 1} ;" for k in range(1, HALVINGS + 1)]
-    return lines + [f"{2**HALVINGS} down-{HALVINGS} ."]
+def unfolded(head, first, step, most, end):
+    """The lines of a program: the head, the definitions for the least numbers, one by this pattern for each further number up to the most,
+    and the end. In the pattern `{k}` is the number, and `{a}` and `{b}` are those one and two below it."""
+    return head + first + [step.format(k=k, a=k - 1, b=k - 2) for k in range(len(first), most + 1)] + [end]
 
 
-def factor_fibonacci():
-    lines = ["USING: math prettyprint ;", ": fib-0 ( -- n ) 0 ;", ": fib-1 ( -- n ) 1 ;"]
-    lines += [f": fib-{k} ( -- n ) fib-{k - 1} fib-{k - 2} + ;" for k in range(2, NUMBER + 1)]
-    return lines + [f"fib-{NUMBER} ."]
+HEAD = ["USING: math prettyprint ;"]
 
+COUNTDOWN = {
+    "factorc": unfolded(HEAD, [": down-0 ( x -- y ) 1 - ;"], ": down-{k} ( x -- y ) down-{a} down-{a} ;", HALVINGS, f"{2**HALVINGS} down-{HALVINGS} ."),
+    "gforth": unfolded([], [": down-0 1 - ;"], ": down-{k} down-{a} down-{a} ;", HALVINGS, f"{2**HALVINGS} down-{HALVINGS} 0 .r cr bye"),
+    "lua5.4": unfolded(
+        [],
+        ["local function down_0(x) return x - 1 end"],
+        "local function down_{k}(x) local y = down_{a}(x) local z = down_{a}(y) return z end",
+        HALVINGS,
+        f"print(down_{HALVINGS}({2**HALVINGS}))",
+    ),
+}
 
-def forth_countdown():
-    lines = [": down-0 1 - ;"]
-    lines += [f": down-{k} down-{k - 1} down-{k - 1} ;" for k in range(1, HALVINGS + 1)]
-    return lines + [f"{2**HALVINGS} down-{HALVINGS} 0 .r cr bye"]
+FIBONACCI = {
+    "factorc": unfolded(HEAD, [": fib-0 ( -- n ) 0 ;", ": fib-1 ( -- n ) 1 ;"], ": fib-{k} ( -- n ) fib-{a} fib-{b} + ;", NUMBER, f"fib-{NUMBER} ."),
+    "gforth": unfolded([], [": fib-0 0 ;", ": fib-1 1 ;"], ": fib-{k} fib-{a} fib-{b} + ;", NUMBER, f"fib-{NUMBER} 0 .r cr bye"),
+    "lua5.4": unfolded(
+        [],
+        ["local function fib_0() return 0 end", "local function fib_1() return 1 end"],
+        "local function fib_{k}() return fib_{a}() + fib_{b}() end",
+        NUMBER,
+        f"print(fib_{NUMBER}())",
+    ),
+}
 
-
-def forth_fibonacci():
-    lines = [": fib-0 0 ;", ": fib-1 1 ;"]
-    lines += [f": fib-{k} fib-{k - 1} fib-{k - 2} + ;" for k in range(2, NUMBER + 1)]
-    return lines + [f"fib-{NUMBER} 0 .r cr bye"]
-
-
-def lua_countdown():
-    lines = ["local function down_0(x) return x - 1 end"]
-    lines += [f"local function down_{k}(x) local y = down_{k - 1}(x) local z = down_{k - 1}(y) return z end" for k in range(1, HALVINGS + 1)]
-    return lines + [f"print(down_{HALVINGS}({2**HALVINGS}))"]
-
-
-def lua_fibonacci():
-    lines = ["local function fib_0() return 0 end", "local function fib_1() return 1 end"]
-    lines += [f"local function fib_{k}() return fib_{k - 1}() + fib_{k - 2}() end" for k in range(2, NUMBER + 1)]
-    return lines + [f"print(fib_{NUMBER}())"]
-
-
-# name, what it prints, its ticks, and its text in each language
+# name, what it prints, its ticks, and its lines for each program that runs it
 PROGRAMS = [
-    ("countdown", 0, COUNTDOWN_TICKS, factor_countdown, forth_countdown, lua_countdown),
-    ("fibonacci", fibonacci(NUMBER), FIBONACCI_TICKS, factor_fibonacci, forth_fibonacci, lua_fibonacci),
+    ("countdown", 0, COUNTDOWN_TICKS, COUNTDOWN),
+    ("fibonacci", fibonacci(NUMBER), FIBONACCI_TICKS, FIBONACCI),
 ]
 
 
@@ -94,15 +90,15 @@ def shortest(words, lines, answer, folder):
 
 def main():
     program = speed.program_or(speed.DEFAULT)
-    others = [(name, shutil.which(name)) for name in ("gforth", "lua5.4")]
     print(f"{'program':<12}{'in':<10}{'shortest':>12}{'ticks':>14}{'ticks per second':>20}")
     with tempfile.TemporaryDirectory() as folder:
-        for name, answer, ticks, own, *texts in PROGRAMS:
-            seconds = shortest([program, "run"], own(), answer, folder)
+        for name, answer, ticks, lines in PROGRAMS:
+            seconds = shortest([program, "run"], lines["factorc"], answer, folder)
             print(f"{name:<12}{'factorc':<10}{seconds:>10.3f} s{ticks:>14,}{ticks / seconds:>20,.0f}")
-            for (other, path), text in zip(others, texts):
+            for other in ("gforth", "lua5.4"):
+                path = shutil.which(other)
                 if path:
-                    print(f"{name:<12}{other:<10}{shortest([path], text(), answer, folder):>10.3f} s")
+                    print(f"{name:<12}{other:<10}{shortest([path], lines[other], answer, folder):>10.3f} s")
                 else:
                     print(f"{name:<12}{other:<10}{'not installed':>12}")
     return speed.finish([])
