@@ -204,14 +204,19 @@ def measure(words, make, size, folder):
     return os.path.getsize(source), times, peak
 
 
+def built(path):
+    """The whole path of a built program. Where there is none the script ends."""
+    program = os.path.abspath(path)
+    if not os.access(program, os.X_OK):
+        sys.exit(f"there is no program {program}: build it first")
+    return program
+
+
 def program_or(default):
     """The program that the command line names, or this one. Where there is none the script ends."""
     if len(sys.argv) > 2:
         sys.exit(f"usage: {os.path.basename(sys.argv[0])} [PROGRAM]")
-    program = os.path.abspath(sys.argv[1] if len(sys.argv) == 2 else default)
-    if not os.access(program, os.X_OK):
-        sys.exit(f"there is no program {program}: build it first")
-    return program
+    return built(sys.argv[1] if len(sys.argv) == 2 else default)
 
 
 def compare(name, shortest, failed):
