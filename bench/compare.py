@@ -3,22 +3,23 @@
 
     python3 bench/compare.py [PROGRAM] [--seconds N] [--seed S]
 
-PROGRAM is the built program, by default crates/factorc/out/factorc. First the model alone has to answer worked examples, which are
-written by hand. Then each kind of program has its share of the N seconds, 60 by default: programs of the kind are made, run with
-`PROGRAM run FILE` and by the model, and status, output and note are compared byte for byte. A kind makes the same programs in the same
-order from the same seed S, 1 by default; how many depends on the time.
+PROGRAM is the built program, by default crates/factorc/out/factorc. First the model alone has to answer worked examples, which
+are written by hand. Then each kind of program has its share of the N seconds, 60 by default: programs of the kind are made, run
+with `PROGRAM run FILE` and by the model, and status, output and note are compared byte for byte. A kind makes the same programs
+in the same order from the same seed S, 1 by default; how many depends on the time.
 
-Programs that take more ticks than the model is given are left out and counted. So no answer with a spent budget is compared, nor are the
-answers that tell of the command line, of files and sinks that fail, or of memory.
+Programs that take more ticks than the model is given are left out and counted. So no answer with a spent budget is compared, nor
+are the answers that tell of the command line, of files and sinks that fail, or of memory.
 
-The script prints how many programs of each kind were compared, and which answers were met how often. It ends with status 1 where an
-example or a program is answered otherwise than the model does, or where a run takes too long or is ended by a signal. The source of each
-such program is kept in a file, which is named.
+The script prints how many programs of each kind were compared, and which answers were met how often. It ends with status 1 where
+an example or a program is answered otherwise than the model does, or where a run takes too long or is ended by a signal. The
+source of each such program is kept in a file, which is named.
 """
 
 import argparse
 import os
 import random
+import re
 import subprocess
 import sys
 import tempfile
@@ -55,11 +56,17 @@ EXAMPLES = [
     ("1 USING: prettyprint ; . " + LEAST, 0, 3, "1\n", ""),
     (
         "USING: kernel math prettyprint ; : square ( x -- y ) dup * ; : fourth ( x -- y ) square square ; 3 fourth .",
-        *(0, 9, "81\n", ""),
+        0,
+        9,
+        "81\n",
+        "",
     ),
     (
         "USING: kernel prettyprint ; : dup ( x -- x ) ; : show ( x -- ) dup . ; 5 show : * ( * -- * x ) 6 ; 7 *",
-        *(0, 7, "5\n", ""),
+        0,
+        7,
+        "5\n",
+        "",
     ),
     ("USING: kernel prettyprint ; : j ( -- x ) 7 ; : k ( -- x y ) 5 [ j ] dip ; k . .", 0, 8, "5\n7\n", ""),
     ("USING: kernel prettyprint ; 1 2 [ drop ] curry call .", 0, 8, "1\n", ""),
@@ -76,7 +83,10 @@ EXAMPLES = [
     ("USING: kernel ; : flip ( ? -- ) [ f flip ] [ ] if ; t flip", 0, 10, "", ""),
     (
         "USING: kernel math prettyprint ; : twice ( x q -- x ) dup dip call ; inline 5 [ 1 + ] twice [ 2 * ] twice .",
-        *(0, 20, "28\n", ""),
+        0,
+        20,
+        "28\n",
+        "",
     ),
     ("USING: kernel ; : wrong ( -- ) drop ; inline 1", 0, 1, "", ""),
     (": more ( -- ) 1 2 ; inline more", 0, 3, "", ""),
@@ -131,7 +141,10 @@ EXAMPLES = [
     ("USING: math ; : w ( -- y ) + ;", 5, 0, "", "check: scratchpad:w, a token 10: underflow, needs 2, has 0\n"),
     (
         "USING: kernel ; : wrong ( -- ) drop ; inline wrong",
-        *(5, 0, "", "check: top-level, a token 9: underflow, needs 1, has 0\n"),
+        5,
+        0,
+        "",
+        "check: top-level, a token 9: underflow, needs 1, has 0\n",
     ),
     (": w ( x -- y ) 1 ;", 5, 0, "", "check: scratchpad:w, a token 2: outputs, declared 1, found 2\n"),
     ("USING: math ; + : v ( -- x ) ;", 5, 0, "", "check: scratchpad:v, a token 6: outputs, declared 1, found 0\n"),
@@ -139,7 +152,10 @@ EXAMPLES = [
     (": w ( -- * ) ;", 5, 0, "", "check: scratchpad:w, a token 2: must-return\n"),
     (
         "USING: kernel ; : g ( ? -- x ) [ 1 ] [ 1 2 ] if ;",
-        *(5, 0, "", "check: scratchpad:g, a token 18: branches, 1 and 2\n"),
+        5,
+        0,
+        "",
+        "check: scratchpad:g, a token 18: branches, 1 and 2\n",
     ),
     ("USING: kernel ; : h ( q -- ) call ;", 5, 0, "", "check: scratchpad:h, a token 10: not-known\n"),
     ("USING: kernel ; 1 2 curry call", 5, 0, "", "check: top-level, a token 7: not-known\n"),
@@ -148,11 +164,17 @@ EXAMPLES = [
     ("USING: kernel ; " + "[ " * 65 + "] call " * 65, 5, 0, "", "check: top-level, a token 70: too-deep\n"),
     (
         "USING: kernel ; : lp ( q -- ) dup call lp ; inline",
-        *(5, 0, "", "check: scratchpad:lp, a token 5: undeclared-recursion\n"),
+        5,
+        0,
+        "",
+        "check: scratchpad:lp, a token 5: undeclared-recursion\n",
     ),
     (
         "USING: kernel ; : w ( -- ) " + "1 drop " * 100_000 + "1 ;",
-        *(5, 0, "", "check: scratchpad:w, a token 200009: too-large\n"),
+        5,
+        0,
+        "",
+        "check: scratchpad:w, a token 200009: too-large\n",
     ),
     # long files
     (" " * 4_194_304, 0, 0, "", ""),
@@ -196,8 +218,8 @@ EXISTING_VOCABULARIES = """
     """.split()
 
 OTHER_VOCABULARIES = """
-    nowhere .private private maths Kernel scratchpad.private tools.test fry.privat x.private listener lists.private prelude top-level
-    strings.private a.b parser
+    nowhere .private private maths Kernel scratchpad.private tools.test fry.privat x.private listener lists.private prelude
+    top-level strings.private a.b parser
     """.split()
 
 VOCABULARIES = EXISTING_VOCABULARIES + OTHER_VOCABULARIES
@@ -213,14 +235,19 @@ ODD_INTEGERS = """
 
 # Tokens that are names, or only look so.
 ODD_NAMES = """
-    x"y " "a" ! !x #x !! | < > \\x F T F t1 .. ..a a: foo: a:b * ** __ @@ call) execute boa new = eq? print write 2dip keep bi each
-    >>x x>> syntax cond (no-cond) integer object inline: D: ' ` ~ $ % ^ &
+    x"y " "a" ! !x #x !! | < > \\x F T F t1 .. ..a a: foo: a:b * ** __ @@ call) execute boa new = eq? print write 2dip keep bi
+    each >>x x>> syntax cond (no-cond) integer object inline: D: ' ` ~ $ % ^ &
     """.split()
 
 # Characters that aren't in any token, alone and in tokens. Each is one byte of the file.
 ODD_BYTES = "\x00 \x01 \x1f \x7f \x80 \xff \xc3\xa9 a\x00b \x1c \xe2\x80\xa8".split(" ") + ["\t", "\x0b", "\x0c", "\r", "\n", " "]
 
 ODD_TOKENS = ODD_INTEGERS + ODD_NAMES + ODD_BYTES + sorted(model.RESERVED)
+
+
+def apart(text):
+    """The texts in a text that stand two spaces apart, or on lines of their own."""
+    return re.split(r"\s{2,}", text.strip())
 
 
 def written(items):
@@ -260,8 +287,8 @@ def named(word):
 class Author:
     """Makes items at random, with the model as its guide: of those that it makes most are accepted by the checker.
 
-    `slips` is the share of items that are taken whatever the checker says. An abstract stack is a list of marks, or None where nothing
-    behind it is reached.
+    `slips` is the share of items that are taken whatever the checker says. An abstract stack is a list of marks, or None where
+    nothing behind it is reached.
     """
 
     # A walk that guides is given up after so many items.
@@ -316,8 +343,8 @@ class Author:
         return model.Walk(self.marks, self.MOST_WALKED).item(item, list(stack), 0)
 
     def keeps(self, behind, share):
-        """Whether an item is kept that leads to this abstract stack. In this share of cases one is given up behind which nothing is
-        reached, and mostly one that makes the stack tall."""
+        """Whether an item is kept that leads to this abstract stack. In this share of cases one is given up behind which nothing
+        is reached, and mostly one that makes the stack tall."""
         if behind is None:
             return not happens(self.chance, share)
         return len(behind) <= self.TALL or not happens(self.chance, 0.8)
@@ -354,8 +381,8 @@ class Author:
             return [model.UNKNOWN] * self.chance.randint(0, 4)
 
     def running_phrase(self, stack, values, count, depth):
-        """As a phrase, but the items run too, from these values, and most that fail or run long are given up. Gives the items, the
-        abstract stack and the values behind them. Both are None behind a slip, and the values alone where they aren't known."""
+        """As a phrase, but the items run too, from these values, and most that fail or run long are given up. Gives the items,
+        the abstract stack and the values behind them. Both are None behind a slip, and the values alone where a run is lost."""
         items = []
         for _ in range(count * 12):
             if len(items) == count or stack is None:
@@ -376,8 +403,8 @@ class Author:
         return items, stack, values
 
     def values_behind(self, item, values):
-        """The values that an item leaves of these. Where it fails or runs long that is raised, but for a few cases, which are kept: then
-        None is given."""
+        """The values that an item leaves of these. Where it fails or runs long that is raised, but for a few cases, which are
+        kept: then None is given."""
         run = model.Run(self.MOST_TICKS, list(values))
         try:
             run.run([item])
@@ -392,8 +419,8 @@ class Author:
         return run.stack
 
     def definition(self, names):
-        """A word with one of these names, which is added to the words. Its effect is mostly that of its text; some call themselves.
-        Gives the word and the text of its definition."""
+        """A word with one of these names, which is added to the words. Its effect is mostly that of its text; some call
+        themselves. Gives the word and the text of its definition."""
         chance = self.chance
         word = model.Word(chance.choice(names), 0, chance.choice([0, 0, 1, 1, 2, 2, 3, 4]), chance.randint(0, 3))
         inline = happens(chance, 0.45)
@@ -440,8 +467,8 @@ class Author:
 
 
 def running(chance):
-    """Aims at programs that are accepted and run to their end, and print what is left: definitions that the checker accepts, and a
-    top-level phrase of which each item is run as it is made."""
+    """Aims at programs that are accepted and run to their end, and print what is left: definitions that the checker accepts, and
+    a top-level phrase of which each item is run as it is made."""
     author = Author(chance, 0.004)
     texts, stack, values = [], [], []
     for number in range(chance.randint(0, 8)):
@@ -456,7 +483,7 @@ def running(chance):
 
 
 def accepted_definition(author, name):
-    """The text of a definition of this name that the checker accepts, or nothing after many tries; in rare cases one that it refuses."""
+    """The text of a definition of this name that the checker accepts, or nothing after many tries. Rarely it is refused."""
     for _ in range(20):
         word, text = author.definition([name])
         if author.is_accepted(word) or happens(author.chance, 0.01):
@@ -557,7 +584,8 @@ def forms(chance):
     for _ in range(chance.randint(1, 6)):
         share = chance.random()
         if share < 0.25:
-            texts.append(using(chance, EXISTING_VOCABULARIES if happens(chance, 0.8) else VOCABULARIES + [some_token(chance, 0.5)]))
+            any_names = VOCABULARIES + [some_token(chance, 0.5)]
+            texts.append(using(chance, EXISTING_VOCABULARIES if happens(chance, 0.8) else any_names))
         elif share < 0.7:
             texts.append(short_definition(chance))
         else:
@@ -583,7 +611,8 @@ def short_definition(chance):
         items.append(chance.choice(ODD_TOKENS))
     marks = ["", "inline"]
     if happens(chance, 0.5):
-        marks = ["", "", "", "inline", "inline", "recursive", "inline recursive", "recursive inline", "inline inline", "recursive recursive"]
+        two_marks = ["inline recursive", "recursive inline", "inline inline", "recursive recursive"]
+        marks = ["", "", "", "inline", "inline", "recursive", *two_marks]
     return f": {name} ( {inputs} -- {outputs} ) {' '.join(items)} ; {chance.choice(marks)}"
 
 
@@ -633,21 +662,25 @@ def nested(chance, text, levels):
     return " ".join(definitions), text
 
 
+USES_OF_CHAINS = apart(
+    """
+    call  call  call  7 swap dip drop  t swap [ ] if  t swap [ 3 ] swap if  f swap [ ] swap if  f swap dup if
+    t [ ] rot if  [ call ] call  dup call call  [ ] compose call  1 swap curry call  drop
+    """
+)
+
+
 def chains(chance):
-    """Aims at the limits of 64: long chains of `curry` and `compose` are made and applied inside nested applications, so that both
-    limits are met from below and from above."""
+    """Aims at the limits of 64: long chains of `curry` and `compose` are made and applied inside nested applications, so that
+    both limits are met from below and from above."""
     links = chance.choice([chance.randint(55, 70), chance.randint(0, 6), chance.randint(60, 66), 64, 65, 63])
     room = 64 - links
     near = [room, room + 1, room - 1, chance.randint(62, 66) - links]
     levels = max(0, chance.choice([0, 0, 1, chance.randint(0, 4), *near, chance.randint(60, 66)]))
-    uses = [
-        *("call", "call", "call", "7 swap dip drop", "t swap [ ] if", "t swap [ 3 ] swap if", "f swap [ ] swap if", "f swap dup if"),
-        *("t [ ] rot if", "[ call ] call", "dup call call", "[ ] compose call", "1 swap curry call", "drop"),
-    ]
     made, definition = chain(chance, links), ""
     if happens(chance, 0.5):
         made, definition = "made", f": made ( -- q ) {made} ; inline"
-    definitions, text = nested(chance, f"{made} {chance.choice(uses)}", levels)
+    definitions, text = nested(chance, f"{made} {chance.choice(USES_OF_CHAINS)}", levels)
     shown = "" if happens(chance, 0.8) else ". . ."
     if happens(chance, 0.3):
         text = f": m ( -- {chance.choice(['*', '', 'x', 'x x'])} ) {text} ; m"
@@ -655,7 +688,7 @@ def chains(chance):
 
 
 def chain(chance, links):
-    """A callable that is made by so many `curry` or `compose`, nested in the first part, in the second part or in the kept value."""
+    """A callable that is made by so many `curry` or `compose`, nested in the first or second part or in the kept value."""
     base = chance.choice(["[ ]", "[ drop ]", "[ 1 ]", "[ 5 throw ]", "[ call ]", "[ [ ] call ]"])
     share = chance.random()
     if share < 0.45:
@@ -687,18 +720,20 @@ def padding(count):
     return " ".join(words)
 
 
-LAST_ITEMS = [
-    *("1", "drop", "1 2 + .", "[ ] call", "[ 1 ] call", "1 1 [ drop ] curry call .", "1 2 3 [ drop ] curry curry curry call"),
-    *("[ 1 ] [ drop ] compose call", "t [ 1 ] [ 2 ] if .", "t [ 1 ] [ 2 2 ] if", "1 [ 2 ] dip . .", "pad-0", "pad-1", "pad-2 pad-2"),
-    *("+", "call", "1 call", "if", "1 2 3 if", "t 1 [ ] if", "5 throw", "[ 5 throw ] call", "[ + ] call", "[ pad-0 pad-0 ] call"),
-    *("f [ 1 throw ] [ pad-1 1 ] if .", "dip", "1 1 dip", "[ dup call ] dup call", "curry", "1 [ ] curry drop"),
-    *("t [ [ ] call ] [ pad-2 ] if", "[ ] [ ] compose [ ] compose call"),
-    "[ pad-1 ] [ pad-1 ] compose [ pad-1 ] compose dup compose call",
-]
+LAST_ITEMS = apart(
+    """
+    1  drop  1 2 + .  [ ] call  [ 1 ] call  1 1 [ drop ] curry call .  1 2 3 [ drop ] curry curry curry call
+    [ 1 ] [ drop ] compose call  t [ 1 ] [ 2 ] if .  t [ 1 ] [ 2 2 ] if  1 [ 2 ] dip . .  pad-0  pad-1  pad-2 pad-2  +
+    call  1 call  if  1 2 3 if  t 1 [ ] if  5 throw  [ 5 throw ] call  [ + ] call  [ pad-0 pad-0 ] call
+    f [ 1 throw ] [ pad-1 1 ] if .  dip  1 1 dip  [ dup call ] dup call  curry  1 [ ] curry drop
+    t [ [ ] call ] [ pad-2 ] if  [ ] [ ] compose [ ] compose call
+    [ pad-1 ] [ pad-1 ] compose [ pad-1 ] compose dup compose call
+    """
+)
 
 
 def large(chance):
-    """Aims at the limit of 200,000 walked items: items that break some other rule or none stand where the limit is just met or missed."""
+    """Aims at the limit of 200,000 walked items: items that break another rule or none stand where the limit is near."""
     levels = chance.choice([0, 0, 0, 1, chance.randint(1, 40), chance.randint(60, 66)])
     definitions, text = nested(chance, chance.choice(LAST_ITEMS), levels)
     left = chance.choice([0, 1, 2, 3, chance.randint(0, 12), chance.randint(0, 200)])
@@ -756,8 +791,8 @@ def branch(chance, callables):
 
 def uses_of_callables(chance, count):
     """Some uses of so many callables."""
-    uses = ["call", "call", "drop", "7 swap dip", "[ ] compose call", "1 swap curry call", "dup call", "t swap [ ] if", ".", "swap"]
-    return " ".join(chance.choice(uses) for _ in range(chance.randint(1, count + 1)))
+    uses = ["call", "call", "drop", "7 swap dip", "[ ] compose call", "1 swap curry call", "dup call", "t swap [ ] if"]
+    return " ".join(chance.choice(uses + [".", "swap"]) for _ in range(chance.randint(1, count + 1)))
 
 
 WORDS_THAT_END = [
@@ -770,16 +805,20 @@ WORDS_THAT_END = [
     ": i3 ( -- * ) i0 1 + call ; inline",
 ]
 
-ENDS = [
-    *("n0", "3 n1", "5 throw", "i0", "[ ] i1", "[ n0 ] call", "1 [ 2 throw ] dip", "[ 1 throw ] [ ] compose call"),
-    *("[ ] [ 1 throw ] compose call", "t [ n0 ] [ n0 ] if", "t [ n0 ] [ 1 ] if", "f [ 1 ] [ 4 throw ] if", "t [ 1 throw ] [ + ] if"),
-    *("i2", "i3", "1 [ throw ] curry call", "[ dup ] [ n0 ] if", "f [ n0 ] [ ] if", "t [ ] [ n0 + + ] if"),
-]
+ENDS = apart(
+    """
+    n0  3 n1  5 throw  i0  [ ] i1  [ n0 ] call  1 [ 2 throw ] dip  [ 1 throw ] [ ] compose call
+    [ ] [ 1 throw ] compose call  t [ n0 ] [ n0 ] if  t [ n0 ] [ 1 ] if  f [ 1 ] [ 4 throw ] if
+    t [ 1 throw ] [ + ] if  i2  i3  1 [ throw ] curry call  [ dup ] [ n0 ] if  f [ n0 ] [ ] if  t [ ] [ n0 + + ] if
+    """
+)
 
-BEHIND_ENDS = [
-    *("+", "call", "drop", "1", "if", "dip", "[ + ] call", "i0", "n1", "[ ] dup call", "1 2 3 if", "dup", "2nip", "compose", ". .", "w"),
-    "[ 1 ] [ 2 2 ] if",
-]
+BEHIND_ENDS = apart(
+    """
+    +  call  drop  1  if  dip  [ + ] call  i0  n1  [ ] dup call  1 2 3 if  dup  2nip  compose  . .  w
+    [ 1 ] [ 2 2 ] if
+    """
+)
 
 
 def never_returning(chance):
@@ -839,11 +878,13 @@ def recursive_text(chance, itself, known, depth):
     return " ".join(texts)
 
 
-STEPS = [
-    *("1 +", "2 *", "dup *", "1 -", "dup +", "3 swap -", "[ 1 + ] call", "1 [ + ] curry call", "dup [ + ] curry call"),
-    *("dup dup [ * ] dip drop", "t [ 1 + ] [ 2 * ] if", "dup [ ] curry call drop", "5 swap [ 2 * ] dip +"),
-    "[ 7 * ] [ 1 + ] compose call",
-]
+STEPS = apart(
+    """
+    1 +  2 *  dup *  1 -  dup +  3 swap -  [ 1 + ] call  1 [ + ] curry call  dup [ + ] curry call
+    dup dup [ * ] dip drop  t [ 1 + ] [ 2 * ] if  dup [ ] curry call drop  5 swap [ 2 * ] dip +
+    [ 7 * ] [ 1 + ] compose call
+    """
+)
 
 
 def long_runs(chance):
@@ -866,9 +907,9 @@ def long_runs(chance):
 
 
 def limits(chance):
-    """Aims at the other limits: quotations some 256 deep, effects of some 64 names, integers and results of some 128 bits, files of some
-    4,194,304 bytes, and the kinds of operands that each operation takes."""
-    if happens(chance, 0.01):
+    """Aims at the other limits: quotations some 256 deep, effects of some 64 names, integers and results of some 128 bits, files
+    of some 4,194,304 bytes, and the kinds of operands that each operation takes."""
+    if happens(chance, 0.03):
         return long_file(chance)
     return chance.choice([deep_quotations, wide_effects, integers_at_limits, arithmetic, operands])(chance)
 
@@ -929,7 +970,19 @@ def operands(chance):
 
 
 KINDS = [
-    *(running, guided, hiding, unguided, mutated, forms, tokens, chains, large, joins, never_returning, recursive, long_runs),
+    running,
+    guided,
+    hiding,
+    unguided,
+    mutated,
+    forms,
+    tokens,
+    chains,
+    large,
+    joins,
+    never_returning,
+    recursive,
+    long_runs,
     limits,
 ]
 
@@ -939,8 +992,8 @@ KINDS = [
 
 @dataclass
 class Tally:
-    """What was compared of one kind: how many programs, how many were left out, which answers were met how often, and which programs
-    failed, each told in a line."""
+    """What was compared of one kind: how many programs, how many were left out, which answers were met how often, and which
+    programs failed, each told in a line."""
 
     name: str
     compared: int
@@ -950,8 +1003,8 @@ class Tally:
 
 
 class Comparison:
-    """Runs one program and the model on sources, in a folder of its own. A source of which the two differ is kept in another folder,
-    which is made when there is a first one."""
+    """Runs one program and the model on sources, in a folder of its own. A source of which the two differ is kept in another
+    folder, which is made when there is a first one."""
 
     def __init__(self, program, folder):
         self.program = program
@@ -959,8 +1012,8 @@ class Comparison:
         self.kept = None
 
     def run(self, source):
-        """Runs the program on a source, and gives its status, its output and its note. The status is negative where a signal ended the
-        run, and TimeoutExpired is raised where it took too long."""
+        """Runs the program on a source, and gives its status, its output and its note. The status is negative where a signal
+        ended the run, and TimeoutExpired is raised where it took too long."""
         with open(os.path.join(self.folder, FILE), "wb") as file:
             file.write(source)
         words = [self.program, "run", FILE]
