@@ -291,9 +291,10 @@ class Author:
     nothing behind it is reached.
     """
 
-    # A walk that guides is given up after so many items.
+    # A walk that guides is given up after so many items, and a run after so many ticks.
     MOST_WALKED = 3_000
     MOST_TICKS = 20_000
+    # An abstract stack that is higher is tall.
     TALL = 12
 
     def __init__(self, chance, slips):
@@ -403,8 +404,8 @@ class Author:
         return items, stack, values
 
     def values_behind(self, item, values):
-        """The values that an item leaves of these. Where it fails or runs long that is raised, but for a few cases, which are kept.
-        Then None is given, and so it is where a word that the checker refuses makes the run stuck."""
+        """The values that an item leaves of these. Where it fails or runs long that is raised, but for a few cases, which are
+        kept. Then None is given, and so it is where a word that the checker refuses makes the run stuck."""
         run = model.Run(self.MOST_TICKS, list(values))
         try:
             run.run([item])
