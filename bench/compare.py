@@ -291,9 +291,10 @@ class Author:
     nothing behind it is reached.
     """
 
-    # A walk that guides is given up after so many items.
+    # A walk that guides is given up after so many items, and a run after so many ticks.
     MOST_WALKED = 3_000
     MOST_TICKS = 20_000
+    # An abstract stack that is higher is tall.
     TALL = 12
 
     def __init__(self, chance, slips):
@@ -404,10 +405,12 @@ class Author:
 
     def values_behind(self, item, values):
         """The values that an item leaves of these. Where it fails or runs long that is raised, but for a few cases, which are
-        kept: then None is given."""
+        kept. Then None is given, and so it is where a word that the checker refuses makes the run stuck."""
         run = model.Run(self.MOST_TICKS, list(values))
         try:
             run.run([item])
+        except model.Stuck:
+            return None
         except model.RunError:
             if happens(self.chance, 0.95):
                 raise
@@ -726,17 +729,21 @@ LAST_ITEMS = apart(
     [ 1 ] [ drop ] compose call  t [ 1 ] [ 2 ] if .  t [ 1 ] [ 2 2 ] if  1 [ 2 ] dip . .  pad-0  pad-1  pad-2 pad-2  +
     call  1 call  if  1 2 3 if  t 1 [ ] if  5 throw  [ 5 throw ] call  [ + ] call  [ pad-0 pad-0 ] call
     f [ 1 throw ] [ pad-1 1 ] if .  dip  1 1 dip  [ dup call ] dup call  curry  1 [ ] curry drop
-    t [ [ ] call ] [ pad-2 ] if  [ ] [ ] compose [ ] compose call
+    t [ [ ] call ] [ pad-2 ] if  [ ] [ ] compose [ ] compose call  1 [ ] curry call  1 2 [ ] curry curry call
+    1 [ ] curry 2 [ ] curry compose call  1 [ drop ] curry [ pad-0 ] compose call  [ pad-0 ] [ ] compose call
     [ pad-1 ] [ pad-1 ] compose [ pad-1 ] compose dup compose call
     """
 )
 
 
 def large(chance):
-    """Aims at the limit of 200,000 walked items: items that break another rule or none stand where the limit is near."""
+    """Aims at the limit of 200,000 walked items: as many stand in front of a text that the limit is met at one of its last items,
+    or just behind it, where another rule may be broken too."""
     levels = chance.choice([0, 0, 0, 1, chance.randint(1, 40), chance.randint(60, 66)])
-    definitions, text = nested(chance, chance.choice(LAST_ITEMS), levels)
-    left = chance.choice([0, 1, 2, 3, chance.randint(0, 12), chance.randint(0, 200)])
+    text = " ".join(chance.choice(LAST_ITEMS) for _ in range(chance.choice([1, 1, 2, 3])))
+    definitions, text = nested(chance, text, levels)
+    count = walked_items(source_of(PADDING, definitions, text))
+    left = chance.choice([count, count, max(0, count - 1), count + 1, chance.randint(0, count)])
     before = padding(model.MOST_WALKED_ITEMS - left)
     share = chance.random()
     if share < 0.3:
@@ -746,6 +753,19 @@ def large(chance):
     else:
         text = f"{before} {text}"
     return source_of(PADDING, definitions, text)
+
+
+def walked_items(source):
+    """How many items are walked of the top-level phrase of a source, up to its end or the first rule that it breaks."""
+    names = model.Names()
+    for form in model.Reader(model.tokens_of(source)).forms():
+        names.add(form)
+    walk = model.Walk(model.Marks())
+    try:
+        walk.items(names.top, [], 0)
+    except model.Refused:
+        pass
+    return walk.walked
 
 
 def joins(chance):
@@ -969,21 +989,22 @@ def operands(chance):
     return source_of(*values, *[chance.choice(words) for _ in range(chance.randint(1, 5))], ". .")
 
 
+# Each kind, and how many shares of the time it has. A large program takes the model longer than another.
 KINDS = [
-    running,
-    guided,
-    hiding,
-    unguided,
-    mutated,
-    forms,
-    tokens,
-    chains,
-    large,
-    joins,
-    never_returning,
-    recursive,
-    long_runs,
-    limits,
+    (running, 1),
+    (guided, 1),
+    (hiding, 1),
+    (unguided, 1),
+    (mutated, 1),
+    (forms, 1),
+    (tokens, 1),
+    (chains, 1),
+    (large, 4),
+    (joins, 1),
+    (never_returning, 1),
+    (recursive, 1),
+    (long_runs, 1),
+    (limits, 1),
 ]
 
 
@@ -1100,11 +1121,12 @@ def main():
     if failed:
         return speed.finish(failed)
     print(f"{'programs':<16}{'compared':>9}{'left out':>10}  answers")
+    shares = sum(share for _, share in KINDS)
     tallies = []
     with tempfile.TemporaryDirectory() as folder:
         comparison = Comparison(program, folder)
-        for kind in KINDS:
-            tally = comparison.compare(kind, words.seed, words.seconds / len(KINDS))
+        for kind, share in KINDS:
+            tally = comparison.compare(kind, words.seed, words.seconds * share / shares)
             show(tally.name, tally.compared, tally.left_out, tally.answers)
             tallies.append(tally)
     compared = sum(tally.compared for tally in tallies)
