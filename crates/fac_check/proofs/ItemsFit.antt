@@ -4,7 +4,9 @@ use Rattle.std.specs.Prelude.{nat_eq, nat_lt, nat_le, not, ◌&&◌, slice_get}
 use mathlib.Core.Logic.{inl, inr}
 use Rattle.fac_lang.specs.declared.phrase.Height.{Height}
 use Rattle.fac_lang.specs.Texts.{Literal, Plain, wrd, arr, tup, Text, Item, lit, lit_arr, quot, word, bind, local, fry, hole, call_eff, exec_eff, next_method, made, next_after, held, known, Value, plain, fun, Callable, text, cur, both, Mark, any, lit_mark, cur_mark, com_mark, wrd_mark, par_mark}
-use Rattle.fac_lang.specs.World.{State, World, Error, ErrorName, no_method, no_next_method, wrong_values, push, pile}
+use Rattle.fac_lang.specs.World.{State, World, Error, push, pile}
+use Rattle.fac_lang.specs.declared.error_name.ErrorName.{ErrorName}
+use Rattle.fac_lang.specs.declared.error_name.ErrorName.TheVariants.{NoMethod, NoNextMethod, WrongValues}
 use Rattle.fac_lang.specs.Substitution.{put_holes, of_method}
 use Rattle.fac_lang.specs.Effects.{effect_height}
 use Rattle.fac_lang.specs.Primitives.{Moves, moves1, moves2, moves3, Shuffle, moves, Prim, shuffle, p_curry, p_compose, s_drop, s_dup, s_swap, s_over, s_pick, s_rot, s_unrot, s_nip, s_dupd, s_swapd, s_2drop, s_2dup, s_3drop, s_3dup, s_2over, s_2nip, moved, prim_numbered, Gives, gives as gave, bad, or_bad, Fn, fn0, fn1, fn2, fn3, prim_fn, seen_no}
@@ -274,7 +276,7 @@ module _ (P : Program) (C : Context) where
     curry_does a b (c ∷ []) st e = tt
     curry_does a b (c ∷ m ∷ ms) st e = rw e.0.2 (rw e.0.4.2 (made e.0.0 refl))
       where
-        made : (v : Value) → e.0.0 ≡ v → D (gives (on b (curried_mark m c ∷ ms))) (given a e.0.4.1 (or_bad texts (curry_of e.0.4.0 v) wrong_values (Some v) st.world (λ x. gave (x ∷ []) st.world)))
+        made : (v : Value) → e.0.0 ≡ v → D (gives (on b (curried_mark m c ∷ ms))) (given a e.0.4.1 (or_bad texts (curry_of e.0.4.0 v) WrongValues (Some v) st.world (λ x. gave (x ∷ []) st.world)))
         made (plain p) q = tt
         made (fun d) q = ((fun (cur e.0.4.0 d), e.0.4.1, refl, kept (is_callable c), e.0.4.4), e.1)
           where
@@ -288,7 +290,7 @@ module _ (P : Program) (C : Context) where
     compose_does a b (d ∷ []) st e = tt
     compose_does a b (d ∷ c ∷ ms) st e = rw e.0.2 (rw e.0.4.2 (made e.0.4.0 e.0.0 refl refl))
       where
-        made : (v w : Value) → e.0.4.0 ≡ v → e.0.0 ≡ w → D (gives (on b (composed_mark c d ∷ ms))) (given a e.0.4.1 (or_bad texts (compose_of v w) wrong_values (Some (elim (seen v) [ None ↦ w | Some _ ↦ v ])) st.world (λ x. gave (x ∷ []) st.world)))
+        made : (v w : Value) → e.0.4.0 ≡ v → e.0.0 ≡ w → D (gives (on b (composed_mark c d ∷ ms))) (given a e.0.4.1 (or_bad texts (compose_of v w) WrongValues (Some (elim (seen v) [ None ↦ w | Some _ ↦ v ])) st.world (λ x. gave (x ∷ []) st.world)))
         made (plain p) w q r = tt
         made (fun x) (plain p) q r = tt
         made (fun x) (fun y) q r = ((fun (both x y), e.0.4.1, refl, kept (is_callable c && is_callable d), e.0.4.4), e.1)
@@ -327,7 +329,7 @@ module _ (P : Program) (C : Context) where
     tested_does h o (plain p) k taken b ms u st e = fails_does h.ins taken o b ms u _ st
     tested_does h o (fun c) k taken b ms u st e = tested (FF h c) refl
       where
-        tested : (q : Bool) → FF h c ≡ q → D (elim (popped h.ins taken ms) [ Some q ↦ gives (left_on o b q.1) | None ↦ breaks u ]) (either q (runs c st []) (error wrong_values (fun c) word_call st))
+        tested : (q : Bool) → FF h c ≡ q → D (elim (popped h.ins taken ms) [ Some q ↦ gives (left_on o b q.1) | None ↦ breaks u ]) (either q (runs c st []) (error WrongValues (fun c) word_call st))
         tested true q = popped_over h.ins taken o b ms st.stack u (runs c st []) e.0 (λ r rest x y. (refl, λ n le. ends_map (Leaves P o r) (StackState P C (left_on o b rest)) (run_callable run c st n) (λ st' l. leaves_stack o b rest r st' l y) (k c q r st n le x e.1)))
         tested false q = fails_does h.ins taken o b ms u _ st
 
@@ -360,7 +362,7 @@ module _ (P : Program) (C : Context) where
     found_does h (fun c) k taken b ms u st e = fails_does h.ins taken h.outs b ms u _ st
     found_does h (plain (wrd w)) k taken b ms u st e = tested (word_fits P fits h w) refl
       where
-        tested : (q : Bool) → word_fits P fits h w ≡ q → D (elim (popped h.ins taken ms) [ Some q ↦ gives (left_on h.outs b q.1) | None ↦ breaks u ]) (either q (run_text (one_item (word w)) st) (error wrong_values (plain (wrd w)) word_execute st))
+        tested : (q : Bool) → word_fits P fits h w ≡ q → D (elim (popped h.ins taken ms) [ Some q ↦ gives (left_on h.outs b q.1) | None ↦ breaks u ]) (either q (run_text (one_item (word w)) st) (error WrongValues (plain (wrd w)) word_execute st))
         tested true q =
             popped_over h.ins taken h.outs b ms st.stack u (run_text (one_item (word w)) st) e.0 (λ r rest x y. (refl, λ n le. ends_map (Leaves P h.outs r) (StackState P C (left_on h.outs b rest)) (run_callable run (text (one_item (word w))) st n) (λ st' l. leaves_stack h.outs b rest r st' l y) (k w q r st n le x e.1)))
         tested false q = fails_does h.ins taken h.outs b ms u _ st
@@ -442,7 +444,7 @@ module _ (P : Program) (C : Context) where
       next_of : (m c g : ℕ) (t : Text) → sort_of P m ≡ Some (method c g t) → (o : Option WordDef) → slice_get P.words g ≡ o → (b : Option Row) (ms : List Mark) (st : State Value) → OnState P C b ms st → D (generic_doing P C.word o b ms) (act P fits (callable_height P) (next_after m) st)
       next_of m c g t y None u b ms st e = tt
       next_of m c g t y (Some d) u b ms st e =
-          (let z = facts.nexts m c g t d y u in methods_do (H d).ins (H d).outs z.0 z.1 (λ v w. next P m (kind_of texts (names P) w v)) no_next_method (generic_of P (sort_of P m)) (λ v w n x. z.2 (kind_of texts (names P) w v) n x) b ms st e)
+          (let z = facts.nexts m c g t d y u in methods_do (H d).ins (H d).outs z.0 z.1 (λ v w. next P m (kind_of texts (names P) w v)) NoNextMethod (generic_of P (sort_of P m)) (λ v w n x. z.2 (kind_of texts (names P) w v) n x) b ms st e)
 
       next_does : (m : ℕ) (s : Option Sort) → sort_of P m ≡ s → (b : Option Row) (ms : List Mark) (st : State Value) → OnState P C b ms st → D (next_doing P C.word s b ms) (act P fits (callable_height P) (next_after m) st)
       next_does m (Some (method c g t)) y b ms st e = next_of m c g t y (slice_get P.words g) refl b ms st e
@@ -461,7 +463,7 @@ module _ (P : Program) (C : Context) where
       sort_does w d (setter x) g q b ms st e = regular_does w (H d).ins (H d).outs (set_slot texts (names P) x) (facts.setters w d x g q) b ms st e
       sort_does w d (putter x) g q b ms st e = regular_does w (H d).ins (H d).outs (put_slot texts (names P) x) (facts.putters w d x g q) b ms st e
       sort_does w d generic g q b ms st e =
-          (let z = facts.generics w d g q in methods_do (H d).ins (H d).outs z.0 z.1 (λ v w'. pick P w (kind_of texts (names P) w' v)) no_method w (λ v w' m y. z.2 (kind_of texts (names P) w' v) m y) b ms st e)
+          (let z = facts.generics w d g q in methods_do (H d).ins (H d).outs z.0 z.1 (λ v w'. pick P w (kind_of texts (names P) w' v)) NoMethod w (λ v w' m y. z.2 (kind_of texts (names P) w' v) m y) b ms st e)
 
       -- a word with an effect does by its numbers, whatever its sort
       itself_does : (w i : ℕ) (o : Option ℕ) → i ≡ 0 → o ≡ Some 1 → (b : Option Row) (ms : List Mark) (st : State Value) → OnState P C b ms st → D (by_height i o b ms) (goes (push (plain (wrd w)) st))

@@ -10,7 +10,9 @@ use Rattle.fac_lang.specs.Equality.{Equal, equal, not_comparable, too_many_pairs
 use Rattle.fac_lang.specs.Printed.{printed}
 use Rattle.fac_lang.specs.declared.phrase.Height.{Height}
 use Rattle.fac_lang.specs.Texts.{Plain, int, no, str, iota, Value}
-use Rattle.fac_lang.specs.World.{World, array, ErrorName, not_integer, not_sequence, not_tuple, no_slot, bad_text, bounds, bad_length, zero_divisor, overflow, wrong_values, text_too_long}
+use Rattle.fac_lang.specs.World.{World, array}
+use Rattle.fac_lang.specs.declared.error_name.ErrorName.{ErrorName}
+use Rattle.fac_lang.specs.declared.error_name.ErrorName.TheVariants.{NotInteger, NotSequence, NotTuple, NoSlot, BadText, Bounds, Length, ZeroDivisor, Overflow, WrongValues, TextTooLong}
 use Rattle.fac_lang.specs.declared.program.Program.{Program}
 use Rattle.fac_lang.specs.Effects.{effect_height}
 use Rattle.fac_lang.specs.PrimitiveWords.{PrimitiveWord, primitive_word, written_effect, shuffle_words, kernel_words, math_words, sequence_words, output_words}
@@ -100,13 +102,13 @@ module _ (P : Program) where
   unless_regular o false e w g h = tt
 
   integer_regular : (o : Option ℕ) (x : Value) (w : World Value) (go : ℤ → Gives Value) → ((z : ℤ) → RegularGives P o (go z)) → RegularGives P o (want_integer texts x w go)
-  integer_regular o x w go h = or_bad_regular o (seen_integer (seen x)) not_integer (Some x) w go h
+  integer_regular o x w go h = or_bad_regular o (seen_integer (seen x)) NotInteger (Some x) w go h
 
   string_regular : (o : Option ℕ) (x : Value) (w : World Value) (go : List ℕ → Gives Value) → ((cs : List ℕ) → RegularGives P o (go cs)) → RegularGives P o (want_string texts x w go)
-  string_regular o x w go h = or_bad_regular o (seen_string (seen x)) bad_text (Some x) w go h
+  string_regular o x w go h = or_bad_regular o (seen_string (seen x)) BadText (Some x) w go h
 
   sequence_regular : (o : Option ℕ) (x : Value) (w : World Value) (go : Sequence Value → Gives Value) → ((s : Sequence Value) → RegularGives P o (go s)) → RegularGives P o (want_sequence texts x w go)
-  sequence_regular o x w go h = or_bad_regular o (sequence_in texts w (seen x)) not_sequence (Some x) w go h
+  sequence_regular o x w go h = or_bad_regular o (sequence_in texts w (seen x)) NotSequence (Some x) w go h
 
   result_regular : (e : ErrorName) (r : Option ℤ) (w : World Value) → Valid P w → RegularGives P (Some 1) (integer_or texts e r w)
   result_regular e None w v = tt
@@ -144,11 +146,11 @@ module _ (P : Program) where
 
   set_regular : (u : Value) (i : ℤ) (a : ℕ) (w : World Value) → Valid P w → RegularGives P (Some 0) (set_element texts u i a w)
   set_regular u i a w v =
-      or_bad_regular (Some 0) (array_of texts (slice_get w.objects a)) not_sequence None w (λ vs. or_bad texts (index_below (length vs) i) bounds None w (λ k. gives [] (record w { objects = set w.objects a (array (set vs k u)) }))) (λ vs. or_bad_regular (Some 0) (index_below (length vs) i) bounds None w (λ k. gives [] (record w { objects = set w.objects a (array (set vs k u)) })) (λ k. (refl, v)))
+      or_bad_regular (Some 0) (array_of texts (slice_get w.objects a)) NotSequence None w (λ vs. or_bad texts (index_below (length vs) i) Bounds None w (λ k. gives [] (record w { objects = set w.objects a (array (set vs k u)) }))) (λ vs. or_bad_regular (Some 0) (index_below (length vs) i) Bounds None w (λ k. gives [] (record w { objects = set w.objects a (array (set vs k u)) })) (λ k. (refl, v)))
 
   taken_regular : (line : List ℕ) (w : World Value) → Valid P w → RegularGives P (Some 1) (line_read texts line w)
   taken_regular line w v =
-      unless_regular (Some 1) (nat_le (length line) most_line_bytes) text_too_long w (unless_bad texts (is_utf8 line) bad_text w (unless_bad texts (nat_le (length (chars line)) most_elements) text_too_long w (give1 texts (str line) w))) (unless_regular (Some 1) (is_utf8 line) bad_text w (unless_bad texts (nat_le (length (chars line)) most_elements) text_too_long w (give1 texts (str line) w)) (unless_regular (Some 1) (nat_le (length (chars line)) most_elements) text_too_long w (give1 texts (str line) w) (refl, v)))
+      unless_regular (Some 1) (nat_le (length line) most_line_bytes) TextTooLong w (unless_bad texts (is_utf8 line) BadText w (unless_bad texts (nat_le (length (chars line)) most_elements) TextTooLong w (give1 texts (str line) w))) (unless_regular (Some 1) (is_utf8 line) BadText w (unless_bad texts (nat_le (length (chars line)) most_elements) TextTooLong w (give1 texts (str line) w)) (unless_regular (Some 1) (nat_le (length (chars line)) most_elements) TextTooLong w (give1 texts (str line) w) (refl, v)))
 
   line_regular : (bs : List ℕ) (w : World Value) → Valid P w → RegularGives P (Some 1) (elim bs [ [] ↦ give1 texts no w | _ ∷ _ ↦ line_read texts (line_from most_line_bytes w.input).0 (record w { input = (line_from most_line_bytes w.input).1 }) ])
   line_regular [] w v = (refl, v)
@@ -177,8 +179,8 @@ module _ (P : Program) where
   pub prim_regular : (p : Prim) → RegularFn P (prim_numbers p).ins (prim_numbers p).outs (prim_fn texts (names P) p)
   unfolding prim_fn
   prim_regular (shuffle s) = shuffle_regular s
-  prim_regular p_curry = (refl, λ x q w v. or_bad_regular (Some 1) (curry_of x q) wrong_values (Some q) w (λ c. gives (c ∷ []) w) (λ c. (refl, v)))
-  prim_regular p_compose = (refl, λ p q w v. or_bad_regular (Some 1) (compose_of p q) wrong_values (Some (elim (seen p) [ None ↦ q | Some _ ↦ p ])) w (λ c. gives (c ∷ []) w) (λ c. (refl, v)))
+  prim_regular p_curry = (refl, λ x q w v. or_bad_regular (Some 1) (curry_of x q) WrongValues (Some q) w (λ c. gives (c ∷ []) w) (λ c. (refl, v)))
+  prim_regular p_compose = (refl, λ p q w v. or_bad_regular (Some 1) (compose_of p q) WrongValues (Some (elim (seen p) [ None ↦ q | Some _ ↦ p ])) w (λ c. gives (c ∷ []) w) (λ c. (refl, v)))
   prim_regular p_throw = (refl, λ x w v. tt)
   prim_regular p_not = (refl, λ x w v. (refl, v))
   prim_regular p_and = (refl, λ x y w v. (refl, v))
@@ -186,13 +188,13 @@ module _ (P : Program) where
   prim_regular p_choose = (refl, λ t x y w v. (refl, v))
   prim_regular p_equal = (refl, λ x y w v. equality_regular (equal_pairs texts most_elements w ((x, y) ∷ [])) w v)
   prim_regular p_eq = (refl, λ x y w v. identity_regular (seen x) (seen y) w v)
-  prim_regular p_new = (refl, λ x w v. or_bad_regular (Some 1) (tuple_class_in texts (names P) (seen_word (seen x))) not_tuple (Some x) w (λ c. new_tuple texts (names P) c w) (λ c. (refl, v)))
-  prim_regular p_add = integers_regular (λ a b w. integer_or texts overflow (in_range (a +ℤ b)) w) (λ a b w v. result_regular overflow (in_range (a +ℤ b)) w v)
-  prim_regular p_sub = integers_regular (λ a b w. integer_or texts overflow (in_range (a -ℤ b)) w) (λ a b w v. result_regular overflow (in_range (a -ℤ b)) w v)
-  prim_regular p_mul = integers_regular (λ a b w. integer_or texts overflow (in_range (a *ℤ b)) w) (λ a b w v. result_regular overflow (in_range (a *ℤ b)) w v)
-  prim_regular p_div = integers_regular (λ a b w. nonzero texts b w (integer_or texts overflow (in_range (int_div a b)) w)) (λ a b w v. unless_regular (Some 1) (not (is_zero b)) zero_divisor w (integer_or texts overflow (in_range (int_div a b)) w) (result_regular overflow (in_range (int_div a b)) w v))
-  prim_regular p_mod = integers_regular (λ a b w. nonzero texts b w (give1 texts (int (int_rem a b)) w)) (λ a b w v. unless_regular (Some 1) (not (is_zero b)) zero_divisor w (give1 texts (int (int_rem a b)) w) (refl, v))
-  prim_regular p_shift = integers_regular (λ a b w. integer_or texts overflow (shifted a b) w) (λ a b w v. result_regular overflow (shifted a b) w v)
+  prim_regular p_new = (refl, λ x w v. or_bad_regular (Some 1) (tuple_class_in texts (names P) (seen_word (seen x))) NotTuple (Some x) w (λ c. new_tuple texts (names P) c w) (λ c. (refl, v)))
+  prim_regular p_add = integers_regular (λ a b w. integer_or texts Overflow (in_range (a +ℤ b)) w) (λ a b w v. result_regular Overflow (in_range (a +ℤ b)) w v)
+  prim_regular p_sub = integers_regular (λ a b w. integer_or texts Overflow (in_range (a -ℤ b)) w) (λ a b w v. result_regular Overflow (in_range (a -ℤ b)) w v)
+  prim_regular p_mul = integers_regular (λ a b w. integer_or texts Overflow (in_range (a *ℤ b)) w) (λ a b w v. result_regular Overflow (in_range (a *ℤ b)) w v)
+  prim_regular p_div = integers_regular (λ a b w. nonzero texts b w (integer_or texts Overflow (in_range (int_div a b)) w)) (λ a b w v. unless_regular (Some 1) (not (is_zero b)) ZeroDivisor w (integer_or texts Overflow (in_range (int_div a b)) w) (result_regular Overflow (in_range (int_div a b)) w v))
+  prim_regular p_mod = integers_regular (λ a b w. nonzero texts b w (give1 texts (int (int_rem a b)) w)) (λ a b w v. unless_regular (Some 1) (not (is_zero b)) ZeroDivisor w (give1 texts (int (int_rem a b)) w) (refl, v))
+  prim_regular p_shift = integers_regular (λ a b w. integer_or texts Overflow (shifted a b) w) (λ a b w v. result_regular Overflow (shifted a b) w v)
   prim_regular p_bitand = integers_regular (λ a b w. give1 texts (int (int_bit_and w128 a b)) w) (λ a b w v. (refl, v))
   prim_regular p_bitor = integers_regular (λ a b w. give1 texts (int (int_bit_or w128 a b)) w) (λ a b w v. (refl, v))
   prim_regular p_bitxor = integers_regular (λ a b w. give1 texts (int (int_bit_xor w128 a b)) w) (λ a b w v. (refl, v))
@@ -204,36 +206,36 @@ module _ (P : Program) where
   prim_regular p_number_to_string = (refl, λ x w v. integer_regular (Some 1) x w (λ a. give1 texts (str (signed_decimal a)) w) (λ a. (refl, v)))
   prim_regular p_string_to_number = (refl, λ x w v. string_regular (Some 1) x w (λ cs. elim (integer_in cs) [ Some z ↦ give1 texts (int z) w | None ↦ give1 texts no w ]) (λ cs. read_regular (integer_in cs) w v))
   prim_regular p_length = (refl, λ x w v. sequence_regular (Some 1) x w (λ s. give1 texts (int (pos (sequence_length texts s))) w) (λ s. (refl, v)))
-  prim_regular p_nth = (refl, λ i x w v. integer_regular (Some 1) i w (λ n. want_sequence texts x w (λ s. or_bad texts (index_below (sequence_length texts s) n) bounds None w (λ k. or_bad texts (sequence_get texts s k) bounds None w (λ u. gives (u ∷ []) w)))) (λ n. sequence_regular (Some 1) x w (λ s. or_bad texts (index_below (sequence_length texts s) n) bounds None w (λ k. or_bad texts (sequence_get texts s k) bounds None w (λ u. gives (u ∷ []) w))) (λ s. or_bad_regular (Some 1) (index_below (sequence_length texts s) n) bounds None w (λ k. or_bad texts (sequence_get texts s k) bounds None w (λ u. gives (u ∷ []) w)) (λ k. or_bad_regular (Some 1) (sequence_get texts s k) bounds None w (λ u. gives (u ∷ []) w) (λ u. (refl, v))))))
-  prim_regular p_set_nth = (refl, λ u i x w v. integer_regular (Some 0) i w (λ n. or_bad texts (seen_array (seen x)) not_sequence (Some x) w (λ a. set_element texts u n a w)) (λ n. or_bad_regular (Some 0) (seen_array (seen x)) not_sequence (Some x) w (λ a. set_element texts u n a w) (λ a. set_regular u n a w v)))
-  prim_regular p_iota = (refl, λ x w v. integer_regular (Some 1) x w (λ z. or_bad texts (natural z) bad_length None w (λ n. give1 texts (iota n) w)) (λ z. or_bad_regular (Some 1) (natural z) bad_length None w (λ n. give1 texts (iota n) w) (λ n. (refl, v))))
-  prim_regular p_append = (refl, λ x y w v. sequence_regular (Some 1) x w (λ s. want_sequence texts y w (λ t. short_enough texts (sequence_length texts s + sequence_length texts t) w (appended texts s t w))) (λ s. sequence_regular (Some 1) y w (λ t. short_enough texts (sequence_length texts s + sequence_length texts t) w (appended texts s t w)) (λ t. unless_regular (Some 1) (nat_le (sequence_length texts s + sequence_length texts t) most_elements) bad_length w (appended texts s t w) (appended_regular s t (both_strings s t) w v))))
-  prim_regular p_suffix = (refl, λ x u w v. sequence_regular (Some 1) x w (λ s. short_enough texts (suc (sequence_length texts s)) w (new_array texts (sequence_values texts s ++ u ∷ []) w)) (λ s. unless_regular (Some 1) (nat_le (suc (sequence_length texts s)) most_elements) bad_length w (new_array texts (sequence_values texts s ++ u ∷ []) w) (refl, v)))
-  prim_regular p_subseq = (refl, λ i j x w v. integer_regular (Some 1) i w (λ a. want_integer texts j w (λ b. want_sequence texts x w (λ s. or_bad texts (range_within (sequence_length texts s) a b) bounds None w (λ r. short_enough texts (r.1 - r.0) w (cut texts r s w))))) (λ a. integer_regular (Some 1) j w (λ b. want_sequence texts x w (λ s. or_bad texts (range_within (sequence_length texts s) a b) bounds None w (λ r. short_enough texts (r.1 - r.0) w (cut texts r s w)))) (λ b. sequence_regular (Some 1) x w (λ s. or_bad texts (range_within (sequence_length texts s) a b) bounds None w (λ r. short_enough texts (r.1 - r.0) w (cut texts r s w))) (λ s. or_bad_regular (Some 1) (range_within (sequence_length texts s) a b) bounds None w (λ r. short_enough texts (r.1 - r.0) w (cut texts r s w)) (λ r. unless_regular (Some 1) (nat_le (r.1 - r.0) most_elements) bad_length w (cut texts r s w) (cut_regular r s (one_string s) w v))))))
-  prim_regular p_reverse = (refl, λ x w v. sequence_regular (Some 1) x w (λ s. short_enough texts (sequence_length texts s) w (reversed texts s w)) (λ s. unless_regular (Some 1) (nat_le (sequence_length texts s) most_elements) bad_length w (reversed texts s w) (reversed_regular s (one_string s) w v)))
-  prim_regular p_select = (refl, λ x y w v. sequence_regular (Some 1) x w (λ s. want_sequence texts y w (λ t. unless_bad texts (nat_eq (sequence_length texts s) (sequence_length texts t)) bad_length w (let r = chosen texts (sequence_values texts s) (sequence_values texts t) in short_enough texts (length r) w (new_array texts r w)))) (λ s. sequence_regular (Some 1) y w (λ t. unless_bad texts (nat_eq (sequence_length texts s) (sequence_length texts t)) bad_length w (let r = chosen texts (sequence_values texts s) (sequence_values texts t) in short_enough texts (length r) w (new_array texts r w))) (λ t. unless_regular (Some 1) (nat_eq (sequence_length texts s) (sequence_length texts t)) bad_length w (short_enough texts (length (chosen texts (sequence_values texts s) (sequence_values texts t))) w (new_array texts (chosen texts (sequence_values texts s) (sequence_values texts t)) w)) (unless_regular (Some 1) (nat_le (length (chosen texts (sequence_values texts s) (sequence_values texts t))) most_elements) bad_length w (new_array texts (chosen texts (sequence_values texts s) (sequence_values texts t)) w) (refl, v)))))
-  prim_regular p_array = (refl, λ i u w v. integer_regular (Some 1) i w (λ z. or_bad texts (natural z) bad_length None w (λ n. short_enough texts n w (new_array texts (copies texts n u) w))) (λ z. or_bad_regular (Some 1) (natural z) bad_length None w (λ n. short_enough texts n w (new_array texts (copies texts n u) w)) (λ n. unless_regular (Some 1) (nat_le n most_elements) bad_length w (new_array texts (copies texts n u) w) (refl, v))))
+  prim_regular p_nth = (refl, λ i x w v. integer_regular (Some 1) i w (λ n. want_sequence texts x w (λ s. or_bad texts (index_below (sequence_length texts s) n) Bounds None w (λ k. or_bad texts (sequence_get texts s k) Bounds None w (λ u. gives (u ∷ []) w)))) (λ n. sequence_regular (Some 1) x w (λ s. or_bad texts (index_below (sequence_length texts s) n) Bounds None w (λ k. or_bad texts (sequence_get texts s k) Bounds None w (λ u. gives (u ∷ []) w))) (λ s. or_bad_regular (Some 1) (index_below (sequence_length texts s) n) Bounds None w (λ k. or_bad texts (sequence_get texts s k) Bounds None w (λ u. gives (u ∷ []) w)) (λ k. or_bad_regular (Some 1) (sequence_get texts s k) Bounds None w (λ u. gives (u ∷ []) w) (λ u. (refl, v))))))
+  prim_regular p_set_nth = (refl, λ u i x w v. integer_regular (Some 0) i w (λ n. or_bad texts (seen_array (seen x)) NotSequence (Some x) w (λ a. set_element texts u n a w)) (λ n. or_bad_regular (Some 0) (seen_array (seen x)) NotSequence (Some x) w (λ a. set_element texts u n a w) (λ a. set_regular u n a w v)))
+  prim_regular p_iota = (refl, λ x w v. integer_regular (Some 1) x w (λ z. or_bad texts (natural z) Length None w (λ n. give1 texts (iota n) w)) (λ z. or_bad_regular (Some 1) (natural z) Length None w (λ n. give1 texts (iota n) w) (λ n. (refl, v))))
+  prim_regular p_append = (refl, λ x y w v. sequence_regular (Some 1) x w (λ s. want_sequence texts y w (λ t. short_enough texts (sequence_length texts s + sequence_length texts t) w (appended texts s t w))) (λ s. sequence_regular (Some 1) y w (λ t. short_enough texts (sequence_length texts s + sequence_length texts t) w (appended texts s t w)) (λ t. unless_regular (Some 1) (nat_le (sequence_length texts s + sequence_length texts t) most_elements) Length w (appended texts s t w) (appended_regular s t (both_strings s t) w v))))
+  prim_regular p_suffix = (refl, λ x u w v. sequence_regular (Some 1) x w (λ s. short_enough texts (suc (sequence_length texts s)) w (new_array texts (sequence_values texts s ++ u ∷ []) w)) (λ s. unless_regular (Some 1) (nat_le (suc (sequence_length texts s)) most_elements) Length w (new_array texts (sequence_values texts s ++ u ∷ []) w) (refl, v)))
+  prim_regular p_subseq = (refl, λ i j x w v. integer_regular (Some 1) i w (λ a. want_integer texts j w (λ b. want_sequence texts x w (λ s. or_bad texts (range_within (sequence_length texts s) a b) Bounds None w (λ r. short_enough texts (r.1 - r.0) w (cut texts r s w))))) (λ a. integer_regular (Some 1) j w (λ b. want_sequence texts x w (λ s. or_bad texts (range_within (sequence_length texts s) a b) Bounds None w (λ r. short_enough texts (r.1 - r.0) w (cut texts r s w)))) (λ b. sequence_regular (Some 1) x w (λ s. or_bad texts (range_within (sequence_length texts s) a b) Bounds None w (λ r. short_enough texts (r.1 - r.0) w (cut texts r s w))) (λ s. or_bad_regular (Some 1) (range_within (sequence_length texts s) a b) Bounds None w (λ r. short_enough texts (r.1 - r.0) w (cut texts r s w)) (λ r. unless_regular (Some 1) (nat_le (r.1 - r.0) most_elements) Length w (cut texts r s w) (cut_regular r s (one_string s) w v))))))
+  prim_regular p_reverse = (refl, λ x w v. sequence_regular (Some 1) x w (λ s. short_enough texts (sequence_length texts s) w (reversed texts s w)) (λ s. unless_regular (Some 1) (nat_le (sequence_length texts s) most_elements) Length w (reversed texts s w) (reversed_regular s (one_string s) w v)))
+  prim_regular p_select = (refl, λ x y w v. sequence_regular (Some 1) x w (λ s. want_sequence texts y w (λ t. unless_bad texts (nat_eq (sequence_length texts s) (sequence_length texts t)) Length w (let r = chosen texts (sequence_values texts s) (sequence_values texts t) in short_enough texts (length r) w (new_array texts r w)))) (λ s. sequence_regular (Some 1) y w (λ t. unless_bad texts (nat_eq (sequence_length texts s) (sequence_length texts t)) Length w (let r = chosen texts (sequence_values texts s) (sequence_values texts t) in short_enough texts (length r) w (new_array texts r w))) (λ t. unless_regular (Some 1) (nat_eq (sequence_length texts s) (sequence_length texts t)) Length w (short_enough texts (length (chosen texts (sequence_values texts s) (sequence_values texts t))) w (new_array texts (chosen texts (sequence_values texts s) (sequence_values texts t)) w)) (unless_regular (Some 1) (nat_le (length (chosen texts (sequence_values texts s) (sequence_values texts t))) most_elements) Length w (new_array texts (chosen texts (sequence_values texts s) (sequence_values texts t)) w) (refl, v)))))
+  prim_regular p_array = (refl, λ i u w v. integer_regular (Some 1) i w (λ z. or_bad texts (natural z) Length None w (λ n. short_enough texts n w (new_array texts (copies texts n u) w))) (λ z. or_bad_regular (Some 1) (natural z) Length None w (λ n. short_enough texts n w (new_array texts (copies texts n u) w)) (λ n. unless_regular (Some 1) (nat_le n most_elements) Length w (new_array texts (copies texts n u) w) (refl, v))))
   prim_regular p_1array = (refl, λ x w v. (refl, v))
   prim_regular p_2array = (refl, λ x y w v. (refl, v))
-  prim_regular p_to_array = (refl, λ x w v. sequence_regular (Some 1) x w (λ s. short_enough texts (sequence_length texts s) w (new_array texts (sequence_values texts s) w)) (λ s. unless_regular (Some 1) (nat_le (sequence_length texts s) most_elements) bad_length w (new_array texts (sequence_values texts s) w) (refl, v)))
+  prim_regular p_to_array = (refl, λ x w v. sequence_regular (Some 1) x w (λ s. short_enough texts (sequence_length texts s) w (new_array texts (sequence_values texts s) w)) (λ s. unless_regular (Some 1) (nat_le (sequence_length texts s) most_elements) Length w (new_array texts (sequence_values texts s) w) (refl, v)))
   prim_regular p_write = (refl, λ x w v. string_regular (Some 0) x w (λ cs. written texts cs w) (λ cs. (refl, v)))
   prim_regular p_print = (refl, λ x w v. string_regular (Some 0) x w (λ cs. written texts (cs ++ 10 ∷ []) w) (λ cs. (refl, v)))
   prim_regular p_nl = (refl, λ w v. (refl, v))
   prim_regular p_readln = (refl, λ w v. line_regular w.input w v)
-  prim_regular p_show = (refl, λ x w v. unless_regular (Some 0) (nat_le (length (printed texts (names P) w x)) most_elements) text_too_long w (written texts (printed texts (names P) w x ++ 10 ∷ []) w) (refl, v))
+  prim_regular p_show = (refl, λ x w v. unless_regular (Some 0) (nat_le (length (printed texts (names P) w x)) most_elements) TextTooLong w (written texts (printed texts (names P) w x ++ 10 ∷ []) w) (refl, v))
   prim_regular p_no_cond = (refl, λ w v. tt)
 
 module _ (P : Program) where
   slot_regular : (o : Option ℕ) (n : List ℕ) (x : Value) (w : World Value) (a : ℕ) (q : Option (ℕ × List Value)) (go : Slot texts (names P) → Gives Value) → ((p : Slot texts (names P)) → RegularGives P o (go p)) → RegularGives P o (slot_place texts (names P) n x w a q go)
   slot_regular o n x w a None go h = tt
-  slot_regular o n x w a (Some q) go h = or_bad_regular P o (name_at 0 n ((names P).kind_slots q.0)) no_slot (Some x) w (λ k. go (record { address = a; kind = q.0; values = q.1; place = k })) (λ k. h (record { address = a; kind = q.0; values = q.1; place = k }))
+  slot_regular o n x w a (Some q) go h = or_bad_regular P o (name_at 0 n ((names P).kind_slots q.0)) NoSlot (Some x) w (λ k. go (record { address = a; kind = q.0; values = q.1; place = k })) (λ k. h (record { address = a; kind = q.0; values = q.1; place = k }))
 
   wanted_regular : (o : Option ℕ) (n : List ℕ) (x : Value) (w : World Value) (go : Slot texts (names P) → Gives Value) → ((p : Slot texts (names P)) → RegularGives P o (go p)) → RegularGives P o (want_slot texts (names P) n x w go)
-  wanted_regular o n x w go h = or_bad_regular P o (seen_tuple (seen x)) not_tuple (Some x) w (λ a. slot_place texts (names P) n x w a (tuple_of texts (slice_get w.objects a)) go) (λ a. slot_regular o n x w a (tuple_of texts (slice_get w.objects a)) go h)
+  wanted_regular o n x w go h = or_bad_regular P o (seen_tuple (seen x)) NotTuple (Some x) w (λ a. slot_place texts (names P) n x w a (tuple_of texts (slice_get w.objects a)) go) (λ a. slot_regular o n x w a (tuple_of texts (slice_get w.objects a)) go h)
 
   -- each accessor
   pub getter_regular : (n : List ℕ) → RegularFn P 1 (Some 1) (get_slot texts (names P) n)
-  getter_regular n = (refl, λ x w v. wanted_regular (Some 1) n x w (λ p. or_bad texts (slice_get p.values p.place) no_slot (Some x) w (λ u. gives (u ∷ []) w)) (λ p. or_bad_regular P (Some 1) (slice_get p.values p.place) no_slot (Some x) w (λ u. gives (u ∷ []) w) (λ u. (refl, v))))
+  getter_regular n = (refl, λ x w v. wanted_regular (Some 1) n x w (λ p. or_bad texts (slice_get p.values p.place) NoSlot (Some x) w (λ u. gives (u ∷ []) w)) (λ p. or_bad_regular P (Some 1) (slice_get p.values p.place) NoSlot (Some x) w (λ u. gives (u ∷ []) w) (λ u. (refl, v))))
 
   pub setter_regular : (n : List ℕ) → RegularFn P 2 (Some 1) (set_slot texts (names P) n)
   setter_regular n = (refl, λ x u w v. wanted_regular (Some 1) n x w (λ p. gives (x ∷ []) (with_slot texts (names P) p u w)) (λ p. (refl, v)))
