@@ -12,7 +12,8 @@ use Rattle.fac_lang.specs.Texts.{Text, Mark}
 use Rattle.fac_lang.specs.Effects.{effect_height}
 use Rattle.fac_lang.specs.Primitives.{Prim, prims, prim_numbered}
 use Rattle.fac_lang.specs.Meaning.{core_numbered, c_call, c_dip, c_if}
-use Rattle.fac_lang.specs.Forms.{is_member, built_primitives, is_built_primitive}
+use Rattle.fac_lang.specs.Forms.{is_member}
+use Rattle.fac_lang.specs.Primitives.{is_built_primitive}
 use Rattle.fac_locals.specs.Literals.{first_of_word}
 use Rattle.fac_locals.specs.Closed.{ClosesWord, ClosesSort, ClosesText}
 use Rattle.fac_abs.specs.Marks.{Row, not_known}

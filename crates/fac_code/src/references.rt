@@ -1,7 +1,8 @@
 //! Whether the numbers in tables and code name something.
 ghost use Rattle.std.specs.Prelude.{◌≡◌, length, slice_get};
 ghost use Rattle.std.specs.List.{list_all};
-ghost use Rattle.fac_lang.specs.Forms.{is_built_primitive, is_built_core};
+ghost use Rattle.fac_lang.specs.Forms.{is_built_core};
+ghost use Rattle.fac_lang.specs.Primitives.{is_built_primitive};
 ghost use Rattle.fac_code.specs.Code.{is_built_instr, has_built_code};
 ghost use Rattle.fac_code.specs.References.{is_code as does_code, names_code, names_quotation, instr_refers, action_refers, word_refers, template_refers, refers as all_refer};
 
