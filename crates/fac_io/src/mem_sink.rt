@@ -1,7 +1,7 @@
 //! A sink in memory.
 ghost use Rattle.std.specs.Prelude.{◌≡◌, ◌+◌, ◌-◌, ◌<◌, ◌≤◌, ◌↔◌, ◌++◌, List, ℕ, length, take, vec_len, vec_capacity, IsErr, IsTrue, IfOk, OnOk, OnErr, Some, if◌then◌else◌};
 ghost use Rattle.fac_io.specs.Faults.{HasCause};
-ghost use Rattle.fac_io.specs.Told.{Grows, GrowsByPrefix, Took};
+ghost use Rattle.fac_io.specs.Told.{Grows, GrowsByPrefix, Took, sink_tells};
 ghost use Rattle.fac_io.specs.Mem.{listed_take, one_size, part_of};
 
 use crate::{Failed, Sink};
@@ -117,7 +117,7 @@ impl Sink for MemSink {
         requires { 0 < length piece.now }
         ensures ok { OnOk result (Grows (Some self.old.taken) (Some self.new.taken) piece.now) }
         ensures err { OnErr result (GrowsByPrefix (Some self.old.taken) (Some self.new.taken) piece.now) }
-        ensures took { Took (record { taken = Some self.old.taken; pieces = Some self.old.pieces }) (record { taken = Some self.new.taken; pieces = Some self.new.pieces }) piece.now result }
+        ensures took { Took (sink_tells (Some self.old.taken) (Some self.old.pieces)) (sink_tells (Some self.new.taken) (Some self.new.pieces)) piece.now result }
         ensures cause { HasCause self.old.faults self.new.faults (IsErr result) }
         ensures no_fault { OnOk result (self.new.faults ≡ self.old.faults) }
         ensures exact { self.new.taken ≡ self.old.taken ++ sink_takes self.old piece.now }

@@ -1,7 +1,7 @@
 //! Where bytes go to.
 ghost use Rattle.std.specs.Prelude.{◌≡◌, ◌<◌, List, Option, ℕ, length, IsErr, OnOk, OnErr};
 ghost use Rattle.fac_io.specs.Faults.{HasCause};
-ghost use Rattle.fac_io.specs.Told.{Grows, GrowsByPrefix, Took};
+ghost use Rattle.fac_io.specs.Told.{Grows, GrowsByPrefix, Took, sink_tells};
 
 use crate::Failed;
 
@@ -21,7 +21,7 @@ pub trait Sink {
         requires { 0 < length piece.now }
         ensures ok { OnOk result (Grows (taken self.old) (taken self.new) piece.now) }
         ensures err { OnErr result (GrowsByPrefix (taken self.old) (taken self.new) piece.now) }
-        ensures took { Took (record { taken = taken self.old; pieces = pieces self.old }) (record { taken = taken self.new; pieces = pieces self.new }) piece.now result }
+        ensures took { Took (sink_tells (taken self.old) (pieces self.old)) (sink_tells (taken self.new) (pieces self.new)) piece.now result }
         ensures cause { HasCause (faults self.old) (faults self.new) (IsErr result) }
         ensures no_fault { OnOk result (faults self.new ≡ faults self.old) };
 }
