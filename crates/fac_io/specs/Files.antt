@@ -24,6 +24,18 @@ LoadAsks name old new (Err load.TooLong) = Grows old new (Load name ∷ [])
 LoadAsks name old new (Err load.Failed) = Grows old new (Load name ∷ [])
 LoadAsks name old new (Err load.Memory) = Stays old new
 
+-- the count of faults stays but at a fault
+abbrev pub LoadCounts : Result (List ℕ) LoadFault → ℕ → ℕ → Type 0
+LoadCounts (Ok bytes) before now = now ≡ before
+LoadCounts (Err load.TooLong) before now = now ≡ before
+LoadCounts (Err load.Failed) before now = ⊤
+LoadCounts (Err load.Memory) before now = now ≡ before
+
+abbrev pub SaveCounts : {A : Type 0} → Result A SaveFault → ℕ → ℕ → Type 0
+SaveCounts (Ok done) before now = now ≡ before
+SaveCounts (Err save.Failed) before now = ⊤
+SaveCounts (Err save.Memory) before now = now ≡ before
+
 -- the name holds the bytes, or nothing is known of it after a fault
 abbrev pub SaveLeaves : {A : Type 0} → List ℕ → List ℕ → Option Held → Option Held → Result A SaveFault → Type 0
 SaveLeaves name bytes old new (Ok done) = Told old new (Holds name bytes)

@@ -3,7 +3,7 @@ ghost use Rattle.std.specs.Prelude.{◌≡◌, List, Option, ℕ, IsErrOf};
 ghost use Rattle.fac_io.specs.Faults.{HasCause};
 ghost use Rattle.fac_io.specs.Names.{Held};
 ghost use Rattle.fac_io.specs.Told.{Stays};
-ghost use Rattle.fac_io.specs.Files.{LoadAnswers, LoadAsks, SaveLeaves, SaveAsks};
+ghost use Rattle.fac_io.specs.Files.{LoadAnswers, LoadAsks, LoadCounts, SaveLeaves, SaveAsks, SaveCounts};
 
 use fac_lang::{Bytes, Memory, Text};
 use std::alloc::Global;
@@ -82,12 +82,12 @@ pub trait Files {
         ensures held { Stays (held self.old) (held self.new) }
         ensures asked { LoadAsks name.now (asked self.old) (asked self.new) result }
         ensures cause { HasCause (faults self.old) (faults self.new) (IsErrOf result LoadFault.Failed) }
-        ensures no_fault { IsErrOf result LoadFault.Memory → faults self.new ≡ faults self.old };
+        ensures no_fault { LoadCounts result (faults self.old) (faults self.new) };
 
     /// Puts the bytes under the name, in place of what it held.
     fn save(&mut self, alloc: Global, name: &str, bytes: &[u8]) -> Result<(), SaveFault>
         ensures held { SaveLeaves name.now bytes.now (held self.old) (held self.new) result }
         ensures asked { SaveAsks name.now (asked self.old) (asked self.new) result }
         ensures cause { HasCause (faults self.old) (faults self.new) (IsErrOf result SaveFault.Failed) }
-        ensures no_fault { IsErrOf result SaveFault.Memory → faults self.new ≡ faults self.old };
+        ensures no_fault { SaveCounts result (faults self.old) (faults self.new) };
 }

@@ -5,7 +5,7 @@ ghost use Rattle.std.specs.List.{list_any};
 ghost use Rattle.fac_io.specs.Faults.{HasCause};
 ghost use Rattle.fac_io.specs.Names.{bytes_of};
 ghost use Rattle.fac_io.specs.Told.{Stays};
-ghost use Rattle.fac_io.specs.Files.{AnswersBytes, LoadAnswers, LoadAsks, SaveLeaves, SaveAsks};
+ghost use Rattle.fac_io.specs.Files.{AnswersBytes, LoadAnswers, LoadAsks, LoadCounts, SaveLeaves, SaveAsks, SaveCounts};
 
 use crate::{Asked, Files, LoadFault, SaveFault};
 use fac_lang::{Bytes, List, Memory, Text};
@@ -150,7 +150,7 @@ impl Files for MemFiles {
         ensures held { Stays (Some (bytes_of self.old.files)) (Some (bytes_of self.new.files)) }
         ensures asked { LoadAsks name.now (Some self.old.asked) (Some self.new.asked) result }
         ensures cause { HasCause self.old.faults self.new.faults (IsErrOf result LoadFault.Failed) }
-        ensures no_fault { IsErrOf result LoadFault.Memory → self.new.faults ≡ self.old.faults }
+        ensures no_fault { LoadCounts result self.old.faults self.new.faults }
         ensures exact { LoadFails self.old name.now result self.new }
         ensures same { self.new.fails ≡ self.old.fails }
     {
@@ -179,7 +179,7 @@ impl Files for MemFiles {
         ensures held { SaveLeaves name.now bytes.now (Some (bytes_of self.old.files)) (Some (bytes_of self.new.files)) result }
         ensures asked { SaveAsks name.now (Some self.old.asked) (Some self.new.asked) result }
         ensures cause { HasCause self.old.faults self.new.faults (IsErrOf result SaveFault.Failed) }
-        ensures no_fault { IsErrOf result SaveFault.Memory → self.new.faults ≡ self.old.faults }
+        ensures no_fault { SaveCounts result self.old.faults self.new.faults }
         ensures exact { SaveFails self.old result self.new }
         ensures same { self.new.fails ≡ self.old.fails }
     {
