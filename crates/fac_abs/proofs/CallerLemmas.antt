@@ -4,7 +4,7 @@ use Rattle.std.proofs.lemmas.Option.{get_or_from_slice_get}
 use Rattle.fac_lang.specs.Texts.{Mark, any}
 use Rattle.fac_lang.specs.Primitives.{Moves, moves1, moves2, moves3, Shuffle, s_drop, shuffles}
 use Rattle.fac_abs.specs.InTurn.{heaped, under, needs, moved}
-use Rattle.fac_abs.specs.Keeping.{shuffle_numbered}
+use Rattle.fac_abs.specs.inner.Keeping.{shuffle_numbered}
 use Rattle.fac_abs.specs.Marks.{popped, piled}
 use Rattle.fac_abs.specs.declared.node.Node.{Node}
 use Rattle.fac_abs.specs.Trees.{Naming, trees}

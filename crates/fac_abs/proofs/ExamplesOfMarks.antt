@@ -6,7 +6,7 @@ use Rattle.fac_abs.specs.declared.cells.Cell.{Cell}
 use Rattle.fac_abs.specs.declared.node.Node.TheVariants.{Any, Lit, Cur, Com}
 use Rattle.fac_abs.specs.InTurn.{under, moved, zeros, joined_numbers, cover_numbers}
 use Rattle.fac_abs.specs.Marks.{mark_eq, curried_mark, composed_mark, cover_marks}
-use Rattle.fac_abs.specs.Stacks.{stacks_of}
+use Rattle.fac_abs.specs.inner.Stacks.{stacks_of}
 use Rattle.fac_abs.specs.Trees.{Naming, depths}
 use Rattle.fac_abs.specs.Seen.{MarksSeen, mark_of, numbers_of, stack_of, is_mark, is_stack}
 

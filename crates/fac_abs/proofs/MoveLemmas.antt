@@ -9,7 +9,7 @@ use Rattle.fac_lang.specs.Texts.{Mark, any}
 use Rattle.fac_lang.specs.Primitives.{Moves, moves1, moves2, moves3, moves, Shuffle, s_drop, s_dup, s_swap, s_over, s_pick, s_rot, s_unrot, s_nip, s_dupd, s_swapd, s_2drop, s_2dup, s_3drop, s_3dup, s_2over, s_2nip}
 use Rattle.fac_abs.specs.declared.node.Node.{Node}
 use Rattle.fac_abs.specs.InTurn.{heaped, under, zeros, needs, arranged, moved, joined_number, joined_numbers, cover_numbers}
-use Rattle.fac_abs.specs.Keeping.{IsWhere, Is, Joins, shuffle_numbered}
+use Rattle.fac_abs.specs.inner.Keeping.{IsWhere, Is, Joins, shuffle_numbered}
 use Rattle.fac_abs.specs.Marks.{int_eq, token_eq, tokens_eq, mark_eq, join_mark, join_marks, cover_marks, unknowns}
 use Rattle.fac_abs.specs.Trees.{Naming, IsTable}
 use Rattle.fac_abs.specs.Seen.{mark_of, stack_of, are_below}

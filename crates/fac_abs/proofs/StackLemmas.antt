@@ -5,8 +5,8 @@ use Rattle.std.proofs.Math.Seq.{get_or-append_seam}
 use Rattle.fac_lang.specs.Primitives.{s_drop, shuffles}
 use Rattle.fac_abs.specs.declared.cells.Cell.{Cell}
 use Rattle.fac_abs.specs.InTurn.{under, zeros, joined_numbers, cover_numbers}
-use Rattle.fac_abs.specs.Keeping.{Keeps, Is}
-use Rattle.fac_abs.specs.Stacks.{covered, stacks_of, said_height, TellHeights, LiesOnEarlier, LieOnEarlier}
+use Rattle.fac_abs.specs.inner.Keeping.{Keeps, Is}
+use Rattle.fac_abs.specs.inner.Stacks.{covered, stacks_of, said_height, TellHeights, LiesOnEarlier, LieOnEarlier}
 use Rattle.fac_abs.proofs.InTurnLemmas.{in_turn_length, in_turn_append, in_turn_early, in_turn_at, fits_push, fits_at}
 
 pub keeps_refl : (ss : List (List ℕ)) → Keeps ss ss

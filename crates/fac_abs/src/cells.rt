@@ -3,7 +3,7 @@ ghost use Rattle.std.specs.Prelude.{◌≡◌, ◌∷◌, ◌++◌, ◌<◌, ◌
 ghost use Rattle.fac_lang.specs.Primitives.{moves};
 ghost use Rattle.fac_lang.specs.Texts.{Mark};
 ghost use Rattle.fac_abs.specs.InTurn.{heaped, under, zeros, needs, arranged, moved, joined_number, joined_numbers, cover_numbers};
-ghost use Rattle.fac_abs.specs.Keeping.{Keeps, Is, Uncovers, IsWhere, Joins, shuffle_numbered};
+ghost use Rattle.fac_abs.specs.inner.Keeping.{Keeps, Is, Uncovers, IsWhere, Joins, shuffle_numbered};
 
 use fac_lang::Memory;
 use std::alloc::Global;
@@ -29,7 +29,7 @@ impl Model for Cells {
 
     ghost Value = { List (List ℕ) };
 
-    ghost use Rattle.fac_abs.specs.Stacks.{stacks_of, TellHeights, LieOnEarlier};
+    ghost use Rattle.fac_abs.specs.inner.Stacks.{stacks_of, TellHeights, LieOnEarlier};
 
     ghost view = { λ a. stacks_of a.cells.items };
 

@@ -3,7 +3,7 @@ ghost use Rattle.std.specs.Prelude.{◌≡◌, ◌∷◌, ◌<◌, ◌&&◌, [],
 ghost use Rattle.fac_lang.specs.Texts.{any, lit_mark, wrd_mark, par_mark};
 ghost use Rattle.fac_lang.specs.Primitives.{moves};
 ghost use Rattle.fac_abs.specs.InTurn.{under, moved};
-ghost use Rattle.fac_abs.specs.Keeping.{shuffle_numbered};
+ghost use Rattle.fac_abs.specs.inner.Keeping.{shuffle_numbered};
 ghost use Rattle.fac_abs.specs.Marks.{mark_eq, mark_depth, is_callable, curried_mark, composed_mark, cover_marks, unknowns};
 ghost use Rattle.fac_abs.specs.Trees.{Naming, tree, trees, node_depth, depths, HasPartsBelow};
 ghost use Rattle.fac_abs.specs.Seen.{mark_of, stack_of, IsMark, IsStack, Grows};

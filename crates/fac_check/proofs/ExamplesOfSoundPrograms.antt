@@ -13,7 +13,8 @@ use Rattle.fac_lang.proofs.DemoWords.{number, own, +, show}
 use Rattle.fac_lang.proofs.Demo.{plain_program}
 use Rattle.fac_lang.proofs.ExamplesOfObjects.{name, shapes, kept_in_array}
 use Rattle.fac_lang.proofs.ExamplesOfWhole.{sum_whole, shapes_whole, kept_whole}
-use Rattle.fac_abs.specs.Marks.{mark_eq, underflow}
+use Rattle.fac_abs.specs.Marks.{mark_eq}
+use Rattle.fac_abs.specs.declared.rule.Rule.TheVariants.{Underflow}
 use Rattle.fac_check.specs.CallableEffects.{fits, callable_height}
 use Rattle.fac_check.specs.Verdicts.{verdict}
 use Rattle.fac_check.specs.Standing.{Valid}
@@ -57,7 +58,7 @@ pub rest_sound : (values : List Value) (world : World Value) (n : ℕ) → Valid
 rest_sound = (accepted_are_safe rest 2 rest_whole rest_accepted).phrase
 
 -- on one value it is refused
-pub rest_refused : verdict rest 1 ≡ Some (rest.top, record { rule = underflow 2 1; place = nowhere })
+pub rest_refused : verdict rest 1 ≡ Some (rest.top, record { rule = Underflow 2 1; place = nowhere })
 unfolding prim_numbered core_numbered mark_eq
 rest_refused = refl
 

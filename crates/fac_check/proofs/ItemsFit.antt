@@ -18,7 +18,9 @@ use Rattle.fac_lang.specs.Objects.{made_tuple, get_slot, set_slot, put_slot, kin
 use Rattle.fac_lang.specs.Classes.{has_kind, pick, next}
 use Rattle.fac_lang.specs.Eval.{Result, Done, Failed, Spent, Stuck, Act, fails, goes, binds, runs, Run, run_callable}
 use Rattle.fac_lang.specs.Meaning.{texts, names, seen, curry_of, compose_of, taking1, taking2, taking3, taking, with_callable, given, does, does_call, does_dip, does_if, Core, does_execute, does_boa, with_word, error, word_call, makes_tuple, run_text, one_item, core_act, prim_act, core_numbered, generic_of, pushes_array, c_call, c_dip, c_if, c_execute, c_boa, either, sort_of, sort_act, callable_fits, tested_call, act, word_text, enters, tested_execute, word_execute, word_fits, truth_value}
-use Rattle.fac_abs.specs.Marks.{Row, AbstractStack, dead, on, Rule, underflow, not_known, limited, mark_depth, deepest_mark, is_callable, unknowns, popped, piled, curried_mark, composed_mark}
+use Rattle.fac_abs.specs.Marks.{Row, AbstractStack, dead, on, limited, mark_depth, deepest_mark, is_callable, unknowns, popped, piled, curried_mark, composed_mark}
+use Rattle.fac_abs.specs.declared.rule.Rule.{Rule}
+use Rattle.fac_abs.specs.declared.rule.Rule.TheVariants.{Underflow, NotKnown}
 use Rattle.fac_check.specs.Flow.{Doing, breaks, gives, expands, walks, forks, again, Walk, needing, by_height, callable_or, marks_moved, core_doing, curry_doing, compose_doing, known_word, makes_by, word_doing, sort_doing, prim_doing, inline_doing, row_or_text, generic_doing, next_doing, doing, lit_doing, is_own}
 use Rattle.fac_check.specs.Rows.{is_row}
 use Rattle.fac_check.specs.CallableEffects.{fits, callable_height}
@@ -146,20 +148,20 @@ module _ (P : Program) (C : Context) where
     pub call_does : (b : Option Row) (ms : List Mark) (st : State Value) → OnState P C b ms st → D (core_doing P (Some c_call) b ms) (does_call P st)
     call_does b [] st e = tt
     call_does b (q ∷ ms) st e =
-        rw e.0.2 (if_callable (is_callable q) not_known (walks q b ms []) (with_callable e.0.0 (λ c. runs c (record { stack = e.0.1; world = st.world }) [])) (λ yes. (let c = callable_is q e.0.0 e.0.3 yes in rw c.1 (c.0, record { stack = e.0.1; world = st.world }, [], refl, rw (sym c.1) e.0.3, (e.0.4, e.1), refl))))
+        rw e.0.2 (if_callable (is_callable q) NotKnown (walks q b ms []) (with_callable e.0.0 (λ c. runs c (record { stack = e.0.1; world = st.world }) [])) (λ yes. (let c = callable_is q e.0.0 e.0.3 yes in rw c.1 (c.0, record { stack = e.0.1; world = st.world }, [], refl, rw (sym c.1) e.0.3, (e.0.4, e.1), refl))))
 
     pub dip_does : (b : Option Row) (ms : List Mark) (st : State Value) → OnState P C b ms st → D (core_doing P (Some c_dip) b ms) (does_dip P st)
     dip_does b [] st e = tt
     dip_does b (q ∷ []) st e = tt
     dip_does b (q ∷ x ∷ ms) st e =
-        rw e.0.2 (rw e.0.4.2 (if_callable (is_callable q) not_known (walks q b ms (x ∷ [])) (with_callable e.0.0 (λ c. runs c (record { stack = e.0.4.1; world = st.world }) (e.0.4.0 ∷ []))) (λ yes. (let c = callable_is q e.0.0 e.0.3 yes in rw c.1 (c.0, record { stack = e.0.4.1; world = st.world }, e.0.4.0 ∷ [], refl, rw (sym c.1) e.0.3, (e.0.4.4, e.1), (e.0.4.0, [], refl, e.0.4.3, refl))))))
+        rw e.0.2 (rw e.0.4.2 (if_callable (is_callable q) NotKnown (walks q b ms (x ∷ [])) (with_callable e.0.0 (λ c. runs c (record { stack = e.0.4.1; world = st.world }) (e.0.4.0 ∷ []))) (λ yes. (let c = callable_is q e.0.0 e.0.3 yes in rw c.1 (c.0, record { stack = e.0.4.1; world = st.world }, e.0.4.0 ∷ [], refl, rw (sym c.1) e.0.3, (e.0.4.4, e.1), (e.0.4.0, [], refl, e.0.4.3, refl))))))
 
     pub if_does : (b : Option Row) (ms : List Mark) (st : State Value) → OnState P C b ms st → D (core_doing P (Some c_if) b ms) (does_if P st)
     if_does b [] st e = tt
     if_does b (r ∷ []) st e = tt
     if_does b (r ∷ l ∷ []) st e = tt
     if_does b (r ∷ l ∷ x ∷ ms) st e =
-        rw e.0.2 (rw e.0.4.2 (rw e.0.4.4.2 (if_callable (is_callable l && is_callable r) not_known (forks l r b ms) (with_callable e.0.4.0 (λ c. with_callable e.0.0 (λ d. runs (elim (seen_no (seen e.0.4.4.0)) [ true ↦ d | false ↦ c ]) (record { stack = e.0.4.4.1; world = st.world }) []))) (λ yes. (let c = callable_is l e.0.4.0 e.0.4.3 (and_first (is_callable l) (is_callable r) yes) in let d = callable_is r e.0.0 e.0.3 (and_second (is_callable l) (is_callable r) yes) in rw c.1 (rw d.1 (chosen (seen_no (seen e.0.4.4.0)) c.0 d.0 (rw (sym c.1) e.0.4.3) (rw (sym d.1) e.0.3))))))))
+        rw e.0.2 (rw e.0.4.2 (rw e.0.4.4.2 (if_callable (is_callable l && is_callable r) NotKnown (forks l r b ms) (with_callable e.0.4.0 (λ c. with_callable e.0.0 (λ d. runs (elim (seen_no (seen e.0.4.4.0)) [ true ↦ d | false ↦ c ]) (record { stack = e.0.4.4.1; world = st.world }) []))) (λ yes. (let c = callable_is l e.0.4.0 e.0.4.3 (and_first (is_callable l) (is_callable r) yes) in let d = callable_is r e.0.0 e.0.3 (and_second (is_callable l) (is_callable r) yes) in rw c.1 (rw d.1 (chosen (seen_no (seen e.0.4.4.0)) c.0 d.0 (rw (sym c.1) e.0.4.3) (rw (sym d.1) e.0.3))))))))
       where
         chosen : (q : Bool) (c d : Callable) → Stands C.inputs l (fun c) → Stands C.inputs r (fun d) → D (forks l r b ms) (runs (elim q [ true ↦ d | false ↦ c ]) (record { stack = e.0.4.4.1; world = st.world }) [])
         chosen true c d x y = (d, record { stack = e.0.4.4.1; world = st.world }, refl, inr y, (e.0.4.4.4, e.1))
@@ -188,7 +190,7 @@ module _ (P : Program) (C : Context) where
 
     pub makes_does : (c : Option (ℕ × ℕ)) (b : Option Row) (ms : List Mark) (st : State Value) → OnState P C b ms st → D (makes_by P c b ms) (makes_tuple P c st)
     makes_does None b ms st e = tt
-    makes_does (Some c) b ms st e = taking_does c.1 [] [] b ms st.stack st.world (λ vs st'. given 0 st'.stack (made_tuple texts (names P) c.0 vs st'.world)) (λ taken rest. gives (on b (any ∷ rest))) (underflow (suc c.1) (suc (length ms))) refl e.0 (λ taken rest vs r x q. ((plain (tup (length st.world.objects)), r, refl, tt, q), e.1))
+    makes_does (Some c) b ms st e = taking_does c.1 [] [] b ms st.stack st.world (λ vs st'. given 0 st'.stack (made_tuple texts (names P) c.0 vs st'.world)) (λ taken rest. gives (on b (any ∷ rest))) (Underflow (suc c.1) (suc (length ms))) refl e.0 (λ taken rest vs r x q. ((plain (tup (length st.world.objects)), r, refl, tt, q), e.1))
 
     pub boa_does : (b : Option Row) (ms : List Mark) (st : State Value) → OnState P C b ms st → D (core_doing P (Some c_boa) b ms) (does_boa P st)
     boa_does b [] st e = tt
@@ -216,7 +218,7 @@ module _ (P : Program) (C : Context) where
 
     pub fry_does : (at : Literal) (t u : Text) (n : ℕ) → StandsText C.inputs t u → (b : Option Row) (ms : List Mark) (st : State Value) → OnState P C b ms st → D (needing n ms (λ taken rest. gives (on b (limited (lit_mark at (put_holes (map known taken) t)) ∷ rest)))) (taking n [] st.stack st.world (λ vs st'. goes (push (fun (text (put_holes (map held vs) u))) st')))
     fry_does at t u n s b ms st e =
-        taking_does n [] [] b ms st.stack st.world (λ vs st'. goes (push (fun (text (put_holes (map held vs) u))) st')) (λ taken rest. gives (on b (limited (lit_mark at (put_holes (map known taken) t)) ∷ rest))) (underflow n (length ms)) refl e.0 (λ taken rest vs r x q. ((fun (text (put_holes (map held vs) u)), r, refl, limited_stands (lit_mark at (put_holes (map known taken) t)) (fun (text (put_holes (map held vs) u))) (put_holes (map held vs) u, refl, holes_text C.inputs (map known taken) (map held vs) (each_held taken vs x) t u s), q), e.1))
+        taking_does n [] [] b ms st.stack st.world (λ vs st'. goes (push (fun (text (put_holes (map held vs) u))) st')) (λ taken rest. gives (on b (limited (lit_mark at (put_holes (map known taken) t)) ∷ rest))) (Underflow n (length ms)) refl e.0 (λ taken rest vs r x q. ((fun (text (put_holes (map held vs) u)), r, refl, limited_stands (lit_mark at (put_holes (map known taken) t)) (fun (text (put_holes (map held vs) u))) (put_holes (map held vs) u, refl, holes_text C.inputs (map known taken) (map held vs) (each_held taken vs x) t u s), q), e.1))
 
     -- Shuffles: one line each.
     with_back : (m : Mark) (v : Value) (ms : List Mark) (vs : List Value) → Stands C.inputs m v → BackOf ms vs → BackOf (m ∷ ms) (v ∷ vs)
@@ -311,9 +313,9 @@ module _ (P : Program) (C : Context) where
 
     pub runs_does : (i : ℕ) (o : Option ℕ) (c : Callable) → Keeps i o c → (b : Option Row) (ms : List Mark) (st : State Value) → OnState P C b ms st → D (by_height i o b ms) (runs c st [])
     runs_does i None c h b ms st e =
-        popped_over i [] None b ms st.stack (underflow i (length ms)) (runs c st []) e.0 (λ r rest x q. (refl, λ n le. ends_map (Leaves P None r) (StackState P C dead) (run_callable run c st n) (λ st' l. leaves_stack None b rest r st' l q) (h r st n le x e.1)))
+        popped_over i [] None b ms st.stack (Underflow i (length ms)) (runs c st []) e.0 (λ r rest x q. (refl, λ n le. ends_map (Leaves P None r) (StackState P C dead) (run_callable run c st n) (λ st' l. leaves_stack None b rest r st' l q) (h r st n le x e.1)))
     runs_does i (Some o) c h b ms st e =
-        popped_over i [] (Some o) b ms st.stack (underflow i (length ms)) (runs c st []) e.0 (λ r rest x q. (refl, λ n le. ends_map (Leaves P (Some o) r) (StackState P C (on b (unknowns o rest))) (run_callable run c st n) (λ st' l. leaves_stack (Some o) b rest r st' l q) (h r st n le x e.1)))
+        popped_over i [] (Some o) b ms st.stack (Underflow i (length ms)) (runs c st []) e.0 (λ r rest x q. (refl, λ n le. ends_map (Leaves P (Some o) r) (StackState P C (on b (unknowns o rest))) (run_callable run c st n) (λ st' l. leaves_stack (Some o) b rest r st' l q) (h r st n le x e.1)))
 
     fails_does : (i : ℕ) (taken : List Mark) (o : Option ℕ) (b : Option Row) (ms : List Mark) (u : Rule) (x : Error Value) (st : State Value) → D (elim (popped i taken ms) [ Some q ↦ gives (left_on o b q.1) | None ↦ breaks u ]) (fails x st)
     fails_does zero taken o b ms u x st = tt
@@ -336,11 +338,11 @@ module _ (P : Program) (C : Context) where
     call_eff_does : (h : Height) (o : Option ℕ) → ((c : Callable) → FF h c ≡ true → Keeps h.ins o c) → (b : Option Row) (ms : List Mark) (st : State Value) → OnState P C b ms st → D (by_height (suc h.ins) o b ms) (taking1 st.stack st.world (λ v st'. tested_call P fits (callable_height P) h v st'))
     call_eff_does h None k b [] st e = tt
     call_eff_does h (Some o) k b [] st e = tt
-    call_eff_does h None k b (m ∷ ms) st e = rw e.0.2 (tested_does h None e.0.0 k (m ∷ []) b ms (underflow (suc h.ins) (length (m ∷ ms))) (record { stack = e.0.1; world = st.world }) (e.0.4, e.1))
-    call_eff_does h (Some o) k b (m ∷ ms) st e = rw e.0.2 (tested_does h (Some o) e.0.0 k (m ∷ []) b ms (underflow (suc h.ins) (length (m ∷ ms))) (record { stack = e.0.1; world = st.world }) (e.0.4, e.1))
+    call_eff_does h None k b (m ∷ ms) st e = rw e.0.2 (tested_does h None e.0.0 k (m ∷ []) b ms (Underflow (suc h.ins) (length (m ∷ ms))) (record { stack = e.0.1; world = st.world }) (e.0.4, e.1))
+    call_eff_does h (Some o) k b (m ∷ ms) st e = rw e.0.2 (tested_does h (Some o) e.0.0 k (m ∷ []) b ms (Underflow (suc h.ins) (length (m ∷ ms))) (record { stack = e.0.1; world = st.world }) (e.0.4, e.1))
 
     -- what takes i values by a declared height
-    by_numbers : (i : ℕ) (o : Option ℕ) (b : Option Row) (ms : List Mark) (a : Act) → D (elim (popped i [] ms) [ Some q ↦ gives (left_on o b q.1) | None ↦ breaks (underflow i (length ms)) ]) a → D (by_height i o b ms) a
+    by_numbers : (i : ℕ) (o : Option ℕ) (b : Option Row) (ms : List Mark) (a : Act) → D (elim (popped i [] ms) [ Some q ↦ gives (left_on o b q.1) | None ↦ breaks (Underflow i (length ms)) ]) a → D (by_height i o b ms) a
     by_numbers i None b ms a h = h
     by_numbers i (Some o) b ms a h = h
 
@@ -354,7 +356,7 @@ module _ (P : Program) (C : Context) where
     picked_does i o take x g keeps b (m ∷ ms) st e = rw e.0.2 (chosen (take e.0.0 st.world) refl)
       where
         chosen : (q : Option ℕ) → take e.0.0 st.world ≡ q → D (by_height (suc i) o b (m ∷ ms)) (enters P q x g e.0.0 (record { stack = e.0.1; world = st.world }))
-        chosen None z = by_numbers (suc i) o b (m ∷ ms) _ (fails_does (suc i) [] o b (m ∷ ms) (underflow (suc i) (length (m ∷ ms))) _ (record { stack = e.0.1; world = st.world }))
+        chosen None z = by_numbers (suc i) o b (m ∷ ms) _ (fails_does (suc i) [] o b (m ∷ ms) (Underflow (suc i) (length (m ∷ ms))) _ (record { stack = e.0.1; world = st.world }))
         chosen (Some k) z = runs_does (suc i) o (text (word_text P k)) (keeps e.0.0 st.world k z) b (m ∷ ms) (record { stack = e.0.0 ∷ e.0.1; world = st.world }) ((e.0.0, e.0.1, refl, e.0.3, e.0.4), e.1)
 
     -- `execute( )`: the item of a word whose effect fits
@@ -371,7 +373,7 @@ module _ (P : Program) (C : Context) where
     exec_eff_does : (h : Height) → ((w : ℕ) → word_fits P fits h w ≡ true → Keeps h.ins h.outs (text (one_item (word w)))) → (b : Option Row) (ms : List Mark) (st : State Value) → OnState P C b ms st → D (by_height (suc h.ins) h.outs b ms) (taking1 st.stack st.world (λ v st'. tested_execute P fits (callable_height P) h v st'))
     exec_eff_does h k b [] st e = none_there h.ins h.outs b (taking1 st.stack st.world (λ v st'. tested_execute P fits (callable_height P) h v st'))
     exec_eff_does h k b (m ∷ ms) st e =
-        rw e.0.2 (by_numbers (suc h.ins) h.outs b (m ∷ ms) (tested_execute P fits (callable_height P) h e.0.0 (record { stack = e.0.1; world = st.world })) (found_does h e.0.0 k (m ∷ []) b ms (underflow (suc h.ins) (length (m ∷ ms))) (record { stack = e.0.1; world = st.world }) (e.0.4, e.1)))
+        rw e.0.2 (by_numbers (suc h.ins) h.outs b (m ∷ ms) (tested_execute P fits (callable_height P) h e.0.0 (record { stack = e.0.1; world = st.world })) (found_does h e.0.0 k (m ∷ []) b ms (Underflow (suc h.ins) (length (m ∷ ms))) (record { stack = e.0.1; world = st.world }) (e.0.4, e.1)))
 
     -- the numbers of a word's effect
     abbrev pub H : WordDef → Height
@@ -455,7 +457,7 @@ module _ (P : Program) (C : Context) where
       sort_does w d (prim k) g q b ms st e = prim_does w (prim_numbered k) (H d) (λ p z. facts.prims w d k p g q z) b ms st e
       sort_does w d itself g q b ms st e = ((plain (wrd w), st.stack, refl, refl, e.0), e.1)
       sort_does w d (class c) g q b ms st e = ((plain (wrd w), st.stack, refl, refl, e.0), e.1)
-      sort_does w d (body t) g q b ms st e = if_callable (not (nat_eq w P.top)) not_known (inline_doing P C.word d.inline w d t b ms) (run_text t st) (λ z. inline_does w d t g q z d.inline (is_row d.recursive d.effect) refl refl b ms st e)
+      sort_does w d (body t) g q b ms st e = if_callable (not (nat_eq w P.top)) NotKnown (inline_doing P C.word d.inline w d t b ms) (run_text t st) (λ z. inline_does w d t g q z d.inline (is_row d.recursive d.effect) refl refl b ms st e)
       sort_does w d (past t) g q b ms st e = tt
       sort_does w d (method c n t) g q b ms st e = tt
       sort_does w d (isa c) g q b ms st e = (let z = facts.tests w d c g q in test_does w c (H d).ins (H d).outs z.0 z.1 b ms st e)
@@ -492,10 +494,10 @@ module _ (P : Program) (C : Context) where
       lit_does (wrd w) b ms st e = ((plain (wrd w), st.stack, refl, refl, e.0), e.1)
       lit_does v b ms st e = ((plain v, st.stack, refl, tt, e.0), e.1)
 
-      array_does : (a : ℕ) (b : Option Row) (ms : List Mark) (st : State Value) → OnState P C b ms st → D (elim (nat_lt a (length P.arrays)) [ true ↦ gives (on b (any ∷ ms)) | false ↦ breaks not_known ]) (pushes_array P fits (callable_height P) (slice_get st.world.literals a) st)
+      array_does : (a : ℕ) (b : Option Row) (ms : List Mark) (st : State Value) → OnState P C b ms st → D (elim (nat_lt a (length P.arrays)) [ true ↦ gives (on b (any ∷ ms)) | false ↦ breaks NotKnown ]) (pushes_array P fits (callable_height P) (slice_get st.world.literals a) st)
       array_does a b ms st e = there (nat_lt a (length P.arrays)) refl
         where
-          there : (q : Bool) → nat_lt a (length P.arrays) ≡ q → D (elim q [ true ↦ gives (on b (any ∷ ms)) | false ↦ breaks not_known ]) (pushes_array P fits (callable_height P) (slice_get st.world.literals a) st)
+          there : (q : Bool) → nat_lt a (length P.arrays) ≡ q → D (elim q [ true ↦ gives (on b (any ∷ ms)) | false ↦ breaks NotKnown ]) (pushes_array P fits (callable_height P) (slice_get st.world.literals a) st)
           there true q = rw (e.1 a q).1 ((plain (arr (e.1 a q).0), st.stack, refl, tt, e.0), e.1)
           there false q = tt
 

@@ -15,7 +15,8 @@ use Rattle.fac_lang.specs.Meaning.{core_numbered, c_call, c_dip, c_if}
 use Rattle.fac_lang.specs.Forms.{is_member, built_primitives, is_built_primitive}
 use Rattle.fac_locals.specs.Literals.{first_of_word}
 use Rattle.fac_locals.specs.Closed.{ClosesWord, ClosesSort, ClosesText}
-use Rattle.fac_abs.specs.Marks.{Row, not_known}
+use Rattle.fac_abs.specs.Marks.{Row}
+use Rattle.fac_abs.specs.declared.rule.Rule.TheVariants.{NotKnown}
 use Rattle.fac_check.specs.Rows.{is_row}
 use Rattle.fac_check.specs.Flow.{Doing, breaks, expands, by_height, callable_or, prim_doing, core_doing, sort_doing, inline_doing, row_or_text, curry_doing, compose_doing}
 use Rattle.fac_check.specs.Walking.{body_text, text_of, sort_text}
@@ -94,19 +95,19 @@ module _ (P : Program) (w : ℕ) (d c : WordDef) (closes : ClosesWord P w d c) w
   pub core_item : (k : ℕ) (X : Doing) (ms : List Mark) → d.sort ≡ core k → X ≡ core_doing P (core_numbered k) None ms → X ≡ sort_doing P None w d d.sort None ms
   core_item k X ms s x = x ∙ ap (λ q. sort_doing P None w d q None ms) (sym s)
 
-  pub top_item : (t : Text) (ms : List Mark) → d.sort ≡ body t → w ≡ P.top → breaks not_known ≡ sort_doing P None w d d.sort None ms
+  pub top_item : (t : Text) (ms : List Mark) → d.sort ≡ body t → w ≡ P.top → breaks NotKnown ≡ sort_doing P None w d d.sort None ms
   top_item t ms s e = top (nat_eq w P.top) (rw e (same_number P.top)) ∙ ap (λ q. sort_doing P None w d q None ms) (sym s)
     where
       same_number : (n : ℕ) → nat_eq n n ≡ true
       same_number n = eq-eqb n n refl
 
-      top : (b : Bool) → b ≡ true → breaks not_known ≡ callable_or (not b) not_known (inline_doing P None d.inline w d t None ms)
+      top : (b : Bool) → b ≡ true → breaks NotKnown ≡ callable_or (not b) NotKnown (inline_doing P None d.inline w d t None ms)
       top true q = refl
       top false q = absurd (cc)
 
   pub body_item : (t : Text) (X : Doing) (i : ℕ) (o : Option ℕ) (ms : List Mark) → BuiltAs P w d → slice_get P.words w ≡ Some d → d.sort ≡ body t → w ≢ P.top → i ≡ (effect_height c.effect).ins → o ≡ (effect_height c.effect).outs → X ≡ (if c.inline then expands w (body_text P w) None ms else by_height i o None ms) → X ≡ sort_doing P None w d d.sort None ms
   body_item t X i o ms b at s n e f x =
-      x ∙ chosen c.inline d.inline closes.inline (no_row_word P w d b) ∙ ap (λ q. callable_or q not_known (inline_doing P None d.inline w d t None ms)) (sym (ap not (ne_eqb w P.top n))) ∙ ap (λ q. sort_doing P None w d q None ms) (sym s)
+      x ∙ chosen c.inline d.inline closes.inline (no_row_word P w d b) ∙ ap (λ q. callable_or q NotKnown (inline_doing P None d.inline w d t None ms)) (sym (ap not (ne_eqb w P.top n))) ∙ ap (λ q. sort_doing P None w d q None ms) (sym s)
     where
       text_is : body_text P w ≡ t
       text_is = ap text_of at ∙ ap sort_text s

@@ -9,15 +9,14 @@ ghost use Rattle.fac_lang.specs.Texts.{Text, Item, Literal, any, lit_mark};
 ghost use Rattle.fac_lang.specs.View.{what_item};
 ghost use Rattle.fac_abs.specs.Trees.{Naming};
 ghost use Rattle.fac_abs.specs.Seen.{IsMark, IsStack, Grows, mark_of, stack_of};
-ghost use Rattle.fac_abs.specs.Keeping.{shuffle_numbered};
+ghost use Rattle.fac_abs.specs.inner.Keeping.{shuffle_numbered};
 ghost use Rattle.fac_check.specs.Flow.{by_height as takes_and_leaves, marks_moved, curry_doing, compose_doing, core_doing, prim_doing, word_doing, expands, gives, doing as doing_of};
 ghost use Rattle.fac_abs.specs.Marks.{on};
 ghost use Rattle.fac_lang.specs.Meaning.{c_call, c_dip, c_if, core_numbered};
 ghost use Rattle.fac_check.specs.Walking.{IsDoing, DoesAs, doing_seen, PopsTwo, PopsBranches, lacks, body_text, Opened};
 ghost use Rattle.fac_lang.specs.declared.program.Program.{Program as ProgramSeen};
 
-use crate::rule::Rule;
-use fac_abs::{Marks, shuffle_needs};
+use fac_abs::{Marks, Rule, shuffle_needs};
 use fac_lang::{Memory, Sort, What, WordDef};
 use fac_locals::Closed;
 

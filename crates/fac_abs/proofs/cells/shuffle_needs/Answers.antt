@@ -1,6 +1,6 @@
 use Rattle.std.proofs.Common.{ℕ, ◌∙◌}
 use Rattle.fac_lang.specs.Texts.{Mark}
-use Rattle.fac_abs.specs.Keeping.{shuffle_numbered}
+use Rattle.fac_abs.specs.inner.Keeping.{shuffle_numbered}
 use Rattle.fac_abs.proofs.MoveLemmas.{needs_same}
 use Rattle.fac_abs.proofs.cells.shuffle_needs.Goals as goal
 

@@ -1,6 +1,6 @@
 use Rattle.std.proofs.Common.{[], get_or, drop}
 use Rattle.fac_abs.specs.InTurn.{heaped}
-use Rattle.fac_abs.specs.Keeping.{Going}
+use Rattle.fac_abs.specs.inner.Keeping.{Going}
 use Rattle.fac_abs.proofs.cells.Cells.pile.Given as goal
 
 abbrev pub invariant-loop-mark : goal.invariant-loop-mark

@@ -1,7 +1,7 @@
 use Rattle.std.proofs.Common.{IfOk, subst}
 use Rattle.fac_lang.specs.Primitives.{moves}
 use Rattle.fac_abs.specs.InTurn.{moved}
-use Rattle.fac_abs.specs.Keeping.{shuffle_numbered}
+use Rattle.fac_abs.specs.inner.Keeping.{shuffle_numbered}
 use Rattle.fac_abs.specs.Seen.{MarksSeen, stack_of, Grows}
 use Rattle.fac_abs.specs.Promises.{IsStackWhere}
 use Rattle.fac_abs.proofs.SeenLemmas.{seen, stack_in, low_in, grows_cells}
