@@ -117,13 +117,14 @@ abbrev pub unknowns : ℕ → List Mark → List Mark
 unknowns zero ms = ms
 unknowns (suc n) ms = any ∷ unknowns n ms
 
--- the first n marks, the deepest first and on those that were taken before, and the rest
-abbrev pub popped : ℕ → List Mark → List Mark → Option (List Mark × List Mark)
-popped zero taken ms = Some (taken, ms)
-popped (suc n) taken [] = None
-popped (suc n) taken (m ∷ ms) = popped n (m ∷ taken) ms
+module _ {A : Type 0} where
+  -- the first n of a stack, the deepest first and on those that were taken before, and the rest
+  abbrev pub popped : ℕ → List A → List A → Option (List A × List A)
+  popped zero taken xs = Some (taken, xs)
+  popped (suc n) taken [] = None
+  popped (suc n) taken (x ∷ xs) = popped n (x ∷ taken) xs
 
--- marks put on others: the last of the first list becomes the top
-abbrev pub piled : List Mark → List Mark → List Mark
-piled [] ms = ms
-piled (m ∷ taken) ms = piled taken (m ∷ ms)
+  -- values put on others: the last of the first list becomes the top
+  abbrev pub piled : List A → List A → List A
+  piled [] xs = xs
+  piled (x ∷ more) xs = piled more (x ∷ xs)

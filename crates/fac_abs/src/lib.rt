@@ -9,7 +9,6 @@ mod table;
 #[cfg(test)]
 mod tests;
 
-pub use cells::shuffle_needs;
 pub use node::Node;
 pub use rule::Rule;
 pub use table::Marks;

@@ -5,7 +5,9 @@ use Rattle.fac_lang.specs.declared.phrase.Place.{Place}
 use Rattle.fac_lang.specs.Texts.{Literal, Plain, wrd, Text, end, then, Item, lit, lit_arr, quot, word, bind, local, fry, hole, call_eff, exec_eff, next_method, made, next_after, held, known, Mark, any, lit_mark, cur_mark, com_mark, wrd_mark, par_mark}
 use Rattle.fac_lang.specs.Signatures.{Signature, Inputs, no_inputs, value, quoted}
 use Rattle.fac_lang.specs.Effects.{inputs_count, effect_height}
-use Rattle.fac_lang.specs.Primitives.{Moves, moves1, moves2, moves3, moves, Prim, shuffle, p_curry, p_compose, prim_numbered}
+use Rattle.fac_lang.specs.PrimitiveWords.{outputs_of}
+use Rattle.fac_lang.specs.Procedures.{Procedure, leaves, curries, composes, or_else, picked}
+use Rattle.fac_lang.specs.Primitives.{Primitive, prim_numbered}
 use Rattle.fac_lang.specs.Substitution.{put_local, put_holes}
 use Rattle.fac_lang.specs.declared.program.Program.{Program}
 use Rattle.fac_lang.specs.declared.program.WordDef.{WordDef}
@@ -190,29 +192,24 @@ abbrev pub callable_or : Bool → Rule → Doing → Doing
 callable_or true r x = x
 callable_or false r x = breaks r
 
--- a shuffle moves marks as it moves values
-abbrev pub marks_moved : Moves Mark → Option Row → List Mark → Doing
-marks_moved (moves1 f) b [] = breaks (Underflow 1 0)
-marks_moved (moves1 f) b (x ∷ ms) = gives (on b (piled (f x) ms))
-marks_moved (moves2 f) b [] = breaks (Underflow 2 0)
-marks_moved (moves2 f) b (y ∷ []) = breaks (Underflow 2 1)
-marks_moved (moves2 f) b (y ∷ x ∷ ms) = gives (on b (piled (f x y) ms))
-marks_moved (moves3 f) b [] = breaks (Underflow 3 0)
-marks_moved (moves3 f) b (z ∷ []) = breaks (Underflow 3 1)
-marks_moved (moves3 f) b (z ∷ y ∷ []) = breaks (Underflow 3 2)
-marks_moved (moves3 f) b (z ∷ y ∷ x ∷ ms) = gives (on b (piled (f x y z) ms))
+-- the mark at a place of those that are taken
+abbrev pub mark_at : List Mark → ℕ → Mark
+mark_at taken k = or_else any (slice_get taken k)
 
--- `curry`
-abbrev pub curry_doing : Option Row → List Mark → Doing
-curry_doing b [] = breaks (Underflow 2 0)
-curry_doing b (c ∷ []) = breaks (Underflow 2 1)
-curry_doing b (c ∷ m ∷ ms) = gives (on b (curried_mark m c ∷ ms))
+-- takes so many values, and leaves those at these places
+abbrev pub marks_moved : ℕ → List ℕ → Option Row → List Mark → Doing
+marks_moved i places b ms = needing i ms (λ taken rest. gives (on b (piled (picked any taken places) rest)))
 
--- `compose`
-abbrev pub compose_doing : Option Row → List Mark → Doing
-compose_doing b [] = breaks (Underflow 2 0)
-compose_doing b (d ∷ []) = breaks (Underflow 2 1)
-compose_doing b (d ∷ c ∷ ms) = gives (on b (composed_mark c d ∷ ms))
+-- takes so many values, and leaves what is made of two of them
+abbrev pub mark_made : (Mark → Mark → Mark) → ℕ → ℕ → ℕ → Option Row → List Mark → Doing
+mark_made make i j k b ms = needing i ms (λ taken rest. gives (on b (make (mark_at taken j) (mark_at taken k) ∷ rest)))
+
+-- A procedure that takes so many values: one that only moves values moves their marks, `curry` and `compose` make a mark, and of what others leave nothing is known.
+abbrev pub procedure_doing : {outs : Option ℕ} → ℕ → Procedure outs → Option Row → List Mark → Doing
+procedure_doing i (leaves places) b ms = marks_moved i places b ms
+procedure_doing i (curries j k p) b ms = mark_made curried_mark i j k b ms
+procedure_doing i (composes j k p) b ms = mark_made composed_mark i j k b ms
+procedure_doing {outs = o} i _ b ms = by_height i o b ms
 
 -- goes on with a known word
 abbrev pub known_word : Mark → (ℕ → Doing) → Doing
@@ -242,13 +239,10 @@ module _ (P : Program) where
   core_doing (Some c_boa) b [] = breaks (Underflow 1 0)
   core_doing (Some c_boa) b (m ∷ ms) = known_word m (λ w. makes_by ((names P).tuple_class w) b ms)
 
-  -- a primitive: shuffles, `curry` and `compose` by their marks, all others by their effect
-  abbrev pub prim_doing : Option Prim → Height → Option Row → List Mark → Doing
-  prim_doing (Some (shuffle s)) h b ms = marks_moved (moves s) b ms
-  prim_doing (Some p_curry) h b ms = curry_doing b ms
-  prim_doing (Some p_compose) h b ms = compose_doing b ms
-  prim_doing (Some p) h b ms = by_height h.ins h.outs b ms
-  prim_doing None h b ms = breaks NotKnown
+  -- a primitive takes as many values as its word has inputs
+  abbrev pub prim_doing : Option Primitive → Option Row → List Mark → Doing
+  prim_doing None b ms = breaks NotKnown
+  prim_doing (Some p) b ms = procedure_doing (length p.word.ins) p.does b ms
 
   -- All this is with the number of the word that is checked, where it is a row word.
   module _ (own : Option ℕ) where
@@ -288,7 +282,7 @@ module _ (P : Program) where
     -- the item of a word, by its sort; an earlier top-level phrase and a method are never items
     abbrev pub sort_doing : ℕ → WordDef → Sort → Option Row → List Mark → Doing
     sort_doing w d (core k) b ms = core_doing (core_numbered k) b ms
-    sort_doing w d (prim k) b ms = prim_doing (prim_numbered k) (effect_height d.effect) b ms
+    sort_doing w d (prim k) b ms = prim_doing (prim_numbered k) b ms
     sort_doing w d itself b ms = gives (on b (wrd_mark w ∷ ms))
     sort_doing w d (class c) b ms = gives (on b (wrd_mark w ∷ ms))
     sort_doing w d (body t) b ms = body_doing w d t b ms
