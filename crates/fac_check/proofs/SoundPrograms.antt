@@ -7,7 +7,7 @@ use Rattle.fac_lang.specs.declared.phrase.Height.{Height}
 use Rattle.fac_lang.specs.Texts.{Text, end, Value, text, word, Mark, any, par_mark}
 use Rattle.fac_lang.specs.World.{State, pile}
 use Rattle.fac_lang.specs.Signatures.{Signature, signature, Inputs, no_inputs, value, quoted, never, leaves}
-use Rattle.fac_lang.specs.Primitives.{Prim, prim_numbered, prim_fn}
+use Rattle.fac_lang.specs.Primitives.{Primitive, prim_numbered, prim_fn}
 use Rattle.fac_lang.specs.Objects.{get_slot, set_slot, put_slot}
 use Rattle.fac_lang.specs.Classes.{pick, next}
 use Rattle.fac_lang.specs.Substitution.{of_method}
@@ -31,7 +31,8 @@ use Rattle.fac_lang.proofs.Laws.{within}
 use Rattle.fac_abs.proofs.EqualMarks.{never_true, and_first, and_second, length_same, base_same, mark_same}
 use Rattle.fac_check.proofs.StandingLaws.{Unmarked, self_text}
 use Rattle.fac_check.proofs.WalksFit.{Context, OnState, StackState, Fits, InputsFit, Does, does_fits}
-use Rattle.fac_check.proofs.ItemsFit.{Over, Leaves, RegularFn, Facts, if_callable, ends_map, left_on, HasEffect, effect_does}
+use Rattle.fac_check.proofs.ItemsFit.{Over, Leaves, Facts, if_callable, ends_map, left_on, HasEffect, effect_does}
+use Rattle.fac_check.proofs.PrimitivesKeep.{RegularFn}
 use Rattle.fac_check.proofs.SoundWalks.{A, Known, known_none, known_more, walk_in, on_values, marks_over, over_marks, accepted_keeps, top_runs}
 use Rattle.fac_check.proofs.CallablesKeep.{KeepsNumbers, more_keeps, fitting_keeps}
 use Rattle.fac_check.proofs.RowsFit.{with_base, Extends, Shows, inputs_show}
@@ -53,14 +54,14 @@ pub record Accepted (P : Program) : Type 0 where
   pub unmarked : (w : ℕ) (d : WordDef) (t : Text) → slice_get P.words w ≡ Some d → d.sort ≡ body t → Unmarked t
   pub row_accepted : (w : ℕ) (d : WordDef) (t : Text) → slice_get P.words w ≡ Some d → d.sort ≡ body t → not (nat_eq w P.top) ≡ true → d.inline ≡ true → is_row d.recursive d.effect ≡ true → row_verdict P w t d ≡ None
   pub rows_bindable : (w : ℕ) (d : WordDef) (t : Text) → slice_get P.words w ≡ Some d → d.sort ≡ body t → not (nat_eq w P.top) ≡ true → bindable d.effect ≡ true
-  pub prims : (w : ℕ) (d : WordDef) (k : ℕ) (p : Prim) → slice_get P.words w ≡ Some d → d.sort ≡ prim k → prim_numbered k ≡ Some p → RegularFn P (height_of d).ins (height_of d).outs (prim_fn texts (names P) p)
-  pub getters : (w : ℕ) (d : WordDef) (x : List ℕ) → slice_get P.words w ≡ Some d → d.sort ≡ getter x → RegularFn P (height_of d).ins (height_of d).outs (get_slot texts (names P) x)
-  pub setters : (w : ℕ) (d : WordDef) (x : List ℕ) → slice_get P.words w ≡ Some d → d.sort ≡ setter x → RegularFn P (height_of d).ins (height_of d).outs (set_slot texts (names P) x)
-  pub putters : (w : ℕ) (d : WordDef) (x : List ℕ) → slice_get P.words w ≡ Some d → d.sort ≡ putter x → RegularFn P (height_of d).ins (height_of d).outs (put_slot texts (names P) x)
+  pub prims : (w : ℕ) (d : WordDef) (k : ℕ) (p : Primitive) → slice_get P.words w ≡ Some d → d.sort ≡ prim k → prim_numbered k ≡ Some p → RegularFn (height_of d).ins (height_of d).outs (prim_fn texts (names P) p)
+  pub getters : (w : ℕ) (d : WordDef) (x : List ℕ) → slice_get P.words w ≡ Some d → d.sort ≡ getter x → RegularFn (height_of d).ins (height_of d).outs (get_slot texts (names P) x)
+  pub setters : (w : ℕ) (d : WordDef) (x : List ℕ) → slice_get P.words w ≡ Some d → d.sort ≡ setter x → RegularFn (height_of d).ins (height_of d).outs (set_slot texts (names P) x)
+  pub putters : (w : ℕ) (d : WordDef) (x : List ℕ) → slice_get P.words w ≡ Some d → d.sort ≡ putter x → RegularFn (height_of d).ins (height_of d).outs (put_slot texts (names P) x)
   pub tests : (w : ℕ) (d : WordDef) (c : ℕ) → slice_get P.words w ≡ Some d → d.sort ≡ isa c → ((height_of d).ins ≡ 1) × ((height_of d).outs ≡ Some 1)
   pub generics : (w : ℕ) (d : WordDef) → slice_get P.words w ≡ Some d → d.sort ≡ generic → (i : ℕ) × ((height_of d).ins ≡ suc i) × ((k m : ℕ) → pick P w k ≡ Some m → AcceptedMethod P (height_of d) m)
   pub nexts : (m c g : ℕ) (t : Text) (d : WordDef) → sort_of P m ≡ Some (method c g t) → slice_get P.words g ≡ Some d → (i : ℕ) × ((height_of d).ins ≡ suc i) × ((k n : ℕ) → next P m k ≡ Some n → AcceptedMethod P (height_of d) n)
-  pub numbered : (w : ℕ) (d : WordDef) (k : ℕ) → slice_get P.words w ≡ Some d → d.sort ≡ prim k → (p : Prim) × (prim_numbered k ≡ Some p)
+  pub numbered : (w : ℕ) (d : WordDef) (k : ℕ) → slice_get P.words w ≡ Some d → d.sort ≡ prim k → (p : Primitive) × (prim_numbered k ≡ Some p)
   pub selves : (w : ℕ) (d : WordDef) → slice_get P.words w ≡ Some d → d.sort ≡ itself → ((height_of d).ins ≡ 0) × ((height_of d).outs ≡ Some 1)
   pub classes : (w : ℕ) (d : WordDef) (c : ℕ) → slice_get P.words w ≡ Some d → d.sort ≡ class c → ((height_of d).ins ≡ 0) × ((height_of d).outs ≡ Some 1)
   pub methods : (w : ℕ) (d : WordDef) (c g : ℕ) (t : Text) → slice_get P.words w ≡ Some d → d.sort ≡ method c g t → (ordinary_verdict P w (of_method w t) d ≡ None) × Unmarked (of_method w t)

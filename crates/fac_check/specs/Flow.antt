@@ -5,7 +5,6 @@ use Rattle.fac_lang.specs.declared.phrase.Place.{Place}
 use Rattle.fac_lang.specs.Texts.{Literal, Plain, wrd, Text, end, then, Item, lit, lit_arr, quot, word, bind, local, fry, hole, call_eff, exec_eff, next_method, made, next_after, held, known, Mark, any, lit_mark, cur_mark, com_mark, wrd_mark, par_mark}
 use Rattle.fac_lang.specs.Signatures.{Signature, Inputs, no_inputs, value, quoted}
 use Rattle.fac_lang.specs.Effects.{inputs_count, effect_height}
-use Rattle.fac_lang.specs.PrimitiveWords.{outputs_of}
 use Rattle.fac_lang.specs.Procedures.{Procedure, leaves, curries, composes, or_else, picked}
 use Rattle.fac_lang.specs.Primitives.{Primitive, prim_numbered}
 use Rattle.fac_lang.specs.Substitution.{put_local, put_holes}
@@ -211,6 +210,11 @@ procedure_doing i (curries j k p) b ms = mark_made curried_mark i j k b ms
 procedure_doing i (composes j k p) b ms = mark_made composed_mark i j k b ms
 procedure_doing {outs = o} i _ b ms = by_height i o b ms
 
+-- a primitive takes as many values as its word has inputs
+abbrev pub prim_doing : Option Primitive → Option Row → List Mark → Doing
+prim_doing None b ms = breaks NotKnown
+prim_doing (Some p) b ms = procedure_doing (length p.word.ins) p.does b ms
+
 -- goes on with a known word
 abbrev pub known_word : Mark → (ℕ → Doing) → Doing
 known_word (wrd_mark w) go = go w
@@ -238,11 +242,6 @@ module _ (P : Program) where
   core_doing (Some c_execute) b (m ∷ ms) = known_word m (λ w. again w b ms)
   core_doing (Some c_boa) b [] = breaks (Underflow 1 0)
   core_doing (Some c_boa) b (m ∷ ms) = known_word m (λ w. makes_by ((names P).tuple_class w) b ms)
-
-  -- a primitive takes as many values as its word has inputs
-  abbrev pub prim_doing : Option Primitive → Option Row → List Mark → Doing
-  prim_doing None b ms = breaks NotKnown
-  prim_doing (Some p) b ms = procedure_doing (length p.word.ins) p.does b ms
 
   -- All this is with the number of the word that is checked, where it is a row word.
   module _ (own : Option ℕ) where
