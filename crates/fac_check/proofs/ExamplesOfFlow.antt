@@ -1,6 +1,6 @@
 -- Examples of the checker's verdicts where there are quotations: each rule with each of its numbers, the identity of literals, and the effects of callables.
 use Rattle.std.proofs.Common.{◌≡◌, ℕ, zero, suc, ◌+◌, List, [], ◌∷◌, ◌++◌, length, Bool, true, false, Option, Some, None, refl}
-use Rattle.std.specs.Prelude.{codes, pos}
+use Rattle.std.specs.Prelude.{codes, map, pos}
 use Rattle.fac_lang.specs.declared.phrase.Height.{Height}
 use Rattle.fac_lang.specs.declared.phrase.Place.{Place}
 use Rattle.fac_lang.specs.declared.program.Program.{Program}
@@ -13,7 +13,7 @@ use Rattle.fac_lang.specs.Texts.{int, wrd, Text, end, then, Item, lit, quot, bin
 use Rattle.fac_lang.specs.Primitives.{prim_numbered}
 use Rattle.fac_lang.specs.Meaning.{core_numbered}
 use Rattle.fac_lang.proofs.DemoPrelude.{word_of, shared_words, built_in_classes}
-use Rattle.fac_lang.proofs.DemoWords.{phrase, number, quotation, fried, itself, tested-call, own, t as yes, drop, dup, swap, + as plus, curry, compose, throw, call, dip, if, execute, boa, cond, sq, times}
+use Rattle.fac_lang.proofs.DemoWords.{phrase, number, quotation, fried, itself, tested-call, own, t as yes, drop, dup, swap, over, pick, rot, -rot, nip, dupd, swapd, 2drop, 2dup, 3drop, 3dup, 2over, 2nip, choose, + as plus, /i, <, curry, compose, throw, call, dip, if, execute, boa, cond, sq, times}
 use Rattle.fac_lang.proofs.Demo.{program, tuple_words, tuple_of}
 use Rattle.fac_abs.specs.Marks.{AbstractStack, dead, on, mark_eq}
 use Rattle.fac_abs.specs.declared.rule.Rule.{Rule}
@@ -679,6 +679,61 @@ numbered_in_word = refl
 pub numbered_behind_fry : marks_of (walk_of [] 9 (number 1 ∷ fried 1 (hole 0 ∷ quotation ([]) ∷ []) ∷ call ∷ quotation ([]) ∷ [])) ≡ literal_mark 5 [] ∷ literal_mark 3 [] ∷ any ∷ []
 unfolding prim_numbered core_numbered mark_eq
 numbered_behind_fry = refl
+
+-- What primitives do with marks.
+
+-- what a shuffle leaves of [ ] [ ] [ ], the top first
+abbrev shuffled : Item → List Mark
+shuffled i = marks_of (walk_of [] 9 (quotation ([]) ∷ quotation ([]) ∷ quotation ([]) ∷ i ∷ []))
+
+-- these three, of which r is the top
+abbrev p : Mark
+p = literal_mark 0 []
+
+abbrev q : Mark
+q = literal_mark 1 []
+
+abbrev r : Mark
+r = literal_mark 2 []
+
+-- shuffles that leave fewer values
+pub marks_dropped : map shuffled (drop ∷ 2drop ∷ 3drop ∷ nip ∷ 2nip ∷ []) ≡ (q ∷ p ∷ []) ∷ (p ∷ []) ∷ [] ∷ (r ∷ p ∷ []) ∷ (r ∷ []) ∷ []
+unfolding prim_numbered core_numbered mark_eq
+marks_dropped = refl
+
+-- as many
+pub marks_exchanged : map shuffled (swap ∷ swapd ∷ rot ∷ -rot ∷ []) ≡ (q ∷ r ∷ p ∷ []) ∷ (r ∷ p ∷ q ∷ []) ∷ (p ∷ r ∷ q ∷ []) ∷ (q ∷ p ∷ r ∷ []) ∷ []
+unfolding prim_numbered core_numbered mark_eq
+marks_exchanged = refl
+
+-- and more
+pub marks_copied : map shuffled (dup ∷ dupd ∷ over ∷ pick ∷ []) ≡ (r ∷ r ∷ q ∷ p ∷ []) ∷ (r ∷ q ∷ q ∷ p ∷ []) ∷ (q ∷ r ∷ q ∷ p ∷ []) ∷ (p ∷ r ∷ q ∷ p ∷ []) ∷ []
+unfolding prim_numbered core_numbered mark_eq
+marks_copied = refl
+
+pub several_marks_copied : map shuffled (2dup ∷ 3dup ∷ 2over ∷ []) ≡ (r ∷ q ∷ r ∷ q ∷ p ∷ []) ∷ (r ∷ q ∷ p ∷ r ∷ q ∷ p ∷ []) ∷ (q ∷ p ∷ r ∷ q ∷ p ∷ []) ∷ []
+unfolding prim_numbered core_numbered mark_eq
+several_marks_copied = refl
+
+-- [ ] swap
+pub one_to_swap : verdict_of [] (quotation ([]) ∷ swap ∷ []) ≡ refuses 0 (Underflow 2 1) 3
+unfolding prim_numbered core_numbered mark_eq
+one_to_swap = refl
+
+-- 7 2 /i 3 <
+pub numbers_compared : marks_of (walk_of [] 9 (number 7 ∷ number 2 ∷ /i ∷ number 3 ∷ < ∷ [])) ≡ any ∷ []
+unfolding prim_numbered core_numbered mark_eq
+numbers_compared = refl
+
+-- 7 /i
+pub one_to_divide : verdict_of [] (number 7 ∷ /i ∷ []) ≡ refuses 0 (Underflow 2 1) 2
+unfolding prim_numbered core_numbered mark_eq
+one_to_divide = refl
+
+-- t [ ] [ ] ? call: nothing is known of a value that is chosen
+pub chosen_unknown : verdict_of [] (yes ∷ quotation ([]) ∷ quotation ([]) ∷ choose ∷ call ∷ []) ≡ refuses 0 NotKnown 7
+unfolding prim_numbered core_numbered mark_eq
+chosen_unknown = refl
 
 -- What a word leaves.
 
