@@ -72,12 +72,12 @@ three_taken_as (z ∷ y ∷ []) w k = refl
 three_taken_as (z ∷ y ∷ x ∷ s) w k = refl
 
 -- a procedure is followed from the values that are taken
-does_follow : {o : Option ℕ} (P : Program) (a : ℕ) (ins : List (List ℕ)) (p : Procedure o) (st : State Value) → length ins ≤ 3 → does a (by_inputs texts (names P) ins p) st ≡ taking (length ins) [] st.stack st.world (λ vs st'. given a st'.stack (followed texts (names P) p vs st'.world))
-does_follow P a [] p st few = refl
-does_follow P a (_ ∷ []) p st few = one_taken_as st.stack st.world (λ vs st'. given a st'.stack (followed texts (names P) p vs st'.world))
-does_follow P a (_ ∷ _ ∷ []) p st few = two_taken_as st.stack st.world (λ vs st'. given a st'.stack (followed texts (names P) p vs st'.world))
-does_follow P a (_ ∷ _ ∷ _ ∷ []) p st few = three_taken_as st.stack st.world (λ vs st'. given a st'.stack (followed texts (names P) p vs st'.world))
-does_follow P a (_ ∷ _ ∷ _ ∷ _ ∷ ins) p st few = absurd (omega (arith, few))
+does_follow : {o : Option ℕ} (P : Program) (a n : ℕ) (p : Procedure o) (st : State Value) → n ≤ 3 → does a (by_inputs texts (names P) n p) st ≡ taking n [] st.stack st.world (λ vs st'. given a st'.stack (followed texts (names P) p vs st'.world))
+does_follow P a zero p st few = refl
+does_follow P a (suc zero) p st few = one_taken_as st.stack st.world (λ vs st'. given a st'.stack (followed texts (names P) p vs st'.world))
+does_follow P a (suc (suc zero)) p st few = two_taken_as st.stack st.world (λ vs st'. given a st'.stack (followed texts (names P) p vs st'.world))
+does_follow P a (suc (suc (suc zero))) p st few = three_taken_as st.stack st.world (λ vs st'. given a st'.stack (followed texts (names P) p vs st'.world))
+does_follow P a (suc (suc (suc (suc n)))) p st few = absurd (omega (arith, few))
 
 -- whether a word of this sort that isn't inline does by its effect: core words and top-level phrases don't
 abbrev pub HasEffect : Program → ℕ → Sort → Type 0
@@ -287,14 +287,14 @@ module _ (P : Program) (C : Context) where
     follows p i a b ms st E e h = taking_does i [] [] b ms st.stack st.world (λ vs st'. given a st'.stack (followed texts (names P) p vs st'.world)) E (Underflow i (length ms)) refl e.0 h
 
     -- Each procedure does in a run what it does in a walk.
-    procedure_does : {o : Option ℕ} (p : Procedure o) (ins : List (List ℕ)) → length ins ≤ 3 → (a : ℕ) (b : Option Row) (ms : List Mark) (st : State Value) → OnState P C b ms st → D (procedure_doing (length ins) p b ms) (does a (by_inputs texts (names P) ins p) st)
-    procedure_does (leaves places) ins few a b ms st e =
-        subst (λ x. D (procedure_doing (length ins) (leaves places) b ms) x) (sym (does_follow P a ins (leaves places) st few)) (follows (leaves places) (length ins) a b ms st (λ taken rest. gives (on b (piled (picked any taken places) rest))) e (λ taken rest vs r x q. (back_on (picked any taken places) (picked (plain no) vs places) b rest r (marks_back_at taken vs places x) q, e.1)))
-    procedure_does (curries j k p) ins few a b ms st e =
-        subst (λ x. D (procedure_doing (length ins) (curries j k p) b ms) x) (sym (does_follow P a ins (curries j k p) st few)) (follows (curries j k p) (length ins) a b ms st (λ taken rest. gives (on b (curried_mark (mark_at taken j) (mark_at taken k) ∷ rest))) e (λ taken rest vs r x q. curried_fits (mark_at taken j) (mark_at taken k) (value_at texts vs j) (value_at texts vs k) (mark_back taken vs j x) (mark_back taken vs k x) a (followed texts (names P) p vs st.world) b rest r st.world e.1 (followed_regular (names P) p vs st.world) q))
-    procedure_does (composes j k p) ins few a b ms st e =
-        subst (λ x. D (procedure_doing (length ins) (composes j k p) b ms) x) (sym (does_follow P a ins (composes j k p) st few)) (follows (composes j k p) (length ins) a b ms st (λ taken rest. gives (on b (composed_mark (mark_at taken j) (mark_at taken k) ∷ rest))) e (λ taken rest vs r x q. composed_fits (mark_at taken j) (mark_at taken k) (value_at texts vs j) (value_at texts vs k) (mark_back taken vs j x) (mark_back taken vs k x) a (followed texts (names P) p vs st.world) b rest r st.world e.1 (followed_regular (names P) p vs st.world) q))
-    procedure_does {o = o} p ins few a b ms st e = regular_does a (length ins) o (by_inputs texts (names P) ins p) (inputs_regular (names P) ins p few) b ms st e
+    procedure_does : {o : Option ℕ} (p : Procedure o) (i : ℕ) → i ≤ 3 → (a : ℕ) (b : Option Row) (ms : List Mark) (st : State Value) → OnState P C b ms st → D (procedure_doing i p b ms) (does a (by_inputs texts (names P) i p) st)
+    procedure_does (leaves places) i few a b ms st e =
+        subst (λ x. D (procedure_doing i (leaves places) b ms) x) (sym (does_follow P a i (leaves places) st few)) (follows (leaves places) i a b ms st (λ taken rest. gives (on b (piled (picked any taken places) rest))) e (λ taken rest vs r x q. (back_on (picked any taken places) (picked (plain no) vs places) b rest r (marks_back_at taken vs places x) q, e.1)))
+    procedure_does (curries j k p) i few a b ms st e =
+        subst (λ x. D (procedure_doing i (curries j k p) b ms) x) (sym (does_follow P a i (curries j k p) st few)) (follows (curries j k p) i a b ms st (λ taken rest. gives (on b (curried_mark (mark_at taken j) (mark_at taken k) ∷ rest))) e (λ taken rest vs r x q. curried_fits (mark_at taken j) (mark_at taken k) (value_at texts vs j) (value_at texts vs k) (mark_back taken vs j x) (mark_back taken vs k x) a (followed texts (names P) p vs st.world) b rest r st.world e.1 (followed_regular (names P) p vs st.world) q))
+    procedure_does (composes j k p) i few a b ms st e =
+        subst (λ x. D (procedure_doing i (composes j k p) b ms) x) (sym (does_follow P a i (composes j k p) st few)) (follows (composes j k p) i a b ms st (λ taken rest. gives (on b (composed_mark (mark_at taken j) (mark_at taken k) ∷ rest))) e (λ taken rest vs r x q. composed_fits (mark_at taken j) (mark_at taken k) (value_at texts vs j) (value_at texts vs k) (mark_back taken vs j x) (mark_back taken vs k x) a (followed texts (names P) p vs st.world) b rest r st.world e.1 (followed_regular (names P) p vs st.world) q))
+    procedure_does {o = o} p i few a b ms st e = regular_does a i o (by_inputs texts (names P) i p) (inputs_regular (names P) i p few) b ms st e
 
     -- what takes i values by a declared height and runs a callable
     popped_over : (i : ℕ) (taken : List Mark) (o : Option ℕ) (b : Option Row) (ms : List Mark) (s : List Value) (u : Rule) (a : Act) → StandsOn C.inputs C.row b ms s → ((r : List Value) (rest : List Mark) → Over i r s → StandsOn C.inputs C.row b rest r → D (gives (left_on o b rest)) a) → D (elim (popped i taken ms) [ Some q ↦ gives (left_on o b q.1) | None ↦ breaks u ]) a
@@ -407,7 +407,7 @@ module _ (P : Program) (C : Context) where
       prim_does : (a : ℕ) (o : Option Primitive) → ((p : Primitive) → o ≡ Some p → length p.word.ins ≤ 3) → (b : Option Row) (ms : List Mark) (st : State Value) → OnState P C b ms st → D (prim_doing o b ms) (prim_act P a o st)
       unfolding prim_fn
       prim_does a None few b ms st e = tt
-      prim_does a (Some p) few b ms st e = procedure_does p.does p.word.ins (few p refl) a b ms st e
+      prim_does a (Some p) few b ms st e = procedure_does p.does (length p.word.ins) (few p refl) a b ms st e
 
       core_does : (c : Option Core) (b : Option Row) (ms : List Mark) (st : State Value) → OnState P C b ms st → D (core_doing P c b ms) (core_act P c st)
       core_does None b ms st e = tt

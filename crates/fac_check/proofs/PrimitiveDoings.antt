@@ -1,34 +1,17 @@
 -- What the operations of the code's table of primitives do in the checker's walk.
-use Rattle.std.proofs.Common.{◌≡◌, ℕ, zero, suc, List, [], ◌∷◌, ◌++◌, length, map, Bool, true, false, Option, Some, None, option_map, refl, sym, ap, ◌∙◌, ◌<◌, arith}
-use Rattle.std.specs.Prelude.{slice_get}
-use Rattle.std.proofs.lemmas.List.{length-map}
+use Rattle.std.proofs.Common.{◌≡◌, ℕ, List, length, Bool, true, false, Option, Some, None, option_map, refl, sym, ap, ◌∙◌}
 use Rattle.fac_lang.specs.Texts.{Mark}
 use Rattle.fac_lang.specs.PrimitiveWords.{outputs_of}
-use Rattle.fac_lang.specs.Primitives.{Primitive, built_primitives, later_primitives, prim_numbered, built_count}
-use Rattle.fac_lang.specs.Operations.{Doing as Does, operation_does, RowSeen, primitive_does, primitive_seen, row_seen, rows_seen, IsOperationOf}
-use Rattle.fac_lang.specs.declared.primitive_table.PrimitiveRow.{PrimitiveRow}
+use Rattle.fac_lang.specs.Primitives.{Primitive, prim_numbered}
+use Rattle.fac_lang.specs.Operations.{Doing as Does, operation_does, primitive_does, IsOperationOf}
 use Rattle.fac_lang.specs.declared.primitive_table.Operation.{Operation}
 use Rattle.fac_lang.specs.declared.primitive_table.Operation.TheVariants as operation
 use Rattle.fac_abs.specs.Marks.{Row}
 use Rattle.fac_check.specs.Flow.{Doing, by_height, procedure_doing, prim_doing}
 
-rows_counted : length rows_seen ≡ built_count
-unfolding rows_seen built_count
-rows_counted = length-map built_primitives primitive_seen
-
--- the number of a row of the code's table is that of a primitive that is built
-pub row_built : (rows : List PrimitiveRow) (k : ℕ) → map row_seen rows ≡ rows_seen → k < length rows → k < built_count
-row_built rows k same l = (let long : length rows ≡ built_count = sym (length-map rows row_seen) ∙ ap length same ∙ rows_counted in omega (arith, l))
-
-same_row : (built later : List Primitive) (k : ℕ) (d : Does) (p : Primitive) → option_map (λ (r : RowSeen). r.doing) (slice_get (map primitive_seen built) k) ≡ Some d → slice_get (built ++ later) k ≡ Some p → primitive_does p ≡ d
-same_row [] later k d p h e = absurd (cc)
-same_row (q ∷ built) later zero d p h e = (let same : q ≡ p = cc in let does : primitive_does q ≡ d = cc in ap primitive_does (sym same) ∙ does)
-same_row (q ∷ built) later (suc k) d p h e = same_row built later k d p h e
-
 -- the operation of a number does what its primitive does
 operation_is : (k : ℕ) (o : Operation) (p : Primitive) → IsOperationOf k o → prim_numbered k ≡ Some p → primitive_does p ≡ operation_does o
-unfolding rows_seen prim_numbered
-operation_is k o p h e = same_row built_primitives later_primitives k (operation_does o) p h e
+operation_is k o p h e = (let same : Some (primitive_does p) ≡ Some (operation_does o) = sym (ap (option_map primitive_does) e) ∙ h in cc)
 
 -- what it does in the walk
 abbrev pub walked_so : Does → Option Row → List Mark → Doing
@@ -51,6 +34,7 @@ other_kind operation.Compose f g h = absurd (h refl)
 other_kind _ f g h = refl
 
 nothing_known : (o : Operation) (b : Option Row) (ms : List Mark) → makes_marks o ≡ false → by_height (operation_does o).takes (operation_does o).outs b ms ≡ walked_so (operation_does o) b ms
+unfolding operation_does
 nothing_known (operation.Shuffle takes places) b ms e = absurd (cc)
 nothing_known operation.Curry b ms e = absurd (cc)
 nothing_known operation.Compose b ms e = absurd (cc)

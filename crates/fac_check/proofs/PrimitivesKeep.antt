@@ -61,12 +61,12 @@ module _ (N : Names) where
   followed_regular (reads go) vs w = followed_regular (go (line_in w.input)) vs (record w { input = behind_line w.input })
 
   -- as a function of no more than three inputs
-  pub inputs_regular : {o : Option ℕ} (ins : List (List ℕ)) (p : Procedure o) → length ins ≤ 3 → RegularFn (length ins) o (by_inputs texts N ins p)
-  inputs_regular [] p few = (refl, λ w. followed_regular p [] w)
-  inputs_regular (_ ∷ []) p few = (refl, λ x w. followed_regular p (x ∷ []) w)
-  inputs_regular (_ ∷ _ ∷ []) p few = (refl, λ x y w. followed_regular p (x ∷ y ∷ []) w)
-  inputs_regular (_ ∷ _ ∷ _ ∷ []) p few = (refl, λ x y z w. followed_regular p (x ∷ y ∷ z ∷ []) w)
-  inputs_regular (_ ∷ _ ∷ _ ∷ _ ∷ ins) p few = absurd (omega (arith, few))
+  pub inputs_regular : {o : Option ℕ} (n : ℕ) (p : Procedure o) → n ≤ 3 → RegularFn n o (by_inputs texts N n p)
+  inputs_regular zero p few = (refl, λ w. followed_regular p [] w)
+  inputs_regular (suc zero) p few = (refl, λ x w. followed_regular p (x ∷ []) w)
+  inputs_regular (suc (suc zero)) p few = (refl, λ x y w. followed_regular p (x ∷ y ∷ []) w)
+  inputs_regular (suc (suc (suc zero))) p few = (refl, λ x y z w. followed_regular p (x ∷ y ∷ z ∷ []) w)
+  inputs_regular (suc (suc (suc (suc n)))) p few = absurd (omega (arith, few))
 
 -- The table of primitives: no word has more than three inputs.
 abbrev takes_few : Primitive → Bool
@@ -84,7 +84,7 @@ few_inputs k p e = leb-true _ _ (one_passes (built_primitives ++ later_primitive
 -- so each primitive takes and gives as many values as its word is written to
 pub prim_regular : (N : Names) (k : ℕ) (p : Primitive) → prim_numbered k ≡ Some p → RegularFn (length p.word.ins) (outputs_of p.word) (prim_fn texts N p)
 unfolding prim_fn
-prim_regular N k p e = inputs_regular N p.word.ins p.does (few_inputs k p e)
+prim_regular N k p e = inputs_regular N (length p.word.ins) p.does (few_inputs k p e)
 
 -- The effect of a primitive word.
 abbrev pub word_numbers : PrimitiveWord → Height

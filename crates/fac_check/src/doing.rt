@@ -17,7 +17,7 @@ ghost use Rattle.fac_check.specs.Walking.{IsDoing, DoesAs, doing_seen, PopsTwo, 
 ghost use Rattle.fac_lang.specs.declared.program.Program.{Program as ProgramSeen};
 
 use fac_abs::{Marks, Rule};
-use fac_lang::{Memory, Operation, Sort, What, WordDef, operation_of, primitives};
+use fac_lang::{Memory, Operation, Sort, What, WordDef, is_primitive, operation_of};
 use fac_locals::Closed;
 
 /// What a walk comes to.
@@ -255,7 +255,7 @@ fn primitive(
     ensures there { IfOk result (λ doing. IsDoing marks.new doing) }
     ensures does { IfOk result (λ doing. (p : Primitive) → prim_numbered number ≡ Some p → ins ≡ length p.word.ins → outs ≡ outputs_of p.word → DoesAs marks.old marks.new stack doing (prim_doing (Some p) None)) }
 {
-    if number as usize >= primitives().len() {
+    if !is_primitive(number) {
         return Err(Memory);
     }
     match operation_of(number) {

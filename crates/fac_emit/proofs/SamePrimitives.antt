@@ -9,7 +9,8 @@ use Rattle.fac_lang.specs.declared.error_name.ErrorName.{ErrorName}
 use Rattle.fac_lang.specs.declared.error_name.ErrorName.TheVariants.{NotInteger, Overflow, TextTooLong}
 use Rattle.fac_lang.specs.Printed.{Names, shown_object, shown, printed}
 use Rattle.fac_lang.specs.Primitives.{Shuffle, s_drop, s_dup, s_swap, s_over, s_pick, s_rot, s_unrot, s_nip, s_dupd, s_swapd, s_2drop, s_2dup, s_3drop, s_3dup, s_2over, s_2nip, moves, moved, Prim, shuffle, p_curry, p_compose, p_throw, p_not, p_and, p_or, p_choose, p_add, p_sub, p_mul, p_show, prim_numbered, prim_fn, Gives, gives, Fn, fn0, fn1, fn2, fn3, or_bad, want_integer, integer_or, seen_integer, seen_no, unless_bad, written, most_elements, give1, truth}
-use Rattle.fac_lang.specs.Forms.{is_member, built_primitives, is_built_primitive}
+use Rattle.fac_lang.specs.Forms.{is_member}
+use Rattle.fac_lang.specs.Primitives.{is_built_primitive}
 use Rattle.fac_lang.specs.Meaning.{texts, seen}
 use Rattle.fac_prim.specs.Cells.{MValue, m_plain, m_fun, m_seen, cells}
 use Rattle.fac_emit.specs.View.{Templates, value_view, values_view, object_view, world_view, option_view, gives_view}

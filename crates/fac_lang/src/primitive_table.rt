@@ -1,6 +1,6 @@
 //! The table of the primitive words that are built. The number of a row is that of the primitive and of its word.
 ghost use Rattle.std.specs.Prelude.{◌≡◌, ◌<◌, map, length};
-ghost use Rattle.fac_lang.specs.Primitives.{built_count};
+ghost use Rattle.fac_lang.specs.Primitives.{built_count, is_built_primitive};
 ghost use Rattle.fac_lang.specs.Operations.{row_seen, rows_seen, IsOperationOf};
 
 /// A primitive word: how it is written, and what it does. Names and effects are those of the Factor Handbook's vocabularies.
@@ -131,4 +131,11 @@ pub fn operation_of(number: u32) -> Operation
         Some(row) => row.does,
         None => unreachable!(),
     }
+}
+
+/// Whether a primitive that is built has this number.
+pub fn is_primitive(number: u32) -> bool
+    ensures { result ≡ is_built_primitive number }
+{
+    (number as usize) < primitives().len()
 }

@@ -5,7 +5,8 @@ use Rattle.std.specs.List.{list_all}
 use Rattle.std.specs.Str.{bytes_eq}
 use Rattle.std.proofs.lemmas.Bool.Decides.{Decides-ltb}
 use Rattle.std.proofs.lemmas.List.{length_push}
-use Rattle.fac_lang.specs.Forms.{IsBuilt, IsBuiltText, IsBuiltItem, IsBuiltSort, AreBuiltWords, IsDefinedWord, ArePlainInputs, IsPlainLeaving, built_primitives, is_built_primitive, is_built_core, primitive_numbers, has_no_repeats, numbers_before}
+use Rattle.fac_lang.specs.Forms.{IsBuilt, IsBuiltText, IsBuiltItem, IsBuiltSort, AreBuiltWords, IsDefinedWord, ArePlainInputs, IsPlainLeaving, is_built_core, primitive_numbers, has_no_repeats, numbers_before}
+use Rattle.fac_lang.specs.Primitives.{is_built_primitive}
 use Rattle.fac_lang.specs.CoreWords.{core_word}
 use Rattle.fac_lang.specs.Signatures.{never, leaves}
 use Rattle.fac_lang.specs.PrimitiveWords.{PrimitiveWord, primitive_word, plain_inputs}

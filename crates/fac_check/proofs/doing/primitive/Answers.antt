@@ -1,22 +1,23 @@
-use Rattle.std.proofs.Common.{None, ◌∙◌, arith}
+use Rattle.std.proofs.Common.{None, ◌∙◌}
+use Rattle.fac_lang.specs.Operations.{operation_does}
 use Rattle.fac_lang.specs.declared.primitive_table.Operation.TheVariants as operation
 use Rattle.fac_abs.specs.Seen.{stack_of}
-use Rattle.fac_check.proofs.PrimitiveDoings.{row_built, operation_walked, other_kind, other_walked}
+use Rattle.fac_check.proofs.PrimitiveDoings.{operation_walked, other_kind, other_walked}
 use Rattle.fac_check.proofs.WordItems.{ok_maps}
 use Rattle.fac_check.proofs.doing.primitive.Goals as goal
 
-pub operation_of-requires : goal.operation_of-requires
-operation_of-requires c = row_built c.primitives.result.now c.args.number c.primitives.ensures (omega arith)
-
 pub returns-in-Shuffle-clause-does : goal.returns-in-Shuffle-clause-does
+unfolding operation_does
 returns-in-Shuffle-clause-does c =
     ok_maps c.shuffle.result (λ r does p e ins outs N texts. does N texts ∙ operation_walked c.args.number (operation.Shuffle c.in-Shuffle.takes c.in-Shuffle.leaves) p None (stack_of N c.args.marks.now c.args.stack) c.in-Shuffle.ensures e) c.shuffle.ensures.does
 
 pub returns-in-Curry-clause-does : goal.returns-in-Curry-clause-does
+unfolding operation_does
 returns-in-Curry-clause-does c =
     ok_maps c.curry.result (λ r does p e ins outs N texts. does N texts ∙ operation_walked c.args.number operation.Curry p None (stack_of N c.args.marks.now c.args.stack) c.in-Curry.ensures e) c.curry.ensures.does
 
 pub returns-in-Compose-clause-does : goal.returns-in-Compose-clause-does
+unfolding operation_does
 returns-in-Compose-clause-does c =
     ok_maps c.compose.result (λ r does p e ins outs N texts. does N texts ∙ operation_walked c.args.number operation.Compose p None (stack_of N c.args.marks.now c.args.stack) c.in-Compose.ensures e) c.compose.ensures.does
 
