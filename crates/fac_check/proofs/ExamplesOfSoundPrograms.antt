@@ -5,7 +5,6 @@ use Rattle.fac_lang.specs.declared.program.Program.{Program}
 use Rattle.fac_lang.specs.Texts.{Value}
 use Rattle.fac_lang.specs.World.{World}
 use Rattle.fac_lang.specs.Primitives.{prim_numbered}
-use Rattle.fac_lang.specs.PrimitiveWords.{primitive_word}
 use Rattle.fac_lang.specs.Meaning.{core_numbered, nowhere, run, start, word_text}
 use Rattle.fac_lang.specs.RunningLaws.{IsNotStuck}
 use Rattle.fac_lang.specs.Whole.{IsWhole}
@@ -13,7 +12,8 @@ use Rattle.fac_lang.proofs.DemoWords.{number, own, +, show}
 use Rattle.fac_lang.proofs.Demo.{plain_program}
 use Rattle.fac_lang.proofs.ExamplesOfObjects.{name, shapes, kept_in_array}
 use Rattle.fac_lang.proofs.ExamplesOfWhole.{sum_whole, shapes_whole, kept_whole}
-use Rattle.fac_abs.specs.Marks.{mark_eq, underflow}
+use Rattle.fac_abs.specs.Marks.{mark_eq}
+use Rattle.fac_abs.specs.declared.rule.Rule.TheVariants.{Underflow}
 use Rattle.fac_check.specs.CallableEffects.{fits, callable_height}
 use Rattle.fac_check.specs.Verdicts.{verdict}
 use Rattle.fac_check.specs.Standing.{Valid}
@@ -44,7 +44,7 @@ abbrev rest : Program
 rest = plain_program (+ ∷ show ∷ [])
 
 rest_whole : IsWhole rest
-unfolding primitive_word
+unfolding prim_numbered
 rest_whole =
     record { items_fit = refl; literals_fit = refl; sorts_fit = refl; shapes_fit = refl; arrays_earlier = refl; arrays_once = refl; top_last = refl; top_phrase = refl; items_spare = refl; literals_spare = refl; bound = refl; holes_in_fries = refl; written_effects = refl; method_effects = refl; marks_of_bodies = refl; few_names = refl; small_tests = refl; slots_differ = refl; few_slots = refl; class_names_differ = refl; classes_end = refl; words_differ = refl; methods_differ = refl }
 
@@ -57,7 +57,7 @@ pub rest_sound : (values : List Value) (world : World Value) (n : ℕ) → Valid
 rest_sound = (accepted_are_safe rest 2 rest_whole rest_accepted).phrase
 
 -- on one value it is refused
-pub rest_refused : verdict rest 1 ≡ Some (rest.top, record { rule = underflow 2 1; place = nowhere })
+pub rest_refused : verdict rest 1 ≡ Some (rest.top, record { rule = Underflow 2 1; place = nowhere })
 unfolding prim_numbered core_numbered mark_eq
 rest_refused = refl
 
