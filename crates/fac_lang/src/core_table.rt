@@ -5,6 +5,7 @@ ghost use Rattle.fac_lang.specs.WrittenWords.{written_word};
 
 use crate::word_row::WordRow;
 
+#[rattlefmt::skip]
 static CORE_WORDS: [WordRow; 3] = [
     WordRow { vocab: "kernel", name: "call", ins: &["quot"], outs: Some(&[]) },
     WordRow { vocab: "kernel", name: "dip", ins: &["x", "quot"], outs: Some(&["x"]) },

@@ -70,6 +70,7 @@ pub enum Operation {
     Show,
 }
 
+#[rattlefmt::skip]
 static PRIMITIVES: [PrimitiveRow; 38] = [
     PrimitiveRow { word: WordRow { vocab: "kernel", name: "drop", ins: &["x"], outs: Some(&[]) }, does: Operation::Shuffle { takes: 1, leaves: &[] } },
     PrimitiveRow { word: WordRow { vocab: "kernel", name: "dup", ins: &["x"], outs: Some(&["x", "x"]) }, does: Operation::Shuffle { takes: 1, leaves: &[0, 0] } },

@@ -254,9 +254,10 @@ is_numbered ps rest p e =
 
 primitives_built : (bound n : ℕ) (ps rest : List Primitive) → n ≡ length ps → ps ++ rest ≡ built_primitives → AreBuiltWords bound (words_from Prim n (map (λ (p : Primitive). p.word) rest))
 primitives_built bound n ps [] same e = tt
-primitives_built bound n ps (p ∷ rest) same e =
-    (record { row = p.word; row_is = ap primitive_word same ∙ primitive_at ps rest p e; is_built = ap is_built_primitive same ∙ is_numbered ps rest p e; effect_is = refl; not_inline = refl; not_recursive = refl },
-    primitives_built bound (n + 1) (ps ++ p ∷ []) rest (let more = length_push ps p in omega (arith, same, more)) (append_assoc ps (p ∷ []) rest ∙ e))
+primitives_built bound n ps (p ∷ rest) same e = (
+  record { row = p.word; row_is = ap primitive_word same ∙ primitive_at ps rest p e; is_built = ap is_built_primitive same ∙ is_numbered ps rest p e; effect_is = refl; not_inline = refl; not_recursive = refl },
+  primitives_built bound (n + 1) (ps ++ p ∷ []) rest (let more = length_push ps p in omega (arith, same, more)) (append_assoc ps (p ∷ []) rest ∙ e),
+)
 
 -- the core words that are built, from this number on
 abbrev AreCoreRows : ℕ → List PrimitiveWord → Type 0

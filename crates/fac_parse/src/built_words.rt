@@ -87,7 +87,12 @@ fn word(alloc: Global, row: &WordRow, sort: Sort) -> Result<WordDef, Memory>
 }
 
 // Adds the word of a row.
-fn add_word(alloc: Global, words: &mut List<WordDef>, row: &WordRow, sort: Sort) -> Result<(), Memory>
+fn add_word(
+    alloc: Global,
+    words: &mut List<WordDef>,
+    row: &WordRow,
+    sort: Sort,
+) -> Result<(), Memory>
     ensures { OnOk result (words.new ≡ words.old ++ row_word (written_word row.now) sort ∷ []) }
 {
     let word = word(alloc, row, sort)?;
