@@ -94,6 +94,16 @@ EXAMPLES = [
     ("USING: kernel ; : w ( -- ) " + "1 drop " * 100_000 + ";", 0, 0, "", ""),
     ("USING: kernel ; " + "[ " * 64 + "] call " * 64, 0, 128, "", ""),
     ("USING: kernel ; " + "[ " * 256 + "] " * 256 + "drop", 0, 2, "", ""),
+    ("USING: math prettyprint ; 7 2 /i . -7 2 /i . 7 -2 /i . -7 -2 /i . 1 2 /i .", 0, 20, "3\n-3\n-3\n3\n0\n", ""),
+    ("USING: math prettyprint ; 7 2 mod . -7 2 mod . 7 -2 mod . -7 -2 mod .", 0, 16, "1\n-1\n1\n-1\n", ""),
+    ("USING: math prettyprint ; " + LEAST + " -1 mod .", 0, 4, "0\n", ""),
+    ("USING: math prettyprint ; 5 2 shift . -5 -1 shift . 0 200 shift .", 0, 12, "20\n-3\n0\n", ""),
+    ("USING: math prettyprint ; 5 -200 shift . -5 -200 shift .", 0, 8, "0\n-1\n", ""),
+    ("USING: math prettyprint ; -1 127 shift . 1 126 shift .", 0, 8, LEAST + "\n" + str(2**126) + "\n", ""),
+    ("USING: math prettyprint ; 12 10 bitand . 12 10 bitor . 12 10 bitxor . 12 bitnot .", 0, 15, "8\n14\n6\n-13\n", ""),
+    ("USING: math prettyprint ; -1 5 bitand . -8 5 bitor . -1 5 bitxor .", 0, 12, "5\n-3\n-6\n", ""),
+    ("USING: math prettyprint ; 1 2 < . 2 2 < . 1 2 > . 2 1 > .", 0, 16, "t\nf\nf\nt\n", ""),
+    ("USING: math prettyprint ; 2 2 <= . 3 2 <= . 2 2 >= . 1 2 >= .", 0, 16, "t\nf\nt\nf\n", ""),
     # programs that fail
     ("USING: math ; " + GREATEST + " 1 +", 1, 3, "", "error: overflow in math:+\n"),
     ("USING: math prettyprint ; 7 . " + LEAST + " 1 - 8 .", 1, 5, "7\n", "error: overflow in math:-\n"),
@@ -106,6 +116,14 @@ EXAMPLES = [
     ("USING: kernel ; 1 2 curry", 1, 3, "", "error: wrong-values in kernel:curry: 2\n"),
     ("USING: kernel ; 1 2 compose", 1, 3, "", "error: wrong-values in kernel:compose: 1\n"),
     ("USING: kernel ; [ 1 ] 2 compose", 1, 3, "", "error: wrong-values in kernel:compose: 2\n"),
+    ("USING: math ; 1 0 /i", 1, 3, "", "error: zero-divisor in math:/i\n"),
+    ("USING: math ; 0 0 mod", 1, 3, "", "error: zero-divisor in math:mod\n"),
+    ("USING: math ; t 0 /i", 1, 3, "", "error: not-integer in math:/i: t\n"),
+    ("USING: math ; " + LEAST + " -1 /i", 1, 3, "", "error: overflow in math:/i\n"),
+    ("USING: math ; 1 127 shift", 1, 3, "", "error: overflow in math:shift\n"),
+    ("USING: math ; -1 128 shift", 1, 3, "", "error: overflow in math:shift\n"),
+    ("USING: math ; 1 f <", 1, 3, "", "error: not-integer in math:<: f\n"),
+    ("USING: kernel math ; [ ] bitnot", 1, 2, "", "error: not-integer in math:bitnot: [ ... ]\n"),
     # files that aren't of the grammar
     ("1 ;", 3, 0, "", NOT_EXPECTED),
     ("USING: USING: ; ;", 3, 0, "", NOT_EXPECTED),
@@ -208,7 +226,8 @@ def wrong_examples():
 HEAD = "USING: kernel math prettyprint ;"
 
 NUMBERS = [0, 1, 2, 3, -1, 5, 7, 10**9, 2**64, model.GREATEST_INTEGER, model.LEAST_INTEGER]
-OPERATIONS = model.ARITHMETIC + model.LOGIC + [model.WRITE]
+# What computes, and `.` twice, so that more of it is seen.
+OPERATIONS = model.ARITHMETIC + model.LOGIC + [model.WRITE] * 2
 # Those that apply callables and those that make them, the former twice as often.
 CALLABLE_WORDS = [model.CALL, model.DIP, model.IF, model.CURRY, model.COMPOSE, model.IF, model.DIP, model.CALL]
 
@@ -972,19 +991,25 @@ def integers_at_limits(chance):
     value = chance.choice(near) + chance.randint(-2, 2)
     zeros = "0" * chance.randint(1, 60) if happens(chance, 0.2) else ""
     operand = chance.choice([2, -1, 1, 0, 3, model.LEAST_INTEGER, model.GREATEST_INTEGER, 2**64, -(2**64), 2**63])
-    return source_of(f"{'-' if value < 0 else ''}{zeros}{abs(value)} {operand} {chance.choice('+-*')} .")
+    return source_of(f"{'-' if value < 0 else ''}{zeros}{abs(value)} {operand} {chance.choice(BINARY)} .")
+
+
+# The words of two integers, by their names.
+BINARY = [word.name for word in model.ARITHMETIC if word.inputs == 2]
 
 
 def arithmetic(chance):
-    """An operation on two integers of any width."""
+    """An operation on two integers of any width, of which the second is often a small one or a number of bits."""
     first, second = [chance.randint(model.LEAST_INTEGER, model.GREATEST_INTEGER) >> chance.randint(0, 127) for _ in range(2)]
-    return source_of(f"{first} dup . {second} dup . {chance.choice('+-*')} .")
+    if happens(chance, 0.4):
+        second = chance.choice([chance.randint(-3, 3), chance.randint(-130, 130)])
+    return source_of(f"{first} dup . {second} dup . {chance.choice(BINARY)} dup . bitnot .")
 
 
 def operands(chance):
     """A few operations on three values of any kind."""
     kinds = ["t", "f", "1", "[ ]", "[ 1 ] [ ] compose", "1 [ ] curry", "-5", "2", "0", "-1", GREATEST]
-    words = "+ - * not and or ? . curry compose throw swap rot dup over .".split()
+    words = [word.name for word in OPERATIONS] + "curry compose throw swap rot dup over .".split()
     values = [chance.choice(kinds) for _ in range(3)]
     return source_of(*values, *[chance.choice(words) for _ in range(chance.randint(1, 5))], ". .")
 

@@ -7,7 +7,6 @@ pub mod Reader
 pub mod Vocabularies
 pub mod Resolution
 pub mod Written
-pub mod FirstWords
-pub mod OwnNames
+pub mod KnownNames
 pub mod Resolver
 pub mod PlainEffects

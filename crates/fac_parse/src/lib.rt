@@ -3,8 +3,8 @@
 
 mod built_words;
 mod integers;
+mod known_names;
 mod laws;
-mod own_names;
 mod reader;
 mod resolver;
 mod scanner;

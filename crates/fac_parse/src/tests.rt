@@ -222,7 +222,7 @@ fn programs_and_refused_names(rt: HostRuntime) -> Result<(), Fail> {
         ("", ""),
         (
             "USING: math prettyprint ; 1 -2 + .",
-            "5:1 6:-2 7:word 23 8:word 26 ",
+            "5:1 6:-2 7:word 23 8:word 37 ",
         ),
         (
             "USING: kernel math ; drop dup swap USING: kernel ; over - *",
@@ -248,14 +248,14 @@ fn programs_and_refused_names(rt: HostRuntime) -> Result<(), Fail> {
         ("USING: math.privat ;", "no vocabulary 1:2 math.privat"),
         (
             "USING: math ; : inc ( x -- y ) 1 + ; : twice ( x -- y ) inc inc ; 5 twice",
-            "inc@5 11:1 12:word 23 twice@15 21:word 30 22:word 30 24:5 25:word 31 ",
+            "inc@5 11:1 12:word 23 twice@15 21:word 41 22:word 41 24:5 25:word 42 ",
         ),
-        (": go ( -- ) go ;", "go@2 6:word 30 "),
+        (": go ( -- ) go ;", "go@2 6:word 41 "),
         (": go ( -- ) on ; : on ( -- ) ;", "unknown 1:6 on"),
         (": go ( -- ) ; : go ( -- ) nope ;", "twice 1:8 go"),
         (
             "USING: kernel scratchpad ; dup : dup ( -- ) dup ; dup",
-            "dup@7 11:word 30 5:word 1 13:word 30 ",
+            "dup@7 11:word 41 5:word 1 13:word 41 ",
         ),
     ];
     for (source, want) in sources {
@@ -276,7 +276,7 @@ fn quotations_and_words(rt: HostRuntime) -> Result<(), Fail> {
         ),
         (
             ": w ( -- ) [ [ w ] 2 ] [ ] ;",
-            "w@2 6:[ 7:[ 8:word 30 ] 10:2 ] 12:[ ] ",
+            "w@2 6:[ 7:[ 8:word 41 ] 10:2 ] 12:[ ] ",
         ),
         ("[ foo ] bar", "unknown 1:2 foo"),
         ("[ 1 ] nope [ foo ]", "unknown 1:4 nope"),
@@ -291,7 +291,11 @@ fn quotations_and_words(rt: HostRuntime) -> Result<(), Fail> {
         ),
         (
             "USING: kernel ; call dip if",
-            "4:word 27 5:word 28 6:word 29 ",
+            "4:word 38 5:word 39 6:word 40 ",
+        ),
+        (
+            "USING: math ; /i mod shift bitand bitor bitxor bitnot < > <= >=",
+            "4:word 26 5:word 27 6:word 28 7:word 29 8:word 30 9:word 31 10:word 32 11:word 33 12:word 34 13:word 35 14:word 36 ",
         ),
         ("USING: math combinators ; if", "unknown 1:5 if"),
         ("USING: kernel ; execute", "unknown 1:4 execute"),
