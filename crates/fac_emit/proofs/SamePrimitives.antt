@@ -1,5 +1,5 @@
 -- The primitives do the same with the machine's values as with what they stand for.
-use Rattle.std.proofs.Common.{◌≡◌, ℕ, zero, suc, List, [], ◌∷◌, ◌++◌, Bool, true, false, Option, Some, None, refl, ap, sym, ◌∙◌}
+use Rattle.std.proofs.Common.{◌≡◌, ℕ, zero, suc, List, [], ◌∷◌, ◌++◌, Bool, true, false, Option, Some, None, refl, ap, sym, subst, ◌∙◌}
 use Rattle.std.specs.Prelude.{map, length, nat_eq, set, slice_get}
 use Rattle.std.proofs.lemmas.List.{length-map}
 use Rattle.std.proofs.lemmas.Option.{slice_get-map}
@@ -156,7 +156,8 @@ module _ (T : Templates) where
   further_if false xs ys = refl
 
   lists_same : (xs ys : List MValue) → compare_lists texts (map V xs) (map V ys) ≡ compared (compare_lists cells xs ys)
-  lists_same xs ys = rw (length-map xs V, length-map ys V) (further_if (nat_eq (length xs) (length ys)) xs ys)
+  lists_same xs ys =
+      subst (λ (n : ℕ). ◌≡◌ {A = Compared Value} (elim (nat_eq n (length (map V ys))) [ true ↦ further (pairs_of texts (map V xs) (map V ys)) | false ↦ differ ]) (compared (compare_lists cells xs ys))) (sym (length-map xs V)) (subst (λ (m : ℕ). ◌≡◌ {A = Compared Value} (elim (nat_eq (length xs) m) [ true ↦ further (pairs_of texts (map V xs) (map V ys)) | false ↦ differ ]) (compared (compare_lists cells xs ys))) (sym (length-map ys V)) (further_if (nat_eq (length xs) (length ys)) xs ys))
 
   tuples_if : (b : Bool) (xs ys : List MValue) → ◌≡◌ {A = Compared Value} (elim b [ true ↦ compare_lists texts (map V xs) (map V ys) | false ↦ differ ]) (compared (elim b [ true ↦ compare_lists cells xs ys | false ↦ differ ]))
   tuples_if true xs ys = lists_same xs ys
@@ -197,7 +198,9 @@ module _ (T : Templates) where
   equal_same : (n : ℕ) (w : World MValue) (ps : List (MValue × MValue)) → equal_pairs texts n (world_view T w) (map both ps) ≡ equal_pairs cells n w ps
   equal_same n w [] = refl
   equal_same zero w (p ∷ ps) = refl
-  equal_same (suc n) w (p ∷ ps) = rw (seen_same p.0, seen_same p.1, compare_same w (m_seen p.0) (m_seen p.1)) (pairs_if n w (compare cells w (m_seen p.0) (m_seen p.1)) ps (equal_same n w))
+  equal_same (suc n) w (p ∷ ps) =
+      let same : compare texts (world_view T w) (seen (V p.0)) (seen (V p.1)) ≡ compared (compare cells w (m_seen p.0) (m_seen p.1)) = ap (λ (x : Option Plain). compare texts (world_view T w) x (seen (V p.1))) (seen_same p.0) ∙ ap (λ (y : Option Plain). compare texts (world_view T w) (m_seen p.0) y) (seen_same p.1) ∙ compare_same w (m_seen p.0) (m_seen p.1) in
+      subst (λ (c : Compared Value). ◌≡◌ {A = Equal} (elim c [ differ ↦ equal false | two_callables ↦ not_comparable | further qs ↦ equal_pairs texts n (world_view T w) (qs ++ map both ps) ]) (equal_pairs cells (suc n) w (p ∷ ps))) (sym same) (pairs_if n w (compare cells w (m_seen p.0) (m_seen p.1)) ps (equal_same n w))
 
   module _ (N : Names) where
     -- A procedure that is followed from values, and from what they stand for.
