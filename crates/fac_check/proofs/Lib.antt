@@ -11,6 +11,8 @@ pub mod RowUses
 pub mod ExamplesOfFlow
 pub mod CallablesKeep
 pub mod PrimitivesKeep
+pub mod PrimitivesStay
+pub mod LiteralsStay
 pub mod AcceptedPrograms
 pub mod ExamplesOfSoundPrograms
 pub mod Promised
