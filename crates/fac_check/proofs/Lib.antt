@@ -15,6 +15,8 @@ pub mod PrimitivesStay
 pub mod LiteralsStay
 pub mod AcceptedPrograms
 pub mod ExamplesOfSoundPrograms
+pub mod CountedValues
+pub mod RowPromises
 pub mod Promised
 pub mod StepByStep
 pub mod BuiltWords

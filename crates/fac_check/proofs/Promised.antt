@@ -2,27 +2,21 @@
 use Rattle.std.proofs.Common.{◌≡◌, ◌≤◌, ℕ, zero, suc, List, [], ◌∷◌, ◌++◌, length, Option, Some, None, refl, sym, ap, ◌∙◌, arith, subst}
 use Rattle.std.specs.Prelude.{nat_lt, true, slice_get}
 use Rattle.fac_lang.specs.declared.program.Program.{Program}
-use Rattle.fac_lang.specs.Texts.{Value}
+use Rattle.fac_lang.specs.Texts.{Value, word}
 use Rattle.fac_lang.specs.World.{World, State}
 use Rattle.fac_lang.specs.Eval.{Result, Done, Failed, Spent, Stuck}
-use Rattle.fac_lang.specs.Meaning.{word_text}
+use Rattle.fac_lang.specs.Meaning.{word_text, one_item}
 use Rattle.fac_check.specs.CallableEffects.{callable_height, fits}
 use Rattle.fac_check.specs.Standing.{Valid, EndsSo}
-use Rattle.fac_check.specs.Promises.{AcceptedAreSafe, Lists, Exactly, On, LeftOn, Ends}
+use Rattle.fac_check.specs.Promises.{AcceptedAreSafe, Lists, Exactly, On, LeftOn, Ends, OfRow}
+use Rattle.fac_lang.specs.Effects.{effect_height}
+use Rattle.fac_check.specs.Rows.{effect_leaving, leaving_on, outer_out}
+use Rattle.fac_check.proofs.WalksFit.{StackState}
 use Rattle.fac_check.proofs.ItemsFit.{Over, Leaves}
+use Rattle.fac_check.proofs.CountedValues.{inputs_over, outputs_over}
+use Rattle.fac_check.proofs.RowPromises.{handed, handed_good, inputs_stand, outputs_left}
 use Rattle.fac_check.proofs.LiteralsStay.{Stays, literals_stay}
-use Rattle.fac_check.proofs.AcceptedPrograms.{word_sound, phrase_sound, start_valid}
-
--- so many values on a list, in both forms
-pub inputs_over : (n : ℕ) (inputs below list : List Value) → list ≡ inputs ++ below → length inputs ≡ n → Over n below list
-inputs_over zero [] below list s e = s
-inputs_over zero (x ∷ xs) below list s e = absurd (omega (arith, e))
-inputs_over (suc n) [] below list s e = absurd (omega (arith, e))
-inputs_over (suc n) (x ∷ xs) below list s e = (x, xs ++ below, s, inputs_over n xs below (xs ++ below) refl (omega (arith, e)))
-
-pub outputs_over : (n : ℕ) (below list : List Value) → Over n below list → (vs : List Value) × (list ≡ vs ++ below) × (length vs ≡ n)
-outputs_over zero below list e = ([], e, refl)
-outputs_over (suc n) below list o = let more = outputs_over n below o.1 o.3 in (o.0 ∷ more.0, o.2 ∙ ap (λ (q : List Value). o.0 ∷ q) more.1, omega (arith, more.2))
+use Rattle.fac_check.proofs.AcceptedPrograms.{word_sound, row_sound, phrase_sound, start_valid}
 
 whole_over : (n : ℕ) (values : List Value) → length values ≡ n → Over n [] values
 whole_over zero [] e = refl
@@ -49,8 +43,9 @@ module _ (P : Program) where
 pub accepted_are_safe : AcceptedAreSafe
 accepted_are_safe P count whole accepted = record {
   words = λ w d h e q z budget below st n le on valid.
-      ends_valid P (Leaves P h.outs below) (LeftOn h.outs (Exactly below)) st.world _ valid (literals_stay P fits (callable_height P) n _ st) (left_on P h.outs below) (word_sound P count whole accepted w d h e q z below st n (subst (λ r. Over h.ins r st.stack) on.4 (inputs_over h.ins on.0 on.1 st.stack on.2 on.3)) valid);
-  row_words = ?;
+      ends_valid P (Leaves P h.outs below) (LeftOn h.outs (Exactly below)) st.world _ valid (literals_stay P fits (callable_height P) n (one_item (word w)) st) (left_on P h.outs below) (word_sound P count whole accepted w d h e q z below st n (subst (λ r. Over h.ins r st.stack) on.4 (inputs_over h.ins on.0 on.1 st.stack on.2 on.3)) valid);
+  row_words = λ w d e i x tests budget st n le on valid.
+      ends_valid P (StackState P (handed P tests budget w d) (leaving_on (effect_leaving d.effect) (outer_out d.effect) [])) (LeftOn (effect_height d.effect).outs (OfRow P tests (outer_out d.effect))) st.world _ valid (literals_stay P fits (callable_height P) n (one_item (word w)) st) (outputs_left P tests budget w d) (row_sound P count whole accepted w d e i x (handed P tests budget w d) refl refl n (handed_good P tests budget w d e n le) st (inputs_stand P tests budget w d st on.0 on.1 on.2 on.3 on.4 valid));
   phrase = λ budget st n le many valid.
       ends_valid P (λ st'. Unit {0}) (λ list. Unit {0}) st.world _ valid (literals_stay P fits (callable_height P) n (word_text P P.top) st) (λ st' u. tt) (phrase_sound P count whole accepted st n (whole_over count st.stack many) valid);
   begins = start_valid P;
