@@ -1,5 +1,5 @@
 -- No run changes which literal arrays there are, whatever its end.
-use Rattle.std.proofs.Common.{◌≡◌, ℕ, zero, suc, List, [], ◌∷◌, map, Bool, true, false, Option, Some, None, refl, subst, sym}
+use Rattle.std.proofs.Common.{◌≡◌, ℕ, zero, suc, List, [], ◌∷◌, map, Bool, true, false, Option, Some, None, refl}
 use Rattle.std.specs.Prelude.{slice_get}
 use Rattle.fac_lang.specs.declared.phrase.Height.{Height}
 use Rattle.fac_lang.specs.Texts.{int, yes, no, str, iota, wrd, arr, tup, Text, end, then, Item, lit, lit_arr, quot, word, bind, local, fry, hole, call_eff, exec_eff, next_method, made, next_after, held, known, Value, plain, fun, Callable, text, cur, both}
@@ -12,7 +12,7 @@ use Rattle.fac_lang.specs.declared.program.Sort.TheVariants.{Prim as prim, Core 
 use Rattle.fac_lang.specs.Classes.{has_kind, pick, next}
 use Rattle.fac_lang.specs.Substitution.{put_local, put_holes}
 use Rattle.fac_lang.specs.Eval.{Result, Done, Failed, Spent, Stuck, then_do, Act, wrong, fails, goes, binds, runs, Run, run_callable, go_on, eval}
-use Rattle.fac_lang.specs.Meaning.{texts, names, seen, taking1, taking2, taking3, taking, with_callable, with_word, given, does, does_call, does_dip, does_if, does_execute, does_boa, makes_tuple, Core, c_call, c_dip, c_if, c_execute, c_boa, core_numbered, core_act, prim_act, enters, sort_of, sort_act, truth_value, one_item, either, callable_fits, word_fits, tested_call, tested_execute, pushes_array, generic_of, act, run}
+use Rattle.fac_lang.specs.Meaning.{texts, names, seen, taking1, taking2, taking3, taking, with_callable, with_word, given, does, makes_tuple, Core, c_call, c_dip, c_if, c_execute, c_boa, core_numbered, core_act, prim_act, enters, sort_of, sort_act, truth_value, one_item, either, callable_fits, word_fits, tested_call, tested_execute, pushes_array, generic_of, act, run}
 use Rattle.fac_check.proofs.PrimitivesStay.{StaysGives, StaysFn, prim_stays, getter_stays, setter_stays, putter_stays}
 
 -- behind the run the literal arrays have these addresses

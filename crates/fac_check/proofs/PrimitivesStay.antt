@@ -1,5 +1,5 @@
 -- No primitive and no accessor changes which literal arrays there are, whether it gives values or fails.
-use Rattle.std.proofs.Common.{◌≡◌, ◌+◌, ◌-◌, ℕ, zero, suc, ℤ, List, [], ◌∷◌, ◌++◌, length, Bool, true, false, Option, Some, None, refl, subst}
+use Rattle.std.proofs.Common.{◌≡◌, ◌+◌, ◌-◌, ℕ, suc, ℤ, List, [], ◌∷◌, ◌++◌, length, Bool, true, false, Option, Some, None}
 use Rattle.std.specs.Prelude.{nat_eq, nat_le, not, pos, negsuc, ◌+ℤ◌, ◌-ℤ◌, ◌*ℤ◌, int_le, int_lt, int_div, int_rem, slice_get, take, drop, reverse, set}
 use Rattle.std.specs.Int.{int_bit_and, int_bit_or, int_bit_xor}
 use mir.Syntax.{w128}
@@ -8,13 +8,10 @@ use Rattle.std.specs.Str.{encode_utf8_all, chars, is_utf8}
 use Rattle.fac_lang.specs.Sequences.{Sequence, tuple_of, array_of, sequence_in, sequence_length, sequence_get, sequence_values}
 use Rattle.fac_lang.specs.Equality.{Equal, equal, not_comparable, too_many_pairs, equal_pairs}
 use Rattle.fac_lang.specs.Printed.{printed}
-use Rattle.fac_lang.specs.declared.phrase.Height.{Height}
 use Rattle.fac_lang.specs.Texts.{Plain, int, no, str, iota, Value}
 use Rattle.fac_lang.specs.World.{World, array, ErrorName, not_integer, not_sequence, not_tuple, no_slot, bad_text, bounds, bad_length, zero_divisor, overflow, wrong_values, text_too_long}
 use Rattle.fac_lang.specs.declared.program.Program.{Program}
-use Rattle.fac_lang.specs.Effects.{effect_height}
-use Rattle.fac_lang.specs.PrimitiveWords.{PrimitiveWord, primitive_word, written_effect, shuffle_words, kernel_words, math_words, sequence_words, output_words}
-use Rattle.fac_lang.specs.Primitives.{Moves, moves1, moves2, moves3, moves, moved, Fn, fn0, fn1, fn2, fn3, bad, Prim, shuffle, Shuffle, s_drop, s_dup, s_swap, s_over, s_pick, s_rot, s_unrot, s_nip, s_dupd, s_swapd, s_2drop, s_2dup, s_3drop, s_3dup, s_2over, s_2nip, p_curry, p_compose, p_throw, p_not, p_and, p_or, p_choose, p_equal, p_eq, p_new, p_add, p_sub, p_mul, p_div, p_mod, p_shift, p_bitand, p_bitor, p_bitxor, p_bitnot, p_less, p_greater, p_at_most, p_at_least, p_number_to_string, p_string_to_number, p_length, p_nth, p_set_nth, p_iota, p_append, p_suffix, p_subseq, p_reverse, p_select, p_array, p_1array, p_2array, p_to_array, p_write, p_print, p_nl, p_readln, p_show, p_no_cond, prims, prim_numbered, prim_fn, Gives, gives, or_bad, unless_bad, want_integer, want_sequence, want_string, on_integers, integer_or, nonzero, give1, truth, new_array, short_enough, written, appended, cut, reversed, chosen, copies, set_element, line_from, line_read, most_line_bytes, equality, identity, new_tuple, tuple_class_in, most_elements, seen_integer, seen_string, seen_word, seen_array, natural, index_below, range_within, both_strings, one_string}
+use Rattle.fac_lang.specs.Primitives.{Moves, moves1, moves2, moves3, moves, moved, Fn, fn0, fn1, fn2, fn3, bad, Prim, shuffle, p_curry, p_compose, p_throw, p_not, p_and, p_or, p_choose, p_equal, p_eq, p_new, p_add, p_sub, p_mul, p_div, p_mod, p_shift, p_bitand, p_bitor, p_bitxor, p_bitnot, p_less, p_greater, p_at_most, p_at_least, p_number_to_string, p_string_to_number, p_length, p_nth, p_set_nth, p_iota, p_append, p_suffix, p_subseq, p_reverse, p_select, p_array, p_1array, p_2array, p_to_array, p_write, p_print, p_nl, p_readln, p_show, p_no_cond, prim_fn, Gives, gives, or_bad, unless_bad, want_integer, want_sequence, want_string, on_integers, integer_or, nonzero, give1, truth, new_array, short_enough, written, appended, cut, reversed, chosen, copies, set_element, line_from, line_read, most_line_bytes, equality, identity, new_tuple, tuple_class_in, most_elements, seen_integer, seen_string, seen_word, seen_array, natural, index_below, range_within, both_strings, one_string}
 use Rattle.fac_lang.specs.Objects.{Slot, name_at, seen_tuple, slot_place, want_slot, with_slot, get_slot, set_slot, put_slot}
 use Rattle.fac_lang.specs.Numbers.{in_range, is_zero, shifted, integer_in}
 use Rattle.fac_lang.specs.Meaning.{texts, names, seen, curry_of, compose_of}

@@ -1,14 +1,15 @@
 -- Accepted programs keep what they promise.
-use Rattle.std.proofs.Common.{◌≡◌, ◌≤◌, ℕ, zero, suc, List, [], ◌∷◌, ◌++◌, length, Option, Some, None, refl, sym, ap, ◌∙◌, arith, subst}
-use Rattle.std.specs.Prelude.{nat_lt, true, slice_get}
+use Rattle.std.proofs.Common.{◌≡◌, ℕ, zero, suc, List, [], ◌∷◌, length, Option, Some, None, refl, sym, arith, subst}
+use Rattle.std.specs.Prelude.{slice_get}
 use Rattle.fac_lang.specs.declared.program.Program.{Program}
 use Rattle.fac_lang.specs.Texts.{Value, word}
 use Rattle.fac_lang.specs.World.{World, State}
 use Rattle.fac_lang.specs.Eval.{Result, Done, Failed, Spent, Stuck}
 use Rattle.fac_lang.specs.Meaning.{word_text, one_item}
+use Rattle.fac_lang.specs.RunningLaws.{IsNotStuck}
 use Rattle.fac_check.specs.CallableEffects.{callable_height, fits}
 use Rattle.fac_check.specs.Standing.{Valid, EndsSo}
-use Rattle.fac_check.specs.Promises.{AcceptedAreSafe, Lists, Exactly, On, LeftOn, Ends, OfRow}
+use Rattle.fac_check.specs.Promises.{AcceptedAreSafe, Lists, Exactly, LeftOn, Ends, OfRow}
 use Rattle.fac_lang.specs.Effects.{effect_height}
 use Rattle.fac_check.specs.Rows.{effect_leaving, leaving_on, outer_out}
 use Rattle.fac_check.proofs.WalksFit.{StackState}
@@ -39,6 +40,13 @@ module _ (P : Program) where
   left_on : (outs : Option ℕ) (below : List Value) (st : State Value) → Leaves P outs below st → LeftOn outs (Exactly below) st.stack
   left_on None below st h = h
   left_on (Some n) below st h = (let z = outputs_over n below st.stack h.0 in (z.0, below, z.1, z.2, refl))
+
+-- what ends so isn't stuck
+pub not_stuck : (P : Program) (after : Lists) (r : Result) → Ends P after r → IsNotStuck r
+not_stuck P after (Done st m) h = tt
+not_stuck P after (Failed e st m) h = tt
+not_stuck P after (Spent st i) h = tt
+not_stuck P after Stuck h = h
 
 pub accepted_are_safe : AcceptedAreSafe
 accepted_are_safe P count whole accepted = record {

@@ -1,24 +1,23 @@
 -- The context of a row word's text in which each of its rows is any lists, and each of its inputs any callable that does what the effect says of it.
-use Rattle.std.proofs.Common.{◌≡◌, ◌≤◌, ℕ, zero, suc, List, [], ◌∷◌, ◌++◌, length, drop, Bool, true, false, Option, Some, None, refl, sym, ap, ◌∙◌, arith, subst}
+use Rattle.std.proofs.Common.{◌≡◌, ◌≤◌, ℕ, zero, suc, List, [], ◌∷◌, length, drop, Bool, true, false, Option, Some, None, refl, sym, ap, ◌∙◌, arith, subst}
 use Rattle.std.specs.Prelude.{nat_eq, nat_lt, ◌&&◌, not, slice_get}
 use Rattle.std.proofs.lemmas.Bool.{ltb-false}
 use Rattle.fac_lang.specs.declared.phrase.Place.{Place}
 use Rattle.fac_lang.specs.declared.program.Program.{Program}
 use Rattle.fac_lang.specs.declared.program.WordDef.{WordDef}
-use Rattle.fac_lang.specs.Texts.{Text, Value, plain, fun, Callable, Mark, any, par_mark}
-use Rattle.fac_lang.specs.World.{World, State, pile}
+use Rattle.fac_lang.specs.Texts.{Value, plain, fun, Callable, Mark, any, par_mark}
+use Rattle.fac_lang.specs.World.{State, pile}
 use Rattle.fac_lang.specs.Signatures.{Signature, signature, Inputs, no_inputs, value, quoted, Leaving, never, leaves}
 use Rattle.fac_lang.specs.Effects.{inputs_count, leaving_outs, effect_height}
 use Rattle.fac_lang.specs.Eval.{Result, Done, Failed, Spent, Stuck, run_callable, eval}
-use Rattle.fac_lang.specs.Meaning.{run}
 use Rattle.fac_lang.proofs.Laws.{within, agree_call, same_run}
-use Rattle.fac_abs.specs.Marks.{Row, named_row, AbstractStack, dead, on, rows, base_eq, unknowns}
+use Rattle.fac_abs.specs.Marks.{Row, named_row, rows, base_eq, unknowns}
 use Rattle.fac_abs.proofs.EqualMarks.{and_first, and_second, length_same, base_same}
 use Rattle.fac_check.specs.Rows.{leaving_row, effect_inputs, effect_leaving, input_effect, leaving_on, Called, call_breaks, called_if, calls_input, outer_in, outer_out}
 use Rattle.fac_check.specs.Flow.{called}
 use Rattle.fac_check.specs.Verdicts.{inputs_marks}
 use Rattle.fac_check.specs.Standing.{StandsOn, Valid, EndsSo}
-use Rattle.fac_check.specs.Promises.{Lists, Exactly, On, LeftOn, Ends, text_run, callable_run, OfRow, DoesInput, AreInputs}
+use Rattle.fac_check.specs.Promises.{Lists, Exactly, LeftOn, Ends, text_run, callable_run, OfRow, DoesInput, AreInputs}
 use Rattle.fac_check.proofs.WalksFit.{Context, OnState, StackState, Fits, InputsFit}
 use Rattle.fac_check.proofs.ItemsFit.{Over, over_unknowns}
 use Rattle.fac_check.proofs.SoundWalks.{A}

@@ -3,8 +3,8 @@ use Rattle.std.specs.Prelude.{◌≡◌, ◌≤◌, ℕ, List, [], ◌∷◌, �
 use Rattle.fac_lang.specs.declared.phrase.Height.{Height}
 use Rattle.fac_lang.specs.declared.program.Program.{Program}
 use Rattle.fac_lang.specs.declared.program.WordDef.{WordDef}
-use Rattle.fac_lang.specs.Texts.{Text, word, Value, plain, fun, Callable}
-use Rattle.fac_lang.specs.World.{World, State, pile}
+use Rattle.fac_lang.specs.Texts.{Text, word, Value, fun, Callable}
+use Rattle.fac_lang.specs.World.{State, pile}
 use Rattle.fac_lang.specs.Signatures.{Signature, signature, Inputs, no_inputs, value, quoted}
 use Rattle.fac_lang.specs.Effects.{inputs_count, leaving_outs, effect_height, word_height}
 use Rattle.fac_lang.specs.Eval.{Result, Done, Failed, Spent, Stuck, run_callable}
