@@ -5,7 +5,7 @@ ghost use Rattle.fac_lang.specs.declared.program.Program.{Program as Source};
 ghost use Rattle.fac_lang.specs.Forms.{IsBuilt};
 ghost use Rattle.fac_lang.specs.Texts.{Callable};
 ghost use Rattle.fac_locals.specs.Closed.{Closes};
-ghost use Rattle.fac_emit.specs.Carries.{Carries, IsNeverStuck};
+ghost use Rattle.fac_emit.specs.Carries.{Carries};
 ghost use Rattle.fac_emit.specs.Code.{sort_action, IsPlain};
 ghost use Rattle.fac_emit.specs.Parts.{AreParts};
 ghost use Rattle.fac_emit.specs.Pieces.{moved as moved_row};
@@ -122,12 +122,13 @@ fn place(rows: &List<WordRow>, word: u32) -> u32
     }
 }
 
-/// The image of a closed program of the built forms. It carries the program that this one stands for, where that is never stuck. Its code
-/// stands for the texts of that program, item by item, and is plain: the pieces of the words, one behind the other in their order, with a
-/// row for each template and each word; it starts at the top-level phrase. Want of memory is the one error.
+/// The image of a closed program of the built forms. It carries the program that this one stands for, on every list of as many values as
+/// the closed program starts on, with every input and at every budget, where that program isn't stuck. Its code stands for the texts of
+/// that program, item by item, and is plain: the pieces of the words, one behind the other in their order, with a row for each template
+/// and each word; it starts at the top-level phrase. Want of memory is the one error.
 pub fn compile(alloc: Global, closed: &Closed) -> Result<Image, Memory>
     requires { (P : Source) × Closes P closed.now.program closed.now.templates × IsBuilt P }
-    ensures carries { IfOk result (λ image. (P : Source) (fits : Height → Height → Bool) (callable_height : Callable → Option Height) → Closes P closed.now.program closed.now.templates → IsBuilt P → IsNeverStuck P fits callable_height → Carries P fits callable_height image) }
+    ensures carries { IfOk result (λ image. (P : Source) (fits : Height → Height → Bool) (callable_height : Callable → Option Height) → Closes P closed.now.program closed.now.templates → IsBuilt P → Carries P fits callable_height closed.now.start image) }
     ensures stands { IfOk result (λ image. (P : Source) → Closes P closed.now.program closed.now.templates → IsBuilt P → PlainCode P image) }
     ensures plain { IfOk result (IsPlain closed.now.program closed.now.templates) }
 {
