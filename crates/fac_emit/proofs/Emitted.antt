@@ -1,7 +1,8 @@
 -- The piece of a word, as the code makes it, is what the word emits.
-use Rattle.std.proofs.Common.{◌≡◌, ◌<◌, ℕ, zero, suc, ◌+◌, List, [], ◌∷◌, ◌++◌, length, drop, Bool, true, false, Option, Some, None, refl, ap, sym, subst, ◌∙◌, arith, ◌⊎◌, inl, inr}
+use Rattle.std.proofs.Common.{◌≡◌, ◌<◌, ℕ, zero, suc, ◌+◌, List, [], ◌∷◌, ◌++◌, length, drop, Bool, true, false, Option, Some, None, refl, ap, sym, subst, ◌∙◌, arith, ◌⊎◌, inl, inr, Result, Ok, Err, IfOk}
 use Rattle.std.proofs.lemmas.Bool.{ltb-true}
 use Rattle.std.specs.Prelude.{nat_eq, slice_get}
+use Rattle.fac_lang.specs.declared.memory.Memory.{Memory}
 use Rattle.fac_lang.specs.declared.phrase.Template.{Template}
 use Rattle.fac_lang.specs.declared.program.Program.{Program}
 use Rattle.fac_lang.specs.declared.program.WordDef.{WordDef}
@@ -107,7 +108,7 @@ module _ (P C : Program) (templates : List Template) (b : IsBuilt P) (closes : C
       let at : suc v + w ≡ v + suc w = omega arith in
       subst (λ (n : ℕ). Among n d.sort) at (among (k + length (sort_literals v x.sort)) (suc v) w ds d parts.back parts.back_closes behind left e)
 
-  built_at : (ds : List WordDef) (w : ℕ) (d : WordDef) → HaveBuiltTexts P.top ds → slice_get ds w ≡ Some d → HasBuiltText P.top d.sort
+  pub built_at : (ds : List WordDef) (w : ℕ) (d : WordDef) → HaveBuiltTexts P.top ds → slice_get ds w ≡ Some d → HasBuiltText P.top d.sort
   built_at [] w d h e = absurd (cc)
   built_at (x ∷ ds) zero d h e = let same : x ≡ d = cc in subst (λ (y : WordDef). HasBuiltText P.top y.sort) same h.0
   built_at (x ∷ ds) (suc w) d h e = built_at ds w d h.1 e
@@ -139,3 +140,18 @@ module _ (P C : Program) (templates : List Template) (b : IsBuilt P) (closes : C
       let a = subst (λ (n : ℕ). Among n found.def.sort) place (among 0 0 w P.words found.def templates closes.templates_are refl refl found.at) in
       let emitted = piece_emits w found.def.sort c.sort (nat_eq w C.top) (ap (nat_eq w) closes.top) found.closes.sort (built_at P.words w found.def (built_texts P b) found.at) a in
       rw (sort_at P w found.def found.at, is.code ∙ ap (found_code C templates w) at, is.rows ∙ ap (found_rows C templates w) at) emitted
+
+element_at : {A : Type 0} (xs : List A) (k : ℕ) → k < length xs → (x : A) × (slice_get xs k ≡ Some x)
+element_at [] k lt = absurd (omega (arith, lt))
+element_at (x ∷ xs) zero lt = (x, refl)
+element_at (x ∷ xs) (suc k) lt = element_at xs k (omega (arith, lt))
+
+-- a number below the length names an element
+pub is_there : {A : Type 0} (xs : List A) (k : ℕ) → k < length xs → slice_get xs k ≡ None → ⊥
+is_there xs k lt e = let found = element_at xs k lt in let clash : None ≡ Some found.0 = sym e ∙ found.1 in absurd (cc)
+
+pub piece_emitted :
+    (C : Program) (templates : List Template) (w : ℕ) (r : Result Piece Memory) → w < length C.words → IfOk r (IsPiece C templates w) →
+    IfOk r (λ piece. (P : Program) → Closes P C templates → IsBuilt P → Emits P w (sort_of P w) piece.code piece.templates)
+piece_emitted C templates w (Ok piece) lt is = λ P closes b. let found = element_at C.words w lt in word_piece_emits P C templates b closes w found.0 piece found.1 is
+piece_emitted C templates w (Err e) lt is = tt

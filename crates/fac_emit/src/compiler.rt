@@ -11,7 +11,8 @@ ghost use Rattle.fac_emit.specs.Parts.{AreParts};
 ghost use Rattle.fac_emit.specs.Pieces.{moved as moved_row};
 ghost use Rattle.fac_emit.specs.Stands.{PlainCode};
 
-use crate::{Piece, emit_word};
+use crate::Piece;
+use crate::emitter::piece_of;
 use fac_code::{Action, Image, Instr, TemplateRow, WordRow};
 use fac_lang::{List, Memory, Sort};
 use fac_locals::Closed;
@@ -90,6 +91,7 @@ fn add_piece(parts: &mut Parts, sort: &Sort, piece: Piece) -> Result<(), Memory>
 
 // The code of a closed program, one word behind the other, and its tables.
 fn link(alloc: Global, closed: &Closed) -> Result<Parts, Memory>
+    requires { (P : Source) × Closes P closed.now.program closed.now.templates × IsBuilt P }
     ensures { IfOk result (AreParts closed.now.program closed.now.templates) }
 {
     let mut parts = Parts {
@@ -100,7 +102,7 @@ fn link(alloc: Global, closed: &Closed) -> Result<Parts, Memory>
     let _count = closed.program.words.len();
     let mut number = 0u32;
     for word in closed.program.words.as_slice() {
-        let piece = emit_word(alloc, closed, number)?;
+        let piece = piece_of(alloc, closed, number)?;
         add_piece(&mut parts, &word.sort, piece)?;
         number += 1;
     }
