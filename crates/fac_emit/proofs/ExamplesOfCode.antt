@@ -1,5 +1,5 @@
 -- Plain code, computed: that of a small program, and what the machine does with it.
-use Rattle.std.proofs.Common.{◌≡◌, ℕ, List, [], ◌∷◌, false, refl, Option, Some, None}
+use Rattle.std.proofs.Common.{◌≡◌, ℕ, List, [], ◌∷◌, true, false, refl, Option, Some, None}
 use Rattle.std.specs.Prelude.{pos}
 use Rattle.fac_lang.specs.Signatures.{signature, no_inputs, never}
 use Rattle.fac_lang.specs.declared.phrase.Template.{Template}

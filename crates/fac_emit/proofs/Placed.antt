@@ -99,11 +99,11 @@ module _ (words : List WordDef) (code : List Instr) where
       (record { at = at; row = refl; more = others ++ more; there = there }, forest_rows P (n + quotations t.body) (at + length own) ts us more h (drop_behind code at own (others ++ more) there))
 
 -- one of two places is the same where no template is to follow
-code_from_place : (words : List WordDef) (templates : List Template) (n f k : ℕ) → (n ≡ 0) ⊎ (f ≡ k) → templates_code words n (drop f templates) ≡ templates_code words n (drop k templates)
+pub code_from_place : (words : List WordDef) (templates : List Template) (n f k : ℕ) → (n ≡ 0) ⊎ (f ≡ k) → templates_code words n (drop f templates) ≡ templates_code words n (drop k templates)
 code_from_place words templates n f k (inl none) = rw none refl
 code_from_place words templates n f k (inr same) = ap (λ (k : ℕ). templates_code words n (drop k templates)) same
 
-rows_from_place : (words : List WordDef) (templates : List Template) (at n f k : ℕ) → (n ≡ 0) ⊎ (f ≡ k) → template_rows words at n (drop f templates) ≡ template_rows words at n (drop k templates)
+pub rows_from_place : (words : List WordDef) (templates : List Template) (at n f k : ℕ) → (n ≡ 0) ⊎ (f ≡ k) → template_rows words at n (drop f templates) ≡ template_rows words at n (drop k templates)
 rows_from_place words templates at n f k (inl none) = rw none refl
 rows_from_place words templates at n f k (inr same) = ap (λ (k : ℕ). template_rows words at n (drop k templates)) same
 

@@ -1,5 +1,5 @@
 -- What a closed program keeps of the one for which it stands, and the checker's refusals both ways.
-use Rattle.std.proofs.Common.{◌≡◌, ℕ, zero, suc, List, [], ◌∷◌, Bool, Result, Ok, Err, IfOk, refl, ap, subst, ◌∙◌}
+use Rattle.std.proofs.Common.{◌≡◌, ℕ, zero, suc, List, [], ◌∷◌, Bool, Result, Ok, Err, IfOk, refl, ap, subst, ◌∙◌, arith}
 use Rattle.std.specs.Prelude.{slice_get}
 use Rattle.std.specs.declared.option.Option.{Option}
 use Rattle.fac_lang.specs.declared.memory.Memory.{Memory}
@@ -17,9 +17,10 @@ use Rattle.fac_check.specs.Checks.{IsKept}
 use Rattle.fac_check.specs.Judged.{refusal_seen}
 use Rattle.fac_check.specs.declared.rule.Refusal.{Refusal}
 use Rattle.fac_check.specs.Promises.{IsSafe}
+use Rattle.fac_check.proofs.Promised.{not_stuck}
 use Rattle.fac_code.specs.declared.image.Image.{Image}
-use Rattle.fac_emit.specs.Carries.{Carries, IsNeverStuck}
-use Rattle.fac_tool.specs.Answer.{name_or}
+use Rattle.fac_emit.specs.Carries.{Carries}
+use Rattle.fac_tool.specs.Answer.{name_or, meaning}
 use Rattle.fac_tool.specs.Refusals.{refusal_of}
 use Rattle.fac_tool.specs.Stops.{SameNames, Carried, StandsFor, StandsForSafe}
 
@@ -38,16 +39,18 @@ refusal_back r = refl
 
 -- an accepted program is safe
 pub safe_one : (closed : Closed) (P : Program) → IsKept closed → closed.start ≡ 0 → StandsFor closed P → StandsForSafe closed P
-safe_one closed P kept start stands = record { closes = stands.closes; built = stands.built; safe = subst (λ count. IsSafe P count) start (kept P stands.closes stands.built stands.whole) }
+safe_one closed P kept start stands = record { closes = stands.closes; built = stands.built; safe = subst (λ count. IsSafe P count) start (kept P stands.closes stands.built stands.whole); start = start }
 
--- so it is never stuck with the checker's test of effects
-never_stuck : (P : Program) → IsSafe P 0 → IsNeverStuck P fits (callable_height P)
-never_stuck P safe n = safe.phrase [] (start P []).world n (safe.begins []) refl
+-- so its image carries it with the checker's test of effects, and it isn't stuck
+carried_by : (P : Program) (M : Image) (count : ℕ) → IsSafe P 0 → count ≡ 0 → Carries P fits (callable_height P) count M → Carried P M
+carried_by P M count safe none carries = record {
+  carries = subst (λ k. Carries P fits (callable_height P) k M) none carries;
+  not_stuck = λ n. not_stuck P (λ list. Unit {0}) (meaning P n) (safe.phrase n (start P []) n (omega arith) refl (safe.begins []));
+}
 
--- so its image carries it with that test
 pub if_carried :
     (closed : Closed) (r : Result Image Memory) →
-    IfOk r (λ image. (P : Program) (fits : Height → Height → Bool) (callable_height : Callable → Option Height) → Closes P closed.program closed.templates → IsBuilt P → IsNeverStuck P fits callable_height → Carries P fits callable_height image) →
+    IfOk r (λ image. (P : Program) (fits : Height → Height → Bool) (callable_height : Callable → Option Height) → Closes P closed.program closed.templates → IsBuilt P → Carries P fits callable_height closed.start image) →
     IfOk r (λ image. (P : Program) → StandsForSafe closed P → Carried P image)
-if_carried closed (Ok image) h = λ P stands. h P fits (callable_height P) stands.closes stands.built (never_stuck P stands.safe)
+if_carried closed (Ok image) h = λ P stands. carried_by P image closed.start stands.safe stands.start (h P fits (callable_height P) stands.closes stands.built)
 if_carried closed (Err e) h = tt

@@ -8,6 +8,7 @@ use Rattle.fac_lang.specs.declared.program.Program.{Program}
 use Rattle.fac_lang.specs.Texts.{Item, Value}
 use Rattle.fac_lang.specs.World.{State, Error}
 use Rattle.fac_lang.specs.Eval.{Done, Failed, Spent}
+use Rattle.fac_lang.specs.RunningLaws.{IsNotStuck}
 use Rattle.fac_lang.specs.Forms.{IsBuilt}
 use Rattle.fac_lang.specs.Whole.{IsWhole}
 use Rattle.fac_locals.specs.Closed.{Closes}
@@ -39,14 +40,16 @@ pub record StandsForSafe (closed : Closed) (P : Program) : Type 0 where
   pub closes : Closes P closed.program closed.templates
   pub built : IsBuilt P
   pub safe : IsSafe P 0
+  pub start : closed.start ≡ 0
 
 -- the words of two programs have the same names
 abbrev pub SameNames : Program → Program → Type 0
 SameNames P C = (w : ℕ) → word_name C w ≡ word_name P w
 
--- the image carries the program with the checker's test of effects
-abbrev pub Carried : Program → Image → Type 0
-Carried P M = Carries P fits (callable_height P) M
+-- with the checker's test of effects the image carries the program, whose top-level phrase isn't stuck from no value
+pub record Carried (P : Program) (M : Image) : Type 0 where
+  pub carries : Carries P fits (callable_height P) 0 M
+  pub not_stuck : (n : ℕ) → IsNotStuck (meaning P n)
 
 -- how a run stopped that left this stack, where the machine's callables are these
 abbrev pub StopsAs : Program → List MCallable → List MValue → ℕ → Option (List ℕ) → Option (List ℕ) → StopKind → Type 0
