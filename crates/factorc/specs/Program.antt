@@ -25,13 +25,12 @@ pub record Calls (words : List (List ℕ)) (files : FilesSeen) (out notes : Sink
 abbrev pub no_words : Ended
 no_words = record { status = 12; ticks = 0; stack = None; refusal = None }
 
--- nothing was done, and it is told that there was no memory
-pub record HasNoWords (files : FilesSeen) (out notes : SinkSeen) (code : ExitCode) : Type 0 where
+-- it is told that there was no memory for the words
+pub record TellsNoWords (notes : SinkSeen) (code : ExitCode) : Type 0 where
   pub ended : Ended
-  pub idle : IsIdle files out
   pub noted : NoteWhole memory_note no_words notes ended ⊎ NotePart memory_note no_words notes ended
   pub status : exit_status code ≡ ended.status
 
--- what the program does on the words that it is given
+-- what the program does on the words that it is given; without memory for them it does nothing else than tell that
 abbrev pub ProgramRuns : List (List ℕ) → FilesSeen → SinkSeen → SinkSeen → ExitCode → Type 0
-ProgramRuns words files out notes code = Calls words files out notes code ⊎ HasNoWords files out notes code
+ProgramRuns words files out notes code = Calls words files out notes code ⊎ (IsIdle files out × TellsNoWords notes code)
