@@ -5,7 +5,7 @@ use Rattle.fac_lang.specs.declared.program.Program.{Program}
 use Rattle.fac_lang.specs.declared.program.Sort.{Sort}
 use Rattle.fac_lang.specs.declared.program.Sort.TheVariants.{Prim as prim_sort, Core as core_sort, Body as body, Past as past, Method as method}
 use Rattle.fac_lang.specs.Texts.{int, yes, no, Literal, Text, end, then, Item, lit, quot, word}
-use Rattle.fac_lang.specs.Forms.{is_built_primitive}
+use Rattle.fac_lang.specs.Primitives.{is_built_primitive}
 use Rattle.fac_lang.specs.Meaning.{sort_of, core_numbered, c_call, c_dip, c_if}
 use Rattle.fac_locals.specs.Literals.{Quoted, first_of_word, first_of_literal, behind, literals_in}
 use Rattle.fac_locals.specs.Closed.{IsMadeBy}

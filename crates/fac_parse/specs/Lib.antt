@@ -1,6 +1,3 @@
-pub mod Words
-pub mod Scanner
-pub mod Digits
 pub mod Spellings
 pub mod Trees
 pub mod Reader

@@ -1,42 +1,9 @@
 //! Tests of what no contract says: that calls succeed, and that the definitions mean what was meant.
-use crate::{NameKind, ParseFault, ResolveFault, TokenFault, parse, resolve, tokens};
-use fac_lang::{Form, List, Mark, Phrase, Piece, Program, Sort, Term, TokKind, Token, What};
+use crate::{NameKind, ParseFault, ResolveFault, parse, resolve};
+use fac_lang::{Form, List, Mark, Phrase, Piece, Program, Sort, Term, Token, What};
+use fac_token::tokens;
 use std::alloc::Global;
 use std::test::Fail;
-
-// The numbers and spellings of the tokens.
-fn told_tokens(alloc: Global, source: &[u8]) -> Result<String, Fail> {
-    let mut told = String::new(alloc);
-    for token in tokens(alloc, 3, source)?.as_slice() {
-        if let TokKind::Plain(text) = &token.kind {
-            let place = token.place;
-            told.push_str(&format!(in alloc;
-                "{}:{}:{} ",
-                place.file,
-                place.token,
-                text.as_str()
-            )?)?;
-        }
-    }
-    Ok(told)
-}
-
-#[test]
-fn tokens_of_a_text(rt: HostRuntime) -> Result<(), Fail> {
-    let alloc = rt.alloc();
-    assert_eq!(rt;
-        told_tokens(alloc, b"\tUSING: a~!\r\n\x0b;\x0c  -2".as_slice())?.as_str(),
-        "3:1:USING: 3:2:a~! 3:3:; 3:4:-2 "
-    );
-    assert_eq!(rt; told_tokens(alloc, b" \n".as_slice())?.as_str(), "");
-    for byte in [0u8, 8, 14, 31, 127, 128, 255] {
-        match tokens(alloc, 1, &[b'a', byte]) {
-            Ok(_) => assert!(rt; false, "{byte} is taken"),
-            Err(fault) => assert_eq!(rt; fault, TokenFault::NotPlain),
-        }
-    }
-    Ok(())
-}
 
 #[test]
 fn trees_and_refusals(rt: HostRuntime) -> Result<(), Fail> {
@@ -53,12 +20,12 @@ fn trees_and_refusals(rt: HostRuntime) -> Result<(), Fail> {
         ("170141183460469231731687303715884105727", true),
         ("170141183460469231731687303715884105728", false),
         ("-170141183460469231731687303715884105728", true),
-        ("-170141183460469231731687303715884105729", false),
-        ("-0 007 - < 1+ 1, ,1 1,,2 0x 0b2 -0o8 !x 0X1", true),
-        ("1,000", false),
-        ("-0x1F", false),
-        ("0o17", false),
-        ("0b1", false),
+        ("-0x80000000000000000000000000000001", false),
+        ("-0 007 1,000 -0x1F 0o17 0b1", true),
+        ("- < 1+ 1, ,1 1,,2 0x 0b2 -0o8 !x 0X1 \u{e9}", true),
+        (": 1, ( -- ) ;", true),
+        (": 1,2 ( -- ) ;", false),
+        ("USING: 0x1 ;", false),
         ("t f", true),
         (": t ( -- ) ;", false),
         ("USING: f ;", false),
@@ -88,8 +55,9 @@ fn trees_and_refusals(rt: HostRuntime) -> Result<(), Fail> {
         (": w ( -- ) ; recursive recursive", false),
         (": w ( -- ) ; 1 inline", false),
         (": w ( -- ) inline ;", false),
-        ("a\"b", false),
-        ("!", false),
+        ("\"a\"", false),
+        ("[ \"\" ]", false),
+        ("1 ! ; [", true),
         ("--", false),
         ("call-next-method", false),
         ("\\", false),

@@ -20,7 +20,8 @@ use Rattle.fac_check.specs.Promises.{IsSafe}
 use Rattle.fac_check.proofs.Promised.{not_stuck}
 use Rattle.fac_code.specs.declared.image.Image.{Image}
 use Rattle.fac_emit.specs.Carries.{Carries}
-use Rattle.fac_tool.specs.Answer.{name_or, meaning}
+use Rattle.fac_notes.specs.WordNames.{name_or}
+use Rattle.fac_tool.specs.Answer.{meaning}
 use Rattle.fac_tool.specs.Refusals.{refusal_of}
 use Rattle.fac_tool.specs.Stops.{SameNames, Carried, StandsFor, StandsForSafe}
 
