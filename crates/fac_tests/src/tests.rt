@@ -129,6 +129,7 @@ fn programs_that_run(rt: HostRuntime) -> Result<(), Fail> {
         ("", "", 0, ""),
         ("USING: math prettyprint ; 1 2 + .", "3\n", 4, ""),
         ("USING: ;", "", 0, ""),
+        ("! \u{e9} \"\n1", "", 1, "1 "),
         ("-0 007 -5", "", 3, "0 7 -5 "),
         (
             "USING: kernel math ; 1 2 over swap 3 dup * 4 drop -",
@@ -171,6 +172,13 @@ fn programs_that_run(rt: HostRuntime) -> Result<(), Fail> {
         let call = run(alloc, text.as_bytes())?;
         assert_done(alloc, &rt, text, &call, ticks, output, left)?;
     }
+    Ok(())
+}
+
+#[test]
+fn files_that_are_no_text(rt: HostRuntime) -> Result<(), Fail> {
+    let call = run(rt.alloc(), b"1 \xff")?;
+    assert_call(&rt, "1", &call, 3, 0, "", "syntax: a byte 2: not UTF-8\n");
     Ok(())
 }
 
@@ -254,7 +262,11 @@ fn programs_that_are_refused(rt: HostRuntime) -> Result<(), Fail> {
         ("USING: USING: ; ;", 3, syntax),
         ("170141183460469231731687303715884105728", 3, syntax),
         ("-170141183460469231731687303715884105729", 3, syntax),
-        ("1 \u{e9}", 3, syntax),
+        ("\"ab\"", 3, syntax),
+        ("1 \"ab", 3, "syntax: a byte 2: open string\n"),
+        ("\u{e9} \"\\q\"", 3, "syntax: a byte 4: bad escape\n"),
+        ("1 a\"b\"", 3, "syntax: a byte 3: stuck quote\n"),
+        ("1 \u{e9}", 4, "name: a token 2: unknown \u{e9}\n"),
         ("1 dup", 4, "name: a token 2: unknown dup\n"),
         (
             "USING: kernel nowhere ; +",

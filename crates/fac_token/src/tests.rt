@@ -1,7 +1,7 @@
 //! Tests of what no contract says: that calls succeed, and that the definitions mean what was meant.
 use crate::{
-    TokenFault, every_text_is_read_or_faulty, no_text_is_both, one_answer, one_first_fault,
-    one_reading, tokens,
+    TokenFault, every_file_has_an_answer, every_text_is_read_or_faulty, no_text_is_both,
+    one_answer, one_first_fault, one_reading, tokens,
 };
 use fac_lang::TokKind;
 use std::alloc::Global;
@@ -88,4 +88,5 @@ fn laws() {
     one_reading();
     one_first_fault();
     one_answer();
+    every_file_has_an_answer();
 }

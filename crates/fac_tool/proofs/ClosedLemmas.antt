@@ -22,7 +22,7 @@ use Rattle.fac_check.specs.declared.rule.Refusal.{Refusal}
 use Rattle.fac_check.specs.Promises.{IsSafe}
 use Rattle.fac_code.specs.declared.image.Image.{Image}
 use Rattle.fac_emit.specs.Carries.{Carries, IsNeverStuck}
-use Rattle.fac_tool.specs.Answer.{name_or}
+use Rattle.fac_notes.specs.WordNames.{name_or}
 use Rattle.fac_tool.specs.Refusals.{rule_of, refusal_of}
 use Rattle.fac_tool.specs.Stops.{SameNames, Carried, StandsFor, StandsForSafe}
 
