@@ -5,8 +5,6 @@ mod cells;
 mod node;
 mod nodes;
 mod table;
-#[cfg(test)]
-mod tests;
 
 pub use cells::shuffle_needs;
 pub use node::Node;

@@ -9,8 +9,6 @@ mod reader;
 mod resolver;
 mod scanner;
 mod spelling;
-#[cfg(test)]
-mod tests;
 mod text_set;
 mod vocabularies;
 
