@@ -1,9 +1,17 @@
 //! A program that tests the top call: it reads cases, calls `factor_top` over files and streams in memory, and tells how each call ended.
 //!
-//! Each line of its input goes to its output, and behind the lines of a case stands how its call ended. `stdin` has the cases and
-//! `stdout` what they are to answer. It was written by hand, from the rules of the language. So what no contract says is tested here: that
-//! calls of the tool, the reader, the checker, the compiler and the machine come to another answer than want of memory, and that the
-//! definitions mean what was meant.
+//! Each line of its input goes to its output, and behind the lines of a case stands how its call ended. `stdin` has the cases and `stdout`
+//! what they are to answer, which is written by hand, from the rules of the language. `case` says what the lines mean.
+//!
+//! What no contract says, and what shows it here:
+//!
+//! - each call that takes memory comes to another answer where there is memory: every step from `load` to `run`, in the programs that run; the
+//!   machine's `curry` and `compose`; the printed forms; the reports, in the programs that are refused or fail;
+//! - definitions mean what was meant: each word, each form, each rule of names and of the checker, each run error, each limit and the first
+//!   source past it, ticks, the tokens of the whole language and their faults;
+//! - printed text: values, and the note of each status but 12, which comes where memory is short;
+//! - faults: a file, an output and a note that fail at each place, and that nothing else is asked for;
+//! - large sources take little time: 4 MiB, 200,000 items, a million digits, 100,000,000 ticks.
 #![tactic(auto)]
 
 mod case;

@@ -7,17 +7,20 @@ ghost use Rattle.fac_locals.specs.Closed.{Closes};
 use fac_check::{CheckFault, Rule, check};
 use fac_code::{Action, Image, Instr};
 use fac_emit::compile;
+use fac_lang::Duplicate;
 use fac_locals::{Closed, close};
 use fac_parse::{parse, resolve, tokens};
 use std::alloc::Global;
 use std::test::Fail;
 
-// The closed program of a text.
+// The closed program of a text. Tree and program are copied on the way.
 fn closed_text(alloc: Global, text: &str) -> Result<Closed, Fail>
     ensures { IfOk result (λ closed. (P : Source) × Closes P closed.program closed.templates × IsBuilt P) }
 {
     let tree = parse(alloc, &tokens(alloc, 1, text.as_bytes())?)?;
+    let tree = tree.copy(alloc)?;
     let program = resolve(alloc, &tree)?;
+    let program = program.copy(alloc)?;
     Ok(close(alloc, program, 0)?)
 }
 
