@@ -6,8 +6,6 @@ mod node;
 mod nodes;
 mod rule;
 mod table;
-#[cfg(test)]
-mod tests;
 
 pub use node::Node;
 pub use rule::Rule;

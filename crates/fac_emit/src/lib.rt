@@ -4,8 +4,6 @@
 mod compiler;
 mod emitter;
 mod laws;
-#[cfg(test)]
-mod tests;
 
 pub use compiler::compile;
 pub use emitter::{Piece, emit_word};

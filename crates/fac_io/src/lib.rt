@@ -11,8 +11,6 @@ mod mem_source;
 mod real;
 mod sink;
 mod source;
-#[cfg(test)]
-mod tests;
 
 pub use files::{Asked, Files, LoadFault, SaveFault};
 pub use mem_files::MemFiles;

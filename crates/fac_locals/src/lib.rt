@@ -2,7 +2,5 @@
 #![tactic(auto)]
 
 mod closing;
-#[cfg(test)]
-mod tests;
 
 pub use closing::{Closed, close};

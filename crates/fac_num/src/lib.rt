@@ -4,8 +4,6 @@
 mod arith;
 mod read;
 mod sign;
-#[cfg(test)]
-mod tests;
 mod write;
 
 pub use arith::{add, mul, quot, rem, shl, sub};

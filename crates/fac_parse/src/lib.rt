@@ -7,8 +7,6 @@ mod laws;
 mod reader;
 mod resolver;
 mod spelling;
-#[cfg(test)]
-mod tests;
 mod text_set;
 mod vocabularies;
 

@@ -9,8 +9,6 @@
 mod fault;
 mod laws;
 mod scanner;
-#[cfg(test)]
-mod tests;
 
 pub use fault::TokenFault;
 pub use laws::{

@@ -1,0 +1,181 @@
+//! A call of the tool, as the lines of a case tell it.
+//!
+//! A line that doesn't begin with `@` is a line of the source, and an empty one ends the case. The others are
+//!
+//!     @about TEXT       what the cases from here on show
+//!     @times N TEXT     the text N times, as a part of the source
+//!     @bytes N N ..     these bytes, as a part of the source
+//!     @words W W ..     the words of the command line, where `''` is an empty one; they are `run a` where no line says otherwise
+//!     @loads N N ..     the numbers of the loads that fail
+//!     @output N M       the write of this number to the output fails after M bytes
+//!     @note N M         the write of this number to the notes fails after M bytes
+//!     @tokens N         no call: the source is a file of this number, and its tokens are told
+//!
+//! The source is what the one file `a` holds.
+use crate::telling::{tell_bytes, tell_end, tell_loads, tell_stack, tell_tokens};
+use fac_io::{MemFiles, MemSink};
+use fac_lang::{Bytes, List, Memory, Text};
+use fac_tool::factor_top;
+use std::alloc::Global;
+
+// The most bytes that a sink takes.
+const ROOM: u64 = 1000;
+
+/// A call of the tool.
+#[derive(Drop)]
+pub struct Case {
+    words: Vec<String>,
+    source: Bytes,
+    loads: List<u64>,
+    output: List<(u64, u64)>,
+    note: List<(u64, u64)>,
+    // The number of the file whose tokens are told.
+    tokens: Option<u32>,
+}
+
+// The words of a text, with a space between two.
+fn split(alloc: Global, text: &str) -> Result<Vec<String>, Memory> {
+    let mut words = Vec::new(alloc);
+    for word in text.split(' ') {
+        let word = if word == "''" { "" } else { word };
+        words.push(String::from_str(alloc, word)?)?;
+    }
+    Ok(words)
+}
+
+// Puts a pair of numbers behind others. False where the text isn't two numbers.
+fn push_pair(pairs: &mut List<(u64, u64)>, text: &str) -> Result<bool, Memory> {
+    let Some((first, second)) = text.split_once(' ') else {
+        return Ok(false);
+    };
+    let (Ok(first), Ok(second)) = (first.parse::<u64>(), second.parse::<u64>()) else {
+        return Ok(false);
+    };
+    pairs.push((first, second))?;
+    Ok(true)
+}
+
+// Puts numbers behind others. False where the text isn't numbers.
+fn push_numbers(numbers: &mut List<u64>, text: &str) -> Result<bool, Memory> {
+    for word in text.split(' ') {
+        let Ok(number) = word.parse::<u64>() else {
+            return Ok(false);
+        };
+        numbers.push(number)?;
+    }
+    Ok(true)
+}
+
+// Puts bytes behind others. False where the text isn't numbers of bytes.
+fn push_bytes(bytes: &mut Bytes, text: &str) -> Result<bool, Memory> {
+    for word in text.split(' ') {
+        let Ok(byte) = word.parse::<u8>() else {
+            return Ok(false);
+        };
+        bytes.push(byte)?;
+    }
+    Ok(true)
+}
+
+// Puts a text behind bytes, as often as the number before it says. False where there is none.
+fn push_times(bytes: &mut Bytes, text: &str) -> Result<bool, Memory> {
+    let Some((count, part)) = text.split_once(' ') else {
+        return Ok(false);
+    };
+    let Ok(count) = count.parse::<u32>() else {
+        return Ok(false);
+    };
+    for _ in 0..count {
+        bytes.extend(part.as_bytes())?;
+    }
+    Ok(true)
+}
+
+impl Case {
+    /// The call of `run a`, without faults, on an empty file.
+    pub fn new(alloc: Global) -> Result<Self, Memory> {
+        Ok(Case {
+            words: split(alloc, "run a")?,
+            source: Bytes::from_slice(alloc, b"".as_slice())?,
+            loads: List::new(alloc),
+            output: List::new(alloc),
+            note: List::new(alloc),
+            tokens: None,
+        })
+    }
+
+    /// Takes a line of the case. False where it is none.
+    pub fn add(&mut self, alloc: Global, line: &str) -> Result<bool, Memory> {
+        let Some(set) = line.strip_prefix("@") else {
+            self.source.extend(line.as_bytes())?;
+            self.source.push(b'\n')?;
+            return Ok(true);
+        };
+        match set.split_once(' ') {
+            Some((name, text)) => self.set(alloc, name, text),
+            None if set == "words" => {
+                self.words = Vec::new(alloc);
+                Ok(true)
+            }
+            None => Ok(false),
+        }
+    }
+
+    // Takes what a line with this name says.
+    fn set(&mut self, alloc: Global, name: &str, text: &str) -> Result<bool, Memory> {
+        match name {
+            "about" => Ok(true),
+            "times" => push_times(&mut self.source, text),
+            "bytes" => push_bytes(&mut self.source, text),
+            "words" => {
+                self.words = split(alloc, text)?;
+                Ok(true)
+            }
+            "loads" => push_numbers(&mut self.loads, text),
+            "output" => push_pair(&mut self.output, text),
+            "note" => push_pair(&mut self.note, text),
+            "tokens" => {
+                self.tokens = text.parse::<u32>().ok();
+                Ok(self.tokens.is_some())
+            }
+            _ => Ok(false),
+        }
+    }
+
+    /// What the case comes to.
+    pub fn told(self, alloc: Global) -> Result<Text, Memory> {
+        match self.tokens {
+            Some(file) => tell_tokens(alloc, file, self.source.as_slice()),
+            None => self.called(alloc),
+        }
+    }
+
+    // Makes the call, and tells how it ended.
+    fn called(self, alloc: Global) -> Result<Text, Memory> {
+        let mut held = List::new(alloc);
+        held.push((Text::from_str(alloc, "a")?, self.source))?;
+        let mut files = MemFiles::new(alloc, held, self.loads);
+        let mut output = MemSink::new(alloc, ROOM, self.output)?;
+        let mut note = MemSink::new(alloc, ROOM, self.note)?;
+        let ended = factor_top(
+            alloc,
+            self.words.as_slice(),
+            &mut files,
+            &mut output,
+            &mut note,
+        );
+        let mut told = Text::new(alloc);
+        tell_end(alloc, &mut told, ended.status, ended.ticks)?;
+        tell_loads(&mut told, files.asked().as_slice())?;
+        if ended.refusal.is_some() {
+            told.push_str(", refused")?;
+        }
+        if let Some(texts) = &ended.stack {
+            tell_stack(&mut told, texts.as_slice())?;
+        }
+        told.push_str("\n")?;
+        tell_bytes(&mut told, "  writes ", output.taken())?;
+        tell_bytes(&mut told, "  notes ", note.taken())?;
+        Ok(told)
+    }
+}

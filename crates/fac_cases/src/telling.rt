@@ -1,0 +1,101 @@
+//! How the end of a call and the tokens of a file are told.
+use fac_io::Asked;
+use fac_lang::{Memory, Text, TokKind, Token};
+use fac_token::tokens;
+use std::alloc::Global;
+use std::str;
+
+/// Tells a status and ticks.
+pub fn tell_end(alloc: Global, told: &mut Text, status: u8, ticks: u64) -> Result<(), Memory> {
+    let line = format!(in alloc; "  status {status}, {ticks} ticks")?;
+    told.push_str(line.as_str())
+}
+
+/// Tells which files were asked for.
+pub fn tell_loads(told: &mut Text, asked: &[Asked]) -> Result<(), Memory> {
+    for call in asked {
+        match call {
+            Asked::Load(name) => {
+                told.push_str(", loads ")?;
+                told.push_str(name.as_str())?;
+            }
+            Asked::Save(name) => {
+                told.push_str(", saves ")?;
+                told.push_str(name.as_str())?;
+            }
+        }
+    }
+    Ok(())
+}
+
+/// Tells the values that a run left, from the bottom to the top.
+pub fn tell_stack(told: &mut Text, texts: &[Text]) -> Result<(), Memory> {
+    told.push_str(", leaves")?;
+    for text in texts {
+        told.push_str(" ")?;
+        told.push_str(text.as_str())?;
+    }
+    Ok(())
+}
+
+// Tells a text, its line ends and the like as escapes.
+fn tell_text(told: &mut Text, text: &str) -> Result<(), Memory> {
+    for letter in text.chars() {
+        match letter {
+            '\n' => told.push_str("\\n")?,
+            '\r' => told.push_str("\\r")?,
+            '\t' => told.push_str("\\t")?,
+            '\\' => told.push_str("\\\\")?,
+            _ => told.push_str(letter.encode_utf8(&mut [0; 4]))?,
+        }
+    }
+    Ok(())
+}
+
+/// Tells bytes on a line of their own, where there are any.
+pub fn tell_bytes(told: &mut Text, what: &str, bytes: &[u8]) -> Result<(), Memory> {
+    if bytes.is_empty() {
+        return Ok(());
+    }
+    told.push_str(what)?;
+    match str::from_utf8(bytes) {
+        Ok(text) => tell_text(told, text)?,
+        Err(_) => told.push_str("no text")?,
+    }
+    told.push_str("\n")
+}
+
+// Tells a token with its file and its number, a string between angle brackets.
+fn tell_token(alloc: Global, told: &mut Text, token: &Token) -> Result<(), Memory> {
+    let file = token.place.file;
+    let number = token.place.token;
+    let place = format!(in alloc; " {file}:{number}:")?;
+    told.push_str(place.as_str())?;
+    match &token.kind {
+        TokKind::Plain(text) => tell_text(told, text.as_str()),
+        TokKind::Str(text) => {
+            told.push_str("<")?;
+            tell_text(told, text.as_str())?;
+            told.push_str(">")
+        }
+    }
+}
+
+/// Tells the tokens of a file, or why it has none.
+pub fn tell_tokens(alloc: Global, file: u32, source: &[u8]) -> Result<Text, Memory> {
+    let mut told = Text::new(alloc);
+    match tokens(alloc, file, source) {
+        Ok(list) => {
+            told.push_str("  tokens")?;
+            for token in list.as_slice() {
+                tell_token(alloc, &mut told, token)?;
+            }
+        }
+        Err(fault) => {
+            let line = format!(in alloc; "  fault {fault}")?;
+            told.push_str(line.as_str())?;
+        }
+    }
+    told.push_str("\n")?;
+    Ok(told)
+}

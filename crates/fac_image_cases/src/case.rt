@@ -1,0 +1,156 @@
+//! An image and runs of it, as the lines of a case tell them.
+//!
+//! A line that doesn't begin with `@` has instructions of the code, with a comma between two, and an empty one ends the case. The others are
+//!
+//!     @about TEXT             what the cases from here on show
+//!     @template N M K ..      a template whose code begins at the place N, with M holes and these cells
+//!     @word prim N            a word that does this primitive
+//!     @word core N            a word that does this core word
+//!     @word code N            a word with the code at this place
+//!     @output N M             the write of this number fails after M bytes
+//!     @run N M                runs the code from the place N, with M ticks
+use crate::instructions::{action, instr};
+use crate::telling::told;
+use fac_code::{Image, Instr, TemplateRow, WordRow};
+use fac_io::MemSink;
+use fac_lang::{List, Memory, Text};
+use fac_vm::Machine;
+use std::alloc::Global;
+
+// The most bytes that the sink takes.
+const ROOM: u64 = 20;
+
+/// An image and the writes that fail.
+#[derive(Drop)]
+pub struct Case {
+    // The numbers of each template: its place, its holes, its cells.
+    templates: Vec<Vec<u32>>,
+    words: Vec<WordRow>,
+    code: Vec<Instr>,
+    output: Vec<(u64, u64)>,
+}
+
+// The numbers of a text, with a space between two.
+fn numbers(alloc: Global, text: &str) -> Result<Option<Vec<u32>>, Memory> {
+    let mut numbers = Vec::new(alloc);
+    for word in text.split(' ') {
+        let Ok(number) = word.parse::<u32>() else {
+            return Ok(None);
+        };
+        numbers.push(number)?;
+    }
+    Ok(Some(numbers))
+}
+
+// The two numbers of a text.
+fn pair(text: &str) -> Option<(u64, u64)> {
+    let (first, second) = text.split_once(' ')?;
+    Some((first.parse::<u64>().ok()?, second.parse::<u64>().ok()?))
+}
+
+// The template that numbers tell.
+fn template(alloc: Global, numbers: &[u32]) -> Result<TemplateRow, Memory> {
+    let cells = match numbers {
+        [_, _, cells @ ..] => List::from_vec(Vec::from_slice(alloc, cells)?)?,
+        _ => List::new(alloc),
+    };
+    Ok(TemplateRow {
+        entry: numbers.first().copied().unwrap_or(0),
+        cells,
+        holes: numbers.get(1).copied().unwrap_or(0),
+    })
+}
+
+impl Case {
+    /// No templates, words or code.
+    pub fn new(alloc: Global) -> Self {
+        Case {
+            templates: Vec::new(alloc),
+            words: Vec::new(alloc),
+            code: Vec::new(alloc),
+            output: Vec::new(alloc),
+        }
+    }
+
+    /// Takes a line of the case, and tells what it comes to.
+    pub fn take(&mut self, alloc: Global, line: &str) -> Result<Text, Memory> {
+        let taken = match line.strip_prefix("@") {
+            None => self.add_code(line)?,
+            Some(set) => match set.split_once(' ') {
+                Some(("run", text)) => return self.run(alloc, text),
+                Some((name, text)) => self.set(alloc, name, text)?,
+                None => false,
+            },
+        };
+        Text::from_str(alloc, if taken { "" } else { "  not taken\n" })
+    }
+
+    // Puts instructions behind the code. False where the text has another one.
+    fn add_code(&mut self, text: &str) -> Result<bool, Memory> {
+        for told in text.split(", ") {
+            let Some(next) = instr(told) else {
+                return Ok(false);
+            };
+            self.code.push(next)?;
+        }
+        Ok(true)
+    }
+
+    // Takes what a line with this name says.
+    fn set(&mut self, alloc: Global, name: &str, text: &str) -> Result<bool, Memory> {
+        match name {
+            "about" => Ok(true),
+            "template" => match numbers(alloc, text)? {
+                Some(numbers) => {
+                    self.templates.push(numbers)?;
+                    Ok(true)
+                }
+                None => Ok(false),
+            },
+            "word" => match action(text) {
+                Some(action) => {
+                    self.words.push(WordRow { action })?;
+                    Ok(true)
+                }
+                None => Ok(false),
+            },
+            "output" => match pair(text) {
+                Some(pair) => {
+                    self.output.push(pair)?;
+                    Ok(true)
+                }
+                None => Ok(false),
+            },
+            _ => Ok(false),
+        }
+    }
+
+    // The image that begins at a place. None where the tables and the code are none.
+    fn image(&self, alloc: Global, start: u32) -> Result<Option<Image>, Memory> {
+        let mut templates = List::new(alloc);
+        for numbers in &self.templates {
+            templates.push(template(alloc, numbers.as_slice())?)?;
+        }
+        let words = List::from_vec(Vec::from_slice(alloc, self.words.as_slice())?)?;
+        let code = List::from_vec(Vec::from_slice(alloc, self.code.as_slice())?)?;
+        Ok(Image::new(templates, words, code, start))
+    }
+
+    // Runs the image, and tells how the run ended.
+    fn run(&self, alloc: Global, text: &str) -> Result<Text, Memory> {
+        let Some((start, budget)) = text.split_once(' ') else {
+            return Text::from_str(alloc, "  not taken\n");
+        };
+        let (Ok(start), Ok(budget)) = (start.parse::<u32>(), budget.parse::<u64>()) else {
+            return Text::from_str(alloc, "  not taken\n");
+        };
+        let Some(image) = self.image(alloc, start)? else {
+            return Text::from_str(alloc, "  no image\n");
+        };
+        let fails = List::from_vec(Vec::from_slice(alloc, self.output.as_slice())?)?;
+        let mut out = MemSink::new(alloc, ROOM, fails)?;
+        let mut machine = Machine::new(alloc, image)?;
+        let stop = machine.run(alloc, &mut out, budget);
+        told(alloc, stop, machine.stack(), out.taken())
+    }
+}

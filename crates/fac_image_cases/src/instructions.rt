@@ -1,0 +1,56 @@
+//! Instructions and what words do, as texts tell them.
+use fac_code::{Action, Instr};
+
+// The instruction of a word that has no operand.
+fn plain(name: &str) -> Option<Instr> {
+    match name {
+        "halt" => Some(Instr::Halt),
+        "true" => Some(Instr::True),
+        "false" => Some(Instr::False),
+        "call" => Some(Instr::Call { tail: false }),
+        "tail-call" => Some(Instr::Call { tail: true }),
+        "dip" => Some(Instr::Dip),
+        "if" => Some(Instr::If { tail: false }),
+        "tail-if" => Some(Instr::If { tail: true }),
+        "ret" => Some(Instr::Ret),
+        _ => None,
+    }
+}
+
+// The instruction of a word and the number behind it.
+fn with_number(name: &str, number: u32) -> Option<Instr> {
+    match name {
+        "quot" => Some(Instr::Quot(number)),
+        "prim" => Some(Instr::Prim(number)),
+        "callw" => Some(Instr::Callw {
+            word: number,
+            tail: false,
+        }),
+        "tail-callw" => Some(Instr::Callw {
+            word: number,
+            tail: true,
+        }),
+        _ => None,
+    }
+}
+
+/// The instruction that a text tells.
+pub fn instr(text: &str) -> Option<Instr> {
+    match text.split_once(' ') {
+        None => plain(text),
+        Some(("int", number)) => Some(Instr::Int(number.parse::<i128>().ok()?)),
+        Some((name, number)) => with_number(name, number.parse::<u32>().ok()?),
+    }
+}
+
+/// What a word does, as a text tells it.
+pub fn action(text: &str) -> Option<Action> {
+    let (name, number) = text.split_once(' ')?;
+    let number = number.parse::<u32>().ok()?;
+    match name {
+        "prim" => Some(Action::Prim(number)),
+        "core" => Some(Action::Core(number)),
+        "code" => Some(Action::Code(number)),
+        _ => None,
+    }
+}
