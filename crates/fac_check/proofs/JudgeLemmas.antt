@@ -24,15 +24,10 @@ flags_counted : (P : Program) (v : ℕ) (ds : List WordDef) → length (undeclar
 flags_counted P v [] = refl
 flags_counted P v (d ∷ ds) = ap suc (flags_counted P (suc v) ds)
 
-pub flag_exists : (P C : Program) (templates : _) → Closes P C templates → (flags : List Bool) → AreUndeclared C templates flags → (w : ℕ) → w < length C.words → slice_get flags w ≡ None → ⊥
-flag_exists P C templates closes flags are w l e =
+pub flag_exists : (P C : Program) (templates : _) → Closes P C templates → (flags : List Bool) → AreUndeclared C templates flags → (w : ℕ) → w < length C.words → w < length flags
+flag_exists P C templates closes flags are w l =
     let many : length flags ≡ length C.words = ap length (are P closes) ∙ flags_counted P 0 P.words ∙ sym (words_closed_count P C templates closes) in
-    none_missing flags w (omega (arith, l, many)) e
-  where
-    none_missing : (bs : List Bool) (k : ℕ) → k < length bs → slice_get bs k ≡ None → ⊥
-    none_missing [] k l e = omega (arith, l)
-    none_missing (b ∷ bs) zero l e = cc
-    none_missing (b ∷ bs) (suc k) l e = none_missing bs k (omega (arith, l)) e
+    omega (arith, l, many)
 
 -- the first refusal among all verdicts is the program's
 first_from : (P : Program) (start w : ℕ) (ds : List WordDef) → first_of (verdicts_from P start w ds) ≡ verdict_from P start w ds

@@ -1,5 +1,5 @@
 //! The verdict on a program.
-ghost use Rattle.std.specs.Prelude.{◌≡◌, ◌<◌, ◌≤◌, length, map, IfOk};
+ghost use Rattle.std.specs.Prelude.{◌≡◌, ◌<◌, length, map, slice_get, Some, IfOk};
 ghost use Rattle.fac_check.specs.Judged.{StandsForBuilt, AreUndeclared, AreVerdicts, IsVerdict, IsAccepted, verdict_seen, refusal_if, first_of};
 ghost use Rattle.fac_check.specs.Checks.{IsKept, Checks, Gathers};
 
@@ -10,6 +10,17 @@ use crate::rule::{CheckFault, Refusal};
 use fac_lang::{List, Memory};
 use fac_locals::Closed;
 use std::alloc::Global;
+
+// The flag of a word.
+fn flag(flags: &List<bool>, number: u32) -> bool
+    requires { number < length flags.now }
+    ensures { slice_get flags.now number ≡ Some result }
+{
+    match flags.get(number as usize) {
+        Some(flag) => *flag,
+        None => unreachable!(),
+    }
+}
 
 /// The verdict on the word of this number: the first rule that it breaks, with its place. `undeclared` has for each word whether its text
 /// leads back to it through inline words, as `undeclared_words` finds it for all words at once.
@@ -27,10 +38,7 @@ pub fn check_word(
     let Some(word) = closed.program.words.get(number as usize) else {
         unreachable!()
     };
-    let Some(leads_back) = undeclared.get(number as usize) else {
-        unreachable!()
-    };
-    match word_breach(alloc, closed, *leads_back, number, word)? {
+    match word_breach(alloc, closed, flag(undeclared, number), number, word)? {
         Some((place, rule)) => Ok(Verdict::Refused(Refusal {
             word: number,
             place,
