@@ -1,5 +1,5 @@
 -- The walk takes each closed program that stands for a built and whole one.
-use Rattle.std.proofs.Common.{◌≡◌, ◌<◌, ◌≤◌, ◌+◌, ◌⊎◌, ℕ, zero, suc, List, [], ◌∷◌, ◌++◌, length, Bool, true, false, Option, Some, None, refl, sym, ap, subst, ◌∙◌, arith}
+use Rattle.std.proofs.Common.{◌≡◌, ◌<◌, ◌≤◌, ◌⊎◌, ℕ, zero, suc, List, [], ◌∷◌, ◌++◌, length, Bool, true, Some, None, refl, sym, ap, subst, ◌∙◌, arith}
 use Rattle.std.specs.Prelude.{◌&&◌, nat_lt, nat_le, slice_get}
 use Rattle.std.specs.List.{list_all}
 use Rattle.std.proofs.lemmas.Bool.{leb-true, le-leb}
@@ -14,8 +14,8 @@ use Rattle.fac_lang.specs.Texts.{int, yes, no, str, iota, wrd, arr, tup, Literal
 use Rattle.fac_lang.specs.View.{what_item, items_text}
 use Rattle.fac_lang.specs.Signatures.{Signature, signature, Inputs, no_inputs, value, quoted}
 use Rattle.fac_lang.specs.Effects.{effect_height, inputs_count}
-use Rattle.fac_lang.specs.Forms.{IsBuilt, IsBuiltText, IsBuiltItem, IsBuiltSort, AreBuiltWords, IsTopPhrase, is_built_core}
-use Rattle.fac_lang.specs.Whole.{IsWhole, name_count, inputs_name_count, row_count, leaving_count}
+use Rattle.fac_lang.specs.Forms.{IsBuilt, IsBuiltText, IsBuiltItem, IsBuiltSort, AreBuiltWords}
+use Rattle.fac_lang.specs.Whole.{IsWhole, name_count, inputs_name_count}
 use Rattle.fac_locals.specs.Closed.{Closes, ClosesText, ClosesItem, ClosesSort, ClosesWord}
 use Rattle.fac_locals.proofs.Lookups.{word_open, words_closed_count, template_closed}
 use Rattle.fac_locals.proofs.Places.{literal_built}
@@ -23,7 +23,7 @@ use Rattle.fac_locals.specs.Literals.{literal_numbered, first_of_literal, first_
 use Rattle.fac_abs.proofs.EqualMarks.{and_first, and_second}
 use Rattle.fac_abs.proofs.SeenLemmas.{both, is_below, below_is}
 use Rattle.fac_check.specs.inner.Taken.{takes_item, takes_text, takes_template, takes_sort, takes_word, takes_all}
-use Rattle.fac_check.proofs.BuiltWords.{at_or_last}
+use Rattle.fac_check.proofs.BuiltWords.{at_or_last, built_there}
 
 module _ {A : Type 0} (test : A → Bool) where
   -- a test of all of a list, by its numbers
@@ -82,11 +82,6 @@ module _ (P : Program) (bound : ℕ) where
 
   taken_top : (w : ℕ) (s o : Sort) (t : Text) → ClosesSort P w s o → s ≡ body t → IsBuiltText bound t → takes_sort bound o ≡ true
   taken_top w s o t c e h = (let d = subst (λ x. ClosesSort P w x o) e c in rw d.1 (taken_text (first_of_word w) t d.0 d.2 h))
-
-built_there : (bound : ℕ) (ds : List WordDef) → AreBuiltWords bound ds → (k : ℕ) (d : WordDef) → slice_get ds k ≡ Some d → IsBuiltSort bound d d.sort
-built_there bound [] h k d e = absurd (cc)
-built_there bound (c ∷ ds) h zero d e = (let same : c ≡ d = cc in subst (λ x. IsBuiltSort bound x x.sort) same h.0)
-built_there bound (c ∷ ds) h (suc k) d e = built_there bound ds h.1 k d e
 
 -- no more inputs than names
 inputs_named : (is : Inputs) → inputs_count is ≤ inputs_name_count is

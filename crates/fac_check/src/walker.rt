@@ -143,12 +143,7 @@ fn put_back(marks: &mut Marks, found: Reached, back: Option<u32>) -> Result<Reac
 }
 
 // The join of two branches, where the step's stack isn't looked at.
-fn joined(
-    marks: &mut Marks,
-    first: Reached,
-    second: Reached,
-    step: Step,
-) -> Result<Walked, Memory>
+fn joined(marks: &mut Marks, first: Reached, second: Reached, step: Step) -> Result<Walked, Memory>
     requires first { IsReached marks.old first }
     requires second { IsReached marks.old second }
     ensures grows { Grows marks.old marks.new }
@@ -383,12 +378,7 @@ impl<'a> Walker<'a> {
 
     // Walks a callable, and then puts a mark back.
     #[cycle(walk)]
-    fn walk_callable(
-        &mut self,
-        mark: u32,
-        back: Option<u32>,
-        step: Step,
-    ) -> Result<Walked, Memory>
+    fn walk_callable(&mut self, mark: u32, back: Option<u32>, step: Step) -> Result<Walked, Memory>
         requires mark { IsMark self.old.marks mark }
         requires back { AreMarks self.old.marks back }
         requires stack { IsStack self.old.marks step.stack }
@@ -478,7 +468,10 @@ impl<'a> Walker<'a> {
                 first,
                 second,
                 stack,
-            } => match admitted(first_rule(&self.marks, first, step.nested, stack), step.left) {
+            } => match admitted(
+                first_rule(&self.marks, first, step.nested, stack),
+                step.left,
+            ) {
                 Ok(left) => self.walk_fork(
                     first,
                     second,

@@ -8,7 +8,7 @@ use Rattle.fac_lang.specs.declared.program.Sort.{Sort}
 use Rattle.fac_lang.specs.declared.program.Sort.TheVariants.{Body as body}
 use Rattle.fac_locals.specs.Literals.{literal_numbered, first_of_word, NotBefore}
 use Rattle.fac_locals.specs.Closed.{Closes, ClosesWord, ClosesText, ClosesItem}
-use Rattle.fac_check.specs.Verdicts.{one_of, without, inline_words, item_words, undeclared}
+use Rattle.fac_check.specs.Verdicts.{one_of, without, inline_words, item_words}
 
 -- a number is in a list
 abbrev pub IsOneOf : ℕ → List ℕ → Type 0

@@ -3,7 +3,7 @@ use Rattle.fac_abs.specs.Seen.{stack_of}
 use Rattle.fac_abs.proofs.SeenLemmas.{is_below}
 use Rattle.fac_locals.proofs.Lookups.{word_open}
 use Rattle.fac_check.specs.Flow.{word_doing}
-use Rattle.fac_check.proofs.TakenPrograms.{word_taken, word_there}
+use Rattle.fac_check.proofs.TakenPrograms.{word_taken}
 use Rattle.fac_check.proofs.WordItems.{ok_maps}
 use Rattle.fac_check.proofs.doing.word.Goals as goal
 

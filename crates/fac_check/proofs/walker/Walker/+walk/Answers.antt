@@ -193,9 +193,9 @@ walk_fork-returns-in-Refused-2-clause-walks t c = λ O f l.
     let within = subst (IsWithin s.left) c.in-Found.is c.in_ok-rule.ensures.within in
     let first = subst (λ w. walked_seen N L w ≡ walk_mark None (go_at O f) (mark_of N M c.args.first) s.place s.nested None (stack_of N M s.stack) s.left) c.in-Found.is (c.in_ok-rule.ensures.walks O f l) in
     let second =
-        c.in_ok-rule-in-Found.ensures.walks (carried same O) f (omega (arith, within, l))
-        ∙ ap (λ m. walk_mark None (go_at O f) m s.place s.nested None (stack_of N L s.stack) c.in-Found.rest) (grows.same_mark N c.args.second c.requires.second)
-        ∙ ap (λ ms. walk_mark None (go_at O f) (mark_of N M c.args.second) s.place s.nested None ms c.in-Found.rest) (grows.same_stack N s.stack c.requires.stack) in
+    c.in_ok-rule-in-Found.ensures.walks (carried same O) f (omega (arith, within, l))
+    ∙ ap (λ m. walk_mark None (go_at O f) m s.place s.nested None (stack_of N L s.stack) c.in-Found.rest) (grows.same_mark N c.args.second c.requires.second)
+    ∙ ap (λ ms. walk_mark None (go_at O f) (mark_of N M c.args.second) s.place s.nested None ms c.in-Found.rest) (grows.same_stack N s.stack c.requires.stack) in
     let seconds = subst (λ w. walked_seen N K w ≡ walk_mark None (go_at O f) (mark_of N M c.args.second) s.place s.nested None (stack_of N M s.stack) c.in-Found.rest) c.in-Refused-2.is second in
     fork_on _ _ _ _ c.in-Found.rest (λ k. walk_mark None (go_at O f) (mark_of N M c.args.second) s.place s.nested None (stack_of N M s.stack) k) s.place first seconds refl
 
@@ -213,9 +213,9 @@ walk_fork-returns-in-Found-2-clause-walks t c =
     let within = subst (IsWithin s.left) c.in-Found.is c.in_ok-rule.ensures.within in
     let first = subst (λ w. walked_seen N L w ≡ walk_mark None (go_at O f) (mark_of N M c.args.first) s.place s.nested None (stack_of N M s.stack) s.left) c.in-Found.is (c.in_ok-rule.ensures.walks O f l) in
     let second =
-        c.in_ok-rule-in-Found.ensures.walks (carried same O) f (omega (arith, within, l))
-        ∙ ap (λ m. walk_mark None (go_at O f) m s.place s.nested None (stack_of N L s.stack) c.in-Found.rest) (grows.same_mark N c.args.second c.requires.second)
-        ∙ ap (λ ms. walk_mark None (go_at O f) (mark_of N M c.args.second) s.place s.nested None ms c.in-Found.rest) (grows.same_stack N s.stack c.requires.stack) in
+    c.in_ok-rule-in-Found.ensures.walks (carried same O) f (omega (arith, within, l))
+    ∙ ap (λ m. walk_mark None (go_at O f) m s.place s.nested None (stack_of N L s.stack) c.in-Found.rest) (grows.same_mark N c.args.second c.requires.second)
+    ∙ ap (λ ms. walk_mark None (go_at O f) (mark_of N M c.args.second) s.place s.nested None ms c.in-Found.rest) (grows.same_stack N s.stack c.requires.stack) in
     let seconds = subst (λ w. walked_seen N K w ≡ walk_mark None (go_at O f) (mark_of N M c.args.second) s.place s.nested None (stack_of N M s.stack) c.in-Found.rest) c.in-Found-2.is second in
     let there = subst (IsWalked L) c.in-Found.is c.in_ok-rule.ensures.there in
     fork_on _ _ _ _ c.in-Found.rest (λ k. walk_mark None (go_at O f) (mark_of N M c.args.second) s.place s.nested None (stack_of N M s.stack) k) s.place first seconds
