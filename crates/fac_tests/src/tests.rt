@@ -2,6 +2,7 @@
 ghost use Rattle.std.specs.Prelude.{IfOk};
 ghost use Rattle.fac_lang.specs.declared.program.Program.{Program as Source};
 ghost use Rattle.fac_lang.specs.Forms.{IsBuilt};
+ghost use Rattle.fac_check.specs.Judged.{StandsForBuilt};
 ghost use Rattle.fac_locals.specs.Closed.{Closes};
 
 use fac_check::{CheckFault, Rule, check};
@@ -629,7 +630,8 @@ fn budgets_that_are_spent(rt: HostRuntime) -> Result<(), Fail> {
 
 // The closed program of a text.
 fn closed_text(alloc: Global, text: &str) -> Result<Closed, Fail>
-    ensures { IfOk result (λ closed. (P : Source) × Closes P closed.program closed.templates × IsBuilt P) }
+    ensures built { IfOk result (λ closed. (P : Source) × Closes P closed.program closed.templates × IsBuilt P) }
+    ensures stands { IfOk result (λ closed. StandsForBuilt closed) }
 {
     let tree = parse(alloc, &tokens(alloc, 1, text.as_bytes())?)?;
     let program = resolve(alloc, &tree)?;

@@ -3,7 +3,7 @@ ghost use Rattle.std.specs.Prelude.{◌≡◌, ◌≤◌, ℕ, List, Option, Som
 ghost use Rattle.fac_lang.specs.declared.program.Program.{Program as Source};
 ghost use Rattle.fac_lang.specs.Forms.{IsBuilt};
 ghost use Rattle.fac_lang.specs.Whole.{IsWhole};
-ghost use Rattle.fac_check.specs.Judged.{OfEach, refusal_if, refusal_seen};
+ghost use Rattle.fac_check.specs.Judged.{OfEach, StandsForBuilt, refusal_if, refusal_seen};
 ghost use Rattle.fac_check.specs.Verdicts.{verdict};
 ghost use Rattle.fac_parse.specs.Resolution.{Resolves};
 ghost use Rattle.fac_parse.specs.Trees.{IsWellFormed};
@@ -60,6 +60,7 @@ fn word_text(alloc: Global, program: &Program, word: u32) -> Result<Text, Memory
 
 // The first refusal of a closed program.
 fn refusal_of(alloc: Global, closed: &Closed) -> Result<Option<Refusal>, Memory>
+    requires { StandsForBuilt closed.now }
     ensures { IfOk result (λ refusal. OfEach closed.now (λ P. verdict P closed.now.start ≡ refusal_if refusal)) }
 {
     let verdicts = check_words(alloc, closed)?;
