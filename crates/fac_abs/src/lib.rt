@@ -1,13 +1,14 @@
-//! What the checker knows of values and stacks.
+//! What the checker knows of values and stacks, and the rules that it tests.
 #![tactic(auto)]
 
 mod cells;
 mod node;
 mod nodes;
+mod rule;
 mod table;
 #[cfg(test)]
 mod tests;
 
-pub use cells::shuffle_needs;
 pub use node::Node;
+pub use rule::Rule;
 pub use table::Marks;

@@ -95,12 +95,12 @@ fn templates(marks: &Marks, stack: u32) -> [u32; 4]
 }
 
 // The templates after a shuffle of the literals 1, 2 and 3, of which 3 is the top.
-fn shuffled(alloc: Global, row: u32) -> Result<[u32; 4], Memory> {
+fn shuffled(alloc: Global, takes: u32, leaves: &[u32]) -> Result<[u32; 4], Memory> {
     let mut marks = Marks::new(alloc)?;
     let one = stacked(&mut marks, 0, 1)?;
     let two = stacked(&mut marks, one, 2)?;
     let three = stacked(&mut marks, two, 3)?;
-    match marks.shuffle(three, row)? {
+    match marks.shuffle(three, takes, leaves)? {
         Some(stack) => Ok(templates(&marks, stack)),
         None => Err(Memory),
     }
@@ -133,27 +133,22 @@ fn a_chain_of_branches(rt: HostRuntime) -> Result<(), Fail> {
 
 #[test]
 fn shuffles(rt: HostRuntime) -> Result<(), Fail> {
-    let cases = [
-        (0, [2, 1, 0, 0]),
-        (1, [3, 3, 2, 1]),
-        (2, [2, 3, 1, 0]),
-        (3, [2, 3, 2, 1]),
-        (4, [1, 3, 2, 1]),
-        (5, [1, 3, 2, 0]),
-        (6, [2, 1, 3, 0]),
-        (7, [3, 1, 0, 0]),
-        (8, [3, 2, 2, 1]),
-        (9, [3, 1, 2, 0]),
-        (10, [1, 0, 0, 0]),
-        (11, [3, 2, 3, 2]),
-        (12, [0, 0, 0, 0]),
-        (13, [3, 2, 1, 3]),
-        (14, [2, 1, 3, 2]),
-        (15, [3, 0, 0, 0]),
+    let cases: [(u32, &[u32], [u32; 4]); 9] = [
+        (1, &[], [2, 1, 0, 0]),
+        (1, &[0, 0], [3, 3, 2, 1]),
+        (2, &[1, 0], [2, 3, 1, 0]),
+        (2, &[0, 1, 0], [2, 3, 2, 1]),
+        (2, &[0, 0, 1], [3, 2, 2, 1]),
+        (3, &[1, 2, 0], [1, 3, 2, 0]),
+        (3, &[0, 1, 2, 0, 1, 2], [3, 2, 1, 3]),
+        (3, &[2], [3, 0, 0, 0]),
+        (0, &[0], [0, 3, 2, 1]),
     ];
-    for (row, left) in cases {
-        assert_eq!(rt; shuffled(rt.alloc(), row)?, left, "row {row}");
+    for (takes, leaves, left) in cases {
+        assert_eq!(rt; shuffled(rt.alloc(), takes, leaves)?, left, "takes {takes} leaves {leaves:?}");
     }
+    let mut marks = Marks::new(rt.alloc())?;
+    assert_eq!(rt; marks.shuffle(0, 1, &[0])?, None);
     Ok(())
 }
 

@@ -10,8 +10,8 @@ use Rattle.fac_lang.specs.Signatures.{Signature, signature}
 use Rattle.fac_lang.specs.declared.phrase.Height.{Height}
 use Rattle.fac_lang.specs.Effects.{effect_height, inputs_count, word_height}
 use Rattle.fac_lang.specs.Substitution.{of_method, of_method_item}
-use Rattle.fac_lang.specs.Primitives.{Prim, prim_numbered, prim_fn}
-use Rattle.fac_lang.specs.PrimitiveWords.{PrimitiveWord, primitive_word, written_effect}
+use Rattle.fac_lang.specs.Primitives.{Primitive, prim_numbered, primitive_word, prim_fn}
+use Rattle.fac_lang.specs.PrimitiveWords.{PrimitiveWord, written_effect}
 use Rattle.fac_lang.specs.Objects.{get_slot, set_slot, put_slot}
 use Rattle.fac_lang.specs.Classes.{methods_from, earlier, first_method, word_in, pick, next, next_from, has_kind, class_before}
 use Rattle.fac_lang.specs.declared.program.Program.{Program}
@@ -29,8 +29,8 @@ use Rattle.fac_check.proofs.StandingLaws.{Unmarked, UnmarkedItem}
 use Rattle.fac_check.specs.CallableEffects.{fits, callable_height}
 use Rattle.fac_check.specs.Standing.{Valid, EndsSo}
 use Rattle.fac_check.proofs.WalksFit.{Context, OnState, StackState}
-use Rattle.fac_check.proofs.ItemsFit.{RegularFn, Over, Leaves}
-use Rattle.fac_check.proofs.PrimitivesKeep.{prim_numbers, prim_regular, getter_regular, setter_regular, putter_regular, written_numbers, prim_found}
+use Rattle.fac_check.proofs.ItemsFit.{Over, Leaves}
+use Rattle.fac_check.proofs.PrimitivesKeep.{RegularFn, prim_regular, getter_regular, setter_regular, putter_regular, word_numbers, written_height, prim_found}
 use Rattle.fac_check.proofs.SoundPrograms.{Accepted, AcceptedMethod, height_of, Good, item_sound, row_word_sound, top_sound}
 
 -- One of a list, of which all pass a test, passes it.
@@ -299,8 +299,9 @@ module _ (P : Program) where
     prim_effect None e h = absurd (never_true h)
     prim_effect (Some r) e h = (r, refl, same_effect (written_effect r) e h)
 
-    prim_height : (w : ℕ) (d : WordDef) (k : ℕ) (p : Prim) → slice_get P.words w ≡ Some d → d.sort ≡ prim k → prim_numbered k ≡ Some p → prim_numbers p ≡ height_of d
-    prim_height w d k p e s q = (let z = prim_effect (primitive_word k) d.effect (by_sort d (prim k) s (written w d e)) in sym (written_numbers k z.0 p z.1 q) ∙ ap effect_height z.2)
+    prim_height : (w : ℕ) (d : WordDef) (k : ℕ) (p : Primitive) → slice_get P.words w ≡ Some d → d.sort ≡ prim k → prim_numbered k ≡ Some p → word_numbers p.word ≡ height_of d
+    prim_height w d k p e s q =
+        (let z = prim_effect (primitive_word k) d.effect (by_sort d (prim k) s (written w d e)) in let found = prim_found k z.0 z.1 in let twice : Some p ≡ Some found.0 = sym q ∙ found.1 in let same : p ≡ found.0 = cc in sym (written_height p.word) ∙ ap (λ (x : Primitive). effect_height (written_effect x.word)) same ∙ ap (λ (r : PrimitiveWord). effect_height (written_effect r)) found.2 ∙ ap effect_height z.2)
 
     -- a method has its generic's effect and is accepted
     effect_found : (o : Option WordDef) (g : WordDef) (e : Signature) → o ≡ Some g → is_effect (elim o [ Some d ↦ Some d.effect | None ↦ None ]) e ≡ true → g.effect ≡ e
@@ -337,8 +338,8 @@ module _ (P : Program) where
     has_prim None h = absurd (never_true h)
     has_prim (Some r) h = (r, refl)
 
-    prim_there : (w : ℕ) (d : WordDef) (k : ℕ) → slice_get P.words w ≡ Some d → d.sort ≡ prim k → (p : Prim) × (prim_numbered k ≡ Some p)
-    prim_there w d k e s = (let z = has_prim (primitive_word k) (subst (λ x. sort_fits P x ≡ true) s (one_passes (λ x. sort_fits P x.sort) P.words whole.sorts_fit w d e)) in prim_found k z.0 z.1)
+    prim_there : (w : ℕ) (d : WordDef) (k : ℕ) → slice_get P.words w ≡ Some d → d.sort ≡ prim k → (p : Primitive) × (prim_numbered k ≡ Some p)
+    prim_there w d k e s = (let z = has_prim (primitive_word k) (subst (λ x. sort_fits P x ≡ true) s (one_passes (λ x. sort_fits P x.sort) P.words whole.sorts_fit w d e)) in let found = prim_found k z.0 z.1 in (found.0, found.1))
 
     -- an accepted generic takes a value
     some_input : (e : Signature) → no_generic_effect P e ≡ false → (i : ℕ) × ((effect_height e).ins ≡ suc i)
@@ -368,10 +369,10 @@ module _ (P : Program) where
           unmarked = λ w d t e s. unmarked_word whole w d t e (subst (λ x. HasText x t) (sym s) refl);
           row_accepted = row_accepted start h;
           rows_bindable = rows_bindable start h;
-          prims = λ w d k p e s q. subst (λ x. RegularFn P x.ins x.outs (prim_fn texts (names P) p)) (prim_height w d k p e s q) (prim_regular P p);
-          getters = λ w d n e s. subst (λ x. RegularFn P (effect_height x).ins (effect_height x).outs (get_slot texts (names P) n)) (same_effect (plain_effect (codes "object" ∷ []) (codes "value" ∷ [])) d.effect (by_sort d (getter n) s (written w d e))) (getter_regular P n);
-          setters = λ w d n e s. subst (λ x. RegularFn P (effect_height x).ins (effect_height x).outs (set_slot texts (names P) n)) (same_effect (plain_effect (codes "object" ∷ codes "value" ∷ []) (codes "object" ∷ [])) d.effect (by_sort d (setter n) s (written w d e))) (setter_regular P n);
-          putters = λ w d n e s. subst (λ x. RegularFn P (effect_height x).ins (effect_height x).outs (put_slot texts (names P) n)) (same_effect (plain_effect (codes "value" ∷ codes "object" ∷ []) []) d.effect (by_sort d (putter n) s (written w d e))) (putter_regular P n);
+          prims = λ w d k p e s q. subst (λ x. RegularFn x.ins x.outs (prim_fn texts (names P) p)) (prim_height w d k p e s q) (prim_regular (names P) k p q);
+          getters = λ w d n e s. subst (λ x. RegularFn (effect_height x).ins (effect_height x).outs (get_slot texts (names P) n)) (same_effect (plain_effect (codes "object" ∷ []) (codes "value" ∷ [])) d.effect (by_sort d (getter n) s (written w d e))) (getter_regular (names P) n);
+          setters = λ w d n e s. subst (λ x. RegularFn (effect_height x).ins (effect_height x).outs (set_slot texts (names P) n)) (same_effect (plain_effect (codes "object" ∷ codes "value" ∷ []) (codes "object" ∷ [])) d.effect (by_sort d (setter n) s (written w d e))) (setter_regular (names P) n);
+          putters = λ w d n e s. subst (λ x. RegularFn (effect_height x).ins (effect_height x).outs (put_slot texts (names P) n)) (same_effect (plain_effect (codes "value" ∷ codes "object" ∷ []) []) d.effect (by_sort d (putter n) s (written w d e))) (putter_regular (names P) n);
           tests = λ w d c e s. subst (λ x. ((effect_height x).ins ≡ 1) × ((effect_height x).outs ≡ Some 1)) (same_effect (plain_effect (codes "object" ∷ []) (codes "?" ∷ [])) d.effect (by_sort d (isa c) s (written w d e))) (refl, refl);
           numbered = prim_there;
           selves = λ w d e s. subst (λ x. ((effect_height x).ins ≡ 0) × ((effect_height x).outs ≡ Some 1)) (same_effect (plain_effect [] (codes "value" ∷ [])) d.effect (by_sort d itself s (written w d e))) (refl, refl);

@@ -3,8 +3,11 @@ use Rattle.std.proofs.Common.{◌≡◌, ℕ, zero, suc, List, [], ◌∷◌, ma
 use Rattle.std.specs.Prelude.{slice_get}
 use Rattle.fac_lang.specs.declared.phrase.Height.{Height}
 use Rattle.fac_lang.specs.Texts.{int, yes, no, str, iota, wrd, arr, tup, Text, end, then, Item, lit, lit_arr, quot, word, bind, local, fry, hole, call_eff, exec_eff, next_method, made, next_after, held, known, Value, plain, fun, Callable, text, cur, both}
-use Rattle.fac_lang.specs.World.{World, State, ErrorName, no_method, no_next_method, push, push_each}
-use Rattle.fac_lang.specs.Primitives.{Prim, prim_numbered, Gives, gives, bad, Fn, fn0, fn1, fn2, fn3, prim_fn, seen_no}
+use Rattle.fac_lang.specs.World.{World, State, push, push_each}
+use Rattle.fac_lang.specs.declared.error_name.ErrorName.{ErrorName}
+use Rattle.fac_lang.specs.declared.error_name.ErrorName.TheVariants.{NoMethod, NoNextMethod}
+use Rattle.fac_lang.specs.Procedures.{Gives, gives, bad, Fn, fn0, fn1, fn2, fn3}
+use Rattle.fac_lang.specs.Primitives.{Primitive, prim_numbered, prim_fn, seen_no}
 use Rattle.fac_lang.specs.Objects.{kind_of, get_slot, set_slot, put_slot, made_tuple}
 use Rattle.fac_lang.specs.declared.program.Program.{Program}
 use Rattle.fac_lang.specs.declared.program.Sort.{Sort}
@@ -124,7 +127,7 @@ module _ (ls : List ℕ) where
     core_stays (Some c_execute) st e = taking1_stays st.stack st.world (λ v st'. with_word v (λ a. runs (text (one_item (word a))) st' [])) e (λ v. word_stays v (λ a st'. runs (text (one_item (word a))) st' []) (λ a st' e'. e'))
     core_stays (Some c_boa) st e = taking1_stays st.stack st.world (λ v st'. with_word v (λ a. makes_tuple P ((names P).tuple_class a) st')) e (λ v. word_stays v (λ a st'. makes_tuple P ((names P).tuple_class a) st') (λ a. makes_stays ((names P).tuple_class a)))
 
-    primitive_stays : (a : ℕ) (p : Option Prim) → Keeps (prim_act P a p)
+    primitive_stays : (a : ℕ) (p : Option Primitive) → Keeps (prim_act P a p)
     primitive_stays a None st e = tt
     primitive_stays a (Some p) st e = does_stays a (prim_fn texts (names P) p) (prim_stays ls P p) st e
 
@@ -145,7 +148,7 @@ module _ (ls : List ℕ) where
     sort_stays a (Some (setter s)) st e = does_stays a (set_slot texts (names P) s) (setter_stays ls P s) st e
     sort_stays a (Some (putter s)) st e = does_stays a (put_slot texts (names P) s) (putter_stays ls P s) st e
     sort_stays a (Some generic) st e =
-        taking1_stays st.stack st.world (λ v st'. enters P (pick P a (kind_of texts (names P) st'.world v)) no_method a v st') e (λ v st' e'. enters_stays (pick P a (kind_of texts (names P) st'.world v)) no_method a v st' e')
+        taking1_stays st.stack st.world (λ v st'. enters P (pick P a (kind_of texts (names P) st'.world v)) NoMethod a v st') e (λ v st' e'. enters_stays (pick P a (kind_of texts (names P) st'.world v)) NoMethod a v st' e')
     sort_stays a (Some (method c g t)) st e = e
 
     module _ (fits : Height → Height → Bool) (callable_height : Callable → Option Height) where
@@ -180,7 +183,7 @@ module _ (ls : List ℕ) where
       act_stays next_method st e = tt
       act_stays (made k) st e = tt
       act_stays (next_after m) st e =
-          taking1_stays st.stack st.world (λ v st'. enters P (next P m (kind_of texts (names P) st'.world v)) no_next_method (generic_of P (sort_of P m)) v st') e (λ v st' e'. enters_stays (next P m (kind_of texts (names P) st'.world v)) no_next_method (generic_of P (sort_of P m)) v st' e')
+          taking1_stays st.stack st.world (λ v st'. enters P (next P m (kind_of texts (names P) st'.world v)) NoNextMethod (generic_of P (sort_of P m)) v st') e (λ v st' e'. enters_stays (next P m (kind_of texts (names P) st'.world v)) NoNextMethod (generic_of P (sort_of P m)) v st' e')
       act_stays (held v) st e = e
       act_stays (known m) st e = tt
 

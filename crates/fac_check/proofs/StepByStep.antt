@@ -3,7 +3,8 @@ use Rattle.std.proofs.Common.{◌≡◌, ℕ, zero, suc, List, Option, Some, Non
 use Rattle.fac_lang.specs.declared.phrase.Place.{Place}
 use Rattle.fac_lang.specs.Signatures.{Signature}
 use Rattle.fac_lang.specs.Texts.{Literal, Text, Mark}
-use Rattle.fac_abs.specs.Marks.{AbstractStack, Rule}
+use Rattle.fac_abs.specs.Marks.{AbstractStack}
+use Rattle.fac_abs.specs.declared.rule.Rule.{Rule}
 use Rattle.fac_check.specs.Flow.{Walked, found, refused, and_then, living, Doing, breaks, gives, names_local, expands, walks, forks, again, uses, Walk, counted, join, marks_back, walk_mark, text_rule, first_rule, unless_broken, walk_on}
 use Rattle.fac_check.specs.ItemWalk.{IsAlone, item_walk}
 

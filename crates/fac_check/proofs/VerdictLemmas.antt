@@ -17,7 +17,7 @@ use Rattle.fac_locals.proofs.Places.{literal_apart, literal_built}
 use Rattle.fac_abs.specs.Marks.{unknowns}
 use Rattle.fac_abs.specs.Trees.{Naming}
 use Rattle.fac_abs.specs.Seen.{MarksSeen, stack_of}
-use Rattle.fac_check.specs.declared.rule.Rule.{Rule}
+use Rattle.fac_abs.specs.declared.rule.Rule.{Rule}
 use Rattle.fac_check.specs.declared.walker.Walked.{Walked}
 use Rattle.fac_check.specs.Rows.{effect_inputs, effect_leaving, is_row}
 use Rattle.fac_check.specs.Flow.{most_steps}

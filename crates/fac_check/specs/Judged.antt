@@ -8,25 +8,24 @@ use Rattle.fac_lang.specs.Forms.{IsBuilt}
 use Rattle.fac_locals.specs.Closed.{Closes}
 use Rattle.fac_locals.specs.declared.closing.Closed.{Closed}
 use Rattle.fac_check.specs.Verdicts.{Refusal as RefusalSeen, word_verdict, verdict}
-use Rattle.fac_check.specs.declared.rule.Rule.{Rule}
+use Rattle.fac_abs.specs.declared.rule.Rule.{Rule}
 use Rattle.fac_check.specs.declared.rule.Refusal.{Refusal}
 use Rattle.fac_check.specs.declared.checker.Verdict.{Verdict}
 use Rattle.fac_check.specs.declared.checker.Verdict.TheVariants.{Accepted, Refused}
-use Rattle.fac_check.specs.Walking.{rule_seen}
 
 -- a refusal with the number of its word
 abbrev pub Numbered : Type 0
 Numbered = ℕ × RefusalSeen
 
 abbrev pub broken : Place × Rule → RefusalSeen
-broken b = record { rule = rule_seen b.1; place = b.0 }
+broken b = record { rule = b.1; place = b.0 }
 
 abbrev pub breach_seen : Option (Place × Rule) → Option RefusalSeen
 breach_seen None = None
 breach_seen (Some b) = Some (broken b)
 
 abbrev pub refusal_seen : Refusal → Numbered
-refusal_seen r = (r.word, record { rule = rule_seen r.rule; place = r.place })
+refusal_seen r = (r.word, record { rule = r.rule; place = r.place })
 
 abbrev pub refusal_if : Option Refusal → Option Numbered
 refusal_if None = None

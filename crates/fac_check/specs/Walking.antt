@@ -1,7 +1,6 @@
 -- What the walker's numbers stand for. Only the contracts of inner functions cite this.
 use Rattle.std.specs.Prelude.{◌≡◌, ◌<◌, ◌≤◌, ℕ, suc, List, [], ◌∷◌, Some, None, slice_get, length, Result, Ok, Err}
 use Rattle.std.specs.declared.option.Option.{Option}
-use Rattle.std.specs.Option.{option_map}
 use Rattle.fac_lang.specs.declared.program.Program.{Program}
 use Rattle.fac_lang.specs.declared.program.WordDef.{WordDef}
 use Rattle.fac_lang.specs.declared.program.Sort.{Sort}
@@ -12,34 +11,18 @@ use Rattle.fac_lang.specs.Texts.{Text, end, Mark}
 use Rattle.fac_lang.specs.Forms.{IsBuilt}
 use Rattle.fac_locals.specs.Literals.{literal_numbered}
 use Rattle.fac_locals.specs.Closed.{Closes}
-use Rattle.fac_abs.specs.Marks.{AbstractStack, dead, on, Rule as BrokenRule, underflow, not_known, not_a_class, branches, recursive_input, rows, undeclared_recursion, row_declaration, method_effect, too_deep, too_large, outputs, must_return}
+use Rattle.fac_abs.specs.Marks.{AbstractStack, dead, on}
+use Rattle.fac_abs.specs.declared.rule.Rule.{Rule}
+use Rattle.fac_abs.specs.declared.rule.Rule.TheVariants.{Underflow}
 use Rattle.fac_abs.specs.Trees.{Naming}
 use Rattle.fac_abs.specs.Seen.{MarksSeen, mark_of, stack_of, IsMark, IsStack}
 use Rattle.fac_check.specs.Flow.{Walked as WalkedText, found, refused, Doing as DoingAtOnce, breaks, gives, expands, walks, forks, unless_broken, counted, inside, Walk, walk, walk_mark, doing}
-use Rattle.fac_check.specs.declared.rule.Rule.{Rule}
-use Rattle.fac_check.specs.declared.rule.Rule.TheVariants.{Underflow, NotKnown, NotAClass, Branches, RecursiveInput, Rows, UndeclaredRecursion, RowDeclaration, MethodEffect, TooDeep, TooLarge, Outputs, MustReturn}
 use Rattle.fac_check.specs.declared.doing.Reached.{Reached}
 use Rattle.fac_check.specs.declared.doing.Reached.TheVariants.{Dead, On}
 use Rattle.fac_check.specs.declared.doing.Doing.{Doing}
 use Rattle.fac_check.specs.declared.doing.Doing.TheVariants.{Breaks, Gives, Expands, Walks, Forks}
 use Rattle.fac_check.specs.declared.walker.Walked.{Walked}
 use Rattle.fac_check.specs.declared.walker.Walked.TheVariants.{Found, Refused}
-
--- a rule with its numbers
-abbrev pub rule_seen : Rule → BrokenRule
-rule_seen (Underflow i n) = underflow i n
-rule_seen NotKnown = not_known
-rule_seen NotAClass = not_a_class
-rule_seen (Branches i j) = branches i j
-rule_seen (RecursiveInput k) = recursive_input k
-rule_seen (Rows k i j) = rows k i j
-rule_seen UndeclaredRecursion = undeclared_recursion
-rule_seen RowDeclaration = row_declaration
-rule_seen MethodEffect = method_effect
-rule_seen TooDeep = too_deep
-rule_seen TooLarge = too_large
-rule_seen (Outputs i j) = outputs i j
-rule_seen MustReturn = must_return
 
 -- the text of a word that is defined by one
 abbrev pub sort_text : Sort → Text
@@ -65,11 +48,11 @@ module _ (N : Naming) (M : MarksSeen) where
 
   abbrev pub walked_seen : Walked → WalkedText AbstractStack
   walked_seen (Found A n) = found (reached_seen A) n
-  walked_seen (Refused r p) = refused (rule_seen r) p
+  walked_seen (Refused r p) = refused r p
 
   -- with the texts of words
   abbrev pub doing_seen : (ℕ → Text) → Doing → DoingAtOnce
-  doing_seen texts (Breaks r) = breaks (rule_seen r)
+  doing_seen texts (Breaks r) = breaks r
   doing_seen texts (Gives A) = gives (reached_seen A)
   doing_seen texts (Expands w s) = expands w (texts w) None (stack_of N M s)
   doing_seen texts (Walks m s back) = walks (mark_of N M m) None (stack_of N M s) (marks_of_option (mark_of N M) back)
@@ -101,7 +84,7 @@ DoesAs old new s result does = (N : Naming) (texts : ℕ → Text) → doing_see
 
 -- a rule that an item breaks that needs so many values
 abbrev pub lacks : ℕ → List Mark → DoingAtOnce
-lacks n ms = breaks (underflow n (length ms))
+lacks n ms = breaks (Underflow n (length ms))
 
 -- the two top marks, the upper one last, and what is below them
 abbrev pub PopsTwo : MarksSeen → ℕ → Option (ℕ × ℕ × ℕ) → Type 0
@@ -125,13 +108,13 @@ IsBelow most (Refused r p) = Unit {0}
 
 -- an item is counted, unless it broke a rule before
 abbrev pub Admits : Option Rule → ℕ → Result ℕ Rule → Type 0
-Admits broken left (Ok k) = (left ≡ suc k) × ((p : Place) (go : ℕ → WalkedText AbstractStack) → unless_broken None (option_map rule_seen broken) p (counted p left go) ≡ go k)
-Admits broken left (Err r) = (p : Place) (go : ℕ → WalkedText AbstractStack) → unless_broken None (option_map rule_seen broken) p (counted p left go) ≡ refused (rule_seen r) p
+Admits broken left (Ok k) = (left ≡ suc k) × ((p : Place) (go : ℕ → WalkedText AbstractStack) → unless_broken None broken p (counted p left go) ≡ go k)
+Admits broken left (Err r) = (p : Place) (go : ℕ → WalkedText AbstractStack) → unless_broken None broken p (counted p left go) ≡ refused r p
 
 -- a part of what `curry` or `compose` made is entered
 abbrev pub Enters : Mark → ℕ → Result ℕ Rule → Type 0
 Enters m nested (Ok d) = (p : Place) (go : ℕ → WalkedText AbstractStack) → inside m p nested go ≡ go d
-Enters m nested (Err r) = (p : Place) (go : ℕ → WalkedText AbstractStack) → inside m p nested go ≡ refused (rule_seen r) p
+Enters m nested (Err r) = (p : Place) (go : ℕ → WalkedText AbstractStack) → inside m p nested go ≡ refused r p
 
 -- A program for which a closed program stands, and which literals its templates make.
 pub record Opened (C : Program) (templates : List Template) : Type 0 where

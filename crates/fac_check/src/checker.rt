@@ -15,9 +15,9 @@ ghost use Rattle.fac_check.specs.Walking.{IsWalked, walked_seen};
 ghost use Rattle.fac_check.specs.Judged.{OfEach, breach_seen, verdict_seen, numbered};
 
 use crate::doing::Reached;
-use crate::rule::{Refusal, Rule};
+use crate::rule::Refusal;
 use crate::walker::{Walked, walk_phrase};
-use fac_abs::Marks;
+use fac_abs::{Marks, Rule};
 use fac_lang::{Memory, Phrase, Place, Sort, WordDef};
 use fac_locals::Closed;
 use std::alloc::Global;

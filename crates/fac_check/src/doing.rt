@@ -1,7 +1,8 @@
 //! What an item does to a stack at once.
 ghost use Rattle.std.specs.Prelude.{◌≡◌, ◌<◌, ◌≤◌, ℕ, List, Option, Some, None, IfOk, OnErr, MatchOption, slice_get, [], ◌∷◌, length, if◌then◌else◌};
 ghost use Rattle.fac_lang.specs.Effects.{effect_height};
-ghost use Rattle.fac_lang.specs.Primitives.{moves, Prim, prim_numbered};
+ghost use Rattle.fac_lang.specs.Primitives.{Primitive, prim_numbered};
+ghost use Rattle.fac_lang.specs.PrimitiveWords.{outputs_of};
 ghost use Rattle.fac_lang.specs.Forms.{IsBuilt};
 ghost use Rattle.fac_lang.specs.declared.program.WordDef.{WordDef as WordSeen};
 ghost use Rattle.fac_locals.specs.Closed.{ClosesWord, ClosesItem};
@@ -9,16 +10,14 @@ ghost use Rattle.fac_lang.specs.Texts.{Text, Item, Literal, any, lit_mark};
 ghost use Rattle.fac_lang.specs.View.{what_item};
 ghost use Rattle.fac_abs.specs.Trees.{Naming};
 ghost use Rattle.fac_abs.specs.Seen.{IsMark, IsStack, Grows, mark_of, stack_of};
-ghost use Rattle.fac_abs.specs.Keeping.{shuffle_numbered};
-ghost use Rattle.fac_check.specs.Flow.{by_height as takes_and_leaves, marks_moved, curry_doing, compose_doing, core_doing, prim_doing, word_doing, expands, gives, doing as doing_of};
-ghost use Rattle.fac_abs.specs.Marks.{on};
+ghost use Rattle.fac_check.specs.Flow.{by_height as takes_and_leaves, marks_moved, mark_made, core_doing, prim_doing, word_doing, expands, gives, doing as doing_of};
+ghost use Rattle.fac_abs.specs.Marks.{on, curried_mark, composed_mark};
 ghost use Rattle.fac_lang.specs.Meaning.{c_call, c_dip, c_if, core_numbered};
 ghost use Rattle.fac_check.specs.Walking.{IsDoing, DoesAs, doing_seen, PopsTwo, PopsBranches, lacks, body_text, Opened};
 ghost use Rattle.fac_lang.specs.declared.program.Program.{Program as ProgramSeen};
 
-use crate::rule::Rule;
-use fac_abs::{Marks, shuffle_needs};
-use fac_lang::{Memory, Sort, What, WordDef};
+use fac_abs::{Marks, Rule};
+use fac_lang::{Memory, Operation, Sort, What, WordDef, operation_of, primitives};
 use fac_locals::Closed;
 
 /// What a walk comes to.
@@ -103,17 +102,16 @@ fn pop_two(marks: &Marks, stack: u32) -> Option<(u32, u32, u32)>
     Some((lower, upper, rest))
 }
 
-// A shuffle.
-fn shuffle(marks: &mut Marks, stack: u32, number: u32) -> Result<Doing, Memory>
-    requires stack { IsStack marks.old stack }
-    requires number { number < 16 }
+// A shuffle, which takes so many values and leaves those at these places.
+fn shuffle(marks: &mut Marks, stack: u32, takes: u32, leaves: &[u32]) -> Result<Doing, Memory>
+    requires { IsStack marks.old stack }
     ensures grows { Grows marks.old marks.new }
     ensures there { IfOk result (λ doing. IsDoing marks.new doing) }
-    ensures does { IfOk result (λ doing. DoesAs marks.old marks.new stack doing (marks_moved (moves (shuffle_numbered number)) None)) }
+    ensures does { IfOk result (λ doing. DoesAs marks.old marks.new stack doing (marks_moved takes leaves.now None)) }
 {
-    match marks.shuffle(stack, number)? {
+    match marks.shuffle(stack, takes, leaves)? {
         Some(moved) => Ok(Doing::Gives(Reached::On(moved))),
-        None => Ok(underflow(marks, stack, shuffle_needs(number))),
+        None => Ok(underflow(marks, stack, takes)),
     }
 }
 
@@ -123,7 +121,7 @@ fn curry(marks: &mut Marks, stack: u32) -> Result<Doing, Memory>
     requires { IsStack marks.old stack }
     ensures grows { Grows marks.old marks.new }
     ensures there { IfOk result (λ doing. IsDoing marks.new doing) }
-    ensures does { IfOk result (λ doing. DoesAs marks.old marks.new stack doing (curry_doing None)) }
+    ensures does { IfOk result (λ doing. DoesAs marks.old marks.new stack doing (mark_made curried_mark 2 0 1 None)) }
 {
     match pop_two(marks, stack) {
         Some((value, callable, rest)) => {
@@ -140,7 +138,7 @@ fn compose(marks: &mut Marks, stack: u32) -> Result<Doing, Memory>
     requires { IsStack marks.old stack }
     ensures grows { Grows marks.old marks.new }
     ensures there { IfOk result (λ doing. IsDoing marks.new doing) }
-    ensures does { IfOk result (λ doing. DoesAs marks.old marks.new stack doing (compose_doing None)) }
+    ensures does { IfOk result (λ doing. DoesAs marks.old marks.new stack doing (mark_made composed_mark 2 0 1 None)) }
 {
     match pop_two(marks, stack) {
         Some((first, second, rest)) => {
@@ -244,7 +242,7 @@ fn core(marks: &Marks, stack: u32, number: u32) -> Result<Doing, Memory>
     }
 }
 
-// A primitive that takes and leaves so many values by its effect.
+// A primitive that takes and leaves so many values by its effect. The primitives past those of the table aren't read yet.
 fn primitive(
     marks: &mut Marks,
     stack: u32,
@@ -255,18 +253,17 @@ fn primitive(
     requires { IsStack marks.old stack }
     ensures grows { Grows marks.old marks.new }
     ensures there { IfOk result (λ doing. IsDoing marks.new doing) }
-    ensures does { IfOk result (λ doing. (P : ProgramSeen) (p : Prim) → prim_numbered number ≡ Some p → DoesAs marks.old marks.new stack doing (prim_doing P (prim_numbered number) (record { ins = ins; outs = outs }) None)) }
+    ensures does { IfOk result (λ doing. (p : Primitive) → prim_numbered number ≡ Some p → ins ≡ length p.word.ins → outs ≡ outputs_of p.word → DoesAs marks.old marks.new stack doing (prim_doing (Some p) None)) }
 {
-    if number < 16 {
-        return shuffle(marks, stack, number);
+    if number as usize >= primitives().len() {
+        return Err(Memory);
     }
-    if number == 16 {
-        return curry(marks, stack);
+    match operation_of(number) {
+        Operation::Shuffle { takes, leaves } => shuffle(marks, stack, takes, leaves),
+        Operation::Curry => curry(marks, stack),
+        Operation::Compose => compose(marks, stack),
+        _ => by_height(marks, stack, ins, outs),
     }
-    if number == 17 {
-        return compose(marks, stack);
-    }
-    by_height(marks, stack, ins, outs)
 }
 
 // A word that is defined by a text: an inline one is expanded, and every other one goes by its effect.

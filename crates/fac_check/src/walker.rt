@@ -1,7 +1,6 @@
 //! The walk of a text.
 ghost use Rattle.std.specs.Prelude.{◌≡◌, ◌<◌, ◌≤◌, ℕ, suc, List, Some, None, IfOk, MatchResult, MatchOption};
 ghost use Rattle.std.specs.declared.option.Option.{Option as Maybe};
-ghost use Rattle.std.specs.Option.{option_map};
 ghost use Rattle.fac_lang.specs.Texts.{Text, Literal, Mark, cur_mark, com_mark};
 ghost use Rattle.fac_abs.specs.Trees.{Naming};
 ghost use Rattle.fac_abs.specs.Seen.{IsMark, IsStack, Grows, mark_of, stack_of};
@@ -10,11 +9,10 @@ ghost use Rattle.fac_locals.specs.Closed.{ClosesText};
 ghost use Rattle.fac_abs.specs.Marks.{on};
 ghost use Rattle.fac_check.specs.Flow.{walk, walk_text, walk_mark as walk_of_mark, doing as doing_of, first_rule as first_rule_of, text_rule as rule_of_text, join, and_then, found, marks_back};
 ghost use Rattle.fac_check.specs.ItemWalk.{item_walk};
-ghost use Rattle.fac_check.specs.Walking.{Opened, IsDoing, IsReached, IsWalked, IsWithin, IsBelow, AreMarks, Admits, Enters, doing_seen, reached_seen, walked_seen, rule_seen, marks_of_option, body_text, go_at, part_walk};
+ghost use Rattle.fac_check.specs.Walking.{Opened, IsDoing, IsReached, IsWalked, IsWithin, IsBelow, AreMarks, Admits, Enters, doing_seen, reached_seen, walked_seen, marks_of_option, body_text, go_at, part_walk};
 
 use crate::doing::{Doing, Reached, item_doing};
-use crate::rule::Rule;
-use fac_abs::{Marks, Node};
+use fac_abs::{Marks, Node, Rule};
 use fac_lang::{Memory, Phrase, Place, Sort};
 use fac_locals::Closed;
 
@@ -29,7 +27,7 @@ pub enum Walked {
 
 // What an item breaks by entering a text, before it counts.
 fn text_rule(nested: u32) -> Option<Rule>
-    ensures { option_map rule_seen result ≡ rule_of_text None nested }
+    ensures { result ≡ rule_of_text None nested }
 {
     if nested == 0 {
         return Some(Rule::TooDeep);
@@ -41,7 +39,7 @@ fn text_rule(nested: u32) -> Option<Rule>
 fn first_rule(marks: &Marks, mark: u32, nested: u32, stack: u32) -> Option<Rule>
     requires mark { IsMark marks.now mark }
     requires stack { IsStack marks.now stack }
-    ensures { (N : Naming) → option_map rule_seen result ≡ first_rule_of None (mark_of N marks.now mark) nested None (stack_of N marks.now stack) }
+    ensures { (N : Naming) → result ≡ first_rule_of None (mark_of N marks.now mark) nested None (stack_of N marks.now stack) }
 {
     match marks.node(mark) {
         Node::Lit(_) => text_rule(nested),

@@ -1,7 +1,9 @@
 -- The built primitives make values whose callables are of the image's templates.
 use Rattle.std.proofs.Common.{◌≡◌, ℕ, [], ◌∷◌, ◌++◌, Bool, true, false, Option, Some, None}
 use Rattle.std.specs.Prelude.{ℤ, nat_le, length}
-use Rattle.fac_lang.specs.World.{World, ErrorName, not_integer, overflow, text_too_long}
+use Rattle.fac_lang.specs.World.{World}
+use Rattle.fac_lang.specs.declared.error_name.ErrorName.{ErrorName}
+use Rattle.fac_lang.specs.declared.error_name.ErrorName.TheVariants.{NotInteger, Overflow, TextTooLong}
 use Rattle.fac_lang.specs.Printed.{Names, printed}
 use Rattle.fac_lang.specs.Primitives.{Shuffle, s_drop, s_dup, s_swap, s_over, s_pick, s_rot, s_unrot, s_nip, s_dupd, s_swapd, s_2drop, s_2dup, s_3drop, s_3dup, s_2over, s_2nip, moves, moved, Prim, shuffle, p_curry, p_compose, p_throw, p_not, p_and, p_or, p_choose, p_add, p_sub, p_mul, p_show, prim_numbered, prim_fn, Gives, or_bad, want_integer, integer_or, seen_integer, seen_no, unless_bad, written, most_elements}
 use Rattle.fac_lang.specs.Forms.{built_primitives, is_built_primitive}
@@ -16,14 +18,14 @@ module _ (M : Image) where
   or_bad_keeps (Some x) e v w f h = h x
 
   integer_keeps : (x : MValue) (w : World MValue) (f : ℤ → Gives MValue) → ((z : ℤ) → WholeGives M (f z)) → WholeGives M (want_integer cells x w f)
-  integer_keeps x w f h = or_bad_keeps (seen_integer (m_seen x)) not_integer (Some x) w f h
+  integer_keeps x w f h = or_bad_keeps (seen_integer (m_seen x)) NotInteger (Some x) w f h
 
   result_keeps : (e : ErrorName) (o : Option ℤ) (w : World MValue) → WholeObjects M w.objects → WholeGives M (integer_or cells e o w)
   result_keeps e None w h = tt
   result_keeps e (Some z) w h = ((tt, tt), h)
 
-  arithmetic_keeps : (o : ℤ → ℤ → Option ℤ) (x y : MValue) (w : World MValue) → WholeObjects M w.objects → WholeGives M (want_integer cells x w (λ a. want_integer cells y w (λ b. integer_or cells overflow (o a b) w)))
-  arithmetic_keeps o x y w h = integer_keeps x w _ (λ a. integer_keeps y w _ (λ b. result_keeps overflow (o a b) w h))
+  arithmetic_keeps : (o : ℤ → ℤ → Option ℤ) (x y : MValue) (w : World MValue) → WholeObjects M w.objects → WholeGives M (want_integer cells x w (λ a. want_integer cells y w (λ b. integer_or cells Overflow (o a b) w)))
+  arithmetic_keeps o x y w h = integer_keeps x w _ (λ a. integer_keeps y w _ (λ b. result_keeps Overflow (o a b) w h))
 
   -- one of two values
   chosen_whole : (b : Bool) (x y : MValue) → Whole M x → Whole M y → Whole M (elim b [ true ↦ x | false ↦ y ])
@@ -101,7 +103,7 @@ module _ (M : Image) where
 
   show_keeps : (N : Names) → Keeps M (prim_fn cells N p_show)
   unfolding prim_fn
-  show_keeps N x w hx h = let text = printed cells N w x in unless_keeps (nat_le (length text) most_elements) text_too_long w (written cells (text ++ 10 ∷ []) w) (tt, h)
+  show_keeps N x w hx h = let text = printed cells N w x in unless_keeps (nat_le (length text) most_elements) TextTooLong w (written cells (text ++ 10 ∷ []) w) (tt, h)
 
   -- the primitive of a number
   abbrev pub NumberKeeps : Names → Option Prim → Type 0

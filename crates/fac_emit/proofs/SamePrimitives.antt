@@ -4,7 +4,9 @@ use Rattle.std.specs.Prelude.{ℤ, map, length, nat_le, nat_eq, slice_get}
 use Rattle.std.proofs.lemmas.Option.{slice_get-map}
 use Rattle.std.specs.Option.{option_map}
 use Rattle.fac_lang.specs.Texts.{int, yes, no, str, iota, wrd, arr, tup, Value}
-use Rattle.fac_lang.specs.World.{Object, array, tuple, World, ErrorName, not_integer, overflow, text_too_long}
+use Rattle.fac_lang.specs.World.{Object, array, tuple, World}
+use Rattle.fac_lang.specs.declared.error_name.ErrorName.{ErrorName}
+use Rattle.fac_lang.specs.declared.error_name.ErrorName.TheVariants.{NotInteger, Overflow, TextTooLong}
 use Rattle.fac_lang.specs.Printed.{Names, shown_object, shown, printed}
 use Rattle.fac_lang.specs.Primitives.{Shuffle, s_drop, s_dup, s_swap, s_over, s_pick, s_rot, s_unrot, s_nip, s_dupd, s_swapd, s_2drop, s_2dup, s_3drop, s_3dup, s_2over, s_2nip, moves, moved, Prim, shuffle, p_curry, p_compose, p_throw, p_not, p_and, p_or, p_choose, p_add, p_sub, p_mul, p_show, prim_numbered, prim_fn, Gives, gives, Fn, fn0, fn1, fn2, fn3, or_bad, want_integer, integer_or, seen_integer, seen_no, unless_bad, written, most_elements, give1, truth}
 use Rattle.fac_lang.specs.Forms.{is_member, built_primitives, is_built_primitive}
@@ -56,7 +58,7 @@ module _ (T : Templates) where
   or_bad_same (Some x) o' e v w g f p h = rw p (h x)
 
   integer_same : (x : MValue) (w : World MValue) (g : ℤ → Gives Value) (f : ℤ → Gives MValue) → ((z : ℤ) → g z ≡ gives_view T (f z)) → want_integer texts (V x) (world_view T w) g ≡ gives_view T (want_integer cells x w f)
-  integer_same x w g f h = or_bad_same (seen_integer (m_seen x)) (seen_integer (seen (V x))) not_integer (Some x) w g f (ap seen_integer (seen_same x)) h
+  integer_same x w g f h = or_bad_same (seen_integer (m_seen x)) (seen_integer (seen (V x))) NotInteger (Some x) w g f (ap seen_integer (seen_same x)) h
 
   result_same : (e : ErrorName) (o : Option ℤ) (w : World MValue) → integer_or texts e o (world_view T w) ≡ gives_view T (integer_or cells e o w)
   result_same e None w = refl
@@ -112,8 +114,8 @@ module _ (T : Templates) where
   unless_same true e w g f h = h
   unless_same false e w g f h = refl
 
-  show_line : (w : World MValue) (text : List ℕ) → unless_bad texts (nat_le (length text) most_elements) text_too_long (world_view T w) (written texts (text ++ 10 ∷ []) (world_view T w)) ≡ gives_view T (unless_bad cells (nat_le (length text) most_elements) text_too_long w (written cells (text ++ 10 ∷ []) w))
-  show_line w text = unless_same (nat_le (length text) most_elements) text_too_long w (written texts (text ++ 10 ∷ []) (world_view T w)) (written cells (text ++ 10 ∷ []) w) refl
+  show_line : (w : World MValue) (text : List ℕ) → unless_bad texts (nat_le (length text) most_elements) TextTooLong (world_view T w) (written texts (text ++ 10 ∷ []) (world_view T w)) ≡ gives_view T (unless_bad cells (nat_le (length text) most_elements) TextTooLong w (written cells (text ++ 10 ∷ []) w))
+  show_line w text = unless_same (nat_le (length text) most_elements) TextTooLong w (written texts (text ++ 10 ∷ []) (world_view T w)) (written cells (text ++ 10 ∷ []) w) refl
 
   moves_same : (s : Shuffle) → Same (moved cells (moves s)) (moved texts (moves s))
   moves_same s_drop = λ x w. refl
@@ -146,19 +148,19 @@ module _ (T : Templates) where
 
   add_same : (N : Names) → Same (prim_fn cells N p_add) (prim_fn texts N p_add)
   unfolding prim_fn
-  add_same N x y w = integer_same x w _ _ (λ a. integer_same y w _ _ (λ b. result_same overflow _ w))
+  add_same N x y w = integer_same x w _ _ (λ a. integer_same y w _ _ (λ b. result_same Overflow _ w))
 
   sub_same : (N : Names) → Same (prim_fn cells N p_sub) (prim_fn texts N p_sub)
   unfolding prim_fn
-  sub_same N x y w = integer_same x w _ _ (λ a. integer_same y w _ _ (λ b. result_same overflow _ w))
+  sub_same N x y w = integer_same x w _ _ (λ a. integer_same y w _ _ (λ b. result_same Overflow _ w))
 
   mul_same : (N : Names) → Same (prim_fn cells N p_mul) (prim_fn texts N p_mul)
   unfolding prim_fn
-  mul_same N x y w = integer_same x w _ _ (λ a. integer_same y w _ _ (λ b. result_same overflow _ w))
+  mul_same N x y w = integer_same x w _ _ (λ a. integer_same y w _ _ (λ b. result_same Overflow _ w))
 
   show_same : (N : Names) → Same (prim_fn cells N p_show) (prim_fn texts N p_show)
   unfolding prim_fn
-  show_same N x w = ap (λ text. unless_bad texts (nat_le (length text) most_elements) text_too_long (world_view T w) (written texts (text ++ 10 ∷ []) (world_view T w))) (shown_same N 16 w x) ∙ show_line w (printed cells N w x)
+  show_same N x w = ap (λ text. unless_bad texts (nat_le (length text) most_elements) TextTooLong (world_view T w) (written texts (text ++ 10 ∷ []) (world_view T w))) (shown_same N 16 w x) ∙ show_line w (printed cells N w x)
 
   shuffle_same : (N : Names) (s : Shuffle) → Same (prim_fn cells N (shuffle s)) (prim_fn texts N (shuffle s))
   unfolding prim_fn

@@ -15,16 +15,13 @@ use Rattle.fac_locals.specs.declared.closing.Closed.{Closed}
 use Rattle.fac_check.specs.CallableEffects.{callable_height, fits}
 use Rattle.fac_check.specs.Checks.{IsKept}
 use Rattle.fac_check.specs.Judged.{refusal_seen}
-use Rattle.fac_check.specs.Walking.{rule_seen}
-use Rattle.fac_check.specs.declared.rule.Rule.{Rule}
-use Rattle.fac_check.specs.declared.rule.Rule.TheVariants.{Underflow, NotKnown, NotAClass, Branches, RecursiveInput, Rows, UndeclaredRecursion, RowDeclaration, MethodEffect, TooDeep, TooLarge, Outputs, MustReturn}
 use Rattle.fac_check.specs.declared.rule.Refusal.{Refusal}
 use Rattle.fac_check.specs.Promises.{IsSafe}
 use Rattle.fac_check.proofs.Promised.{not_stuck}
 use Rattle.fac_code.specs.declared.image.Image.{Image}
 use Rattle.fac_emit.specs.Carries.{Carries, IsNeverStuck}
 use Rattle.fac_tool.specs.Answer.{name_or}
-use Rattle.fac_tool.specs.Refusals.{rule_of, refusal_of}
+use Rattle.fac_tool.specs.Refusals.{refusal_of}
 use Rattle.fac_tool.specs.Stops.{SameNames, Carried, StandsFor, StandsForSafe}
 
 -- each word of a closed program has the name of the word for which it stands
@@ -36,27 +33,9 @@ named_at P n (suc w) k (d ∷ ds) cs c = ap (λ (xs : List WordDef). name_or k (
 pub same_names : (P C : Program) (templates : List Template) → Closes P C templates → SameNames P C
 same_names P C templates closes w = named_at P 0 w w P.words C.words closes.words
 
--- a rule comes back
-rule_back : (r : Rule) → rule_of (rule_seen r) ≡ r
-rule_back (Underflow i n) = refl
-rule_back NotKnown = refl
-rule_back NotAClass = refl
-rule_back (Branches i j) = refl
-rule_back (RecursiveInput k) = refl
-rule_back (Rows k i j) = refl
-rule_back UndeclaredRecursion = refl
-rule_back RowDeclaration = refl
-rule_back MethodEffect = refl
-rule_back TooDeep = refl
-rule_back TooLarge = refl
-rule_back (Outputs i j) = refl
-rule_back MustReturn = refl
-
--- and a refusal
+-- a refusal comes back
 pub refusal_back : (r : Refusal) → refusal_of (refusal_seen r) ≡ r
-refusal_back r =
-    let same : record { word = r.word; place = r.place; rule = rule_of (rule_seen r.rule) } ≡ r = ap (λ (rule : Rule). record { word = r.word; place = r.place; rule = rule }) (rule_back r.rule) in
-    same
+refusal_back r = refl
 
 -- an accepted program is safe
 pub safe_one : (closed : Closed) (P : Program) → IsKept closed → closed.start ≡ 0 → StandsFor closed P → StandsForSafe closed P

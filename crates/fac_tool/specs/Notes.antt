@@ -7,10 +7,10 @@ use Rattle.fac_parse.specs.declared.resolver.NameKind.{NameKind}
 use Rattle.fac_parse.specs.declared.resolver.NameKind.TheVariants as kind
 use Rattle.fac_parse.specs.declared.resolver.NameFault.{NameFault}
 use Rattle.fac_check.specs.declared.rule.Refusal.{Refusal}
-use Rattle.fac_check.specs.declared.rule.Rule.{Rule}
-use Rattle.fac_check.specs.declared.rule.Rule.TheVariants as rule
-use Rattle.fac_code.specs.declared.names.ErrorName.{ErrorName}
-use Rattle.fac_code.specs.declared.names.ErrorName.TheVariants as error
+use Rattle.fac_abs.specs.declared.rule.Rule.{Rule}
+use Rattle.fac_abs.specs.declared.rule.Rule.TheVariants as rule
+use Rattle.fac_lang.specs.declared.error_name.ErrorName.{ErrorName}
+use Rattle.fac_lang.specs.declared.error_name.ErrorName.TheVariants as error
 use Rattle.fac_lang.specs.declared.program.Name.{Name}
 use Rattle.fac_tool.specs.declared.ended.Report.{Report}
 use Rattle.fac_tool.specs.declared.ended.Report.TheVariants as report

@@ -1,7 +1,6 @@
 //! How a call ends.
 use fac_check::Refusal;
-use fac_code::ErrorName;
-use fac_lang::{List, Name, Text};
+use fac_lang::{ErrorName, List, Name, Text};
 use fac_parse::{NameFault, Why};
 
 /// Why a call was refused or failed. Files are named by their numbers: 0 is the prelude, and the command's files count from 1.

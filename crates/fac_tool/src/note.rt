@@ -9,9 +9,8 @@ ghost use Rattle.fac_tool.specs.Answers.{Tells, TellsUsage};
 
 use crate::{Ended, Report};
 use fac_check::{Refusal, Rule};
-use fac_code::ErrorName;
 use fac_io::{Failed, Sink};
-use fac_lang::{Memory, Name, Text};
+use fac_lang::{ErrorName, Memory, Name, Text};
 use fac_parse::{NameFault, NameKind, Why};
 use itoa::Buffer;
 use std::alloc::Global;

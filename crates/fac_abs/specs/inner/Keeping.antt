@@ -1,7 +1,6 @@
 -- What calls promise of stacks of numbers.
 use Rattle.std.specs.Prelude.{ℕ, List, [], ◌∷◌, Option, Some, None, get_or, length, true, false, nat_eq, ◌≡◌, ◌<◌, ◌≤◌}
 use Rattle.fac_abs.specs.InTurn.{joined_numbers}
-use Rattle.fac_lang.specs.Primitives.{Shuffle, s_drop, shuffles}
 
 -- all stacks stay what they are, and others may be there too
 pub record Keeps (before after : List (List ℕ)) : Type 0 where
@@ -33,7 +32,3 @@ pub record Going (before now : List (List ℕ)) (stack : ℕ) (reached wanted : 
   pub keeps : Keeps before now
   pub within : stack < length now
   pub same : reached ≡ wanted
-
--- the shuffle with this number
-abbrev pub shuffle_numbered : ℕ → Shuffle
-shuffle_numbered k = get_or shuffles k s_drop
