@@ -7,7 +7,6 @@ use Rattle.fac_lang.specs.Eval.{Result, Done, Failed, Spent, Stuck}
 use Rattle.fac_lang.specs.declared.program.Program.{Program}
 use Rattle.fac_lang.specs.Texts.{int, Value, plain, fun, Callable, text}
 use Rattle.fac_lang.specs.Primitives.{prim_numbered, prim_fn}
-use Rattle.fac_lang.specs.PrimitiveWords.{primitive_word}
 use Rattle.fac_lang.specs.Meaning.{core_numbered, nowhere, start, word_text, one_item}
 use Rattle.fac_lang.specs.Whole.{IsWhole, plain_effect}
 use Rattle.fac_lang.proofs.DemoWords.{phrase, number, own, +, show, drop, throw, loop}
@@ -72,7 +71,7 @@ abbrev rest : Program
 rest = plain_program (+ ∷ show ∷ [])
 
 rest_whole : IsWhole rest
-unfolding primitive_word
+unfolding prim_numbered
 rest_whole =
     record { items_fit = refl; literals_fit = refl; sorts_fit = refl; shapes_fit = refl; arrays_earlier = refl; arrays_once = refl; top_last = refl; top_phrase = refl; items_spare = refl; literals_spare = refl; bound = refl; holes_in_fries = refl; written_effects = refl; method_effects = refl; marks_of_bodies = refl; few_names = refl; small_tests = refl; slots_differ = refl; few_slots = refl; class_names_differ = refl; classes_end = refl; words_differ = refl; methods_differ = refl }
 
