@@ -11,8 +11,12 @@ pub mod RowUses
 pub mod ExamplesOfFlow
 pub mod CallablesKeep
 pub mod PrimitivesKeep
+pub mod PrimitivesStay
+pub mod LiteralsStay
 pub mod AcceptedPrograms
 pub mod ExamplesOfSoundPrograms
+pub mod CountedValues
+pub mod RowPromises
 pub mod Promised
 pub mod StepByStep
 pub mod BuiltWords

@@ -2,7 +2,7 @@
 use Rattle.std.proofs.Common.{◌≡◌, ℕ, zero, suc, ◌≤◌, ◌+◌, List, [], ◌∷◌, length, Bool, true, false, refl, sym, ap, ◌∙◌, Option, Some, None, arith, subst}
 use Rattle.std.specs.Prelude.{slice_get, nat_eq, nat_le, not, ◌&&◌, ◌||◌}
 use Rattle.std.proofs.lemmas.Slice.Eq.{bytes_eq-Decides}
-use Rattle.std.proofs.lemmas.Bool.{eqb-true}
+use Rattle.std.proofs.lemmas.Bool.{eqb-true, eq-eqb, le-leb}
 use Rattle.fac_lang.specs.declared.phrase.Height.{Height}
 use Rattle.fac_lang.specs.Texts.{Text, end, Value, text, word, Mark, any, par_mark}
 use Rattle.fac_lang.specs.World.{State, pile}
@@ -15,7 +15,7 @@ use Rattle.fac_lang.specs.declared.program.Program.{Program}
 use Rattle.fac_lang.specs.declared.program.WordDef.{WordDef}
 use Rattle.fac_lang.specs.declared.program.Sort.{Sort}
 use Rattle.fac_lang.specs.declared.program.Sort.TheVariants.{Prim as prim, Core as core, Body as body, Past as past, Itself as itself, Class as class, Isa as isa, Getter as getter, Setter as setter, Putter as putter, Generic as generic, Method as method}
-use Rattle.fac_lang.specs.Eval.{Result, Act, go_on, eval}
+use Rattle.fac_lang.specs.Eval.{Result, Done, Failed, Spent, Stuck, then_do, Act, go_on, eval}
 use Rattle.fac_lang.specs.Meaning.{texts, names, sort_of, is_past, is_phrase, word_text, word_fits, one_item, run_text, sort_act, nowhere}
 use Rattle.fac_lang.specs.Effects.{effect_height, inputs_count, word_height}
 use Rattle.fac_abs.specs.Marks.{Row, hidden, named_row, AbstractStack, dead, on, row_eq, base_eq, mark_eq, popped, unknowns}
@@ -129,6 +129,20 @@ module _ (P : Program) where
   -- whether there is a word, and it has an effect that fits
   abbrev declared_fits : Height → Option WordDef → Bool
   declared_fits h o = elim o [ Some d ↦ elim (word_height d) [ Some k ↦ fits k h | None ↦ false ] | None ↦ false ]
+
+  -- an effect fits itself, so a word that has one passes the test for it
+  fits_self : (i : ℕ) (o : Option ℕ) → (nat_le i i && fits_outs i o i o) ≡ true
+  fits_self i None = rw (le-leb i i (omega arith)) refl
+  fits_self i (Some n) = rw (le-leb i i (omega arith), eq-eqb (n + i) (n + i) refl) refl
+
+  word_tested : (b : Bool) (o : Option WordDef) (d : WordDef) (h : Height) → b ≡ false → o ≡ Some d → word_height d ≡ Some h → (not b && declared_fits h o) ≡ true
+  word_tested true o d h z e q = absurd (cc)
+  word_tested false None d h z e q = absurd (cc)
+  word_tested false (Some c) d h z e q = (let same : c ≡ d = cc in tested (word_height c) (ap word_height same ∙ q))
+    where
+      tested : (x : Option Height) → x ≡ Some h → (let t : Bool = elim x [ Some k ↦ fits k h | None ↦ false ] in t ≡ true)
+      tested None y = absurd (cc)
+      tested (Some k) y = (let same : h ≡ k = cc in subst (λ z. fits k z ≡ true) (sym same) (fits_self k.ins k.outs))
 
   -- the item of a word that `execute( )` finds, and whose effect fits, takes and leaves as tested
   abbrev pub Executed : ℕ → Type 0
@@ -386,13 +400,25 @@ module _ (P : Program) where
     known_values : (n : ℕ) (s : List Value) → Known P n (on_values P s)
     known_values n s = all_known n n (omega arith) (on_values P s) (good_values n s)
 
-    -- An ordinary word takes and leaves what it declares, and touches nothing below.
-    pub word_sound : (w : ℕ) (d : WordDef) (t : Text) → slice_get P.words w ≡ Some d → d.sort ≡ body t → not (nat_eq w P.top) ≡ true → d.inline ≡ false → (s : List Value) (st : State Value) (n : ℕ) → Over (height_of d).ins s st.stack → Valid P st.world → EndsSo (Leaves P (height_of d).outs s) (eval (A P) n t st n)
-    word_sound w d t e q z i s st n o v = accepted_keeps P w d t (accepted.accepted w d t e q z i) n s (known_values n s) (self_text (λ k c. ⊥) t (accepted.unmarked w d t e q)) st n (omega arith) o v
+    -- The item of a word that has an effect by itself takes and leaves what it declares, and touches nothing below.
+    pub item_sound : (w : ℕ) (d : WordDef) (h : Height) → slice_get P.words w ≡ Some d → word_height d ≡ Some h → is_phrase P w ≡ false → (s : List Value) (st : State Value) (n : ℕ) → Over h.ins s st.stack → Valid P st.world → EndsSo (Leaves P h.outs s) (eval (A P) n (one_item (word w)) st n)
+    item_sound w d h e q z s st n o v = executed_at n (all_known n) h w (word_tested (is_phrase P w) (slice_get P.words w) d h z e q) s st n (omega arith) o v
 
-    -- A row word, in every context in which what may be handed in for its inputs does what its effect says: on a list for its input row with its inputs on it, it leaves its outputs on a list for its output row.
-    pub row_word_sound : (w : ℕ) (d : WordDef) (t : Text) → slice_get P.words w ≡ Some d → d.sort ≡ body t → not (nat_eq w P.top) ≡ true → d.inline ≡ true → is_row d.recursive d.effect ≡ true → (C : Context) → C.own ≡ Some d.effect → C.word ≡ Some w → (n : ℕ) → Good n C → (st : State Value) → OnState P C (outer_in d.effect) (inputs_marks 1 (effect_inputs d.effect) []) st → EndsSo (StackState P C (leaving_on (effect_leaving d.effect) (outer_out d.effect) [])) (eval (A P) n t st n)
-    row_word_sound w d t e q z i x C own is_word n good st o = accepted_row P C w d t (accepted.row_accepted w d t e q z i x) own is_word n (all_known n n (omega arith) C good) (self_text C.inputs t (accepted.unmarked w d t e q)) st n (omega arith) o
+    -- The text of a row word, in every context in which what may be handed in for its inputs does what its effect says: on a list for its input row with its inputs on it, it leaves its outputs on a list for its output row.
+    row_text_sound : (w : ℕ) (d : WordDef) (t : Text) → slice_get P.words w ≡ Some d → d.sort ≡ body t → not (nat_eq w P.top) ≡ true → d.inline ≡ true → is_row d.recursive d.effect ≡ true → (C : Context) → C.own ≡ Some d.effect → C.word ≡ Some w → (n : ℕ) → Good n C → (st : State Value) → OnState P C (outer_in d.effect) (inputs_marks 1 (effect_inputs d.effect) []) st → EndsSo (StackState P C (leaving_on (effect_leaving d.effect) (outer_out d.effect) [])) (eval (A P) n t st n)
+    row_text_sound w d t e q z i x C own is_word n good st o = accepted_row P C w d t (accepted.row_accepted w d t e q z i x) own is_word n (all_known n n (omega arith) C good) (self_text C.inputs t (accepted.unmarked w d t e q)) st n (omega arith) o
+
+    ended_there : (f : ℕ) (good : State Value → Type 0) (r : Result) → EndsSo good r → EndsSo good (then_do r (λ st' k. eval (A P) f end st' k))
+    ended_there f good (Done st m) h = h
+    ended_there f good (Failed e st m) h = tt
+    ended_there f good (Spent st i) h = tt
+    ended_there f good Stuck h = h
+
+    -- So does its item.
+    pub row_word_sound : (w : ℕ) (d : WordDef) (t : Text) → slice_get P.words w ≡ Some d → d.sort ≡ body t → not (nat_eq w P.top) ≡ true → d.inline ≡ true → is_row d.recursive d.effect ≡ true → (C : Context) → C.own ≡ Some d.effect → C.word ≡ Some w → (n : ℕ) → Good n C → (st : State Value) → OnState P C (outer_in d.effect) (inputs_marks 1 (effect_inputs d.effect) []) st → EndsSo (StackState P C (leaving_on (effect_leaving d.effect) (outer_out d.effect) [])) (eval (A P) n (one_item (word w)) st n)
+    row_word_sound w d t e q z i x C own is_word zero good st o = tt
+    row_word_sound w d t e q z i x C own is_word (suc n) good st o =
+        (let is_text : sort_of P w ≡ Some (body t) = ap (λ v. elim v [ Some c ↦ Some c.sort | None ↦ None ]) e ∙ ap (λ s. Some s) q in subst (λ s. EndsSo (StackState P C (leaving_on (effect_leaving d.effect) (outer_out d.effect) [])) (go_on (eval (A P) n) (sort_act P w s st) end n)) (sym is_text) (ended_there n (StackState P C (leaving_on (effect_leaving d.effect) (outer_out d.effect) [])) (eval (A P) n t st n) (row_text_sound w d t e q z i x C own is_word n (good_less (suc n) n C (omega arith) good) st o)))
 
     -- The top-level phrase isn't stuck.
     pub top_sound : (w : ℕ) (t : Text) (start : ℕ) → Unmarked t → top_verdict P start w t ≡ None → (st : State Value) (n : ℕ) → Over start [] st.stack → Valid P st.world → EndsSo (λ st'. Unit {0}) (eval (A P) n t st n)

@@ -1,5 +1,5 @@
 -- What a closed program keeps of the one for which it stands, and the checker's refusals both ways.
-use Rattle.std.proofs.Common.{◌≡◌, ℕ, zero, suc, List, [], ◌∷◌, Bool, Result, Ok, Err, IfOk, refl, ap, subst, ◌∙◌}
+use Rattle.std.proofs.Common.{◌≡◌, ℕ, zero, suc, List, [], ◌∷◌, Bool, Result, Ok, Err, IfOk, refl, ap, subst, ◌∙◌, arith}
 use Rattle.std.specs.Prelude.{slice_get}
 use Rattle.std.specs.declared.option.Option.{Option}
 use Rattle.fac_lang.specs.declared.memory.Memory.{Memory}
@@ -17,6 +17,7 @@ use Rattle.fac_check.specs.Checks.{IsKept}
 use Rattle.fac_check.specs.Judged.{refusal_seen}
 use Rattle.fac_check.specs.declared.rule.Refusal.{Refusal}
 use Rattle.fac_check.specs.Promises.{IsSafe}
+use Rattle.fac_check.proofs.Promised.{not_stuck}
 use Rattle.fac_code.specs.declared.image.Image.{Image}
 use Rattle.fac_emit.specs.Carries.{Carries, IsNeverStuck}
 use Rattle.fac_tool.specs.Answer.{name_or}
@@ -42,7 +43,7 @@ safe_one closed P kept start stands = record { closes = stands.closes; built = s
 
 -- so it is never stuck with the checker's test of effects
 never_stuck : (P : Program) → IsSafe P 0 → IsNeverStuck P fits (callable_height P)
-never_stuck P safe n = safe.phrase [] (start P []).world n (safe.begins []) refl
+never_stuck P safe n = not_stuck P (λ list. Unit {0}) _ (safe.phrase n (start P []) n (omega arith) refl (safe.begins []))
 
 -- so its image carries it with that test
 pub if_carried :
