@@ -1,10 +1,10 @@
 -- What items do at once, from what is known of the stack.
-use Rattle.std.proofs.Common.{◌≡◌, ◌<◌, ℕ, zero, suc, List, [], ◌∷◌, length, true, false, Option, Some, None, option_map, refl, sym, ap, subst, arith}
+use Rattle.std.proofs.Common.{◌≡◌, ◌<◌, ℕ, List, [], ◌∷◌, length, true, false, Option, Some, None, option_map, refl, sym, ap, subst, arith}
 use Rattle.fac_lang.specs.declared.program.Program.{Program}
 use Rattle.fac_lang.specs.Texts.{Mark, any}
 use Rattle.fac_lang.specs.Meaning.{c_dip, c_if}
 use Rattle.fac_lang.specs.Procedures.{picked}
-use Rattle.fac_abs.specs.Marks.{Row, dead, on, is_callable, unknowns, popped, piled}
+use Rattle.fac_abs.specs.Marks.{Row, dead, on, is_callable, unknowns, piled}
 use Rattle.fac_abs.specs.declared.rule.Rule.TheVariants.{Underflow, NotKnown}
 use Rattle.fac_abs.proofs.CallerLemmas.{popped_none, popped_some}
 use Rattle.fac_abs.specs.InTurn.{under, taken, moved}

@@ -9,7 +9,7 @@ use Rattle.fac_lang.specs.declared.error_name.ErrorName.{ErrorName}
 use Rattle.fac_lang.specs.declared.error_name.ErrorName.TheVariants.{NoMethod, NoNextMethod, WrongValues}
 use Rattle.fac_lang.specs.Substitution.{put_holes, of_method}
 use Rattle.fac_lang.specs.Effects.{effect_height}
-use Rattle.fac_lang.specs.Procedures.{Procedure, leaves, curries, composes, Gives, gives as gave, bad, Fn, fn0, fn1, fn2, fn3, followed, by_inputs, or_else, picked, value_at, made_or}
+use Rattle.fac_lang.specs.Procedures.{Procedure, leaves, curries, composes, Gives, gives as gave, bad, Fn, fn0, fn1, fn2, fn3, followed, by_inputs, picked, value_at, made_or}
 use Rattle.fac_lang.specs.Primitives.{Primitive, prim_numbered, prim_fn, seen_no}
 use Rattle.fac_lang.specs.declared.program.Program.{Program}
 use Rattle.fac_lang.specs.declared.program.WordDef.{WordDef}

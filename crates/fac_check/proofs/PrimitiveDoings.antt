@@ -1,5 +1,5 @@
 -- What the operations of the code's table of primitives do in the checker's walk.
-use Rattle.std.proofs.Common.{◌≡◌, ℕ, List, length, Bool, true, false, Option, Some, None, option_map, refl, sym, ap, ◌∙◌}
+use Rattle.std.proofs.Common.{◌≡◌, ℕ, List, length, Bool, true, false, Option, Some, option_map, refl, sym, ap, ◌∙◌}
 use Rattle.fac_lang.specs.Texts.{Mark}
 use Rattle.fac_lang.specs.PrimitiveWords.{outputs_of}
 use Rattle.fac_lang.specs.Primitives.{Primitive, prim_numbered}

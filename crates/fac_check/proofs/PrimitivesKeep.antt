@@ -1,14 +1,13 @@
 -- What a primitive and an accessor are sure of: they give as many values as is written, and keep the addresses of the literal arrays.
-use Rattle.std.proofs.Common.{◌≡◌, ℕ, zero, suc, List, [], ◌∷◌, ◌++◌, length, Bool, true, false, Option, Some, None, option_map, refl, sym, ap, subst, ◌≤◌, arith}
+use Rattle.std.proofs.Common.{◌≡◌, ℕ, zero, suc, List, [], ◌∷◌, ◌++◌, length, Bool, true, Option, Some, None, option_map, refl, sym, ap, subst, ◌≤◌, arith}
 use Rattle.std.specs.Prelude.{nat_le, map, slice_get}
 use Rattle.std.specs.List.{list_all}
 use Rattle.fac_lang.specs.declared.phrase.Height.{Height}
 use Rattle.fac_lang.specs.Texts.{Value, plain, no}
-use Rattle.fac_lang.specs.World.{World, array, tuple}
+use Rattle.fac_lang.specs.World.{World}
 use Rattle.fac_lang.specs.declared.error_name.ErrorName.{ErrorName}
 use Rattle.fac_lang.specs.declared.error_name.ErrorName.TheVariants.{NotTuple, NoSlot}
 use Rattle.fac_lang.specs.declared.limits.TheConstants.{MOST_PAIRS}
-use Rattle.fac_lang.specs.declared.program.Program.{Program}
 use Rattle.fac_lang.specs.Effects.{inputs_count, leaving_outs, effect_height}
 use Rattle.fac_lang.specs.Equality.{equal_pairs}
 use Rattle.fac_lang.specs.Printed.{Names, printed}
@@ -16,7 +15,7 @@ use Rattle.fac_lang.specs.PrimitiveWords.{PrimitiveWord, outputs_of, plain_input
 use Rattle.fac_lang.specs.Procedures.{Procedure, leaves, answers, answers_array, answers_tuple, curries, composes, fails, looks, adds, opens, puts, compares, prints, asks, writes, reads, Gives, gives, bad, Fn, fn0, fn1, fn2, fn3, followed, by_inputs, picked, places_from, value_at, array_in, opened, opened_places, with_element, made_or, line_in, behind_line}
 use Rattle.fac_lang.specs.Primitives.{Primitive, built_primitives, later_primitives, prim_numbered, primitive_word, prim_fn}
 use Rattle.fac_lang.specs.Objects.{Slot, or_bad, name_at, seen_tuple, slot_place, want_slot, with_slot, get_slot, set_slot, put_slot, tuple_of}
-use Rattle.fac_lang.specs.Meaning.{texts, names, seen}
+use Rattle.fac_lang.specs.Meaning.{texts, seen}
 use Rattle.std.proofs.lemmas.Bool.{leb-true}
 use Rattle.fac_abs.proofs.EqualMarks.{and_first, and_second}
 

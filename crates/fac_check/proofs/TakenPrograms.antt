@@ -15,7 +15,7 @@ use Rattle.fac_lang.specs.View.{what_item, items_text}
 use Rattle.fac_lang.specs.Signatures.{Signature, signature, Inputs, no_inputs, value, quoted}
 use Rattle.fac_lang.specs.Effects.{effect_height, inputs_count}
 use Rattle.fac_lang.specs.Primitives.{built_count}
-use Rattle.fac_lang.specs.Forms.{IsBuilt, IsBuiltText, IsBuiltItem, IsBuiltSort, AreBuiltWords}
+use Rattle.fac_lang.specs.Forms.{IsBuilt, IsBuiltText, IsBuiltItem, IsBuiltSort}
 use Rattle.fac_lang.specs.Whole.{IsWhole, name_count, inputs_name_count}
 use Rattle.fac_locals.specs.Closed.{Closes, ClosesText, ClosesItem, ClosesSort, ClosesWord}
 use Rattle.fac_locals.proofs.Lookups.{word_open, words_closed_count, template_closed}

@@ -1,4 +1,3 @@
-use Rattle.std.proofs.Common.{[], get_or}
 use Rattle.std.proofs.lemmas.List.{drop_more}
 use Rattle.fac_abs.proofs.StackLemmas.{still_enough, shuffle_step}
 use Rattle.fac_abs.proofs.cells.Cells.shuffle.Goals as goal

@@ -1,8 +1,8 @@
-use Rattle.std.proofs.Common.{◌≡◌, ℕ, refl, sym, ap, ◌∙◌}
+use Rattle.std.proofs.Common.{◌≡◌, refl, sym, ap, ◌∙◌}
 use Rattle.std.specs.Prelude.{nat_eq}
 use Rattle.std.proofs.lemmas.Bool.{eqb-true, eq-eqb}
 use Rattle.fac_abs.specs.Marks.{mark_eq}
-use Rattle.fac_abs.specs.Seen.{MarksSeen, mark_of, IsMark}
+use Rattle.fac_abs.specs.Seen.{MarksSeen, mark_of}
 use Rattle.fac_abs.proofs.SeenLemmas.{mark_in}
 use Rattle.fac_abs.proofs.MoveLemmas.{same_numbers}
 use Rattle.fac_abs.proofs.table.Marks.numbers_are_marks.Goals as goal
