@@ -53,11 +53,11 @@ pub word_rows_are :
     words_from closed.words templates 5 0 0 closed.words ≡ record { action = prim_action 23 } ∷ record { action = core_action 0 } ∷ record { action = core_action 1 } ∷ record { action = prim_action 17 } ∷ record { action = code_action 0 } ∷ record { action = code_action 12 } ∷ []
 word_rows_are = refl
 
-is_built : has_built_code (program_code closed templates) ≡ true
+pub is_built : has_built_code (program_code closed templates) ≡ true
 unfolding built_count
 is_built = refl
 
-words_built : refers (templates_from closed.words templates 5 0 0 closed.words) (words_from closed.words templates 5 0 0 closed.words) (program_code closed templates) 12 ≡ true
+pub words_built : refers (templates_from closed.words templates 5 0 0 closed.words) (words_from closed.words templates 5 0 0 closed.words) (program_code closed templates) 12 ≡ true
 unfolding built_count
 words_built = refl
 
