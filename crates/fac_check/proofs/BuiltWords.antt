@@ -9,7 +9,8 @@ use Rattle.fac_lang.specs.declared.program.Sort.TheVariants.{Prim as prim, Core 
 use Rattle.fac_lang.specs.PrimitiveWords.{plain_inputs, plain_leaving, written_effect}
 use Rattle.fac_lang.specs.Primitives.{Primitive, prim_numbered, is_built_primitive}
 use Rattle.fac_lang.specs.Signatures.{Signature, signature, Inputs, no_inputs, value, quoted, never, leaves}
-use Rattle.fac_lang.specs.Forms.{IsBuilt, IsBuiltSort, AreBuiltWords, IsTopPhrase, IsPrimitiveWord, IsPlainEffect, ArePlainInputs, is_built_core}
+use Rattle.fac_lang.specs.Forms.{IsBuilt, IsBuiltSort, AreBuiltWords, IsTopPhrase, IsPrimitiveWord, IsPlainEffect, ArePlainInputs}
+use Rattle.fac_lang.specs.CoreWords.{is_built_core}
 use Rattle.fac_check.specs.Rows.{has_rows, inputs_rows, is_row}
 use Rattle.fac_check.specs.Verdicts.{bad_rows, bad_generic}
 use Rattle.fac_check.proofs.PrimitivesKeep.{prim_found}

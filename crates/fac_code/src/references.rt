@@ -1,20 +1,11 @@
 //! Whether the numbers in tables and code name something.
 ghost use Rattle.std.specs.Prelude.{◌≡◌, length, slice_get};
 ghost use Rattle.std.specs.List.{list_all};
-ghost use Rattle.fac_lang.specs.Forms.{is_built_core};
-ghost use Rattle.fac_lang.specs.Primitives.{is_built_primitive};
 ghost use Rattle.fac_code.specs.Code.{is_built_instr, has_built_code};
 ghost use Rattle.fac_code.specs.References.{is_code as does_code, names_code, names_quotation, instr_refers, action_refers, word_refers, template_refers, refers as all_refer};
 
 use crate::{Action, Instr, TemplateRow, WordRow};
-use fac_lang::is_primitive;
-
-// Whether the machine has the core word of this number.
-fn is_core(number: u32) -> bool
-    ensures { result ≡ is_built_core number }
-{
-    number < 3
-}
+use fac_lang::{is_core_word, is_primitive};
 
 // Whether a word does code.
 fn is_code(action: Action) -> bool
@@ -72,7 +63,7 @@ fn refers_action(size: usize, action: Action) -> bool
 {
     match action {
         Action::Prim(number) => is_primitive(number),
-        Action::Core(number) => is_core(number),
+        Action::Core(number) => is_core_word(number),
         Action::Code(place) => (place as usize) < size,
     }
 }

@@ -8,7 +8,8 @@ use Rattle.fac_lang.specs.declared.program.WordDef.{WordDef}
 use Rattle.fac_lang.specs.declared.program.Sort.{Sort}
 use Rattle.fac_lang.specs.declared.program.Sort.TheVariants.{Prim as prim_sort, Core as core_sort, Body as body, Past as past, Method as method}
 use Rattle.fac_lang.specs.Texts.{Literal, Text, quot, word}
-use Rattle.fac_lang.specs.Forms.{IsBuilt, IsBuiltText, IsBuiltSort, is_built_core, has_no_repeats}
+use Rattle.fac_lang.specs.Forms.{IsBuilt, IsBuiltText, IsBuiltSort, has_no_repeats}
+use Rattle.fac_lang.specs.CoreWords.{is_built_core}
 use Rattle.fac_lang.specs.Meaning.{sort_of, word_text, core_numbered}
 use Rattle.fac_locals.specs.Literals.{Quoted, first_of_word, first_of_literal, literals_in, sort_literals, word_literals, literals, literal_or, literal_numbered}
 use Rattle.fac_locals.specs.Closed.{Closes, ClosesText, ClosesSort, CloseWords, CloseLiterals}

@@ -7,7 +7,7 @@ use Rattle.fac_lang.specs.declared.program.WordDef.{WordDef}
 use Rattle.fac_lang.specs.declared.program.Sort.{Sort}
 use Rattle.fac_lang.specs.declared.program.Sort.TheVariants.{Prim as prim_sort, Core as core_sort, Body as body}
 use Rattle.fac_lang.specs.Texts.{int, yes, no, Text, end, then, Item, lit, word, made}
-use Rattle.fac_lang.specs.Forms.{is_built_core}
+use Rattle.fac_lang.specs.CoreWords.{is_built_core}
 use Rattle.fac_code.specs.declared.image.Instr.{Instr}
 use Rattle.fac_code.specs.declared.image.Instr.TheVariants.{Halt, Int, True, False, Quot, Prim, Callw, Call, Dip, If, Ret}
 use Rattle.fac_code.specs.declared.image.Action.{Action}

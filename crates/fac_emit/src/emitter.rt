@@ -3,7 +3,8 @@ ghost use Rattle.std.specs.Prelude.{◌≡◌, ◌<◌, ◌+◌, ◌-◌, ◌++�
 ghost use Rattle.std.specs.List.{list_all};
 ghost use Rattle.fac_lang.specs.View.{what_item};
 ghost use Rattle.fac_lang.specs.declared.program.Program.{Program as Source};
-ghost use Rattle.fac_lang.specs.Forms.{IsBuilt, is_built_core};
+ghost use Rattle.fac_lang.specs.Forms.{IsBuilt};
+ghost use Rattle.fac_lang.specs.CoreWords.{is_built_core};
 ghost use Rattle.fac_lang.specs.Meaning.{sort_of};
 ghost use Rattle.fac_locals.specs.Closed.{Closes};
 ghost use Rattle.fac_emit.specs.Code.{sort_is_coded, item_is_coded, text_is_coded, template_is_coded, body_is_coded, core_instr, sort_instr, item_instr, text_code, quotations as quotations_of, first_template as first_template_of, row_at, templates_code, template_rows, last_instr, sort_code, sort_rows};

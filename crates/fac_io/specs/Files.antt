@@ -29,7 +29,7 @@ LoadAsks name old new (Err load.Memory) = Stays old new
 abbrev pub LoadCounts : ℕ → ℕ → Result (List ℕ) LoadFault → Type 0
 LoadCounts before now (Ok bytes) = now ≡ before
 LoadCounts before now (Err load.TooLong) = now ≡ before
-LoadCounts before now (Err load.Failed) = Rose before now
+LoadCounts before now (Err load.Failed) = (before ≤ now) × Rose before now
 LoadCounts before now (Err load.Memory) = now ≡ before
 
 -- the name holds the bytes, or nothing is known of it after a fault
@@ -46,7 +46,7 @@ SaveAsks name old new (Err save.Memory) = Stays old new
 -- the count of faults rises where the save failed, and stays at each other answer
 abbrev pub SaveCounts : {A : Type 0} → ℕ → ℕ → Result A SaveFault → Type 0
 SaveCounts before now (Ok done) = now ≡ before
-SaveCounts before now (Err save.Failed) = Rose before now
+SaveCounts before now (Err save.Failed) = (before ≤ now) × Rose before now
 SaveCounts before now (Err save.Memory) = now ≡ before
 
 -- what a reader with these bytes left gives, where they are known: all of them, or that they are more than the limit

@@ -7,7 +7,11 @@ use Rattle.fac_lang.specs.declared.tree.Tree.{Tree}
 use Rattle.fac_parse.specs.Resolution.{resolved}
 use Rattle.fac_check.specs.declared.accepted.Checked.{Checked}
 use Rattle.fac_check.specs.Verdicts.{verdict}
+use Rattle.fac_token.specs.declared.fault.TokenFault.{TokenFault}
+use Rattle.fac_token.specs.declared.fault.TokenFault.TheVariants as token
+use Rattle.fac_notes.specs.declared.report.ByteFault.TheVariants as byte
 use Rattle.fac_notes.specs.declared.report.Report.{Report}
+use Rattle.fac_notes.specs.declared.report.Report.TheVariants as report
 use Rattle.fac_notes.specs.Statuses.{status_of}
 use Rattle.fac_tool.specs.declared.command.Command.{Command}
 use Rattle.fac_tool.specs.declared.ended.Ended.{Ended}
@@ -26,14 +30,27 @@ bare status ticks = record { status = status; ticks = ticks; stack = None; refus
 abbrev pub reported : ℕ → Report → Ended
 reported ticks why = record { status = status_of why; ticks = ticks; stack = None; refusal = Some why }
 
+-- the ending by a fault of tokens
+abbrev pub fault_ending : TokenFault → Ended
+fault_ending (token.NotUtf8 at) = reported 0 (report.Bytes 1 at byte.NotUtf8)
+fault_ending (token.OpenString at) = reported 0 (report.Bytes 1 at byte.OpenString)
+fault_ending (token.BadEscape at) = reported 0 (report.Bytes 1 at byte.BadEscape)
+fault_ending (token.StuckQuote at) = reported 0 (report.Bytes 1 at byte.StuckQuote)
+fault_ending token.Memory = bare 12 0
+
 -- an ending before anything is written and whatever the work was to be: the answer, or want of memory
 abbrev pub EndsEarly : Answer → Ended → Type 0
 EndsEarly answer ended = (work : Work) (told : Option (List ℕ)) (faults : ℕ) → EndsAs answer work (sink_seen told told faults faults) ended
 
--- a step of work that has this answer: it gives a result of which this holds, or the work ends
-abbrev pub Steps : {A : Type 0} → (A → Type 0) → Answer → Result A Ended → Type 0
+-- a step of work that has these answers, by the command: it gives a result of which this holds, or the work ends
+abbrev pub Steps : {A : Type 0} → (A → Type 0) → (Command → Answer) → Result A Ended → Type 0
 Steps holds answer (Ok result) = holds result
-Steps holds answer (Err ended) = EndsEarly answer ended
+Steps holds answer (Err ended) = (command : Command) → EndsEarly (answer command) ended
+
+-- a step that ends the work for want of memory alone
+abbrev pub StepsOn : {A : Type 0} → (A → Type 0) → Result A Ended → Type 0
+StepsOn holds (Ok result) = holds result
+StepsOn holds (Err ended) = (answer : Answer) → EndsEarly answer ended
 
 -- the last step ends the work, as the steps before it may
 abbrev pub StepsEnd : Answer → Work → SinkSeen → Result Ended Ended → Type 0
@@ -62,7 +79,7 @@ ReadsTree text (Ok read) = IsReadAs 1 text (tree read.forms)
 ReadsTree text (Err ended) = EndsRead text ended
 
 -- a text comes to forms whose program is accepted, and this closed program stands for that one
-pub record IsAccepted (text : List ℕ) (checked : Checked) : Type 0 where
+pub record IsAcceptedText (text : List ℕ) (checked : Checked) : Type 0 where
   pub forms : List Form
   pub P : Program
   pub is_read : IsReadAs 1 text (tree forms)
@@ -72,5 +89,5 @@ pub record IsAccepted (text : List ℕ) (checked : Checked) : Type 0 where
 
 -- the steps from a text to its accepted program
 abbrev pub Accepts : List ℕ → Result Checked Ended → Type 0
-Accepts text (Ok checked) = IsAccepted text checked
+Accepts text (Ok checked) = IsAcceptedText text checked
 Accepts text (Err ended) = EndsRead text ended

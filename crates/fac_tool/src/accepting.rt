@@ -1,18 +1,16 @@
 //! The steps of every command from the text of its file to an accepted program.
-ghost use Rattle.std.specs.Prelude.{◌≡◌, Some, None};
+ghost use Rattle.std.specs.Prelude.{◌≡◌, Some, None, Ok};
 ghost use Rattle.fac_lang.specs.declared.program.Program.{Program as Source};
 ghost use Rattle.fac_lang.specs.Forms.{IsBuilt};
 ghost use Rattle.fac_lang.specs.Whole.{IsWhole};
 ghost use Rattle.fac_check.specs.Judged.{OfEach, refusal_if, refusal_seen};
 ghost use Rattle.fac_check.specs.Verdicts.{verdict};
-ghost use Rattle.fac_check.specs.declared.rule.Refusal.{Refusal as RefusalTold};
-ghost use Rattle.std.specs.declared.option.Option.{Option as Maybe};
 ghost use Rattle.fac_parse.specs.Resolution.{resolved};
 ghost use Rattle.fac_parse.specs.Trees.{IsWellFormed};
 ghost use Rattle.fac_tool.specs.declared.command.Command.{Command as CommandSeen};
-ghost use Rattle.fac_tool.specs.Answer.{Answer, on_resolved, on_verdict};
+ghost use Rattle.fac_tool.specs.Answer.{on_resolved, on_verdict};
 ghost use Rattle.fac_tool.specs.Stops.{SameNames, StandsFor, StandsForSafe};
-ghost use Rattle.fac_tool.specs.StepEnds.{Accepts, EndsEarly, Steps};
+ghost use Rattle.fac_tool.specs.StepEnds.{Accepts, EndsEarly, Steps, StepsOn};
 
 use crate::ended::{bare, reported};
 use crate::reading::read_tree;
@@ -30,7 +28,7 @@ const START: u64 = 0;
 // The program of a tree, which is given back to memory.
 fn resolve_tree(alloc: Global, tree: Tree) -> Result<Program, Ended>
     requires { IsWellFormed tree.forms }
-    ensures { (command : CommandSeen) → Steps (λ program. (resolved tree.forms ≡ Ok program) × IsBuilt program × IsWhole program) (on_resolved command (resolved tree.forms)) result }
+    ensures { Steps (λ program. (resolved tree.forms ≡ Ok program) × IsBuilt program × IsWhole program) (λ command. on_resolved command (resolved tree.forms)) result }
 {
     match resolve(alloc, &tree) {
         Err(ResolveFault::Memory) => Err(bare(12, 0)),
@@ -43,7 +41,7 @@ fn resolve_tree(alloc: Global, tree: Tree) -> Result<Program, Ended>
 fn close_program(alloc: Global, program: Program) -> Result<Closed, Ended>
     requires built { IsBuilt program }
     requires whole { IsWhole program }
-    ensures { (answer : Answer) → Steps (λ closed. StandsFor closed program × (closed.start ≡ 0)) answer result }
+    ensures { StepsOn (λ closed. StandsFor closed program × (closed.start ≡ 0)) result }
 {
     match close(alloc, program, START) {
         Err(_) => Err(bare(12, 0)),
@@ -53,7 +51,7 @@ fn close_program(alloc: Global, program: Program) -> Result<Closed, Ended>
 
 // The first refusal of a closed program.
 fn refusal_of(alloc: Global, closed: &Closed) -> Result<Option<Refusal>, Ended>
-    ensures { (answer : Answer) → Steps (λ (refusal : Maybe RefusalTold). OfEach closed.now (λ P. verdict P closed.now.start ≡ refusal_if refusal)) answer result }
+    ensures { StepsOn (λ refusal. OfEach closed.now (λ P. verdict P closed.now.start ≡ refusal_if refusal)) result }
 {
     match check_words(alloc, closed) {
         Err(_) => Err(bare(12, 0)),
@@ -75,7 +73,7 @@ fn refused(alloc: Global, program: &Program, refusal: Refusal) -> Ended
 fn check_closed(alloc: Global, closed: Closed) -> Result<Checked, Ended>
     requires start { closed.start ≡ 0 }
     requires stands { (P : Source) × StandsFor closed P }
-    ensures { (P : Source) → StandsFor closed P → (command : CommandSeen) → Steps (λ checked. (verdict P 0 ≡ None) × StandsForSafe checked.closed P) (on_verdict command P (verdict P 0)) result }
+    ensures { (P : Source) → StandsFor closed P → Steps (λ checked. (verdict P 0 ≡ None) × StandsForSafe checked.closed P) (λ command. on_verdict command P (verdict P 0)) result }
 {
     match refusal_of(alloc, &closed)? {
         Some(refusal) => Err(refused(alloc, &closed.program, refusal)),
