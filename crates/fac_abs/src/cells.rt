@@ -101,7 +101,7 @@ impl Cells {
     }
 
     /// A stack with so many marks 0 on another.
-    pub fn zeros(&mut self, below: u32, count: u32) -> Result<u32, Memory>
+    pub fn zeros(&mut self, below: u32, count: u64) -> Result<u32, Memory>
         requires { below < length self.old }
         ensures keeps { Keeps self.old self.new }
         ensures made { IfOk result (λ r. Is self.new r (zeros count (get_or self.old below []))) }

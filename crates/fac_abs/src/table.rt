@@ -4,7 +4,7 @@ ghost use Rattle.fac_lang.specs.Texts.{any, lit_mark, wrd_mark, par_mark};
 ghost use Rattle.fac_abs.specs.InTurn.{under, moved};
 ghost use Rattle.fac_abs.specs.Marks.{mark_eq, mark_depth, is_callable, curried_mark, composed_mark, cover_marks, unknowns};
 ghost use Rattle.fac_abs.specs.Trees.{Naming, tree, trees, node_depth, depths, HasPartsBelow};
-ghost use Rattle.fac_abs.specs.Seen.{mark_of, stack_of, IsMark, IsStack, Grows};
+ghost use Rattle.fac_abs.specs.Seen.{mark_of, stack_of, IsMark, IsStack, Grows, NumbersAreMarks};
 ghost use Rattle.fac_abs.specs.Promises.{IsMarkOf, IsStackOf, IsStackWhere, IsNodeOf, HasTopWhere, IsJoinedWhere};
 
 use crate::Node;
@@ -135,6 +135,13 @@ impl Marks {
         a == b
     }
 
+    /// A law: what has one mark has one number. That equal numbers are equal marks goes without saying.
+    pub fn numbers_are_marks(&self)
+        ensures { NumbersAreMarks self.now }
+    {
+        let _first = self.nodes.first();
+    }
+
     /// The mark of what `curry` makes of a value with the mark `mark` and a callable with the mark `callable`. Where `callable` doesn't stand for
     /// callables alone, or the mark would be deeper than 64, nothing is known.
     pub fn curried(&mut self, mark: u32, callable: u32) -> Result<u32, Memory>
@@ -214,7 +221,7 @@ impl Marks {
     }
 
     /// A stack with `count` more values of which nothing is known. Want of memory can come after some of them.
-    pub fn unknowns(&mut self, stack: u32, count: u32) -> Result<u32, Memory>
+    pub fn unknowns(&mut self, stack: u32, count: u64) -> Result<u32, Memory>
         requires { IsStack self.old stack }
         ensures grows { Grows self.old self.new }
         ensures made { IfOk result (λ r. IsStackOf self.new r (λ N. unknowns count (stack_of N self.old stack))) }

@@ -27,7 +27,8 @@ module _ {A : Type 0} where
       more (inl f) = inl f
       more (inr f) = inr (ap suc f.0, f.1)
 
-built_there : (bound : ℕ) (ds : List WordDef) → AreBuiltWords bound ds → (k : ℕ) (d : WordDef) → slice_get ds k ≡ Some d → IsBuiltSort bound d d.sort
+-- a word of built ones
+pub built_there : (bound : ℕ) (ds : List WordDef) → AreBuiltWords bound ds → (k : ℕ) (d : WordDef) → slice_get ds k ≡ Some d → IsBuiltSort bound d d.sort
 built_there bound [] h k d e = absurd (cc)
 built_there bound (c ∷ ds) h zero d e = (let same : c ≡ d = cc in subst (λ x. IsBuiltSort bound x x.sort) same h.0)
 built_there bound (c ∷ ds) h (suc k) d e = built_there bound ds h.1 k d e

@@ -22,6 +22,7 @@ pub mod StepByStep
 pub mod BuiltWords
 pub mod PrimitiveDoings
 pub mod BuiltMarks
+pub mod TakenPrograms
 pub mod DoingLemmas
 pub mod WordItems
 pub mod ClosedItems

@@ -6,7 +6,8 @@ use Rattle.fac_lang.specs.Texts.{int, yes, no, str, iota, wrd, arr, tup, Text, e
 use Rattle.fac_lang.specs.World.{World, State, push, push_each}
 use Rattle.fac_lang.specs.declared.error_name.ErrorName.{ErrorName}
 use Rattle.fac_lang.specs.declared.error_name.ErrorName.TheVariants.{NoMethod, NoNextMethod}
-use Rattle.fac_lang.specs.Primitives.{Prim, prim_numbered, Gives, gives, bad, Fn, fn0, fn1, fn2, fn3, prim_fn, seen_no}
+use Rattle.fac_lang.specs.Procedures.{Gives, gives, bad, Fn, fn0, fn1, fn2, fn3}
+use Rattle.fac_lang.specs.Primitives.{Primitive, prim_numbered, prim_fn, seen_no}
 use Rattle.fac_lang.specs.Objects.{kind_of, get_slot, set_slot, put_slot, made_tuple}
 use Rattle.fac_lang.specs.declared.program.Program.{Program}
 use Rattle.fac_lang.specs.declared.program.Sort.{Sort}
@@ -126,7 +127,7 @@ module _ (ls : List ℕ) where
     core_stays (Some c_execute) st e = taking1_stays st.stack st.world (λ v st'. with_word v (λ a. runs (text (one_item (word a))) st' [])) e (λ v. word_stays v (λ a st'. runs (text (one_item (word a))) st' []) (λ a st' e'. e'))
     core_stays (Some c_boa) st e = taking1_stays st.stack st.world (λ v st'. with_word v (λ a. makes_tuple P ((names P).tuple_class a) st')) e (λ v. word_stays v (λ a st'. makes_tuple P ((names P).tuple_class a) st') (λ a. makes_stays ((names P).tuple_class a)))
 
-    primitive_stays : (a : ℕ) (p : Option Prim) → Keeps (prim_act P a p)
+    primitive_stays : (a : ℕ) (p : Option Primitive) → Keeps (prim_act P a p)
     primitive_stays a None st e = tt
     primitive_stays a (Some p) st e = does_stays a (prim_fn texts (names P) p) (prim_stays ls P p) st e
 

@@ -11,7 +11,8 @@ use Rattle.fac_lang.specs.Signatures.{Signature, signature, Inputs, no_inputs, v
 use Rattle.fac_lang.specs.Effects.{inputs_count, leaving_outs, effect_height}
 use Rattle.fac_lang.specs.Eval.{Result, Done, Failed, Spent, Stuck, run_callable, eval}
 use Rattle.fac_lang.proofs.Laws.{within, agree_call, same_run}
-use Rattle.fac_abs.specs.Marks.{Row, named_row, rows, base_eq, unknowns}
+use Rattle.fac_abs.specs.Marks.{Row, named_row, base_eq, unknowns}
+use Rattle.fac_abs.specs.declared.rule.Rule.TheVariants.{Rows}
 use Rattle.fac_abs.proofs.EqualMarks.{and_first, and_second, length_same, base_same}
 use Rattle.fac_check.specs.Rows.{leaving_row, effect_inputs, effect_leaving, input_effect, leaving_on, Called, call_breaks, called_if, calls_input, outer_in, outer_out}
 use Rattle.fac_check.specs.Flow.{called}
@@ -69,19 +70,19 @@ module _ (P : Program) (tests : Row → List Value → Bool) (budget : ℕ) (w :
     input_fits : (g n : ℕ) → g ≤ budget → n ≤ g → (q : Signature) (c : Callable) → DoesInput P tests budget q c → (k : ℕ) (b : Option Row) (ms : List Mark) (p : Place) (left : ℕ) (st : State Value) → OnState P K b ms st → Fits P K (called (calls_input k q b ms) p left) (callable_run P c st n)
     input_fits g n le le' (signature (Some y) js l) c does k b ms p left st o = closed (base_eq b (Some (named_row y)) && nat_eq (length ms) (inputs_count js)) refl
       where
-        closed : (z : Bool) → (base_eq b (Some (named_row y)) && nat_eq (length ms) (inputs_count js)) ≡ z → Fits P K (called (called_if z (leaving_on l (leaving_row l) []) (rows k (inputs_count js) (length ms))) p left) (callable_run P c st n)
+        closed : (z : Bool) → (base_eq b (Some (named_row y)) && nat_eq (length ms) (inputs_count js)) ≡ z → Fits P K (called (called_if z (leaving_on l (leaving_row l) []) (Rows k (inputs_count js) (length ms))) p left) (callable_run P c st n)
         closed false z = tt
         closed true z =
             (let q = marks_on b ms st.stack o.0 in let on_row : tests (named_row y) q.0 ≡ true = subst (λ x. K.row x q.0) (base_same b (Some (named_row y)) (and_first (base_eq b (Some (named_row y))) (nat_eq (length ms) (inputs_count js)) z)) q.2 in let many : length ms ≡ inputs_count js = length_same (length ms) (inputs_count js) (and_second (base_eq b (Some (named_row y))) (nat_eq (length ms) (inputs_count js)) z) in let x = outputs_over (length ms) q.0 st.stack q.1 in ends_so (LeftOn (leaving_outs l) (OfRow P tests (leaving_row l))) (StackState P K (leaving_on l (leaving_row l) [])) (callable_run P c st n) (left_row l) (does st n (omega (arith, le, le')) (x.0, q.0, x.1, x.2 ∙ many, on_row) o.1))
     input_fits g n le le' (signature None js l) c does k b ms p left st o = closed (nat_lt (length ms) (inputs_count js)) refl
       where
-        closed : (z : Bool) → nat_lt (length ms) (inputs_count js) ≡ z → Fits P K (called (called_if (not z) (leaving_on l b (drop (inputs_count js) ms)) (rows k (inputs_count js) (length ms))) p left) (callable_run P c st n)
+        closed : (z : Bool) → nat_lt (length ms) (inputs_count js) ≡ z → Fits P K (called (called_if (not z) (leaving_on l b (drop (inputs_count js) ms)) (Rows k (inputs_count js) (length ms))) p left) (callable_run P c st n)
         closed true z = tt
         closed false z =
             (let q = split_marks P K (inputs_count js) b ms st.stack (ltb-false (length ms) (inputs_count js) z) o.0 in let x = outputs_over (inputs_count js) q.0 st.stack q.1 in ends_so (LeftOn (leaving_outs l) (Exactly q.0)) (StackState P K (leaving_on l b (drop (inputs_count js) ms))) (callable_run P c st n) (left_values q.0 b (drop (inputs_count js) ms) q.2 l) (does q.0 st n (omega (arith, le, le')) (x.0, q.0, x.1, x.2, refl) o.1))
 
     abbrev calling : ℕ → Option Signature → Option Row → List Mark → Called
-    calling k o b ms = elim o [ Some q ↦ calls_input k q b ms | None ↦ call_breaks (rows k 0 (length ms)) ]
+    calling k o b ms = elim o [ Some q ↦ calls_input k q b ms | None ↦ call_breaks (Rows k 0 (length ms)) ]
 
     inputs_fit : (g : ℕ) → g ≤ budget → InputsFit P K (eval (A P) g) g
     inputs_fit g le k c h b ms p left st n le' o =

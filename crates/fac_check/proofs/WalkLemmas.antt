@@ -12,8 +12,8 @@ use Rattle.fac_abs.specs.Marks.{dead, on}
 use Rattle.fac_abs.specs.Trees.{Naming}
 use Rattle.fac_abs.specs.Seen.{MarksSeen, stack_of}
 use Rattle.fac_check.specs.Flow.{found, refused, and_then, doing}
-use Rattle.fac_check.specs.ItemWalk.{IsAlone, item_walk}
-use Rattle.fac_check.specs.Walking.{Opened, doing_seen, walked_seen, body_text, go_at, IsBelow}
+use Rattle.fac_check.specs.inner.ItemWalk.{IsAlone, item_walk}
+use Rattle.fac_check.specs.inner.Walking.{Opened, doing_seen, walked_seen, body_text, go_at, IsBelow}
 use Rattle.fac_check.specs.declared.doing.Reached.TheVariants.{Dead, On}
 use Rattle.fac_check.specs.declared.doing.Doing.{Doing}
 use Rattle.fac_check.specs.declared.doing.Doing.TheVariants.{Breaks, Gives, Expands, Walks, Forks}

@@ -19,7 +19,7 @@ use Rattle.fac_abs.specs.Marks.{Row}
 use Rattle.fac_abs.specs.declared.rule.Rule.TheVariants.{NotKnown}
 use Rattle.fac_check.specs.Rows.{is_row}
 use Rattle.fac_check.specs.Flow.{Doing, breaks, expands, by_height, callable_or, prim_doing, core_doing, sort_doing, inline_doing, row_or_text}
-use Rattle.fac_check.specs.Walking.{body_text, text_of, sort_text}
+use Rattle.fac_check.specs.inner.Walking.{body_text, text_of, sort_text}
 use Rattle.fac_abs.proofs.EqualMarks.{and_first, and_second}
 use Rattle.fac_check.proofs.PrimitivesKeep.{written_height}
 use Rattle.fac_check.proofs.BuiltWords.{BuiltAs, as_primitive, as_core, as_defined, no_row_word}

@@ -3,7 +3,7 @@ ghost use Rattle.std.specs.Prelude.{◌≡◌, Some, None, Ok};
 ghost use Rattle.fac_lang.specs.declared.program.Program.{Program as Source};
 ghost use Rattle.fac_lang.specs.Forms.{IsBuilt};
 ghost use Rattle.fac_lang.specs.Whole.{IsWhole};
-ghost use Rattle.fac_check.specs.Judged.{OfEach, refusal_if, refusal_seen};
+ghost use Rattle.fac_check.specs.Judged.{OfEach, StandsForBuilt, refusal_if, refusal_seen};
 ghost use Rattle.fac_check.specs.Verdicts.{verdict};
 ghost use Rattle.fac_parse.specs.Resolution.{resolved};
 ghost use Rattle.fac_parse.specs.Trees.{IsWellFormed};
@@ -51,6 +51,7 @@ fn close_program(alloc: Global, program: Program) -> Result<Closed, Ended>
 
 // The first refusal of a closed program.
 fn refusal_of(alloc: Global, closed: &Closed) -> Result<Option<Refusal>, Ended>
+    requires { StandsForBuilt closed.now }
     ensures { StepsOn (λ refusal. OfEach closed.now (λ P. verdict P closed.now.start ≡ refusal_if refusal)) result }
 {
     match check_words(alloc, closed) {

@@ -26,5 +26,5 @@ returns-in_default c =
     record {
       grows = c.by_height.ensures.grows;
       there = c.by_height.ensures.there;
-      does = ok_maps c.by_height.result (λ r does p e ins outs N texts. does N texts ∙ other_walked c.args.number c.operation_of.result p c.args.ins c.args.outs None (stack_of N c.args.marks.now c.args.stack) c.operation_of.ensures e ins outs (other_kind c.operation_of.result c.in_default.not-Shuffle c.in_default.not-Curry c.in_default.not-Compose)) c.by_height.ensures.does;
+      does = ok_maps c.by_height.result (λ r does p e ins outs N texts. does N texts ∙ other_walked c.args.number c.operation_of.result p c.args.height.ins c.args.height.outs None (stack_of N c.args.marks.now c.args.stack) c.operation_of.ensures e ins outs (other_kind c.operation_of.result c.in_default.not-Shuffle c.in_default.not-Curry c.in_default.not-Compose)) c.by_height.ensures.does;
     }

@@ -3,7 +3,7 @@ use Rattle.fac_lang.specs.Texts.{any}
 use Rattle.fac_abs.specs.InTurn.{moved}
 use Rattle.fac_abs.specs.Seen.{stack_of}
 use Rattle.fac_abs.specs.Promises.{IsStackWhere}
-use Rattle.fac_check.specs.Walking.{lacks}
+use Rattle.fac_check.specs.inner.Walking.{lacks}
 use Rattle.fac_check.proofs.DoingLemmas.{moved_gives, moved_lacks}
 use Rattle.fac_check.proofs.doing.shuffle.Goals as goal
 

@@ -8,7 +8,7 @@ use Rattle.fac_lang.specs.declared.program.Sort.{Sort}
 use Rattle.fac_lang.specs.declared.program.Sort.TheVariants.{Body as body}
 use Rattle.fac_locals.specs.Literals.{literal_numbered, first_of_word, NotBefore}
 use Rattle.fac_locals.specs.Closed.{Closes, ClosesWord, ClosesText, ClosesItem}
-use Rattle.fac_check.specs.Verdicts.{one_of, without, inline_words, item_words, undeclared}
+use Rattle.fac_check.specs.Verdicts.{one_of, without, inline_words, item_words}
 
 -- a number is in a list
 abbrev pub IsOneOf : ℕ → List ℕ → Type 0
@@ -165,11 +165,6 @@ module _ (P : Program) where
   edges_from w [] = []
   edges_from w (d ∷ ds) = word_edges w d ∷ edges_from (suc w) ds
 
-  -- for each of the words from word w on, whether it breaks the rule
-  abbrev pub undeclared_from : ℕ → List WordDef → List Bool
-  undeclared_from w [] = []
-  undeclared_from w (d ∷ ds) = undeclared P w d ∷ undeclared_from (suc w) ds
-
   -- no literal that stands here or behind has a lower number
   abbrev pub NumbersFrom : Literal → ℕ → Type 0
   NumbersFrom at from = (k : ℕ) → NotBefore at (literal_numbered P k).0 → from ≤ k
@@ -208,7 +203,3 @@ LedByText C templates w recursive closed vs = (P : Program) → Closes P C templ
 -- those of all words
 abbrev pub AreEdges : Program → List Template → List (List ℕ) → Type 0
 AreEdges C templates edges = (P : Program) → Closes P C templates → edges ≡ edges_from P 0 P.words
-
--- for each word whether it breaks the rule
-abbrev pub AreUndeclared : Program → List Template → List Bool → Type 0
-AreUndeclared C templates flags = (P : Program) → Closes P C templates → flags ≡ undeclared_from P 0 P.words

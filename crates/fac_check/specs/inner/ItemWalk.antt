@@ -1,4 +1,4 @@
--- What one item comes to, apart from the rest of its text. Only the contracts of inner functions cite this.
+-- What one item comes to, apart from the rest of its text.
 use Rattle.std.specs.Prelude.{ℕ, Option}
 use Rattle.fac_lang.specs.declared.phrase.Place.{Place}
 use Rattle.fac_lang.specs.Signatures.{Signature}
