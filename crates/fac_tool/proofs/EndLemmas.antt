@@ -13,7 +13,6 @@ use Rattle.fac_lang.specs.Printed.{Names, printed}
 use Rattle.fac_lang.specs.Eval.{Done, Failed, Spent}
 use Rattle.fac_prim.specs.Cells.{MValue, MCallable, cells}
 use Rattle.fac_prim.specs.Trees.{value_in, values_in}
-use Rattle.fac_prim.specs.ErrorNames.{name_back}
 use Rattle.fac_prim.specs.declared.value.Value.{Value as MachineValue}
 use Rattle.fac_prim.specs.declared.value.Value.TheVariants.{Int, True, False, Callable}
 use Rattle.fac_vm.specs.declared.machine.RunError.{RunError}
@@ -78,7 +77,7 @@ value_same P T w None = refl
 value_same P T w (Some v) = ap Some (text_same P T w v)
 
 report_same : (P C : Program) (T : List MCallable) (w : World Value) (x : Error Value) (e : RunError) → SameNames P C → x ≡ error_view (template_texts P) (error_of T e) → error_report P w x ≡ machine_report C e
-report_same P C T w x e named same = rw (same, name_back, value_same, named e.word) refl
+report_same P C T w x e named same = rw (same, value_same, named e.word) refl
 
 pub failed_matches : (P C : Program) (budget : ℕ) (T : List MCallable) (e : RunError) (stack : List MValue) (ticks : ℕ) (before now : Option (List ℕ)) (m n : ℕ) → SameNames P C → StopsAs P budget T stack ticks before now (stop.Failed e) → Matches (run_answer P budget) (sink_seen before now m n) (record { status = 1; ticks = ticks; stack = None; refusal = Some (machine_report C e) })
 failed_matches P C budget T e stack ticks before now m n named h =

@@ -14,7 +14,6 @@ use Rattle.fac_parse.specs.declared.resolver.NameFault.{NameFault}
 use Rattle.fac_parse.specs.Resolution.{resolved}
 use Rattle.fac_check.specs.CallableEffects.{callable_height, fits}
 use Rattle.fac_check.specs.Verdicts.{Refusal, verdict}
-use Rattle.fac_prim.specs.ErrorNames.{name_from}
 use Rattle.fac_notes.specs.declared.report.ByteFault.{ByteFault}
 use Rattle.fac_notes.specs.declared.report.Report.{Report}
 use Rattle.fac_notes.specs.declared.report.Report.TheVariants as report
@@ -59,7 +58,7 @@ abbrev pub shown : Program → World Value → Value → List ℕ
 shown P w v = shown_text (printed texts (names P) w v)
 
 abbrev pub error_report : Program → World Value → Error Value → Report
-error_report P w e = report.Error (name_from e.name) (word_name P e.word) (option_map (shown P w) e.value)
+error_report P w e = report.Error e.name (word_name P e.word) (option_map (shown P w) e.value)
 
 -- the answer of a run with this budget; an accepted program is never stuck
 abbrev pub of_run : Program → ℕ → Run → Answer
