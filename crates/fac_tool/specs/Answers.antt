@@ -126,6 +126,14 @@ usage = record { status = 2; ticks = 0; stack = None; refusal = None }
 abbrev pub TellsUsage : SinkSeen → Ended → Type 0
 TellsUsage notes ended = NoteWhole usage_note usage notes ended ⊎ NotePart usage_note usage notes ended
 
+-- the ending where there is no memory for the words
+abbrev pub no_words : Ended
+no_words = record { status = 12; ticks = 0; stack = None; refusal = None }
+
+-- that is told, which takes no memory
+abbrev pub TellsNoWords : SinkSeen → Ended → Type 0
+TellsNoWords notes ended = NoteWhole memory_note no_words notes ended ⊎ NotePart memory_note no_words notes ended
+
 -- nothing was done with the files and the output
 pub record IsIdle (files : FilesSeen) (out : SinkSeen) : Type 0 where
   pub files_count : files.faults_now ≡ files.faults_before

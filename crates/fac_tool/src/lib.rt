@@ -15,4 +15,5 @@ pub use command::{Command, read_words};
 pub use ended::Ended;
 pub use fac_notes::{ByteFault, Report};
 pub use laws::{every_text_is_a_source, one_source};
+pub use telling::tell_no_words;
 pub use tool::factor_top;

@@ -5,7 +5,7 @@ ghost use Rattle.fac_io.specs.Told.{Grows, GrowsByPrefix};
 ghost use Rattle.fac_notes.specs.Notes.{line_of};
 ghost use Rattle.fac_tool.specs.Seen.{sink_seen};
 ghost use Rattle.fac_tool.specs.ToldNotes.{note_of, note_of_status};
-ghost use Rattle.fac_tool.specs.Answers.{Tells, TellsUsage};
+ghost use Rattle.fac_tool.specs.Answers.{Tells, TellsUsage, TellsNoWords};
 
 use crate::ended::bare;
 use crate::{Ended, Report};
@@ -99,6 +99,16 @@ pub fn tell_usage<N: Sink>(notes: &mut N) -> Ended
         b"usage: factorc check, run, build, exec, list, listen or gen\n".as_slice(),
     ) {
         Ok(()) => bare(2, 0),
+        Err(_) => bare(10, 0),
+    }
+}
+
+/// Tells that there is no memory for the words of the command line. It takes none.
+pub fn tell_no_words<N: Sink>(notes: &mut N) -> Ended
+    ensures { TellsNoWords (sink_seen (N.taken notes.old) (N.taken notes.new) (N.faults notes.old) (N.faults notes.new)) result }
+{
+    match write_note(notes, b"out of memory\n".as_slice()) {
+        Ok(()) => bare(12, 0),
         Err(_) => bare(10, 0),
     }
 }

@@ -1,14 +1,13 @@
 -- What the program does with what the system gives it.
-use Rattle.std.specs.Prelude.{◌≡◌, ◌⊎◌, ℕ, List, [], drop, map, string_bytes, None, Result, Ok, Err}
+use Rattle.std.specs.Prelude.{◌≡◌, ◌⊎◌, ℕ, List, [], drop, map, string_bytes, Result, Ok, Err}
 use Rattle.std.specs.Process.{exit_status}
 use Rattle.std.specs.Vec.Iter.{into_iter_items}
 use Rattle.std.specs.declared.process.ExitCode.{ExitCode}
-use Rattle.std.specs.declared.vec.into_iter.IntoIter.{IntoIter}
+use Rattle.std.specs.declared.vec.IntoIter.{IntoIter}
 use Rattle.std.specs.declared.string.String.{String}
 use Rattle.fac_tool.specs.declared.ended.Ended.{Ended}
 use Rattle.fac_tool.specs.Seen.{SinkSeen, FilesSeen}
-use Rattle.fac_tool.specs.ToldNotes.{memory_note}
-use Rattle.fac_tool.specs.Answers.{Answers, IsIdle, NoteWhole, NotePart}
+use Rattle.fac_tool.specs.Answers.{Answers, IsIdle, TellsNoWords}
 
 -- the words of a command line behind the program's name; no words, where one of them isn't text
 abbrev pub words_given : {Z E : Type 0} → Result (IntoIter (String Z) Z) E → List (List ℕ)
@@ -21,16 +20,12 @@ pub record Calls (words : List (List ℕ)) (files : FilesSeen) (out notes : Sink
   pub answers : Answers words files out notes ended
   pub status : exit_status code ≡ ended.status
 
--- the ending where there is no memory for the words
-abbrev pub no_words : Ended
-no_words = record { status = 12; ticks = 0; stack = None; refusal = None }
-
--- it is told that there was no memory for the words
-pub record TellsNoWords (notes : SinkSeen) (code : ExitCode) : Type 0 where
+-- that there was no memory for the words was told, and the program ends with the status of that
+pub record TellsCode (notes : SinkSeen) (code : ExitCode) : Type 0 where
   pub ended : Ended
-  pub noted : NoteWhole memory_note no_words notes ended ⊎ NotePart memory_note no_words notes ended
+  pub tells : TellsNoWords notes ended
   pub status : exit_status code ≡ ended.status
 
 -- what the program does on the words that it is given; without memory for them it does nothing else than tell that
 abbrev pub ProgramRuns : List (List ℕ) → FilesSeen → SinkSeen → SinkSeen → ExitCode → Type 0
-ProgramRuns words files out notes code = Calls words files out notes code ⊎ (IsIdle files out × TellsNoWords notes code)
+ProgramRuns words files out notes code = Calls words files out notes code ⊎ (IsIdle files out × TellsCode notes code)
