@@ -4,8 +4,8 @@ use Rattle.fac_parse.specs.declared.reader.Why.{Why}
 use Rattle.fac_parse.specs.declared.reader.Why.TheVariants as why
 use Rattle.fac_parse.specs.declared.resolver.NameKind.{NameKind}
 use Rattle.fac_parse.specs.declared.resolver.NameKind.TheVariants as kind
-use Rattle.fac_check.specs.declared.rule.Rule.{Rule}
-use Rattle.fac_check.specs.declared.rule.Rule.TheVariants as rule
+use Rattle.fac_abs.specs.declared.rule.Rule.{Rule}
+use Rattle.fac_abs.specs.declared.rule.Rule.TheVariants as rule
 use Rattle.fac_lang.specs.declared.error_name.ErrorName.{ErrorName}
 use Rattle.fac_lang.specs.declared.error_name.ErrorName.TheVariants as error
 use Rattle.fac_notes.specs.declared.report.ByteFault.{ByteFault}
