@@ -1,5 +1,5 @@
 -- Each item of a closed program that stands for a built one has an instruction.
-use Rattle.std.proofs.Common.{◌≡◌, ◌<◌, ℕ, zero, suc, ◌+◌, List, [], ◌∷◌, ◌++◌, length, drop, get_or, Bool, true, false, Option, Some, None, refl, ap, sym, subst, ◌∙◌, arith}
+use Rattle.std.proofs.Common.{◌≡◌, ◌<◌, ℕ, zero, suc, ◌+◌, List, [], ◌∷◌, ◌++◌, length, drop, get_or, Bool, true, false, Some, refl, subst, ◌∙◌}
 use Rattle.std.specs.Prelude.{◌&&◌, slice_get}
 use Rattle.std.specs.List.{list_all}
 use Rattle.fac_lang.specs.declared.phrase.Template.{Template}
@@ -9,10 +9,10 @@ use Rattle.fac_lang.specs.declared.program.Sort.{Sort}
 use Rattle.fac_lang.specs.declared.program.Sort.TheVariants.{Prim as prim_sort, Core as core_sort, Body as body, Past as past, Method as method}
 use Rattle.fac_lang.specs.declared.phrase.Item.{Item}
 use Rattle.fac_lang.specs.View.{what_item, items_text}
-use Rattle.fac_lang.specs.Texts.{Literal, Text, word}
-use Rattle.fac_lang.specs.Forms.{IsBuilt, IsBuiltText, IsBuiltSort}
+use Rattle.fac_lang.specs.Texts.{Literal, Text}
+use Rattle.fac_lang.specs.Forms.{IsBuilt, IsBuiltSort}
 use Rattle.fac_lang.proofs.FormsLemmas.{word_below}
-use Rattle.fac_locals.specs.Literals.{Quoted, first_of_word, first_of_literal, literal_numbered}
+use Rattle.fac_locals.specs.Literals.{first_of_word, first_of_literal, literal_numbered}
 use Rattle.fac_locals.specs.Closed.{Closes, ClosesSort}
 use Rattle.fac_locals.proofs.ClosedPrograms.{HasBuiltText, built_texts}
 use Rattle.fac_locals.proofs.Places.{literal_built}

@@ -1,5 +1,5 @@
 -- The piece of a word, as the code makes it, is what the word emits.
-use Rattle.std.proofs.Common.{◌≡◌, ◌<◌, ℕ, zero, suc, ◌+◌, List, [], ◌∷◌, ◌++◌, length, drop, Bool, true, false, Option, Some, None, refl, ap, sym, subst, ◌∙◌, arith, ◌⊎◌, inl, inr, Result, Ok, Err, IfOk}
+use Rattle.std.proofs.Common.{◌≡◌, ◌<◌, ℕ, zero, suc, ◌+◌, List, [], ◌∷◌, ◌++◌, length, drop, Bool, true, Some, None, refl, ap, sym, subst, ◌∙◌, arith, ◌⊎◌, Result, Ok, Err, IfOk}
 use Rattle.std.proofs.lemmas.Bool.{ltb-true}
 use Rattle.std.specs.Prelude.{nat_eq, slice_get}
 use Rattle.fac_lang.specs.declared.memory.Memory.{Memory}
@@ -13,18 +13,17 @@ use Rattle.fac_lang.specs.Forms.{IsBuilt, IsBuiltText, IsBuiltSort}
 use Rattle.fac_lang.specs.CoreWords.{is_built_core}
 use Rattle.fac_lang.specs.Meaning.{sort_of, core_numbered}
 use Rattle.fac_lang.proofs.FormsLemmas.{word_below, sort_at}
-use Rattle.fac_locals.specs.Literals.{Quoted, first_of_word, first_of_literal, behind, literals_in, sort_literals, word_literals, literals, literal_or, literal_numbered}
+use Rattle.fac_locals.specs.Literals.{Quoted, first_of_word, first_of_literal, behind, literals_in, sort_literals, word_literals, literals, literal_or}
 use Rattle.fac_locals.specs.Closed.{Closes, ClosesText, ClosesSort, CloseLiterals}
 use Rattle.fac_locals.proofs.ClosedPrograms.{HasBuiltText, HaveBuiltTexts, built_texts}
 use Rattle.fac_locals.proofs.Places.{literal_built}
 use Rattle.fac_locals.proofs.Lookups.{word_closed, word_open}
 use Rattle.fac_code.specs.declared.image.Instr.{Instr}
 use Rattle.fac_code.specs.declared.image.Instr.TheVariants.{Ret}
-use Rattle.fac_code.specs.declared.image.TemplateRow.{TemplateRow}
 use Rattle.fac_emit.specs.declared.emitter.Piece.{Piece}
 use Rattle.fac_emit.specs.Code.{core_instr, sort_instr, word_instr, item_instr, text_code, quotations, first_template, templates_code, template_rows, row_at, last_instr, sort_code, sort_rows}
 use Rattle.fac_emit.specs.Pieces.{IsPiece, found_code, found_rows}
-use Rattle.fac_emit.specs.Emits.{HasNoText, ItemEmits, e_int, e_true, e_false, e_quot, e_prim, e_word, e_call, e_dip, e_if, TextEmits, e_end, e_item, QuotationsEmit, e_none, e_quotation, Emits, e_text, e_no_text}
+use Rattle.fac_emit.specs.Emits.{ItemEmits, e_int, e_true, e_false, e_quot, e_prim, e_word, e_call, e_dip, e_if, TextEmits, e_end, e_item, QuotationsEmit, e_none, e_quotation, Emits, e_text, e_no_text}
 use Rattle.fac_emit.proofs.Closings.{drop_behind, get_at, Closing, c_end, c_int, c_true, c_false, c_word, c_quot, closing, split, Forest, text_forest, first_number}
 use Rattle.fac_emit.proofs.Placed.{code_from_place, rows_from_place}
 

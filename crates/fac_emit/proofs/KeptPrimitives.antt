@@ -6,7 +6,7 @@ use Rattle.fac_lang.specs.World.{Object, array, tuple, World}
 use Rattle.fac_lang.specs.declared.limits.TheConstants.{MOST_PAIRS}
 use Rattle.fac_lang.specs.Equality.{equal_pairs}
 use Rattle.fac_lang.specs.Printed.{Names, printed}
-use Rattle.fac_lang.specs.Procedures.{Procedure, leaves, answers, answers_array, answers_tuple, curries, composes, fails, looks, adds, opens, puts, compares, prints, asks, writes, reads, Gives, line_in, behind_line, places_from, or_else, picked, repeated, value_at, array_in, opened, opened_places, with_element, made_or, followed, by_inputs}
+use Rattle.fac_lang.specs.Procedures.{Procedure, leaves, answers, answers_array, answers_tuple, curries, composes, fails, looks, adds, opens, puts, compares, prints, asks, writes, reads, Gives, line_in, behind_line, places_from, picked, repeated, value_at, array_in, opened, opened_places, with_element, made_or, followed, by_inputs}
 use Rattle.fac_lang.specs.Primitives.{Primitive, prim_fn}
 use Rattle.fac_code.specs.declared.image.Image.{Image}
 use Rattle.fac_prim.specs.Cells.{MValue, m_plain, m_fun, m_seen, m_curry, m_compose, cells}

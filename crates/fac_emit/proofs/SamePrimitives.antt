@@ -7,7 +7,7 @@ use Rattle.std.specs.Option.{option_map}
 use Rattle.fac_lang.specs.Texts.{Plain, int, yes, no, str, iota, wrd, arr, tup, Value, plain}
 use Rattle.fac_lang.specs.World.{Object, array, tuple, World}
 use Rattle.fac_lang.specs.declared.limits.TheConstants.{MOST_PAIRS, MOST_PRINTED_LEVELS}
-use Rattle.fac_lang.specs.Equality.{plain_eq, Compared, differ, two_callables, further, Equal, equal, not_comparable, pairs_of, compare_lists, compare_objects, compare_plain, compare, equal_pairs}
+use Rattle.fac_lang.specs.Equality.{plain_eq, Compared, differ, two_callables, further, Equal, equal, not_comparable, pairs_of, compare_lists, compare_objects, compare, equal_pairs}
 use Rattle.fac_lang.specs.Printed.{Names, shown_object, shown, printed}
 use Rattle.fac_lang.specs.Procedures.{Procedure, leaves, answers, answers_array, answers_tuple, curries, composes, fails, looks, adds, opens, puts, compares, prints, asks, writes, reads, Gives, gives, bad, Fn, fn0, fn1, fn2, fn3, line_in, behind_line, places_from, or_else, picked, repeated, value_at, value_if, array_in, opened, opened_places, with_element, made_or, followed, by_inputs}
 use Rattle.fac_lang.specs.Primitives.{Primitive, prim_fn}

@@ -21,7 +21,7 @@ use Rattle.fac_vm.specs.Machine.{empty_world}
 use Rattle.fac_vm.specs.Runs.{error_of}
 use Rattle.fac_emit.specs.View.{template_texts, value_view, values_view, error_view, option_view}
 use Rattle.fac_notes.specs.declared.report.Report.TheVariants as report
-use Rattle.fac_tool.specs.Answer.{Answer, meaning, of_run, run_answer, shown, error_report}
+use Rattle.fac_tool.specs.Answer.{Answer, of_run, run_answer, shown, error_report}
 use Rattle.fac_tool.specs.Seen.{sink_seen}
 use Rattle.fac_tool.specs.Stops.{StopsAs, SameNames, value_form, value_text, machine_report}
 use Rattle.fac_tool.specs.Ends.{Matches}

@@ -1,4 +1,3 @@
-use Rattle.std.proofs.Common.{arith}
 use Rattle.fac_lang.proofs.TableLemmas.{row_is, row_there}
 use Rattle.fac_lang.proofs.primitive_table.operation_of.Goals as goal
 
