@@ -1,6 +1,7 @@
 -- What the checker knows of a value and of a stack.
 use Rattle.std.specs.Prelude.{ℕ, zero, suc, max, ℤ, pos, negsuc, List, [], ◌∷◌, Bool, true, false, ◌&&◌, ◌||◌, nat_eq, nat_le, Option, Some, None}
 use Rattle.std.specs.Str.{bytes_eq}
+use Rattle.fac_lang.specs.declared.limits.TheConstants.{MOST_MARK_DEPTH}
 use Rattle.fac_lang.specs.Texts.{Text, end, then, Item, quot, fry, known, Mark, any, lit_mark, cur_mark, com_mark, wrd_mark, par_mark}
 use Rattle.fac_lang.specs.Codes.{Token, mark_tokens}
 
@@ -73,7 +74,7 @@ abbrev mutual
 
 -- the greatest depth of a mark
 abbrev pub deepest_mark : ℕ
-deepest_mark = 64
+deepest_mark = MOST_MARK_DEPTH
 
 -- a mark that would be deeper is `any`
 abbrev pub limited : Mark → Mark

@@ -11,11 +11,9 @@ use crate::Node;
 use crate::cells::Cells;
 use crate::nodes::Nodes;
 use fac_lang::Memory;
+use fac_lang::limits::MOST_MARK_DEPTH;
 use std::alloc::Global;
 use std::marker::Model;
-
-// The greatest depth of a mark.
-const DEEPEST: u32 = 64;
 
 /// Marks and stacks of marks, each by a number. Marks are numbered in the order in which they were first made, so that two of them are equal
 /// where their numbers are, and number 0 is the mark of a value of which nothing is known. Stack 0 is empty. Numbers stay what they are until
@@ -156,7 +154,7 @@ impl Marks {
         }
         let first = self.depth(mark);
         let second = self.depth(callable);
-        if first >= DEEPEST || second >= DEEPEST {
+        if first >= MOST_MARK_DEPTH || second >= MOST_MARK_DEPTH {
             return Ok(self.unknown());
         }
         self.make(Node::Cur(mark, callable), first.max(second) + 1)
@@ -179,7 +177,7 @@ impl Marks {
         }
         let deep = self.depth(first);
         let other = self.depth(second);
-        if deep >= DEEPEST || other >= DEEPEST {
+        if deep >= MOST_MARK_DEPTH || other >= MOST_MARK_DEPTH {
             return Ok(self.unknown());
         }
         self.make(Node::Com(first, second), deep.max(other) + 1)

@@ -1,5 +1,6 @@
 -- How the checker walks a text: it takes the items in order and follows what each does to the stack as it knows it. A text of the walk is a text as a run has it, with a known mark where a run has a held value.
 use Rattle.std.specs.Prelude.{ℕ, zero, suc, List, [], ◌∷◌, map, length, Bool, true, false, ◌&&◌, not, nat_eq, nat_lt, Option, Some, None, slice_get}
+use Rattle.fac_lang.specs.declared.limits.TheConstants.{MOST_APPLICATIONS, MOST_ITEMS}
 use Rattle.fac_lang.specs.declared.phrase.Place.{Place}
 use Rattle.fac_lang.specs.Texts.{Literal, Plain, wrd, Text, end, then, Item, lit, lit_arr, quot, word, bind, local, fry, hole, call_eff, exec_eff, next_method, made, next_after, held, known, Mark, any, lit_mark, cur_mark, com_mark, wrd_mark, par_mark}
 use Rattle.fac_lang.specs.Signatures.{Signature, Inputs, no_inputs, value, quoted}
@@ -329,11 +330,11 @@ module _ (P : Program) where
 
 -- the most nested applications
 abbrev pub most_nested : ℕ
-most_nested = 64
+most_nested = MOST_APPLICATIONS
 
 -- the most items that are walked
 abbrev pub most_walked : ℕ
-most_walked = 200000
+most_walked = MOST_ITEMS
 
 -- one more than the items, so that the item after the last one can still break a rule of its own
 abbrev pub most_steps : ℕ

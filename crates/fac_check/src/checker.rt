@@ -15,15 +15,10 @@ use crate::doing::Reached;
 use crate::rule::Refusal;
 use crate::walker::{Step, Walked, Walker};
 use fac_abs::{Marks, Rule};
+use fac_lang::limits::{MOST_APPLICATIONS, MOST_ITEMS};
 use fac_lang::{Memory, Phrase, Place, Sort, WordDef};
 use fac_locals::Closed;
 use std::alloc::Global;
-
-// The most nested applications.
-const NESTED: u32 = 64;
-
-// The most items that are walked.
-const WALKED: u32 = 200_000;
 
 /// The verdict on a word.
 #[derive(Clone, Copy, Debug, PartialEq, Eq)]
@@ -90,9 +85,9 @@ fn ordinary_breach(
     let stack = walker.marks.unknowns(0, word.effect.inputs() as u64)?;
     let step = Step {
         place: word.place,
-        nested: NESTED,
+        nested: MOST_APPLICATIONS,
         stack,
-        left: WALKED,
+        left: MOST_ITEMS,
     };
     let walked = walker.walk_phrase(phrase, step)?;
     Ok(kept(&walker.marks, word, walked))
@@ -113,9 +108,9 @@ fn top_breach(
     let stack = walker.marks.unknowns(0, closed.start)?;
     let step = Step {
         place,
-        nested: NESTED,
+        nested: MOST_APPLICATIONS,
         stack,
-        left: WALKED,
+        left: MOST_ITEMS,
     };
     let walked = walker.walk_phrase(phrase, step)?;
     Ok(top_kept(walked))

@@ -2,22 +2,25 @@
 //! that a user can meet. All of them are this profile's own rule.
 
 /// The most bytes that a source file has.
-pub const MOST_SOURCE_BYTES: usize = 4_194_304;
+pub const MOST_SOURCE_BYTES: u64 = 4_194_304;
 
 /// The ticks that a program may use.
 pub const TICKS: u64 = 100_000_000;
 
 /// The most levels of brackets.
-pub const MOST_LEVELS: usize = 256;
+pub const MOST_LEVELS: u32 = 256;
 
 /// The most names of an effect.
-pub const MOST_NAMES: usize = 64;
+pub const MOST_NAMES: u64 = 64;
 
 /// The most applications inside one another that the checker enters.
 pub const MOST_APPLICATIONS: u32 = 64;
 
 /// The most items that the checker walks for one word.
 pub const MOST_ITEMS: u32 = 200_000;
+
+/// The most parts of one inside another that the mark of a callable has. Of a deeper one nothing is known.
+pub const MOST_MARK_DEPTH: u32 = 64;
 
 /// The most elements of an array or a string.
 pub const MOST_ELEMENTS: usize = 1_000_000;

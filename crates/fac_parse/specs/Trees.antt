@@ -1,5 +1,6 @@
 -- Trees, their tokens, and which trees are well-formed.
 use Rattle.std.specs.Prelude.{◌≡◌, ◌≤◌, ◌<◌, ◌+◌, ◌-◌, ℕ, Option, Some, None, List, [], ◌∷◌, ◌++◌, length, true, codes, Result, Ok, Err}
+use Rattle.fac_lang.specs.declared.limits.TheConstants.{MOST_LEVELS, MOST_NAMES}
 use Rattle.fac_lang.specs.declared.phrase.Place.{Place}
 use Rattle.fac_lang.specs.declared.token.Token.{Token}
 use Rattle.fac_lang.specs.declared.token.TokKind.{TokKind}
@@ -71,7 +72,7 @@ IsTerm (term.False place) = Unit {0}
 
 -- Quotations nest at most so deep.
 abbrev pub most_levels : ℕ
-most_levels = 256
+most_levels = MOST_LEVELS
 
 -- whether a piece may stand where `depth` quotations are open, of which there may be `most`
 abbrev pub MayStand : ℕ → ℕ → Piece → Type 0
@@ -106,7 +107,7 @@ AreValueNames (token ∷ tokens) = (token_spelling token.kind ≡ spelled.Name) 
 
 -- the most names of an effect
 abbrev pub most_names : ℕ
-most_names = 64
+most_names = MOST_NAMES
 
 pub record IsEffect (effect : WrittenEffect) : Type 0 where
   pub ins : AreValueNames effect.ins

@@ -5,6 +5,7 @@ ghost use Rattle.fac_parse.specs.Reader.{step, top_step, names_step, colon_step,
 ghost use Rattle.fac_parse.specs.Spellings.{token_spelling};
 
 use crate::spelling::{Spelling, classify, closes_quotation, is_semicolon, names_a_value};
+use fac_lang::limits::{MOST_LEVELS, MOST_NAMES};
 use fac_lang::{
     Duplicate, Form, List, Mark, Memory, Piece, Place, Term, Token, Tree, WrittenEffect,
 };
@@ -251,9 +252,6 @@ fn take_input(
     }
 }
 
-// The most names of an effect.
-const MOST_NAMES: u64 = 64;
-
 // Whether these can be the inputs and outputs of an effect.
 fn fits(ins: &List<Token>, outs: &List<Token>) -> bool
     ensures { result ≡ is_fit ins.now outs.now }
@@ -315,9 +313,6 @@ fn take_output(
         _ => Err(refused()),
     }
 }
-
-// How deep quotations may nest.
-const MOST_LEVELS: u32 = 256;
 
 // Items with a piece more, behind which so many quotations are open.
 fn with(items: Items, piece: Piece, depth: u32) -> Result<Items, Memory>

@@ -2,6 +2,7 @@
 use Rattle.std.specs.Prelude.{ℕ, ◌-◌, List, [], length, map, reverse, None, Some, codes, nat_le, Result, Ok, Err, if◌then◌else◌}
 use Rattle.std.specs.declared.option.Option.{Option}
 use Rattle.std.specs.Option.{option_map}
+use Rattle.fac_lang.specs.declared.limits.TheConstants.{MOST_SOURCE_BYTES}
 use Rattle.fac_lang.specs.declared.program.Program.{Program}
 use Rattle.fac_lang.specs.declared.tree.Form.{Form}
 use Rattle.fac_lang.specs.Texts.{Value}
@@ -26,7 +27,7 @@ use Rattle.fac_tool.specs.Refusals.{refusal_of}
 
 -- the most bytes that are read
 abbrev pub limit : ℕ
-limit = 4194304
+limit = MOST_SOURCE_BYTES
 
 -- what the file of a command comes to: a fault of its tokens at a byte, a refusal at a token, or the forms of its tree
 pub data Source : Type 0 where

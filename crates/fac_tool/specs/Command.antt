@@ -2,6 +2,7 @@
 use Rattle.std.specs.Prelude.{◌==◌, ℕ, Bool, true, false, not, List, [], ◌∷◌, None, Some, codes, if◌then◌else◌, slice_index_or}
 use Rattle.std.specs.declared.option.Option.{Option}
 use Rattle.std.specs.Str.{bytes_eq}
+use Rattle.fac_lang.specs.declared.limits.TheConstants.{TICKS}
 use Rattle.fac_tool.specs.declared.command.Command.{Command}
 use Rattle.fac_tool.specs.declared.command.Command.TheVariants.{Run}
 
@@ -31,4 +32,4 @@ name_of words command = slice_index_or words (file_of command) []
 
 -- the ticks that the run of a command may use
 abbrev pub budget_of : Command → ℕ
-budget_of (Run file) = 100000000
+budget_of (Run file) = TICKS

@@ -2,6 +2,8 @@
 ghost use Rattle.std.specs.Prelude.{◌≡◌, ◌<◌, IfSome, length, map, string_bytes};
 ghost use Rattle.fac_tool.specs.Command.{command_of, command_by, file_of, budget_of, is_file_name as is_name};
 
+use fac_lang::limits::TICKS;
+
 /// What the words of a command line ask for. A file is named by its position among the words, which don't have the program's name.
 #[derive(Clone, Copy, Debug, PartialEq, Eq)]
 pub enum Command {
@@ -24,7 +26,7 @@ impl Command {
         ensures { result ≡ budget_of self }
     {
         match self {
-            Command::Run { .. } => 100_000_000,
+            Command::Run { .. } => TICKS,
         }
     }
 }

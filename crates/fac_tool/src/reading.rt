@@ -7,13 +7,11 @@ ghost use Rattle.fac_tool.specs.StepEnds.{Loads, ReadsTree, fault_ending, report
 use crate::ended::{bare, reported};
 use crate::{ByteFault, Ended, Report, every_text_is_a_source};
 use fac_io::{Files, LoadFault};
+use fac_lang::limits::MOST_SOURCE_BYTES;
 use fac_lang::{Bytes, Text, Tree};
 use fac_parse::{ParseFault, Why, parse};
 use fac_token::{TokenFault, tokens};
 use std::alloc::Global;
-
-// The most bytes that are read.
-const LIMIT: u64 = 4_194_304;
 
 // The number of the command's file.
 const FILE: u32 = 1;
@@ -67,14 +65,14 @@ pub fn load<F: Files>(alloc: Global, name: &str, files: &mut F) -> Result<Bytes,
     let Ok(file) = Text::from_str(alloc, name) else {
         return Err(bare(12, 0));
     };
-    match files.load(alloc, name, LIMIT) {
+    match files.load(alloc, name, MOST_SOURCE_BYTES) {
         Err(LoadFault::Memory) => Err(bare(12, 0)),
         Err(LoadFault::Failed) => Err(reported(0, Report::File { name: file })),
         Err(LoadFault::TooLong) => Err(reported(
             0,
             Report::TooLong {
                 name: file,
-                limit: LIMIT,
+                limit: MOST_SOURCE_BYTES,
             },
         )),
         Ok(text) => Ok(text),
