@@ -12,7 +12,7 @@ use Rattle.fac_lang.specs.Primitives.{built_count, prim_numbered, prim_fn}
 use Rattle.fac_code.specs.Code.{has_built_code}
 use Rattle.fac_code.specs.References.{refers}
 use Rattle.fac_lang.specs.Meaning.{nowhere, names}
-use Rattle.fac_locals.specs.Numbering.{closed_words, words_templates}
+use Rattle.fac_locals.specs.inner.Numbering.{closed_words, words_templates}
 use Rattle.fac_code.specs.declared.image.Instr.TheVariants.{Halt, Int, Quot, Prim, Callw, Call, Dip, Ret}
 use Rattle.fac_code.specs.declared.image.Action.TheVariants.{Prim as prim_action, Core as core_action, Code as code_action}
 use Rattle.fac_code.specs.declared.image.Image.{Image}

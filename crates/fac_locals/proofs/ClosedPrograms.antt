@@ -12,7 +12,7 @@ use Rattle.fac_lang.specs.declared.program.Sort.TheVariants.{Prim as prim, Core 
 use Rattle.fac_lang.specs.Forms.{IsBuilt, IsBuiltText, IsBuiltItem, IsBuiltSort, AreBuiltWords}
 use Rattle.fac_locals.specs.Literals.{Quoted, first_of_word, first_of_literal, behind, literals_in, literals_at, sort_literals, word_literals, literals, places_in, places_at, sort_places, word_places, literal_or}
 use Rattle.fac_locals.specs.Closed.{Closes, CloseWords, ClosesSort, ClosesText, ClosesItem, CloseLiterals}
-use Rattle.fac_locals.specs.Numbering.{text_behind, item_behind, closed_item, closed_text, template_of, text_templates, item_templates, closed_sort, sort_behind, sort_templates, closed_word, closed_words, words_templates, WordsClose}
+use Rattle.fac_locals.specs.inner.Numbering.{text_behind, item_behind, closed_item, closed_text, template_of, text_templates, item_templates, closed_sort, sort_behind, sort_templates, closed_word, closed_words, words_templates, WordsClose}
 
 -- the text of a word, where it has one, is of the built forms
 abbrev pub HasBuiltText : ℕ → Sort → Type 0

@@ -12,7 +12,7 @@ use Rattle.fac_lang.specs.Meaning.{nowhere}
 use Rattle.fac_lang.proofs.DemoWords.{phrase, number, quotation}
 use Rattle.fac_lang.proofs.DemoPrelude.{word_of}
 use Rattle.fac_locals.specs.Literals.{Quoted, literals, literal_places, literal_numbered}
-use Rattle.fac_locals.specs.Numbering.{template_of, closed_words, words_templates}
+use Rattle.fac_locals.specs.inner.Numbering.{template_of, closed_words, words_templates}
 
 -- a word with this text
 abbrev written : List Item → WordDef

@@ -11,7 +11,7 @@ use Rattle.fac_lang.specs.declared.program.WordDef.{WordDef}
 use Rattle.fac_lang.specs.declared.program.Sort.{Sort}
 use Rattle.fac_lang.specs.declared.program.Sort.TheVariants.{Prim as prim, Core as core, Body as body, Past as past, Itself as itself, Class as class, Isa as isa, Getter as getter, Setter as setter, Putter as putter, Generic as generic, Method as method}
 use Rattle.fac_lang.specs.View.{what_item, items_text}
-use Rattle.fac_locals.specs.Numbering.{text_behind, item_behind, closed_item, closed_text, template_of, placeholder, text_templates, item_templates, closed_what, closed_items, sort_behind, sort_templates, closed_words, words_templates, TextCloses, ItemCloses, WordCloses}
+use Rattle.fac_locals.specs.inner.Numbering.{text_behind, item_behind, closed_item, closed_text, template_of, placeholder, text_templates, item_templates, closed_what, closed_items, sort_behind, sort_templates, closed_words, words_templates, TextCloses, ItemCloses, WordCloses}
 
 no_more : {A : Type 0} (xs : List A) (n : ℕ) → length xs ≡ n → length (xs ++ []) ≡ n
 no_more xs n e = rw (append-nil xs) e

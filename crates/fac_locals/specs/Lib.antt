@@ -1,3 +1,3 @@
 pub mod Literals
 pub mod Closed
-pub mod Numbering
+pub mod inner

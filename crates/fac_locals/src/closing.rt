@@ -2,7 +2,7 @@
 ghost use Rattle.std.specs.Prelude.{◌≡◌, ◌++◌, ◌∷◌, ◌<◌, [], length, set, IfOk};
 ghost use Rattle.fac_lang.specs.Forms.{IsBuilt};
 ghost use Rattle.fac_locals.specs.Closed.{Closes};
-ghost use Rattle.fac_locals.specs.Numbering.{TextCloses, ItemCloses, SortCloses, WordCloses, WordsClose, template_of, placeholder};
+ghost use Rattle.fac_locals.specs.inner.Numbering.{TextCloses, ItemCloses, SortCloses, WordCloses, WordsClose, template_of, placeholder};
 
 use fac_lang::{Item, List, Memory, Phrase, Place, Program, Sort, Template, What, WordDef};
 use std::alloc::Global;

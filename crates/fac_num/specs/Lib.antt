@@ -1,3 +1,3 @@
 pub mod Reading
 pub mod Quotients
-pub mod Steps
+pub mod inner

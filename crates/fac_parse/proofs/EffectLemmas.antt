@@ -4,7 +4,7 @@ use Rattle.fac_lang.specs.EffectView.{inputs_tree}
 use Rattle.fac_lang.specs.PrimitiveWords.{plain_inputs}
 use Rattle.fac_lang.specs.Signatures.{value}
 use Rattle.fac_lang.specs.declared.token.Token.{Token}
-use Rattle.fac_parse.specs.PlainEffects.{plain_input}
+use Rattle.fac_parse.specs.inner.PlainEffects.{plain_input}
 use Rattle.fac_parse.specs.Resolution.{token_texts}
 use Rattle.fac_parse.specs.Trees.{token_text}
 

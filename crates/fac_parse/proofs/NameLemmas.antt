@@ -11,7 +11,7 @@ use Rattle.std.proofs.lemmas.Slice.Eq.{bytes_eq-Decides}
 use Rattle.fac_lang.specs.Primitives.{built_primitive_words}
 use Rattle.fac_lang.specs.declared.program.Name.{Name as FullName}
 use Rattle.fac_lang.specs.declared.program.WordDef.{WordDef}
-use Rattle.fac_parse.specs.KnownNames.{with_all, word_names, word_vocabs, own_names, names_with, own_number, number_used}
+use Rattle.fac_parse.specs.inner.KnownNames.{with_all, word_names, word_vocabs, own_names, names_with, own_number, number_used}
 use Rattle.fac_parse.specs.Resolution.{known_words, names_of, first_names, held_from, or_else, held_by, current, found, own_name, is_taken}
 use Rattle.fac_parse.specs.Vocabularies.{with_used}
 use Rattle.fac_parse.proofs.MapLemmas.{position_moved, position_from_found}

@@ -30,7 +30,7 @@ use Rattle.fac_parse.specs.declared.spelling.Spelling.{Spelling}
 use Rattle.fac_parse.specs.declared.spelling.Spelling.TheVariants.{Using, Colon, Semi, Opens, Closes, Dashes, OpensQuotation, ClosesQuotation, True, False, Inline, Recursive, Integer, Name}
 use Rattle.fac_parse.specs.Spellings.{token_spelling, is_value_name, is_semi, is_closing}
 use Rattle.fac_parse.specs.Trees.{plain_token, piece_tokens, items_tokens, mark_tokens, effect_tokens, form_tokens, flatten, token_text, AreNames, AreValueNames, most_levels, MayStand, depth_behind, Lead, most_names, IsEffect, IsForm, IsWellFormed, Reads, Parses}
-use Rattle.fac_parse.specs.Reader.{Step, only_if, no_items, top_step, names_step, colon_step, named_step, inputs_step, is_fit, written, outputs_step, with_piece, piece_step, body_step, quotation_step, part_step, mark_of, defined_form, behind_step, step, unmarked, form_before, next_state, ended_form, last_forms, forms_after, forms_from, Takes}
+use Rattle.fac_parse.specs.inner.Reader.{Step, only_if, no_items, top_step, names_step, colon_step, named_step, inputs_step, is_fit, written, outputs_step, with_piece, piece_step, body_step, quotation_step, part_step, mark_of, defined_form, behind_step, step, unmarked, form_before, next_state, ended_form, last_forms, forms_after, forms_from, Takes}
 use Rattle.fac_parse.proofs.SpellingLemmas.{using_is_using, colon_is_colon, semi_is_semi, opens_is_opens, closes_is_closes, dashes_is_dashes, bracket_is_bracket, end_is_end, t_is_true, f_is_false, inline_is_inline, recursive_is_recursive, sign_token}
 
 -- the tokens of a form that isn't closed

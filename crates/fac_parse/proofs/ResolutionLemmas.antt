@@ -25,7 +25,7 @@ use Rattle.fac_parse.specs.declared.resolver.OpenQuotation.{OpenQuotation}
 use Rattle.fac_parse.specs.declared.resolver.Nest.{Nest}
 use Rattle.fac_parse.specs.declared.resolver.SoFar.{SoFar}
 use Rattle.fac_parse.specs.Resolution.{known_words, found, own_name, is_taken, name_fault, result_map, word_item, item_of, term_place, Following, with_item, opened, closed, following, text_of, defined_word, Contents, with_top_item, with_defined, unless_taken, contents_of, file_contents}
-use Rattle.fac_parse.specs.Resolver.{found_item, term_item, with_new, TakesItem, items_before, enclosed, nested, after_nest, Closes, IsAdded, TakesPiece, ReadsText, after_made, contents_after, defining, IsDefined, DefinitionFails, Defines, TakesQuotation, TakesForm, ReadsForms}
+use Rattle.fac_parse.specs.inner.Resolver.{found_item, term_item, with_new, TakesItem, items_before, enclosed, nested, after_nest, Closes, IsAdded, TakesPiece, ReadsText, after_made, contents_after, defining, IsDefined, DefinitionFails, Defines, TakesQuotation, TakesForm, ReadsForms}
 use Rattle.fac_parse.specs.Trees.{token_text, Lead, IsForm, IsWellFormed}
 
 items_before-push : (items : List PlacedItem) (i : PlacedItem) (t : Text) → items_before items (then (what_item i.what) i.place t) ≡ items_before (items ++ i ∷ []) t

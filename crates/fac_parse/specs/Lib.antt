@@ -1,9 +1,6 @@
 pub mod Spellings
 pub mod Trees
-pub mod Reader
 pub mod Vocabularies
 pub mod Resolution
 pub mod Written
-pub mod KnownNames
-pub mod Resolver
-pub mod PlainEffects
+pub mod inner

@@ -6,7 +6,7 @@ ghost use Rattle.fac_lang.specs.EffectView.{outs_leaving};
 ghost use Rattle.fac_lang.specs.PrimitiveWords.{plain_leaving, written_effect};
 ghost use Rattle.fac_lang.specs.Primitives.{built_primitive_words};
 ghost use Rattle.fac_lang.specs.WrittenWords.{written_word};
-ghost use Rattle.fac_parse.specs.PlainEffects.{plain_input};
+ghost use Rattle.fac_parse.specs.inner.PlainEffects.{plain_input};
 ghost use Rattle.fac_parse.specs.Resolution.{row_word, words_from, known_words, is_star, leaving_of, effect_of, is_inline, is_recursive, defined_word, top_word};
 ghost use Rattle.fac_parse.specs.Trees.{token_text};
 

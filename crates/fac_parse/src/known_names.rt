@@ -1,6 +1,6 @@
 //! The names that are known so far: those of the words that there are before a source is read, and those that it defines.
 ghost use Rattle.std.specs.Prelude.{◌≡◌, ◌++◌, ◌∷◌, [], false, map, slice_get, IfOk, OnOk};
-ghost use Rattle.fac_parse.specs.KnownNames.{with_all, word_names, word_vocabs, is_used, number_used};
+ghost use Rattle.fac_parse.specs.inner.KnownNames.{with_all, word_names, word_vocabs, is_used, number_used};
 ghost use Rattle.fac_parse.specs.Resolution.{known_words, first_names, found, own_name, is_taken};
 
 use crate::text_set::TextSet;
@@ -22,7 +22,7 @@ pub struct KnownNames {
 impl Model for KnownNames {
     ghost use Rattle.std.specs.Prelude.{◌≡◌, ◌+◌, ◌<◌, ◌^◌, List as Items, length};
     ghost use Rattle.fac_lang.specs.declared.program.Name.{Name as FullName};
-    ghost use Rattle.fac_parse.specs.KnownNames.{names_with, word_names, word_vocabs};
+    ghost use Rattle.fac_parse.specs.inner.KnownNames.{names_with, word_names, word_vocabs};
     ghost use Rattle.fac_parse.specs.Resolution.{known_words};
 
     ghost Value = { Items FullName };

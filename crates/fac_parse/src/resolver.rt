@@ -3,7 +3,7 @@ ghost use Rattle.std.specs.Prelude.{◌≡◌, ◌<◌, ◌-◌, ◌++◌, ◌�
 ghost use Rattle.fac_lang.specs.Forms.{IsBuilt};
 ghost use Rattle.fac_lang.specs.Whole.{IsWhole};
 ghost use Rattle.fac_parse.specs.Resolution.{name_fault, defined_word, Resolves};
-ghost use Rattle.fac_parse.specs.Resolver.{Uses, TakesItem, Closes, IsClosable, TakesPiece, AreClosed, ReadsText, TakesQuotation, Defines, TakesForm, IsFirst, ReadsForms, program_with};
+ghost use Rattle.fac_parse.specs.inner.Resolver.{Uses, TakesItem, Closes, IsClosable, TakesPiece, AreClosed, ReadsText, TakesQuotation, Defines, TakesForm, IsFirst, ReadsForms, program_with};
 ghost use Rattle.fac_parse.specs.Trees.{AreItems, most_levels, IsForm, IsWellFormed};
 
 use crate::built_words::{defined, first_words, phrase_word};

@@ -6,7 +6,7 @@ use Rattle.fac_lang.specs.declared.token.Token.{Token}
 use Rattle.fac_token.specs.declared.fault.TokenFault.{TokenFault}
 use Rattle.fac_token.specs.declared.fault.TokenFault.TheVariants.{NotUtf8, OpenString, BadEscape, StuckQuote, Memory}
 use Rattle.fac_token.specs.Pieces.{open_string, bad_escape, stuck_quote}
-use Rattle.fac_token.specs.Scan.{pieces}
+use Rattle.fac_token.specs.inner.Scan.{pieces}
 use Rattle.fac_token.specs.Tokens.{Spells, Tokenizes}
 use Rattle.fac_token.specs.ReadingLaws.{IsNotMemory}
 use Rattle.fac_token.proofs.OneReading.{reading_read, fault_read}

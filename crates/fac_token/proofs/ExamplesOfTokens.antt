@@ -4,7 +4,7 @@ use Rattle.std.specs.Prelude.{codes}
 use Rattle.std.specs.Char.{encode_utf8}
 use Rattle.fac_lang.specs.declared.token.TokKind.TheVariants.{Plain, Str}
 use Rattle.fac_token.specs.Pieces.{StringPart, itself, escape, Piece, white, comment, plain, string, Reading, Fault, open_string, bad_escape, stuck_quote, inside_token, FirstFault}
-use Rattle.fac_token.specs.Scan.{pieces}
+use Rattle.fac_token.specs.inner.Scan.{pieces}
 use Rattle.fac_token.specs.Tokens.{content, kinds, numbered, token_at}
 
 abbrev read : List Piece → Result (List Piece) Fault

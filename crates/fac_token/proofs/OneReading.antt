@@ -3,7 +3,7 @@ use Rattle.std.proofs.Common.{◌≡◌, ℕ, ◌==◌, List, [], ◌∷◌, ◌
 use Rattle.std.specs.List.{list_all}
 use Rattle.std.proofs.lemmas.Grind.{common_steps}
 use Rattle.fac_token.specs.Pieces.{is_white, escaped, is_some, StringPart, itself, escape, Piece, white, comment, plain, string, part_chars, parts_chars, piece_chars, spelled, is_inner, is_bang, has_any, no_break, white_next, break_next, part_fits, piece_fits, all_fit, Reading, Fault, open_string, bad_escape, stuck_quote, GoesWrong, cut, cut_escape, no_escape, inside_token, after_string, FirstFault}
-use Rattle.fac_token.specs.Scan.{Pending, between, in_plain, in_comment, in_string, in_escape, closed, Scan, scan, take_white, take_quote, take_inner, take_char, at_end, scan_from, pieces}
+use Rattle.fac_token.specs.inner.Scan.{Pending, between, in_plain, in_comment, in_string, in_escape, closed, Scan, scan, take_white, take_quote, take_inner, take_char, at_end, scan_from, pieces}
 use Rattle.fac_token.proofs.ScanLemmas.{split_and, same_number, white_no_escape}
 
 abbrev pub state : List Piece → Pending → Scan

@@ -3,7 +3,7 @@ use Rattle.std.proofs.Common.{◌≡◌, ℕ, ◌==◌, List, [], ◌∷◌, ◌
 use Rattle.std.specs.List.{list_all}
 use Rattle.std.proofs.lemmas.Grind.{common_steps}
 use Rattle.fac_token.specs.Pieces.{is_white, escaped, is_some, StringPart, itself, escape, Piece, white, comment, plain, string, part_chars, parts_chars, piece_chars, spelled, is_inner, is_bang, no_break, break_next, is_itself, part_fits, piece_fits, all_fit, Reading, Fault, open_string, bad_escape, cut, cut_escape, no_escape, inside_token, after_string, FirstFault}
-use Rattle.fac_token.specs.Scan.{Pending, between, in_plain, in_comment, in_string, in_escape, closed, Scan, scan, ended, take_white, take_quote, take_inner, take_char, at_end, scan_from, pieces}
+use Rattle.fac_token.specs.inner.Scan.{Pending, between, in_plain, in_comment, in_string, in_escape, closed, Scan, scan, ended, take_white, take_quote, take_inner, take_char, at_end, scan_from, pieces}
 
 pub spelled-append : (ps qs : List Piece) → spelled (ps ++ qs) ≡ spelled ps ++ spelled qs
 spelled-append [] qs = refl

@@ -14,9 +14,9 @@ use Rattle.fac_token.specs.declared.fault.TokenFault.TheVariants.{NotUtf8, OpenS
 use Rattle.fac_token.specs.declared.scanner.Mode.{Mode}
 use Rattle.fac_token.specs.declared.scanner.Mode.TheVariants.{Between, InPlain, InComment, InString, InEscape, Closed}
 use Rattle.fac_token.specs.Pieces.{is_white, escaped, is_some, StringPart, itself, escape, Piece, white, comment, plain, string, parts_chars, spelled, is_bang, Fault, open_string, bad_escape, stuck_quote}
-use Rattle.fac_token.specs.Scan.{Pending, between, in_plain, in_comment, in_string, in_escape, closed, Scan, scan, take_white, take_quote, take_inner, take_char, at_end, scan_from, pieces}
+use Rattle.fac_token.specs.inner.Scan.{Pending, between, in_plain, in_comment, in_string, in_escape, closed, Scan, scan, take_white, take_quote, take_inner, take_char, at_end, scan_from, pieces}
 use Rattle.fac_token.specs.Tokens.{part_content, content, kinds, numbered, token_at, escape_content, Spells, Tokenizes}
-use Rattle.fac_token.specs.Steps.{Held, held, with_token, hold_plain_end, hold_white, hold_quote, hold_escape, hold_inner, hold_char, hold_end, hold_from, Holds, Ends}
+use Rattle.fac_token.specs.inner.Steps.{Held, held, with_token, hold_plain_end, hold_white, hold_quote, hold_escape, hold_inner, hold_char, hold_end, hold_from, Holds, Ends}
 use Rattle.fac_token.proofs.ScanLemmas.{pending_chars, scan_chars, Known, take_known, Answers, pieces_known, bang_is}
 
 -- a step of the code by the two tests of the character

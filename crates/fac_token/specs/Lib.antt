@@ -1,5 +1,4 @@
 pub mod Pieces
-pub mod Scan
 pub mod Tokens
-pub mod Steps
 pub mod ReadingLaws
+pub mod inner

@@ -23,7 +23,7 @@ use Rattle.fac_emit.specs.Carries.{Carries}
 use Rattle.fac_notes.specs.WordNames.{name_or}
 use Rattle.fac_tool.specs.Answer.{meaning}
 use Rattle.fac_tool.specs.Refusals.{refusal_of}
-use Rattle.fac_tool.specs.Stops.{SameNames, Carried, StandsFor, StandsForSafe}
+use Rattle.fac_tool.specs.inner.Stops.{SameNames, Carried, StandsFor, StandsForSafe}
 
 -- each word of a closed program has the name of the word for which it stands
 named_at : (P : Program) (n w k : ℕ) (ds cs : List WordDef) → CloseWords P n ds cs → name_or k (slice_get cs w) ≡ name_or k (slice_get ds w)

@@ -26,9 +26,9 @@ use Rattle.fac_tool.specs.Answer.{no_tokens, no_tree, tree, accepted, answer_on,
 use Rattle.fac_tool.specs.Sources.{token_fault, IsReadAs, EverySource}
 use Rattle.fac_tool.specs.Seen.{SinkSeen, sink_seen, FilesSeen}
 use Rattle.fac_tool.specs.Ends.{EndsAs, runs, work_of}
-use Rattle.fac_tool.specs.Stops.{StandsForSafe}
+use Rattle.fac_tool.specs.inner.Stops.{StandsForSafe}
 use Rattle.fac_tool.specs.Answers.{NoText, LoadGives, Loaded, ReachesBy}
-use Rattle.fac_tool.specs.StepEnds.{bare, reported, fault_ending, EndsEarly, Steps, StepsEnd, ended_by, EndsRead, IsAcceptedText, Accepts}
+use Rattle.fac_tool.specs.inner.StepEnds.{bare, reported, fault_ending, EndsEarly, Steps, StepsEnd, ended_by, EndsRead, IsAcceptedText, Accepts}
 use Rattle.fac_tool.proofs.EarlyEnds.{no_memory, is_refused}
 use Rattle.fac_tool.proofs.SourceLemmas.{accepted_safe}
 

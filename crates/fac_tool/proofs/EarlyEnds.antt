@@ -11,7 +11,7 @@ use Rattle.fac_tool.specs.declared.ended.Ended.{Ended}
 use Rattle.fac_tool.specs.Answer.{Answer, refused, meaning}
 use Rattle.fac_tool.specs.Seen.{SinkSeen, sink_seen}
 use Rattle.fac_tool.specs.Ends.{Ending, Told, ending_of, EndsBy, EndsAs, Work, idle, runs, run_output, StopsWithin, CutShort}
-use Rattle.fac_tool.specs.StepEnds.{bare, reported, EndsEarly}
+use Rattle.fac_tool.specs.inner.StepEnds.{bare, reported, EndsEarly}
 
 -- a run that was not begun
 not_begun : (P : Program) (budget : ℕ) (told : Option (List ℕ)) (m : ℕ) → StopsWithin P budget 0 (sink_seen told told m m)

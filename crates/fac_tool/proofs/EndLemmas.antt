@@ -23,7 +23,7 @@ use Rattle.fac_emit.specs.View.{template_texts, value_view, values_view, error_v
 use Rattle.fac_notes.specs.declared.report.Report.TheVariants as report
 use Rattle.fac_tool.specs.Answer.{Answer, of_run, run_answer, shown, error_report}
 use Rattle.fac_tool.specs.Seen.{sink_seen}
-use Rattle.fac_tool.specs.Stops.{StopsAs, SameNames, value_form, value_text, machine_report}
+use Rattle.fac_tool.specs.inner.Stops.{StopsAs, SameNames, value_form, value_text, machine_report}
 use Rattle.fac_tool.specs.Ends.{Matches}
 
 -- the printed form of a value of the machine, whatever the callables are

@@ -23,7 +23,7 @@ use Rattle.fac_emit.specs.View.{template_texts, values_view}
 use Rattle.fac_tool.specs.Answer.{meaning}
 use Rattle.fac_tool.specs.Seen.{sink_seen}
 use Rattle.fac_tool.specs.Ends.{run_output, StopsWithin}
-use Rattle.fac_tool.specs.Stops.{StopsAs, Carried}
+use Rattle.fac_tool.specs.inner.Stops.{StopsAs, Carried}
 
 -- the same end, with the texts of this program's templates
 abbrev EndsSame : Program → Result → End → Type 0

@@ -6,5 +6,4 @@ pub mod Sources
 pub mod ToldNotes
 pub mod Ends
 pub mod Answers
-pub mod Stops
-pub mod StepEnds
+pub mod inner

@@ -9,8 +9,8 @@ ghost use Rattle.fac_parse.specs.Resolution.{resolved};
 ghost use Rattle.fac_parse.specs.Trees.{IsWellFormed};
 ghost use Rattle.fac_tool.specs.declared.command.Command.{Command as CommandSeen};
 ghost use Rattle.fac_tool.specs.Answer.{on_resolved, on_verdict};
-ghost use Rattle.fac_tool.specs.Stops.{SameNames, StandsFor, StandsForSafe};
-ghost use Rattle.fac_tool.specs.StepEnds.{Accepts, EndsEarly, Steps, StepsOn};
+ghost use Rattle.fac_tool.specs.inner.Stops.{SameNames, StandsFor, StandsForSafe};
+ghost use Rattle.fac_tool.specs.inner.StepEnds.{Accepts, EndsEarly, Steps, StepsOn};
 
 use crate::ended::{bare, reported};
 use crate::reading::read_tree;

@@ -1,6 +1,6 @@
 //! How a call ends.
 ghost use Rattle.std.specs.Prelude.{◌≡◌};
-ghost use Rattle.fac_tool.specs.StepEnds.{bare as bare_ending, reported as reported_ending};
+ghost use Rattle.fac_tool.specs.inner.StepEnds.{bare as bare_ending, reported as reported_ending};
 
 use fac_lang::{List, Text};
 use fac_notes::Report;

@@ -6,8 +6,8 @@ ghost use Rattle.fac_vm.specs.Seen.{callables_in, stack_in};
 ghost use Rattle.fac_tool.specs.Answer.{run_answer, shown_text};
 ghost use Rattle.fac_tool.specs.Ends.{EndsAs, runs, StopsWithin};
 ghost use Rattle.fac_tool.specs.Seen.{sink_seen};
-ghost use Rattle.fac_tool.specs.Stops.{StopsAs, Carried, SameNames, StandsForSafe, value_form, value_text as text_of_value, machine_report};
-ghost use Rattle.fac_tool.specs.StepEnds.{StepsEnd};
+ghost use Rattle.fac_tool.specs.inner.Stops.{StopsAs, Carried, SameNames, StandsForSafe, value_form, value_text as text_of_value, machine_report};
+ghost use Rattle.fac_tool.specs.inner.StepEnds.{StepsEnd};
 
 use crate::ended::{bare, reported};
 use crate::{Ended, Report};

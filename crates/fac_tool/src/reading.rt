@@ -2,7 +2,7 @@
 ghost use Rattle.std.specs.Prelude.{◌≡◌, ◌≤◌};
 ghost use Rattle.fac_tool.specs.Seen.{files_seen};
 ghost use Rattle.fac_notes.specs.declared.report.Report.TheVariants.{Bytes as bytes_report, Syntax as syntax_report};
-ghost use Rattle.fac_tool.specs.StepEnds.{Loads, ReadsTree, fault_ending, reported as reported_ending};
+ghost use Rattle.fac_tool.specs.inner.StepEnds.{Loads, ReadsTree, fault_ending, reported as reported_ending};
 
 use crate::ended::{bare, reported};
 use crate::{ByteFault, Ended, Report, every_text_is_a_source};

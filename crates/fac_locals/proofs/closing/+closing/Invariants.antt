@@ -1,7 +1,7 @@
 use Rattle.std.proofs.Common.{◌≡◌, ◌++◌, length}
 use Rattle.std.specs.Vec.Iter.{into_iter_items, into_iter_len}
 use Rattle.fac_lang.specs.View.{items_text}
-use Rattle.fac_locals.specs.Numbering.{closed_items, text_templates}
+use Rattle.fac_locals.specs.inner.Numbering.{closed_items, text_templates}
 use Rattle.fac_locals.proofs.closing.+closing.Given as goal
 
 abbrev pub decreases-close_text : goal.decreases-close_text

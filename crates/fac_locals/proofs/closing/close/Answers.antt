@@ -1,6 +1,6 @@
 use Rattle.std.proofs.Common.{refl, List, subst}
 use Rattle.fac_lang.specs.declared.program.WordDef.{WordDef}
-use Rattle.fac_locals.specs.Numbering.{WordsClose}
+use Rattle.fac_locals.specs.inner.Numbering.{WordsClose}
 use Rattle.fac_locals.proofs.ClosedPrograms.{closes_program}
 use Rattle.fac_locals.proofs.closing.close.Goals as goal
 

@@ -1,6 +1,6 @@
 use Rattle.std.proofs.Common.{◌≡◌, ◌++◌, length}
 use Rattle.std.specs.Vec.Iter.{into_iter_items, into_iter_len}
-use Rattle.fac_locals.specs.Numbering.{closed_words, words_templates}
+use Rattle.fac_locals.specs.inner.Numbering.{closed_words, words_templates}
 use Rattle.fac_locals.proofs.closing.close_words.Given as goal
 
 abbrev pub invariant-loop-word : goal.invariant-loop-word

@@ -1,5 +1,5 @@
 use Rattle.std.proofs.Common.{◌≡◌, take, map}
-use Rattle.fac_parse.specs.PlainEffects.{plain_input}
+use Rattle.fac_parse.specs.inner.PlainEffects.{plain_input}
 use Rattle.fac_parse.proofs.built_words.inputs.Given as goal
 
 abbrev pub invariant-loop-name : goal.invariant-loop-name

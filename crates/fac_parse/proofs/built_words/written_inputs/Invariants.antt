@@ -1,5 +1,5 @@
 use Rattle.std.proofs.Common.{◌≡◌, take, map}
-use Rattle.fac_parse.specs.PlainEffects.{plain_input}
+use Rattle.fac_parse.specs.inner.PlainEffects.{plain_input}
 use Rattle.fac_parse.specs.Trees.{token_text}
 use Rattle.fac_parse.proofs.built_words.written_inputs.Given as goal
 

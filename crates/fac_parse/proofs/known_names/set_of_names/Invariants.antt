@@ -1,5 +1,5 @@
 use Rattle.std.proofs.Common.{◌≡◌, [], drop}
-use Rattle.fac_parse.specs.KnownNames.{with_all, word_names}
+use Rattle.fac_parse.specs.inner.KnownNames.{with_all, word_names}
 use Rattle.fac_parse.proofs.known_names.set_of_names.Given as goal
 
 abbrev pub invariant-loop-word : goal.invariant-loop-word

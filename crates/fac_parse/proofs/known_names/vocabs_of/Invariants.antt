@@ -1,5 +1,5 @@
 use Rattle.std.proofs.Common.{◌≡◌, take}
-use Rattle.fac_parse.specs.KnownNames.{word_vocabs}
+use Rattle.fac_parse.specs.inner.KnownNames.{word_vocabs}
 use Rattle.fac_parse.proofs.known_names.vocabs_of.Given as goal
 
 abbrev pub invariant-loop-word : goal.invariant-loop-word

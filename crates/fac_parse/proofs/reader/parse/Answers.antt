@@ -3,7 +3,7 @@ use Rattle.std.proofs.lemmas.Grind.{common_steps}
 use Rattle.fac_lang.specs.declared.token.Token.{Token}
 use Rattle.fac_parse.specs.Trees.{Parses, file_of}
 use Rattle.fac_parse.specs.declared.reader.State.TheVariants.{Top}
-use Rattle.fac_parse.specs.Reader.{forms_from}
+use Rattle.fac_parse.specs.inner.Reader.{forms_from}
 use Rattle.fac_parse.proofs.ParseLemmas.{read_is_tree, no_tree, token_fails, token_taken, ends_behind}
 use Rattle.fac_parse.proofs.reader.parse.Goals as goal
 

@@ -1,7 +1,7 @@
 use Rattle.std.proofs.Common.{◌≡◌, ◌++◌, drop}
 use Rattle.std.specs.Option.{option_map}
 use Rattle.fac_parse.specs.declared.reader.State.TheVariants.{Top}
-use Rattle.fac_parse.specs.Reader.{forms_from}
+use Rattle.fac_parse.specs.inner.Reader.{forms_from}
 use Rattle.fac_parse.proofs.reader.parse.Given as goal
 
 abbrev pub invariant-loop-token : goal.invariant-loop-token

@@ -1,6 +1,6 @@
 use Rattle.std.proofs.Common.{◌≡◌, drop}
 use Rattle.fac_parse.specs.Resolution.{following}
-use Rattle.fac_parse.specs.Resolver.{after_nest}
+use Rattle.fac_parse.specs.inner.Resolver.{after_nest}
 use Rattle.fac_parse.proofs.ResolutionLemmas.{Leads}
 use Rattle.fac_parse.proofs.resolver.body_of.Given as goal
 

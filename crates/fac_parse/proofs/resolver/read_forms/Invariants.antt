@@ -1,6 +1,6 @@
 use Rattle.std.proofs.Common.{◌≡◌, [], drop}
 use Rattle.fac_parse.specs.Resolution.{known_words, file_contents}
-use Rattle.fac_parse.specs.Resolver.{after_made, contents_after}
+use Rattle.fac_parse.specs.inner.Resolver.{after_made, contents_after}
 use Rattle.fac_parse.proofs.resolver.read_forms.Given as goal
 
 abbrev pub invariant-loop-form : goal.invariant-loop-form

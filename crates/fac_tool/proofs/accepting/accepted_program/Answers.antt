@@ -3,7 +3,7 @@ use Rattle.fac_check.specs.declared.accepted.Checked.{Checked}
 use Rattle.fac_check.specs.Verdicts.{verdict}
 use Rattle.fac_tool.specs.declared.ended.Ended.{Ended}
 use Rattle.fac_tool.specs.Answer.{on_verdict}
-use Rattle.fac_tool.specs.StepEnds.{Accepts}
+use Rattle.fac_tool.specs.inner.StepEnds.{Accepts}
 use Rattle.fac_tool.proofs.Composing.{passed_on, ends_on_forms, ends_on_program, accepts_checked}
 use Rattle.fac_tool.proofs.accepting.accepted_program.Goals as goal
 

@@ -1,5 +1,5 @@
 use Rattle.std.proofs.Common.{◌≡◌, take, map}
-use Rattle.fac_tool.specs.Stops.{value_text}
+use Rattle.fac_tool.specs.inner.Stops.{value_text}
 use Rattle.fac_tool.proofs.program_run.texts.Given as goal
 
 abbrev pub invariant-loop-value : goal.invariant-loop-value

@@ -19,7 +19,7 @@ use Rattle.fac_tool.specs.Answer.{Answer, Source, tree, answer_on}
 use Rattle.fac_tool.specs.Sources.{IsReadAs}
 use Rattle.fac_tool.specs.Seen.{SinkSeen, sink_seen, FilesSeen}
 use Rattle.fac_tool.specs.Ends.{Work, EndsAs}
-use Rattle.fac_tool.specs.Stops.{StandsForSafe}
+use Rattle.fac_tool.specs.inner.Stops.{StandsForSafe}
 use Rattle.fac_tool.specs.Answers.{NoText, LoadGives}
 
 -- an ending with neither a stack nor a refusal
