@@ -6,7 +6,7 @@ use Rattle.fac_lang.specs.Numbers.{signed_in, integer_in}
 use Rattle.fac_lang.specs.declared.token.TokKind.{TokKind}
 use Rattle.fac_lang.specs.declared.token.TokKind.TheVariants.{Plain, Str}
 use Rattle.fac_parse.specs.declared.spelling.Spelling.{Spelling}
-use Rattle.fac_parse.specs.declared.spelling.Spelling.TheVariants.{Using, Colon, Semi, Opens, Closes, OpensQuotation, ClosesQuotation, True, False, Inline, Recursive, Integer, Name, Other}
+use Rattle.fac_parse.specs.declared.spelling.Spelling.TheVariants.{Using, Colon, Semi, Opens, Closes, OpensQuotation, ClosesQuotation, True, False, Inline, Recursive, Integer, Name, Other, Dashes}
 
 -- a text in one of the integer forms, in range or not
 unfoldable pub has_integer_form : List ℕ → Bool
