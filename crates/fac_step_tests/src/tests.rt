@@ -1,21 +1,20 @@
 //! The steps from a text to what is made of it.
 ghost use Rattle.std.specs.Prelude.{IfOk};
-ghost use Rattle.fac_lang.specs.declared.program.Program.{Program as Source};
-ghost use Rattle.fac_lang.specs.Forms.{IsBuilt};
-ghost use Rattle.fac_locals.specs.Closed.{Closes};
+ghost use Rattle.fac_check.specs.Judged.{StandsForBuilt};
 
 use fac_check::{CheckFault, Rule, check};
 use fac_code::{Action, Image, Instr};
 use fac_emit::compile;
 use fac_lang::Duplicate;
 use fac_locals::{Closed, close};
-use fac_parse::{parse, resolve, tokens};
+use fac_parse::{parse, resolve};
+use fac_token::tokens;
 use std::alloc::Global;
 use std::test::Fail;
 
 // The closed program of a text. Tree and program are copied on the way.
 fn closed_text(alloc: Global, text: &str) -> Result<Closed, Fail>
-    ensures { IfOk result (λ closed. (P : Source) × Closes P closed.program closed.templates × IsBuilt P) }
+    ensures { IfOk result (λ closed. StandsForBuilt closed) }
 {
     let tree = parse(alloc, &tokens(alloc, 1, text.as_bytes())?)?;
     let tree = tree.copy(alloc)?;
@@ -89,7 +88,7 @@ fn nested_quotations_are_compiled(rt: HostRuntime) -> Result<(), Fail> {
         Instr::Ret,
         Instr::True,
         Instr::Callw {
-            word: 30,
+            word: 41,
             tail: false,
         },
         Instr::Quot(4),
