@@ -52,6 +52,11 @@ EXAMPLES = [
     ("USING: kernel math prettyprint ;\n: choose ( ? -- n ) [ 1 2 + ] [ 10 ] if ;\nt choose .\n", 0, 9, "3\n", ""),
     ("USING: math prettyprint ; 1 2 + .", 0, 4, "3\n", ""),
     ("USING: prettyprint ; -0 . 007 . -5 .", 0, 6, "0\n7\n-5\n", ""),
+    ("USING: prettyprint ; 1,000 . 0x2A . -0o17 . 0b101 . 4,2 . -0x0 .", 0, 12, "1000\n42\n-15\n5\n42\n0\n", ""),
+    (f"USING: prettyprint ; 0x{2**127 - 1:x} . -0b1{'0' * 127} .", 0, 4, f"{GREATEST}\n{LEAST}\n", ""),
+    ("! what it is\nUSING: prettyprint ; ! \"a \u00e9 ]\n1 ! 2\n. !", 0, 2, "1\n", ""),
+    ("!\r1\n2 !\n3", 0, 2, "", ""),
+    (": !x ( -- x ) 1 ; : \u00e9! ( -- ) ; : 1,, ( -- ) ; : \u00a0 ( -- ) ; !x \u00e9! 1,, \u00a0", 0, 5, "", ""),
     ("USING: kernel math prettyprint ; 1 2 over swap 3 dup * 4 drop - . . .", 0, 13, "-7\n1\n1\n", ""),
     ("1 USING: prettyprint ; . " + LEAST, 0, 3, "1\n", ""),
     (
@@ -94,6 +99,16 @@ EXAMPLES = [
     ("USING: kernel ; : w ( -- ) " + "1 drop " * 100_000 + ";", 0, 0, "", ""),
     ("USING: kernel ; " + "[ " * 64 + "] call " * 64, 0, 128, "", ""),
     ("USING: kernel ; " + "[ " * 256 + "] " * 256 + "drop", 0, 2, "", ""),
+    ("USING: math prettyprint ; 7 2 /i . -7 2 /i . 7 -2 /i . -7 -2 /i . 1 2 /i .", 0, 20, "3\n-3\n-3\n3\n0\n", ""),
+    ("USING: math prettyprint ; 7 2 mod . -7 2 mod . 7 -2 mod . -7 -2 mod .", 0, 16, "1\n-1\n1\n-1\n", ""),
+    ("USING: math prettyprint ; " + LEAST + " -1 mod .", 0, 4, "0\n", ""),
+    ("USING: math prettyprint ; 5 2 shift . -5 -1 shift . 0 200 shift .", 0, 12, "20\n-3\n0\n", ""),
+    ("USING: math prettyprint ; 5 -200 shift . -5 -200 shift .", 0, 8, "0\n-1\n", ""),
+    ("USING: math prettyprint ; -1 127 shift . 1 126 shift .", 0, 8, LEAST + "\n" + str(2**126) + "\n", ""),
+    ("USING: math prettyprint ; 12 10 bitand . 12 10 bitor . 12 10 bitxor . 12 bitnot .", 0, 15, "8\n14\n6\n-13\n", ""),
+    ("USING: math prettyprint ; -1 5 bitand . -8 5 bitor . -1 5 bitxor .", 0, 12, "5\n-3\n-6\n", ""),
+    ("USING: math prettyprint ; 1 2 < . 2 2 < . 1 2 > . 2 1 > .", 0, 16, "t\nf\nf\nt\n", ""),
+    ("USING: math prettyprint ; 2 2 <= . 3 2 <= . 2 2 >= . 1 2 >= .", 0, 16, "t\nf\nt\nf\n", ""),
     # programs that fail
     ("USING: math ; " + GREATEST + " 1 +", 1, 3, "", "error: overflow in math:+\n"),
     ("USING: math prettyprint ; 7 . " + LEAST + " 1 - 8 .", 1, 5, "7\n", "error: overflow in math:-\n"),
@@ -106,13 +121,24 @@ EXAMPLES = [
     ("USING: kernel ; 1 2 curry", 1, 3, "", "error: wrong-values in kernel:curry: 2\n"),
     ("USING: kernel ; 1 2 compose", 1, 3, "", "error: wrong-values in kernel:compose: 1\n"),
     ("USING: kernel ; [ 1 ] 2 compose", 1, 3, "", "error: wrong-values in kernel:compose: 2\n"),
+    ("USING: math ; 1 0 /i", 1, 3, "", "error: zero-divisor in math:/i\n"),
+    ("USING: math ; 0 0 mod", 1, 3, "", "error: zero-divisor in math:mod\n"),
+    ("USING: math ; t 0 /i", 1, 3, "", "error: not-integer in math:/i: t\n"),
+    ("USING: math ; " + LEAST + " -1 /i", 1, 3, "", "error: overflow in math:/i\n"),
+    ("USING: math ; 1 127 shift", 1, 3, "", "error: overflow in math:shift\n"),
+    ("USING: math ; -1 128 shift", 1, 3, "", "error: overflow in math:shift\n"),
+    ("USING: math ; 1 f <", 1, 3, "", "error: not-integer in math:<: f\n"),
+    ("USING: kernel math ; [ ] bitnot", 1, 2, "", "error: not-integer in math:bitnot: [ ... ]\n"),
     # files that aren't of the grammar
     ("1 ;", 3, 0, "", NOT_EXPECTED),
     ("USING: USING: ; ;", 3, 0, "", NOT_EXPECTED),
     ("170141183460469231731687303715884105728", 3, 0, "", NOT_EXPECTED),
     ("-170141183460469231731687303715884105729", 3, 0, "", NOT_EXPECTED),
-    ("1 \u00e9", 3, 0, "", NOT_EXPECTED),
-    ("1,000", 3, 0, "", NOT_EXPECTED),
+    ("1 -0x80000000000000000000000000000001", 3, 0, "", NOT_EXPECTED),
+    (": 0b1 ( -- ) ;", 3, 0, "", NOT_EXPECTED),
+    ("USING: 1,0 ;", 3, 0, "", NOT_EXPECTED),
+    ('"a ! b"', 3, 0, "", NOT_EXPECTED),
+    ('nothing [ "\\n\\t\\r\\\\\\"" ]', 3, 0, "", NOT_EXPECTED),
     (": w ( -- ) 1", 3, 0, "", NOT_EXPECTED),
     ("[ 1", 3, 0, "", NOT_EXPECTED),
     ("[ 1 ] ]", 3, 0, "", NOT_EXPECTED),
@@ -122,7 +148,21 @@ EXAMPLES = [
     (": w ( x: -- ) ;", 3, 0, "", NOT_EXPECTED),
     (": w : v ( -- ) ; ( -- ) ;", 3, 0, "", NOT_EXPECTED),
     ("[ " * 257 + "] " * 257, 3, 0, "", NOT_EXPECTED),
+    # files without tokens
+    ('a"b', 3, 0, "", "syntax: a byte 1: stuck quote\n"),
+    ('"a"b', 3, 0, "", "syntax: a byte 3: stuck quote\n"),
+    ('!"', 3, 0, "", "syntax: a byte 1: stuck quote\n"),
+    ('; ""! "', 3, 0, "", "syntax: a byte 4: stuck quote\n"),
+    ('\u00e9 "a', 3, 0, "", "syntax: a byte 3: open string\n"),
+    ('1 "a\n"', 3, 0, "", "syntax: a byte 2: open string\n"),
+    ('1 "\\\n"', 3, 0, "", "syntax: a byte 2: open string\n"),
+    ('"\u00e9\\\r"', 3, 0, "", "syntax: a byte 3: bad escape\n"),
+    ('"\\q', 3, 0, "", "syntax: a byte 1: bad escape\n"),
+    ("! \u00e9 \\q \n ] \"\\\u00e9\"", 3, 0, "", "syntax: a byte 13: bad escape\n"),
     # names
+    ("\u00e9 ! a\n1", 4, 0, "", "name: a token 1: unknown \u00e9\n"),
+    ("! 2\n 1 ! 2\n !!x!", 4, 0, "", "name: a token 2: unknown !!x!\n"),
+    ("! dup\n 1 ! 2\n dup", 4, 0, "", "name: a token 2: unknown dup\n"),
     ("1 dup", 4, 0, "", "name: a token 2: unknown dup\n"),
     ("USING: math ; 1 2 foo", 4, 0, "", "name: a token 6: unknown foo\n"),
     ("[ 1 foo ]", 4, 0, "", "name: a token 3: unknown foo\n"),
@@ -181,6 +221,16 @@ EXAMPLES = [
     (" " * 4_194_305, 11, 0, "", "too long: a, more than 4194304 bytes\n"),
 ]
 
+# Files that aren't UTF-8, by the byte that is told.
+EXAMPLES_OF_BYTES = [
+    (b"\xff", 0),
+    (b'"a\n! \xc3\xa9\xc3', 7),
+    (b"1 \xed\xa0\x80", 2),
+    (b"\xc0\x80", 0),
+    (b"\xf0\x9f\x98\x80 \xf0\x9f\x98 1", 5),
+    (b"1 \xf4\x90\x80\x80", 2),
+]
+
 # The same with a budget of so many ticks.
 EXAMPLES_OF_BUDGETS = [
     (3, "USING: math prettyprint ; 1 2 + .", 6, 3, "", "spent: 3 ticks\n"),
@@ -200,6 +250,10 @@ def wrong_examples():
         got = [answer.status, answer.ticks, answer.output, answer.note]
         if got != wanted:
             wrong.append(f"the model answers {got} and not {wanted} to {source[:100]!r}")
+    for source, byte in EXAMPLES_OF_BYTES:
+        note = model.answer(source, "a").note
+        if note != f"syntax: a byte {byte}: not UTF-8\n":
+            wrong.append(f"the model answers {note} and not byte {byte} to {source!r}")
     return wrong
 
 
@@ -208,7 +262,8 @@ def wrong_examples():
 HEAD = "USING: kernel math prettyprint ;"
 
 NUMBERS = [0, 1, 2, 3, -1, 5, 7, 10**9, 2**64, model.GREATEST_INTEGER, model.LEAST_INTEGER]
-OPERATIONS = model.ARITHMETIC + model.LOGIC + [model.WRITE]
+# What computes, and `.` twice, so that more of it is seen.
+OPERATIONS = model.ARITHMETIC + model.LOGIC + [model.WRITE] * 2
 # Those that apply callables and those that make them, the former twice as often.
 CALLABLE_WORDS = [model.CALL, model.DIP, model.IF, model.CURRY, model.COMPOSE, model.IF, model.DIP, model.CALL]
 
@@ -239,8 +294,14 @@ ODD_NAMES = """
     each >>x x>> syntax cond (no-cond) integer object inline: D: ' ` ~ $ % ^ &
     """.split()
 
-# Characters that aren't in any token, alone and in tokens. Each is one byte of the file.
-ODD_BYTES = "\x00 \x01 \x1f \x7f \x80 \xff \xc3\xa9 a\x00b \x1c \xe2\x80\xa8".split(" ") + ["\t", "\x0b", "\x0c", "\r", "\n", " "]
+# Bytes of which tokens seldom are, alone and in tokens, and white space. Each character is one byte of the file. Some are
+# characters of UTF-8, and those of the third line aren't.
+ODD_BYTES = (
+    "\x00 \x01 \x1f \x7f \xc3\xa9 a\x00b \x1c \xe2\x80\xa8 \xc2\xa0 \xc2\x85 \xef\xbb\xbf".split(" ")
+    + "\xf0\x9f\x98\x80 \xc2\xa01 1\xe2\x82\xac".split(" ")
+    + "\x80 \xff \xc3 \xe2\x80 \xc0\x80 \xed\xa0\x80 \xf4\x90\x80\x80 \xc3\xa9\xc3".split(" ")
+    + ["\t", "\x0b", "\x0c", "\r", "\n", " "]
+)
 
 ODD_TOKENS = ODD_INTEGERS + ODD_NAMES + ODD_BYTES + sorted(model.RESERVED)
 
@@ -515,7 +576,7 @@ def guided(chance, slips=0.02, names=None):
 
 def hiding(chance):
     """Aims at names: words of the file that are named as primitive words are, or nearly as integers and reserved tokens."""
-    names = "dup swap call if + . t1 drop dip curry < foo: ..x a:b !x compose not ? 0x - +5".split()
+    names = "dup swap call if + . t1 drop dip curry < foo: ..x a:b !x compose not ? 0x - +5 !! 1,, 0X1 \xc3\xa9".split()
     return guided(chance, 0.03, names)
 
 
@@ -642,6 +703,83 @@ def tokens(chance):
         ]
     )
     return pattern.replace("TOKEN", token).encode("latin-1")
+
+
+# Characters that tell comments, strings, escapes and words apart. A character is one byte or more of the file.
+TELLING = ["\"", "\"", "\\", "!", " ", " ", "\n", "\r", "\t", "n", "q", "a", "1", "]", "\xc3\xa9", "\xe2\x82\xac"]
+
+
+def telling(chance, count):
+    """At most so many of these characters."""
+    return "".join(chance.choice(TELLING) for _ in range(chance.randint(0, count)))
+
+
+def comment(chance):
+    """A comment of any characters to the end of its line. Few only look like one, or have no end."""
+    if happens(chance, 0.03):
+        return chance.choice(["!!", "!x", "!\xc2\xa0", "a!", "-!"])
+    begins = chance.choice(["! ", "! ", "! ", "!\t", "!\r", "\n! ", " ! ", "!\x0b"])
+    return begins + telling(chance, 12).replace("\n", " ") + ("\n" if happens(chance, 0.97) else "")
+
+
+def string(chance):
+    """A string of any characters. Few have a fault."""
+    parts = ["\\n", "\\t", "\\r", "\\\\", '\\"', " ", "!", " ! ", "a", "\t", "\r", "; ", "]", "\xc3\xa9", "\xe2\x82\xac"]
+    if happens(chance, 0.2):
+        parts += ["\\", "\n", '"', "\\q", "\\\n", "\\\xc3\xa9", "\xff", "\\\r"]
+    inside = "".join(chance.choice(parts) for _ in range(chance.randint(0, 6)))
+    return '"' + inside + chance.choice(['"', '"', '"', '"', '"', '"\n', '"\t', '""', '"a', "", '"!'])
+
+
+def with_texts(chance, text, texts):
+    """A text with these texts between its tokens."""
+    tokens = text.split(" ")
+    for inserted in texts:
+        tokens.insert(chance.randrange(len(tokens) + 1), inserted)
+    return " ".join(tokens)
+
+
+def commented(chance):
+    """Aims at comments: programs of other kinds, with comments between their tokens, which count for no place."""
+    text = chance.choice([guided, unguided, running])(chance).decode("latin-1")
+    return with_texts(chance, text, [comment(chance) for _ in range(chance.randint(1, 6))]).encode("latin-1")
+
+
+def faulty(chance):
+    """Aims at files without tokens, and at strings, which stand in no form: strings and telling characters in a short file."""
+    if happens(chance, 0.4):
+        return telling(chance, 12).encode("latin-1")
+    text = chance.choice(["1 2", HEAD + " 1 .", "\xc3\xa9 ! \xc3\xa9\n1", ""])
+    texts = [chance.choice([string, string, comment])(chance) for _ in range(chance.randint(1, 3))]
+    return with_texts(chance, text, texts).encode("latin-1")
+
+
+def integers(chance):
+    """Aims at the forms of integers: integers of any width in any form are printed, and few have a character changed."""
+    texts = []
+    for _ in range(chance.randint(1, 4)):
+        value = near_a_limit(chance) if happens(chance, 0.3) else some_integer(chance)
+        texts.append(written_integer(chance, value))
+    if happens(chance, 0.15):
+        place = chance.randrange(len(texts))
+        at = chance.randrange(len(texts[place]) + 1)
+        changed = chance.choice(",-0189afgAFxXobB+._")
+        texts[place] = texts[place][:at] + changed + texts[place][at + chance.randint(0, 1) :]
+    return source_of(*[f"{text} ." for text in texts])
+
+
+def written_integer(chance, value):
+    """An integer in any of its forms."""
+    sign = "-" if value < 0 or value == 0 and happens(chance, 0.5) else ""
+    zeros = "0" * chance.randint(1, 60) if happens(chance, 0.3) else ""
+    mark, form = chance.choice([("", "d"), ("", "d"), ("0x", "x"), ("0x", "X"), ("0o", "o"), ("0b", "b")])
+    digits = zeros + format(abs(value), form)
+    if not mark and happens(chance, 0.7):
+        share = chance.random()
+        digits = digits[0] + "".join("," * happens(chance, share) + digit for digit in digits[1:])
+    if form == "x" and happens(chance, 0.5):
+        digits = "".join(chance.choice([digit, digit.upper()]) for digit in digits)
+    return sign + mark + digits
 
 
 def nested(chance, text, levels):
@@ -968,23 +1106,39 @@ def wide_effects(chance):
 
 def integers_at_limits(chance):
     """An integer near a power of two or ten, some with zeros in front, and an operation on it."""
-    near = [2**127, 2**127 - 1, -(2**127), 2**63, 2**64, -(2**63), -(2**63) - 1, 2**126, 10**38, 10**39, 2**128]
-    value = chance.choice(near) + chance.randint(-2, 2)
+    value = near_a_limit(chance)
     zeros = "0" * chance.randint(1, 60) if happens(chance, 0.2) else ""
     operand = chance.choice([2, -1, 1, 0, 3, model.LEAST_INTEGER, model.GREATEST_INTEGER, 2**64, -(2**64), 2**63])
-    return source_of(f"{'-' if value < 0 else ''}{zeros}{abs(value)} {operand} {chance.choice('+-*')} .")
+    return source_of(f"{'-' if value < 0 else ''}{zeros}{abs(value)} {operand} {chance.choice(BINARY)} .")
+
+
+# The words of two integers, by their names.
+BINARY = [word.name for word in model.ARITHMETIC if word.inputs == 2]
+
+
+def near_a_limit(chance):
+    """An integer near a power of two or ten, in range or not."""
+    near = [2**127, 2**127 - 1, -(2**127), 2**63, 2**64, -(2**63), -(2**63) - 1, 2**126, 10**38, 10**39, 2**128]
+    return chance.choice(near) + chance.randint(-2, 2)
+
+
+def some_integer(chance):
+    """An integer in range, of any width."""
+    return chance.randint(model.LEAST_INTEGER, model.GREATEST_INTEGER) >> chance.randint(0, 127)
 
 
 def arithmetic(chance):
-    """An operation on two integers of any width."""
-    first, second = [chance.randint(model.LEAST_INTEGER, model.GREATEST_INTEGER) >> chance.randint(0, 127) for _ in range(2)]
-    return source_of(f"{first} dup . {second} dup . {chance.choice('+-*')} .")
+    """An operation on two integers of any width, of which the second is often a small one or a number of bits."""
+    first, second = [some_integer(chance) for _ in range(2)]
+    if happens(chance, 0.4):
+        second = chance.choice([chance.randint(-3, 3), chance.randint(-130, 130)])
+    return source_of(f"{first} dup . {second} dup . {chance.choice(BINARY)} dup . bitnot .")
 
 
 def operands(chance):
     """A few operations on three values of any kind."""
     kinds = ["t", "f", "1", "[ ]", "[ 1 ] [ ] compose", "1 [ ] curry", "-5", "2", "0", "-1", GREATEST]
-    words = "+ - * not and or ? . curry compose throw swap rot dup over .".split()
+    words = [word.name for word in OPERATIONS] + "curry compose throw swap rot dup over .".split()
     values = [chance.choice(kinds) for _ in range(3)]
     return source_of(*values, *[chance.choice(words) for _ in range(chance.randint(1, 5))], ". .")
 
@@ -998,6 +1152,9 @@ KINDS = [
     (mutated, 1),
     (forms, 1),
     (tokens, 1),
+    (commented, 1),
+    (faulty, 1),
+    (integers, 1),
     (chains, 1),
     (large, 4),
     (joins, 1),
@@ -1117,7 +1274,8 @@ def main():
     words = arguments()
     program = speed.built(words.program)
     failed = wrong_examples()
-    print(f"{len(EXAMPLES) + len(EXAMPLES_OF_BUDGETS)} worked examples, of which the model answers {len(failed)} otherwise")
+    examples = len(EXAMPLES) + len(EXAMPLES_OF_BUDGETS) + len(EXAMPLES_OF_BYTES)
+    print(f"{examples} worked examples, of which the model answers {len(failed)} otherwise")
     if failed:
         return speed.finish(failed)
     print(f"{'programs':<16}{'compared':>9}{'left out':>10}  answers")

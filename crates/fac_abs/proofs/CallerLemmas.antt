@@ -1,11 +1,8 @@
 -- What callers cite of marks and stacks.
-use Rattle.std.proofs.Common.{◌≡◌, ℕ, zero, suc, ◌<◌, ◌≤◌, List, [], ◌∷◌, Some, None, option_map, length, drop, slice_get, get_or, refl, sym, ap, ◌∙◌, arith}
-use Rattle.std.proofs.lemmas.Option.{get_or_from_slice_get}
+use Rattle.std.proofs.Common.{◌≡◌, ℕ, zero, suc, ◌<◌, ◌≤◌, List, [], ◌∷◌, Option, Some, None, option_map, length, drop, get_or, refl, sym, ap, ◌∙◌, arith}
 use Rattle.fac_lang.specs.Texts.{Mark, any}
-use Rattle.fac_lang.specs.Primitives.{Moves, moves1, moves2, moves3, Shuffle, s_drop, shuffles}
-use Rattle.fac_abs.specs.InTurn.{heaped, under, needs, moved}
-use Rattle.fac_abs.specs.Keeping.{shuffle_numbered}
-use Rattle.fac_abs.specs.Marks.{popped, piled}
+use Rattle.fac_abs.specs.InTurn.{under, taken, moved}
+use Rattle.fac_abs.specs.Marks.{popped}
 use Rattle.fac_abs.specs.declared.node.Node.{Node}
 use Rattle.fac_abs.specs.Trees.{Naming, trees}
 use Rattle.fac_abs.specs.Seen.{MarksSeen, Grows}
@@ -30,28 +27,17 @@ mark_by_nodes M L m mark e f =
     let there = mark_within M m f.valid in
     record { valid = within_mark L m (omega arith); is = λ N. mark_reads N L m ∙ read_by N M L m e ∙ sym (mark_reads N M m) ∙ f.is N }
 
--- values that are put on others are piled on them
-pub heaped_piled : (xs ms : List Mark) → heaped xs ms ≡ piled xs ms
-heaped_piled [] ms = refl
-heaped_piled (x ∷ xs) ms = heaped_piled xs (x ∷ ms)
-
--- the marks that are taken, the deepest first and on those that were taken before
-abbrev pub taken_of : ℕ → List Mark → List Mark → List Mark
-taken_of zero taken ms = taken
-taken_of (suc n) taken [] = taken
-taken_of (suc n) taken (m ∷ ms) = taken_of n (m ∷ taken) ms
-
 -- what lies under marks is what is left once they are taken
-pub popped_under : (n : ℕ) (taken ms : List Mark) → popped n taken ms ≡ option_map (λ (rest : List Mark). (taken_of n taken ms, rest)) (under n ms)
-popped_under zero taken ms = refl
-popped_under (suc n) taken [] = refl
-popped_under (suc n) taken (m ∷ ms) = popped_under n (m ∷ taken) ms
+pub popped_under : (n : ℕ) (before ms : List Mark) → popped n before ms ≡ option_map (λ (rest : List Mark). (taken n before ms, rest)) (under n ms)
+popped_under zero before ms = refl
+popped_under (suc n) before [] = refl
+popped_under (suc n) before (m ∷ ms) = popped_under n (m ∷ before) ms
 
-pub popped_none : (n : ℕ) (taken ms : List Mark) → under n ms ≡ None → popped n taken ms ≡ None
-popped_none n taken ms e = popped_under n taken ms ∙ ap (option_map (λ (rest : List Mark). (taken_of n taken ms, rest))) e
+pub popped_none : (n : ℕ) (before ms : List Mark) → under n ms ≡ None → popped n before ms ≡ None
+popped_none n before ms e = popped_under n before ms ∙ ap (option_map (λ (rest : List Mark). (taken n before ms, rest))) e
 
-pub popped_some : (n : ℕ) (taken ms rest : List Mark) → under n ms ≡ Some rest → popped n taken ms ≡ Some (taken_of n taken ms, rest)
-popped_some n taken ms rest e = popped_under n taken ms ∙ ap (option_map (λ (r : List Mark). (taken_of n taken ms, r))) e
+pub popped_some : (n : ℕ) (before ms rest : List Mark) → under n ms ≡ Some rest → popped n before ms ≡ Some (taken n before ms, rest)
+popped_some n before ms rest e = popped_under n before ms ∙ ap (option_map (λ (r : List Mark). (taken n before ms, r))) e
 
 module _ {A : Type 0} where
   same_inside : (x y : List A) → Some x ≡ Some y → x ≡ y
@@ -78,18 +64,10 @@ module _ {A : Type 0} where
   under_long (suc n) [] ys e = absurd (cc)
   under_long (suc n) (x ∷ xs) ys e = let ih = under_long n xs ys e in omega arith
 
-  -- a shuffle has too few values
-  pub moved_short : (m : Moves A) (xs : List A) → moved m xs ≡ None → length xs < needs m
-  moved_short (moves1 f) [] e = omega arith
-  moved_short (moves1 f) (x ∷ xs) e = absurd (cc)
-  moved_short (moves2 f) [] e = omega arith
-  moved_short (moves2 f) (y ∷ []) e = omega arith
-  moved_short (moves2 f) (y ∷ x ∷ xs) e = absurd (cc)
-  moved_short (moves3 f) [] e = omega arith
-  moved_short (moves3 f) (z ∷ []) e = omega arith
-  moved_short (moves3 f) (z ∷ y ∷ []) e = omega arith
-  moved_short (moves3 f) (z ∷ y ∷ x ∷ xs) e = absurd (cc)
+  none_under : {B : Type 0} (f : List A → B) (o : Option (List A)) → option_map f o ≡ None → o ≡ None
+  none_under f None e = refl
+  none_under f (Some x) e = absurd (cc)
 
--- the shuffle of a row of the table
-pub shuffle_at : (row : ℕ) (s : Shuffle) → slice_get shuffles row ≡ Some s → shuffle_numbered row ≡ s
-shuffle_at row s e = get_or_from_slice_get shuffles row s s_drop e
+  -- a shuffle has too few values
+  pub moved_short : (d : A) (n : ℕ) (places : List ℕ) (xs : List A) → moved d n places xs ≡ None → length xs < n
+  moved_short d n places xs e = under_short n xs (none_under _ (under n xs) e)

@@ -1,12 +1,11 @@
 -- Small tables of marks and stacks.
 use Rattle.std.proofs.Common.{◌≡◌, ℕ, List, [], ◌∷◌, true, false, Some, None, refl, ap}
 use Rattle.fac_lang.specs.Texts.{end, Literal, Mark, any, lit_mark, cur_mark, com_mark, wrd_mark, par_mark}
-use Rattle.fac_lang.specs.Primitives.{moves, s_rot, s_over}
 use Rattle.fac_abs.specs.declared.cells.Cell.{Cell}
 use Rattle.fac_abs.specs.declared.node.Node.TheVariants.{Any, Lit, Cur, Com}
 use Rattle.fac_abs.specs.InTurn.{under, moved, zeros, joined_numbers, cover_numbers}
 use Rattle.fac_abs.specs.Marks.{mark_eq, curried_mark, composed_mark, cover_marks}
-use Rattle.fac_abs.specs.Stacks.{stacks_of}
+use Rattle.fac_abs.specs.inner.Stacks.{stacks_of}
 use Rattle.fac_abs.specs.Trees.{Naming, depths}
 use Rattle.fac_abs.specs.Seen.{MarksSeen, mark_of, numbers_of, stack_of, is_mark, is_stack}
 
@@ -106,10 +105,20 @@ nothing_lies_under : under {A = ℕ} 2 (7 ∷ []) ≡ None
 nothing_lies_under = refl
 
 -- the third from the top comes to the top
-rotated : moved {A = ℕ} (moves s_rot) (3 ∷ 2 ∷ 1 ∷ 0 ∷ []) ≡ Some (1 ∷ 3 ∷ 2 ∷ 0 ∷ [])
+rotated : moved {A = ℕ} 9 3 (1 ∷ 2 ∷ 0 ∷ []) (3 ∷ 2 ∷ 1 ∷ 0 ∷ []) ≡ Some (1 ∷ 3 ∷ 2 ∷ 0 ∷ [])
 rotated = refl
 
-too_few : moved {A = ℕ} (moves s_over) (1 ∷ []) ≡ None
+-- likewise where a value is put back twice, or none is
+put_back_twice : moved {A = ℕ} 9 2 (0 ∷ 1 ∷ 0 ∷ []) (2 ∷ 1 ∷ 0 ∷ []) ≡ Some (1 ∷ 2 ∷ 1 ∷ 0 ∷ [])
+put_back_twice = refl
+
+none_put_back : moved {A = ℕ} 9 2 [] (2 ∷ 1 ∷ 0 ∷ []) ≡ Some (0 ∷ [])
+none_put_back = refl
+
+no_such_place : moved {A = ℕ} 9 1 (1 ∷ 0 ∷ []) (2 ∷ 1 ∷ []) ≡ Some (2 ∷ 9 ∷ 1 ∷ [])
+no_such_place = refl
+
+too_few : moved {A = ℕ} 9 2 (0 ∷ 1 ∷ 0 ∷ []) (1 ∷ []) ≡ None
 too_few = refl
 
 -- what `curry` makes of no callable is unknown

@@ -1,16 +1,17 @@
 -- Marks move as their numbers do.
-use Rattle.std.proofs.Common.{◌≡◌, ℕ, zero, suc, ◌<◌, ℤ, pos, negsuc, List, [], ◌∷◌, Bool, true, false, ◌&&◌, ◌||◌, cond, nat_lt, nat_eq, Option, Some, None, Result, Ok, Err, IfOk, option_map, length, get_or, map, refl, sym, ap, ◌∙◌, arith, eq-eqb}
+use Rattle.std.proofs.Common.{◌≡◌, ℕ, zero, suc, ◌<◌, ℤ, pos, negsuc, List, [], ◌∷◌, Bool, true, false, ◌&&◌, ◌||◌, cond, nat_lt, nat_eq, Option, Some, None, Result, Ok, Err, IfOk, option_map, length, get_or, slice_get, map, refl, sym, ap, ◌∙◌, arith, eq-eqb}
 use Rattle.std.specs.Str.{bytes_eq}
 use Rattle.std.proofs.lemmas.Bool.{eqb-true}
+use Rattle.std.proofs.lemmas.Option.{slice_get-map}
 use Rattle.std.proofs.lemmas.Slice.Eq.{bytes_eq-Decides}
 use Rattle.std.proofs.Math.ListN.{length-map}
 use Rattle.fac_lang.specs.Codes.{Token, mark_tokens}
 use Rattle.fac_lang.specs.Texts.{Mark, any}
-use Rattle.fac_lang.specs.Primitives.{Moves, moves1, moves2, moves3, moves, Shuffle, s_drop, s_dup, s_swap, s_over, s_pick, s_rot, s_unrot, s_nip, s_dupd, s_swapd, s_2drop, s_2dup, s_3drop, s_3dup, s_2over, s_2nip}
+use Rattle.fac_lang.specs.Procedures.{or_else, picked}
 use Rattle.fac_abs.specs.declared.node.Node.{Node}
-use Rattle.fac_abs.specs.InTurn.{heaped, under, zeros, needs, arranged, moved, joined_number, joined_numbers, cover_numbers}
-use Rattle.fac_abs.specs.Keeping.{IsWhere, Is, Joins, shuffle_numbered}
-use Rattle.fac_abs.specs.Marks.{int_eq, token_eq, tokens_eq, mark_eq, join_mark, join_marks, cover_marks, unknowns}
+use Rattle.fac_abs.specs.InTurn.{under, zeros, taken, moved, joined_number, joined_numbers, cover_numbers}
+use Rattle.fac_abs.specs.inner.Keeping.{IsWhere, Is, Joins}
+use Rattle.fac_abs.specs.Marks.{int_eq, token_eq, tokens_eq, mark_eq, join_mark, join_marks, cover_marks, unknowns, piled}
 use Rattle.fac_abs.specs.Trees.{Naming, IsTable}
 use Rattle.fac_abs.specs.Seen.{mark_of, stack_of, are_below}
 use Rattle.fac_abs.specs.Promises.{IsStackOf, IsStackWhere, IsJoinedWhere}
@@ -56,116 +57,58 @@ under_below k (suc n) (x ∷ xs) ys h e = under_below k n xs ys (and_second (nat
 
 -- Shuffles.
 
-heaped_below : (k : ℕ) (xs ys : List ℕ) → are_below k xs ≡ true → are_below k ys ≡ true → are_below k (heaped xs ys) ≡ true
-heaped_below k [] ys h g = g
-heaped_below k (x ∷ xs) ys h g = heaped_below k xs (x ∷ ys) (and_second (nat_lt x k) _ h) (both (nat_lt x k) _ (and_first (nat_lt x k) _ h) g)
-
 module _ {A B : Type 0} (f : A → B) where
-  pub heaped_map : (xs ys : List A) → heaped (map f xs) (map f ys) ≡ map f (heaped xs ys)
-  heaped_map [] ys = refl
-  heaped_map (x ∷ xs) ys = heaped_map xs (x ∷ ys)
+  piled_map : (xs ys : List A) → piled (map f xs) (map f ys) ≡ map f (piled xs ys)
+  piled_map [] ys = refl
+  piled_map (x ∷ xs) ys = piled_map xs (x ∷ ys)
 
-  -- two ways to move values take as many, and give the same
-  abbrev Alike : Moves A → Moves B → Type 0
-  Alike (moves1 g) (moves1 h) = (x : A) → h (f x) ≡ map f (g x)
-  Alike (moves2 g) (moves2 h) = (x y : A) → h (f x) (f y) ≡ map f (g x y)
-  Alike (moves3 g) (moves3 h) = (x y z : A) → h (f x) (f y) (f z) ≡ map f (g x y z)
-  Alike _ _ = ⊥
+  taken_map : (n : ℕ) (before xs : List A) → taken n (map f before) (map f xs) ≡ map f (taken n before xs)
+  taken_map zero before xs = refl
+  taken_map (suc n) before [] = refl
+  taken_map (suc n) before (x ∷ xs) = taken_map n (x ∷ before) xs
 
-  natural : (m : Moves A) (n : Moves B) → Alike m n → (xs : List A) → moved n (map f xs) ≡ option_map (map f) (moved m xs)
-  natural (moves1 g) (moves1 h) e [] = refl
-  natural (moves1 g) (moves1 h) e (x ∷ xs) = rw (e x) (ap Some (heaped_map (g x) xs))
-  natural (moves2 g) (moves2 h) e [] = refl
-  natural (moves2 g) (moves2 h) e (y ∷ []) = refl
-  natural (moves2 g) (moves2 h) e (y ∷ x ∷ xs) = rw (e x y) (ap Some (heaped_map (g x y) xs))
-  natural (moves3 g) (moves3 h) e [] = refl
-  natural (moves3 g) (moves3 h) e (z ∷ []) = refl
-  natural (moves3 g) (moves3 h) e (z ∷ y ∷ []) = refl
-  natural (moves3 g) (moves3 h) e (z ∷ y ∷ x ∷ xs) = rw (e x y z) (ap Some (heaped_map (g x y z) xs))
-  natural _ _ e xs = absurd e
+  or_else_map : (d : A) (o : Option A) → or_else (f d) (option_map f o) ≡ f (or_else d o)
+  or_else_map d None = refl
+  or_else_map d (Some x) = refl
 
-  alike : (s : Shuffle) → Alike (moves s) (moves s)
-  alike s_drop = λ x. refl
-  alike s_dup = λ x. refl
-  alike s_swap = λ x y. refl
-  alike s_over = λ x y. refl
-  alike s_pick = λ x y z. refl
-  alike s_rot = λ x y z. refl
-  alike s_unrot = λ x y z. refl
-  alike s_nip = λ x y. refl
-  alike s_dupd = λ x y. refl
-  alike s_swapd = λ x y z. refl
-  alike s_2drop = λ x y. refl
-  alike s_2dup = λ x y. refl
-  alike s_3drop = λ x y z. refl
-  alike s_3dup = λ x y z. refl
-  alike s_2over = λ x y z. refl
-  alike s_2nip = λ x y z. refl
+  picked_map : (d : A) (xs : List A) (places : List ℕ) → picked (f d) (map f xs) places ≡ map f (picked d xs places)
+  picked_map d xs [] = refl
+  picked_map d xs (k ∷ places) = rw (slice_get-map f xs k, or_else_map d (slice_get xs k), picked_map d xs places) refl
+
+  put_map : (xs : List A) (o : Option (List A)) → option_map (piled (map f xs)) (option_map (map f) o) ≡ option_map (map f) (option_map (piled xs) o)
+  put_map xs None = refl
+  put_map xs (Some ys) = ap Some (piled_map xs ys)
 
   -- a shuffle moves values of any kind alike
-  pub moved_map : (s : Shuffle) (xs : List A) → moved (moves s) (map f xs) ≡ option_map (map f) (moved (moves s) xs)
-  moved_map s xs = natural (moves s) (moves s) (alike s) xs
-
--- a shuffle takes as many values of any kind
-pub needs_same : (A B : Type 0) (s : Shuffle) → needs (moves {A = A} s) ≡ needs (moves {A = B} s)
-needs_same A B s_drop = refl
-needs_same A B s_dup = refl
-needs_same A B s_swap = refl
-needs_same A B s_over = refl
-needs_same A B s_pick = refl
-needs_same A B s_rot = refl
-needs_same A B s_unrot = refl
-needs_same A B s_nip = refl
-needs_same A B s_dupd = refl
-needs_same A B s_swapd = refl
-needs_same A B s_2drop = refl
-needs_same A B s_2dup = refl
-needs_same A B s_3drop = refl
-needs_same A B s_3dup = refl
-needs_same A B s_2over = refl
-needs_same A B s_2nip = refl
+  pub moved_map : (d : A) (n : ℕ) (places : List ℕ) (xs : List A) → moved (f d) n places (map f xs) ≡ option_map (map f) (moved d n places xs)
+  moved_map d n places xs =
+      rw (taken_map n [] xs, picked_map d (taken n [] xs) places, under_map f n xs) (put_map (picked d (taken n [] xs) places) (under n xs))
 
 module _ (k : ℕ) where
-  arranged_below : (s : Shuffle) (x y z : ℕ) → nat_lt x k ≡ true → nat_lt y k ≡ true → nat_lt z k ≡ true → are_below k (arranged (moves s) x y z) ≡ true
-  arranged_below s_drop x y z f g h = refl
-  arranged_below s_dup x y z f g h = simp h
-  arranged_below s_swap x y z f g h = simp (g, h)
-  arranged_below s_over x y z f g h = simp (g, h)
-  arranged_below s_pick x y z f g h = simp (f, g, h)
-  arranged_below s_rot x y z f g h = simp (f, g, h)
-  arranged_below s_unrot x y z f g h = simp (f, g, h)
-  arranged_below s_nip x y z f g h = simp h
-  arranged_below s_dupd x y z f g h = simp (g, h)
-  arranged_below s_swapd x y z f g h = simp (f, g, h)
-  arranged_below s_2drop x y z f g h = refl
-  arranged_below s_2dup x y z f g h = simp (g, h)
-  arranged_below s_3drop x y z f g h = refl
-  arranged_below s_3dup x y z f g h = simp (f, g, h)
-  arranged_below s_2over x y z f g h = simp (f, g, h)
-  arranged_below s_2nip x y z f g h = simp h
+  piled_below : (xs ys : List ℕ) → are_below k xs ≡ true → are_below k ys ≡ true → are_below k (piled xs ys) ≡ true
+  piled_below [] ys h g = g
+  piled_below (x ∷ xs) ys h g = piled_below xs (x ∷ ys) (and_second (nat_lt x k) _ h) (both (nat_lt x k) _ (and_first (nat_lt x k) _ h) g)
 
-  moves_below : (m : Moves ℕ) (xs ys : List ℕ) → nat_lt 0 k ≡ true → ((x y z : ℕ) → nat_lt x k ≡ true → nat_lt y k ≡ true → nat_lt z k ≡ true → are_below k (arranged m x y z) ≡ true) → are_below k xs ≡ true → moved m xs ≡ Some ys → are_below k ys ≡ true
-  moves_below (moves1 f) [] ys o a h e = absurd (cc)
-  moves_below (moves1 f) (z ∷ xs) ys o a h e =
-      let h1 = and_second (nat_lt z k) _ h in
-      ap (are_below k) (sym (some_same (heaped (f z) xs) ys e)) ∙ heaped_below k (f z) xs (a 0 0 z o o (and_first (nat_lt z k) _ h)) h1
-  moves_below (moves2 f) [] ys o a h e = absurd (cc)
-  moves_below (moves2 f) (z ∷ []) ys o a h e = absurd (cc)
-  moves_below (moves2 f) (z ∷ y ∷ xs) ys o a h e =
-      let h1 = and_second (nat_lt z k) _ h in
-      let h2 = and_second (nat_lt y k) _ h1 in
-      ap (are_below k) (sym (some_same (heaped (f y z) xs) ys e)) ∙ heaped_below k (f y z) xs (a 0 y z o (and_first (nat_lt y k) _ h1) (and_first (nat_lt z k) _ h)) h2
-  moves_below (moves3 f) [] ys o a h e = absurd (cc)
-  moves_below (moves3 f) (z ∷ []) ys o a h e = absurd (cc)
-  moves_below (moves3 f) (z ∷ y ∷ []) ys o a h e = absurd (cc)
-  moves_below (moves3 f) (z ∷ y ∷ x ∷ xs) ys o a h e =
-      let h1 = and_second (nat_lt z k) _ h in
-      let h2 = and_second (nat_lt y k) _ h1 in
-      let h3 = and_second (nat_lt x k) _ h2 in
-      ap (are_below k) (sym (some_same (heaped (f x y z) xs) ys e)) ∙ heaped_below k (f x y z) xs (a x y z (and_first (nat_lt x k) _ h2) (and_first (nat_lt y k) _ h1) (and_first (nat_lt z k) _ h)) h3
+  taken_below : (n : ℕ) (before xs : List ℕ) → are_below k before ≡ true → are_below k xs ≡ true → are_below k (taken n before xs) ≡ true
+  taken_below zero before xs h g = h
+  taken_below (suc n) before [] h g = h
+  taken_below (suc n) before (x ∷ xs) h g = taken_below n (x ∷ before) xs (both (nat_lt x k) _ (and_first (nat_lt x k) _ g) h) (and_second (nat_lt x k) _ g)
 
-  pub moved_below : (s : Shuffle) (xs ys : List ℕ) → nat_lt 0 k ≡ true → are_below k xs ≡ true → moved (moves s) xs ≡ Some ys → are_below k ys ≡ true
-  moved_below s xs ys o h e = moves_below (moves s) xs ys o (arranged_below s) h e
+  one_below : (xs : List ℕ) (j : ℕ) → nat_lt 0 k ≡ true → are_below k xs ≡ true → nat_lt (or_else 0 (slice_get xs j)) k ≡ true
+  one_below [] j o h = o
+  one_below (x ∷ xs) zero o h = and_first (nat_lt x k) _ h
+  one_below (x ∷ xs) (suc j) o h = one_below xs j o (and_second (nat_lt x k) _ h)
+
+  picked_below : (xs places : List ℕ) → nat_lt 0 k ≡ true → are_below k xs ≡ true → are_below k (picked 0 xs places) ≡ true
+  picked_below xs [] o h = refl
+  picked_below xs (j ∷ places) o h = both (nat_lt (or_else 0 (slice_get xs j)) k) _ (one_below xs j o h) (picked_below xs places o h)
+
+  put_below : (xs : List ℕ) (o : Option (List ℕ)) (ys : List ℕ) → are_below k xs ≡ true → ((zs : List ℕ) → o ≡ Some zs → are_below k zs ≡ true) → option_map (piled xs) o ≡ Some ys → are_below k ys ≡ true
+  put_below xs None ys h g e = absurd (cc)
+  put_below xs (Some zs) ys h g e = ap (are_below k) (sym (some_same (piled xs zs) ys e)) ∙ piled_below xs zs h (g zs refl)
+
+  pub moved_below : (n : ℕ) (places xs ys : List ℕ) → nat_lt 0 k ≡ true → are_below k xs ≡ true → moved 0 n places xs ≡ Some ys → are_below k ys ≡ true
+  moved_below n places xs ys o h e = put_below (picked 0 (taken n [] xs) places) (under n xs) ys (picked_below (taken n [] xs) places o (taken_below n [] xs refl h)) (λ zs g. under_below k n xs zs h g) e
 
   -- Marks of nothing known.
   pub zeros_below : (n : ℕ) (xs : List ℕ) → nat_lt 0 k ≡ true → are_below k xs ≡ true → are_below k (zeros n xs) ≡ true
@@ -275,9 +218,14 @@ module _ {E : Type 0} where
   pub unknowns_by : (ns : List Node) (ss ts : List (List ℕ)) (s n : ℕ) (r : Result ℕ E) → IfOk r (λ k. Is ts k (zeros n (get_or ss s []))) → IsTable ns → are_below (length ns) (get_or ss s []) ≡ true → IfOk r (λ k. IsStackOf (seen ns ts) k (λ N. unknowns n (stack_of N (seen ns ss) s)))
   unknowns_by ns ss ts s n r f t low = stack_by ns ss ts (zeros n (get_or ss s [])) (λ N. unknowns n (stack_of N (seen ns ss) s)) (zeros_below (length ns) n (get_or ss s []) (below_is 0 (length ns) t.some) low) (λ N. zeros_map (mark_of N (seen ns ss)) ((first_mark ns ss t).is N) n (get_or ss s []) ∙ ap (unknowns n) (sym (stack_reads N (seen ns ss) s))) r f
 
-  pub shuffle_by : (ns : List Node) (ss ts : List (List ℕ)) (s row : ℕ) (r : Result (Option ℕ) E) → IfOk r (λ o. IsWhere ts o (moved (moves (shuffle_numbered row)) (get_or ss s []))) → IsTable ns → are_below (length ns) (get_or ss s []) ≡ true → IfOk r (λ o. IsStackWhere (seen ns ts) o (λ N. moved (moves (shuffle_numbered row)) (stack_of N (seen ns ss) s)))
-  shuffle_by ns ss ts s row r f t low =
-      where_by ns ss ts (moved (moves (shuffle_numbered row)) (get_or ss s [])) (λ N. moved (moves (shuffle_numbered row)) (stack_of N (seen ns ss) s)) (λ ys e. moved_below (length ns) (shuffle_numbered row) (get_or ss s []) ys (below_is 0 (length ns) t.some) low e) (λ N. ap (moved (moves (shuffle_numbered row))) (stack_reads N (seen ns ss) s) ∙ moved_map (mark_of N (seen ns ss)) (shuffle_numbered row) (get_or ss s [])) r f
+  pub shuffle_by : (ns : List Node) (ss ts : List (List ℕ)) (s n : ℕ) (places : List ℕ) (r : Result (Option ℕ) E) → IfOk r (λ o. IsWhere ts o (moved 0 n places (get_or ss s []))) → IsTable ns → are_below (length ns) (get_or ss s []) ≡ true → IfOk r (λ o. IsStackWhere (seen ns ts) o (λ N. moved any n places (stack_of N (seen ns ss) s)))
+  shuffle_by ns ss ts s n places r f t low =
+      let xs : List ℕ = get_or ss s [] in
+      let same : (N : Naming) → moved any n places (stack_of N (seen ns ss) s) ≡ option_map (map (mark_of N (seen ns ss))) (moved 0 n places xs) =
+      λ N.
+      let g : ℕ → Mark = mark_of N (seen ns ss) in
+      ap (moved any n places) (stack_reads N (seen ns ss) s) ∙ ap (λ (m : Mark). moved m n places (map g xs)) (sym ((first_mark ns ss t).is N)) ∙ moved_map g 0 n places xs in
+      where_by ns ss ts (moved 0 n places xs) (λ N. moved any n places (stack_of N (seen ns ss) s)) (λ ys e. moved_below (length ns) n places xs ys (below_is 0 (length ns) t.some) low e) same r f
 
 module _ (N : Naming) (ns : List Node) (ss : List (List ℕ)) (t : IsTable ns) where
   apart : (x y : ℕ) → x < length ns → y < length ns → mark_of N (seen ns ss) x ≡ mark_of N (seen ns ss) y → x ≡ y

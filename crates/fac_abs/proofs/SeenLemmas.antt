@@ -5,8 +5,8 @@ use Rattle.std.proofs.Math.ListN.{get_or-map}
 use Rattle.fac_lang.specs.Texts.{Mark, any, cur_mark, com_mark}
 use Rattle.fac_abs.specs.declared.node.Node.{Node}
 use Rattle.fac_abs.specs.declared.node.Node.TheVariants.{Any, Lit, Cur, Com, Wrd, Par}
-use Rattle.fac_abs.specs.Interning.{Interns}
-use Rattle.fac_abs.specs.Keeping.{Keeps, Is, Uncovers}
+use Rattle.fac_abs.specs.inner.Interning.{Interns}
+use Rattle.fac_abs.specs.inner.Keeping.{Keeps, Is, Uncovers}
 use Rattle.fac_abs.specs.Marks.{mark_depth}
 use Rattle.fac_abs.specs.Trees.{Naming, tree, trees, depths, HasPartsBelow, IsTable}
 use Rattle.fac_abs.specs.Seen.{MarksSeen, mark_of, numbers_of, stack_of, are_below, is_mark, is_stack, IsMark, IsStack, Grows}

@@ -1,12 +1,13 @@
 -- Stacks that cells make.
-use Rattle.std.proofs.Common.{◌≡◌, ℕ, zero, suc, ◌+◌, ◌-◌, ◌<◌, ◌≤◌, List, [], ◌∷◌, ◌++◌, Bool, true, false, ◌&&◌, ◌||◌, nat_eq, None, length, get_or, map, refl, sym, ap, subst, ◌∙◌, arith, length-append, eq-eqb}
+use Rattle.std.proofs.Common.{◌≡◌, ℕ, zero, suc, ◌+◌, ◌-◌, ◌<◌, ◌≤◌, List, [], ◌∷◌, ◌++◌, Bool, true, false, ◌&&◌, ◌||◌, nat_eq, Some, None, length, drop, get_or, slice_get, map, refl, sym, ap, subst, ◌∙◌, arith, length-append, eq-eqb}
 use Rattle.std.proofs.lemmas.List.{get_or_append_left, get_or-map}
 use Rattle.std.proofs.Math.Seq.{get_or-append_seam}
-use Rattle.fac_lang.specs.Primitives.{s_drop, shuffles}
+use Rattle.fac_lang.specs.Procedures.{or_else, picked}
 use Rattle.fac_abs.specs.declared.cells.Cell.{Cell}
-use Rattle.fac_abs.specs.InTurn.{under, zeros, joined_numbers, cover_numbers}
-use Rattle.fac_abs.specs.Keeping.{Keeps, Is}
-use Rattle.fac_abs.specs.Stacks.{covered, stacks_of, said_height, TellHeights, LiesOnEarlier, LieOnEarlier}
+use Rattle.fac_abs.specs.InTurn.{under, taken, zeros, joined_numbers, cover_numbers}
+use Rattle.fac_abs.specs.inner.Keeping.{Keeps, Is, Going}
+use Rattle.fac_abs.specs.Marks.{piled}
+use Rattle.fac_abs.specs.inner.Stacks.{covered, stacks_of, said_height, TellHeights, LiesOnEarlier, LieOnEarlier}
 use Rattle.fac_abs.proofs.InTurnLemmas.{in_turn_length, in_turn_append, in_turn_early, in_turn_at, fits_push, fits_at}
 
 pub keeps_refl : (ss : List (List ℕ)) → Keeps ss ss
@@ -125,5 +126,60 @@ covers_same (x ∷ xs) = rw (eq-eqb x x refl) (either (nat_eq x 0) (covers_same 
     either true e = e
     either false e = e
 
-pub shuffle_past : (row : ℕ) → 16 ≤ row → get_or shuffles row s_drop ≡ s_drop
-shuffle_past row h = grind arith
+-- What a shuffle takes.
+
+pub below_some : (n : ℕ) (xs ys zs : List ℕ) (m : ℕ) → under n xs ≡ Some ys → ys ≡ m ∷ zs → m ≡ get_or xs n 0
+below_some zero xs ys zs m e f = (let g : xs ≡ m ∷ zs = cc in rw g refl)
+below_some (suc n) [] ys zs m e f = absurd (cc)
+below_some (suc n) (x ∷ xs) ys zs m e f = below_some n xs ys zs m e f
+
+pub below_empty : (n : ℕ) (xs ys : List ℕ) → under n xs ≡ Some ys → ys ≡ [] → 0 ≡ get_or xs n 0
+below_empty zero xs ys e f = (let g : xs ≡ [] = cc in rw g refl)
+below_empty (suc n) [] ys e f = refl
+below_empty (suc n) (x ∷ xs) ys e f = below_empty n xs ys e f
+
+pub below_none : (n : ℕ) (xs : List ℕ) → under n xs ≡ None → 0 ≡ get_or xs n 0
+below_none zero xs e = absurd (cc)
+below_none (suc n) [] e = refl
+below_none (suc n) (x ∷ xs) e = below_none n xs e
+
+-- what was taken before lies behind the first n
+taken_behind : (n : ℕ) (before xs : List ℕ) (j k : ℕ) → n ≤ length xs → k ≡ n + j → slice_get (taken n before xs) k ≡ slice_get before j
+taken_behind zero before xs j k h e = (let same : k ≡ j = omega (arith, e) in ap (λ (i : ℕ). slice_get before i) same)
+taken_behind (suc n) before [] j k h e = absurd (omega (arith, h))
+taken_behind (suc n) before (x ∷ xs) j k h e = taken_behind n (x ∷ before) xs (suc j) k (omega (arith, h)) (omega (arith, e))
+
+taken_within : (n : ℕ) (before xs : List ℕ) (j k : ℕ) → n ≤ length xs → k + suc j ≡ n → or_else 0 (slice_get (taken n before xs) k) ≡ get_or xs j 0
+taken_within zero before xs j k h e = absurd (omega (arith, e))
+taken_within (suc n) before [] j k h e = absurd (omega (arith, h))
+taken_within (suc n) before (x ∷ xs) zero k h e = ap (or_else 0) (taken_behind n (x ∷ before) xs 0 k (omega (arith, h)) (omega (arith, e)))
+taken_within (suc n) before (x ∷ xs) (suc j) k h e = taken_within n (x ∷ before) xs j k (omega (arith, h)) (omega (arith, e))
+
+-- the value at a place of the first n is that below so many
+pub place_within : (n k : ℕ) (xs : List ℕ) → n ≤ length xs → k < n → get_or xs (n - 1 - k) 0 ≡ or_else 0 (slice_get (taken n [] xs) k)
+place_within n k xs h l = sym (taken_within n [] xs (n - 1 - k) k h (omega (arith, l)))
+
+-- and no other place has one
+pub place_past : (n k : ℕ) (xs : List ℕ) → n ≤ length xs → n ≤ k → 0 ≡ or_else 0 (slice_get (taken n [] xs) k)
+place_past n k xs h l = sym (ap (or_else 0) (taken_behind n [] xs (k - n) k h (omega (arith, l))))
+
+-- what a shuffle takes is there, also once some is put back
+pub still_enough : (before now : List (List ℕ)) (stack n : ℕ) (ys : List ℕ) → Keeps before now → stack < length before → under n (get_or before stack []) ≡ Some ys → n ≤ length (get_or now stack [])
+still_enough before now stack n ys k h e = rw (k.same stack h) (enough n (get_or before stack []) ys e)
+  where
+    enough : (m : ℕ) (xs zs : List ℕ) → under m xs ≡ Some zs → m ≤ length xs
+    enough zero xs zs e = omega arith
+    enough (suc m) [] zs e = absurd (cc)
+    enough (suc m) (x ∷ xs) zs e = (let more = enough m xs zs e in omega arith)
+
+-- one value is put back
+pub shuffle_step : (before now after : List (List ℕ)) (stack top next n mark place i : ℕ) (places wanted : List ℕ) → stack < length before → Going before now top (piled (picked 0 (taken n [] (get_or before stack [])) (drop i places)) (get_or now top [])) wanted → drop i places ≡ place ∷ drop (i + 1) places → mark ≡ or_else 0 (slice_get (taken n [] (get_or now stack [])) place) → Keeps now after → Is after next (mark ∷ get_or now top []) → Going before after next (piled (picked 0 (taken n [] (get_or before stack [])) (drop (i + 1) places)) (get_or after next [])) wanted
+shuffle_step before now after stack top next n mark place i places wanted h g e m k is =
+    let row : List ℕ = taken n [] (get_or before stack []) in
+    let rest : List ℕ = picked 0 row (drop (i + 1) places) in
+    let same : mark ≡ or_else 0 (slice_get row place) = m ∙ ap (λ (xs : List ℕ). or_else 0 (slice_get (taken n [] xs) place)) (g.keeps.same stack h) in
+    record {
+      keeps = keeps_trans before now after g.keeps k;
+      within = is.within;
+      same = ap (piled rest) is.marks_are ∙ ap (λ (j : ℕ). piled rest (j ∷ get_or now top [])) same ∙ ap (λ (ks : List ℕ). piled (picked 0 row ks) (get_or now top [])) (sym e) ∙ g.same;
+    }

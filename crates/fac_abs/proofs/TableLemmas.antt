@@ -5,7 +5,7 @@ use Rattle.std.proofs.Math.Seq.{get_or-append_seam}
 use Rattle.std.specs.Map.{keys_of, values_of}
 use Rattle.fac_abs.specs.declared.node.Node.{Node}
 use Rattle.fac_abs.specs.declared.node.Node.TheVariants.{Any}
-use Rattle.fac_abs.specs.Interning.{Numbers, there, added, Interns}
+use Rattle.fac_abs.specs.inner.Interning.{Numbers, there, added, Interns}
 use Rattle.fac_abs.specs.Trees.{node_depth, depths, HasPartsBelow, IsTable}
 use Rattle.fac_abs.proofs.InTurnLemmas.{in_turn_append, fits_push}
 use Rattle.fac_abs.proofs.StackLemmas.{map_push}

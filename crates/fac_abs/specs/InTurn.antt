@@ -1,6 +1,8 @@
 -- Lists that are made from left to right.
 use Rattle.std.specs.Prelude.{ℕ, zero, suc, List, [], ◌∷◌, ◌++◌, Bool, true, false, ◌&&◌, ◌||◌, Option, Some, None, cond, nat_eq}
-use Rattle.fac_lang.specs.Primitives.{Moves, moves1, moves2, moves3}
+use Rattle.std.specs.Option.{option_map}
+use Rattle.fac_lang.specs.Procedures.{picked}
+use Rattle.fac_abs.specs.Marks.{piled}
 
 -- Each element of a list makes one value from the values before it.
 module _ {A B : Type 0} (step : List B → A → B) where
@@ -15,40 +17,21 @@ module _ {A : Type 0} (ok : ℕ → A → Type 0) where
   FitsInTurn k (a ∷ more) = ok k a × FitsInTurn (suc k) more
 
 module _ {A : Type 0} where
-  -- values put on others: the last of the first list becomes the top
-  abbrev pub heaped : List A → List A → List A
-  heaped [] xs = xs
-  heaped (x ∷ more) xs = heaped more (x ∷ xs)
-
   -- what lies under the first n values
   abbrev pub under : ℕ → List A → Option (List A)
   under zero xs = Some xs
   under (suc n) [] = None
   under (suc n) (x ∷ xs) = under n xs
 
-  -- how many values a shuffle takes
-  abbrev pub needs : Moves A → ℕ
-  needs (moves1 f) = 1
-  needs (moves2 f) = 2
-  needs (moves3 f) = 3
+  -- the first n values, the last of them first, on those that were taken before
+  abbrev pub taken : ℕ → List A → List A → List A
+  taken zero before xs = before
+  taken (suc n) before [] = before
+  taken (suc n) before (x ∷ xs) = taken n (x ∷ before) xs
 
-  -- what a shuffle leaves of the values that it takes, of which the last was the top
-  abbrev pub arranged : Moves A → A → A → A → List A
-  arranged (moves1 f) x y z = f z
-  arranged (moves2 f) x y z = f y z
-  arranged (moves3 f) x y z = f x y z
-
-  -- the values after a shuffle, where there are enough
-  abbrev pub moved : Moves A → List A → Option (List A)
-  moved (moves1 f) [] = None
-  moved (moves1 f) (x ∷ xs) = Some (heaped (f x) xs)
-  moved (moves2 f) [] = None
-  moved (moves2 f) (y ∷ []) = None
-  moved (moves2 f) (y ∷ x ∷ xs) = Some (heaped (f x y) xs)
-  moved (moves3 f) [] = None
-  moved (moves3 f) (z ∷ []) = None
-  moved (moves3 f) (z ∷ y ∷ []) = None
-  moved (moves3 f) (z ∷ y ∷ x ∷ xs) = Some (heaped (f x y z) xs)
+  -- The first n values are taken, and those of them at these places put back, the last on top; the deepest that was taken is at place 0. None where there are fewer values.
+  abbrev pub moved : A → ℕ → List ℕ → List A → Option (List A)
+  moved d n places xs = option_map (piled (picked d (taken n [] xs) places)) (under n xs)
 
 -- n times the number 0 on others
 abbrev pub zeros : ℕ → List ℕ → List ℕ

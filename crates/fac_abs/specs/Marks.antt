@@ -1,4 +1,4 @@
--- What the checker knows of a value and of a stack, and the rules that it tests.
+-- What the checker knows of a value and of a stack.
 use Rattle.std.specs.Prelude.{ℕ, zero, suc, max, ℤ, pos, negsuc, List, [], ◌∷◌, Bool, true, false, ◌&&◌, ◌||◌, nat_eq, nat_le, Option, Some, None}
 use Rattle.std.specs.Str.{bytes_eq}
 use Rattle.fac_lang.specs.Texts.{Text, end, then, Item, quot, fry, known, Mark, any, lit_mark, cur_mark, com_mark, wrd_mark, par_mark}
@@ -13,35 +13,6 @@ pub data Row : Type 0 where
 pub data AbstractStack : Type 0 where
   dead : AbstractStack
   on : Option Row → List Mark → AbstractStack
-
--- The rules that a word can break, with their numbers.
-pub data Rule : Type 0 where
-  -- an item needs more values than stand on the base: how many it needs, and how many there are
-  underflow : ℕ → ℕ → Rule
-  -- a callable or a word has another mark than the item needs
-  not_known : Rule
-  -- `boa` on a known word that is no tuple class
-  not_a_class : Rule
-  -- both branches of `if` return, with other lengths or bases: the two lengths
-  branches : ℕ → ℕ → Rule
-  -- the own recursive call has another mark in place k than the word's input k: k
-  recursive_input : ℕ → Rule
-  -- a row isn't what it has to be: the number of the input, 0 for the own recursive call, and the lengths expected and found
-  rows : ℕ → ℕ → ℕ → Rule
-  -- an inline word's text leads back to it, otherwise than directly in a word marked `recursive`
-  undeclared_recursion : Rule
-  -- a word with a row variable isn't inline, or its rows can't be bound
-  row_declaration : Rule
-  -- a generic has no input, a row variable or an input with an effect; or `call-next-method` stands outside a method
-  method_effect : Rule
-  -- one nested application too many is entered
-  too_deep : Rule
-  -- one item too many is walked
-  too_large : Rule
-  -- a word leaves another base or number of values than declared: how many are declared, and how many found
-  outputs : ℕ → ℕ → Rule
-  -- a word that is declared never to return can return
-  must_return : Rule
 
 -- equality of integers
 abbrev pub int_eq : ℤ → ℤ → Bool
@@ -146,13 +117,14 @@ abbrev pub unknowns : ℕ → List Mark → List Mark
 unknowns zero ms = ms
 unknowns (suc n) ms = any ∷ unknowns n ms
 
--- the first n marks, the deepest first and on those that were taken before, and the rest
-abbrev pub popped : ℕ → List Mark → List Mark → Option (List Mark × List Mark)
-popped zero taken ms = Some (taken, ms)
-popped (suc n) taken [] = None
-popped (suc n) taken (m ∷ ms) = popped n (m ∷ taken) ms
+module _ {A : Type 0} where
+  -- the first n of a stack, the deepest first and on those that were taken before, and the rest
+  abbrev pub popped : ℕ → List A → List A → Option (List A × List A)
+  popped zero taken xs = Some (taken, xs)
+  popped (suc n) taken [] = None
+  popped (suc n) taken (x ∷ xs) = popped n (x ∷ taken) xs
 
--- marks put on others: the last of the first list becomes the top
-abbrev pub piled : List Mark → List Mark → List Mark
-piled [] ms = ms
-piled (m ∷ taken) ms = piled taken (m ∷ ms)
+  -- values put on others: the last of the first list becomes the top
+  abbrev pub piled : List A → List A → List A
+  piled [] xs = xs
+  piled (x ∷ more) xs = piled more (x ∷ xs)

@@ -46,3 +46,7 @@ pub record Grows (M L : MarksSeen) : Type 0 where
   pub stacks : (s : ℕ) → IsStack M s → IsStack L s
   pub same_mark : (N : Naming) (m : ℕ) → IsMark M m → mark_of N L m ≡ mark_of N M m
   pub same_stack : (N : Naming) (s : ℕ) → IsStack M s → stack_of N L s ≡ stack_of N M s
+
+-- two numbers of one mark are one number
+abbrev pub NumbersAreMarks : MarksSeen → Type 0
+NumbersAreMarks M = (N : Naming) (m n : ℕ) → IsMark M m → IsMark M n → mark_of N M m ≡ mark_of N M n → m ≡ n

@@ -1,9 +1,8 @@
 //! Stacks of marks, which share what lies below.
-ghost use Rattle.std.specs.Prelude.{◌≡◌, ◌∷◌, ◌++◌, ◌<◌, ◌&&◌, ◌||◌, ℕ, [], length, get_or, map, nat_eq, Some, None, IfOk, OnErr};
-ghost use Rattle.fac_lang.specs.Primitives.{moves};
-ghost use Rattle.fac_lang.specs.Texts.{Mark};
-ghost use Rattle.fac_abs.specs.InTurn.{heaped, under, zeros, needs, arranged, moved, joined_number, joined_numbers, cover_numbers};
-ghost use Rattle.fac_abs.specs.Keeping.{Keeps, Is, Uncovers, IsWhere, Joins, shuffle_numbered};
+ghost use Rattle.std.specs.Prelude.{◌≡◌, ◌∷◌, ◌++◌, ◌<◌, ◌≤◌, ◌&&◌, ◌||◌, [], length, get_or, slice_get, map, nat_eq, Some, None, IfOk, OnErr};
+ghost use Rattle.fac_lang.specs.Procedures.{or_else};
+ghost use Rattle.fac_abs.specs.InTurn.{under, zeros, taken, moved, joined_number, joined_numbers, cover_numbers};
+ghost use Rattle.fac_abs.specs.inner.Keeping.{Keeps, Is, Uncovers, IsWhere, Joins};
 
 use fac_lang::Memory;
 use std::alloc::Global;
@@ -29,7 +28,7 @@ impl Model for Cells {
 
     ghost Value = { List (List ℕ) };
 
-    ghost use Rattle.fac_abs.specs.Stacks.{stacks_of, TellHeights, LieOnEarlier};
+    ghost use Rattle.fac_abs.specs.inner.Stacks.{stacks_of, TellHeights, LieOnEarlier};
 
     ghost view = { λ a. stacks_of a.cells.items };
 
@@ -101,21 +100,8 @@ impl Cells {
         Ok(count as u32 + 1)
     }
 
-    /// A stack with marks on another: the last of them becomes the top. Want of memory can come after some of them.
-    pub fn pile(&mut self, below: u32, marks: &[u32]) -> Result<u32, Memory>
-        requires { below < length self.old }
-        ensures keeps { Keeps self.old self.new }
-        ensures made { IfOk result (λ r. Is self.new r (heaped marks.now (get_or self.old below []))) }
-    {
-        let mut stack = below;
-        for mark in marks {
-            stack = self.push(stack, *mark)?;
-        }
-        Ok(stack)
-    }
-
     /// A stack with so many marks 0 on another.
-    pub fn zeros(&mut self, below: u32, count: u32) -> Result<u32, Memory>
+    pub fn zeros(&mut self, below: u32, count: u64) -> Result<u32, Memory>
         requires { below < length self.old }
         ensures keeps { Keeps self.old self.new }
         ensures made { IfOk result (λ r. Is self.new r (zeros count (get_or self.old below []))) }
@@ -146,56 +132,48 @@ impl Cells {
         Some(rest)
     }
 
-    // The marks of a shuffle's row on a stack, from those that it took: `x` is the deepest of three, and `z` was the top.
-    fn arrange(&mut self, row: u32, below: u32, x: u32, y: u32, z: u32) -> Result<u32, Memory>
-        requires { below < length self.old }
-        ensures keeps { Keeps self.old self.new }
-        ensures made { IfOk result (λ r. Is self.new r (heaped (arranged (moves (shuffle_numbered row)) x y z) (get_or self.old below []))) }
+    // The mark below so many others, or 0 where there are fewer.
+    fn mark_below(&self, stack: u32, count: u32) -> u32
+        requires { stack < length self.now }
+        ensures { result ≡ get_or (get_or self.now stack []) count 0 }
     {
-        match row {
-            1 => self.pile(below, &[z, z]),
-            2 => self.pile(below, &[z, y]),
-            3 => self.pile(below, &[y, z, y]),
-            4 => self.pile(below, &[x, y, z, x]),
-            5 => self.pile(below, &[y, z, x]),
-            6 => self.pile(below, &[z, x, y]),
-            7 => self.pile(below, &[z]),
-            8 => self.pile(below, &[y, y, z]),
-            9 => self.pile(below, &[y, x, z]),
-            10 => Ok(below),
-            11 => self.pile(below, &[y, z, y, z]),
-            12 => Ok(below),
-            13 => self.pile(below, &[x, y, z, x, y, z]),
-            14 => self.pile(below, &[x, y, z, x, y]),
-            15 => self.pile(below, &[z]),
-            _ => Ok(below),
+        let Some(rest) = self.under(stack, count) else {
+            return 0;
+        };
+        match self.pop(rest) {
+            Some((mark, _)) => mark,
+            None => 0,
         }
     }
 
-    /// The stack after the shuffle with this number, where a number past the last is that of `drop`. None where there are fewer marks than it
-    /// takes. Want of memory can come after some marks are there.
-    pub fn shuffle(&mut self, stack: u32, row: u32) -> Result<Option<u32>, Memory>
+    // The mark at a place of the `takes` that lie on top, of which the deepest is at place 0; or 0 where no such place is.
+    fn mark_at(&self, stack: u32, takes: u32, place: u32) -> u32
+        requires stack { stack < length self.now }
+        requires takes { takes ≤ length (get_or self.now stack []) }
+        ensures { result ≡ or_else 0 (slice_get (taken takes [] (get_or self.now stack [])) place) }
+    {
+        if place >= takes {
+            return 0;
+        }
+        self.mark_below(stack, takes - 1 - place)
+    }
+
+    /// The stack after `takes` marks are taken and those at the places `leaves` put back, the last on top; the deepest that was taken is at place
+    /// 0. None where there are fewer marks. It takes no memory but for the marks that it puts back. Want of memory can come after some of them.
+    pub fn shuffle(&mut self, stack: u32, takes: u32, leaves: &[u32]) -> Result<Option<u32>, Memory>
         requires { stack < length self.old }
         ensures keeps { Keeps self.old self.new }
-        ensures made { IfOk result (λ o. IsWhere self.new o (moved (moves (shuffle_numbered row)) (get_or self.old stack []))) }
+        ensures made { IfOk result (λ o. IsWhere self.new o (moved 0 takes leaves.now (get_or self.old stack []))) }
     {
-        let count = needed(row);
-        let Some((z, under_one)) = self.pop(stack) else {
+        let Some(below) = self.under(stack, takes) else {
             return Ok(None);
         };
-        if count == 1 {
-            return Ok(Some(self.arrange(row, under_one, 0, 0, z)?));
+        let mut top = below;
+        for place in leaves {
+            let mark = self.mark_at(stack, takes, *place);
+            top = self.push(top, mark)?;
         }
-        let Some((y, under_two)) = self.pop(under_one) else {
-            return Ok(None);
-        };
-        if count == 2 {
-            return Ok(Some(self.arrange(row, under_two, 0, y, z)?));
-        }
-        let Some((x, under_three)) = self.pop(under_two) else {
-            return Ok(None);
-        };
-        Ok(Some(self.arrange(row, under_three, x, y, z)?))
+        Ok(Some(top))
     }
 
     // Walks down two stacks of one height to what they share: the joined marks above it, the top first, and the stack that is shared.
@@ -286,25 +264,6 @@ impl Cells {
         }
         self.covers_above(bound, got)
     }
-}
-
-// How many values the shuffle with this number takes.
-fn needed(row: u32) -> u32
-    ensures { result ≡ needs (moves {A = ℕ} (shuffle_numbered row)) }
-{
-    match row {
-        0 | 1 => 1,
-        2 | 3 | 7 | 8 | 10 | 11 => 2,
-        4 | 5 | 6 | 9 | 12 | 13 | 14 | 15 => 3,
-        _ => 1,
-    }
-}
-
-/// How many values the shuffle with this number takes, where a number past the last is that of `drop`.
-pub fn shuffle_needs(row: u32) -> u32
-    ensures { result ≡ needs (moves {A = Mark} (shuffle_numbered row)) }
-{
-    needed(row)
 }
 
 // A number that two agree on, else 0.

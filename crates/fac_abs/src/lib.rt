@@ -1,11 +1,12 @@
-//! What the checker knows of values and stacks.
+//! What the checker knows of values and stacks, and the rules that it tests.
 #![tactic(auto)]
 
 mod cells;
 mod node;
 mod nodes;
+mod rule;
 mod table;
 
-pub use cells::shuffle_needs;
 pub use node::Node;
+pub use rule::Rule;
 pub use table::Marks;

@@ -3,7 +3,7 @@ ghost use Rattle.std.specs.Prelude.{◌≡◌, ◌<◌, ◌^◌, ◌++◌, ◌�
 ghost use Rattle.indexmap.specs.IndexMap.{keys, values};
 ghost use Rattle.fac_abs.specs.declared.node.Node.TheVariants.{Any};
 ghost use Rattle.fac_abs.specs.Trees.{node_depth, depths, HasPartsBelow, IsTable};
-ghost use Rattle.fac_abs.specs.Interning.{Numbers, Interns};
+ghost use Rattle.fac_abs.specs.inner.Interning.{Numbers, Interns};
 
 use crate::Node;
 use fac_lang::Memory;

@@ -1,12 +1,10 @@
 //! Marks and stacks of marks, each by a number.
 ghost use Rattle.std.specs.Prelude.{◌≡◌, ◌∷◌, ◌<◌, ◌&&◌, [], length, get_or, map, nat_eq, Some, None, IfOk, OnOk, OnErr};
 ghost use Rattle.fac_lang.specs.Texts.{any, lit_mark, wrd_mark, par_mark};
-ghost use Rattle.fac_lang.specs.Primitives.{moves};
 ghost use Rattle.fac_abs.specs.InTurn.{under, moved};
-ghost use Rattle.fac_abs.specs.Keeping.{shuffle_numbered};
 ghost use Rattle.fac_abs.specs.Marks.{mark_eq, mark_depth, is_callable, curried_mark, composed_mark, cover_marks, unknowns};
 ghost use Rattle.fac_abs.specs.Trees.{Naming, tree, trees, node_depth, depths, HasPartsBelow};
-ghost use Rattle.fac_abs.specs.Seen.{mark_of, stack_of, IsMark, IsStack, Grows};
+ghost use Rattle.fac_abs.specs.Seen.{mark_of, stack_of, IsMark, IsStack, Grows, NumbersAreMarks};
 ghost use Rattle.fac_abs.specs.Promises.{IsMarkOf, IsStackOf, IsStackWhere, IsNodeOf, HasTopWhere, IsJoinedWhere};
 
 use crate::Node;
@@ -137,6 +135,13 @@ impl Marks {
         a == b
     }
 
+    /// A law: what has one mark has one number. That equal numbers are equal marks goes without saying.
+    pub fn numbers_are_marks(&self)
+        ensures { NumbersAreMarks self.now }
+    {
+        let _first = self.nodes.first();
+    }
+
     /// The mark of what `curry` makes of a value with the mark `mark` and a callable with the mark `callable`. Where `callable` doesn't stand for
     /// callables alone, or the mark would be deeper than 64, nothing is known.
     pub fn curried(&mut self, mark: u32, callable: u32) -> Result<u32, Memory>
@@ -216,7 +221,7 @@ impl Marks {
     }
 
     /// A stack with `count` more values of which nothing is known. Want of memory can come after some of them.
-    pub fn unknowns(&mut self, stack: u32, count: u32) -> Result<u32, Memory>
+    pub fn unknowns(&mut self, stack: u32, count: u64) -> Result<u32, Memory>
         requires { IsStack self.old stack }
         ensures grows { Grows self.old self.new }
         ensures made { IfOk result (λ r. IsStackOf self.new r (λ N. unknowns count (stack_of N self.old stack))) }
@@ -225,15 +230,16 @@ impl Marks {
         self.cells.zeros(stack, count)
     }
 
-    /// The stack after the shuffle with the number `row`, where a number past the last is that of `drop`. None where there are fewer marks than
-    /// it takes, which `shuffle_needs` tells.
-    pub fn shuffle(&mut self, stack: u32, row: u32) -> Result<Option<u32>, Memory>
+    /// The stack after a shuffle, which takes `takes` marks and puts those at the places `leaves` back, the last on top; the deepest mark that it
+    /// takes is at place 0. None where there are fewer marks. It takes the time of at most `takes` steps for each mark that it puts back. Want of
+    /// memory can come after some of them.
+    pub fn shuffle(&mut self, stack: u32, takes: u32, leaves: &[u32]) -> Result<Option<u32>, Memory>
         requires { IsStack self.old stack }
         ensures grows { Grows self.old self.new }
-        ensures made { IfOk result (λ o. IsStackWhere self.new o (λ N. moved (moves (shuffle_numbered row)) (stack_of N self.old stack))) }
+        ensures made { IfOk result (λ o. IsStackWhere self.new o (λ N. moved any takes leaves.now (stack_of N self.old stack))) }
     {
         let _first = self.nodes.first();
-        self.cells.shuffle(stack, row)
+        self.cells.shuffle(stack, takes, leaves)
     }
 
     /// The join of two stacks, which keeps the marks that both have and knows nothing of the others. None where their heights differ. It takes

@@ -7,10 +7,11 @@ use Rattle.fac_lang.specs.Texts.{Text, end, then, Item, lit, lit_arr, quot, word
 use Rattle.fac_lang.specs.World.{World, State, array}
 use Rattle.fac_lang.specs.declared.program.Lit.{Lit}
 use Rattle.fac_lang.specs.Signatures.{Signature, signature}
-use Rattle.fac_lang.specs.Effects.{effect_height, inputs_count}
+use Rattle.fac_lang.specs.declared.phrase.Height.{Height}
+use Rattle.fac_lang.specs.Effects.{effect_height, inputs_count, word_height}
 use Rattle.fac_lang.specs.Substitution.{of_method, of_method_item}
-use Rattle.fac_lang.specs.Primitives.{Prim, prim_numbered, prim_fn}
-use Rattle.fac_lang.specs.PrimitiveWords.{PrimitiveWord, primitive_word, written_effect}
+use Rattle.fac_lang.specs.Primitives.{Primitive, prim_numbered, primitive_word, prim_fn}
+use Rattle.fac_lang.specs.PrimitiveWords.{PrimitiveWord, written_effect}
 use Rattle.fac_lang.specs.Objects.{get_slot, set_slot, put_slot}
 use Rattle.fac_lang.specs.Classes.{methods_from, earlier, first_method, word_in, pick, next, next_from, has_kind, class_before}
 use Rattle.fac_lang.specs.declared.program.Program.{Program}
@@ -18,8 +19,8 @@ use Rattle.fac_lang.specs.declared.program.ClassDef.{ClassDef}
 use Rattle.fac_lang.specs.declared.program.WordDef.{WordDef}
 use Rattle.fac_lang.specs.declared.program.Sort.{Sort}
 use Rattle.fac_lang.specs.declared.program.Sort.TheVariants.{Prim as prim, Body as body, Past as past, Itself as itself, Class as class, Isa as isa, Getter as getter, Setter as setter, Putter as putter, Generic as generic, Method as method}
-use Rattle.fac_lang.specs.Meaning.{texts, names, sort_of, word_text, with_arrays, literal_value, array_method, start, run}
-use Rattle.fac_lang.specs.Whole.{IsWhole, each_item, each_inner, item_fits, word_texts, joined, quotations, has_written_effect, effect_written, is_effect, plain_effect, has_generic_effect, effect_of, sort_fits, is_generic, is_class, is_body}
+use Rattle.fac_lang.specs.Meaning.{texts, names, sort_of, word_text, with_arrays, literal_value, array_method, start, run, is_phrase, one_item}
+use Rattle.fac_lang.specs.Whole.{IsWhole, each_item, each_inner, item_fits, word_texts, joined, quotations, has_written_effect, effect_written, is_effect, plain_effect, has_generic_effect, effect_of, sort_fits, is_generic, is_class, is_body, each_numbered, marks_fit}
 use Rattle.fac_lang.proofs.WholeLemmas.{same_effect}
 use Rattle.fac_check.specs.Rows.{has_rows, bindable, is_row, outer_in, outer_out, effect_inputs, effect_leaving, leaving_on}
 use Rattle.fac_check.specs.Verdicts.{Refusal, inputs_marks, any_quoted, is_inline_body, inline_verdict, row_verdict, undeclared, bad_rows, bad_generic, no_generic_effect, ordinary_verdict, body_verdict, top_verdict, phrase_verdict, sort_verdict, ruled_verdict, word_verdict, verdict_from, verdict}
@@ -28,9 +29,9 @@ use Rattle.fac_check.proofs.StandingLaws.{Unmarked, UnmarkedItem}
 use Rattle.fac_check.specs.CallableEffects.{fits, callable_height}
 use Rattle.fac_check.specs.Standing.{Valid, EndsSo}
 use Rattle.fac_check.proofs.WalksFit.{Context, OnState, StackState}
-use Rattle.fac_check.proofs.ItemsFit.{RegularFn, Over, Leaves}
-use Rattle.fac_check.proofs.PrimitivesKeep.{prim_numbers, prim_regular, getter_regular, setter_regular, putter_regular, written_numbers, prim_found}
-use Rattle.fac_check.proofs.SoundPrograms.{Accepted, AcceptedMethod, height_of, Good, word_sound, row_word_sound, top_sound}
+use Rattle.fac_check.proofs.ItemsFit.{Over, Leaves}
+use Rattle.fac_check.proofs.PrimitivesKeep.{RegularFn, prim_regular, getter_regular, setter_regular, putter_regular, word_numbers, written_height, prim_found}
+use Rattle.fac_check.proofs.SoundPrograms.{Accepted, AcceptedMethod, height_of, Good, item_sound, row_word_sound, top_sound}
 
 -- One of a list, of which all pass a test, passes it.
 one_passes : {X : Type 0} (test : X → Bool) (xs : List X) → list_all test xs ≡ true → (k : ℕ) (x : X) → slice_get xs k ≡ Some x → test x ≡ true
@@ -298,8 +299,9 @@ module _ (P : Program) where
     prim_effect None e h = absurd (never_true h)
     prim_effect (Some r) e h = (r, refl, same_effect (written_effect r) e h)
 
-    prim_height : (w : ℕ) (d : WordDef) (k : ℕ) (p : Prim) → slice_get P.words w ≡ Some d → d.sort ≡ prim k → prim_numbered k ≡ Some p → prim_numbers p ≡ height_of d
-    prim_height w d k p e s q = (let z = prim_effect (primitive_word k) d.effect (by_sort d (prim k) s (written w d e)) in sym (written_numbers k z.0 p z.1 q) ∙ ap effect_height z.2)
+    prim_height : (w : ℕ) (d : WordDef) (k : ℕ) (p : Primitive) → slice_get P.words w ≡ Some d → d.sort ≡ prim k → prim_numbered k ≡ Some p → word_numbers p.word ≡ height_of d
+    prim_height w d k p e s q =
+        (let z = prim_effect (primitive_word k) d.effect (by_sort d (prim k) s (written w d e)) in let found = prim_found k z.0 z.1 in let twice : Some p ≡ Some found.0 = sym q ∙ found.1 in let same : p ≡ found.0 = cc in sym (written_height p.word) ∙ ap (λ (x : Primitive). effect_height (written_effect x.word)) same ∙ ap (λ (r : PrimitiveWord). effect_height (written_effect r)) found.2 ∙ ap effect_height z.2)
 
     -- a method has its generic's effect and is accepted
     effect_found : (o : Option WordDef) (g : WordDef) (e : Signature) → o ≡ Some g → is_effect (elim o [ Some d ↦ Some d.effect | None ↦ None ]) e ≡ true → g.effect ≡ e
@@ -313,12 +315,31 @@ module _ (P : Program) where
     method_of start h g d e m x =
         (let text_is : word_text P m ≡ of_method m x.2 = ap (λ o. elim o [ Some s ↦ elim s [ body t ↦ t | past t ↦ t | method c i t ↦ of_method m t | _ ↦ end ] | None ↦ end ]) (same_sort m x.0 x.3 ∙ ap (λ s. Some s) x.4) in (x.0, subst (λ u. ordinary_verdict P m u x.0 ≡ None) (sym text_is) (method_accepted start h m x.0 x.1 g x.2 x.3 x.4), sym (ap effect_height (effect_found (slice_get P.words g) d x.0.effect e (subst (λ s. has_generic s x.0.effect ≡ true) x.4 (one_passes (has_generic_effect P) P.words whole.method_effects m x.0 x.3)))), subst Unmarked (sym text_is) (unmarked_method m x.2 (unmarked_word whole m x.0 x.2 x.3 (subst (λ s. HasText s x.2) (sym x.4) refl)))))
 
+    -- an inline word has a text and isn't the top-level phrase
+    numbered_passes : (test : ℕ → WordDef → Bool) (j : ℕ) (ds : List WordDef) → each_numbered test j ds ≡ true → (n v : ℕ) (d : WordDef) → v ≡ j + n → slice_get ds n ≡ Some d → test v d ≡ true
+    numbered_passes test j [] h n v d e q = absurd (cc)
+    numbered_passes test j (c ∷ ds) h zero v d e q =
+        (let same : c ≡ d = cc in let at : j ≡ v = omega (arith, e) in subst (λ x. test x d ≡ true) at (subst (λ x. test j x ≡ true) same (and_first (test j c) (each_numbered test (suc j) ds) h)))
+    numbered_passes test j (c ∷ ds) h (suc n) v d e q = numbered_passes test (suc j) ds (and_second (test j c) (each_numbered test (suc j) ds) h) n v d (omega (arith, e)) q
+
+    marked_passes : (i r x : Bool) → i ≡ true → (not (i || r) || x) ≡ true → x ≡ true
+    marked_passes true r x e h = h
+    marked_passes false r x e h = absurd (never_true e)
+
+    has_body : (s : Sort) → is_body (Some s) ≡ true → (t : Text) × (s ≡ body t)
+    has_body (body t) h = (t, refl)
+    has_body s h = absurd (never_true h)
+
+    pub inline_text : (w : ℕ) (d : WordDef) → slice_get P.words w ≡ Some d → d.inline ≡ true → (t : Text) × (d.sort ≡ body t) × (not (nat_eq w P.top) ≡ true)
+    inline_text w d e i =
+        (let z = marked_passes d.inline d.recursive (is_body (Some d.sort) && not (nat_eq w P.top)) i (numbered_passes (marks_fit P) 0 P.words whole.marks_of_bodies w w d (omega arith) e) in let b = has_body d.sort (and_first (is_body (Some d.sort)) (not (nat_eq w P.top)) z) in (b.0, b.1, and_second (is_body (Some d.sort)) (not (nat_eq w P.top)) z))
+
     has_prim : (o : Option PrimitiveWord) → is_some o ≡ true → (r : PrimitiveWord) × (o ≡ Some r)
     has_prim None h = absurd (never_true h)
     has_prim (Some r) h = (r, refl)
 
-    prim_there : (w : ℕ) (d : WordDef) (k : ℕ) → slice_get P.words w ≡ Some d → d.sort ≡ prim k → (p : Prim) × (prim_numbered k ≡ Some p)
-    prim_there w d k e s = (let z = has_prim (primitive_word k) (subst (λ x. sort_fits P x ≡ true) s (one_passes (λ x. sort_fits P x.sort) P.words whole.sorts_fit w d e)) in prim_found k z.0 z.1)
+    prim_there : (w : ℕ) (d : WordDef) (k : ℕ) → slice_get P.words w ≡ Some d → d.sort ≡ prim k → (p : Primitive) × (prim_numbered k ≡ Some p)
+    prim_there w d k e s = (let z = has_prim (primitive_word k) (subst (λ x. sort_fits P x ≡ true) s (one_passes (λ x. sort_fits P x.sort) P.words whole.sorts_fit w d e)) in let found = prim_found k z.0 z.1 in (found.0, found.1))
 
     -- an accepted generic takes a value
     some_input : (e : Signature) → no_generic_effect P e ≡ false → (i : ℕ) × ((effect_height e).ins ≡ suc i)
@@ -348,10 +369,10 @@ module _ (P : Program) where
           unmarked = λ w d t e s. unmarked_word whole w d t e (subst (λ x. HasText x t) (sym s) refl);
           row_accepted = row_accepted start h;
           rows_bindable = rows_bindable start h;
-          prims = λ w d k p e s q. subst (λ x. RegularFn P x.ins x.outs (prim_fn texts (names P) p)) (prim_height w d k p e s q) (prim_regular P p);
-          getters = λ w d n e s. subst (λ x. RegularFn P (effect_height x).ins (effect_height x).outs (get_slot texts (names P) n)) (same_effect (plain_effect (codes "object" ∷ []) (codes "value" ∷ [])) d.effect (by_sort d (getter n) s (written w d e))) (getter_regular P n);
-          setters = λ w d n e s. subst (λ x. RegularFn P (effect_height x).ins (effect_height x).outs (set_slot texts (names P) n)) (same_effect (plain_effect (codes "object" ∷ codes "value" ∷ []) (codes "object" ∷ [])) d.effect (by_sort d (setter n) s (written w d e))) (setter_regular P n);
-          putters = λ w d n e s. subst (λ x. RegularFn P (effect_height x).ins (effect_height x).outs (put_slot texts (names P) n)) (same_effect (plain_effect (codes "value" ∷ codes "object" ∷ []) []) d.effect (by_sort d (putter n) s (written w d e))) (putter_regular P n);
+          prims = λ w d k p e s q. subst (λ x. RegularFn x.ins x.outs (prim_fn texts (names P) p)) (prim_height w d k p e s q) (prim_regular (names P) k p q);
+          getters = λ w d n e s. subst (λ x. RegularFn (effect_height x).ins (effect_height x).outs (get_slot texts (names P) n)) (same_effect (plain_effect (codes "object" ∷ []) (codes "value" ∷ [])) d.effect (by_sort d (getter n) s (written w d e))) (getter_regular (names P) n);
+          setters = λ w d n e s. subst (λ x. RegularFn (effect_height x).ins (effect_height x).outs (set_slot texts (names P) n)) (same_effect (plain_effect (codes "object" ∷ codes "value" ∷ []) (codes "object" ∷ [])) d.effect (by_sort d (setter n) s (written w d e))) (setter_regular (names P) n);
+          putters = λ w d n e s. subst (λ x. RegularFn (effect_height x).ins (effect_height x).outs (put_slot texts (names P) n)) (same_effect (plain_effect (codes "value" ∷ codes "object" ∷ []) []) d.effect (by_sort d (putter n) s (written w d e))) (putter_regular (names P) n);
           tests = λ w d c e s. subst (λ x. ((effect_height x).ins ≡ 1) × ((effect_height x).outs ≡ Some 1)) (same_effect (plain_effect (codes "object" ∷ []) (codes "?" ∷ [])) d.effect (by_sort d (isa c) s (written w d e))) (refl, refl);
           numbered = prim_there;
           selves = λ w d e s. subst (λ x. ((effect_height x).ins ≡ 0) × ((effect_height x).outs ≡ Some 1)) (same_effect (plain_effect [] (codes "value" ∷ [])) d.effect (by_sort d itself s (written w d e))) (refl, refl);
@@ -392,13 +413,13 @@ module _ (P : Program) where
   text_there w t e = ap (λ o. elim o [ Some x ↦ elim x [ body u ↦ u | past u ↦ u | method k g u ↦ of_method w u | _ ↦ end ] | None ↦ end ]) e
 
   module _ (k : ℕ) (whole : IsWhole P) (accepted : verdict P k ≡ None) where
-    -- Of a whole program that is accepted, with k values on the list before its top-level phrase: an ordinary word, from every state with its declared inputs on any values, at every budget, isn't stuck, and where it is done exactly its declared outputs stand on those values.
-    pub ordinary_sound : (w : ℕ) (d : WordDef) (t : Text) → slice_get P.words w ≡ Some d → d.sort ≡ body t → not (nat_eq w P.top) ≡ true → d.inline ≡ false → (below : List Value) (st : State Value) (n : ℕ) → Over (height_of d).ins below st.stack → Valid P st.world → EndsSo (Leaves P (height_of d).outs below) (run P fits (callable_height P) n t st)
-    ordinary_sound w d t e q z i below st n o v = word_sound P (accepted_program P whole k accepted) w d t e q z i below st n o v
+    -- Of a whole program that is accepted, with k values on the list before its top-level phrase: the item of a word that has an effect by itself, from every state with its declared inputs on any values, at every budget, isn't stuck, and where it is done exactly its declared outputs stand on those values.
+    pub word_sound : (w : ℕ) (d : WordDef) (h : Height) → slice_get P.words w ≡ Some d → word_height d ≡ Some h → is_phrase P w ≡ false → (below : List Value) (st : State Value) (n : ℕ) → Over h.ins below st.stack → Valid P st.world → EndsSo (Leaves P h.outs below) (run P fits (callable_height P) n (one_item (word w)) st)
+    word_sound w d h e q z below st n o v = item_sound P (accepted_program P whole k accepted) w d h e q z below st n o v
 
     -- Likewise a row word, in every context in which what may be handed in for its inputs does what its effect says.
-    pub row_sound : (w : ℕ) (d : WordDef) (t : Text) → slice_get P.words w ≡ Some d → d.sort ≡ body t → not (nat_eq w P.top) ≡ true → d.inline ≡ true → is_row d.recursive d.effect ≡ true → (C : Context) → C.own ≡ Some d.effect → C.word ≡ Some w → (n : ℕ) → Good P n C → (st : State Value) → OnState P C (outer_in d.effect) (inputs_marks 1 (effect_inputs d.effect) []) st → EndsSo (StackState P C (leaving_on (effect_leaving d.effect) (outer_out d.effect) [])) (run P fits (callable_height P) n t st)
-    row_sound w d t e q z i x C own is_word n good st o = row_word_sound P (accepted_program P whole k accepted) w d t e q z i x C own is_word n good st o
+    pub row_sound : (w : ℕ) (d : WordDef) → slice_get P.words w ≡ Some d → d.inline ≡ true → is_row d.recursive d.effect ≡ true → (C : Context) → C.own ≡ Some d.effect → C.word ≡ Some w → (n : ℕ) → Good P n C → (st : State Value) → OnState P C (outer_in d.effect) (inputs_marks 1 (effect_inputs d.effect) []) st → EndsSo (StackState P C (leaving_on (effect_leaving d.effect) (outer_out d.effect) [])) (run P fits (callable_height P) n (one_item (word w)) st)
+    row_sound w d e i x C own is_word n good st o = (let b = inline_text P whole w d e i in row_word_sound P (accepted_program P whole k accepted) w d b.0 e b.1 b.2 i x C own is_word n good st o)
 
     found_body : (o : Option Sort) → is_body o ≡ true → (t : Text) × (o ≡ Some (body t))
     found_body (Some (body t)) h = (t, refl)

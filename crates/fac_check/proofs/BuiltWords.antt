@@ -1,16 +1,19 @@
 -- What the checker's definitions say of the words of built programs.
-use Rattle.std.proofs.Common.{◌≡◌, ◌⊎◌, ℕ, zero, suc, List, [], ◌∷◌, ◌++◌, length, Bool, true, false, Option, Some, None, refl, sym, ap, subst}
+use Rattle.std.proofs.Common.{◌≡◌, ◌⊎◌, ℕ, zero, suc, List, [], ◌∷◌, ◌++◌, length, Bool, true, false, Option, Some, None, refl, sym, ap, subst, ◌∙◌}
 use Rattle.std.specs.Prelude.{◌&&◌, ◌||◌, slice_get}
 use mathlib.Core.Logic.{inl, inr}
 use Rattle.fac_lang.specs.declared.program.Program.{Program}
 use Rattle.fac_lang.specs.declared.program.WordDef.{WordDef}
 use Rattle.fac_lang.specs.declared.program.Sort.{Sort}
 use Rattle.fac_lang.specs.declared.program.Sort.TheVariants.{Prim as prim, Core as core, Body as body, Past as past, Itself as itself, Class as class, Isa as isa, Getter as getter, Setter as setter, Putter as putter, Generic as generic, Method as method}
-use Rattle.fac_lang.specs.PrimitiveWords.{plain_inputs, plain_leaving}
+use Rattle.fac_lang.specs.PrimitiveWords.{plain_inputs, plain_leaving, written_effect}
+use Rattle.fac_lang.specs.Primitives.{Primitive, prim_numbered, is_built_primitive}
 use Rattle.fac_lang.specs.Signatures.{Signature, signature, Inputs, no_inputs, value, quoted, never, leaves}
-use Rattle.fac_lang.specs.Forms.{IsBuilt, IsBuiltSort, AreBuiltWords, IsTopPhrase, IsPlainEffect, ArePlainInputs, is_built_primitive, is_built_core}
+use Rattle.fac_lang.specs.Forms.{IsBuilt, IsBuiltSort, AreBuiltWords, IsTopPhrase, IsPrimitiveWord, IsPlainEffect, ArePlainInputs}
+use Rattle.fac_lang.specs.CoreWords.{is_built_core}
 use Rattle.fac_check.specs.Rows.{has_rows, inputs_rows, is_row}
 use Rattle.fac_check.specs.Verdicts.{bad_rows, bad_generic}
+use Rattle.fac_check.proofs.PrimitivesKeep.{prim_found}
 
 module _ {A : Type 0} where
   -- an element of a list with one more at its end
@@ -24,7 +27,8 @@ module _ {A : Type 0} where
       more (inl f) = inl f
       more (inr f) = inr (ap suc f.0, f.1)
 
-built_there : (bound : ℕ) (ds : List WordDef) → AreBuiltWords bound ds → (k : ℕ) (d : WordDef) → slice_get ds k ≡ Some d → IsBuiltSort bound d d.sort
+-- a word of built ones
+pub built_there : (bound : ℕ) (ds : List WordDef) → AreBuiltWords bound ds → (k : ℕ) (d : WordDef) → slice_get ds k ≡ Some d → IsBuiltSort bound d d.sort
 built_there bound [] h k d e = absurd (cc)
 built_there bound (c ∷ ds) h zero d e = (let same : c ≡ d = cc in subst (λ x. IsBuiltSort bound x x.sort) same h.0)
 built_there bound (c ∷ ds) h (suc k) d e = built_there bound ds h.1 k d e
@@ -79,6 +83,17 @@ built_as P b w d e = which (at_or_last b.words b.phrase w d (subst (λ ws. slice
     which : (slice_get b.words w ≡ Some d) ⊎ ((w ≡ length b.words) × (b.phrase ≡ d)) → BuiltAs P w d
     which (inl f) = built_so P w P.top d d.sort refl (built_there P.top b.words b.built w d f)
     which (inr f) = subst (λ x. BuiltAs P w x) f.1 (top_so P w P.top b.phrase b.text b.phrase_is)
+
+primitive_so : (d : WordDef) (k : ℕ) → IsPrimitiveWord d k → (p : Primitive) × (prim_numbered k ≡ Some p) × (d.effect ≡ written_effect p.word)
+primitive_so d k h = (let z = prim_found k h.row h.row_is in (z.0, z.1, h.effect_is ∙ ap written_effect (sym z.2)))
+
+-- a primitive word has the effect that is written for its primitive
+pub built_primitive_word : (P : Program) → IsBuilt P → (w : ℕ) (d : WordDef) → slice_get P.words w ≡ Some d → (k : ℕ) → d.sort ≡ prim k → (p : Primitive) × (prim_numbered k ≡ Some p) × (d.effect ≡ written_effect p.word)
+built_primitive_word P b w d e k s = which (at_or_last b.words b.phrase w d (subst (λ ws. slice_get ws w ≡ Some d) b.words_are e))
+  where
+    which : (slice_get b.words w ≡ Some d) ⊎ ((w ≡ length b.words) × (b.phrase ≡ d)) → (p : Primitive) × (prim_numbered k ≡ Some p) × (d.effect ≡ written_effect p.word)
+    which (inl f) = primitive_so d k (subst (λ x. IsBuiltSort P.top d x) s (built_there P.top b.words b.built w d f))
+    which (inr f) = absurd (let is_phrase = b.phrase_is in let body_sort : b.phrase.sort ≡ body b.text = is_phrase.sort_is in let prim_sort : b.phrase.sort ≡ prim k = subst (λ (x : WordDef). x.sort ≡ prim k) (sym f.1) s in cc)
 
 -- no word has a row variable
 pub built_rows : (P : Program) (w : ℕ) (d : WordDef) → BuiltAs P w d → has_rows d.effect ≡ false

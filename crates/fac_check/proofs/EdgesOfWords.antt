@@ -11,7 +11,7 @@ use Rattle.fac_lang.specs.declared.program.Sort.TheVariants.{Prim as prim, Core 
 use Rattle.fac_locals.specs.Literals.{first_of_word}
 use Rattle.fac_locals.specs.Closed.{Closes, CloseWords, ClosesWord, ClosesSort, ClosesText}
 use Rattle.fac_check.specs.Verdicts.{inline_words, without}
-use Rattle.fac_check.specs.UndeclaredRecursion.{kept_unless, left_out, text_edges, sort_edges, word_edges, edges_from, AddsNames, LedByText, LedBy}
+use Rattle.fac_check.specs.inner.UndeclaredRecursion.{kept_unless, left_out, text_edges, sort_edges, word_edges, edges_from, AddsNames, LedByText, LedBy}
 
 -- what follows from a call's fact
 pub if_ok : {T E : Type 0} (A B : T → Type 0) (r : Result T E) → ((x : T) → A x → B x) → IfOk r A → IfOk r B

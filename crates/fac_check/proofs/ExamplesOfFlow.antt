@@ -1,6 +1,6 @@
 -- Examples of the checker's verdicts where there are quotations: each rule with each of its numbers, the identity of literals, and the effects of callables.
 use Rattle.std.proofs.Common.{◌≡◌, ℕ, zero, suc, ◌+◌, List, [], ◌∷◌, ◌++◌, length, Bool, true, false, Option, Some, None, refl}
-use Rattle.std.specs.Prelude.{codes, pos}
+use Rattle.std.specs.Prelude.{codes, map, pos}
 use Rattle.fac_lang.specs.declared.phrase.Height.{Height}
 use Rattle.fac_lang.specs.declared.phrase.Place.{Place}
 use Rattle.fac_lang.specs.declared.program.Program.{Program}
@@ -13,9 +13,11 @@ use Rattle.fac_lang.specs.Texts.{int, wrd, Text, end, then, Item, lit, quot, bin
 use Rattle.fac_lang.specs.Primitives.{prim_numbered}
 use Rattle.fac_lang.specs.Meaning.{core_numbered}
 use Rattle.fac_lang.proofs.DemoPrelude.{word_of, shared_words, built_in_classes}
-use Rattle.fac_lang.proofs.DemoWords.{phrase, number, quotation, fried, itself, tested-call, own, t as yes, drop, dup, swap, + as plus, curry, compose, throw, call, dip, if, execute, boa, cond, sq, times}
+use Rattle.fac_lang.proofs.DemoWords.{phrase, number, quotation, fried, itself, tested-call, own, t as yes, drop, dup, swap, over, pick, rot, -rot, nip, dupd, swapd, 2drop, 2dup, 3drop, 3dup, 2over, 2nip, choose, + as plus, /i, <, curry, compose, throw, call, dip, if, execute, boa, cond, sq, times}
 use Rattle.fac_lang.proofs.Demo.{program, tuple_words, tuple_of}
-use Rattle.fac_abs.specs.Marks.{AbstractStack, dead, on, Rule, underflow, not_known, not_a_class, branches, recursive_input, rows, undeclared_recursion, row_declaration, method_effect, too_deep, too_large, outputs, must_return, mark_eq}
+use Rattle.fac_abs.specs.Marks.{AbstractStack, dead, on, mark_eq}
+use Rattle.fac_abs.specs.declared.rule.Rule.{Rule}
+use Rattle.fac_abs.specs.declared.rule.Rule.TheVariants.{Underflow, NotKnown, NotAClass, Branches, RecursiveInput, Rows, UndeclaredRecursion, RowDeclaration, MethodEffect, TooDeep, TooLarge, Outputs, MustReturn}
 use Rattle.fac_locals.specs.Literals.{first_of_word}
 use Rattle.fac_check.specs.Flow.{Walked, found, refused, walk, doing, most_nested}
 use Rattle.fac_check.specs.Verdicts.{Refusal, verdict, verdict_from}
@@ -111,42 +113,42 @@ shared_words_accepted = refl
 -- Underflow.
 
 -- +
-pub none_there : verdict_of [] (plus ∷ []) ≡ refuses 0 (underflow 2 0) 1
+pub none_there : verdict_of [] (plus ∷ []) ≡ refuses 0 (Underflow 2 0) 1
 unfolding prim_numbered core_numbered mark_eq
 none_there = refl
 
 -- 1 +
-pub one_there : verdict_of [] (number 1 ∷ plus ∷ []) ≡ refuses 0 (underflow 2 1) 2
+pub one_there : verdict_of [] (number 1 ∷ plus ∷ []) ≡ refuses 0 (Underflow 2 1) 2
 unfolding prim_numbered core_numbered mark_eq
 one_there = refl
 
 -- : name ( x -- y ) + ;
-pub input_there : verdict_of (defined (takes 1 1) false false (plus ∷ []) ∷ []) ([]) ≡ refuses 0 (underflow 2 1) 10
+pub input_there : verdict_of (defined (takes 1 1) false false (plus ∷ []) ∷ []) ([]) ≡ refuses 0 (Underflow 2 1) 10
 unfolding prim_numbered core_numbered mark_eq
 input_there = refl
 
 -- call
-pub none_to_call : verdict_of [] (call ∷ []) ≡ refuses 0 (underflow 1 0) 1
+pub none_to_call : verdict_of [] (call ∷ []) ≡ refuses 0 (Underflow 1 0) 1
 unfolding prim_numbered core_numbered mark_eq
 none_to_call = refl
 
 -- [ ] dip
-pub one_to_dip : verdict_of [] (quotation ([]) ∷ dip ∷ []) ≡ refuses 0 (underflow 2 1) 3
+pub one_to_dip : verdict_of [] (quotation ([]) ∷ dip ∷ []) ≡ refuses 0 (Underflow 2 1) 3
 unfolding prim_numbered core_numbered mark_eq
 one_to_dip = refl
 
 -- [ ] [ ] if
-pub two_to_choose : verdict_of [] (quotation ([]) ∷ quotation ([]) ∷ if ∷ []) ≡ refuses 0 (underflow 3 2) 5
+pub two_to_choose : verdict_of [] (quotation ([]) ∷ quotation ([]) ∷ if ∷ []) ≡ refuses 0 (Underflow 3 2) 5
 unfolding prim_numbered core_numbered mark_eq
 two_to_choose = refl
 
 -- :> a
-pub none_to_bind : verdict_of [] (bind 0 ∷ []) ≡ refuses 0 (underflow 1 0) 1
+pub none_to_bind : verdict_of [] (bind 0 ∷ []) ≡ refuses 0 (Underflow 1 0) 1
 unfolding prim_numbered core_numbered mark_eq
 none_to_bind = refl
 
 -- 1 [ + ] call: in the quotation, where it is called
-pub in_quotation : verdict_of [] (number 1 ∷ quotation (plus ∷ []) ∷ call ∷ []) ≡ refuses 0 (underflow 2 1) 3
+pub in_quotation : verdict_of [] (number 1 ∷ quotation (plus ∷ []) ∷ call ∷ []) ≡ refuses 0 (Underflow 2 1) 3
 unfolding prim_numbered core_numbered mark_eq
 in_quotation = refl
 
@@ -156,22 +158,22 @@ unfolding prim_numbered core_numbered mark_eq
 not_called = refl
 
 -- 1 2 [ drop drop ] dip: the value on top is set aside
-pub below_dip : verdict_of [] (number 1 ∷ number 2 ∷ quotation (drop ∷ drop ∷ []) ∷ dip ∷ []) ≡ refuses 0 (underflow 1 0) 5
+pub below_dip : verdict_of [] (number 1 ∷ number 2 ∷ quotation (drop ∷ drop ∷ []) ∷ dip ∷ []) ≡ refuses 0 (Underflow 1 0) 5
 unfolding prim_numbered core_numbered mark_eq
 below_dip = refl
 
 -- '[ _ ]
-pub hole_missing : verdict_of [] (fried 1 (hole 0 ∷ []) ∷ []) ≡ refuses 0 (underflow 1 0) 1
+pub hole_missing : verdict_of [] (fried 1 (hole 0 ∷ []) ∷ []) ≡ refuses 0 (Underflow 1 0) 1
 unfolding prim_numbered core_numbered mark_eq
 hole_missing = refl
 
 -- [ ] call( x -- y ) needs its input and the callable
-pub tested_call_needs : verdict_of [] (quotation ([]) ∷ tested-call 1 1 ∷ []) ≡ refuses 0 (underflow 2 1) 3
+pub tested_call_needs : verdict_of [] (quotation ([]) ∷ tested-call 1 1 ∷ []) ≡ refuses 0 (Underflow 2 1) 3
 unfolding prim_numbered core_numbered mark_eq
 tested_call_needs = refl
 
 -- TUPLE: p x y ; 1 \ p boa: needs and has count the class
-pub slots_missing : verdict_on 0 (tuple_of (codes "scratchpad") (codes "p") None (codes "x" ∷ codes "y" ∷ []) ∷ []) (tuple_words (codes "scratchpad") (codes "p") 12 (codes "x" ∷ codes "y" ∷ [])) (number 1 ∷ itself (own 0) ∷ boa ∷ []) ≡ refuses 8 (underflow 3 2) 4
+pub slots_missing : verdict_on 0 (tuple_of (codes "scratchpad") (codes "p") None (codes "x" ∷ codes "y" ∷ []) ∷ []) (tuple_words (codes "scratchpad") (codes "p") 12 (codes "x" ∷ codes "y" ∷ [])) (number 1 ∷ itself (own 0) ∷ boa ∷ []) ≡ refuses 8 (Underflow 3 2) 4
 unfolding prim_numbered core_numbered mark_eq
 slots_missing = refl
 
@@ -183,47 +185,47 @@ starts_on_two = refl
 -- Known callables and words.
 
 -- 1 call
-pub number_called : verdict_of [] (number 1 ∷ call ∷ []) ≡ refuses 0 not_known 2
+pub number_called : verdict_of [] (number 1 ∷ call ∷ []) ≡ refuses 0 NotKnown 2
 unfolding prim_numbered core_numbered mark_eq
 number_called = refl
 
 -- 1 2 dip
-pub number_dipped : verdict_of [] (number 1 ∷ number 2 ∷ dip ∷ []) ≡ refuses 0 not_known 3
+pub number_dipped : verdict_of [] (number 1 ∷ number 2 ∷ dip ∷ []) ≡ refuses 0 NotKnown 3
 unfolding prim_numbered core_numbered mark_eq
 number_dipped = refl
 
 -- t 1 [ ] if
-pub number_first_branch : verdict_of [] (yes ∷ number 1 ∷ quotation ([]) ∷ if ∷ []) ≡ refuses 0 not_known 5
+pub number_first_branch : verdict_of [] (yes ∷ number 1 ∷ quotation ([]) ∷ if ∷ []) ≡ refuses 0 NotKnown 5
 unfolding prim_numbered core_numbered mark_eq
 number_first_branch = refl
 
 -- t [ ] 1 if
-pub number_second_branch : verdict_of [] (yes ∷ quotation ([]) ∷ number 1 ∷ if ∷ []) ≡ refuses 0 not_known 5
+pub number_second_branch : verdict_of [] (yes ∷ quotation ([]) ∷ number 1 ∷ if ∷ []) ≡ refuses 0 NotKnown 5
 unfolding prim_numbered core_numbered mark_eq
 number_second_branch = refl
 
 -- 1 execute
-pub number_executed : verdict_of [] (number 1 ∷ execute ∷ []) ≡ refuses 0 not_known 2
+pub number_executed : verdict_of [] (number 1 ∷ execute ∷ []) ≡ refuses 0 NotKnown 2
 unfolding prim_numbered core_numbered mark_eq
 number_executed = refl
 
 -- 1 boa
-pub number_as_class : verdict_of [] (number 1 ∷ boa ∷ []) ≡ refuses 0 not_known 2
+pub number_as_class : verdict_of [] (number 1 ∷ boa ∷ []) ≡ refuses 0 NotKnown 2
 unfolding prim_numbered core_numbered mark_eq
 number_as_class = refl
 
 -- 3 4 times
-pub number_repeated : verdict_of [] (number 3 ∷ number 4 ∷ times ∷ []) ≡ refuses 0 not_known 3
+pub number_repeated : verdict_of [] (number 3 ∷ number 4 ∷ times ∷ []) ≡ refuses 0 NotKnown 3
 unfolding prim_numbered core_numbered mark_eq
 number_repeated = refl
 
 -- 1 cond, where no literal stands before it
-pub cond_alone : verdict_of [] (number 1 ∷ cond ∷ []) ≡ refuses 0 not_known 2
+pub cond_alone : verdict_of [] (number 1 ∷ cond ∷ []) ≡ refuses 0 NotKnown 2
 unfolding prim_numbered core_numbered mark_eq
 cond_alone = refl
 
 -- : name ( q -- ) call ;
-pub input_called : verdict_of (defined (takes 1 0) false false (call ∷ []) ∷ []) ([]) ≡ refuses 0 not_known 10
+pub input_called : verdict_of (defined (takes 1 0) false false (call ∷ []) ∷ []) ([]) ≡ refuses 0 NotKnown 10
 unfolding prim_numbered core_numbered mark_eq
 input_called = refl
 
@@ -233,7 +235,7 @@ unfolding prim_numbered core_numbered mark_eq
 input_tested = refl
 
 -- : name ( -- q ) [ ] ; name call: the output of an ordinary word
-pub output_called : verdict_of (defined (takes 0 1) false false (quotation ([]) ∷ []) ∷ []) (own 0 ∷ call ∷ []) ≡ refuses 1 not_known 2
+pub output_called : verdict_of (defined (takes 0 1) false false (quotation ([]) ∷ []) ∷ []) (own 0 ∷ call ∷ []) ≡ refuses 1 NotKnown 2
 unfolding prim_numbered core_numbered mark_eq
 output_called = refl
 
@@ -248,17 +250,17 @@ unfolding prim_numbered core_numbered mark_eq
 word_executed = refl
 
 -- \ sq call
-pub word_called : verdict_of [] (itself sq ∷ call ∷ []) ≡ refuses 0 not_known 3
+pub word_called : verdict_of [] (itself sq ∷ call ∷ []) ≡ refuses 0 NotKnown 3
 unfolding prim_numbered core_numbered mark_eq
 word_called = refl
 
 -- 1 2 curry call
-pub curried_number : verdict_of [] (number 1 ∷ number 2 ∷ curry ∷ call ∷ []) ≡ refuses 0 not_known 4
+pub curried_number : verdict_of [] (number 1 ∷ number 2 ∷ curry ∷ call ∷ []) ≡ refuses 0 NotKnown 4
 unfolding prim_numbered core_numbered mark_eq
 curried_number = refl
 
 -- [ ] 2 compose call
-pub composed_number : verdict_of [] (quotation ([]) ∷ number 2 ∷ compose ∷ call ∷ []) ≡ refuses 0 not_known 5
+pub composed_number : verdict_of [] (quotation ([]) ∷ number 2 ∷ compose ∷ call ∷ []) ≡ refuses 0 NotKnown 5
 unfolding prim_numbered core_numbered mark_eq
 composed_number = refl
 
@@ -285,7 +287,7 @@ local_known = refl
 -- The identity of literals.
 
 -- t [ [ ] ] [ [ ] ] if call: equal texts at two places are two literals
-pub two_literals : verdict_of [] (yes ∷ quotation (quotation ([]) ∷ []) ∷ quotation (quotation ([]) ∷ []) ∷ if ∷ call ∷ []) ≡ refuses 0 not_known 11
+pub two_literals : verdict_of [] (yes ∷ quotation (quotation ([]) ∷ []) ∷ quotation (quotation ([]) ∷ []) ∷ if ∷ call ∷ []) ≡ refuses 0 NotKnown 11
 unfolding prim_numbered core_numbered mark_eq
 two_literals = refl
 
@@ -300,12 +302,12 @@ unfolding prim_numbered core_numbered mark_eq
 one_expanded = refl
 
 -- two such words: equal texts at equal places are two literals
-pub two_expanded : verdict_of (defined (takes 0 1) true false (quotation ([]) ∷ []) ∷ defined (takes 0 1) true false (quotation ([]) ∷ []) ∷ []) (yes ∷ quotation (own 0 ∷ []) ∷ quotation (own 1 ∷ []) ∷ if ∷ call ∷ []) ≡ refuses 2 not_known 9
+pub two_expanded : verdict_of (defined (takes 0 1) true false (quotation ([]) ∷ []) ∷ defined (takes 0 1) true false (quotation ([]) ∷ []) ∷ []) (yes ∷ quotation (own 0 ∷ []) ∷ quotation (own 1 ∷ []) ∷ if ∷ call ∷ []) ≡ refuses 2 NotKnown 9
 unfolding prim_numbered core_numbered mark_eq
 two_expanded = refl
 
 -- [ ] and [ ] in one text, one behind the other, are two
-pub two_in_one : verdict_of [] (yes ∷ quotation ([]) ∷ quotation ([]) ∷ bind 1 ∷ bind 0 ∷ quotation (local 0 ∷ []) ∷ quotation (local 1 ∷ []) ∷ if ∷ call ∷ []) ≡ refuses 0 not_known 17
+pub two_in_one : verdict_of [] (yes ∷ quotation ([]) ∷ quotation ([]) ∷ bind 1 ∷ bind 0 ∷ quotation (local 0 ∷ []) ∷ quotation (local 1 ∷ []) ∷ if ∷ call ∷ []) ≡ refuses 0 NotKnown 17
 unfolding prim_numbered core_numbered mark_eq
 two_in_one = refl
 
@@ -315,14 +317,14 @@ unfolding prim_numbered core_numbered mark_eq
 same_captures = refl
 
 -- likewise with [ ] and [ ] in place of 1 and 2, which are two literals
-pub other_captures : verdict_of (defined (takes 1 1) true false (bind 0 ∷ quotation (local 0 ∷ []) ∷ []) ∷ []) (yes ∷ quotation (quotation ([]) ∷ own 0 ∷ []) ∷ quotation (quotation ([]) ∷ own 0 ∷ []) ∷ if ∷ call ∷ drop ∷ []) ≡ refuses 1 not_known 13
+pub other_captures : verdict_of (defined (takes 1 1) true false (bind 0 ∷ quotation (local 0 ∷ []) ∷ []) ∷ []) (yes ∷ quotation (quotation ([]) ∷ own 0 ∷ []) ∷ quotation (quotation ([]) ∷ own 0 ∷ []) ∷ if ∷ call ∷ drop ∷ []) ≡ refuses 1 NotKnown 13
 unfolding prim_numbered core_numbered mark_eq
 other_captures = refl
 
 -- Tuple classes.
 
 -- \ + boa
-pub no_class : verdict_of [] (itself plus ∷ boa ∷ []) ≡ refuses 0 not_a_class 3
+pub no_class : verdict_of [] (itself plus ∷ boa ∷ []) ≡ refuses 0 NotAClass 3
 unfolding prim_numbered core_numbered mark_eq
 no_class = refl
 
@@ -334,12 +336,12 @@ slots_there = refl
 -- Branches.
 
 -- t [ 1 ] [ 1 2 ] if
-pub lengths_differ : verdict_of [] (yes ∷ quotation (number 1 ∷ []) ∷ quotation (number 1 ∷ number 2 ∷ []) ∷ if ∷ []) ≡ refuses 0 (branches 1 2) 9
+pub lengths_differ : verdict_of [] (yes ∷ quotation (number 1 ∷ []) ∷ quotation (number 1 ∷ number 2 ∷ []) ∷ if ∷ []) ≡ refuses 0 (Branches 1 2) 9
 unfolding prim_numbered core_numbered mark_eq
 lengths_differ = refl
 
 -- : name ( ..a x q: ( ..a -- ..b ) -- ..b ) swap [ call ] [ drop ] if ; inline
-pub bases_differ : verdict_of (defined (signature a (value x (quoted x (from_to a b 0 0) no_inputs)) (leaves b [])) true false (swap ∷ quotation (call ∷ []) ∷ quotation (drop ∷ []) ∷ if ∷ []) ∷ []) ([]) ≡ refuses 0 (branches 0 0) 17
+pub bases_differ : verdict_of (defined (signature a (value x (quoted x (from_to a b 0 0) no_inputs)) (leaves b [])) true false (swap ∷ quotation (call ∷ []) ∷ quotation (drop ∷ []) ∷ if ∷ []) ∷ []) ([]) ≡ refuses 0 (Branches 0 0) 17
 unfolding prim_numbered core_numbered mark_eq
 bases_differ = refl
 
@@ -356,12 +358,12 @@ behind_dead = refl
 -- The own recursive call.
 
 -- : name ( ..a q: ( ..a -- ..a ) -- ..a ) drop [ ] name ; inline recursive
-pub other_first_input : verdict_of (defined (takes_quotation a a (from_to a a 0 0)) true true (drop ∷ quotation ([]) ∷ own 0 ∷ []) ∷ []) ([]) ≡ refuses 0 (recursive_input 1) 13
+pub other_first_input : verdict_of (defined (takes_quotation a a (from_to a a 0 0)) true true (drop ∷ quotation ([]) ∷ own 0 ∷ []) ∷ []) ([]) ≡ refuses 0 (RecursiveInput 1) 13
 unfolding prim_numbered core_numbered mark_eq
 other_first_input = refl
 
 -- : name ( ..a x q: ( ..a -- ..a ) -- ..a ) drop [ ] name ; inline recursive
-pub other_second_input : verdict_of (defined (signature a (value x (quoted x (from_to a a 0 0) no_inputs)) (leaves a [])) true true (drop ∷ quotation ([]) ∷ own 0 ∷ []) ∷ []) ([]) ≡ refuses 0 (recursive_input 2) 13
+pub other_second_input : verdict_of (defined (signature a (value x (quoted x (from_to a a 0 0) no_inputs)) (leaves a [])) true true (drop ∷ quotation ([]) ∷ own 0 ∷ []) ∷ []) ([]) ≡ refuses 0 (RecursiveInput 2) 13
 unfolding prim_numbered core_numbered mark_eq
 other_second_input = refl
 
@@ -371,24 +373,24 @@ unfolding prim_numbered core_numbered mark_eq
 same_input = refl
 
 -- .. 1 swap name drop ..: one value too many below the inputs
-pub row_of_own_call : verdict_of (defined (takes_quotation a a (from_to a a 0 0)) true true (number 1 ∷ swap ∷ own 0 ∷ drop ∷ []) ∷ []) ([]) ≡ refuses 0 (rows 0 0 1) 12
+pub row_of_own_call : verdict_of (defined (takes_quotation a a (from_to a a 0 0)) true true (number 1 ∷ swap ∷ own 0 ∷ drop ∷ []) ∷ []) ([]) ≡ refuses 0 (Rows 0 0 1) 12
 unfolding prim_numbered core_numbered mark_eq
 row_of_own_call = refl
 
 -- Rows.
 
 -- 3 [ 1 ] times
-pub leaves_more : verdict_of [] (number 3 ∷ quotation (number 1 ∷ []) ∷ times ∷ []) ≡ refuses 0 (rows 2 0 1) 5
+pub leaves_more : verdict_of [] (number 3 ∷ quotation (number 1 ∷ []) ∷ times ∷ []) ≡ refuses 0 (Rows 2 0 1) 5
 unfolding prim_numbered core_numbered mark_eq
 leaves_more = refl
 
 -- 3 3 [ drop ] times
-pub leaves_less : verdict_of [] (number 3 ∷ number 3 ∷ quotation (drop ∷ []) ∷ times ∷ []) ≡ refuses 0 (rows 2 1 0) 6
+pub leaves_less : verdict_of [] (number 3 ∷ number 3 ∷ quotation (drop ∷ []) ∷ times ∷ []) ≡ refuses 0 (Rows 2 1 0) 6
 unfolding prim_numbered core_numbered mark_eq
 leaves_less = refl
 
 -- [ 1 ] 3 [ drop [ 2 3 ] ] times call: another literal
-pub leaves_other : verdict_of [] (quotation (number 1 ∷ []) ∷ number 3 ∷ quotation (drop ∷ quotation (number 2 ∷ number 3 ∷ []) ∷ []) ∷ times ∷ call ∷ []) ≡ refuses 0 (rows 2 1 1) 12
+pub leaves_other : verdict_of [] (quotation (number 1 ∷ []) ∷ number 3 ∷ quotation (drop ∷ quotation (number 2 ∷ number 3 ∷ []) ∷ []) ∷ times ∷ call ∷ []) ≡ refuses 0 (Rows 2 1 1) 12
 unfolding prim_numbered core_numbered mark_eq
 leaves_other = refl
 
@@ -398,27 +400,27 @@ unfolding prim_numbered core_numbered mark_eq
 leaves_same = refl
 
 -- where the input is declared never to return: : name ( q: ( -- * ) -- * ) call ; inline recursive [ 1 ] name
-pub returns_though : verdict_of (defined (signature None (quoted x (stops 0) no_inputs) never) true true (call ∷ []) ∷ []) (quotation (number 1 ∷ []) ∷ own 0 ∷ []) ≡ refuses 1 (rows 1 0 1) 4
+pub returns_though : verdict_of (defined (signature None (quoted x (stops 0) no_inputs) never) true true (call ∷ []) ∷ []) (quotation (number 1 ∷ []) ∷ own 0 ∷ []) ≡ refuses 1 (Rows 1 0 1) 4
 unfolding prim_numbered core_numbered mark_eq
 returns_though = refl
 
 -- where the input has no row: : name ( q: ( x -- y ) -- ) drop ; inline recursive [ drop ] name
-pub without_rows : verdict_of (defined (takes_quotation None None (takes 1 1)) true true (drop ∷ []) ∷ []) (quotation (drop ∷ []) ∷ own 0 ∷ []) ≡ refuses 1 (rows 1 1 0) 4
+pub without_rows : verdict_of (defined (takes_quotation None None (takes 1 1)) true true (drop ∷ []) ∷ []) (quotation (drop ∷ []) ∷ own 0 ∷ []) ≡ refuses 1 (Rows 1 1 0) 4
 unfolding prim_numbered core_numbered mark_eq
 without_rows = refl
 
 -- : name ( ..a q: ( ..a x -- ..a ) -- ..a ) call ; inline
-pub input_too_few : verdict_of (defined (takes_quotation a a (from_to a a 1 0)) true false (call ∷ []) ∷ []) ([]) ≡ refuses 0 (rows 1 1 0) 10
+pub input_too_few : verdict_of (defined (takes_quotation a a (from_to a a 1 0)) true false (call ∷ []) ∷ []) ([]) ≡ refuses 0 (Rows 1 1 0) 10
 unfolding prim_numbered core_numbered mark_eq
 input_too_few = refl
 
 -- : name ( ..a q: ( ..a -- ..a ) -- ..a ) 1 swap call ; inline
-pub input_too_many : verdict_of (defined (takes_quotation a a (from_to a a 0 0)) true false (number 1 ∷ swap ∷ call ∷ []) ∷ []) ([]) ≡ refuses 0 (rows 1 0 1) 12
+pub input_too_many : verdict_of (defined (takes_quotation a a (from_to a a 0 0)) true false (number 1 ∷ swap ∷ call ∷ []) ∷ []) ([]) ≡ refuses 0 (Rows 1 0 1) 12
 unfolding prim_numbered core_numbered mark_eq
 input_too_many = refl
 
 -- with two inputs q: ( ..a -- ..b ) and p: ( ..a -- ..a ), : name .. [ call ] dip call ; inline calls the second on the row of the first
-pub input_base : verdict_of (defined (signature a (quoted x (from_to a b 0 0) (quoted x (from_to a a 0 0) no_inputs)) (leaves b [])) true false (quotation (call ∷ []) ∷ dip ∷ call ∷ []) ∷ []) ([]) ≡ refuses 0 (rows 2 0 0) 14
+pub input_base : verdict_of (defined (signature a (quoted x (from_to a b 0 0) (quoted x (from_to a a 0 0) no_inputs)) (leaves b [])) true false (quotation (call ∷ []) ∷ dip ∷ call ∷ []) ∷ []) ([]) ≡ refuses 0 (Rows 2 0 0) 14
 unfolding prim_numbered core_numbered mark_eq
 input_base = refl
 
@@ -440,27 +442,27 @@ dead_row = refl
 -- Undeclared recursion.
 
 -- : name ( q -- ) dup call name ; inline
-pub leads_to_itself : verdict_of (defined (takes 1 0) true false (dup ∷ call ∷ own 0 ∷ []) ∷ []) ([]) ≡ refuses 0 undeclared_recursion 2
+pub leads_to_itself : verdict_of (defined (takes 1 0) true false (dup ∷ call ∷ own 0 ∷ []) ∷ []) ([]) ≡ refuses 0 UndeclaredRecursion 2
 unfolding prim_numbered core_numbered mark_eq
 leads_to_itself = refl
 
 -- in a quotation, too
-pub leads_in_quotation : verdict_of (defined (takes 0 0) true false (quotation (own 0 ∷ []) ∷ drop ∷ []) ∷ []) ([]) ≡ refuses 0 undeclared_recursion 2
+pub leads_in_quotation : verdict_of (defined (takes 0 0) true false (quotation (own 0 ∷ []) ∷ drop ∷ []) ∷ []) ([]) ≡ refuses 0 UndeclaredRecursion 2
 unfolding prim_numbered core_numbered mark_eq
 leads_in_quotation = refl
 
 -- and by \
-pub leads_by_name : verdict_of (defined (takes 0 0) true false (itself (own 0) ∷ drop ∷ []) ∷ []) ([]) ≡ refuses 0 undeclared_recursion 2
+pub leads_by_name : verdict_of (defined (takes 0 0) true false (itself (own 0) ∷ drop ∷ []) ∷ []) ([]) ≡ refuses 0 UndeclaredRecursion 2
 unfolding prim_numbered core_numbered mark_eq
 leads_by_name = refl
 
 -- through another inline word
-pub leads_through_another : verdict_of (defined (takes 0 0) true false (own 1 ∷ []) ∷ defined (takes 0 0) true false (own 0 ∷ []) ∷ []) ([]) ≡ refuses 0 undeclared_recursion 2
+pub leads_through_another : verdict_of (defined (takes 0 0) true false (own 1 ∷ []) ∷ defined (takes 0 0) true false (own 0 ∷ []) ∷ []) ([]) ≡ refuses 0 UndeclaredRecursion 2
 unfolding prim_numbered core_numbered mark_eq
 leads_through_another = refl
 
 -- which `recursive` does not allow
-pub declared_through_another : verdict_of (defined (takes 0 0) true true (own 1 ∷ []) ∷ defined (takes 0 0) true false (own 0 ∷ []) ∷ []) ([]) ≡ refuses 0 undeclared_recursion 2
+pub declared_through_another : verdict_of (defined (takes 0 0) true true (own 1 ∷ []) ∷ defined (takes 0 0) true false (own 0 ∷ []) ∷ []) ([]) ≡ refuses 0 UndeclaredRecursion 2
 unfolding prim_numbered core_numbered mark_eq
 declared_through_another = refl
 
@@ -477,12 +479,12 @@ declared = refl
 -- Declarations of rows.
 
 -- : name ( ..a q: ( ..a -- ..a ) -- ..a ) drop ;
-pub not_inline : verdict_of (defined (takes_quotation a a (from_to a a 0 0)) false false (drop ∷ []) ∷ []) ([]) ≡ refuses 0 row_declaration 2
+pub not_inline : verdict_of (defined (takes_quotation a a (from_to a a 0 0)) false false (drop ∷ []) ∷ []) ([]) ≡ refuses 0 RowDeclaration 2
 unfolding prim_numbered core_numbered mark_eq
 not_inline = refl
 
 -- : name ( ..a -- ) ; inline
-pub one_side : verdict_of (defined (from_to a None 0 0) true false ([]) ∷ []) ([]) ≡ refuses 0 row_declaration 2
+pub one_side : verdict_of (defined (from_to a None 0 0) true false ([]) ∷ []) ([]) ≡ refuses 0 RowDeclaration 2
 unfolding prim_numbered core_numbered mark_eq
 one_side = refl
 
@@ -492,49 +494,49 @@ unfolding prim_numbered core_numbered mark_eq
 one_side_never = refl
 
 -- : name ( ..a q: ( ..a -- ) -- ..a ) drop ; inline
-pub one_side_nested : verdict_of (defined (takes_quotation a a (from_to a None 0 0)) true false (drop ∷ []) ∷ []) ([]) ≡ refuses 0 row_declaration 2
+pub one_side_nested : verdict_of (defined (takes_quotation a a (from_to a None 0 0)) true false (drop ∷ []) ∷ []) ([]) ≡ refuses 0 RowDeclaration 2
 unfolding prim_numbered core_numbered mark_eq
 one_side_nested = refl
 
 -- : name ( q: ( ..a -- ..a ) -- ) drop ; inline
-pub nested_alone : verdict_of (defined (takes_quotation None None (from_to a a 0 0)) true false (drop ∷ []) ∷ []) ([]) ≡ refuses 0 row_declaration 2
+pub nested_alone : verdict_of (defined (takes_quotation None None (from_to a a 0 0)) true false (drop ∷ []) ∷ []) ([]) ≡ refuses 0 RowDeclaration 2
 unfolding prim_numbered core_numbered mark_eq
 nested_alone = refl
 
 -- : name ( ..a q: ( ..b -- ..b ) -- ..a ) drop ; inline
-pub never_bound : verdict_of (defined (takes_quotation a a (from_to b b 0 0)) true false (drop ∷ []) ∷ []) ([]) ≡ refuses 0 row_declaration 2
+pub never_bound : verdict_of (defined (takes_quotation a a (from_to b b 0 0)) true false (drop ∷ []) ∷ []) ([]) ≡ refuses 0 RowDeclaration 2
 unfolding prim_numbered core_numbered mark_eq
 never_bound = refl
 
 -- : name ( ..a -- ..b ) ; inline
-pub output_not_bound : verdict_of (defined (from_to a b 0 0) true false ([]) ∷ []) ([]) ≡ refuses 0 row_declaration 2
+pub output_not_bound : verdict_of (defined (from_to a b 0 0) true false ([]) ∷ []) ([]) ≡ refuses 0 RowDeclaration 2
 unfolding prim_numbered core_numbered mark_eq
 output_not_bound = refl
 
 -- a use before it: : u ( -- ) [ ] name + ; is dead once the input is there, and the later word is refused
-pub use_of_refused : verdict_of (defined (takes 0 0) false false (quotation ([]) ∷ own 1 ∷ plus ∷ []) ∷ defined (takes_quotation a a (from_to b b 0 0)) true false (drop ∷ []) ∷ []) ([]) ≡ refuses 1 row_declaration 2
+pub use_of_refused : verdict_of (defined (takes 0 0) false false (quotation ([]) ∷ own 1 ∷ plus ∷ []) ∷ defined (takes_quotation a a (from_to b b 0 0)) true false (drop ∷ []) ∷ []) ([]) ≡ refuses 1 RowDeclaration 2
 unfolding prim_numbered core_numbered mark_eq
 use_of_refused = refl
 
 -- Generics and methods.
 
 -- GENERIC: name ( -- x )
-pub generic_without_input : verdict_of (record (word_of (codes "scratchpad") (codes "name") generic (takes 0 1) false false) { place = token 2 } ∷ []) ([]) ≡ refuses 0 method_effect 2
+pub generic_without_input : verdict_of (record (word_of (codes "scratchpad") (codes "name") generic (takes 0 1) false false) { place = token 2 } ∷ []) ([]) ≡ refuses 0 MethodEffect 2
 unfolding prim_numbered core_numbered mark_eq
 generic_without_input = refl
 
 -- GENERIC: name ( x: ( -- ) -- )
-pub generic_with_quotation : verdict_of (record (word_of (codes "scratchpad") (codes "name") generic (takes_quotation None None (takes 0 0)) false false) { place = token 2 } ∷ []) ([]) ≡ refuses 0 method_effect 2
+pub generic_with_quotation : verdict_of (record (word_of (codes "scratchpad") (codes "name") generic (takes_quotation None None (takes 0 0)) false false) { place = token 2 } ∷ []) ([]) ≡ refuses 0 MethodEffect 2
 unfolding prim_numbered core_numbered mark_eq
 generic_with_quotation = refl
 
 -- GENERIC: name ( ..a x -- ..a ), which is no inline word
-pub generic_with_row : verdict_of (record (word_of (codes "scratchpad") (codes "name") generic (from_to a a 1 0) false false) { place = token 2 } ∷ []) ([]) ≡ refuses 0 row_declaration 2
+pub generic_with_row : verdict_of (record (word_of (codes "scratchpad") (codes "name") generic (from_to a a 1 0) false false) { place = token 2 } ∷ []) ([]) ≡ refuses 0 RowDeclaration 2
 unfolding prim_numbered core_numbered mark_eq
 generic_with_row = refl
 
 -- : name ( x -- y ) call-next-method ;
-pub next_outside : verdict_of (defined (takes 1 1) false false (next_method ∷ []) ∷ []) ([]) ≡ refuses 0 method_effect 10
+pub next_outside : verdict_of (defined (takes 1 1) false false (next_method ∷ []) ∷ []) ([]) ≡ refuses 0 MethodEffect 10
 unfolding prim_numbered core_numbered mark_eq
 next_outside = refl
 
@@ -544,7 +546,7 @@ unfolding prim_numbered core_numbered mark_eq
 next_inside = refl
 
 -- M: object name dup ;
-pub method_leaves : verdict_of (record (word_of (codes "scratchpad") (codes "name") generic (takes 1 1) false false) { place = token 2 } ∷ record (word_of [] [] (method 11 82 (placed 10 (phrase (dup ∷ [])))) (takes 1 1) false false) { place = token 2 } ∷ []) ([]) ≡ refuses 1 (outputs 1 2) 2
+pub method_leaves : verdict_of (record (word_of (codes "scratchpad") (codes "name") generic (takes 1 1) false false) { place = token 2 } ∷ record (word_of [] [] (method 11 82 (placed 10 (phrase (dup ∷ [])))) (takes 1 1) false false) { place = token 2 } ∷ []) ([]) ≡ refuses 1 (Outputs 1 2) 2
 unfolding prim_numbered core_numbered mark_eq
 method_leaves = refl
 
@@ -561,7 +563,7 @@ many zero i is = is
 many (suc n) i is = i ∷ many n i is
 
 -- [ dup call ] dup call
-pub calls_itself : verdict_of [] (quotation (dup ∷ call ∷ []) ∷ dup ∷ call ∷ []) ≡ refuses 0 too_deep 3
+pub calls_itself : verdict_of [] (quotation (dup ∷ call ∷ []) ∷ dup ∷ call ∷ []) ≡ refuses 0 TooDeep 3
 unfolding prim_numbered core_numbered mark_eq
 calls_itself = refl
 
@@ -571,7 +573,7 @@ unfolding prim_numbered core_numbered mark_eq
 deepest = refl
 
 -- 65: the innermost call is the 65th
-pub one_deeper : verdict_of [] (nested 65) ≡ refuses 0 too_deep 67
+pub one_deeper : verdict_of [] (nested 65) ≡ refuses 0 TooDeep 67
 unfolding prim_numbered core_numbered mark_eq
 one_deeper = refl
 
@@ -581,7 +583,7 @@ deep_use zero = own 0 ∷ []
 deep_use (suc n) = quotation (deep_use n) ∷ call ∷ []
 
 -- an expanded word counts, too
-pub expanded_deep : verdict_of (defined (takes 0 0) true false ([]) ∷ []) (deep_use 64) ≡ refuses 1 too_deep 65
+pub expanded_deep : verdict_of (defined (takes 0 0) true false ([]) ∷ []) (deep_use 64) ≡ refuses 1 TooDeep 65
 unfolding prim_numbered core_numbered mark_eq
 expanded_deep = refl
 
@@ -591,7 +593,7 @@ unfolding prim_numbered core_numbered mark_eq
 curried_deep = refl
 
 -- with one more the mark would be too deep, so nothing is known
-pub curried_deeper : verdict_of [] (many 65 (number 1) (quotation (many 65 drop []) ∷ many 65 curry (call ∷ []))) ≡ refuses 0 not_known 198
+pub curried_deeper : verdict_of [] (many 65 (number 1) (quotation (many 65 drop []) ∷ many 65 curry (call ∷ []))) ≡ refuses 0 NotKnown 198
 unfolding prim_numbered core_numbered mark_eq
 curried_deeper = refl
 
@@ -607,17 +609,17 @@ unfolding prim_numbered core_numbered mark_eq
 just_walked = refl
 
 -- with one item less
-pub too_many : walk_of ([]) 3 (number 1 ∷ number 2 ∷ plus ∷ drop ∷ []) ≡ refused too_large (token 4)
+pub too_many : walk_of ([]) 3 (number 1 ∷ number 2 ∷ plus ∷ drop ∷ []) ≡ refused TooLarge (token 4)
 unfolding prim_numbered core_numbered mark_eq
 too_many = refl
 
 -- a rule that the item breaks by itself comes first
-pub own_rule_first : walk_of ([]) 3 (number 1 ∷ number 2 ∷ plus ∷ plus ∷ []) ≡ refused (underflow 2 1) (token 4)
+pub own_rule_first : walk_of ([]) 3 (number 1 ∷ number 2 ∷ plus ∷ plus ∷ []) ≡ refused (Underflow 2 1) (token 4)
 unfolding prim_numbered core_numbered mark_eq
 own_rule_first = refl
 
 -- also not-known
-pub callable_rule_first : walk_of ([]) 1 (number 1 ∷ call ∷ []) ≡ refused not_known (token 2)
+pub callable_rule_first : walk_of ([]) 1 (number 1 ∷ call ∷ []) ≡ refused NotKnown (token 2)
 unfolding prim_numbered core_numbered mark_eq
 callable_rule_first = refl
 
@@ -637,7 +639,7 @@ unfolding prim_numbered core_numbered mark_eq
 composed_counts = refl
 
 -- in place of it too-large, at the call
-pub composed_too_many : walk_of ([]) 4 (quotation ([]) ∷ quotation ([]) ∷ compose ∷ call ∷ []) ≡ refused too_large (token 6)
+pub composed_too_many : walk_of ([]) 4 (quotation ([]) ∷ quotation ([]) ∷ compose ∷ call ∷ []) ≡ refused TooLarge (token 6)
 unfolding prim_numbered core_numbered mark_eq
 composed_too_many = refl
 
@@ -678,25 +680,80 @@ pub numbered_behind_fry : marks_of (walk_of [] 9 (number 1 ∷ fried 1 (hole 0 �
 unfolding prim_numbered core_numbered mark_eq
 numbered_behind_fry = refl
 
+-- What primitives do with marks.
+
+-- what a shuffle leaves of [ ] [ ] [ ], the top first
+abbrev shuffled : Item → List Mark
+shuffled i = marks_of (walk_of [] 9 (quotation ([]) ∷ quotation ([]) ∷ quotation ([]) ∷ i ∷ []))
+
+-- these three, of which r is the top
+abbrev p : Mark
+p = literal_mark 0 []
+
+abbrev q : Mark
+q = literal_mark 1 []
+
+abbrev r : Mark
+r = literal_mark 2 []
+
+-- shuffles that leave fewer values
+pub marks_dropped : map shuffled (drop ∷ 2drop ∷ 3drop ∷ nip ∷ 2nip ∷ []) ≡ (q ∷ p ∷ []) ∷ (p ∷ []) ∷ [] ∷ (r ∷ p ∷ []) ∷ (r ∷ []) ∷ []
+unfolding prim_numbered core_numbered mark_eq
+marks_dropped = refl
+
+-- as many
+pub marks_exchanged : map shuffled (swap ∷ swapd ∷ rot ∷ -rot ∷ []) ≡ (q ∷ r ∷ p ∷ []) ∷ (r ∷ p ∷ q ∷ []) ∷ (p ∷ r ∷ q ∷ []) ∷ (q ∷ p ∷ r ∷ []) ∷ []
+unfolding prim_numbered core_numbered mark_eq
+marks_exchanged = refl
+
+-- and more
+pub marks_copied : map shuffled (dup ∷ dupd ∷ over ∷ pick ∷ []) ≡ (r ∷ r ∷ q ∷ p ∷ []) ∷ (r ∷ q ∷ q ∷ p ∷ []) ∷ (q ∷ r ∷ q ∷ p ∷ []) ∷ (p ∷ r ∷ q ∷ p ∷ []) ∷ []
+unfolding prim_numbered core_numbered mark_eq
+marks_copied = refl
+
+pub several_marks_copied : map shuffled (2dup ∷ 3dup ∷ 2over ∷ []) ≡ (r ∷ q ∷ r ∷ q ∷ p ∷ []) ∷ (r ∷ q ∷ p ∷ r ∷ q ∷ p ∷ []) ∷ (q ∷ p ∷ r ∷ q ∷ p ∷ []) ∷ []
+unfolding prim_numbered core_numbered mark_eq
+several_marks_copied = refl
+
+-- [ ] swap
+pub one_to_swap : verdict_of [] (quotation ([]) ∷ swap ∷ []) ≡ refuses 0 (Underflow 2 1) 3
+unfolding prim_numbered core_numbered mark_eq
+one_to_swap = refl
+
+-- 7 2 /i 3 <
+pub numbers_compared : marks_of (walk_of [] 9 (number 7 ∷ number 2 ∷ /i ∷ number 3 ∷ < ∷ [])) ≡ any ∷ []
+unfolding prim_numbered core_numbered mark_eq
+numbers_compared = refl
+
+-- 7 /i
+pub one_to_divide : verdict_of [] (number 7 ∷ /i ∷ []) ≡ refuses 0 (Underflow 2 1) 2
+unfolding prim_numbered core_numbered mark_eq
+one_to_divide = refl
+
+-- t [ ] [ ] ? call: nothing is known of a value that is chosen
+pub chosen_unknown : verdict_of [] (yes ∷ quotation ([]) ∷ quotation ([]) ∷ choose ∷ call ∷ []) ≡ refuses 0 NotKnown 7
+unfolding prim_numbered core_numbered mark_eq
+chosen_unknown = refl
+
 -- What a word leaves.
 
 -- : name ( x -- y ) dup ;
-pub one_too_many : verdict_of (defined (takes 1 1) false false (dup ∷ []) ∷ []) ([]) ≡ refuses 0 (outputs 1 2) 2
+pub one_too_many : verdict_of (defined (takes 1 1) false false (dup ∷ []) ∷ []) ([]) ≡ refuses 0 (Outputs 1 2) 2
 unfolding prim_numbered core_numbered mark_eq
 one_too_many = refl
 
 -- : name ( x -- y ) drop ;
-pub one_too_few : verdict_of (defined (takes 1 1) false false (drop ∷ []) ∷ []) ([]) ≡ refuses 0 (outputs 1 0) 2
+pub one_too_few : verdict_of (defined (takes 1 1) false false (drop ∷ []) ∷ []) ([]) ≡ refuses 0 (Outputs 1 0) 2
 unfolding prim_numbered core_numbered mark_eq
 one_too_few = refl
 
 -- : name ( ..a q: ( ..a -- ..b ) -- ..b ) drop ; inline
-pub other_row : verdict_of (defined (takes_quotation a b (from_to a b 0 0)) true false (drop ∷ []) ∷ []) ([]) ≡ refuses 0 (outputs 0 0) 2
+pub other_row : verdict_of (defined (takes_quotation a b (from_to a b 0 0)) true false (drop ∷ []) ∷ []) ([]) ≡ refuses 0 (Outputs 0 0) 2
 unfolding prim_numbered core_numbered mark_eq
 other_row = refl
 
 -- : name ( -- * ) ;
-pub can_return : verdict_of (defined (stops 0) false false ([]) ∷ []) ([]) ≡ refuses 0 must_return 2
+pub can_return : verdict_of (defined (stops 0) false false ([]) ∷ []) ([]) ≡ refuses 0 MustReturn 2
 unfolding prim_numbered core_numbered mark_eq
 can_return = refl
 
@@ -721,7 +778,7 @@ unfolding prim_numbered core_numbered mark_eq
 expanded_not_walked = refl
 
 -- but at each use, at the place in its text
-pub expanded_at_use : verdict_of (defined (takes 0 0) true false (plus ∷ []) ∷ []) (number 1 ∷ own 0 ∷ []) ≡ refuses 1 (underflow 2 1) 10
+pub expanded_at_use : verdict_of (defined (takes 0 0) true false (plus ∷ []) ∷ []) (number 1 ∷ own 0 ∷ []) ≡ refuses 1 (Underflow 2 1) 10
 unfolding prim_numbered core_numbered mark_eq
 expanded_at_use = refl
 

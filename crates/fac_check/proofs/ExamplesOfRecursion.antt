@@ -8,7 +8,8 @@ use Rattle.fac_lang.specs.Signatures.{signature, no_inputs, leaves}
 use Rattle.fac_lang.specs.Texts.{Item, word}
 use Rattle.fac_lang.proofs.DemoWords.{phrase, quotation, itself}
 use Rattle.fac_lang.proofs.DemoPrelude.{word_of}
-use Rattle.fac_check.specs.UndeclaredRecursion.{edges_from, undeclared_from}
+use Rattle.fac_check.specs.inner.UndeclaredRecursion.{edges_from}
+use Rattle.fac_check.specs.Judged.{undeclared_from}
 
 -- a word with this text, marked `inline` or not, and `recursive` or not
 abbrev written : Bool → Bool → List Item → WordDef

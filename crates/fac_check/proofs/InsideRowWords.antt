@@ -8,7 +8,8 @@ use Rattle.fac_lang.specs.Signatures.{Signature, signature, Inputs, no_inputs, v
 use Rattle.fac_lang.specs.Effects.{inputs_count, leaving_outs}
 use Rattle.fac_lang.specs.declared.program.Program.{Program}
 use Rattle.fac_lang.specs.Eval.{Run, run_callable}
-use Rattle.fac_abs.specs.Marks.{Row, named_row, AbstractStack, dead, on, rows, base_eq, unknowns}
+use Rattle.fac_abs.specs.Marks.{Row, named_row, AbstractStack, dead, on, base_eq, unknowns}
+use Rattle.fac_abs.specs.declared.rule.Rule.TheVariants.{Rows}
 use Rattle.fac_check.specs.Rows.{Binding, bound_to, stack_or_dead, leaving_row, effect_inputs, input_effect, leaving_on, Called, call_breaks, called_if, calls_input}
 use Rattle.fac_check.specs.Flow.{Walk, called}
 use Rattle.fac_check.specs.Standing.{Stands, StandsOn, StandsStack, Valid}
@@ -63,7 +64,7 @@ module _ (P : Program) (C : Context) where
     input_fits : (q : Signature) (m : Mark) (c : Callable) → Stands C.inputs m (fun c) → DoesInput P C go run f ds q m → (k : ℕ) (b : Option Row) (ms : List Mark) (p : Place) (left : ℕ) (st : State Value) (n : ℕ) → n ≤ f → OnState P K b ms st → Fits P K (called (calls_input k q b ms) p left) (run_callable run c st n)
     input_fits (signature (Some y) js l) m c h does k b ms p left st n le o = closed (base_eq b (Some (named_row y)) && nat_eq (length ms) (inputs_count js)) refl
       where
-        closed : (z : Bool) → (base_eq b (Some (named_row y)) && nat_eq (length ms) (inputs_count js)) ≡ z → Fits P K (called (called_if z (leaving_on l (leaving_row l) []) (rows k (inputs_count js) (length ms))) p left) (run_callable run c st n)
+        closed : (z : Bool) → (base_eq b (Some (named_row y)) && nat_eq (length ms) (inputs_count js)) ≡ z → Fits P K (called (called_if z (leaving_on l (leaving_row l) []) (Rows k (inputs_count js) (length ms))) p left) (run_callable run c st n)
         closed false z = tt
         closed true z =
             (let q = marks_on b ms st.stack o.0 in ends_map P K (LeavesRow P C ds l) (StackState P K (leaving_on l (leaving_row l) [])) (run_callable run c st n) (left_row l) (does c h q.0 st n le (on_row b y (base_same b (Some (named_row y)) (and_first (base_eq b (Some (named_row y))) (nat_eq (length ms) (inputs_count js)) z)) q.0 q.2) (over_count (length ms) (inputs_count js) q.0 st.stack (length_same (length ms) (inputs_count js) (and_second (base_eq b (Some (named_row y))) (nat_eq (length ms) (inputs_count js)) z)) q.1) o.1))
@@ -73,13 +74,13 @@ module _ (P : Program) (C : Context) where
         kept r q never st' x = absurd x
         kept r q (leaves y names) st' x = (over_unknowns P K (length names) b (drop (inputs_count js) ms) r st'.stack x.0 q, x.1)
 
-        closed : (z : Bool) → nat_lt (length ms) (inputs_count js) ≡ z → Fits P K (called (called_if (not z) (leaving_on l b (drop (inputs_count js) ms)) (rows k (inputs_count js) (length ms))) p left) (run_callable run c st n)
+        closed : (z : Bool) → nat_lt (length ms) (inputs_count js) ≡ z → Fits P K (called (called_if (not z) (leaving_on l b (drop (inputs_count js) ms)) (Rows k (inputs_count js) (length ms))) p left) (run_callable run c st n)
         closed true z = tt
         closed false z =
             (let q = split_marks P K (inputs_count js) b ms st.stack (ltb-false (length ms) (inputs_count js) z) o.0 in ends_map P K (Leaves P (leaving_outs l) q.0) (StackState P K (leaving_on l b (drop (inputs_count js) ms))) (run_callable run c st n) (kept q.0 q.2 l) (does c h q.0 st n le q.1 o.1))
 
     abbrev calling : ℕ → Option Signature → Option Row → List Mark → Called
-    calling k o b ms = elim o [ Some q ↦ calls_input k q b ms | None ↦ call_breaks (rows k 0 (length ms)) ]
+    calling k o b ms = elim o [ Some q ↦ calls_input k q b ms | None ↦ call_breaks (Rows k 0 (length ms)) ]
 
     given_fits : (j : ℕ) (is : Inputs) (ns : List Mark) (c : Callable) → Given j is ns c → DoInputs P C go run f ds is ns → (k : ℕ) (b : Option Row) (ms : List Mark) (p : Place) (left : ℕ) (st : State Value) (n : ℕ) → n ≤ f → OnState P K b ms st → Fits P K (called (calling k (input_effect j is) b ms) p left) (run_callable run c st n)
     given_fits j no_inputs ns c h does k b ms p left st n le o = absurd h

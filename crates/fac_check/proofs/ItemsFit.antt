@@ -1,13 +1,16 @@
 -- What each item does at once in the walk fits what it does at once in a run.
-use Rattle.std.proofs.Common.{subst, ◌≡◌, ℕ, zero, suc, ◌≤◌, List, [], ◌∷◌, map, length, Bool, true, false, refl, sym, Option, Some, None}
+use Rattle.std.proofs.Common.{subst, ◌≡◌, ◌+◌, ℕ, zero, suc, ◌≤◌, List, [], ◌∷◌, map, length, Bool, true, false, refl, sym, ap, ◌∙◌, arith, Option, Some, None}
 use Rattle.std.specs.Prelude.{nat_eq, nat_lt, nat_le, not, ◌&&◌, slice_get}
 use mathlib.Core.Logic.{inl, inr}
 use Rattle.fac_lang.specs.declared.phrase.Height.{Height}
-use Rattle.fac_lang.specs.Texts.{Literal, Plain, wrd, arr, tup, Text, Item, lit, lit_arr, quot, word, bind, local, fry, hole, call_eff, exec_eff, next_method, made, next_after, held, known, Value, plain, fun, Callable, text, cur, both, Mark, any, lit_mark, cur_mark, com_mark, wrd_mark, par_mark}
-use Rattle.fac_lang.specs.World.{State, World, Error, ErrorName, no_method, no_next_method, wrong_values, push, pile}
+use Rattle.fac_lang.specs.Texts.{Literal, Plain, no, wrd, arr, tup, Text, Item, lit, lit_arr, quot, word, bind, local, fry, hole, call_eff, exec_eff, next_method, made, next_after, held, known, Value, plain, fun, Callable, text, cur, both, Mark, any, lit_mark, cur_mark, com_mark, wrd_mark, par_mark}
+use Rattle.fac_lang.specs.World.{State, World, Error, push, pile}
+use Rattle.fac_lang.specs.declared.error_name.ErrorName.{ErrorName}
+use Rattle.fac_lang.specs.declared.error_name.ErrorName.TheVariants.{NoMethod, NoNextMethod, WrongValues}
 use Rattle.fac_lang.specs.Substitution.{put_holes, of_method}
 use Rattle.fac_lang.specs.Effects.{effect_height}
-use Rattle.fac_lang.specs.Primitives.{Moves, moves1, moves2, moves3, Shuffle, moves, Prim, shuffle, p_curry, p_compose, s_drop, s_dup, s_swap, s_over, s_pick, s_rot, s_unrot, s_nip, s_dupd, s_swapd, s_2drop, s_2dup, s_3drop, s_3dup, s_2over, s_2nip, moved, prim_numbered, Gives, gives as gave, bad, or_bad, Fn, fn0, fn1, fn2, fn3, prim_fn, seen_no}
+use Rattle.fac_lang.specs.Procedures.{Procedure, leaves, curries, composes, Gives, gives as gave, bad, Fn, fn0, fn1, fn2, fn3, followed, by_inputs, picked, value_at, made_or}
+use Rattle.fac_lang.specs.Primitives.{Primitive, prim_numbered, prim_fn, seen_no}
 use Rattle.fac_lang.specs.declared.program.Program.{Program}
 use Rattle.fac_lang.specs.declared.program.WordDef.{WordDef}
 use Rattle.fac_lang.specs.declared.program.Sort.{Sort}
@@ -16,14 +19,17 @@ use Rattle.fac_lang.specs.Objects.{made_tuple, get_slot, set_slot, put_slot, kin
 use Rattle.fac_lang.specs.Classes.{has_kind, pick, next}
 use Rattle.fac_lang.specs.Eval.{Result, Done, Failed, Spent, Stuck, Act, fails, goes, binds, runs, Run, run_callable}
 use Rattle.fac_lang.specs.Meaning.{texts, names, seen, curry_of, compose_of, taking1, taking2, taking3, taking, with_callable, given, does, does_call, does_dip, does_if, Core, does_execute, does_boa, with_word, error, word_call, makes_tuple, run_text, one_item, core_act, prim_act, core_numbered, generic_of, pushes_array, c_call, c_dip, c_if, c_execute, c_boa, either, sort_of, sort_act, callable_fits, tested_call, act, word_text, enters, tested_execute, word_execute, word_fits, truth_value}
-use Rattle.fac_abs.specs.Marks.{Row, AbstractStack, dead, on, Rule, underflow, not_known, limited, mark_depth, deepest_mark, is_callable, unknowns, popped, piled, curried_mark, composed_mark}
-use Rattle.fac_check.specs.Flow.{Doing, breaks, gives, expands, walks, forks, again, Walk, needing, by_height, callable_or, marks_moved, core_doing, curry_doing, compose_doing, known_word, makes_by, word_doing, sort_doing, prim_doing, inline_doing, row_or_text, generic_doing, next_doing, doing, lit_doing, is_own}
+use Rattle.fac_abs.specs.Marks.{Row, AbstractStack, dead, on, limited, mark_depth, deepest_mark, is_callable, unknowns, popped, piled, curried_mark, composed_mark}
+use Rattle.fac_abs.specs.declared.rule.Rule.{Rule}
+use Rattle.fac_abs.specs.declared.rule.Rule.TheVariants.{Underflow, NotKnown}
+use Rattle.fac_check.specs.Flow.{Doing, breaks, gives, expands, walks, forks, again, Walk, needing, by_height, callable_or, mark_at, core_doing, known_word, makes_by, word_doing, sort_doing, procedure_doing, prim_doing, inline_doing, row_or_text, generic_doing, next_doing, doing, lit_doing, is_own}
 use Rattle.fac_check.specs.Rows.{is_row}
 use Rattle.fac_check.specs.CallableEffects.{fits, callable_height}
 use Rattle.fac_check.specs.Standing.{Stands, StandsText, StandsItem, StandsOn, Valid, EndsSo}
 use Rattle.fac_lang.proofs.Laws.{Sparing}
 use Rattle.fac_abs.proofs.EqualMarks.{never_true, and_first, and_second}
 use Rattle.fac_check.proofs.StandingLaws.{Each, holes_text}
+use Rattle.fac_check.proofs.PrimitivesKeep.{Regular, RegularFn, followed_regular, inputs_regular, few_inputs}
 use Rattle.fac_check.proofs.WalksFit.{Context, OnState, StackState, TextsFit, InputsFit, Does, Back}
 
 -- n values on a list
@@ -41,16 +47,37 @@ abbrev pub values_in : List Value → ℕ → ℕ
 values_in [] k = k
 values_in (v ∷ vs) k = values_in vs (suc k)
 
--- A primitive takes and leaves so many values, and keeps the addresses of the literal arrays.
-abbrev pub RegularGives : Program → Option ℕ → Gives Value → Type 0
-RegularGives P o (gave vs w) = (o ≡ Some (values_in vs 0)) × Valid P w
-RegularGives P o (bad e v w) = Unit {0}
+-- addresses that stay are those of the literal arrays
+pub still_valid : (P : Program) (w u : World Value) → Valid P w → u.literals ≡ w.literals → Valid P u
+still_valid P w u v e = λ a h. (let z = v a h in (z.0, ap (λ (ls : List ℕ). slice_get ls a) e ∙ z.1))
 
-abbrev pub RegularFn : Program → ℕ → Option ℕ → Fn Value → Type 0
-RegularFn P i o (fn0 g) = (i ≡ 0) × ((w : World Value) → Valid P w → RegularGives P o (g w))
-RegularFn P i o (fn1 g) = (i ≡ 1) × ((x : Value) (w : World Value) → Valid P w → RegularGives P o (g x w))
-RegularFn P i o (fn2 g) = (i ≡ 2) × ((x y : Value) (w : World Value) → Valid P w → RegularGives P o (g x y w))
-RegularFn P i o (fn3 g) = (i ≡ 3) × ((x y z : Value) (w : World Value) → Valid P w → RegularGives P o (g x y z w))
+values_counted : (vs : List Value) (k : ℕ) → values_in vs k ≡ length vs + k
+values_counted [] k = omega arith
+values_counted (v ∷ vs) k = omega (arith, values_counted vs (suc k))
+
+-- Values that are taken from a list, one by one or as a list.
+one_taken_as : (s : List Value) (w : World Value) (k : List Value → State Value → Act) → taking1 s w (λ x st. k (x ∷ []) st) ≡ taking 1 [] s w k
+one_taken_as [] w k = refl
+one_taken_as (x ∷ s) w k = refl
+
+two_taken_as : (s : List Value) (w : World Value) (k : List Value → State Value → Act) → taking2 s w (λ x y st. k (x ∷ y ∷ []) st) ≡ taking 2 [] s w k
+two_taken_as [] w k = refl
+two_taken_as (y ∷ []) w k = refl
+two_taken_as (y ∷ x ∷ s) w k = refl
+
+three_taken_as : (s : List Value) (w : World Value) (k : List Value → State Value → Act) → taking3 s w (λ x y z st. k (x ∷ y ∷ z ∷ []) st) ≡ taking 3 [] s w k
+three_taken_as [] w k = refl
+three_taken_as (z ∷ []) w k = refl
+three_taken_as (z ∷ y ∷ []) w k = refl
+three_taken_as (z ∷ y ∷ x ∷ s) w k = refl
+
+-- a procedure is followed from the values that are taken
+does_follow : {o : Option ℕ} (P : Program) (a n : ℕ) (p : Procedure o) (st : State Value) → n ≤ 3 → does a (by_inputs texts (names P) n p) st ≡ taking n [] st.stack st.world (λ vs st'. given a st'.stack (followed texts (names P) p vs st'.world))
+does_follow P a zero p st few = refl
+does_follow P a (suc zero) p st few = one_taken_as st.stack st.world (λ vs st'. given a st'.stack (followed texts (names P) p vs st'.world))
+does_follow P a (suc (suc zero)) p st few = two_taken_as st.stack st.world (λ vs st'. given a st'.stack (followed texts (names P) p vs st'.world))
+does_follow P a (suc (suc (suc zero))) p st few = three_taken_as st.stack st.world (λ vs st'. given a st'.stack (followed texts (names P) p vs st'.world))
+does_follow P a (suc (suc (suc (suc n)))) p st few = absurd (omega (arith, few))
 
 -- whether a word of this sort that isn't inline does by its effect: core words and top-level phrases don't
 abbrev pub HasEffect : Program → ℕ → Sort → Type 0
@@ -88,9 +115,10 @@ module _ (P : Program) (C : Context) where
     abbrev D : Doing → Act → Type 0
     D = Does P C go run f sparing texts_fit inputs_fit
 
-    given_gives : (a : ℕ) (o : Option ℕ) (g : Gives Value) (b : Option Row) (ms : List Mark) (s : List Value) → RegularGives P o g → StandsOn C.inputs C.row b ms s → D (gives (left_on o b ms)) (given a s g)
-    given_gives a o (gave vs w) b ms s h e = rw h.0 (pile_unknowns vs 0 b ms s e, h.1)
-    given_gives a o (bad x v w) b ms s h e = tt
+    given_gives : (a : ℕ) (o : Option ℕ) (g : Gives Value) (b : Option Row) (ms : List Mark) (s : List Value) (w : World Value) → Valid P w → Regular o w.literals g → StandsOn C.inputs C.row b ms s → D (gives (left_on o b ms)) (given a s g)
+    given_gives a o (gave vs u) b ms s w v h e =
+        rw h.0 (subst (λ n. StandsOn C.inputs C.row b (unknowns n ms) (pile vs s)) (let all = values_counted vs 0 in omega (arith, all)) (pile_unknowns vs 0 b ms s e), still_valid P w u v h.1)
+    given_gives a o (bad x u w') b ms s w v h e = tt
 
     -- what takes i values and does something with the rest
     one_taken : (b : Option Row) (o : Option ℕ) (ms : List Mark) (s : List Value) (w : World Value) (k : Value → State Value → Act) → StandsOn C.inputs C.row b ms s → ((x : Value) (ns : List Mark) (r : List Value) → StandsOn C.inputs C.row b ns r → D (gives (left_on o b ns)) (k x (record { stack = r; world = w }))) → D (by_height 1 o b ms) (taking1 s w k)
@@ -122,11 +150,11 @@ module _ (P : Program) (C : Context) where
     three_taken b (Some o) (m ∷ n ∷ l ∷ ms) s w k h j = rw h.2 (rw h.4.2 (rw h.4.4.2 (j h.4.4.0 h.4.0 h.0 ms h.4.4.1 h.4.4.4)))
 
     -- every primitive, and every accessor, that is regular
-    pub regular_does : (a i : ℕ) (o : Option ℕ) (g : Fn Value) → RegularFn P i o g → (b : Option Row) (ms : List Mark) (st : State Value) → OnState P C b ms st → D (by_height i o b ms) (does a g st)
-    regular_does a i o (fn0 g) h b ms st e = rw h.0 (none_taken b o ms (given a st.stack (g st.world)) (given_gives a o (g st.world) b ms st.stack (h.1 st.world e.1) e.0))
-    regular_does a i o (fn1 g) h b ms st e = rw h.0 (one_taken b o ms st.stack st.world (λ x st'. given a st'.stack (g x st'.world)) e.0 (λ x ns r q. given_gives a o (g x st.world) b ns r (h.1 x st.world e.1) q))
-    regular_does a i o (fn2 g) h b ms st e = rw h.0 (two_taken b o ms st.stack st.world (λ x y st'. given a st'.stack (g x y st'.world)) e.0 (λ x y ns r q. given_gives a o (g x y st.world) b ns r (h.1 x y st.world e.1) q))
-    regular_does a i o (fn3 g) h b ms st e = rw h.0 (three_taken b o ms st.stack st.world (λ x y z st'. given a st'.stack (g x y z st'.world)) e.0 (λ x y z ns r q. given_gives a o (g x y z st.world) b ns r (h.1 x y z st.world e.1) q))
+    pub regular_does : (a i : ℕ) (o : Option ℕ) (g : Fn Value) → RegularFn i o g → (b : Option Row) (ms : List Mark) (st : State Value) → OnState P C b ms st → D (by_height i o b ms) (does a g st)
+    regular_does a i o (fn0 g) h b ms st e = rw h.0 (none_taken b o ms (given a st.stack (g st.world)) (given_gives a o (g st.world) b ms st.stack st.world e.1 (h.1 st.world) e.0))
+    regular_does a i o (fn1 g) h b ms st e = rw h.0 (one_taken b o ms st.stack st.world (λ x st'. given a st'.stack (g x st'.world)) e.0 (λ x ns r q. given_gives a o (g x st.world) b ns r st.world e.1 (h.1 x st.world) q))
+    regular_does a i o (fn2 g) h b ms st e = rw h.0 (two_taken b o ms st.stack st.world (λ x y st'. given a st'.stack (g x y st'.world)) e.0 (λ x y ns r q. given_gives a o (g x y st.world) b ns r st.world e.1 (h.1 x y st.world) q))
+    regular_does a i o (fn3 g) h b ms st e = rw h.0 (three_taken b o ms st.stack st.world (λ x y z st'. given a st'.stack (g x y z st'.world)) e.0 (λ x y z ns r q. given_gives a o (g x y z st.world) b ns r st.world e.1 (h.1 x y z st.world) q))
 
     -- The core words.
     callable_is : (q : Mark) (v : Value) → Stands C.inputs q v → is_callable q ≡ true → (c : Callable) × (v ≡ fun c)
@@ -144,20 +172,20 @@ module _ (P : Program) (C : Context) where
     pub call_does : (b : Option Row) (ms : List Mark) (st : State Value) → OnState P C b ms st → D (core_doing P (Some c_call) b ms) (does_call P st)
     call_does b [] st e = tt
     call_does b (q ∷ ms) st e =
-        rw e.0.2 (if_callable (is_callable q) not_known (walks q b ms []) (with_callable e.0.0 (λ c. runs c (record { stack = e.0.1; world = st.world }) [])) (λ yes. (let c = callable_is q e.0.0 e.0.3 yes in rw c.1 (c.0, record { stack = e.0.1; world = st.world }, [], refl, rw (sym c.1) e.0.3, (e.0.4, e.1), refl))))
+        rw e.0.2 (if_callable (is_callable q) NotKnown (walks q b ms []) (with_callable e.0.0 (λ c. runs c (record { stack = e.0.1; world = st.world }) [])) (λ yes. (let c = callable_is q e.0.0 e.0.3 yes in rw c.1 (c.0, record { stack = e.0.1; world = st.world }, [], refl, rw (sym c.1) e.0.3, (e.0.4, e.1), refl))))
 
     pub dip_does : (b : Option Row) (ms : List Mark) (st : State Value) → OnState P C b ms st → D (core_doing P (Some c_dip) b ms) (does_dip P st)
     dip_does b [] st e = tt
     dip_does b (q ∷ []) st e = tt
     dip_does b (q ∷ x ∷ ms) st e =
-        rw e.0.2 (rw e.0.4.2 (if_callable (is_callable q) not_known (walks q b ms (x ∷ [])) (with_callable e.0.0 (λ c. runs c (record { stack = e.0.4.1; world = st.world }) (e.0.4.0 ∷ []))) (λ yes. (let c = callable_is q e.0.0 e.0.3 yes in rw c.1 (c.0, record { stack = e.0.4.1; world = st.world }, e.0.4.0 ∷ [], refl, rw (sym c.1) e.0.3, (e.0.4.4, e.1), (e.0.4.0, [], refl, e.0.4.3, refl))))))
+        rw e.0.2 (rw e.0.4.2 (if_callable (is_callable q) NotKnown (walks q b ms (x ∷ [])) (with_callable e.0.0 (λ c. runs c (record { stack = e.0.4.1; world = st.world }) (e.0.4.0 ∷ []))) (λ yes. (let c = callable_is q e.0.0 e.0.3 yes in rw c.1 (c.0, record { stack = e.0.4.1; world = st.world }, e.0.4.0 ∷ [], refl, rw (sym c.1) e.0.3, (e.0.4.4, e.1), (e.0.4.0, [], refl, e.0.4.3, refl))))))
 
     pub if_does : (b : Option Row) (ms : List Mark) (st : State Value) → OnState P C b ms st → D (core_doing P (Some c_if) b ms) (does_if P st)
     if_does b [] st e = tt
     if_does b (r ∷ []) st e = tt
     if_does b (r ∷ l ∷ []) st e = tt
     if_does b (r ∷ l ∷ x ∷ ms) st e =
-        rw e.0.2 (rw e.0.4.2 (rw e.0.4.4.2 (if_callable (is_callable l && is_callable r) not_known (forks l r b ms) (with_callable e.0.4.0 (λ c. with_callable e.0.0 (λ d. runs (elim (seen_no (seen e.0.4.4.0)) [ true ↦ d | false ↦ c ]) (record { stack = e.0.4.4.1; world = st.world }) []))) (λ yes. (let c = callable_is l e.0.4.0 e.0.4.3 (and_first (is_callable l) (is_callable r) yes) in let d = callable_is r e.0.0 e.0.3 (and_second (is_callable l) (is_callable r) yes) in rw c.1 (rw d.1 (chosen (seen_no (seen e.0.4.4.0)) c.0 d.0 (rw (sym c.1) e.0.4.3) (rw (sym d.1) e.0.3))))))))
+        rw e.0.2 (rw e.0.4.2 (rw e.0.4.4.2 (if_callable (is_callable l && is_callable r) NotKnown (forks l r b ms) (with_callable e.0.4.0 (λ c. with_callable e.0.0 (λ d. runs (elim (seen_no (seen e.0.4.4.0)) [ true ↦ d | false ↦ c ]) (record { stack = e.0.4.4.1; world = st.world }) []))) (λ yes. (let c = callable_is l e.0.4.0 e.0.4.3 (and_first (is_callable l) (is_callable r) yes) in let d = callable_is r e.0.0 e.0.3 (and_second (is_callable l) (is_callable r) yes) in rw c.1 (rw d.1 (chosen (seen_no (seen e.0.4.4.0)) c.0 d.0 (rw (sym c.1) e.0.4.3) (rw (sym d.1) e.0.3))))))))
       where
         chosen : (q : Bool) (c d : Callable) → Stands C.inputs l (fun c) → Stands C.inputs r (fun d) → D (forks l r b ms) (runs (elim q [ true ↦ d | false ↦ c ]) (record { stack = e.0.4.4.1; world = st.world }) [])
         chosen true c d x y = (d, record { stack = e.0.4.4.1; world = st.world }, refl, inr y, (e.0.4.4.4, e.1))
@@ -186,7 +214,7 @@ module _ (P : Program) (C : Context) where
 
     pub makes_does : (c : Option (ℕ × ℕ)) (b : Option Row) (ms : List Mark) (st : State Value) → OnState P C b ms st → D (makes_by P c b ms) (makes_tuple P c st)
     makes_does None b ms st e = tt
-    makes_does (Some c) b ms st e = taking_does c.1 [] [] b ms st.stack st.world (λ vs st'. given 0 st'.stack (made_tuple texts (names P) c.0 vs st'.world)) (λ taken rest. gives (on b (any ∷ rest))) (underflow (suc c.1) (suc (length ms))) refl e.0 (λ taken rest vs r x q. ((plain (tup (length st.world.objects)), r, refl, tt, q), e.1))
+    makes_does (Some c) b ms st e = taking_does c.1 [] [] b ms st.stack st.world (λ vs st'. given 0 st'.stack (made_tuple texts (names P) c.0 vs st'.world)) (λ taken rest. gives (on b (any ∷ rest))) (Underflow (suc c.1) (suc (length ms))) refl e.0 (λ taken rest vs r x q. ((plain (tup (length st.world.objects)), r, refl, tt, q), e.1))
 
     pub boa_does : (b : Option Row) (ms : List Mark) (st : State Value) → OnState P C b ms st → D (core_doing P (Some c_boa) b ms) (does_boa P st)
     boa_does b [] st e = tt
@@ -214,88 +242,59 @@ module _ (P : Program) (C : Context) where
 
     pub fry_does : (at : Literal) (t u : Text) (n : ℕ) → StandsText C.inputs t u → (b : Option Row) (ms : List Mark) (st : State Value) → OnState P C b ms st → D (needing n ms (λ taken rest. gives (on b (limited (lit_mark at (put_holes (map known taken) t)) ∷ rest)))) (taking n [] st.stack st.world (λ vs st'. goes (push (fun (text (put_holes (map held vs) u))) st')))
     fry_does at t u n s b ms st e =
-        taking_does n [] [] b ms st.stack st.world (λ vs st'. goes (push (fun (text (put_holes (map held vs) u))) st')) (λ taken rest. gives (on b (limited (lit_mark at (put_holes (map known taken) t)) ∷ rest))) (underflow n (length ms)) refl e.0 (λ taken rest vs r x q. ((fun (text (put_holes (map held vs) u)), r, refl, limited_stands (lit_mark at (put_holes (map known taken) t)) (fun (text (put_holes (map held vs) u))) (put_holes (map held vs) u, refl, holes_text C.inputs (map known taken) (map held vs) (each_held taken vs x) t u s), q), e.1))
+        taking_does n [] [] b ms st.stack st.world (λ vs st'. goes (push (fun (text (put_holes (map held vs) u))) st')) (λ taken rest. gives (on b (limited (lit_mark at (put_holes (map known taken) t)) ∷ rest))) (Underflow n (length ms)) refl e.0 (λ taken rest vs r x q. ((fun (text (put_holes (map held vs) u)), r, refl, limited_stands (lit_mark at (put_holes (map known taken) t)) (fun (text (put_holes (map held vs) u))) (put_holes (map held vs) u, refl, holes_text C.inputs (map known taken) (map held vs) (each_held taken vs x) t u s), q), e.1))
 
-    -- Shuffles: one line each.
-    with_back : (m : Mark) (v : Value) (ms : List Mark) (vs : List Value) → Stands C.inputs m v → BackOf ms vs → BackOf (m ∷ ms) (v ∷ vs)
-    with_back m v ms vs h x = (v, vs, refl, h, x)
-
+    -- Shuffles, `curry` and `compose`.
     back_on : (back : List Mark) (vs : List Value) (b : Option Row) (ms : List Mark) (r : List Value) → BackOf back vs → StandsOn C.inputs C.row b ms r → StandsOn C.inputs C.row b (piled back ms) (pile vs r)
     back_on [] vs b ms r e h = rw e h
     back_on (m ∷ back) vs b ms r e h = rw e.2 (back_on back e.1 b (m ∷ ms) (e.0 ∷ r) e.4 (e.0, r, refl, e.3, h))
 
-    -- the same moves of marks and of values
-    abbrev Alike : Moves Mark → Moves Value → Type 0
-    Alike (moves1 f) (moves1 g) = (m : Mark) (v : Value) → Stands C.inputs m v → BackOf (f m) (g v)
-    Alike (moves2 f) (moves2 g) = (m n : Mark) (v w : Value) → Stands C.inputs m v → Stands C.inputs n w → BackOf (f m n) (g v w)
-    Alike (moves3 f) (moves3 g) = (m n l : Mark) (v w x : Value) → Stands C.inputs m v → Stands C.inputs n w → Stands C.inputs l x → BackOf (f m n l) (g v w x)
-    Alike _ _ = ⊥
+    -- a value for the mark at the same place
+    mark_back : (taken : List Mark) (vs : List Value) (k : ℕ) → BackOf taken vs → Stands C.inputs (mark_at taken k) (value_at texts vs k)
+    mark_back [] vs k h = tt
+    mark_back (m ∷ taken) vs zero h = rw h.2 h.3
+    mark_back (m ∷ taken) vs (suc k) h = rw h.2 (mark_back taken h.1 k h.4)
 
-    alike_does : (a : ℕ) (f : Moves Mark) (g : Moves Value) → Alike f g → (b : Option Row) (ms : List Mark) (st : State Value) → OnState P C b ms st → D (marks_moved f b ms) (does a (moved texts g) st)
-    alike_does a (moves1 f) (moves1 g) h b [] st e = tt
-    alike_does a (moves1 f) (moves1 g) h b (x ∷ ms) st e = rw e.0.2 (back_on (f x) (g e.0.0) b ms e.0.1 (h x e.0.0 e.0.3) e.0.4, e.1)
-    alike_does a (moves2 f) (moves2 g) h b [] st e = tt
-    alike_does a (moves2 f) (moves2 g) h b (y ∷ []) st e = tt
-    alike_does a (moves2 f) (moves2 g) h b (y ∷ x ∷ ms) st e = rw e.0.2 (rw e.0.4.2 (back_on (f x y) (g e.0.4.0 e.0.0) b ms e.0.4.1 (h x y e.0.4.0 e.0.0 e.0.4.3 e.0.3) e.0.4.4, e.1))
-    alike_does a (moves3 f) (moves3 g) h b [] st e = tt
-    alike_does a (moves3 f) (moves3 g) h b (z ∷ []) st e = tt
-    alike_does a (moves3 f) (moves3 g) h b (z ∷ y ∷ []) st e = tt
-    alike_does a (moves3 f) (moves3 g) h b (z ∷ y ∷ x ∷ ms) st e =
-        rw e.0.2 (rw e.0.4.2 (rw e.0.4.4.2 (back_on (f x y z) (g e.0.4.4.0 e.0.4.0 e.0.0) b ms e.0.4.4.1 (h x y z e.0.4.4.0 e.0.4.0 e.0.0 e.0.4.4.3 e.0.4.3 e.0.3) e.0.4.4.4, e.1)))
-    alike_does a (moves1 f) (moves2 g) h b ms st e = absurd h
-    alike_does a (moves1 f) (moves3 g) h b ms st e = absurd h
-    alike_does a (moves2 f) (moves1 g) h b ms st e = absurd h
-    alike_does a (moves2 f) (moves3 g) h b ms st e = absurd h
-    alike_does a (moves3 f) (moves1 g) h b ms st e = absurd h
-    alike_does a (moves3 f) (moves2 g) h b ms st e = absurd h
+    -- values for the marks at the same places
+    marks_back_at : (taken : List Mark) (vs : List Value) (places : List ℕ) → BackOf taken vs → BackOf (picked any taken places) (picked (plain no) vs places)
+    marks_back_at taken vs [] h = refl
+    marks_back_at taken vs (k ∷ places) h = (value_at texts vs k, picked (plain no) vs places, refl, mark_back taken vs k h, marks_back_at taken vs places h)
 
-    shuffle_alike : (s : Shuffle) → Alike (moves s) (moves s)
-    shuffle_alike s_drop = λ m v h. refl
-    shuffle_alike s_dup = λ m v h. (v, v ∷ [], refl, h, (v, [], refl, h, refl))
-    shuffle_alike s_swap = λ m n v w h k. (w, v ∷ [], refl, k, (v, [], refl, h, refl))
-    shuffle_alike s_over = λ m n v w h k. (v, w ∷ v ∷ [], refl, h, (w, v ∷ [], refl, k, (v, [], refl, h, refl)))
-    shuffle_alike s_pick = λ m n l v w x h k j. (v, w ∷ x ∷ v ∷ [], refl, h, (w, x ∷ v ∷ [], refl, k, (x, v ∷ [], refl, j, (v, [], refl, h, refl))))
-    shuffle_alike s_rot = λ m n l v w x h k j. (w, x ∷ v ∷ [], refl, k, (x, v ∷ [], refl, j, (v, [], refl, h, refl)))
-    shuffle_alike s_unrot = λ m n l v w x h k j. (x, v ∷ w ∷ [], refl, j, (v, w ∷ [], refl, h, (w, [], refl, k, refl)))
-    shuffle_alike s_nip = λ m n v w h k. (w, [], refl, k, refl)
-    shuffle_alike s_dupd = λ m n v w h k. (v, v ∷ w ∷ [], refl, h, (v, w ∷ [], refl, h, (w, [], refl, k, refl)))
-    shuffle_alike s_swapd = λ m n l v w x h k j. (w, v ∷ x ∷ [], refl, k, (v, x ∷ [], refl, h, (x, [], refl, j, refl)))
-    shuffle_alike s_2drop = λ m n v w h k. refl
-    shuffle_alike s_2dup = λ m n v w h k. (v, w ∷ v ∷ w ∷ [], refl, h, (w, v ∷ w ∷ [], refl, k, (v, w ∷ [], refl, h, (w, [], refl, k, refl))))
-    shuffle_alike s_3drop = λ m n l v w x h k j. refl
-    shuffle_alike s_3dup = λ m n l v w x h k j. (v, w ∷ x ∷ v ∷ w ∷ x ∷ [], refl, h, (w, x ∷ v ∷ w ∷ x ∷ [], refl, k, (x, v ∷ w ∷ x ∷ [], refl, j, (v, w ∷ x ∷ [], refl, h, (w, x ∷ [], refl, k, (x, [], refl, j, refl))))))
-    shuffle_alike s_2over = λ m n l v w x h k j. (v, w ∷ x ∷ v ∷ w ∷ [], refl, h, (w, x ∷ v ∷ w ∷ [], refl, k, (x, v ∷ w ∷ [], refl, j, (v, w ∷ [], refl, h, (w, [], refl, k, refl)))))
-    shuffle_alike s_2nip = λ m n l v w x h k j. (x, [], refl, j, refl)
+    -- nothing is known of what a procedure leaves that goes on since it was handed no callable
+    unless_callable : (q : Bool) (m : Mark) (a : ℕ) (g : Gives Value) (b : Option Row) (ms : List Mark) (s : List Value) (w : World Value) → q ≡ false → Valid P w → Regular (Some 1) w.literals g → StandsOn C.inputs C.row b ms s → D (gives (on b (elim q [ true ↦ m | false ↦ any ] ∷ ms))) (given a s g)
+    unless_callable true m a g b ms s w z v h e = absurd (never_true (sym z))
+    unless_callable false m a g b ms s w z v h e = given_gives a (Some 1) g b ms s w v h e
 
-    -- `curry` and `compose` are errors where the last value is no callable
-    curry_does : (a : ℕ) (b : Option Row) (ms : List Mark) (st : State Value) → OnState P C b ms st → D (curry_doing b ms) (does a (prim_fn texts (names P) p_curry) st)
-    unfolding prim_fn
-    curry_does a b [] st e = tt
-    curry_does a b (c ∷ []) st e = tt
-    curry_does a b (c ∷ m ∷ ms) st e = rw e.0.2 (rw e.0.4.2 (made e.0.0 refl))
-      where
-        made : (v : Value) → e.0.0 ≡ v → D (gives (on b (curried_mark m c ∷ ms))) (given a e.0.4.1 (or_bad texts (curry_of e.0.4.0 v) wrong_values (Some v) st.world (λ x. gave (x ∷ []) st.world)))
-        made (plain p) q = tt
-        made (fun d) q = ((fun (cur e.0.4.0 d), e.0.4.1, refl, kept (is_callable c), e.0.4.4), e.1)
-          where
-            kept : (q : Bool) → Stands C.inputs (elim q [ true ↦ limited (cur_mark m c) | false ↦ any ]) (fun (cur e.0.4.0 d))
-            kept true = limited_stands (cur_mark m c) (fun (cur e.0.4.0 d)) (e.0.4.0, d, refl, e.0.4.3, rw (sym q) e.0.3)
-            kept false = tt
+    made_stands : (q : Bool) (m : Mark) (v : Value) → (q ≡ true → Stands C.inputs m v) → Stands C.inputs (elim q [ true ↦ limited m | false ↦ any ]) v
+    made_stands true m v h = limited_stands m v (h refl)
+    made_stands false m v h = tt
 
-    compose_does : (a : ℕ) (b : Option Row) (ms : List Mark) (st : State Value) → OnState P C b ms st → D (compose_doing b ms) (does a (prim_fn texts (names P) p_compose) st)
-    unfolding prim_fn
-    compose_does a b [] st e = tt
-    compose_does a b (d ∷ []) st e = tt
-    compose_does a b (d ∷ c ∷ ms) st e = rw e.0.2 (rw e.0.4.2 (made e.0.4.0 e.0.0 refl refl))
-      where
-        made : (v w : Value) → e.0.4.0 ≡ v → e.0.0 ≡ w → D (gives (on b (composed_mark c d ∷ ms))) (given a e.0.4.1 (or_bad texts (compose_of v w) wrong_values (Some (elim (seen v) [ None ↦ w | Some _ ↦ v ])) st.world (λ x. gave (x ∷ []) st.world)))
-        made (plain p) w q r = tt
-        made (fun x) (plain p) q r = tt
-        made (fun x) (fun y) q r = ((fun (both x y), e.0.4.1, refl, kept (is_callable c && is_callable d), e.0.4.4), e.1)
-          where
-            kept : (z : Bool) → Stands C.inputs (elim z [ true ↦ limited (com_mark c d) | false ↦ any ]) (fun (both x y))
-            kept true = limited_stands (com_mark c d) (fun (both x y)) (x, y, refl, rw (sym q) e.0.4.3, rw (sym r) e.0.3)
-            kept false = tt
+    no_callable : (q : Bool) (c : Mark) (p : Plain) → Stands C.inputs c (plain p) → (q ≡ true → is_callable c ≡ true) → q ≡ false
+    no_callable true c p h f = absurd (let z = callable_is c (plain p) h (f refl) in let never = z.1 in cc)
+    no_callable false c p h f = refl
+
+    curried_fits : (m c : Mark) (u v : Value) → Stands C.inputs m u → Stands C.inputs c v → (a : ℕ) (g : Gives Value) (b : Option Row) (ms : List Mark) (s : List Value) (w : World Value) → Valid P w → Regular (Some 1) w.literals g → StandsOn C.inputs C.row b ms s → D (gives (on b (curried_mark m c ∷ ms))) (given a s (made_or texts (curry_of u v) w g))
+    curried_fits m c u (plain p) h k a g b ms s w valid r e = unless_callable (is_callable c) (limited (cur_mark m c)) a g b ms s w (no_callable (is_callable c) c p k (λ z. z)) valid r e
+    curried_fits m c u (fun d) h k a g b ms s w valid r e = ((fun (cur u d), s, refl, made_stands (is_callable c) (cur_mark m c) (fun (cur u d)) (λ z. (u, d, refl, h, k)), e), valid)
+
+    composed_fits : (c d : Mark) (u v : Value) → Stands C.inputs c u → Stands C.inputs d v → (a : ℕ) (g : Gives Value) (b : Option Row) (ms : List Mark) (s : List Value) (w : World Value) → Valid P w → Regular (Some 1) w.literals g → StandsOn C.inputs C.row b ms s → D (gives (on b (composed_mark c d ∷ ms))) (given a s (made_or texts (compose_of u v) w g))
+    composed_fits c d (plain p) v h k a g b ms s w valid r e = unless_callable (is_callable c && is_callable d) (limited (com_mark c d)) a g b ms s w (no_callable (is_callable c && is_callable d) c p h (and_first (is_callable c) (is_callable d))) valid r e
+    composed_fits c d (fun x) (plain p) h k a g b ms s w valid r e = unless_callable (is_callable c && is_callable d) (limited (com_mark c d)) a g b ms s w (no_callable (is_callable c && is_callable d) d p k (and_second (is_callable c) (is_callable d))) valid r e
+    composed_fits c d (fun x) (fun y) h k a g b ms s w valid r e = ((fun (both x y), s, refl, made_stands (is_callable c && is_callable d) (com_mark c d) (fun (both x y)) (λ z. (x, y, refl, h, k)), e), valid)
+
+    -- what a procedure does with the values that it takes
+    follows : {o : Option ℕ} (p : Procedure o) (i a : ℕ) (b : Option Row) (ms : List Mark) (st : State Value) (E : List Mark → List Mark → Doing) → OnState P C b ms st → ((taken rest : List Mark) (vs r : List Value) → BackOf taken vs → StandsOn C.inputs C.row b rest r → D (E taken rest) (given a r (followed texts (names P) p vs st.world))) → D (needing i ms E) (taking i [] st.stack st.world (λ vs st'. given a st'.stack (followed texts (names P) p vs st'.world)))
+    follows p i a b ms st E e h = taking_does i [] [] b ms st.stack st.world (λ vs st'. given a st'.stack (followed texts (names P) p vs st'.world)) E (Underflow i (length ms)) refl e.0 h
+
+    -- Each procedure does in a run what it does in a walk.
+    procedure_does : {o : Option ℕ} (p : Procedure o) (i : ℕ) → i ≤ 3 → (a : ℕ) (b : Option Row) (ms : List Mark) (st : State Value) → OnState P C b ms st → D (procedure_doing i p b ms) (does a (by_inputs texts (names P) i p) st)
+    procedure_does (leaves places) i few a b ms st e =
+        subst (λ x. D (procedure_doing i (leaves places) b ms) x) (sym (does_follow P a i (leaves places) st few)) (follows (leaves places) i a b ms st (λ taken rest. gives (on b (piled (picked any taken places) rest))) e (λ taken rest vs r x q. (back_on (picked any taken places) (picked (plain no) vs places) b rest r (marks_back_at taken vs places x) q, e.1)))
+    procedure_does (curries j k p) i few a b ms st e =
+        subst (λ x. D (procedure_doing i (curries j k p) b ms) x) (sym (does_follow P a i (curries j k p) st few)) (follows (curries j k p) i a b ms st (λ taken rest. gives (on b (curried_mark (mark_at taken j) (mark_at taken k) ∷ rest))) e (λ taken rest vs r x q. curried_fits (mark_at taken j) (mark_at taken k) (value_at texts vs j) (value_at texts vs k) (mark_back taken vs j x) (mark_back taken vs k x) a (followed texts (names P) p vs st.world) b rest r st.world e.1 (followed_regular (names P) p vs st.world) q))
+    procedure_does (composes j k p) i few a b ms st e =
+        subst (λ x. D (procedure_doing i (composes j k p) b ms) x) (sym (does_follow P a i (composes j k p) st few)) (follows (composes j k p) i a b ms st (λ taken rest. gives (on b (composed_mark (mark_at taken j) (mark_at taken k) ∷ rest))) e (λ taken rest vs r x q. composed_fits (mark_at taken j) (mark_at taken k) (value_at texts vs j) (value_at texts vs k) (mark_back taken vs j x) (mark_back taken vs k x) a (followed texts (names P) p vs st.world) b rest r st.world e.1 (followed_regular (names P) p vs st.world) q))
+    procedure_does {o = o} p i few a b ms st e = regular_does a i o (by_inputs texts (names P) i p) (inputs_regular (names P) i p few) b ms st e
 
     -- what takes i values by a declared height and runs a callable
     popped_over : (i : ℕ) (taken : List Mark) (o : Option ℕ) (b : Option Row) (ms : List Mark) (s : List Value) (u : Rule) (a : Act) → StandsOn C.inputs C.row b ms s → ((r : List Value) (rest : List Mark) → Over i r s → StandsOn C.inputs C.row b rest r → D (gives (left_on o b rest)) a) → D (elim (popped i taken ms) [ Some q ↦ gives (left_on o b q.1) | None ↦ breaks u ]) a
@@ -309,9 +308,9 @@ module _ (P : Program) (C : Context) where
 
     pub runs_does : (i : ℕ) (o : Option ℕ) (c : Callable) → Keeps i o c → (b : Option Row) (ms : List Mark) (st : State Value) → OnState P C b ms st → D (by_height i o b ms) (runs c st [])
     runs_does i None c h b ms st e =
-        popped_over i [] None b ms st.stack (underflow i (length ms)) (runs c st []) e.0 (λ r rest x q. (refl, λ n le. ends_map (Leaves P None r) (StackState P C dead) (run_callable run c st n) (λ st' l. leaves_stack None b rest r st' l q) (h r st n le x e.1)))
+        popped_over i [] None b ms st.stack (Underflow i (length ms)) (runs c st []) e.0 (λ r rest x q. (refl, λ n le. ends_map (Leaves P None r) (StackState P C dead) (run_callable run c st n) (λ st' l. leaves_stack None b rest r st' l q) (h r st n le x e.1)))
     runs_does i (Some o) c h b ms st e =
-        popped_over i [] (Some o) b ms st.stack (underflow i (length ms)) (runs c st []) e.0 (λ r rest x q. (refl, λ n le. ends_map (Leaves P (Some o) r) (StackState P C (on b (unknowns o rest))) (run_callable run c st n) (λ st' l. leaves_stack (Some o) b rest r st' l q) (h r st n le x e.1)))
+        popped_over i [] (Some o) b ms st.stack (Underflow i (length ms)) (runs c st []) e.0 (λ r rest x q. (refl, λ n le. ends_map (Leaves P (Some o) r) (StackState P C (on b (unknowns o rest))) (run_callable run c st n) (λ st' l. leaves_stack (Some o) b rest r st' l q) (h r st n le x e.1)))
 
     fails_does : (i : ℕ) (taken : List Mark) (o : Option ℕ) (b : Option Row) (ms : List Mark) (u : Rule) (x : Error Value) (st : State Value) → D (elim (popped i taken ms) [ Some q ↦ gives (left_on o b q.1) | None ↦ breaks u ]) (fails x st)
     fails_does zero taken o b ms u x st = tt
@@ -327,18 +326,18 @@ module _ (P : Program) (C : Context) where
     tested_does h o (plain p) k taken b ms u st e = fails_does h.ins taken o b ms u _ st
     tested_does h o (fun c) k taken b ms u st e = tested (FF h c) refl
       where
-        tested : (q : Bool) → FF h c ≡ q → D (elim (popped h.ins taken ms) [ Some q ↦ gives (left_on o b q.1) | None ↦ breaks u ]) (either q (runs c st []) (error wrong_values (fun c) word_call st))
+        tested : (q : Bool) → FF h c ≡ q → D (elim (popped h.ins taken ms) [ Some q ↦ gives (left_on o b q.1) | None ↦ breaks u ]) (either q (runs c st []) (error WrongValues (fun c) word_call st))
         tested true q = popped_over h.ins taken o b ms st.stack u (runs c st []) e.0 (λ r rest x y. (refl, λ n le. ends_map (Leaves P o r) (StackState P C (left_on o b rest)) (run_callable run c st n) (λ st' l. leaves_stack o b rest r st' l y) (k c q r st n le x e.1)))
         tested false q = fails_does h.ins taken o b ms u _ st
 
     call_eff_does : (h : Height) (o : Option ℕ) → ((c : Callable) → FF h c ≡ true → Keeps h.ins o c) → (b : Option Row) (ms : List Mark) (st : State Value) → OnState P C b ms st → D (by_height (suc h.ins) o b ms) (taking1 st.stack st.world (λ v st'. tested_call P fits (callable_height P) h v st'))
     call_eff_does h None k b [] st e = tt
     call_eff_does h (Some o) k b [] st e = tt
-    call_eff_does h None k b (m ∷ ms) st e = rw e.0.2 (tested_does h None e.0.0 k (m ∷ []) b ms (underflow (suc h.ins) (length (m ∷ ms))) (record { stack = e.0.1; world = st.world }) (e.0.4, e.1))
-    call_eff_does h (Some o) k b (m ∷ ms) st e = rw e.0.2 (tested_does h (Some o) e.0.0 k (m ∷ []) b ms (underflow (suc h.ins) (length (m ∷ ms))) (record { stack = e.0.1; world = st.world }) (e.0.4, e.1))
+    call_eff_does h None k b (m ∷ ms) st e = rw e.0.2 (tested_does h None e.0.0 k (m ∷ []) b ms (Underflow (suc h.ins) (length (m ∷ ms))) (record { stack = e.0.1; world = st.world }) (e.0.4, e.1))
+    call_eff_does h (Some o) k b (m ∷ ms) st e = rw e.0.2 (tested_does h (Some o) e.0.0 k (m ∷ []) b ms (Underflow (suc h.ins) (length (m ∷ ms))) (record { stack = e.0.1; world = st.world }) (e.0.4, e.1))
 
     -- what takes i values by a declared height
-    by_numbers : (i : ℕ) (o : Option ℕ) (b : Option Row) (ms : List Mark) (a : Act) → D (elim (popped i [] ms) [ Some q ↦ gives (left_on o b q.1) | None ↦ breaks (underflow i (length ms)) ]) a → D (by_height i o b ms) a
+    by_numbers : (i : ℕ) (o : Option ℕ) (b : Option Row) (ms : List Mark) (a : Act) → D (elim (popped i [] ms) [ Some q ↦ gives (left_on o b q.1) | None ↦ breaks (Underflow i (length ms)) ]) a → D (by_height i o b ms) a
     by_numbers i None b ms a h = h
     by_numbers i (Some o) b ms a h = h
 
@@ -352,7 +351,7 @@ module _ (P : Program) (C : Context) where
     picked_does i o take x g keeps b (m ∷ ms) st e = rw e.0.2 (chosen (take e.0.0 st.world) refl)
       where
         chosen : (q : Option ℕ) → take e.0.0 st.world ≡ q → D (by_height (suc i) o b (m ∷ ms)) (enters P q x g e.0.0 (record { stack = e.0.1; world = st.world }))
-        chosen None z = by_numbers (suc i) o b (m ∷ ms) _ (fails_does (suc i) [] o b (m ∷ ms) (underflow (suc i) (length (m ∷ ms))) _ (record { stack = e.0.1; world = st.world }))
+        chosen None z = by_numbers (suc i) o b (m ∷ ms) _ (fails_does (suc i) [] o b (m ∷ ms) (Underflow (suc i) (length (m ∷ ms))) _ (record { stack = e.0.1; world = st.world }))
         chosen (Some k) z = runs_does (suc i) o (text (word_text P k)) (keeps e.0.0 st.world k z) b (m ∷ ms) (record { stack = e.0.0 ∷ e.0.1; world = st.world }) ((e.0.0, e.0.1, refl, e.0.3, e.0.4), e.1)
 
     -- `execute( )`: the item of a word whose effect fits
@@ -360,7 +359,7 @@ module _ (P : Program) (C : Context) where
     found_does h (fun c) k taken b ms u st e = fails_does h.ins taken h.outs b ms u _ st
     found_does h (plain (wrd w)) k taken b ms u st e = tested (word_fits P fits h w) refl
       where
-        tested : (q : Bool) → word_fits P fits h w ≡ q → D (elim (popped h.ins taken ms) [ Some q ↦ gives (left_on h.outs b q.1) | None ↦ breaks u ]) (either q (run_text (one_item (word w)) st) (error wrong_values (plain (wrd w)) word_execute st))
+        tested : (q : Bool) → word_fits P fits h w ≡ q → D (elim (popped h.ins taken ms) [ Some q ↦ gives (left_on h.outs b q.1) | None ↦ breaks u ]) (either q (run_text (one_item (word w)) st) (error WrongValues (plain (wrd w)) word_execute st))
         tested true q =
             popped_over h.ins taken h.outs b ms st.stack u (run_text (one_item (word w)) st) e.0 (λ r rest x y. (refl, λ n le. ends_map (Leaves P h.outs r) (StackState P C (left_on h.outs b rest)) (run_callable run (text (one_item (word w))) st n) (λ st' l. leaves_stack h.outs b rest r st' l y) (k w q r st n le x e.1)))
         tested false q = fails_does h.ins taken h.outs b ms u _ st
@@ -369,7 +368,7 @@ module _ (P : Program) (C : Context) where
     exec_eff_does : (h : Height) → ((w : ℕ) → word_fits P fits h w ≡ true → Keeps h.ins h.outs (text (one_item (word w)))) → (b : Option Row) (ms : List Mark) (st : State Value) → OnState P C b ms st → D (by_height (suc h.ins) h.outs b ms) (taking1 st.stack st.world (λ v st'. tested_execute P fits (callable_height P) h v st'))
     exec_eff_does h k b [] st e = none_there h.ins h.outs b (taking1 st.stack st.world (λ v st'. tested_execute P fits (callable_height P) h v st'))
     exec_eff_does h k b (m ∷ ms) st e =
-        rw e.0.2 (by_numbers (suc h.ins) h.outs b (m ∷ ms) (tested_execute P fits (callable_height P) h e.0.0 (record { stack = e.0.1; world = st.world })) (found_does h e.0.0 k (m ∷ []) b ms (underflow (suc h.ins) (length (m ∷ ms))) (record { stack = e.0.1; world = st.world }) (e.0.4, e.1)))
+        rw e.0.2 (by_numbers (suc h.ins) h.outs b (m ∷ ms) (tested_execute P fits (callable_height P) h e.0.0 (record { stack = e.0.1; world = st.world })) (found_does h e.0.0 k (m ∷ []) b ms (Underflow (suc h.ins) (length (m ∷ ms))) (record { stack = e.0.1; world = st.world }) (e.0.4, e.1)))
 
     -- the numbers of a word's effect
     abbrev pub H : WordDef → Height
@@ -384,18 +383,18 @@ module _ (P : Program) (C : Context) where
       -- a use of a row word, or the own recursive call
       pub row_words : (w : ℕ) (d : WordDef) (t : Text) → slice_get P.words w ≡ Some d → d.sort ≡ body t → not (nat_eq w P.top) ≡ true → d.inline ≡ true → is_row d.recursive d.effect ≡ true → (b : Option Row) (ms : List Mark) (st : State Value) → OnState P C b ms st → D (row_or_text P C.word true (is_own P C.word w C.word) w t d.effect b ms) (run_text t st)
       -- a primitive takes and leaves what its word declares
-      pub prims : (w : ℕ) (d : WordDef) (k : ℕ) (p : Prim) → slice_get P.words w ≡ Some d → d.sort ≡ prim k → prim_numbered k ≡ Some p → RegularFn P (H d).ins (H d).outs (prim_fn texts (names P) p)
+      pub prims : (w : ℕ) (d : WordDef) (k : ℕ) (p : Primitive) → slice_get P.words w ≡ Some d → d.sort ≡ prim k → prim_numbered k ≡ Some p → RegularFn (H d).ins (H d).outs (prim_fn texts (names P) p)
       -- likewise accessors and predicates
-      pub getters : (w : ℕ) (d : WordDef) (x : List ℕ) → slice_get P.words w ≡ Some d → d.sort ≡ getter x → RegularFn P (H d).ins (H d).outs (get_slot texts (names P) x)
-      pub setters : (w : ℕ) (d : WordDef) (x : List ℕ) → slice_get P.words w ≡ Some d → d.sort ≡ setter x → RegularFn P (H d).ins (H d).outs (set_slot texts (names P) x)
-      pub putters : (w : ℕ) (d : WordDef) (x : List ℕ) → slice_get P.words w ≡ Some d → d.sort ≡ putter x → RegularFn P (H d).ins (H d).outs (put_slot texts (names P) x)
+      pub getters : (w : ℕ) (d : WordDef) (x : List ℕ) → slice_get P.words w ≡ Some d → d.sort ≡ getter x → RegularFn (H d).ins (H d).outs (get_slot texts (names P) x)
+      pub setters : (w : ℕ) (d : WordDef) (x : List ℕ) → slice_get P.words w ≡ Some d → d.sort ≡ setter x → RegularFn (H d).ins (H d).outs (set_slot texts (names P) x)
+      pub putters : (w : ℕ) (d : WordDef) (x : List ℕ) → slice_get P.words w ≡ Some d → d.sort ≡ putter x → RegularFn (H d).ins (H d).outs (put_slot texts (names P) x)
       pub tests : (w : ℕ) (d : WordDef) (c : ℕ) → slice_get P.words w ≡ Some d → d.sort ≡ isa c → ((H d).ins ≡ 1) × ((H d).outs ≡ Some 1)
       -- a generic takes a value, and each method that it picks does what it declares
       pub generics : (w : ℕ) (d : WordDef) → slice_get P.words w ≡ Some d → d.sort ≡ generic → (i : ℕ) × ((H d).ins ≡ suc i) × ((k m : ℕ) → pick P w k ≡ Some m → Keeps (H d).ins (H d).outs (text (word_text P m)))
       -- likewise the method after a method of the generic
       pub nexts : (m c g : ℕ) (t : Text) (d : WordDef) → sort_of P m ≡ Some (method c g t) → slice_get P.words g ≡ Some d → (i : ℕ) × ((H d).ins ≡ suc i) × ((k n : ℕ) → next P m k ≡ Some n → Keeps (H d).ins (H d).outs (text (word_text P n)))
       -- a primitive word has a primitive; words that push themselves leave one value; a method does what it declares
-      pub numbered : (w : ℕ) (d : WordDef) (k : ℕ) → slice_get P.words w ≡ Some d → d.sort ≡ prim k → (p : Prim) × (prim_numbered k ≡ Some p)
+      pub numbered : (w : ℕ) (d : WordDef) (k : ℕ) → slice_get P.words w ≡ Some d → d.sort ≡ prim k → (p : Primitive) × (prim_numbered k ≡ Some p)
       pub selves : (w : ℕ) (d : WordDef) → slice_get P.words w ≡ Some d → d.sort ≡ itself → ((H d).ins ≡ 0) × ((H d).outs ≡ Some 1)
       pub classes : (w : ℕ) (d : WordDef) (c : ℕ) → slice_get P.words w ≡ Some d → d.sort ≡ class c → ((H d).ins ≡ 0) × ((H d).outs ≡ Some 1)
       pub methods : (w : ℕ) (d : WordDef) (c g : ℕ) (t : Text) → slice_get P.words w ≡ Some d → d.sort ≡ method c g t → Keeps (H d).ins (H d).outs (text (of_method w t))
@@ -405,13 +404,10 @@ module _ (P : Program) (C : Context) where
       pub executed : (h : Height) (w : ℕ) → word_fits P fits h w ≡ true → Keeps h.ins h.outs (text (one_item (word w)))
 
     module _ (facts : Facts) where
-      prim_does : (a : ℕ) (o : Option Prim) (h : Height) → ((p : Prim) → o ≡ Some p → RegularFn P h.ins h.outs (prim_fn texts (names P) p)) → (b : Option Row) (ms : List Mark) (st : State Value) → OnState P C b ms st → D (prim_doing P o h b ms) (prim_act P a o st)
+      prim_does : (a : ℕ) (o : Option Primitive) → ((p : Primitive) → o ≡ Some p → length p.word.ins ≤ 3) → (b : Option Row) (ms : List Mark) (st : State Value) → OnState P C b ms st → D (prim_doing o b ms) (prim_act P a o st)
       unfolding prim_fn
-      prim_does a None h r b ms st e = tt
-      prim_does a (Some (shuffle s)) h r b ms st e = alike_does a (moves s) (moves s) (shuffle_alike s) b ms st e
-      prim_does a (Some p_curry) h r b ms st e = curry_does a b ms st e
-      prim_does a (Some p_compose) h r b ms st e = compose_does a b ms st e
-      prim_does a (Some p) h r b ms st e = regular_does a h.ins h.outs (prim_fn texts (names P) p) (r p refl) b ms st e
+      prim_does a None few b ms st e = tt
+      prim_does a (Some p) few b ms st e = procedure_does p.does (length p.word.ins) (few p refl) a b ms st e
 
       core_does : (c : Option Core) (b : Option Row) (ms : List Mark) (st : State Value) → OnState P C b ms st → D (core_doing P c b ms) (core_act P c st)
       core_does None b ms st e = tt
@@ -442,7 +438,7 @@ module _ (P : Program) (C : Context) where
       next_of : (m c g : ℕ) (t : Text) → sort_of P m ≡ Some (method c g t) → (o : Option WordDef) → slice_get P.words g ≡ o → (b : Option Row) (ms : List Mark) (st : State Value) → OnState P C b ms st → D (generic_doing P C.word o b ms) (act P fits (callable_height P) (next_after m) st)
       next_of m c g t y None u b ms st e = tt
       next_of m c g t y (Some d) u b ms st e =
-          (let z = facts.nexts m c g t d y u in methods_do (H d).ins (H d).outs z.0 z.1 (λ v w. next P m (kind_of texts (names P) w v)) no_next_method (generic_of P (sort_of P m)) (λ v w n x. z.2 (kind_of texts (names P) w v) n x) b ms st e)
+          (let z = facts.nexts m c g t d y u in methods_do (H d).ins (H d).outs z.0 z.1 (λ v w. next P m (kind_of texts (names P) w v)) NoNextMethod (generic_of P (sort_of P m)) (λ v w n x. z.2 (kind_of texts (names P) w v) n x) b ms st e)
 
       next_does : (m : ℕ) (s : Option Sort) → sort_of P m ≡ s → (b : Option Row) (ms : List Mark) (st : State Value) → OnState P C b ms st → D (next_doing P C.word s b ms) (act P fits (callable_height P) (next_after m) st)
       next_does m (Some (method c g t)) y b ms st e = next_of m c g t y (slice_get P.words g) refl b ms st e
@@ -450,10 +446,10 @@ module _ (P : Program) (C : Context) where
 
       sort_does : (w : ℕ) (d : WordDef) (s : Sort) → slice_get P.words w ≡ Some d → d.sort ≡ s → (b : Option Row) (ms : List Mark) (st : State Value) → OnState P C b ms st → D (sort_doing P C.word w d s b ms) (sort_act P w (Some s) st)
       sort_does w d (core k) g q b ms st e = core_does (core_numbered k) b ms st e
-      sort_does w d (prim k) g q b ms st e = prim_does w (prim_numbered k) (H d) (λ p z. facts.prims w d k p g q z) b ms st e
+      sort_does w d (prim k) g q b ms st e = prim_does w (prim_numbered k) (few_inputs k) b ms st e
       sort_does w d itself g q b ms st e = ((plain (wrd w), st.stack, refl, refl, e.0), e.1)
       sort_does w d (class c) g q b ms st e = ((plain (wrd w), st.stack, refl, refl, e.0), e.1)
-      sort_does w d (body t) g q b ms st e = if_callable (not (nat_eq w P.top)) not_known (inline_doing P C.word d.inline w d t b ms) (run_text t st) (λ z. inline_does w d t g q z d.inline (is_row d.recursive d.effect) refl refl b ms st e)
+      sort_does w d (body t) g q b ms st e = if_callable (not (nat_eq w P.top)) NotKnown (inline_doing P C.word d.inline w d t b ms) (run_text t st) (λ z. inline_does w d t g q z d.inline (is_row d.recursive d.effect) refl refl b ms st e)
       sort_does w d (past t) g q b ms st e = tt
       sort_does w d (method c n t) g q b ms st e = tt
       sort_does w d (isa c) g q b ms st e = (let z = facts.tests w d c g q in test_does w c (H d).ins (H d).outs z.0 z.1 b ms st e)
@@ -461,7 +457,7 @@ module _ (P : Program) (C : Context) where
       sort_does w d (setter x) g q b ms st e = regular_does w (H d).ins (H d).outs (set_slot texts (names P) x) (facts.setters w d x g q) b ms st e
       sort_does w d (putter x) g q b ms st e = regular_does w (H d).ins (H d).outs (put_slot texts (names P) x) (facts.putters w d x g q) b ms st e
       sort_does w d generic g q b ms st e =
-          (let z = facts.generics w d g q in methods_do (H d).ins (H d).outs z.0 z.1 (λ v w'. pick P w (kind_of texts (names P) w' v)) no_method w (λ v w' m y. z.2 (kind_of texts (names P) w' v) m y) b ms st e)
+          (let z = facts.generics w d g q in methods_do (H d).ins (H d).outs z.0 z.1 (λ v w'. pick P w (kind_of texts (names P) w' v)) NoMethod w (λ v w' m y. z.2 (kind_of texts (names P) w' v) m y) b ms st e)
 
       -- a word with an effect does by its numbers, whatever its sort
       itself_does : (w i : ℕ) (o : Option ℕ) → i ≡ 0 → o ≡ Some 1 → (b : Option Row) (ms : List Mark) (st : State Value) → OnState P C b ms st → D (by_height i o b ms) (goes (push (plain (wrd w)) st))
@@ -490,10 +486,10 @@ module _ (P : Program) (C : Context) where
       lit_does (wrd w) b ms st e = ((plain (wrd w), st.stack, refl, refl, e.0), e.1)
       lit_does v b ms st e = ((plain v, st.stack, refl, tt, e.0), e.1)
 
-      array_does : (a : ℕ) (b : Option Row) (ms : List Mark) (st : State Value) → OnState P C b ms st → D (elim (nat_lt a (length P.arrays)) [ true ↦ gives (on b (any ∷ ms)) | false ↦ breaks not_known ]) (pushes_array P fits (callable_height P) (slice_get st.world.literals a) st)
+      array_does : (a : ℕ) (b : Option Row) (ms : List Mark) (st : State Value) → OnState P C b ms st → D (elim (nat_lt a (length P.arrays)) [ true ↦ gives (on b (any ∷ ms)) | false ↦ breaks NotKnown ]) (pushes_array P fits (callable_height P) (slice_get st.world.literals a) st)
       array_does a b ms st e = there (nat_lt a (length P.arrays)) refl
         where
-          there : (q : Bool) → nat_lt a (length P.arrays) ≡ q → D (elim q [ true ↦ gives (on b (any ∷ ms)) | false ↦ breaks not_known ]) (pushes_array P fits (callable_height P) (slice_get st.world.literals a) st)
+          there : (q : Bool) → nat_lt a (length P.arrays) ≡ q → D (elim q [ true ↦ gives (on b (any ∷ ms)) | false ↦ breaks NotKnown ]) (pushes_array P fits (callable_height P) (slice_get st.world.literals a) st)
           there true q = rw (e.1 a q).1 ((plain (arr (e.1 a q).0), st.stack, refl, tt, e.0), e.1)
           there false q = tt
 

@@ -6,9 +6,8 @@ use Rattle.fac_lang.specs.declared.program.WordDef.{WordDef}
 use Rattle.fac_locals.specs.Closed.{Closes}
 use Rattle.fac_locals.specs.declared.closing.Closed.{Closed}
 use Rattle.fac_locals.proofs.Lookups.{words_closed_count}
-use Rattle.fac_check.specs.UndeclaredRecursion.{undeclared_from, AreUndeclared}
 use Rattle.fac_check.specs.Verdicts.{Refusal as RefusalSeen, undeclared, word_verdict, verdict_from, verdict}
-use Rattle.fac_check.specs.Judged.{OfEach, IsVerdict, AreVerdicts, Numbered, first_of, numbered, verdicts_from, all_verdicts, verdict_seen}
+use Rattle.fac_check.specs.Judged.{undeclared_from, AreUndeclared, OfEach, IsVerdict, AreVerdicts, Numbered, first_of, numbered, verdicts_from, all_verdicts, verdict_seen}
 use Rattle.fac_check.specs.declared.checker.Verdict.{Verdict}
 
 -- the flag of a word
@@ -19,6 +18,16 @@ flag_there P v w (suc k) (x ∷ ds) d b e f g = flag_there P (suc v) w k ds d b 
 
 pub flag_is : (P C : Program) (templates : _) (closes : Closes P C templates) (flags : List Bool) → AreUndeclared C templates flags → (w : ℕ) (d : WordDef) (b : Bool) → slice_get P.words w ≡ Some d → slice_get flags w ≡ Some b → b ≡ undeclared P w d
 flag_is P C templates closes flags are w d b e f = flag_there P 0 w w P.words d b (omega arith) e (subst (λ bs. slice_get bs w ≡ Some b) (are P closes) f)
+
+-- each word has one
+flags_counted : (P : Program) (v : ℕ) (ds : List WordDef) → length (undeclared_from P v ds) ≡ length ds
+flags_counted P v [] = refl
+flags_counted P v (d ∷ ds) = ap suc (flags_counted P (suc v) ds)
+
+pub flag_exists : (P C : Program) (templates : _) → Closes P C templates → (flags : List Bool) → AreUndeclared C templates flags → (w : ℕ) → w < length C.words → w < length flags
+flag_exists P C templates closes flags are w l =
+    let many : length flags ≡ length C.words = ap length (are P closes) ∙ flags_counted P 0 P.words ∙ sym (words_closed_count P C templates closes) in
+    omega (arith, l, many)
 
 -- the first refusal among all verdicts is the program's
 first_from : (P : Program) (start w : ℕ) (ds : List WordDef) → first_of (verdicts_from P start w ds) ≡ verdict_from P start w ds

@@ -1,29 +1,35 @@
 -- The walk of a callable by the walks of its parts.
-use Rattle.std.proofs.Common.{◌≡◌, ◌≢◌, ◌-◌, ℕ, zero, suc, List, ◌∷◌, Some, None, Ok, refl, sym, ap, subst, ◌∙◌, arith}
+use Rattle.std.proofs.Common.{◌≡◌, ◌≢◌, ◌-◌, ℕ, zero, suc, List, ◌∷◌, Option, Some, None, Ok, refl, sym, ap, subst, ◌∙◌, arith}
 use Rattle.std.specs.Prelude.{slice_get}
 use Rattle.fac_lang.specs.declared.phrase.Place.{Place}
 use Rattle.fac_lang.specs.declared.phrase.Template.{Template}
 use Rattle.fac_lang.specs.declared.program.Program.{Program}
 use Rattle.fac_lang.specs.declared.program.WordDef.{WordDef}
-use Rattle.fac_lang.specs.declared.program.Sort.TheVariants.{Body as body}
-use Rattle.fac_lang.specs.Texts.{Literal, Text, Mark, cur_mark, com_mark}
-use Rattle.fac_locals.specs.Literals.{Quoted, first_of_word, first_of_literal}
-use Rattle.fac_locals.specs.Closed.{ClosesText}
-use Rattle.fac_locals.proofs.Lookups.{word_open, template_closed}
-use Rattle.fac_abs.specs.Marks.{AbstractStack}
-use Rattle.fac_check.specs.Flow.{Walked, and_then, living, inside, Walk, walk_text, walk_mark}
-use Rattle.fac_check.specs.Walking.{Opened, Enters, part_walk, body_text, text_of, sort_text}
+use Rattle.fac_lang.specs.declared.program.Sort.{Sort}
+use Rattle.fac_lang.specs.declared.program.Sort.TheVariants.{Prim as prim, Core as core, Body as body, Past as past, Itself as itself, Class as class, Isa as isa, Getter as getter, Setter as setter, Putter as putter, Generic as generic, Method as method}
+use Rattle.fac_lang.specs.Texts.{Literal, Text, end, Mark, cur_mark, com_mark}
+use Rattle.fac_locals.specs.Literals.{Quoted, literal_or, first_of_word, first_of_literal}
+use Rattle.fac_locals.specs.Closed.{Closes, ClosesText, ClosesSort}
+use Rattle.fac_locals.specs.declared.closing.Closed.{Closed}
+use Rattle.fac_locals.proofs.Lookups.{word_open, word_open_none, template_closed, template_closed_none}
+use Rattle.fac_abs.specs.Marks.{AbstractStack, on}
+use Rattle.fac_abs.specs.Trees.{Naming}
+use Rattle.fac_abs.specs.Seen.{MarksSeen, Grows}
+use Rattle.fac_check.specs.declared.doing.Reached.{Reached}
+use Rattle.fac_check.specs.declared.doing.Reached.TheVariants.{Dead, On}
+use Rattle.fac_check.specs.Flow.{Walked, found, and_then, join, living, inside, Walk, walk_text, walk_mark}
+use Rattle.fac_check.specs.inner.Walking.{Opened, IsReached, reached_seen, Enters, body_text, text_of, sort_text, go_at}
 use Rattle.fac_check.proofs.BuiltWords.{built_as}
 use Rattle.fac_check.proofs.WordItems.{is_body}
 
 module _ (go : Walk) (p : Place) (nested : ℕ) (ms : List Mark) (left rest : ℕ) (counts : left ≡ suc rest) where
   -- what `curry` made
-  pub curried_walk : (m c : Mark) (d : ℕ) → Enters c nested (Ok d) → walk_mark None go (cur_mark m c) p nested None ms left ≡ walk_mark None go c p d None (m ∷ ms) rest
-  curried_walk m c d enters = rw counts (enters p (λ d'. walk_mark None go c p d' None (m ∷ ms) rest))
+  pub curried_counts : (m c : Mark) (d : ℕ) → Enters c nested (Ok d) → walk_mark None go (cur_mark m c) p nested None ms left ≡ walk_mark None go c p d None (m ∷ ms) rest
+  curried_counts m c d enters = rw counts (enters p (λ d'. walk_mark None go c p d' None (m ∷ ms) rest))
 
   -- what `compose` made: its first part, and then its second
-  pub composed_walk : (c e : Mark) (W : Walked AbstractStack) → W ≡ part_walk go c p nested ms rest → walk_mark None go (com_mark c e) p nested None ms left ≡ and_then W (λ A k. living A k (λ b ns j. inside e p nested (λ d. walk_mark None go e p d b ns j)))
-  composed_walk c e W first = rw (counts, first) refl
+  pub composed_counts : (c e : Mark) (W : Walked AbstractStack) → W ≡ inside c p nested (λ d. walk_mark None go c p d None ms rest) → walk_mark None go (com_mark c e) p nested None ms left ≡ and_then W (λ A k. living A k (λ b ns j. inside e p nested (λ d. walk_mark None go e p d b ns j)))
+  composed_counts c e W first = rw (counts, first) refl
 
 -- a text is one application deeper
 pub text_entered : (go : Walk) (at : Literal) (t : Text) (p : Place) (nested : ℕ) (ms : List Mark) (n : ℕ) → nested ≢ 0 → walk_text None go at t p nested None ms n ≡ go at (nested - 1) t None ms n
@@ -41,3 +47,54 @@ module _ {C : Program} {templates : List Template} (O : Opened C templates) wher
       let there = word_open O.program C templates O.closes w c e in
       let sort = is_body O.program w there.def c there.closes (built_as O.program O.built w there.def there.at) t s in
       subst (λ (u : Text). ClosesText O.program (first_of_word w) u t) (sym (ap text_of there.at ∙ ap sort_text sort.1)) sort.2
+
+-- a program for which a closed one stands, where the closed one is told by an equal
+abbrev pub carried : {A B : Closed} → B ≡ A → Opened A.program A.templates → Opened B.program B.templates
+carried e O = record {
+  program = O.program;
+  closes = subst (λ (c : Closed). Closes O.program c.program c.templates) (sym e) O.closes;
+  built = O.built;
+  naming = O.naming;
+  naming_is = O.naming_is;
+}
+
+-- a text with no items
+pub no_items : {C : Program} {templates : List Template} (O : Opened C templates) (f : ℕ) (at : Literal) (t : Text) (p : Place) (nested : ℕ) (ms : List Mark) (n : ℕ) → t ≡ end → nested ≢ 0 → found (on None ms) n ≡ walk_text None (go_at O f) at t p nested None ms n
+no_items O f at t p nested ms n e h = sym (text_entered (go_at O f) at t p nested ms n h ∙ ap (λ u. go_at O f at (nested - 1) u None ms n) e)
+
+module _ {C : Program} {templates : List Template} (O : Opened C templates) where
+  -- a number behind the last template names a literal with no items
+  pub no_literal : (k : ℕ) → slice_get templates k ≡ None → (O.naming.literal k).1 ≡ end
+  no_literal k e = ap (λ (l : Quoted). l.1) (O.naming_is k) ∙ ap (λ (o : Option Quoted). (literal_or O.program k o).1) (template_closed_none O.program C templates O.closes k e)
+
+  -- a number that no word has, and a word without a text
+  pub no_word : (w : ℕ) → slice_get C.words w ≡ None → body_text O.program w ≡ end
+  no_word w e = ap text_of (word_open_none O.program C templates O.closes w e)
+
+  pub no_word_text : (w : ℕ) (c : WordDef) → slice_get C.words w ≡ Some c → ((t : Text) → c.sort ≡ body t → ⊥) → body_text O.program w ≡ end
+  no_word_text w c e none = (let there = word_open O.program C templates O.closes w c e in ap text_of there.at ∙ by_sort there.def.sort there.closes.sort)
+    where
+      by_sort : (s : Sort) → ClosesSort O.program w s c.sort → sort_text s ≡ end
+      by_sort (body t) h = absurd (none h.0 h.1)
+      by_sort (prim k) h = refl
+      by_sort (core k) h = refl
+      by_sort (past t) h = refl
+      by_sort itself h = refl
+      by_sort (class k) h = refl
+      by_sort (isa k) h = refl
+      by_sort (getter x) h = refl
+      by_sort (setter x) h = refl
+      by_sort (putter x) h = refl
+      by_sort generic h = refl
+      by_sort (method k g t) h = refl
+
+-- two callables, and then their join
+pub fork_on :
+    (W V X : Walked AbstractStack) (A : AbstractStack) (n : ℕ) (second : ℕ → Walked AbstractStack) (p : Place) →
+    found A n ≡ W → V ≡ second n → X ≡ and_then V (λ B j. join A B p j) → X ≡ and_then W (λ C k. and_then (second k) (λ B j. join C B p j))
+fork_on W V X A n second p e f g = g ∙ ap (λ v. and_then v (λ B j. join A B p j)) f ∙ ap (λ w. and_then w (λ C k. and_then (second k) (λ B j. join C B p j))) e
+
+-- what was reached stays what it is
+pub reached_stays : (N : Naming) (M L : MarksSeen) (A : Reached) → Grows M L → IsReached M A → reached_seen N L A ≡ reached_seen N M A
+reached_stays N M L Dead g h = refl
+reached_stays N M L (On s) g h = ap (λ ms. on None ms) (g.same_stack N s h)

@@ -14,7 +14,7 @@ use Rattle.fac_locals.specs.Closed.{Closes, ClosesSort, ClosesText, ClosesItem}
 use Rattle.fac_locals.proofs.Places.{not_before, literal_behind}
 use Rattle.fac_locals.proofs.Lookups.{word_closed, word_closed_none, template_closed, template_closed_none}
 use Rattle.fac_check.specs.Verdicts.{inline_body, inline_words, item_words}
-use Rattle.fac_check.specs.UndeclaredRecursion.{named_word, made_template, inline_text, one_if, inline_word, NumbersFrom, NamesLeft, AddsNames, AddsItemNames, AddsMadeNames}
+use Rattle.fac_check.specs.inner.UndeclaredRecursion.{named_word, made_template, inline_text, one_if, inline_word, NumbersFrom, NamesLeft, AddsNames, AddsItemNames, AddsMadeNames}
 
 inline_sort : (w : ℕ) (b : Bool) (s : Sort) → one_if (inline_text b s) w ≡ elim s [ body t ↦ elim b [ true ↦ w ∷ [] | false ↦ [] ] | _ ↦ [] ]
 inline_sort w true (body t) = refl

@@ -1,276 +1,131 @@
--- Each primitive takes and leaves as many values as its word is written to, and keeps the addresses of the literal arrays.
-use Rattle.std.proofs.Common.{◌≡◌, ◌+◌, ◌-◌, ℕ, zero, suc, ℤ, List, [], ◌∷◌, ◌++◌, length, Bool, true, false, Option, Some, None, refl, subst}
-use Rattle.std.specs.Prelude.{nat_eq, nat_le, not, pos, negsuc, ◌+ℤ◌, ◌-ℤ◌, ◌*ℤ◌, int_le, int_lt, int_div, int_rem, slice_get, take, drop, reverse, set}
-use Rattle.std.specs.Int.{int_bit_and, int_bit_or, int_bit_xor}
-use mir.Syntax.{w128}
-use Rattle.std.specs.Fmt.{signed_decimal}
-use Rattle.std.specs.Str.{encode_utf8_all, chars, is_utf8}
-use Rattle.fac_lang.specs.Sequences.{Sequence, tuple_of, array_of, sequence_in, sequence_length, sequence_get, sequence_values}
-use Rattle.fac_lang.specs.Equality.{Equal, equal, not_comparable, too_many_pairs, equal_pairs}
-use Rattle.fac_lang.specs.Printed.{printed}
+-- What a primitive and an accessor are sure of: they give as many values as is written, and keep the addresses of the literal arrays.
+use Rattle.std.proofs.Common.{◌≡◌, ℕ, zero, suc, List, [], ◌∷◌, ◌++◌, length, Bool, true, Option, Some, None, option_map, refl, sym, ap, subst, ◌≤◌, arith}
+use Rattle.std.specs.Prelude.{nat_le, map, slice_get}
+use Rattle.std.specs.List.{list_all}
 use Rattle.fac_lang.specs.declared.phrase.Height.{Height}
-use Rattle.fac_lang.specs.Texts.{Plain, int, no, str, iota, Value}
-use Rattle.fac_lang.specs.World.{World, array, ErrorName, not_integer, not_sequence, not_tuple, no_slot, bad_text, bounds, bad_length, zero_divisor, overflow, wrong_values, text_too_long}
-use Rattle.fac_lang.specs.declared.program.Program.{Program}
-use Rattle.fac_lang.specs.Effects.{effect_height}
-use Rattle.fac_lang.specs.PrimitiveWords.{PrimitiveWord, primitive_word, written_effect, shuffle_words, kernel_words, math_words, sequence_words, output_words}
-use Rattle.fac_lang.specs.Primitives.{Prim, shuffle, Shuffle, s_drop, s_dup, s_swap, s_over, s_pick, s_rot, s_unrot, s_nip, s_dupd, s_swapd, s_2drop, s_2dup, s_3drop, s_3dup, s_2over, s_2nip, p_curry, p_compose, p_throw, p_not, p_and, p_or, p_choose, p_equal, p_eq, p_new, p_add, p_sub, p_mul, p_div, p_mod, p_shift, p_bitand, p_bitor, p_bitxor, p_bitnot, p_less, p_greater, p_at_most, p_at_least, p_number_to_string, p_string_to_number, p_length, p_nth, p_set_nth, p_iota, p_append, p_suffix, p_subseq, p_reverse, p_select, p_array, p_1array, p_2array, p_to_array, p_write, p_print, p_nl, p_readln, p_show, p_no_cond, prims, prim_numbered, prim_fn, Gives, gives, or_bad, unless_bad, want_integer, want_sequence, want_string, on_integers, integer_or, nonzero, give1, truth, new_array, short_enough, written, appended, cut, reversed, chosen, copies, set_element, line_from, line_read, most_line_bytes, equality, identity, new_tuple, tuple_class_in, most_elements, seen_integer, seen_string, seen_word, seen_array, natural, index_below, range_within, both_strings, one_string}
-use Rattle.fac_lang.specs.Objects.{Slot, name_at, seen_tuple, slot_place, want_slot, with_slot, get_slot, set_slot, put_slot}
-use Rattle.fac_lang.specs.Numbers.{in_range, is_zero, shifted, integer_in}
-use Rattle.fac_lang.specs.Meaning.{texts, names, seen, curry_of, compose_of}
-use Rattle.fac_check.specs.Standing.{Valid}
-use Rattle.fac_check.proofs.ItemsFit.{RegularGives, RegularFn}
+use Rattle.fac_lang.specs.Texts.{Value, plain, no}
+use Rattle.fac_lang.specs.World.{World}
+use Rattle.fac_lang.specs.declared.error_name.ErrorName.{ErrorName}
+use Rattle.fac_lang.specs.declared.error_name.ErrorName.TheVariants.{NotTuple, NoSlot}
+use Rattle.fac_lang.specs.declared.limits.TheConstants.{MOST_PAIRS}
+use Rattle.fac_lang.specs.Effects.{inputs_count, leaving_outs, effect_height}
+use Rattle.fac_lang.specs.Equality.{equal_pairs}
+use Rattle.fac_lang.specs.Printed.{Names, printed}
+use Rattle.fac_lang.specs.PrimitiveWords.{PrimitiveWord, outputs_of, plain_inputs, plain_leaving, written_effect}
+use Rattle.fac_lang.specs.Procedures.{Procedure, leaves, answers, answers_array, answers_tuple, curries, composes, fails, looks, adds, opens, puts, compares, prints, asks, writes, reads, Gives, gives, bad, Fn, fn0, fn1, fn2, fn3, followed, by_inputs, picked, places_from, value_at, array_in, opened, opened_places, with_element, made_or, line_in, behind_line}
+use Rattle.fac_lang.specs.Primitives.{Primitive, built_primitives, later_primitives, prim_numbered, primitive_word, prim_fn}
+use Rattle.fac_lang.specs.Objects.{Slot, or_bad, name_at, seen_tuple, slot_place, want_slot, with_slot, get_slot, set_slot, put_slot, tuple_of}
+use Rattle.fac_lang.specs.Meaning.{texts, seen}
+use Rattle.std.proofs.lemmas.Bool.{leb-true}
+use Rattle.fac_abs.proofs.EqualMarks.{and_first, and_second}
 
--- how many values a shuffle takes and leaves
-abbrev pub shuffle_numbers : Shuffle → Height
-shuffle_numbers s_drop = record { ins = 1; outs = Some 0 }
-shuffle_numbers s_dup = record { ins = 1; outs = Some 2 }
-shuffle_numbers s_swap = record { ins = 2; outs = Some 2 }
-shuffle_numbers s_over = record { ins = 2; outs = Some 3 }
-shuffle_numbers s_pick = record { ins = 3; outs = Some 4 }
-shuffle_numbers s_rot = record { ins = 3; outs = Some 3 }
-shuffle_numbers s_unrot = record { ins = 3; outs = Some 3 }
-shuffle_numbers s_nip = record { ins = 2; outs = Some 1 }
-shuffle_numbers s_dupd = record { ins = 2; outs = Some 3 }
-shuffle_numbers s_swapd = record { ins = 3; outs = Some 3 }
-shuffle_numbers s_2drop = record { ins = 2; outs = Some 0 }
-shuffle_numbers s_2dup = record { ins = 2; outs = Some 4 }
-shuffle_numbers s_3drop = record { ins = 3; outs = Some 0 }
-shuffle_numbers s_3dup = record { ins = 3; outs = Some 6 }
-shuffle_numbers s_2over = record { ins = 3; outs = Some 5 }
-shuffle_numbers s_2nip = record { ins = 3; outs = Some 1 }
+-- So many values are given, or an error; and the literal arrays have these addresses.
+abbrev pub Regular : Option ℕ → List ℕ → Gives Value → Type 0
+Regular o ls (gives vs w) = (o ≡ Some (length vs)) × (w.literals ≡ ls)
+Regular o ls (bad e v w) = w.literals ≡ ls
 
--- how many values a primitive takes and leaves
-abbrev pub prim_numbers : Prim → Height
-prim_numbers (shuffle s) = shuffle_numbers s
-prim_numbers p_curry = record { ins = 2; outs = Some 1 }
-prim_numbers p_compose = record { ins = 2; outs = Some 1 }
-prim_numbers p_throw = record { ins = 1; outs = None }
-prim_numbers p_not = record { ins = 1; outs = Some 1 }
-prim_numbers p_and = record { ins = 2; outs = Some 1 }
-prim_numbers p_or = record { ins = 2; outs = Some 1 }
-prim_numbers p_choose = record { ins = 3; outs = Some 1 }
-prim_numbers p_equal = record { ins = 2; outs = Some 1 }
-prim_numbers p_eq = record { ins = 2; outs = Some 1 }
-prim_numbers p_new = record { ins = 1; outs = Some 1 }
-prim_numbers p_add = record { ins = 2; outs = Some 1 }
-prim_numbers p_sub = record { ins = 2; outs = Some 1 }
-prim_numbers p_mul = record { ins = 2; outs = Some 1 }
-prim_numbers p_div = record { ins = 2; outs = Some 1 }
-prim_numbers p_mod = record { ins = 2; outs = Some 1 }
-prim_numbers p_shift = record { ins = 2; outs = Some 1 }
-prim_numbers p_bitand = record { ins = 2; outs = Some 1 }
-prim_numbers p_bitor = record { ins = 2; outs = Some 1 }
-prim_numbers p_bitxor = record { ins = 2; outs = Some 1 }
-prim_numbers p_bitnot = record { ins = 1; outs = Some 1 }
-prim_numbers p_less = record { ins = 2; outs = Some 1 }
-prim_numbers p_greater = record { ins = 2; outs = Some 1 }
-prim_numbers p_at_most = record { ins = 2; outs = Some 1 }
-prim_numbers p_at_least = record { ins = 2; outs = Some 1 }
-prim_numbers p_number_to_string = record { ins = 1; outs = Some 1 }
-prim_numbers p_string_to_number = record { ins = 1; outs = Some 1 }
-prim_numbers p_length = record { ins = 1; outs = Some 1 }
-prim_numbers p_nth = record { ins = 2; outs = Some 1 }
-prim_numbers p_set_nth = record { ins = 3; outs = Some 0 }
-prim_numbers p_iota = record { ins = 1; outs = Some 1 }
-prim_numbers p_append = record { ins = 2; outs = Some 1 }
-prim_numbers p_suffix = record { ins = 2; outs = Some 1 }
-prim_numbers p_subseq = record { ins = 3; outs = Some 1 }
-prim_numbers p_reverse = record { ins = 1; outs = Some 1 }
-prim_numbers p_select = record { ins = 2; outs = Some 1 }
-prim_numbers p_array = record { ins = 2; outs = Some 1 }
-prim_numbers p_1array = record { ins = 1; outs = Some 1 }
-prim_numbers p_2array = record { ins = 2; outs = Some 1 }
-prim_numbers p_to_array = record { ins = 1; outs = Some 1 }
-prim_numbers p_write = record { ins = 1; outs = Some 0 }
-prim_numbers p_print = record { ins = 1; outs = Some 0 }
-prim_numbers p_nl = record { ins = 0; outs = Some 0 }
-prim_numbers p_readln = record { ins = 0; outs = Some 1 }
-prim_numbers p_show = record { ins = 1; outs = Some 0 }
-prim_numbers p_no_cond = record { ins = 0; outs = None }
+-- a function of so many values that gives so many, and keeps the addresses
+abbrev pub RegularFn : ℕ → Option ℕ → Fn Value → Type 0
+RegularFn i o (fn0 g) = (i ≡ 0) × ((w : World Value) → Regular o w.literals (g w))
+RegularFn i o (fn1 g) = (i ≡ 1) × ((x : Value) (w : World Value) → Regular o w.literals (g x w))
+RegularFn i o (fn2 g) = (i ≡ 2) × ((x y : Value) (w : World Value) → Regular o w.literals (g x y w))
+RegularFn i o (fn3 g) = (i ≡ 3) × ((x y z : Value) (w : World Value) → Regular o w.literals (g x y z w))
 
-module _ (P : Program) where
-  -- one lemma for each way of going on
-  or_bad_regular : {X : Type 0} (o : Option ℕ) (y : Option X) (e : ErrorName) (v : Option Value) (w : World Value) (go : X → Gives Value) → ((x : X) → RegularGives P o (go x)) → RegularGives P o (or_bad texts y e v w go)
-  or_bad_regular o None e v w go h = tt
-  or_bad_regular o (Some x) e v w go h = h x
+picked_length : (d : Value) (vs : List Value) (places : List ℕ) → length (picked d vs places) ≡ length places
+picked_length d vs [] = refl
+picked_length d vs (k ∷ places) = ap suc (picked_length d vs places)
 
-  unless_regular : (o : Option ℕ) (b : Bool) (e : ErrorName) (w : World Value) (g : Gives Value) → RegularGives P o g → RegularGives P o (unless_bad texts b e w g)
-  unless_regular o true e w g h = h
-  unless_regular o false e w g h = tt
+made_regular : (v : Option Value) (w : World Value) (g : Gives Value) → Regular (Some 1) w.literals g → Regular (Some 1) w.literals (made_or texts v w g)
+made_regular None w g h = h
+made_regular (Some v) w g h = (refl, refl)
 
-  integer_regular : (o : Option ℕ) (x : Value) (w : World Value) (go : ℤ → Gives Value) → ((z : ℤ) → RegularGives P o (go z)) → RegularGives P o (want_integer texts x w go)
-  integer_regular o x w go h = or_bad_regular o (seen_integer (seen x)) not_integer (Some x) w go h
+module _ (N : Names) where
+  -- Each procedure, from any values.
+  pub followed_regular : {o : Option ℕ} (p : Procedure o) (vs : List Value) (w : World Value) → Regular o w.literals (followed texts N p vs w)
+  followed_regular (leaves places) vs w = (ap Some (sym (picked_length (plain no) vs places)), refl)
+  followed_regular (answers p) vs w = (refl, refl)
+  followed_regular (answers_array places) vs w = (refl, refl)
+  followed_regular (answers_tuple c n) vs w = (refl, refl)
+  followed_regular (curries j k p) vs w = made_regular (texts.curried (value_at texts vs j) (value_at texts vs k)) w (followed texts N p vs w) (followed_regular p vs w)
+  followed_regular (composes j k p) vs w = made_regular (texts.composed (value_at texts vs j) (value_at texts vs k)) w (followed texts N p vs w) (followed_regular p vs w)
+  followed_regular (fails e k) vs w = refl
+  followed_regular (looks k go) vs w = followed_regular (go (seen (value_at texts vs k))) vs w
+  followed_regular (adds ps go) vs w = followed_regular (go (places_from (length vs) (length ps))) (vs ++ map plain ps) w
+  followed_regular (opens a go) vs w = followed_regular (go (opened_places texts (length vs) (array_in texts (slice_get w.objects a)))) (opened texts vs (array_in texts (slice_get w.objects a))) w
+  followed_regular (puts a i k p) vs w = followed_regular p vs (record w { objects = with_element texts w.objects a i (value_at texts vs k) (array_in texts (slice_get w.objects a)) })
+  followed_regular (compares j k go) vs w = followed_regular (go (equal_pairs texts MOST_PAIRS w ((value_at texts vs j, value_at texts vs k) ∷ []))) vs w
+  followed_regular (prints k go) vs w = followed_regular (go (printed texts N w (value_at texts vs k))) vs w
+  followed_regular (asks a go) vs w = followed_regular (go (N.tuple_class a)) vs w
+  followed_regular (writes bs p) vs w = followed_regular p vs (record w { output = w.output ++ bs })
+  followed_regular (reads go) vs w = followed_regular (go (line_in w.input)) vs (record w { input = behind_line w.input })
 
-  string_regular : (o : Option ℕ) (x : Value) (w : World Value) (go : List ℕ → Gives Value) → ((cs : List ℕ) → RegularGives P o (go cs)) → RegularGives P o (want_string texts x w go)
-  string_regular o x w go h = or_bad_regular o (seen_string (seen x)) bad_text (Some x) w go h
+  -- as a function of no more than three inputs
+  pub inputs_regular : {o : Option ℕ} (n : ℕ) (p : Procedure o) → n ≤ 3 → RegularFn n o (by_inputs texts N n p)
+  inputs_regular zero p few = (refl, λ w. followed_regular p [] w)
+  inputs_regular (suc zero) p few = (refl, λ x w. followed_regular p (x ∷ []) w)
+  inputs_regular (suc (suc zero)) p few = (refl, λ x y w. followed_regular p (x ∷ y ∷ []) w)
+  inputs_regular (suc (suc (suc zero))) p few = (refl, λ x y z w. followed_regular p (x ∷ y ∷ z ∷ []) w)
+  inputs_regular (suc (suc (suc (suc n)))) p few = absurd (omega (arith, few))
 
-  sequence_regular : (o : Option ℕ) (x : Value) (w : World Value) (go : Sequence Value → Gives Value) → ((s : Sequence Value) → RegularGives P o (go s)) → RegularGives P o (want_sequence texts x w go)
-  sequence_regular o x w go h = or_bad_regular o (sequence_in texts w (seen x)) not_sequence (Some x) w go h
+-- The table of primitives: no word has more than three inputs.
+abbrev takes_few : Primitive → Bool
+takes_few p = nat_le (length p.word.ins) 3
 
-  result_regular : (e : ErrorName) (r : Option ℤ) (w : World Value) → Valid P w → RegularGives P (Some 1) (integer_or texts e r w)
-  result_regular e None w v = tt
-  result_regular e (Some z) w v = (refl, v)
+one_passes : (ps : List Primitive) → list_all takes_few ps ≡ true → (k : ℕ) (p : Primitive) → slice_get ps k ≡ Some p → takes_few p ≡ true
+one_passes [] h k p e = absurd (cc)
+one_passes (q ∷ ps) h zero p e = (let same : q ≡ p = cc in subst (λ x. takes_few x ≡ true) same (and_first (takes_few q) (list_all takes_few ps) h))
+one_passes (q ∷ ps) h (suc k) p e = one_passes ps (and_second (takes_few q) (list_all takes_few ps) h) k p e
 
-  integers_regular : (f : ℤ → ℤ → World Value → Gives Value) → ((a b : ℤ) (w : World Value) → Valid P w → RegularGives P (Some 1) (f a b w)) → RegularFn P 2 (Some 1) (on_integers texts f)
-  integers_regular f h = (refl, λ x y w v. integer_regular (Some 1) x w (λ a. want_integer texts y w (λ b. f a b w)) (λ a. integer_regular (Some 1) y w (λ b. f a b w) (λ b. h a b w v)))
+pub few_inputs : (k : ℕ) (p : Primitive) → prim_numbered k ≡ Some p → length p.word.ins ≤ 3
+unfolding prim_numbered
+few_inputs k p e = leb-true _ _ (one_passes (built_primitives ++ later_primitives) refl k p e)
 
-  read_regular : (r : Option ℤ) (w : World Value) → Valid P w → RegularGives P (Some 1) (elim r [ Some z ↦ give1 texts (int z) w | None ↦ give1 texts no w ])
-  read_regular None w v = (refl, v)
-  read_regular (Some z) w v = (refl, v)
+-- so each primitive takes and gives as many values as its word is written to
+pub prim_regular : (N : Names) (k : ℕ) (p : Primitive) → prim_numbered k ≡ Some p → RegularFn (length p.word.ins) (outputs_of p.word) (prim_fn texts N p)
+unfolding prim_fn
+prim_regular N k p e = inputs_regular N (length p.word.ins) p.does (few_inputs k p e)
 
-  equality_regular : (q : Equal) (w : World Value) → Valid P w → RegularGives P (Some 1) (equality texts q w)
-  equality_regular (equal b) w v = (refl, v)
-  equality_regular not_comparable w v = tt
-  equality_regular too_many_pairs w v = tt
+-- The effect of a primitive word.
+abbrev pub word_numbers : PrimitiveWord → Height
+word_numbers r = record { ins = length r.ins; outs = outputs_of r }
 
-  identity_regular : (p q : Option Plain) (w : World Value) → Valid P w → RegularGives P (Some 1) (identity texts p q w)
-  identity_regular None None w v = tt
-  identity_regular None (Some q) w v = (refl, v)
-  identity_regular (Some p) None w v = (refl, v)
-  identity_regular (Some p) (Some q) w v = (refl, v)
+inputs_written : (ns : List (List ℕ)) → inputs_count (plain_inputs ns) ≡ length ns
+inputs_written [] = refl
+inputs_written (n ∷ ns) = ap suc (inputs_written ns)
 
-  appended_regular : (s t : Sequence Value) (o : Option (List ℕ × List ℕ)) (w : World Value) → Valid P w → RegularGives P (Some 1) (elim o [ Some p ↦ give1 texts (str (encode_utf8_all (p.0 ++ p.1))) w | None ↦ new_array texts (sequence_values texts s ++ sequence_values texts t) w ])
-  appended_regular s t None w v = (refl, v)
-  appended_regular s t (Some p) w v = (refl, v)
+leaving_written : (o : Option (List (List ℕ))) → leaving_outs (plain_leaving o) ≡ option_map length o
+leaving_written None = refl
+leaving_written (Some ns) = refl
 
-  cut_regular : (r : ℕ × ℕ) (s : Sequence Value) (o : Option (List ℕ)) (w : World Value) → Valid P w → RegularGives P (Some 1) (elim o [ Some cs ↦ give1 texts (str (encode_utf8_all (take (r.1 - r.0) (drop r.0 cs)))) w | None ↦ new_array texts (take (r.1 - r.0) (drop r.0 (sequence_values texts s))) w ])
-  cut_regular r s None w v = (refl, v)
-  cut_regular r s (Some cs) w v = (refl, v)
-
-  reversed_regular : (s : Sequence Value) (o : Option (List ℕ)) (w : World Value) → Valid P w → RegularGives P (Some 1) (elim o [ Some cs ↦ give1 texts (str (encode_utf8_all (reverse cs))) w | None ↦ new_array texts (reverse (sequence_values texts s)) w ])
-  reversed_regular s None w v = (refl, v)
-  reversed_regular s (Some cs) w v = (refl, v)
-
-  set_regular : (u : Value) (i : ℤ) (a : ℕ) (w : World Value) → Valid P w → RegularGives P (Some 0) (set_element texts u i a w)
-  set_regular u i a w v =
-      or_bad_regular (Some 0) (array_of texts (slice_get w.objects a)) not_sequence None w (λ vs. or_bad texts (index_below (length vs) i) bounds None w (λ k. gives [] (record w { objects = set w.objects a (array (set vs k u)) }))) (λ vs. or_bad_regular (Some 0) (index_below (length vs) i) bounds None w (λ k. gives [] (record w { objects = set w.objects a (array (set vs k u)) })) (λ k. (refl, v)))
-
-  taken_regular : (line : List ℕ) (w : World Value) → Valid P w → RegularGives P (Some 1) (line_read texts line w)
-  taken_regular line w v =
-      unless_regular (Some 1) (nat_le (length line) most_line_bytes) text_too_long w (unless_bad texts (is_utf8 line) bad_text w (unless_bad texts (nat_le (length (chars line)) most_elements) text_too_long w (give1 texts (str line) w))) (unless_regular (Some 1) (is_utf8 line) bad_text w (unless_bad texts (nat_le (length (chars line)) most_elements) text_too_long w (give1 texts (str line) w)) (unless_regular (Some 1) (nat_le (length (chars line)) most_elements) text_too_long w (give1 texts (str line) w) (refl, v)))
-
-  line_regular : (bs : List ℕ) (w : World Value) → Valid P w → RegularGives P (Some 1) (elim bs [ [] ↦ give1 texts no w | _ ∷ _ ↦ line_read texts (line_from most_line_bytes w.input).0 (record w { input = (line_from most_line_bytes w.input).1 }) ])
-  line_regular [] w v = (refl, v)
-  line_regular (b ∷ bs) w v = taken_regular (line_from most_line_bytes w.input).0 (record w { input = (line_from most_line_bytes w.input).1 }) v
-
-  shuffle_regular : (s : Shuffle) → RegularFn P (shuffle_numbers s).ins (shuffle_numbers s).outs (prim_fn texts (names P) (shuffle s))
-  unfolding prim_fn
-  shuffle_regular s_drop = (refl, λ x w v. (refl, v))
-  shuffle_regular s_dup = (refl, λ x w v. (refl, v))
-  shuffle_regular s_swap = (refl, λ x y w v. (refl, v))
-  shuffle_regular s_over = (refl, λ x y w v. (refl, v))
-  shuffle_regular s_pick = (refl, λ x y z w v. (refl, v))
-  shuffle_regular s_rot = (refl, λ x y z w v. (refl, v))
-  shuffle_regular s_unrot = (refl, λ x y z w v. (refl, v))
-  shuffle_regular s_nip = (refl, λ x y w v. (refl, v))
-  shuffle_regular s_dupd = (refl, λ x y w v. (refl, v))
-  shuffle_regular s_swapd = (refl, λ x y z w v. (refl, v))
-  shuffle_regular s_2drop = (refl, λ x y w v. (refl, v))
-  shuffle_regular s_2dup = (refl, λ x y w v. (refl, v))
-  shuffle_regular s_3drop = (refl, λ x y z w v. (refl, v))
-  shuffle_regular s_3dup = (refl, λ x y z w v. (refl, v))
-  shuffle_regular s_2over = (refl, λ x y z w v. (refl, v))
-  shuffle_regular s_2nip = (refl, λ x y z w v. (refl, v))
-
-  -- each primitive
-  pub prim_regular : (p : Prim) → RegularFn P (prim_numbers p).ins (prim_numbers p).outs (prim_fn texts (names P) p)
-  unfolding prim_fn
-  prim_regular (shuffle s) = shuffle_regular s
-  prim_regular p_curry = (refl, λ x q w v. or_bad_regular (Some 1) (curry_of x q) wrong_values (Some q) w (λ c. gives (c ∷ []) w) (λ c. (refl, v)))
-  prim_regular p_compose = (refl, λ p q w v. or_bad_regular (Some 1) (compose_of p q) wrong_values (Some (elim (seen p) [ None ↦ q | Some _ ↦ p ])) w (λ c. gives (c ∷ []) w) (λ c. (refl, v)))
-  prim_regular p_throw = (refl, λ x w v. tt)
-  prim_regular p_not = (refl, λ x w v. (refl, v))
-  prim_regular p_and = (refl, λ x y w v. (refl, v))
-  prim_regular p_or = (refl, λ x y w v. (refl, v))
-  prim_regular p_choose = (refl, λ t x y w v. (refl, v))
-  prim_regular p_equal = (refl, λ x y w v. equality_regular (equal_pairs texts most_elements w ((x, y) ∷ [])) w v)
-  prim_regular p_eq = (refl, λ x y w v. identity_regular (seen x) (seen y) w v)
-  prim_regular p_new = (refl, λ x w v. or_bad_regular (Some 1) (tuple_class_in texts (names P) (seen_word (seen x))) not_tuple (Some x) w (λ c. new_tuple texts (names P) c w) (λ c. (refl, v)))
-  prim_regular p_add = integers_regular (λ a b w. integer_or texts overflow (in_range (a +ℤ b)) w) (λ a b w v. result_regular overflow (in_range (a +ℤ b)) w v)
-  prim_regular p_sub = integers_regular (λ a b w. integer_or texts overflow (in_range (a -ℤ b)) w) (λ a b w v. result_regular overflow (in_range (a -ℤ b)) w v)
-  prim_regular p_mul = integers_regular (λ a b w. integer_or texts overflow (in_range (a *ℤ b)) w) (λ a b w v. result_regular overflow (in_range (a *ℤ b)) w v)
-  prim_regular p_div = integers_regular (λ a b w. nonzero texts b w (integer_or texts overflow (in_range (int_div a b)) w)) (λ a b w v. unless_regular (Some 1) (not (is_zero b)) zero_divisor w (integer_or texts overflow (in_range (int_div a b)) w) (result_regular overflow (in_range (int_div a b)) w v))
-  prim_regular p_mod = integers_regular (λ a b w. nonzero texts b w (give1 texts (int (int_rem a b)) w)) (λ a b w v. unless_regular (Some 1) (not (is_zero b)) zero_divisor w (give1 texts (int (int_rem a b)) w) (refl, v))
-  prim_regular p_shift = integers_regular (λ a b w. integer_or texts overflow (shifted a b) w) (λ a b w v. result_regular overflow (shifted a b) w v)
-  prim_regular p_bitand = integers_regular (λ a b w. give1 texts (int (int_bit_and w128 a b)) w) (λ a b w v. (refl, v))
-  prim_regular p_bitor = integers_regular (λ a b w. give1 texts (int (int_bit_or w128 a b)) w) (λ a b w v. (refl, v))
-  prim_regular p_bitxor = integers_regular (λ a b w. give1 texts (int (int_bit_xor w128 a b)) w) (λ a b w v. (refl, v))
-  prim_regular p_bitnot = (refl, λ x w v. integer_regular (Some 1) x w (λ a. give1 texts (int (negsuc 0 -ℤ a)) w) (λ a. (refl, v)))
-  prim_regular p_less = integers_regular (λ a b w. give1 texts (truth texts (int_lt a b)) w) (λ a b w v. (refl, v))
-  prim_regular p_greater = integers_regular (λ a b w. give1 texts (truth texts (int_lt b a)) w) (λ a b w v. (refl, v))
-  prim_regular p_at_most = integers_regular (λ a b w. give1 texts (truth texts (int_le a b)) w) (λ a b w v. (refl, v))
-  prim_regular p_at_least = integers_regular (λ a b w. give1 texts (truth texts (int_le b a)) w) (λ a b w v. (refl, v))
-  prim_regular p_number_to_string = (refl, λ x w v. integer_regular (Some 1) x w (λ a. give1 texts (str (signed_decimal a)) w) (λ a. (refl, v)))
-  prim_regular p_string_to_number = (refl, λ x w v. string_regular (Some 1) x w (λ cs. elim (integer_in cs) [ Some z ↦ give1 texts (int z) w | None ↦ give1 texts no w ]) (λ cs. read_regular (integer_in cs) w v))
-  prim_regular p_length = (refl, λ x w v. sequence_regular (Some 1) x w (λ s. give1 texts (int (pos (sequence_length texts s))) w) (λ s. (refl, v)))
-  prim_regular p_nth = (refl, λ i x w v. integer_regular (Some 1) i w (λ n. want_sequence texts x w (λ s. or_bad texts (index_below (sequence_length texts s) n) bounds None w (λ k. or_bad texts (sequence_get texts s k) bounds None w (λ u. gives (u ∷ []) w)))) (λ n. sequence_regular (Some 1) x w (λ s. or_bad texts (index_below (sequence_length texts s) n) bounds None w (λ k. or_bad texts (sequence_get texts s k) bounds None w (λ u. gives (u ∷ []) w))) (λ s. or_bad_regular (Some 1) (index_below (sequence_length texts s) n) bounds None w (λ k. or_bad texts (sequence_get texts s k) bounds None w (λ u. gives (u ∷ []) w)) (λ k. or_bad_regular (Some 1) (sequence_get texts s k) bounds None w (λ u. gives (u ∷ []) w) (λ u. (refl, v))))))
-  prim_regular p_set_nth = (refl, λ u i x w v. integer_regular (Some 0) i w (λ n. or_bad texts (seen_array (seen x)) not_sequence (Some x) w (λ a. set_element texts u n a w)) (λ n. or_bad_regular (Some 0) (seen_array (seen x)) not_sequence (Some x) w (λ a. set_element texts u n a w) (λ a. set_regular u n a w v)))
-  prim_regular p_iota = (refl, λ x w v. integer_regular (Some 1) x w (λ z. or_bad texts (natural z) bad_length None w (λ n. give1 texts (iota n) w)) (λ z. or_bad_regular (Some 1) (natural z) bad_length None w (λ n. give1 texts (iota n) w) (λ n. (refl, v))))
-  prim_regular p_append = (refl, λ x y w v. sequence_regular (Some 1) x w (λ s. want_sequence texts y w (λ t. short_enough texts (sequence_length texts s + sequence_length texts t) w (appended texts s t w))) (λ s. sequence_regular (Some 1) y w (λ t. short_enough texts (sequence_length texts s + sequence_length texts t) w (appended texts s t w)) (λ t. unless_regular (Some 1) (nat_le (sequence_length texts s + sequence_length texts t) most_elements) bad_length w (appended texts s t w) (appended_regular s t (both_strings s t) w v))))
-  prim_regular p_suffix = (refl, λ x u w v. sequence_regular (Some 1) x w (λ s. short_enough texts (suc (sequence_length texts s)) w (new_array texts (sequence_values texts s ++ u ∷ []) w)) (λ s. unless_regular (Some 1) (nat_le (suc (sequence_length texts s)) most_elements) bad_length w (new_array texts (sequence_values texts s ++ u ∷ []) w) (refl, v)))
-  prim_regular p_subseq = (refl, λ i j x w v. integer_regular (Some 1) i w (λ a. want_integer texts j w (λ b. want_sequence texts x w (λ s. or_bad texts (range_within (sequence_length texts s) a b) bounds None w (λ r. short_enough texts (r.1 - r.0) w (cut texts r s w))))) (λ a. integer_regular (Some 1) j w (λ b. want_sequence texts x w (λ s. or_bad texts (range_within (sequence_length texts s) a b) bounds None w (λ r. short_enough texts (r.1 - r.0) w (cut texts r s w)))) (λ b. sequence_regular (Some 1) x w (λ s. or_bad texts (range_within (sequence_length texts s) a b) bounds None w (λ r. short_enough texts (r.1 - r.0) w (cut texts r s w))) (λ s. or_bad_regular (Some 1) (range_within (sequence_length texts s) a b) bounds None w (λ r. short_enough texts (r.1 - r.0) w (cut texts r s w)) (λ r. unless_regular (Some 1) (nat_le (r.1 - r.0) most_elements) bad_length w (cut texts r s w) (cut_regular r s (one_string s) w v))))))
-  prim_regular p_reverse = (refl, λ x w v. sequence_regular (Some 1) x w (λ s. short_enough texts (sequence_length texts s) w (reversed texts s w)) (λ s. unless_regular (Some 1) (nat_le (sequence_length texts s) most_elements) bad_length w (reversed texts s w) (reversed_regular s (one_string s) w v)))
-  prim_regular p_select = (refl, λ x y w v. sequence_regular (Some 1) x w (λ s. want_sequence texts y w (λ t. unless_bad texts (nat_eq (sequence_length texts s) (sequence_length texts t)) bad_length w (let r = chosen texts (sequence_values texts s) (sequence_values texts t) in short_enough texts (length r) w (new_array texts r w)))) (λ s. sequence_regular (Some 1) y w (λ t. unless_bad texts (nat_eq (sequence_length texts s) (sequence_length texts t)) bad_length w (let r = chosen texts (sequence_values texts s) (sequence_values texts t) in short_enough texts (length r) w (new_array texts r w))) (λ t. unless_regular (Some 1) (nat_eq (sequence_length texts s) (sequence_length texts t)) bad_length w (short_enough texts (length (chosen texts (sequence_values texts s) (sequence_values texts t))) w (new_array texts (chosen texts (sequence_values texts s) (sequence_values texts t)) w)) (unless_regular (Some 1) (nat_le (length (chosen texts (sequence_values texts s) (sequence_values texts t))) most_elements) bad_length w (new_array texts (chosen texts (sequence_values texts s) (sequence_values texts t)) w) (refl, v)))))
-  prim_regular p_array = (refl, λ i u w v. integer_regular (Some 1) i w (λ z. or_bad texts (natural z) bad_length None w (λ n. short_enough texts n w (new_array texts (copies texts n u) w))) (λ z. or_bad_regular (Some 1) (natural z) bad_length None w (λ n. short_enough texts n w (new_array texts (copies texts n u) w)) (λ n. unless_regular (Some 1) (nat_le n most_elements) bad_length w (new_array texts (copies texts n u) w) (refl, v))))
-  prim_regular p_1array = (refl, λ x w v. (refl, v))
-  prim_regular p_2array = (refl, λ x y w v. (refl, v))
-  prim_regular p_to_array = (refl, λ x w v. sequence_regular (Some 1) x w (λ s. short_enough texts (sequence_length texts s) w (new_array texts (sequence_values texts s) w)) (λ s. unless_regular (Some 1) (nat_le (sequence_length texts s) most_elements) bad_length w (new_array texts (sequence_values texts s) w) (refl, v)))
-  prim_regular p_write = (refl, λ x w v. string_regular (Some 0) x w (λ cs. written texts cs w) (λ cs. (refl, v)))
-  prim_regular p_print = (refl, λ x w v. string_regular (Some 0) x w (λ cs. written texts (cs ++ 10 ∷ []) w) (λ cs. (refl, v)))
-  prim_regular p_nl = (refl, λ w v. (refl, v))
-  prim_regular p_readln = (refl, λ w v. line_regular w.input w v)
-  prim_regular p_show = (refl, λ x w v. unless_regular (Some 0) (nat_le (length (printed texts (names P) w x)) most_elements) text_too_long w (written texts (printed texts (names P) w x ++ 10 ∷ []) w) (refl, v))
-  prim_regular p_no_cond = (refl, λ w v. tt)
-
-module _ (P : Program) where
-  slot_regular : (o : Option ℕ) (n : List ℕ) (x : Value) (w : World Value) (a : ℕ) (q : Option (ℕ × List Value)) (go : Slot texts (names P) → Gives Value) → ((p : Slot texts (names P)) → RegularGives P o (go p)) → RegularGives P o (slot_place texts (names P) n x w a q go)
-  slot_regular o n x w a None go h = tt
-  slot_regular o n x w a (Some q) go h = or_bad_regular P o (name_at 0 n ((names P).kind_slots q.0)) no_slot (Some x) w (λ k. go (record { address = a; kind = q.0; values = q.1; place = k })) (λ k. h (record { address = a; kind = q.0; values = q.1; place = k }))
-
-  wanted_regular : (o : Option ℕ) (n : List ℕ) (x : Value) (w : World Value) (go : Slot texts (names P) → Gives Value) → ((p : Slot texts (names P)) → RegularGives P o (go p)) → RegularGives P o (want_slot texts (names P) n x w go)
-  wanted_regular o n x w go h = or_bad_regular P o (seen_tuple (seen x)) not_tuple (Some x) w (λ a. slot_place texts (names P) n x w a (tuple_of texts (slice_get w.objects a)) go) (λ a. slot_regular o n x w a (tuple_of texts (slice_get w.objects a)) go h)
-
-  -- each accessor
-  pub getter_regular : (n : List ℕ) → RegularFn P 1 (Some 1) (get_slot texts (names P) n)
-  getter_regular n = (refl, λ x w v. wanted_regular (Some 1) n x w (λ p. or_bad texts (slice_get p.values p.place) no_slot (Some x) w (λ u. gives (u ∷ []) w)) (λ p. or_bad_regular P (Some 1) (slice_get p.values p.place) no_slot (Some x) w (λ u. gives (u ∷ []) w) (λ u. (refl, v))))
-
-  pub setter_regular : (n : List ℕ) → RegularFn P 2 (Some 1) (set_slot texts (names P) n)
-  setter_regular n = (refl, λ x u w v. wanted_regular (Some 1) n x w (λ p. gives (x ∷ []) (with_slot texts (names P) p u w)) (λ p. (refl, v)))
-
-  pub putter_regular : (n : List ℕ) → RegularFn P 2 (Some 0) (put_slot texts (names P) n)
-  putter_regular n = (refl, λ u x w v. wanted_regular (Some 0) n x w (λ p. gives [] (with_slot texts (names P) p u w)) (λ p. (refl, v)))
-
--- The words and the primitives have the same numbers.
-abbrev Agree : List PrimitiveWord → List Prim → Type 0
-Agree [] [] = Unit {0}
-Agree [] (p ∷ ps) = ⊥
-Agree (r ∷ rs) [] = ⊥
-Agree (r ∷ rs) (p ∷ ps) = (effect_height (written_effect r) ≡ prim_numbers p) × Agree rs ps
-
-all_agree : Agree (shuffle_words ++ kernel_words ++ math_words ++ sequence_words ++ output_words) prims
-all_agree = (refl, (refl, (refl, (refl, (refl, (refl, (refl, (refl, (refl, (refl, (refl, (refl, (refl, (refl, (refl, (refl, (refl, (refl, (refl, (refl, (refl, (refl, (refl, (refl, (refl, (refl, (refl, (refl, (refl, (refl, (refl, (refl, (refl, (refl, (refl, (refl, (refl, (refl, (refl, (refl, (refl, (refl, (refl, (refl, (refl, (refl, (refl, (refl, (refl, (refl, (refl, (refl, (refl, (refl, (refl, (refl, (refl, (refl, (refl, (refl, (refl, tt)))))))))))))))))))))))))))))))))))))))))))))))))))))))))))))
-
-agree_at : (rs : List PrimitiveWord) (ps : List Prim) → Agree rs ps → (k : ℕ) (r : PrimitiveWord) (p : Prim) → slice_get rs k ≡ Some r → slice_get ps k ≡ Some p → effect_height (written_effect r) ≡ prim_numbers p
-agree_at [] [] a k r p e f = absurd (cc)
-agree_at [] (q ∷ ps) a k r p e f = absurd a
-agree_at (s ∷ rs) [] a k r p e f = absurd a
-agree_at (s ∷ rs) (q ∷ ps) a zero r p e f = (let u : s ≡ r = cc in let v : q ≡ p = cc in subst (λ x. effect_height (written_effect x) ≡ prim_numbers p) u (subst (λ y. effect_height (written_effect s) ≡ prim_numbers y) v a.0))
-agree_at (s ∷ rs) (q ∷ ps) a (suc k) r p e f = agree_at rs ps a.1 k r p e f
-
-agree_some : (rs : List PrimitiveWord) (ps : List Prim) → Agree rs ps → (k : ℕ) (r : PrimitiveWord) → slice_get rs k ≡ Some r → (p : Prim) × (slice_get ps k ≡ Some p)
-agree_some [] [] a k r e = absurd (cc)
-agree_some [] (q ∷ ps) a k r e = absurd a
-agree_some (s ∷ rs) [] a k r e = absurd a
-agree_some (s ∷ rs) (q ∷ ps) a zero r e = (q, refl)
-agree_some (s ∷ rs) (q ∷ ps) a (suc k) r e = agree_some rs ps a.1 k r e
+pub written_height : (r : PrimitiveWord) → effect_height (written_effect r) ≡ word_numbers r
+written_height r = rw (inputs_written r.ins, leaving_written r.outs) refl
 
 -- each primitive word has a primitive
-pub prim_found : (k : ℕ) (r : PrimitiveWord) → primitive_word k ≡ Some r → (p : Prim) × (prim_numbered k ≡ Some p)
-unfolding primitive_word prim_numbered
-prim_found k r e = agree_some (shuffle_words ++ kernel_words ++ math_words ++ sequence_words ++ output_words) prims all_agree k r e
+pub prim_found : (k : ℕ) (r : PrimitiveWord) → primitive_word k ≡ Some r → (p : Primitive) × (prim_numbered k ≡ Some p) × (p.word ≡ r)
+prim_found k r e = found (prim_numbered k) refl e
+  where
+    found : (o : Option Primitive) → prim_numbered k ≡ o → option_map (λ (p : Primitive). p.word) o ≡ Some r → (p : Primitive) × (prim_numbered k ≡ Some p) × (p.word ≡ r)
+    found None q h = absurd (cc)
+    found (Some p) q h = (p, q, cc)
 
--- the effect that is written for a primitive word is that of the primitive
-pub written_numbers : (k : ℕ) (r : PrimitiveWord) (p : Prim) → primitive_word k ≡ Some r → prim_numbered k ≡ Some p → effect_height (written_effect r) ≡ prim_numbers p
-unfolding primitive_word prim_numbered
-written_numbers k r p e f = agree_at (shuffle_words ++ kernel_words ++ math_words ++ sequence_words ++ output_words) prims all_agree k r p e f
+module _ (N : Names) where
+  or_bad_regular : {X : Type 0} (o : Option ℕ) (y : Option X) (e : ErrorName) (v : Option Value) (w : World Value) (go : X → Gives Value) → ((x : X) → Regular o w.literals (go x)) → Regular o w.literals (or_bad texts y e v w go)
+  or_bad_regular o None e v w go h = refl
+  or_bad_regular o (Some x) e v w go h = h x
+
+  slot_regular : (o : Option ℕ) (n : List ℕ) (x : Value) (w : World Value) (a : ℕ) (q : Option (ℕ × List Value)) (go : Slot texts N → Gives Value) → ((p : Slot texts N) → Regular o w.literals (go p)) → Regular o w.literals (slot_place texts N n x w a q go)
+  slot_regular o n x w a None go h = refl
+  slot_regular o n x w a (Some q) go h = or_bad_regular o (name_at 0 n (N.kind_slots q.0)) NoSlot (Some x) w (λ k. go (record { address = a; kind = q.0; values = q.1; place = k })) (λ k. h (record { address = a; kind = q.0; values = q.1; place = k }))
+
+  wanted_regular : (o : Option ℕ) (n : List ℕ) (x : Value) (w : World Value) (go : Slot texts N → Gives Value) → ((p : Slot texts N) → Regular o w.literals (go p)) → Regular o w.literals (want_slot texts N n x w go)
+  wanted_regular o n x w go h = or_bad_regular o (seen_tuple (seen x)) NotTuple (Some x) w (λ a. slot_place texts N n x w a (tuple_of texts (slice_get w.objects a)) go) (λ a. slot_regular o n x w a (tuple_of texts (slice_get w.objects a)) go h)
+
+  -- Each accessor.
+  pub getter_regular : (n : List ℕ) → RegularFn 1 (Some 1) (get_slot texts N n)
+  getter_regular n = (refl, λ x w. wanted_regular (Some 1) n x w (λ p. or_bad texts (slice_get p.values p.place) NoSlot (Some x) w (λ u. gives (u ∷ []) w)) (λ p. or_bad_regular (Some 1) (slice_get p.values p.place) NoSlot (Some x) w (λ u. gives (u ∷ []) w) (λ u. (refl, refl))))
+
+  pub setter_regular : (n : List ℕ) → RegularFn 2 (Some 1) (set_slot texts N n)
+  setter_regular n = (refl, λ x u w. wanted_regular (Some 1) n x w (λ p. gives (x ∷ []) (with_slot texts N p u w)) (λ p. (refl, refl)))
+
+  pub putter_regular : (n : List ℕ) → RegularFn 2 (Some 0) (put_slot texts N n)
+  putter_regular n = (refl, λ u x w. wanted_regular (Some 0) n x w (λ p. gives [] (with_slot texts N p u w)) (λ p. (refl, refl)))

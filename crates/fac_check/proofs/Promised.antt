@@ -1,37 +1,23 @@
 -- Accepted programs keep what they promise.
-use Rattle.std.proofs.Common.{◌≡◌, ℕ, zero, suc, List, [], ◌∷◌, ◌++◌, length, not, Option, Some, None, refl, ap, ◌∙◌, arith}
-use Rattle.std.proofs.lemmas.Bool.{ne_eqb}
+use Rattle.std.proofs.Common.{◌≡◌, ℕ, zero, suc, List, [], ◌∷◌, length, Option, Some, None, refl, sym, arith, subst}
+use Rattle.std.specs.Prelude.{slice_get}
 use Rattle.fac_lang.specs.declared.program.Program.{Program}
-use Rattle.fac_lang.specs.Texts.{Value}
+use Rattle.fac_lang.specs.Texts.{Value, word}
+use Rattle.fac_lang.specs.World.{World, State}
 use Rattle.fac_lang.specs.Eval.{Result, Done, Failed, Spent, Stuck}
+use Rattle.fac_lang.specs.Meaning.{word_text, one_item}
 use Rattle.fac_lang.specs.RunningLaws.{IsNotStuck}
-use Rattle.fac_check.specs.Standing.{EndsSo}
-use Rattle.fac_check.specs.Promises.{AcceptedAreSafe, Leaves as LeavesMany}
+use Rattle.fac_check.specs.CallableEffects.{callable_height, fits}
+use Rattle.fac_check.specs.Standing.{Valid, EndsSo}
+use Rattle.fac_check.specs.Promises.{AcceptedAreSafe, Lists, Exactly, LeftOn, Ends, OfRow}
+use Rattle.fac_lang.specs.Effects.{effect_height}
+use Rattle.fac_check.specs.Rows.{effect_leaving, leaving_on, outer_out}
+use Rattle.fac_check.proofs.WalksFit.{StackState}
 use Rattle.fac_check.proofs.ItemsFit.{Over, Leaves}
-use Rattle.fac_check.proofs.AcceptedPrograms.{ordinary_sound, phrase_sound, start_valid}
-
-over_inputs : (n : ℕ) (inputs below : List Value) → length inputs ≡ n → Over n below (inputs ++ below)
-over_inputs zero [] below e = refl
-over_inputs zero (x ∷ xs) below e = absurd (omega (arith, e))
-over_inputs (suc n) [] below e = absurd (omega (arith, e))
-over_inputs (suc n) (x ∷ xs) below e = (x, xs ++ below, refl, over_inputs n xs below (omega (arith, e)))
-
-outputs_over : (n : ℕ) (below stack : List Value) → Over n below stack → (vs : List Value) × (stack ≡ vs ++ below) × (length vs ≡ n)
-outputs_over zero below stack e = ([], e, refl)
-outputs_over (suc n) below stack o = let more = outputs_over n below o.1 o.3 in (o.0 ∷ more.0, o.2 ∙ ap (λ (q : List Value). o.0 ∷ q) more.1, omega (arith, more.2))
-
-left_many : (P : Program) (outs : Option ℕ) (below : List Value) (r : Result) → EndsSo (Leaves P outs below) r → LeavesMany outs below r
-left_many P None below (Done st m) h = absurd h
-left_many P (Some n) below (Done st m) h = outputs_over n below st.stack h.0
-left_many P outs below (Failed e st m) h = tt
-left_many P outs below (Spent st i) h = tt
-left_many P outs below Stuck h = h
-
-not_stuck : (r : Result) → EndsSo (λ st. Unit {0}) r → IsNotStuck r
-not_stuck (Done st m) h = tt
-not_stuck (Failed e st m) h = tt
-not_stuck (Spent st i) h = tt
-not_stuck Stuck h = h
+use Rattle.fac_check.proofs.CountedValues.{inputs_over, outputs_over}
+use Rattle.fac_check.proofs.RowPromises.{handed, handed_good, inputs_stand, outputs_left}
+use Rattle.fac_check.proofs.LiteralsStay.{Stays, literals_stay}
+use Rattle.fac_check.proofs.AcceptedPrograms.{word_sound, row_sound, phrase_sound, start_valid}
 
 whole_over : (n : ℕ) (values : List Value) → length values ≡ n → Over n [] values
 whole_over zero [] e = refl
@@ -39,10 +25,36 @@ whole_over zero (x ∷ xs) e = absurd (omega (arith, e))
 whole_over (suc n) [] e = absurd (omega (arith, e))
 whole_over (suc n) (x ∷ xs) e = (x, xs, refl, whole_over n xs (omega (arith, e)))
 
+module _ (P : Program) where
+  -- a world in which the literal arrays have the addresses that they have in a valid one
+  valid_behind : (w v : World Value) → v.literals ≡ w.literals → Valid P w → Valid P v
+  valid_behind w v e valid = λ a h. subst (λ ls. (k : ℕ) × (slice_get ls a ≡ Some k)) (sym e) (valid a h)
+
+  -- a run that isn't stuck leaves a valid world behind it, since no run changes which literal arrays there are
+  pub ends_valid : (good : State Value → Type 0) (after : Lists) (w : World Value) (r : Result) → Valid P w → Stays w.literals r → ((st : State Value) → good st → after st.stack) → EndsSo good r → Ends P after r
+  ends_valid good after w (Done st m) v s f h = (f st h, valid_behind w st.world s v)
+  ends_valid good after w (Failed e st m) v s f h = valid_behind w st.world s v
+  ends_valid good after w (Spent st i) v s f h = valid_behind w st.world s v
+  ends_valid good after w Stuck v s f h = absurd h
+
+  left_on : (outs : Option ℕ) (below : List Value) (st : State Value) → Leaves P outs below st → LeftOn outs (Exactly below) st.stack
+  left_on None below st h = h
+  left_on (Some n) below st h = (let z = outputs_over n below st.stack h.0 in (z.0, below, z.1, z.2, refl))
+
+-- what ends so isn't stuck
+pub not_stuck : (P : Program) (after : Lists) (r : Result) → Ends P after r → IsNotStuck r
+not_stuck P after (Done st m) h = tt
+not_stuck P after (Failed e st m) h = tt
+not_stuck P after (Spent st i) h = tt
+not_stuck P after Stuck h = h
+
 pub accepted_are_safe : AcceptedAreSafe
 accepted_are_safe P count whole accepted = record {
-  words = λ w d t e q other i n inputs below world valid many.
-      left_many P _ below _ (ordinary_sound P count whole accepted w d t e q (ap not (ne_eqb w P.top other)) i below (record { stack = inputs ++ below; world = world }) n (over_inputs _ inputs below many) valid);
-  phrase = λ values world n valid many. not_stuck _ (phrase_sound P count whole accepted (record { stack = values; world = world }) n (whole_over count values many) valid);
+  words = λ w d h e q z budget below st n le on valid.
+      ends_valid P (Leaves P h.outs below) (LeftOn h.outs (Exactly below)) st.world _ valid (literals_stay P fits (callable_height P) n (one_item (word w)) st) (left_on P h.outs below) (word_sound P count whole accepted w d h e q z below st n (subst (λ r. Over h.ins r st.stack) on.4 (inputs_over h.ins on.0 on.1 st.stack on.2 on.3)) valid);
+  row_words = λ w d e i x tests budget st n le on valid.
+      ends_valid P (StackState P (handed P tests budget w d) (leaving_on (effect_leaving d.effect) (outer_out d.effect) [])) (LeftOn (effect_height d.effect).outs (OfRow P tests (outer_out d.effect))) st.world _ valid (literals_stay P fits (callable_height P) n (one_item (word w)) st) (outputs_left P tests budget w d) (row_sound P count whole accepted w d e i x (handed P tests budget w d) refl refl n (handed_good P tests budget w d e n le) st (inputs_stand P tests budget w d st on.0 on.1 on.2 on.3 on.4 valid));
+  phrase = λ budget st n le many valid.
+      ends_valid P (λ st'. Unit {0}) (λ list. Unit {0}) st.world _ valid (literals_stay P fits (callable_height P) n (word_text P P.top) st) (λ st' u. tt) (phrase_sound P count whole accepted st n (whole_over count st.stack many) valid);
   begins = start_valid P;
 }

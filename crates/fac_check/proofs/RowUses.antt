@@ -8,7 +8,8 @@ use Rattle.fac_lang.specs.Signatures.{Signature, Leaving, never, leaves}
 use Rattle.fac_lang.specs.declared.program.Program.{Program}
 use Rattle.fac_lang.specs.declared.program.WordDef.{WordDef}
 use Rattle.fac_lang.specs.Eval.{Result, Run, eval}
-use Rattle.fac_abs.specs.Marks.{Row, AbstractStack, dead, on, outputs, must_return, base_eq, unknowns}
+use Rattle.fac_abs.specs.Marks.{Row, AbstractStack, dead, on, base_eq, unknowns}
+use Rattle.fac_abs.specs.declared.rule.Rule.TheVariants.{Outputs, MustReturn}
 use Rattle.fac_check.specs.Rows.{Binding, effect_inputs, effect_leaving, outer_in, outer_out, leaving_on}
 use Rattle.fac_locals.specs.Literals.{first_of_word}
 use Rattle.fac_check.specs.Flow.{Walked, found, refused, and_then, Walk, row_result, walked, most_walked, most_steps, most_nested}
@@ -32,13 +33,13 @@ module _ (P : Program) (C : Context) where
 
   kept_row : (l : Leaving) (out : Option Row) (p : Place) (B : AbstractStack) (st : State Value) → kept_word P l out p B ≡ None → StackState P C B st → StackState P C (leaving_on l out []) st
   kept_row l out p dead st e h = absurd h.0
-  kept_row never out p (on b ms) st e h = absurd (some_none P must_return p e)
+  kept_row never out p (on b ms) st e h = absurd (some_none P MustReturn p e)
   kept_row (leaves x names) out p (on b ms) st e h = kept (base_eq b out && nat_eq (length ms) (length names)) refl e
     where
-      kept : (q : Bool) → (base_eq b out && nat_eq (length ms) (length names)) ≡ q → (let o : Option Refusal = elim q [ true ↦ None | false ↦ refusal (outputs (length names) (length ms)) p ] in o ≡ None) → StackState P C (on out (unknowns (length names) [])) st
+      kept : (q : Bool) → (base_eq b out && nat_eq (length ms) (length names)) ≡ q → (let o : Option Refusal = elim q [ true ↦ None | false ↦ refusal (Outputs (length names) (length ms)) p ] in o ≡ None) → StackState P C (on out (unknowns (length names) [])) st
       kept true q z =
           (let w = marks_on b ms st.stack h.0 in (over_unknowns P C (length names) out [] w.0 st.stack (subst (λ k. Over k w.0 st.stack) (length_same (length ms) (length names) (and_second (base_eq b out) (nat_eq (length ms) (length names)) q)) w.1) (subst (λ y. C.row y w.0) (base_same b out (and_first (base_eq b out) (nat_eq (length ms) (length names)) q)) w.2), h.1))
-      kept false q z = absurd (some_none P (outputs (length names) (length ms)) p z)
+      kept false q z = absurd (some_none P (Outputs (length names) (length ms)) p z)
 
   row_ends : (l : Leaving) (out : Option Row) (p : Place) (W : Walked AbstractStack) (r : Result) → end_of P W (kept_word P l out p) ≡ None → Fits P C W r → EndsSo (StackState P C (leaving_on l out [])) r
   row_ends l out p (found B n) r e h = ends_map P C (StackState P C B) (StackState P C (leaving_on l out [])) r (λ st q. kept_row l out p B st e q) h

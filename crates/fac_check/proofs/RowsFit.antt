@@ -9,7 +9,8 @@ use Rattle.fac_lang.specs.Signatures.{Signature, signature, Inputs, no_inputs, v
 use Rattle.fac_lang.specs.Effects.{inputs_count, leaving_outs}
 use Rattle.fac_lang.specs.declared.program.Program.{Program}
 use Rattle.fac_lang.specs.Eval.{Run, run_callable}
-use Rattle.fac_abs.specs.Marks.{Row, named_row, AbstractStack, dead, on, rows, row_eq, base_eq, mark_eq, unknowns, cover_marks}
+use Rattle.fac_abs.specs.Marks.{Row, named_row, AbstractStack, dead, on, row_eq, base_eq, mark_eq, unknowns, cover_marks}
+use Rattle.fac_abs.specs.declared.rule.Rule.TheVariants.{Rows}
 use Rattle.fac_check.specs.Rows.{Binding, bound_to, stack_or_dead, row_of, row_name, effect_leaving, Tied, tied, untied, tied_if, tie, tie_row, start_row}
 use Rattle.fac_check.specs.Flow.{Walked, found, refused, and_then, Walk, walk_from, walk_inputs, started, tied_on}
 use Rattle.fac_check.specs.Standing.{Stands, StandsOn, StandsStack, Valid, EndsSo}
@@ -132,7 +133,7 @@ module _ (P : Program) (C : Context) where
           (extends_more bs (named_row x) dead none, λ ds ext. by_end dead h ds (λ r X e. ext r X (extends_more bs (named_row x) dead none r X e)) (λ st q. absurd q.0))
       tie_row_shows k None (on b ms) none h = free (nat_lt (length ms) (length names)) refl
         where
-          free : (q : Bool) → nat_lt (length ms) (length names) ≡ q → TiedShows bs E m (tied_if (not q) ((named_row x, on b (drop (length names) ms)) ∷ bs) (rows k (length names) (length ms)))
+          free : (q : Bool) → nat_lt (length ms) (length names) ≡ q → TiedShows bs E m (tied_if (not q) ((named_row x, on b (drop (length names) ms)) ∷ bs) (Rows k (length names) (length ms)))
           free true q = tt
           free false q =
               (extends_more bs (named_row x) (on b (drop (length names) ms)) none, λ ds ext. by_end (on b ms) h ds (λ r X e. ext r X (extends_more bs (named_row x) (on b (drop (length names) ms)) none r X e)) (λ st z. (let w = split_marks (length names) b ms st.stack (ltb-false (length ms) (length names) q) z.0 in (w.0, w.1, row_is ds (named_row x) (on b (drop (length names) ms)) (ext (named_row x) (on b (drop (length names) ms)) (bound_first x (on b (drop (length names) ms)) bs)) w.0 w.2, z.1))))
@@ -146,7 +147,7 @@ module _ (P : Program) (C : Context) where
           long : nat_eq (length ms) (length rs + length names) ≡ true → length names ≤ length ms
           long z = omega (arith, length_same (length ms) (length rs + length names) z)
 
-          closed : (q : Bool) → (base_eq c b && (nat_eq (length ms) (length rs + length names) && cover_marks rs (drop (length names) ms))) ≡ q → TiedShows bs E m (tied_if q bs (rows k (length rs + length names) (length ms)))
+          closed : (q : Bool) → (base_eq c b && (nat_eq (length ms) (length rs + length names) && cover_marks rs (drop (length names) ms))) ≡ q → TiedShows bs E m (tied_if q bs (Rows k (length rs + length names) (length ms)))
           closed false q = tt
           closed true q =
               (let base = and_first (base_eq c b) (nat_eq (length ms) (length rs + length names) && cover_marks rs (drop (length names) ms)) q in let both = and_second (base_eq c b) (nat_eq (length ms) (length rs + length names) && cover_marks rs (drop (length names) ms)) q in let count = and_first (nat_eq (length ms) (length rs + length names)) (cover_marks rs (drop (length names) ms)) both in let cover = and_second (nat_eq (length ms) (length rs + length names)) (cover_marks rs (drop (length names) ms)) both in
@@ -167,7 +168,7 @@ module _ (P : Program) (C : Context) where
             base_none : b ≡ None → StandsOn C.inputs (with_base C r).row b ms st.stack → StandsOn C.inputs (with_base C r).row None ms st.stack
             base_none e y = rw (sym e) y
 
-        closed : (q : Bool) → (base_eq b None && nat_eq (length ms) (length names)) ≡ q → TiedShows bs (signature None is (leaves None names)) m (tied_if q bs (rows k (length names) (length ms)))
+        closed : (q : Bool) → (base_eq b None && nat_eq (length ms) (length names)) ≡ q → TiedShows bs (signature None is (leaves None names)) m (tied_if q bs (Rows k (length names) (length ms)))
         closed false q = tt
         closed true q = (λ r Y e. e, λ ds ext c sc r st n le ov v. ends_map P C (StackState P (with_base C r) (on b ms)) (Leaves P (Some (length names)) r) (run_callable run c st n) (over (and_first (base_eq b None) (nat_eq (length ms) (length names)) q) (and_second (base_eq b None) (nat_eq (length ms) (length names)) q) r) (h c sc r st n le ov v))
 

@@ -2,12 +2,12 @@
 use Rattle.std.proofs.Common.{◌≡◌, ℕ, zero, suc, ◌≤◌, ◌+◌, List, [], ◌∷◌, length, Bool, true, false, refl, sym, ap, ◌∙◌, Option, Some, None, arith, subst}
 use Rattle.std.specs.Prelude.{slice_get, nat_eq, nat_le, not, ◌&&◌, ◌||◌}
 use Rattle.std.proofs.lemmas.Slice.Eq.{bytes_eq-Decides}
-use Rattle.std.proofs.lemmas.Bool.{eqb-true}
+use Rattle.std.proofs.lemmas.Bool.{eqb-true, eq-eqb, le-leb}
 use Rattle.fac_lang.specs.declared.phrase.Height.{Height}
 use Rattle.fac_lang.specs.Texts.{Text, end, Value, text, word, Mark, any, par_mark}
 use Rattle.fac_lang.specs.World.{State, pile}
 use Rattle.fac_lang.specs.Signatures.{Signature, signature, Inputs, no_inputs, value, quoted, never, leaves}
-use Rattle.fac_lang.specs.Primitives.{Prim, prim_numbered, prim_fn}
+use Rattle.fac_lang.specs.Primitives.{Primitive, prim_numbered, prim_fn}
 use Rattle.fac_lang.specs.Objects.{get_slot, set_slot, put_slot}
 use Rattle.fac_lang.specs.Classes.{pick, next}
 use Rattle.fac_lang.specs.Substitution.{of_method}
@@ -15,10 +15,12 @@ use Rattle.fac_lang.specs.declared.program.Program.{Program}
 use Rattle.fac_lang.specs.declared.program.WordDef.{WordDef}
 use Rattle.fac_lang.specs.declared.program.Sort.{Sort}
 use Rattle.fac_lang.specs.declared.program.Sort.TheVariants.{Prim as prim, Core as core, Body as body, Past as past, Itself as itself, Class as class, Isa as isa, Getter as getter, Setter as setter, Putter as putter, Generic as generic, Method as method}
-use Rattle.fac_lang.specs.Eval.{Result, Act, go_on, eval}
+use Rattle.fac_lang.specs.Eval.{Result, Done, Failed, Spent, Stuck, then_do, Act, go_on, eval}
 use Rattle.fac_lang.specs.Meaning.{texts, names, sort_of, is_past, is_phrase, word_text, word_fits, one_item, run_text, sort_act, nowhere}
 use Rattle.fac_lang.specs.Effects.{effect_height, inputs_count, word_height}
-use Rattle.fac_abs.specs.Marks.{Row, hidden, named_row, AbstractStack, dead, on, Rule, underflow, not_known, rows, recursive_input, row_eq, base_eq, mark_eq, popped, unknowns}
+use Rattle.fac_abs.specs.Marks.{Row, hidden, named_row, AbstractStack, dead, on, row_eq, base_eq, mark_eq, popped, unknowns}
+use Rattle.fac_abs.specs.declared.rule.Rule.{Rule}
+use Rattle.fac_abs.specs.declared.rule.Rule.TheVariants.{Underflow, NotKnown, Rows, RecursiveInput}
 use Rattle.fac_check.specs.Rows.{is_row, bindable, inputs_rows, nested_one_sided, bound_all, bound_rows, outer_in, outer_out, effect_inputs, effect_leaving, Binding, stack_or_dead, row_bound, row_binding, inputs_known, other_input, leaving_on}
 use Rattle.fac_locals.specs.Literals.{first_of_word}
 use Rattle.fac_check.specs.Flow.{Walked, found, refused, and_then, Walk, walk_on, Doing, breaks, gives, uses, by_height, callable_or, walk_inputs, row_result, is_own, own_rest, own_doing, row_doing, row_or_text}
@@ -29,7 +31,8 @@ use Rattle.fac_lang.proofs.Laws.{within}
 use Rattle.fac_abs.proofs.EqualMarks.{never_true, and_first, and_second, length_same, base_same, mark_same}
 use Rattle.fac_check.proofs.StandingLaws.{Unmarked, self_text}
 use Rattle.fac_check.proofs.WalksFit.{Context, OnState, StackState, Fits, InputsFit, Does, does_fits}
-use Rattle.fac_check.proofs.ItemsFit.{Over, Leaves, RegularFn, Facts, if_callable, ends_map, left_on, HasEffect, effect_does}
+use Rattle.fac_check.proofs.ItemsFit.{Over, Leaves, Facts, if_callable, ends_map, left_on, HasEffect, effect_does}
+use Rattle.fac_check.proofs.PrimitivesKeep.{RegularFn}
 use Rattle.fac_check.proofs.SoundWalks.{A, Known, known_none, known_more, walk_in, on_values, marks_over, over_marks, accepted_keeps, top_runs}
 use Rattle.fac_check.proofs.CallablesKeep.{KeepsNumbers, more_keeps, fitting_keeps}
 use Rattle.fac_check.proofs.RowsFit.{with_base, Extends, Shows, inputs_show}
@@ -51,14 +54,14 @@ pub record Accepted (P : Program) : Type 0 where
   pub unmarked : (w : ℕ) (d : WordDef) (t : Text) → slice_get P.words w ≡ Some d → d.sort ≡ body t → Unmarked t
   pub row_accepted : (w : ℕ) (d : WordDef) (t : Text) → slice_get P.words w ≡ Some d → d.sort ≡ body t → not (nat_eq w P.top) ≡ true → d.inline ≡ true → is_row d.recursive d.effect ≡ true → row_verdict P w t d ≡ None
   pub rows_bindable : (w : ℕ) (d : WordDef) (t : Text) → slice_get P.words w ≡ Some d → d.sort ≡ body t → not (nat_eq w P.top) ≡ true → bindable d.effect ≡ true
-  pub prims : (w : ℕ) (d : WordDef) (k : ℕ) (p : Prim) → slice_get P.words w ≡ Some d → d.sort ≡ prim k → prim_numbered k ≡ Some p → RegularFn P (height_of d).ins (height_of d).outs (prim_fn texts (names P) p)
-  pub getters : (w : ℕ) (d : WordDef) (x : List ℕ) → slice_get P.words w ≡ Some d → d.sort ≡ getter x → RegularFn P (height_of d).ins (height_of d).outs (get_slot texts (names P) x)
-  pub setters : (w : ℕ) (d : WordDef) (x : List ℕ) → slice_get P.words w ≡ Some d → d.sort ≡ setter x → RegularFn P (height_of d).ins (height_of d).outs (set_slot texts (names P) x)
-  pub putters : (w : ℕ) (d : WordDef) (x : List ℕ) → slice_get P.words w ≡ Some d → d.sort ≡ putter x → RegularFn P (height_of d).ins (height_of d).outs (put_slot texts (names P) x)
+  pub prims : (w : ℕ) (d : WordDef) (k : ℕ) (p : Primitive) → slice_get P.words w ≡ Some d → d.sort ≡ prim k → prim_numbered k ≡ Some p → RegularFn (height_of d).ins (height_of d).outs (prim_fn texts (names P) p)
+  pub getters : (w : ℕ) (d : WordDef) (x : List ℕ) → slice_get P.words w ≡ Some d → d.sort ≡ getter x → RegularFn (height_of d).ins (height_of d).outs (get_slot texts (names P) x)
+  pub setters : (w : ℕ) (d : WordDef) (x : List ℕ) → slice_get P.words w ≡ Some d → d.sort ≡ setter x → RegularFn (height_of d).ins (height_of d).outs (set_slot texts (names P) x)
+  pub putters : (w : ℕ) (d : WordDef) (x : List ℕ) → slice_get P.words w ≡ Some d → d.sort ≡ putter x → RegularFn (height_of d).ins (height_of d).outs (put_slot texts (names P) x)
   pub tests : (w : ℕ) (d : WordDef) (c : ℕ) → slice_get P.words w ≡ Some d → d.sort ≡ isa c → ((height_of d).ins ≡ 1) × ((height_of d).outs ≡ Some 1)
   pub generics : (w : ℕ) (d : WordDef) → slice_get P.words w ≡ Some d → d.sort ≡ generic → (i : ℕ) × ((height_of d).ins ≡ suc i) × ((k m : ℕ) → pick P w k ≡ Some m → AcceptedMethod P (height_of d) m)
   pub nexts : (m c g : ℕ) (t : Text) (d : WordDef) → sort_of P m ≡ Some (method c g t) → slice_get P.words g ≡ Some d → (i : ℕ) × ((height_of d).ins ≡ suc i) × ((k n : ℕ) → next P m k ≡ Some n → AcceptedMethod P (height_of d) n)
-  pub numbered : (w : ℕ) (d : WordDef) (k : ℕ) → slice_get P.words w ≡ Some d → d.sort ≡ prim k → (p : Prim) × (prim_numbered k ≡ Some p)
+  pub numbered : (w : ℕ) (d : WordDef) (k : ℕ) → slice_get P.words w ≡ Some d → d.sort ≡ prim k → (p : Primitive) × (prim_numbered k ≡ Some p)
   pub selves : (w : ℕ) (d : WordDef) → slice_get P.words w ≡ Some d → d.sort ≡ itself → ((height_of d).ins ≡ 0) × ((height_of d).outs ≡ Some 1)
   pub classes : (w : ℕ) (d : WordDef) (c : ℕ) → slice_get P.words w ≡ Some d → d.sort ≡ class c → ((height_of d).ins ≡ 0) × ((height_of d).outs ≡ Some 1)
   pub methods : (w : ℕ) (d : WordDef) (c g : ℕ) (t : Text) → slice_get P.words w ≡ Some d → d.sort ≡ method c g t → (ordinary_verdict P w (of_method w t) d ≡ None) × Unmarked (of_method w t)
@@ -126,6 +129,20 @@ module _ (P : Program) where
   -- whether there is a word, and it has an effect that fits
   abbrev declared_fits : Height → Option WordDef → Bool
   declared_fits h o = elim o [ Some d ↦ elim (word_height d) [ Some k ↦ fits k h | None ↦ false ] | None ↦ false ]
+
+  -- an effect fits itself, so a word that has one passes the test for it
+  fits_self : (i : ℕ) (o : Option ℕ) → (nat_le i i && fits_outs i o i o) ≡ true
+  fits_self i None = rw (le-leb i i (omega arith)) refl
+  fits_self i (Some n) = rw (le-leb i i (omega arith), eq-eqb (n + i) (n + i) refl) refl
+
+  word_tested : (b : Bool) (o : Option WordDef) (d : WordDef) (h : Height) → b ≡ false → o ≡ Some d → word_height d ≡ Some h → (not b && declared_fits h o) ≡ true
+  word_tested true o d h z e q = absurd (cc)
+  word_tested false None d h z e q = absurd (cc)
+  word_tested false (Some c) d h z e q = (let same : c ≡ d = cc in tested (word_height c) (ap word_height same ∙ q))
+    where
+      tested : (x : Option Height) → x ≡ Some h → (let t : Bool = elim x [ Some k ↦ fits k h | None ↦ false ] in t ≡ true)
+      tested None y = absurd (cc)
+      tested (Some k) y = (let same : h ≡ k = cc in subst (λ z. fits k z ≡ true) (sym same) (fits_self k.ins k.outs))
 
   -- the item of a word that `execute( )` finds, and whose effect fits, takes and leaves as tested
   abbrev pub Executed : ℕ → Type 0
@@ -205,18 +222,18 @@ module _ (P : Program) where
           use_ends (found ds j) shows known_inputs n le =
               (let base : (List Value → Type 0) = λ s. StandsOn C.inputs C.row b rest s in let good_callee : Good f (K ds) = record { inputs_fit = λ h le'. callee_fits P C G (eval (A P) h) h w d.effect taken ds base (shows h le').1; bases_fit = λ h le' q. callee_fits P C G (eval (A P) h) h w d.effect taken ds (λ s. s ≡ q) (shows h le').1; own_word = (d, is_word, refl) } in ends_map P C (StackState P (K ds) (leaving_on (effect_leaving d.effect) (outer_out d.effect) [])) (StackState P C (row_result d.effect ds)) (eval (A P) f t st n) (λ st' h. used ds (outer_out d.effect) refl st' h) (accepted_row P (K ds) w d t (accepted.row_accepted w d t is_word is_text not_top is_inline row_word) refl refl f (known f (le_self f) (K ds) good_callee) (self_text (K ds).inputs t (accepted.unmarked w d t is_word is_text)) st n le (on_callee ds (shows f (le_self f)).0 known_inputs)))
 
-          use_does : D (elim (bindable d.effect) [ true ↦ callable_or (inputs_known ins taken) not_known (uses d.effect taken b rest) | false ↦ gives dead ]) (run_text t st)
+          use_does : D (elim (bindable d.effect) [ true ↦ callable_or (inputs_known ins taken) NotKnown (uses d.effect taken b rest) | false ↦ gives dead ]) (run_text t st)
           use_does = bound (bindable d.effect) (accepted.rows_bindable w d t is_word is_text not_top)
             where
-              bound : (q : Bool) → q ≡ true → D (elim q [ true ↦ callable_or (inputs_known ins taken) not_known (uses d.effect taken b rest) | false ↦ gives dead ]) (run_text t st)
+              bound : (q : Bool) → q ≡ true → D (elim q [ true ↦ callable_or (inputs_known ins taken) NotKnown (uses d.effect taken b rest) | false ↦ gives dead ]) (run_text t st)
               bound true e =
-                  if_callable P C G (eval (A P) f) f (within (A P) f) (known f (le_self f) C good g) (good.inputs_fit f (le_self f)) (inputs_known ins taken) not_known (uses d.effect taken b rest) (run_text t st) (λ known_inputs. (text t, st, refl, λ p k left n le. use_ends (walk_inputs C.own G 1 ins taken p k (row_binding (outer_in d.effect) (on b rest)) left) (λ h le'. inputs_show P C G (eval (A P) h) h (within (A P) h) (known h le' C (good_less f h C le' good) g) (good.inputs_fit h le') (λ q. known h le' (with_base C q) (good_base h C q (good_less f h C le' good)) g) (λ q. good.bases_fit h le' q) ins taken 1 p k (row_binding (outer_in d.effect) (on b rest)) left) known_inputs n le))
+                  if_callable P C G (eval (A P) f) f (within (A P) f) (known f (le_self f) C good g) (good.inputs_fit f (le_self f)) (inputs_known ins taken) NotKnown (uses d.effect taken b rest) (run_text t st) (λ known_inputs. (text t, st, refl, λ p k left n le. use_ends (walk_inputs C.own G 1 ins taken p k (row_binding (outer_in d.effect) (on b rest)) left) (λ h le'. inputs_show P C G (eval (A P) h) h (within (A P) h) (known h le' C (good_less f h C le' good) g) (good.inputs_fit h le') (λ q. known h le' (with_base C q) (good_base h C q (good_less f h C le' good)) g) (λ q. good.bases_fit h le' q) ins taken 1 p k (row_binding (outer_in d.effect) (on b rest)) left) known_inputs n le))
               bound false e = absurd (never_true e)
 
         -- a use of a row word
         row_does : (b : Option Row) (ms : List Mark) (st : State Value) → OnState P C b ms st → D (row_doing P C.word d.effect b ms) (run_text t st)
         row_does b ms st e =
-            popped_takes (inputs_count ins) [] [] b ms st.stack (run_text t st) (λ taken rest. elim (bindable d.effect) [ true ↦ callable_or (inputs_known ins taken) not_known (uses d.effect taken b rest) | false ↦ gives dead ]) (underflow (inputs_count ins) (length ms)) refl e.0 (λ taken rest vs r x q z len. use_does taken rest vs r b st (as_many ins taken (omega (arith, len))) x q z e.1)
+            popped_takes (inputs_count ins) [] [] b ms st.stack (run_text t st) (λ taken rest. elim (bindable d.effect) [ true ↦ callable_or (inputs_known ins taken) NotKnown (uses d.effect taken b rest) | false ↦ gives dead ]) (Underflow (inputs_count ins) (length ms)) refl e.0 (λ taken rest vs r x q z len. use_does taken rest vs r b st (as_many ins taken (omega (arith, len))) x q z e.1)
 
         -- the values of the own recursive call stand for the marks from which the text is walked
         own_stand : (k : ℕ) (is : Inputs) (ns : List Mark) (vs : List Value) → AsMany P C C is ns → Vs ns vs → other_input k is ns ≡ None → (b : Option Row) (ms : List Mark) (s : List Value) → StandsOn C.inputs C.row b ms s → StandsOn C.inputs C.row b (inputs_marks k is ms) (pile vs s)
@@ -235,15 +252,15 @@ module _ (P : Program) where
         -- the own recursive call
         own_does : C.own ≡ Some d.effect → C.word ≡ Some w → (b : Option Row) (ms : List Mark) (st : State Value) → OnState P C b ms st → D (own_doing P C.word d.effect b ms) (run_text t st)
         own_does is_own_effect is_own_word b ms st e =
-            popped_takes (inputs_count ins) [] [] b ms st.stack (run_text t st) (λ taken rest. elim (other_input 1 ins taken) [ Some k ↦ breaks (recursive_input k) | None ↦ own_rest P C.word d.effect b rest ]) (underflow (inputs_count ins) (length ms)) refl e.0 (λ taken rest vs r x q z len. same taken rest vs r x q z (as_many ins taken (omega (arith, len))) (other_input 1 ins taken) refl)
+            popped_takes (inputs_count ins) [] [] b ms st.stack (run_text t st) (λ taken rest. elim (other_input 1 ins taken) [ Some k ↦ breaks (RecursiveInput k) | None ↦ own_rest P C.word d.effect b rest ]) (Underflow (inputs_count ins) (length ms)) refl e.0 (λ taken rest vs r x q z len. same taken rest vs r x q z (as_many ins taken (omega (arith, len))) (other_input 1 ins taken) refl)
           where
-            rested : (taken rest : List Mark) (vs r : List Value) → Vs taken vs → StandsOn C.inputs C.row b rest r → st.stack ≡ pile vs r → AsMany P C C ins taken → other_input 1 ins taken ≡ None → (q : Bool) → (base_eq b (outer_in d.effect) && nat_eq (length rest) 0) ≡ q → D (elim q [ true ↦ gives (leaving_on (effect_leaving d.effect) (outer_out d.effect) []) | false ↦ breaks (rows 0 0 (length rest)) ]) (run_text t st)
+            rested : (taken rest : List Mark) (vs r : List Value) → Vs taken vs → StandsOn C.inputs C.row b rest r → st.stack ≡ pile vs r → AsMany P C C ins taken → other_input 1 ins taken ≡ None → (q : Bool) → (base_eq b (outer_in d.effect) && nat_eq (length rest) 0) ≡ q → D (elim q [ true ↦ gives (leaving_on (effect_leaving d.effect) (outer_out d.effect) []) | false ↦ breaks (Rows 0 0 (length rest)) ]) (run_text t st)
             rested taken rest vs r x h z many none false u = tt
             rested taken [] vs r x h z many none true u =
                 (refl, λ n le. accepted_row P C w d t (accepted.row_accepted w d t is_word is_text not_top is_inline row_word) is_own_effect is_own_word f (known f (le_self f) C good) (self_text C.inputs t (accepted.unmarked w d t is_word is_text)) st n le (subst (λ s. StandsOn C.inputs C.row (outer_in d.effect) (inputs_marks 1 ins []) s) (sym z) (own_stand 1 ins taken vs many x none (outer_in d.effect) [] r (subst (λ c. C.row c r) (base_same b (outer_in d.effect) (and_first (base_eq b (outer_in d.effect)) true u)) h)), e.1))
             rested taken (m ∷ rest) vs r x h z many none true u = absurd (omega (arith, length_same (length (m ∷ rest)) 0 (and_second (base_eq b (outer_in d.effect)) (nat_eq (length (m ∷ rest)) 0) u)))
 
-            same : (taken rest : List Mark) (vs r : List Value) → Vs taken vs → StandsOn C.inputs C.row b rest r → st.stack ≡ pile vs r → AsMany P C C ins taken → (o : Option ℕ) → other_input 1 ins taken ≡ o → D (elim o [ Some k ↦ breaks (recursive_input k) | None ↦ own_rest P C.word d.effect b rest ]) (run_text t st)
+            same : (taken rest : List Mark) (vs r : List Value) → Vs taken vs → StandsOn C.inputs C.row b rest r → st.stack ≡ pile vs r → AsMany P C C ins taken → (o : Option ℕ) → other_input 1 ins taken ≡ o → D (elim o [ Some k ↦ breaks (RecursiveInput k) | None ↦ own_rest P C.word d.effect b rest ]) (run_text t st)
             same taken rest vs r x h z many (Some k) u = tt
             same taken rest vs r x h z many None u = rested taken rest vs r x h z many u (base_eq b (outer_in d.effect) && nat_eq (length rest) 0) refl
 
@@ -299,8 +316,8 @@ module _ (P : Program) where
       Dv = Does P C (walk_in P C 0) (eval (A P) f) f (within (A P) f) (known f (le_self f) C (good_values f r) 0) ((good_values f r).inputs_fit f (le_self f))
 
       all_taken : (i : ℕ) (o : Option ℕ) (a : Act) → Dv (by_height i o None (unknowns i [])) a → Dv (gives (left_on P C o None [])) a
-      all_taken i None a h = subst (λ z. Dv (elim z [ Some q ↦ gives dead | None ↦ breaks (underflow i (length (unknowns i []))) ]) a) (popped_unknowns i []).1 h
-      all_taken i (Some o) a h = subst (λ z. Dv (elim z [ Some q ↦ gives (on None (unknowns o q.1)) | None ↦ breaks (underflow i (length (unknowns i []))) ]) a) (popped_unknowns i []).1 h
+      all_taken i None a h = subst (λ z. Dv (elim z [ Some q ↦ gives dead | None ↦ breaks (Underflow i (length (unknowns i []))) ]) a) (popped_unknowns i []).1 h
+      all_taken i (Some o) a h = subst (λ z. Dv (elim z [ Some q ↦ gives (on None (unknowns o q.1)) | None ↦ breaks (Underflow i (length (unknowns i []))) ]) a) (popped_unknowns i []).1 h
 
       left_over : (o : Option ℕ) (st' : State Value) → StackState P C (left_on P C o None []) st' → Leaves P o r st'
       left_over None st' h = absurd h.0
@@ -383,13 +400,25 @@ module _ (P : Program) where
     known_values : (n : ℕ) (s : List Value) → Known P n (on_values P s)
     known_values n s = all_known n n (omega arith) (on_values P s) (good_values n s)
 
-    -- An ordinary word takes and leaves what it declares, and touches nothing below.
-    pub word_sound : (w : ℕ) (d : WordDef) (t : Text) → slice_get P.words w ≡ Some d → d.sort ≡ body t → not (nat_eq w P.top) ≡ true → d.inline ≡ false → (s : List Value) (st : State Value) (n : ℕ) → Over (height_of d).ins s st.stack → Valid P st.world → EndsSo (Leaves P (height_of d).outs s) (eval (A P) n t st n)
-    word_sound w d t e q z i s st n o v = accepted_keeps P w d t (accepted.accepted w d t e q z i) n s (known_values n s) (self_text (λ k c. ⊥) t (accepted.unmarked w d t e q)) st n (omega arith) o v
+    -- The item of a word that has an effect by itself takes and leaves what it declares, and touches nothing below.
+    pub item_sound : (w : ℕ) (d : WordDef) (h : Height) → slice_get P.words w ≡ Some d → word_height d ≡ Some h → is_phrase P w ≡ false → (s : List Value) (st : State Value) (n : ℕ) → Over h.ins s st.stack → Valid P st.world → EndsSo (Leaves P h.outs s) (eval (A P) n (one_item (word w)) st n)
+    item_sound w d h e q z s st n o v = executed_at n (all_known n) h w (word_tested (is_phrase P w) (slice_get P.words w) d h z e q) s st n (omega arith) o v
 
-    -- A row word, in every context in which what may be handed in for its inputs does what its effect says: on a list for its input row with its inputs on it, it leaves its outputs on a list for its output row.
-    pub row_word_sound : (w : ℕ) (d : WordDef) (t : Text) → slice_get P.words w ≡ Some d → d.sort ≡ body t → not (nat_eq w P.top) ≡ true → d.inline ≡ true → is_row d.recursive d.effect ≡ true → (C : Context) → C.own ≡ Some d.effect → C.word ≡ Some w → (n : ℕ) → Good n C → (st : State Value) → OnState P C (outer_in d.effect) (inputs_marks 1 (effect_inputs d.effect) []) st → EndsSo (StackState P C (leaving_on (effect_leaving d.effect) (outer_out d.effect) [])) (eval (A P) n t st n)
-    row_word_sound w d t e q z i x C own is_word n good st o = accepted_row P C w d t (accepted.row_accepted w d t e q z i x) own is_word n (all_known n n (omega arith) C good) (self_text C.inputs t (accepted.unmarked w d t e q)) st n (omega arith) o
+    -- The text of a row word, in every context in which what may be handed in for its inputs does what its effect says: on a list for its input row with its inputs on it, it leaves its outputs on a list for its output row.
+    row_text_sound : (w : ℕ) (d : WordDef) (t : Text) → slice_get P.words w ≡ Some d → d.sort ≡ body t → not (nat_eq w P.top) ≡ true → d.inline ≡ true → is_row d.recursive d.effect ≡ true → (C : Context) → C.own ≡ Some d.effect → C.word ≡ Some w → (n : ℕ) → Good n C → (st : State Value) → OnState P C (outer_in d.effect) (inputs_marks 1 (effect_inputs d.effect) []) st → EndsSo (StackState P C (leaving_on (effect_leaving d.effect) (outer_out d.effect) [])) (eval (A P) n t st n)
+    row_text_sound w d t e q z i x C own is_word n good st o = accepted_row P C w d t (accepted.row_accepted w d t e q z i x) own is_word n (all_known n n (omega arith) C good) (self_text C.inputs t (accepted.unmarked w d t e q)) st n (omega arith) o
+
+    ended_there : (f : ℕ) (good : State Value → Type 0) (r : Result) → EndsSo good r → EndsSo good (then_do r (λ st' k. eval (A P) f end st' k))
+    ended_there f good (Done st m) h = h
+    ended_there f good (Failed e st m) h = tt
+    ended_there f good (Spent st i) h = tt
+    ended_there f good Stuck h = h
+
+    -- So does its item.
+    pub row_word_sound : (w : ℕ) (d : WordDef) (t : Text) → slice_get P.words w ≡ Some d → d.sort ≡ body t → not (nat_eq w P.top) ≡ true → d.inline ≡ true → is_row d.recursive d.effect ≡ true → (C : Context) → C.own ≡ Some d.effect → C.word ≡ Some w → (n : ℕ) → Good n C → (st : State Value) → OnState P C (outer_in d.effect) (inputs_marks 1 (effect_inputs d.effect) []) st → EndsSo (StackState P C (leaving_on (effect_leaving d.effect) (outer_out d.effect) [])) (eval (A P) n (one_item (word w)) st n)
+    row_word_sound w d t e q z i x C own is_word zero good st o = tt
+    row_word_sound w d t e q z i x C own is_word (suc n) good st o =
+        (let is_text : sort_of P w ≡ Some (body t) = ap (λ v. elim v [ Some c ↦ Some c.sort | None ↦ None ]) e ∙ ap (λ s. Some s) q in subst (λ s. EndsSo (StackState P C (leaving_on (effect_leaving d.effect) (outer_out d.effect) [])) (go_on (eval (A P) n) (sort_act P w s st) end n)) (sym is_text) (ended_there n (StackState P C (leaving_on (effect_leaving d.effect) (outer_out d.effect) [])) (eval (A P) n t st n) (row_text_sound w d t e q z i x C own is_word n (good_less (suc n) n C (omega arith) good) st o)))
 
     -- The top-level phrase isn't stuck.
     pub top_sound : (w : ℕ) (t : Text) (start : ℕ) → Unmarked t → top_verdict P start w t ≡ None → (st : State Value) (n : ℕ) → Over start [] st.stack → Valid P st.world → EndsSo (λ st'. Unit {0}) (eval (A P) n t st n)

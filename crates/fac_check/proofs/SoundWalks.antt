@@ -10,7 +10,9 @@ use Rattle.fac_lang.specs.declared.program.Program.{Program}
 use Rattle.fac_lang.specs.declared.program.WordDef.{WordDef}
 use Rattle.fac_lang.specs.Eval.{Result, Done, Failed, Spent, Stuck, Act, Run, eval}
 use Rattle.fac_lang.specs.Meaning.{act, run}
-use Rattle.fac_abs.specs.Marks.{Row, AbstractStack, dead, on, Rule, outputs, must_return, base_eq, unknowns}
+use Rattle.fac_abs.specs.Marks.{Row, AbstractStack, dead, on, base_eq, unknowns}
+use Rattle.fac_abs.specs.declared.rule.Rule.{Rule}
+use Rattle.fac_abs.specs.declared.rule.Rule.TheVariants.{Outputs, MustReturn}
 use Rattle.fac_check.specs.Rows.{effect_inputs, effect_leaving}
 use Rattle.fac_locals.specs.Literals.{first_of_word, behind}
 use Rattle.fac_check.specs.Flow.{Walked, found, refused, walk, doing, walked, most_walked, most_steps, most_nested}
@@ -70,12 +72,12 @@ module _ (P : Program) where
   -- an accepted text leaves what is declared
   kept_ends : (s : List Value) (l : Leaving) (p : Place) (B : AbstractStack) (st : State Value) → kept_word P l None p B ≡ None → StackState P (on_values s) B st → Leaves P (leaving_outs l) s st
   kept_ends s l p dead st e h = absurd h.0
-  kept_ends s never p (on b ms) st e h = absurd (some_none must_return p e)
+  kept_ends s never p (on b ms) st e h = absurd (some_none MustReturn p e)
   kept_ends s (leaves x names) p (on b ms) st e h = kept (base_eq b None && nat_eq (length ms) (length names)) refl e
     where
-      kept : (q : Bool) → (base_eq b None && nat_eq (length ms) (length names)) ≡ q → (let o : Option Refusal = elim q [ true ↦ None | false ↦ refusal (outputs (length names) (length ms)) p ] in o ≡ None) → Leaves P (Some (length names)) s st
+      kept : (q : Bool) → (base_eq b None && nat_eq (length ms) (length names)) ≡ q → (let o : Option Refusal = elim q [ true ↦ None | false ↦ refusal (Outputs (length names) (length ms)) p ] in o ≡ None) → Leaves P (Some (length names)) s st
       kept true q z = (rw (sym (length_same (length ms) (length names) (and_second (base_eq b None) (nat_eq (length ms) (length names)) q))) (marks_over s b ms st.stack h.0), h.1)
-      kept false q z = absurd (some_none (outputs (length names) (length ms)) p z)
+      kept false q z = absurd (some_none (Outputs (length names) (length ms)) p z)
 
   walked_ends : (s : List Value) (l : Leaving) (p : Place) (W : Walked AbstractStack) (r : Result) → end_of P W (kept_word P l None p) ≡ None → Fits P (on_values s) W r → EndsSo (Leaves P (leaving_outs l) s) r
   walked_ends s l p (found B n) r e h = ends_map P (on_values s) (StackState P (on_values s) B) (Leaves P (leaving_outs l) s) r (λ st q. kept_ends s l p B st e q) h

@@ -3,9 +3,10 @@ use Rattle.std.proofs.Common.{◌≡◌, ℕ, zero, suc, List, Option, Some, Non
 use Rattle.fac_lang.specs.declared.phrase.Place.{Place}
 use Rattle.fac_lang.specs.Signatures.{Signature}
 use Rattle.fac_lang.specs.Texts.{Literal, Text, Mark}
-use Rattle.fac_abs.specs.Marks.{AbstractStack, Rule}
+use Rattle.fac_abs.specs.Marks.{AbstractStack}
+use Rattle.fac_abs.specs.declared.rule.Rule.{Rule}
 use Rattle.fac_check.specs.Flow.{Walked, found, refused, and_then, living, Doing, breaks, gives, names_local, expands, walks, forks, again, uses, Walk, counted, join, marks_back, walk_mark, text_rule, first_rule, unless_broken, walk_on}
-use Rattle.fac_check.specs.ItemWalk.{IsAlone, item_walk}
+use Rattle.fac_check.specs.inner.ItemWalk.{IsAlone, item_walk}
 
 -- what follows a walk that goes on
 pub and_then_each : {A B C : Type 0} (W : Walked A) (f : A → ℕ → Walked B) (g : B → ℕ → Walked C) → and_then (and_then W f) g ≡ and_then W (λ a n. and_then (f a n) g)

@@ -8,7 +8,8 @@ use Rattle.fac_lang.specs.declared.program.WordDef.{WordDef}
 use Rattle.fac_lang.specs.declared.program.Sort.{Sort}
 use Rattle.fac_lang.specs.declared.program.Sort.TheVariants.{Prim as prim, Core as core, Body as body, Past as past, Itself as itself, Class as class, Isa as isa, Getter as getter, Setter as setter, Putter as putter, Generic as generic, Method as method}
 use Rattle.fac_check.specs.Verdicts.{one_of, more_of, inline_body, inline_words, item_words, body_words, named_by, led_to, without, leads_back, undeclared}
-use Rattle.fac_check.specs.UndeclaredRecursion.{IsOneOf, one_if, inline_text, inline_word, list_or_none, led_from, IsWithin, StaysInside, Decides, DecidesAll, text_edges, inline_edges, sort_edges, word_edges, edges_from, undeclared_from, AreEdges, AreUndeclared}
+use Rattle.fac_check.specs.inner.UndeclaredRecursion.{IsOneOf, one_if, inline_text, inline_word, list_or_none, led_from, IsWithin, StaysInside, Decides, DecidesAll, text_edges, inline_edges, sort_edges, word_edges, edges_from, AreEdges}
+use Rattle.fac_check.specs.Judged.{undeclared_from, AreUndeclared}
 use Rattle.fac_check.proofs.NamedWords.{inline_same, number_below}
 use Rattle.fac_check.proofs.LeadingBack.{or_left, or_right, or_either, same_number, in_either, in_one}
 

@@ -17,12 +17,12 @@ use Rattle.fac_locals.proofs.Places.{literal_apart, literal_built}
 use Rattle.fac_abs.specs.Marks.{unknowns}
 use Rattle.fac_abs.specs.Trees.{Naming}
 use Rattle.fac_abs.specs.Seen.{MarksSeen, stack_of}
-use Rattle.fac_check.specs.declared.rule.Rule.{Rule}
+use Rattle.fac_abs.specs.declared.rule.Rule.{Rule}
 use Rattle.fac_check.specs.declared.walker.Walked.{Walked}
 use Rattle.fac_check.specs.Rows.{effect_inputs, effect_leaving, is_row}
 use Rattle.fac_check.specs.Flow.{most_steps}
 use Rattle.fac_check.specs.Verdicts.{Refusal, end_of, kept_word, ordinary_verdict, top_verdict, inline_verdict, body_verdict, phrase_verdict, sort_verdict, ruled_verdict, word_verdict, undeclared, bad_rows, bad_generic}
-use Rattle.fac_check.specs.Walking.{Opened, walked_seen, go_at}
+use Rattle.fac_check.specs.inner.Walking.{Opened, walked_seen, go_at}
 use Rattle.fac_check.specs.Judged.{breach_seen}
 use Rattle.fac_check.proofs.BuiltMarks.{built_unmarked}
 use Rattle.fac_check.proofs.BuiltWords.{BuiltAs, as_primitive, as_core, as_defined, built_as, no_bad_rows, no_bad_generic, no_row_word}

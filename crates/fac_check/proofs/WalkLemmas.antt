@@ -12,8 +12,8 @@ use Rattle.fac_abs.specs.Marks.{dead, on}
 use Rattle.fac_abs.specs.Trees.{Naming}
 use Rattle.fac_abs.specs.Seen.{MarksSeen, stack_of}
 use Rattle.fac_check.specs.Flow.{found, refused, and_then, doing}
-use Rattle.fac_check.specs.ItemWalk.{IsAlone, item_walk}
-use Rattle.fac_check.specs.Walking.{Opened, doing_seen, walked_seen, rule_seen, body_text, go_at, IsBelow}
+use Rattle.fac_check.specs.inner.ItemWalk.{IsAlone, item_walk}
+use Rattle.fac_check.specs.inner.Walking.{Opened, doing_seen, walked_seen, body_text, go_at, IsBelow}
 use Rattle.fac_check.specs.declared.doing.Reached.TheVariants.{Dead, On}
 use Rattle.fac_check.specs.declared.doing.Doing.{Doing}
 use Rattle.fac_check.specs.declared.doing.Doing.TheVariants.{Breaks, Gives, Expands, Walks, Forks}
@@ -80,7 +80,7 @@ module _ {C : Program} {templates : List Template} (O : Opened C templates) wher
   abbrev pub Behind : (at : Literal) (t : Text) (f nested : ℕ) (ms : List Mark) (most : ℕ) (K : MarksSeen) (items : List PlacedItem) → Walked → Type 0
   Behind at t f nested ms most K items (Found Dead n) = go_at O f at nested t None ms most ≡ found dead n
   Behind at t f nested ms most K items (Found (On s) n) = Onward O at t f nested ms most K s items n
-  Behind at t f nested ms most K items (Refused r p) = go_at O f at nested t None ms most ≡ refused (rule_seen r) p
+  Behind at t f nested ms most K items (Refused r p) = go_at O f at nested t None ms most ≡ refused r p
 
   -- goes on behind an item
   pub onward :

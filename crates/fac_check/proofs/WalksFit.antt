@@ -10,7 +10,9 @@ use Rattle.fac_lang.specs.Signatures.{Signature}
 use Rattle.fac_lang.specs.declared.program.Program.{Program}
 use Rattle.fac_lang.specs.Eval.{Result, Done, Failed, Spent, Stuck, then_do, Act, wrong, fails, goes, binds, runs, Run, run_callable, go_on}
 use Rattle.fac_lang.specs.Meaning.{one_item, nowhere}
-use Rattle.fac_abs.specs.Marks.{Row, AbstractStack, dead, on, Rule, branches, base_eq, mark_eq, join_marks, piled}
+use Rattle.fac_abs.specs.Marks.{Row, AbstractStack, dead, on, base_eq, mark_eq, join_marks, piled}
+use Rattle.fac_abs.specs.declared.rule.Rule.{Rule}
+use Rattle.fac_abs.specs.declared.rule.Rule.TheVariants.{Branches}
 use Rattle.fac_check.specs.Rows.{calls_own}
 use Rattle.fac_locals.specs.Literals.{first_of_word, first_of_literal}
 use Rattle.fac_check.specs.Flow.{Walked, found, refused, and_then, living, Doing, breaks, gives, names_local, expands, walks, forks, again, uses, Walk, counted, inside, called, join, marks_back, walk_text, walk_mark, walk_use, text_rule, first_rule, unless_broken, walk_on}
@@ -121,7 +123,7 @@ module _ (P : Program) (C : Context) where
   join_left (on b ms) dead p n st k r h f = f (on b ms) n h
   join_left (on b ms) (on c ns) p n st k r h f = joined (base_eq b c && nat_eq (length ms) (length ns)) refl
     where
-      joined : (q : Bool) → (base_eq b c && nat_eq (length ms) (length ns)) ≡ q → Fits (and_then (elim q [ true ↦ found (on b (join_marks ms ns)) n | false ↦ refused (branches (length ms) (length ns)) p ]) k) r
+      joined : (q : Bool) → (base_eq b c && nat_eq (length ms) (length ns)) ≡ q → Fits (and_then (elim q [ true ↦ found (on b (join_marks ms ns)) n | false ↦ refused (Branches (length ms) (length ns)) p ]) k) r
       joined true e = f (on b (join_marks ms ns)) n (join_ms_left b ms ns st.stack (length_same (length ms) (length ns) (and_second (base_eq b c) _ e)) h.0, h.1)
       joined false e = tt
 
@@ -130,7 +132,7 @@ module _ (P : Program) (C : Context) where
   join_right (on b ms) dead p n st k r h f = absurd h.0
   join_right (on b ms) (on c ns) p n st k r h f = joined (base_eq b c && nat_eq (length ms) (length ns)) refl
     where
-      joined : (q : Bool) → (base_eq b c && nat_eq (length ms) (length ns)) ≡ q → Fits (and_then (elim q [ true ↦ found (on b (join_marks ms ns)) n | false ↦ refused (branches (length ms) (length ns)) p ]) k) r
+      joined : (q : Bool) → (base_eq b c && nat_eq (length ms) (length ns)) ≡ q → Fits (and_then (elim q [ true ↦ found (on b (join_marks ms ns)) n | false ↦ refused (Branches (length ms) (length ns)) p ]) k) r
       joined true e = f (on b (join_marks ms ns)) n (join_ms_right b ms ns st.stack (length_same (length ms) (length ns) (and_second (base_eq b c) _ e)) (rw (base_same b c (and_first (base_eq b c) _ e)) h.0), h.1)
       joined false e = tt
 

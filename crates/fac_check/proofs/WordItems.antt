@@ -1,8 +1,7 @@
 -- What the items of a built program's words do in the checker's walk.
-use Rattle.std.proofs.Common.{◌≡◌, ◌≢◌, ◌<◌, ℕ, zero, suc, List, [], ◌∷◌, length, Bool, true, false, Option, Some, None, refl, sym, ap, subst, ◌∙◌, arith, Result, Ok, Err}
-use Rattle.std.specs.Prelude.{nat_eq, nat_lt, not, ◌||◌, slice_get, IfOk, if◌then◌else◌}
-use Rattle.std.specs.List.{list_all}
-use Rattle.std.proofs.lemmas.Bool.{eqb-true, eq-eqb, leb-true, ne_eqb}
+use Rattle.std.proofs.Common.{◌≡◌, ◌≢◌, ℕ, List, length, Bool, true, false, Option, Some, None, refl, sym, ap, subst, ◌∙◌, Result, Ok, Err}
+use Rattle.std.specs.Prelude.{nat_eq, not, slice_get, IfOk, if◌then◌else◌}
+use Rattle.std.proofs.lemmas.Bool.{eq-eqb, ne_eqb}
 use Rattle.fac_lang.specs.declared.phrase.Height.{Height}
 use Rattle.fac_lang.specs.declared.program.Program.{Program}
 use Rattle.fac_lang.specs.declared.program.WordDef.{WordDef}
@@ -10,16 +9,16 @@ use Rattle.fac_lang.specs.declared.program.Sort.{Sort}
 use Rattle.fac_lang.specs.declared.program.Sort.TheVariants.{Prim as prim, Core as core, Body as body}
 use Rattle.fac_lang.specs.Texts.{Text, Mark}
 use Rattle.fac_lang.specs.Effects.{effect_height}
-use Rattle.fac_lang.specs.Primitives.{Prim, prims, prim_numbered}
+use Rattle.fac_lang.specs.PrimitiveWords.{outputs_of, written_effect}
+use Rattle.fac_lang.specs.Primitives.{Primitive, prim_numbered}
 use Rattle.fac_lang.specs.Meaning.{core_numbered, c_call, c_dip, c_if}
-use Rattle.fac_lang.specs.Forms.{is_member, built_primitives, is_built_primitive}
 use Rattle.fac_locals.specs.Literals.{first_of_word}
 use Rattle.fac_locals.specs.Closed.{ClosesWord, ClosesSort, ClosesText}
-use Rattle.fac_abs.specs.Marks.{Row, not_known}
+use Rattle.fac_abs.specs.declared.rule.Rule.TheVariants.{NotKnown}
 use Rattle.fac_check.specs.Rows.{is_row}
-use Rattle.fac_check.specs.Flow.{Doing, breaks, expands, by_height, callable_or, prim_doing, core_doing, sort_doing, inline_doing, row_or_text, curry_doing, compose_doing}
-use Rattle.fac_check.specs.Walking.{body_text, text_of, sort_text}
-use Rattle.fac_abs.proofs.EqualMarks.{and_first, and_second}
+use Rattle.fac_check.specs.Flow.{Doing, breaks, expands, by_height, callable_or, prim_doing, core_doing, sort_doing, inline_doing, row_or_text}
+use Rattle.fac_check.specs.inner.Walking.{body_text, text_of, sort_text}
+use Rattle.fac_check.proofs.PrimitivesKeep.{written_height}
 use Rattle.fac_check.proofs.BuiltWords.{BuiltAs, as_primitive, as_core, as_defined, no_row_word}
 
 -- an answer's fact out of another
@@ -39,38 +38,12 @@ pub core_2 : core_numbered 2 ≡ Some c_if
 unfolding core_numbered
 core_2 = refl
 
-pub curry_primitive : (P : Program) (k : ℕ) (h : Height) (b : Option Row) (ms : List Mark) → k ≡ 16 → prim_doing P (prim_numbered k) h b ms ≡ curry_doing b ms
-unfolding prim_numbered
-curry_primitive P k h b ms e = rw e refl
-
-pub compose_primitive : (P : Program) (k : ℕ) (h : Height) (b : Option Row) (ms : List Mark) → k ≡ 17 → prim_doing P (prim_numbered k) h b ms ≡ compose_doing b ms
-unfolding prim_numbered
-compose_primitive P k h b ms e = rw e refl
-
--- the built primitives have numbers of primitives
-member_below : (n k : ℕ) (xs : List ℕ) → list_all (λ x. nat_lt x n) xs ≡ true → is_member k xs ≡ true → nat_lt k n ≡ true
-member_below n k [] h e = absurd (cc)
-member_below n k (x ∷ xs) h e = one (nat_eq k x) refl (member_below n k xs (and_second _ _ h)) e
-  where
-    one : (b : Bool) → nat_eq k x ≡ b → (is_member k xs ≡ true → nat_lt k n ≡ true) → (b || is_member k xs) ≡ true → nat_lt k n ≡ true
-    one true s more f = rw (eqb-true k x s) (and_first _ _ h)
-    one false s more f = more f
-
-there_is : {A : Type 0} (xs : List A) (k : ℕ) → k < length xs → (x : A) × (slice_get xs k ≡ Some x)
-there_is [] k l = absurd (omega (arith, l))
-there_is (x ∷ xs) zero l = (x, refl)
-there_is (x ∷ xs) (suc k) l = there_is xs k (omega (arith, l))
-
-pub built_numbered : (k : ℕ) → is_built_primitive k ≡ true → (p : Prim) × (prim_numbered k ≡ Some p)
-unfolding prim_numbered
-built_numbered k e = there_is prims k (leb-true _ _ (member_below 61 k built_primitives refl e))
-
 module _ (P : Program) (w : ℕ) (d c : WordDef) (closes : ClosesWord P w d c) where
   sorted : (s : Sort) → d.sort ≡ s → ClosesSort P w s c.sort
   sorted s e = subst (λ x. ClosesSort P w x c.sort) e closes.sort
 
-  pub is_prim : BuiltAs P w d → (k : ℕ) → c.sort ≡ prim k → (d.sort ≡ prim k) × (is_built_primitive k ≡ true)
-  is_prim (as_primitive j e b i r) k s = (let same : j ≡ k = (let f = sorted (prim j) e in cc) in subst (λ n. (d.sort ≡ prim n) × (is_built_primitive n ≡ true)) same (e, b))
+  pub is_prim : BuiltAs P w d → (k : ℕ) → c.sort ≡ prim k → d.sort ≡ prim k
+  is_prim (as_primitive j e b i r) k s = (let same : j ≡ k = (let f = sorted (prim j) e in cc) in subst (λ n. d.sort ≡ prim n) same e)
   is_prim (as_core j e b i r) k s = absurd (let f = sorted (core j) e in cc)
   is_prim (as_defined t e i r) k s = absurd (let f = sorted (body t) e in let g = f.1 in cc)
 
@@ -88,25 +61,32 @@ module _ (P : Program) (w : ℕ) (d c : WordDef) (closes : ClosesWord P w d c) w
   height_read : (i : ℕ) (o : Option ℕ) → i ≡ (effect_height c.effect).ins → o ≡ (effect_height c.effect).outs → (let h : Height = record { ins = i; outs = o } in h ≡ effect_height d.effect)
   height_read i o e f = rw (e, f, closes.effect) refl
 
-  pub prim_item : (k : ℕ) (X : Doing) (i : ℕ) (o : Option ℕ) (ms : List Mark) → d.sort ≡ prim k → i ≡ (effect_height c.effect).ins → o ≡ (effect_height c.effect).outs → X ≡ prim_doing P (prim_numbered k) (record { ins = i; outs = o }) None ms → X ≡ sort_doing P None w d d.sort None ms
-  prim_item k X i o ms s e f x = x ∙ ap (λ h. prim_doing P (prim_numbered k) h None ms) (height_read i o e f) ∙ ap (λ q. sort_doing P None w d q None ms) (sym s)
+  pub prim_item : (k : ℕ) (p : Primitive) (X : Doing) (ms : List Mark) → d.sort ≡ prim k → prim_numbered k ≡ Some p → X ≡ prim_doing (Some p) None ms → X ≡ sort_doing P None w d d.sort None ms
+  prim_item k p X ms s e x = x ∙ ap (λ o. prim_doing o None ms) (sym e) ∙ ap (λ q. sort_doing P None w d q None ms) (sym s)
+
+  -- a primitive word takes and leaves what is written
+  pub prim_ins : (p : Primitive) (i : ℕ) → d.effect ≡ written_effect p.word → i ≡ (effect_height c.effect).ins → i ≡ length p.word.ins
+  prim_ins p i e f = ap (λ (h : Height). h.ins) (height_read i (effect_height c.effect).outs f refl ∙ ap effect_height e ∙ written_height p.word)
+
+  pub prim_outs : (p : Primitive) (o : Option ℕ) → d.effect ≡ written_effect p.word → o ≡ (effect_height c.effect).outs → o ≡ outputs_of p.word
+  prim_outs p o e f = ap (λ (h : Height). h.outs) (height_read (effect_height c.effect).ins o refl f ∙ ap effect_height e ∙ written_height p.word)
 
   pub core_item : (k : ℕ) (X : Doing) (ms : List Mark) → d.sort ≡ core k → X ≡ core_doing P (core_numbered k) None ms → X ≡ sort_doing P None w d d.sort None ms
   core_item k X ms s x = x ∙ ap (λ q. sort_doing P None w d q None ms) (sym s)
 
-  pub top_item : (t : Text) (ms : List Mark) → d.sort ≡ body t → w ≡ P.top → breaks not_known ≡ sort_doing P None w d d.sort None ms
+  pub top_item : (t : Text) (ms : List Mark) → d.sort ≡ body t → w ≡ P.top → breaks NotKnown ≡ sort_doing P None w d d.sort None ms
   top_item t ms s e = top (nat_eq w P.top) (rw e (same_number P.top)) ∙ ap (λ q. sort_doing P None w d q None ms) (sym s)
     where
       same_number : (n : ℕ) → nat_eq n n ≡ true
       same_number n = eq-eqb n n refl
 
-      top : (b : Bool) → b ≡ true → breaks not_known ≡ callable_or (not b) not_known (inline_doing P None d.inline w d t None ms)
+      top : (b : Bool) → b ≡ true → breaks NotKnown ≡ callable_or (not b) NotKnown (inline_doing P None d.inline w d t None ms)
       top true q = refl
       top false q = absurd (cc)
 
   pub body_item : (t : Text) (X : Doing) (i : ℕ) (o : Option ℕ) (ms : List Mark) → BuiltAs P w d → slice_get P.words w ≡ Some d → d.sort ≡ body t → w ≢ P.top → i ≡ (effect_height c.effect).ins → o ≡ (effect_height c.effect).outs → X ≡ (if c.inline then expands w (body_text P w) None ms else by_height i o None ms) → X ≡ sort_doing P None w d d.sort None ms
   body_item t X i o ms b at s n e f x =
-      x ∙ chosen c.inline d.inline closes.inline (no_row_word P w d b) ∙ ap (λ q. callable_or q not_known (inline_doing P None d.inline w d t None ms)) (sym (ap not (ne_eqb w P.top n))) ∙ ap (λ q. sort_doing P None w d q None ms) (sym s)
+      x ∙ chosen c.inline d.inline closes.inline (no_row_word P w d b) ∙ ap (λ q. callable_or q NotKnown (inline_doing P None d.inline w d t None ms)) (sym (ap not (ne_eqb w P.top n))) ∙ ap (λ q. sort_doing P None w d q None ms) (sym s)
     where
       text_is : body_text P w ≡ t
       text_is = ap text_of at ∙ ap sort_text s

@@ -1,18 +1,20 @@
 -- How the checker walks a text: it takes the items in order and follows what each does to the stack as it knows it. A text of the walk is a text as a run has it, with a known mark where a run has a held value.
 use Rattle.std.specs.Prelude.{ℕ, zero, suc, List, [], ◌∷◌, map, length, Bool, true, false, ◌&&◌, not, nat_eq, nat_lt, Option, Some, None, slice_get}
-use Rattle.fac_lang.specs.declared.phrase.Height.{Height}
 use Rattle.fac_lang.specs.declared.phrase.Place.{Place}
 use Rattle.fac_lang.specs.Texts.{Literal, Plain, wrd, Text, end, then, Item, lit, lit_arr, quot, word, bind, local, fry, hole, call_eff, exec_eff, next_method, made, next_after, held, known, Mark, any, lit_mark, cur_mark, com_mark, wrd_mark, par_mark}
 use Rattle.fac_lang.specs.Signatures.{Signature, Inputs, no_inputs, value, quoted}
 use Rattle.fac_lang.specs.Effects.{inputs_count, effect_height}
-use Rattle.fac_lang.specs.Primitives.{Moves, moves1, moves2, moves3, moves, Prim, shuffle, p_curry, p_compose, prim_numbered}
+use Rattle.fac_lang.specs.Procedures.{Procedure, leaves, curries, composes, or_else, picked}
+use Rattle.fac_lang.specs.Primitives.{Primitive, prim_numbered}
 use Rattle.fac_lang.specs.Substitution.{put_local, put_holes}
 use Rattle.fac_lang.specs.declared.program.Program.{Program}
 use Rattle.fac_lang.specs.declared.program.WordDef.{WordDef}
 use Rattle.fac_lang.specs.declared.program.Sort.{Sort}
 use Rattle.fac_lang.specs.declared.program.Sort.TheVariants.{Prim as prim, Core as core, Body as body, Past as past, Itself as itself, Class as class, Method as method}
 use Rattle.fac_lang.specs.Meaning.{sort_of, names, Core, c_call, c_dip, c_if, c_execute, c_boa, core_numbered}
-use Rattle.fac_abs.specs.Marks.{Row, AbstractStack, dead, on, Rule, underflow, not_known, not_a_class, branches, recursive_input, rows, method_effect, too_deep, too_large, base_eq, limited, is_callable, curried_mark, composed_mark, join_marks, unknowns, popped, piled}
+use Rattle.fac_abs.specs.Marks.{Row, AbstractStack, dead, on, base_eq, limited, is_callable, curried_mark, composed_mark, join_marks, unknowns, popped, piled}
+use Rattle.fac_abs.specs.declared.rule.Rule.{Rule}
+use Rattle.fac_abs.specs.declared.rule.Rule.TheVariants.{Underflow, NotKnown, NotAClass, Branches, RecursiveInput, Rows, MethodEffect, TooDeep, TooLarge}
 use Rattle.fac_locals.specs.Literals.{first_of_word, first_of_literal, behind}
 use Rattle.fac_check.specs.Rows.{effect_inputs, effect_leaving, outer_in, outer_out, bindable, Binding, Tied, tied, untied, tie, start_row, inputs_known, other_input, leaving_on, Called, call_breaks, call_leaves, calls_own, stack_or_dead, row_bound, row_binding, row_name, is_row}
 
@@ -56,19 +58,19 @@ Walk = Literal → ℕ → Text → Option Row → List Mark → ℕ → Walked 
 
 -- an item counts
 abbrev pub counted : {A : Type 0} → Place → ℕ → (ℕ → Walked A) → Walked A
-counted p zero go = refused too_large p
+counted p zero go = refused TooLarge p
 counted p (suc n) go = go n
 
 -- Entering a part of what `curry` or `compose` made is one nested application. For a quotation that is the entry of its text, which counts by itself.
 abbrev pub inside : {A : Type 0} → Mark → Place → ℕ → (ℕ → Walked A) → Walked A
 inside (lit_mark q t) p d go = go d
-inside any p d go = refused not_known p
-inside (wrd_mark w) p d go = refused not_known p
-inside (cur_mark m c) p zero go = refused too_deep p
+inside any p d go = refused NotKnown p
+inside (wrd_mark w) p d go = refused NotKnown p
+inside (cur_mark m c) p zero go = refused TooDeep p
 inside (cur_mark m c) p (suc d) go = go d
-inside (com_mark c e) p zero go = refused too_deep p
+inside (com_mark c e) p zero go = refused TooDeep p
 inside (com_mark c e) p (suc d) go = go d
-inside (par_mark k) p zero go = refused too_deep p
+inside (par_mark k) p zero go = refused TooDeep p
 inside (par_mark k) p (suc d) go = go d
 
 -- a call of an input inside its row word
@@ -80,7 +82,7 @@ called (call_leaves A) p n = found A n
 abbrev pub join : AbstractStack → AbstractStack → Place → ℕ → Walked AbstractStack
 join dead B p n = found B n
 join (on b ms) dead p n = found (on b ms) n
-join (on b ms) (on c ns) p n = elim (base_eq b c && nat_eq (length ms) (length ns)) [ true ↦ found (on b (join_marks ms ns)) n | false ↦ refused (branches (length ms) (length ns)) p ]
+join (on b ms) (on c ns) p n = elim (base_eq b c && nat_eq (length ms) (length ns)) [ true ↦ found (on b (join_marks ms ns)) n | false ↦ refused (Branches (length ms) (length ns)) p ]
 
 -- marks put back on what was found
 abbrev pub marks_back : List Mark → AbstractStack → AbstractStack
@@ -94,7 +96,7 @@ tied_on (untied r) p n go = refused r p
 
 -- goes on where the row that an input starts from is bound
 abbrev pub started : Option AbstractStack → ℕ → Place → (AbstractStack → Walked Binding) → Walked Binding
-started None k p go = refused (rows k 0 0) p
+started None k p go = refused (Rows k 0 0) p
 started (Some A) k p go = go A
 
 -- what a row word leaves, where its rows are bound so
@@ -106,13 +108,13 @@ module _ (own : Option Signature) where
   module _ (go : Walk) where
     -- entering a text is one nested application
     abbrev pub walk_text : Literal → Text → Place → ℕ → Option Row → List Mark → ℕ → Walked AbstractStack
-    walk_text at t p zero b ms n = refused too_deep p
+    walk_text at t p zero b ms n = refused TooDeep p
     walk_text at t p (suc d) b ms n = go at d t b ms n
 
     -- Entering a callable that a mark stands for. The value of `curry` and the entry of `compose` count as an item each.
     abbrev pub walk_mark : Mark → Place → ℕ → Option Row → List Mark → ℕ → Walked AbstractStack
-    walk_mark any p d b ms n = refused not_known p
-    walk_mark (wrd_mark w) p d b ms n = refused not_known p
+    walk_mark any p d b ms n = refused NotKnown p
+    walk_mark (wrd_mark w) p d b ms n = refused NotKnown p
     walk_mark (lit_mark l t) p d b ms n = walk_text (first_of_literal l) t p d b ms n
     walk_mark (cur_mark m c) p d b ms n = counted p n (λ k. inside c p d (λ d'. walk_mark c p d' b (m ∷ ms) k))
     walk_mark (com_mark c e) p d b ms n = counted p n (λ k. and_then (inside c p d (λ d'. walk_mark c p d' b ms k)) (λ A k'. living A k' (λ b' ms' k''. inside e p d (λ d'. walk_mark e p d' b' ms' k''))))
@@ -125,9 +127,9 @@ module _ (own : Option Signature) where
     -- The quotation inputs of a row word are walked from left to right, and each binds rows: input k, the inputs that are left and their marks.
     abbrev pub walk_inputs : ℕ → Inputs → List Mark → Place → ℕ → Binding → ℕ → Walked Binding
     walk_inputs k no_inputs ms p d bs n = found bs n
-    walk_inputs k (value x is) [] p d bs n = refused not_known p
+    walk_inputs k (value x is) [] p d bs n = refused NotKnown p
     walk_inputs k (value x is) (m ∷ ms) p d bs n = walk_inputs (suc k) is ms p d bs n
-    walk_inputs k (quoted x e is) [] p d bs n = refused not_known p
+    walk_inputs k (quoted x e is) [] p d bs n = refused NotKnown p
     walk_inputs k (quoted x e is) (m ∷ ms) p d bs n =
         started (start_row (row_name e) bs) k p (λ A. and_then (walk_from m p d A (inputs_count (effect_inputs e)) n) (λ B n'. tied_on (tie k (row_name e) (effect_leaving e) B bs) p n' (λ bs' n''. walk_inputs (suc k) is ms p d bs' n'')))
 
@@ -137,7 +139,7 @@ module _ (own : Option Signature) where
 
   -- what an item breaks by entering a text, before it counts
   abbrev pub text_rule : ℕ → Option Rule
-  text_rule zero = Some too_deep
+  text_rule zero = Some TooDeep
   text_rule (suc d) = None
 
   -- likewise by the callable that it walks first
@@ -169,14 +171,14 @@ module _ (own : Option Signature) where
   -- Each item counts once. The first number only makes the definition end: any number that is greater than the items left gives the same walk.
   abbrev pub walk : (Literal → Item → Option Row → List Mark → Doing) → ℕ → Walk
   walk doing f at d end b ms n = found (on b ms) n
-  walk doing zero at d (then i p t) b ms n = refused too_large p
+  walk doing zero at d (then i p t) b ms n = refused TooLarge p
   walk doing (suc f) at d (then i p t) b ms n = walk_on (walk doing f) (doing at i b ms) p d (behind at i) t n
 
 -- What each item does at once.
 
 -- goes on with n marks, the deepest first, and the rest
 abbrev pub needing : ℕ → List Mark → (List Mark → List Mark → Doing) → Doing
-needing n ms go = elim (popped n [] ms) [ Some r ↦ go r.0 r.1 | None ↦ breaks (underflow n (length ms)) ]
+needing n ms go = elim (popped n [] ms) [ Some r ↦ go r.0 r.1 | None ↦ breaks (Underflow n (length ms)) ]
 
 -- takes so many values and leaves unknown ones on the rest, or never returns
 abbrev pub by_height : ℕ → Option ℕ → Option Row → List Mark → Doing
@@ -188,65 +190,57 @@ abbrev pub callable_or : Bool → Rule → Doing → Doing
 callable_or true r x = x
 callable_or false r x = breaks r
 
--- a shuffle moves marks as it moves values
-abbrev pub marks_moved : Moves Mark → Option Row → List Mark → Doing
-marks_moved (moves1 f) b [] = breaks (underflow 1 0)
-marks_moved (moves1 f) b (x ∷ ms) = gives (on b (piled (f x) ms))
-marks_moved (moves2 f) b [] = breaks (underflow 2 0)
-marks_moved (moves2 f) b (y ∷ []) = breaks (underflow 2 1)
-marks_moved (moves2 f) b (y ∷ x ∷ ms) = gives (on b (piled (f x y) ms))
-marks_moved (moves3 f) b [] = breaks (underflow 3 0)
-marks_moved (moves3 f) b (z ∷ []) = breaks (underflow 3 1)
-marks_moved (moves3 f) b (z ∷ y ∷ []) = breaks (underflow 3 2)
-marks_moved (moves3 f) b (z ∷ y ∷ x ∷ ms) = gives (on b (piled (f x y z) ms))
+-- the mark at a place of those that are taken
+abbrev pub mark_at : List Mark → ℕ → Mark
+mark_at taken k = or_else any (slice_get taken k)
 
--- `curry`
-abbrev pub curry_doing : Option Row → List Mark → Doing
-curry_doing b [] = breaks (underflow 2 0)
-curry_doing b (c ∷ []) = breaks (underflow 2 1)
-curry_doing b (c ∷ m ∷ ms) = gives (on b (curried_mark m c ∷ ms))
+-- takes so many values, and leaves those at these places
+abbrev pub marks_moved : ℕ → List ℕ → Option Row → List Mark → Doing
+marks_moved i places b ms = needing i ms (λ taken rest. gives (on b (piled (picked any taken places) rest)))
 
--- `compose`
-abbrev pub compose_doing : Option Row → List Mark → Doing
-compose_doing b [] = breaks (underflow 2 0)
-compose_doing b (d ∷ []) = breaks (underflow 2 1)
-compose_doing b (d ∷ c ∷ ms) = gives (on b (composed_mark c d ∷ ms))
+-- takes so many values, and leaves what is made of two of them
+abbrev pub mark_made : (Mark → Mark → Mark) → ℕ → ℕ → ℕ → Option Row → List Mark → Doing
+mark_made make i j k b ms = needing i ms (λ taken rest. gives (on b (make (mark_at taken j) (mark_at taken k) ∷ rest)))
+
+-- A procedure that takes so many values: one that only moves values moves their marks, `curry` and `compose` make a mark, and of what others leave nothing is known.
+abbrev pub procedure_doing : {outs : Option ℕ} → ℕ → Procedure outs → Option Row → List Mark → Doing
+procedure_doing i (leaves places) b ms = marks_moved i places b ms
+procedure_doing i (curries j k p) b ms = mark_made curried_mark i j k b ms
+procedure_doing i (composes j k p) b ms = mark_made composed_mark i j k b ms
+procedure_doing {outs = o} i _ b ms = by_height i o b ms
+
+-- a primitive takes as many values as its word has inputs
+abbrev pub prim_doing : Option Primitive → Option Row → List Mark → Doing
+prim_doing None b ms = breaks NotKnown
+prim_doing (Some p) b ms = procedure_doing (length p.word.ins) p.does b ms
 
 -- goes on with a known word
 abbrev pub known_word : Mark → (ℕ → Doing) → Doing
 known_word (wrd_mark w) go = go w
-known_word _ go = breaks not_known
+known_word _ go = breaks NotKnown
 
 module _ (P : Program) where
   -- a tuple class takes a value for each slot; what it needs and has counts the class itself
   abbrev pub makes_by : Option (ℕ × ℕ) → Option Row → List Mark → Doing
-  makes_by None b ms = breaks not_a_class
-  makes_by (Some c) b ms = elim (popped c.1 [] ms) [ Some r ↦ gives (on b (any ∷ r.1)) | None ↦ breaks (underflow (suc c.1) (suc (length ms))) ]
+  makes_by None b ms = breaks NotAClass
+  makes_by (Some c) b ms = elim (popped c.1 [] ms) [ Some r ↦ gives (on b (any ∷ r.1)) | None ↦ breaks (Underflow (suc c.1) (suc (length ms))) ]
 
   -- a core word
   abbrev pub core_doing : Option Core → Option Row → List Mark → Doing
-  core_doing None b ms = breaks not_known
-  core_doing (Some c_call) b [] = breaks (underflow 1 0)
-  core_doing (Some c_call) b (q ∷ ms) = callable_or (is_callable q) not_known (walks q b ms [])
-  core_doing (Some c_dip) b [] = breaks (underflow 2 0)
-  core_doing (Some c_dip) b (q ∷ []) = breaks (underflow 2 1)
-  core_doing (Some c_dip) b (q ∷ x ∷ ms) = callable_or (is_callable q) not_known (walks q b ms (x ∷ []))
-  core_doing (Some c_if) b [] = breaks (underflow 3 0)
-  core_doing (Some c_if) b (r ∷ []) = breaks (underflow 3 1)
-  core_doing (Some c_if) b (r ∷ l ∷ []) = breaks (underflow 3 2)
-  core_doing (Some c_if) b (r ∷ l ∷ x ∷ ms) = callable_or (is_callable l && is_callable r) not_known (forks l r b ms)
-  core_doing (Some c_execute) b [] = breaks (underflow 1 0)
+  core_doing None b ms = breaks NotKnown
+  core_doing (Some c_call) b [] = breaks (Underflow 1 0)
+  core_doing (Some c_call) b (q ∷ ms) = callable_or (is_callable q) NotKnown (walks q b ms [])
+  core_doing (Some c_dip) b [] = breaks (Underflow 2 0)
+  core_doing (Some c_dip) b (q ∷ []) = breaks (Underflow 2 1)
+  core_doing (Some c_dip) b (q ∷ x ∷ ms) = callable_or (is_callable q) NotKnown (walks q b ms (x ∷ []))
+  core_doing (Some c_if) b [] = breaks (Underflow 3 0)
+  core_doing (Some c_if) b (r ∷ []) = breaks (Underflow 3 1)
+  core_doing (Some c_if) b (r ∷ l ∷ []) = breaks (Underflow 3 2)
+  core_doing (Some c_if) b (r ∷ l ∷ x ∷ ms) = callable_or (is_callable l && is_callable r) NotKnown (forks l r b ms)
+  core_doing (Some c_execute) b [] = breaks (Underflow 1 0)
   core_doing (Some c_execute) b (m ∷ ms) = known_word m (λ w. again w b ms)
-  core_doing (Some c_boa) b [] = breaks (underflow 1 0)
+  core_doing (Some c_boa) b [] = breaks (Underflow 1 0)
   core_doing (Some c_boa) b (m ∷ ms) = known_word m (λ w. makes_by ((names P).tuple_class w) b ms)
-
-  -- a primitive: shuffles, `curry` and `compose` by their marks, all others by their effect
-  abbrev pub prim_doing : Option Prim → Height → Option Row → List Mark → Doing
-  prim_doing (Some (shuffle s)) h b ms = marks_moved (moves s) b ms
-  prim_doing (Some p_curry) h b ms = curry_doing b ms
-  prim_doing (Some p_compose) h b ms = compose_doing b ms
-  prim_doing (Some p) h b ms = by_height h.ins h.outs b ms
-  prim_doing None h b ms = breaks not_known
 
   -- All this is with the number of the word that is checked, where it is a row word.
   module _ (own : Option ℕ) where
@@ -257,16 +251,16 @@ module _ (P : Program) where
 
     -- the row below the own recursive call has to be exactly the input row
     abbrev pub own_rest : Signature → Option Row → List Mark → Doing
-    own_rest e b rest = elim (base_eq b (outer_in e) && nat_eq (length rest) 0) [ true ↦ gives (leaving_on (effect_leaving e) (outer_out e) []) | false ↦ breaks (rows 0 0 (length rest)) ]
+    own_rest e b rest = elim (base_eq b (outer_in e) && nat_eq (length rest) 0) [ true ↦ gives (leaving_on (effect_leaving e) (outer_out e) []) | false ↦ breaks (Rows 0 0 (length rest)) ]
 
     -- the own recursive call
     abbrev pub own_doing : Signature → Option Row → List Mark → Doing
-    own_doing e b ms = needing (inputs_count (effect_inputs e)) ms (λ taken rest. elim (other_input 1 (effect_inputs e) taken) [ Some k ↦ breaks (recursive_input k) | None ↦ own_rest e b rest ])
+    own_doing e b ms = needing (inputs_count (effect_inputs e)) ms (λ taken rest. elim (other_input 1 (effect_inputs e) taken) [ Some k ↦ breaks (RecursiveInput k) | None ↦ own_rest e b rest ])
 
     -- A use of another row word. Where its rows can't be bound, it is dead once its inputs are there.
     abbrev pub row_doing : Signature → Option Row → List Mark → Doing
     row_doing e b ms =
-        needing (inputs_count (effect_inputs e)) ms (λ taken rest. elim (bindable e) [ true ↦ callable_or (inputs_known (effect_inputs e) taken) not_known (uses e taken b rest) | false ↦ gives dead ])
+        needing (inputs_count (effect_inputs e)) ms (λ taken rest. elim (bindable e) [ true ↦ callable_or (inputs_known (effect_inputs e) taken) NotKnown (uses e taken b rest) | false ↦ gives dead ])
 
     -- an inline word: whether it is a row word, and whether it is the one that is checked
     abbrev pub row_or_text : Bool → Bool → ℕ → Text → Signature → Option Row → List Mark → Doing
@@ -281,33 +275,33 @@ module _ (P : Program) where
 
     -- a word with this text, by its mark `inline`; the top-level phrase is never an item
     abbrev pub body_doing : ℕ → WordDef → Text → Option Row → List Mark → Doing
-    body_doing w d t b ms = callable_or (not (nat_eq w P.top)) not_known (inline_doing d.inline w d t b ms)
+    body_doing w d t b ms = callable_or (not (nat_eq w P.top)) NotKnown (inline_doing d.inline w d t b ms)
 
     -- the item of a word, by its sort; an earlier top-level phrase and a method are never items
     abbrev pub sort_doing : ℕ → WordDef → Sort → Option Row → List Mark → Doing
     sort_doing w d (core k) b ms = core_doing (core_numbered k) b ms
-    sort_doing w d (prim k) b ms = prim_doing (prim_numbered k) (effect_height d.effect) b ms
+    sort_doing w d (prim k) b ms = prim_doing (prim_numbered k) b ms
     sort_doing w d itself b ms = gives (on b (wrd_mark w ∷ ms))
     sort_doing w d (class c) b ms = gives (on b (wrd_mark w ∷ ms))
     sort_doing w d (body t) b ms = body_doing w d t b ms
-    sort_doing w d (past t) b ms = breaks not_known
-    sort_doing w d (method c g t) b ms = breaks not_known
+    sort_doing w d (past t) b ms = breaks NotKnown
+    sort_doing w d (method c g t) b ms = breaks NotKnown
     sort_doing w d _ b ms = by_height (effect_height d.effect).ins (effect_height d.effect).outs b ms
 
     -- the item of the word with this number
     abbrev pub word_doing : ℕ → Option WordDef → Option Row → List Mark → Doing
-    word_doing w None b ms = breaks not_known
+    word_doing w None b ms = breaks NotKnown
     word_doing w (Some d) b ms = sort_doing w d d.sort b ms
 
     -- `call-next-method` in a method goes by the generic's effect
     abbrev pub generic_doing : Option WordDef → Option Row → List Mark → Doing
-    generic_doing None b ms = breaks method_effect
+    generic_doing None b ms = breaks MethodEffect
     generic_doing (Some d) b ms = by_height (effect_height d.effect).ins (effect_height d.effect).outs b ms
 
     -- `call-next-method` in the text of a word of this sort
     abbrev pub next_doing : Option Sort → Option Row → List Mark → Doing
     next_doing (Some (method c g t)) b ms = generic_doing (slice_get P.words g) b ms
-    next_doing _ b ms = breaks method_effect
+    next_doing _ b ms = breaks MethodEffect
 
     -- a value in the text; only words are known
     abbrev pub lit_doing : Plain → Option Row → List Mark → Doing
@@ -317,18 +311,18 @@ module _ (P : Program) where
     -- An item that stands here. One that no whole program has, as a local that is not bound, breaks `not_known`.
     abbrev pub doing : Literal → Item → Option Row → List Mark → Doing
     doing at (lit v) b ms = lit_doing v b ms
-    doing at (lit_arr a) b ms = elim (nat_lt a (length P.arrays)) [ true ↦ gives (on b (any ∷ ms)) | false ↦ breaks not_known ]
+    doing at (lit_arr a) b ms = elim (nat_lt a (length P.arrays)) [ true ↦ gives (on b (any ∷ ms)) | false ↦ breaks NotKnown ]
     doing at (quot t) b ms = gives (on b (limited (lit_mark at t) ∷ ms))
     doing at (word w) b ms = word_doing w (slice_get P.words w) b ms
-    doing at (bind x) b [] = breaks (underflow 1 0)
+    doing at (bind x) b [] = breaks (Underflow 1 0)
     doing at (bind x) b (m ∷ ms) = names_local x m b ms
-    doing at (local x) b ms = breaks not_known
+    doing at (local x) b ms = breaks NotKnown
     doing at (fry t n) b ms = needing n ms (λ taken rest. gives (on b (limited (lit_mark at (put_holes (map known taken) t)) ∷ rest)))
-    doing at (hole k) b ms = breaks not_known
+    doing at (hole k) b ms = breaks NotKnown
     doing at (call_eff h) b ms = by_height (suc h.ins) h.outs b ms
     doing at (exec_eff h) b ms = by_height (suc h.ins) h.outs b ms
-    doing at next_method b ms = breaks method_effect
-    doing at (made k) b ms = breaks not_known
+    doing at next_method b ms = breaks MethodEffect
+    doing at (made k) b ms = breaks NotKnown
     doing at (next_after m) b ms = next_doing (sort_of P m) b ms
     doing at (held v) b ms = gives (on b (any ∷ ms))
     doing at (known m) b ms = gives (on b (m ∷ ms))

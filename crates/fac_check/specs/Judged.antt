@@ -1,32 +1,33 @@
 -- What the checker's answers say of a program.
-use Rattle.std.specs.Prelude.{◌≡◌, ℕ, suc, List, [], ◌∷◌, map, Some, None, slice_get}
+use Rattle.std.specs.Prelude.{◌≡◌, ℕ, suc, List, [], ◌∷◌, map, Bool, Some, None, slice_get}
 use Rattle.std.specs.declared.option.Option.{Option}
 use Rattle.fac_lang.specs.declared.phrase.Place.{Place}
+use Rattle.fac_lang.specs.declared.phrase.Template.{Template}
 use Rattle.fac_lang.specs.declared.program.Program.{Program}
 use Rattle.fac_lang.specs.declared.program.WordDef.{WordDef}
 use Rattle.fac_lang.specs.Forms.{IsBuilt}
+use Rattle.fac_lang.specs.Whole.{IsWhole}
 use Rattle.fac_locals.specs.Closed.{Closes}
 use Rattle.fac_locals.specs.declared.closing.Closed.{Closed}
-use Rattle.fac_check.specs.Verdicts.{Refusal as RefusalSeen, word_verdict, verdict}
-use Rattle.fac_check.specs.declared.rule.Rule.{Rule}
+use Rattle.fac_check.specs.Verdicts.{Refusal as RefusalSeen, undeclared, word_verdict, verdict}
+use Rattle.fac_abs.specs.declared.rule.Rule.{Rule}
 use Rattle.fac_check.specs.declared.rule.Refusal.{Refusal}
 use Rattle.fac_check.specs.declared.checker.Verdict.{Verdict}
 use Rattle.fac_check.specs.declared.checker.Verdict.TheVariants.{Accepted, Refused}
-use Rattle.fac_check.specs.Walking.{rule_seen}
 
 -- a refusal with the number of its word
 abbrev pub Numbered : Type 0
 Numbered = ℕ × RefusalSeen
 
 abbrev pub broken : Place × Rule → RefusalSeen
-broken b = record { rule = rule_seen b.1; place = b.0 }
+broken b = record { rule = b.1; place = b.0 }
 
 abbrev pub breach_seen : Option (Place × Rule) → Option RefusalSeen
 breach_seen None = None
 breach_seen (Some b) = Some (broken b)
 
 abbrev pub refusal_seen : Refusal → Numbered
-refusal_seen r = (r.word, record { rule = rule_seen r.rule; place = r.place })
+refusal_seen r = (r.word, record { rule = r.rule; place = r.place })
 
 abbrev pub refusal_if : Option Refusal → Option Numbered
 refusal_if None = None
@@ -56,6 +57,10 @@ verdicts_from P start w (d ∷ ds) = numbered w (word_verdict P start w d) ∷ v
 abbrev pub all_verdicts : Program → ℕ → List (Option Numbered)
 all_verdicts P start = verdicts_from P start 0 P.words
 
+-- a closed program stands for a built and whole one
+abbrev pub StandsForBuilt : Closed → Type 0
+StandsForBuilt closed = (P : Program) × Closes P closed.program closed.templates × IsBuilt P × IsWhole P
+
 -- something that holds of each built program for which a closed one stands
 abbrev pub OfEach : Closed → (Program → Type 0) → Type 0
 OfEach closed holds = (P : Program) → Closes P closed.program closed.templates → IsBuilt P → holds P
@@ -71,3 +76,12 @@ AreVerdicts closed verdicts = OfEach closed (λ P. map verdict_seen verdicts ≡
 -- the program is accepted
 abbrev pub IsAccepted : Closed → Type 0
 IsAccepted closed = OfEach closed (λ P. verdict P closed.start ≡ None)
+
+-- for each of the words from word w on, whether it breaks the rule of undeclared recursion
+abbrev pub undeclared_from : Program → ℕ → List WordDef → List Bool
+undeclared_from P w [] = []
+undeclared_from P w (d ∷ ds) = undeclared P w d ∷ undeclared_from P (suc w) ds
+
+-- for each word whether it breaks that rule
+abbrev pub AreUndeclared : Program → List Template → List Bool → Type 0
+AreUndeclared C templates flags = (P : Program) → Closes P C templates → flags ≡ undeclared_from P 0 P.words

@@ -4,9 +4,7 @@ pub mod Verdicts
 pub mod CallableEffects
 pub mod Standing
 pub mod Promises
-pub mod ItemWalk
-pub mod Walking
 pub mod Judged
-pub mod UndeclaredRecursion
 pub mod Checks
 pub mod OneProgram
+pub mod inner

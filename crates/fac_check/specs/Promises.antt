@@ -1,46 +1,100 @@
 -- What a program promises that is accepted by the checker of the whole language, in terms of the meaning alone.
-use Rattle.std.specs.Prelude.{◌≡◌, ◌≢◌, ℕ, List, ◌++◌, length, false, Option, Some, None, slice_get}
+use Rattle.std.specs.Prelude.{◌≡◌, ◌≤◌, ℕ, List, [], ◌∷◌, ◌++◌, length, Bool, true, false, Option, Some, None, slice_get}
+use Rattle.fac_lang.specs.declared.phrase.Height.{Height}
 use Rattle.fac_lang.specs.declared.program.Program.{Program}
 use Rattle.fac_lang.specs.declared.program.WordDef.{WordDef}
-use Rattle.fac_lang.specs.declared.program.Sort.TheVariants.{Body as body}
-use Rattle.fac_lang.specs.Texts.{Text, Value}
-use Rattle.fac_lang.specs.World.{World, State}
-use Rattle.fac_lang.specs.Eval.{Result, Done, Failed, Spent, Stuck}
-use Rattle.fac_lang.specs.Effects.{effect_height}
-use Rattle.fac_lang.specs.Meaning.{run, start, word_text}
-use Rattle.fac_lang.specs.RunningLaws.{IsNotStuck}
+use Rattle.fac_lang.specs.Texts.{Text, word, Value, fun, Callable}
+use Rattle.fac_lang.specs.World.{State, pile}
+use Rattle.fac_lang.specs.Signatures.{Signature, signature, Inputs, no_inputs, value, quoted}
+use Rattle.fac_lang.specs.Effects.{inputs_count, leaving_outs, effect_height, word_height}
+use Rattle.fac_lang.specs.Eval.{Result, Done, Failed, Spent, Stuck, run_callable}
+use Rattle.fac_lang.specs.Meaning.{run, start, word_text, one_item, is_phrase}
 use Rattle.fac_lang.specs.Whole.{IsWhole}
+use Rattle.fac_abs.specs.Marks.{Row, named_row}
+use Rattle.fac_check.specs.Rows.{leaving_row, effect_inputs, outer_in, outer_out, is_row}
 use Rattle.fac_check.specs.Standing.{Valid}
 use Rattle.fac_check.specs.CallableEffects.{callable_height, fits}
 use Rattle.fac_check.specs.Verdicts.{verdict}
 
-abbrev pub HasLength : Option ℕ → List Value → Type 0
-HasLength None vs = ⊥
-HasLength (Some n) vs = length vs ≡ n
+-- which lists of values are meant
+abbrev pub Lists : Type 1
+Lists = List Value → Type 0
 
--- A run isn't stuck, and if it is done, as many values as declared stand on those below.
-abbrev pub Leaves : Option ℕ → List Value → Result → Type 0
-Leaves outs below (Done st m) = (vs : List Value) × (st.stack ≡ vs ++ below) × HasLength outs vs
-Leaves outs below (Failed e st m) = Unit {0}
-Leaves outs below (Spent st i) = Unit {0}
-Leaves outs below Stuck = ⊥
+-- these values and no others
+abbrev pub Exactly : List Value → Lists
+Exactly values list = list ≡ values
 
--- a state with these values on those below
-abbrev pub with_stack : List Value → World Value → State Value
-with_stack stack world = record { stack = stack; world = world }
+-- so many values, whatever they are
+abbrev pub AnyOf : ℕ → Lists
+AnyOf n list = length list ≡ n
+
+-- so many values, whatever they are, on a list of these
+abbrev pub On : ℕ → Lists → Lists
+On n below list = (values : List Value) × (rest : List Value) × (list ≡ values ++ rest) × (length values ≡ n) × below rest
+
+-- As many values as an effect declares, on a list of these. What never returns leaves no list at all.
+abbrev pub LeftOn : Option ℕ → Lists → Lists
+LeftOn None below list = ⊥
+LeftOn (Some n) below list = On n below list
+
+module _ (P : Program) where
+  -- A run isn't stuck; if it is done, it leaves a list of these; and whatever its end, done, failed or spent, the world behind it is valid again.
+  abbrev pub Ends : Lists → Result → Type 0
+  Ends after (Done st m) = after st.stack × Valid P st.world
+  Ends after (Failed e st m) = Valid P st.world
+  Ends after (Spent st i) = Valid P st.world
+  Ends after Stuck = ⊥
+
+  -- the run of a text, of the item of a word, and of a callable, with so many ticks
+  abbrev pub text_run : Text → State Value → ℕ → Result
+  text_run t st n = run P fits (callable_height P) n t st
+
+  abbrev pub word_run : ℕ → State Value → ℕ → Result
+  word_run w = text_run (one_item (word w))
+
+  abbrev pub callable_run : Callable → State Value → ℕ → Result
+  callable_run c = run_callable text_run c
+
+  -- With every budget up to this one, from every state with a list of the first and a valid world, the run ends with a list of the second.
+  abbrev pub Behaves : ℕ → (State Value → ℕ → Result) → Lists → Lists → Type 0
+  Behaves budget go before after = (st : State Value) (n : ℕ) → n ≤ budget → before st.stack → Valid P st.world → Ends after (go st n)
+
+  -- Each row variable of a row word may be any lists. A test tells for each row which ones.
+  module _ (rows : Row → List Value → Bool) where
+    -- the lists for the row of one side of an effect, which are none where the side has no row
+    abbrev pub OfRow : Option Row → Lists
+    OfRow None list = ⊥
+    OfRow (Some r) list = rows r list ≡ true
+
+    -- A callable does what the effect of a quotation input says. With rows it takes its inputs on a list for its input row, and leaves its outputs on one for its output row. Without rows it takes and leaves them on any values, which it leaves as they are.
+    abbrev pub DoesInput : ℕ → Signature → Callable → Type 0
+    DoesInput budget (signature (Some r) is l) c = Behaves budget (callable_run c) (On (inputs_count is) (OfRow (Some (named_row r)))) (LeftOn (leaving_outs l) (OfRow (leaving_row l)))
+    DoesInput budget (signature None is l) c = (below : List Value) → Behaves budget (callable_run c) (On (inputs_count is) (Exactly below)) (LeftOn (leaving_outs l) (Exactly below))
+
+    -- values for the inputs of an effect, the deepest first: any value for a plain one, and for a quotation a callable that does what is declared
+    abbrev pub AreInputs : ℕ → Inputs → List Value → Type 0
+    AreInputs budget no_inputs [] = Unit {0}
+    AreInputs budget (value x is) (v ∷ vs) = AreInputs budget is vs
+    AreInputs budget (quoted x e is) (fun c ∷ vs) = DoesInput budget e c × AreInputs budget is vs
+    AreInputs budget _ _ = ⊥
+
+    -- such inputs on a list of these
+    abbrev pub InputsOn : ℕ → Inputs → Lists → Lists
+    InputsOn budget is below list = (values : List Value) × (rest : List Value) × (list ≡ pile values rest) × AreInputs budget is values × below rest
 
 -- The top-level phrase starts on so many values.
 pub record IsSafe (P : Program) (count : ℕ) : Type 0 where
-  -- Each ordinary word, from each state with its declared inputs on any values, at every budget: it isn't stuck, and where it is done exactly its declared outputs stand on those values.
+  -- Each word that has an effect by itself: primitives, ordinary words, methods, generics, symbols, words of classes, predicates and accessors; not inline words, `call`, `dip`, `if`, `execute`, `boa`, `cond` and top-level phrases. Its item takes its inputs and leaves its outputs, and touches no value below.
   pub words :
-      (w : ℕ) (d : WordDef) (t : Text) → slice_get P.words w ≡ Some d → d.sort ≡ body t → w ≢ P.top → d.inline ≡ false →
-      (n : ℕ) (inputs below : List Value) (world : World Value) → Valid P world → length inputs ≡ (effect_height d.effect).ins →
-      Leaves (effect_height d.effect).outs below (run P fits (callable_height P) n t (with_stack (inputs ++ below) world))
-  -- the top-level phrase, from each state with so many values, at every budget
-  pub phrase :
-      (values : List Value) (world : World Value) (n : ℕ) → Valid P world → length values ≡ count →
-      IsNotStuck (run P fits (callable_height P) n (word_text P P.top) (with_stack values world))
-  -- the state before the first item is one of those from which the words and the phrase are meant, with every input
+      (w : ℕ) (d : WordDef) (h : Height) → slice_get P.words w ≡ Some d → word_height d ≡ Some h → is_phrase P w ≡ false →
+      (budget : ℕ) (below : List Value) → Behaves P budget (word_run P w) (On h.ins (Exactly below)) (LeftOn h.outs (Exactly below))
+  -- Each row word: whatever lists its rows are, and whatever does as its effect says up to a budget is handed in, its item takes its inputs on a list for its outer input row, and leaves its outputs on one for its outer output row.
+  pub row_words :
+      (w : ℕ) (d : WordDef) → slice_get P.words w ≡ Some d → d.inline ≡ true → is_row d.recursive d.effect ≡ true →
+      (rows : Row → List Value → Bool) (budget : ℕ) → Behaves P budget (word_run P w) (InputsOn P rows budget (effect_inputs d.effect) (OfRow P rows (outer_in d.effect))) (LeftOn (effect_height d.effect).outs (OfRow P rows (outer_out d.effect)))
+  -- the top-level phrase, from each list of so many values
+  pub phrase : (budget : ℕ) → Behaves P budget (text_run P (word_text P P.top)) (AnyOf count) (λ list. Unit {0})
+  -- the state before the first item has a valid world, with every input
   pub begins : (input : List ℕ) → Valid P (start P input).world
 
 -- Whatever quotations, row variables, recursion, locals, objects and methods are in it, and however many values its top-level phrase starts on.

@@ -3,7 +3,9 @@ use Rattle.std.specs.Prelude.{ℕ, zero, suc, ◌+◌, List, [], ◌∷◌, leng
 use Rattle.fac_lang.specs.Texts.{Mark, par_mark}
 use Rattle.fac_lang.specs.Signatures.{Signature, signature, Inputs, no_inputs, value, quoted, Leaving, never, leaves}
 use Rattle.fac_lang.specs.Effects.{inputs_count}
-use Rattle.fac_abs.specs.Marks.{Row, hidden, named_row, AbstractStack, dead, on, Rule, rows, base_eq, row_eq, mark_eq, unknowns, cover_marks, is_callable}
+use Rattle.fac_abs.specs.Marks.{Row, hidden, named_row, AbstractStack, dead, on, base_eq, row_eq, mark_eq, unknowns, cover_marks, is_callable}
+use Rattle.fac_abs.specs.declared.rule.Rule.{Rule}
+use Rattle.fac_abs.specs.declared.rule.Rule.TheVariants.{Rows}
 
 -- the row of one side of an effect
 abbrev pub row_of : Option (List ℕ) → Option Row
@@ -126,12 +128,12 @@ tied_if false bs r = untied r
 
 -- Against a row that is bound: the same base, the same length with the outputs, and marks that cover those below the outputs.
 abbrev pub tie_bound : ℕ → ℕ → AbstractStack → Option Row → List Mark → Binding → Tied
-tie_bound k outs dead b ms bs = untied (rows k outs (length ms))
-tie_bound k outs (on c rs) b ms bs = tied_if (base_eq c b && (nat_eq (length ms) (length rs + outs) && cover_marks rs (drop outs ms))) bs (rows k (length rs + outs) (length ms))
+tie_bound k outs dead b ms bs = untied (Rows k outs (length ms))
+tie_bound k outs (on c rs) b ms bs = tied_if (base_eq c b && (nat_eq (length ms) (length rs + outs) && cover_marks rs (drop outs ms))) bs (Rows k (length rs + outs) (length ms))
 
 -- a free row becomes what is left below the outputs
 abbrev pub tie_free : ℕ → ℕ → Row → Option Row → List Mark → Binding → Tied
-tie_free k outs r b ms bs = tied_if (not (nat_lt (length ms) outs)) ((r, on b (drop outs ms)) ∷ bs) (rows k outs (length ms))
+tie_free k outs r b ms bs = tied_if (not (nat_lt (length ms) outs)) ((r, on b (drop outs ms)) ∷ bs) (Rows k outs (length ms))
 
 -- against a row; a dead stack is what every bound row covers
 abbrev pub tie_row : ℕ → ℕ → Row → Option AbstractStack → AbstractStack → Binding → Tied
@@ -143,11 +145,11 @@ tie_row k outs r (Some A) (on b ms) bs = tie_bound k outs A b ms bs
 -- Input k with the row that it starts from. One that is declared never to return must be dead. One without rows is walked over no base and leaves its number of outputs. An effect with a row on one side alone can't be bound.
 abbrev pub tie : ℕ → Option (List ℕ) → Leaving → AbstractStack → Binding → Tied
 tie k y never dead bs = tied bs
-tie k y never (on b ms) bs = untied (rows k 0 (length ms))
+tie k y never (on b ms) bs = untied (Rows k 0 (length ms))
 tie k None (leaves None names) dead bs = tied bs
-tie k None (leaves None names) (on b ms) bs = tied_if (base_eq b None && nat_eq (length ms) (length names)) bs (rows k (length names) (length ms))
-tie k None (leaves (Some x) names) A bs = untied (rows k 0 0)
-tie k (Some y) (leaves None names) A bs = untied (rows k 0 0)
+tie k None (leaves None names) (on b ms) bs = tied_if (base_eq b None && nat_eq (length ms) (length names)) bs (Rows k (length names) (length ms))
+tie k None (leaves (Some x) names) A bs = untied (Rows k 0 0)
+tie k (Some y) (leaves None names) A bs = untied (Rows k 0 0)
 tie k (Some y) (leaves (Some x) names) A bs = tie_row k (length names) (named_row x) (bound_to (named_row x) bs) A bs
 
 -- a stack, or a dead one where there is none
@@ -204,14 +206,14 @@ called_if false A r = call_breaks r
 -- Calling input k, which has this effect. With rows it needs its input row as base with exactly its inputs on it, and gives its output row. Without rows it takes its inputs on any base.
 abbrev pub calls_input : ℕ → Signature → Option Row → List Mark → Called
 calls_input k (signature (Some x) is l) b ms =
-    called_if (base_eq b (Some (named_row x)) && nat_eq (length ms) (inputs_count is)) (leaving_on l (leaving_row l) []) (rows k (inputs_count is) (length ms))
+    called_if (base_eq b (Some (named_row x)) && nat_eq (length ms) (inputs_count is)) (leaving_on l (leaving_row l) []) (Rows k (inputs_count is) (length ms))
 calls_input k (signature None is l) b ms =
-    called_if (not (nat_lt (length ms) (inputs_count is))) (leaving_on l b (drop (inputs_count is) ms)) (rows k (inputs_count is) (length ms))
+    called_if (not (nat_lt (length ms) (inputs_count is))) (leaving_on l b (drop (inputs_count is) ms)) (Rows k (inputs_count is) (length ms))
 
 -- calling input k of the row word with this effect
 abbrev pub calls_own : ℕ → Option Signature → Option Row → List Mark → Called
-calls_own k None b ms = call_breaks (rows k 0 (length ms))
-calls_own k (Some e) b ms = elim (input_effect k (effect_inputs e)) [ Some q ↦ calls_input k q b ms | None ↦ call_breaks (rows k 0 (length ms)) ]
+calls_own k None b ms = call_breaks (Rows k 0 (length ms))
+calls_own k (Some e) b ms = elim (input_effect k (effect_inputs e)) [ Some q ↦ calls_input k q b ms | None ↦ call_breaks (Rows k 0 (length ms)) ]
 
 -- what an outer row is bound to
 abbrev pub row_bound : Option Row → Binding → Option AbstractStack

@@ -9,7 +9,9 @@ use Rattle.fac_lang.specs.declared.program.Program.{Program}
 use Rattle.fac_lang.specs.declared.program.WordDef.{WordDef}
 use Rattle.fac_lang.specs.declared.program.Sort.{Sort}
 use Rattle.fac_lang.specs.declared.program.Sort.TheVariants.{Body as body, Past as past, Generic as generic, Method as method}
-use Rattle.fac_abs.specs.Marks.{Row, AbstractStack, dead, on, Rule, undeclared_recursion, row_declaration, method_effect, outputs, must_return, base_eq, unknowns}
+use Rattle.fac_abs.specs.Marks.{Row, AbstractStack, dead, on, base_eq, unknowns}
+use Rattle.fac_abs.specs.declared.rule.Rule.{Rule}
+use Rattle.fac_abs.specs.declared.rule.Rule.TheVariants.{UndeclaredRecursion, RowDeclaration, MethodEffect, Outputs, MustReturn}
 use Rattle.fac_check.specs.Rows.{effect_inputs, effect_leaving, outer_in, outer_out, has_rows, bindable, is_row}
 use Rattle.fac_check.specs.Flow.{Walked, found, refused, walked}
 
@@ -111,8 +113,8 @@ module _ (P : Program) where
   -- What a word breaks that leaves this stack, where it declares to leave these outputs on this row. What never returns leaves what any word declares.
   abbrev pub kept_word : Leaving → Option Row → Place → AbstractStack → Option Refusal
   kept_word l r p dead = None
-  kept_word never r p (on b ms) = refusal must_return p
-  kept_word (leaves s names) r p (on b ms) = elim (base_eq b r && nat_eq (length ms) (length names)) [ true ↦ None | false ↦ refusal (outputs (length names) (length ms)) p ]
+  kept_word never r p (on b ms) = refusal MustReturn p
+  kept_word (leaves s names) r p (on b ms) = elim (base_eq b r && nat_eq (length ms) (length names)) [ true ↦ None | false ↦ refusal (Outputs (length names) (length ms)) p ]
 
   -- the verdict on a walk
   abbrev pub end_of : Walked AbstractStack → (AbstractStack → Option Refusal) → Option Refusal
@@ -154,9 +156,9 @@ module _ (P : Program) where
 
   -- the rules that need no walk come first, and stand at the word's name
   abbrev pub ruled_verdict : Bool → Bool → Bool → ℕ → ℕ → WordDef → Option Refusal
-  ruled_verdict true r g start w d = refusal undeclared_recursion d.place
-  ruled_verdict false true g start w d = refusal row_declaration d.place
-  ruled_verdict false false true start w d = refusal method_effect d.place
+  ruled_verdict true r g start w d = refusal UndeclaredRecursion d.place
+  ruled_verdict false true g start w d = refusal RowDeclaration d.place
+  ruled_verdict false false true start w d = refusal MethodEffect d.place
   ruled_verdict false false false start w d = sort_verdict start w d d.sort
 
   -- the verdict on word w

@@ -1,23 +1,20 @@
 //! The verdict on each word.
-ghost use Rattle.std.specs.Prelude.{◌≡◌, ◌<◌, ℕ, Some, None, IfOk, slice_get, nat_eq};
-ghost use Rattle.std.specs.declared.option.Option.{Option};
+ghost use Rattle.std.specs.Prelude.{◌≡◌, true, None, IfOk};
 ghost use Rattle.fac_lang.specs.declared.program.Program.{Program as ProgramSeen};
-ghost use Rattle.fac_lang.specs.declared.program.WordDef.{WordDef as WordSeen};
-ghost use Rattle.fac_lang.specs.Texts.{Text};
-ghost use Rattle.fac_abs.specs.Trees.{Naming};
 ghost use Rattle.fac_abs.specs.Marks.{on};
 ghost use Rattle.fac_abs.specs.Seen.{MarksSeen, IsStack, stack_of};
-ghost use Rattle.fac_locals.specs.Literals.{first_of_word};
-ghost use Rattle.fac_locals.specs.Closed.{ClosesText, ClosesWord};
+ghost use Rattle.fac_abs.specs.Trees.{Naming};
 ghost use Rattle.fac_check.specs.Rows.{effect_leaving};
-ghost use Rattle.fac_check.specs.Verdicts.{end_of, kept_word, ordinary_verdict, top_verdict, phrase_verdict, word_verdict, undeclared as is_undeclared};
-ghost use Rattle.fac_check.specs.Walking.{IsWalked, walked_seen};
-ghost use Rattle.fac_check.specs.Judged.{OfEach, breach_seen, verdict_seen, numbered};
+ghost use Rattle.fac_check.specs.Verdicts.{end_of, kept_word};
+ghost use Rattle.fac_check.specs.Judged.{breach_seen};
+ghost use Rattle.fac_check.specs.inner.Breaches.{IsOrdinaryBreach, IsTopBreach, IsPhraseBreach, IsWordBreach};
+ghost use Rattle.fac_check.specs.inner.Taken.{takes_all, takes_text, takes_word};
+ghost use Rattle.fac_check.specs.inner.Walking.{IsWalked, walked_seen};
 
 use crate::doing::Reached;
-use crate::rule::{Refusal, Rule};
-use crate::walker::{Walked, walk_phrase};
-use fac_abs::Marks;
+use crate::rule::Refusal;
+use crate::walker::{Step, Walked, Walker};
+use fac_abs::{Marks, Rule};
 use fac_lang::{Memory, Phrase, Place, Sort, WordDef};
 use fac_locals::Closed;
 use std::alloc::Global;
@@ -85,27 +82,42 @@ fn ordinary_breach(
     word: &WordDef,
     phrase: &Phrase,
 ) -> Result<Option<(Place, Rule)>, Memory>
-    ensures { IfOk result (λ breach. OfEach closed.now (λ P. (w : ℕ) (d : WordSeen) (t : Text) → ClosesWord P w d word.now → ClosesText P (first_of_word w) t phrase.now → breach_seen breach ≡ ordinary_verdict P w t d)) }
+    requires program { takes_all closed.now.program closed.now.templates ≡ true }
+    requires text { takes_text closed.now.program.top phrase.now ≡ true }
+    ensures { IfOk result (λ breach. IsOrdinaryBreach closed.now word.now phrase.now breach) }
 {
-    let ins = narrow(word.effect.inputs())?;
-    let mut marks = Marks::new(alloc)?;
-    let stack = marks.unknowns(0, ins)?;
-    let walked = walk_phrase(closed, &mut marks, phrase, NESTED, stack, WALKED)?;
-    Ok(kept(&marks, word, walked))
+    let mut walker = Walker::new(alloc, closed)?;
+    let stack = walker.marks.unknowns(0, word.effect.inputs() as u64)?;
+    let step = Step {
+        place: word.place,
+        nested: NESTED,
+        stack,
+        left: WALKED,
+    };
+    let walked = walker.walk_phrase(phrase, step)?;
+    Ok(kept(&walker.marks, word, walked))
 }
 
 // What the top-level phrase with this text breaks, which starts from so many values.
 fn top_breach(
     alloc: Global,
     closed: &Closed,
+    place: Place,
     phrase: &Phrase,
 ) -> Result<Option<(Place, Rule)>, Memory>
-    ensures { IfOk result (λ breach. OfEach closed.now (λ P. (w : ℕ) (t : Text) → ClosesText P (first_of_word w) t phrase.now → breach_seen breach ≡ top_verdict P closed.now.start w t)) }
+    requires program { takes_all closed.now.program closed.now.templates ≡ true }
+    requires text { takes_text closed.now.program.top phrase.now ≡ true }
+    ensures { IfOk result (λ breach. IsTopBreach closed.now phrase.now breach) }
 {
-    let start = narrow_start(closed.start)?;
-    let mut marks = Marks::new(alloc)?;
-    let stack = marks.unknowns(0, start)?;
-    let walked = walk_phrase(closed, &mut marks, phrase, NESTED, stack, WALKED)?;
+    let mut walker = Walker::new(alloc, closed)?;
+    let stack = walker.marks.unknowns(0, closed.start)?;
+    let step = Step {
+        place,
+        nested: NESTED,
+        stack,
+        left: WALKED,
+    };
+    let walked = walker.walk_phrase(phrase, step)?;
     Ok(top_kept(walked))
 }
 
@@ -117,10 +129,12 @@ fn phrase_breach(
     word: &WordDef,
     phrase: &Phrase,
 ) -> Result<Option<(Place, Rule)>, Memory>
-    ensures { IfOk result (λ breach. OfEach closed.now (λ P. (d : WordSeen) (t : Text) → slice_get P.words number ≡ Some d → ClosesWord P number d word.now → ClosesText P (first_of_word number) t phrase.now → breach_seen breach ≡ phrase_verdict P (nat_eq number P.top) closed.now.start number t d)) }
+    requires program { takes_all closed.now.program closed.now.templates ≡ true }
+    requires text { takes_text closed.now.program.top phrase.now ≡ true }
+    ensures { IfOk result (λ breach. IsPhraseBreach closed.now number word.now phrase.now breach) }
 {
     if number == closed.program.top {
-        return top_breach(alloc, closed, phrase);
+        return top_breach(alloc, closed, word.place, phrase);
     }
     if word.inline {
         return Ok(None);
@@ -136,7 +150,9 @@ pub fn word_breach(
     number: u32,
     word: &WordDef,
 ) -> Result<Option<(Place, Rule)>, Memory>
-    ensures { IfOk result (λ breach. OfEach closed.now (λ P. (d : WordSeen) → slice_get P.words number ≡ Some d → ClosesWord P number d word.now → leads_back ≡ is_undeclared P number d → breach_seen breach ≡ word_verdict P closed.now.start number d)) }
+    requires program { takes_all closed.now.program closed.now.templates ≡ true }
+    requires word { takes_word closed.now.program.top word.now ≡ true }
+    ensures { IfOk result (λ breach. IsWordBreach closed.now leads_back number word.now breach) }
 {
     if leads_back {
         return Ok(Some((word.place, Rule::UndeclaredRecursion)));
@@ -145,18 +161,4 @@ pub fn word_breach(
         Sort::Body(phrase) => phrase_breach(alloc, closed, number, word, phrase),
         _ => Ok(None),
     }
-}
-
-// The number, which no list has room for where it is wider.
-fn narrow(number: usize) -> Result<u32, Memory>
-    ensures { IfOk result (λ n. n ≡ number) }
-{
-    u32::try_from(number).map_err(|_| Memory)
-}
-
-// The number of values that the top-level phrase starts from, which no stack has room for where it is wider.
-fn narrow_start(start: u64) -> Result<u32, Memory>
-    ensures { IfOk result (λ n. n ≡ start) }
-{
-    u32::try_from(start).map_err(|_| Memory)
 }

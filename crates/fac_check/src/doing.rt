@@ -1,24 +1,20 @@
 //! What an item does to a stack at once.
-ghost use Rattle.std.specs.Prelude.{◌≡◌, ◌<◌, ◌≤◌, ℕ, List, Option, Some, None, IfOk, OnErr, MatchOption, slice_get, [], ◌∷◌, length, if◌then◌else◌};
-ghost use Rattle.fac_lang.specs.Effects.{effect_height};
-ghost use Rattle.fac_lang.specs.Primitives.{moves, Prim, prim_numbered};
-ghost use Rattle.fac_lang.specs.Forms.{IsBuilt};
-ghost use Rattle.fac_lang.specs.declared.program.WordDef.{WordDef as WordSeen};
-ghost use Rattle.fac_locals.specs.Closed.{ClosesWord, ClosesItem};
-ghost use Rattle.fac_lang.specs.Texts.{Text, Item, Literal, any, lit_mark};
-ghost use Rattle.fac_lang.specs.View.{what_item};
-ghost use Rattle.fac_abs.specs.Trees.{Naming};
-ghost use Rattle.fac_abs.specs.Seen.{IsMark, IsStack, Grows, mark_of, stack_of};
-ghost use Rattle.fac_abs.specs.Keeping.{shuffle_numbered};
-ghost use Rattle.fac_check.specs.Flow.{by_height as takes_and_leaves, marks_moved, curry_doing, compose_doing, core_doing, prim_doing, word_doing, expands, gives, doing as doing_of};
-ghost use Rattle.fac_abs.specs.Marks.{on};
-ghost use Rattle.fac_lang.specs.Meaning.{c_call, c_dip, c_if, core_numbered};
-ghost use Rattle.fac_check.specs.Walking.{IsDoing, DoesAs, doing_seen, PopsTwo, PopsBranches, lacks, body_text, Opened};
+ghost use Rattle.std.specs.Prelude.{◌≡◌, ◌<◌, ◌∷◌, ℕ, true, nat_lt, Some, None, IfOk};
 ghost use Rattle.fac_lang.specs.declared.program.Program.{Program as ProgramSeen};
+ghost use Rattle.fac_lang.specs.Effects.{effect_height};
+ghost use Rattle.fac_lang.specs.Meaning.{c_call, c_dip, c_if, core_numbered};
+ghost use Rattle.fac_lang.specs.Primitives.{built_count};
+ghost use Rattle.fac_lang.specs.Texts.{Text, any, lit_mark};
+ghost use Rattle.fac_lang.specs.View.{what_item};
+ghost use Rattle.fac_abs.specs.Marks.{on, curried_mark, composed_mark};
+ghost use Rattle.fac_abs.specs.Seen.{IsMark, IsStack, Grows, mark_of, stack_of};
+ghost use Rattle.fac_abs.specs.Trees.{Naming};
+ghost use Rattle.fac_check.specs.Flow.{by_height as takes_and_leaves, marks_moved, mark_made, core_doing, gives};
+ghost use Rattle.fac_check.specs.inner.Taken.{takes_all, takes_item, takes_word};
+ghost use Rattle.fac_check.specs.inner.Walking.{IsDoing, DoesAs, doing_seen, PopsTwo, PopsBranches, lacks, DoesItem, DoesWord, DoesWordSo, DoesDefined, DoesPrimitive};
 
-use crate::rule::Rule;
-use fac_abs::{Marks, shuffle_needs};
-use fac_lang::{Memory, Sort, What, WordDef};
+use fac_abs::{Marks, Rule};
+use fac_lang::{Height, Memory, Operation, Sort, What, WordDef, operation_of};
 use fac_locals::Closed;
 
 /// What a walk comes to.
@@ -78,17 +74,17 @@ fn put(marks: &mut Marks, stack: u32, mark: u32) -> Result<Doing, Memory>
 }
 
 // Takes so many values and leaves unknown ones, or never returns.
-fn by_height(marks: &mut Marks, stack: u32, ins: u32, outs: Option<u32>) -> Result<Doing, Memory>
+fn by_height(marks: &mut Marks, stack: u32, height: Height) -> Result<Doing, Memory>
     requires { IsStack marks.old stack }
     ensures grows { Grows marks.old marks.new }
     ensures there { IfOk result (λ doing. IsDoing marks.new doing) }
-    ensures does { IfOk result (λ doing. DoesAs marks.old marks.new stack doing (takes_and_leaves ins outs None)) }
+    ensures does { IfOk result (λ doing. DoesAs marks.old marks.new stack doing (takes_and_leaves height.ins height.outs None)) }
 {
-    match marks.below(stack, ins) {
-        None => Ok(underflow(marks, stack, ins)),
-        Some(rest) => match outs {
+    match marks.below(stack, height.ins) {
+        None => Ok(underflow(marks, stack, height.ins)),
+        Some(rest) => match height.outs {
             None => Ok(Doing::Gives(Reached::Dead)),
-            Some(outs) => Ok(Doing::Gives(Reached::On(marks.unknowns(rest, outs)?))),
+            Some(outs) => Ok(Doing::Gives(Reached::On(marks.unknowns(rest, outs as u64)?))),
         },
     }
 }
@@ -103,17 +99,16 @@ fn pop_two(marks: &Marks, stack: u32) -> Option<(u32, u32, u32)>
     Some((lower, upper, rest))
 }
 
-// A shuffle.
-fn shuffle(marks: &mut Marks, stack: u32, number: u32) -> Result<Doing, Memory>
-    requires stack { IsStack marks.old stack }
-    requires number { number < 16 }
+// A shuffle, which takes so many values and leaves those at these places.
+fn shuffle(marks: &mut Marks, stack: u32, takes: u32, leaves: &[u32]) -> Result<Doing, Memory>
+    requires { IsStack marks.old stack }
     ensures grows { Grows marks.old marks.new }
     ensures there { IfOk result (λ doing. IsDoing marks.new doing) }
-    ensures does { IfOk result (λ doing. DoesAs marks.old marks.new stack doing (marks_moved (moves (shuffle_numbered number)) None)) }
+    ensures does { IfOk result (λ doing. DoesAs marks.old marks.new stack doing (marks_moved takes leaves.now None)) }
 {
-    match marks.shuffle(stack, number)? {
+    match marks.shuffle(stack, takes, leaves)? {
         Some(moved) => Ok(Doing::Gives(Reached::On(moved))),
-        None => Ok(underflow(marks, stack, shuffle_needs(number))),
+        None => Ok(underflow(marks, stack, takes)),
     }
 }
 
@@ -123,7 +118,7 @@ fn curry(marks: &mut Marks, stack: u32) -> Result<Doing, Memory>
     requires { IsStack marks.old stack }
     ensures grows { Grows marks.old marks.new }
     ensures there { IfOk result (λ doing. IsDoing marks.new doing) }
-    ensures does { IfOk result (λ doing. DoesAs marks.old marks.new stack doing (curry_doing None)) }
+    ensures does { IfOk result (λ doing. DoesAs marks.old marks.new stack doing (mark_made curried_mark 2 0 1 None)) }
 {
     match pop_two(marks, stack) {
         Some((value, callable, rest)) => {
@@ -140,7 +135,7 @@ fn compose(marks: &mut Marks, stack: u32) -> Result<Doing, Memory>
     requires { IsStack marks.old stack }
     ensures grows { Grows marks.old marks.new }
     ensures there { IfOk result (λ doing. IsDoing marks.new doing) }
-    ensures does { IfOk result (λ doing. DoesAs marks.old marks.new stack doing (compose_doing None)) }
+    ensures does { IfOk result (λ doing. DoesAs marks.old marks.new stack doing (mark_made composed_mark 2 0 1 None)) }
 {
     match pop_two(marks, stack) {
         Some((first, second, rest)) => {
@@ -229,111 +224,104 @@ fn branch(marks: &Marks, stack: u32) -> Doing
     }
 }
 
-// A core word that applies callables. The other core words aren't read yet.
+// A core word that applies callables.
 #[tactic(auto, unfolding(fac_lang::specs::Meaning::core_numbered))]
-fn core(marks: &Marks, stack: u32, number: u32) -> Result<Doing, Memory>
-    requires { IsStack marks.now stack }
-    ensures there { IfOk result (λ doing. IsDoing marks.now doing) }
-    ensures does { IfOk result (λ doing. (P : ProgramSeen) → DoesAs marks.now marks.now stack doing (core_doing P (core_numbered number) None)) }
+fn core(marks: &Marks, stack: u32, number: u32) -> Doing
+    requires stack { IsStack marks.now stack }
+    requires number { nat_lt number 3 ≡ true }
+    ensures there { IsDoing marks.now result }
+    ensures does { (P : ProgramSeen) → DoesAs marks.now marks.now stack result (core_doing P (core_numbered number) None) }
 {
     match number {
-        0 => Ok(call(marks, stack)),
-        1 => Ok(dip(marks, stack)),
-        2 => Ok(branch(marks, stack)),
-        _ => Err(Memory),
+        0 => call(marks, stack),
+        1 => dip(marks, stack),
+        2 => branch(marks, stack),
+        _ => unreachable!(),
     }
 }
 
-// A primitive that takes and leaves so many values by its effect.
-fn primitive(
-    marks: &mut Marks,
-    stack: u32,
-    number: u32,
-    ins: u32,
-    outs: Option<u32>,
-) -> Result<Doing, Memory>
-    requires { IsStack marks.old stack }
+// A primitive, where this is how many values its word takes and leaves by its effect.
+fn primitive(marks: &mut Marks, stack: u32, number: u32, height: Height) -> Result<Doing, Memory>
+    requires stack { IsStack marks.old stack }
+    requires number { number < built_count }
     ensures grows { Grows marks.old marks.new }
     ensures there { IfOk result (λ doing. IsDoing marks.new doing) }
-    ensures does { IfOk result (λ doing. (P : ProgramSeen) (p : Prim) → prim_numbered number ≡ Some p → DoesAs marks.old marks.new stack doing (prim_doing P (prim_numbered number) (record { ins = ins; outs = outs }) None)) }
+    ensures does { IfOk result (λ doing. DoesPrimitive marks.old marks.new stack number height doing) }
 {
-    if number < 16 {
-        return shuffle(marks, stack, number);
+    match operation_of(number) {
+        Operation::Shuffle { takes, leaves } => shuffle(marks, stack, takes, leaves),
+        Operation::Curry => curry(marks, stack),
+        Operation::Compose => compose(marks, stack),
+        _ => by_height(marks, stack, height),
     }
-    if number == 16 {
-        return curry(marks, stack);
+}
+
+// How many values a word takes and leaves by its effect.
+fn height_of(word: &WordDef) -> Height
+    requires { (top : ℕ) × (takes_word top word.now ≡ true) }
+    ensures { result ≡ effect_height word.now.effect }
+{
+    Height {
+        ins: word.effect.inputs() as u32,
+        outs: word.effect.outputs(),
     }
-    if number == 17 {
-        return compose(marks, stack);
-    }
-    by_height(marks, stack, ins, outs)
 }
 
 // A word that is defined by a text: an inline one is expanded, and every other one goes by its effect.
-fn defined(
-    marks: &mut Marks,
-    stack: u32,
-    word: u32,
-    inline: bool,
-    ins: u32,
-    outs: Option<u32>,
-) -> Result<Doing, Memory>
-    requires { IsStack marks.old stack }
+fn defined(marks: &mut Marks, stack: u32, number: u32, word: &WordDef) -> Result<Doing, Memory>
+    requires stack { IsStack marks.old stack }
+    requires word { (top : ℕ) × (takes_word top word.now ≡ true) }
     ensures grows { Grows marks.old marks.new }
     ensures there { IfOk result (λ doing. IsDoing marks.new doing) }
-    ensures does { IfOk result (λ doing. (N : Naming) (texts : ℕ → Text) → doing_seen N marks.new texts doing ≡ (if inline then expands word (texts word) None (stack_of N marks.old stack) else takes_and_leaves ins outs None (stack_of N marks.old stack))) }
+    ensures does { IfOk result (λ doing. DoesDefined marks.old marks.new stack number word.now doing) }
 {
-    if inline {
-        return Ok(Doing::Expands { word, stack });
+    if word.inline {
+        return Ok(Doing::Expands {
+            word: number,
+            stack,
+        });
     }
-    by_height(marks, stack, ins, outs)
+    by_height(marks, stack, height_of(word))
 }
 
-// The item of a word. Words of other sorts aren't read yet.
-fn word_item(
-    marks: &mut Marks,
-    stack: u32,
-    top: u32,
-    number: u32,
-    word: &WordDef,
-) -> Result<Doing, Memory>
-    requires { IsStack marks.old stack }
+// The item of a word that isn't the top-level phrase.
+fn word_item(marks: &mut Marks, stack: u32, number: u32, word: &WordDef) -> Result<Doing, Memory>
+    requires stack { IsStack marks.old stack }
+    requires word { (top : ℕ) × (takes_word top word.now ≡ true) }
     ensures grows { Grows marks.old marks.new }
     ensures there { IfOk result (λ doing. IsDoing marks.new doing) }
-    ensures does { IfOk result (λ doing. (P : ProgramSeen) (d : WordSeen) → P.top ≡ top → slice_get P.words number ≡ Some d → IsBuilt P → ClosesWord P number d word.now → (N : Naming) → doing_seen N marks.new (body_text P) doing ≡ word_doing P None number (Some d) None (stack_of N marks.old stack)) }
+    ensures does { IfOk result (λ doing. DoesWordSo marks.old marks.new stack number word.now doing) }
 {
-    let ins = narrow(word.effect.inputs())?;
-    let outs = word.effect.outputs();
     match &word.sort {
-        Sort::Prim(primitive_number) => primitive(marks, stack, *primitive_number, ins, outs),
-        Sort::Core(core_number) => core(marks, stack, *core_number),
-        Sort::Body(_) => {
-            if number == top {
-                return Ok(Doing::Breaks(Rule::NotKnown));
-            }
-            defined(marks, stack, number, word.inline, ins, outs)
+        Sort::Prim(primitive_number) => {
+            primitive(marks, stack, *primitive_number, height_of(word))
         }
-        _ => Err(Memory),
+        Sort::Core(core_number) => Ok(core(marks, stack, *core_number)),
+        Sort::Body(_) => defined(marks, stack, number, word),
+        Sort::Past(_)
+        | Sort::Itself
+        | Sort::Class(_)
+        | Sort::Isa(_)
+        | Sort::Getter(_)
+        | Sort::Setter(_)
+        | Sort::Putter(_)
+        | Sort::Generic
+        | Sort::Method { .. } => unreachable!(),
     }
-}
-
-// The number, which no list has room for where it is wider.
-fn narrow(number: usize) -> Result<u32, Memory>
-    ensures { IfOk result (λ n. n ≡ number) }
-{
-    u32::try_from(number).map_err(|_| Memory)
 }
 
 // The item of the word with this number.
 fn word(closed: &Closed, marks: &mut Marks, stack: u32, number: u32) -> Result<Doing, Memory>
-    requires { IsStack marks.old stack }
+    requires stack { IsStack marks.old stack }
+    requires program { takes_all closed.now.program closed.now.templates ≡ true }
+    requires number { nat_lt number closed.now.program.top ≡ true }
     ensures grows { Grows marks.old marks.new }
     ensures there { IfOk result (λ doing. IsDoing marks.new doing) }
-    ensures does { IfOk result (λ doing. (O : Opened closed.now.program closed.now.templates) (N : Naming) → doing_seen N marks.new (body_text O.program) doing ≡ word_doing O.program None number (slice_get O.program.words number) None (stack_of N marks.old stack)) }
+    ensures does { IfOk result (λ doing. DoesWord closed.now marks.old marks.new stack number doing) }
 {
     match closed.program.words.get(number as usize) {
-        Some(word) => word_item(marks, stack, closed.program.top, number, word),
-        None => Ok(Doing::Breaks(Rule::NotKnown)),
+        Some(word) => word_item(marks, stack, number, word),
+        None => unreachable!(),
     }
 }
 
@@ -359,22 +347,34 @@ fn quotation(marks: &mut Marks, stack: u32, template: u32) -> Result<Doing, Memo
     put(marks, stack, mark)
 }
 
-/// What an item of a closed text does to a stack. Items of other forms aren't read yet.
+/// What an item of a closed text does to a stack.
 pub fn item_doing(
     closed: &Closed,
     marks: &mut Marks,
     stack: u32,
     what: &What,
 ) -> Result<Doing, Memory>
-    requires { IsStack marks.old stack }
+    requires stack { IsStack marks.old stack }
+    requires program { takes_all closed.now.program closed.now.templates ≡ true }
+    requires item { takes_item closed.now.program.top (what_item what.now) ≡ true }
     ensures grows { Grows marks.old marks.new }
     ensures there { IfOk result (λ doing. IsDoing marks.new doing) }
-    ensures does { IfOk result (λ doing. (O : Opened closed.now.program closed.now.templates) (at : Literal) (i : Item) → ClosesItem O.program at i (what_item what.now) → doing_seen O.naming marks.new (body_text O.program) doing ≡ doing_of O.program None at i None (stack_of O.naming marks.old stack)) }
+    ensures does { IfOk result (λ doing. DoesItem closed.now marks.old marks.new stack (what_item what.now) doing) }
 {
     match what {
         What::Int(_) | What::True | What::False => unknown(marks, stack),
         What::Word(number) => word(closed, marks, stack, *number),
         What::Made(template) => quotation(marks, stack, *template),
-        _ => Err(Memory),
+        What::Str(_)
+        | What::Arr(_)
+        | What::Wref(_)
+        | What::Quot(_)
+        | What::Bind(_)
+        | What::Local(_)
+        | What::Fry(_, _)
+        | What::Hole(_)
+        | What::CallEff(_)
+        | What::ExecEff(_)
+        | What::NextMethod => unreachable!(),
     }
 }

@@ -1,7 +1,6 @@
 //! The verdict on a program.
-ghost use Rattle.std.specs.Prelude.{◌≡◌, ◌≤◌, map, IfOk};
-ghost use Rattle.fac_check.specs.UndeclaredRecursion.{AreUndeclared};
-ghost use Rattle.fac_check.specs.Judged.{AreVerdicts, IsVerdict, IsAccepted, verdict_seen, refusal_if, first_of};
+ghost use Rattle.std.specs.Prelude.{◌≡◌, ◌<◌, length, map, slice_get, Some, IfOk};
+ghost use Rattle.fac_check.specs.Judged.{StandsForBuilt, AreUndeclared, AreVerdicts, IsVerdict, IsAccepted, verdict_seen, refusal_if, first_of};
 ghost use Rattle.fac_check.specs.Checks.{IsKept, Checks, Gathers};
 
 use crate::Checked;
@@ -12,38 +11,47 @@ use fac_lang::{List, Memory};
 use fac_locals::Closed;
 use std::alloc::Global;
 
+// The flag of a word.
+fn flag(flags: &List<bool>, number: u32) -> bool
+    requires { number < length flags.now }
+    ensures { slice_get flags.now number ≡ Some result }
+{
+    match flags.get(number as usize) {
+        Some(flag) => *flag,
+        None => unreachable!(),
+    }
+}
+
 /// The verdict on the word of this number: the first rule that it breaks, with its place. `undeclared` has for each word whether its text
-/// leads back to it through inline words, as `check_words` finds it for all words at once. A number that no word has is want of memory.
+/// leads back to it through inline words, as `undeclared_words` finds it for all words at once.
 pub fn check_word(
     alloc: Global,
     closed: &Closed,
     undeclared: &List<bool>,
     number: u32,
 ) -> Result<Verdict, Memory>
-    requires { AreUndeclared closed.now.program closed.now.templates undeclared.now }
+    requires stands { StandsForBuilt closed.now }
+    requires undeclared { AreUndeclared closed.now.program closed.now.templates undeclared.now }
+    requires number { number < length closed.now.program.words }
     ensures { IfOk result (IsVerdict closed.now number) }
 {
-    match closed.program.words.get(number as usize) {
-        Some(word) => match undeclared.get(number as usize) {
-            Some(leads_back) => {
-                match word_breach(alloc, closed, *leads_back, number, word)? {
-                    Some((place, rule)) => Ok(Verdict::Refused(Refusal {
-                        word: number,
-                        place,
-                        rule,
-                    })),
-                    None => Ok(Verdict::Accepted),
-                }
-            }
-            None => Err(Memory),
-        },
-        None => Err(Memory),
+    let Some(word) = closed.program.words.get(number as usize) else {
+        unreachable!()
+    };
+    match word_breach(alloc, closed, flag(undeclared, number), number, word)? {
+        Some((place, rule)) => Ok(Verdict::Refused(Refusal {
+            word: number,
+            place,
+            rule,
+        })),
+        None => Ok(Verdict::Accepted),
     }
 }
 
 /// The verdicts on all words, in their order. Each word is walked from the inputs that its effect declares, the top-level phrase from as
 /// many unknown values as the closed program says, and an expanded word where it is used.
 pub fn check_words(alloc: Global, closed: &Closed) -> Result<List<Verdict>, Memory>
+    requires { StandsForBuilt closed.now }
     ensures { IfOk result (AreVerdicts closed.now) }
 {
     let undeclared = undeclared_words(alloc, closed)?;
@@ -92,6 +100,7 @@ pub fn gather(closed: Closed, verdicts: &List<Verdict>) -> Result<Checked, Refus
 /// Factor Handbook's chapter on stack effect checking; the rules of callables, and which word and place is named first, are this
 /// profile's own.
 pub fn check(alloc: Global, closed: Closed) -> Result<Checked, CheckFault>
+    requires { StandsForBuilt closed }
     ensures { Checks closed result }
 {
     let verdicts = check_words(alloc, &closed)?;

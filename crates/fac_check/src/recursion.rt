@@ -2,7 +2,8 @@
 ghost use Rattle.std.specs.Prelude.{◌≡◌, ◌++◌, ◌∷◌, ◌<◌, ◌-◌, [], true, false, length, drop, IsTrue, IfOk, OnOk, slice_get};
 ghost use Rattle.fac_lang.specs.View.{what_item};
 ghost use Rattle.fac_check.specs.Verdicts.{one_of};
-ghost use Rattle.fac_check.specs.UndeclaredRecursion.{named_word, made_template, inline_text, inline_word, left_out, led_from, Decides, rank_of, same_or_lower, all_lower, leads_lower, all_descend, Adds, Finds, DecidesAll, AddsNames, AddsItemNames, AddsMadeNames, LedBy, LedByText, AreEdges, AreUndeclared};
+ghost use Rattle.fac_check.specs.inner.UndeclaredRecursion.{named_word, made_template, inline_text, inline_word, left_out, led_from, Decides, rank_of, same_or_lower, all_lower, leads_lower, all_descend, Adds, Finds, DecidesAll, AddsNames, AddsItemNames, AddsMadeNames, LedBy, LedByText, AreEdges};
+ghost use Rattle.fac_check.specs.Judged.{AreUndeclared};
 
 use fac_lang::{List, Memory, Phrase, Sort, What, WordDef};
 use fac_locals::Closed;

@@ -1,22 +1,41 @@
 //! The walk of a text.
-ghost use Rattle.std.specs.Prelude.{◌≡◌, ◌<◌, ◌≤◌, ℕ, suc, List, Some, None, IfOk, MatchResult, MatchOption};
-ghost use Rattle.std.specs.declared.option.Option.{Option as Maybe};
-ghost use Rattle.std.specs.Option.{option_map};
-ghost use Rattle.fac_lang.specs.Texts.{Text, Literal, Mark, cur_mark, com_mark};
-ghost use Rattle.fac_abs.specs.Trees.{Naming};
-ghost use Rattle.fac_abs.specs.Seen.{IsMark, IsStack, Grows, mark_of, stack_of};
-ghost use Rattle.fac_locals.specs.Literals.{first_of_word, first_of_literal};
-ghost use Rattle.fac_locals.specs.Closed.{ClosesText};
+ghost use Rattle.std.specs.Prelude.{◌≡◌, ◌<◌, ◌≤◌, [], true, suc, Some, None, IfOk, MatchResult, MatchOption};
 ghost use Rattle.fac_abs.specs.Marks.{on};
-ghost use Rattle.fac_check.specs.Flow.{walk, walk_text, walk_mark as walk_of_mark, doing as doing_of, first_rule as first_rule_of, text_rule as rule_of_text, join, and_then, found, marks_back};
-ghost use Rattle.fac_check.specs.ItemWalk.{item_walk};
-ghost use Rattle.fac_check.specs.Walking.{Opened, IsDoing, IsReached, IsWalked, IsWithin, IsBelow, AreMarks, Admits, Enters, doing_seen, reached_seen, walked_seen, rule_seen, marks_of_option, body_text, go_at, part_walk};
+ghost use Rattle.fac_abs.specs.Promises.{IsMarkOf, IsStackOf};
+ghost use Rattle.fac_abs.specs.Seen.{IsMark, IsStack, Grows, mark_of, stack_of};
+ghost use Rattle.fac_abs.specs.Trees.{Naming};
+ghost use Rattle.fac_lang.specs.Texts.{any};
+ghost use Rattle.fac_check.specs.Flow.{first_rule as first_rule_of, text_rule as rule_of_text, join, marks_back};
+ghost use Rattle.fac_check.specs.inner.Taken.{takes_all, takes_text};
+ghost use Rattle.fac_check.specs.inner.Walking.{IsDoing, IsReached, IsWalked, IsWithin, IsBelow, AreMarks, Admits, Enters, reached_seen, walked_seen, marks_of_option, IsWalkOf, IsWalkOfText, IsWalkOfItem, literal_walk, word_walk, curried_walk, part_walk, composed_walk, mark_walk, callable_walk, fork_walk};
 
 use crate::doing::{Doing, Reached, item_doing};
-use crate::rule::Rule;
-use fac_abs::{Marks, Node};
+use fac_abs::{Marks, Node, Rule};
 use fac_lang::{Memory, Phrase, Place, Sort};
 use fac_locals::Closed;
+use std::alloc::Global;
+
+/// A closed program that is walked, and the marks of its values.
+#[derive(Drop)]
+pub struct Walker<'a> {
+    closed: &'a Closed,
+    /// The marks and stacks that the walk has come to.
+    pub marks: Marks,
+    ghost taken: { takes_all closed.now.program closed.now.templates ≡ true },
+}
+
+/// Where a walk stands.
+#[derive(Clone, Copy)]
+pub struct Step {
+    /// The place that a refusal names.
+    pub place: Place,
+    /// The nested applications that may still be entered.
+    pub nested: u32,
+    /// The stack, by its number.
+    pub stack: u32,
+    /// The items that may still be walked.
+    pub left: u32,
+}
 
 /// How a walk ends.
 #[derive(Clone, Copy)]
@@ -29,7 +48,7 @@ pub enum Walked {
 
 // What an item breaks by entering a text, before it counts.
 fn text_rule(nested: u32) -> Option<Rule>
-    ensures { option_map rule_seen result ≡ rule_of_text None nested }
+    ensures { result ≡ rule_of_text None nested }
 {
     if nested == 0 {
         return Some(Rule::TooDeep);
@@ -41,7 +60,7 @@ fn text_rule(nested: u32) -> Option<Rule>
 fn first_rule(marks: &Marks, mark: u32, nested: u32, stack: u32) -> Option<Rule>
     requires mark { IsMark marks.now mark }
     requires stack { IsStack marks.now stack }
-    ensures { (N : Naming) → option_map rule_seen result ≡ first_rule_of None (mark_of N marks.now mark) nested None (stack_of N marks.now stack) }
+    ensures { (N : Naming) → result ≡ first_rule_of None (mark_of N marks.now mark) nested None (stack_of N marks.now stack) }
 {
     match marks.node(mark) {
         Node::Lit(_) => text_rule(nested),
@@ -123,377 +142,381 @@ fn put_back(marks: &mut Marks, found: Reached, back: Option<u32>) -> Result<Reac
     }
 }
 
-// The join of two branches.
-fn joined(
-    marks: &mut Marks,
-    first: Reached,
-    second: Reached,
-    place: Place,
-    left: u32,
-) -> Result<Walked, Memory>
+// The join of two branches, where the step's stack isn't looked at.
+fn joined(marks: &mut Marks, first: Reached, second: Reached, step: Step) -> Result<Walked, Memory>
     requires first { IsReached marks.old first }
     requires second { IsReached marks.old second }
     ensures grows { Grows marks.old marks.new }
     ensures there { IfOk result (λ walked. IsWalked marks.new walked) }
-    ensures within { IfOk result (λ walked. IsWithin left walked) }
-    ensures joins { IfOk result (λ walked. (N : Naming) → walked_seen N marks.new walked ≡ join (reached_seen N marks.old first) (reached_seen N marks.old second) place left) }
+    ensures within { IfOk result (λ walked. IsWithin step.left walked) }
+    ensures joins { IfOk result (λ walked. (N : Naming) → walked_seen N marks.new walked ≡ join (reached_seen N marks.old first) (reached_seen N marks.old second) step.place step.left) }
 {
     match first {
-        Reached::Dead => Ok(Walked::Found(second, left)),
+        Reached::Dead => Ok(Walked::Found(second, step.left)),
         Reached::On(upper) => match second {
-            Reached::Dead => Ok(Walked::Found(Reached::On(upper), left)),
-            Reached::On(lower) => join_stacks(marks, upper, lower, place, left),
+            Reached::Dead => Ok(Walked::Found(Reached::On(upper), step.left)),
+            Reached::On(lower) => join_stacks(marks, upper, lower, step),
         },
     }
 }
 
 // The join of two stacks.
-fn join_stacks(
-    marks: &mut Marks,
-    first: u32,
-    second: u32,
-    place: Place,
-    left: u32,
-) -> Result<Walked, Memory>
+fn join_stacks(marks: &mut Marks, first: u32, second: u32, step: Step) -> Result<Walked, Memory>
     requires first { IsStack marks.old first }
     requires second { IsStack marks.old second }
     ensures grows { Grows marks.old marks.new }
     ensures there { IfOk result (λ walked. IsWalked marks.new walked) }
-    ensures within { IfOk result (λ walked. IsWithin left walked) }
-    ensures joins { IfOk result (λ walked. (N : Naming) → walked_seen N marks.new walked ≡ join (on None (stack_of N marks.old first)) (on None (stack_of N marks.old second)) place left) }
+    ensures within { IfOk result (λ walked. IsWithin step.left walked) }
+    ensures joins { IfOk result (λ walked. (N : Naming) → walked_seen N marks.new walked ≡ join (on None (stack_of N marks.old first)) (on None (stack_of N marks.old second)) step.place step.left) }
 {
     let upper = marks.height(first);
     let lower = marks.height(second);
     match marks.join(first, second)? {
-        Some(stack) => Ok(Walked::Found(Reached::On(stack), left)),
+        Some(stack) => Ok(Walked::Found(Reached::On(stack), step.left)),
         None => Ok(Walked::Refused(
             Rule::Branches {
                 first: upper,
                 second: lower,
             },
-            place,
+            step.place,
         )),
     }
 }
 
-// Walks the text of a literal, which is one nested application.
-#[cycle(walk)]
-fn walk_literal(
-    closed: &Closed,
-    marks: &mut Marks,
-    template: u32,
-    place: Place,
-    nested: u32,
-    stack: u32,
-    left: u32,
-) -> Result<Walked, Memory>
-    requires { IsStack marks.old stack }
-    ensures grows { Grows marks.old marks.new }
-    ensures there { IfOk result (λ walked. IsWalked marks.new walked) }
-    ensures within { IfOk result (λ walked. IsWithin left walked) }
-    ensures walks { IfOk result (λ walked. (O : Opened closed.now.program closed.now.templates) (f : ℕ) → left < f → walked_seen O.naming marks.new walked ≡ walk_text None (go_at O f) (first_of_literal (O.naming.literal template).0) (O.naming.literal template).1 place nested None (stack_of O.naming marks.old stack) left) }
-{
-    if nested == 0 {
-        return Ok(Walked::Refused(Rule::TooDeep, place));
+impl<'a> Walker<'a> {
+    /// A walker with the empty stack alone.
+    pub fn new(alloc: Global, closed: &'a Closed) -> Result<Walker<'a>, Memory>
+        requires { takes_all closed.now.program closed.now.templates ≡ true }
+        ensures closed { IfOk result (λ walker. walker.closed ≡ closed.entry) }
+        ensures mark { IfOk result (λ walker. IsMarkOf walker.marks 0 (λ N. any)) }
+        ensures stack { IfOk result (λ walker. IsStackOf walker.marks 0 (λ N. [])) }
+    {
+        let marks = Marks::new(alloc)?;
+        Ok(Walker { closed, marks })
     }
-    match closed.templates.get(template as usize) {
-        Some(found) => walk_phrase(closed, marks, &found.body, nested - 1, stack, left),
-        None => Err(Memory),
-    }
-}
 
-// Walks the text of an expanded word, which is one nested application.
-#[cycle(walk)]
-fn walk_word(
-    closed: &Closed,
-    marks: &mut Marks,
-    word: u32,
-    place: Place,
-    nested: u32,
-    stack: u32,
-    left: u32,
-) -> Result<Walked, Memory>
-    requires { IsStack marks.old stack }
-    ensures grows { Grows marks.old marks.new }
-    ensures there { IfOk result (λ walked. IsWalked marks.new walked) }
-    ensures within { IfOk result (λ walked. IsWithin left walked) }
-    ensures walks { IfOk result (λ walked. (O : Opened closed.now.program closed.now.templates) (f : ℕ) → left < f → walked_seen O.naming marks.new walked ≡ walk_text None (go_at O f) (first_of_word word) (body_text O.program word) place nested None (stack_of O.naming marks.old stack) left) }
-{
-    if nested == 0 {
-        return Ok(Walked::Refused(Rule::TooDeep, place));
+    // Walks the text of a literal, which is one nested application. A number behind the last template names a literal with no items.
+    #[cycle(walk)]
+    fn walk_literal(&mut self, template: u32, step: Step) -> Result<Walked, Memory>
+        requires { IsStack self.old.marks step.stack }
+        ensures closed { self.new.closed ≡ self.old.closed }
+        ensures grows { Grows self.old.marks self.new.marks }
+        ensures there { IfOk result (λ walked. IsWalked self.new.marks walked) }
+        ensures within { IfOk result (λ walked. IsWithin step.left walked) }
+        ensures walks { IfOk result (λ walked. IsWalkOf self.old.closed.now self.new.marks step walked (literal_walk self.old.marks step template)) }
+    {
+        if step.nested == 0 {
+            return Ok(Walked::Refused(Rule::TooDeep, step.place));
+        }
+        let closed = self.closed;
+        let inner = Step {
+            nested: step.nested - 1,
+            ..step
+        };
+        match closed.templates.get(template as usize) {
+            Some(found) => self.walk_phrase(&found.body, inner),
+            None => Ok(Walked::Found(Reached::On(step.stack), step.left)),
+        }
     }
-    match closed.program.words.get(word as usize) {
-        Some(found) => match &found.sort {
-            Sort::Body(phrase) => walk_phrase(closed, marks, phrase, nested - 1, stack, left),
-            _ => Err(Memory),
-        },
-        None => Err(Memory),
-    }
-}
 
-// Walks what `curry` made: its value counts as an item, and then the callable is walked.
-#[cycle(walk)]
-fn walk_curried(
-    closed: &Closed,
-    marks: &mut Marks,
-    whole: u32,
-    value: u32,
-    callable: u32,
-    place: Place,
-    nested: u32,
-    stack: u32,
-    left: u32,
-) -> Result<Walked, Memory>
-    requires value { IsMark marks.old value }
-    requires callable { IsMark marks.old callable }
-    requires lower { callable < whole }
-    requires stack { IsStack marks.old stack }
-    ensures grows { Grows marks.old marks.new }
-    ensures there { IfOk result (λ walked. IsWalked marks.new walked) }
-    ensures within { IfOk result (λ walked. IsWithin left walked) }
-    ensures walks { IfOk result (λ walked. (O : Opened closed.now.program closed.now.templates) (f : ℕ) → left < f → walked_seen O.naming marks.new walked ≡ walk_of_mark None (go_at O f) (cur_mark (mark_of O.naming marks.old value) (mark_of O.naming marks.old callable)) place nested None (stack_of O.naming marks.old stack) left) }
-{
-    match count(left) {
-        None => Ok(Walked::Refused(Rule::TooLarge, place)),
-        Some(rest) => match inside(marks, callable, nested) {
-            Err(rule) => Ok(Walked::Refused(rule, place)),
+    // Walks the text of an expanded word, which is one nested application. A word without a text has no items.
+    #[cycle(walk)]
+    fn walk_word(&mut self, word: u32, step: Step) -> Result<Walked, Memory>
+        requires { IsStack self.old.marks step.stack }
+        ensures closed { self.new.closed ≡ self.old.closed }
+        ensures grows { Grows self.old.marks self.new.marks }
+        ensures there { IfOk result (λ walked. IsWalked self.new.marks walked) }
+        ensures within { IfOk result (λ walked. IsWithin step.left walked) }
+        ensures walks { IfOk result (λ walked. IsWalkOf self.old.closed.now self.new.marks step walked (word_walk self.old.marks step word)) }
+    {
+        if step.nested == 0 {
+            return Ok(Walked::Refused(Rule::TooDeep, step.place));
+        }
+        let closed = self.closed;
+        let inner = Step {
+            nested: step.nested - 1,
+            ..step
+        };
+        match closed.program.words.get(word as usize) {
+            Some(found) => match &found.sort {
+                Sort::Body(phrase) => self.walk_phrase(phrase, inner),
+                _ => Ok(Walked::Found(Reached::On(step.stack), step.left)),
+            },
+            None => Ok(Walked::Found(Reached::On(step.stack), step.left)),
+        }
+    }
+
+    // Walks what `curry` made: its value counts as an item, and then the callable is walked.
+    #[cycle(walk)]
+    fn walk_curried(
+        &mut self,
+        whole: u32,
+        value: u32,
+        callable: u32,
+        step: Step,
+    ) -> Result<Walked, Memory>
+        requires value { IsMark self.old.marks value }
+        requires callable { IsMark self.old.marks callable }
+        requires lower { callable < whole }
+        requires stack { IsStack self.old.marks step.stack }
+        ensures closed { self.new.closed ≡ self.old.closed }
+        ensures grows { Grows self.old.marks self.new.marks }
+        ensures there { IfOk result (λ walked. IsWalked self.new.marks walked) }
+        ensures within { IfOk result (λ walked. IsWithin step.left walked) }
+        ensures walks { IfOk result (λ walked. IsWalkOf self.old.closed.now self.new.marks step walked (curried_walk self.old.marks step value callable)) }
+    {
+        match count(step.left) {
+            None => Ok(Walked::Refused(Rule::TooLarge, step.place)),
+            Some(rest) => match inside(&self.marks, callable, step.nested) {
+                Err(rule) => Ok(Walked::Refused(rule, step.place)),
+                Ok(deeper) => {
+                    let stack = self.marks.push(step.stack, value)?;
+                    let inner = Step {
+                        place: step.place,
+                        nested: deeper,
+                        stack,
+                        left: rest,
+                    };
+                    self.walk_mark(callable, inner)
+                }
+            },
+        }
+    }
+
+    // Walks a part of what `compose` made.
+    #[cycle(walk)]
+    fn walk_part(&mut self, whole: u32, part: u32, step: Step) -> Result<Walked, Memory>
+        requires part { IsMark self.old.marks part }
+        requires lower { part < whole }
+        requires stack { IsStack self.old.marks step.stack }
+        ensures closed { self.new.closed ≡ self.old.closed }
+        ensures grows { Grows self.old.marks self.new.marks }
+        ensures there { IfOk result (λ walked. IsWalked self.new.marks walked) }
+        ensures within { IfOk result (λ walked. IsWithin step.left walked) }
+        ensures walks { IfOk result (λ walked. IsWalkOf self.old.closed.now self.new.marks step walked (part_walk self.old.marks step part)) }
+    {
+        match inside(&self.marks, part, step.nested) {
+            Err(rule) => Ok(Walked::Refused(rule, step.place)),
             Ok(deeper) => {
-                let stack = marks.push(stack, value)?;
-                walk_mark(closed, marks, callable, place, deeper, stack, rest)
+                let inner = Step {
+                    nested: deeper,
+                    ..step
+                };
+                self.walk_mark(part, inner)
             }
-        },
+        }
     }
-}
 
-// Walks a part of what `compose` made.
-#[cycle(walk)]
-fn walk_part(
-    closed: &Closed,
-    marks: &mut Marks,
-    whole: u32,
-    part: u32,
-    place: Place,
-    nested: u32,
-    stack: u32,
-    left: u32,
-) -> Result<Walked, Memory>
-    requires part { IsMark marks.old part }
-    requires lower { part < whole }
-    requires stack { IsStack marks.old stack }
-    ensures grows { Grows marks.old marks.new }
-    ensures there { IfOk result (λ walked. IsWalked marks.new walked) }
-    ensures within { IfOk result (λ walked. IsWithin left walked) }
-    ensures walks { IfOk result (λ walked. (O : Opened closed.now.program closed.now.templates) (f : ℕ) → left < f → walked_seen O.naming marks.new walked ≡ part_walk (go_at O f) (mark_of O.naming marks.old part) place nested (stack_of O.naming marks.old stack) left) }
-{
-    match inside(marks, part, nested) {
-        Err(rule) => Ok(Walked::Refused(rule, place)),
-        Ok(deeper) => walk_mark(closed, marks, part, place, deeper, stack, left),
+    // Walks what `compose` made: it counts as an item, and then its parts are walked.
+    #[cycle(walk)]
+    fn walk_composed(
+        &mut self,
+        whole: u32,
+        first: u32,
+        second: u32,
+        step: Step,
+    ) -> Result<Walked, Memory>
+        requires first { IsMark self.old.marks first }
+        requires second { IsMark self.old.marks second }
+        requires first_lower { first < whole }
+        requires second_lower { second < whole }
+        requires stack { IsStack self.old.marks step.stack }
+        ensures closed { self.new.closed ≡ self.old.closed }
+        ensures grows { Grows self.old.marks self.new.marks }
+        ensures there { IfOk result (λ walked. IsWalked self.new.marks walked) }
+        ensures within { IfOk result (λ walked. IsWithin step.left walked) }
+        ensures walks { IfOk result (λ walked. IsWalkOf self.old.closed.now self.new.marks step walked (composed_walk self.old.marks step first second)) }
+    {
+        match count(step.left) {
+            None => Ok(Walked::Refused(Rule::TooLarge, step.place)),
+            Some(rest) => {
+                let inner = Step { left: rest, ..step };
+                match self.walk_part(whole, first, inner)? {
+                    Walked::Refused(rule, place) => Ok(Walked::Refused(rule, place)),
+                    Walked::Found(Reached::Dead, rest) => Ok(Walked::Found(Reached::Dead, rest)),
+                    Walked::Found(Reached::On(stack), rest) => {
+                        let next = Step {
+                            stack,
+                            left: rest,
+                            ..step
+                        };
+                        self.walk_part(whole, second, next)
+                    }
+                }
+            }
+        }
     }
-}
 
-// Walks what `compose` made: it counts as an item, and then its parts are walked.
-#[cycle(walk)]
-fn walk_composed(
-    closed: &Closed,
-    marks: &mut Marks,
-    whole: u32,
-    first: u32,
-    second: u32,
-    place: Place,
-    nested: u32,
-    stack: u32,
-    left: u32,
-) -> Result<Walked, Memory>
-    requires first { IsMark marks.old first }
-    requires second { IsMark marks.old second }
-    requires first_lower { first < whole }
-    requires second_lower { second < whole }
-    requires stack { IsStack marks.old stack }
-    ensures grows { Grows marks.old marks.new }
-    ensures there { IfOk result (λ walked. IsWalked marks.new walked) }
-    ensures within { IfOk result (λ walked. IsWithin left walked) }
-    ensures walks { IfOk result (λ walked. (O : Opened closed.now.program closed.now.templates) (f : ℕ) → left < f → walked_seen O.naming marks.new walked ≡ walk_of_mark None (go_at O f) (com_mark (mark_of O.naming marks.old first) (mark_of O.naming marks.old second)) place nested None (stack_of O.naming marks.old stack) left) }
-{
-    match count(left) {
-        None => Ok(Walked::Refused(Rule::TooLarge, place)),
-        Some(rest) => match walk_part(closed, marks, whole, first, place, nested, stack, rest)? {
+    // Walks a callable that a mark stands for.
+    #[cycle(walk)]
+    fn walk_mark(&mut self, mark: u32, step: Step) -> Result<Walked, Memory>
+        requires mark { IsMark self.old.marks mark }
+        requires stack { IsStack self.old.marks step.stack }
+        ensures closed { self.new.closed ≡ self.old.closed }
+        ensures grows { Grows self.old.marks self.new.marks }
+        ensures there { IfOk result (λ walked. IsWalked self.new.marks walked) }
+        ensures within { IfOk result (λ walked. IsWithin step.left walked) }
+        ensures walks { IfOk result (λ walked. IsWalkOf self.old.closed.now self.new.marks step walked (mark_walk self.old.marks step mark)) }
+    {
+        match self.marks.node(mark) {
+            Node::Lit(template) => self.walk_literal(template, step),
+            Node::Cur(value, callable) => self.walk_curried(mark, value, callable, step),
+            Node::Com(first, second) => self.walk_composed(mark, first, second, step),
+            Node::Par(input) => {
+                let found = self.marks.height(step.stack);
+                let rule = Rule::Rows {
+                    input,
+                    expected: 0,
+                    found,
+                };
+                Ok(Walked::Refused(rule, step.place))
+            }
+            Node::Any => Ok(Walked::Refused(Rule::NotKnown, step.place)),
+            Node::Wrd(_) => Ok(Walked::Refused(Rule::NotKnown, step.place)),
+        }
+    }
+
+    // Walks a callable, and then puts a mark back.
+    #[cycle(walk)]
+    fn walk_callable(&mut self, mark: u32, back: Option<u32>, step: Step) -> Result<Walked, Memory>
+        requires mark { IsMark self.old.marks mark }
+        requires back { AreMarks self.old.marks back }
+        requires stack { IsStack self.old.marks step.stack }
+        ensures closed { self.new.closed ≡ self.old.closed }
+        ensures grows { Grows self.old.marks self.new.marks }
+        ensures there { IfOk result (λ walked. IsWalked self.new.marks walked) }
+        ensures within { IfOk result (λ walked. IsWithin step.left walked) }
+        ensures walks { IfOk result (λ walked. IsWalkOf self.old.closed.now self.new.marks step walked (callable_walk self.old.marks step mark back)) }
+    {
+        match self.walk_mark(mark, step)? {
             Walked::Refused(rule, place) => Ok(Walked::Refused(rule, place)),
-            Walked::Found(Reached::Dead, rest) => Ok(Walked::Found(Reached::Dead, rest)),
-            Walked::Found(Reached::On(stack), rest) => {
-                walk_part(closed, marks, whole, second, place, nested, stack, rest)
+            Walked::Found(reached, rest) => {
+                Ok(Walked::Found(put_back(&mut self.marks, reached, back)?, rest))
             }
-        },
+        }
     }
-}
 
-// Walks a callable that a mark stands for.
-#[cycle(walk)]
-fn walk_mark(
-    closed: &Closed,
-    marks: &mut Marks,
-    mark: u32,
-    place: Place,
-    nested: u32,
-    stack: u32,
-    left: u32,
-) -> Result<Walked, Memory>
-    requires mark { IsMark marks.old mark }
-    requires stack { IsStack marks.old stack }
-    ensures grows { Grows marks.old marks.new }
-    ensures there { IfOk result (λ walked. IsWalked marks.new walked) }
-    ensures within { IfOk result (λ walked. IsWithin left walked) }
-    ensures walks { IfOk result (λ walked. (O : Opened closed.now.program closed.now.templates) (f : ℕ) → left < f → walked_seen O.naming marks.new walked ≡ walk_of_mark None (go_at O f) (mark_of O.naming marks.old mark) place nested None (stack_of O.naming marks.old stack) left) }
-{
-    match marks.node(mark) {
-        Node::Lit(template) => walk_literal(closed, marks, template, place, nested, stack, left),
-        Node::Cur(value, callable) => walk_curried(
-            closed, marks, mark, value, callable, place, nested, stack, left,
-        ),
-        Node::Com(first, second) => walk_composed(
-            closed, marks, mark, first, second, place, nested, stack, left,
-        ),
-        Node::Par(input) => {
-            let found = marks.height(stack);
-            let rule = Rule::Rows {
-                input,
-                expected: 0,
-                found,
+    // Walks both callables of an `if` from one stack, and joins what they leave.
+    #[cycle(walk)]
+    fn walk_fork(&mut self, first: u32, second: u32, step: Step) -> Result<Walked, Memory>
+        requires first { IsMark self.old.marks first }
+        requires second { IsMark self.old.marks second }
+        requires stack { IsStack self.old.marks step.stack }
+        ensures closed { self.new.closed ≡ self.old.closed }
+        ensures grows { Grows self.old.marks self.new.marks }
+        ensures there { IfOk result (λ walked. IsWalked self.new.marks walked) }
+        ensures within { IfOk result (λ walked. IsWithin step.left walked) }
+        ensures walks { IfOk result (λ walked. IsWalkOf self.old.closed.now self.new.marks step walked (fork_walk self.old.marks step first second)) }
+    {
+        match self.walk_mark(first, step)? {
+            Walked::Refused(rule, place) => Ok(Walked::Refused(rule, place)),
+            Walked::Found(upper, rest) => {
+                let next = Step { left: rest, ..step };
+                match self.walk_mark(second, next)? {
+                    Walked::Refused(rule, place) => Ok(Walked::Refused(rule, place)),
+                    Walked::Found(lower, rest) => {
+                        let end = Step { left: rest, ..step };
+                        joined(&mut self.marks, upper, lower, end)
+                    }
+                }
+            }
+        }
+    }
+
+    // Walks an item, apart from the rest of its text, where the step's stack isn't that of what the item does.
+    #[cycle(walk)]
+    fn walk_item(&mut self, doing: Doing, step: Step) -> Result<Walked, Memory>
+        requires { IsDoing self.old.marks doing }
+        ensures closed { self.new.closed ≡ self.old.closed }
+        ensures grows { Grows self.old.marks self.new.marks }
+        ensures there { IfOk result (λ walked. IsWalked self.new.marks walked) }
+        ensures below { IfOk result (λ walked. IsBelow step.left walked) }
+        ensures walks { IfOk result (λ walked. IsWalkOfItem self.old.closed.now self.old.marks self.new.marks doing step walked) }
+    {
+        match doing {
+            Doing::Breaks(rule) => Ok(Walked::Refused(rule, step.place)),
+            Doing::Gives(reached) => match admitted(None, step.left) {
+                Ok(left) => Ok(Walked::Found(reached, left)),
+                Err(rule) => Ok(Walked::Refused(rule, step.place)),
+            },
+            Doing::Expands { word, stack } => match admitted(text_rule(step.nested), step.left) {
+                Ok(left) => self.walk_word(
+                    word,
+                    Step {
+                        stack,
+                        left,
+                        ..step
+                    },
+                ),
+                Err(rule) => Ok(Walked::Refused(rule, step.place)),
+            },
+            Doing::Walks { mark, stack, back } => {
+                match admitted(first_rule(&self.marks, mark, step.nested, stack), step.left) {
+                    Ok(left) => self.walk_callable(
+                        mark,
+                        back,
+                        Step {
+                            stack,
+                            left,
+                            ..step
+                        },
+                    ),
+                    Err(rule) => Ok(Walked::Refused(rule, step.place)),
+                }
+            }
+            Doing::Forks {
+                first,
+                second,
+                stack,
+            } => match admitted(
+                first_rule(&self.marks, first, step.nested, stack),
+                step.left,
+            ) {
+                Ok(left) => self.walk_fork(
+                    first,
+                    second,
+                    Step {
+                        stack,
+                        left,
+                        ..step
+                    },
+                ),
+                Err(rule) => Ok(Walked::Refused(rule, step.place)),
+            },
+        }
+    }
+
+    /// Walks a closed text. The step's place doesn't matter: each item has its own.
+    #[cycle(walk)]
+    pub fn walk_phrase(&mut self, phrase: &Phrase, step: Step) -> Result<Walked, Memory>
+        requires stack { IsStack self.old.marks step.stack }
+        requires taken { takes_text self.old.closed.now.program.top phrase.now ≡ true }
+        ensures closed { self.new.closed ≡ self.old.closed }
+        ensures grows { Grows self.old.marks self.new.marks }
+        ensures there { IfOk result (λ walked. IsWalked self.new.marks walked) }
+        ensures within { IfOk result (λ walked. IsWithin step.left walked) }
+        ensures walks { IfOk result (λ walked. IsWalkOfText self.old.closed.now self.old.marks self.new.marks phrase.now step walked) }
+    {
+        let closed = self.closed;
+        let mut stack = step.stack;
+        let mut left = step.left;
+        for item in &phrase.items {
+            let doing = item_doing(closed, &mut self.marks, stack, &item.what)?;
+            let here = Step {
+                place: item.place,
+                nested: step.nested,
+                stack,
+                left,
             };
-            Ok(Walked::Refused(rule, place))
-        }
-        Node::Any => Ok(Walked::Refused(Rule::NotKnown, place)),
-        Node::Wrd(_) => Ok(Walked::Refused(Rule::NotKnown, place)),
-    }
-}
-
-// Walks a callable, and then puts a mark back.
-#[cycle(walk)]
-fn walk_callable(
-    closed: &Closed,
-    marks: &mut Marks,
-    mark: u32,
-    back: Option<u32>,
-    place: Place,
-    nested: u32,
-    stack: u32,
-    left: u32,
-) -> Result<Walked, Memory>
-    requires mark { IsMark marks.old mark }
-    requires back { AreMarks marks.old back }
-    requires stack { IsStack marks.old stack }
-    ensures grows { Grows marks.old marks.new }
-    ensures there { IfOk result (λ walked. IsWalked marks.new walked) }
-    ensures within { IfOk result (λ walked. IsWithin left walked) }
-    ensures walks { IfOk result (λ walked. (O : Opened closed.now.program closed.now.templates) (f : ℕ) → left < f → walked_seen O.naming marks.new walked ≡ and_then (walk_of_mark None (go_at O f) (mark_of O.naming marks.old mark) place nested None (stack_of O.naming marks.old stack) left) (λ A k. found (marks_back (marks_of_option (mark_of O.naming marks.old) back) A) k)) }
-{
-    match walk_mark(closed, marks, mark, place, nested, stack, left)? {
-        Walked::Refused(rule, place) => Ok(Walked::Refused(rule, place)),
-        Walked::Found(reached, rest) => Ok(Walked::Found(put_back(marks, reached, back)?, rest)),
-    }
-}
-
-// Walks both callables of an `if` from one stack, and joins what they leave.
-#[cycle(walk)]
-fn walk_fork(
-    closed: &Closed,
-    marks: &mut Marks,
-    first: u32,
-    second: u32,
-    place: Place,
-    nested: u32,
-    stack: u32,
-    left: u32,
-) -> Result<Walked, Memory>
-    requires first { IsMark marks.old first }
-    requires second { IsMark marks.old second }
-    requires stack { IsStack marks.old stack }
-    ensures grows { Grows marks.old marks.new }
-    ensures there { IfOk result (λ walked. IsWalked marks.new walked) }
-    ensures within { IfOk result (λ walked. IsWithin left walked) }
-    ensures walks { IfOk result (λ walked. (O : Opened closed.now.program closed.now.templates) (f : ℕ) → left < f → walked_seen O.naming marks.new walked ≡ and_then (walk_of_mark None (go_at O f) (mark_of O.naming marks.old first) place nested None (stack_of O.naming marks.old stack) left) (λ A k. and_then (walk_of_mark None (go_at O f) (mark_of O.naming marks.old second) place nested None (stack_of O.naming marks.old stack) k) (λ B j. join A B place j))) }
-{
-    match walk_mark(closed, marks, first, place, nested, stack, left)? {
-        Walked::Refused(rule, place) => Ok(Walked::Refused(rule, place)),
-        Walked::Found(upper, rest) => match walk_mark(
-            closed, marks, second, place, nested, stack, rest,
-        )? {
-            Walked::Refused(rule, place) => Ok(Walked::Refused(rule, place)),
-            Walked::Found(lower, rest) => joined(marks, upper, lower, place, rest),
-        },
-    }
-}
-
-// Walks an item, apart from the rest of its text.
-#[cycle(walk)]
-fn walk_item(
-    closed: &Closed,
-    marks: &mut Marks,
-    doing: Doing,
-    place: Place,
-    nested: u32,
-    left: u32,
-) -> Result<Walked, Memory>
-    requires { IsDoing marks.old doing }
-    ensures grows { Grows marks.old marks.new }
-    ensures there { IfOk result (λ walked. IsWalked marks.new walked) }
-    ensures below { IfOk result (λ walked. IsBelow left walked) }
-    ensures walks { IfOk result (λ walked. (O : Opened closed.now.program closed.now.templates) (f : ℕ) → left ≤ f → walked_seen O.naming marks.new walked ≡ item_walk None (go_at O f) (doing_seen O.naming marks.old (body_text O.program) doing) place nested left) }
-{
-    match doing {
-        Doing::Breaks(rule) => Ok(Walked::Refused(rule, place)),
-        Doing::Gives(reached) => match admitted(None, left) {
-            Ok(rest) => Ok(Walked::Found(reached, rest)),
-            Err(rule) => Ok(Walked::Refused(rule, place)),
-        },
-        Doing::Expands { word, stack } => match admitted(text_rule(nested), left) {
-            Ok(rest) => walk_word(closed, marks, word, place, nested, stack, rest),
-            Err(rule) => Ok(Walked::Refused(rule, place)),
-        },
-        Doing::Walks { mark, stack, back } => {
-            match admitted(first_rule(marks, mark, nested, stack), left) {
-                Ok(rest) => walk_callable(closed, marks, mark, back, place, nested, stack, rest),
-                Err(rule) => Ok(Walked::Refused(rule, place)),
+            match self.walk_item(doing, here)? {
+                Walked::Refused(rule, place) => return Ok(Walked::Refused(rule, place)),
+                Walked::Found(Reached::Dead, rest) => return Ok(Walked::Found(Reached::Dead, rest)),
+                Walked::Found(Reached::On(next), rest) => {
+                    stack = next;
+                    left = rest;
+                }
             }
         }
-        Doing::Forks {
-            first,
-            second,
-            stack,
-        } => match admitted(first_rule(marks, first, nested, stack), left) {
-            Ok(rest) => walk_fork(closed, marks, first, second, place, nested, stack, rest),
-            Err(rule) => Ok(Walked::Refused(rule, place)),
-        },
+        Ok(Walked::Found(Reached::On(stack), left))
     }
-}
-
-/// Walks a closed text from a stack, with so many nested applications that may be entered and so many items that may be walked.
-#[cycle(walk)]
-pub fn walk_phrase(
-    closed: &Closed,
-    marks: &mut Marks,
-    phrase: &Phrase,
-    nested: u32,
-    stack: u32,
-    left: u32,
-) -> Result<Walked, Memory>
-    requires { IsStack marks.old stack }
-    ensures grows { Grows marks.old marks.new }
-    ensures there { IfOk result (λ walked. IsWalked marks.new walked) }
-    ensures within { IfOk result (λ walked. IsWithin left walked) }
-    ensures walks { IfOk result (λ walked. (O : Opened closed.now.program closed.now.templates) (at : Literal) (t : Text) (f : ℕ) → ClosesText O.program at t phrase.now → left < f → walked_seen O.naming marks.new walked ≡ go_at O f at nested t None (stack_of O.naming marks.old stack) left) }
-{
-    let mut stack = stack;
-    let mut left = left;
-    for item in &phrase.items {
-        let doing = item_doing(closed, marks, stack, &item.what)?;
-        match walk_item(closed, marks, doing, item.place, nested, left)? {
-            Walked::Refused(rule, place) => return Ok(Walked::Refused(rule, place)),
-            Walked::Found(Reached::Dead, rest) => return Ok(Walked::Found(Reached::Dead, rest)),
-            Walked::Found(Reached::On(next), rest) => {
-                stack = next;
-                left = rest;
-            }
-        }
-    }
-    Ok(Walked::Found(Reached::On(stack), left))
 }

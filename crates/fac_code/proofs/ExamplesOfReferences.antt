@@ -1,5 +1,6 @@
 -- Which tables and code are those of an image, computed.
 use Rattle.std.proofs.Common.{◌≡◌, ℕ, [], ◌∷◌, Bool, true, false, refl}
+use Rattle.fac_lang.specs.Primitives.{built_count}
 use Rattle.fac_code.specs.declared.image.Instr.{Instr}
 use Rattle.fac_code.specs.declared.image.Instr.TheVariants.{Halt, Quot, Prim, Callw, Ret}
 use Rattle.fac_code.specs.declared.image.Action.{Action}
@@ -17,54 +18,69 @@ does a = record { action = a }
 
 -- with a first instruction, a template's place, a word's action and a start; word 0 is `+`, word 1 is `if`, word 2 is the code at 3
 abbrev with_parts : Instr → ℕ → Action → ℕ → Bool
-with_parts i entry a start = is_image (template 3 0 ∷ template entry 2 ∷ []) (does (prim_action 26) ∷ does (core_action 2) ∷ does (code_action 3) ∷ does a ∷ []) (i ∷ Callw 2 false ∷ Halt ∷ Ret ∷ []) start
+with_parts i entry a start = is_image (template 3 0 ∷ template entry 2 ∷ []) (does (prim_action 23) ∷ does (core_action 2) ∷ does (code_action 3) ∷ does a ∷ []) (i ∷ Callw 2 false ∷ Halt ∷ Ret ∷ []) start
 
 pub an_image : with_parts (Quot 0) 3 (code_action 0) 0 ≡ true
+unfolding built_count
 an_image = refl
 
 -- the last place of the code is one of it, and the next isn't
 pub last_places : with_parts (Quot 0) 3 (code_action 3) 3 ≡ true
+unfolding built_count
 last_places = refl
 
 start_behind : with_parts (Quot 0) 3 (code_action 0) 4 ≡ false
+unfolding built_count
 start_behind = refl
 
 template_behind : with_parts (Quot 0) 4 (code_action 0) 0 ≡ false
+unfolding built_count
 template_behind = refl
 
 word_behind : with_parts (Quot 0) 3 (code_action 4) 0 ≡ false
+unfolding built_count
 word_behind = refl
 
 -- a quotation has no holes, and is of a template that is there
 quotation_with_holes : with_parts (Quot 1) 3 (code_action 0) 0 ≡ false
+unfolding built_count
 quotation_with_holes = refl
 
 no_template : with_parts (Quot 2) 3 (code_action 0) 0 ≡ false
+unfolding built_count
 no_template = refl
 
 -- only a word that does code is called
 call_of_a_primitive : with_parts (Callw 0 true) 3 (code_action 0) 0 ≡ false
+unfolding built_count
 call_of_a_primitive = refl
 
 call_of_a_core_word : with_parts (Callw 1 true) 3 (code_action 0) 0 ≡ false
+unfolding built_count
 call_of_a_core_word = refl
 
 call_of_no_word : with_parts (Callw 4 true) 3 (code_action 0) 0 ≡ false
+unfolding built_count
 call_of_no_word = refl
 
 -- primitives and core words that the machine has
-a_primitive : with_parts (Prim 59) 3 (prim_action 22) 0 ≡ true
+a_primitive : with_parts (Prim 37) 3 (prim_action 22) 0 ≡ true
+unfolding built_count
 a_primitive = refl
 
-word_of_no_primitive : with_parts (Quot 0) 3 (prim_action 23) 0 ≡ false
+word_of_no_primitive : with_parts (Quot 0) 3 (prim_action 38) 0 ≡ false
+unfolding built_count
 word_of_no_primitive = refl
 
-no_primitive : with_parts (Prim 23) 3 (code_action 0) 0 ≡ false
+no_primitive : with_parts (Prim 38) 3 (code_action 0) 0 ≡ false
+unfolding built_count
 no_primitive = refl
 
 word_of_no_core_word : with_parts (Quot 0) 3 (core_action 3) 0 ≡ false
+unfolding built_count
 word_of_no_core_word = refl
 
 -- no image is without code
 no_code : is_image [] [] [] 0 ≡ false
+unfolding built_count
 no_code = refl

@@ -7,4 +7,4 @@ mod names;
 mod references;
 
 pub use image::{Action, Image, Instr, TemplateRow, WordRow};
-pub use names::{ErrorName, TrapWhy};
+pub use names::TrapWhy;

@@ -1,31 +1,11 @@
 //! Whether the numbers in tables and code name something.
 ghost use Rattle.std.specs.Prelude.{◌≡◌, length, slice_get};
 ghost use Rattle.std.specs.List.{list_all};
-ghost use Rattle.fac_lang.specs.Forms.{is_built_primitive, is_built_core};
 ghost use Rattle.fac_code.specs.Code.{is_built_instr, has_built_code};
 ghost use Rattle.fac_code.specs.References.{is_code as does_code, names_code, names_quotation, instr_refers, action_refers, word_refers, template_refers, refers as all_refer};
 
 use crate::{Action, Instr, TemplateRow, WordRow};
-
-// The primitives that the machine has.
-const PRIMITIVES: [u32; 27] = [
-    0, 1, 2, 3, 4, 5, 6, 7, 8, 9, 10, 11, 12, 13, 14, 15, 16, 17, 18, 19, 20, 21, 22, 26, 27, 28,
-    59,
-];
-
-// Whether the machine has the primitive of this number.
-fn is_primitive(number: u32) -> bool
-    ensures { result ≡ is_built_primitive number }
-{
-    PRIMITIVES.contains(&number)
-}
-
-// Whether the machine has the core word of this number.
-fn is_core(number: u32) -> bool
-    ensures { result ≡ is_built_core number }
-{
-    number < 3
-}
+use fac_lang::{is_core_word, is_primitive};
 
 // Whether a word does code.
 fn is_code(action: Action) -> bool
@@ -83,7 +63,7 @@ fn refers_action(size: usize, action: Action) -> bool
 {
     match action {
         Action::Prim(number) => is_primitive(number),
-        Action::Core(number) => is_core(number),
+        Action::Core(number) => is_core_word(number),
         Action::Code(place) => (place as usize) < size,
     }
 }

@@ -16,9 +16,10 @@ use Rattle.fac_code.specs.declared.image.Instr.TheVariants.{Halt}
 use Rattle.fac_code.specs.declared.image.Image.{Image}
 use Rattle.fac_code.specs.declared.image.Action.TheVariants.{Code as code_action}
 use Rattle.fac_code.specs.declared.image.WordRow.{WordRow}
-use Rattle.fac_vm.specs.Machine.{End, Ends, starting, empty_world}
-use Rattle.fac_emit.specs.View.{template_texts, state_view}
-use Rattle.fac_emit.specs.Carries.{SameEnd, Carries, IsNeverStuck, top_run}
+use Rattle.fac_prim.specs.Cells.{MValue}
+use Rattle.fac_vm.specs.Machine.{End, Ends, empty_world}
+use Rattle.fac_emit.specs.View.{Templates, template_texts, values_view, state_view}
+use Rattle.fac_emit.specs.Carries.{SameEnd, Carries, state_before, machine_before, top_run}
 use Rattle.fac_emit.specs.Code.{IsPlain}
 use Rattle.fac_emit.specs.Stands.{Stands, PlainCode}
 use Rattle.fac_emit.proofs.Simulation.{carried}
@@ -45,16 +46,20 @@ plain_code P C templates M b closes is_plain =
     let there : top.0 ≡ M.start = ap place_of (sym top.1 ∙ begins) in
     record { coded = coded P C templates M b closes is_plain; phrase = subst (λ (a : ℕ). Stands P M (template_texts P) Halt [] a (word_text P P.top)) there top.2 }
 
+-- The machine's state before its first instruction stands for the meaning's, since no array is made.
+begins_so : (P : Program) → IsBuilt P → (T : Templates) (stack : List MValue) (input : List ℕ) → state_view T stack (record empty_world { input = input }) ≡ state_before P (values_view T stack) input
+begins_so P b T stack input = ap (λ (st : State Value). record { stack = values_view T stack; world = st.world }) (sym (no_literals P b input))
+
 pub carries :
-    (P C : Program) (templates : List Template) (M : Image) (fits : Height → Height → Bool) (callable_height : Callable → Option Height) →
-    IsBuilt P → Closes P C templates → IsPlain C templates M → IsNeverStuck P fits callable_height → Carries P fits callable_height M
-carries P C templates M fits callable_height b closes is_plain never = record {
-  same_end = λ n.
+    (P C : Program) (templates : List Template) (M : Image) (fits : Height → Height → Bool) (callable_height : Callable → Option Height) (count : ℕ) →
+    IsBuilt P → Closes P C templates → IsPlain C templates M → Carries P fits callable_height count M
+carries P C templates M fits callable_height count b closes is_plain = record {
+  same_end = λ stack input n many whole never.
       let text = word_text P P.top in
       let T = template_texts P in
       let code = plain_code P C templates M b closes is_plain in
-      let begin : state_view T [] empty_world ≡ start P [] = sym (no_literals P b []) in
-      let never_stuck = not_stuck (top_run P fits callable_height n) (never n) in
-      subst (λ (st : State Value). (e : End) × Ends M (names P) (starting M []) n e × SameEnd T (eval (act P fits callable_height) n text st n) e) begin
-      (carried P fits callable_height M T code.coded M.start text code.phrase [] empty_world (record { cells = tt; values = tt; objects = tt }) n (subst (λ (st : State Value). eval (act P fits callable_height) n text st n ≢ Stuck) (sym begin) never_stuck));
+      let begin = begins_so P b T stack input in
+      let going = not_stuck (top_run P fits callable_height (values_view T stack) input n) never in
+      subst (λ (st : State Value). (e : End) × Ends M (names P) (machine_before M stack input) n e × SameEnd T (eval (act P fits callable_height) n text st n) e) begin
+      (carried P fits callable_height M T code.coded M.start text code.phrase stack (record empty_world { input = input }) (record { cells = tt; values = whole; objects = tt }) n (subst (λ (st : State Value). eval (act P fits callable_height) n text st n ≢ Stuck) (sym begin) going));
 }

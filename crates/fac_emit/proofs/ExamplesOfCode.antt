@@ -1,5 +1,5 @@
 -- Plain code, computed: that of a small program, and what the machine does with it.
-use Rattle.std.proofs.Common.{◌≡◌, ℕ, List, [], ◌∷◌, false, refl, Option, Some, None}
+use Rattle.std.proofs.Common.{◌≡◌, ℕ, List, [], ◌∷◌, true, false, refl, Option, Some, None}
 use Rattle.std.specs.Prelude.{pos}
 use Rattle.fac_lang.specs.Signatures.{signature, no_inputs, never}
 use Rattle.fac_lang.specs.declared.phrase.Template.{Template}
@@ -8,7 +8,9 @@ use Rattle.fac_lang.specs.declared.program.WordDef.{WordDef}
 use Rattle.fac_lang.specs.declared.program.Sort.{Sort}
 use Rattle.fac_lang.specs.declared.program.Sort.TheVariants.{Prim as prim, Core as core, Body as body}
 use Rattle.fac_lang.specs.Texts.{int, Text, end, then, Item, lit, quot, word}
-use Rattle.fac_lang.specs.Primitives.{prim_numbered, prim_fn}
+use Rattle.fac_lang.specs.Primitives.{built_count, prim_numbered, prim_fn}
+use Rattle.fac_code.specs.Code.{has_built_code}
+use Rattle.fac_code.specs.References.{refers}
 use Rattle.fac_lang.specs.Meaning.{nowhere, names}
 use Rattle.fac_locals.specs.Numbering.{closed_words, words_templates}
 use Rattle.fac_code.specs.declared.image.Instr.TheVariants.{Halt, Int, Quot, Prim, Callw, Call, Dip, Ret}
@@ -31,7 +33,7 @@ named s = record { name = record { vocab = []; name = [] }; sort = s; effect = s
 -- : w [ 2 ] [ [ 3 ] call + ] compose ;   1 w [ 4 ] dip call
 abbrev source : List WordDef
 source =
-    named (prim 26) ∷ named (core 0) ∷ named (core 1) ∷ named (prim 17) ∷ named (body (items (quot (items (number 2 ∷ [])) ∷ quot (items (quot (items (number 3 ∷ [])) ∷ word 1 ∷ word 0 ∷ [])) ∷ word 3 ∷ []))) ∷ named (body (items (number 1 ∷ word 4 ∷ quot (items (number 4 ∷ [])) ∷ word 2 ∷ word 1 ∷ []))) ∷ []
+    named (prim 23) ∷ named (core 0) ∷ named (core 1) ∷ named (prim 17) ∷ named (body (items (quot (items (number 2 ∷ [])) ∷ quot (items (quot (items (number 3 ∷ [])) ∷ word 1 ∷ word 0 ∷ [])) ∷ word 3 ∷ []))) ∷ named (body (items (number 1 ∷ word 4 ∷ quot (items (number 4 ∷ [])) ∷ word 2 ∷ word 1 ∷ []))) ∷ []
 
 abbrev closed : Program
 closed = record { words = closed_words 0 source; arrays = []; classes = []; top = 5 }
@@ -40,7 +42,7 @@ abbrev templates : List Template
 templates = words_templates 0 source
 
 -- the word's text, its three quotations with the inner one last, the top-level phrase and its quotation
-pub code_is : program_code closed templates ≡ Quot 0 ∷ Quot 1 ∷ Prim 17 ∷ Ret ∷ Int (pos 2) ∷ Ret ∷ Quot 2 ∷ Call false ∷ Prim 26 ∷ Ret ∷ Int (pos 3) ∷ Ret ∷ Int (pos 1) ∷ Callw 4 false ∷ Quot 3 ∷ Dip ∷ Call false ∷ Halt ∷ Int (pos 4) ∷ Ret ∷ []
+pub code_is : program_code closed templates ≡ Quot 0 ∷ Quot 1 ∷ Prim 17 ∷ Ret ∷ Int (pos 2) ∷ Ret ∷ Quot 2 ∷ Call false ∷ Prim 23 ∷ Ret ∷ Int (pos 3) ∷ Ret ∷ Int (pos 1) ∷ Callw 4 false ∷ Quot 3 ∷ Dip ∷ Call false ∷ Halt ∷ Int (pos 4) ∷ Ret ∷ []
 code_is = refl
 
 pub template_rows_are :
@@ -48,11 +50,19 @@ pub template_rows_are :
 template_rows_are = refl
 
 pub word_rows_are :
-    words_from closed.words templates 5 0 0 closed.words ≡ record { action = prim_action 26 } ∷ record { action = core_action 0 } ∷ record { action = core_action 1 } ∷ record { action = prim_action 17 } ∷ record { action = code_action 0 } ∷ record { action = code_action 12 } ∷ []
+    words_from closed.words templates 5 0 0 closed.words ≡ record { action = prim_action 23 } ∷ record { action = core_action 0 } ∷ record { action = core_action 1 } ∷ record { action = prim_action 17 } ∷ record { action = code_action 0 } ∷ record { action = code_action 12 } ∷ []
 word_rows_are = refl
 
+pub is_built : has_built_code (program_code closed templates) ≡ true
+unfolding built_count
+is_built = refl
+
+pub words_built : refers (templates_from closed.words templates 5 0 0 closed.words) (words_from closed.words templates 5 0 0 closed.words) (program_code closed templates) 12 ≡ true
+unfolding built_count
+words_built = refl
+
 abbrev image : Image
-image = record { templates = templates_from closed.words templates 5 0 0 closed.words; words = words_from closed.words templates 5 0 0 closed.words; code = program_code closed templates; start = 12; built = refl; refers = refl }
+image = record { templates = templates_from closed.words templates 5 0 0 closed.words; words = words_from closed.words templates 5 0 0 closed.words; code = program_code closed templates; start = 12; built = is_built; refers = words_built }
 
 -- the stack and the ticks left where it is done
 abbrev ended : Option End → Option (List MValue × ℕ)

@@ -1,120 +1,125 @@
--- The built primitives make values whose callables are of the image's templates.
-use Rattle.std.proofs.Common.{◌≡◌, ℕ, [], ◌∷◌, ◌++◌, Bool, true, false, Option, Some, None}
-use Rattle.std.specs.Prelude.{ℤ, nat_le, length}
-use Rattle.fac_lang.specs.World.{World, ErrorName, not_integer, overflow, text_too_long}
+-- The primitives make values whose callables are of the image's templates.
+use Rattle.std.proofs.Common.{ℕ, zero, suc, List, [], ◌∷◌, ◌++◌, Option, Some, None}
+use Rattle.std.specs.Prelude.{map, length, set, slice_get}
+use Rattle.fac_lang.specs.Texts.{Plain, no}
+use Rattle.fac_lang.specs.World.{Object, array, tuple, World}
+use Rattle.fac_lang.specs.declared.limits.TheConstants.{MOST_PAIRS}
+use Rattle.fac_lang.specs.Equality.{equal_pairs}
 use Rattle.fac_lang.specs.Printed.{Names, printed}
-use Rattle.fac_lang.specs.Primitives.{Shuffle, s_drop, s_dup, s_swap, s_over, s_pick, s_rot, s_unrot, s_nip, s_dupd, s_swapd, s_2drop, s_2dup, s_3drop, s_3dup, s_2over, s_2nip, moves, moved, Prim, shuffle, p_curry, p_compose, p_throw, p_not, p_and, p_or, p_choose, p_add, p_sub, p_mul, p_show, prim_numbered, prim_fn, Gives, or_bad, want_integer, integer_or, seen_integer, seen_no, unless_bad, written, most_elements}
-use Rattle.fac_lang.specs.Forms.{built_primitives, is_built_primitive}
+use Rattle.fac_lang.specs.Procedures.{Procedure, leaves, answers, answers_array, answers_tuple, curries, composes, fails, looks, adds, opens, puts, compares, prints, asks, writes, reads, Gives, line_in, behind_line, places_from, or_else, picked, repeated, value_at, array_in, opened, opened_places, with_element, made_or, followed, by_inputs}
+use Rattle.fac_lang.specs.Primitives.{Primitive, prim_fn}
 use Rattle.fac_code.specs.declared.image.Image.{Image}
-use Rattle.fac_prim.specs.Cells.{MValue, m_plain, m_fun, m_seen, cells}
-use Rattle.fac_emit.specs.Whole.{Whole, WholeObjects, WholeGives, Keeps}
-use Rattle.fac_emit.proofs.SamePrimitives.{Each, each_member, each_append, shuffle_numbers, other_numbers}
+use Rattle.fac_prim.specs.Cells.{MValue, m_plain, m_fun, m_seen, m_curry, m_compose, cells}
+use Rattle.fac_emit.specs.Whole.{Whole, AllWhole, WholeObject, WholeObjects, WholeGives, Keeps}
 
 module _ (M : Image) where
-  or_bad_keeps : {A : Type 0} (o : Option A) (e : ErrorName) (v : Option MValue) (w : World MValue) (f : A → Gives MValue) → ((x : A) → WholeGives M (f x)) → WholeGives M (or_bad cells o e v w f)
-  or_bad_keeps None e v w f h = tt
-  or_bad_keeps (Some x) e v w f h = h x
+  abbrev or_whole : Option MValue → Type 0
+  or_whole None = Unit {0}
+  or_whole (Some v) = Whole M v
 
-  integer_keeps : (x : MValue) (w : World MValue) (f : ℤ → Gives MValue) → ((z : ℤ) → WholeGives M (f z)) → WholeGives M (want_integer cells x w f)
-  integer_keeps x w f h = or_bad_keeps (seen_integer (m_seen x)) not_integer (Some x) w f h
+  -- values at places
+  at_whole : (vs : List MValue) (k : ℕ) → AllWhole M vs → Whole M (value_at cells vs k)
+  at_whole [] k h = tt
+  at_whole (v ∷ vs) zero h = h.0
+  at_whole (v ∷ vs) (suc k) h = at_whole vs k h.1
 
-  result_keeps : (e : ErrorName) (o : Option ℤ) (w : World MValue) → WholeObjects M w.objects → WholeGives M (integer_or cells e o w)
-  result_keeps e None w h = tt
-  result_keeps e (Some z) w h = ((tt, tt), h)
+  picked_whole : (vs : List MValue) (ks : List ℕ) → AllWhole M vs → AllWhole M (picked (m_plain no) vs ks)
+  picked_whole vs [] h = tt
+  picked_whole vs (k ∷ ks) h = (at_whole vs k h, picked_whole vs ks h)
 
-  arithmetic_keeps : (o : ℤ → ℤ → Option ℤ) (x y : MValue) (w : World MValue) → WholeObjects M w.objects → WholeGives M (want_integer cells x w (λ a. want_integer cells y w (λ b. integer_or cells overflow (o a b) w)))
-  arithmetic_keeps o x y w h = integer_keeps x w _ (λ a. integer_keeps y w _ (λ b. result_keeps overflow (o a b) w h))
+  more_whole : (xs ys : List MValue) → AllWhole M xs → AllWhole M ys → AllWhole M (xs ++ ys)
+  more_whole [] ys h g = g
+  more_whole (x ∷ xs) ys h g = (h.0, more_whole xs ys h.1 g)
 
-  -- one of two values
-  chosen_whole : (b : Bool) (x y : MValue) → Whole M x → Whole M y → Whole M (elim b [ true ↦ x | false ↦ y ])
-  chosen_whole true x y h k = h
-  chosen_whole false x y h k = k
+  plains_whole : (ps : List Plain) → AllWhole M (map m_plain ps)
+  plains_whole [] = tt
+  plains_whole (p ∷ ps) = (tt, plains_whole ps)
 
-  unless_keeps : (b : Bool) (e : ErrorName) (w : World MValue) (g : Gives MValue) → WholeGives M g → WholeGives M (unless_bad cells b e w g)
-  unless_keeps true e w g h = h
-  unless_keeps false e w g h = tt
+  repeated_whole : (n : ℕ) (v : MValue) → Whole M v → AllWhole M (repeated n v)
+  repeated_whole zero v h = tt
+  repeated_whole (suc n) v h = (h, repeated_whole n v h)
 
-  moves_keeps : (s : Shuffle) → Keeps M (moved cells (moves s))
-  moves_keeps s_drop = λ x w hx h. (tt, h)
-  moves_keeps s_dup = λ x w hx h. ((hx, (hx, tt)), h)
-  moves_keeps s_swap = λ x y w hx hy h. ((hy, (hx, tt)), h)
-  moves_keeps s_over = λ x y w hx hy h. ((hx, (hy, (hx, tt))), h)
-  moves_keeps s_pick = λ x y z w hx hy hz h. ((hx, (hy, (hz, (hx, tt)))), h)
-  moves_keeps s_rot = λ x y z w hx hy hz h. ((hy, (hz, (hx, tt))), h)
-  moves_keeps s_unrot = λ x y z w hx hy hz h. ((hz, (hx, (hy, tt))), h)
-  moves_keeps s_nip = λ x y w hx hy h. ((hy, tt), h)
-  moves_keeps s_dupd = λ x y w hx hy h. ((hx, (hx, (hy, tt))), h)
-  moves_keeps s_swapd = λ x y z w hx hy hz h. ((hy, (hx, (hz, tt))), h)
-  moves_keeps s_2drop = λ x y w hx hy h. (tt, h)
-  moves_keeps s_2dup = λ x y w hx hy h. ((hx, (hy, (hx, (hy, tt)))), h)
-  moves_keeps s_3drop = λ x y z w hx hy hz h. (tt, h)
-  moves_keeps s_3dup = λ x y z w hx hy hz h. ((hx, (hy, (hz, (hx, (hy, (hz, tt)))))), h)
-  moves_keeps s_2over = λ x y z w hx hy hz h. ((hx, (hy, (hz, (hx, (hy, tt))))), h)
-  moves_keeps s_2nip = λ x y z w hx hy hz h. ((hz, tt), h)
+  set_whole : (vs : List MValue) (k : ℕ) (v : MValue) → AllWhole M vs → Whole M v → AllWhole M (set vs k v)
+  set_whole [] k v h g = tt
+  set_whole (x ∷ vs) zero v h g = (g, h.1)
+  set_whole (x ∷ vs) (suc k) v h g = (h.0, set_whole vs k v h.1 g)
 
-  shuffle_keeps : (N : Names) (s : Shuffle) → Keeps M (prim_fn cells N (shuffle s))
-  unfolding prim_fn
-  shuffle_keeps N s = moves_keeps s
+  -- objects
+  object_added : (os : List (Object MValue)) (o : Object MValue) → WholeObjects M os → WholeObject M o → WholeObjects M (os ++ o ∷ [])
+  object_added [] o h g = (g, tt)
+  object_added (x ∷ os) o h g = (h.0, object_added os o h.1 g)
 
-  curry_keeps : (N : Names) → Keeps M (prim_fn cells N p_curry)
-  unfolding prim_fn
-  curry_keeps N x (m_plain p) w hx hq h = tt
-  curry_keeps N x (m_fun c) w hx hq h = (((hx, hq), tt), h)
+  object_set : (os : List (Object MValue)) (a : ℕ) (o : Object MValue) → WholeObjects M os → WholeObject M o → WholeObjects M (set os a o)
+  object_set [] a o h g = tt
+  object_set (x ∷ os) zero o h g = (g, h.1)
+  object_set (x ∷ os) (suc a) o h g = (h.0, object_set os a o h.1 g)
 
-  compose_keeps : (N : Names) → Keeps M (prim_fn cells N p_compose)
-  unfolding prim_fn
-  compose_keeps N (m_plain p) y w hp hq h = tt
-  compose_keeps N (m_fun c) (m_plain q) w hp hq h = tt
-  compose_keeps N (m_fun c) (m_fun d) w hp hq h = (((hp, hq), tt), h)
+  abbrev WholeArray : Option (List MValue) → Type 0
+  WholeArray None = Unit {0}
+  WholeArray (Some es) = AllWhole M es
 
-  throw_keeps : (N : Names) → Keeps M (prim_fn cells N p_throw)
-  unfolding prim_fn
-  throw_keeps N x w hx h = tt
+  array_of_object : (o : Object MValue) → WholeObject M o → WholeArray (array_in cells (Some o))
+  array_of_object (array vs) h = h
+  array_of_object (tuple k vs) h = tt
 
-  not_keeps : (N : Names) → Keeps M (prim_fn cells N p_not)
-  unfolding prim_fn
-  not_keeps N x w hx h = ((tt, tt), h)
+  array_whole : (os : List (Object MValue)) (a : ℕ) → WholeObjects M os → WholeArray (array_in cells (slice_get os a))
+  array_whole [] a h = tt
+  array_whole (x ∷ os) zero h = array_of_object x h.0
+  array_whole (x ∷ os) (suc a) h = array_whole os a h.1
 
-  and_keeps : (N : Names) → Keeps M (prim_fn cells N p_and)
-  unfolding prim_fn
-  and_keeps N x y w hx hy h = ((chosen_whole (seen_no (m_seen x)) _ y tt hy, tt), h)
+  opened_whole : (vs : List MValue) (o : Option (List MValue)) → AllWhole M vs → WholeArray o → AllWhole M (opened cells vs o)
+  opened_whole vs None h g = h
+  opened_whole vs (Some es) h g = more_whole vs es h g
 
-  or_keeps : (N : Names) → Keeps M (prim_fn cells N p_or)
-  unfolding prim_fn
-  or_keeps N x y w hx hy h = ((chosen_whole (seen_no (m_seen x)) y x hy hx, tt), h)
+  element_whole : (os : List (Object MValue)) (a i : ℕ) (v : MValue) (o : Option (List MValue)) → WholeObjects M os → Whole M v → WholeArray o → WholeObjects M (with_element cells os a i v o)
+  element_whole os a i v None h g e = h
+  element_whole os a i v (Some es) h g e = object_set os a (array (set es i v)) h (set_whole es i v e g)
 
-  choose_keeps : (N : Names) → Keeps M (prim_fn cells N p_choose)
-  unfolding prim_fn
-  choose_keeps N t x y w ht hx hy h = ((chosen_whole (seen_no (m_seen t)) y x hy hx, tt), h)
+  -- what `curry` and `compose` make
+  made_keeps : (o : Option MValue) (w : World MValue) (g : Gives MValue) → or_whole o → WholeObjects M w.objects → WholeGives M g → WholeGives M (made_or cells o w g)
+  made_keeps None w g h os k = k
+  made_keeps (Some c) w g h os k = ((h, tt), os)
 
-  add_keeps : (N : Names) → Keeps M (prim_fn cells N p_add)
-  unfolding prim_fn
-  add_keeps N x y w hx hy h = arithmetic_keeps _ x y w h
+  curry_whole : (x q : MValue) → Whole M x → Whole M q → or_whole (m_curry x q)
+  curry_whole x (m_plain p) h g = tt
+  curry_whole x (m_fun c) h g = (h, g)
 
-  sub_keeps : (N : Names) → Keeps M (prim_fn cells N p_sub)
-  unfolding prim_fn
-  sub_keeps N x y w hx hy h = arithmetic_keeps _ x y w h
+  compose_whole : (p q : MValue) → Whole M p → Whole M q → or_whole (m_compose p q)
+  compose_whole (m_plain p) q h g = tt
+  compose_whole (m_fun c) (m_plain q) h g = tt
+  compose_whole (m_fun c) (m_fun d) h g = (h, g)
 
-  mul_keeps : (N : Names) → Keeps M (prim_fn cells N p_mul)
-  unfolding prim_fn
-  mul_keeps N x y w hx hy h = arithmetic_keeps _ x y w h
+  module _ (N : Names) where
+    -- A procedure that is followed from whole values makes whole ones.
+    followed_keeps : {o : Option ℕ} (p : Procedure o) (vs : List MValue) (w : World MValue) → AllWhole M vs → WholeObjects M w.objects → WholeGives M (followed cells N p vs w)
+    followed_keeps (leaves ks) vs w h os = (picked_whole vs ks h, os)
+    followed_keeps (answers p) vs w h os = ((tt, tt), os)
+    followed_keeps (answers_array ks) vs w h os = ((tt, tt), object_added w.objects (array (picked (m_plain no) vs ks)) os (picked_whole vs ks h))
+    followed_keeps (answers_tuple c n) vs w h os = ((tt, tt), object_added w.objects (tuple c (repeated n (m_plain no))) os (repeated_whole n (m_plain no) tt))
+    followed_keeps (curries j k p) vs w h os = made_keeps (m_curry (value_at cells vs j) (value_at cells vs k)) w (followed cells N p vs w) (curry_whole (value_at cells vs j) (value_at cells vs k) (at_whole vs j h) (at_whole vs k h)) os (followed_keeps p vs w h os)
+    followed_keeps (composes j k p) vs w h os = made_keeps (m_compose (value_at cells vs j) (value_at cells vs k)) w (followed cells N p vs w) (compose_whole (value_at cells vs j) (value_at cells vs k) (at_whole vs j h) (at_whole vs k h)) os (followed_keeps p vs w h os)
+    followed_keeps (fails e k) vs w h os = tt
+    followed_keeps (looks k go) vs w h os = followed_keeps (go (m_seen (value_at cells vs k))) vs w h os
+    followed_keeps (adds ps go) vs w h os = followed_keeps (go (places_from (length vs) (length ps))) (vs ++ map m_plain ps) w (more_whole vs (map m_plain ps) h (plains_whole ps)) os
+    followed_keeps (opens a go) vs w h os =
+        let o = array_in cells (slice_get w.objects a) in followed_keeps (go (opened_places cells (length vs) o)) (opened cells vs o) w (opened_whole vs o h (array_whole w.objects a os)) os
+    followed_keeps (puts a i k p) vs w h os =
+        let o = array_in cells (slice_get w.objects a) in
+        let v = value_at cells vs k in
+        followed_keeps p vs (record w { objects = with_element cells w.objects a i v o }) h (element_whole w.objects a i v o os (at_whole vs k h) (array_whole w.objects a os))
+    followed_keeps (compares j k go) vs w h os = followed_keeps (go (equal_pairs cells MOST_PAIRS w ((value_at cells vs j, value_at cells vs k) ∷ []))) vs w h os
+    followed_keeps (prints k go) vs w h os = followed_keeps (go (printed cells N w (value_at cells vs k))) vs w h os
+    followed_keeps (asks a go) vs w h os = followed_keeps (go (N.tuple_class a)) vs w h os
+    followed_keeps (writes bs p) vs w h os = followed_keeps p vs (record w { output = w.output ++ bs }) h os
+    followed_keeps (reads go) vs w h os = followed_keeps (go (line_in w.input)) vs (record w { input = behind_line w.input }) h os
 
-  show_keeps : (N : Names) → Keeps M (prim_fn cells N p_show)
-  unfolding prim_fn
-  show_keeps N x w hx h = let text = printed cells N w x in unless_keeps (nat_le (length text) most_elements) text_too_long w (written cells (text ++ 10 ∷ []) w) (tt, h)
+    inputs_keep : {o : Option ℕ} (n : ℕ) (p : Procedure o) → Keeps M (by_inputs cells N n p)
+    inputs_keep zero p = λ w os. followed_keeps p [] w tt os
+    inputs_keep (suc zero) p = λ x w hx os. followed_keeps p (x ∷ []) w (hx, tt) os
+    inputs_keep (suc (suc zero)) p = λ x y w hx hy os. followed_keeps p (x ∷ y ∷ []) w (hx, (hy, tt)) os
+    inputs_keep (suc (suc (suc n))) p = λ x y z w hx hy hz os. followed_keeps p (x ∷ y ∷ z ∷ []) w (hx, (hy, (hz, tt))) os
 
-  -- the primitive of a number
-  abbrev pub NumberKeeps : Names → Option Prim → Type 0
-  NumberKeeps N None = ⊥
-  NumberKeeps N (Some q) = Keeps M (prim_fn cells N q)
-
-  shuffles_keep : (N : Names) → Each (λ k. NumberKeeps N (prim_numbered k)) shuffle_numbers
-  unfolding prim_numbered
-  shuffles_keep N = (shuffle_keeps N s_drop, (shuffle_keeps N s_dup, (shuffle_keeps N s_swap, (shuffle_keeps N s_over, (shuffle_keeps N s_pick, (shuffle_keeps N s_rot, (shuffle_keeps N s_unrot, (shuffle_keeps N s_nip, (shuffle_keeps N s_dupd, (shuffle_keeps N s_swapd, (shuffle_keeps N s_2drop, (shuffle_keeps N s_2dup, (shuffle_keeps N s_3drop, (shuffle_keeps N s_3dup, (shuffle_keeps N s_2over, (shuffle_keeps N s_2nip, tt))))))))))))))))
-
-  others_keep : (N : Names) → Each (λ k. NumberKeeps N (prim_numbered k)) other_numbers
-  unfolding prim_numbered
-  others_keep N = (curry_keeps N, (compose_keeps N, (throw_keeps N, (not_keeps N, (and_keeps N, (or_keeps N, (choose_keeps N, (add_keeps N, (sub_keeps N, (mul_keeps N, (show_keeps N, tt)))))))))))
-
-  pub numbers_keep : (N : Names) (k : ℕ) → is_built_primitive k ≡ true → NumberKeeps N (prim_numbered k)
-  numbers_keep N k built = each_member (λ k. NumberKeeps N (prim_numbered k)) built_primitives (each_append (λ k. NumberKeeps N (prim_numbered k)) shuffle_numbers other_numbers (shuffles_keep N) (others_keep N)) k built
+    -- Each primitive makes whole values of whole ones.
+    pub prim_keeps : (q : Primitive) → Keeps M (prim_fn cells N q)
+    unfolding prim_fn
+    prim_keeps q = inputs_keep (length q.word.ins) q.does

@@ -9,4 +9,6 @@ pub mod References
 pub mod BuiltCode
 pub mod Carrying
 pub mod EmitLemmas
+pub mod Emitted
+pub mod CodedItems
 pub mod ExamplesOfCode

@@ -8,7 +8,8 @@ use Rattle.fac_lang.specs.declared.program.WordDef.{WordDef}
 use Rattle.fac_lang.specs.declared.program.Sort.{Sort}
 use Rattle.fac_lang.specs.declared.program.Sort.TheVariants.{Prim as prim_sort, Core as core_sort, Body as body, Past as past, Method as method}
 use Rattle.fac_lang.specs.Texts.{Literal, Text, quot, word}
-use Rattle.fac_lang.specs.Forms.{IsBuilt, IsBuiltText, IsBuiltSort, is_built_core, has_no_repeats}
+use Rattle.fac_lang.specs.Forms.{IsBuilt, IsBuiltText, IsBuiltSort, has_no_repeats}
+use Rattle.fac_lang.specs.CoreWords.{is_built_core}
 use Rattle.fac_lang.specs.Meaning.{sort_of, word_text, core_numbered}
 use Rattle.fac_locals.specs.Literals.{Quoted, first_of_word, first_of_literal, literals_in, sort_literals, word_literals, literals, literal_or, literal_numbered}
 use Rattle.fac_locals.specs.Closed.{Closes, ClosesText, ClosesSort, CloseWords, CloseLiterals}
@@ -99,11 +100,11 @@ module _ (words : List WordDef) (code : List Instr) where
       (record { at = at; row = refl; more = others ++ more; there = there }, forest_rows P (n + quotations t.body) (at + length own) ts us more h (drop_behind code at own (others ++ more) there))
 
 -- one of two places is the same where no template is to follow
-code_from_place : (words : List WordDef) (templates : List Template) (n f k : ℕ) → (n ≡ 0) ⊎ (f ≡ k) → templates_code words n (drop f templates) ≡ templates_code words n (drop k templates)
+pub code_from_place : (words : List WordDef) (templates : List Template) (n f k : ℕ) → (n ≡ 0) ⊎ (f ≡ k) → templates_code words n (drop f templates) ≡ templates_code words n (drop k templates)
 code_from_place words templates n f k (inl none) = rw none refl
 code_from_place words templates n f k (inr same) = ap (λ (k : ℕ). templates_code words n (drop k templates)) same
 
-rows_from_place : (words : List WordDef) (templates : List Template) (at n f k : ℕ) → (n ≡ 0) ⊎ (f ≡ k) → template_rows words at n (drop f templates) ≡ template_rows words at n (drop k templates)
+pub rows_from_place : (words : List WordDef) (templates : List Template) (at n f k : ℕ) → (n ≡ 0) ⊎ (f ≡ k) → template_rows words at n (drop f templates) ≡ template_rows words at n (drop k templates)
 rows_from_place words templates at n f k (inl none) = rw none refl
 rows_from_place words templates at n f k (inr same) = ap (λ (k : ℕ). template_rows words at n (drop k templates)) same
 

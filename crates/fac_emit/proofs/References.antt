@@ -10,7 +10,9 @@ use Rattle.fac_lang.specs.declared.program.WordDef.{WordDef}
 use Rattle.fac_lang.specs.declared.program.Sort.{Sort}
 use Rattle.fac_lang.specs.declared.program.Sort.TheVariants.{Prim as prim_sort, Core as core_sort, Body as body}
 use Rattle.fac_lang.specs.Texts.{Literal, Text, end, then}
-use Rattle.fac_lang.specs.Forms.{IsBuilt, IsBuiltSort, IsBuiltText, AreBuiltWords, is_built_primitive, is_built_core}
+use Rattle.fac_lang.specs.Forms.{IsBuilt, IsBuiltSort, IsBuiltText, AreBuiltWords}
+use Rattle.fac_lang.specs.CoreWords.{is_built_core}
+use Rattle.fac_lang.specs.Primitives.{is_built_primitive}
 use Rattle.fac_locals.specs.Literals.{Quoted, first_of_word, first_of_literal, literal_numbered}
 use Rattle.fac_locals.specs.Closed.{Closes, ClosesSort}
 use Rattle.fac_locals.proofs.Places.{literal_built}

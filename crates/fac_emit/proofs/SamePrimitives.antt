@@ -1,39 +1,34 @@
--- The built primitives do the same with the machine's values as with what they stand for.
-use Rattle.std.proofs.Common.{◌≡◌, ℕ, zero, suc, List, [], ◌∷◌, ◌++◌, Bool, true, false, ◌||◌, Option, Some, None, refl, ap, sym, subst, ◌∙◌, ◌⊎◌, inl, inr, arith}
-use Rattle.std.specs.Prelude.{ℤ, map, length, nat_le, nat_eq, slice_get}
+-- The primitives do the same with the machine's values as with what they stand for.
+use Rattle.std.proofs.Common.{◌≡◌, ℕ, zero, suc, List, [], ◌∷◌, ◌++◌, Bool, true, false, Option, Some, None, refl, ap, sym, subst, ◌∙◌}
+use Rattle.std.specs.Prelude.{map, length, nat_eq, set, slice_get}
+use Rattle.std.proofs.lemmas.List.{length-map}
 use Rattle.std.proofs.lemmas.Option.{slice_get-map}
 use Rattle.std.specs.Option.{option_map}
-use Rattle.fac_lang.specs.Texts.{int, yes, no, str, iota, wrd, arr, tup, Value}
-use Rattle.fac_lang.specs.World.{Object, array, tuple, World, ErrorName, not_integer, overflow, text_too_long}
+use Rattle.fac_lang.specs.Texts.{Plain, int, yes, no, str, iota, wrd, arr, tup, Value, plain}
+use Rattle.fac_lang.specs.World.{Object, array, tuple, World}
+use Rattle.fac_lang.specs.declared.limits.TheConstants.{MOST_PAIRS, MOST_PRINTED_LEVELS}
+use Rattle.fac_lang.specs.Equality.{plain_eq, Compared, differ, two_callables, further, Equal, equal, not_comparable, pairs_of, compare_lists, compare_objects, compare_plain, compare, equal_pairs}
 use Rattle.fac_lang.specs.Printed.{Names, shown_object, shown, printed}
-use Rattle.fac_lang.specs.Primitives.{Shuffle, s_drop, s_dup, s_swap, s_over, s_pick, s_rot, s_unrot, s_nip, s_dupd, s_swapd, s_2drop, s_2dup, s_3drop, s_3dup, s_2over, s_2nip, moves, moved, Prim, shuffle, p_curry, p_compose, p_throw, p_not, p_and, p_or, p_choose, p_add, p_sub, p_mul, p_show, prim_numbered, prim_fn, Gives, gives, Fn, fn0, fn1, fn2, fn3, or_bad, want_integer, integer_or, seen_integer, seen_no, unless_bad, written, most_elements, give1, truth}
-use Rattle.fac_lang.specs.Forms.{is_member, built_primitives, is_built_primitive}
-use Rattle.fac_lang.specs.Meaning.{texts, seen}
-use Rattle.fac_prim.specs.Cells.{MValue, m_plain, m_fun, m_seen, cells}
+use Rattle.fac_lang.specs.Procedures.{Procedure, leaves, answers, answers_array, answers_tuple, curries, composes, fails, looks, adds, opens, puts, compares, prints, asks, writes, reads, Gives, gives, bad, Fn, fn0, fn1, fn2, fn3, line_in, behind_line, places_from, or_else, picked, repeated, value_at, value_if, array_in, opened, opened_places, with_element, made_or, followed, by_inputs}
+use Rattle.fac_lang.specs.Primitives.{Primitive, prim_fn}
+use Rattle.fac_lang.specs.Meaning.{texts, seen, curry_of, compose_of}
+use Rattle.fac_prim.specs.Cells.{MValue, m_plain, m_fun, m_seen, m_curry, m_compose, cells}
+use Rattle.fac_prim.proofs.ShuffleLemmas.{map_or, map_picked}
 use Rattle.fac_emit.specs.View.{Templates, value_view, values_view, object_view, world_view, option_view, gives_view}
 
--- a property of each number of a list
-abbrev pub Each : (ℕ → Type 0) → List ℕ → Type 0
-Each Q [] = Unit {0}
-Each Q (x ∷ xs) = Q x × Each Q xs
+module _ {A B : Type 0} (f : A → B) where
+  pub map_more : (xs ys : List A) → map f (xs ++ ys) ≡ map f xs ++ map f ys
+  map_more [] ys = refl
+  map_more (x ∷ xs) ys = ap (λ (l : List B). f x ∷ l) (map_more xs ys)
 
-first_or_later : (k j : ℕ) (b : Bool) → (nat_eq k j || b) ≡ true → (k ≡ j) ⊎ (b ≡ true)
-first_or_later k j b e = grind arith
+  map_set : (xs : List A) (k : ℕ) (y : A) → map f (set xs k y) ≡ set (map f xs) k (f y)
+  map_set [] k y = refl
+  map_set (x ∷ xs) zero y = refl
+  map_set (x ∷ xs) (suc k) y = ap (λ (l : List B). f x ∷ l) (map_set xs k y)
 
-pub each_member : (Q : ℕ → Type 0) (ks : List ℕ) → Each Q ks → (k : ℕ) → is_member k ks ≡ true → Q k
-each_member Q [] h k e = absurd (cc)
-each_member Q (x ∷ xs) h k e = elim (first_or_later k x (is_member k xs) e) [ inl is ↦ subst Q (sym is) h.0 | inr later ↦ each_member Q xs h.1 k later ]
-
-pub each_append : (Q : ℕ → Type 0) (xs ys : List ℕ) → Each Q xs → Each Q ys → Each Q (xs ++ ys)
-each_append Q [] ys h k = k
-each_append Q (x ∷ xs) ys h k = (h.0, each_append Q xs ys h.1 k)
-
--- the numbers of the built primitives: the shuffles, and the others
-abbrev pub shuffle_numbers : List ℕ
-shuffle_numbers = 0 ∷ 1 ∷ 2 ∷ 3 ∷ 4 ∷ 5 ∷ 6 ∷ 7 ∷ 8 ∷ 9 ∷ 10 ∷ 11 ∷ 12 ∷ 13 ∷ 14 ∷ 15 ∷ []
-
-abbrev pub other_numbers : List ℕ
-other_numbers = 16 ∷ 17 ∷ 18 ∷ 19 ∷ 20 ∷ 21 ∷ 22 ∷ 26 ∷ 27 ∷ 28 ∷ 59 ∷ []
+  map_repeated : (n : ℕ) (x : A) → map f (repeated n x) ≡ repeated n (f x)
+  map_repeated zero x = refl
+  map_repeated (suc n) x = ap (λ (l : List B). f x ∷ l) (map_repeated n x)
 
 module _ (T : Templates) where
   abbrev V : MValue → Value
@@ -50,25 +45,6 @@ module _ (T : Templates) where
   pub seen_same : (x : MValue) → seen (V x) ≡ m_seen x
   seen_same (m_plain p) = refl
   seen_same (m_fun c) = refl
-
-  or_bad_same : {A : Type 0} (o o' : Option A) (e : ErrorName) (v : Option MValue) (w : World MValue) (g : A → Gives Value) (f : A → Gives MValue) → o' ≡ o → ((x : A) → g x ≡ gives_view T (f x)) → or_bad texts o' e (option_view T v) (world_view T w) g ≡ gives_view T (or_bad cells o e v w f)
-  or_bad_same None o' e v w g f p h = rw p refl
-  or_bad_same (Some x) o' e v w g f p h = rw p (h x)
-
-  integer_same : (x : MValue) (w : World MValue) (g : ℤ → Gives Value) (f : ℤ → Gives MValue) → ((z : ℤ) → g z ≡ gives_view T (f z)) → want_integer texts (V x) (world_view T w) g ≡ gives_view T (want_integer cells x w f)
-  integer_same x w g f h = or_bad_same (seen_integer (m_seen x)) (seen_integer (seen (V x))) not_integer (Some x) w g f (ap seen_integer (seen_same x)) h
-
-  result_same : (e : ErrorName) (o : Option ℤ) (w : World MValue) → integer_or texts e o (world_view T w) ≡ gives_view T (integer_or cells e o w)
-  result_same e None w = refl
-  result_same e (Some z) w = refl
-
-  -- one of two values
-  chosen_same : (b : Bool) (x y : MValue) → elim b [ true ↦ V x | false ↦ V y ] ≡ V (elim b [ true ↦ x | false ↦ y ])
-  chosen_same true x y = refl
-  chosen_same false x y = refl
-
-  choice_same : (t x y : MValue) (w : World MValue) → gives (elim (seen_no (seen (V t))) [ true ↦ V x | false ↦ V y ] ∷ []) (world_view T w) ≡ gives_view T (gives (elim (seen_no (m_seen t)) [ true ↦ x | false ↦ y ] ∷ []) w)
-  choice_same t x y w = ap (λ o. gives (elim (seen_no o) [ true ↦ V x | false ↦ V y ] ∷ []) (world_view T w)) (seen_same t) ∙ ap (λ v. gives (v ∷ []) (world_view T w)) (chosen_same (seen_no (m_seen t)) x y)
 
   -- printed forms
   map_same : {A B : Type 0} (g : A → B) (f : B → List ℕ) (h : A → List ℕ) → ((x : A) → f (g x) ≡ h x) → (xs : List A) → map f (map g xs) ≡ map h xs
@@ -106,97 +82,165 @@ module _ (T : Templates) where
 
     -- so the values of a stack have the printed forms of what they stand for
     pub stack_printed : (w : World MValue) (vs : List MValue) → map (printed texts N (world_view T w)) (values_view T vs) ≡ map (printed cells N w) vs
-    stack_printed w vs = map_same V (printed texts N (world_view T w)) (printed cells N w) (shown_same 16 w) vs
+    stack_printed w vs = map_same V (printed texts N (world_view T w)) (printed cells N w) (shown_same MOST_PRINTED_LEVELS w) vs
 
-  unless_same : (b : Bool) (e : ErrorName) (w : World MValue) (g : Gives Value) (f : Gives MValue) → g ≡ gives_view T f → unless_bad texts b e (world_view T w) g ≡ gives_view T (unless_bad cells b e w f)
-  unless_same true e w g f h = h
-  unless_same false e w g f h = refl
+  -- values at places
+  at_same : (vs : List MValue) (k : ℕ) → value_at texts (map V vs) k ≡ V (value_at cells vs k)
+  at_same vs k = ap (or_else (plain no)) (slice_get-map V vs k) ∙ sym (map_or V (m_plain no) (slice_get vs k))
 
-  show_line : (w : World MValue) (text : List ℕ) → unless_bad texts (nat_le (length text) most_elements) text_too_long (world_view T w) (written texts (text ++ 10 ∷ []) (world_view T w)) ≡ gives_view T (unless_bad cells (nat_le (length text) most_elements) text_too_long w (written cells (text ++ 10 ∷ []) w))
-  show_line w text = unless_same (nat_le (length text) most_elements) text_too_long w (written texts (text ++ 10 ∷ []) (world_view T w)) (written cells (text ++ 10 ∷ []) w) refl
+  if_same : (vs : List MValue) (o : Option ℕ) → value_if texts (map V vs) o ≡ option_view T (value_if cells vs o)
+  if_same vs None = refl
+  if_same vs (Some k) = ap Some (at_same vs k)
 
-  moves_same : (s : Shuffle) → Same (moved cells (moves s)) (moved texts (moves s))
-  moves_same s_drop = λ x w. refl
-  moves_same s_dup = λ x w. refl
-  moves_same s_swap = λ x y w. refl
-  moves_same s_over = λ x y w. refl
-  moves_same s_pick = λ x y z w. refl
-  moves_same s_rot = λ x y z w. refl
-  moves_same s_unrot = λ x y z w. refl
-  moves_same s_nip = λ x y w. refl
-  moves_same s_dupd = λ x y w. refl
-  moves_same s_swapd = λ x y z w. refl
-  moves_same s_2drop = λ x y w. refl
-  moves_same s_2dup = λ x y w. refl
-  moves_same s_3drop = λ x y z w. refl
-  moves_same s_3dup = λ x y z w. refl
-  moves_same s_2over = λ x y z w. refl
-  moves_same s_2nip = λ x y z w. refl
+  picked_same : (vs : List MValue) (ks : List ℕ) → picked (plain no) (map V vs) ks ≡ map V (picked (m_plain no) vs ks)
+  picked_same vs ks = sym (map_picked V (m_plain no) vs ks)
 
-  curry_same : (N : Names) → Same (prim_fn cells N p_curry) (prim_fn texts N p_curry)
-  unfolding prim_fn
-  curry_same N x (m_plain p) w = refl
-  curry_same N x (m_fun c) w = refl
+  plains_same : (ps : List Plain) → map plain ps ≡ map V (map m_plain ps)
+  plains_same [] = refl
+  plains_same (p ∷ ps) = ap (λ (l : List Value). plain p ∷ l) (plains_same ps)
 
-  compose_same : (N : Names) → Same (prim_fn cells N p_compose) (prim_fn texts N p_compose)
-  unfolding prim_fn
-  compose_same N (m_plain p) y w = refl
-  compose_same N (m_fun c) (m_plain q) w = refl
-  compose_same N (m_fun c) (m_fun d) w = refl
+  added : (vs : List MValue) (ps : List Plain) → map V vs ++ map plain ps ≡ map V (vs ++ map m_plain ps)
+  added vs ps = ap (λ (l : List Value). map V vs ++ l) (plains_same ps) ∙ sym (map_more V vs (map m_plain ps))
 
-  add_same : (N : Names) → Same (prim_fn cells N p_add) (prim_fn texts N p_add)
-  unfolding prim_fn
-  add_same N x y w = integer_same x w _ _ (λ a. integer_same y w _ _ (λ b. result_same overflow _ w))
+  -- what `curry` and `compose` make
+  curry_same : (x q : MValue) → curry_of (V x) (V q) ≡ option_view T (m_curry x q)
+  curry_same x (m_plain p) = refl
+  curry_same x (m_fun c) = refl
 
-  sub_same : (N : Names) → Same (prim_fn cells N p_sub) (prim_fn texts N p_sub)
-  unfolding prim_fn
-  sub_same N x y w = integer_same x w _ _ (λ a. integer_same y w _ _ (λ b. result_same overflow _ w))
+  compose_same : (p q : MValue) → compose_of (V p) (V q) ≡ option_view T (m_compose p q)
+  compose_same (m_plain p) q = refl
+  compose_same (m_fun c) (m_plain q) = refl
+  compose_same (m_fun c) (m_fun d) = refl
 
-  mul_same : (N : Names) → Same (prim_fn cells N p_mul) (prim_fn texts N p_mul)
-  unfolding prim_fn
-  mul_same N x y w = integer_same x w _ _ (λ a. integer_same y w _ _ (λ b. result_same overflow _ w))
+  made_same : (o : Option MValue) (o' : Option Value) (w : World MValue) (g : Gives Value) (f : Gives MValue) → o' ≡ option_view T o → g ≡ gives_view T f → made_or texts o' (world_view T w) g ≡ gives_view T (made_or cells o w f)
+  made_same None o' w g f e h = rw e h
+  made_same (Some c) o' w g f e h = rw e refl
 
-  show_same : (N : Names) → Same (prim_fn cells N p_show) (prim_fn texts N p_show)
-  unfolding prim_fn
-  show_same N x w = ap (λ text. unless_bad texts (nat_le (length text) most_elements) text_too_long (world_view T w) (written texts (text ++ 10 ∷ []) (world_view T w))) (shown_same N 16 w x) ∙ show_line w (printed cells N w x)
+  -- arrays
+  array_same : (o : Option (Object MValue)) → array_in texts (option_map (object_view T) o) ≡ option_map (map V) (array_in cells o)
+  array_same None = refl
+  array_same (Some (array vs)) = refl
+  array_same (Some (tuple k vs)) = refl
 
-  shuffle_same : (N : Names) (s : Shuffle) → Same (prim_fn cells N (shuffle s)) (prim_fn texts N (shuffle s))
-  unfolding prim_fn
-  shuffle_same N s = moves_same s
+  array_at : (w : World MValue) (a : ℕ) → array_in texts (slice_get (map (object_view T) w.objects) a) ≡ option_map (map V) (array_in cells (slice_get w.objects a))
+  array_at w a = ap (array_in texts) (slice_get-map (object_view T) w.objects a) ∙ array_same (slice_get w.objects a)
 
-  throw_same : (N : Names) → Same (prim_fn cells N p_throw) (prim_fn texts N p_throw)
-  unfolding prim_fn
-  throw_same N x w = refl
+  opened_same : (vs : List MValue) (o : Option (List MValue)) → opened texts (map V vs) (option_map (map V) o) ≡ map V (opened cells vs o)
+  opened_same vs None = refl
+  opened_same vs (Some es) = sym (map_more V vs es)
 
-  not_same : (N : Names) → Same (prim_fn cells N p_not) (prim_fn texts N p_not)
-  unfolding prim_fn
-  not_same N x w = ap (λ o. give1 texts (truth texts (seen_no o)) (world_view T w)) (seen_same x)
+  places_same : (vs : List MValue) (o : Option (List MValue)) → opened_places texts (length (map V vs)) (option_map (map V) o) ≡ opened_places cells (length vs) o
+  places_same vs None = refl
+  places_same vs (Some es) = rw (length-map vs V, length-map es V) refl
 
-  and_same : (N : Names) → Same (prim_fn cells N p_and) (prim_fn texts N p_and)
-  unfolding prim_fn
-  and_same N x y w = choice_same x (m_plain no) y w
+  element_same : (objects : List (Object MValue)) (a i : ℕ) (v : MValue) (o : Option (List MValue)) → with_element texts (map (object_view T) objects) a i (V v) (option_map (map V) o) ≡ map (object_view T) (with_element cells objects a i v o)
+  element_same objects a i v None = refl
+  element_same objects a i v (Some es) = ap (λ (vs : List Value). set (map (object_view T) objects) a (array vs)) (sym (map_set V es i v)) ∙ sym (map_set (object_view T) objects a (array (set es i v)))
 
-  or_same : (N : Names) → Same (prim_fn cells N p_or) (prim_fn texts N p_or)
-  unfolding prim_fn
-  or_same N x y w = choice_same x y x w
+  -- comparisons
+  abbrev both : MValue × MValue → Value × Value
+  both p = (V p.0, V p.1)
 
-  choose_same : (N : Names) → Same (prim_fn cells N p_choose) (prim_fn texts N p_choose)
-  unfolding prim_fn
-  choose_same N t x y w = choice_same t y x w
+  abbrev compared : Compared MValue → Compared Value
+  compared differ = differ
+  compared two_callables = two_callables
+  compared (further ps) = further (map both ps)
 
-  -- the primitives of a number do the same
-  abbrev pub NumberSame : Names → Option Prim → Type 0
-  NumberSame N None = ⊥
-  NumberSame N (Some q) = Same (prim_fn cells N q) (prim_fn texts N q)
+  pairs_same : (xs ys : List MValue) → pairs_of texts (map V xs) (map V ys) ≡ map both (pairs_of cells xs ys)
+  pairs_same [] ys = refl
+  pairs_same (x ∷ xs) [] = refl
+  pairs_same (x ∷ xs) (y ∷ ys) = ap (λ (l : List (Value × Value)). (V x, V y) ∷ l) (pairs_same xs ys)
 
-  shuffles_same : (N : Names) → Each (λ k. NumberSame N (prim_numbered k)) shuffle_numbers
-  unfolding prim_numbered
-  shuffles_same N = (shuffle_same N s_drop, (shuffle_same N s_dup, (shuffle_same N s_swap, (shuffle_same N s_over, (shuffle_same N s_pick, (shuffle_same N s_rot, (shuffle_same N s_unrot, (shuffle_same N s_nip, (shuffle_same N s_dupd, (shuffle_same N s_swapd, (shuffle_same N s_2drop, (shuffle_same N s_2dup, (shuffle_same N s_3drop, (shuffle_same N s_3dup, (shuffle_same N s_2over, (shuffle_same N s_2nip, tt))))))))))))))))
+  further_if : (b : Bool) (xs ys : List MValue) → ◌≡◌ {A = Compared Value} (elim b [ true ↦ further (pairs_of texts (map V xs) (map V ys)) | false ↦ differ ]) (compared (elim b [ true ↦ further (pairs_of cells xs ys) | false ↦ differ ]))
+  further_if true xs ys = ap further (pairs_same xs ys)
+  further_if false xs ys = refl
 
-  others_same : (N : Names) → Each (λ k. NumberSame N (prim_numbered k)) other_numbers
-  unfolding prim_numbered
-  others_same N = (curry_same N, (compose_same N, (throw_same N, (not_same N, (and_same N, (or_same N, (choose_same N, (add_same N, (sub_same N, (mul_same N, (show_same N, tt)))))))))))
+  lists_same : (xs ys : List MValue) → compare_lists texts (map V xs) (map V ys) ≡ compared (compare_lists cells xs ys)
+  lists_same xs ys =
+      subst (λ (n : ℕ). ◌≡◌ {A = Compared Value} (elim (nat_eq n (length (map V ys))) [ true ↦ further (pairs_of texts (map V xs) (map V ys)) | false ↦ differ ]) (compared (compare_lists cells xs ys))) (sym (length-map xs V)) (subst (λ (m : ℕ). ◌≡◌ {A = Compared Value} (elim (nat_eq (length xs) m) [ true ↦ further (pairs_of texts (map V xs) (map V ys)) | false ↦ differ ]) (compared (compare_lists cells xs ys))) (sym (length-map ys V)) (further_if (nat_eq (length xs) (length ys)) xs ys))
 
-  pub numbers_same : (N : Names) (k : ℕ) → is_built_primitive k ≡ true → NumberSame N (prim_numbered k)
-  numbers_same N k built =
-      each_member (λ k. NumberSame N (prim_numbered k)) built_primitives (each_append (λ k. NumberSame N (prim_numbered k)) shuffle_numbers other_numbers (shuffles_same N) (others_same N)) k built
+  tuples_if : (b : Bool) (xs ys : List MValue) → ◌≡◌ {A = Compared Value} (elim b [ true ↦ compare_lists texts (map V xs) (map V ys) | false ↦ differ ]) (compared (elim b [ true ↦ compare_lists cells xs ys | false ↦ differ ]))
+  tuples_if true xs ys = lists_same xs ys
+  tuples_if false xs ys = refl
+
+  objects_same : (o p : Option (Object MValue)) → compare_objects texts (option_map (object_view T) o) (option_map (object_view T) p) ≡ compared (compare_objects cells o p)
+  objects_same (Some (array xs)) (Some (array ys)) = lists_same xs ys
+  objects_same (Some (tuple j xs)) (Some (tuple k ys)) = tuples_if (nat_eq j k) xs ys
+  objects_same (Some (array xs)) (Some (tuple k ys)) = refl
+  objects_same (Some (tuple j xs)) (Some (array ys)) = refl
+  objects_same (Some (array xs)) None = refl
+  objects_same (Some (tuple j xs)) None = refl
+  objects_same None p = refl
+
+  addresses_same : (w : World MValue) (a b : ℕ) → compare_objects texts (slice_get (map (object_view T) w.objects) a) (slice_get (map (object_view T) w.objects) b) ≡ compared (compare_objects cells (slice_get w.objects a) (slice_get w.objects b))
+  addresses_same w a b = rw (slice_get-map (object_view T) w.objects a, slice_get-map (object_view T) w.objects b) (objects_same (slice_get w.objects a) (slice_get w.objects b))
+
+  plain_if : (w : World MValue) (b : Bool) (p q : Plain)
+      → ◌≡◌ {A = Compared Value} (elim b [ true ↦ further [] | false ↦ elim p [ arr a ↦ elim q [ arr c ↦ compare_objects texts (slice_get (map (object_view T) w.objects) a) (slice_get (map (object_view T) w.objects) c) | _ ↦ differ ] | tup a ↦ elim q [ tup c ↦ compare_objects texts (slice_get (map (object_view T) w.objects) a) (slice_get (map (object_view T) w.objects) c) | _ ↦ differ ] | _ ↦ differ ] ])
+      (compared (elim b [ true ↦ further [] | false ↦ elim p [ arr a ↦ elim q [ arr c ↦ compare_objects cells (slice_get w.objects a) (slice_get w.objects c) | _ ↦ differ ] | tup a ↦ elim q [ tup c ↦ compare_objects cells (slice_get w.objects a) (slice_get w.objects c) | _ ↦ differ ] | _ ↦ differ ] ]))
+  plain_if w true p q = refl
+  plain_if w false (arr a) (arr c) = addresses_same w a c
+  plain_if w false (tup a) (tup c) = addresses_same w a c
+  plain_if w false _ _ = refl
+
+  compare_same : (w : World MValue) (p q : Option Plain) → compare texts (world_view T w) p q ≡ compared (compare cells w p q)
+  compare_same w None None = refl
+  compare_same w None (Some q) = refl
+  compare_same w (Some p) None = refl
+  compare_same w (Some p) (Some q) = plain_if w (plain_eq p q) p q
+
+  pairs_if : (n : ℕ) (w : World MValue) (c : Compared MValue) (ps : List (MValue × MValue)) → ((qs : List (MValue × MValue)) → equal_pairs texts n (world_view T w) (map both qs) ≡ equal_pairs cells n w qs)
+      → ◌≡◌ {A = Equal} (elim (compared c) [ differ ↦ equal false | two_callables ↦ not_comparable | further qs ↦ equal_pairs texts n (world_view T w) (qs ++ map both ps) ]) (elim c [ differ ↦ equal false | two_callables ↦ not_comparable | further qs ↦ equal_pairs cells n w (qs ++ ps) ])
+  pairs_if n w differ ps h = refl
+  pairs_if n w two_callables ps h = refl
+  pairs_if n w (further qs) ps h = ap (equal_pairs texts n (world_view T w)) (sym (map_more both qs ps)) ∙ h (qs ++ ps)
+
+  equal_same : (n : ℕ) (w : World MValue) (ps : List (MValue × MValue)) → equal_pairs texts n (world_view T w) (map both ps) ≡ equal_pairs cells n w ps
+  equal_same n w [] = refl
+  equal_same zero w (p ∷ ps) = refl
+  equal_same (suc n) w (p ∷ ps) =
+      let same : compare texts (world_view T w) (seen (V p.0)) (seen (V p.1)) ≡ compared (compare cells w (m_seen p.0) (m_seen p.1)) = ap (λ (x : Option Plain). compare texts (world_view T w) x (seen (V p.1))) (seen_same p.0) ∙ ap (λ (y : Option Plain). compare texts (world_view T w) (m_seen p.0) y) (seen_same p.1) ∙ compare_same w (m_seen p.0) (m_seen p.1) in
+      subst (λ (c : Compared Value). ◌≡◌ {A = Equal} (elim c [ differ ↦ equal false | two_callables ↦ not_comparable | further qs ↦ equal_pairs texts n (world_view T w) (qs ++ map both ps) ]) (equal_pairs cells (suc n) w (p ∷ ps))) (sym same) (pairs_if n w (compare cells w (m_seen p.0) (m_seen p.1)) ps (equal_same n w))
+
+  module _ (N : Names) where
+    -- A procedure that is followed from values, and from what they stand for.
+    followed_same : {o : Option ℕ} (p : Procedure o) (vs : List MValue) (w : World MValue) → followed texts N p (map V vs) (world_view T w) ≡ gives_view T (followed cells N p vs w)
+    followed_same (leaves ks) vs w = ap (λ (l : List Value). gives l (world_view T w)) (picked_same vs ks)
+    followed_same (answers p) vs w = refl
+    followed_same (answers_array ks) vs w = rw (length-map w.objects (object_view T), picked_same vs ks, map_more (object_view T) w.objects (array (picked (m_plain no) vs ks) ∷ [])) refl
+    followed_same (answers_tuple c n) vs w = rw (length-map w.objects (object_view T), map_more (object_view T) w.objects (tuple c (repeated n (m_plain no)) ∷ []), map_repeated V n (m_plain no)) refl
+    followed_same (curries j k p) vs w =
+        made_same (m_curry (value_at cells vs j) (value_at cells vs k)) (curry_of (value_at texts (map V vs) j) (value_at texts (map V vs) k)) w (followed texts N p (map V vs) (world_view T w)) (followed cells N p vs w) (rw (at_same vs j, at_same vs k) (curry_same (value_at cells vs j) (value_at cells vs k))) (followed_same p vs w)
+    followed_same (composes j k p) vs w =
+        made_same (m_compose (value_at cells vs j) (value_at cells vs k)) (compose_of (value_at texts (map V vs) j) (value_at texts (map V vs) k)) w (followed texts N p (map V vs) (world_view T w)) (followed cells N p vs w) (rw (at_same vs j, at_same vs k) (compose_same (value_at cells vs j) (value_at cells vs k))) (followed_same p vs w)
+    followed_same (fails e k) vs w = ap (λ (o : Option Value). bad e o (world_view T w)) (if_same vs k)
+    followed_same (looks k go) vs w = ap (λ (v : Option Plain). followed texts N (go v) (map V vs) (world_view T w)) (ap seen (at_same vs k) ∙ seen_same (value_at cells vs k)) ∙ followed_same (go (m_seen (value_at cells vs k))) vs w
+    followed_same (adds ps go) vs w =
+        ap (λ (n : ℕ). followed texts N (go (places_from n (length ps))) (map V vs ++ map plain ps) (world_view T w)) (length-map vs V) ∙ ap (λ (l : List Value). followed texts N (go (places_from (length vs) (length ps))) l (world_view T w)) (added vs ps) ∙ followed_same (go (places_from (length vs) (length ps))) (vs ++ map m_plain ps) w
+    followed_same (opens a go) vs w =
+        let o = array_in cells (slice_get w.objects a) in
+        ap (λ (x : Option (List Value)). followed texts N (go (opened_places texts (length (map V vs)) x)) (opened texts (map V vs) x) (world_view T w)) (array_at w a) ∙ ap (λ (x : Option (List ℕ)). followed texts N (go x) (opened texts (map V vs) (option_map (map V) o)) (world_view T w)) (places_same vs o) ∙ ap (λ (l : List Value). followed texts N (go (opened_places cells (length vs) o)) l (world_view T w)) (opened_same vs o) ∙ followed_same (go (opened_places cells (length vs) o)) (opened cells vs o) w
+    followed_same (puts a i k p) vs w =
+        let o = array_in cells (slice_get w.objects a) in
+        let v = value_at cells vs k in
+        ap (λ (objects : List (Object Value)). followed texts N p (map V vs) (record (world_view T w) { objects = objects })) (ap (with_element texts (map (object_view T) w.objects) a i (value_at texts (map V vs) k)) (array_at w a) ∙ ap (λ (x : Value). with_element texts (map (object_view T) w.objects) a i x (option_map (map V) o)) (at_same vs k) ∙ element_same w.objects a i v o) ∙ followed_same p vs (record w { objects = with_element cells w.objects a i v o })
+    followed_same (compares j k go) vs w =
+        let x = value_at cells vs j in
+        let y = value_at cells vs k in
+        ap (λ (ps : List (Value × Value)). followed texts N (go (equal_pairs texts MOST_PAIRS (world_view T w) ps)) (map V vs) (world_view T w)) (ap (λ (v : Value). (v, value_at texts (map V vs) k) ∷ []) (at_same vs j) ∙ ap (λ (v : Value). (V x, v) ∷ []) (at_same vs k)) ∙ ap (λ (e : Equal). followed texts N (go e) (map V vs) (world_view T w)) (equal_same MOST_PAIRS w ((x, y) ∷ [])) ∙ followed_same (go (equal_pairs cells MOST_PAIRS w ((x, y) ∷ []))) vs w
+    followed_same (prints k go) vs w =
+        ap (λ (v : Value). followed texts N (go (printed texts N (world_view T w) v)) (map V vs) (world_view T w)) (at_same vs k) ∙ ap (λ (l : List ℕ). followed texts N (go l) (map V vs) (world_view T w)) (shown_same N MOST_PRINTED_LEVELS w (value_at cells vs k)) ∙ followed_same (go (printed cells N w (value_at cells vs k))) vs w
+    followed_same (asks a go) vs w = followed_same (go (N.tuple_class a)) vs w
+    followed_same (writes bs p) vs w = followed_same p vs (record w { output = w.output ++ bs })
+    followed_same (reads go) vs w = followed_same (go (line_in w.input)) vs (record w { input = behind_line w.input })
+
+    inputs_same : {o : Option ℕ} (n : ℕ) (p : Procedure o) → Same (by_inputs cells N n p) (by_inputs texts N n p)
+    inputs_same zero p = λ w. followed_same p [] w
+    inputs_same (suc zero) p = λ x w. followed_same p (x ∷ []) w
+    inputs_same (suc (suc zero)) p = λ x y w. followed_same p (x ∷ y ∷ []) w
+    inputs_same (suc (suc (suc n))) p = λ x y z w. followed_same p (x ∷ y ∷ z ∷ []) w
+
+    -- Each primitive does the same.
+    pub prim_same : (q : Primitive) → Same (prim_fn cells N q) (prim_fn texts N q)
+    unfolding prim_fn
+    prim_same q = inputs_same (length q.word.ins) q.does

@@ -5,7 +5,8 @@ use Rattle.fac_lang.specs.declared.phrase.Height.{Height}
 use Rattle.fac_lang.specs.declared.program.Program.{Program}
 use Rattle.fac_lang.specs.Texts.{int, yes, no, Text, end, then, Item, Value, Callable}
 use Rattle.fac_lang.specs.World.{World, State, Error, pile, push_each}
-use Rattle.fac_lang.specs.Primitives.{Prim, prim_numbered, prim_fn, Gives, gives, bad, Fn, fn0, fn1, fn2, fn3, seen_no}
+use Rattle.fac_lang.specs.Procedures.{Gives, gives, bad, Fn, fn0, fn1, fn2, fn3}
+use Rattle.fac_lang.specs.Primitives.{Primitive, prim_numbered, prim_fn, seen_no}
 use Rattle.fac_lang.specs.Eval.{Result, Done, Failed, Spent, Stuck, then_do, Act, runs, run_callable, go_on, eval}
 use Rattle.fac_lang.specs.Meaning.{texts, names, seen, prim_act, does, given, act, does_call, does_dip, does_if}
 use Rattle.fac_lang.proofs.Laws.{Within, within, within_call}
@@ -15,14 +16,14 @@ use Rattle.fac_code.specs.declared.image.Image.{Image}
 use Rattle.fac_code.specs.declared.image.TemplateRow.{TemplateRow}
 use Rattle.fac_code.specs.declared.names.TrapWhy.TheVariants.{Kind as t_kind, Frame as t_frame}
 use Rattle.fac_prim.specs.Cells.{MValue, m_plain, m_fun, MCallable, m_lit, m_cur, m_com, Kept, none_kept, kept, kept_list, keep_list, m_seen, cells, cells_at, with_first}
-use Rattle.fac_vm.specs.Machine.{Machine, Entry, resume, put_back, enter, End, done, failed, spent, Step, goes_on, ends, after, given as machine_given, does as machine_does, or_trap, code_of, branch, entering, fetched, step, Ends}
-use Rattle.fac_vm.proofs.Leading.{Leads, leads_on, leads_none, leads_step, ends_after, ends_step}
+use Rattle.fac_vm.specs.Machine.{Machine, Leads, Entry, resume, put_back, enter, End, done, failed, spent, Step, goes_on, ends, after, given as machine_given, does as machine_does, or_trap, code_of, branch, entering, fetched, step, Ends}
+use Rattle.fac_vm.proofs.Leading.{leads_on, leads_none, leads_step, ends_after, ends_step}
 use Rattle.fac_emit.specs.View.{Templates, value_view, callable_view, values_view, world_view, state_view, gives_view, error_view}
 use Rattle.fac_emit.specs.Carries.{SameEnd}
 use Rattle.fac_emit.specs.Whole as whole
 use Rattle.fac_emit.specs.Stands.{Translates, t_int, t_true, t_false, t_quot, t_prim, t_word, t_call, t_dip, t_if, Stands, s_end, s_item, Coded}
-use Rattle.fac_emit.proofs.SamePrimitives.{Same, NumberSame, numbers_same, seen_same}
-use Rattle.fac_emit.proofs.KeptPrimitives.{NumberKeeps, numbers_keep}
+use Rattle.fac_emit.proofs.SamePrimitives.{Same, prim_same, seen_same}
+use Rattle.fac_emit.proofs.KeptPrimitives.{prim_keeps}
 
 module _ (P : Program) (fits : Height → Height → Bool) (callable_height : Callable → Option Height) (M : Image) (T : Templates) where
   abbrev A : Item → State Value → Act
@@ -182,9 +183,9 @@ module _ (P : Program) (fits : Height → Height → Bool) (callable_height : Ca
   does_follows f known last R F pc t n le st s stack world w p q ok kp h e = absurd h
 
   -- a primitive by its number
-  number_follows : (o : Option Prim) (f : ℕ) → Known f → (last : Instr) (R : List Entry) (F : List MValue) (pc : ℕ) (t : Text) (n : ℕ) → n ≤ f → Stands P M T last F (pc + 1) t → (s : Machine) (stack : List MValue) (world : World MValue) (w : ℕ) → Fine F stack world → NumberKeeps M (names P) o → NumberSame T (names P) o → stepping s (suc n) ≡ or_trap o t_kind (here R F pc stack world) n (λ q. machine_does w (prim_fn cells (names P) q) (here R F pc stack world) n (λ s'. goes_on (after s') n)) → Follows last R s (suc n) (go_on (eval A f) (prim_act P w o (state_view T stack world)) t n)
-  number_follows None f known last R F pc t n le st s stack world w ok keeps same e = absurd same
-  number_follows (Some q) f known last R F pc t n le st s stack world w ok keeps same e = does_follows f known last R F pc t n le st s stack world w (prim_fn cells (names P) q) (prim_fn texts (names P) q) ok keeps same e
+  number_follows : (o : Option Primitive) (f : ℕ) → Known f → (last : Instr) (R : List Entry) (F : List MValue) (pc : ℕ) (t : Text) (n : ℕ) → n ≤ f → Stands P M T last F (pc + 1) t → (s : Machine) (stack : List MValue) (world : World MValue) (w : ℕ) → Fine F stack world → stepping s (suc n) ≡ or_trap o t_kind (here R F pc stack world) n (λ q. machine_does w (prim_fn cells (names P) q) (here R F pc stack world) n (λ s'. goes_on (after s') n)) → Follows last R s (suc n) (go_on (eval A f) (prim_act P w o (state_view T stack world)) t n)
+  number_follows None f known last R F pc t n le st s stack world w ok e = tt
+  number_follows (Some q) f known last R F pc t n le st s stack world w ok e = does_follows f known last R F pc t n le st s stack world w (prim_fn cells (names P) q) (prim_fn texts (names P) q) ok (prim_keeps M (names P) q) (prim_same T (names P) q) e
 
   -- after a callable, values are put back and the code goes on behind the call
   back_follows : Coded P M T → (f : ℕ) → Known f → (c : MCallable) → WholeCallable c → (back : List MValue) → AllWhole back → (last : Instr) (R R' : List Entry) (F : List MValue) (pc : ℕ) (t : Text) (stack : List MValue) (world : World MValue) (n : ℕ) → n ≤ f → Fine F stack world → Stands P M T last F (pc + 1) t → (s : Machine) (k : ℕ) → stepping s k ≡ entering M (names P) c (here R' F pc stack world) n → ((F2 : List MValue) (pc2 : ℕ) (stack2 : List MValue) (world2 : World MValue) (m : ℕ) → slice_get M.code pc2 ≡ Some Ret → stepping (here R' F2 pc2 stack2 world2) m ≡ goes_on (here R F (pc + 1) (pile back stack2) world2) m) → Follows last R s k (then_do (run_callable (eval A f) (callable_view T c) (state_view T stack world) n) (λ st m. eval A f t (push_each (values_view T back) st) m))
@@ -250,7 +251,7 @@ module _ (P : Program) (fits : Height → Height → Bool) (callable_height : Ca
   item_follows code f known last R F pc t stack world n le ok st i x at (t_prim w k e b a) =
       let s = here R F pc stack world in
       let one = ap (λ (v : ℕ). or_trap (prim_numbered k) t_kind s n (λ q. machine_does v (prim_fn cells (names P) q) s n (λ s'. goes_on (after s') n))) a in
-      rw e (number_follows (prim_numbered k) f known last R F pc t n le st s stack world w ok (numbers_keep M (names P) k b) (numbers_same T (names P) k b) (fetch s (suc n) (prim_instr k) at ∙ one))
+      rw e (number_follows (prim_numbered k) f known last R F pc t n le st s stack world w ok (fetch s (suc n) (prim_instr k) at ∙ one))
   item_follows code f known last R F pc t stack world n le ok st i x at (t_word w u lt e) =
       let s = here R F pc stack world in
       let body = code.bodies w u lt e in

@@ -1,14 +1,17 @@
 -- When an image carries a program: its machine ends as the program does.
-use Rattle.std.specs.Prelude.{◌≡◌, ℕ, [], Option, Bool}
+use Rattle.std.specs.Prelude.{◌≡◌, ℕ, List, length, Option, Bool}
 use Rattle.fac_lang.specs.declared.phrase.Height.{Height}
 use Rattle.fac_lang.specs.declared.program.Program.{Program}
-use Rattle.fac_lang.specs.Texts.{Callable}
+use Rattle.fac_lang.specs.Texts.{Value, Callable}
+use Rattle.fac_lang.specs.World.{State}
 use Rattle.fac_lang.specs.Eval.{Result, Done, Failed, Spent}
 use Rattle.fac_lang.specs.Meaning.{run, start, word_text, names}
 use Rattle.fac_lang.specs.RunningLaws.{IsNotStuck}
 use Rattle.fac_code.specs.declared.image.Image.{Image}
-use Rattle.fac_vm.specs.Machine.{End, done, failed, spent, Ends, starting}
-use Rattle.fac_emit.specs.View.{Templates, template_texts, state_view, world_view, error_view}
+use Rattle.fac_prim.specs.Cells.{MValue}
+use Rattle.fac_vm.specs.Machine.{Machine, End, done, failed, spent, Ends, starting, empty_world}
+use Rattle.fac_emit.specs.View.{Templates, template_texts, values_view, state_view, world_view, error_view}
+use Rattle.fac_emit.specs.Whole.{AllWhole}
 
 -- The same end, where T has the texts of the templates. A stuck run and a trap are the same as nothing.
 abbrev pub SameEnd : Templates → Result → End → Type 0
@@ -17,14 +20,20 @@ SameEnd T (Failed e st m) (failed x s left) = (error_view T x ≡ e) × (world_v
 SameEnd T (Spent st i) (spent s) = world_view T s.world ≡ st.world
 SameEnd T _ _ = ⊥
 
--- what the top-level phrase comes to with n ticks, from the empty stack and no input
-abbrev pub top_run : Program → (Height → Height → Bool) → (Callable → Option Height) → ℕ → Result
-top_run P fits callable_height n = run P fits callable_height n (word_text P P.top) (start P [])
+-- the state before the first item, from these values and with this input
+abbrev pub state_before : Program → List Value → List ℕ → State Value
+state_before P values input = record { stack = values; world = (start P input).world }
 
--- With this test of effects the machine ends at every budget as the top-level phrase does: with the same values and ticks, the same error, the same output and objects.
-pub record Carries (P : Program) (fits : Height → Height → Bool) (callable_height : Callable → Option Height) (M : Image) : Type 0 where
-  pub same_end : (n : ℕ) → (e : End) × Ends M (names P) (starting M []) n e × SameEnd (template_texts P) (top_run P fits callable_height n) e
+-- the machine before its first instruction, likewise
+abbrev pub machine_before : Image → List MValue → List ℕ → Machine
+machine_before M stack input = record (starting M stack) { world = record empty_world { input = input } }
 
--- With this test of effects the top-level phrase isn't stuck at any budget.
-abbrev pub IsNeverStuck : Program → (Height → Height → Bool) → (Callable → Option Height) → Type 0
-IsNeverStuck P fits callable_height = (n : ℕ) → IsNotStuck (top_run P fits callable_height n)
+-- what the top-level phrase comes to with n ticks
+abbrev pub top_run : Program → (Height → Height → Bool) → (Callable → Option Height) → List Value → List ℕ → ℕ → Result
+top_run P fits callable_height values input n = run P fits callable_height n (word_text P P.top) (state_before P values input)
+
+-- With this test of effects, and from every list of so many values whose callables are of the image's templates, with every input and at every budget at which the top-level phrase isn't stuck from the values for which these stand: the machine ends as that phrase does, with the same values and ticks, the same error, the same output, objects and input left.
+pub record Carries (P : Program) (fits : Height → Height → Bool) (callable_height : Callable → Option Height) (count : ℕ) (M : Image) : Type 0 where
+  pub same_end :
+      (stack : List MValue) (input : List ℕ) (n : ℕ) → length stack ≡ count → AllWhole M stack → IsNotStuck (top_run P fits callable_height (values_view (template_texts P) stack) input n) →
+      (e : End) × Ends M (names P) (machine_before M stack input) n e × SameEnd (template_texts P) (top_run P fits callable_height (values_view (template_texts P) stack) input n) e

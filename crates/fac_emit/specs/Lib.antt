@@ -4,5 +4,6 @@ pub mod Whole
 pub mod Stands
 pub mod Code
 pub mod Pieces
+pub mod Emits
 pub mod Parts
 pub mod PrintedForms

@@ -5,7 +5,7 @@ use Rattle.fac_lang.specs.declared.phrase.Place.{Place}
 use Rattle.fac_lang.specs.declared.program.Program.{Program}
 use Rattle.fac_lang.specs.declared.program.Sort.TheVariants.{Prim as prim_sort, Core as core_sort, Body as body}
 use Rattle.fac_lang.specs.Texts.{int, yes, no, Text, end, then, Item, lit, quot, word}
-use Rattle.fac_lang.specs.Forms.{is_built_primitive}
+use Rattle.fac_lang.specs.Primitives.{is_built_primitive}
 use Rattle.fac_lang.specs.Meaning.{sort_of, word_text, core_numbered, c_call, c_dip, c_if}
 use Rattle.fac_code.specs.declared.image.Instr.{Instr}
 use Rattle.fac_code.specs.declared.image.Instr.TheVariants.{Halt, Int, True, False, Quot, Prim, Callw, Call, Dip, If, Ret}

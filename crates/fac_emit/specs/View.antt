@@ -3,7 +3,7 @@ use Rattle.std.specs.Prelude.{ℕ, List, map, Option, Some, None}
 use Rattle.fac_lang.specs.declared.program.Program.{Program}
 use Rattle.fac_lang.specs.Texts.{Text, Value, plain, fun, Callable, text, cur, both}
 use Rattle.fac_lang.specs.World.{Object, array, tuple, World, State, Error}
-use Rattle.fac_lang.specs.Primitives.{Gives, gives, bad}
+use Rattle.fac_lang.specs.Procedures.{Gives, gives, bad}
 use Rattle.fac_locals.specs.Literals.{literal_numbered}
 use Rattle.fac_prim.specs.Cells.{MValue, m_plain, m_fun, MCallable, m_lit, m_cur, m_com}
 

@@ -1,7 +1,7 @@
 -- Values of the machine whose callables are of an image's templates.
 use Rattle.std.specs.Prelude.{◌+◌, ◌≡◌, List, [], ◌∷◌, length, Some, slice_get}
 use Rattle.fac_lang.specs.World.{Object, array, tuple, World}
-use Rattle.fac_lang.specs.Primitives.{Gives, gives, bad, Fn, fn0, fn1, fn2, fn3}
+use Rattle.fac_lang.specs.Procedures.{Gives, gives, bad, Fn, fn0, fn1, fn2, fn3}
 use Rattle.fac_code.specs.declared.image.TemplateRow.{TemplateRow}
 use Rattle.fac_code.specs.declared.image.Image.{Image}
 use Rattle.fac_prim.specs.Cells.{MValue, m_plain, m_fun, MCallable, m_lit, m_cur, m_com, Kept, none_kept, kept, kept_list}

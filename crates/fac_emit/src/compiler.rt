@@ -5,13 +5,14 @@ ghost use Rattle.fac_lang.specs.declared.program.Program.{Program as Source};
 ghost use Rattle.fac_lang.specs.Forms.{IsBuilt};
 ghost use Rattle.fac_lang.specs.Texts.{Callable};
 ghost use Rattle.fac_locals.specs.Closed.{Closes};
-ghost use Rattle.fac_emit.specs.Carries.{Carries, IsNeverStuck};
+ghost use Rattle.fac_emit.specs.Carries.{Carries};
 ghost use Rattle.fac_emit.specs.Code.{sort_action, IsPlain};
 ghost use Rattle.fac_emit.specs.Parts.{AreParts};
 ghost use Rattle.fac_emit.specs.Pieces.{moved as moved_row};
 ghost use Rattle.fac_emit.specs.Stands.{PlainCode};
 
-use crate::{Piece, emit_word};
+use crate::Piece;
+use crate::emitter::piece_of;
 use fac_code::{Action, Image, Instr, TemplateRow, WordRow};
 use fac_lang::{List, Memory, Sort};
 use fac_locals::Closed;
@@ -90,6 +91,7 @@ fn add_piece(parts: &mut Parts, sort: &Sort, piece: Piece) -> Result<(), Memory>
 
 // The code of a closed program, one word behind the other, and its tables.
 fn link(alloc: Global, closed: &Closed) -> Result<Parts, Memory>
+    requires { (P : Source) × Closes P closed.now.program closed.now.templates × IsBuilt P }
     ensures { IfOk result (AreParts closed.now.program closed.now.templates) }
 {
     let mut parts = Parts {
@@ -100,7 +102,7 @@ fn link(alloc: Global, closed: &Closed) -> Result<Parts, Memory>
     let _count = closed.program.words.len();
     let mut number = 0u32;
     for word in closed.program.words.as_slice() {
-        let piece = emit_word(alloc, closed, number)?;
+        let piece = piece_of(alloc, closed, number)?;
         add_piece(&mut parts, &word.sort, piece)?;
         number += 1;
     }
@@ -122,12 +124,13 @@ fn place(rows: &List<WordRow>, word: u32) -> u32
     }
 }
 
-/// The image of a closed program of the built forms. It carries the program that this one stands for, where that is never stuck. Its code
-/// stands for the texts of that program, item by item, and is plain: the pieces of the words, one behind the other in their order, with a
-/// row for each template and each word; it starts at the top-level phrase. Want of memory is the one error.
+/// The image of a closed program of the built forms. It carries the program that this one stands for, on every list of as many values as
+/// the closed program starts on, with every input and at every budget, where that program isn't stuck. Its code stands for the texts of
+/// that program, item by item, and is plain: the pieces of the words, one behind the other in their order, with a row for each template
+/// and each word; it starts at the top-level phrase. Want of memory is the one error.
 pub fn compile(alloc: Global, closed: &Closed) -> Result<Image, Memory>
     requires { (P : Source) × Closes P closed.now.program closed.now.templates × IsBuilt P }
-    ensures carries { IfOk result (λ image. (P : Source) (fits : Height → Height → Bool) (callable_height : Callable → Option Height) → Closes P closed.now.program closed.now.templates → IsBuilt P → IsNeverStuck P fits callable_height → Carries P fits callable_height image) }
+    ensures carries { IfOk result (λ image. (P : Source) (fits : Height → Height → Bool) (callable_height : Callable → Option Height) → Closes P closed.now.program closed.now.templates → IsBuilt P → Carries P fits callable_height closed.now.start image) }
     ensures stands { IfOk result (λ image. (P : Source) → Closes P closed.now.program closed.now.templates → IsBuilt P → PlainCode P image) }
     ensures plain { IfOk result (IsPlain closed.now.program closed.now.templates) }
 {

@@ -1,8 +1,15 @@
 //! The plain code of single words.
-ghost use Rattle.std.specs.Prelude.{◌≡◌, ◌<◌, ◌+◌, ◌-◌, ◌++◌, ◌∷◌, [], length, drop, IfOk, OnOk};
+ghost use Rattle.std.specs.Prelude.{◌≡◌, ◌<◌, ◌+◌, ◌-◌, ◌++◌, ◌∷◌, [], length, drop, true, IfOk, OnOk};
+ghost use Rattle.std.specs.List.{list_all};
 ghost use Rattle.fac_lang.specs.View.{what_item};
-ghost use Rattle.fac_emit.specs.Code.{core_instr, sort_instr, item_instr, text_code, quotations as quotations_of, first_template as first_template_of, row_at, templates_code, template_rows, last_instr, sort_code, sort_rows};
+ghost use Rattle.fac_lang.specs.declared.program.Program.{Program as Source};
+ghost use Rattle.fac_lang.specs.Forms.{IsBuilt};
+ghost use Rattle.fac_lang.specs.CoreWords.{is_built_core};
+ghost use Rattle.fac_lang.specs.Meaning.{sort_of};
+ghost use Rattle.fac_locals.specs.Closed.{Closes};
+ghost use Rattle.fac_emit.specs.Code.{sort_is_coded, item_is_coded, text_is_coded, template_is_coded, body_is_coded, core_instr, sort_instr, item_instr, text_code, quotations as quotations_of, first_template as first_template_of, row_at, templates_code, template_rows, last_instr, sort_code, sort_rows};
 ghost use Rattle.fac_emit.specs.Pieces.{IsPiece};
+ghost use Rattle.fac_emit.specs.Emits.{Emits};
 
 use fac_code::{Instr, TemplateRow};
 use fac_lang::{Duplicate, List, Memory, Phrase, Sort, Template, What, WordDef};
@@ -20,30 +27,33 @@ pub struct Piece {
 
 // The instruction of the core word with this number.
 fn instr_of_core(number: u32) -> Instr
+    requires { is_built_core number ≡ true }
     ensures { result ≡ core_instr number }
 {
     match number {
         0 => Instr::Call { tail: false },
         1 => Instr::Dip,
         2 => Instr::If { tail: false },
-        _ => Instr::Halt,
+        _ => unreachable!(),
     }
 }
 
 // The instruction of the word with this number, by its sort.
 fn instr_of_sort(word: u32, sort: &Sort) -> Instr
+    requires { sort_is_coded sort.now ≡ true }
     ensures { result ≡ sort_instr word sort.now }
 {
     match sort {
         Sort::Prim(number) => Instr::Prim(*number),
         Sort::Core(number) => instr_of_core(*number),
         Sort::Body(_) => Instr::Callw { word, tail: false },
-        _ => Instr::Halt,
+        _ => unreachable!(),
     }
 }
 
 // The instruction of an item.
 fn instr_of(words: &List<WordDef>, what: &What) -> Instr
+    requires { item_is_coded words.now (what_item what.now) ≡ true }
     ensures { result ≡ item_instr words.now (what_item what.now) }
 {
     match what {
@@ -52,10 +62,10 @@ fn instr_of(words: &List<WordDef>, what: &What) -> Instr
         What::False => Instr::False,
         What::Word(number) => match words.get(*number as usize) {
             Some(word) => instr_of_sort(*number, &word.sort),
-            None => Instr::Halt,
+            None => unreachable!(),
         },
         What::Made(number) => Instr::Quot(*number),
-        _ => Instr::Halt,
+        _ => unreachable!(),
     }
 }
 
@@ -66,6 +76,7 @@ fn add_text(
     phrase: &Phrase,
     last: Instr,
 ) -> Result<(), Memory>
+    requires { text_is_coded words.now phrase.now ≡ true }
     ensures { OnOk result (code.new ≡ code.old ++ text_code words.now last phrase.now) }
 {
     for item in &phrase.items {
@@ -108,6 +119,7 @@ fn add_template(
     words: &List<WordDef>,
     template: &Template,
 ) -> Result<(), Memory>
+    requires { template_is_coded words.now template.now ≡ true }
     ensures { OnOk result ((code.new ≡ code.old ++ text_code words.now Instr.Ret template.now.body) × (rows.new ≡ rows.old ++ row_at (length code.old) template.now ∷ [])) }
 {
     let entry = code.len();
@@ -140,6 +152,7 @@ fn add_templates(
     templates: &[Template],
     count: usize,
 ) -> Result<(), Memory>
+    requires { list_all (template_is_coded words.now) templates.now ≡ true }
     ensures { OnOk result ((code.new ≡ code.old ++ templates_code words.now count templates.now) × (rows.new ≡ rows.old ++ template_rows words.now (length code.old) count templates.now)) }
 {
     let mut owed = count;
@@ -172,6 +185,7 @@ fn last(is_top: bool) -> Instr
 
 // The piece of a word that is defined by this text.
 fn emit_text(alloc: Global, closed: &Closed, is_top: bool, phrase: &Phrase) -> Result<Piece, Memory>
+    requires { (text_is_coded closed.now.program.words phrase.now ≡ true) × (list_all (template_is_coded closed.now.program.words) closed.now.templates ≡ true) }
     ensures { IfOk result (λ piece. (piece.code ≡ sort_code closed.now.program.words closed.now.templates is_top (Sort.Body phrase.now)) × (piece.templates ≡ sort_rows closed.now.program.words closed.now.templates 0 is_top (Sort.Body phrase.now))) }
 {
     let mut code = List::new(alloc);
@@ -192,6 +206,7 @@ fn emit_text(alloc: Global, closed: &Closed, is_top: bool, phrase: &Phrase) -> R
 
 // The piece of a word of this sort.
 fn emit_sort(alloc: Global, closed: &Closed, is_top: bool, sort: &Sort) -> Result<Piece, Memory>
+    requires { (body_is_coded closed.now.program.words sort.now ≡ true) × (list_all (template_is_coded closed.now.program.words) closed.now.templates ≡ true) }
     ensures { IfOk result (λ piece. (piece.code ≡ sort_code closed.now.program.words closed.now.templates is_top sort.now) × (piece.templates ≡ sort_rows closed.now.program.words closed.now.templates 0 is_top sort.now)) }
 {
     match sort {
@@ -203,17 +218,23 @@ fn emit_sort(alloc: Global, closed: &Closed, is_top: bool, sort: &Sort) -> Resul
     }
 }
 
-/// The plain code of the word with this number: an instruction for each item of its text, and behind them a `ret`, or a `halt` for the
-/// top-level phrase; then likewise, each with its `ret`, the templates of the quotations in it, an outer one before those in it. A
-/// word that isn't defined by a text has no code. Want of memory is the one error.
-pub fn emit_word(alloc: Global, closed: &Closed, word: u32) -> Result<Piece, Memory>
+/// The piece of the word with this number, from the closed program.
+pub fn piece_of(alloc: Global, closed: &Closed, word: u32) -> Result<Piece, Memory>
+    requires { ((P : Source) × Closes P closed.now.program closed.now.templates × IsBuilt P) × (word < length closed.now.program.words) }
     ensures { IfOk result (IsPiece closed.now.program closed.now.templates word) }
 {
     match closed.program.words.get(word as usize) {
         Some(def) => emit_sort(alloc, closed, word == closed.program.top, &def.sort),
-        None => Ok(Piece {
-            code: List::new(alloc),
-            templates: List::new(alloc),
-        }),
+        None => unreachable!(),
     }
+}
+
+/// The plain code of the word with this number: an instruction for each item of its text, and behind them a `ret`, or a `halt` for the
+/// top-level phrase; then likewise, each with its `ret`, the templates of the quotations in it, an outer one before those in it. A
+/// word that isn't defined by a text has no code. Want of memory is the one error.
+pub fn emit_word(alloc: Global, closed: &Closed, word: u32) -> Result<Piece, Memory>
+    requires { ((P : Source) × Closes P closed.now.program closed.now.templates × IsBuilt P) × (word < length closed.now.program.words) }
+    ensures { IfOk result (λ piece. (P : Source) → Closes P closed.now.program closed.now.templates → IsBuilt P → Emits P word (sort_of P word) piece.code piece.templates) }
+{
+    piece_of(alloc, closed, word)
 }

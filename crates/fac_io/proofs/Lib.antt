@@ -1,2 +1,3 @@
 pub mod NameLemmas
 pub mod Streams
+pub mod SinkLemmas

@@ -7,6 +7,7 @@ use Rattle.fac_io.specs.declared.files.LoadFault.{LoadFault}
 use Rattle.fac_io.specs.declared.files.LoadFault.TheVariants as load
 use Rattle.fac_io.specs.declared.files.SaveFault.{SaveFault}
 use Rattle.fac_io.specs.declared.files.SaveFault.TheVariants as save
+use Rattle.fac_io.specs.Faults.{Rose}
 use Rattle.fac_io.specs.Names.{Held, OthersKept, Holds}
 use Rattle.fac_io.specs.Told.{Told, Stays, Grows}
 
@@ -24,6 +25,13 @@ LoadAsks name old new (Err load.TooLong) = Grows old new (Load name ∷ [])
 LoadAsks name old new (Err load.Failed) = Grows old new (Load name ∷ [])
 LoadAsks name old new (Err load.Memory) = Stays old new
 
+-- the count of faults rises where the load failed, and stays at each other answer
+abbrev pub LoadCounts : ℕ → ℕ → Result (List ℕ) LoadFault → Type 0
+LoadCounts before now (Ok bytes) = now ≡ before
+LoadCounts before now (Err load.TooLong) = now ≡ before
+LoadCounts before now (Err load.Failed) = (before ≤ now) × Rose before now
+LoadCounts before now (Err load.Memory) = now ≡ before
+
 -- the name holds the bytes, or nothing is known of it after a fault
 abbrev pub SaveLeaves : {A : Type 0} → List ℕ → List ℕ → Option Held → Option Held → Result A SaveFault → Type 0
 SaveLeaves name bytes old new (Ok done) = Told old new (Holds name bytes)
@@ -34,6 +42,12 @@ abbrev pub SaveAsks : {A : Type 0} → List ℕ → Option (List Asked) → Opti
 SaveAsks name old new (Ok done) = Grows old new (Save name ∷ [])
 SaveAsks name old new (Err save.Failed) = Grows old new (Save name ∷ [])
 SaveAsks name old new (Err save.Memory) = Stays old new
+
+-- the count of faults rises where the save failed, and stays at each other answer
+abbrev pub SaveCounts : {A : Type 0} → ℕ → ℕ → Result A SaveFault → Type 0
+SaveCounts before now (Ok done) = now ≡ before
+SaveCounts before now (Err save.Failed) = (before ≤ now) × Rose before now
+SaveCounts before now (Err save.Memory) = now ≡ before
 
 -- what a reader with these bytes left gives, where they are known: all of them, or that they are more than the limit
 abbrev pub ReadsUpTo : Option (List ℕ) → ℕ → Result (List ℕ) LoadFault → Type 0

@@ -1,5 +1,5 @@
 -- What a contract sees of the forms in memory, and what their calls leave.
-use Rattle.std.specs.Prelude.{◌≡◌, ◌==◌, ℕ, ◌+◌, min, nat_le, List, [], ◌∷◌, length, take, drop, Bool, true, false, not, ◌||◌, None, Some, is_some, if◌then◌else◌}
+use Rattle.std.specs.Prelude.{◌≡◌, ◌==◌, ◌≤◌, ℕ, zero, suc, ◌+◌, min, nat_le, List, [], ◌∷◌, length, take, drop, Bool, true, false, not, ◌||◌, None, Some, is_some, if◌then◌else◌}
 use Rattle.std.specs.Prelude.{Result, Ok, Err, is_none}
 use Rattle.std.specs.List.{list_any}
 use Rattle.std.specs.declared.option.Option.{Option}
@@ -34,9 +34,30 @@ abbrev pub ReadLeaves : {E : Type 0} → MemSource → ℕ → Result ℕ E → 
 ReadLeaves source room (Ok count) after = (is_read_listed source ≡ false) × (count ≡ min (length source.left) room) × (after ≡ record source { left = drop count source.left; calls = one_more source.calls })
 ReadLeaves source room (Err fault) after = (is_read_listed source ≡ true) × (after ≡ record source { calls = one_more source.calls; faults = one_more source.faults })
 
--- a sink: the bytes taken, how many more it takes, the calls that fail with the bytes that they take, and how many calls and faults there were
+-- the pieces of these sizes
+abbrev pub cut : List ℕ → List ℕ → List (List ℕ)
+cut [] bytes = []
+cut (size ∷ sizes) bytes = take size bytes ∷ cut sizes (drop size bytes)
+
+abbrev pub total : List ℕ → ℕ
+total [] = 0
+total (size ∷ sizes) = size + total sizes
+
+-- the size of a piece, where anything was taken of it
+abbrev pub one_size : ℕ → List ℕ
+one_size zero = []
+one_size (suc size) = suc size ∷ []
+
+-- there is room for what a sink can still take, and its sizes are those of its bytes
+pub record SinkFits (taken sizes : List ℕ) (bytes_most sizes_most space : ℕ) : Type 0 where
+  pub bytes : length taken + space ≤ bytes_most
+  pub pieces : length sizes + space ≤ sizes_most
+  pub all : total sizes ≡ length taken
+
+-- a sink: the bytes taken, the pieces in which they were, how many more it takes, the calls that fail with the bytes that they take, and how many calls and faults there were
 pub record MemSink : Type 0 where
   pub taken : List ℕ
+  pub pieces : List (List ℕ)
   pub room : ℕ
   pub fails : List (ℕ × ℕ)
   pub calls : ℕ
@@ -50,6 +71,7 @@ listed_take (fail ∷ fails) call = (if fail.0 == call then Some fail.1 else lis
 -- a sink with this room that was not written yet
 pub record IsNewSink (space : ℕ) (listed : List (ℕ × ℕ)) (sink : MemSink) : Type 0 where
   pub taken : sink.taken ≡ []
+  pub pieces : sink.pieces ≡ []
   pub room : sink.room ≡ space
   pub fails : sink.fails ≡ listed
   pub calls : sink.calls ≡ 0

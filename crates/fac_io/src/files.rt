@@ -1,9 +1,8 @@
 //! Named files.
-ghost use Rattle.std.specs.Prelude.{◌≡◌, List, Option, ℕ, IsErrOf};
-ghost use Rattle.fac_io.specs.Faults.{HasCause};
+ghost use Rattle.std.specs.Prelude.{◌≡◌, List, Option, ℕ};
 ghost use Rattle.fac_io.specs.Names.{Held};
 ghost use Rattle.fac_io.specs.Told.{Stays};
-ghost use Rattle.fac_io.specs.Files.{LoadAnswers, LoadAsks, SaveLeaves, SaveAsks};
+ghost use Rattle.fac_io.specs.Files.{LoadAnswers, LoadAsks, LoadCounts, SaveLeaves, SaveAsks, SaveCounts};
 
 use fac_lang::{Bytes, Memory, Text};
 use std::alloc::Global;
@@ -81,13 +80,11 @@ pub trait Files {
         ensures answer { LoadAnswers (held self.old) name.now limit result }
         ensures held { Stays (held self.old) (held self.new) }
         ensures asked { LoadAsks name.now (asked self.old) (asked self.new) result }
-        ensures cause { HasCause (faults self.old) (faults self.new) (IsErrOf result LoadFault.Failed) }
-        ensures no_fault { IsErrOf result LoadFault.Memory → faults self.new ≡ faults self.old };
+        ensures counts { LoadCounts (faults self.old) (faults self.new) result };
 
     /// Puts the bytes under the name, in place of what it held.
     fn save(&mut self, alloc: Global, name: &str, bytes: &[u8]) -> Result<(), SaveFault>
         ensures held { SaveLeaves name.now bytes.now (held self.old) (held self.new) result }
         ensures asked { SaveAsks name.now (asked self.old) (asked self.new) result }
-        ensures cause { HasCause (faults self.old) (faults self.new) (IsErrOf result SaveFault.Failed) }
-        ensures no_fault { IsErrOf result SaveFault.Memory → faults self.new ≡ faults self.old };
+        ensures counts { SaveCounts (faults self.old) (faults self.new) result };
 }

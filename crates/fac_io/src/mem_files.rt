@@ -1,11 +1,10 @@
 //! Named files in memory.
-ghost use Rattle.std.specs.Prelude.{◌≡◌, ◌+◌, ◌∷◌, ◌++◌, ◌<◌, List, IsErrOf, OnOk, Some, ◌==◌, vec_len, vec_capacity};
+ghost use Rattle.std.specs.Prelude.{◌≡◌, ◌+◌, ◌∷◌, ◌++◌, ◌<◌, List, OnOk, Some, ◌==◌, vec_len, vec_capacity};
 ghost use Rattle.std.specs.Option.{option_copied};
 ghost use Rattle.std.specs.List.{list_any};
-ghost use Rattle.fac_io.specs.Faults.{HasCause};
 ghost use Rattle.fac_io.specs.Names.{bytes_of};
 ghost use Rattle.fac_io.specs.Told.{Stays};
-ghost use Rattle.fac_io.specs.Files.{AnswersBytes, LoadAnswers, LoadAsks, SaveLeaves, SaveAsks};
+ghost use Rattle.fac_io.specs.Files.{AnswersBytes, LoadAnswers, LoadAsks, LoadCounts, SaveLeaves, SaveAsks, SaveCounts};
 
 use crate::{Asked, Files, LoadFault, SaveFault};
 use fac_lang::{Bytes, List, Memory, Text};
@@ -149,8 +148,7 @@ impl Files for MemFiles {
         ensures answer { LoadAnswers (Some (bytes_of self.old.files)) name.now limit result }
         ensures held { Stays (Some (bytes_of self.old.files)) (Some (bytes_of self.new.files)) }
         ensures asked { LoadAsks name.now (Some self.old.asked) (Some self.new.asked) result }
-        ensures cause { HasCause self.old.faults self.new.faults (IsErrOf result LoadFault.Failed) }
-        ensures no_fault { IsErrOf result LoadFault.Memory → self.new.faults ≡ self.old.faults }
+        ensures counts { LoadCounts self.old.faults self.new.faults result }
         ensures exact { LoadFails self.old name.now result self.new }
         ensures same { self.new.fails ≡ self.old.fails }
     {
@@ -178,8 +176,7 @@ impl Files for MemFiles {
     fn save(&mut self, alloc: Global, name: &str, bytes: &[u8]) -> Result<(), SaveFault>
         ensures held { SaveLeaves name.now bytes.now (Some (bytes_of self.old.files)) (Some (bytes_of self.new.files)) result }
         ensures asked { SaveAsks name.now (Some self.old.asked) (Some self.new.asked) result }
-        ensures cause { HasCause self.old.faults self.new.faults (IsErrOf result SaveFault.Failed) }
-        ensures no_fault { IsErrOf result SaveFault.Memory → self.new.faults ≡ self.old.faults }
+        ensures counts { SaveCounts self.old.faults self.new.faults result }
         ensures exact { SaveFails self.old result self.new }
         ensures same { self.new.fails ≡ self.old.fails }
     {

@@ -1,5 +1,5 @@
 //! A source in memory.
-ghost use Rattle.std.specs.Prelude.{◌≡◌, ◌+◌, ◌<◌, ◌≤◌, List, length, IsErr, MatchResult, Some, min, take};
+ghost use Rattle.std.specs.Prelude.{◌≡◌, ◌+◌, ◌<◌, ◌≤◌, List, length, IsErr, OnOk, MatchResult, Some, min, take};
 ghost use Rattle.std.specs.Io.{ReadsAtMost};
 ghost use Rattle.std.specs.Io.KnownBytes.{ReadConsumes};
 ghost use Rattle.fac_io.specs.Faults.{HasCause};
@@ -80,6 +80,7 @@ impl Source for MemSource {
         ensures bytes { ReadConsumes (Some self.old.left) (Some self.new.left) result buf.new }
         ensures falls { MatchResult result (λ n. length self.new.left + n ≤ length self.old.left) (λ _. length self.new.left ≤ length self.old.left) }
         ensures cause { HasCause self.old.faults self.new.faults (IsErr result) }
+        ensures no_fault { OnOk result (self.new.faults ≡ self.old.faults) }
         ensures exact { ReadLeaves self.old (length buf.old) result self.new }
     {
         self.calls = self.calls.saturating_add(1);

@@ -2,7 +2,7 @@
 //!
 //! The files tell no content, so what a load gives and a save leaves is trusted and not proved. The streams tell what
 //! their reader or writer tells: the runtime's own tell nothing, and those in memory all.
-ghost use Rattle.std.specs.Prelude.{◌+◌, ◌-◌, ◌<◌, ◌≤◌, length, IfOk, OnOk, OnErr, None, take};
+ghost use Rattle.std.specs.Prelude.{◌≡◌, ◌+◌, ◌-◌, ◌^◌, ◌<◌, ◌≤◌, length, IfOk, OnOk, OnErr, None, take};
 ghost use Rattle.std.specs.Io.{ReadsAtMost};
 ghost use Rattle.std.specs.Io.KnownBytes.{ReadConsumes, Appends, Keeps};
 ghost use Rattle.fac_io.specs.Files.{ReadsUpTo};
@@ -39,14 +39,20 @@ pub struct RealSink<W> {
 
 impl<'a, R> RealFiles<'a, R> {
     /// The files of this runtime, with no fault so far.
-    pub fn new(rt: &'a R) -> Self {
+    pub fn new(rt: &'a R) -> Self
+        ensures { result.faults ≡ 0 }
+    {
         RealFiles { rt, faults: 0 }
     }
 }
 
 impl<R> RealSource<R> {
     /// A source of the bytes of this reader, with no fault so far.
-    pub fn new(reader: R) -> Self {
+    pub fn new(reader: R) -> Self
+        ensures reader { result.reader ≡ reader }
+        ensures may_give { result.may_give ≡ 2 ^ 63 - 1 }
+        ensures faults { result.faults ≡ 0 }
+    {
         RealSource {
             reader,
             may_give: i64::MAX as u64,
@@ -57,7 +63,10 @@ impl<R> RealSource<R> {
 
 impl<W> RealSink<W> {
     /// A sink into this writer, with no fault so far.
-    pub fn new(writer: W) -> Self {
+    pub fn new(writer: W) -> Self
+        ensures writer { result.writer ≡ writer }
+        ensures faults { result.faults ≡ 0 }
+    {
         RealSink { writer, faults: 0 }
     }
 }
@@ -215,8 +224,11 @@ impl<R: Read> Source for RealSource<R> {
 impl<W: Write> Sink for RealSink<W> {
     ghost taken = { λ s. W.contents s.writer };
 
+    ghost pieces = { λ _. None };
+
     ghost faults = { λ s. s.faults };
 
+    #[tactic(auto, using(crate::proofs::SinkLemmas::took_whole, crate::proofs::SinkLemmas::took_front))]
     fn write(&mut self, piece: &[u8]) -> Result<(), Failed> {
         match write_whole(&mut self.writer, piece) {
             Ok(()) => Ok(()),

@@ -1,5 +1,5 @@
 //! Where bytes come from.
-ghost use Rattle.std.specs.Prelude.{◌+◌, ◌<◌, ◌≤◌, List, Option, ℕ, length, IsErr, MatchResult};
+ghost use Rattle.std.specs.Prelude.{◌≡◌, ◌+◌, ◌<◌, ◌≤◌, List, Option, ℕ, length, IsErr, OnOk, MatchResult};
 ghost use Rattle.std.specs.Io.{ReadsAtMost};
 ghost use Rattle.std.specs.Io.KnownBytes.{ReadConsumes};
 ghost use Rattle.fac_io.specs.Faults.{HasCause};
@@ -32,5 +32,6 @@ pub trait Source {
         ensures bound { ReadsAtMost result buf.new }
         ensures bytes { ReadConsumes (left self.old) (left self.new) result buf.new }
         ensures falls { MatchResult result (λ n. may_give self.new + n ≤ may_give self.old) (λ _. may_give self.new ≤ may_give self.old) }
-        ensures cause { HasCause (faults self.old) (faults self.new) (IsErr result) };
+        ensures cause { HasCause (faults self.old) (faults self.new) (IsErr result) }
+        ensures no_fault { OnOk result (faults self.new ≡ faults self.old) };
 }

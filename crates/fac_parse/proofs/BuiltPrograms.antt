@@ -1,19 +1,21 @@
 -- Every resolved program is of the forms built.
-use Rattle.std.proofs.Common.{◌≡◌, ℕ, suc, ◌+◌, ◌<◌, ◌≤◌, Bool, true, false, cond, ◌&&◌, List, [], ◌∷◌, ◌++◌, Option, Some, None, Result, Ok, Err, length, refl, ap, sym, ◌∙◌, subst, arith, zero-add, length-append}
-use Rattle.std.specs.Prelude.{nat_le, nat_lt}
-use Rattle.std.specs.List.{list_all}
+use Rattle.std.proofs.Common.{◌≡◌, ℕ, suc, ◌+◌, ◌<◌, ◌≤◌, Bool, true, false, cond, ◌&&◌, List, [], ◌∷◌, ◌++◌, Option, Some, None, Result, Ok, Err, length, refl, ap, sym, ◌∙◌, subst, arith, zero-add, length-append, append_assoc}
+use Rattle.std.specs.Prelude.{nat_le, nat_lt, map, slice_get}
+use Rattle.std.specs.Option.{option_map}
 use Rattle.std.specs.Str.{bytes_eq}
 use Rattle.std.proofs.lemmas.Bool.Decides.{Decides-ltb}
 use Rattle.std.proofs.lemmas.List.{length_push}
-use Rattle.fac_lang.specs.Forms.{IsBuilt, IsBuiltText, IsBuiltItem, IsBuiltSort, AreBuiltWords, IsDefinedWord, ArePlainInputs, IsPlainLeaving, built_primitives, is_built_primitive, is_built_core, primitive_numbers, has_no_repeats, numbers_before}
-use Rattle.fac_lang.specs.CoreWords.{core_word}
+use Rattle.fac_lang.specs.Forms.{IsBuilt, IsBuiltText, IsBuiltItem, IsBuiltSort, AreBuiltWords, IsDefinedWord, ArePlainInputs, IsPlainLeaving, primitive_numbers, has_no_repeats, numbers_before}
+use Rattle.fac_lang.specs.Primitives.{is_built_primitive}
+use Rattle.fac_lang.specs.CoreWords.{core_word, built_core_words, is_built_core}
+use Rattle.fac_lang.specs.Primitives.{Primitive, built_primitives, later_primitives, built_primitive_words, prim_numbered, primitive_word, built_count, is_built_primitive}
 use Rattle.fac_lang.specs.Signatures.{never, leaves}
-use Rattle.fac_lang.specs.PrimitiveWords.{PrimitiveWord, primitive_word, plain_inputs}
+use Rattle.fac_lang.specs.PrimitiveWords.{PrimitiveWord, plain_inputs}
 use Rattle.fac_lang.specs.Texts.{Text, end, then, Item, quot, word}
 use Rattle.fac_lang.specs.Whole.{name_count, inputs_name_count, leaving_count}
 use Rattle.fac_lang.specs.declared.phrase.Place.{Place}
 use Rattle.fac_lang.specs.declared.program.Name.{Name as FullName}
-use Rattle.fac_lang.specs.declared.program.Sort.TheVariants.{Prim, Body}
+use Rattle.fac_lang.specs.declared.program.Sort.TheVariants.{Prim, Core, Body}
 use Rattle.fac_lang.specs.declared.program.WordDef.{WordDef}
 use Rattle.fac_lang.specs.declared.token.Token.{Token}
 use Rattle.fac_lang.specs.declared.tree.Form.{Form}
@@ -26,8 +28,9 @@ use Rattle.fac_lang.specs.declared.tree.Term.{Term}
 use Rattle.fac_lang.specs.declared.tree.Term.TheVariants as term
 use Rattle.fac_lang.specs.declared.tree.WrittenEffect.{WrittenEffect}
 use Rattle.fac_parse.specs.declared.resolver.NameFault.{NameFault}
-use Rattle.fac_parse.specs.Resolution.{primitive_if_any, primitive_defs, core_if_any, core_defs, built_cores, known_words, names_of, first_names, held_from, or_else, held_by, current, found, own_name, is_taken, uses, result_map, word_item, item_of, term_place, Following, with_item, with_quotation, opened, closed, following, text_of, token_texts, is_star, leaving_of, effect_of, is_inline, is_recursive, defined_word, Contents, after_uses, with_top_item, with_defined, unless_taken, contents_of, top_word, program_of}
+use Rattle.fac_parse.specs.Resolution.{words_from, known_words, first_names, held_from, or_else, held_by, current, found, own_name, is_taken, uses, result_map, word_item, item_of, term_place, Following, with_item, with_quotation, opened, closed, following, text_of, token_texts, is_star, leaving_of, effect_of, is_inline, is_recursive, defined_word, Contents, after_uses, with_top_item, with_defined, unless_taken, contents_of, top_word, program_of}
 use Rattle.fac_parse.specs.Trees.{token_text, IsEffect, IsWellFormed}
+use Rattle.fac_parse.proofs.NameLemmas.{names_counted}
 
 -- What a name finds is known.
 
@@ -221,50 +224,56 @@ contents_build bound (form.Item item ∷ forms) known used fits =
 contents_build bound (form.Quotation opens items closes ∷ forms) known used fits =
     item_builds bound (length known) (result_map quot (text_of known used items)) opens (contents_of known used forms) (λ i few h. quoted_built bound (text_of known used items) i (λ t e. text_built bound known used items t few e) h) (contents_build bound forms known used fits.1)
 
-names_counted : (ds : List WordDef) → length (names_of ds) ≡ length ds
-names_counted [] = refl
-names_counted (d ∷ ds) = ap suc (names_counted ds)
-
 -- what the forms of a file make, with the number of the top-level phrase as the bound
 pub contents_built : (forms : List Form) (used : List (List ℕ)) (c : Contents) → IsWellFormed forms → contents_of first_names used forms ≡ Ok c → AreOwnWords (length known_words + length c.words) c.words × IsBuiltText (length known_words + length c.words) c.text
 contents_built forms used c fits e = contents_build (length known_words + length c.words) forms first_names used fits c e (let counted = names_counted known_words in omega (arith, counted))
 
 -- Words that are known from the start.
 
-both_true : (a b : Bool) → (a && b) ≡ true → (a ≡ true) × (b ≡ true)
-both_true true b h = (refl, h)
-both_true false b h = cc
-
 built_with : (bound : ℕ) (ds es : List WordDef) → AreBuiltWords bound ds → AreBuiltWords bound es → AreBuiltWords bound (ds ++ es)
 built_with bound [] es h k = k
 built_with bound (d ∷ ds) es h k = (h.0, built_with bound ds es h.1 k)
 
-primitive_built : (bound k : ℕ) (o : Option PrimitiveWord) → primitive_word k ≡ o → is_built_primitive k ≡ true → AreBuiltWords bound (primitive_if_any k o)
-primitive_built bound k None e b = tt
-primitive_built bound k (Some row) e b = (record { row = row; row_is = e; is_built = b; effect_is = refl; not_inline = refl; not_recursive = refl }, tt)
+-- the element behind these
+next_at : (ps rest : List Primitive) (p : Primitive) → slice_get (ps ++ p ∷ rest) (length ps) ≡ Some p
+next_at [] rest p = refl
+next_at (q ∷ ps) rest p = next_at ps rest p
 
-primitives_built : (bound : ℕ) (ks : List ℕ) → list_all is_built_primitive ks ≡ true → AreBuiltWords bound (primitive_defs ks)
-primitives_built bound [] h = tt
-primitives_built bound (k ∷ ks) h =
-    let both = both_true (is_built_primitive k) (list_all is_built_primitive ks) h in
-    built_with bound (primitive_if_any k (primitive_word k)) (primitive_defs ks) (primitive_built bound k (primitive_word k) refl both.0) (primitives_built bound ks both.1)
+primitive_at : (ps rest : List Primitive) (p : Primitive) → ps ++ p ∷ rest ≡ built_primitives → primitive_word (length ps) ≡ Some p.word
+unfolding prim_numbered
+primitive_at ps rest p e =
+    ap (λ (all : List Primitive). option_map (λ (q : Primitive). q.word) (slice_get (all ++ later_primitives) (length ps))) (sym e)
+    ∙ ap (λ (all : List Primitive). option_map (λ (q : Primitive). q.word) (slice_get all (length ps))) (append_assoc ps (p ∷ rest) later_primitives)
+    ∙ ap (option_map (λ (q : Primitive). q.word)) (next_at ps (rest ++ later_primitives) p)
 
-core_built : (bound k : ℕ) (o : Option PrimitiveWord) → core_word k ≡ o → is_built_core k ≡ true → AreBuiltWords bound (core_if_any k o)
-core_built bound k None e b = tt
-core_built bound k (Some row) e b = (record { row = row; row_is = e; is_built = b; effect_is = refl; not_inline = refl; not_recursive = refl }, tt)
+is_numbered : (ps rest : List Primitive) (p : Primitive) → ps ++ p ∷ rest ≡ built_primitives → is_built_primitive (length ps) ≡ true
+unfolding built_count
+is_numbered ps rest p e =
+    let count = sym (length-append ps (p ∷ rest)) ∙ ap length e in
+    (Decides-ltb (length ps) (length built_primitives)).1 (omega (arith, count))
 
-cores_built : (bound : ℕ) (ks : List ℕ) → list_all is_built_core ks ≡ true → AreBuiltWords bound (core_defs ks)
-cores_built bound [] h = tt
-cores_built bound (k ∷ ks) h =
-    let both = both_true (is_built_core k) (list_all is_built_core ks) h in
-    built_with bound (core_if_any k (core_word k)) (core_defs ks) (core_built bound k (core_word k) refl both.0) (cores_built bound ks both.1)
+primitives_built : (bound n : ℕ) (ps rest : List Primitive) → n ≡ length ps → ps ++ rest ≡ built_primitives → AreBuiltWords bound (words_from Prim n (map (λ (p : Primitive). p.word) rest))
+primitives_built bound n ps [] same e = tt
+primitives_built bound n ps (p ∷ rest) same e = (
+  record { row = p.word; row_is = ap primitive_word same ∙ primitive_at ps rest p e; is_built = ap is_built_primitive same ∙ is_numbered ps rest p e; effect_is = refl; not_inline = refl; not_recursive = refl },
+  primitives_built bound (n + 1) (ps ++ p ∷ []) rest (let more = length_push ps p in omega (arith, same, more)) (append_assoc ps (p ∷ []) rest ∙ e),
+)
+
+-- the core words that are built, from this number on
+abbrev AreCoreRows : ℕ → List PrimitiveWord → Type 0
+AreCoreRows n [] = Unit {0}
+AreCoreRows n (row ∷ rows) = (core_word n ≡ Some row) × (is_built_core n ≡ true) × AreCoreRows (n + 1) rows
+
+cores_built : (bound n : ℕ) (rows : List PrimitiveWord) → AreCoreRows n rows → AreBuiltWords bound (words_from Core n rows)
+cores_built bound n [] h = tt
+cores_built bound n (row ∷ rows) h = (record { row = row; row_is = h.0; is_built = h.1; effect_is = refl; not_inline = refl; not_recursive = refl }, cores_built bound (n + 1) rows h.2)
 
 known_built : (bound : ℕ) → AreBuiltWords bound known_words
-unfolding known_words
-known_built bound = built_with bound (primitive_defs built_primitives) (core_defs built_cores) (primitives_built bound built_primitives refl) (cores_built bound built_cores refl)
+unfolding known_words built_primitive_words
+known_built bound = built_with bound (words_from Prim 0 built_primitive_words) (words_from Core 0 built_core_words) (primitives_built bound 0 [] built_primitives refl refl) (cores_built bound 0 built_core_words (refl, refl, (refl, refl, (refl, refl, tt))))
 
 known_distinct : has_no_repeats (primitive_numbers known_words) ≡ true
-unfolding known_words primitive_word
+unfolding known_words built_primitive_words
 known_distinct = refl
 
 -- All words.

@@ -1,6 +1,4 @@
-pub mod DigitLemmas
 pub mod SpellingLemmas
-pub mod WordLemmas
 pub mod MapLemmas
 pub mod ParseLemmas
 pub mod FirstWordLemmas
@@ -10,4 +8,3 @@ pub mod WrittenLemmas
 pub mod BuiltPrograms
 pub mod WholePrograms
 pub mod EffectLemmas
-pub mod LiteralLemmas

@@ -1,7 +1,5 @@
 -- Taking items and forms, a step at a time.
 use Rattle.std.proofs.Common.{◌≡◌, ℕ, zero, suc, Bool, true, false, List, [], ◌∷◌, ◌++◌, length, Option, Some, None, Result, Ok, Err, drop, refl, ap, sym, ◌∙◌, subst, append_assoc, append-nil, arith}
-use Rattle.std.specs.List.{list_any}
-use Rattle.std.specs.Str.{bytes_eq}
 use Rattle.std.proofs.lemmas.List.{length_push}
 use Rattle.fac_lang.specs.Texts.{Text, end, then, quot}
 use Rattle.fac_lang.specs.View.{what_item, items_text}
@@ -26,11 +24,9 @@ use Rattle.fac_parse.specs.declared.resolver.ResolveFault.TheVariants.{Name, Mem
 use Rattle.fac_parse.specs.declared.resolver.OpenQuotation.{OpenQuotation}
 use Rattle.fac_parse.specs.declared.resolver.Nest.{Nest}
 use Rattle.fac_parse.specs.declared.resolver.SoFar.{SoFar}
-use Rattle.fac_parse.specs.OwnNames.{names_with}
-use Rattle.fac_parse.specs.Resolution.{known_words, found, is_taken, name_fault, result_map, word_item, item_of, term_place, Following, with_item, opened, closed, following, text_of, defined_word, Contents, with_top_item, with_defined, unless_taken, contents_of, file_contents}
+use Rattle.fac_parse.specs.Resolution.{known_words, found, own_name, is_taken, name_fault, result_map, word_item, item_of, term_place, Following, with_item, opened, closed, following, text_of, defined_word, Contents, with_top_item, with_defined, unless_taken, contents_of, file_contents}
 use Rattle.fac_parse.specs.Resolver.{found_item, term_item, with_new, TakesItem, items_before, enclosed, nested, after_nest, Closes, IsAdded, TakesPiece, ReadsText, after_made, contents_after, defining, IsDefined, DefinitionFails, Defines, TakesQuotation, TakesForm, ReadsForms}
 use Rattle.fac_parse.specs.Trees.{token_text, Lead, IsForm, IsWellFormed}
-use Rattle.fac_parse.proofs.NameLemmas.{taken_own, names_push}
 
 items_before-push : (items : List PlacedItem) (i : PlacedItem) (t : Text) → items_before items (then (what_item i.what) i.place t) ≡ items_before (items ++ i ∷ []) t
 items_before-push [] i t = refl
@@ -177,56 +173,55 @@ top_taken (Err f) words items items_then rest e = cc
 
 -- what was made, but for its items, is the same
 record SameBut (s s_then : SoFar) : Type 0 where
-  own : s_then.own ≡ s.own
+  names : s_then.names ≡ s.names
   used : s_then.used ≡ s.used
   words : s_then.words ≡ s.words
 
-rest_same : (s s_then : SoFar) (rest : List Form) → SameBut s s_then → after_made s.words s_then.items.items (contents_of (names_with s.own) s.used rest) ≡ contents_after s_then rest
+rest_same : (s s_then : SoFar) (rest : List Form) → SameBut s s_then → after_made s.words s_then.items.items (contents_of s.names s.used rest) ≡ contents_after s_then rest
 rest_same s s_then rest same =
-    ap (λ (ws : List WordDef). after_made ws s_then.items.items (contents_of (names_with s.own) s.used rest)) (sym same.words)
-    ∙ ap (λ (o : List (List ℕ)). after_made s_then.words s_then.items.items (contents_of (names_with o) s.used rest)) (sym same.own)
-    ∙ ap (λ (u : List (List ℕ)). after_made s_then.words s_then.items.items (contents_of (names_with s_then.own) u rest)) (sym same.used)
+    ap (λ (ws : List WordDef). after_made ws s_then.items.items (contents_of s.names s.used rest)) (sym same.words)
+    ∙ ap (λ (o : List FullName). after_made s_then.words s_then.items.items (contents_of o s.used rest)) (sym same.names)
+    ∙ ap (λ (u : List (List ℕ)). after_made s_then.words s_then.items.items (contents_of s_then.names u rest)) (sym same.used)
 
-top_item_taken : (e : Result Unit ResolveFault) (s s_then : SoFar) (item : Term) → TakesItem (names_with s.own) s.used item s.items.items s_then.items.items e → SameBut s s_then → TakesForm s (form.Item item) s_then e
+top_item_taken : (e : Result Unit ResolveFault) (s s_then : SoFar) (item : Term) → TakesItem s.names s.used item s.items.items s_then.items.items e → SameBut s s_then → TakesForm s (form.Item item) s_then e
 top_item_taken (Ok done) s s_then item h same = λ rest.
-    ap (after_made s.words s.items.items) (item_on_top (names_with s.own) s.used item (contents_of (names_with s.own) s.used rest))
-    ∙ top_taken (term_item (names_with s.own) s.used item) s.words s.items.items s_then.items.items (contents_of (names_with s.own) s.used rest) h
+    ap (after_made s.words s.items.items) (item_on_top s.names s.used item (contents_of s.names s.used rest))
+    ∙ top_taken (term_item s.names s.used item) s.words s.items.items s_then.items.items (contents_of s.names s.used rest) h
     ∙ rest_same s s_then rest same
 top_item_taken (Err (Name fault)) s s_then item h same = λ rest.
-    item_on_top (names_with s.own) s.used item (contents_of (names_with s.own) s.used rest) ∙ ap (λ (r : Result PlacedItem NameFault). placed_on_top r (contents_of (names_with s.own) s.used rest)) h
+    item_on_top s.names s.used item (contents_of s.names s.used rest) ∙ ap (λ (r : Result PlacedItem NameFault). placed_on_top r (contents_of s.names s.used rest)) h
 top_item_taken (Err Memory) s s_then item h same = tt
 
-pub item_form : (e : Result Unit ResolveFault) (s s_then : SoFar) (f : Form) (item : Term) → f ≡ form.Item item → TakesItem (names_with s.own) s.used item s.items.items s_then.items.items e → s_then.own ≡ s.own → s_then.used ≡ s.used → s_then.words ≡ s.words → TakesForm s f s_then e
-item_form e s s_then f item is h own used words = subst (λ (g : Form). TakesForm s g s_then e) (sym is) (top_item_taken e s s_then item h (record { own = own; used = used; words = words }))
+pub item_form : (e : Result Unit ResolveFault) (s s_then : SoFar) (f : Form) (item : Term) → f ≡ form.Item item → TakesItem s.names s.used item s.items.items s_then.items.items e → s_then.names ≡ s.names → s_then.used ≡ s.used → s_then.words ≡ s.words → TakesForm s f s_then e
+item_form e s s_then f item is h names used words = subst (λ (g : Form). TakesForm s g s_then e) (sym is) (top_item_taken e s s_then item h (record { names = names; used = used; words = words }))
 
-top_quotation_taken : (e : Result Unit ResolveFault) (s s_then : SoFar) (opens closes : Place) (items : List Piece) → TakesQuotation (names_with s.own) s.used opens items s.items.items s_then.items.items e → SameBut s s_then → TakesForm s (form.Quotation opens items closes) s_then e
+top_quotation_taken : (e : Result Unit ResolveFault) (s s_then : SoFar) (opens closes : Place) (items : List Piece) → TakesQuotation s.names s.used opens items s.items.items s_then.items.items e → SameBut s s_then → TakesForm s (form.Quotation opens items closes) s_then e
 top_quotation_taken (Ok done) s s_then opens closes items h same = λ rest.
-    let text = text_of (names_with s.own) s.used items in
-    ap (after_made s.words s.items.items) (quotation_on_top text opens (contents_of (names_with s.own) s.used rest))
-    ∙ top_taken (result_map (λ (t : Text). record { what = Quot t; place = opens }) text) s.words s.items.items s_then.items.items (contents_of (names_with s.own) s.used rest) h
+    let text = text_of s.names s.used items in
+    ap (after_made s.words s.items.items) (quotation_on_top text opens (contents_of s.names s.used rest))
+    ∙ top_taken (result_map (λ (t : Text). record { what = Quot t; place = opens }) text) s.words s.items.items s_then.items.items (contents_of s.names s.used rest) h
     ∙ rest_same s s_then rest same
-top_quotation_taken (Err (Name fault)) s s_then opens closes items h same = λ rest. ap (λ (r : Result Text NameFault). with_top_item (result_map quot r) opens (contents_of (names_with s.own) s.used rest)) h
+top_quotation_taken (Err (Name fault)) s s_then opens closes items h same = λ rest. ap (λ (r : Result Text NameFault). with_top_item (result_map quot r) opens (contents_of s.names s.used rest)) h
 top_quotation_taken (Err Memory) s s_then opens closes items h same = tt
 
-pub quotation_form : (e : Result Unit ResolveFault) (s s_then : SoFar) (f : Form) (opens closes : Place) (listed items : List Piece) → f ≡ form.Quotation opens items closes → listed ≡ items → TakesQuotation (names_with s.own) s.used opens listed s.items.items s_then.items.items e → s_then.own ≡ s.own → s_then.used ≡ s.used → s_then.words ≡ s.words → TakesForm s f s_then e
-quotation_form e s s_then f opens closes listed items is same h own used words =
-    subst (λ (g : Form). TakesForm s g s_then e) (sym is) (top_quotation_taken e s s_then opens closes items (subst (λ (ps : List Piece). TakesQuotation (names_with s.own) s.used opens ps s.items.items s_then.items.items e) same h) (record { own = own; used = used; words = words }))
+pub quotation_form : (e : Result Unit ResolveFault) (s s_then : SoFar) (f : Form) (opens closes : Place) (listed items : List Piece) → f ≡ form.Quotation opens items closes → listed ≡ items → TakesQuotation s.names s.used opens listed s.items.items s_then.items.items e → s_then.names ≡ s.names → s_then.used ≡ s.used → s_then.words ≡ s.words → TakesForm s f s_then e
+quotation_form e s s_then f opens closes listed items is same h names used words =
+    subst (λ (g : Form). TakesForm s g s_then e) (sym is) (top_quotation_taken e s s_then opens closes items (subst (λ (ps : List Piece). TakesQuotation s.names s.used opens ps s.items.items s_then.items.items e) same h) (record { names = names; used = used; words = words }))
 
 -- Definitions.
 
-definition_is : (s : SoFar) (name : Token) (effect : WrittenEffect) (items : List Piece) (mark : Option Mark) (opens closes : Place) (rest : List Form) → contents_of (names_with s.own) s.used (form.Define opens name effect items closes mark ∷ rest) ≡ defining s name effect items mark (contents_of (names_with (s.own ++ token_text name.kind ∷ [])) s.used rest)
-definition_is s name effect items mark opens closes rest =
-    ap (λ (more : List FullName). unless_taken (is_taken (names_with s.own) (token_text name.kind)) name (with_defined (result_map (defined_word name effect mark) (text_of more s.used items)) (contents_of more s.used rest))) (names_push s.own (token_text name.kind))
+definition_is : (s : SoFar) (name : Token) (effect : WrittenEffect) (items : List Piece) (mark : Option Mark) (opens closes : Place) (rest : List Form) → contents_of s.names s.used (form.Define opens name effect items closes mark ∷ rest) ≡ defining s name effect items mark (contents_of (s.names ++ own_name (token_text name.kind) ∷ []) s.used rest)
+definition_is s name effect items mark opens closes rest = refl
 
 definition_taken : (e : Result Unit ResolveFault) (s s_then : SoFar) (name : Token) (effect : WrittenEffect) (items : List Piece) (mark : Option Mark) (opens closes : Place) → Defines s name effect items mark s_then e → TakesForm s (form.Define opens name effect items closes mark) s_then e
 definition_taken (Ok done) s s_then name effect items mark opens closes h = λ rest.
-    let own = s.own ++ token_text name.kind ∷ [] in
+    let names = s.names ++ own_name (token_text name.kind) ∷ [] in
     ap (after_made s.words s.items.items) (definition_is s name effect items mark opens closes rest)
-    ∙ h.made (contents_of (names_with own) s.used rest)
-    ∙ ap (λ (o : List (List ℕ)). after_made s_then.words s_then.items.items (contents_of (names_with o) s.used rest)) (sym h.own)
-    ∙ ap (λ (u : List (List ℕ)). after_made s_then.words s_then.items.items (contents_of (names_with s_then.own) u rest)) (sym h.used)
+    ∙ h.made (contents_of names s.used rest)
+    ∙ ap (λ (o : List FullName). after_made s_then.words s_then.items.items (contents_of o s.used rest)) (sym h.names)
+    ∙ ap (λ (u : List (List ℕ)). after_made s_then.words s_then.items.items (contents_of s_then.names u rest)) (sym h.used)
 definition_taken (Err (Name fault)) s s_then name effect items mark opens closes h = λ rest.
-    definition_is s name effect items mark opens closes rest ∙ h (contents_of (names_with (s.own ++ token_text name.kind ∷ [])) s.used rest)
+    definition_is s name effect items mark opens closes rest ∙ h (contents_of (s.names ++ own_name (token_text name.kind) ∷ []) s.used rest)
 definition_taken (Err Memory) s s_then name effect items mark opens closes h = tt
 
 pub definition_form : (e : Result Unit ResolveFault) (s s_then : SoFar) (f : Form) (name : Token) (effect : WrittenEffect) (listed items : List Piece) (mark : Option Mark) (opens closes : Place) → f ≡ form.Define opens name effect items closes mark → listed ≡ items → Defines s name effect listed mark s_then e → TakesForm s f s_then e
@@ -238,32 +233,32 @@ abbrev made_word : Token → WrittenEffect → Option Mark → Result Text NameF
 made_word name effect mark r = result_map (defined_word name effect mark) r
 
 -- a name that is defined already
-pub defined_twice : (s : SoFar) (name : Token) (effect : WrittenEffect) (items : List Piece) (mark : Option Mark) (fault : NameFault) → list_any (bytes_eq (token_text name.kind)) s.own ≡ true → fault ≡ name_fault Twice name → (rest : Result Contents NameFault) → defining s name effect items mark rest ≡ Err fault
+pub defined_twice : (s : SoFar) (name : Token) (effect : WrittenEffect) (items : List Piece) (mark : Option Mark) (fault : NameFault) → is_taken s.names (token_text name.kind) ≡ true → fault ≡ name_fault Twice name → (rest : Result Contents NameFault) → defining s name effect items mark rest ≡ Err fault
 defined_twice s name effect items mark fault there e rest =
-    ap (λ (b : Bool). unless_taken b name (with_defined (made_word name effect mark (text_of (names_with (s.own ++ token_text name.kind ∷ [])) s.used items)) rest)) (taken_own s.own (token_text name.kind) ∙ there)
+    ap (λ (b : Bool). unless_taken b name (with_defined (made_word name effect mark (text_of (s.names ++ own_name (token_text name.kind) ∷ []) s.used items)) rest)) (there)
     ∙ ap (λ (f : NameFault). Err f) (sym e)
 
-defining_new : (s : SoFar) (name : Token) (effect : WrittenEffect) (items : List Piece) (mark : Option Mark) (own : List (List ℕ)) (r : Result Text NameFault) → list_any (bytes_eq (token_text name.kind)) s.own ≡ false → own ≡ s.own ++ token_text name.kind ∷ [] → text_of (names_with own) s.used items ≡ r → (rest : Result Contents NameFault) → defining s name effect items mark rest ≡ with_defined (made_word name effect mark r) rest
-defining_new s name effect items mark own r new e h rest =
-    ap (λ (b : Bool). unless_taken b name (with_defined (made_word name effect mark (text_of (names_with (s.own ++ token_text name.kind ∷ [])) s.used items)) rest)) (taken_own s.own (token_text name.kind) ∙ new)
-    ∙ ap (λ (o : List (List ℕ)). with_defined (made_word name effect mark (text_of (names_with o) s.used items)) rest) (sym e)
+defining_new : (s : SoFar) (name : Token) (effect : WrittenEffect) (items : List Piece) (mark : Option Mark) (names : List FullName) (r : Result Text NameFault) → is_taken s.names (token_text name.kind) ≡ false → names ≡ s.names ++ own_name (token_text name.kind) ∷ [] → text_of names s.used items ≡ r → (rest : Result Contents NameFault) → defining s name effect items mark rest ≡ with_defined (made_word name effect mark r) rest
+defining_new s name effect items mark names r new e h rest =
+    ap (λ (b : Bool). unless_taken b name (with_defined (made_word name effect mark (text_of (s.names ++ own_name (token_text name.kind) ∷ []) s.used items)) rest)) (new)
+    ∙ ap (λ (o : List FullName). with_defined (made_word name effect mark (text_of o s.used items)) rest) (sym e)
     ∙ ap (λ (t : Result Text NameFault). with_defined (made_word name effect mark t) rest) h
 
 -- a refused name in the items of a definition
-pub definition_fails : (e : ResolveFault) (s : SoFar) (name : Token) (effect : WrittenEffect) (items : List Piece) (mark : Option Mark) (own : List (List ℕ)) → list_any (bytes_eq (token_text name.kind)) s.own ≡ false → own ≡ s.own ++ token_text name.kind ∷ [] → ReadsText (names_with own) s.used items (Err e) → DefinitionFails s name effect items mark e
-definition_fails (Name fault) s name effect items mark own new e h = λ rest. defining_new s name effect items mark own (Err fault) new e h rest
-definition_fails Memory s name effect items mark own new e h = tt
+pub definition_fails : (e : ResolveFault) (s : SoFar) (name : Token) (effect : WrittenEffect) (items : List Piece) (mark : Option Mark) (names : List FullName) → is_taken s.names (token_text name.kind) ≡ false → names ≡ s.names ++ own_name (token_text name.kind) ∷ [] → ReadsText names s.used items (Err e) → DefinitionFails s name effect items mark e
+definition_fails (Name fault) s name effect items mark names new e h = λ rest. defining_new s name effect items mark names (Err fault) new e h rest
+definition_fails Memory s name effect items mark names new e h = tt
 
 after_word : (s_words words : List WordDef) (items : List PlacedItem) (d : WordDef) (rest : Result Contents NameFault) → words ≡ s_words ++ d ∷ [] → after_made s_words items (with_defined (Ok d) rest) ≡ after_made words items rest
 after_word s_words words items d (Ok c) e =
     ap (λ (ws : List WordDef). Ok (record { words = ws; text = items_before items c.text })) (sym (append_assoc s_words (d ∷ []) c.words) ∙ ap (λ (ws : List WordDef). ws ++ c.words) (sym e))
 after_word s_words words items d (Err f) e = refl
 
-pub definition_done : (s s_then : SoFar) (name : Token) (effect : WrittenEffect) (items : List Piece) (mark : Option Mark) (text : Text) → list_any (bytes_eq (token_text name.kind)) s.own ≡ false → s_then.own ≡ s.own ++ token_text name.kind ∷ [] → text_of (names_with s_then.own) s.used items ≡ Ok text → s_then.words ≡ s.words ++ defined_word name effect mark text ∷ [] → s_then.used ≡ s.used → s_then.items.items ≡ s.items.items → IsDefined s name effect items mark s_then
-definition_done s s_then name effect items mark text new own h words used same =
+pub definition_done : (s s_then : SoFar) (name : Token) (effect : WrittenEffect) (items : List Piece) (mark : Option Mark) (text : Text) → is_taken s.names (token_text name.kind) ≡ false → s_then.names ≡ s.names ++ own_name (token_text name.kind) ∷ [] → text_of s_then.names s.used items ≡ Ok text → s_then.words ≡ s.words ++ defined_word name effect mark text ∷ [] → s_then.used ≡ s.used → s_then.items.items ≡ s.items.items → IsDefined s name effect items mark s_then
+definition_done s s_then name effect items mark text new names h words used same =
     record {
-      made = λ rest. ap (after_made s.words s.items.items) (defining_new s name effect items mark s_then.own (Ok text) new own h rest) ∙ after_word s.words s_then.words s.items.items (defined_word name effect mark text) rest words ∙ ap (λ (is : List PlacedItem). after_made s_then.words is rest) (sym same);
-      own = own;
+      made = λ rest. ap (after_made s.words s.items.items) (defining_new s name effect items mark s_then.names (Ok text) new names h rest) ∙ after_word s.words s_then.words s.items.items (defined_word name effect mark text) rest words ∙ ap (λ (is : List PlacedItem). after_made s_then.words is rest) (sym same);
+      names = names;
       used = used;
     }
 

@@ -1,6 +1,6 @@
 -- The tokens that forms are made of, and how they are spelled.
-use Rattle.std.proofs.Common.{◌≡◌, ℕ, ℤ, Bool, true, false, cond, List, [], Option, Some, None, refl, ap, sym, subst, ◌∙◌, not, ◌&&◌}
-use Rattle.std.specs.Prelude.{codes}
+use Rattle.std.proofs.Common.{◌≡◌, ℕ, ℤ, Bool, true, false, cond, List, [], Option, Some, None, refl, ap, sym, subst, ◌∙◌}
+use Rattle.std.specs.Prelude.{codes, is_some}
 use Rattle.std.specs.Str.{bytes_eq}
 use Rattle.std.proofs.lemmas.Slice.Eq.{bytes_eq-Decides}
 use Rattle.fac_lang.specs.declared.phrase.Place.{Place}
@@ -9,7 +9,8 @@ use Rattle.fac_lang.specs.declared.token.TokKind.{TokKind}
 use Rattle.fac_lang.specs.declared.token.TokKind.TheVariants.{Plain, Str}
 use Rattle.fac_parse.specs.declared.spelling.Spelling.{Spelling}
 use Rattle.fac_parse.specs.declared.spelling.Spelling.TheVariants.{Using, Colon, Semi, Opens, Closes, Dashes, OpensQuotation, ClosesQuotation, True, False, Inline, Recursive, Integer, Name, Other}
-use Rattle.fac_parse.specs.Spellings.{has_integer_form, literal_in, is_reserved, is_quiet, sign_spelling, word_spelling, integer_spelling, spelling_of, token_spelling}
+use Rattle.fac_lang.specs.Numbers.{signed_in, integer_in, in_range}
+use Rattle.fac_parse.specs.Spellings.{has_integer_form, is_reserved, sign_spelling, word_spelling, integer_spelling, spelling_of, token_spelling}
 use Rattle.fac_parse.specs.Trees.{plain_token}
 
 pub using_is_using : spelling_of (codes "USING:") ≡ Using
@@ -106,7 +107,7 @@ says text =
     one_says text (codes "inline") Inline _ _ refl refl (
     one_says text (codes "recursive") Recursive None _ refl refl tt)))))))))))
 
-sign_picked : (b c : Bool) (o : Option ℤ) (s : Option Spelling) → IsSign (cond b (integer_spelling o) (elim s [ Some s ↦ s | None ↦ cond c Name Other ])) → s ≡ Some (cond b (integer_spelling o) (elim s [ Some s ↦ s | None ↦ cond c Name Other ]))
+sign_picked : (b c : Bool) (o : Option ℤ) (s : Option Spelling) → IsSign (cond b (integer_spelling o) (elim s [ Some s ↦ s | None ↦ cond c Other Name ])) → s ≡ Some (cond b (integer_spelling o) (elim s [ Some s ↦ s | None ↦ cond c Other Name ]))
 sign_picked true c None s h = absurd h
 sign_picked true c (Some z) s h = absurd h
 sign_picked false c o (Some s) h = refl
@@ -115,7 +116,7 @@ sign_picked false false o None h = absurd h
 
 sign_only : (text : List ℕ) → IsSign (spelling_of text) → sign_spelling text ≡ Some (spelling_of text)
 unfolding spelling_of word_spelling
-sign_only text h = sign_picked (has_integer_form text) (not (is_reserved text) && is_quiet text) (literal_in text) (sign_spelling text) h
+sign_only text h = sign_picked (has_integer_form text) (is_reserved text) (integer_in text) (sign_spelling text) h
 
 sign_kind : (p : Place) (k : TokKind) → IsSign (token_spelling k) → record { place = p; kind = k } ≡ plain_token p (sign_text (token_spelling k))
 sign_kind p (Plain text) h = ap (plain_token p) (subst (Says text) (sign_only text h) (says text))
@@ -124,3 +125,33 @@ sign_kind p (Str text) h = absurd h
 -- a token that is spelled as a sign is that sign
 pub sign_token : (t : Token) (s : Spelling) → token_spelling t.kind ≡ s → IsSign s → t ≡ plain_token t.place (sign_text s)
 sign_token t s e h = subst (λ (s : Spelling). t ≡ plain_token t.place (sign_text s)) e (sign_kind t.place t.kind (subst IsSign (sym e) h))
+
+-- Integers.
+no_integer_sign : (text : List ℕ) (z : ℤ) → sign_spelling text ≡ Some (Integer z) → ⊥
+no_integer_sign text z e =
+    let empty : text ≡ [] = subst (Says text) e (says text) in
+    let none : sign_spelling [] ≡ Some (Integer z) = subst (λ (t : List ℕ). sign_spelling t ≡ Some (Integer z)) empty e in
+    cc
+
+word_picked : (b : Bool) (s : Option Spelling) (z : ℤ) → (s ≡ Some (Integer z) → ⊥) → elim s [ Some s ↦ s | None ↦ cond b Other Name ] ≡ Integer z → ⊥
+word_picked b (Some s) z h e = h (ap Some e)
+word_picked true None z h e = cc
+word_picked false None z h e = cc
+
+no_integer_word : (text : List ℕ) (z : ℤ) → word_spelling text ≡ Integer z → ⊥
+unfolding word_spelling
+no_integer_word text z e = word_picked (is_reserved text) (sign_spelling text) z (no_integer_sign text z) e
+
+read_integer : (b : Bool) (o : Option ℤ) (w : Spelling) (z : ℤ) → (w ≡ Integer z → ⊥) → cond b (integer_spelling o) w ≡ Integer z → o ≡ Some z
+read_integer true None w z h e = cc
+read_integer true (Some y) w z h e = cc
+read_integer false o w z h e = absurd (h e)
+
+written_integer : (o : Option ℤ) (w : Spelling) (z : ℤ) → elim o [ None ↦ None | Some y ↦ in_range y ] ≡ Some z → cond (is_some o) (integer_spelling (elim o [ None ↦ None | Some y ↦ in_range y ])) w ≡ Integer z
+written_integer None w z e = cc
+written_integer (Some y) w z e = ap integer_spelling e
+
+pub literals_are_integers : (text : List ℕ) (z : ℤ) → (spelling_of text ≡ Integer z → integer_in text ≡ Some z) × (integer_in text ≡ Some z → spelling_of text ≡ Integer z)
+unfolding spelling_of has_integer_form
+literals_are_integers text z =
+    (λ e. read_integer (has_integer_form text) (integer_in text) (word_spelling text) z (no_integer_word text z) e, λ e. written_integer (signed_in text) (word_spelling text) z e)

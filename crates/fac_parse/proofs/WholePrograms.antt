@@ -9,7 +9,8 @@ use Rattle.std.specs.List.{list_all, list_any}
 use Rattle.std.specs.Str.{bytes_eq}
 use Rattle.fac_lang.specs.Forms.{IsBuilt, IsBuiltText, IsBuiltSort, AreBuiltWords, IsPrimitiveWord, IsCoreWord, IsDefinedWord, IsTopPhrase, IsPlainEffect, is_member, numbers_before, primitive_numbers, has_no_repeats}
 use Rattle.fac_lang.specs.Meaning.{sort_of, is_past}
-use Rattle.fac_lang.specs.PrimitiveWords.{PrimitiveWord, primitive_word, plain_inputs, plain_leaving, written_effect}
+use Rattle.fac_lang.specs.PrimitiveWords.{PrimitiveWord, plain_inputs, plain_leaving, written_effect}
+use Rattle.fac_lang.specs.Primitives.{built_primitive_words}
 use Rattle.fac_lang.specs.Texts.{Text, end, then, Item, lit, int, yes, no, quot, word}
 use Rattle.fac_lang.specs.Whole.{IsWhole, each_item, each_numbered, locals_bound, holes_within, item_fits, item_spares, is_body, tests_small, word_texts, sort_fits, has_written_effect, has_generic_effect, marks_fit, effect_eq, inputs_eq, leaving_eq, names_eq, name_count, no_two, same_word, same_method}
 use Rattle.fac_lang.specs.declared.program.Program.{Program}
@@ -273,7 +274,7 @@ own_few bound [] h = refl
 own_few bound (d ∷ ds) h = both_are (has_few_names d) (list_all has_few_names ds) h.0.few (own_few bound ds h.1)
 
 known_few : list_all has_few_names known_words ≡ true
-unfolding known_words primitive_word
+unfolding known_words built_primitive_words
 known_few = refl
 
 all_few : (bound : ℕ) (c : Contents) → AreOwnWords bound c.words → list_all has_few_names (known_words ++ c.words ++ top_word c.text ∷ []) ≡ true

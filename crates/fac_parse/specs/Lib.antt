@@ -1,13 +1,9 @@
-pub mod Words
-pub mod Scanner
-pub mod Digits
 pub mod Spellings
 pub mod Trees
 pub mod Reader
 pub mod Vocabularies
 pub mod Resolution
 pub mod Written
-pub mod FirstWords
-pub mod OwnNames
+pub mod KnownNames
 pub mod Resolver
 pub mod PlainEffects

@@ -1,9 +1,9 @@
 -- The program of a tree, or its first refused name.
 use Rattle.std.specs.Prelude.{◌≡◌, ℕ, ◌+◌, Bool, true, false, ◌&&◌, List, [], ◌∷◌, ◌++◌, length, Option, Some, None, is_some, Result, Ok, Err, codes, if◌then◌else◌}
 use Rattle.std.specs.Str.{bytes_eq}
-use Rattle.fac_lang.specs.CoreWords.{core_word}
-use Rattle.fac_lang.specs.Forms.{built_primitives}
-use Rattle.fac_lang.specs.PrimitiveWords.{PrimitiveWord, primitive_word, written_effect, plain_inputs}
+use Rattle.fac_lang.specs.CoreWords.{built_core_words}
+use Rattle.fac_lang.specs.PrimitiveWords.{PrimitiveWord, written_effect, plain_inputs}
+use Rattle.fac_lang.specs.Primitives.{built_primitive_words}
 use Rattle.fac_lang.specs.Signatures.{Signature, signature, no_inputs, Leaving, never, leaves}
 use Rattle.fac_lang.specs.Texts.{Text, end, then as placed, Item, lit, int, yes, no, quot, word}
 use Rattle.fac_lang.specs.declared.phrase.Place.{Place}
@@ -37,37 +37,18 @@ nowhere = record { file = 0; token = 0 }
 abbrev pub plain_word : List ℕ → List ℕ → Sort → Signature → WordDef
 plain_word vocab name sort effect = record { name = record { vocab = vocab; name = name }; sort = sort; effect = effect; inline = false; recursive = false; place = nowhere }
 
--- the word of a primitive
-abbrev pub primitive_def : ℕ → PrimitiveWord → WordDef
-primitive_def k row = plain_word row.vocab row.name (Prim k) (written_effect row)
+-- the word of a row of a table of words
+abbrev pub row_word : PrimitiveWord → Sort → WordDef
+row_word row sort = plain_word row.vocab row.name sort (written_effect row)
 
-abbrev pub primitive_if_any : ℕ → Option PrimitiveWord → List WordDef
-primitive_if_any k None = []
-primitive_if_any k (Some row) = primitive_def k row ∷ []
+-- the words of a table, numbered from n on
+abbrev pub words_from : (ℕ → Sort) → ℕ → List PrimitiveWord → List WordDef
+words_from sort n [] = []
+words_from sort n (row ∷ rows) = row_word row (sort n) ∷ words_from sort (n + 1) rows
 
-abbrev pub primitive_defs : List ℕ → List WordDef
-primitive_defs [] = []
-primitive_defs (k ∷ ks) = primitive_if_any k (primitive_word k) ++ primitive_defs ks
-
--- the word of a core word
-abbrev pub core_def : ℕ → PrimitiveWord → WordDef
-core_def k row = plain_word row.vocab row.name (Core k) (written_effect row)
-
-abbrev pub core_if_any : ℕ → Option PrimitiveWord → List WordDef
-core_if_any k None = []
-core_if_any k (Some row) = core_def k row ∷ []
-
-abbrev pub core_defs : List ℕ → List WordDef
-core_defs [] = []
-core_defs (k ∷ ks) = core_if_any k (core_word k) ++ core_defs ks
-
--- the core words that are built: `call`, `dip` and `if`
-abbrev pub built_cores : List ℕ
-built_cores = 0 ∷ 1 ∷ 2 ∷ []
-
--- the words that there are before a source is read
+-- the words that there are before a source is read: the primitives that are built, and the core words that are
 unfoldable pub known_words : List WordDef
-known_words = primitive_defs built_primitives ++ core_defs built_cores
+known_words = words_from Prim 0 built_primitive_words ++ words_from Core 0 built_core_words
 
 -- the names of words
 abbrev pub names_of : List WordDef → List FullName

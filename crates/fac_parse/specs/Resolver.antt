@@ -23,8 +23,7 @@ use Rattle.fac_parse.specs.declared.resolver.ResolveFault.TheVariants.{Name, Mem
 use Rattle.fac_parse.specs.declared.resolver.OpenQuotation.{OpenQuotation}
 use Rattle.fac_parse.specs.declared.resolver.Nest.{Nest}
 use Rattle.fac_parse.specs.declared.resolver.SoFar.{SoFar}
-use Rattle.fac_parse.specs.OwnNames.{names_with}
-use Rattle.fac_parse.specs.Resolution.{known_words, found, is_taken, name_fault, uses, result_map, Following, with_quotation, following, text_of, defined_word, Contents, unless_taken, with_defined, contents_of, file_contents, top_word}
+use Rattle.fac_parse.specs.Resolution.{known_words, found, own_name, is_taken, name_fault, uses, result_map, Following, with_quotation, following, text_of, defined_word, Contents, unless_taken, with_defined, contents_of, file_contents, top_word}
 use Rattle.fac_parse.specs.Trees.{token_text, depth_behind, AreItems}
 
 -- what using vocabularies answers
@@ -117,17 +116,17 @@ after_made words items (Err fault) = Err fault
 
 -- what was made so far, and then what the forms from here on define and do
 abbrev pub contents_after : SoFar → List Form → Result Contents NameFault
-contents_after s forms = after_made s.words s.items.items (contents_of (names_with s.own) s.used forms)
+contents_after s forms = after_made s.words s.items.items (contents_of s.names s.used forms)
 
 -- a definition before what follows
 abbrev pub defining : SoFar → Token → WrittenEffect → List Piece → Option Mark → Result Contents NameFault → Result Contents NameFault
 defining s name effect items mark rest =
-    unless_taken (is_taken (names_with s.own) (token_text name.kind)) name (with_defined (result_map (defined_word name effect mark) (text_of (names_with (s.own ++ token_text name.kind ∷ [])) s.used items)) rest)
+    unless_taken (is_taken s.names (token_text name.kind)) name (with_defined (result_map (defined_word name effect mark) (text_of (s.names ++ own_name (token_text name.kind) ∷ []) s.used items)) rest)
 
 -- the definition adds its word and its name, and nothing else
 pub record IsDefined (s : SoFar) (name : Token) (effect : WrittenEffect) (items : List Piece) (mark : Option Mark) (s_then : SoFar) : Type 0 where
   pub made : (rest : Result Contents NameFault) → after_made s.words s.items.items (defining s name effect items mark rest) ≡ after_made s_then.words s_then.items.items rest
-  pub own : s_then.own ≡ s.own ++ token_text name.kind ∷ []
+  pub names : s_then.names ≡ s.names ++ own_name (token_text name.kind) ∷ []
   pub used : s_then.used ≡ s.used
 
 -- a name of the definition is refused
@@ -149,7 +148,7 @@ TakesQuotation known used place pieces items items_then (Err Memory) = Unit {0}
 -- what taking a form answers, with what was made before and after it
 abbrev pub TakesForm : SoFar → Form → SoFar → Result Unit ResolveFault → Type 0
 TakesForm s form s_then (Ok done) = (rest : List Form) → contents_after s (form ∷ rest) ≡ contents_after s_then rest
-TakesForm s form s_then (Err (Name fault)) = (rest : List Form) → contents_of (names_with s.own) s.used (form ∷ rest) ≡ Err fault
+TakesForm s form s_then (Err (Name fault)) = (rest : List Form) → contents_of s.names s.used (form ∷ rest) ≡ Err fault
 TakesForm s form s_then (Err Memory) = Unit {0}
 
 -- before the first form

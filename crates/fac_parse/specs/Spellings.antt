@@ -1,8 +1,8 @@
 -- What a token is to the grammar, by how it is spelled.
-use Rattle.std.specs.List.{list_all, list_any}
-use Rattle.std.specs.Prelude.{◌≡◌, ℕ, ℤ, pos, nat_eq, Bool, true, false, not, ◌&&◌, ◌||◌, List, [], ◌∷◌, Option, Some, None, is_some, codes, take, drop, length, ◌-◌, if◌then◌else◌}
+use Rattle.std.specs.List.{list_any}
+use Rattle.std.specs.Prelude.{◌≡◌, ℕ, ℤ, Bool, true, false, not, ◌&&◌, ◌||◌, List, [], ◌∷◌, Option, Some, None, is_some, codes, take, drop, length, ◌-◌, if◌then◌else◌}
 use Rattle.std.specs.Str.{bytes_eq}
-use Rattle.fac_lang.specs.Numbers.{signed_in, integer_in, digits_in, negated, in_range}
+use Rattle.fac_lang.specs.Numbers.{signed_in, integer_in}
 use Rattle.fac_lang.specs.declared.token.TokKind.{TokKind}
 use Rattle.fac_lang.specs.declared.token.TokKind.TheVariants.{Plain, Str}
 use Rattle.fac_parse.specs.declared.spelling.Spelling.{Spelling}
@@ -11,19 +11,6 @@ use Rattle.fac_parse.specs.declared.spelling.Spelling.TheVariants.{Using, Colon,
 -- a text in one of the integer forms, in range or not
 unfoldable pub has_integer_form : List ℕ → Bool
 has_integer_form text = is_some (signed_in text)
-
-abbrev pub signed_value : Bool → Option ℕ → Option ℤ
-signed_value is_negative None = None
-signed_value is_negative (Some n) = in_range (if is_negative then negated n else pos n)
-
--- the integer that an optional `-` and decimal digits write, where it is in range
-unfoldable pub literal_in : List ℕ → Option ℤ
-literal_in [] = None
-literal_in (c ∷ cs) = (if nat_eq c 45 then signed_value true (digits_in 10 cs) else signed_value false (digits_in 10 (c ∷ cs)))
-
--- a literal is read as the integer forms are
-abbrev pub LiteralsAreIntegers : Type 0
-LiteralsAreIntegers = (text : List ℕ) (z : ℤ) → literal_in text ≡ Some z → integer_in text ≡ Some z
 
 -- Tokens that are never names.
 unfoldable pub is_reserved_sign : List ℕ → Bool
@@ -55,10 +42,6 @@ is_left_out text =
 unfoldable pub is_reserved : List ℕ → Bool
 is_reserved text = is_reserved_sign text || is_reserved_form text || is_reserved_word text || is_left_out text
 
--- neither a comment's `!` nor with a quote in it
-unfoldable pub is_quiet : List ℕ → Bool
-is_quiet text = not (bytes_eq text (codes "!")) && list_all (λ c. not (nat_eq c 34)) text
-
 -- the tokens that forms are made of
 abbrev pub sign_spelling : List ℕ → Option Spelling
 sign_spelling text =
@@ -78,14 +61,19 @@ sign_spelling text =
 
 -- a token in no integer form
 unfoldable pub word_spelling : List ℕ → Spelling
-word_spelling text = elim (sign_spelling text) [ Some s ↦ s | None ↦ if not (is_reserved text) && is_quiet text then Name else Other ]
+word_spelling text = elim (sign_spelling text) [ Some s ↦ s | None ↦ if is_reserved text then Other else Name ]
 
+-- a token in one of the integer forms, which stands nowhere where it is out of range
 abbrev pub integer_spelling : Option ℤ → Spelling
 integer_spelling (Some z) = Integer z
 integer_spelling None = Other
 
 unfoldable pub spelling_of : List ℕ → Spelling
-spelling_of text = (if has_integer_form text then integer_spelling (literal_in text) else word_spelling text)
+spelling_of text = (if has_integer_form text then integer_spelling (integer_in text) else word_spelling text)
+
+-- a plain token is an integer exactly where the primitives on texts of numbers read it as that integer
+abbrev pub LiteralsAreIntegers : Type 0
+LiteralsAreIntegers = (text : List ℕ) (z : ℤ) → (spelling_of text ≡ Integer z → integer_in text ≡ Some z) × (integer_in text ≡ Some z → spelling_of text ≡ Integer z)
 
 abbrev pub token_spelling : TokKind → Spelling
 token_spelling (Plain text) = spelling_of text

@@ -8,7 +8,7 @@ pub fn one_tree()
     ensures { OneTree }
 {}
 
-/// An integer literal, decimal digits without commas, has the value that the integer forms give it.
+/// A plain token is an integer exactly where the primitives on texts of numbers read its text as one, and has the same value.
 pub fn literals_are_integers()
     ensures { LiteralsAreIntegers }
 {}

@@ -1,13 +1,11 @@
-//! Reading a source: its bytes to tokens, tokens to a tree, and a tree to a program.
+//! Reading a source: its tokens to a tree, and a tree to a program.
 #![tactic(auto)]
 
 mod built_words;
-mod integers;
+mod known_names;
 mod laws;
-mod own_names;
 mod reader;
 mod resolver;
-mod scanner;
 mod spelling;
 mod text_set;
 mod vocabularies;
@@ -15,4 +13,3 @@ mod vocabularies;
 pub use laws::{literals_are_integers, one_tree, texts_are_written_as_items};
 pub use reader::{ParseFault, Why, parse};
 pub use resolver::{NameFault, NameKind, ResolveFault, resolve};
-pub use scanner::{TokenFault, tokens};

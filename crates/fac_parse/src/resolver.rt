@@ -2,13 +2,12 @@
 ghost use Rattle.std.specs.Prelude.{◌≡◌, ◌<◌, ◌-◌, ◌++◌, ◌∷◌, [], length, IfOk, OnOk};
 ghost use Rattle.fac_lang.specs.Forms.{IsBuilt};
 ghost use Rattle.fac_lang.specs.Whole.{IsWhole};
-ghost use Rattle.fac_parse.specs.OwnNames.{names_with};
 ghost use Rattle.fac_parse.specs.Resolution.{name_fault, defined_word, Resolves};
 ghost use Rattle.fac_parse.specs.Resolver.{Uses, TakesItem, Closes, IsClosable, TakesPiece, AreClosed, ReadsText, TakesQuotation, Defines, TakesForm, IsFirst, ReadsForms, program_with};
 ghost use Rattle.fac_parse.specs.Trees.{AreItems, most_levels, IsForm, IsWellFormed};
 
-use crate::built_words::{defined, find, first_words, phrase_word};
-use crate::own_names::OwnNames;
+use crate::built_words::{defined, first_words, phrase_word};
+use crate::known_names::KnownNames;
 use crate::spelling::text;
 use crate::text_set::TextSet;
 use crate::vocabularies::is_vocabulary;
@@ -75,8 +74,8 @@ fn refusal(alloc: Global, kind: NameKind, token: &Token) -> Result<NameFault, Me
 struct SoFar {
     // The used vocabularies.
     used: TextSet,
-    // The names of the words that the file has defined.
-    own: OwnNames,
+    // The names of the words.
+    names: KnownNames,
     // The words that there are from the start, and those that the file has defined.
     words: List<WordDef>,
     // The items at the top level.
@@ -107,19 +106,19 @@ fn add_item(items: &mut Vec<Item>, what: What, place: Place) -> Result<(), Memor
 // Takes an item.
 fn take_item(
     alloc: Global,
-    own: &OwnNames,
+    known: &KnownNames,
     used: &TextSet,
     items: &mut Vec<Item>,
     item: &Term,
 ) -> Result<(), ResolveFault>
-    ensures { TakesItem (names_with own.now) used.now item.now items.old.items items.new.items result }
+    ensures { TakesItem known.now used.now item.now items.old.items items.new.items result }
 {
     match item {
         Term::Integer(token, value) => {
             add_item(items, What::Int(*value), token.place)?;
             Ok(())
         }
-        Term::Name(token) => match find(own, used, text(&token.kind)) {
+        Term::Name(token) => match known.find(used, text(&token.kind)) {
             Some(number) => {
                 add_item(items, What::Word(number), token.place)?;
                 Ok(())
@@ -191,18 +190,18 @@ fn close_quotation(nest: Nest) -> Result<Nest, Memory>
 // Takes a piece of items.
 fn take_piece(
     alloc: Global,
-    own: &OwnNames,
+    known: &KnownNames,
     used: &TextSet,
     nest: Nest,
     piece: &Piece,
 ) -> Result<Nest, ResolveFault>
     requires { IsClosable (length nest.outer.items) piece.now }
-    ensures { TakesPiece (names_with own.now) used.now piece.now nest result }
+    ensures { TakesPiece known.now used.now piece.now nest result }
 {
     match piece {
         Piece::Item(item) => {
             let Nest { outer, mut items } = nest;
-            match take_item(alloc, own, used, &mut items, item) {
+            match take_item(alloc, known, used, &mut items, item) {
                 Ok(()) => Ok(Nest { outer, items }),
                 Err(fault) => Err(fault),
             }
@@ -215,19 +214,19 @@ fn take_piece(
 // The text of items.
 fn body_of(
     alloc: Global,
-    own: &OwnNames,
+    known: &KnownNames,
     used: &TextSet,
     pieces: &[Piece],
 ) -> Result<Phrase, ResolveFault>
     requires { AreClosed pieces.now }
-    ensures { ReadsText (names_with own.now) used.now pieces.now result }
+    ensures { ReadsText known.now used.now pieces.now result }
 {
     let mut nest = Nest {
         outer: Vec::new(alloc),
         items: Vec::new(alloc),
     };
     for piece in pieces {
-        match take_piece(alloc, own, used, nest, piece) {
+        match take_piece(alloc, known, used, nest, piece) {
             Ok(next) => nest = next,
             Err(fault) => return Err(fault),
         }
@@ -263,11 +262,11 @@ fn define(
     requires { AreItems most_levels items.now }
     ensures { Defines so_far.old name.now effect.now items.now mark so_far.new result }
 {
-    if so_far.own.contains(text(&name.kind)) {
+    if so_far.names.defines(text(&name.kind)) {
         return Err(ResolveFault::Name(refusal(alloc, NameKind::Twice, name)?));
     }
-    so_far.own.add(alloc, text(&name.kind))?;
-    match body_of(alloc, &so_far.own, &so_far.used, items) {
+    so_far.names.add(alloc, text(&name.kind))?;
+    match body_of(alloc, &so_far.names, &so_far.used, items) {
         Ok(body) => {
             add_word(alloc, &mut so_far.words, name, effect, mark, body)?;
             Ok(())
@@ -279,16 +278,16 @@ fn define(
 // Takes a quotation at the top level.
 fn take_quotation(
     alloc: Global,
-    own: &OwnNames,
+    known: &KnownNames,
     used: &TextSet,
     items: &mut Vec<Item>,
     place: Place,
     pieces: &[Piece],
 ) -> Result<(), ResolveFault>
     requires { AreItems (most_levels - 1) pieces.now }
-    ensures { TakesQuotation (names_with own.now) used.now place pieces.now items.old.items items.new.items result }
+    ensures { TakesQuotation known.now used.now place pieces.now items.old.items items.new.items result }
 {
-    match body_of(alloc, own, used, pieces) {
+    match body_of(alloc, known, used, pieces) {
         Ok(body) => {
             add_item(items, What::Quot(body), place)?;
             Ok(())
@@ -311,10 +310,10 @@ fn take_form(alloc: Global, so_far: &mut SoFar, form: &Form) -> Result<(), Resol
             mark,
             ..
         } => define(alloc, so_far, name, effect, items.as_slice(), *mark),
-        Form::Item(item) => take_item(alloc, &so_far.own, &so_far.used, &mut so_far.items, item),
+        Form::Item(item) => take_item(alloc, &so_far.names, &so_far.used, &mut so_far.items, item),
         Form::Quotation { opens, items, .. } => take_quotation(
             alloc,
-            &so_far.own,
+            &so_far.names,
             &so_far.used,
             &mut so_far.items,
             *opens,
@@ -330,9 +329,10 @@ fn first(alloc: Global) -> Result<SoFar, Memory>
     let mut used = TextSet::new(alloc);
     used.add(alloc, "syntax")?;
     let words = first_words(alloc)?;
+    let names = KnownNames::new(alloc, words.as_slice())?;
     Ok(SoFar {
         used,
-        own: OwnNames::new(alloc),
+        names,
         words,
         items: Vec::new(alloc),
     })
@@ -379,8 +379,8 @@ fn program_of(alloc: Global, forms: &[Form]) -> Result<Program, ResolveFault>
     Ok(program)
 }
 
-/// The program of a tree: the primitive words that are built, numbered from 0 in the order of the primitives, then `call`, `dip` and
-/// `if`, then the words that the file defines in its order, numbered from 30 on, and as the last word the top-level phrase.
+/// The program of a tree: the primitive words that are built, numbered from 0 in the order of their table, then the core words, then the
+/// words that the file defines in its order, and as the last word the top-level phrase.
 /// A vocabulary of a `USING:` must exist. A word is known in its own text and behind it, and its name may be defined once in a file.
 /// A name must find a word: among those that the file has defined so far, or else in the first vocabulary used before it that holds the name.
 pub fn resolve(alloc: Global, tree: &Tree) -> Result<Program, ResolveFault>

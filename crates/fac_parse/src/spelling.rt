@@ -1,12 +1,11 @@
 //! What a token is to the grammar.
-ghost use Rattle.std.specs.Prelude.{◌≡◌, codes, nat_eq, not};
-ghost use Rattle.std.specs.List.{list_all};
+ghost use Rattle.std.specs.Prelude.{◌≡◌, codes};
 ghost use Rattle.std.specs.Str.{bytes_eq};
-ghost use Rattle.fac_parse.specs.Spellings.{is_reserved_sign, is_reserved_form, is_reserved_word, is_left_out, is_reserved, is_quiet, word_spelling, spelling_of, token_spelling, is_semi, is_closing, is_row_name, is_described_name, is_value_name};
+ghost use Rattle.fac_parse.specs.Spellings.{is_reserved_sign, is_reserved_form, is_reserved_word, is_left_out, is_reserved, word_spelling, spelling_of, token_spelling, is_semi, is_closing, is_row_name, is_described_name, is_value_name};
 ghost use Rattle.fac_parse.specs.Trees.{token_text};
 
-use crate::integers::{has_integer_form, literal};
 use fac_lang::{TokKind, Token};
+use fac_num::{NumFault, read_int};
 
 /// What a token is to the grammar, by how it is spelled.
 #[derive(Clone, Copy, Debug)]
@@ -35,9 +34,11 @@ pub enum Spelling {
     Inline,
     /// `recursive`
     Recursive,
-    /// Decimal digits without commas, in range.
+    /// A token in one of the integer forms, in range.
     Integer(i128),
+    /// A plain token that is in no integer form and isn't reserved.
     Name,
+    /// A token that stands nowhere: a string, an integer that is too wide, or a reserved token of a form that isn't read.
     Other,
 }
 
@@ -153,24 +154,6 @@ fn reserved(text: &str) -> bool
     is_sign(text) || is_form(text) || is_mark(text) || is_absent(text)
 }
 
-fn has_no_quote(text: &[u8]) -> bool
-    ensures { result ≡ list_all (λ c. not (nat_eq c 34)) text.now }
-{
-    for c in text {
-        if *c == 34 {
-            return false;
-        }
-    }
-    true
-}
-
-#[tactic(auto, unfolding(crate::specs::Spellings::is_quiet))]
-fn quiet(text: &str) -> bool
-    ensures { result ≡ is_quiet text.now }
-{
-    text != "!" && has_no_quote(text.as_bytes())
-}
-
 #[tactic(auto, unfolding(crate::specs::Spellings::word_spelling))]
 fn spelled_word(text: &str) -> Spelling
     ensures { result ≡ word_spelling text.now }
@@ -189,26 +172,23 @@ fn spelled_word(text: &str) -> Spelling
         "inline" => Spelling::Inline,
         "recursive" => Spelling::Recursive,
         _ => {
-            if !reserved(text) && quiet(text) {
-                Spelling::Name
-            } else {
+            if reserved(text) {
                 Spelling::Other
+            } else {
+                Spelling::Name
             }
         }
     }
 }
 
-#[tactic(auto, unfolding(crate::specs::Spellings::spelling_of))]
+#[tactic(auto, unfolding(crate::specs::Spellings::spelling_of, crate::specs::Spellings::has_integer_form))]
 fn spelled(text: &str) -> Spelling
     ensures { result ≡ spelling_of text.now }
 {
-    if has_integer_form(text.as_bytes()) {
-        match literal(text.as_bytes()) {
-            Some(value) => Spelling::Integer(value),
-            None => Spelling::Other,
-        }
-    } else {
-        spelled_word(text)
+    match read_int(text) {
+        Ok(value) => Spelling::Integer(value),
+        Err(NumFault::TooWide) => Spelling::Other,
+        Err(NumFault::NotNumber) => spelled_word(text),
     }
 }
 

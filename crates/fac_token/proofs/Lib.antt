@@ -3,3 +3,4 @@ pub mod OneReading
 pub mod StepLemmas
 pub mod AnswerLemmas
 pub mod ExamplesOfTokens
+pub mod FileAnswers

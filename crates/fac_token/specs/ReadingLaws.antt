@@ -25,3 +25,7 @@ IsNotMemory (Err f) = Unit {0}
 
 abbrev pub OneAnswer : Type 0
 OneAnswer = (file : ℕ) (bytes : List ℕ) (r t : Result (List Token) TokenFault) → IsNotMemory r → IsNotMemory t → Tokenizes file bytes r → Tokenizes file bytes t → r ≡ t
+
+-- each file has an answer besides want of memory
+abbrev pub EveryFileAnswers : Type 0
+EveryFileAnswers = (file : ℕ) (bytes : List ℕ) → (r : Result (List Token) TokenFault) × IsNotMemory r × Tokenizes file bytes r

@@ -1,5 +1,5 @@
 //! Laws of readings and answers, each on the contract of a function that does nothing.
-ghost use Rattle.fac_token.specs.ReadingLaws.{ReadOrFaulty, NotBoth, OneReading, OneFirstFault, OneAnswer};
+ghost use Rattle.fac_token.specs.ReadingLaws.{ReadOrFaulty, NotBoth, OneReading, OneFirstFault, OneAnswer, EveryFileAnswers};
 
 /// Every text has a reading, as pieces that spell it, or a first fault.
 pub fn every_text_is_read_or_faulty()
@@ -24,4 +24,9 @@ pub fn one_first_fault()
 /// The contract of `tokens` allows one answer besides `Memory`.
 pub fn one_answer()
     ensures { OneAnswer }
+{}
+
+/// The contract of `tokens` allows an answer besides `Memory` for each file.
+pub fn every_file_has_an_answer()
+    ensures { EveryFileAnswers }
 {}

@@ -12,6 +12,7 @@ mod scanner;
 
 pub use fault::TokenFault;
 pub use laws::{
-    every_text_is_read_or_faulty, no_text_is_both, one_answer, one_first_fault, one_reading,
+    every_file_has_an_answer, every_text_is_read_or_faulty, no_text_is_both, one_answer,
+    one_first_fault, one_reading,
 };
 pub use scanner::tokens;

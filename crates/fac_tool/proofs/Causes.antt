@@ -4,7 +4,7 @@ use Rattle.std.specs.declared.option.Option.{Option}
 use Rattle.fac_io.specs.Faults.{Rose}
 use Rattle.fac_tool.specs.declared.command.Command.{Command}
 use Rattle.fac_tool.specs.declared.ended.Ended.{Ended}
-use Rattle.fac_tool.specs.Seen.{SinkSeen, FilesSeen, files_seen}
+use Rattle.fac_tool.specs.Seen.{SinkSeen, FilesSeen}
 use Rattle.fac_tool.specs.Command.{name_of}
 use Rattle.fac_tool.specs.Answer.{answer_on, accepted}
 use Rattle.fac_tool.specs.Ends.{ending_of, EndsBy, work_of}
@@ -14,14 +14,12 @@ use Rattle.fac_tool.specs.Answers.{Tells, ReachesBy, Loaded, AnswersBy, TellsUsa
 status-Tells : (n : ℕ) (names : List (List ℕ)) (reached : Ended) (notes : SinkSeen) (ended : Ended) → n ≢ 10 → n ≢ 12 → Tells names reached notes ended → ended.status ≡ n → reached.status ≡ n
 status-Tells n names reached notes ended a b (inl whole) e = ap (λ (x : Ended). x.status) (sym whole.same) ∙ e
 status-Tells n names reached notes ended a b (inr (inl part)) e = absurd (a (sym e ∙ part.status))
-status-Tells n names reached notes ended a b (inr (inr (inl none))) e = absurd (b (sym e ∙ none.status))
-status-Tells n names reached notes ended a b (inr (inr (inr part))) e = absurd (a (sym e ∙ part.status))
+status-Tells n names reached notes ended a b (inr (inr none)) e = elim none.noted [ inl noted ↦ absurd (b (sym e ∙ noted.status)) | inr part ↦ absurd (a (sym e ∙ part.status)) ]
 
 ten_of : (names : List (List ℕ)) (reached : Ended) (notes : SinkSeen) (ended : Ended) → Tells names reached notes ended → ended.status ≡ 10 → (reached.status ≡ 10) ⊎ Rose notes.faults_before notes.faults_now
 ten_of names reached notes ended (inl whole) e = inl (ap (λ (x : Ended). x.status) (sym whole.same) ∙ e)
 ten_of names reached notes ended (inr (inl part)) e = inr part.rose
-ten_of names reached notes ended (inr (inr (inl none))) e = absurd (omega (arith, none.status, e))
-ten_of names reached notes ended (inr (inr (inr part))) e = inr part.rose
+ten_of names reached notes ended (inr (inr none)) e = elim none.noted [ inl noted ↦ absurd (omega (arith, noted.status, e)) | inr part ↦ inr part.rose ]
 
 -- usage and a write fault are the statuses of words that meet no form
 of_usage : (notes : SinkSeen) (ended : Ended) → TellsUsage notes ended → (ended.status ≡ 2) ⊎ ((ended.status ≡ 10) × Rose notes.faults_before notes.faults_now)
@@ -29,27 +27,27 @@ of_usage notes ended (inl whole) = inl (ap (λ (x : Ended). x.status) whole.same
 of_usage notes ended (inr part) = inr (part.status, part.rose)
 
 -- the ending of the work on a text at a given status
-loaded_ends : (status : ℕ) (name : List ℕ) (command : Command) (files : FilesSeen) (out : SinkSeen) (ended : Ended) (h : Loaded name command files out ended) → ended.status ≡ status → EndsBy (ending_of status) (answer_on command h.forms) (work_of command (accepted h.forms)) (files_seen h.mid_held files.held_now h.mid_asked files.asked_now h.mid_faults files.faults_now) out ended
+loaded_ends : (status : ℕ) (name : List ℕ) (command : Command) (files : FilesSeen) (out : SinkSeen) (ended : Ended) (h : Loaded name command files out ended) → ended.status ≡ status → EndsBy (ending_of status) (answer_on command h.source) (work_of command (accepted h.source)) out ended
 loaded_ends status name command files out ended h e =
-    subst (λ (n : ℕ). EndsBy (ending_of n) (answer_on command h.forms) (work_of command (accepted h.forms)) (files_seen h.mid_held files.held_now h.mid_asked files.asked_now h.mid_faults files.faults_now) out ended) e h.ends
+    subst (λ (n : ℕ). EndsBy (ending_of n) (answer_on command h.source) (work_of command (accepted h.source)) out ended) e h.ends
 
 files_rise : (name : List ℕ) (command : Command) (files : FilesSeen) (out : SinkSeen) (ended : Ended) → ReachesBy name command files out ended → ended.status ≡ 8 → Rose files.faults_before files.faults_now
-files_rise name command files out ended (inl none) e = absurd (omega (arith, none.status, e))
-files_rise name command files out ended (inr (inl fails)) e = fails.rose
-files_rise name command files out ended (inr (inr (inl long))) e = absurd (omega (arith, long.status, e))
-files_rise name command files out ended (inr (inr (inr h))) e = absurd (loaded_ends 8 name command files out ended h e)
+files_rise name command files out ended (inl (inl none)) e = absurd (omega (arith, none.status, e))
+files_rise name command files out ended (inl (inr (inl fails))) e = fails.rose
+files_rise name command files out ended (inl (inr (inr long))) e = absurd (omega (arith, long.status, e))
+files_rise name command files out ended (inr h) e = absurd (loaded_ends 8 name command files out ended h e)
 
 out_rises : (name : List ℕ) (command : Command) (files : FilesSeen) (out : SinkSeen) (ended : Ended) → ReachesBy name command files out ended → ended.status ≡ 10 → Rose out.faults_before out.faults_now
-out_rises name command files out ended (inl none) e = absurd (omega (arith, none.status, e))
-out_rises name command files out ended (inr (inl fails)) e = absurd (omega (arith, fails.status, e))
-out_rises name command files out ended (inr (inr (inl long))) e = absurd (omega (arith, long.status, e))
-out_rises name command files out ended (inr (inr (inr h))) e = (loaded_ends 10 name command files out ended h e).0
+out_rises name command files out ended (inl (inl none)) e = absurd (omega (arith, none.status, e))
+out_rises name command files out ended (inl (inr (inl fails))) e = absurd (omega (arith, fails.status, e))
+out_rises name command files out ended (inl (inr (inr long))) e = absurd (omega (arith, long.status, e))
+out_rises name command files out ended (inr h) e = (loaded_ends 10 name command files out ended h e).0
 
 no_usage : (name : List ℕ) (command : Command) (files : FilesSeen) (out : SinkSeen) (ended : Ended) → ReachesBy name command files out ended → ended.status ≡ 2 → ⊥
-no_usage name command files out ended (inl none) e = omega (arith, none.status, e)
-no_usage name command files out ended (inr (inl fails)) e = omega (arith, fails.status, e)
-no_usage name command files out ended (inr (inr (inl long))) e = omega (arith, long.status, e)
-no_usage name command files out ended (inr (inr (inr h))) e = loaded_ends 2 name command files out ended h e
+no_usage name command files out ended (inl (inl none)) e = omega (arith, none.status, e)
+no_usage name command files out ended (inl (inr (inl fails))) e = omega (arith, fails.status, e)
+no_usage name command files out ended (inl (inr (inr long))) e = omega (arith, long.status, e)
+no_usage name command files out ended (inr h) e = loaded_ends 2 name command files out ended h e
 
 pub file_cause : (c : Option Command) (words : List (List ℕ)) (files : FilesSeen) (out notes : SinkSeen) (ended : Ended) → AnswersBy c words files out notes ended → ended.status ≡ 8 → Rose files.faults_before files.faults_now
 file_cause None words files out notes ended h e = elim (of_usage notes ended h.1) [ inl r ↦ absurd (omega (arith, r, e)) | inr r ↦ absurd (omega (arith, r.0, e)) ]

@@ -1,5 +1,5 @@
 -- What a closed program keeps of the one for which it stands, and the checker's refusals both ways.
-use Rattle.std.proofs.Common.{◌≡◌, ℕ, zero, suc, List, [], ◌∷◌, Bool, Result, Ok, Err, IfOk, refl, ap, subst, ◌∙◌}
+use Rattle.std.proofs.Common.{◌≡◌, ℕ, zero, suc, List, [], ◌∷◌, Bool, Result, Ok, Err, IfOk, refl, ap, subst, ◌∙◌, arith}
 use Rattle.std.specs.Prelude.{slice_get}
 use Rattle.std.specs.declared.option.Option.{Option}
 use Rattle.fac_lang.specs.declared.memory.Memory.{Memory}
@@ -15,15 +15,14 @@ use Rattle.fac_locals.specs.declared.closing.Closed.{Closed}
 use Rattle.fac_check.specs.CallableEffects.{callable_height, fits}
 use Rattle.fac_check.specs.Checks.{IsKept}
 use Rattle.fac_check.specs.Judged.{refusal_seen}
-use Rattle.fac_check.specs.Walking.{rule_seen}
-use Rattle.fac_check.specs.declared.rule.Rule.{Rule}
-use Rattle.fac_check.specs.declared.rule.Rule.TheVariants.{Underflow, NotKnown, NotAClass, Branches, RecursiveInput, Rows, UndeclaredRecursion, RowDeclaration, MethodEffect, TooDeep, TooLarge, Outputs, MustReturn}
 use Rattle.fac_check.specs.declared.rule.Refusal.{Refusal}
 use Rattle.fac_check.specs.Promises.{IsSafe}
+use Rattle.fac_check.proofs.Promised.{not_stuck}
 use Rattle.fac_code.specs.declared.image.Image.{Image}
-use Rattle.fac_emit.specs.Carries.{Carries, IsNeverStuck}
-use Rattle.fac_tool.specs.Answer.{name_or}
-use Rattle.fac_tool.specs.Refusals.{rule_of, refusal_of}
+use Rattle.fac_emit.specs.Carries.{Carries}
+use Rattle.fac_notes.specs.WordNames.{name_or}
+use Rattle.fac_tool.specs.Answer.{meaning}
+use Rattle.fac_tool.specs.Refusals.{refusal_of}
 use Rattle.fac_tool.specs.Stops.{SameNames, Carried, StandsFor, StandsForSafe}
 
 -- each word of a closed program has the name of the word for which it stands
@@ -35,40 +34,24 @@ named_at P n (suc w) k (d ∷ ds) cs c = ap (λ (xs : List WordDef). name_or k (
 pub same_names : (P C : Program) (templates : List Template) → Closes P C templates → SameNames P C
 same_names P C templates closes w = named_at P 0 w w P.words C.words closes.words
 
--- a rule comes back
-rule_back : (r : Rule) → rule_of (rule_seen r) ≡ r
-rule_back (Underflow i n) = refl
-rule_back NotKnown = refl
-rule_back NotAClass = refl
-rule_back (Branches i j) = refl
-rule_back (RecursiveInput k) = refl
-rule_back (Rows k i j) = refl
-rule_back UndeclaredRecursion = refl
-rule_back RowDeclaration = refl
-rule_back MethodEffect = refl
-rule_back TooDeep = refl
-rule_back TooLarge = refl
-rule_back (Outputs i j) = refl
-rule_back MustReturn = refl
-
--- and a refusal
+-- a refusal comes back
 pub refusal_back : (r : Refusal) → refusal_of (refusal_seen r) ≡ r
-refusal_back r =
-    let same : record { word = r.word; place = r.place; rule = rule_of (rule_seen r.rule) } ≡ r = ap (λ (rule : Rule). record { word = r.word; place = r.place; rule = rule }) (rule_back r.rule) in
-    same
+refusal_back r = refl
 
 -- an accepted program is safe
 pub safe_one : (closed : Closed) (P : Program) → IsKept closed → closed.start ≡ 0 → StandsFor closed P → StandsForSafe closed P
-safe_one closed P kept start stands = record { closes = stands.closes; built = stands.built; safe = subst (λ count. IsSafe P count) start (kept P stands.closes stands.built stands.whole) }
+safe_one closed P kept start stands = record { closes = stands.closes; built = stands.built; safe = subst (λ count. IsSafe P count) start (kept P stands.closes stands.built stands.whole); start = start }
 
--- so it is never stuck with the checker's test of effects
-never_stuck : (P : Program) → IsSafe P 0 → IsNeverStuck P fits (callable_height P)
-never_stuck P safe n = safe.phrase [] (start P []).world n (safe.begins []) refl
+-- so its image carries it with the checker's test of effects, and it isn't stuck
+carried_by : (P : Program) (M : Image) (count : ℕ) → IsSafe P 0 → count ≡ 0 → Carries P fits (callable_height P) count M → Carried P M
+carried_by P M count safe none carries = record {
+  carries = subst (λ k. Carries P fits (callable_height P) k M) none carries;
+  not_stuck = λ n. not_stuck P (λ list. Unit {0}) (meaning P n) (safe.phrase n (start P []) n (omega arith) refl (safe.begins []));
+}
 
--- so its image carries it with that test
 pub if_carried :
     (closed : Closed) (r : Result Image Memory) →
-    IfOk r (λ image. (P : Program) (fits : Height → Height → Bool) (callable_height : Callable → Option Height) → Closes P closed.program closed.templates → IsBuilt P → IsNeverStuck P fits callable_height → Carries P fits callable_height image) →
+    IfOk r (λ image. (P : Program) (fits : Height → Height → Bool) (callable_height : Callable → Option Height) → Closes P closed.program closed.templates → IsBuilt P → Carries P fits callable_height closed.start image) →
     IfOk r (λ image. (P : Program) → StandsForSafe closed P → Carried P image)
-if_carried closed (Ok image) h = λ P stands. h P fits (callable_height P) stands.closes stands.built (never_stuck P stands.safe)
+if_carried closed (Ok image) h = λ P stands. carried_by P image closed.start stands.safe stands.start (h P fits (callable_height P) stands.closes stands.built)
 if_carried closed (Err e) h = tt

@@ -13,7 +13,6 @@ use Rattle.fac_lang.specs.Printed.{Names, printed}
 use Rattle.fac_lang.specs.Eval.{Done, Failed, Spent}
 use Rattle.fac_prim.specs.Cells.{MValue, MCallable, cells}
 use Rattle.fac_prim.specs.Trees.{value_in, values_in}
-use Rattle.fac_prim.specs.ErrorNames.{name_back}
 use Rattle.fac_prim.specs.declared.value.Value.{Value as MachineValue}
 use Rattle.fac_prim.specs.declared.value.Value.TheVariants.{Int, True, False, Callable}
 use Rattle.fac_vm.specs.declared.machine.RunError.{RunError}
@@ -21,8 +20,8 @@ use Rattle.fac_vm.specs.declared.machine.StopKind.TheVariants as stop
 use Rattle.fac_vm.specs.Machine.{empty_world}
 use Rattle.fac_vm.specs.Runs.{error_of}
 use Rattle.fac_emit.specs.View.{template_texts, value_view, values_view, error_view, option_view}
-use Rattle.fac_tool.specs.declared.ended.Report.TheVariants as report
-use Rattle.fac_tool.specs.Answer.{Answer, budget, meaning, of_run, shown, error_report}
+use Rattle.fac_notes.specs.declared.report.Report.TheVariants as report
+use Rattle.fac_tool.specs.Answer.{Answer, meaning, of_run, run_answer, shown, error_report}
 use Rattle.fac_tool.specs.Seen.{sink_seen}
 use Rattle.fac_tool.specs.Stops.{StopsAs, SameNames, value_form, value_text, machine_report}
 use Rattle.fac_tool.specs.Ends.{Matches}
@@ -66,10 +65,10 @@ stack_texts P T w values stack meant e m =
     let reversed : reverse meant ≡ map view (values_in T values) = ap reverse m ∙ reverse_map view stack ∙ ap (map view) upside in
     ap (map (shown P w)) reversed ∙ texts_same P T w values
 
-pub done_matches : (P : Program) (T : List MCallable) (values : List MachineValue) (stack : List MValue) (ticks : ℕ) (before now : Option (List ℕ)) (m n : ℕ) (texts : List (List ℕ)) → values_in T (reverse values) ≡ stack → texts ≡ map value_text values → StopsAs P T stack ticks before now stop.Done → Matches (of_run P (meaning P budget)) (sink_seen before now m n) (record { status = 0; ticks = ticks; stack = Some texts; refusal = None })
-done_matches P T values stack ticks before now m n texts e t h =
-    let answer = ap (of_run P) h.2 in
-    let matches : Matches (of_run P (Done h.0 h.1)) (sink_seen before now m n) (record { status = 0; ticks = ticks; stack = Some texts; refusal = None }) =
+pub done_matches : (P : Program) (budget : ℕ) (T : List MCallable) (values : List MachineValue) (stack : List MValue) (ticks : ℕ) (before now : Option (List ℕ)) (m n : ℕ) (texts : List (List ℕ)) → values_in T (reverse values) ≡ stack → texts ≡ map value_text values → StopsAs P budget T stack ticks before now stop.Done → Matches (run_answer P budget) (sink_seen before now m n) (record { status = 0; ticks = ticks; stack = Some texts; refusal = None })
+done_matches P budget T values stack ticks before now m n texts e t h =
+    let answer = ap (of_run P budget) h.2 in
+    let matches : Matches (of_run P budget (Done h.0 h.1)) (sink_seen before now m n) (record { status = 0; ticks = ticks; stack = Some texts; refusal = None }) =
     record { status = refl; ticks = h.3; stack = ap Some (t ∙ sym (stack_texts P T h.0.world values stack h.0.stack e h.5)); refusal = refl; output = h.4 } in
     subst (λ (a : Answer). Matches a (sink_seen before now m n) (record { status = 0; ticks = ticks; stack = Some texts; refusal = None })) (sym answer) matches
 
@@ -78,18 +77,18 @@ value_same P T w None = refl
 value_same P T w (Some v) = ap Some (text_same P T w v)
 
 report_same : (P C : Program) (T : List MCallable) (w : World Value) (x : Error Value) (e : RunError) → SameNames P C → x ≡ error_view (template_texts P) (error_of T e) → error_report P w x ≡ machine_report C e
-report_same P C T w x e named same = rw (same, name_back, value_same, named e.word) refl
+report_same P C T w x e named same = rw (same, value_same, named e.word) refl
 
-pub failed_matches : (P C : Program) (T : List MCallable) (e : RunError) (stack : List MValue) (ticks : ℕ) (before now : Option (List ℕ)) (m n : ℕ) → SameNames P C → StopsAs P T stack ticks before now (stop.Failed e) → Matches (of_run P (meaning P budget)) (sink_seen before now m n) (record { status = 1; ticks = ticks; stack = None; refusal = Some (machine_report C e) })
-failed_matches P C T e stack ticks before now m n named h =
-    let answer = ap (of_run P) h.3 in
-    let matches : Matches (of_run P (Failed h.0 h.1 h.2)) (sink_seen before now m n) (record { status = 1; ticks = ticks; stack = None; refusal = Some (machine_report C e) }) =
+pub failed_matches : (P C : Program) (budget : ℕ) (T : List MCallable) (e : RunError) (stack : List MValue) (ticks : ℕ) (before now : Option (List ℕ)) (m n : ℕ) → SameNames P C → StopsAs P budget T stack ticks before now (stop.Failed e) → Matches (run_answer P budget) (sink_seen before now m n) (record { status = 1; ticks = ticks; stack = None; refusal = Some (machine_report C e) })
+failed_matches P C budget T e stack ticks before now m n named h =
+    let answer = ap (of_run P budget) h.3 in
+    let matches : Matches (of_run P budget (Failed h.0 h.1 h.2)) (sink_seen before now m n) (record { status = 1; ticks = ticks; stack = None; refusal = Some (machine_report C e) }) =
     record { status = refl; ticks = h.4; stack = refl; refusal = ap Some (sym (report_same P C T h.1.world h.0 e named h.6)); output = h.5 } in
     subst (λ (a : Answer). Matches a (sink_seen before now m n) (record { status = 1; ticks = ticks; stack = None; refusal = Some (machine_report C e) })) (sym answer) matches
 
-pub spent_matches : (P : Program) (T : List MCallable) (stack : List MValue) (ticks : ℕ) (before now : Option (List ℕ)) (m n : ℕ) → StopsAs P T stack ticks before now stop.Spent → Matches (of_run P (meaning P budget)) (sink_seen before now m n) (record { status = 6; ticks = ticks; stack = None; refusal = Some (report.Spent ticks) })
-spent_matches P T stack ticks before now m n h =
-    let answer = ap (of_run P) h.2 in
-    let matches : Matches (of_run P (Spent h.0 h.1)) (sink_seen before now m n) (record { status = 6; ticks = ticks; stack = None; refusal = Some (report.Spent ticks) }) =
+pub spent_matches : (P : Program) (budget : ℕ) (T : List MCallable) (stack : List MValue) (ticks : ℕ) (before now : Option (List ℕ)) (m n : ℕ) → StopsAs P budget T stack ticks before now stop.Spent → Matches (run_answer P budget) (sink_seen before now m n) (record { status = 6; ticks = ticks; stack = None; refusal = Some (report.Spent ticks) })
+spent_matches P budget T stack ticks before now m n h =
+    let answer = ap (of_run P budget) h.2 in
+    let matches : Matches (of_run P budget (Spent h.0 h.1)) (sink_seen before now m n) (record { status = 6; ticks = ticks; stack = None; refusal = Some (report.Spent ticks) }) =
     record { status = refl; ticks = h.3; stack = refl; refusal = ap (λ (k : ℕ). Some (report.Spent k)) h.3; output = h.4 } in
     subst (λ (a : Answer). Matches a (sink_seen before now m n) (record { status = 6; ticks = ticks; stack = None; refusal = Some (report.Spent ticks) })) (sym answer) matches

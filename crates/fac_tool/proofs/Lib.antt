@@ -1,6 +1,7 @@
 mod Causes
-pub mod TextLemmas
+pub mod EarlyEnds
 pub mod EndLemmas
-pub mod ReadLemmas
+pub mod SourceLemmas
 pub mod StopLemmas
 pub mod ClosedLemmas
+pub mod Composing

@@ -1,35 +1,38 @@
--- What a command answers, as a function of the forms of its file.
-use Rattle.std.specs.Prelude.{◌==◌, ℕ, ◌-◌, List, [], ◌∷◌, ◌++◌, length, map, reverse, None, Some, codes, nat_le, Result, Ok, Err, slice_get, if◌then◌else◌}
+-- What a command answers, as a function of what its file comes to.
+use Rattle.std.specs.Prelude.{ℕ, ◌-◌, List, [], length, map, reverse, None, Some, codes, nat_le, Result, Ok, Err, if◌then◌else◌}
 use Rattle.std.specs.declared.option.Option.{Option}
 use Rattle.std.specs.Option.{option_map}
-use Rattle.fac_lang.specs.declared.program.Name.{Name}
 use Rattle.fac_lang.specs.declared.program.Program.{Program}
-use Rattle.fac_lang.specs.declared.program.WordDef.{WordDef}
 use Rattle.fac_lang.specs.declared.tree.Form.{Form}
 use Rattle.fac_lang.specs.Texts.{Value}
 use Rattle.fac_lang.specs.World.{World, Error}
 use Rattle.fac_lang.specs.Printed.{printed}
 use Rattle.fac_lang.specs.Eval.{Result as Run, Done, Failed, Spent, Stuck}
 use Rattle.fac_lang.specs.Meaning.{texts, names, run, start, word_text}
-use Rattle.fac_parse.specs.declared.reader.Why.TheVariants.{Other}
+use Rattle.fac_parse.specs.declared.reader.Why.{Why}
 use Rattle.fac_parse.specs.declared.resolver.NameFault.{NameFault}
 use Rattle.fac_parse.specs.Resolution.{resolved}
 use Rattle.fac_check.specs.CallableEffects.{callable_height, fits}
 use Rattle.fac_check.specs.Verdicts.{Refusal, verdict}
-use Rattle.fac_prim.specs.ErrorNames.{name_from}
+use Rattle.fac_notes.specs.declared.report.ByteFault.{ByteFault}
+use Rattle.fac_notes.specs.declared.report.Report.{Report}
+use Rattle.fac_notes.specs.declared.report.Report.TheVariants as report
+use Rattle.fac_notes.specs.Statuses.{status_of}
+use Rattle.fac_notes.specs.WordNames.{word_name, name_text}
 use Rattle.fac_tool.specs.declared.command.Command.{Command}
 use Rattle.fac_tool.specs.declared.command.Command.TheVariants as command
-use Rattle.fac_tool.specs.declared.ended.Report.{Report}
-use Rattle.fac_tool.specs.declared.ended.Report.TheVariants as report
+use Rattle.fac_tool.specs.Command.{budget_of}
 use Rattle.fac_tool.specs.Refusals.{refusal_of}
 
 -- the most bytes that are read
 abbrev pub limit : ℕ
 limit = 4194304
 
--- the ticks of a run
-abbrev pub budget : ℕ
-budget = 100000000
+-- what the file of a command comes to: a fault of its tokens at a byte, a refusal at a token, or the forms of its tree
+pub data Source : Type 0 where
+  no_tokens : ℕ → ByteFault → Source
+  no_tree : ℕ → Why → Source
+  tree : List Form → Source
 
 -- a status with the ticks of the run, the stack's texts from the bottom to the top, the refusal, and the bytes that are written
 pub record Answer : Type 0 where
@@ -39,8 +42,9 @@ pub record Answer : Type 0 where
   pub refusal : Option Report
   pub output : List ℕ
 
-abbrev pub refused : ℕ → Report → Answer
-refused status why = record { status = status; ticks = 0; stack = None; refusal = Some why; output = [] }
+-- nothing runs and nothing is written
+abbrev pub refused : Report → Answer
+refused why = record { status = status_of why; ticks = 0; stack = None; refusal = Some why; output = [] }
 
 -- a run of the top-level phrase with so many ticks, where callables are tested by the effects that the checker finds
 abbrev pub meaning : Program → ℕ → Run
@@ -53,56 +57,41 @@ shown_text text = (if nat_le (length text) 1000 then text else codes "...")
 abbrev pub shown : Program → World Value → Value → List ℕ
 shown P w v = shown_text (printed texts (names P) w v)
 
--- the name of a number that no word has: the tests of `call( )` and `execute( )` have the two greatest numbers
-abbrev pub name_without_word : ℕ → List ℕ
-name_without_word w = (if w == 4294967294 then codes "call(" else if w == 4294967295 then codes "execute(" else codes "unnamed")
-
--- the name of a word by its number
-abbrev pub name_or : ℕ → Option WordDef → Name
-name_or w (Some d) = d.name
-name_or w None = record { vocab = []; name = name_without_word w }
-
-abbrev pub word_name : Program → ℕ → Name
-word_name P w = name_or w (slice_get P.words w)
-
--- how a name is told: vocabulary, colon and name, and without a colon where the vocabulary is empty
-abbrev pub text_by : List ℕ → List ℕ → List ℕ
-text_by [] name = name
-text_by (c ∷ cs) name = c ∷ cs ++ 58 ∷ name
-
-abbrev pub name_text : Name → List ℕ
-name_text n = text_by n.vocab n.name
-
 abbrev pub error_report : Program → World Value → Error Value → Report
-error_report P w e = report.Error (name_from e.name) (word_name P e.word) (option_map (shown P w) e.value)
+error_report P w e = report.Error e.name (word_name P e.word) (option_map (shown P w) e.value)
 
--- the answer of a run; an accepted program is never stuck
-abbrev pub of_run : Program → Run → Answer
-of_run P (Done st left) = record { status = 0; ticks = budget - left; stack = Some (map (shown P st.world) (reverse st.stack)); refusal = None; output = st.world.output }
-of_run P (Failed e st left) = record { status = 1; ticks = budget - left; stack = None; refusal = Some (error_report P st.world e); output = st.world.output }
-of_run P (Spent st i) = record { status = 6; ticks = budget; stack = None; refusal = Some (report.Spent budget); output = st.world.output }
-of_run P Stuck = record { status = 7; ticks = 0; stack = None; refusal = None; output = [] }
+-- the answer of a run with this budget; an accepted program is never stuck
+abbrev pub of_run : Program → ℕ → Run → Answer
+of_run P budget (Done st left) = record { status = 0; ticks = budget - left; stack = Some (map (shown P st.world) (reverse st.stack)); refusal = None; output = st.world.output }
+of_run P budget (Failed e st left) = record { status = 1; ticks = budget - left; stack = None; refusal = Some (error_report P st.world e); output = st.world.output }
+of_run P budget (Spent st i) = record { status = 6; ticks = budget; stack = None; refusal = Some (report.Spent budget); output = st.world.output }
+of_run P budget Stuck = record { status = 7; ticks = 0; stack = None; refusal = None; output = [] }
+
+-- the answer of a program's run with this budget
+abbrev pub run_answer : Program → ℕ → Answer
+run_answer P budget = of_run P budget (meaning P budget)
 
 -- an accepted program
 abbrev pub on_accepted : Command → Program → Answer
-on_accepted (command.Run file) P = of_run P (meaning P budget)
+on_accepted (command.Run file) P = run_answer P (budget_of (command.Run file))
 
 -- the first refused word by its number, with its refusal, or an accepted program
 abbrev pub on_verdict : Command → Program → Option (ℕ × Refusal) → Answer
-on_verdict c P (Some first) = refused 5 (report.Check (refusal_of first) (name_text (word_name P first.0)))
+on_verdict c P (Some first) = refused (report.Check (refusal_of first) (name_text (word_name P first.0)))
 on_verdict c P None = on_accepted c P
 
 -- a refused name, or a program, whose top-level phrase starts from no value
 abbrev pub on_resolved : Command → Result Program NameFault → Answer
-on_resolved c (Err fault) = refused 4 (report.Name fault)
+on_resolved c (Err fault) = refused (report.Name fault)
 on_resolved c (Ok P) = on_verdict c P (verdict P 0)
 
--- by the forms of the file, or that it has no tree
-abbrev pub answer_on : Command → Option (List Form) → Answer
-answer_on c None = refused 3 (report.Syntax 1 0 Other)
-answer_on c (Some forms) = on_resolved c (resolved forms)
+-- by what the file comes to, which has the number 1
+abbrev pub answer_on : Command → Source → Answer
+answer_on c (no_tokens at why) = refused (report.Bytes 1 at why)
+answer_on c (no_tree at why) = refused (report.Syntax 1 at why)
+answer_on c (tree forms) = on_resolved c (resolved forms)
 
--- the accepted program of the forms
+-- the accepted program of the file, where there is one
 abbrev pub if_accepted : Program → Option (ℕ × Refusal) → Option Program
 if_accepted P (Some first) = None
 if_accepted P None = Some P
@@ -111,6 +100,7 @@ abbrev pub accepted_of : Result Program NameFault → Option Program
 accepted_of (Err fault) = None
 accepted_of (Ok P) = if_accepted P (verdict P 0)
 
-abbrev pub accepted : Option (List Form) → Option Program
-accepted None = None
-accepted (Some forms) = accepted_of (resolved forms)
+abbrev pub accepted : Source → Option Program
+accepted (no_tokens at why) = None
+accepted (no_tree at why) = None
+accepted (tree forms) = accepted_of (resolved forms)

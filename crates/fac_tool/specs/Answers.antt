@@ -1,40 +1,24 @@
 -- The whole call.
-use Rattle.std.specs.Prelude.{◌≡◌, ◌≤◌, ◌<◌, ◌⊎◌, ℕ, List, [], ◌∷◌, length, true, None, Some, codes, IfSome, IsSomeAnd}
-use Rattle.std.specs.List.{list_all}
+use Rattle.std.specs.Prelude.{◌≡◌, ◌≤◌, ◌<◌, ◌⊎◌, ℕ, List, [], ◌∷◌, length, None, Some, codes, IfSome, IsSomeAnd}
 use Rattle.std.specs.declared.option.Option.{Option}
-use Rattle.fac_io.specs.declared.files.Asked.{Asked}
 use Rattle.fac_io.specs.declared.files.Asked.TheVariants.{Load}
 use Rattle.fac_io.specs.Faults.{Rose}
-use Rattle.fac_io.specs.Names.{Held}
 use Rattle.fac_io.specs.Told.{Stays, Grows, GrowsByPrefix}
-use Rattle.fac_lang.specs.declared.tree.Form.{Form}
-use Rattle.fac_lang.specs.declared.tree.Tree.{Tree}
-use Rattle.fac_parse.specs.Words.{is_readable, numbered, words}
-use Rattle.fac_parse.specs.Trees.{Reads}
 use Rattle.fac_check.specs.Promises.{IsSafe}
+use Rattle.fac_notes.specs.declared.report.Report.TheVariants as report
 use Rattle.fac_tool.specs.declared.command.Command.{Command}
 use Rattle.fac_tool.specs.declared.ended.Ended.{Ended}
-use Rattle.fac_tool.specs.declared.ended.Report.TheVariants as report
 use Rattle.fac_tool.specs.Command.{command_of, name_of}
-use Rattle.fac_tool.specs.Answer.{answer_on, limit, accepted}
-use Rattle.fac_tool.specs.Notes.{note_of, memory_note, usage_note}
-use Rattle.fac_tool.specs.Seen.{SinkSeen, FilesSeen, files_seen}
-use Rattle.fac_tool.specs.Ends.{ending_of, EndsBy, IsBare, FilesStay, work_of}
+use Rattle.fac_tool.specs.Answer.{Source, answer_on, limit, accepted}
+use Rattle.fac_tool.specs.Sources.{IsReadAs}
+use Rattle.fac_tool.specs.ToldNotes.{note_of, memory_note, usage_note}
+use Rattle.fac_tool.specs.Seen.{SinkSeen, FilesSeen}
+use Rattle.fac_tool.specs.Ends.{EndsAs, IsBare, work_of}
 
--- the forms that the text of a file is read as, or that there are none
-abbrev pub IsReadAs : ℕ → List ℕ → Option (List Form) → Type 0
-IsReadAs file text (Some forms) = (list_all is_readable text ≡ true) × Reads (numbered file 1 (words text)) forms
-IsReadAs file text None = list_all is_readable text ≡ true → (forms : List Form) → Reads (numbered file 1 (words text)) forms → ⊥
-
-abbrev pub ReadsTree : ℕ → List ℕ → Option Tree → Type 0
-ReadsTree file text None = IsReadAs file text None
-ReadsTree file text (Some tree) = IsReadAs file text (Some tree.forms)
-
--- how the work on a text ends, whatever the files are that stay as they are
-pub record WorksOn (command : Command) (text : List ℕ) (out : SinkSeen) (ended : Ended) : Type 0 where
-  pub forms : Option (List Form)
-  pub is_read : IsReadAs 1 text forms
-  pub ends : (files : FilesSeen) → FilesStay files → EndsBy (ending_of ended.status) (answer_on command forms) (work_of command (accepted forms)) files out ended
+-- the files are as they were, and nothing was asked
+pub record FilesStay (files : FilesSeen) : Type 0 where
+  pub held : Stays files.held_before files.held_now
+  pub asked : Stays files.asked_before files.asked_now
 
 -- memory was wanted before the file was loaded, and nothing was done
 pub record NotLoaded (files : FilesSeen) (out : SinkSeen) (ended : Ended) : Type 0 where
@@ -42,6 +26,7 @@ pub record NotLoaded (files : FilesSeen) (out : SinkSeen) (ended : Ended) : Type
   pub ticks : ended.ticks ≡ 0
   pub bare : IsBare ended
   pub files_are : FilesStay files
+  pub faults : files.faults_now ≡ files.faults_before
   pub out_is : Stays out.before out.now
 
 -- the load ended the call
@@ -59,32 +44,38 @@ pub record LoadFails (name : List ℕ) (files : FilesSeen) (out : SinkSeen) (end
   pub rose : Rose files.faults_before files.faults_now
   pub ends : LoadEnds name files out ended
 
--- the file is too long
+-- the file is too long, which is no fault
 pub record LoadTooLong (name : List ℕ) (files : FilesSeen) (out : SinkSeen) (ended : Ended) : Type 0 where
   pub status : ended.status ≡ 11
   pub refusal : ended.refusal ≡ Some (report.TooLong name limit)
   pub longer : IfSome files.held_before (λ held. IsSomeAnd (held name) (λ text. limit < length text))
+  pub faults : files.faults_now ≡ files.faults_before
   pub ends : LoadEnds name files out ended
 
--- a text was loaded, and the work on it went on from the files as the load left them; an accepted program is safe
-pub record Loaded (name : List ℕ) (command : Command) (files : FilesSeen) (out : SinkSeen) (ended : Ended) : Type 0 where
-  pub text : List ℕ
-  pub forms : Option (List Form)
-  pub mid_held : Option Held
-  pub mid_asked : Option (List Asked)
-  pub mid_faults : ℕ
+-- the load gave no text, and that ended the call
+abbrev pub NoText : List ℕ → FilesSeen → SinkSeen → Ended → Type 0
+NoText name files out ended = NotLoaded files out ended ⊎ (LoadFails name files out ended ⊎ LoadTooLong name files out ended)
+
+-- the load gave this text
+pub record LoadGives (name : List ℕ) (files : FilesSeen) (text : List ℕ) : Type 0 where
   pub within : length text ≤ limit
   pub told : IfSome files.held_before (λ held. held name ≡ Some text)
-  pub held : Stays files.held_before mid_held
-  pub asked : Grows files.asked_before mid_asked (Load name ∷ [])
-  pub count : files.faults_before ≤ mid_faults
-  pub is_read : IsReadAs 1 text forms
-  pub sound : IfSome (accepted forms) (λ P. IsSafe P 0)
-  pub ends : EndsBy (ending_of ended.status) (answer_on command forms) (work_of command (accepted forms)) (files_seen mid_held files.held_now mid_asked files.asked_now mid_faults files.faults_now) out ended
+  pub held : Stays files.held_before files.held_now
+  pub asked : Grows files.asked_before files.asked_now (Load name ∷ [])
+  pub faults : files.faults_now ≡ files.faults_before
+
+-- a text was loaded, and the work on it has the answer of what it comes to, or was cut short; an accepted program is safe
+pub record Loaded (name : List ℕ) (command : Command) (files : FilesSeen) (out : SinkSeen) (ended : Ended) : Type 0 where
+  pub text : List ℕ
+  pub source : Source
+  pub loads : LoadGives name files text
+  pub is_read : IsReadAs 1 text source
+  pub sound : IfSome (accepted source) (λ P. IsSafe P 0)
+  pub ends : EndsAs (answer_on command source) (work_of command (accepted source)) out ended
 
 -- the work of a command on its file
 abbrev pub ReachesBy : List ℕ → Command → FilesSeen → SinkSeen → Ended → Type 0
-ReachesBy name command files out ended = NotLoaded files out ended ⊎ (LoadFails name files out ended ⊎ (LoadTooLong name files out ended ⊎ Loaded name command files out ended))
+ReachesBy name command files out ended = NoText name files out ended ⊎ Loaded name command files out ended
 
 -- the work of a command: no count falls, and it ends in one of these ways
 pub record Reaches (words : List (List ℕ)) (command : Command) (files : FilesSeen) (out : SinkSeen) (ended : Ended) : Type 0 where
@@ -92,31 +83,37 @@ pub record Reaches (words : List (List ℕ)) (command : Command) (files : FilesS
   pub out_count : out.faults_before ≤ out.faults_now
   pub ending : ReachesBy (name_of words command) command files out ended
 
--- the note was written whole
+-- the note was written whole, or it is empty and nothing was
 pub record NoteWhole (note : List ℕ) (reached : Ended) (notes : SinkSeen) (ended : Ended) : Type 0 where
   pub same : ended ≡ reached
   pub count : notes.faults_before ≤ notes.faults_now
   pub note_is : Grows notes.before notes.now note
 
--- the write of the note failed
+-- the write of a note failed, which isn't empty
 pub record NotePart (note : List ℕ) (reached : Ended) (notes : SinkSeen) (ended : Ended) : Type 0 where
+  pub some : 0 < length note
   pub status : ended.status ≡ 10
   pub ticks : ended.ticks ≡ reached.ticks
   pub bare : IsBare ended
   pub rose : Rose notes.faults_before notes.faults_now
   pub note_is : GrowsByPrefix notes.before notes.now note
 
--- there was no memory for the note, and that was noted in its place
-pub record NoteNoMemory (reached : Ended) (notes : SinkSeen) (ended : Ended) : Type 0 where
+-- want of memory was noted
+pub record MemoryNoted (reached : Ended) (notes : SinkSeen) (ended : Ended) : Type 0 where
   pub status : ended.status ≡ 12
   pub ticks : ended.ticks ≡ reached.ticks
   pub bare : IsBare ended
   pub count : notes.faults_before ≤ notes.faults_now
   pub note_is : Grows notes.before notes.now memory_note
 
+-- there was no memory for the note, which isn't empty, and that was noted in its place, whole or in part
+pub record NoteNoMemory (note : List ℕ) (reached : Ended) (notes : SinkSeen) (ended : Ended) : Type 0 where
+  pub some : 0 < length note
+  pub noted : MemoryNoted reached notes ended ⊎ NotePart memory_note reached notes ended
+
 -- the ending is told: its note is written whole, or in part, or there is no memory for it
 abbrev pub TellsNote : List ℕ → Ended → SinkSeen → Ended → Type 0
-TellsNote note reached notes ended = NoteWhole note reached notes ended ⊎ (NotePart note reached notes ended ⊎ (NoteNoMemory reached notes ended ⊎ NotePart memory_note reached notes ended))
+TellsNote note reached notes ended = NoteWhole note reached notes ended ⊎ (NotePart note reached notes ended ⊎ NoteNoMemory note reached notes ended)
 
 abbrev pub Tells : List (List ℕ) → Ended → SinkSeen → Ended → Type 0
 Tells names reached notes ended = TellsNote (note_of names reached.status reached.ticks reached.refusal) reached notes ended
@@ -128,6 +125,14 @@ usage = record { status = 2; ticks = 0; stack = None; refusal = None }
 -- usage is told, which takes no memory
 abbrev pub TellsUsage : SinkSeen → Ended → Type 0
 TellsUsage notes ended = NoteWhole usage_note usage notes ended ⊎ NotePart usage_note usage notes ended
+
+-- the ending where there is no memory for the words
+abbrev pub no_words : Ended
+no_words = record { status = 12; ticks = 0; stack = None; refusal = None }
+
+-- that is told, which takes no memory
+abbrev pub TellsNoWords : SinkSeen → Ended → Type 0
+TellsNoWords notes ended = NoteWhole memory_note no_words notes ended ⊎ NotePart memory_note no_words notes ended
 
 -- nothing was done with the files and the output
 pub record IsIdle (files : FilesSeen) (out : SinkSeen) : Type 0 where

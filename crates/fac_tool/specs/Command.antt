@@ -28,3 +28,7 @@ file_of (Run file) = file
 
 abbrev pub name_of : List (List ℕ) → Command → List ℕ
 name_of words command = slice_index_or words (file_of command) []
+
+-- the ticks that the run of a command may use
+abbrev pub budget_of : Command → ℕ
+budget_of (Run file) = 100000000

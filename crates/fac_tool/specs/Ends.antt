@@ -2,7 +2,7 @@
 use Rattle.std.specs.Prelude.{◌≡◌, ◌==◌, ◌≤◌, ℕ, None, Some, if◌then◌else◌, List, [], ◌<◌, ◌-◌}
 use Rattle.std.specs.declared.option.Option.{Option}
 use Rattle.fac_io.specs.Faults.{Rose}
-use Rattle.fac_io.specs.Told.{Stays, Grows, GrowsByPrefix}
+use Rattle.fac_io.specs.Told.{Grows, GrowsByPrefix}
 use Rattle.fac_lang.specs.declared.program.Program.{Program}
 use Rattle.fac_lang.specs.Texts.{Item, Value}
 use Rattle.fac_lang.specs.World.{State}
@@ -11,8 +11,9 @@ use Rattle.fac_vm.specs.Runs.{GrowsBeyond}
 use Rattle.fac_tool.specs.declared.command.Command.{Command}
 use Rattle.fac_tool.specs.declared.command.Command.TheVariants as command
 use Rattle.fac_tool.specs.declared.ended.Ended.{Ended}
-use Rattle.fac_tool.specs.Answer.{Answer, budget, meaning}
-use Rattle.fac_tool.specs.Seen.{SinkSeen, FilesSeen}
+use Rattle.fac_tool.specs.Command.{budget_of}
+use Rattle.fac_tool.specs.Answer.{Answer, meaning}
+use Rattle.fac_tool.specs.Seen.{SinkSeen}
 
 -- the kinds of statuses: an answer of the definition, or one that the outside or want of memory brings
 pub data Ending : Type 0 where
@@ -26,14 +27,14 @@ pub data Ending : Type 0 where
 abbrev pub ending_of : ℕ → Ending
 ending_of status = (if status == 2 then Usage else if status == 8 then FileFault else if status == 10 then WriteFault else if status == 11 then TooLong else if status == 12 then NoMemory else Told)
 
--- what a command does with the accepted program of its file: nothing, where there is none, or it runs it
+-- what a command does with the accepted program of its file: nothing, where there is none, or it runs it with this budget
 pub data Work : Type 0 where
   idle : Work
-  runs : Program → Work
+  runs : Program → ℕ → Work
 
 abbrev pub work_of : Command → Option Program → Work
 work_of c None = idle
-work_of (command.Run file) (Some P) = runs P
+work_of (command.Run file) (Some P) = runs P (budget_of (command.Run file))
 
 -- the call's result and output are the answer's
 pub record Matches (answer : Answer) (out : SinkSeen) (ended : Ended) : Type 0 where
@@ -50,9 +51,9 @@ run_output (Failed e st left) = st.world.output
 run_output (Spent st i) = st.world.output
 run_output Stuck = []
 
--- How far a run came that used so many ticks, however it ended. With one tick less the meaning is spent, and what it wrote till
--- then was taken. Of what it writes in these ticks a prefix was taken.
-pub record StopsWithin (P : Program) (ticks : ℕ) (out : SinkSeen) : Type 0 where
+-- How far a run with a budget came that used so many ticks, however it ended. With one tick less the meaning is spent, and what it
+-- wrote till then was taken. Of what it writes in these ticks a prefix was taken.
+pub record StopsWithin (P : Program) (budget : ℕ) (ticks : ℕ) (out : SinkSeen) : Type 0 where
   pub within : ticks ≤ budget
   pub spent_before : 0 < ticks → (st : State Value) × (i : Option Item) × (meaning P (ticks - 1) ≡ Spent st i) × GrowsBeyond out.before out.now st.world.output
   pub at_most : GrowsByPrefix out.before out.now (run_output (meaning P ticks))
@@ -60,23 +61,22 @@ pub record StopsWithin (P : Program) (ticks : ℕ) (out : SinkSeen) : Type 0 whe
 -- what the output had taken when the call was cut short: outside a run a prefix of the answer's, with no tick used
 abbrev pub CutShort : Work → Answer → ℕ → SinkSeen → Type 0
 CutShort idle answer ticks out = (ticks ≡ 0) × GrowsByPrefix out.before out.now answer.output
-CutShort (runs P) answer ticks out = StopsWithin P ticks out
+CutShort (runs P budget) answer ticks out = StopsWithin P budget ticks out
 
--- there is neither a stack nor a refusal
+-- there is neither a stack nor a refusal: what stood on the stack of a run that was cut short isn't told
 pub record IsBare (ended : Ended) : Type 0 where
   pub stack : ended.stack ≡ None
   pub refusal : ended.refusal ≡ None
 
--- the files are as they were, and nothing was asked
-pub record FilesStay (files : FilesSeen) : Type 0 where
-  pub held : Stays files.held_before files.held_now
-  pub asked : Stays files.asked_before files.asked_now
-
 -- how work on a text ends, by the kind of its status
-abbrev pub EndsBy : Ending → Answer → Work → FilesSeen → SinkSeen → Ended → Type 0
-EndsBy Told answer work files out ended = Matches answer out ended × FilesStay files
-EndsBy Usage answer work files out ended = ⊥
-EndsBy TooLong answer work files out ended = ⊥
-EndsBy FileFault answer work files out ended = ⊥
-EndsBy WriteFault answer work files out ended = Rose out.faults_before out.faults_now × CutShort work answer ended.ticks out × IsBare ended × FilesStay files
-EndsBy NoMemory answer work files out ended = CutShort work answer ended.ticks out × IsBare ended × FilesStay files
+abbrev pub EndsBy : Ending → Answer → Work → SinkSeen → Ended → Type 0
+EndsBy Told answer work out ended = Matches answer out ended
+EndsBy Usage answer work out ended = ⊥
+EndsBy TooLong answer work out ended = ⊥
+EndsBy FileFault answer work out ended = ⊥
+EndsBy WriteFault answer work out ended = Rose out.faults_before out.faults_now × CutShort work answer ended.ticks out × IsBare ended
+EndsBy NoMemory answer work out ended = CutShort work answer ended.ticks out × IsBare ended
+
+-- the work has this answer, or was cut short
+abbrev pub EndsAs : Answer → Work → SinkSeen → Ended → Type 0
+EndsAs answer work out ended = EndsBy (ending_of ended.status) answer work out ended

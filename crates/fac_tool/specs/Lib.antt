@@ -2,7 +2,9 @@ pub mod Command
 pub mod Seen
 pub mod Refusals
 pub mod Answer
-pub mod Notes
+pub mod Sources
+pub mod ToldNotes
 pub mod Ends
 pub mod Answers
 pub mod Stops
+pub mod StepEnds

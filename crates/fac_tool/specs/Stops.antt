@@ -8,6 +8,7 @@ use Rattle.fac_lang.specs.declared.program.Program.{Program}
 use Rattle.fac_lang.specs.Texts.{Item, Value}
 use Rattle.fac_lang.specs.World.{State, Error}
 use Rattle.fac_lang.specs.Eval.{Done, Failed, Spent}
+use Rattle.fac_lang.specs.RunningLaws.{IsNotStuck}
 use Rattle.fac_lang.specs.Forms.{IsBuilt}
 use Rattle.fac_lang.specs.Whole.{IsWhole}
 use Rattle.fac_locals.specs.Closed.{Closes}
@@ -24,9 +25,10 @@ use Rattle.fac_vm.specs.declared.machine.StopKind.TheVariants as stop
 use Rattle.fac_vm.specs.Runs.{error_of}
 use Rattle.fac_emit.specs.Carries.{Carries}
 use Rattle.fac_emit.specs.View.{template_texts, values_view, error_view}
-use Rattle.fac_tool.specs.declared.ended.Report.{Report}
-use Rattle.fac_tool.specs.declared.ended.Report.TheVariants as report
-use Rattle.fac_tool.specs.Answer.{meaning, budget, shown_text, word_name}
+use Rattle.fac_notes.specs.declared.report.Report.{Report}
+use Rattle.fac_notes.specs.declared.report.Report.TheVariants as report
+use Rattle.fac_notes.specs.WordNames.{word_name}
+use Rattle.fac_tool.specs.Answer.{meaning, shown_text}
 
 -- the program for which a closed one stands
 pub record StandsFor (closed : Closed) (P : Program) : Type 0 where
@@ -39,23 +41,25 @@ pub record StandsForSafe (closed : Closed) (P : Program) : Type 0 where
   pub closes : Closes P closed.program closed.templates
   pub built : IsBuilt P
   pub safe : IsSafe P 0
+  pub start : closed.start ≡ 0
 
 -- the words of two programs have the same names
 abbrev pub SameNames : Program → Program → Type 0
 SameNames P C = (w : ℕ) → word_name C w ≡ word_name P w
 
--- the image carries the program with the checker's test of effects
-abbrev pub Carried : Program → Image → Type 0
-Carried P M = Carries P fits (callable_height P) M
+-- with the checker's test of effects the image carries the program, whose top-level phrase isn't stuck from no value
+pub record Carried (P : Program) (M : Image) : Type 0 where
+  pub carries : Carries P fits (callable_height P) 0 M
+  pub not_stuck : (n : ℕ) → IsNotStuck (meaning P n)
 
--- how a run stopped that left this stack, where the machine's callables are these
-abbrev pub StopsAs : Program → List MCallable → List MValue → ℕ → Option (List ℕ) → Option (List ℕ) → StopKind → Type 0
-StopsAs P T stack ticks before now stop.Done = (st : State Value) × (left : ℕ) × (meaning P budget ≡ Done st left) × (ticks ≡ budget - left) × Grows before now st.world.output × (st.stack ≡ values_view (template_texts P) stack)
-StopsAs P T stack ticks before now (stop.Failed e) = (x : Error Value) × (st : State Value) × (left : ℕ) × (meaning P budget ≡ Failed x st left) × (ticks ≡ budget - left) × Grows before now st.world.output × (x ≡ error_view (template_texts P) (error_of T e))
-StopsAs P T stack ticks before now stop.Spent = (st : State Value) × (i : Option Item) × (meaning P budget ≡ Spent st i) × (ticks ≡ budget) × Grows before now st.world.output
-StopsAs P T stack ticks before now (stop.Trap pc why) = ⊥
-StopsAs P T stack ticks before now stop.WriteFault = Unit {0}
-StopsAs P T stack ticks before now stop.Memory = Unit {0}
+-- how a run with this budget stopped that left this stack, where the machine's callables are these
+abbrev pub StopsAs : Program → ℕ → List MCallable → List MValue → ℕ → Option (List ℕ) → Option (List ℕ) → StopKind → Type 0
+StopsAs P budget T stack ticks before now stop.Done = (st : State Value) × (left : ℕ) × (meaning P budget ≡ Done st left) × (ticks ≡ budget - left) × Grows before now st.world.output × (st.stack ≡ values_view (template_texts P) stack)
+StopsAs P budget T stack ticks before now (stop.Failed e) = (x : Error Value) × (st : State Value) × (left : ℕ) × (meaning P budget ≡ Failed x st left) × (ticks ≡ budget - left) × Grows before now st.world.output × (x ≡ error_view (template_texts P) (error_of T e))
+StopsAs P budget T stack ticks before now stop.Spent = (st : State Value) × (i : Option Item) × (meaning P budget ≡ Spent st i) × (ticks ≡ budget) × Grows before now st.world.output
+StopsAs P budget T stack ticks before now (stop.Trap pc why) = ⊥
+StopsAs P budget T stack ticks before now stop.WriteFault = Unit {0}
+StopsAs P budget T stack ticks before now stop.Memory = Unit {0}
 
 -- the printed form of a value of the machine
 abbrev pub value_form : MachineValue → List ℕ

@@ -1,6 +1,6 @@
 //! The command line.
 ghost use Rattle.std.specs.Prelude.{◌≡◌, ◌<◌, IfSome, length, map, string_bytes};
-ghost use Rattle.fac_tool.specs.Command.{command_of, command_by, file_of, is_file_name as is_name};
+ghost use Rattle.fac_tool.specs.Command.{command_of, command_by, file_of, budget_of, is_file_name as is_name};
 
 /// What the words of a command line ask for. A file is named by its position among the words, which don't have the program's name.
 #[derive(Clone, Copy, Debug, PartialEq, Eq)]
@@ -16,6 +16,15 @@ impl Command {
     {
         match self {
             Command::Run { file } => file,
+        }
+    }
+
+    /// The ticks that the run of the command may use.
+    pub fn budget(self) -> u64
+        ensures { result ≡ budget_of self }
+    {
+        match self {
+            Command::Run { .. } => 100_000_000,
         }
     }
 }

@@ -5,7 +5,7 @@ ghost use Rattle.fac_tool.specs.Command.{command_of, file_of};
 ghost use Rattle.fac_tool.specs.Seen.{sink_seen, files_seen};
 ghost use Rattle.fac_tool.specs.Answers.{Answers, Reaches, Tells, file_names};
 
-use crate::note::{tell, tell_usage};
+use crate::telling::{tell, tell_usage};
 use crate::work::work;
 use crate::{Command, Ended, read_words};
 use fac_io::{Files, Sink};
@@ -71,8 +71,9 @@ fn answer<F: Files, K: Sink, N: Sink>(
 /// which, run alone, writes exactly the bytes and ends with the stack, named error or spent budget of the source's concatenative meaning; and
 /// no accepted program underflows a stack or changes its height other than its declared effects say.
 ///
-/// The clause `answer` says so of the commands that there are, by cases on the command and on what its file holds. Want of memory may be
-/// answered at any point; a fault only where the object that was handed in counted one.
+/// The clause `answer` says so of the commands that there are, by cases on the command and on what its file comes to: of `run`, whose
+/// budget is 100,000,000 ticks, and of programs that read no input. A source that the grammar refuses is refused without its place. Want of
+/// memory may be answered at any point; a fault only where the object that was handed in counted one.
 pub fn factor_top<F: Files, K: Sink, N: Sink>(
     alloc: Global,
     words: &[String],

@@ -4,7 +4,7 @@ use Rattle.indexmap.specs.IndexMap.{keys}
 use Rattle.indexmap.proofs.CallerLemmas.{insert_entry-new}
 use Rattle.fac_abs.specs.declared.node.Node.{Node}
 use Rattle.fac_abs.specs.contracts.node.NodePartialEq.TheImpl as test
-use Rattle.fac_abs.specs.Interning.{there, added}
+use Rattle.fac_abs.specs.inner.Interning.{there, added}
 use Rattle.fac_abs.proofs.NodeEquality.{node_same, node_itself, place_found, no_place, none_by}
 use Rattle.fac_abs.proofs.nodes.number.Goals as goal
 

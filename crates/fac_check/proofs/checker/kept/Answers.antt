@@ -2,7 +2,7 @@ use Rattle.std.proofs.Common.{◌∙◌, ap, sym, None}
 use Rattle.fac_check.specs.declared.walker.Walked.TheVariants.{Found}
 use Rattle.fac_check.specs.Rows.{effect_leaving}
 use Rattle.fac_check.specs.Verdicts.{end_of, kept_word}
-use Rattle.fac_check.specs.Walking.{walked_seen}
+use Rattle.fac_check.specs.inner.Walking.{walked_seen}
 use Rattle.fac_check.proofs.checker.kept.Goals as goal
 
 pub returns-in-On : goal.returns-in-On

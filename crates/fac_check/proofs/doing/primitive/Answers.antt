@@ -1,21 +1,30 @@
-use Rattle.std.proofs.Common.{None, sym, ◌∙◌, arith}
+use Rattle.std.proofs.Common.{None, ◌∙◌}
+use Rattle.fac_lang.specs.Operations.{operation_does}
+use Rattle.fac_lang.specs.declared.primitive_table.Operation.TheVariants as operation
 use Rattle.fac_abs.specs.Seen.{stack_of}
-use Rattle.fac_check.proofs.PrimitiveDoings.{shuffle_primitive, later_primitive}
-use Rattle.fac_check.proofs.WordItems.{ok_maps, curry_primitive, compose_primitive}
+use Rattle.fac_check.proofs.PrimitiveDoings.{operation_walked, other_kind, other_walked}
+use Rattle.fac_check.proofs.WordItems.{ok_maps}
 use Rattle.fac_check.proofs.doing.primitive.Goals as goal
 
-pub returns-then-number-lt16-clause-does : goal.returns-then-number-lt16-clause-does
-returns-then-number-lt16-clause-does c =
-    ok_maps c.shuffle.result (λ r does P p e N texts. does N texts ∙ sym (shuffle_primitive P c.args.number (record { ins = c.args.ins; outs = c.args.outs }) None (stack_of N c.args.marks.now c.args.stack) c.if-number-lt16.true)) c.shuffle.ensures.does
+pub returns-in-Shuffle-clause-does : goal.returns-in-Shuffle-clause-does
+unfolding operation_does
+returns-in-Shuffle-clause-does c =
+    ok_maps c.shuffle.result (λ r does p e ins outs N texts. does N texts ∙ operation_walked c.args.number (operation.Shuffle c.in-Shuffle.takes c.in-Shuffle.leaves) p None (stack_of N c.args.marks.now c.args.stack) c.in-Shuffle.ensures e) c.shuffle.ensures.does
 
-pub returns-then-number-eq16-clause-does : goal.returns-then-number-eq16-clause-does
-returns-then-number-eq16-clause-does c =
-    ok_maps c.curry.result (λ r does P p e N texts. does N texts ∙ sym (curry_primitive P c.args.number (record { ins = c.args.ins; outs = c.args.outs }) None (stack_of N c.args.marks.now c.args.stack) c.if-number-eq16.true)) c.curry.ensures.does
+pub returns-in-Curry-clause-does : goal.returns-in-Curry-clause-does
+unfolding operation_does
+returns-in-Curry-clause-does c =
+    ok_maps c.curry.result (λ r does p e ins outs N texts. does N texts ∙ operation_walked c.args.number operation.Curry p None (stack_of N c.args.marks.now c.args.stack) c.in-Curry.ensures e) c.curry.ensures.does
 
-pub returns-then-number-eq17-clause-does : goal.returns-then-number-eq17-clause-does
-returns-then-number-eq17-clause-does c =
-    ok_maps c.compose.result (λ r does P p e N texts. does N texts ∙ sym (compose_primitive P c.args.number (record { ins = c.args.ins; outs = c.args.outs }) None (stack_of N c.args.marks.now c.args.stack) c.if-number-eq17.true)) c.compose.ensures.does
+pub returns-in-Compose-clause-does : goal.returns-in-Compose-clause-does
+unfolding operation_does
+returns-in-Compose-clause-does c =
+    ok_maps c.compose.result (λ r does p e ins outs N texts. does N texts ∙ operation_walked c.args.number operation.Compose p None (stack_of N c.args.marks.now c.args.stack) c.in-Compose.ensures e) c.compose.ensures.does
 
-pub returns-clause-does : goal.returns-clause-does
-returns-clause-does c =
-    ok_maps c.by_height.result (λ r does P p e N texts. does N texts ∙ sym (later_primitive P c.args.number (record { ins = c.args.ins; outs = c.args.outs }) None (stack_of N c.args.marks.now c.args.stack) (omega (arith, c.if-number-lt16.false, c.if-number-eq16.false, c.if-number-eq17.false)) p e)) c.by_height.ensures.does
+pub returns-in_default : goal.returns-in_default
+returns-in_default c =
+    record {
+      grows = c.by_height.ensures.grows;
+      there = c.by_height.ensures.there;
+      does = ok_maps c.by_height.result (λ r does p e ins outs N texts. does N texts ∙ other_walked c.args.number c.operation_of.result p c.args.height.ins c.args.height.outs None (stack_of N c.args.marks.now c.args.stack) c.operation_of.ensures e ins outs (other_kind c.operation_of.result c.in_default.not-Shuffle c.in_default.not-Curry c.in_default.not-Compose)) c.by_height.ensures.does;
+    }

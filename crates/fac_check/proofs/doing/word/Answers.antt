@@ -1,20 +1,23 @@
-use Rattle.std.proofs.Common.{None, sym, ◌∙◌, ap}
+use Rattle.std.proofs.Common.{◌<◌, None, sym, ◌∙◌, ap, subst}
 use Rattle.fac_abs.specs.Seen.{stack_of}
-use Rattle.fac_locals.proofs.Lookups.{word_open, word_open_none}
+use Rattle.fac_abs.proofs.SeenLemmas.{is_below}
+use Rattle.fac_locals.proofs.Lookups.{word_open}
 use Rattle.fac_check.specs.Flow.{word_doing}
+use Rattle.fac_check.proofs.TakenPrograms.{word_taken}
 use Rattle.fac_check.proofs.WordItems.{ok_maps}
 use Rattle.fac_check.proofs.doing.word.Goals as goal
 
-pub returns-in-Some-clause-does : goal.returns-in-Some-clause-does
-returns-in-Some-clause-does c =
+pub word_item-requires-clause-word : goal.word_item-requires-clause-word
+word_item-requires-clause-word c =
+    let C = c.args.closed.now in
+    (C.program.top, word_taken C.program C.templates c.requires.program c.args.number c.in-Some.word.now (sym c.in-Some.ensures))
+
+pub returns-clause-does : goal.returns-clause-does
+returns-clause-does c =
     let C = c.args.closed.now in
     ok_maps c.word_item.result
     (λ r does O N.
     let there = word_open O.program C.program C.templates O.closes c.args.number c.in-Some.word.now (sym c.in-Some.ensures) in
-    does O.program there.def (sym O.closes.top) there.at O.built there.closes N ∙ ap (λ o. word_doing O.program None c.args.number o None (stack_of N c.args.marks.now c.args.stack)) (sym there.at))
+    let low = subst (λ n. c.args.number < n) O.closes.top (is_below c.args.number C.program.top c.requires.number) in
+    does O.program there.def low there.at O.built there.closes N ∙ ap (λ o. word_doing O.program None c.args.number o None (stack_of N c.args.marks.now c.args.stack)) (sym there.at))
     c.word_item.ensures.does
-
-pub returns-in-None-clause-does : goal.returns-in-None-clause-does
-returns-in-None-clause-does c = λ O N.
-    let C = c.args.closed.now in
-    ap (λ o. word_doing O.program None c.args.number o None (stack_of N c.args.marks.now c.args.stack)) (sym (word_open_none O.program C.program C.templates O.closes c.args.number (sym c.in-None.ensures)))

@@ -1,27 +1,37 @@
-use Rattle.std.proofs.Common.{◌∙◌}
+use Rattle.std.proofs.Common.{refl, ap, arith}
+use Rattle.fac_lang.specs.declared.phrase.Height.{Height}
 use Rattle.fac_abs.specs.Seen.{stack_of}
-use Rattle.fac_check.proofs.BuiltWords.{built_as}
-use Rattle.fac_check.specs.Walking.{body_text}
-use Rattle.fac_check.proofs.WordItems.{ok_maps, is_prim, is_body, prim_item, body_item, built_numbered}
+use Rattle.fac_check.specs.inner.Walking.{body_text}
+use Rattle.fac_check.proofs.BuiltWords.{built_as, built_primitive_word}
+use Rattle.fac_check.proofs.TakenPrograms.{core_below, primitive_below}
+use Rattle.fac_check.proofs.WordItems.{ok_maps, is_prim, is_body, prim_item, prim_ins, prim_outs, body_item}
 use Rattle.fac_check.proofs.doing.word_item.Goals as goal
+
+pub core-requires-clause-number : goal.core-requires-clause-number
+core-requires-clause-number c = core_below c.requires.word.0 c.in-Core.core_number c.args.word.now c.requires.word.1 c.in-Core.is
+
+pub primitive-requires-clause-number : goal.primitive-requires-clause-number
+primitive-requires-clause-number c = primitive_below c.requires.word.0 c.in-Prim.primitive_number c.args.word.now c.requires.word.1 c.in-Prim.is
 
 pub returns-in-Prim-clause-does : goal.returns-in-Prim-clause-does
 returns-in-Prim-clause-does c =
     let k = c.in-Prim.primitive_number in
     let w = c.args.word.now in
     ok_maps c.primitive.result
-    (λ r does P d top at built closes N.
+    (λ r does P d low at built closes N.
     let sort = is_prim P c.args.number d w closes (built_as P built c.args.number d at) k c.in-Prim.is in
-    let there = built_numbered k sort.1 in
-    prim_item P c.args.number d w closes k _ _ _ (stack_of N c.args.marks.now c.args.stack) sort.0 (c.in_ok-ins.ensures ∙ c.inputs.ensures) c.outputs-outs.ensures (does P there.0 there.1 N (body_text P)))
+    let there = built_primitive_word P built c.args.number d at k sort in
+    let ins = prim_ins P c.args.number d w closes there.0 _ there.2 (ap (λ (h : Height). h.ins) c.height_of.ensures) in
+    let outs = prim_outs P c.args.number d w closes there.0 _ there.2 (ap (λ (h : Height). h.outs) c.height_of.ensures) in
+    prim_item P c.args.number d w closes k there.0 _ (stack_of N c.args.marks.now c.args.stack) sort there.1 (does there.0 there.1 ins outs N (body_text P)))
     c.primitive.ensures.does
 
-pub returns-else-number-top-clause-does : goal.returns-else-number-top-clause-does
-returns-else-number-top-clause-does c =
+pub returns-in-Body-clause-does : goal.returns-in-Body-clause-does
+returns-in-Body-clause-does c =
     let w = c.args.word.now in
     ok_maps c.defined.result
-    (λ r does P d top at built closes N.
+    (λ r does P d low at built closes N.
     let b = built_as P built c.args.number d at in
     let sort = is_body P c.args.number d w closes b _ c.in-Body.is in
-    body_item P c.args.number d w closes sort.0 _ _ _ (stack_of N c.args.marks.now c.args.stack) b at sort.1 (λ e. c.if-number-top.false (e ∙ top)) (c.in_ok-ins.ensures ∙ c.inputs.ensures) c.outputs-outs.ensures (does N (body_text P)))
+    body_item P c.args.number d w closes sort.0 _ _ _ (stack_of N c.args.marks.now c.args.stack) b at sort.1 (λ e. omega (arith, low, e)) refl refl (does N (body_text P)))
     c.defined.ensures.does

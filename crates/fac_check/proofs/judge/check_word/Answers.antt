@@ -3,8 +3,27 @@ use Rattle.fac_locals.specs.Closed.{ClosesWord}
 use Rattle.fac_locals.proofs.Lookups.{word_open}
 use Rattle.fac_check.specs.Judged.{breach_seen, numbered}
 use Rattle.fac_check.specs.Verdicts.{word_verdict}
-use Rattle.fac_check.proofs.JudgeLemmas.{flag_is}
+use Rattle.fac_check.proofs.JudgeLemmas.{flag_is, flag_exists}
+use Rattle.fac_check.proofs.TakenPrograms.{taken_program, word_taken}
 use Rattle.fac_check.proofs.judge.check_word.Goals as goal
+
+pub word_breach-requires-clause-program : goal.word_breach-requires-clause-program
+word_breach-requires-clause-program c =
+    let C = c.args.closed.now in
+    let stands = c.requires.stands in
+    taken_program stands.0 C.program C.templates stands.1 stands.2 stands.3
+
+pub word_breach-requires-clause-word : goal.word_breach-requires-clause-word
+word_breach-requires-clause-word c =
+    let C = c.args.closed.now in
+    let stands = c.requires.stands in
+    word_taken C.program C.templates (taken_program stands.0 C.program C.templates stands.1 stands.2 stands.3) c.args.number c.in-Some.word.now (sym c.in-Some.ensures)
+
+pub flag-requires : goal.flag-requires
+flag-requires c =
+    let C = c.args.closed.now in
+    let stands = c.requires.stands in
+    flag_exists stands.0 C.program C.templates stands.1 c.args.undeclared.now c.requires.undeclared c.args.number c.requires.number
 
 pub returns-in-Some-2 : goal.returns-in-Some-2
 returns-in-Some-2 c = λ P closes built d at.
@@ -12,14 +31,14 @@ returns-in-Some-2 c = λ P closes built d at.
     let w = c.args.number in
     let there = word_open P C.program C.templates closes w c.in-Some.word.now (sym c.in-Some.ensures) in
     let same : there.def ≡ d = (let e = there.at in cc) in
-    let breach = c.in_ok-place-in-Some-get.ensures P closes built d at (subst (λ x. ClosesWord P w x c.in-Some.word.now) same there.closes) (flag_is P C.program C.templates closes c.args.undeclared.now c.requires w d c.in-Some-get.leads_back.now at (sym c.in-Some-get.ensures)) in
+    let breach = c.in_ok-place.ensures P closes built d at (subst (λ x. ClosesWord P w x c.in-Some.word.now) same there.closes) (flag_is P C.program C.templates closes c.args.undeclared.now c.requires.undeclared w d c.flag.result at c.flag.ensures) in
     ap (numbered w) (subst (λ b. breach_seen b ≡ word_verdict P C.start w d) c.in-Some-2.is breach)
 
-pub returns-in-None-2 : goal.returns-in-None-2
-returns-in-None-2 c = λ P closes built d at.
+pub returns-in-None : goal.returns-in-None
+returns-in-None c = λ P closes built d at.
     let C = c.args.closed.now in
     let w = c.args.number in
     let there = word_open P C.program C.templates closes w c.in-Some.word.now (sym c.in-Some.ensures) in
     let same : there.def ≡ d = (let e = there.at in cc) in
-    let breach = c.in_ok-place-in-Some-get.ensures P closes built d at (subst (λ x. ClosesWord P w x c.in-Some.word.now) same there.closes) (flag_is P C.program C.templates closes c.args.undeclared.now c.requires w d c.in-Some-get.leads_back.now at (sym c.in-Some-get.ensures)) in
-    ap (numbered w) (subst (λ b. breach_seen b ≡ word_verdict P C.start w d) c.in-None-2.is breach)
+    let breach = c.in_ok-place.ensures P closes built d at (subst (λ x. ClosesWord P w x c.in-Some.word.now) same there.closes) (flag_is P C.program C.templates closes c.args.undeclared.now c.requires.undeclared w d c.flag.result at c.flag.ensures) in
+    ap (numbered w) (subst (λ b. breach_seen b ≡ word_verdict P C.start w d) c.in-None.is breach)

@@ -4,7 +4,7 @@ use Rattle.fac_lang.specs.View.{items_text}
 use Rattle.fac_lang.specs.declared.program.Program.{Program}
 use Rattle.fac_locals.specs.Closed.{Closes, ClosesText}
 use Rattle.fac_check.specs.Verdicts.{inline_words}
-use Rattle.fac_check.specs.UndeclaredRecursion.{NumbersFrom, NamesLeft}
+use Rattle.fac_check.specs.inner.UndeclaredRecursion.{NumbersFrom, NamesLeft}
 use Rattle.fac_check.proofs.recursion.+names.Given as goal
 
 abbrev pub decreases-add_text : goal.decreases-add_text

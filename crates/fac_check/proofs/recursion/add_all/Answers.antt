@@ -1,6 +1,6 @@
 use Rattle.std.proofs.Common.{◌≡◌, ℕ, List, [], ◌∷◌, ◌++◌, ◌+◌, get_or, take, sym, subst}
 use Rattle.std.proofs.lemmas.List.{take_more}
-use Rattle.fac_check.specs.UndeclaredRecursion.{Adds}
+use Rattle.fac_check.specs.inner.UndeclaredRecursion.{Adds}
 use Rattle.fac_check.proofs.LeadingBack.{adds_more}
 use Rattle.fac_check.proofs.recursion.add_all.Goals as goal
 

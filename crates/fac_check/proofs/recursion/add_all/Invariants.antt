@@ -1,5 +1,5 @@
 use Rattle.std.proofs.Common.{take}
-use Rattle.fac_check.specs.UndeclaredRecursion.{Adds}
+use Rattle.fac_check.specs.inner.UndeclaredRecursion.{Adds}
 use Rattle.fac_check.proofs.recursion.add_all.Given as goal
 
 abbrev pub invariant-loop-word : goal.invariant-loop-word

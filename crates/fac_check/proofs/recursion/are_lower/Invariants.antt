@@ -1,5 +1,5 @@
 use Rattle.std.proofs.Common.{◌≡◌, drop}
-use Rattle.fac_check.specs.UndeclaredRecursion.{all_lower}
+use Rattle.fac_check.specs.inner.UndeclaredRecursion.{all_lower}
 use Rattle.fac_check.proofs.recursion.are_lower.Given as goal
 
 abbrev pub invariant-loop-other : goal.invariant-loop-other

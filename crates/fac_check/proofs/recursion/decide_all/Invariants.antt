@@ -1,6 +1,6 @@
 use Rattle.std.proofs.Common.{◌≡◌, ℕ, length, Bool, Some}
 use Rattle.std.specs.Prelude.{slice_get}
-use Rattle.fac_check.specs.UndeclaredRecursion.{Decides}
+use Rattle.fac_check.specs.inner.UndeclaredRecursion.{Decides}
 use Rattle.fac_check.proofs.recursion.decide_all.Given as goal
 
 abbrev pub invariant-loop-word : goal.invariant-loop-word

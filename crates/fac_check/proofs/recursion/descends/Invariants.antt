@@ -1,5 +1,5 @@
 use Rattle.std.proofs.Common.{◌≡◌, drop}
-use Rattle.fac_check.specs.UndeclaredRecursion.{all_descend}
+use Rattle.fac_check.specs.inner.UndeclaredRecursion.{all_descend}
 use Rattle.fac_check.proofs.recursion.descends.Given as goal
 
 abbrev pub invariant-loop-led_to : goal.invariant-loop-led_to

@@ -1,6 +1,6 @@
 use Rattle.std.proofs.Common.{ℕ, List, Bool, sym, ap, ◌∙◌, subst}
 use Rattle.std.specs.Prelude.{slice_get}
-use Rattle.fac_check.specs.UndeclaredRecursion.{Finds}
+use Rattle.fac_check.specs.inner.UndeclaredRecursion.{Finds}
 use Rattle.fac_check.proofs.LeadingBack.{search_decides, search_misses}
 use Rattle.fac_check.proofs.recursion.leads_back.Goals as goal
 

@@ -1,5 +1,5 @@
 use Rattle.std.proofs.Common.{◌≡◌, ◌++◌, drop}
-use Rattle.fac_check.specs.UndeclaredRecursion.{left_out}
+use Rattle.fac_check.specs.inner.UndeclaredRecursion.{left_out}
 use Rattle.fac_check.proofs.recursion.leave_out.Given as goal
 
 abbrev pub invariant-loop-other : goal.invariant-loop-other

@@ -1,5 +1,5 @@
 use Rattle.std.proofs.Common.{◌≡◌, ℕ, List}
-use Rattle.fac_check.specs.UndeclaredRecursion.{left_out, LedByText}
+use Rattle.fac_check.specs.inner.UndeclaredRecursion.{left_out, LedByText}
 use Rattle.fac_check.proofs.EdgesOfWords.{if_ok, led_recursive}
 use Rattle.fac_check.proofs.recursion.led_by_text.Goals as goal
 

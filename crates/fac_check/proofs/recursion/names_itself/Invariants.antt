@@ -1,6 +1,6 @@
 use Rattle.std.proofs.Common.{◌≡◌, drop}
 use Rattle.fac_check.specs.Verdicts.{one_of}
-use Rattle.fac_check.specs.UndeclaredRecursion.{led_from}
+use Rattle.fac_check.specs.inner.UndeclaredRecursion.{led_from}
 use Rattle.fac_check.proofs.recursion.names_itself.Given as goal
 
 abbrev pub invariant-loop-other : goal.invariant-loop-other

@@ -1,5 +1,5 @@
 use Rattle.std.proofs.Common.{ℕ, List, length, ap, subst, arith}
-use Rattle.fac_check.specs.UndeclaredRecursion.{Adds}
+use Rattle.fac_check.specs.inner.UndeclaredRecursion.{Adds}
 use Rattle.fac_check.proofs.LeadingBack.{search_begins, search_step, search_ends, seen_below, some_at}
 use Rattle.fac_check.proofs.recursion.search.Goals as goal
 

@@ -1,5 +1,5 @@
 use Rattle.std.proofs.Common.{◌-◌, length}
-use Rattle.fac_check.specs.UndeclaredRecursion.{Searches}
+use Rattle.fac_check.specs.inner.UndeclaredRecursion.{Searches}
 use Rattle.fac_check.proofs.recursion.search.Given as goal
 
 abbrev pub decreases-loop-head : goal.decreases-loop-head

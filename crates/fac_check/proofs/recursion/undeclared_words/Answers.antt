@@ -1,4 +1,5 @@
-use Rattle.fac_check.specs.UndeclaredRecursion.{DecidesAll, AreUndeclared}
+use Rattle.fac_check.specs.inner.UndeclaredRecursion.{DecidesAll}
+use Rattle.fac_check.specs.Judged.{AreUndeclared}
 use Rattle.fac_check.proofs.EdgesOfWords.{if_ok}
 use Rattle.fac_check.proofs.UndeclaredWords.{flags_are}
 use Rattle.fac_check.proofs.recursion.undeclared_words.Goals as goal

@@ -20,10 +20,10 @@ invariant_of-result c =
     }
 
 pub returns-clause-carries : goal.returns-clause-carries
-returns-clause-carries c = λ P fits callable_height closes built never.
+returns-clause-carries c = λ P fits callable_height closes built.
     let closed = c.args.closed.now in
     let parts = c.in_ok-code.ensures in
-    carries P closed.program closed.templates _ fits callable_height built closes (record { code = parts.code; template_rows_are = parts.template_rows; word_rows_are = parts.word_rows; begins = c.place-start.ensures }) never
+    carries P closed.program closed.templates _ fits callable_height closed.start built closes (record { code = parts.code; template_rows_are = parts.template_rows; word_rows_are = parts.word_rows; begins = c.place-start.ensures })
 
 pub returns-clause-stands : goal.returns-clause-stands
 returns-clause-stands c = λ P closes built.

@@ -1,4 +1,4 @@
-use Rattle.fac_parse.proofs.LiteralLemmas as lemma
+use Rattle.fac_parse.proofs.SpellingLemmas as lemma
 use Rattle.fac_parse.proofs.laws.literals_are_integers.Goals as goal
 
 pub returns : goal.returns

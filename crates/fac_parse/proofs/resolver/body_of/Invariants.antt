@@ -1,5 +1,4 @@
 use Rattle.std.proofs.Common.{◌≡◌, drop}
-use Rattle.fac_parse.specs.OwnNames.{names_with}
 use Rattle.fac_parse.specs.Resolution.{following}
 use Rattle.fac_parse.specs.Resolver.{after_nest}
 use Rattle.fac_parse.proofs.ResolutionLemmas.{Leads}
@@ -8,6 +7,6 @@ use Rattle.fac_parse.proofs.resolver.body_of.Given as goal
 abbrev pub invariant-loop-piece : goal.invariant-loop-piece
 invariant-loop-piece l =
     record {
-      text : following (names_with l.own) l.used l.pieces ≡ after_nest l.nest (following (names_with l.own) l.used (drop l.piece-index l.pieces));
+      text : following l.known l.used l.pieces ≡ after_nest l.nest (following l.known l.used (drop l.piece-index l.pieces));
       lead : Leads l.nest (drop l.piece-index l.pieces);
     }

@@ -10,10 +10,10 @@ returns-in-Define c =
 pub returns-in-Item : goal.returns-in-Item
 returns-in-Item c =
     let s = c.args.so_far.now in
-    item_form c.take_item.result s (record { used = s.used; own = s.own; words = s.words; items = c.take_item.new.items }) c.args.form.now c.in-Item.item c.in-Item.is c.take_item.ensures refl refl refl
+    item_form c.take_item.result s (record { used = s.used; names = s.names; words = s.words; items = c.take_item.new.items }) c.args.form.now c.in-Item.item c.in-Item.is c.take_item.ensures refl refl refl
 
 pub returns-in-Quotation : goal.returns-in-Quotation
 returns-in-Quotation c =
     let s = c.args.so_far.now in
     let q = c.in-Quotation in
-    quotation_form c.take_quotation.result s (record { used = s.used; own = s.own; words = s.words; items = c.take_quotation.new.items }) c.args.form.now q.opens q.closes c.as_slice-in-Quotation.result.now q.items q.is c.as_slice-in-Quotation.ensures c.take_quotation.ensures refl refl refl
+    quotation_form c.take_quotation.result s (record { used = s.used; names = s.names; words = s.words; items = c.take_quotation.new.items }) c.args.form.now q.opens q.closes c.as_slice-in-Quotation.result.now q.items q.is c.as_slice-in-Quotation.ensures c.take_quotation.ensures refl refl refl

@@ -1,5 +1,5 @@
 use Rattle.std.proofs.Common.{[], ◌++◌, length, get_or}
-use Rattle.fac_abs.specs.Keeping.{Going}
+use Rattle.fac_abs.specs.inner.Keeping.{Going}
 use Rattle.fac_abs.proofs.cells.Cells.lay.Given as goal
 
 abbrev pub invariant-loop-mark : goal.invariant-loop-mark

@@ -1,6 +1,6 @@
 use Rattle.std.proofs.Common.{[], get_or}
 use Rattle.fac_abs.specs.InTurn.{zeros}
-use Rattle.fac_abs.specs.Keeping.{Going}
+use Rattle.fac_abs.specs.inner.Keeping.{Going}
 use Rattle.fac_abs.proofs.cells.Cells.zeros.Given as goal
 
 abbrev pub invariant-loop-left : goal.invariant-loop-left

@@ -1,7 +1,7 @@
 use Rattle.std.proofs.Common.{List, ◌≡◌, IfOk, length, subst, sym}
 use Rattle.std.specs.Map.{keys_of}
 use Rattle.fac_abs.specs.declared.node.Node.{Node}
-use Rattle.fac_abs.specs.Interning.{Interns}
+use Rattle.fac_abs.specs.inner.Interning.{Interns}
 use Rattle.fac_abs.specs.Trees.{node_depth, depths, HasPartsBelow}
 use Rattle.fac_abs.proofs.TableLemmas.{IsKept, kept_by, interned_by}
 use Rattle.fac_abs.proofs.nodes.Nodes.intern.Goals as goal

@@ -1,7 +1,6 @@
 use Rattle.std.proofs.Common.{IfOk, subst}
-use Rattle.fac_lang.specs.Primitives.{moves}
+use Rattle.fac_lang.specs.Texts.{any}
 use Rattle.fac_abs.specs.InTurn.{moved}
-use Rattle.fac_abs.specs.Keeping.{shuffle_numbered}
 use Rattle.fac_abs.specs.Seen.{MarksSeen, stack_of, Grows}
 use Rattle.fac_abs.specs.Promises.{IsStackWhere}
 use Rattle.fac_abs.proofs.SeenLemmas.{seen, stack_in, low_in, grows_cells}
@@ -23,4 +22,4 @@ returns-clause-made c =
     let ss = c.self.inside.cells in
     let ts = c.shuffle.new.self in
     let low = low_in ns ss c.args.self.now c.self.view_is c.args.stack c.requires in
-    subst (λ (M : MarksSeen). IfOk c.shuffle.result (λ o. IsStackWhere (seen ns ts) o (λ N. moved (moves (shuffle_numbered c.args.row)) (stack_of N M c.args.stack)))) c.self.view_is (shuffle_by ns ss ts c.args.stack c.args.row c.shuffle.result c.shuffle.ensures.made c.first-first.ensures.table low)
+    subst (λ (M : MarksSeen). IfOk c.shuffle.result (λ o. IsStackWhere (seen ns ts) o (λ N. moved any c.args.takes c.args.leaves.now (stack_of N M c.args.stack)))) c.self.view_is (shuffle_by ns ss ts c.args.stack c.args.takes c.args.leaves.now c.shuffle.result c.shuffle.ensures.made c.first-first.ensures.table low)

@@ -1,0 +1,4 @@
+-- What only the contracts of inner functions cite.
+pub mod Stacks
+pub mod Keeping
+pub mod Interning

@@ -1,0 +1,163 @@
+-- The walk takes each closed program that stands for a built and whole one.
+use Rattle.std.proofs.Common.{◌≡◌, ◌<◌, ◌≤◌, ◌⊎◌, ℕ, zero, suc, List, [], ◌∷◌, ◌++◌, length, Bool, true, Some, None, refl, sym, ap, subst, ◌∙◌, arith}
+use Rattle.std.specs.Prelude.{◌&&◌, nat_lt, nat_le, slice_get}
+use Rattle.std.specs.List.{list_all}
+use Rattle.std.proofs.lemmas.Bool.{leb-true, le-leb}
+use mathlib.Core.Logic.{inl, inr}
+use Rattle.fac_lang.specs.declared.phrase.Item.{Item as PlacedItem}
+use Rattle.fac_lang.specs.declared.phrase.Template.{Template}
+use Rattle.fac_lang.specs.declared.program.Program.{Program}
+use Rattle.fac_lang.specs.declared.program.WordDef.{WordDef}
+use Rattle.fac_lang.specs.declared.program.Sort.{Sort}
+use Rattle.fac_lang.specs.declared.program.Sort.TheVariants.{Prim as prim, Core as core, Body as body, Past as past, Itself as itself, Class as class, Isa as isa, Getter as getter, Setter as setter, Putter as putter, Generic as generic, Method as method}
+use Rattle.fac_lang.specs.Texts.{int, yes, no, str, iota, wrd, arr, tup, Literal, Text, end, then, Item, lit, lit_arr, quot, word, bind, local, fry, hole, call_eff, exec_eff, next_method, made, next_after, held, known}
+use Rattle.fac_lang.specs.View.{what_item, items_text}
+use Rattle.fac_lang.specs.Signatures.{Signature, signature, Inputs, no_inputs, value, quoted}
+use Rattle.fac_lang.specs.Effects.{effect_height, inputs_count}
+use Rattle.fac_lang.specs.Primitives.{built_count}
+use Rattle.fac_lang.specs.Forms.{IsBuilt, IsBuiltText, IsBuiltItem, IsBuiltSort}
+use Rattle.fac_lang.specs.Whole.{IsWhole, name_count, inputs_name_count}
+use Rattle.fac_locals.specs.Closed.{Closes, ClosesText, ClosesItem, ClosesSort, ClosesWord}
+use Rattle.fac_locals.proofs.Lookups.{word_open, words_closed_count, template_closed}
+use Rattle.fac_locals.proofs.Places.{literal_built}
+use Rattle.fac_locals.specs.Literals.{literal_numbered, first_of_literal, first_of_word, behind}
+use Rattle.fac_abs.proofs.EqualMarks.{and_first, and_second}
+use Rattle.fac_abs.proofs.SeenLemmas.{both, is_below, below_is}
+use Rattle.fac_check.specs.inner.Taken.{takes_item, takes_text, takes_template, takes_sort, takes_word, takes_all}
+use Rattle.fac_check.proofs.BuiltWords.{at_or_last, built_there}
+
+module _ {A : Type 0} (test : A → Bool) where
+  -- a test of all of a list, by its numbers
+  pub all_there : (xs : List A) → ((k : ℕ) (x : A) → slice_get xs k ≡ Some x → test x ≡ true) → list_all test xs ≡ true
+  all_there [] h = refl
+  all_there (x ∷ xs) h = both (test x) (list_all test xs) (h 0 x refl) (all_there xs (λ k y e. h (suc k) y e))
+
+  pub one_there : (xs : List A) (k : ℕ) (x : A) → list_all test xs ≡ true → slice_get xs k ≡ Some x → test x ≡ true
+  one_there [] k x h e = absurd cc
+  one_there (y ∷ ys) zero x h e = (let same : y ≡ x = cc in subst (λ z. test z ≡ true) same (and_first _ _ h))
+  one_there (y ∷ ys) (suc k) x h e = one_there ys k x (and_second _ _ h) e
+
+module _ (P : Program) (bound : ℕ) where
+  taken_item : (at : Literal) (i j : Item) → ClosesItem P at i j → IsBuiltItem bound i → takes_item bound j ≡ true
+  taken_item at (lit (int z)) j c h = rw c refl
+  taken_item at (lit yes) j c h = rw c refl
+  taken_item at (lit no) j c h = rw c refl
+  taken_item at (lit (str bs)) j c h = absurd h
+  taken_item at (lit (iota n)) j c h = absurd h
+  taken_item at (lit (wrd w)) j c h = absurd h
+  taken_item at (lit (arr a)) j c h = absurd h
+  taken_item at (lit (tup a)) j c h = absurd h
+  taken_item at (quot t) j c h = rw c.1 refl
+  taken_item at (word w) j c h = rw c h
+  taken_item at (lit_arr a) j c h = absurd h
+  taken_item at (bind x) j c h = absurd h
+  taken_item at (local x) j c h = absurd h
+  taken_item at (fry t n) j c h = absurd h
+  taken_item at (hole k) j c h = absurd h
+  taken_item at (call_eff g) j c h = absurd h
+  taken_item at (exec_eff g) j c h = absurd h
+  taken_item at next_method j c h = absurd h
+  taken_item at (made k) j c h = absurd h
+  taken_item at (next_after m) j c h = absurd h
+  taken_item at (held v) j c h = absurd h
+  taken_item at (known m) j c h = absurd h
+
+  -- a closed text of a built one
+  pub taken_text : (at : Literal) (t c : Text) → ClosesText P at t c → IsBuiltText bound t → takes_text bound c ≡ true
+  taken_text at end c e h = rw e refl
+  taken_text at (then i p t) c e h = rw e.2 (both (takes_item bound e.0) (takes_text bound e.1) (taken_item at i e.0 e.3 h.0) (taken_text (behind at i) t e.1 e.4 h.1))
+
+  taken_sort : (w : ℕ) (d : WordDef) (s o : Sort) → ClosesSort P w s o → IsBuiltSort bound d s → takes_sort bound o ≡ true
+  taken_sort w d (prim k) o c h = rw c h.is_built
+  taken_sort w d (core k) o c h = rw c h.is_built
+  taken_sort w d (body t) o c h = rw c.1 (taken_text (first_of_word w) t c.0 c.2 h.text_built)
+  taken_sort w d (past t) o c h = absurd h
+  taken_sort w d itself o c h = absurd h
+  taken_sort w d (class k) o c h = absurd h
+  taken_sort w d (isa k) o c h = absurd h
+  taken_sort w d (getter s) o c h = absurd h
+  taken_sort w d (setter s) o c h = absurd h
+  taken_sort w d (putter s) o c h = absurd h
+  taken_sort w d generic o c h = absurd h
+  taken_sort w d (method k g t) o c h = absurd h
+
+  taken_top : (w : ℕ) (s o : Sort) (t : Text) → ClosesSort P w s o → s ≡ body t → IsBuiltText bound t → takes_sort bound o ≡ true
+  taken_top w s o t c e h = (let d = subst (λ x. ClosesSort P w x o) e c in rw d.1 (taken_text (first_of_word w) t d.0 d.2 h))
+
+-- no more inputs than names
+inputs_named : (is : Inputs) → inputs_count is ≤ inputs_name_count is
+inputs_named no_inputs = omega arith
+inputs_named (value x is) = (let l = inputs_named is in omega (arith, l))
+inputs_named (quoted x e is) = (let l = inputs_named is in omega (arith, l))
+
+few_inputs : (e : Signature) → nat_le (name_count e) 65 ≡ true → nat_le (effect_height e).ins 65 ≡ true
+few_inputs (signature r is l) h = (let most = leb-true _ _ h in let least = inputs_named is in le-leb _ _ (omega (arith, most, least)))
+
+one_longer : (ws : List WordDef) (d : WordDef) → length (ws ++ d ∷ []) ≡ suc (length ws)
+one_longer [] d = refl
+one_longer (w ∷ ws) d = ap suc (one_longer ws d)
+
+longer : (ws : List WordDef) (d : WordDef) → nat_lt (length ws) (length (ws ++ d ∷ [])) ≡ true
+longer ws d = (let e = one_longer ws d in below_is (length ws) (length (ws ++ d ∷ [])) (omega (arith, e)))
+
+module _ (P C : Program) (templates : List Template) (closes : Closes P C templates) (built : IsBuilt P) (whole : IsWhole P) where
+  taken_word : (w : ℕ) (c : WordDef) → slice_get C.words w ≡ Some c → takes_word P.top c ≡ true
+  taken_word w c e =
+      let there = word_open P C templates closes w c e in
+      let d = there.def in
+      both (takes_sort P.top c.sort) (nat_le (effect_height c.effect).ins 65)
+      (by_place d there.at there.closes (at_or_last built.words built.phrase w d (subst (λ ws. slice_get ws w ≡ Some d) built.words_are there.at)))
+      (subst (λ x. nat_le (effect_height x).ins 65 ≡ true) (sym there.closes.effect) (few_inputs d.effect (one_there (λ x. nat_le (name_count x.effect) 65) P.words w d whole.few_names there.at)))
+    where
+      by_place : (d : WordDef) → slice_get P.words w ≡ Some d → ClosesWord P w d c → (slice_get built.words w ≡ Some d) ⊎ ((w ≡ length built.words) × (built.phrase ≡ d)) → takes_sort P.top c.sort ≡ true
+      by_place d at h (inl f) = taken_sort P P.top w d d.sort c.sort h.sort (built_there P.top built.words built.built w d f)
+      by_place d at h (inr f) = taken_top P P.top w d.sort c.sort built.text h.sort (sym (ap (λ (x : WordDef). x.sort) f.1) ∙ built.phrase_is.sort_is) built.phrase_is.text_built
+
+  taken_template : (k : ℕ) (t : Template) → slice_get templates k ≡ Some t → takes_template P.top t ≡ true
+  taken_template k t e = taken_text P P.top (first_of_literal (literal_numbered P k).0) (literal_numbered P k).1 t.body (template_closed P C templates closes k t e).body (literal_built P built k)
+
+  top_there : nat_lt C.top (length C.words) ≡ true
+  top_there = rw (closes.top, built.top_is, words_closed_count P C templates closes, built.words_are) (longer built.words built.phrase)
+
+  pub taken_program : takes_all C templates ≡ true
+  taken_program =
+      both _ _ top_there
+      (subst (λ top. (list_all (takes_word top) C.words && list_all (takes_template top) templates) ≡ true) (sym closes.top)
+      (both _ _ (all_there (takes_word P.top) C.words taken_word) (all_there (takes_template P.top) templates taken_template)))
+
+-- what the test of a whole program says of its parts
+module _ (C : Program) (templates : List Template) (taken : takes_all C templates ≡ true) where
+  pub word_taken : (w : ℕ) (c : WordDef) → slice_get C.words w ≡ Some c → takes_word C.top c ≡ true
+  word_taken w c e = one_there (takes_word C.top) C.words w c (and_first _ _ (and_second (nat_lt C.top (length C.words)) _ taken)) e
+
+  pub template_taken : (k : ℕ) (t : Template) → slice_get templates k ≡ Some t → takes_text C.top t.body ≡ true
+  template_taken k t e = one_there (takes_template C.top) templates k t (and_second (list_all (takes_word C.top) C.words) _ (and_second (nat_lt C.top (length C.words)) _ taken)) e
+
+  pub text_taken : (w : ℕ) (c : WordDef) (t : Text) → slice_get C.words w ≡ Some c → c.sort ≡ body t → takes_text C.top t ≡ true
+  text_taken w c t e s = subst (λ x. takes_sort C.top x ≡ true) s (and_first _ _ (word_taken w c e))
+
+  pub word_there : (w : ℕ) → nat_lt w C.top ≡ true → slice_get C.words w ≡ None → ⊥
+  word_there w l e =
+      let low = is_below w C.top l in
+      let high = is_below C.top (length C.words) (and_first _ _ taken) in
+      some_there C.words w (omega (arith, low, high)) e
+    where
+      some_there : (xs : List WordDef) (k : ℕ) → k < length xs → slice_get xs k ≡ None → ⊥
+      some_there [] k l e = omega (arith, l)
+      some_there (x ∷ xs) zero l e = cc
+      some_there (x ∷ xs) (suc k) l e = some_there xs k (omega (arith, l)) e
+
+pub core_below : (top k : ℕ) (d : WordDef) → takes_word top d ≡ true → d.sort ≡ core k → nat_lt k 3 ≡ true
+core_below top k d h e = subst (λ x. takes_sort top x ≡ true) e (and_first _ _ h)
+
+pub primitive_below : (top k : ℕ) (d : WordDef) → takes_word top d ≡ true → d.sort ≡ prim k → k < built_count
+primitive_below top k d h e = is_below k built_count (subst (λ x. takes_sort top x ≡ true) e (and_first _ _ h))
+
+pub inputs_below : (top : ℕ) (d : WordDef) → takes_word top d ≡ true → (effect_height d.effect).ins ≤ 65
+inputs_below top d h = leb-true _ _ (and_second (takes_sort top d.sort) _ h)
+
+pub first_taken : (top : ℕ) (i : PlacedItem) (is : List PlacedItem) → takes_text top (items_text (i ∷ is)) ≡ true → takes_item top (what_item i.what) ≡ true
+first_taken top i is h = and_first _ _ h
+
+pub others_taken : (top : ℕ) (i : PlacedItem) (is : List PlacedItem) → takes_text top (items_text (i ∷ is)) ≡ true → takes_text top (items_text is) ≡ true
+others_taken top i is h = and_second (takes_item top (what_item i.what)) _ h

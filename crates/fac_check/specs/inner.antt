@@ -1,0 +1,6 @@
+-- What only the contracts of inner functions cite.
+pub mod Taken
+pub mod ItemWalk
+pub mod Walking
+pub mod UndeclaredRecursion
+pub mod Breaches

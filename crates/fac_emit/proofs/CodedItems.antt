@@ -1,0 +1,89 @@
+-- Each item of a closed program that stands for a built one has an instruction.
+use Rattle.std.proofs.Common.{◌≡◌, ◌<◌, ℕ, zero, suc, ◌+◌, List, [], ◌∷◌, ◌++◌, length, drop, get_or, Bool, true, false, Option, Some, None, refl, ap, sym, subst, ◌∙◌, arith}
+use Rattle.std.specs.Prelude.{◌&&◌, slice_get}
+use Rattle.std.specs.List.{list_all}
+use Rattle.fac_lang.specs.declared.phrase.Template.{Template}
+use Rattle.fac_lang.specs.declared.program.Program.{Program}
+use Rattle.fac_lang.specs.declared.program.WordDef.{WordDef}
+use Rattle.fac_lang.specs.declared.program.Sort.{Sort}
+use Rattle.fac_lang.specs.declared.program.Sort.TheVariants.{Prim as prim_sort, Core as core_sort, Body as body, Past as past, Method as method}
+use Rattle.fac_lang.specs.declared.phrase.Item.{Item}
+use Rattle.fac_lang.specs.View.{what_item, items_text}
+use Rattle.fac_lang.specs.Texts.{Literal, Text, word}
+use Rattle.fac_lang.specs.Forms.{IsBuilt, IsBuiltText, IsBuiltSort}
+use Rattle.fac_lang.proofs.FormsLemmas.{word_below}
+use Rattle.fac_locals.specs.Literals.{Quoted, first_of_word, first_of_literal, literal_numbered}
+use Rattle.fac_locals.specs.Closed.{Closes, ClosesSort}
+use Rattle.fac_locals.proofs.ClosedPrograms.{HasBuiltText, built_texts}
+use Rattle.fac_locals.proofs.Places.{literal_built}
+use Rattle.fac_locals.proofs.Lookups.{word_closed, word_open, template_closed}
+use Rattle.fac_emit.specs.Code.{sort_is_coded, word_is_coded, item_is_coded, text_is_coded, template_is_coded, body_is_coded}
+use Rattle.fac_emit.proofs.Closings.{Closing, c_end, c_int, c_true, c_false, c_word, c_quot, closing}
+use Rattle.fac_emit.proofs.BuiltCode.{and_true}
+use Rattle.fac_emit.proofs.EmitLemmas.{next_element}
+use Rattle.fac_emit.proofs.Emitted.{built_at}
+
+pub and_first : (a b : Bool) → (a && b) ≡ true → a ≡ true
+and_first true b e = refl
+and_first false b e = e
+
+pub and_second : (a b : Bool) → (a && b) ≡ true → b ≡ true
+and_second true b e = e
+and_second false b e = absurd (cc)
+
+pub all_dropped : {A : Type 0} (test : A → Bool) (n : ℕ) (xs : List A) → list_all test xs ≡ true → list_all test (drop n xs) ≡ true
+all_dropped test zero xs h = h
+all_dropped test (suc n) [] h = refl
+all_dropped test (suc n) (x ∷ xs) h = all_dropped test n xs (and_second (test x) (list_all test xs) h)
+
+each_passes : {A : Type 0} (test : A → Bool) (xs : List A) → ((k : ℕ) (x : A) → slice_get xs k ≡ Some x → test x ≡ true) → list_all test xs ≡ true
+each_passes test [] h = refl
+each_passes test (x ∷ xs) h = and_true (test x) (list_all test xs) (h 0 x refl) (each_passes test xs (λ k y e. h (suc k) y e))
+
+-- of the items, and of the templates, from one place on the first passes
+pub item_coded_at : (words : List WordDef) (items : List Item) (i : ℕ) (x : Item) → i < length items → x ≡ get_or items i x → text_is_coded words (items_text (drop i items)) ≡ true → item_is_coded words (what_item x.what) ≡ true
+item_coded_at words items i x lt is h =
+    and_first (item_is_coded words (what_item x.what)) (text_is_coded words (items_text (drop (i + 1) items))) (subst (λ (xs : List Item). text_is_coded words (items_text xs) ≡ true) (next_element items i x lt is) h)
+
+pub template_coded_at : (words : List WordDef) (ts : List Template) (i : ℕ) (t : Template) → i < length ts → t ≡ get_or ts i t → list_all (template_is_coded words) (drop i ts) ≡ true → (template_is_coded words t ≡ true) × (list_all (template_is_coded words) (drop (i + 1) ts) ≡ true)
+template_coded_at words ts i t lt is h =
+    let both : (template_is_coded words t && list_all (template_is_coded words) (drop (i + 1) ts)) ≡ true = subst (λ (xs : List Template). list_all (template_is_coded words) xs ≡ true) (next_element ts i t lt is) h in
+    (and_first (template_is_coded words t) (list_all (template_is_coded words) (drop (i + 1) ts)) both, and_second (template_is_coded words t) (list_all (template_is_coded words) (drop (i + 1) ts)) both)
+
+module _ (P C : Program) (templates : List Template) (b : IsBuilt P) (closes : Closes P C templates) where
+  sort_coded : (w : ℕ) (d : WordDef) (s c : Sort) → ClosesSort P w s c → IsBuiltSort P.top d s → sort_is_coded c ≡ true
+  sort_coded w d (prim_sort k) c h built = rw h refl
+  sort_coded w d (core_sort k) c h built = rw h built.is_built
+  sort_coded w d (body t) c h built = rw h.1 refl
+  sort_coded w d _ c h built = absurd built
+
+  word_coded : (w : ℕ) → w < P.top → word_is_coded (slice_get C.words w) ≡ true
+  word_coded w lt =
+      let found = word_below P b w lt in
+      let closed = word_closed P C templates closes w found.def found.at in
+      rw closed.at (sort_coded w found.def found.def.sort closed.closed.sort closed.closes.sort found.built)
+
+  text_coded : (at : Literal) (t c : Text) → Closing P at t c → text_is_coded C.words c ≡ true
+  text_coded at t c c_end = refl
+  text_coded at t c (c_int z h) = text_coded _ _ _ h
+  text_coded at t c (c_true h) = text_coded _ _ _ h
+  text_coded at t c (c_false h) = text_coded _ _ _ h
+  text_coded at t c (c_word {c = c'} w lt h) = and_true (word_is_coded (slice_get C.words w)) (text_is_coded C.words c') (word_coded w lt) (text_coded _ _ _ h)
+  text_coded at t c (c_quot u q is h) = text_coded _ _ _ h
+
+  pub templates_coded : list_all (template_is_coded C.words) templates ≡ true
+  templates_coded = each_passes (template_is_coded C.words) templates (λ k t e.
+      let l = literal_numbered P k in
+      let closed = template_closed P C templates closes k t e in
+      text_coded (first_of_literal l.0) l.1 t.body (closing P (first_of_literal l.0) l.1 t.body closed.body (literal_built P b k)))
+
+  body_coded : (w : ℕ) (s c : Sort) → ClosesSort P w s c → HasBuiltText P.top s → body_is_coded C.words c ≡ true
+  body_coded w (body t) c h built = rw h.1 (text_coded (first_of_word w) t h.0 (closing P (first_of_word w) t h.0 h.2 built))
+  body_coded w (past t) c h built = absurd built
+  body_coded w (method n g t) c h built = absurd built
+  body_coded w s c h built = rw h refl
+
+  pub word_body_coded : (w : ℕ) (c : WordDef) → slice_get C.words w ≡ Some c → body_is_coded C.words c.sort ≡ true
+  word_body_coded w c at =
+      let found = word_open P C templates closes w c at in
+      body_coded w found.def.sort c.sort found.closes.sort (built_at P C templates b closes P.words w found.def (built_texts P b) found.at)

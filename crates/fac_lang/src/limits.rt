@@ -1,0 +1,35 @@
+//! The limits of the language and of the tool, each with its name. Definitions and code cite them here, and `docs/LANGUAGE.md` lists those
+//! that a user can meet. All of them are this profile's own rule.
+
+/// The most bytes that a source file has.
+pub const MOST_SOURCE_BYTES: usize = 4_194_304;
+
+/// The ticks that a program may use.
+pub const TICKS: u64 = 100_000_000;
+
+/// The most levels of brackets.
+pub const MOST_LEVELS: usize = 256;
+
+/// The most names of an effect.
+pub const MOST_NAMES: usize = 64;
+
+/// The most applications inside one another that the checker enters.
+pub const MOST_APPLICATIONS: u32 = 64;
+
+/// The most items that the checker walks for one word.
+pub const MOST_ITEMS: u32 = 200_000;
+
+/// The most elements of an array or a string.
+pub const MOST_ELEMENTS: usize = 1_000_000;
+
+/// The most pairs of values that a comparison comes to.
+pub const MOST_PAIRS: usize = 1_000_000;
+
+/// The most bytes of a printed form that is written.
+pub const MOST_PRINTED_BYTES: usize = 1_000_000;
+
+/// The most levels of arrays and tuples in a printed form. The printed value is at level 1.
+pub const MOST_PRINTED_LEVELS: usize = 16;
+
+/// The most bytes that a line of the input has.
+pub const MOST_LINE_BYTES: usize = 4_000_000;

@@ -1,0 +1,4 @@
+pub mod Statuses
+pub mod WordNames
+pub mod NoteRows
+pub mod Notes

@@ -1,0 +1,123 @@
+-- Every text comes to something, and to one thing; an accepted program is safe.
+use Rattle.std.proofs.Common.{◌≡◌, ℕ, List, Some, None, Result, Ok, Err, refl, sym, ap, ◌∙◌, subst, IfSome}
+use Rattle.std.specs.declared.option.Option.{Option}
+use Rattle.fac_lang.specs.declared.program.Program.{Program}
+use Rattle.fac_lang.specs.declared.token.Token.{Token}
+use Rattle.fac_lang.specs.declared.tree.Form.{Form}
+use Rattle.fac_lang.specs.Whole.{IsWhole}
+use Rattle.fac_token.specs.declared.fault.TokenFault.{TokenFault}
+use Rattle.fac_token.specs.declared.fault.TokenFault.TheVariants as token
+use Rattle.fac_token.specs.Tokens.{Tokenizes}
+use Rattle.fac_token.specs.ReadingLaws.{IsNotMemory, EveryFileAnswers, OneAnswer}
+use Rattle.fac_parse.specs.declared.reader.Why.TheVariants.{Other}
+use Rattle.fac_parse.specs.declared.resolver.NameFault.{NameFault}
+use Rattle.fac_parse.specs.Trees.{IsWellFormed, Reads, OneTree}
+use Rattle.fac_parse.specs.Resolution.{resolved}
+use Rattle.fac_parse.proofs.ParseLemmas as parse
+use Rattle.fac_parse.proofs.WholePrograms.{resolved_whole}
+use Rattle.fac_check.specs.Verdicts.{Refusal, verdict}
+use Rattle.fac_check.specs.Promises.{IsSafe, AcceptedAreSafe}
+use Rattle.fac_notes.specs.declared.report.ByteFault.{ByteFault}
+use Rattle.fac_notes.specs.declared.report.ByteFault.TheVariants as byte
+use Rattle.fac_tool.specs.Answer.{Source, no_tokens, no_tree, tree, if_accepted, accepted_of, accepted}
+use Rattle.fac_tool.specs.Sources.{token_fault, IsParsedAs, IsReadAs}
+
+abbrev Comes : ℕ → List ℕ → Type 0
+Comes file text = (source : Source) × IsReadAs file text source
+
+-- where a reader of tokens finds each tree that they have
+parsed_by :
+    (tokens : List Token) (fs : Option (List Form)) → ((forms : List Form) → fs ≡ Some forms → Reads tokens forms) →
+    (fs ≡ None → (forms : List Form) → Reads tokens forms → ⊥) → (source : Source) × IsParsedAs tokens source
+parsed_by tokens (Some forms) found none = (tree forms, found forms refl)
+parsed_by tokens None found none = (no_tree 0 Other, (refl, refl, none refl))
+
+parsed : (tokens : List Token) → (source : Source) × IsParsedAs tokens source
+parsed tokens = parsed_by tokens _ (parse.read_is_tree tokens) (parse.no_tree tokens)
+
+of_parse : (file : ℕ) (text : List ℕ) (tokens : List Token) (source : Source) → Tokenizes file text (Ok tokens) → IsParsedAs tokens source → Comes file text
+of_parse file text tokens (no_tokens at why) t h = absurd h
+of_parse file text tokens (no_tree at why) t h = (no_tree at why, (tokens, t, h))
+of_parse file text tokens (tree forms) t h = (tree forms, (tokens, t, h))
+
+of_tokens : (file : ℕ) (text : List ℕ) (r : Result (List Token) TokenFault) → IsNotMemory r → Tokenizes file text r → Comes file text
+of_tokens file text (Ok tokens) n h = let p = parsed tokens in of_parse file text tokens p.0 h p.1
+of_tokens file text (Err (token.NotUtf8 at)) n h = (no_tokens at byte.NotUtf8, h)
+of_tokens file text (Err (token.OpenString at)) n h = (no_tokens at byte.OpenString, h)
+of_tokens file text (Err (token.BadEscape at)) n h = (no_tokens at byte.BadEscape, h)
+of_tokens file text (Err (token.StuckQuote at)) n h = (no_tokens at byte.StuckQuote, h)
+of_tokens file text (Err token.Memory) n h = absurd n
+
+pub every_source : EveryFileAnswers → (file : ℕ) (text : List ℕ) → Comes file text
+every_source law file text = let r = law file text in of_tokens file text r.0 r.1 r.2
+
+-- a fault of tokens comes back
+back : TokenFault → Source
+back (token.NotUtf8 at) = no_tokens at byte.NotUtf8
+back (token.OpenString at) = no_tokens at byte.OpenString
+back (token.BadEscape at) = no_tokens at byte.BadEscape
+back (token.StuckQuote at) = no_tokens at byte.StuckQuote
+back token.Memory = no_tree 0 Other
+
+comes_back : (at : ℕ) (why : ByteFault) → back (token_fault at why) ≡ no_tokens at why
+unfolding back
+comes_back at byte.NotUtf8 = refl
+comes_back at byte.OpenString = refl
+comes_back at byte.BadEscape = refl
+comes_back at byte.StuckQuote = refl
+
+back_if : Result (List Token) TokenFault → Source
+back_if (Ok tokens) = no_tree 0 Other
+back_if (Err fault) = back fault
+
+same_fault : (at at' : ℕ) (why why' : ByteFault) (r t : Result (List Token) TokenFault) → r ≡ Err (token_fault at why) → t ≡ Err (token_fault at' why') → r ≡ t → no_tokens at why ≡ no_tokens at' why'
+unfolding back_if
+same_fault at at' why why' r t e d same = sym (comes_back at why) ∙ ap back_if (sym e ∙ same ∙ d) ∙ comes_back at' why'
+
+not_memory : (at : ℕ) (why : ByteFault) → IsNotMemory (Err (token_fault at why))
+not_memory at byte.NotUtf8 = tt
+not_memory at byte.OpenString = tt
+not_memory at byte.BadEscape = tt
+not_memory at byte.StuckQuote = tt
+
+abbrev has_tokens : List Token → Result (List Token) TokenFault
+has_tokens tokens = Ok tokens
+
+abbrev has_none : ℕ → ByteFault → Result (List Token) TokenFault
+has_none at why = Err (token_fault at why)
+
+pub one_source : OneAnswer → OneTree → (file : ℕ) (text : List ℕ) (one other : Source) → IsReadAs file text one → IsReadAs file text other → one ≡ other
+one_source answer tree_law file text (no_tokens at why) (no_tokens at' why') h k =
+    same_fault at at' why why' (has_none at why) (has_none at' why') refl refl (answer file text (has_none at why) (has_none at' why') (not_memory at why) (not_memory at' why') h k)
+one_source answer tree_law file text (no_tokens at why) (no_tree at' why') h k =
+    let same = answer file text (has_none at why) (has_tokens k.0) (not_memory at why) tt h k.1 in cc
+one_source answer tree_law file text (no_tokens at why) (tree forms) h k =
+    let same = answer file text (has_none at why) (has_tokens k.0) (not_memory at why) tt h k.1 in cc
+one_source answer tree_law file text (no_tree at why) (no_tokens at' why') h k =
+    let same = answer file text (has_tokens h.0) (has_none at' why') tt (not_memory at' why') h.1 k in cc
+one_source answer tree_law file text (no_tree at why) (no_tree at' why') h k =
+    let p = h.2 in let q = k.2 in ap (λ (n : ℕ). no_tree n why) (p.0 ∙ sym q.0) ∙ ap (no_tree at') (p.1 ∙ sym q.1)
+one_source answer tree_law file text (no_tree at why) (tree forms) h k =
+    let same : has_tokens h.0 ≡ has_tokens k.0 = answer file text (has_tokens h.0) (has_tokens k.0) tt tt h.1 k.1 in
+    let e : k.0 ≡ h.0 = cc in absurd (h.2.2 forms (subst (λ (ts : List Token). Reads ts forms) e k.2))
+one_source answer tree_law file text (tree forms) (no_tokens at why) h k =
+    let same = answer file text (has_tokens h.0) (has_none at why) tt (not_memory at why) h.1 k in cc
+one_source answer tree_law file text (tree forms) (no_tree at why) h k =
+    let same : has_tokens h.0 ≡ has_tokens k.0 = answer file text (has_tokens h.0) (has_tokens k.0) tt tt h.1 k.1 in
+    let e : h.0 ≡ k.0 = cc in absurd (k.2.2 forms (subst (λ (ts : List Token). Reads ts forms) e h.2))
+one_source answer tree_law file text (tree forms) (tree others) h k =
+    let same : has_tokens h.0 ≡ has_tokens k.0 = answer file text (has_tokens h.0) (has_tokens k.0) tt tt h.1 k.1 in
+    let e : h.0 ≡ k.0 = cc in ap tree (tree_law forms others h.2.fits k.2.fits (h.2.spelled ∙ e ∙ sym k.2.spelled))
+
+verdict_safe : AcceptedAreSafe → (P : Program) (v : Option (ℕ × Refusal)) → IsWhole P → verdict P 0 ≡ v → IfSome (if_accepted P v) (λ Q. IsSafe Q 0)
+verdict_safe law P (Some first) whole e = tt
+verdict_safe law P None whole e = law P 0 whole e
+
+resolved_safe : AcceptedAreSafe → (forms : List Form) (r : Result Program NameFault) → IsWellFormed forms → resolved forms ≡ r → IfSome (accepted_of r) (λ Q. IsSafe Q 0)
+resolved_safe law forms (Ok P) fits e = verdict_safe law P (verdict P 0) (resolved_whole forms (Ok P) fits e) refl
+resolved_safe law forms (Err fault) fits e = tt
+
+pub accepted_safe : AcceptedAreSafe → (file : ℕ) (text : List ℕ) (source : Source) → IsReadAs file text source → IfSome (accepted source) (λ P. IsSafe P 0)
+accepted_safe law file text (no_tokens at why) read = tt
+accepted_safe law file text (no_tree at why) read = tt
+accepted_safe law file text (tree forms) read = resolved_safe law forms (resolved forms) read.2.fits refl

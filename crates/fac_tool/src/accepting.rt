@@ -1,0 +1,93 @@
+//! The steps of every command from the text of its file to an accepted program.
+ghost use Rattle.std.specs.Prelude.{◌≡◌, Some, None, Ok};
+ghost use Rattle.fac_lang.specs.declared.program.Program.{Program as Source};
+ghost use Rattle.fac_lang.specs.Forms.{IsBuilt};
+ghost use Rattle.fac_lang.specs.Whole.{IsWhole};
+ghost use Rattle.fac_check.specs.Judged.{OfEach, StandsForBuilt, refusal_if, refusal_seen};
+ghost use Rattle.fac_check.specs.Verdicts.{verdict};
+ghost use Rattle.fac_parse.specs.Resolution.{resolved};
+ghost use Rattle.fac_parse.specs.Trees.{IsWellFormed};
+ghost use Rattle.fac_tool.specs.declared.command.Command.{Command as CommandSeen};
+ghost use Rattle.fac_tool.specs.Answer.{on_resolved, on_verdict};
+ghost use Rattle.fac_tool.specs.Stops.{SameNames, StandsFor, StandsForSafe};
+ghost use Rattle.fac_tool.specs.StepEnds.{Accepts, EndsEarly, Steps, StepsOn};
+
+use crate::ended::{bare, reported};
+use crate::reading::read_tree;
+use crate::{Ended, Report};
+use fac_check::{Checked, Refusal, accept, check_words, first_refused};
+use fac_lang::{Program, Tree};
+use fac_locals::{Closed, close};
+use fac_notes::word_name;
+use fac_parse::{ResolveFault, resolve};
+use std::alloc::Global;
+
+// The number of values that the top-level phrase starts from.
+const START: u64 = 0;
+
+// The program of a tree, which is given back to memory.
+fn resolve_tree(alloc: Global, tree: Tree) -> Result<Program, Ended>
+    requires { IsWellFormed tree.forms }
+    ensures { Steps (λ program. (resolved tree.forms ≡ Ok program) × IsBuilt program × IsWhole program) (λ command. on_resolved command (resolved tree.forms)) result }
+{
+    match resolve(alloc, &tree) {
+        Err(ResolveFault::Memory) => Err(bare(12, 0)),
+        Err(ResolveFault::Name(fault)) => Err(reported(0, Report::Name(fault))),
+        Ok(program) => Ok(program),
+    }
+}
+
+// A program with its quotations as templates.
+fn close_program(alloc: Global, program: Program) -> Result<Closed, Ended>
+    requires built { IsBuilt program }
+    requires whole { IsWhole program }
+    ensures { StepsOn (λ closed. StandsFor closed program × (closed.start ≡ 0)) result }
+{
+    match close(alloc, program, START) {
+        Err(_) => Err(bare(12, 0)),
+        Ok(closed) => Ok(closed),
+    }
+}
+
+// The first refusal of a closed program.
+fn refusal_of(alloc: Global, closed: &Closed) -> Result<Option<Refusal>, Ended>
+    requires { StandsForBuilt closed.now }
+    ensures { StepsOn (λ refusal. OfEach closed.now (λ P. verdict P closed.now.start ≡ refusal_if refusal)) result }
+{
+    match check_words(alloc, closed) {
+        Err(_) => Err(bare(12, 0)),
+        Ok(verdicts) => Ok(first_refused(&verdicts)),
+    }
+}
+
+// The refusal of a program. The name of its word is taken from this program, which has the same names.
+fn refused(alloc: Global, program: &Program, refusal: Refusal) -> Ended
+    ensures { (P : Source) → SameNames P program.now → verdict P 0 ≡ Some (refusal_seen refusal) → (command : CommandSeen) → EndsEarly (on_verdict command P (verdict P 0)) result }
+{
+    match word_name(alloc, program, refusal.word) {
+        Ok(word) => reported(0, Report::Check { refusal, word }),
+        Err(_) => bare(12, 0),
+    }
+}
+
+// A closed program that is accepted.
+fn check_closed(alloc: Global, closed: Closed) -> Result<Checked, Ended>
+    requires start { closed.start ≡ 0 }
+    requires stands { (P : Source) × StandsFor closed P }
+    ensures { (P : Source) → StandsFor closed P → Steps (λ checked. (verdict P 0 ≡ None) × StandsForSafe checked.closed P) (λ command. on_verdict command P (verdict P 0)) result }
+{
+    match refusal_of(alloc, &closed)? {
+        Some(refusal) => Err(refused(alloc, &closed.program, refusal)),
+        None => Ok(accept(closed)),
+    }
+}
+
+/// The accepted program of the text of a command's file.
+pub fn accepted_program(alloc: Global, text: &[u8]) -> Result<Checked, Ended>
+    ensures { Accepts text.now result }
+{
+    let tree = read_tree(alloc, text)?;
+    let program = resolve_tree(alloc, tree)?;
+    let closed = close_program(alloc, program)?;
+    check_closed(alloc, closed)
+}

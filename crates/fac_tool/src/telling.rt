@@ -1,0 +1,114 @@
+//! The note of an ending is written.
+ghost use Rattle.std.specs.Prelude.{◌≡◌, ◌∷◌, ◌<◌, [], codes, length, IfOk, OnOk, OnErr, IsErr};
+ghost use Rattle.fac_io.specs.Faults.{HasCause};
+ghost use Rattle.fac_io.specs.Told.{Grows, GrowsByPrefix};
+ghost use Rattle.fac_notes.specs.Notes.{line_of};
+ghost use Rattle.fac_tool.specs.Seen.{sink_seen};
+ghost use Rattle.fac_tool.specs.ToldNotes.{note_of, note_of_status};
+ghost use Rattle.fac_tool.specs.Answers.{Tells, TellsUsage, TellsNoWords};
+
+use crate::ended::bare;
+use crate::{Ended, Report};
+use fac_io::{Failed, Sink};
+use fac_lang::{List, Memory, Text};
+use fac_notes::{note, notes_are_not_empty};
+use std::alloc::Global;
+
+// The names of a command's files by their numbers.
+fn file_names(alloc: Global, name: &str) -> Result<List<Text>, Memory>
+    ensures { IfOk result (λ names. names ≡ codes "prelude" ∷ name.now ∷ []) }
+{
+    let mut names = List::new(alloc);
+    names.push(Text::from_str(alloc, "prelude")?)?;
+    names.push(Text::from_str(alloc, name)?)?;
+    Ok(names)
+}
+
+// The note of a status that comes without a report. There is no memory in it where it is empty.
+fn status_note(alloc: Global, status: u8, ticks: u64) -> Result<Text, Memory>
+    ensures note { IfOk result (λ note. note ≡ note_of_status status ticks) }
+    ensures some { OnErr result (0 < length (note_of_status status ticks)) }
+{
+    let note = if status == 10 {
+        format!(in alloc; "write fault after {ticks} ticks\n")?
+    } else if status == 12 {
+        format!(in alloc; "out of memory\n")?
+    } else {
+        String::new(alloc)
+    };
+    Ok(Text::from_string(note))
+}
+
+// The note of a report.
+fn report_note(alloc: Global, name: &str, report: &Report) -> Result<Text, Memory>
+    ensures note { IfOk result (λ note. note ≡ line_of (codes "prelude" ∷ name.now ∷ []) report.now) }
+    ensures some { 0 < length (line_of (codes "prelude" ∷ name.now ∷ []) report.now) }
+{
+    notes_are_not_empty();
+    let names = file_names(alloc, name)?;
+    note(alloc, report, &names)
+}
+
+// The note of an ending, where the command's file has this name.
+fn ended_note(alloc: Global, name: &str, ended: &Ended) -> Result<Text, Memory>
+    ensures note { IfOk result (λ note. note ≡ note_of (codes "prelude" ∷ name.now ∷ []) ended.now.status ended.now.ticks ended.now.refusal) }
+    ensures some { OnErr result (0 < length (note_of (codes "prelude" ∷ name.now ∷ []) ended.now.status ended.now.ticks ended.now.refusal)) }
+{
+    match &ended.refusal {
+        Some(report) => report_note(alloc, name, report),
+        None => status_note(alloc, ended.status, ended.ticks),
+    }
+}
+
+// Writes a note, or nothing where it is empty.
+fn write_note<N: Sink>(notes: &mut N, note: &[u8]) -> Result<(), Failed>
+    ensures ok { OnOk result (Grows (N.taken notes.old) (N.taken notes.new) note.now) }
+    ensures err { OnErr result (GrowsByPrefix (N.taken notes.old) (N.taken notes.new) note.now) }
+    ensures some { OnErr result (0 < length note.now) }
+    ensures cause { HasCause (N.faults notes.old) (N.faults notes.new) (IsErr result) }
+{
+    if note.is_empty() {
+        return Ok(());
+    }
+    notes.write(note)
+}
+
+/// Tells an ending, where the command's file has this name.
+pub fn tell<N: Sink>(alloc: Global, name: &str, reached: Ended, notes: &mut N) -> Ended
+    ensures { Tells (codes "prelude" ∷ name.now ∷ []) reached (sink_seen (N.taken notes.old) (N.taken notes.new) (N.faults notes.old) (N.faults notes.new)) result }
+{
+    let ticks = reached.ticks;
+    match ended_note(alloc, name, &reached) {
+        Ok(note) => match write_note(notes, note.as_bytes()) {
+            Ok(()) => reached,
+            Err(_) => bare(10, ticks),
+        },
+        Err(_) => match write_note(notes, b"out of memory\n".as_slice()) {
+            Ok(()) => bare(12, ticks),
+            Err(_) => bare(10, ticks),
+        },
+    }
+}
+
+/// Tells that the words of the command line meet no form. It takes no memory.
+pub fn tell_usage<N: Sink>(notes: &mut N) -> Ended
+    ensures { TellsUsage (sink_seen (N.taken notes.old) (N.taken notes.new) (N.faults notes.old) (N.faults notes.new)) result }
+{
+    match write_note(
+        notes,
+        b"usage: factorc check, run, build, exec, list, listen or gen\n".as_slice(),
+    ) {
+        Ok(()) => bare(2, 0),
+        Err(_) => bare(10, 0),
+    }
+}
+
+/// Tells that there is no memory for the words of the command line. It takes none.
+pub fn tell_no_words<N: Sink>(notes: &mut N) -> Ended
+    ensures { TellsNoWords (sink_seen (N.taken notes.old) (N.taken notes.new) (N.faults notes.old) (N.faults notes.new)) result }
+{
+    match write_note(notes, b"out of memory\n".as_slice()) {
+        Ok(()) => bare(12, 0),
+        Err(_) => bare(10, 0),
+    }
+}
