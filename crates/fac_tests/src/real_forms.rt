@@ -1,5 +1,6 @@
 //! Tests of the real files and streams.
-use fac_io::{Failed, Files, LoadFault, RealFiles, RealSink, RealSource, SaveFault, Sink, Source};
+use fac_io::{Files, LoadFault, RealFiles, RealSink, RealSource, SaveFault, Sink, Source};
+use std::alloc::Global;
 use std::io::{ErrorKind, Read, Write};
 use std::test::Fail;
 use std::{fs, io, process};
@@ -91,30 +92,55 @@ impl<'a> Read for Grudging<'a> {
     }
 }
 
+// What a sink on such a stream takes of two writes.
+fn taken(alloc: Global, fails_with: Option<ErrorKind>) -> Result<Vec<u8>, Fail> {
+    let mut bytes = Vec::new(alloc);
+    let mut out = RealSink::new(Grudging {
+        bytes: &mut bytes,
+        calls: 0,
+        fails_with,
+    });
+    let first = out.write(b"ab".as_slice());
+    let second = out.write(b"cde".as_slice());
+    bytes.push(b'0' + u8::from(first.is_ok()))?;
+    bytes.push(b'0' + u8::from(second.is_ok()))?;
+    Ok(bytes)
+}
+
 #[test]
-fn real_streams(rt: HostRuntime) -> Result<(), Fail> {
+fn real_sinks(rt: HostRuntime) -> Result<(), Fail> {
     let alloc = rt.alloc();
-    for (fails_with, answer) in [(None, Ok(0)), (Some(ErrorKind::BrokenPipe), Err(Failed))] {
-        let mut bytes = Vec::new(alloc);
-        let mut out = RealSink::new(Grudging {
-            bytes: &mut bytes,
-            calls: 0,
-            fails_with,
-        });
-        assert_eq!(rt; out.write(b"ab".as_slice()), Ok(()));
-        assert_eq!(rt; out.write(b"cde".as_slice()), Err(Failed));
-        assert_eq!(rt; bytes.as_slice(), b"abc".as_slice());
-        let mut source = RealSource::new(Grudging {
-            bytes: &mut bytes,
-            calls: 0,
-            fails_with,
-        });
-        let mut buf = [0u8; 2];
-        for given in 1..4u8 {
-            assert_eq!(rt; source.read(&mut buf), Ok(1));
-            assert_eq!(rt; buf[0], given);
-        }
-        assert_eq!(rt; source.read(&mut buf), answer);
+    assert_eq!(rt; taken(alloc, None)?.as_slice(), b"abc10".as_slice());
+    let failing = taken(alloc, Some(ErrorKind::BrokenPipe))?;
+    assert_eq!(rt; failing.as_slice(), b"abc10".as_slice());
+    Ok(())
+}
+
+// What four reads of such a stream give: the byte that was read, 0 at the end, or 9 where the read failed.
+fn given(alloc: Global, fails_with: Option<ErrorKind>) -> Result<Vec<u8>, Fail> {
+    let mut bytes = Vec::new(alloc);
+    let mut source = RealSource::new(Grudging {
+        bytes: &mut bytes,
+        calls: 0,
+        fails_with,
+    });
+    let mut told = Vec::new(alloc);
+    let mut buffer = [0u8; 2];
+    for _ in 0..4 {
+        told.push(match source.read(&mut buffer) {
+            Ok(0) => 0,
+            Ok(_) => buffer[0],
+            Err(_) => 9,
+        })?;
     }
+    Ok(told)
+}
+
+#[test]
+fn real_sources(rt: HostRuntime) -> Result<(), Fail> {
+    let alloc = rt.alloc();
+    assert_eq!(rt; given(alloc, None)?.as_slice(), [1, 2, 3, 0].as_slice());
+    let failing = given(alloc, Some(ErrorKind::BrokenPipe))?;
+    assert_eq!(rt; failing.as_slice(), [1, 2, 3, 9].as_slice());
     Ok(())
 }
