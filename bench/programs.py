@@ -3,7 +3,7 @@
 
     python3 bench/programs.py [PROGRAM]
 
-PROGRAM is the built program, by default crates/factorc/out/factorc. No word compares numbers yet, so neither program tests when it is at
+PROGRAM is the built program, by default crates/factorc/out/factorc. Calls are what is measured, so neither program tests when it is at
 its end: each step down has a word of its own. The countdown halves its work from word to word until single steps are left, and counts
 from 2^24 to 0 by them. The recursive Fibonacci has a word for each number, which calls the words of the two numbers before; so its calls
 are just those of the recursive definition. The same words stand in the gforth and the Lua programs, one by one.
