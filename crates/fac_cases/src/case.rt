@@ -13,9 +13,9 @@
 //!
 //! The source is what the one file `a` holds.
 use crate::telling::{tell_bytes, tell_end, tell_loads, tell_stack, tell_tokens};
-use fac_io::{MemFiles, MemSink};
+use fac_io::{Files, MemFiles, MemSink, Sink};
 use fac_lang::{Bytes, List, Memory, Text};
-use fac_tool::factor_top;
+use fac_tool::{Ended, factor_top};
 use std::alloc::Global;
 
 // The most bytes that a sink takes.
@@ -91,6 +91,40 @@ fn push_times(bytes: &mut Bytes, text: &str) -> Result<bool, Memory> {
     Ok(true)
 }
 
+// Makes the call.
+fn call<F: Files, K: Sink, N: Sink>(
+    alloc: Global,
+    words: &[String],
+    files: &mut F,
+    output: &mut K,
+    note: &mut N,
+) -> Ended {
+    factor_top(alloc, words, files, output, note)
+}
+
+// Tells how a call ended.
+fn tell_call(
+    alloc: Global,
+    ended: &Ended,
+    files: &MemFiles,
+    output: &MemSink,
+    note: &MemSink,
+) -> Result<Text, Memory> {
+    let mut told = Text::new(alloc);
+    tell_end(alloc, &mut told, ended.status, ended.ticks)?;
+    tell_loads(&mut told, files.asked().as_slice())?;
+    if ended.refusal.is_some() {
+        told.push_str(", refused")?;
+    }
+    if let Some(texts) = &ended.stack {
+        tell_stack(&mut told, texts.as_slice())?;
+    }
+    told.push_str("\n")?;
+    tell_bytes(&mut told, "  writes ", output.taken())?;
+    tell_bytes(&mut told, "  notes ", note.taken())?;
+    Ok(told)
+}
+
 impl Case {
     /// The call of `run a`, without faults, on an empty file.
     pub fn new(alloc: Global) -> Result<Self, Memory> {
@@ -157,25 +191,13 @@ impl Case {
         let mut files = MemFiles::new(alloc, held, self.loads);
         let mut output = MemSink::new(alloc, ROOM, self.output)?;
         let mut note = MemSink::new(alloc, ROOM, self.note)?;
-        let ended = factor_top(
+        let ended = call(
             alloc,
             self.words.as_slice(),
             &mut files,
             &mut output,
             &mut note,
         );
-        let mut told = Text::new(alloc);
-        tell_end(alloc, &mut told, ended.status, ended.ticks)?;
-        tell_loads(&mut told, files.asked().as_slice())?;
-        if ended.refusal.is_some() {
-            told.push_str(", refused")?;
-        }
-        if let Some(texts) = &ended.stack {
-            tell_stack(&mut told, texts.as_slice())?;
-        }
-        told.push_str("\n")?;
-        tell_bytes(&mut told, "  writes ", output.taken())?;
-        tell_bytes(&mut told, "  notes ", note.taken())?;
-        Ok(told)
+        tell_call(alloc, &ended, &files, &output, &note)
     }
 }
