@@ -4,7 +4,7 @@
 //!
 //!     @about TEXT             what the cases from here on show
 //!     @template N M K ..      a template whose code begins at the place N, with M holes and these cells
-//!     @word prim N            a word that does this primitive
+//!     @word prim NAME         a word that does this primitive, by its name or its number
 //!     @word core N            a word that does this core word
 //!     @word code N            a word with the code at this place
 //!     @output N M             the write of this number fails after M bytes

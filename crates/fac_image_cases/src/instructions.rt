@@ -1,5 +1,24 @@
 //! Instructions and what words do, as texts tell them.
 use fac_code::{Action, Instr};
+use fac_lang::primitives;
+
+// The number of the primitive with this name.
+fn numbered(name: &str) -> Option<u32> {
+    for (number, row) in primitives().iter().enumerate() {
+        if row.word.name == name {
+            return u32::try_from(number).ok();
+        }
+    }
+    None
+}
+
+// A primitive, by its name or by its number.
+fn primitive(text: &str) -> Option<u32> {
+    match text.parse::<u32>() {
+        Ok(number) => Some(number),
+        Err(_) => numbered(text),
+    }
+}
 
 // The instruction of a word that has no operand.
 fn plain(name: &str) -> Option<Instr> {
@@ -21,7 +40,6 @@ fn plain(name: &str) -> Option<Instr> {
 fn with_number(name: &str, number: u32) -> Option<Instr> {
     match name {
         "quot" => Some(Instr::Quot(number)),
-        "prim" => Some(Instr::Prim(number)),
         "callw" => Some(Instr::Callw {
             word: number,
             tail: false,
@@ -39,6 +57,7 @@ pub fn instr(text: &str) -> Option<Instr> {
     match text.split_once(' ') {
         None => plain(text),
         Some(("int", number)) => Some(Instr::Int(number.parse::<i128>().ok()?)),
+        Some(("prim", name)) => Some(Instr::Prim(primitive(name)?)),
         Some((name, number)) => with_number(name, number.parse::<u32>().ok()?),
     }
 }
@@ -46,11 +65,10 @@ pub fn instr(text: &str) -> Option<Instr> {
 /// What a word does, as a text tells it.
 pub fn action(text: &str) -> Option<Action> {
     let (name, number) = text.split_once(' ')?;
-    let number = number.parse::<u32>().ok()?;
     match name {
-        "prim" => Some(Action::Prim(number)),
-        "core" => Some(Action::Core(number)),
-        "code" => Some(Action::Code(number)),
+        "prim" => Some(Action::Prim(primitive(number)?)),
+        "core" => Some(Action::Core(number.parse::<u32>().ok()?)),
+        "code" => Some(Action::Code(number.parse::<u32>().ok()?)),
         _ => None,
     }
 }
