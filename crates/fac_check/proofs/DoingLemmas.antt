@@ -8,7 +8,19 @@ use Rattle.fac_abs.specs.Marks.{Row, dead, on, is_callable, unknowns, piled}
 use Rattle.fac_abs.specs.declared.rule.Rule.TheVariants.{Underflow, NotKnown}
 use Rattle.fac_abs.proofs.CallerLemmas.{popped_none, popped_some}
 use Rattle.fac_abs.specs.InTurn.{under, taken, moved}
+use Rattle.fac_abs.specs.Seen.{MarksSeen}
+use Rattle.fac_check.specs.inner.Walking.{IsDoingOf}
+use Rattle.fac_check.specs.declared.doing.Doing.{Doing}
+use Rattle.fac_check.specs.declared.doing.Doing.TheVariants.{Breaks, Gives, Expands, Walks, Forks}
 use Rattle.fac_check.specs.Flow.{breaks, gives, forks, by_height, marks_moved, mark_made, core_doing}
+
+-- what names one of these words names one of those
+pub doing_of : (R S : ℕ → Type 0) (M : MarksSeen) (D : Doing) → ((w : ℕ) → R w → S w) → IsDoingOf R M D → IsDoingOf S M D
+doing_of R S M (Breaks r) f h = tt
+doing_of R S M (Gives A) f h = h
+doing_of R S M (Expands w s) f h = (f w h.0, h.1)
+doing_of R S M (Walks m s back) f h = h
+doing_of R S M (Forks m n s) f h = h
 
 pub height_lacks : (i : ℕ) (o : Option ℕ) (b : Option Row) (ms : List Mark) → under i ms ≡ None → breaks (Underflow i (length ms)) ≡ by_height i o b ms
 height_lacks i None b ms e = subst (λ (q : Option (List Mark × List Mark)). breaks (Underflow i (length ms)) ≡ elim q [ Some r ↦ gives dead | None ↦ breaks (Underflow i (length ms)) ]) (sym (popped_none i [] ms e)) refl

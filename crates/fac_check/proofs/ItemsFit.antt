@@ -28,7 +28,7 @@ use Rattle.fac_check.specs.CallableEffects.{fits, callable_height}
 use Rattle.fac_check.specs.Standing.{Stands, StandsText, StandsItem, StandsOn, Valid, EndsSo}
 use Rattle.fac_lang.proofs.Laws.{Sparing}
 use Rattle.fac_abs.proofs.EqualMarks.{never_true, and_first, and_second}
-use Rattle.fac_check.proofs.StandingLaws.{Each, holes_text}
+use Rattle.fac_check.proofs.StandingLaws.{Each, holes_text, callable_is}
 use Rattle.fac_check.proofs.PrimitivesKeep.{Regular, RegularFn, followed_regular, inputs_regular, few_inputs}
 use Rattle.fac_check.proofs.WalksFit.{Context, OnState, StackState, TextsFit, InputsFit, Does, Back}
 
@@ -157,14 +157,6 @@ module _ (P : Program) (C : Context) where
     regular_does a i o (fn3 g) h b ms st e = rw h.0 (three_taken b o ms st.stack st.world (λ x y z st'. given a st'.stack (g x y z st'.world)) e.0 (λ x y z ns r q. given_gives a o (g x y z st.world) b ns r st.world e.1 (h.1 x y z st.world) q))
 
     -- The core words.
-    callable_is : (q : Mark) (v : Value) → Stands C.inputs q v → is_callable q ≡ true → (c : Callable) × (v ≡ fun c)
-    callable_is any v h e = absurd (never_true e)
-    callable_is (lit_mark p t) v h e = (text h.0, h.1)
-    callable_is (cur_mark m c) v h e = (cur h.0 h.1, h.2)
-    callable_is (com_mark c d) v h e = (both h.0 h.1, h.2)
-    callable_is (wrd_mark w) v h e = absurd (never_true e)
-    callable_is (par_mark k) v h e = (h.0, h.1)
-
     pub if_callable : (q : Bool) (x : Rule) (E : Doing) (a : Act) → (q ≡ true → D E a) → D (callable_or q x E) a
     if_callable true x E a h = h refl
     if_callable false x E a h = tt
@@ -172,20 +164,20 @@ module _ (P : Program) (C : Context) where
     pub call_does : (b : Option Row) (ms : List Mark) (st : State Value) → OnState P C b ms st → D (core_doing P (Some c_call) b ms) (does_call P st)
     call_does b [] st e = tt
     call_does b (q ∷ ms) st e =
-        rw e.0.2 (if_callable (is_callable q) NotKnown (walks q b ms []) (with_callable e.0.0 (λ c. runs c (record { stack = e.0.1; world = st.world }) [])) (λ yes. (let c = callable_is q e.0.0 e.0.3 yes in rw c.1 (c.0, record { stack = e.0.1; world = st.world }, [], refl, rw (sym c.1) e.0.3, (e.0.4, e.1), refl))))
+        rw e.0.2 (if_callable (is_callable q) NotKnown (walks q b ms []) (with_callable e.0.0 (λ c. runs c (record { stack = e.0.1; world = st.world }) [])) (λ yes. (let c = callable_is C.inputs q e.0.0 e.0.3 yes in rw c.1 (c.0, record { stack = e.0.1; world = st.world }, [], refl, rw (sym c.1) e.0.3, (e.0.4, e.1), refl))))
 
     pub dip_does : (b : Option Row) (ms : List Mark) (st : State Value) → OnState P C b ms st → D (core_doing P (Some c_dip) b ms) (does_dip P st)
     dip_does b [] st e = tt
     dip_does b (q ∷ []) st e = tt
     dip_does b (q ∷ x ∷ ms) st e =
-        rw e.0.2 (rw e.0.4.2 (if_callable (is_callable q) NotKnown (walks q b ms (x ∷ [])) (with_callable e.0.0 (λ c. runs c (record { stack = e.0.4.1; world = st.world }) (e.0.4.0 ∷ []))) (λ yes. (let c = callable_is q e.0.0 e.0.3 yes in rw c.1 (c.0, record { stack = e.0.4.1; world = st.world }, e.0.4.0 ∷ [], refl, rw (sym c.1) e.0.3, (e.0.4.4, e.1), (e.0.4.0, [], refl, e.0.4.3, refl))))))
+        rw e.0.2 (rw e.0.4.2 (if_callable (is_callable q) NotKnown (walks q b ms (x ∷ [])) (with_callable e.0.0 (λ c. runs c (record { stack = e.0.4.1; world = st.world }) (e.0.4.0 ∷ []))) (λ yes. (let c = callable_is C.inputs q e.0.0 e.0.3 yes in rw c.1 (c.0, record { stack = e.0.4.1; world = st.world }, e.0.4.0 ∷ [], refl, rw (sym c.1) e.0.3, (e.0.4.4, e.1), (e.0.4.0, [], refl, e.0.4.3, refl))))))
 
     pub if_does : (b : Option Row) (ms : List Mark) (st : State Value) → OnState P C b ms st → D (core_doing P (Some c_if) b ms) (does_if P st)
     if_does b [] st e = tt
     if_does b (r ∷ []) st e = tt
     if_does b (r ∷ l ∷ []) st e = tt
     if_does b (r ∷ l ∷ x ∷ ms) st e =
-        rw e.0.2 (rw e.0.4.2 (rw e.0.4.4.2 (if_callable (is_callable l && is_callable r) NotKnown (forks l r b ms) (with_callable e.0.4.0 (λ c. with_callable e.0.0 (λ d. runs (elim (seen_no (seen e.0.4.4.0)) [ true ↦ d | false ↦ c ]) (record { stack = e.0.4.4.1; world = st.world }) []))) (λ yes. (let c = callable_is l e.0.4.0 e.0.4.3 (and_first (is_callable l) (is_callable r) yes) in let d = callable_is r e.0.0 e.0.3 (and_second (is_callable l) (is_callable r) yes) in rw c.1 (rw d.1 (chosen (seen_no (seen e.0.4.4.0)) c.0 d.0 (rw (sym c.1) e.0.4.3) (rw (sym d.1) e.0.3))))))))
+        rw e.0.2 (rw e.0.4.2 (rw e.0.4.4.2 (if_callable (is_callable l && is_callable r) NotKnown (forks l r b ms) (with_callable e.0.4.0 (λ c. with_callable e.0.0 (λ d. runs (elim (seen_no (seen e.0.4.4.0)) [ true ↦ d | false ↦ c ]) (record { stack = e.0.4.4.1; world = st.world }) []))) (λ yes. (let c = callable_is C.inputs l e.0.4.0 e.0.4.3 (and_first (is_callable l) (is_callable r) yes) in let d = callable_is C.inputs r e.0.0 e.0.3 (and_second (is_callable l) (is_callable r) yes) in rw c.1 (rw d.1 (chosen (seen_no (seen e.0.4.4.0)) c.0 d.0 (rw (sym c.1) e.0.4.3) (rw (sym d.1) e.0.3))))))))
       where
         chosen : (q : Bool) (c d : Callable) → Stands C.inputs l (fun c) → Stands C.inputs r (fun d) → D (forks l r b ms) (runs (elim q [ true ↦ d | false ↦ c ]) (record { stack = e.0.4.4.1; world = st.world }) [])
         chosen true c d x y = (d, record { stack = e.0.4.4.1; world = st.world }, refl, inr y, (e.0.4.4.4, e.1))
@@ -270,7 +262,7 @@ module _ (P : Program) (C : Context) where
     made_stands false m v h = tt
 
     no_callable : (q : Bool) (c : Mark) (p : Plain) → Stands C.inputs c (plain p) → (q ≡ true → is_callable c ≡ true) → q ≡ false
-    no_callable true c p h f = absurd (let z = callable_is c (plain p) h (f refl) in let never = z.1 in cc)
+    no_callable true c p h f = absurd (let z = callable_is C.inputs c (plain p) h (f refl) in let never = z.1 in cc)
     no_callable false c p h f = refl
 
     curried_fits : (m c : Mark) (u v : Value) → Stands C.inputs m u → Stands C.inputs c v → (a : ℕ) (g : Gives Value) (b : Option Row) (ms : List Mark) (s : List Value) (w : World Value) → Valid P w → Regular (Some 1) w.literals g → StandsOn C.inputs C.row b ms s → D (gives (on b (curried_mark m c ∷ ms))) (given a s (made_or texts (curry_of u v) w g))

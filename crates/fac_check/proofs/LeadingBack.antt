@@ -246,6 +246,7 @@ search_ends edges starts seen marks head s le = record {
   begins = s.begins;
   closed = λ u v h e lt. let found = member_at u seen (s.marked u h) in s.followed found.0 u v (omega (arith, le, at_below seen found.0 u found.1)) found.1 e lt;
   within = λ v h. let found = member_at v seen (s.marked v h) in within_more edges starts found.0 (length edges) v (omega (arith, at_below seen found.0 v found.1, seen_below edges starts seen marks head s)) (s.within found.0 v found.1);
+  same_length = s.same_length;
 }
 
 abbrev is_marked : Option Bool → Bool
@@ -268,10 +269,6 @@ unmarked edges w marks f e = record {
 pub search_decides : (edges : List (List ℕ)) (w : ℕ) (marks : List Bool) (b : Bool) → Finds edges (led_from edges w) marks → slice_get marks w ≡ Some b → Decides edges w b
 search_decides edges w marks true f e = f.within w e
 search_decides edges w marks false f e = unmarked edges w marks f (ap is_marked e)
-
--- a word without a mark
-pub search_misses : (edges : List (List ℕ)) (w : ℕ) (marks : List Bool) → Finds edges (led_from edges w) marks → slice_get marks w ≡ None → StaysInside edges w
-search_misses edges w marks f e = unmarked edges w marks f (ap is_marked e)
 
 abbrev lower : ℕ → ℕ → Bool
 lower a b = nat_lt 0 a && nat_lt a b

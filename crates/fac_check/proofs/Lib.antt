@@ -22,6 +22,7 @@ pub mod StepByStep
 pub mod BuiltWords
 pub mod PrimitiveDoings
 pub mod BuiltMarks
+pub mod LiteralNumbers
 pub mod TakenPrograms
 pub mod DoingLemmas
 pub mod WordItems
@@ -33,6 +34,7 @@ pub mod NamedWords
 pub mod EdgesOfWords
 pub mod LeadingBack
 pub mod UndeclaredWords
+pub mod EdgesInside
 pub mod JudgeLemmas
 pub mod ExamplesOfRecursion
 pub mod OneProgram

@@ -5,20 +5,22 @@ use Rattle.fac_lang.specs.declared.phrase.Place.{Place}
 use Rattle.fac_lang.specs.declared.phrase.Template.{Template}
 use Rattle.fac_lang.specs.declared.program.Program.{Program}
 use Rattle.fac_lang.specs.declared.program.WordDef.{WordDef}
-use Rattle.fac_lang.specs.declared.program.Sort.{Sort}
-use Rattle.fac_lang.specs.declared.program.Sort.TheVariants.{Prim as prim, Core as core, Body as body, Past as past, Itself as itself, Class as class, Isa as isa, Getter as getter, Setter as setter, Putter as putter, Generic as generic, Method as method}
+use Rattle.fac_lang.specs.declared.program.Sort.TheVariants.{Body as body}
 use Rattle.fac_lang.specs.Texts.{Literal, Text, end, Mark, cur_mark, com_mark}
 use Rattle.fac_locals.specs.Literals.{Quoted, literal_or, first_of_word, first_of_literal}
-use Rattle.fac_locals.specs.Closed.{Closes, ClosesText, ClosesSort}
+use Rattle.fac_locals.specs.Closed.{Closes, ClosesText}
 use Rattle.fac_locals.specs.declared.closing.Closed.{Closed}
-use Rattle.fac_locals.proofs.Lookups.{word_open, word_open_none, template_closed, template_closed_none}
+use Rattle.fac_locals.proofs.Lookups.{word_open, template_closed, template_closed_none}
 use Rattle.fac_abs.specs.Marks.{AbstractStack, on}
 use Rattle.fac_abs.specs.Trees.{Naming}
-use Rattle.fac_abs.specs.Seen.{MarksSeen, Grows}
+use Rattle.fac_abs.specs.Seen.{MarksSeen, Grows, IsMark, IsStack, mark_of, stack_of}
+use Rattle.fac_check.specs.declared.walker.Step.{Step}
+use Rattle.fac_check.specs.declared.walker.Walked.{Walked as Ended}
+use Rattle.fac_check.specs.declared.walker.Walked.TheVariants.{Found}
 use Rattle.fac_check.specs.declared.doing.Reached.{Reached}
 use Rattle.fac_check.specs.declared.doing.Reached.TheVariants.{Dead, On}
 use Rattle.fac_check.specs.Flow.{Walked, found, and_then, join, living, inside, Walk, walk_text, walk_mark}
-use Rattle.fac_check.specs.inner.Walking.{Opened, IsReached, reached_seen, Enters, body_text, text_of, sort_text, go_at}
+use Rattle.fac_check.specs.inner.Walking.{Opened, IsReached, reached_seen, walked_seen, Enters, body_text, text_of, sort_text, go_at, mark_walk, fork_walk}
 use Rattle.fac_check.proofs.BuiltWords.{built_as}
 use Rattle.fac_check.proofs.WordItems.{is_body}
 
@@ -30,6 +32,10 @@ module _ (go : Walk) (p : Place) (nested : ℕ) (ms : List Mark) (left rest : �
   -- what `compose` made: its first part, and then its second
   pub composed_counts : (c e : Mark) (W : Walked AbstractStack) → W ≡ inside c p nested (λ d. walk_mark None go c p d None ms rest) → walk_mark None go (com_mark c e) p nested None ms left ≡ and_then W (λ A k. living A k (λ b ns j. inside e p nested (λ d. walk_mark None go e p d b ns j)))
   composed_counts c e W first = rw (counts, first) refl
+
+  -- likewise where the walk of the first part came to this
+  pub composed_ends : (N : Naming) (K : MarksSeen) (c e : Mark) (W V : Ended) → W ≡ V → walked_seen N K W ≡ inside c p nested (λ d. walk_mark None go c p d None ms rest) → walk_mark None go (com_mark c e) p nested None ms left ≡ and_then (walked_seen N K V) (λ A k. living A k (λ b ns j. inside e p nested (λ d. walk_mark None go e p d b ns j)))
+  composed_ends N K c e W V is first = composed_counts c e (walked_seen N K V) (ap (walked_seen N K) (sym is) ∙ first)
 
 -- a text is one application deeper
 pub text_entered : (go : Walk) (at : Literal) (t : Text) (p : Place) (nested : ℕ) (ms : List Mark) (n : ℕ) → nested ≢ 0 → walk_text None go at t p nested None ms n ≡ go at (nested - 1) t None ms n
@@ -67,34 +73,23 @@ module _ {C : Program} {templates : List Template} (O : Opened C templates) wher
   pub no_literal : (k : ℕ) → slice_get templates k ≡ None → (O.naming.literal k).1 ≡ end
   no_literal k e = ap (λ (l : Quoted). l.1) (O.naming_is k) ∙ ap (λ (o : Option Quoted). (literal_or O.program k o).1) (template_closed_none O.program C templates O.closes k e)
 
-  -- a number that no word has, and a word without a text
-  pub no_word : (w : ℕ) → slice_get C.words w ≡ None → body_text O.program w ≡ end
-  no_word w e = ap text_of (word_open_none O.program C templates O.closes w e)
-
-  pub no_word_text : (w : ℕ) (c : WordDef) → slice_get C.words w ≡ Some c → ((t : Text) → c.sort ≡ body t → ⊥) → body_text O.program w ≡ end
-  no_word_text w c e none = (let there = word_open O.program C templates O.closes w c e in ap text_of there.at ∙ by_sort there.def.sort there.closes.sort)
-    where
-      by_sort : (s : Sort) → ClosesSort O.program w s c.sort → sort_text s ≡ end
-      by_sort (body t) h = absurd (none h.0 h.1)
-      by_sort (prim k) h = refl
-      by_sort (core k) h = refl
-      by_sort (past t) h = refl
-      by_sort itself h = refl
-      by_sort (class k) h = refl
-      by_sort (isa k) h = refl
-      by_sort (getter x) h = refl
-      by_sort (setter x) h = refl
-      by_sort (putter x) h = refl
-      by_sort generic h = refl
-      by_sort (method k g t) h = refl
-
--- two callables, and then their join
-pub fork_on :
-    (W V X : Walked AbstractStack) (A : AbstractStack) (n : ℕ) (second : ℕ → Walked AbstractStack) (p : Place) →
-    found A n ≡ W → V ≡ second n → X ≡ and_then V (λ B j. join A B p j) → X ≡ and_then W (λ C k. and_then (second k) (λ B j. join C B p j))
-fork_on W V X A n second p e f g = g ∙ ap (λ v. and_then v (λ B j. join A B p j)) f ∙ ap (λ w. and_then w (λ C k. and_then (second k) (λ B j. join C B p j))) e
-
 -- what was reached stays what it is
 pub reached_stays : (N : Naming) (M L : MarksSeen) (A : Reached) → Grows M L → IsReached M A → reached_seen N L A ≡ reached_seen N M A
 reached_stays N M L Dead g h = refl
 reached_stays N M L (On s) g h = ap (λ ms. on None ms) (g.same_stack N s h)
+
+-- two callables, and then their join
+module _ {C : Program} {templates : List Template} (O : Opened C templates) (go : Walk) (M L K : MarksSeen) (s : Step) (m n : ℕ) where
+  -- Where the walk of the first came to this, the walk of the second is at marks that came later.
+  pub forked :
+      (W V : Ended) (upper : Reached) (rest : ℕ) (X : Walked AbstractStack) → Grows M L → IsMark M n → IsStack M s.stack → W ≡ Found upper rest →
+      walked_seen O.naming L W ≡ mark_walk M s m O go →
+      walked_seen O.naming K V ≡ walk_mark None go (mark_of O.naming L n) s.place s.nested None (stack_of O.naming L s.stack) rest →
+      X ≡ and_then (walked_seen O.naming K V) (λ B j. join (reached_seen O.naming L upper) B s.place j) →
+      X ≡ fork_walk M s m n O go
+  forked W V upper rest X grows there stack is first second joins =
+      let N = O.naming in
+      let seconds : ℕ → Walked AbstractStack = λ k. walk_mark None go (mark_of N M n) s.place s.nested None (stack_of N M s.stack) k in
+      joins
+      ∙ ap (λ w. and_then w (λ B j. join (reached_seen N L upper) B s.place j)) (second ∙ ap (λ q. walk_mark None go q s.place s.nested None (stack_of N L s.stack) rest) (grows.same_mark N n there) ∙ ap (λ ms. walk_mark None go (mark_of N M n) s.place s.nested None ms rest) (grows.same_stack N s.stack stack))
+      ∙ ap (λ w. and_then w (λ A k. and_then (seconds k) (λ B j. join A B s.place j))) (ap (walked_seen N L) (sym is) ∙ first)

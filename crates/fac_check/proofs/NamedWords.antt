@@ -9,10 +9,10 @@ use Rattle.fac_lang.specs.declared.program.Program.{Program}
 use Rattle.fac_lang.specs.declared.program.WordDef.{WordDef}
 use Rattle.fac_lang.specs.declared.program.Sort.{Sort}
 use Rattle.fac_lang.specs.declared.program.Sort.TheVariants.{Prim as prim, Core as core, Body as body, Past as past, Itself as itself, Class as class, Isa as isa, Getter as getter, Setter as setter, Putter as putter, Generic as generic, Method as method}
-use Rattle.fac_locals.specs.Literals.{Quoted, behind, first_of_literal, literal_or, literal_numbered}
+use Rattle.fac_locals.specs.Literals.{Quoted, behind, first_of_literal, literal_numbered}
 use Rattle.fac_locals.specs.Closed.{Closes, ClosesSort, ClosesText, ClosesItem}
 use Rattle.fac_locals.proofs.Places.{not_before, literal_behind}
-use Rattle.fac_locals.proofs.Lookups.{word_closed, word_closed_none, template_closed, template_closed_none}
+use Rattle.fac_locals.proofs.Lookups.{word_closed, word_closed_none, template_closed}
 use Rattle.fac_check.specs.Verdicts.{inline_body, inline_words, item_words}
 use Rattle.fac_check.specs.inner.UndeclaredRecursion.{named_word, made_template, inline_text, one_if, inline_word, NumbersFrom, NamesLeft, AddsNames, AddsItemNames, AddsMadeNames}
 
@@ -161,10 +161,6 @@ adds_none C ts from j before is made_is = λ P h at i closes numbers. sym (ap (�
 pub adds_earlier : (C : Program) (ts : List Template) (from k : ℕ) (before after : List ℕ) → k < from → AddsMadeNames C ts from k before after
 adds_earlier C ts from k before after lt =
     λ P h at is numbers. let le : from ≤ k = numbers k (inr (ap (λ (l : Literal). l.word) is, omega (arith, ap (λ (l : Literal). l.index) is))) in absurd (omega (arith, le, lt))
-
--- a number without a template has no text
-pub adds_nothing : (C : Program) (ts : List Template) (from k : ℕ) (before : List ℕ) → slice_get ts k ≡ None → AddsMadeNames C ts from k before before
-adds_nothing C ts from k before none = λ P h at is numbers. sym (ap (λ (o : Option Quoted). before ++ inline_words P (literal_or P k o).1) (template_closed_none P C ts h k none) ∙ append-nil before)
 
 -- the text of a template adds its names
 pub adds_template : (C : Program) (ts : List Template) (from k : ℕ) (t : Template) (before after : List ℕ) → slice_get ts k ≡ Some t → AddsNames C ts (k + 1) t.body before after → AddsMadeNames C ts from k before after

@@ -9,7 +9,7 @@ use Rattle.fac_lang.specs.Meaning.{word_text, one_item}
 use Rattle.fac_lang.specs.RunningLaws.{IsNotStuck}
 use Rattle.fac_check.specs.CallableEffects.{callable_height, fits}
 use Rattle.fac_check.specs.Standing.{Valid, EndsSo}
-use Rattle.fac_check.specs.Promises.{AcceptedAreSafe, Lists, Exactly, LeftOn, Ends, OfRow}
+use Rattle.fac_check.specs.Promises.{AcceptedAreSafe, SafeAreNotStuck, Lists, Exactly, LeftOn, Ends, OfRow}
 use Rattle.fac_lang.specs.Effects.{effect_height}
 use Rattle.fac_check.specs.Rows.{effect_leaving, leaving_on, outer_out}
 use Rattle.fac_check.proofs.WalksFit.{StackState}
@@ -42,11 +42,14 @@ module _ (P : Program) where
   left_on (Some n) below st h = (let z = outputs_over n below st.stack h.0 in (z.0, below, z.1, z.2, refl))
 
 -- what ends so isn't stuck
-pub not_stuck : (P : Program) (after : Lists) (r : Result) → Ends P after r → IsNotStuck r
+not_stuck : (P : Program) (after : Lists) (r : Result) → Ends P after r → IsNotStuck r
 not_stuck P after (Done st m) h = tt
 not_stuck P after (Failed e st m) h = tt
 not_stuck P after (Spent st i) h = tt
 not_stuck P after Stuck h = h
+
+pub safe_are_not_stuck : SafeAreNotStuck
+safe_are_not_stuck P count safe budget st many valid = not_stuck P (λ list. Unit {0}) _ (safe.phrase budget st budget (omega arith) many valid)
 
 pub accepted_are_safe : AcceptedAreSafe
 accepted_are_safe P count whole accepted = record {

@@ -1,6 +1,6 @@
 -- The values on which a row word is used stand for the marks from which its text is walked.
 use Rattle.std.proofs.Common.{◌≡◌, ℕ, zero, suc, List, [], ◌∷◌, true, false, refl, sym, ap, Option}
-use Rattle.fac_lang.specs.Texts.{Value, fun, Callable, text, cur, both, Mark, any, lit_mark, cur_mark, com_mark, wrd_mark, par_mark}
+use Rattle.fac_lang.specs.Texts.{Value, Callable, Mark, any, par_mark}
 use Rattle.fac_lang.specs.World.{pile}
 use Rattle.fac_lang.specs.Signatures.{Inputs, no_inputs, value, quoted}
 use Rattle.fac_lang.specs.declared.program.Program.{Program}
@@ -9,6 +9,7 @@ use Rattle.fac_check.specs.Rows.{inputs_known}
 use Rattle.fac_check.specs.Verdicts.{inputs_marks}
 use Rattle.fac_check.specs.Standing.{Stands, StandsOn}
 use Rattle.fac_abs.proofs.EqualMarks.{never_true, and_first, and_second}
+use Rattle.fac_check.proofs.StandingLaws.{callable_is}
 use Rattle.fac_check.proofs.WalksFit.{Context}
 use Rattle.fac_check.proofs.InsideRowWords.{Given}
 
@@ -22,14 +23,6 @@ module _ (P : Program) (C K : Context) where
   abbrev pub plus : ℕ → ℕ → ℕ
   plus zero k = k
   plus (suc j) k = plus j (suc k)
-
-  callable_is : (q : Mark) (v : Value) → Stands C.inputs q v → is_callable q ≡ true → (c : Callable) × (v ≡ fun c)
-  callable_is any v h e = absurd (never_true e)
-  callable_is (lit_mark p t) v h e = (text h.0, h.1)
-  callable_is (cur_mark m c) v h e = (cur h.0 h.1, h.2)
-  callable_is (com_mark c d) v h e = (both h.0 h.1, h.2)
-  callable_is (wrd_mark w) v h e = absurd (never_true e)
-  callable_is (par_mark k) v h e = (h.0, h.1)
 
   -- as many marks as inputs
   abbrev pub AsMany : Inputs → List Mark → Type 0
@@ -50,4 +43,4 @@ module _ (P : Program) (C K : Context) where
   inputs_stand k (value y is) (m ∷ ns) vs a x e h b ms s o = rw x.2 (inputs_stand (suc k) is ns x.1 a x.4 e (λ j c g. h (suc j) c g) b (any ∷ ms) (x.0 ∷ s) (x.0, s, refl, tt, o))
   inputs_stand k (quoted y q is) [] vs a x e h b ms s o = absurd a
   inputs_stand k (quoted y q is) (m ∷ ns) vs a x e h b ms s o =
-      (let c = callable_is m x.0 x.3 (and_first (is_callable m) (inputs_known is ns) e) in rw x.2 (inputs_stand (suc k) is ns x.1 a x.4 (and_second (is_callable m) (inputs_known is ns) e) (λ j d g. h (suc j) d g) b (par_mark k ∷ ms) (x.0 ∷ s) (x.0, s, refl, (c.0, c.1, h zero c.0 (rw (sym c.1) x.3)), o)))
+      (let c = callable_is C.inputs m x.0 x.3 (and_first (is_callable m) (inputs_known is ns) e) in rw x.2 (inputs_stand (suc k) is ns x.1 a x.4 (and_second (is_callable m) (inputs_known is ns) e) (λ j d g. h (suc j) d g) b (par_mark k ∷ ms) (x.0 ∷ s) (x.0, s, refl, (c.0, c.1, h zero c.0 (rw (sym c.1) x.3)), o)))

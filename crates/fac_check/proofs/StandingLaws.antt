@@ -1,10 +1,21 @@
 -- Texts that stand for each other go on doing so where items that stand for each other are put in both.
 use Rattle.std.proofs.Common.{◌≡◌, ℕ, zero, suc, List, [], ◌∷◌, Bool, true, false, refl, sym}
 use Rattle.std.specs.Prelude.{slice_get, nat_eq}
-use Rattle.fac_lang.specs.Texts.{Text, end, then, Item, lit, lit_arr, quot, word, bind, local, fry, hole, call_eff, exec_eff, next_method, made, next_after, held, known, Callable}
+use Rattle.fac_lang.specs.Texts.{Text, end, then, Item, lit, lit_arr, quot, word, bind, local, fry, hole, call_eff, exec_eff, next_method, made, next_after, held, known, Value, fun, Callable, text, cur, both, Mark, any, lit_mark, cur_mark, com_mark, wrd_mark, par_mark}
 use Rattle.fac_lang.specs.Substitution.{binds_local, put_local, put_local_item, put_holes, put_holes_item, item_or_hole}
 use Rattle.fac_check.specs.CallableEffects.{forgotten, forgotten_item}
-use Rattle.fac_check.specs.Standing.{StandsText, StandsItem, Unmeant}
+use Rattle.fac_check.specs.Standing.{Stands, StandsText, StandsItem, Unmeant}
+use Rattle.fac_abs.specs.Marks.{is_callable}
+use Rattle.fac_abs.proofs.EqualMarks.{never_true}
+
+-- what stands for a mark of callables alone is a callable
+pub callable_is : (inputs : ℕ → Callable → Type 0) (q : Mark) (v : Value) → Stands inputs q v → is_callable q ≡ true → (c : Callable) × (v ≡ fun c)
+callable_is inputs any v h e = absurd (never_true e)
+callable_is inputs (lit_mark p t) v h e = (text h.0, h.1)
+callable_is inputs (cur_mark m c) v h e = (cur h.0 h.1, h.2)
+callable_is inputs (com_mark c d) v h e = (both h.0 h.1, h.2)
+callable_is inputs (wrd_mark w) v h e = absurd (never_true e)
+callable_is inputs (par_mark k) v h e = (h.0, h.1)
 
 -- an item that no running text has
 unmeant_binds : (x : ℕ) (j : Item) → Unmeant j → false ≡ binds_local x j

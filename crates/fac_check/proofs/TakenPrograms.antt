@@ -1,5 +1,5 @@
 -- The walk takes each closed program that stands for a built and whole one.
-use Rattle.std.proofs.Common.{◌≡◌, ◌<◌, ◌≤◌, ◌⊎◌, ℕ, zero, suc, List, [], ◌∷◌, ◌++◌, length, Bool, true, Some, None, refl, sym, ap, subst, ◌∙◌, arith}
+use Rattle.std.proofs.Common.{◌≡◌, ◌<◌, ◌≤◌, ◌⊎◌, ℕ, zero, suc, List, [], ◌∷◌, ◌++◌, drop, length, Bool, true, Some, None, refl, sym, ap, subst, ◌∙◌, arith}
 use Rattle.std.specs.Prelude.{◌&&◌, nat_lt, nat_le, slice_get}
 use Rattle.std.specs.List.{list_all}
 use Rattle.std.proofs.lemmas.Bool.{leb-true, le-leb}
@@ -17,14 +17,17 @@ use Rattle.fac_lang.specs.Effects.{effect_height, inputs_count}
 use Rattle.fac_lang.specs.Primitives.{built_count}
 use Rattle.fac_lang.specs.Forms.{IsBuilt, IsBuiltText, IsBuiltItem, IsBuiltSort}
 use Rattle.fac_lang.specs.Whole.{IsWhole, name_count, inputs_name_count}
-use Rattle.fac_locals.specs.Closed.{Closes, ClosesText, ClosesItem, ClosesSort, ClosesWord}
+use Rattle.fac_locals.specs.Closed.{Closes, ClosesText, ClosesItem, ClosesSort, ClosesWord, IsMadeBy}
 use Rattle.fac_locals.proofs.Lookups.{word_open, words_closed_count, template_closed}
 use Rattle.fac_locals.proofs.Places.{literal_built}
 use Rattle.fac_locals.specs.Literals.{literal_numbered, first_of_literal, first_of_word, behind}
 use Rattle.fac_abs.proofs.EqualMarks.{and_first, and_second}
 use Rattle.fac_abs.proofs.SeenLemmas.{both, is_below, below_is}
+use Rattle.fac_check.specs.inner.UndeclaredRecursion.{named_word, made_template}
 use Rattle.fac_check.specs.inner.Taken.{takes_item, takes_text, takes_template, takes_sort, takes_word, takes_all}
 use Rattle.fac_check.proofs.BuiltWords.{at_or_last, built_there}
+use Rattle.fac_check.proofs.LiteralNumbers.{template_of_words, made_there}
+use Rattle.fac_check.proofs.NamedWords.{number_below}
 
 module _ {A : Type 0} (test : A → Bool) where
   -- a test of all of a list, by its numbers
@@ -37,52 +40,59 @@ module _ {A : Type 0} (test : A → Bool) where
   one_there (y ∷ ys) zero x h e = (let same : y ≡ x = cc in subst (λ z. test z ≡ true) same (and_first _ _ h))
   one_there (y ∷ ys) (suc k) x h e = one_there ys k x (and_second _ _ h) e
 
-module _ (P : Program) (bound : ℕ) where
-  taken_item : (at : Literal) (i j : Item) → ClosesItem P at i j → IsBuiltItem bound i → takes_item bound j ≡ true
-  taken_item at (lit (int z)) j c h = rw c refl
-  taken_item at (lit yes) j c h = rw c refl
-  taken_item at (lit no) j c h = rw c refl
-  taken_item at (lit (str bs)) j c h = absurd h
-  taken_item at (lit (iota n)) j c h = absurd h
-  taken_item at (lit (wrd w)) j c h = absurd h
-  taken_item at (lit (arr a)) j c h = absurd h
-  taken_item at (lit (tup a)) j c h = absurd h
-  taken_item at (quot t) j c h = rw c.1 refl
-  taken_item at (word w) j c h = rw c h
-  taken_item at (lit_arr a) j c h = absurd h
-  taken_item at (bind x) j c h = absurd h
-  taken_item at (local x) j c h = absurd h
-  taken_item at (fry t n) j c h = absurd h
-  taken_item at (hole k) j c h = absurd h
-  taken_item at (call_eff g) j c h = absurd h
-  taken_item at (exec_eff g) j c h = absurd h
-  taken_item at next_method j c h = absurd h
-  taken_item at (made k) j c h = absurd h
-  taken_item at (next_after m) j c h = absurd h
-  taken_item at (held v) j c h = absurd h
-  taken_item at (known m) j c h = absurd h
+-- the first of those that are left
+pub first_dropped : {A : Type 0} (xs : List A) (k : ℕ) (x : A) (rest : List A) → drop k xs ≡ x ∷ rest → slice_get xs k ≡ Some x
+first_dropped [] zero x rest e = absurd cc
+first_dropped [] (suc k) x rest e = absurd cc
+first_dropped (y ∷ ys) zero x rest e = let same : y ≡ x = cc in ap Some same
+first_dropped (y ∷ ys) (suc k) x rest e = first_dropped ys k x rest e
+
+module _ (P : Program) (bound count : ℕ) (numbered : (at : Literal) (t : Text) (k : ℕ) → at.word < length P.words → IsMadeBy P at t k → nat_lt k count ≡ true) where
+  taken_item : (at : Literal) (i j : Item) → at.word < length P.words → ClosesItem P at i j → IsBuiltItem bound i → takes_item bound count j ≡ true
+  taken_item at (lit (int z)) j l c h = rw c refl
+  taken_item at (lit yes) j l c h = rw c refl
+  taken_item at (lit no) j l c h = rw c refl
+  taken_item at (lit (str bs)) j l c h = absurd h
+  taken_item at (lit (iota n)) j l c h = absurd h
+  taken_item at (lit (wrd w)) j l c h = absurd h
+  taken_item at (lit (arr a)) j l c h = absurd h
+  taken_item at (lit (tup a)) j l c h = absurd h
+  taken_item at (quot t) j l c h = rw c.1 (numbered at t c.0 l c.2)
+  taken_item at (word w) j l c h = rw c h
+  taken_item at (lit_arr a) j l c h = absurd h
+  taken_item at (bind x) j l c h = absurd h
+  taken_item at (local x) j l c h = absurd h
+  taken_item at (fry t n) j l c h = absurd h
+  taken_item at (hole k) j l c h = absurd h
+  taken_item at (call_eff g) j l c h = absurd h
+  taken_item at (exec_eff g) j l c h = absurd h
+  taken_item at next_method j l c h = absurd h
+  taken_item at (made k) j l c h = absurd h
+  taken_item at (next_after m) j l c h = absurd h
+  taken_item at (held v) j l c h = absurd h
+  taken_item at (known m) j l c h = absurd h
 
   -- a closed text of a built one
-  pub taken_text : (at : Literal) (t c : Text) → ClosesText P at t c → IsBuiltText bound t → takes_text bound c ≡ true
-  taken_text at end c e h = rw e refl
-  taken_text at (then i p t) c e h = rw e.2 (both (takes_item bound e.0) (takes_text bound e.1) (taken_item at i e.0 e.3 h.0) (taken_text (behind at i) t e.1 e.4 h.1))
+  pub taken_text : (at : Literal) (t c : Text) → at.word < length P.words → ClosesText P at t c → IsBuiltText bound t → takes_text bound count c ≡ true
+  taken_text at end c l e h = rw e refl
+  taken_text at (then i p t) c l e h = rw e.2 (both (takes_item bound count e.0) (takes_text bound count e.1) (taken_item at i e.0 l e.3 h.0) (taken_text (behind at i) t e.1 l e.4 h.1))
 
-  taken_sort : (w : ℕ) (d : WordDef) (s o : Sort) → ClosesSort P w s o → IsBuiltSort bound d s → takes_sort bound o ≡ true
-  taken_sort w d (prim k) o c h = rw c h.is_built
-  taken_sort w d (core k) o c h = rw c h.is_built
-  taken_sort w d (body t) o c h = rw c.1 (taken_text (first_of_word w) t c.0 c.2 h.text_built)
-  taken_sort w d (past t) o c h = absurd h
-  taken_sort w d itself o c h = absurd h
-  taken_sort w d (class k) o c h = absurd h
-  taken_sort w d (isa k) o c h = absurd h
-  taken_sort w d (getter s) o c h = absurd h
-  taken_sort w d (setter s) o c h = absurd h
-  taken_sort w d (putter s) o c h = absurd h
-  taken_sort w d generic o c h = absurd h
-  taken_sort w d (method k g t) o c h = absurd h
+  taken_sort : (w : ℕ) (d : WordDef) (s o : Sort) → w < length P.words → ClosesSort P w s o → IsBuiltSort bound d s → takes_sort bound count o ≡ true
+  taken_sort w d (prim k) o l c h = rw c h.is_built
+  taken_sort w d (core k) o l c h = rw c h.is_built
+  taken_sort w d (body t) o l c h = rw c.1 (taken_text (first_of_word w) t c.0 l c.2 h.text_built)
+  taken_sort w d (past t) o l c h = absurd h
+  taken_sort w d itself o l c h = absurd h
+  taken_sort w d (class k) o l c h = absurd h
+  taken_sort w d (isa k) o l c h = absurd h
+  taken_sort w d (getter s) o l c h = absurd h
+  taken_sort w d (setter s) o l c h = absurd h
+  taken_sort w d (putter s) o l c h = absurd h
+  taken_sort w d generic o l c h = absurd h
+  taken_sort w d (method k g t) o l c h = absurd h
 
-  taken_top : (w : ℕ) (s o : Sort) (t : Text) → ClosesSort P w s o → s ≡ body t → IsBuiltText bound t → takes_sort bound o ≡ true
-  taken_top w s o t c e h = (let d = subst (λ x. ClosesSort P w x o) e c in rw d.1 (taken_text (first_of_word w) t d.0 d.2 h))
+  taken_top : (w : ℕ) (s o : Sort) (t : Text) → w < length P.words → ClosesSort P w s o → s ≡ body t → IsBuiltText bound t → takes_sort bound count o ≡ true
+  taken_top w s o t l c e h = (let d = subst (λ x. ClosesSort P w x o) e c in rw d.1 (taken_text (first_of_word w) t d.0 l d.2 h))
 
 -- no more inputs than names
 inputs_named : (is : Inputs) → inputs_count is ≤ inputs_name_count is
@@ -101,20 +111,23 @@ longer : (ws : List WordDef) (d : WordDef) → nat_lt (length ws) (length (ws ++
 longer ws d = (let e = one_longer ws d in below_is (length ws) (length (ws ++ d ∷ [])) (omega (arith, e)))
 
 module _ (P C : Program) (templates : List Template) (closes : Closes P C templates) (built : IsBuilt P) (whole : IsWhole P) where
-  taken_word : (w : ℕ) (c : WordDef) → slice_get C.words w ≡ Some c → takes_word P.top c ≡ true
+  numbered : (at : Literal) (t : Text) (k : ℕ) → at.word < length P.words → IsMadeBy P at t k → nat_lt k (length templates) ≡ true
+  numbered = made_there P C templates closes
+
+  taken_word : (w : ℕ) (c : WordDef) → slice_get C.words w ≡ Some c → takes_word P.top (length templates) c ≡ true
   taken_word w c e =
       let there = word_open P C templates closes w c e in
       let d = there.def in
-      both (takes_sort P.top c.sort) (nat_le (effect_height c.effect).ins 65)
+      both (takes_sort P.top (length templates) c.sort) (nat_le (effect_height c.effect).ins 65)
       (by_place d there.at there.closes (at_or_last built.words built.phrase w d (subst (λ ws. slice_get ws w ≡ Some d) built.words_are there.at)))
       (subst (λ x. nat_le (effect_height x).ins 65 ≡ true) (sym there.closes.effect) (few_inputs d.effect (one_there (λ x. nat_le (name_count x.effect) 65) P.words w d whole.few_names there.at)))
     where
-      by_place : (d : WordDef) → slice_get P.words w ≡ Some d → ClosesWord P w d c → (slice_get built.words w ≡ Some d) ⊎ ((w ≡ length built.words) × (built.phrase ≡ d)) → takes_sort P.top c.sort ≡ true
-      by_place d at h (inl f) = taken_sort P P.top w d d.sort c.sort h.sort (built_there P.top built.words built.built w d f)
-      by_place d at h (inr f) = taken_top P P.top w d.sort c.sort built.text h.sort (sym (ap (λ (x : WordDef). x.sort) f.1) ∙ built.phrase_is.sort_is) built.phrase_is.text_built
+      by_place : (d : WordDef) → slice_get P.words w ≡ Some d → ClosesWord P w d c → (slice_get built.words w ≡ Some d) ⊎ ((w ≡ length built.words) × (built.phrase ≡ d)) → takes_sort P.top (length templates) c.sort ≡ true
+      by_place d at h (inl f) = taken_sort P P.top (length templates) numbered w d d.sort c.sort (number_below P.words w d at) h.sort (built_there P.top built.words built.built w d f)
+      by_place d at h (inr f) = taken_top P P.top (length templates) numbered w d.sort c.sort built.text (number_below P.words w d at) h.sort (sym (ap (λ (x : WordDef). x.sort) f.1) ∙ built.phrase_is.sort_is) built.phrase_is.text_built
 
-  taken_template : (k : ℕ) (t : Template) → slice_get templates k ≡ Some t → takes_template P.top t ≡ true
-  taken_template k t e = taken_text P P.top (first_of_literal (literal_numbered P k).0) (literal_numbered P k).1 t.body (template_closed P C templates closes k t e).body (literal_built P built k)
+  taken_template : (k : ℕ) (t : Template) → slice_get templates k ≡ Some t → takes_template P.top (length templates) t ≡ true
+  taken_template k t e = taken_text P P.top (length templates) numbered (first_of_literal (literal_numbered P k).0) (literal_numbered P k).1 t.body (template_of_words P C templates closes k t e) (template_closed P C templates closes k t e).body (literal_built P built k)
 
   top_there : nat_lt C.top (length C.words) ≡ true
   top_there = rw (closes.top, built.top_is, words_closed_count P C templates closes, built.words_are) (longer built.words built.phrase)
@@ -122,20 +135,21 @@ module _ (P C : Program) (templates : List Template) (closes : Closes P C templa
   pub taken_program : takes_all C templates ≡ true
   taken_program =
       both _ _ top_there
-      (subst (λ top. (list_all (takes_word top) C.words && list_all (takes_template top) templates) ≡ true) (sym closes.top)
-      (both _ _ (all_there (takes_word P.top) C.words taken_word) (all_there (takes_template P.top) templates taken_template)))
+      (subst (λ top. (list_all (takes_word top (length templates)) C.words && list_all (takes_template top (length templates)) templates) ≡ true) (sym closes.top)
+      (both _ _ (all_there (takes_word P.top (length templates)) C.words taken_word) (all_there (takes_template P.top (length templates)) templates taken_template)))
 
 -- what the test of a whole program says of its parts
 module _ (C : Program) (templates : List Template) (taken : takes_all C templates ≡ true) where
-  pub word_taken : (w : ℕ) (c : WordDef) → slice_get C.words w ≡ Some c → takes_word C.top c ≡ true
-  word_taken w c e = one_there (takes_word C.top) C.words w c (and_first _ _ (and_second (nat_lt C.top (length C.words)) _ taken)) e
+  pub word_taken : (w : ℕ) (c : WordDef) → slice_get C.words w ≡ Some c → takes_word C.top (length templates) c ≡ true
+  word_taken w c e = one_there (takes_word C.top (length templates)) C.words w c (and_first _ _ (and_second (nat_lt C.top (length C.words)) _ taken)) e
 
-  pub template_taken : (k : ℕ) (t : Template) → slice_get templates k ≡ Some t → takes_text C.top t.body ≡ true
-  template_taken k t e = one_there (takes_template C.top) templates k t (and_second (list_all (takes_word C.top) C.words) _ (and_second (nat_lt C.top (length C.words)) _ taken)) e
+  pub template_taken : (k : ℕ) (t : Template) → slice_get templates k ≡ Some t → takes_text C.top (length templates) t.body ≡ true
+  template_taken k t e = one_there (takes_template C.top (length templates)) templates k t (and_second (list_all (takes_word C.top (length templates)) C.words) _ (and_second (nat_lt C.top (length C.words)) _ taken)) e
 
-  pub text_taken : (w : ℕ) (c : WordDef) (t : Text) → slice_get C.words w ≡ Some c → c.sort ≡ body t → takes_text C.top t ≡ true
-  text_taken w c t e s = subst (λ x. takes_sort C.top x ≡ true) s (and_first _ _ (word_taken w c e))
+  pub text_taken : (w : ℕ) (c : WordDef) (t : Text) → slice_get C.words w ≡ Some c → c.sort ≡ body t → takes_text C.top (length templates) t ≡ true
+  text_taken w c t e s = subst (λ x. takes_sort C.top (length templates) x ≡ true) s (and_first _ _ (word_taken w c e))
 
+  -- no word or template below the ends is missing
   pub word_there : (w : ℕ) → nat_lt w C.top ≡ true → slice_get C.words w ≡ None → ⊥
   word_there w l e =
       let low = is_below w C.top l in
@@ -147,17 +161,68 @@ module _ (C : Program) (templates : List Template) (taken : takes_all C template
       some_there (x ∷ xs) zero l e = cc
       some_there (x ∷ xs) (suc k) l e = some_there xs k (omega (arith, l)) e
 
-pub core_below : (top k : ℕ) (d : WordDef) → takes_word top d ≡ true → d.sort ≡ core k → nat_lt k 3 ≡ true
-core_below top k d h e = subst (λ x. takes_sort top x ≡ true) e (and_first _ _ h)
+  pub top_below : C.top < length C.words
+  top_below = is_below C.top (length C.words) (and_first _ _ taken)
 
-pub primitive_below : (top k : ℕ) (d : WordDef) → takes_word top d ≡ true → d.sort ≡ prim k → k < built_count
-primitive_below top k d h e = is_below k built_count (subst (λ x. takes_sort top x ≡ true) e (and_first _ _ h))
+  -- a word or a template that an item names is there
+  pub named_below : (i : Item) (w : ℕ) → takes_item C.top (length templates) i ≡ true → named_word i ≡ Some w → w < length C.words
+  named_below (word v) w h e =
+      let same : v ≡ w = cc in
+      let low = is_below v C.top h in
+      omega (arith, same, low, top_below)
+  named_below (lit (wrd v)) w h e = absurd cc
+  named_below (lit (int z)) w h e = absurd cc
+  named_below (lit yes) w h e = absurd cc
+  named_below (lit no) w h e = absurd cc
+  named_below (lit (str bs)) w h e = absurd cc
+  named_below (lit (iota n)) w h e = absurd cc
+  named_below (lit (arr a)) w h e = absurd cc
+  named_below (lit (tup a)) w h e = absurd cc
+  named_below (quot t) w h e = absurd cc
+  named_below (lit_arr a) w h e = absurd cc
+  named_below (bind x) w h e = absurd cc
+  named_below (local x) w h e = absurd cc
+  named_below (fry t n) w h e = absurd cc
+  named_below (hole k) w h e = absurd cc
+  named_below (call_eff g) w h e = absurd cc
+  named_below (exec_eff g) w h e = absurd cc
+  named_below next_method w h e = absurd cc
+  named_below (made k) w h e = absurd cc
+  named_below (next_after m) w h e = absurd cc
+  named_below (held v) w h e = absurd cc
+  named_below (known m) w h e = absurd cc
 
-pub inputs_below : (top : ℕ) (d : WordDef) → takes_word top d ≡ true → (effect_height d.effect).ins ≤ 65
-inputs_below top d h = leb-true _ _ (and_second (takes_sort top d.sort) _ h)
+  pub made_below : (i : Item) (k : ℕ) → takes_item C.top (length templates) i ≡ true → made_template i ≡ Some k → k < length templates
+  made_below (made j) k h e =
+      let same : j ≡ k = cc in
+      let low = is_below j (length templates) h in
+      omega (arith, same, low)
+  made_below (word v) k h e = absurd cc
+  made_below (lit p) k h e = absurd cc
+  made_below (quot t) k h e = absurd cc
+  made_below (lit_arr a) k h e = absurd cc
+  made_below (bind x) k h e = absurd cc
+  made_below (local x) k h e = absurd cc
+  made_below (fry t n) k h e = absurd cc
+  made_below (hole n) k h e = absurd cc
+  made_below (call_eff g) k h e = absurd cc
+  made_below (exec_eff g) k h e = absurd cc
+  made_below next_method k h e = absurd cc
+  made_below (next_after m) k h e = absurd cc
+  made_below (held v) k h e = absurd cc
+  made_below (known m) k h e = absurd cc
 
-pub first_taken : (top : ℕ) (i : PlacedItem) (is : List PlacedItem) → takes_text top (items_text (i ∷ is)) ≡ true → takes_item top (what_item i.what) ≡ true
-first_taken top i is h = and_first _ _ h
+pub core_below : (top count k : ℕ) (d : WordDef) → takes_word top count d ≡ true → d.sort ≡ core k → nat_lt k 3 ≡ true
+core_below top count k d h e = subst (λ x. takes_sort top count x ≡ true) e (and_first _ _ h)
 
-pub others_taken : (top : ℕ) (i : PlacedItem) (is : List PlacedItem) → takes_text top (items_text (i ∷ is)) ≡ true → takes_text top (items_text is) ≡ true
-others_taken top i is h = and_second (takes_item top (what_item i.what)) _ h
+pub primitive_below : (top count k : ℕ) (d : WordDef) → takes_word top count d ≡ true → d.sort ≡ prim k → k < built_count
+primitive_below top count k d h e = is_below k built_count (subst (λ x. takes_sort top count x ≡ true) e (and_first _ _ h))
+
+pub inputs_below : (top count : ℕ) (d : WordDef) → takes_word top count d ≡ true → (effect_height d.effect).ins ≤ 65
+inputs_below top count d h = leb-true _ _ (and_second (takes_sort top count d.sort) _ h)
+
+pub first_taken : (top count : ℕ) (i : PlacedItem) (is : List PlacedItem) → takes_text top count (items_text (i ∷ is)) ≡ true → takes_item top count (what_item i.what) ≡ true
+first_taken top count i is h = and_first _ _ h
+
+pub others_taken : (top count : ℕ) (i : PlacedItem) (is : List PlacedItem) → takes_text top count (items_text (i ∷ is)) ≡ true → takes_text top count (items_text is) ≡ true
+others_taken top count i is h = and_second (takes_item top count (what_item i.what)) _ h

@@ -179,7 +179,7 @@ module _ (P : Program) where
   edges_none w zero (x ∷ ds) e = absurd cc
   edges_none w (suc k) (x ∷ ds) e = edges_none (suc w) k ds e
 
-  edges_count : (w : ℕ) (ds : List WordDef) → length (edges_from P w ds) ≡ length ds
+  pub edges_count : (w : ℕ) (ds : List WordDef) → length (edges_from P w ds) ≡ length ds
   edges_count w [] = refl
   edges_count w (d ∷ ds) = ap suc (edges_count (suc w) ds)
 

@@ -73,6 +73,10 @@ IsVerdict closed w v = OfEach closed (λ P. (d : WordDef) → slice_get P.words 
 abbrev pub AreVerdicts : Closed → List Verdict → Type 0
 AreVerdicts closed verdicts = OfEach closed (λ P. map verdict_seen verdicts ≡ all_verdicts P closed.start)
 
+-- The first refusal among the verdicts on all words in their order is the verdict on the program.
+abbrev pub FirstRefusalIsVerdict : Type 0
+FirstRefusalIsVerdict = (closed : Closed) (verdicts : List Verdict) (first : Option Refusal) → AreVerdicts closed verdicts → refusal_if first ≡ first_of (map verdict_seen verdicts) → OfEach closed (λ P. verdict P closed.start ≡ refusal_if first)
+
 -- the program is accepted
 abbrev pub IsAccepted : Closed → Type 0
 IsAccepted closed = OfEach closed (λ P. verdict P closed.start ≡ None)

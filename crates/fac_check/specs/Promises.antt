@@ -9,6 +9,7 @@ use Rattle.fac_lang.specs.Signatures.{Signature, signature, Inputs, no_inputs, v
 use Rattle.fac_lang.specs.Effects.{inputs_count, leaving_outs, effect_height, word_height}
 use Rattle.fac_lang.specs.Eval.{Result, Done, Failed, Spent, Stuck, run_callable}
 use Rattle.fac_lang.specs.Meaning.{run, start, word_text, one_item, is_phrase}
+use Rattle.fac_lang.specs.RunningLaws.{IsNotStuck}
 use Rattle.fac_lang.specs.Whole.{IsWhole}
 use Rattle.fac_abs.specs.Marks.{Row, named_row}
 use Rattle.fac_check.specs.Rows.{leaving_row, effect_inputs, outer_in, outer_out, is_row}
@@ -100,3 +101,7 @@ pub record IsSafe (P : Program) (count : ℕ) : Type 0 where
 -- Whatever quotations, row variables, recursion, locals, objects and methods are in it, and however many values its top-level phrase starts on.
 abbrev pub AcceptedAreSafe : Type 0
 AcceptedAreSafe = (P : Program) (count : ℕ) → IsWhole P → verdict P count ≡ None → IsSafe P count
+
+-- No run of a safe program's top-level phrase is stuck, from as many values as it starts on.
+abbrev pub SafeAreNotStuck : Type 0
+SafeAreNotStuck = (P : Program) (count : ℕ) → IsSafe P count → (budget : ℕ) (st : State Value) → AnyOf count st.stack → Valid P st.world → IsNotStuck (text_run P (word_text P P.top) st budget)

@@ -1,5 +1,5 @@
 //! The verdict on each word.
-ghost use Rattle.std.specs.Prelude.{◌≡◌, true, None, IfOk};
+ghost use Rattle.std.specs.Prelude.{◌≡◌, true, length, None, IfOk};
 ghost use Rattle.fac_lang.specs.declared.program.Program.{Program as ProgramSeen};
 ghost use Rattle.fac_abs.specs.Marks.{on};
 ghost use Rattle.fac_abs.specs.Seen.{MarksSeen, IsStack, stack_of};
@@ -78,7 +78,7 @@ fn ordinary_breach(
     phrase: &Phrase,
 ) -> Result<Option<(Place, Rule)>, Memory>
     requires program { takes_all closed.now.program closed.now.templates ≡ true }
-    requires text { takes_text closed.now.program.top phrase.now ≡ true }
+    requires text { takes_text closed.now.program.top (length closed.now.templates) phrase.now ≡ true }
     ensures { IfOk result (λ breach. IsOrdinaryBreach closed.now word.now phrase.now breach) }
 {
     let mut walker = Walker::new(alloc, closed)?;
@@ -101,7 +101,7 @@ fn top_breach(
     phrase: &Phrase,
 ) -> Result<Option<(Place, Rule)>, Memory>
     requires program { takes_all closed.now.program closed.now.templates ≡ true }
-    requires text { takes_text closed.now.program.top phrase.now ≡ true }
+    requires text { takes_text closed.now.program.top (length closed.now.templates) phrase.now ≡ true }
     ensures { IfOk result (λ breach. IsTopBreach closed.now phrase.now breach) }
 {
     let mut walker = Walker::new(alloc, closed)?;
@@ -125,7 +125,7 @@ fn phrase_breach(
     phrase: &Phrase,
 ) -> Result<Option<(Place, Rule)>, Memory>
     requires program { takes_all closed.now.program closed.now.templates ≡ true }
-    requires text { takes_text closed.now.program.top phrase.now ≡ true }
+    requires text { takes_text closed.now.program.top (length closed.now.templates) phrase.now ≡ true }
     ensures { IfOk result (λ breach. IsPhraseBreach closed.now number word.now phrase.now breach) }
 {
     if number == closed.program.top {
@@ -146,7 +146,7 @@ pub fn word_breach(
     word: &WordDef,
 ) -> Result<Option<(Place, Rule)>, Memory>
     requires program { takes_all closed.now.program closed.now.templates ≡ true }
-    requires word { takes_word closed.now.program.top word.now ≡ true }
+    requires word { takes_word closed.now.program.top (length closed.now.templates) word.now ≡ true }
     ensures { IfOk result (λ breach. IsWordBreach closed.now leads_back number word.now breach) }
 {
     if leads_back {

@@ -1,5 +1,5 @@
 //! What an item does to a stack at once.
-ghost use Rattle.std.specs.Prelude.{◌≡◌, ◌<◌, ◌∷◌, ℕ, true, nat_lt, Some, None, IfOk};
+ghost use Rattle.std.specs.Prelude.{◌≡◌, ◌<◌, ◌∷◌, ℕ, true, length, nat_lt, Some, None, IfOk};
 ghost use Rattle.fac_lang.specs.declared.program.Program.{Program as ProgramSeen};
 ghost use Rattle.fac_lang.specs.Effects.{effect_height};
 ghost use Rattle.fac_lang.specs.Meaning.{c_call, c_dip, c_if, core_numbered};
@@ -11,7 +11,7 @@ ghost use Rattle.fac_abs.specs.Seen.{IsMark, IsStack, Grows, mark_of, stack_of};
 ghost use Rattle.fac_abs.specs.Trees.{Naming};
 ghost use Rattle.fac_check.specs.Flow.{by_height as takes_and_leaves, marks_moved, mark_made, core_doing, gives};
 ghost use Rattle.fac_check.specs.inner.Taken.{takes_all, takes_item, takes_word};
-ghost use Rattle.fac_check.specs.inner.Walking.{IsDoing, DoesAs, doing_seen, PopsTwo, PopsBranches, lacks, DoesItem, DoesWord, DoesWordSo, DoesDefined, DoesPrimitive};
+ghost use Rattle.fac_check.specs.inner.Walking.{IsDoing, IsDoingOf, IsThisWord, NamesText, has_text, DoesAs, doing_seen, PopsTwo, PopsBranches, lacks, DoesItem, DoesWord, DoesWordSo, DoesDefined, DoesPrimitive};
 
 use fac_abs::{Marks, Rule};
 use fac_lang::{Height, Memory, Operation, Sort, What, WordDef, operation_of};
@@ -258,7 +258,7 @@ fn primitive(marks: &mut Marks, stack: u32, number: u32, height: Height) -> Resu
 
 // How many values a word takes and leaves by its effect.
 fn height_of(word: &WordDef) -> Height
-    requires { (top : ℕ) × (takes_word top word.now ≡ true) }
+    requires { (top : ℕ) × (count : ℕ) × (takes_word top count word.now ≡ true) }
     ensures { result ≡ effect_height word.now.effect }
 {
     Height {
@@ -270,9 +270,10 @@ fn height_of(word: &WordDef) -> Height
 // A word that is defined by a text: an inline one is expanded, and every other one goes by its effect.
 fn defined(marks: &mut Marks, stack: u32, number: u32, word: &WordDef) -> Result<Doing, Memory>
     requires stack { IsStack marks.old stack }
-    requires word { (top : ℕ) × (takes_word top word.now ≡ true) }
+    requires word { (top : ℕ) × (count : ℕ) × (takes_word top count word.now ≡ true) }
+    requires text { has_text word.now.sort ≡ true }
     ensures grows { Grows marks.old marks.new }
-    ensures there { IfOk result (λ doing. IsDoing marks.new doing) }
+    ensures there { IfOk result (λ doing. IsDoingOf (IsThisWord number word.now) marks.new doing) }
     ensures does { IfOk result (λ doing. DoesDefined marks.old marks.new stack number word.now doing) }
 {
     if word.inline {
@@ -287,9 +288,9 @@ fn defined(marks: &mut Marks, stack: u32, number: u32, word: &WordDef) -> Result
 // The item of a word that isn't the top-level phrase.
 fn word_item(marks: &mut Marks, stack: u32, number: u32, word: &WordDef) -> Result<Doing, Memory>
     requires stack { IsStack marks.old stack }
-    requires word { (top : ℕ) × (takes_word top word.now ≡ true) }
+    requires word { (top : ℕ) × (count : ℕ) × (takes_word top count word.now ≡ true) }
     ensures grows { Grows marks.old marks.new }
-    ensures there { IfOk result (λ doing. IsDoing marks.new doing) }
+    ensures there { IfOk result (λ doing. IsDoingOf (IsThisWord number word.now) marks.new doing) }
     ensures does { IfOk result (λ doing. DoesWordSo marks.old marks.new stack number word.now doing) }
 {
     match &word.sort {
@@ -316,7 +317,7 @@ fn word(closed: &Closed, marks: &mut Marks, stack: u32, number: u32) -> Result<D
     requires program { takes_all closed.now.program closed.now.templates ≡ true }
     requires number { nat_lt number closed.now.program.top ≡ true }
     ensures grows { Grows marks.old marks.new }
-    ensures there { IfOk result (λ doing. IsDoing marks.new doing) }
+    ensures there { IfOk result (λ doing. IsDoingOf (NamesText closed.now.program.words) marks.new doing) }
     ensures does { IfOk result (λ doing. DoesWord closed.now marks.old marks.new stack number doing) }
 {
     match closed.program.words.get(number as usize) {
@@ -356,9 +357,9 @@ pub fn item_doing(
 ) -> Result<Doing, Memory>
     requires stack { IsStack marks.old stack }
     requires program { takes_all closed.now.program closed.now.templates ≡ true }
-    requires item { takes_item closed.now.program.top (what_item what.now) ≡ true }
+    requires item { takes_item closed.now.program.top (length closed.now.templates) (what_item what.now) ≡ true }
     ensures grows { Grows marks.old marks.new }
-    ensures there { IfOk result (λ doing. IsDoing marks.new doing) }
+    ensures there { IfOk result (λ doing. IsDoingOf (NamesText closed.now.program.words) marks.new doing) }
     ensures does { IfOk result (λ doing. DoesItem closed.now marks.old marks.new stack (what_item what.now) doing) }
 {
     match what {

@@ -77,7 +77,8 @@ pub fn first_refused(verdicts: &List<Verdict>) -> Option<Refusal>
 
 /// Keeps an accepted program as one.
 pub fn accept(closed: Closed) -> Checked
-    requires { IsAccepted closed }
+    requires stands { StandsForBuilt closed }
+    requires accepted { IsAccepted closed }
     ensures closed { result.closed ≡ closed }
     ensures kept { IsKept closed }
 {
@@ -86,7 +87,8 @@ pub fn accept(closed: Closed) -> Checked
 
 /// Accepts a program, or names its first refused word, by the verdicts on its words in their order.
 pub fn gather(closed: Closed, verdicts: &List<Verdict>) -> Result<Checked, Refusal>
-    requires { AreVerdicts closed verdicts.now }
+    requires stands { StandsForBuilt closed }
+    requires verdicts { AreVerdicts closed verdicts.now }
     ensures { Gathers closed result }
 {
     match first_refused(verdicts) {

@@ -1,6 +1,7 @@
 //! Laws of the definitions, each on the contract of a function that does nothing.
+ghost use Rattle.fac_check.specs.Judged.{FirstRefusalIsVerdict};
 ghost use Rattle.fac_check.specs.OneProgram.{StandsForOne};
-ghost use Rattle.fac_check.specs.Promises.{AcceptedAreSafe};
+ghost use Rattle.fac_check.specs.Promises.{AcceptedAreSafe, SafeAreNotStuck};
 
 /// What the checker of the whole language accepts is safe: by its definitions a whole program with an accepted verdict never finds too
 /// few values or a value that an item can't take, on whatever values it starts of the number that it was judged for. Each of its words but
@@ -8,6 +9,16 @@ ghost use Rattle.fac_check.specs.Promises.{AcceptedAreSafe};
 /// its effect says handed in. Behind every run the world is valid again.
 pub fn accepted_programs_are_safe()
     ensures { AcceptedAreSafe }
+{}
+
+/// A safe program never finds too few values or a value that an item can't take, with any budget.
+pub fn safe_programs_are_not_stuck()
+    ensures { SafeAreNotStuck }
+{}
+
+/// The first refusal among the verdicts on all words, in their order, is the verdict on the program, which is accepted where there is none.
+pub fn first_refusal_is_verdict()
+    ensures { FirstRefusalIsVerdict }
 {}
 
 /// A closed program stands for at most one built program. So what the calls of this crate say of each program for which one stands, they say

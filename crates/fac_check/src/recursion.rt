@@ -1,9 +1,12 @@
 //! The rule of undeclared recursion.
-ghost use Rattle.std.specs.Prelude.{◌≡◌, ◌++◌, ◌∷◌, ◌<◌, ◌-◌, [], true, false, length, drop, IsTrue, IfOk, OnOk, slice_get};
+ghost use Rattle.std.specs.Prelude.{◌≡◌, ◌++◌, ◌∷◌, ◌<◌, ◌-◌, [], true, false, length, drop, IsTrue, IfOk, OnOk, slice_get, Some};
+ghost use Rattle.fac_abs.specs.Seen.{are_below};
 ghost use Rattle.fac_lang.specs.View.{what_item};
 ghost use Rattle.fac_check.specs.Verdicts.{one_of};
-ghost use Rattle.fac_check.specs.inner.UndeclaredRecursion.{named_word, made_template, inline_text, inline_word, left_out, led_from, Decides, rank_of, same_or_lower, all_lower, leads_lower, all_descend, Adds, Finds, DecidesAll, AddsNames, AddsItemNames, AddsMadeNames, LedBy, LedByText, AreEdges};
-ghost use Rattle.fac_check.specs.Judged.{AreUndeclared};
+ghost use Rattle.fac_check.specs.inner.Taken.{takes_all, takes_item, takes_text, takes_word};
+ghost use Rattle.fac_check.specs.inner.UndeclaredRecursion.{all_there, named_word, made_template, inline_text, inline_word, left_out, led_from, Decides, rank_of, same_or_lower, all_lower, leads_lower, all_descend};
+ghost use Rattle.fac_check.specs.inner.UndeclaredRecursion.{Adds, Finds, DecidesAll, AddsNames, AddsItemNames, AddsMadeNames, LedBy, LedByText, AreEdges};
+ghost use Rattle.fac_check.specs.Judged.{AreUndeclared, StandsForBuilt};
 
 use fac_lang::{List, Memory, Phrase, Sort, What, WordDef};
 use fac_locals::Closed;
@@ -42,6 +45,7 @@ fn is_inline(word: &WordDef) -> bool
 
 // Adds a word, where it is an inline word with a text.
 fn add_word(words: &List<WordDef>, number: u32, named: &mut List<u32>) -> Result<(), Memory>
+    requires { number < length words.now }
     ensures { OnOk result (named.new ≡ named.old ++ inline_word number (slice_get words.now number)) }
 {
     match words.get(number as usize) {
@@ -51,7 +55,7 @@ fn add_word(words: &List<WordDef>, number: u32, named: &mut List<u32>) -> Result
             }
             Ok(())
         }
-        None => Ok(()),
+        None => unreachable!(),
     }
 }
 
@@ -63,6 +67,8 @@ fn add_template(
     number: u32,
     named: &mut List<u32>,
 ) -> Result<(), Memory>
+    requires program { takes_all closed.now.program closed.now.templates ≡ true }
+    requires number { number < length closed.now.templates }
     ensures { OnOk result (AddsMadeNames closed.now.program closed.now.templates from number named.old named.new) }
 {
     if number < from {
@@ -71,13 +77,15 @@ fn add_template(
     let _count = closed.templates.len();
     match closed.templates.get(number as usize) {
         Some(template) => add_text(closed, number + 1, &template.body, named),
-        None => Ok(()),
+        None => unreachable!(),
     }
 }
 
 // Adds the words that an item names.
 #[cycle(names)]
 fn add_item(closed: &Closed, from: u32, what: &What, named: &mut List<u32>) -> Result<(), Memory>
+    requires program { takes_all closed.now.program closed.now.templates ≡ true }
+    requires item { takes_item closed.now.program.top (length closed.now.templates) (what_item what.now) ≡ true }
     ensures { OnOk result (AddsItemNames closed.now.program closed.now.templates from (what_item what.now) named.old named.new) }
 {
     if let Some(number) = made_in(what) {
@@ -97,6 +105,8 @@ fn add_text(
     phrase: &Phrase,
     named: &mut List<u32>,
 ) -> Result<(), Memory>
+    requires program { takes_all closed.now.program closed.now.templates ≡ true }
+    requires text { takes_text closed.now.program.top (length closed.now.templates) phrase.now ≡ true }
     ensures { OnOk result (AddsNames closed.now.program closed.now.templates from phrase.now named.old named.new) }
 {
     for item in &phrase.items {
@@ -129,6 +139,8 @@ fn led_by_text(
     recursive: bool,
     phrase: &Phrase,
 ) -> Result<List<u32>, Memory>
+    requires program { takes_all closed.now.program closed.now.templates ≡ true }
+    requires text { takes_text closed.now.program.top (length closed.now.templates) phrase.now ≡ true }
     ensures { IfOk result (LedByText closed.now.program closed.now.templates number recursive phrase.now) }
 {
     let mut named = List::new(alloc);
@@ -144,6 +156,8 @@ fn led_by_text(
 
 // The words that a word leads to.
 fn led_by(alloc: Global, closed: &Closed, number: u32, word: &WordDef) -> Result<List<u32>, Memory>
+    requires program { takes_all closed.now.program closed.now.templates ≡ true }
+    requires word { takes_word closed.now.program.top (length closed.now.templates) word.now ≡ true }
     ensures { IfOk result (LedBy closed.now.program closed.now.templates number word.now) }
 {
     match &word.sort {
@@ -159,6 +173,7 @@ fn led_by(alloc: Global, closed: &Closed, number: u32, word: &WordDef) -> Result
 
 // The words that each word leads to.
 fn edges_of(alloc: Global, closed: &Closed) -> Result<List<List<u32>>, Memory>
+    requires { takes_all closed.now.program closed.now.templates ≡ true }
     ensures { IfOk result (AreEdges closed.now.program closed.now.templates) }
 {
     let mut edges = List::new(alloc);
@@ -354,29 +369,32 @@ fn descends(ranks: &[u32], edges: &List<List<u32>>) -> bool
 }
 
 // The mark of a word.
-fn mark_at(marks: &[bool], word: u32) -> Option<bool>
-    ensures { result ≡ slice_get marks.now word }
+fn mark_at(marks: &[bool], word: u32) -> bool
+    requires { word < length marks.now }
+    ensures { slice_get marks.now word ≡ Some result }
 {
-    marks.get(word as usize).copied()
+    match marks.get(word as usize) {
+        Some(mark) => *mark,
+        None => unreachable!(),
+    }
 }
 
 // Adds a word to those that were seen, where it isn't marked as seen.
 fn add_seen(seen: &mut Vec<u32>, marks: &mut Vec<bool>, word: u32) -> Result<(), Memory>
+    requires { word < length marks.old.items }
     ensures { OnOk result (Adds (word ∷ []) seen.old.items marks.old.items seen.new.items marks.new.items) }
 {
-    match mark_at(marks, word) {
-        Some(false) => {
-            seen.push(word)?;
-            marks[word as usize] = true;
-            Ok(())
-        }
-        Some(true) => Ok(()),
-        None => Ok(()),
+    if mark_at(marks, word) {
+        return Ok(());
     }
+    seen.push(word)?;
+    marks[word as usize] = true;
+    Ok(())
 }
 
 // Adds words to those that were seen.
 fn add_all(seen: &mut Vec<u32>, marks: &mut Vec<bool>, words: &[u32]) -> Result<(), Memory>
+    requires { are_below (length marks.old.items) words.now ≡ true }
     ensures { OnOk result (Adds words.now seen.old.items marks.old.items seen.new.items marks.new.items) }
 {
     for word in words {
@@ -388,16 +406,19 @@ fn add_all(seen: &mut Vec<u32>, marks: &mut Vec<bool>, words: &[u32]) -> Result<
 
 // The words that a word leads to.
 fn led_to(edges: &List<List<u32>>, word: u32) -> &[u32]
+    requires { word < length edges.now }
     ensures { result.now ≡ led_from edges.now word }
 {
     match edges.get(word as usize) {
         Some(words) => words.as_slice(),
-        None => &[],
+        None => unreachable!(),
     }
 }
 
 // Marks of all words that these lead to.
 fn search(alloc: Global, edges: &List<List<u32>>, starts: &[u32]) -> Result<Vec<bool>, Memory>
+    requires edges { all_there edges.now ≡ true }
+    requires starts { are_below (length edges.now) starts.now ≡ true }
     ensures { IfOk result (λ marks. Finds edges.now starts.now marks.items) }
 {
     let mut seen = Vec::new(alloc);
@@ -414,17 +435,17 @@ fn search(alloc: Global, edges: &List<List<u32>>, starts: &[u32]) -> Result<Vec<
 
 // Whether a word leads back to itself, by a search.
 fn leads_back(alloc: Global, edges: &List<List<u32>>, word: u32) -> Result<bool, Memory>
+    requires edges { all_there edges.now ≡ true }
+    requires word { word < length edges.now }
     ensures { IfOk result (Decides edges.now word) }
 {
     let marks = search(alloc, edges, led_to(edges, word))?;
-    match mark_at(&marks, word) {
-        Some(mark) => Ok(mark),
-        None => Ok(false),
-    }
+    Ok(mark_at(&marks, word))
 }
 
 // Whether a word names itself.
 fn names_itself(edges: &List<List<u32>>, word: u32) -> bool
+    requires { word < length edges.now }
     ensures { result ≡ one_of word (led_from edges.now word) }
 {
     for other in led_to(edges, word) {
@@ -443,7 +464,9 @@ fn decide(
     down: bool,
     word: u32,
 ) -> Result<bool, Memory>
-    requires { down ≡ all_descend ranks.now 0 edges.now }
+    requires down { down ≡ all_descend ranks.now 0 edges.now }
+    requires edges { all_there edges.now ≡ true }
+    requires word { word < length edges.now }
     ensures { IfOk result (Decides edges.now word) }
 {
     if down && rank_at(ranks, word) > 0 {
@@ -457,6 +480,7 @@ fn decide(
 
 // For each word whether it leads back to itself.
 fn decide_all(alloc: Global, edges: &List<List<u32>>, ranks: &[u32]) -> Result<List<bool>, Memory>
+    requires { all_there edges.now ≡ true }
     ensures { IfOk result (DecidesAll edges.now) }
 {
     let down = descends(ranks, edges);
@@ -473,6 +497,7 @@ fn decide_all(alloc: Global, edges: &List<List<u32>>, ranks: &[u32]) -> Result<L
 /// decided by a search of its own. In a source whose names are used after their definitions there is no such cycle. Want of memory is the
 /// one error.
 pub fn undeclared_words(alloc: Global, closed: &Closed) -> Result<List<bool>, Memory>
+    requires { StandsForBuilt closed.now }
     ensures { IfOk result (AreUndeclared closed.now.program closed.now.templates) }
 {
     let edges = edges_of(alloc, closed)?;

@@ -1,5 +1,5 @@
 //! The walk of a text.
-ghost use Rattle.std.specs.Prelude.{◌≡◌, ◌<◌, ◌≤◌, [], true, suc, Some, None, IfOk, MatchResult, MatchOption};
+ghost use Rattle.std.specs.Prelude.{◌≡◌, ◌<◌, ◌≤◌, ◌-◌, [], true, suc, Some, None, length, IfOk, MatchResult, MatchOption};
 ghost use Rattle.fac_abs.specs.Marks.{on};
 ghost use Rattle.fac_abs.specs.Promises.{IsMarkOf, IsStackOf};
 ghost use Rattle.fac_abs.specs.Seen.{IsMark, IsStack, Grows, mark_of, stack_of};
@@ -7,7 +7,8 @@ ghost use Rattle.fac_abs.specs.Trees.{Naming};
 ghost use Rattle.fac_lang.specs.Texts.{any};
 ghost use Rattle.fac_check.specs.Flow.{first_rule as first_rule_of, text_rule as rule_of_text, join, marks_back};
 ghost use Rattle.fac_check.specs.inner.Taken.{takes_all, takes_text};
-ghost use Rattle.fac_check.specs.inner.Walking.{IsDoing, IsReached, IsWalked, IsWithin, IsBelow, AreMarks, Admits, Enters, reached_seen, walked_seen, marks_of_option, IsWalkOf, IsWalkOfText, IsWalkOfItem, literal_walk, word_walk, curried_walk, part_walk, composed_walk, mark_walk, callable_walk, fork_walk};
+ghost use Rattle.fac_check.specs.inner.Walking.{IsDoingOf, NamesText, IsReached, IsWalked, IsWithin, IsBelow, AreMarks, Admits, Enters, reached_seen, walked_seen, marks_of_option};
+ghost use Rattle.fac_check.specs.inner.Walking.{IsWalkOf, IsWalkOfText, IsWalkOfItem, literal_walk, word_walk, curried_walk, part_walk, composed_walk, mark_walk, callable_walk, fork_walk};
 
 use crate::doing::{Doing, Reached, item_doing};
 use fac_abs::{Marks, Node, Rule};
@@ -35,6 +36,19 @@ pub struct Step {
     pub stack: u32,
     /// The items that may still be walked.
     pub left: u32,
+}
+
+impl Step {
+    // The step inside of one nested application more.
+    fn entered(self) -> Step
+        requires { 0 < self.nested }
+        ensures { result ≡ record { place = self.place; nested = self.nested - 1; stack = self.stack; left = self.left } }
+    {
+        Step {
+            nested: self.nested - 1,
+            ..self
+        }
+    }
 }
 
 /// How a walk ends.
@@ -195,7 +209,8 @@ impl<'a> Walker<'a> {
         Ok(Walker { closed, marks })
     }
 
-    // Walks the text of a literal, which is one nested application. A number behind the last template names a literal with no items.
+    // Walks the text of a literal, which is one nested application. A number behind the last template names a literal with no items: no
+    // mark that the walk makes has one, but the contracts of marks say nothing of the numbers of their literals.
     #[cycle(walk)]
     fn walk_literal(&mut self, template: u32, step: Step) -> Result<Walked, Memory>
         requires { IsStack self.old.marks step.stack }
@@ -209,20 +224,17 @@ impl<'a> Walker<'a> {
             return Ok(Walked::Refused(Rule::TooDeep, step.place));
         }
         let closed = self.closed;
-        let inner = Step {
-            nested: step.nested - 1,
-            ..step
-        };
         match closed.templates.get(template as usize) {
-            Some(found) => self.walk_phrase(&found.body, inner),
+            Some(found) => self.walk_phrase(&found.body, step.entered()),
             None => Ok(Walked::Found(Reached::On(step.stack), step.left)),
         }
     }
 
-    // Walks the text of an expanded word, which is one nested application. A word without a text has no items.
+    // Walks the text of an expanded word, which is one nested application.
     #[cycle(walk)]
     fn walk_word(&mut self, word: u32, step: Step) -> Result<Walked, Memory>
-        requires { IsStack self.old.marks step.stack }
+        requires named { NamesText self.old.closed.now.program.words word }
+        requires stack { IsStack self.old.marks step.stack }
         ensures closed { self.new.closed ≡ self.old.closed }
         ensures grows { Grows self.old.marks self.new.marks }
         ensures there { IfOk result (λ walked. IsWalked self.new.marks walked) }
@@ -233,16 +245,12 @@ impl<'a> Walker<'a> {
             return Ok(Walked::Refused(Rule::TooDeep, step.place));
         }
         let closed = self.closed;
-        let inner = Step {
-            nested: step.nested - 1,
-            ..step
-        };
         match closed.program.words.get(word as usize) {
             Some(found) => match &found.sort {
-                Sort::Body(phrase) => self.walk_phrase(phrase, inner),
-                _ => Ok(Walked::Found(Reached::On(step.stack), step.left)),
+                Sort::Body(phrase) => self.walk_phrase(phrase, step.entered()),
+                _ => unreachable!(),
             },
-            None => Ok(Walked::Found(Reached::On(step.stack), step.left)),
+            None => unreachable!(),
         }
     }
 
@@ -426,7 +434,7 @@ impl<'a> Walker<'a> {
     // Walks an item, apart from the rest of its text, where the step's stack isn't that of what the item does.
     #[cycle(walk)]
     fn walk_item(&mut self, doing: Doing, step: Step) -> Result<Walked, Memory>
-        requires { IsDoing self.old.marks doing }
+        requires { IsDoingOf (NamesText self.old.closed.now.program.words) self.old.marks doing }
         ensures closed { self.new.closed ≡ self.old.closed }
         ensures grows { Grows self.old.marks self.new.marks }
         ensures there { IfOk result (λ walked. IsWalked self.new.marks walked) }
@@ -490,7 +498,7 @@ impl<'a> Walker<'a> {
     #[cycle(walk)]
     pub fn walk_phrase(&mut self, phrase: &Phrase, step: Step) -> Result<Walked, Memory>
         requires stack { IsStack self.old.marks step.stack }
-        requires taken { takes_text self.old.closed.now.program.top phrase.now ≡ true }
+        requires taken { takes_text self.old.closed.now.program.top (length self.old.closed.now.templates) phrase.now ≡ true }
         ensures closed { self.new.closed ≡ self.old.closed }
         ensures grows { Grows self.old.marks self.new.marks }
         ensures there { IfOk result (λ walked. IsWalked self.new.marks walked) }

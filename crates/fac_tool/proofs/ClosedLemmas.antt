@@ -16,8 +16,7 @@ use Rattle.fac_check.specs.CallableEffects.{callable_height, fits}
 use Rattle.fac_check.specs.Checks.{IsKept}
 use Rattle.fac_check.specs.Judged.{refusal_seen}
 use Rattle.fac_check.specs.declared.rule.Refusal.{Refusal}
-use Rattle.fac_check.specs.Promises.{IsSafe}
-use Rattle.fac_check.proofs.Promised.{not_stuck}
+use Rattle.fac_check.specs.Promises.{IsSafe, SafeAreNotStuck}
 use Rattle.fac_code.specs.declared.image.Image.{Image}
 use Rattle.fac_emit.specs.Carries.{Carries}
 use Rattle.fac_notes.specs.WordNames.{name_or}
@@ -43,15 +42,15 @@ pub safe_one : (closed : Closed) (P : Program) → IsKept closed → closed.star
 safe_one closed P kept start stands = record { closes = stands.closes; built = stands.built; safe = subst (λ count. IsSafe P count) start (kept P stands.closes stands.built stands.whole); start = start }
 
 -- so its image carries it with the checker's test of effects, and it isn't stuck
-carried_by : (P : Program) (M : Image) (count : ℕ) → IsSafe P 0 → count ≡ 0 → Carries P fits (callable_height P) count M → Carried P M
-carried_by P M count safe none carries = record {
+carried_by : SafeAreNotStuck → (P : Program) (M : Image) (count : ℕ) → IsSafe P 0 → count ≡ 0 → Carries P fits (callable_height P) count M → Carried P M
+carried_by never P M count safe none carries = record {
   carries = subst (λ k. Carries P fits (callable_height P) k M) none carries;
-  not_stuck = λ n. not_stuck P (λ list. Unit {0}) (meaning P n) (safe.phrase n (start P []) n (omega arith) refl (safe.begins []));
+  not_stuck = λ n. never P 0 safe n (start P []) refl (safe.begins []);
 }
 
 pub if_carried :
-    (closed : Closed) (r : Result Image Memory) →
+    SafeAreNotStuck → (closed : Closed) (r : Result Image Memory) →
     IfOk r (λ image. (P : Program) (fits : Height → Height → Bool) (callable_height : Callable → Option Height) → Closes P closed.program closed.templates → IsBuilt P → Carries P fits callable_height closed.start image) →
     IfOk r (λ image. (P : Program) → StandsForSafe closed P → Carried P image)
-if_carried closed (Ok image) h = λ P stands. carried_by P image closed.start stands.safe stands.start (h P fits (callable_height P) stands.closes stands.built)
-if_carried closed (Err e) h = tt
+if_carried never closed (Ok image) h = λ P stands. carried_by never P image closed.start stands.safe stands.start (h P fits (callable_height P) stands.closes stands.built)
+if_carried never closed (Err e) h = tt

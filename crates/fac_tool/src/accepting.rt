@@ -15,7 +15,7 @@ ghost use Rattle.fac_tool.specs.inner.StepEnds.{Accepts, EndsEarly, Steps, Steps
 use crate::ended::{bare, reported};
 use crate::reading::read_tree;
 use crate::{Ended, Report};
-use fac_check::{Checked, Refusal, accept, check_words, first_refused};
+use fac_check::{Checked, Refusal, accept, check_words, first_refusal_is_verdict, first_refused};
 use fac_lang::{Program, Tree};
 use fac_locals::{Closed, close};
 use fac_notes::word_name;
@@ -54,6 +54,7 @@ fn refusal_of(alloc: Global, closed: &Closed) -> Result<Option<Refusal>, Ended>
     requires { StandsForBuilt closed.now }
     ensures { StepsOn (λ refusal. OfEach closed.now (λ P. verdict P closed.now.start ≡ refusal_if refusal)) result }
 {
+    first_refusal_is_verdict();
     match check_words(alloc, closed) {
         Err(_) => Err(bare(12, 0)),
         Ok(verdicts) => Ok(first_refused(&verdicts)),

@@ -11,7 +11,7 @@ ghost use Rattle.fac_tool.specs.inner.StepEnds.{StepsEnd};
 
 use crate::ended::{bare, reported};
 use crate::{Ended, Report};
-use fac_check::Checked;
+use fac_check::{Checked, safe_programs_are_not_stuck};
 use fac_code::Image;
 use fac_emit::compile;
 use fac_io::Sink;
@@ -131,6 +131,7 @@ fn image_of(alloc: Global, checked: &Checked) -> Result<Image, Memory>
     requires { (P : Source) × StandsForSafe checked.now.closed P }
     ensures { IfOk result (λ image. (P : Source) → StandsForSafe checked.now.closed P → Carried P image) }
 {
+    safe_programs_are_not_stuck();
     compile(alloc, &checked.closed)
 }
 

@@ -1,5 +1,7 @@
 -- How the rule of undeclared recursion is decided for all words of a program: by the words that each inline word leads to.
 use Rattle.std.specs.Prelude.{◌≡◌, ◌<◌, ◌≤◌, ◌++◌, ◌⊎◌, ℕ, zero, suc, List, [], ◌∷◌, length, Bool, true, false, nat_eq, nat_lt, ◌&&◌, ◌||◌, Option, Some, None, slice_get}
+use Rattle.std.specs.List.{list_all}
+use Rattle.fac_abs.specs.Seen.{are_below}
 use Rattle.fac_lang.specs.Texts.{wrd, Literal, Text, Item, lit, word, made}
 use Rattle.fac_lang.specs.declared.phrase.Template.{Template}
 use Rattle.fac_lang.specs.declared.program.Program.{Program}
@@ -58,6 +60,10 @@ list_or_none None = []
 -- the words that word u leads to
 abbrev pub led_from : List (List ℕ) → ℕ → List ℕ
 led_from edges u = list_or_none (slice_get edges u)
+
+-- whether all words that words lead to are there
+abbrev pub all_there : List (List ℕ) → Bool
+all_there edges = list_all (are_below (length edges)) edges
 
 -- a number is led to from these in at most so many steps
 abbrev pub IsWithin : List (List ℕ) → List ℕ → ℕ → ℕ → Type 0
@@ -137,6 +143,7 @@ pub record Finds (edges : List (List ℕ)) (starts : List ℕ) (marks : List Boo
   pub begins : (v : ℕ) → IsOneOf v starts → v < length edges → slice_get marks v ≡ Some true
   pub closed : (u v : ℕ) → slice_get marks u ≡ Some true → IsOneOf v (led_from edges u) → v < length edges → slice_get marks v ≡ Some true
   pub within : (v : ℕ) → slice_get marks v ≡ Some true → IsWithin edges starts (length edges) v
+  pub same_length : length marks ≡ length edges
 
 -- for each word, whether it leads back to itself
 pub record DecidesAll (edges : List (List ℕ)) (flags : List Bool) : Type 0 where

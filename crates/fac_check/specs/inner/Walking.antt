@@ -1,5 +1,5 @@
 -- What the walker's numbers stand for.
-use Rattle.std.specs.Prelude.{◌≡◌, ◌<◌, ◌≤◌, ℕ, suc, List, [], ◌∷◌, Some, None, slice_get, length, Result, Ok, Err, if◌then◌else◌}
+use Rattle.std.specs.Prelude.{◌≡◌, ◌<◌, ◌≤◌, ℕ, suc, List, [], ◌∷◌, Bool, true, false, Some, None, slice_get, length, Result, Ok, Err, if◌then◌else◌}
 use Rattle.std.specs.declared.option.Option.{Option}
 use Rattle.fac_lang.specs.declared.program.Program.{Program}
 use Rattle.fac_lang.specs.declared.program.WordDef.{WordDef}
@@ -43,6 +43,15 @@ text_of (Some d) = sort_text d.sort
 abbrev pub body_text : Program → ℕ → Text
 body_text P w = text_of (slice_get P.words w)
 
+-- whether a word of this sort is defined by a text, and whether there is a word that is
+abbrev pub has_text : Sort → Bool
+has_text (body t) = true
+has_text _ = false
+
+abbrev pub is_defined : Option WordDef → Bool
+is_defined None = false
+is_defined (Some d) = has_text d.sort
+
 -- what is put back after a callable
 abbrev pub marks_of_option : (ℕ → Mark) → Option ℕ → List Mark
 marks_of_option mark None = []
@@ -78,12 +87,25 @@ abbrev pub AreMarks : MarksSeen → Option ℕ → Type 0
 AreMarks M None = Unit {0}
 AreMarks M (Some m) = IsMark M m
 
+-- where a word is expanded, it is one of these
+abbrev pub IsDoingOf : (ℕ → Type 0) → MarksSeen → Doing → Type 0
+IsDoingOf named M (Breaks r) = Unit {0}
+IsDoingOf named M (Gives A) = IsReached M A
+IsDoingOf named M (Expands w s) = named w × IsStack M s
+IsDoingOf named M (Walks m s back) = IsMark M m × IsStack M s × AreMarks M back
+IsDoingOf named M (Forks m n s) = IsMark M m × IsMark M n × IsStack M s
+
+-- no word is expanded
 abbrev pub IsDoing : MarksSeen → Doing → Type 0
-IsDoing M (Breaks r) = Unit {0}
-IsDoing M (Gives A) = IsReached M A
-IsDoing M (Expands w s) = IsStack M s
-IsDoing M (Walks m s back) = IsMark M m × IsStack M s × AreMarks M back
-IsDoing M (Forks m n s) = IsMark M m × IsMark M n × IsStack M s
+IsDoing = IsDoingOf (λ w. ⊥)
+
+-- a number is that of this word, which is defined by a text
+abbrev pub IsThisWord : ℕ → WordDef → ℕ → Type 0
+IsThisWord w d v = (v ≡ w) × (has_text d.sort ≡ true)
+
+-- a number is that of a word among these that is defined by a text
+abbrev pub NamesText : List WordDef → ℕ → Type 0
+NamesText words w = is_defined (slice_get words w) ≡ true
 
 -- what an item does to stack s, from the marks that were there to those that are
 abbrev pub DoesAs : MarksSeen → MarksSeen → ℕ → Doing → (List Mark → DoingAtOnce) → Type 0

@@ -1,4 +1,4 @@
-use Rattle.std.proofs.Common.{◌≡◌, true, ◌∙◌, sym, subst}
+use Rattle.std.proofs.Common.{◌≡◌, true, length, ◌∙◌, sym, subst}
 use Rattle.fac_abs.proofs.EqualMarks.{and_first}
 use Rattle.fac_check.specs.inner.Taken.{takes_sort}
 use Rattle.fac_check.proofs.BuiltWords.{built_as}
@@ -7,7 +7,7 @@ use Rattle.fac_check.proofs.VerdictLemmas.{body_verdict_is, no_text_verdict}
 use Rattle.fac_check.proofs.checker.word_breach.Goals as goal
 
 pub phrase_breach-requires-clause-text : goal.phrase_breach-requires-clause-text
-phrase_breach-requires-clause-text c = subst (λ x. takes_sort c.args.closed.now.program.top x ≡ true) c.in-Body.is (and_first _ _ c.requires.word)
+phrase_breach-requires-clause-text c = subst (λ x. takes_sort c.args.closed.now.program.top (length c.args.closed.now.templates) x ≡ true) c.in-Body.is (and_first _ _ c.requires.word)
 
 pub returns-in-Body : goal.returns-in-Body
 returns-in-Body c =

@@ -1,8 +1,11 @@
-use Rattle.std.proofs.Common.{◌<◌, None, sym, ◌∙◌, ap, subst}
+use Rattle.std.proofs.Common.{◌≡◌, ◌<◌, ℕ, true, None, length, sym, ◌∙◌, ap, subst}
+use Rattle.std.specs.Prelude.{slice_get}
 use Rattle.fac_abs.specs.Seen.{stack_of}
 use Rattle.fac_abs.proofs.SeenLemmas.{is_below}
 use Rattle.fac_locals.proofs.Lookups.{word_open}
 use Rattle.fac_check.specs.Flow.{word_doing}
+use Rattle.fac_check.specs.inner.Walking.{NamesText, is_defined}
+use Rattle.fac_check.proofs.DoingLemmas.{doing_of}
 use Rattle.fac_check.proofs.TakenPrograms.{word_taken}
 use Rattle.fac_check.proofs.WordItems.{ok_maps}
 use Rattle.fac_check.proofs.doing.word.Goals as goal
@@ -10,7 +13,12 @@ use Rattle.fac_check.proofs.doing.word.Goals as goal
 pub word_item-requires-clause-word : goal.word_item-requires-clause-word
 word_item-requires-clause-word c =
     let C = c.args.closed.now in
-    (C.program.top, word_taken C.program C.templates c.requires.program c.args.number c.in-Some.word.now (sym c.in-Some.ensures))
+    (C.program.top, length C.templates, word_taken C.program C.templates c.requires.program c.args.number c.in-Some.word.now (sym c.in-Some.ensures))
+
+pub returns-clause-there : goal.returns-clause-there
+returns-clause-there c =
+    let words = c.args.closed.now.program.words in
+    ok_maps c.word_item.result (λ r there. doing_of _ (NamesText words) _ r (λ w this. subst (λ (v : ℕ). is_defined (slice_get words v) ≡ true) (sym this.0) (ap is_defined (sym c.in-Some.ensures) ∙ this.1)) there) c.word_item.ensures.there
 
 pub returns-clause-does : goal.returns-clause-does
 returns-clause-does c =

@@ -1,17 +1,27 @@
 use Rattle.std.proofs.Common.{refl, ap, arith}
 use Rattle.fac_lang.specs.declared.phrase.Height.{Height}
 use Rattle.fac_abs.specs.Seen.{stack_of}
-use Rattle.fac_check.specs.inner.Walking.{body_text}
+use Rattle.fac_check.specs.inner.Walking.{body_text, IsThisWord}
 use Rattle.fac_check.proofs.BuiltWords.{built_as, built_primitive_word}
+use Rattle.fac_check.proofs.DoingLemmas.{doing_of}
 use Rattle.fac_check.proofs.TakenPrograms.{core_below, primitive_below}
 use Rattle.fac_check.proofs.WordItems.{ok_maps, is_prim, is_body, prim_item, prim_ins, prim_outs, body_item}
 use Rattle.fac_check.proofs.doing.word_item.Goals as goal
 
 pub core-requires-clause-number : goal.core-requires-clause-number
-core-requires-clause-number c = core_below c.requires.word.0 c.in-Core.core_number c.args.word.now c.requires.word.1 c.in-Core.is
+core-requires-clause-number c = core_below c.requires.word.0 c.requires.word.1 c.in-Core.core_number c.args.word.now c.requires.word.2 c.in-Core.is
 
 pub primitive-requires-clause-number : goal.primitive-requires-clause-number
-primitive-requires-clause-number c = primitive_below c.requires.word.0 c.in-Prim.primitive_number c.args.word.now c.requires.word.1 c.in-Prim.is
+primitive-requires-clause-number c = primitive_below c.requires.word.0 c.requires.word.1 c.in-Prim.primitive_number c.args.word.now c.requires.word.2 c.in-Prim.is
+
+pub defined-requires-clause-text : goal.defined-requires-clause-text
+defined-requires-clause-text c = rw c.in-Body.is refl
+
+pub returns-in-Prim-clause-there : goal.returns-in-Prim-clause-there
+returns-in-Prim-clause-there c = ok_maps c.primitive.result (λ r there. doing_of _ (IsThisWord c.args.number c.args.word.now) _ r (λ w none. absurd none) there) c.primitive.ensures.there
+
+pub returns-in-Core-clause-there : goal.returns-in-Core-clause-there
+returns-in-Core-clause-there c = doing_of _ (IsThisWord c.args.number c.args.word.now) _ c.core.result (λ w none. absurd none) c.core.ensures.there
 
 pub returns-in-Prim-clause-does : goal.returns-in-Prim-clause-does
 returns-in-Prim-clause-does c =

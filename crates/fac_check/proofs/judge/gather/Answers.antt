@@ -3,8 +3,8 @@ use Rattle.fac_check.specs.Judged.{refusal_if}
 use Rattle.fac_check.proofs.JudgeLemmas.{judged_by}
 use Rattle.fac_check.proofs.judge.gather.Goals as goal
 
-pub accept-requires : goal.accept-requires
-accept-requires c = λ P closes built. judged_by c.args.closed c.args.verdicts.now (refusal_if c.first_refused.result) c.requires c.first_refused.ensures P closes built ∙ ap refusal_if c.in-None.is
+pub accept-requires-clause-accepted : goal.accept-requires-clause-accepted
+accept-requires-clause-accepted c = λ P closes built. judged_by c.args.closed c.args.verdicts.now (refusal_if c.first_refused.result) c.requires.verdicts c.first_refused.ensures P closes built ∙ ap refusal_if c.in-None.is
 
 pub returns-in-Some : goal.returns-in-Some
-returns-in-Some c = λ P closes built. judged_by c.args.closed c.args.verdicts.now (refusal_if c.first_refused.result) c.requires c.first_refused.ensures P closes built ∙ ap refusal_if c.in-Some.is
+returns-in-Some c = λ P closes built. judged_by c.args.closed c.args.verdicts.now (refusal_if c.first_refused.result) c.requires.verdicts c.first_refused.ensures P closes built ∙ ap refusal_if c.in-Some.is

@@ -1,10 +1,23 @@
-use Rattle.std.proofs.Common.{◌+◌, drop, sym, ap, ◌∙◌, arith}
+use Rattle.std.proofs.Common.{◌≡◌, ◌+◌, ◌∷◌, true, length, drop, List, sym, ap, subst, ◌∙◌, arith}
 use Rattle.std.proofs.lemmas.List.{drop_more, drop_all}
+use Rattle.fac_locals.specs.Closed.{ClosesText}
+use Rattle.fac_check.specs.inner.Taken.{takes_text}
+use Rattle.fac_check.proofs.TakenPrograms.{template_taken, first_taken, others_taken, named_below, made_below}
 use Rattle.fac_lang.specs.Texts.{then}
 use Rattle.fac_lang.specs.declared.phrase.Item.{Item as PlacedItem}
 use Rattle.fac_lang.specs.View.{what_item, items_text}
-use Rattle.fac_check.proofs.NamedWords.{adds_made, adds_named, adds_nothing, adds_template, names_step, names_end, on_ok, number_below}
+use Rattle.fac_check.proofs.NamedWords.{adds_made, adds_named, adds_template, names_begin, names_step, names_end, on_ok, number_below}
 use Rattle.fac_check.proofs.recursion.+names.Goals as goal
+
+pub add_item-add_template-requires : goal.add_item-add_template-requires
+add_item-add_template-requires t c =
+    let C = c.args.closed.now in
+    (omega (arith, c.decreases), (c.requires.program, made_below C.program C.templates c.requires.program _ c.in-Some.number c.requires.item (sym c.made_in.ensures ∙ c.in-Some.is)))
+
+pub add_item-add_word-requires : goal.add_item-add_word-requires
+add_item-add_word-requires t c =
+    let C = c.args.closed.now in
+    named_below C.program C.templates c.requires.program _ c.in-Some-named_in.number c.requires.item (sym c.named_in.ensures ∙ c.in-Some-named_in.is)
 
 pub add_item-returns-in-Some : goal.add_item-returns-in-Some
 add_item-returns-in-Some t c = on_ok c.add_template.result (adds_made _ _ _ c.in-Some.number (what_item c.args.what.now) _ _ (sym c.made_in.ensures ∙ c.in-Some.is)) c.add_template.ensures
@@ -20,20 +33,40 @@ add_template-overflow_add-number t c =
 pub add_template-add_text-requires : goal.add_template-add_text-requires
 add_template-add_text-requires t c =
     let lt = number_below c.args.closed.now.templates c.args.number c.in-Some.template.now (sym c.in-Some.ensures) in
-    (omega (arith, lt, c.decreases, c.if-number-from.false), tt)
+    let C = c.args.closed.now in
+    (omega (arith, lt, c.decreases, c.if-number-from.false), (c.requires.program, template_taken C.program C.templates c.requires.program c.args.number c.in-Some.template.now (sym c.in-Some.ensures)))
 
-pub add_template-returns-in-Some : goal.add_template-returns-in-Some
-add_template-returns-in-Some t c = on_ok c.add_text.result (adds_template _ _ _ c.args.number c.in-Some.template.now _ _ (sym c.in-Some.ensures)) c.add_text.ensures
+pub add_template-returns : goal.add_template-returns
+add_template-returns t c = on_ok c.add_text.result (adds_template _ _ _ c.args.number c.in-Some.template.now _ _ (sym c.in-Some.ensures)) c.add_text.ensures
 
-pub add_template-returns-in-None : goal.add_template-returns-in-None
-add_template-returns-in-None t c = adds_nothing _ _ _ c.args.number _ (sym c.in-None.ensures)
+pub add_text-loop-item-init : goal.add_text-loop-item-init
+add_text-loop-item-init t c =
+    let items = c.deref-item-items.result.now in
+    let seen : c.args.phrase.now ≡ items_text items = cc in
+    record {
+      taken = subst (λ x. takes_text c.args.closed.now.program.top (length c.args.closed.now.templates) x ≡ true) seen c.requires.text;
+      names = λ P h at u closes numbers. names_begin P c.args.from at u (items_text items) c.args.named.now (subst (λ x. ClosesText P at u x) seen closes) numbers;
+    }
+
+pub add_text-add_item-requires : goal.add_text-add_item-requires
+add_text-add_item-requires t c =
+    let C = c.args.closed.now in
+    let items = c.deref-item-items.result.now in
+    let k = c.loop-item.item-index in
+    let next : drop k items ≡ c.item-item.result ∷ drop (k + 1) items = drop_more items k c.item-item.result c.loop-item-test.true ∙ ap (λ (i : PlacedItem). i ∷ drop (k + 1) items) (sym c.item-item.is) in
+    (omega (arith, c.decreases), (c.requires.program, first_taken C.program.top (length C.templates) c.item-item.result (drop (k + 1) items) (subst (λ (q : List PlacedItem). takes_text C.program.top (length C.templates) (items_text q) ≡ true) next c.loop-item.invariant.taken)))
 
 pub add_text-loop-item-preserved : goal.add_text-loop-item-preserved
 add_text-loop-item-preserved t c =
-    λ P h at u closes numbers.
+    let C = c.args.closed.now in
     let k = c.loop-item.item-index in
     let items = c.deref-item-items.result.now in
-    names_step P _ _ h _ (items_text (drop k items)) (what_item c.item-item.result.what) c.item-item.result.place _ _ _ _ (c.loop-item.invariant P h at u closes numbers) (ap items_text (drop_more items k c.item-item.result c.loop-item-test.true) ∙ ap (λ (i : PlacedItem). then (what_item i.what) i.place (items_text (drop (k + 1) items))) (sym c.item-item.is)) c.in-Ok.ensures
+    let next : drop k items ≡ c.item-item.result ∷ drop (k + 1) items = drop_more items k c.item-item.result c.loop-item-test.true ∙ ap (λ (i : PlacedItem). i ∷ drop (k + 1) items) (sym c.item-item.is) in
+    record {
+      taken = others_taken C.program.top (length C.templates) c.item-item.result (drop (k + 1) items) (subst (λ (q : List PlacedItem). takes_text C.program.top (length C.templates) (items_text q) ≡ true) next c.loop-item.invariant.taken);
+      names = λ P h at u closes numbers.
+          names_step P _ _ h _ (items_text (drop k items)) (what_item c.item-item.result.what) c.item-item.result.place _ _ _ _ (c.loop-item.invariant.names P h at u closes numbers) (ap items_text (drop_more items k c.item-item.result c.loop-item-test.true) ∙ ap (λ (i : PlacedItem). then (what_item i.what) i.place (items_text (drop (k + 1) items))) (sym c.item-item.is)) c.in-Ok.ensures;
+    }
 
 pub add_text-returns : goal.add_text-returns
-add_text-returns t c = λ P h at u closes numbers. names_end P _ (items_text (drop c.loop-item.item-index c.deref-item-items.result.now)) _ _ (c.loop-item.invariant P h at u closes numbers) (ap items_text (drop_all c.loop-item.item-index c.deref-item-items.result.now c.loop-item-test.false))
+add_text-returns t c = λ P h at u closes numbers. names_end P _ (items_text (drop c.loop-item.item-index c.deref-item-items.result.now)) _ _ (c.loop-item.invariant.names P h at u closes numbers) (ap items_text (drop_all c.loop-item.item-index c.deref-item-items.result.now c.loop-item-test.false))

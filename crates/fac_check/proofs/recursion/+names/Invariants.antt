@@ -1,9 +1,10 @@
-use Rattle.std.proofs.Common.{◌+◌, ◌-◌, ◌*◌, ◌++◌, length, drop}
+use Rattle.std.proofs.Common.{◌≡◌, true, ◌+◌, ◌-◌, ◌*◌, ◌++◌, length, drop}
 use Rattle.fac_lang.specs.Texts.{Literal, Text}
 use Rattle.fac_lang.specs.View.{items_text}
 use Rattle.fac_lang.specs.declared.program.Program.{Program}
 use Rattle.fac_locals.specs.Closed.{Closes, ClosesText}
 use Rattle.fac_check.specs.Verdicts.{inline_words}
+use Rattle.fac_check.specs.inner.Taken.{takes_text}
 use Rattle.fac_check.specs.inner.UndeclaredRecursion.{NumbersFrom, NamesLeft}
 use Rattle.fac_check.proofs.recursion.+names.Given as goal
 
@@ -18,4 +19,7 @@ decreases-add_template l = 3 * (length l.closed.now.templates - l.from)
 
 abbrev pub invariant-add_text-loop-item : goal.invariant-add_text-loop-item
 invariant-add_text-loop-item l =
-    (P : Program) → Closes P l.closed.program l.closed.templates → (at : Literal) (t : Text) → ClosesText P at t l.phrase → NumbersFrom P at l.from → NamesLeft P l.from (items_text (drop l.item-index l.item-items)) (l.initial.named ++ inline_words P t) l.named
+    record {
+      taken : takes_text l.closed.program.top (length l.closed.templates) (items_text (drop l.item-index l.item-items)) ≡ true;
+      names : (P : Program) → Closes P l.closed.program l.closed.templates → (at : Literal) (t : Text) → ClosesText P at t l.phrase → NumbersFrom P at l.from → NamesLeft P l.from (items_text (drop l.item-index l.item-items)) (l.initial.named ++ inline_words P t) l.named;
+    }

@@ -1,8 +1,14 @@
-use Rattle.std.proofs.Common.{◌≡◌, ℕ, List, [], ◌∷◌, ◌++◌, ◌+◌, get_or, take, sym, subst}
+use Rattle.std.proofs.Common.{◌≡◌, ℕ, List, [], ◌∷◌, ◌++◌, ◌+◌, length, arith, get_or, take, sym, subst}
 use Rattle.std.proofs.lemmas.List.{take_more}
 use Rattle.fac_check.specs.inner.UndeclaredRecursion.{Adds}
 use Rattle.fac_check.proofs.LeadingBack.{adds_more}
+use Rattle.fac_check.proofs.EdgesInside.{below_at}
 use Rattle.fac_check.proofs.recursion.add_all.Goals as goal
+
+pub add_seen-requires : goal.add_seen-requires
+add_seen-requires c =
+    let low = below_at (length c.args.marks.now.items) c.args.words.now c.loop-word.word-index c.requires c.loop-word-test.true in
+    omega (arith, low, c.loop-word.invariant.same_length)
 
 pub loop-word-preserved : goal.loop-word-preserved
 loop-word-preserved c =

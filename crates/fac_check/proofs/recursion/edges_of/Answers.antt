@@ -1,8 +1,19 @@
-use Rattle.std.proofs.Common.{◌+◌, ◌∷◌, drop, sym, ap, ◌∙◌, arith}
+use Rattle.std.proofs.Common.{◌≡◌, ◌+◌, ◌∷◌, List, drop, sym, ap, ◌∙◌, arith}
+use Rattle.std.specs.Prelude.{slice_get}
 use Rattle.std.proofs.lemmas.List.{drop_more, drop_all}
 use Rattle.fac_lang.specs.declared.program.WordDef.{WordDef}
+use Rattle.fac_check.proofs.TakenPrograms.{word_taken, first_dropped}
 use Rattle.fac_check.proofs.EdgesOfWords.{edges_step, edges_end}
 use Rattle.fac_check.proofs.recursion.edges_of.Goals as goal
+
+pub led_by-requires : goal.led_by-requires
+led_by-requires c =
+    let C = c.args.closed.now in
+    let k = c.loop-word.word-index in
+    let words = c.as_slice-word-items.result.now in
+    let word = c.word-item.result in
+    let next : drop k words ≡ word ∷ drop (k + 1) words = drop_more words k word c.loop-word-test.true ∙ ap (λ (d : WordDef). d ∷ drop (k + 1) words) (sym c.word-item.is) in
+    record { program = c.requires; word = word_taken C.program C.templates c.requires k word (ap (λ (ds : List WordDef). slice_get ds k) (sym c.as_slice-word-items.ensures) ∙ first_dropped words k word (drop (k + 1) words) next) }
 
 pub loop-word-preserved : goal.loop-word-preserved
 loop-word-preserved c =

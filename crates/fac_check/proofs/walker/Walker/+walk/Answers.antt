@@ -1,4 +1,4 @@
-use Rattle.std.proofs.Common.{◌≡◌, ◌+◌, suc, true, None, [], ◌∷◌, List, refl, sym, ap, subst, ◌∙◌, arith, drop, drop-cons, add-one, Bor}
+use Rattle.std.proofs.Common.{◌≡◌, ◌+◌, ◌-◌, suc, true, None, [], ◌∷◌, List, length, refl, sym, ap, subst, ◌∙◌, arith, drop, drop-cons, add-one, Bor}
 use Rattle.std.proofs.lemmas.Grind.{common_steps}
 use Rattle.fac_lang.specs.declared.phrase.Item.{Item as PlacedItem}
 use Rattle.fac_lang.specs.View.{items_text}
@@ -7,11 +7,12 @@ use Rattle.fac_locals.specs.Closed.{ClosesText}
 use Rattle.fac_locals.specs.declared.closing.Closed.{Closed}
 use Rattle.fac_abs.proofs.SeenLemmas.{grows_refl, grows_trans}
 use Rattle.fac_abs.specs.Seen.{mark_of, stack_of}
-use Rattle.fac_check.specs.Flow.{walk_mark, inside, join}
+use Rattle.fac_check.specs.Flow.{and_then, walk_mark, inside, join}
 use Rattle.fac_check.specs.inner.Taken.{takes_text}
-use Rattle.fac_check.specs.inner.Walking.{go_at, body_text, walked_seen, reached_seen, IsWithin, IsBelow, IsWalked}
+use Rattle.fac_check.specs.inner.Walking.{go_at, body_text, walked_seen, reached_seen, IsDoingOf, NamesText, IsWithin, IsBelow, IsWalked, IsWalkOfText}
+use Rattle.fac_check.specs.declared.walker.Step.{Step}
 use Rattle.fac_check.specs.declared.walker.Walked.TheVariants.{Found}
-use Rattle.fac_check.proofs.MarkWalks.{carried, curried_counts, composed_counts, text_entered, literal_closed, word_text_closed, fork_on, reached_stays, no_items, no_literal, no_word, no_word_text}
+use Rattle.fac_check.proofs.MarkWalks.{carried, curried_counts, composed_ends, text_entered, literal_closed, word_text_closed, forked, reached_stays, no_items, no_literal}
 use Rattle.fac_check.proofs.TakenPrograms.{template_taken, text_taken, first_taken, others_taken}
 use Rattle.fac_check.proofs.WalkLemmas.{Onward, Behind, onward_start, onward_end, onward}
 use Rattle.fac_check.proofs.WordItems.{ok_maps}
@@ -20,7 +21,9 @@ use Rattle.fac_check.proofs.walker.Walker.+walk.Goals as goal
 pub walk_literal-walk_phrase-requires : goal.walk_literal-walk_phrase-requires
 walk_literal-walk_phrase-requires t c =
     let C = c.args.self.now.closed.now in
-    (omega (arith, c.decreases, c.if-step-eq0.false), (c.requires, template_taken C.program C.templates c.args.self.now.taken c.args.template c.in-Some.found.now (sym c.in-Some.ensures)))
+    let deeper : c.entered.result.nested ≡ c.args.step.nested - 1 = ap (λ (s : Step). s.nested) c.entered.ensures in
+    let same : c.entered.result.stack ≡ c.args.step.stack = ap (λ (s : Step). s.stack) c.entered.ensures in
+    (omega (arith, c.decreases, c.if-step-eq0.false, deeper), (rw same c.requires, template_taken C.program C.templates c.args.self.now.taken c.args.template c.in-Some.found.now (sym c.in-Some.ensures)))
 
 pub walk_literal-returns-in-None-clause-walks : goal.walk_literal-returns-in-None-clause-walks
 walk_literal-returns-in-None-clause-walks t c = λ O f l.
@@ -30,30 +33,24 @@ walk_literal-returns-in-None-clause-walks t c = λ O f l.
 pub walk_word-walk_phrase-requires : goal.walk_word-walk_phrase-requires
 walk_word-walk_phrase-requires t c =
     let C = c.args.self.now.closed.now in
-    (omega (arith, c.decreases, c.if-step-eq0.false), (c.requires, text_taken C.program C.templates c.args.self.now.taken c.args.word c.in-Some.found.now _ (sym c.in-Some.ensures) c.in-Body.is))
-
-pub walk_word-returns-in-None-clause-walks : goal.walk_word-returns-in-None-clause-walks
-walk_word-returns-in-None-clause-walks t c = λ O f l.
-    no_items O f (first_of_word c.args.word) (body_text O.program c.args.word) c.args.step.place c.args.step.nested (stack_of O.naming c.args.self.now.marks c.args.step.stack) c.args.step.left (no_word O c.args.word (sym c.in-None.ensures)) c.if-step-eq0.false
-
-pub walk_word-returns-in_default-clause-walks : goal.walk_word-returns-in_default-clause-walks
-walk_word-returns-in_default-clause-walks t c = λ O f l.
-    no_items O f (first_of_word c.args.word) (body_text O.program c.args.word) c.args.step.place c.args.step.nested (stack_of O.naming c.args.self.now.marks c.args.step.stack) c.args.step.left (no_word_text O c.args.word c.in-Some.found.now (sym c.in-Some.ensures) (λ u e. c.in_default.not-Body u e)) c.if-step-eq0.false
+    let deeper : c.entered.result.nested ≡ c.args.step.nested - 1 = ap (λ (s : Step). s.nested) c.entered.ensures in
+    let same : c.entered.result.stack ≡ c.args.step.stack = ap (λ (s : Step). s.stack) c.entered.ensures in
+    (omega (arith, c.decreases, c.if-step-eq0.false, deeper), (rw same c.requires.stack, text_taken C.program C.templates c.args.self.now.taken c.args.word c.in-Some.found.now _ (sym c.in-Some.ensures) c.in-Body.is))
 
 pub walk_literal-returns-in-Some-clause-walks : goal.walk_literal-returns-in-Some-clause-walks
 walk_literal-returns-in-Some-clause-walks t c =
     ok_maps c.walk_phrase.result
     (λ r walks O f l.
     let literal = O.naming.literal c.args.template in
-    walks O (first_of_literal literal.0) literal.1 f (literal_closed O c.args.template c.in-Some.found.now (sym c.in-Some.ensures)) l
+    subst (λ (s : Step). IsWalkOfText c.args.self.now.closed.now c.args.self.now.marks c.walk_phrase.new.self.marks c.in-Some.found.now.body s r) c.entered.ensures walks O (first_of_literal literal.0) literal.1 f (literal_closed O c.args.template c.in-Some.found.now (sym c.in-Some.ensures)) l
     ∙ sym (text_entered (go_at O f) (first_of_literal literal.0) literal.1 c.args.step.place c.args.step.nested (stack_of O.naming c.args.self.now.marks c.args.step.stack) c.args.step.left c.if-step-eq0.false))
     c.walk_phrase.ensures.walks
 
-pub walk_word-returns-in-Body-clause-walks : goal.walk_word-returns-in-Body-clause-walks
-walk_word-returns-in-Body-clause-walks t c =
+pub walk_word-returns-clause-walks : goal.walk_word-returns-clause-walks
+walk_word-returns-clause-walks t c =
     ok_maps c.walk_phrase.result
     (λ r walks O f l.
-    walks O (first_of_word c.args.word) (body_text O.program c.args.word) f (word_text_closed O c.args.word c.in-Some.found.now _ (sym c.in-Some.ensures) c.in-Body.is) l
+    subst (λ (s : Step). IsWalkOfText c.args.self.now.closed.now c.args.self.now.marks c.walk_phrase.new.self.marks c.in-Body.phrase s r) c.entered.ensures walks O (first_of_word c.args.word) (body_text O.program c.args.word) f (word_text_closed O c.args.word c.in-Some.found.now _ (sym c.in-Some.ensures) c.in-Body.is) l
     ∙ sym (text_entered (go_at O f) (first_of_word c.args.word) (body_text O.program c.args.word) c.args.step.place c.args.step.nested (stack_of O.naming c.args.self.now.marks c.args.step.stack) c.args.step.left c.if-step-eq0.false))
     c.walk_phrase.ensures.walks
 
@@ -87,17 +84,13 @@ pub walk_composed-returns-in-Refused-clause-walks : goal.walk_composed-returns-i
 walk_composed-returns-in-Refused-clause-walks t c = λ O f l.
     let N = O.naming in
     let M = c.args.self.now.marks in
-    let ms = stack_of N M c.args.step.stack in
-    let part = subst (λ w. walked_seen N c.walk_part.new.self.marks w ≡ inside (mark_of N M c.args.first) c.args.step.place c.args.step.nested (λ d. walk_mark None (go_at O f) (mark_of N M c.args.first) c.args.step.place d None ms c.in-Some.rest)) c.in-Refused.is (c.in_ok-rule-in-Some.ensures.walks O f (omega (arith, c.in-Some.ensures, l))) in
-    sym (composed_counts (go_at O f) c.args.step.place c.args.step.nested ms c.args.step.left c.in-Some.rest c.in-Some.ensures (mark_of N M c.args.first) (mark_of N M c.args.second) _ part)
+    sym (composed_ends (go_at O f) c.args.step.place c.args.step.nested (stack_of N M c.args.step.stack) c.args.step.left c.in-Some.rest c.in-Some.ensures N c.walk_part.new.self.marks (mark_of N M c.args.first) (mark_of N M c.args.second) _ _ c.in-Refused.is (c.in_ok-rule-in-Some.ensures.walks O f (omega (arith, c.in-Some.ensures, l))))
 
 pub walk_composed-returns-in-Found-Dead-default-clause-walks : goal.walk_composed-returns-in-Found-Dead-default-clause-walks
 walk_composed-returns-in-Found-Dead-default-clause-walks t c = λ O f l.
     let N = O.naming in
     let M = c.args.self.now.marks in
-    let ms = stack_of N M c.args.step.stack in
-    let part = subst (λ w. walked_seen N c.walk_part.new.self.marks w ≡ inside (mark_of N M c.args.first) c.args.step.place c.args.step.nested (λ d. walk_mark None (go_at O f) (mark_of N M c.args.first) c.args.step.place d None ms c.in-Some.rest)) (c.in-Found-Dead-default.is ∙ ap (λ A. Found A c.in-Found-Dead-default.rest) c.in-Found-Dead-default.field-0-is) (c.in_ok-rule-in-Some.ensures.walks O f (omega (arith, c.in-Some.ensures, l))) in
-    sym (composed_counts (go_at O f) c.args.step.place c.args.step.nested ms c.args.step.left c.in-Some.rest c.in-Some.ensures (mark_of N M c.args.first) (mark_of N M c.args.second) _ part)
+    sym (composed_ends (go_at O f) c.args.step.place c.args.step.nested (stack_of N M c.args.step.stack) c.args.step.left c.in-Some.rest c.in-Some.ensures N c.walk_part.new.self.marks (mark_of N M c.args.first) (mark_of N M c.args.second) _ _ (c.in-Found-Dead-default.is ∙ ap (λ A. Found A c.in-Found-Dead-default.rest) c.in-Found-Dead-default.field-0-is) (c.in_ok-rule-in-Some.ensures.walks O f (omega (arith, c.in-Some.ensures, l))))
 
 pub walk_composed-returns-in-Found-On-default-clause-walks : goal.walk_composed-returns-in-Found-On-default-clause-walks
 walk_composed-returns-in-Found-On-default-clause-walks t c =
@@ -106,11 +99,11 @@ walk_composed-returns-in-Found-On-default-clause-walks t c =
     let N = O.naming in
     let M = c.args.self.now.marks in
     let ms = stack_of N M c.args.step.stack in
-    let part = subst (λ w. walked_seen N c.walk_part.new.self.marks w ≡ inside (mark_of N M c.args.first) c.args.step.place c.args.step.nested (λ d. walk_mark None (go_at O f) (mark_of N M c.args.first) c.args.step.place d None ms c.in-Some.rest)) (c.in-Found-On-default.is ∙ ap (λ A. Found A c.in-Found-On-default.rest) c.in-Found-On-default.field-0-is) (c.in_ok-rule-in-Some.ensures.walks O f (omega (arith, c.in-Some.ensures, l))) in
+    let is = c.in-Found-On-default.is ∙ ap (λ A. Found A c.in-Found-On-default.rest) c.in-Found-On-default.field-0-is in
     let same : c.walk_part.new.self.closed.now ≡ c.args.self.now.closed.now = ap (λ (b : Bor Closed). b.now) c.in_ok-rule-in-Some.ensures.closed in
     walks (carried same O) f (omega (arith, c.in-Some.ensures, l, subst (IsWithin c.in-Some.rest) c.in-Found-On-default.is c.in_ok-rule-in-Some.ensures.within))
     ∙ ap (λ m. inside m c.args.step.place c.args.step.nested (λ d. walk_mark None (go_at O f) m c.args.step.place d None (stack_of N c.walk_part.new.self.marks c.in-Found-On-default.stack) c.in-Found-On-default.rest)) (c.in_ok-rule-in-Some.ensures.grows.same_mark N c.args.second c.requires.second)
-    ∙ sym (composed_counts (go_at O f) c.args.step.place c.args.step.nested ms c.args.step.left c.in-Some.rest c.in-Some.ensures (mark_of N M c.args.first) (mark_of N M c.args.second) _ part))
+    ∙ sym (composed_ends (go_at O f) c.args.step.place c.args.step.nested ms c.args.step.left c.in-Some.rest c.in-Some.ensures N c.walk_part.new.self.marks (mark_of N M c.args.first) (mark_of N M c.args.second) _ _ is (c.in_ok-rule-in-Some.ensures.walks O f (omega (arith, c.in-Some.ensures, l)))))
     c.walk_part-in-Found-On-default.ensures.walks
 
 pub walk_phrase-loop-item-init : goal.walk_phrase-loop-item-init
@@ -122,7 +115,7 @@ walk_phrase-loop-item-init t c =
       grows = grows_refl c.args.self.now.marks;
       stack = c.requires.stack;
       within = omega arith;
-      taken = subst (λ x. takes_text c.args.self.now.closed.now.program.top x ≡ true) seen c.requires.taken;
+      taken = subst (λ x. takes_text c.args.self.now.closed.now.program.top (length c.args.self.now.closed.now.templates) x ≡ true) seen c.requires.taken;
       onward = λ O at u f closes l. onward_start O at u f c.args.step.nested c.args.step.left c.args.self.now.marks c.args.step.stack items (subst (λ x. ClosesText O.program at u x) seen closes) l;
     }
 
@@ -131,7 +124,10 @@ walk_phrase-item_doing-requires-clause-item t c =
     let items = c.deref-item-items.result.now in
     let i = c.loop-item.item-index in
     let next : drop i items ≡ c.item-item.result ∷ drop (suc i) items = drop-cons items i c.item-item.result c.loop-item-test.true ∙ ap (λ (x : PlacedItem). x ∷ drop (suc i) items) (sym c.item-item.is) in
-    first_taken c.args.self.now.closed.now.program.top c.item-item.result (drop (suc i) items) (subst (λ (q : List PlacedItem). takes_text c.args.self.now.closed.now.program.top (items_text q) ≡ true) next c.loop-item.invariant.taken)
+    first_taken c.args.self.now.closed.now.program.top (length c.args.self.now.closed.now.templates) c.item-item.result (drop (suc i) items) (subst (λ (q : List PlacedItem). takes_text c.args.self.now.closed.now.program.top (length c.args.self.now.closed.now.templates) (items_text q) ≡ true) next c.loop-item.invariant.taken)
+
+pub walk_phrase-walk_item-requires : goal.walk_phrase-walk_item-requires
+walk_phrase-walk_item-requires t c = (omega (arith, c.decreases), subst (λ (b : Bor Closed). IsDoingOf (NamesText b.now.program.words) c.item_doing.new.marks c.in_ok-doing.doing) (sym c.loop-item.invariant.same) c.in_ok-doing.ensures.there)
 
 pub walk_phrase-returns-clause-walks : goal.walk_phrase-returns-clause-walks
 walk_phrase-returns-clause-walks t c = λ O at u f closes l.
@@ -172,7 +168,7 @@ walk_phrase-loop-item-preserved t c =
       within = omega (arith, c.loop-item.invariant.within, subst (IsBelow c.loop-item.left) is c.in_ok-rule.ensures.below);
       taken =
           let next : drop i items ≡ c.item-item.result ∷ drop (i + 1) items = rw add-one (drop-cons items i c.item-item.result c.loop-item-test.true ∙ ap (λ (x : PlacedItem). x ∷ drop (suc i) items) (sym c.item-item.is)) in
-          others_taken c.args.self.now.closed.now.program.top c.item-item.result (drop (i + 1) items) (subst (λ (q : List PlacedItem). takes_text c.args.self.now.closed.now.program.top (items_text q) ≡ true) next c.loop-item.invariant.taken);
+          others_taken c.args.self.now.closed.now.program.top (length c.args.self.now.closed.now.templates) c.item-item.result (drop (i + 1) items) (subst (λ (q : List PlacedItem). takes_text c.args.self.now.closed.now.program.top (length c.args.self.now.closed.now.templates) (items_text q) ≡ true) next c.loop-item.invariant.taken);
       onward = λ O at u f closes l.
           let ms = stack_of O.naming c.args.self.now.marks c.args.step.stack in
           let next : drop i items ≡ c.item-item.result ∷ drop (i + 1) items = rw add-one (drop-cons items i c.item-item.result c.loop-item-test.true ∙ ap (λ (x : PlacedItem). x ∷ drop (suc i) items) (sym c.item-item.is)) in
@@ -183,41 +179,23 @@ walk_phrase-loop-item-preserved t c =
 
 pub walk_fork-returns-in-Refused-2-clause-walks : goal.walk_fork-returns-in-Refused-2-clause-walks
 walk_fork-returns-in-Refused-2-clause-walks t c = λ O f l.
-    let N = O.naming in
-    let M = c.args.self.now.marks in
-    let L = c.walk_mark.new.self.marks in
-    let K = c.walk_mark-in-Found.new.self.marks in
     let s = c.args.step in
-    let grows = c.in_ok-rule.ensures.grows in
-    let same : c.walk_mark.new.self.closed.now ≡ c.args.self.now.closed.now = ap (λ (b : Bor Closed). b.now) c.in_ok-rule.ensures.closed in
     let within = subst (IsWithin s.left) c.in-Found.is c.in_ok-rule.ensures.within in
-    let first = subst (λ w. walked_seen N L w ≡ walk_mark None (go_at O f) (mark_of N M c.args.first) s.place s.nested None (stack_of N M s.stack) s.left) c.in-Found.is (c.in_ok-rule.ensures.walks O f l) in
-    let second =
-    c.in_ok-rule-in-Found.ensures.walks (carried same O) f (omega (arith, within, l))
-    ∙ ap (λ m. walk_mark None (go_at O f) m s.place s.nested None (stack_of N L s.stack) c.in-Found.rest) (grows.same_mark N c.args.second c.requires.second)
-    ∙ ap (λ ms. walk_mark None (go_at O f) (mark_of N M c.args.second) s.place s.nested None ms c.in-Found.rest) (grows.same_stack N s.stack c.requires.stack) in
-    let seconds = subst (λ w. walked_seen N K w ≡ walk_mark None (go_at O f) (mark_of N M c.args.second) s.place s.nested None (stack_of N M s.stack) c.in-Found.rest) c.in-Refused-2.is second in
-    fork_on _ _ _ _ c.in-Found.rest (λ k. walk_mark None (go_at O f) (mark_of N M c.args.second) s.place s.nested None (stack_of N M s.stack) k) s.place first seconds refl
+    let same : c.walk_mark.new.self.closed.now ≡ c.args.self.now.closed.now = ap (λ (b : Bor Closed). b.now) c.in_ok-rule.ensures.closed in
+    let K = c.walk_mark-in-Found.new.self.marks in
+    forked O (go_at O f) c.args.self.now.marks c.walk_mark.new.self.marks K s c.args.first c.args.second _ _ c.in-Found.upper c.in-Found.rest _ c.in_ok-rule.ensures.grows c.requires.second c.requires.stack c.in-Found.is (c.in_ok-rule.ensures.walks O f l) (c.in_ok-rule-in-Found.ensures.walks (carried same O) f (omega (arith, within, l)))
+    (ap (λ w. and_then (walked_seen O.naming K w) (λ B j. join (reached_seen O.naming c.walk_mark.new.self.marks c.in-Found.upper) B s.place j)) (sym c.in-Refused-2.is))
 
 pub walk_fork-returns-in-Found-2-clause-walks : goal.walk_fork-returns-in-Found-2-clause-walks
 walk_fork-returns-in-Found-2-clause-walks t c =
-    ok_maps c.joined.result
-    (λ r joins O f l.
-    let N = O.naming in
-    let M = c.args.self.now.marks in
+    let s = c.args.step in
     let L = c.walk_mark.new.self.marks in
     let K = c.walk_mark-in-Found.new.self.marks in
-    let s = c.args.step in
-    let grows = c.in_ok-rule.ensures.grows in
-    let same : c.walk_mark.new.self.closed.now ≡ c.args.self.now.closed.now = ap (λ (b : Bor Closed). b.now) c.in_ok-rule.ensures.closed in
     let within = subst (IsWithin s.left) c.in-Found.is c.in_ok-rule.ensures.within in
-    let first = subst (λ w. walked_seen N L w ≡ walk_mark None (go_at O f) (mark_of N M c.args.first) s.place s.nested None (stack_of N M s.stack) s.left) c.in-Found.is (c.in_ok-rule.ensures.walks O f l) in
-    let second =
-    c.in_ok-rule-in-Found.ensures.walks (carried same O) f (omega (arith, within, l))
-    ∙ ap (λ m. walk_mark None (go_at O f) m s.place s.nested None (stack_of N L s.stack) c.in-Found.rest) (grows.same_mark N c.args.second c.requires.second)
-    ∙ ap (λ ms. walk_mark None (go_at O f) (mark_of N M c.args.second) s.place s.nested None ms c.in-Found.rest) (grows.same_stack N s.stack c.requires.stack) in
-    let seconds = subst (λ w. walked_seen N K w ≡ walk_mark None (go_at O f) (mark_of N M c.args.second) s.place s.nested None (stack_of N M s.stack) c.in-Found.rest) c.in-Found-2.is second in
     let there = subst (IsWalked L) c.in-Found.is c.in_ok-rule.ensures.there in
-    fork_on _ _ _ _ c.in-Found.rest (λ k. walk_mark None (go_at O f) (mark_of N M c.args.second) s.place s.nested None (stack_of N M s.stack) k) s.place first seconds
-    (joins N ∙ ap (λ A. join A (reached_seen N K c.in-Found-2.lower) s.place c.in-Found-2.rest) (reached_stays N L K c.in-Found.upper c.in_ok-rule-in-Found.ensures.grows there)))
+    let same : c.walk_mark.new.self.closed.now ≡ c.args.self.now.closed.now = ap (λ (b : Bor Closed). b.now) c.in_ok-rule.ensures.closed in
+    ok_maps c.joined.result
+    (λ r joins O f l.
+    forked O (go_at O f) c.args.self.now.marks L K s c.args.first c.args.second _ _ c.in-Found.upper c.in-Found.rest _ c.in_ok-rule.ensures.grows c.requires.second c.requires.stack c.in-Found.is (c.in_ok-rule.ensures.walks O f l) (c.in_ok-rule-in-Found.ensures.walks (carried same O) f (omega (arith, within, l)))
+    (joins O.naming ∙ ap (λ A. join A (reached_seen O.naming K c.in-Found-2.lower) s.place c.in-Found-2.rest) (reached_stays O.naming L K c.in-Found.upper c.in_ok-rule-in-Found.ensures.grows there) ∙ ap (λ w. and_then (walked_seen O.naming K w) (λ B j. join (reached_seen O.naming L c.in-Found.upper) B s.place j)) (sym c.in-Found-2.is)))
     c.joined.ensures.joins

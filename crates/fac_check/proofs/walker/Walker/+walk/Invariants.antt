@@ -1,4 +1,4 @@
-use Rattle.std.proofs.Common.{◌≡◌, ◌<◌, ◌≤◌, ◌+◌, ◌*◌, ℕ, true, drop}
+use Rattle.std.proofs.Common.{◌≡◌, ◌<◌, ◌≤◌, ◌+◌, ◌*◌, ℕ, true, length, drop}
 use Rattle.fac_lang.specs.View.{items_text}
 use Rattle.fac_lang.specs.Texts.{Literal, Text}
 use Rattle.fac_locals.specs.Closed.{ClosesText}
@@ -45,7 +45,7 @@ invariant-walk_phrase-loop-item l = record {
   grows : Grows l.initial.self.marks l.self.marks;
   stack : IsStack l.self.marks l.stack;
   within : l.left ≤ l.step.left;
-  taken : takes_text l.initial.self.closed.now.program.top (items_text (drop l.item-index l.item-items)) ≡ true;
+  taken : takes_text l.initial.self.closed.now.program.top (length l.initial.self.closed.now.templates) (items_text (drop l.item-index l.item-items)) ≡ true;
   onward :
       (O : Opened l.initial.self.closed.now.program l.initial.self.closed.now.templates) (at : Literal) (t : Text) (f : ℕ) → ClosesText O.program at t l.phrase → l.step.left < f →
       Onward O at t f l.step.nested (stack_of O.naming l.initial.self.marks l.step.stack) l.step.left l.self.marks l.stack (drop l.item-index l.item-items) l.left;
