@@ -20,8 +20,8 @@ use Rattle.fac_prim.specs.Cells.{MValue, m_plain}
 use Rattle.fac_vm.specs.Machine.{End, done, steps, starting}
 use Rattle.fac_emit.specs.Code.{program_code, words_from, templates_from}
 use Rattle.fac_emit.specs.View.{template_texts}
-use Rattle.fac_emit.specs.Symbols.{Sym, here, off, cells, k_text, k_cur, k_com, do_text, top_none, top_is, needs_none, needs_more, all_none, all_more}
-use Rattle.fac_emit.specs.Expanded.{Code, c_last, c_make, c_trim, c_end, c_off, c_int, c_prim, c_word, c_call, c_dip}
+use Rattle.fac_emit.specs.Symbols.{here, off, cells, k_text, k_cur, k_com, do_text, top_is, needs_none, needs_more, all_none, all_more}
+use Rattle.fac_emit.specs.Expanded.{Code, c_last, c_make, c_end, c_off, c_int, c_prim, c_word, c_call, c_dip}
 
 abbrev items : List Item → Text
 items [] = end

@@ -7,7 +7,7 @@ use Rattle.fac_lang.specs.World.{World}
 use Rattle.fac_lang.specs.declared.limits.TheConstants.{MOST_PAIRS}
 use Rattle.fac_lang.specs.Equality.{equal_pairs}
 use Rattle.fac_lang.specs.Printed.{Names, printed}
-use Rattle.fac_lang.specs.Procedures.{Procedure, leaves, answers, answers_array, answers_tuple, curries, composes, fails, looks, adds, opens, puts, compares, prints, asks, writes, reads, Gives, gives, bad, Fn, fn0, fn1, fn2, fn3, line_in, behind_line, places_from, or_else, picked, value_at, array_in, opened, opened_places, with_element, made_or, followed, by_inputs}
+use Rattle.fac_lang.specs.Procedures.{Procedure, leaves, answers, answers_array, answers_tuple, curries, composes, fails, looks, adds, opens, puts, compares, prints, asks, writes, reads, Gives, gives, bad, Fn, fn0, fn1, fn2, fn3, line_in, behind_line, places_from, or_else, value_at, array_in, opened, opened_places, with_element, made_or, followed, by_inputs}
 use Rattle.fac_lang.specs.PrimitiveWords.{outputs_of}
 use Rattle.fac_lang.specs.Primitives.{Primitive, prim_fn}
 use Rattle.fac_prim.specs.Cells.{MValue, m_plain, m_seen, m_curry, m_compose, cells}

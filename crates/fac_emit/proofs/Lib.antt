@@ -2,6 +2,7 @@ pub mod SamePrimitives
 pub mod KeptPrimitives
 pub mod RunLaws
 pub mod GivenValues
+pub mod WholeValues
 pub mod Standing
 pub mod Simulation
 pub mod PlainIsCode

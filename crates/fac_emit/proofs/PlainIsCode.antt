@@ -1,5 +1,5 @@
 -- The plain code of a text is code in which a quotation is made where it is pushed, whatever stands behind it.
-use Rattle.std.proofs.Common.{◌≡◌, ◌<◌, ℕ, zero, suc, ◌+◌, List, [], ◌∷◌, ◌++◌, length, Option, None, Some, true, false, refl, arith}
+use Rattle.std.proofs.Common.{◌≡◌, ◌<◌, ℕ, zero, suc, ◌+◌, List, [], ◌∷◌, ◌++◌, length, Option, Some, true, false, refl, arith}
 use Rattle.std.proofs.lemmas.Bool.{ltb-true}
 use Rattle.std.specs.Prelude.{slice_get}
 use Rattle.fac_lang.specs.declared.phrase.Place.{Place}
@@ -34,13 +34,15 @@ unfolding prim_numbered built_count
 built_there k h = in_front built_primitives later_primitives k (ltb-true k (length built_primitives) h)
 
 module _ (P : Program) (M : Image) (T : Templates) where
-  calling_code : (Γ : List Special) (last : Option Instr) (F : List MValue) (i : Item) (x : Instr) (p : Place) (t : Text) (K : List Task) (pc : ℕ) → slice_get M.code pc ≡ Some x → Calling P M T false i x → Code P M T Γ last F zero [] (do_text t ∷ K) (pc + 1) → Code P M T Γ last F zero [] (do_text (then i p t) ∷ K) pc
+  calling_code : (Γ : List Special) (last : Option Instr) (F : List MValue) (i : Item) (x : Instr) (p : Place) (t : Text) (K : List Task) (pc : ℕ) → slice_get M.code pc ≡ Some x → Calling P M T false i x →
+      Code P M T Γ last F zero [] (do_text t ∷ K) (pc + 1) → Code P M T Γ last F zero [] (do_text (then i p t) ∷ K) pc
   calling_code Γ last F i x p t K pc e (l_word w b lt es) rest = c_word w b lt es all_none e rest
   calling_code Γ last F i x p t K pc e (l_call w k es en) rest = c_call w k es en all_none e rest
   calling_code Γ last F i x p t K pc e (l_if w k es en) rest = c_if w k es en all_none e rest
 
   -- an item before code that stands for any stack on which nothing is put off
-  item_code : (Γ : List Special) (last : Option Instr) (F : List MValue) (i : Item) (x : Instr) (p : Place) (t : Text) (K : List Task) (pc : ℕ) → slice_get M.code pc ≡ Some x → Translates P M T F i x → ((S : List Sym) → AllHere S → Code P M T Γ last F zero S (do_text t ∷ K) (pc + 1)) → Code P M T Γ last F zero [] (do_text (then i p t) ∷ K) pc
+  item_code : (Γ : List Special) (last : Option Instr) (F : List MValue) (i : Item) (x : Instr) (p : Place) (t : Text) (K : List Task) (pc : ℕ) → slice_get M.code pc ≡ Some x → Translates P M T F i x →
+      ((S : List Sym) → AllHere S → Code P M T Γ last F zero S (do_text t ∷ K) (pc + 1)) → Code P M T Γ last F zero [] (do_text (then i p t) ∷ K) pc
   item_code Γ last F i x p t K pc e (t_int z) rest = c_int z e (rest (here ∷ []) (all_more all_none))
   item_code Γ last F i x p t K pc e t_true rest = c_true e (rest (here ∷ []) (all_more all_none))
   item_code Γ last F i x p t K pc e t_false rest = c_false e (rest (here ∷ []) (all_more all_none))

@@ -6,7 +6,7 @@ use Rattle.fac_lang.specs.World.{State, push, push_each}
 use Rattle.fac_lang.specs.Texts.{Value}
 use Rattle.fac_lang.specs.Substitution.{put_local}
 use Rattle.fac_lang.specs.Eval.{Result, Done, Failed, Spent, Stuck, then_do, Act, wrong, fails, goes, binds, runs, Run, run_callable, go_on, eval}
-use Rattle.fac_lang.proofs.Laws.{Within, Sparing, within, within_call, Agree, agree_then, agree_call, same_run, more, Longer, longer}
+use Rattle.fac_lang.proofs.Laws.{Sparing, within, within_call, Agree, agree_then, agree_call, same_run, more, Longer, longer}
 
 acts_agree : (run run' : Run) (b : ℕ) → Sparing run → Agree b run run' → (a : Act) (t : Text) (n : ℕ) → n ≤ b → go_on run a t n ≡ go_on run' a t n
 acts_agree run run' b s h wrong t n le = refl
@@ -14,7 +14,8 @@ acts_agree run run' b s h (fails e st) t n le = refl
 acts_agree run run' b s h (goes st) t n le = h t st n le
 acts_agree run run' b s h (binds x v st) t n le = h (put_local x (held v) t) st n le
 acts_agree run run' b s h (runs c st back) t n le =
-    agree_then b (run_callable run c st n) (λ st' m. run t (push_each back st') m) (λ st' m. run' t (push_each back st') m) (within_call run s b c st n le) (λ st' m le'. h t (push_each back st') m le') ∙ ap (λ r. then_do r (λ st' m. run' t (push_each back st') m)) (agree_call run run' b s h c st n le)
+    agree_then b (run_callable run c st n) (λ st' m. run t (push_each back st') m) (λ st' m. run' t (push_each back st') m) (within_call run s b c st n le) (λ st' m le'. h t (push_each back st') m le') ∙
+    ap (λ r. then_do r (λ st' m. run' t (push_each back st') m)) (agree_call run run' b s h c st n le)
 
 module _ (act : Item → State Value → Act) where
   abbrev pub free : Run
