@@ -23,6 +23,7 @@ use Rattle.fac_emit.specs.Carries.{SameEnd, Carries, state_before, machine_befor
 use Rattle.fac_emit.specs.Code.{IsPlain}
 use Rattle.fac_emit.specs.Stands.{Stands, PlainCode}
 use Rattle.fac_emit.proofs.Simulation.{carried}
+use Rattle.fac_emit.proofs.PlainIsCode.{plain_code_is_code}
 use Rattle.fac_emit.proofs.Placed.{coded, top_stands}
 
 no_literals : (P : Program) → IsBuilt P → (input : List ℕ) → start P input ≡ record { stack = []; world = record { objects = []; literals = []; input = input; output = [] } }
@@ -54,12 +55,12 @@ pub carries :
     (P C : Program) (templates : List Template) (M : Image) (fits : Height → Height → Bool) (callable_height : Callable → Option Height) (count : ℕ) →
     IsBuilt P → Closes P C templates → IsPlain C templates M → Carries P fits callable_height count M
 carries P C templates M fits callable_height count b closes is_plain = record {
-  same_end = λ stack input n many whole never.
+  same_end = λ stack input many whole never n.
       let text = word_text P P.top in
       let T = template_texts P in
-      let code = plain_code P C templates M b closes is_plain in
+      let code = plain_code_is_code P M (plain_code P C templates M b closes is_plain) in
       let begin = begins_so P b T stack input in
-      let going = not_stuck (top_run P fits callable_height (values_view T stack) input n) never in
+      let going = λ (m : ℕ). not_stuck (top_run P fits callable_height (values_view T stack) input m) (never m) in
       subst (λ (st : State Value). (e : End) × Ends M (names P) (machine_before M stack input) n e × SameEnd T (eval (act P fits callable_height) n text st n) e) begin
-      (carried P fits callable_height M T code.coded M.start text code.phrase stack (record empty_world { input = input }) (record { cells = tt; values = whole; objects = tt }) n (subst (λ (st : State Value). eval (act P fits callable_height) n text st n ≢ Stuck) (sym begin) going));
+      (carried P fits callable_height M T code.called M.start text code.phrase stack (record empty_world { input = input }) (record { cells = tt; held = tt; values = whole; objects = tt }) (subst (λ (st : State Value). (m : ℕ) → eval (act P fits callable_height) m text st m ≢ Stuck) (sym begin) going) n);
 }

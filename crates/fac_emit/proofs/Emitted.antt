@@ -1,5 +1,5 @@
 -- The piece of a word, as the code makes it, is what the word emits.
-use Rattle.std.proofs.Common.{◌≡◌, ◌<◌, ℕ, zero, suc, ◌+◌, List, [], ◌∷◌, ◌++◌, length, drop, Bool, true, Some, None, refl, ap, sym, subst, ◌∙◌, arith, ◌⊎◌, Result, Ok, Err, IfOk}
+use Rattle.std.proofs.Common.{◌≡◌, ◌<◌, ℕ, zero, suc, ◌+◌, List, [], ◌∷◌, ◌++◌, length, drop, Bool, true, Some, None, refl, ap, sym, subst, ◌∙◌, arith, Result, Ok, Err, IfOk}
 use Rattle.std.proofs.lemmas.Bool.{ltb-true}
 use Rattle.std.specs.Prelude.{nat_eq, slice_get}
 use Rattle.fac_lang.specs.declared.memory.Memory.{Memory}
@@ -13,7 +13,7 @@ use Rattle.fac_lang.specs.Forms.{IsBuilt, IsBuiltText, IsBuiltSort}
 use Rattle.fac_lang.specs.CoreWords.{is_built_core}
 use Rattle.fac_lang.specs.Meaning.{sort_of, core_numbered}
 use Rattle.fac_lang.proofs.FormsLemmas.{word_below, sort_at}
-use Rattle.fac_locals.specs.Literals.{Quoted, first_of_word, first_of_literal, behind, literals_in, sort_literals, word_literals, literals, literal_or}
+use Rattle.fac_locals.specs.Literals.{Quoted, first_of_word, first_of_literal, literals_in, sort_literals, word_literals, literals, literal_or}
 use Rattle.fac_locals.specs.Closed.{Closes, ClosesText, ClosesSort, CloseLiterals}
 use Rattle.fac_locals.proofs.ClosedPrograms.{HasBuiltText, HaveBuiltTexts, built_texts}
 use Rattle.fac_locals.proofs.Places.{literal_built}

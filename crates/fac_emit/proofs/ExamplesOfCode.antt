@@ -1,5 +1,5 @@
--- Plain code, computed: that of a small program, and what the machine does with it.
-use Rattle.std.proofs.Common.{◌≡◌, ℕ, List, [], ◌∷◌, true, false, refl, Option, Some, None}
+-- Plain code, computed: that of a small program, what the machine does with it, and its code as a case of the relation.
+use Rattle.std.proofs.Common.{◌≡◌, ℕ, List, [], ◌∷◌, true, false, refl, Option, Some, None, arith}
 use Rattle.std.specs.Prelude.{pos}
 use Rattle.fac_lang.specs.Signatures.{signature, no_inputs, never}
 use Rattle.fac_lang.specs.declared.phrase.Template.{Template}
@@ -11,7 +11,7 @@ use Rattle.fac_lang.specs.Texts.{int, Text, end, then, Item, lit, quot, word}
 use Rattle.fac_lang.specs.Primitives.{built_count, prim_numbered, prim_fn}
 use Rattle.fac_code.specs.Code.{has_built_code}
 use Rattle.fac_code.specs.References.{refers}
-use Rattle.fac_lang.specs.Meaning.{nowhere, names}
+use Rattle.fac_lang.specs.Meaning.{nowhere, names, core_numbered}
 use Rattle.fac_locals.specs.inner.Numbering.{closed_words, words_templates}
 use Rattle.fac_code.specs.declared.image.Instr.TheVariants.{Halt, Int, Quot, Prim, Callw, Call, Dip, Ret}
 use Rattle.fac_code.specs.declared.image.Action.TheVariants.{Prim as prim_action, Core as core_action, Code as code_action}
@@ -19,6 +19,9 @@ use Rattle.fac_code.specs.declared.image.Image.{Image}
 use Rattle.fac_prim.specs.Cells.{MValue, m_plain}
 use Rattle.fac_vm.specs.Machine.{End, done, steps, starting}
 use Rattle.fac_emit.specs.Code.{program_code, words_from, templates_from}
+use Rattle.fac_emit.specs.View.{template_texts}
+use Rattle.fac_emit.specs.Symbols.{here, off, cells, k_text, k_cur, k_com, do_text, top_is, needs_none, needs_more, all_none, all_more}
+use Rattle.fac_emit.specs.Expanded.{Code, c_last, c_make, c_end, c_off, c_int, c_prim, c_word, c_call, c_dip}
 
 abbrev items : List Item → Text
 items [] = end
@@ -73,3 +76,31 @@ ended _ = None
 pub ends_so : ended (steps image (names closed) 40 (starting image []) 20) ≡ Some (m_plain (int (pos 5)) ∷ m_plain (int (pos 4)) ∷ m_plain (int (pos 1)) ∷ [], 5)
 unfolding prim_fn prim_numbered
 ends_so = refl
+
+-- the program of which this is the code
+abbrev opened : Program
+opened = record { words = source; arrays = []; classes = []; top = 5 }
+
+-- A callable that was put off has the cells of the values in it.
+pub cells_are : cells (off (k_cur here (k_com (k_text end) (k_cur (off (k_text end)) (k_text end))))) ≡ 1
+cells_are = refl
+
+-- [ 2 ] [ .. ] compose, from the word's place: both quotations are put off and made at once, so `compose` has its two values
+pub word_code : Code opened image (template_texts opened) [] (Some Ret) [] 0 [] (do_text (items (quot (items (number 2 ∷ [])) ∷ quot (items (quot (items (number 3 ∷ [])) ∷ word 1 ∷ word 0 ∷ [])) ∷ word 3 ∷ [])) ∷ []) 0
+unfolding template_texts prim_numbered
+word_code =
+    c_off (c_make 0 (record { entry = 4; cells = []; holes = 0 }) [] refl refl refl refl
+    (c_off (c_make 1 (record { entry = 6; cells = []; holes = 0 }) [] refl refl refl refl
+    (c_prim 3 17 _ refl refl refl (needs_more top_is (needs_more top_is needs_none)) refl
+    (c_end (c_last (all_more all_none) refl))))))
+
+-- 1 w [ 4 ] dip call, from its place: behind a call nothing of the stack is known
+pub phrase_code : Code opened image (template_texts opened) [] (Some Halt) [] 0 [] (do_text (items (number 1 ∷ word 4 ∷ quot (items (number 4 ∷ [])) ∷ word 2 ∷ word 1 ∷ [])) ∷ []) 12
+unfolding template_texts core_numbered
+phrase_code =
+    c_int (pos 1) refl
+    (c_word 4 _ (omega arith) refl (all_more all_none) refl
+    (c_off (c_make 3 (record { entry = 18; cells = []; holes = 0 }) [] refl refl refl refl
+    (c_dip 2 1 refl refl (all_more all_none) refl
+    (c_call 1 0 refl refl all_none refl
+    (c_end (c_last all_none refl)))))))

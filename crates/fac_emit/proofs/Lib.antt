@@ -1,6 +1,11 @@
 pub mod SamePrimitives
 pub mod KeptPrimitives
+pub mod RunLaws
+pub mod GivenValues
+pub mod WholeValues
+pub mod Standing
 pub mod Simulation
+pub mod PlainIsCode
 pub mod LiteralWords
 pub mod Closings
 pub mod FirstWords

@@ -26,7 +26,7 @@ use Rattle.fac_prim.specs.Cells.{MValue, kept_list, cells_at}
 use Rattle.fac_vm.specs.Machine.{word_of_prim}
 use Rattle.fac_emit.specs.View.{template_texts}
 use Rattle.fac_emit.specs.Code.{core_instr, sort_instr, word_instr, item_instr, text_code, quotations, first_template, templates_code, row_at, template_rows, last_instr, sort_action, sort_code, sort_rows, piece, code_from, words_from, templates_from, program_code, IsPlain}
-use Rattle.fac_emit.specs.Stands.{Translates, t_int, t_true, t_false, t_quot, t_prim, t_word, t_call, t_dip, t_if, Stands, s_end, s_item, Coded}
+use Rattle.fac_emit.specs.Stands.{l_word, l_call, l_if, Translates, t_int, t_true, t_false, t_quot, t_prim, t_dip, t_calling, Stands, s_end, s_item, Coded}
 use Rattle.fac_emit.proofs.LiteralWords.{in_a_word, is_listed}
 use Rattle.fac_emit.proofs.Closings.{drop_behind, get_at, Closing, c_end, c_int, c_true, c_false, c_word, c_quot, closing, same_primitives, split, Forest, text_forest, first_number}
 use Rattle.fac_lang.proofs.FormsLemmas.{word_below, sort_at, top_word, top_text, all_distinct}
@@ -212,15 +212,15 @@ module _ (P C : Program) (templates : List Template) (M : Image) (b : IsBuilt P)
 
   core_translates : (F : List MValue) (w k : ℕ) → is_built_core k ≡ true → sort_of P w ≡ Some (core_sort k) → Translates P M (template_texts P) F (word w) (core_instr k)
   unfolding core_numbered
-  core_translates F w zero h e = t_call w 0 e refl
+  core_translates F w zero h e = t_calling (l_call w 0 e refl)
   core_translates F w (suc zero) h e = t_dip w 1 e refl
-  core_translates F w (suc (suc zero)) h e = t_if w 2 e refl
+  core_translates F w (suc (suc zero)) h e = t_calling (l_if w 2 e refl)
   core_translates F w (suc (suc (suc k))) h e = absurd (let lt : suc (suc (suc k)) < 3 = ltb-true (suc (suc (suc k))) 3 h in omega (arith, lt))
 
   word_translates : (F : List MValue) (w : ℕ) (d c : WordDef) (s : Sort) → w < P.top → slice_get P.words w ≡ Some d → slice_get C.words w ≡ Some c → d.sort ≡ s → ClosesSort P w s c.sort → IsBuiltSort P.top d s → Translates P M (template_texts P) F (word w) (item_instr C.words (word w))
   word_translates F w d c (prim_sort k) lt at closed is h built = rw (instr_is w c (prim_sort k) closed h) (t_prim w k (sort_at P w d at ∙ ap Some is) built.is_built (first_word w k c closed h))
   word_translates F w d c (core_sort k) lt at closed is h built = rw (instr_is w c (core_sort k) closed h) (core_translates F w k built.is_built (sort_at P w d at ∙ ap Some is))
-  word_translates F w d c (body t) lt at closed is h built = rw (instr_is w c (body h.0) closed h.1) (t_word w t lt (sort_at P w d at ∙ ap Some is))
+  word_translates F w d c (body t) lt at closed is h built = rw (instr_is w c (body h.0) closed h.1) (t_calling (l_word w t lt (sort_at P w d at ∙ ap Some is)))
   word_translates F w d c _ lt at closed is h built = absurd built
 
   word_item : (F : List MValue) (w : ℕ) → w < P.top → Translates P M (template_texts P) F (word w) (item_instr C.words (word w))

@@ -2,6 +2,8 @@ pub mod View
 pub mod Carries
 pub mod Whole
 pub mod Stands
+pub mod Symbols
+pub mod Expanded
 pub mod Code
 pub mod Pieces
 pub mod Emits

@@ -1,6 +1,6 @@
 -- Which code stands for which text. The relation is of running texts, under the frame of the code that runs, and whatever stands around the
 -- code.
-use Rattle.std.specs.Prelude.{◌≡◌, ◌<◌, ◌+◌, ℕ, ℤ, List, [], length, true, false, Some, slice_get}
+use Rattle.std.specs.Prelude.{◌≡◌, ◌<◌, ◌+◌, ℕ, ℤ, List, [], length, Bool, true, false, Some, slice_get}
 use Rattle.fac_lang.specs.declared.phrase.Place.{Place}
 use Rattle.fac_lang.specs.declared.program.Program.{Program}
 use Rattle.fac_lang.specs.declared.program.Sort.TheVariants.{Prim as prim_sort, Core as core_sort, Body as body}
@@ -19,6 +19,12 @@ use Rattle.fac_emit.specs.View.{Templates, template_texts}
 use Rattle.fac_emit.specs.Whole.{WholeKept}
 
 module _ (P : Program) (M : Image) (T : Templates) where
+  -- An item that calls, and its instruction, which in a tail call leaves no return entry.
+  pub data Calling (tail : Bool) : Item → Instr → Type 0 where
+    l_word : (w : ℕ) (t : Text) → w < P.top → sort_of P w ≡ Some (body t) → Calling tail (word w) (Callw w tail)
+    l_call : (w k : ℕ) → sort_of P w ≡ Some (core_sort k) → core_numbered k ≡ Some c_call → Calling tail (word w) (Call tail)
+    l_if : (w k : ℕ) → sort_of P w ≡ Some (core_sort k) → core_numbered k ≡ Some c_if → Calling tail (word w) (If tail)
+
   -- An item and its plain instruction, where the frame is F and T has the texts of the templates. A run error of a primitive names the first word
   -- of the image that does it, so that is to be the item's word.
   pub data Translates (F : List MValue) : Item → Instr → Type 0 where
@@ -27,10 +33,8 @@ module _ (P : Program) (M : Image) (T : Templates) where
     t_false : Translates F (lit no) False
     t_quot : (q : ℕ) (r : TemplateRow) (vs : List MValue) → slice_get M.templates q ≡ Some r → r.holes ≡ 0 → cells_at r.cells F ≡ Some vs → Translates F (quot (T q)) (Quot q)
     t_prim : (w k : ℕ) → sort_of P w ≡ Some (prim_sort k) → is_built_primitive k ≡ true → word_of_prim k 0 M.words ≡ w → Translates F (word w) (Prim k)
-    t_word : (w : ℕ) (t : Text) → w < P.top → sort_of P w ≡ Some (body t) → Translates F (word w) (Callw w false)
-    t_call : (w k : ℕ) → sort_of P w ≡ Some (core_sort k) → core_numbered k ≡ Some c_call → Translates F (word w) (Call false)
     t_dip : (w k : ℕ) → sort_of P w ≡ Some (core_sort k) → core_numbered k ≡ Some c_dip → Translates F (word w) Dip
-    t_if : (w k : ℕ) → sort_of P w ≡ Some (core_sort k) → core_numbered k ≡ Some c_if → Translates F (word w) (If false)
+    t_calling : {i : Item} {x : Instr} → Calling false i x → Translates F i x
 
   -- The plain instructions of a text stand at this place under the frame F, and behind them the last one.
   pub data Stands (last : Instr) : List MValue → ℕ → Text → Type 0 where

@@ -45,8 +45,9 @@ module _ (M : Image) where
   Keeps (fn2 f) = (x y : MValue) (w : World MValue) → Whole x → Whole y → WholeObjects w.objects → WholeGives (f x y w)
   Keeps (fn3 f) = (x y z : MValue) (w : World MValue) → Whole x → Whole y → Whole z → WholeObjects w.objects → WholeGives (f x y z w)
 
-  -- frame, stack and objects
-  pub record Fine (frame stack : List MValue) (world : World MValue) : Type 0 where
+  -- frame, held values, stack and objects
+  pub record Fine (frame retain stack : List MValue) (world : World MValue) : Type 0 where
     pub cells : AllWhole frame
+    pub held : AllWhole retain
     pub values : AllWhole stack
     pub objects : WholeObjects world.objects

@@ -32,7 +32,7 @@ EndsSame P r e = SameEnd (template_texts P) r e
 -- the end of the meaning is that of the machine
 same_end : (P : Program) (M : Image) (n : ℕ) → Carried P M → (e : End) → Ends M (names P) (starting M []) n e → EndsSame P (meaning P n) e
 same_end P M n carries e there =
-    let c = carries.carries.same_end [] [] n refl tt (carries.not_stuck n) in subst (λ (x : End). EndsSame P (meaning P n) x) (one_end M (names P) (starting M []) n c.0 e c.1 there) c.2
+    let c = carries.carries.same_end [] [] refl tt carries.not_stuck n in subst (λ (x : End). EndsSame P (meaning P n) x) (one_end M (names P) (starting M []) n c.0 e c.1 there) c.2
 
 left_is : (ticks left all : ℕ) → ticks + left ≡ all → ticks ≡ all - left
 left_is ticks left all e = omega (arith, e)

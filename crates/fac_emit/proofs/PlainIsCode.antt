@@ -1,0 +1,79 @@
+-- The plain code of a text is code in which a quotation is made where it is pushed, whatever stands behind it.
+use Rattle.std.proofs.Common.{◌≡◌, ◌<◌, ℕ, zero, suc, ◌+◌, List, [], ◌∷◌, ◌++◌, length, Option, Some, true, false, refl, arith}
+use Rattle.std.proofs.lemmas.Bool.{ltb-true}
+use Rattle.std.specs.Prelude.{slice_get}
+use Rattle.fac_lang.specs.declared.phrase.Place.{Place}
+use Rattle.fac_lang.specs.declared.program.Program.{Program}
+use Rattle.fac_lang.specs.Texts.{Text, end, then, Item}
+use Rattle.fac_lang.specs.Primitives.{Primitive, prim_numbered, is_built_primitive, built_primitives, later_primitives, built_count}
+use Rattle.fac_code.specs.declared.image.Instr.{Instr}
+use Rattle.fac_code.specs.declared.image.Instr.TheVariants.{Ret}
+use Rattle.fac_code.specs.declared.image.Image.{Image}
+use Rattle.fac_prim.specs.Cells.{MValue}
+use Rattle.fac_emit.specs.View.{Templates, template_texts}
+use Rattle.fac_emit.specs.Symbols.{Sym, here, Task, do_text, top_none, Needs, needs_none, needs_more, heres, AllHere, all_none, all_more, ins, outs, Special}
+use Rattle.fac_emit.specs.Expanded.{Code, c_last, c_make, c_trim, c_end, c_off, c_int, c_true, c_false, c_prim, c_word, c_call, c_dip, c_if, EachCalled, ExpandedCode}
+use Rattle.fac_emit.specs.Stands.{Calling, l_word, l_call, l_if, Translates, t_int, t_true, t_false, t_quot, t_prim, t_dip, t_calling, Stands, s_end, s_item, Coded, PlainCode}
+
+needs_any : (n : ℕ) → Needs n [] []
+needs_any zero = needs_none
+needs_any (suc n) = needs_more top_none (needs_any n)
+
+all_heres : (n : ℕ) (S : List Sym) → AllHere S → AllHere (heres n S)
+all_heres zero S a = a
+all_heres (suc n) S a = all_heres n (here ∷ S) (all_more a)
+
+in_front : {A : Type 0} (xs ys : List A) (k : ℕ) → k < length xs → (x : A) × (slice_get (xs ++ ys) k ≡ Some x)
+in_front [] ys k lt = absurd (omega (arith, lt))
+in_front (x ∷ xs) ys zero lt = (x, refl)
+in_front (x ∷ xs) ys (suc k) lt = in_front xs ys k (omega (arith, lt))
+
+-- a primitive that is built
+built_there : (k : ℕ) → is_built_primitive k ≡ true → (q : Primitive) × (prim_numbered k ≡ Some q)
+unfolding prim_numbered built_count
+built_there k h = in_front built_primitives later_primitives k (ltb-true k (length built_primitives) h)
+
+module _ (P : Program) (M : Image) (T : Templates) where
+  calling_code : (Γ : List Special) (last : Option Instr) (F : List MValue) (i : Item) (x : Instr) (p : Place) (t : Text) (K : List Task) (pc : ℕ) → slice_get M.code pc ≡ Some x → Calling P M T false i x →
+      Code P M T Γ last F zero [] (do_text t ∷ K) (pc + 1) → Code P M T Γ last F zero [] (do_text (then i p t) ∷ K) pc
+  calling_code Γ last F i x p t K pc e (l_word w b lt es) rest = c_word w b lt es all_none e rest
+  calling_code Γ last F i x p t K pc e (l_call w k es en) rest = c_call w k es en all_none e rest
+  calling_code Γ last F i x p t K pc e (l_if w k es en) rest = c_if w k es en all_none e rest
+
+  -- an item before code that stands for any stack on which nothing is put off
+  item_code : (Γ : List Special) (last : Option Instr) (F : List MValue) (i : Item) (x : Instr) (p : Place) (t : Text) (K : List Task) (pc : ℕ) → slice_get M.code pc ≡ Some x → Translates P M T F i x →
+      ((S : List Sym) → AllHere S → Code P M T Γ last F zero S (do_text t ∷ K) (pc + 1)) → Code P M T Γ last F zero [] (do_text (then i p t) ∷ K) pc
+  item_code Γ last F i x p t K pc e (t_int z) rest = c_int z e (rest (here ∷ []) (all_more all_none))
+  item_code Γ last F i x p t K pc e t_true rest = c_true e (rest (here ∷ []) (all_more all_none))
+  item_code Γ last F i x p t K pc e t_false rest = c_false e (rest (here ∷ []) (all_more all_none))
+  item_code Γ last F i x p t K pc e (t_quot q r vs et eh ec) rest = c_off (c_make q r vs e et eh ec (rest (here ∷ []) (all_more all_none)))
+  item_code Γ last F i x p t K pc e (t_prim w k es built ew) rest =
+      let there = built_there k built in
+      c_prim w k there.0 es there.1 ew (needs_any (ins there.0)) e (rest (heres (outs there.0) []) (all_heres (outs there.0) [] all_none))
+  item_code Γ last F i x p t K pc e (t_dip w k es en) rest = c_dip w k es en all_none e (rest [] all_none)
+  item_code Γ last F i x p t K pc e (t_calling c) rest = calling_code Γ last F i x p t K pc e c (rest [] all_none)
+
+  -- Code that takes a text from one place to another, where its last instruction stands: whatever is left to do there, the text is left to do before it.
+  pub record Reaches (last : Instr) (F : List MValue) (pc : ℕ) (t : Text) : Type 0 where
+    pub to : ℕ
+    pub there : slice_get M.code to ≡ Some last
+    pub behind : (Γ : List Special) (at_end : Option Instr) (K : List Task) → Code P M T Γ at_end F zero [] K to → Code P M T Γ at_end F zero [] (do_text t ∷ K) pc
+
+  pub plain_reaches : (last : Instr) (F : List MValue) (pc : ℕ) (t : Text) → Stands P M T last F pc t → Reaches last F pc t
+  plain_reaches last F pc end (s_end e) = record { to = pc; there = e; behind = λ Γ at_end K c. c_end c }
+  plain_reaches last F pc (then i p t) (s_item x e tr st) =
+      let r = plain_reaches last F (pc + 1) t st in
+      record { to = r.to; there = r.there; behind = λ Γ at_end K c. item_code Γ at_end F i x p t K pc e tr (λ S a. c_trim {S = []} S a (r.behind Γ at_end K c)) }
+
+  pub plain_is_code : (last : Instr) (F : List MValue) (pc : ℕ) (t : Text) → Stands P M T last F pc t → Code P M T [] (Some last) F zero [] (do_text t ∷ []) pc
+  plain_is_code last F pc t st = let r = plain_reaches last F pc t st in r.behind [] (Some last) [] (c_last all_none r.there)
+
+  pub each_called : Coded P M T → EachCalled P M T
+  each_called coded = record {
+    bodies = λ w b lt es. let h = coded.bodies w b lt es in (h.0, h.1, h.2, h.3, plain_is_code Ret [] h.1 b h.4);
+    templates = λ q r k e size whole. plain_is_code Ret _ r.entry (T q) (coded.templates q r k e size whole);
+  }
+
+-- so plain code is a part of it
+pub plain_code_is_code : (P : Program) (M : Image) → PlainCode P M → ExpandedCode P M
+plain_code_is_code P M h = record { called = each_called P M (template_texts P) h.coded; phrase = plain_is_code P M (template_texts P) _ [] M.start _ h.phrase }
