@@ -30,7 +30,7 @@ use Rattle.fac_parse.specs.declared.spelling.Spelling.{Spelling}
 use Rattle.fac_parse.specs.declared.spelling.Spelling.TheVariants.{Using, Colon, Semi, Opens, Closes, Dashes, OpensQuotation, ClosesQuotation, True, False, Inline, Recursive, Integer, Name}
 use Rattle.fac_parse.specs.Spellings.{token_spelling, is_value_name, is_semi, is_closing}
 use Rattle.fac_parse.specs.Trees.{plain_token, piece_tokens, items_tokens, mark_tokens, effect_tokens, form_tokens, flatten, token_text, AreNames, AreValueNames, most_levels, MayStand, depth_behind, Lead, most_names, IsEffect, IsForm, IsWellFormed, Reads, Parses}
-use Rattle.fac_parse.specs.inner.Reader.{Step, only_if, no_items, top_step, names_step, colon_step, named_step, inputs_step, is_fit, written, outputs_step, with_piece, piece_step, body_step, quotation_step, part_step, mark_of, defined_form, behind_step, step, unmarked, form_before, next_state, ended_form, last_forms, forms_after, forms_from, Takes}
+use Rattle.fac_parse.specs.inner.Reader.{Step, only_if, no_items, top_step, names_step, colon_step, named_step, inputs_step, is_fit, written, outputs_step, with_piece, piece_step, body_step, quotation_step, part_step, mark_of, defined_form, behind_step, step, unmarked, form_before, next_state, ended_form, last_forms, forms_after, forms_from, Takes, Finishes}
 use Rattle.fac_parse.proofs.SpellingLemmas.{using_is_using, colon_is_colon, semi_is_semi, opens_is_opens, closes_is_closes, dashes_is_dashes, bracket_is_bracket, end_is_end, t_is_true, f_is_false, inline_is_inline, recursive_is_recursive, sign_token}
 
 -- the tokens of a form that isn't closed
@@ -579,11 +579,18 @@ after_step before (Some taken) rest next old new h =
 pub token_taken : (ts rest : List Token) (t : Token) (o next : State) (old new : List Form) (n : ℕ) → forms_from Top ts ≡ option_map (λ (forms : List Form). old ++ forms) (forms_from o (drop n ts)) → drop n ts ≡ t ∷ rest → Takes (form_before o t) (step o t) old new (Ok next) → forms_from Top ts ≡ option_map (λ (forms : List Form). new ++ forms) (forms_from next rest)
 token_taken ts rest t o next old new n so_far e h = so_far ∙ ap (λ (us : List Token). option_map (λ (forms : List Form). old ++ forms) (forms_from o us)) e ∙ after_step (form_before o t) (step o t) rest next old new h
 
--- the tokens end behind a definition
-pub ends_behind : (ts : List Token) (o : State) (d : Definition) (f : Form) (old new : List Form) (n : ℕ) → forms_from Top ts ≡ option_map (λ (forms : List Form). old ++ forms) (forms_from o (drop n ts)) → drop n ts ≡ [] → o ≡ Behind d → f ≡ defined_form d None → new ≡ old ++ f ∷ [] → forms_from Top ts ≡ Some new
-ends_behind ts o d f old new n so_far none is last more =
-    so_far
-    ∙ ap (λ (us : List Token). option_map (λ (forms : List Form). old ++ forms) (forms_from o us)) none
-    ∙ ap (λ (q : State). option_map (λ (forms : List Form). old ++ forms) (last_forms q)) is
-    ∙ ap (λ (g : Form). Some (old ++ g ∷ [])) (sym last)
-    ∙ ap (λ (forms : List Form). Some forms) (sym more)
+last_is : (s : Option (List Form)) (old new : List Form) → Finishes old s (Ok new) → option_map (λ (forms : List Form). old ++ forms) s ≡ Some new
+last_is None old new h = absurd h
+last_is (Some last) old new h = ap (λ (forms : List Form). Some forms) (sym h)
+
+at_end : (ts : List Token) (o : State) (old : List Form) (n : ℕ) → forms_from Top ts ≡ option_map (λ (forms : List Form). old ++ forms) (forms_from o (drop n ts)) → drop n ts ≡ [] → forms_from Top ts ≡ option_map (λ (forms : List Form). old ++ forms) (last_forms o)
+at_end ts o old n so_far none = so_far ∙ ap (λ (us : List Token). option_map (λ (forms : List Form). old ++ forms) (forms_from o us)) none
+
+-- the tokens end where they may
+pub tokens_end : (ts : List Token) (o : State) (old new : List Form) (n : ℕ) → forms_from Top ts ≡ option_map (λ (forms : List Form). old ++ forms) (forms_from o (drop n ts)) → drop n ts ≡ [] → Finishes old (last_forms o) (Ok new) → forms_from Top ts ≡ Some new
+tokens_end ts o old new n so_far none h = at_end ts o old n so_far none ∙ last_is (last_forms o) old new h
+
+-- the tokens end too early
+pub end_fails : (e : ParseFault) (ts : List Token) (o : State) (old : List Form) (n : ℕ) → forms_from Top ts ≡ option_map (λ (forms : List Form). old ++ forms) (forms_from o (drop n ts)) → drop n ts ≡ [] → Finishes old (last_forms o) (Err e) → Parses ts (Err e)
+end_fails (Syntax at w) ts o old n so_far none h = (h.1, h.2, no_tree ts (at_end ts o old n so_far none ∙ ap (option_map (λ (forms : List Form). old ++ forms)) h.0))
+end_fails Memory ts o old n so_far none h = tt

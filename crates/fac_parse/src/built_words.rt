@@ -7,7 +7,7 @@ ghost use Rattle.fac_lang.specs.PrimitiveWords.{plain_leaving, written_effect};
 ghost use Rattle.fac_lang.specs.Primitives.{built_primitive_words};
 ghost use Rattle.fac_lang.specs.WrittenWords.{written_word};
 ghost use Rattle.fac_parse.specs.inner.PlainEffects.{plain_input};
-ghost use Rattle.fac_parse.specs.Resolution.{row_word, words_from, known_words, is_star, leaving_of, effect_of, is_inline, is_recursive, defined_word, top_word};
+ghost use Rattle.fac_parse.specs.Resolution.{row_word, words_from, known_words, is_star, leaving_of, effect_of, own_name, is_inline, is_recursive, defined_word, top_word};
 ghost use Rattle.fac_parse.specs.Trees.{token_text};
 
 use crate::spelling::{is_asterisk, text};
@@ -17,16 +17,29 @@ use fac_lang::{
 };
 use std::alloc::Global;
 
+// Adds an input that is a plain value.
+fn add_input(alloc: Global, inputs: &mut Vec<Input>, name: &str) -> Result<(), Memory>
+    ensures { OnOk result (inputs.new.items ≡ inputs.old.items ++ plain_input name.now ∷ []) }
+{
+    let name = Text::from_str(alloc, name)?;
+    inputs.push(Input { name, quot: None })?;
+    Ok(())
+}
+
+// Adds a copy of a name.
+fn add_text(alloc: Global, texts: &mut List<Text>, name: &str) -> Result<(), Memory>
+    ensures { OnOk result (texts.new ≡ texts.old ++ name.now ∷ []) }
+{
+    texts.push(Text::from_str(alloc, name)?)
+}
+
 // Inputs that are plain values.
 fn inputs(alloc: Global, names: &[&str]) -> Result<Vec<Input>, Memory>
     ensures { IfOk result (λ inputs. inputs.items ≡ map plain_input (map (λ name. name.now) names.now)) }
 {
     let mut inputs = Vec::new(alloc);
     for name in names {
-        inputs.push(Input {
-            name: Text::from_str(alloc, name)?,
-            quot: None,
-        })?;
+        add_input(alloc, &mut inputs, name)?;
     }
     Ok(inputs)
 }
@@ -37,7 +50,7 @@ fn texts(alloc: Global, names: &[&str]) -> Result<List<Text>, Memory>
 {
     let mut texts = List::new(alloc);
     for name in names {
-        texts.push(Text::from_str(alloc, name)?)?;
+        add_text(alloc, &mut texts, name)?;
     }
     Ok(texts)
 }
@@ -69,21 +82,44 @@ fn effect(alloc: Global, row: &WordRow) -> Result<Effect, Memory>
     })
 }
 
+// The full name of a word.
+fn full_name(alloc: Global, vocab: &str, name: &str) -> Result<Name, Memory>
+    ensures { IfOk result (λ full. full ≡ record { vocab = vocab.now; name = name.now }) }
+{
+    let vocab = Text::from_str(alloc, vocab)?;
+    match Text::from_str(alloc, name) {
+        Ok(name) => Ok(Name { vocab, name }),
+        Err(Memory) => Err(Memory),
+    }
+}
+
+// The full name and the effect of a row.
+fn heading(alloc: Global, row: &WordRow) -> Result<(Name, Effect), Memory>
+    ensures name { IfOk result (λ heading. heading.0 ≡ record { vocab = row.now.vocab.now; name = row.now.name.now }) }
+    ensures effect { IfOk result (λ heading. heading.1 ≡ written_effect (written_word row.now)) }
+{
+    let name = full_name(alloc, row.vocab, row.name)?;
+    match effect(alloc, row) {
+        Ok(effect) => Ok((name, effect)),
+        Err(Memory) => Err(Memory),
+    }
+}
+
 // The word of a row.
 fn word(alloc: Global, row: &WordRow, sort: Sort) -> Result<WordDef, Memory>
     ensures { IfOk result (λ word. word ≡ row_word (written_word row.now) sort) }
 {
-    let effect = effect(alloc, row)?;
-    let vocab = Text::from_str(alloc, row.vocab)?;
-    let name = Text::from_str(alloc, row.name)?;
-    Ok(WordDef {
-        name: Name { vocab, name },
-        sort,
-        effect,
-        inline: false,
-        recursive: false,
-        place: Place { file: 0, token: 0 },
-    })
+    match heading(alloc, row) {
+        Ok((name, effect)) => Ok(WordDef {
+            name,
+            sort,
+            effect,
+            inline: false,
+            recursive: false,
+            place: Place { file: 0, token: 0 },
+        }),
+        Err(Memory) => Err(Memory),
+    }
 }
 
 // Adds the word of a row.
@@ -152,10 +188,7 @@ fn written_inputs(alloc: Global, names: &[Token]) -> Result<Vec<Input>, Memory>
 {
     let mut inputs = Vec::new(alloc);
     for token in names {
-        inputs.push(Input {
-            name: Text::from_str(alloc, text(&token.kind))?,
-            quot: None,
-        })?;
+        add_input(alloc, &mut inputs, text(&token.kind))?;
     }
     Ok(inputs)
 }
@@ -166,7 +199,7 @@ fn written_outputs(alloc: Global, names: &[Token]) -> Result<List<Text>, Memory>
 {
     let mut texts = List::new(alloc);
     for token in names {
-        texts.push(Text::from_str(alloc, text(&token.kind))?)?;
+        add_text(alloc, &mut texts, text(&token.kind))?;
     }
     Ok(texts)
 }
@@ -230,6 +263,22 @@ fn marks_recursive(mark: Option<Mark>) -> bool
     }
 }
 
+// The full name and the effect of a word that a file defines.
+fn written_heading(
+    alloc: Global,
+    name: &Token,
+    effect: &WrittenEffect,
+) -> Result<(Name, Effect), Memory>
+    ensures name { IfOk result (λ heading. heading.0 ≡ own_name (token_text name.now.kind)) }
+    ensures effect { IfOk result (λ heading. heading.1 ≡ effect_of effect.now) }
+{
+    let name = full_name(alloc, "scratchpad", text(&name.kind))?;
+    match written(alloc, effect) {
+        Ok(effect) => Ok((name, effect)),
+        Err(Memory) => Err(Memory),
+    }
+}
+
 /// A word that a file defines.
 pub fn defined(
     alloc: Global,
@@ -240,15 +289,15 @@ pub fn defined(
 ) -> Result<WordDef, Memory>
     ensures { IfOk result (λ word. word ≡ defined_word name.now effect.now mark body) }
 {
-    let effect = written(alloc, effect)?;
-    let vocab = Text::from_str(alloc, "scratchpad")?;
-    let own = Text::from_str(alloc, text(&name.kind))?;
-    Ok(WordDef {
-        name: Name { vocab, name: own },
-        sort: Sort::Body(body),
-        effect,
-        inline: marks_inline(mark),
-        recursive: marks_recursive(mark),
-        place: name.place,
-    })
+    match written_heading(alloc, name, effect) {
+        Ok((full, effect)) => Ok(WordDef {
+            name: full,
+            sort: Sort::Body(body),
+            effect,
+            inline: marks_inline(mark),
+            recursive: marks_recursive(mark),
+            place: name.place,
+        }),
+        Err(Memory) => Err(Memory),
+    }
 }

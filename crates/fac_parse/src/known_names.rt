@@ -43,13 +43,20 @@ fn set_of_names(alloc: Global, words: &[WordDef]) -> Result<TextSet, Memory>
     Ok(names)
 }
 
+// Adds the vocabulary of a word.
+fn add_vocab(alloc: Global, vocabs: &mut List<Text>, word: &WordDef) -> Result<(), Memory>
+    ensures { OnOk result (vocabs.new ≡ vocabs.old ++ word.now.name.vocab ∷ []) }
+{
+    vocabs.push(word.name.vocab.copy(alloc)?)
+}
+
 // The vocabularies of words.
 fn vocabs_of(alloc: Global, words: &[WordDef]) -> Result<List<Text>, Memory>
     ensures { IfOk result (λ vocabs. vocabs ≡ word_vocabs words.now) }
 {
     let mut vocabs = List::new(alloc);
     for word in words {
-        vocabs.push(word.name.vocab.copy(alloc)?)?;
+        add_vocab(alloc, &mut vocabs, word)?;
     }
     Ok(vocabs)
 }

@@ -1,7 +1,7 @@
 //! The tree of a source's tokens.
 ghost use Rattle.std.specs.Prelude.{◌≡◌, ◌++◌, ◌∷◌, [], OnOk, IfOk};
 ghost use Rattle.fac_parse.specs.Trees.{Parses, file_of};
-ghost use Rattle.fac_parse.specs.inner.Reader.{step, top_step, names_step, colon_step, named_step, inputs_step, is_fit, outputs_step, with_piece, piece_step, body_step, quotation_step, part_step, mark_of, defined_form, behind_step, unmarked, form_before, next_state, ended_form, Answers, AnswersItems, Takes};
+ghost use Rattle.fac_parse.specs.inner.Reader.{step, top_step, names_step, colon_step, named_step, inputs_step, is_fit, outputs_step, with_piece, piece_step, body_step, quotation_step, part_step, mark_of, defined_form, behind_step, unmarked, form_before, next_state, ended_form, last_forms, Answers, AmongInputs, AmongOutputs, AnswersPiece, AnswersItems, Takes, Finishes};
 ghost use Rattle.fac_parse.specs.Spellings.{token_spelling};
 
 use crate::spelling::{Spelling, classify, closes_quotation, is_semicolon, names_a_value};
@@ -122,6 +122,17 @@ pub enum State {
     Inside(Part),
 }
 
+/// What a token does among the inputs or the outputs of an effect.
+#[derive(Clone, Copy)]
+pub enum AmongNames {
+    /// It is one more of them.
+    Adds,
+    /// It ends them.
+    Ends,
+    /// It may not stand there.
+    Refused,
+}
+
 /// What a token does.
 #[derive(Drop)]
 pub enum Taken {
@@ -171,6 +182,13 @@ fn take_at_top(alloc: Global, token: &Token) -> Result<Taken, ParseFault>
     }
 }
 
+// Adds a copy of a token.
+fn add_token(alloc: Global, tokens: &mut List<Token>, token: &Token) -> Result<(), Memory>
+    ensures { OnOk result (tokens.new ≡ tokens.old ++ token.now ∷ []) }
+{
+    tokens.push(token.copy(alloc)?)
+}
+
 // Takes a token among the names of a `USING:`.
 fn take_vocab(
     alloc: Global,
@@ -182,7 +200,7 @@ fn take_vocab(
 {
     match classify(&token.kind) {
         Spelling::Name => {
-            names.push(token.copy(alloc)?)?;
+            add_token(alloc, &mut names, token)?;
             Ok(Taken::Goes(Part::Names { opens, names }))
         }
         Spelling::Semi => Ok(Taken::Ends(Form::Using {
@@ -224,6 +242,23 @@ fn take_start(alloc: Global, opens: Place, name: Token, token: &Token) -> Result
     }
 }
 
+// What a token does among the inputs of an effect.
+fn among_inputs(token: &Token) -> AmongNames
+    ensures { AmongInputs (token_spelling token.now.kind) token.now result }
+{
+    match classify(&token.kind) {
+        Spelling::Name => {
+            if names_a_value(token) {
+                AmongNames::Adds
+            } else {
+                AmongNames::Refused
+            }
+        }
+        Spelling::Dashes => AmongNames::Ends,
+        _ => AmongNames::Refused,
+    }
+}
+
 // Takes a token among the inputs of an effect.
 fn take_input(
     alloc: Global,
@@ -233,22 +268,18 @@ fn take_input(
 ) -> Result<Taken, ParseFault>
     ensures { Answers (inputs_step head ins (token_spelling token.now.kind) token.now) result }
 {
-    match classify(&token.kind) {
-        Spelling::Name => {
-            if names_a_value(token) {
-                ins.push(token.copy(alloc)?)?;
-                Ok(Taken::Goes(Part::Inputs { head, ins }))
-            } else {
-                Err(refused())
-            }
+    match among_inputs(token) {
+        AmongNames::Adds => {
+            add_token(alloc, &mut ins, token)?;
+            Ok(Taken::Goes(Part::Inputs { head, ins }))
         }
-        Spelling::Dashes => Ok(Taken::Goes(Part::Outputs {
+        AmongNames::Ends => Ok(Taken::Goes(Part::Outputs {
             head,
             ins,
             dashes: token.place,
             outs: List::new(alloc),
         })),
-        _ => Err(refused()),
+        AmongNames::Refused => Err(refused()),
     }
 }
 
@@ -257,6 +288,29 @@ fn fits(ins: &List<Token>, outs: &List<Token>) -> bool
     ensures { result ≡ is_fit ins.now outs.now }
 {
     ins.len() as u64 + outs.len() as u64 <= MOST_NAMES
+}
+
+// What a token does among the outputs of an effect.
+fn among_outputs(ins: &List<Token>, outs: &List<Token>, token: &Token) -> AmongNames
+    ensures { AmongOutputs ins.now outs.now (token_spelling token.now.kind) token.now result }
+{
+    match classify(&token.kind) {
+        Spelling::Name => {
+            if names_a_value(token) {
+                AmongNames::Adds
+            } else {
+                AmongNames::Refused
+            }
+        }
+        Spelling::Closes => {
+            if fits(ins, outs) {
+                AmongNames::Ends
+            } else {
+                AmongNames::Refused
+            }
+        }
+        _ => AmongNames::Refused,
+    }
 }
 
 // Takes a token among the outputs of an effect.
@@ -270,47 +324,39 @@ fn take_output(
 ) -> Result<Taken, ParseFault>
     ensures { Answers (outputs_step head ins dashes outs (token_spelling token.now.kind) token.now) result }
 {
-    match classify(&token.kind) {
-        Spelling::Name => {
-            if names_a_value(token) {
-                outs.push(token.copy(alloc)?)?;
-                Ok(Taken::Goes(Part::Outputs {
-                    head,
+    match among_outputs(&ins, &outs, token) {
+        AmongNames::Adds => {
+            add_token(alloc, &mut outs, token)?;
+            Ok(Taken::Goes(Part::Outputs {
+                head,
+                ins,
+                dashes,
+                outs,
+            }))
+        }
+        AmongNames::Ends => {
+            let Head {
+                opens,
+                name,
+                starts,
+            } = head;
+            Ok(Taken::Goes(Part::Body {
+                opens,
+                name,
+                effect: WrittenEffect {
+                    opens: starts,
                     ins,
                     dashes,
                     outs,
-                }))
-            } else {
-                Err(refused())
-            }
+                    closes: token.place,
+                },
+                items: Items {
+                    pieces: List::new(alloc),
+                    depth: 0,
+                },
+            }))
         }
-        Spelling::Closes => {
-            if fits(&ins, &outs) {
-                let Head {
-                    opens,
-                    name,
-                    starts,
-                } = head;
-                Ok(Taken::Goes(Part::Body {
-                    opens,
-                    name,
-                    effect: WrittenEffect {
-                        opens: starts,
-                        ins,
-                        dashes,
-                        outs,
-                        closes: token.place,
-                    },
-                    items: Items {
-                        pieces: List::new(alloc),
-                        depth: 0,
-                    },
-                }))
-            } else {
-                Err(refused())
-            }
-        }
-        _ => Err(refused()),
+        AmongNames::Refused => Err(refused()),
     }
 }
 
@@ -323,6 +369,45 @@ fn with(items: Items, piece: Piece, depth: u32) -> Result<Items, Memory>
     Ok(Items { pieces, depth })
 }
 
+// The piece that a token of this spelling is among items, where so many quotations may be open, and how many are open behind it.
+fn next_piece(
+    alloc: Global,
+    most: u32,
+    items: &Items,
+    spelling: Spelling,
+    token: &Token,
+) -> Result<(Piece, u32), ParseFault>
+    ensures { AnswersPiece (piece_step most items.now spelling token.now) items.now result }
+{
+    match spelling {
+        Spelling::Integer(value) => {
+            let item = Term::Integer(token.copy(alloc)?, value);
+            Ok((Piece::Item(item), items.depth))
+        }
+        Spelling::Name => {
+            let item = Term::Name(token.copy(alloc)?);
+            Ok((Piece::Item(item), items.depth))
+        }
+        Spelling::True => Ok((Piece::Item(Term::True(token.place)), items.depth)),
+        Spelling::False => Ok((Piece::Item(Term::False(token.place)), items.depth)),
+        Spelling::OpensQuotation => {
+            if items.depth < most {
+                Ok((Piece::Opens(token.place), items.depth + 1))
+            } else {
+                Err(refused())
+            }
+        }
+        Spelling::ClosesQuotation => {
+            if 0 < items.depth {
+                Ok((Piece::Closes(token.place), items.depth - 1))
+            } else {
+                Err(refused())
+            }
+        }
+        _ => Err(refused()),
+    }
+}
+
 // Takes a token of this spelling among items, where so many quotations may be open.
 fn take_piece(
     alloc: Global,
@@ -333,33 +418,9 @@ fn take_piece(
 ) -> Result<Items, ParseFault>
     ensures { AnswersItems (piece_step most items spelling token.now) result }
 {
-    let depth = items.depth;
-    match spelling {
-        Spelling::Integer(value) => {
-            let item = Term::Integer(token.copy(alloc)?, value);
-            Ok(with(items, Piece::Item(item), depth)?)
-        }
-        Spelling::Name => {
-            let item = Term::Name(token.copy(alloc)?);
-            Ok(with(items, Piece::Item(item), depth)?)
-        }
-        Spelling::True => Ok(with(items, Piece::Item(Term::True(token.place)), depth)?),
-        Spelling::False => Ok(with(items, Piece::Item(Term::False(token.place)), depth)?),
-        Spelling::OpensQuotation => {
-            if depth < most {
-                Ok(with(items, Piece::Opens(token.place), depth + 1)?)
-            } else {
-                Err(refused())
-            }
-        }
-        Spelling::ClosesQuotation => {
-            if 0 < depth {
-                Ok(with(items, Piece::Closes(token.place), depth - 1)?)
-            } else {
-                Err(refused())
-            }
-        }
-        _ => Err(refused()),
+    match next_piece(alloc, most, &items, spelling, token) {
+        Ok((piece, depth)) => Ok(with(items, piece, depth)?),
+        Err(fault) => Err(fault),
     }
 }
 
@@ -510,15 +571,11 @@ fn take_behind(
 ) -> Result<State, ParseFault>
     ensures { Takes (form_before (State.Behind definition) token.now) (step (State.Behind definition) token.now) forms.old forms.new result }
 {
-    match mark(token) {
-        Some(mark) => {
-            forms.push(defined(definition, Some(mark)))?;
-            Ok(State::Top)
-        }
-        None => {
-            forms.push(defined(definition, None))?;
-            take_outside(alloc, forms, token)
-        }
+    let mark = mark(token);
+    forms.push(defined(definition, mark))?;
+    match mark {
+        Some(_) => Ok(State::Top),
+        None => take_outside(alloc, forms, token),
     }
 }
 
@@ -538,6 +595,20 @@ fn take_token(
             Ok(taken) => Ok(add(forms, taken)?),
             Err(fault) => Err(fault),
         },
+    }
+}
+
+// The forms with those that end where the tokens end.
+fn finished(mut forms: List<Form>, state: State) -> Result<List<Form>, ParseFault>
+    ensures { Finishes forms (last_forms state) result }
+{
+    match state {
+        State::Top => Ok(forms),
+        State::Behind(definition) => {
+            forms.push(defined(definition, None))?;
+            Ok(forms)
+        }
+        State::Inside(_) => Err(refused()),
     }
 }
 
@@ -565,18 +636,11 @@ pub fn parse(alloc: Global, tokens: &List<Token>) -> Result<Tree, ParseFault>
             Err(fault) => return Err(fault),
         }
     }
-    match state {
-        State::Top => Ok(Tree {
+    match finished(forms, state) {
+        Ok(forms) => Ok(Tree {
             file: file(tokens.as_slice()),
             forms,
         }),
-        State::Behind(definition) => {
-            forms.push(defined(definition, None))?;
-            Ok(Tree {
-                file: file(tokens.as_slice()),
-                forms,
-            })
-        }
-        State::Inside(_) => Err(refused()),
+        Err(fault) => Err(fault),
     }
 }

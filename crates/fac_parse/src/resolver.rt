@@ -1,9 +1,10 @@
 //! Names to words.
-ghost use Rattle.std.specs.Prelude.{◌≡◌, ◌<◌, ◌-◌, ◌++◌, ◌∷◌, [], length, IfOk, OnOk};
+ghost use Rattle.std.specs.Prelude.{◌≡◌, ◌<◌, ◌-◌, ◌++◌, ◌∷◌, [], codes, length, IfOk, OnOk};
 ghost use Rattle.fac_lang.specs.Forms.{IsBuilt};
+ghost use Rattle.fac_lang.specs.View.{items_text};
 ghost use Rattle.fac_lang.specs.Whole.{IsWhole};
-ghost use Rattle.fac_parse.specs.Resolution.{name_fault, defined_word, Resolves};
-ghost use Rattle.fac_parse.specs.inner.Resolver.{Uses, TakesItem, Closes, IsClosable, TakesPiece, AreClosed, ReadsText, TakesQuotation, Defines, TakesForm, IsFirst, ReadsForms, program_with};
+ghost use Rattle.fac_parse.specs.Resolution.{known_words, first_names, name_fault, defined_word, top_word, Resolves};
+ghost use Rattle.fac_parse.specs.inner.Resolver.{Uses, TakesItem, Closes, IsClosable, TakesPiece, AreClosed, ReadsText, TakesQuotation, Defines, TakesForm, IsFirst, TakesForms, ReadsForms, program_with};
 ghost use Rattle.fac_parse.specs.Trees.{AreItems, most_levels, IsForm, IsWellFormed};
 
 use crate::built_words::{defined, first_words, phrase_word};
@@ -322,20 +323,56 @@ fn take_form(alloc: Global, so_far: &mut SoFar, form: &Form) -> Result<(), Resol
     }
 }
 
+// The vocabularies that are used before the first form.
+fn first_used(alloc: Global) -> Result<TextSet, Memory>
+    ensures { IfOk result (λ used. used ≡ codes "syntax" ∷ []) }
+{
+    let mut used = TextSet::new(alloc);
+    used.add(alloc, "syntax")?;
+    Ok(used)
+}
+
+// The words that there are before the first form, and their names.
+fn first_known(alloc: Global) -> Result<(List<WordDef>, KnownNames), Memory>
+    ensures words { IfOk result (λ known. known.0 ≡ known_words) }
+    ensures names { IfOk result (λ known. known.1 ≡ first_names) }
+{
+    let words = first_words(alloc)?;
+    match KnownNames::new(alloc, words.as_slice()) {
+        Ok(names) => Ok((words, names)),
+        Err(Memory) => Err(Memory),
+    }
+}
+
 // What there is before the first form.
 fn first(alloc: Global) -> Result<SoFar, Memory>
     ensures { IfOk result (λ so_far. IsFirst so_far) }
 {
-    let mut used = TextSet::new(alloc);
-    used.add(alloc, "syntax")?;
-    let words = first_words(alloc)?;
-    let names = KnownNames::new(alloc, words.as_slice())?;
-    Ok(SoFar {
-        used,
-        names,
-        words,
-        items: Vec::new(alloc),
-    })
+    let used = first_used(alloc)?;
+    match first_known(alloc) {
+        Ok((words, names)) => Ok(SoFar {
+            used,
+            names,
+            words,
+            items: Vec::new(alloc),
+        }),
+        Err(Memory) => Err(Memory),
+    }
+}
+
+// Takes all forms of a file.
+fn take_forms(alloc: Global, so_far: &mut SoFar, forms: &[Form]) -> Result<(), ResolveFault>
+    requires well_formed { IsWellFormed forms.now }
+    requires first { IsFirst so_far.old }
+    ensures { TakesForms forms.now so_far.new result }
+{
+    for form in forms {
+        match take_form(alloc, so_far, form) {
+            Ok(()) => {}
+            Err(fault) => return Err(fault),
+        }
+    }
+    Ok(())
 }
 
 // What the forms of a file make.
@@ -344,13 +381,17 @@ fn read_forms(alloc: Global, forms: &[Form]) -> Result<SoFar, ResolveFault>
     ensures { ReadsForms forms.now result }
 {
     let mut so_far = first(alloc)?;
-    for form in forms {
-        match take_form(alloc, &mut so_far, form) {
-            Ok(()) => {}
-            Err(fault) => return Err(fault),
-        }
+    match take_forms(alloc, &mut so_far, forms) {
+        Ok(()) => Ok(so_far),
+        Err(fault) => Err(fault),
     }
-    Ok(so_far)
+}
+
+// Adds the word of the top-level phrase.
+fn add_phrase(alloc: Global, words: &mut List<WordDef>, body: Phrase) -> Result<(), Memory>
+    ensures { OnOk result (words.new ≡ words.old ++ top_word body ∷ []) }
+{
+    words.push(phrase_word(alloc, body)?)
 }
 
 // The program of words and a top-level phrase.
@@ -358,8 +399,7 @@ fn with_phrase(alloc: Global, mut words: List<WordDef>, body: Phrase) -> Result<
     ensures { IfOk result (λ program. program ≡ program_with words body) }
 {
     let top = words.len();
-    let phrase = phrase_word(alloc, body)?;
-    words.push(phrase)?;
+    add_phrase(alloc, &mut words, body)?;
     Ok(Program {
         words,
         arrays: List::new(alloc),
@@ -368,15 +408,32 @@ fn with_phrase(alloc: Global, mut words: List<WordDef>, body: Phrase) -> Result<
     })
 }
 
+// The words and the items of what a file made.
+fn contents(so_far: SoFar) -> (List<WordDef>, Vec<Item>)
+    ensures words { result.0 ≡ so_far.words }
+    ensures items { result.1.items ≡ so_far.items.items }
+{
+    let SoFar { words, items, .. } = so_far;
+    (words, items)
+}
+
+// The program of what a file made.
+fn completed(alloc: Global, so_far: SoFar) -> Result<Program, Memory>
+    ensures { IfOk result (λ program. program ≡ program_with so_far.words (items_text so_far.items.items)) }
+{
+    let (words, items) = contents(so_far);
+    with_phrase(alloc, words, Phrase { items })
+}
+
 // The program of a file's forms.
 fn program_of(alloc: Global, forms: &[Form]) -> Result<Program, ResolveFault>
     requires { IsWellFormed forms.now }
     ensures { Resolves forms.now result }
 {
-    let so_far = read_forms(alloc, forms)?;
-    let SoFar { words, items, .. } = so_far;
-    let program = with_phrase(alloc, words, Phrase { items })?;
-    Ok(program)
+    match read_forms(alloc, forms) {
+        Ok(so_far) => Ok(completed(alloc, so_far)?),
+        Err(fault) => Err(fault),
+    }
 }
 
 /// The program of a tree: the primitive words that are built, numbered from 0 in the order of their table, then the core words, then the

@@ -1,5 +1,6 @@
 //! What a token is to the grammar.
-ghost use Rattle.std.specs.Prelude.{◌≡◌, codes};
+ghost use Rattle.std.specs.Prelude.{◌≡◌, codes, map};
+ghost use Rattle.std.specs.List.{list_any};
 ghost use Rattle.std.specs.Str.{bytes_eq};
 ghost use Rattle.fac_parse.specs.Spellings.{is_reserved_sign, is_reserved_form, is_reserved_word, is_left_out, is_reserved, word_spelling, spelling_of, token_spelling, is_semi, is_closing, is_row_name, is_described_name, is_value_name};
 ghost use Rattle.fac_parse.specs.Trees.{token_text};
@@ -42,109 +43,72 @@ pub enum Spelling {
     Other,
 }
 
+// Signs that are never names.
+#[rattlefmt::skip]
+static SIGNS: [&str; 20] = [
+    ";", "[", "]", "{", "}", "(", ")", "--", "|", "=>",
+    ":", "::", ":>", "\\", "t", "f", "_", "@", "[|", "'[",
+];
+
+// Words that begin forms, and the like.
+#[rattlefmt::skip]
+static FORMS: [&str; 17] = [
+    "IN:", "USE:", "USING:", "FROM:", "QUALIFIED-WITH:", "DEFER:", "SYMBOL:", "MAIN:", "<PRIVATE",
+    "PRIVATE>", "CONSTANT:", "TUPLE:", "UNION:", "SINGLETON:", "C:", "GENERIC:", "M:",
+];
+
+// Words that stand behind definitions, or are followed by an effect.
+#[rattlefmt::skip]
+static MARKS: [&str; 7] = [
+    "inline", "recursive", "call(", "execute(", "call-next-method", "foldable", "flushable",
+];
+
+// What Factor has and this profile leaves out.
+#[rattlefmt::skip]
+static LEFT_OUT: [&str; 26] = [
+    "SYNTAX:", "MACRO:", "MACRO::", "MEMO:", "MEMO::", "PREDICATE:", "MIXIN:", "INSTANCE:", "GENERIC#:",
+    "HOOK:", "MATH:", "ERROR:", "ALIAS:", "SYMBOLS:", "SINGLETONS:", "QUALIFIED:", "EXCLUDE:", "RENAME:",
+    "POSTPONE:", "M::", "[let", "V{", "H{", "T{", "CHAR:", "#!",
+];
+
+// Whether a text is one of these.
+fn is_one_of(text: &str, table: &[&str]) -> bool
+    ensures { result ≡ list_any (bytes_eq text.now) (map (λ entry. entry.now) table.now) }
+{
+    for entry in table {
+        if text == *entry {
+            return true;
+        }
+    }
+    false
+}
+
 #[tactic(auto, unfolding(crate::specs::Spellings::is_reserved_sign))]
 fn is_sign(text: &str) -> bool
     ensures { result ≡ is_reserved_sign text.now }
 {
-    matches!(
-        text,
-        ";" | "["
-            | "]"
-            | "{"
-            | "}"
-            | "("
-            | ")"
-            | "--"
-            | "|"
-            | "=>"
-            | ":"
-            | "::"
-            | ":>"
-            | "\\"
-            | "t"
-            | "f"
-            | "_"
-            | "@"
-            | "[|"
-            | "'["
-    )
+    is_one_of(text, &SIGNS)
 }
 
 #[tactic(auto, unfolding(crate::specs::Spellings::is_reserved_form))]
 fn is_form(text: &str) -> bool
     ensures { result ≡ is_reserved_form text.now }
 {
-    matches!(
-        text,
-        "IN:"
-            | "USE:"
-            | "USING:"
-            | "FROM:"
-            | "QUALIFIED-WITH:"
-            | "DEFER:"
-            | "SYMBOL:"
-            | "MAIN:"
-            | "<PRIVATE"
-            | "PRIVATE>"
-            | "CONSTANT:"
-            | "TUPLE:"
-            | "UNION:"
-            | "SINGLETON:"
-            | "C:"
-            | "GENERIC:"
-            | "M:"
-    )
+    is_one_of(text, &FORMS)
 }
 
 #[tactic(auto, unfolding(crate::specs::Spellings::is_reserved_word))]
 fn is_mark(text: &str) -> bool
     ensures { result ≡ is_reserved_word text.now }
 {
-    matches!(
-        text,
-        "inline"
-            | "recursive"
-            | "call("
-            | "execute("
-            | "call-next-method"
-            | "foldable"
-            | "flushable"
-    )
+    is_one_of(text, &MARKS)
 }
 
 #[tactic(auto, unfolding(crate::specs::Spellings::is_left_out))]
 fn is_absent(text: &str) -> bool
     ensures { result ≡ is_left_out text.now }
 {
-    matches!(
-        text,
-        "SYNTAX:"
-            | "MACRO:"
-            | "MACRO::"
-            | "MEMO:"
-            | "MEMO::"
-            | "PREDICATE:"
-            | "MIXIN:"
-            | "INSTANCE:"
-            | "GENERIC#:"
-            | "HOOK:"
-            | "MATH:"
-            | "ERROR:"
-            | "ALIAS:"
-            | "SYMBOLS:"
-            | "SINGLETONS:"
-            | "QUALIFIED:"
-            | "EXCLUDE:"
-            | "RENAME:"
-            | "POSTPONE:"
-            | "M::"
-            | "[let"
-            | "V{"
-            | "H{"
-            | "T{"
-            | "CHAR:"
-            | "#!"
-    )
+    is_one_of(text, &LEFT_OUT)
 }
 
 #[tactic(auto, unfolding(crate::specs::Spellings::is_reserved))]

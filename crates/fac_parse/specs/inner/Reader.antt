@@ -20,6 +20,8 @@ use Rattle.fac_parse.specs.declared.reader.Part.TheVariants as part
 use Rattle.fac_parse.specs.declared.reader.Definition.{Definition}
 use Rattle.fac_parse.specs.declared.reader.State.{State}
 use Rattle.fac_parse.specs.declared.reader.State.TheVariants.{Top, Behind, Inside}
+use Rattle.fac_parse.specs.declared.reader.AmongNames.{AmongNames}
+use Rattle.fac_parse.specs.declared.reader.AmongNames.TheVariants as among
 use Rattle.fac_parse.specs.declared.reader.Taken.{Taken}
 use Rattle.fac_parse.specs.declared.reader.Taken.TheVariants.{Goes, Ends, Completes}
 use Rattle.fac_parse.specs.declared.reader.ParseFault.{ParseFault}
@@ -185,6 +187,25 @@ Answers s (Ok taken) = s ≡ Some taken
 Answers s (Err (Syntax at w)) = (s ≡ None) × (at ≡ 0) × (w ≡ why.Other)
 Answers s (Err Memory) = Unit {0}
 
+-- what a token does among the inputs of an effect
+abbrev pub AmongInputs : Spelling → Token → AmongNames → Type 0
+AmongInputs s t among.Adds = (head : Head) (ins : List Token) → inputs_step head ins s t ≡ Some (Goes (part.Inputs head (ins ++ t ∷ [])))
+AmongInputs s t among.Ends = (head : Head) (ins : List Token) → inputs_step head ins s t ≡ Some (Goes (part.Outputs head ins t.place []))
+AmongInputs s t among.Refused = (head : Head) (ins : List Token) → inputs_step head ins s t ≡ None
+
+-- what a token does among the outputs of an effect with these inputs, behind these outputs
+abbrev pub AmongOutputs : List Token → List Token → Spelling → Token → AmongNames → Type 0
+AmongOutputs ins outs s t among.Adds = (head : Head) (dashes : Place) → outputs_step head ins dashes outs s t ≡ Some (Goes (part.Outputs head ins dashes (outs ++ t ∷ [])))
+AmongOutputs ins outs s t among.Ends =
+    (head : Head) (dashes : Place) → outputs_step head ins dashes outs s t ≡ Some (Goes (part.Body head.opens head.name (written head.starts ins dashes outs t.place) no_items))
+AmongOutputs ins outs s t among.Refused = (head : Head) (dashes : Place) → outputs_step head ins dashes outs s t ≡ None
+
+-- what the piece that a token is among items answers
+abbrev pub AnswersPiece : Option Items → Items → Result (Piece × ℕ) ParseFault → Type 0
+AnswersPiece s items (Ok next) = s ≡ Some (with_piece items next.0 next.1)
+AnswersPiece s items (Err (Syntax at w)) = (s ≡ None) × (at ≡ 0) × (w ≡ why.Other)
+AnswersPiece s items (Err Memory) = Unit {0}
+
 -- what a token among items answers
 abbrev pub AnswersItems : Option Items → Result Items ParseFault → Type 0
 AnswersItems s (Ok items) = s ≡ Some items
@@ -196,3 +217,9 @@ abbrev pub Takes : List Form → Step → List Form → List Form → Result Sta
 Takes before s old new (Ok next) = IsSomeAnd s (λ taken. (next_state taken ≡ next) × (new ≡ old ++ (before ++ ended_form taken)))
 Takes before s old new (Err (Syntax at w)) = (s ≡ None) × (at ≡ 0) × (w ≡ why.Other)
 Takes before s old new (Err Memory) = Unit {0}
+
+-- what the end of the tokens answers, and what it adds to the forms
+abbrev pub Finishes : List Form → Option (List Form) → Result (List Form) ParseFault → Type 0
+Finishes old s (Ok new) = IsSomeAnd s (λ last. new ≡ old ++ last)
+Finishes old s (Err (Syntax at w)) = (s ≡ None) × (at ≡ 0) × (w ≡ why.Other)
+Finishes old s (Err Memory) = Unit {0}

@@ -161,6 +161,11 @@ ReadsForms forms (Ok s) = after_made known_words [] (file_contents forms) ≡ Ok
 ReadsForms forms (Err (Name fault)) = file_contents forms ≡ Err fault
 ReadsForms forms (Err Memory) = Unit {0}
 
+-- what taking all forms answers, with what was made after it
+abbrev pub TakesForms : List Form → SoFar → Result Unit ResolveFault → Type 0
+TakesForms forms s_then (Ok done) = ReadsForms forms (Ok s_then)
+TakesForms forms s_then (Err fault) = ReadsForms forms (Err fault)
+
 -- the program of these words and this top-level phrase
 abbrev pub program_with : List WordDef → Text → Program
 program_with words text = record { words = words ++ top_word text ∷ []; arrays = []; classes = []; top = length words }

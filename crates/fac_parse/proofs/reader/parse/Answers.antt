@@ -1,10 +1,10 @@
-use Rattle.std.proofs.Common.{arith, ◌≡◌, suc, ◌+◌, add-one, List, [], ◌∷◌, drop, drop-cons, Some, Err, None, refl, sym, ◌∙◌, ap, subst}
+use Rattle.std.proofs.Common.{arith, ◌≡◌, suc, ◌+◌, add-one, List, [], ◌∷◌, drop, drop-cons, Err, sym, ◌∙◌, ap, subst}
 use Rattle.std.proofs.lemmas.Grind.{common_steps}
 use Rattle.fac_lang.specs.declared.token.Token.{Token}
 use Rattle.fac_parse.specs.Trees.{Parses, file_of}
 use Rattle.fac_parse.specs.declared.reader.State.TheVariants.{Top}
 use Rattle.fac_parse.specs.inner.Reader.{forms_from}
-use Rattle.fac_parse.proofs.ParseLemmas.{read_is_tree, no_tree, token_fails, token_taken, ends_behind}
+use Rattle.fac_parse.proofs.ParseLemmas.{read_is_tree, token_fails, token_taken, tokens_end, end_fails}
 use Rattle.fac_parse.proofs.reader.parse.Goals as goal
 
 pub loop-token-preserved : goal.loop-token-preserved
@@ -24,20 +24,17 @@ returns-in-Err c =
     let fails = token_fails c.in-Err.fault items (drop (suc i) items) t c.loop-token.state c.loop-token.forms c.take_token.new.forms i c.loop-token.invariant next c.in-Err.ensures in
     subst (λ (ts : List Token). Parses ts (Err c.in-Err.fault)) c.as_slice-token-items.ensures fails
 
-pub returns-in-Top : goal.returns-in-Top
-returns-in-Top c =
-    let read : forms_from Top c.args.tokens.now ≡ Some c.loop-token.forms = grind (arith, common_steps) in
-    (read_is_tree c.args.tokens.now c.loop-token.forms read, c.file.ensures ∙ ap file_of c.as_slice.ensures)
-
-pub returns-in-Inside : goal.returns-in-Inside
-returns-in-Inside c =
-    let read : forms_from Top c.args.tokens.now ≡ None = grind (arith, common_steps) in
-    rw c.refused.ensures (refl, refl, no_tree c.args.tokens.now read)
-
-pub returns-in_ok-push-in-Behind : goal.returns-in_ok-push-in-Behind
-returns-in_ok-push-in-Behind c =
+pub returns-in-Ok-finished : goal.returns-in-Ok-finished
+returns-in-Ok-finished c =
     let items = c.as_slice-token-items.result.now in
     let l = c.loop-token in
     let none : drop l.token-index items ≡ [] = grind (arith, common_steps) in
-    let read = ends_behind items l.state c.in-Behind.definition c.defined.result l.forms c.push.new.self l.token-index l.invariant none c.in-Behind.is c.defined.ensures c.in_ok-push-in-Behind.ensures.ok in
-    (read_is_tree c.args.tokens.now c.push.new.self (ap (λ (ts : List Token). forms_from Top ts) (sym c.as_slice-token-items.ensures) ∙ read), c.file-in-Behind.ensures ∙ ap file_of c.as_slice-in-Behind.ensures)
+    let read = tokens_end items l.state l.forms c.in-Ok-finished.forms l.token-index l.invariant none c.in-Ok-finished.ensures in
+    (read_is_tree c.args.tokens.now c.in-Ok-finished.forms (ap (λ (ts : List Token). forms_from Top ts) (sym c.as_slice-token-items.ensures) ∙ read), c.file.ensures ∙ ap file_of c.as_slice.ensures)
+
+pub returns-in-Err-finished : goal.returns-in-Err-finished
+returns-in-Err-finished c =
+    let items = c.as_slice-token-items.result.now in
+    let l = c.loop-token in
+    let none : drop l.token-index items ≡ [] = grind (arith, common_steps) in
+    subst (λ (ts : List Token). Parses ts (Err c.in-Err-finished.fault)) c.as_slice-token-items.ensures (end_fails c.in-Err-finished.fault items l.state l.forms l.token-index l.invariant none c.in-Err-finished.ensures)

@@ -2,7 +2,7 @@ use Rattle.std.proofs.Common.{arith, ◌≡◌, suc, [], ◌∷◌, drop, drop-c
 use Rattle.std.proofs.lemmas.Grind.{common_steps}
 use Rattle.fac_lang.specs.declared.tree.Form.{Form}
 use Rattle.fac_parse.proofs.ResolutionLemmas.{form_at, form_fails, forms_end}
-use Rattle.fac_parse.proofs.resolver.read_forms.Goals as goal
+use Rattle.fac_parse.proofs.resolver.take_forms.Goals as goal
 
 pub returns-in-Err : goal.returns-in-Err
 returns-in-Err c =
@@ -23,4 +23,4 @@ take_form-requires c =
     let i = c.loop-form.form-index in
     let f = c.form-item.result in
     let next : drop i forms ≡ f ∷ drop (suc i) forms = drop-cons forms i f c.loop-form-test.true ∙ ap (λ (g : Form). g ∷ drop (suc i) forms) (sym c.form-item.is) in
-    form_at forms (drop (suc i) forms) f i c.requires next
+    form_at forms (drop (suc i) forms) f i c.requires.well_formed next
