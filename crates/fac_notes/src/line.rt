@@ -1,6 +1,7 @@
 //! The note of a report, a line.
 ghost use Rattle.std.specs.Prelude.{◌≡◌, ◌++◌, IfOk, OnOk};
-ghost use Rattle.fac_notes.specs.Notes.{line_of, file_name as name_of_file, place_text, value_text, bytes_line as bytes_line_of, syntax_line as syntax_line_of, name_line as name_line_of, check_line as check_line_of, error_line as error_line_of, too_long_line as too_long_line_of};
+ghost use Rattle.fac_notes.specs.Notes.{line_of, file_name as name_of_file, place_text, value_text};
+ghost use Rattle.fac_notes.specs.Notes.{bytes_line as bytes_line_of, syntax_line as syntax_line_of, name_line as name_line_of, check_line as check_line_of, error_line as error_line_of, too_long_line as too_long_line_of};
 
 use crate::rows::{byte_fault, error, name_kind, push_number, push_rule, why};
 use crate::word_names::push_name;

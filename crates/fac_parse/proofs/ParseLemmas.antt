@@ -1,5 +1,5 @@
 -- The parser's reading of tokens is their tree.
-use Rattle.std.proofs.Common.{◌≡◌, ℕ, ◌≤◌, ◌+◌, ◌-◌, Bool, true, false, cond, ◌&&◌, List, [], ◌∷◌, ◌++◌, length, Option, Some, None, Ok, Err, drop, refl, ap, sym, ◌∙◌, subst, append_assoc, arith}
+use Rattle.std.proofs.Common.{◌≡◌, ℕ, ◌≤◌, ◌+◌, ◌-◌, Bool, true, false, cond, ◌&&◌, List, [], ◌∷◌, ◌++◌, length, Option, Some, None, Ok, Err, ◌⊎◌, inl, inr, drop, refl, ap, sym, ◌∙◌, subst, append_assoc, arith}
 use Rattle.std.specs.Prelude.{codes, nat_eq, nat_lt}
 use Rattle.std.specs.Option.{option_map}
 use Rattle.std.proofs.lemmas.Bool.{eqb-true}
@@ -554,6 +554,15 @@ tree_is_read (f ∷ fs) h = form_read f (flatten fs) h.0 (unmarked_forms fs h.1)
 
 pub no_tree : (ts : List Token) → forms_from Top ts ≡ None → (fs : List Form) → Reads ts fs → ⊥
 no_tree ts e fs r = let back = tree_is_read fs r.fits in let same = r.spelled in cc
+
+tree_by :
+    (ts : List Token) (read : Option (List Form)) → ((fs : List Form) → read ≡ Some fs → Reads ts fs) → (read ≡ None → (fs : List Form) → Reads ts fs → ⊥) →
+    ((fs : List Form) × Reads ts fs) ⊎ ((fs : List Form) → Reads ts fs → ⊥)
+tree_by ts (Some fs) found none = inl (fs, found fs refl)
+tree_by ts None found none = inr (none refl)
+
+pub tree_or_none : (ts : List Token) → ((fs : List Form) × Reads ts fs) ⊎ ((fs : List Form) → Reads ts fs → ⊥)
+tree_or_none ts = tree_by ts (forms_from Top ts) (read_is_tree ts) (no_tree ts)
 
 pub one_tree : (fs gs : List Form) → IsWellFormed fs → IsWellFormed gs → flatten fs ≡ flatten gs → fs ≡ gs
 one_tree fs gs h k e = let f = tree_is_read fs h in let g = tree_is_read gs k in cc

@@ -20,7 +20,7 @@ use Rattle.fac_lang.specs.declared.program.WordDef.{WordDef}
 use Rattle.fac_lang.specs.declared.tree.Form.{Form}
 use Rattle.fac_parse.specs.declared.resolver.NameFault.{NameFault}
 use Rattle.fac_parse.specs.declared.resolver.ResolveFault.{ResolveFault}
-use Rattle.fac_parse.specs.Resolution.{known_words, Contents, file_contents, top_word, program_of, result_map, Resolves}
+use Rattle.fac_parse.specs.Resolution.{known_words, Contents, file_contents, top_word, program_of, result_map, resolved, Resolves}
 use Rattle.fac_parse.specs.Trees.{IsWellFormed}
 use Rattle.fac_parse.proofs.BuiltPrograms.{AreOwnWords, contents_built, program_built}
 use Rattle.fac_lang.proofs.FormsLemmas.{word_below, sort_at, top_sort, all_distinct}
@@ -302,6 +302,9 @@ program_whole_of forms (Err f) P fits e is = cc
 pub resolved_built : (forms : List Form) (e : Result Program ResolveFault) → IsWellFormed forms → Resolves forms e → IfOk e (λ P. IsBuilt P)
 resolved_built forms (Ok P) fits h = program_built_of forms (file_contents forms) P fits refl h
 resolved_built forms (Err f) fits h = tt
+
+pub resolved_are_whole : (forms : List Form) (P : Program) → IsWellFormed forms → resolved forms ≡ Ok P → IsWhole P
+resolved_are_whole forms P fits h = program_whole_of forms (file_contents forms) P fits refl h
 
 pub resolved_whole : (forms : List Form) (e : Result Program ResolveFault) → IsWellFormed forms → Resolves forms e → IfOk e (λ P. IsWhole P)
 resolved_whole forms (Ok P) fits h = program_whole_of forms (file_contents forms) P fits refl h

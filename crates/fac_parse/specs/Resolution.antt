@@ -5,6 +5,7 @@ use Rattle.fac_lang.specs.CoreWords.{built_core_words}
 use Rattle.fac_lang.specs.PrimitiveWords.{PrimitiveWord, written_effect, plain_inputs}
 use Rattle.fac_lang.specs.Primitives.{built_primitive_words}
 use Rattle.fac_lang.specs.Signatures.{Signature, signature, no_inputs, Leaving, never, leaves}
+use Rattle.fac_lang.specs.Whole.{IsWhole}
 use Rattle.fac_lang.specs.Texts.{Text, end, then as placed, Item, lit, int, yes, no, quot, word}
 use Rattle.fac_lang.specs.declared.phrase.Place.{Place}
 use Rattle.fac_lang.specs.declared.program.Name.{Name as FullName}
@@ -27,7 +28,7 @@ use Rattle.fac_parse.specs.declared.resolver.NameKind.{NameKind}
 use Rattle.fac_parse.specs.declared.resolver.NameKind.TheVariants.{Unknown, Twice, NoVocab}
 use Rattle.fac_parse.specs.declared.resolver.ResolveFault.{ResolveFault}
 use Rattle.fac_parse.specs.declared.resolver.ResolveFault.TheVariants.{Name, Memory}
-use Rattle.fac_parse.specs.Trees.{token_text}
+use Rattle.fac_parse.specs.Trees.{token_text, IsWellFormed}
 use Rattle.fac_parse.specs.Vocabularies.{is_vocabulary, with_used}
 
 -- where a word stands that no source defines
@@ -238,3 +239,7 @@ abbrev pub Resolves : List Form → Result Program ResolveFault → Type 0
 Resolves forms (Ok program) = resolved forms ≡ Ok program
 Resolves forms (Err (Name fault)) = resolved forms ≡ Err fault
 Resolves forms (Err Memory) = Unit {0}
+
+-- a program that names resolve to is whole
+abbrev pub ResolvedAreWhole : Type 0
+ResolvedAreWhole = (forms : List Form) (program : Program) → IsWellFormed forms → resolved forms ≡ Ok program → IsWhole program

@@ -1,5 +1,5 @@
 -- Trees, their tokens, and which trees are well-formed.
-use Rattle.std.specs.Prelude.{◌≡◌, ◌≤◌, ◌<◌, ◌+◌, ◌-◌, ℕ, Option, Some, None, List, [], ◌∷◌, ◌++◌, length, true, codes, Result, Ok, Err}
+use Rattle.std.specs.Prelude.{◌≡◌, ◌≤◌, ◌<◌, ◌+◌, ◌-◌, ◌⊎◌, ℕ, Option, Some, None, List, [], ◌∷◌, ◌++◌, length, true, codes, Result, Ok, Err}
 use Rattle.fac_lang.specs.declared.limits.TheConstants.{MOST_LEVELS, MOST_NAMES}
 use Rattle.fac_lang.specs.declared.phrase.Place.{Place}
 use Rattle.fac_lang.specs.declared.token.Token.{Token}
@@ -143,3 +143,7 @@ Parses tokens (Err Memory) = Unit {0}
 -- no two trees have the same tokens
 abbrev pub OneTree : Type 0
 OneTree = (forms others : List Form) → IsWellFormed forms → IsWellFormed others → flatten forms ≡ flatten others → forms ≡ others
+
+-- tokens are those of a tree, or of none
+abbrev pub TreeOrNone : Type 0
+TreeOrNone = (tokens : List Token) → ((forms : List Form) × Reads tokens forms) ⊎ ((forms : List Form) → Reads tokens forms → ⊥)

@@ -1,11 +1,22 @@
 //! Laws of the grammar, each on the contract of a function that does nothing.
 ghost use Rattle.fac_parse.specs.Spellings.{LiteralsAreIntegers};
-ghost use Rattle.fac_parse.specs.Trees.{OneTree};
+ghost use Rattle.fac_parse.specs.Resolution.{ResolvedAreWhole};
+ghost use Rattle.fac_parse.specs.Trees.{OneTree, TreeOrNone};
 ghost use Rattle.fac_parse.specs.Written.{TextsAreWrittenAsItems};
 
 /// No two trees have the same tokens.
 pub fn one_tree()
     ensures { OneTree }
+{}
+
+/// Tokens are those of a tree, or of none.
+pub fn tree_or_none()
+    ensures { TreeOrNone }
+{}
+
+/// A program that names resolve to is whole.
+pub fn resolved_programs_are_whole()
+    ensures { ResolvedAreWhole }
 {}
 
 /// A plain token is an integer exactly where the primitives on texts of numbers read its text as one, and has the same value.

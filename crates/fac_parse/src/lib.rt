@@ -10,6 +10,9 @@ mod spelling;
 mod text_set;
 mod vocabularies;
 
-pub use laws::{literals_are_integers, one_tree, texts_are_written_as_items};
+pub use laws::{
+    literals_are_integers, one_tree, resolved_programs_are_whole, texts_are_written_as_items,
+    tree_or_none,
+};
 pub use reader::{ParseFault, Why, parse};
 pub use resolver::{NameFault, NameKind, ResolveFault, resolve};

@@ -12,14 +12,16 @@ use Rattle.fac_tool.specs.Answers.{Tells, ReachesBy, Loaded, AnswersBy, TellsUsa
 
 -- a status that is neither a write fault nor want of memory is the one that was reached
 status-Tells : (n : ℕ) (names : List (List ℕ)) (reached : Ended) (notes : SinkSeen) (ended : Ended) → n ≢ 10 → n ≢ 12 → Tells names reached notes ended → ended.status ≡ n → reached.status ≡ n
-status-Tells n names reached notes ended a b (inl whole) e = ap (λ (x : Ended). x.status) (sym whole.same) ∙ e
-status-Tells n names reached notes ended a b (inr (inl part)) e = absurd (a (sym e ∙ part.status))
-status-Tells n names reached notes ended a b (inr (inr none)) e = elim none.noted [ inl noted ↦ absurd (b (sym e ∙ noted.status)) | inr part ↦ absurd (a (sym e ∙ part.status)) ]
+status-Tells n names reached notes ended a b (inl (inl whole)) e = ap (λ (x : Ended). x.status) (sym whole.same) ∙ e
+status-Tells n names reached notes ended a b (inl (inr part)) e = absurd (a (sym e ∙ part.status))
+status-Tells n names reached notes ended a b (inr none) e =
+    elim none.noted [ inl noted ↦ absurd (b (sym e ∙ ap (λ (x : Ended). x.status) noted.same)) | inr part ↦ absurd (a (sym e ∙ part.status)) ]
 
 ten_of : (names : List (List ℕ)) (reached : Ended) (notes : SinkSeen) (ended : Ended) → Tells names reached notes ended → ended.status ≡ 10 → (reached.status ≡ 10) ⊎ Rose notes.faults_before notes.faults_now
-ten_of names reached notes ended (inl whole) e = inl (ap (λ (x : Ended). x.status) (sym whole.same) ∙ e)
-ten_of names reached notes ended (inr (inl part)) e = inr part.rose
-ten_of names reached notes ended (inr (inr none)) e = elim none.noted [ inl noted ↦ absurd (omega (arith, noted.status, e)) | inr part ↦ inr part.rose ]
+ten_of names reached notes ended (inl (inl whole)) e = inl (ap (λ (x : Ended). x.status) (sym whole.same) ∙ e)
+ten_of names reached notes ended (inl (inr part)) e = inr part.rose
+ten_of names reached notes ended (inr none) e =
+    elim none.noted [ inl noted ↦ let twelve : ended.status ≡ 12 = ap (λ (x : Ended). x.status) noted.same in absurd (omega (arith, twelve, e)) | inr part ↦ inr part.rose ]
 
 -- usage and a write fault are the statuses of words that meet no form
 of_usage : (notes : SinkSeen) (ended : Ended) → TellsUsage notes ended → (ended.status ≡ 2) ⊎ ((ended.status ≡ 10) × Rose notes.faults_before notes.faults_now)

@@ -1,7 +1,6 @@
 -- The steps of a command, one behind the other.
 use Rattle.std.proofs.Common.{◌≡◌, ℕ, List, Some, None, Result, Ok, Err, refl, sym, ap, subst, inl, inr}
 use Rattle.std.specs.Result.{IsErrAnd}
-use Rattle.std.specs.declared.option.Option.{Option}
 use Rattle.fac_lang.specs.declared.program.Program.{Program}
 use Rattle.fac_lang.specs.declared.token.Token.{Token}
 use Rattle.fac_lang.specs.declared.tree.Form.{Form}
@@ -11,7 +10,7 @@ use Rattle.fac_token.specs.Tokens.{Tokenizes}
 use Rattle.fac_parse.specs.declared.reader.Why.{Why}
 use Rattle.fac_parse.specs.declared.reader.ParseFault.TheVariants.{Syntax}
 use Rattle.fac_parse.specs.Trees.{Parses}
-use Rattle.fac_parse.specs.Resolution.{resolved}
+use Rattle.fac_parse.specs.Resolution.{resolved, ResolvedAreWhole}
 use Rattle.fac_check.specs.Verdicts.{verdict}
 use Rattle.fac_check.specs.declared.accepted.Checked.{Checked}
 use Rattle.fac_check.specs.Promises.{AcceptedAreSafe}
@@ -24,11 +23,12 @@ use Rattle.fac_tool.specs.Command.{budget_of}
 use Rattle.fac_tool.specs.declared.ended.Ended.{Ended}
 use Rattle.fac_tool.specs.Answer.{no_tokens, no_tree, tree, accepted, answer_on, run_answer, on_accepted, on_resolved, on_verdict}
 use Rattle.fac_tool.specs.Sources.{token_fault, IsReadAs, EverySource}
-use Rattle.fac_tool.specs.Seen.{SinkSeen, sink_seen, FilesSeen}
+use Rattle.fac_io.specs.Told.{SinkTold}
+use Rattle.fac_tool.specs.Seen.{SinkSeen, FilesSeen}
 use Rattle.fac_tool.specs.Ends.{EndsAs, runs, work_of}
 use Rattle.fac_tool.specs.inner.Stops.{StandsForSafe}
 use Rattle.fac_tool.specs.Answers.{NoText, LoadGives, Loaded, ReachesBy}
-use Rattle.fac_tool.specs.inner.StepEnds.{bare, reported, fault_ending, EndsEarly, Steps, StepsEnd, ended_by, EndsRead, IsAcceptedText, Accepts}
+use Rattle.fac_tool.specs.inner.StepEnds.{bare, reported, still, fault_ending, EndsEarly, Steps, StepsEnd, ended_by, EndsRead, IsAcceptedText, Accepts}
 use Rattle.fac_tool.proofs.EarlyEnds.{no_memory, is_refused}
 use Rattle.fac_tool.proofs.SourceLemmas.{accepted_safe}
 
@@ -76,48 +76,55 @@ accepted_ends :
 accepted_ends command forms P out ended resolves accepts ends = rw (resolves, accepts) ends
 
 -- a text was loaded and read, and its work ended early
-pub ends_early : AcceptedAreSafe → (name : List ℕ) (command : Command) (files : FilesSeen) (text : List ℕ) (told : Option (List ℕ)) (faults : ℕ) (ended : Ended) → LoadGives name files text → EndsRead text ended → Loaded name command files (sink_seen told told faults faults) ended
-ends_early law name command files text told faults ended loads read =
+pub ends_early :
+    AcceptedAreSafe → ResolvedAreWhole → (name : List ℕ) (command : Command) (files : FilesSeen) (text : List ℕ) (told : SinkTold) (faults : ℕ) (ended : Ended) →
+    LoadGives name files text → EndsRead text ended → Loaded name command files (still told faults) ended
+ends_early law whole name command files text told faults ended loads read =
     record {
       text = text;
       source = read.source;
       loads = loads;
       is_read = read.is_read;
-      sound = accepted_safe law 1 text read.source read.is_read;
+      sound = accepted_safe law whole 1 text read.source read.is_read;
       ends = read.ends command (work_of command (accepted read.source)) told faults;
     }
 
 -- or its program was accepted, and this is how the command ended that was carried out on it
-pub ends_carried_out : AcceptedAreSafe → (name : List ℕ) (command : Command) (files : FilesSeen) (text : List ℕ) (out : SinkSeen) (checked : Checked) (ended : Ended) → LoadGives name files text → (there : IsAcceptedText text checked) → EndsAs (on_accepted command there.P) (work_of command (Some there.P)) out ended → Loaded name command files out ended
-ends_carried_out law name command files text out checked ended loads there ends =
+pub ends_carried_out :
+    AcceptedAreSafe → ResolvedAreWhole → (name : List ℕ) (command : Command) (files : FilesSeen) (text : List ℕ) (out : SinkSeen) (checked : Checked) (ended : Ended) →
+    LoadGives name files text → (there : IsAcceptedText text checked) → EndsAs (on_accepted command there.P) (work_of command (Some there.P)) out ended → Loaded name command files out ended
+ends_carried_out law whole name command files text out checked ended loads there ends =
     record {
       text = text;
       source = tree there.forms;
       loads = loads;
       is_read = there.is_read;
-      sound = accepted_safe law 1 text (tree there.forms) there.is_read;
+      sound = accepted_safe law whole 1 text (tree there.forms) there.is_read;
       ends = accepted_ends command there.forms there.P out ended there.resolves there.accepts ends;
     }
 
 -- the steps of a command: the load gave no text
-pub reaches_no_text : (name : List ℕ) (command : Command) (files : FilesSeen) (out : SinkSeen) (r : Result Ended Ended) (ended : Ended) → IsErrAnd r (λ other. other ≡ ended) → NoText name files out ended → ReachesBy name command files out (ended_by r)
+pub reaches_no_text :
+    (name : List ℕ) (command : Command) (files : FilesSeen) (out : SinkSeen) (r : Result Ended Ended) (ended : Ended) →
+    IsErrAnd r (λ other. other ≡ ended) → NoText name files out ended → ReachesBy name command files out (ended_by r)
 reaches_no_text name command files out (Ok x) ended same none = absurd same
 reaches_no_text name command files out (Err other) ended same none = inl (subst (λ (x : Ended). NoText name files out x) (sym same) none)
 
 -- or the work on it ended early
 pub reaches_early :
-    AcceptedAreSafe → (name : List ℕ) (command : Command) (files : FilesSeen) (text : List ℕ) (told : Option (List ℕ)) (faults : ℕ) (r : Result Ended Ended) (ended : Ended) → IsErrAnd r (λ other. other ≡ ended) →
-    LoadGives name files text → EndsRead text ended → ReachesBy name command files (sink_seen told told faults faults) (ended_by r)
-reaches_early law name command files text told faults (Ok x) ended same loads read = absurd same
-reaches_early law name command files text told faults (Err other) ended same loads read =
-    inr (subst (λ (x : Ended). Loaded name command files (sink_seen told told faults faults) x) (sym same) (ends_early law name command files text told faults ended loads read))
+    AcceptedAreSafe → ResolvedAreWhole → (name : List ℕ) (command : Command) (files : FilesSeen) (text : List ℕ) (told : SinkTold) (faults : ℕ) (r : Result Ended Ended) (ended : Ended) →
+    IsErrAnd r (λ other. other ≡ ended) → LoadGives name files text → EndsRead text ended → ReachesBy name command files (still told faults) (ended_by r)
+reaches_early law whole name command files text told faults (Ok x) ended same loads read = absurd same
+reaches_early law whole name command files text told faults (Err other) ended same loads read =
+    let early = ends_early law whole name command files text told faults ended loads read in
+    inr (subst (λ (x : Ended). Loaded name command files (still told faults) x) (sym same) early)
 
 -- or it was carried out
 pub reaches_end :
-    AcceptedAreSafe → (name : List ℕ) (command : Command) (files : FilesSeen) (text : List ℕ) (out : SinkSeen) (checked : Checked) (r : Result Ended Ended) → LoadGives name files text → (there : IsAcceptedText text checked) →
-    StepsEnd (on_accepted command there.P) (work_of command (Some there.P)) out r → ReachesBy name command files out (ended_by r)
-reaches_end law name command files text out checked (Ok ended) loads there ends = inr (ends_carried_out law name command files text out checked ended loads there ends)
-reaches_end law name command files text out checked (Err ended) loads there ends = inr (ends_carried_out law name command files text out checked ended loads there ends)
+    AcceptedAreSafe → ResolvedAreWhole → (name : List ℕ) (command : Command) (files : FilesSeen) (text : List ℕ) (out : SinkSeen) (checked : Checked) (r : Result Ended Ended) →
+    LoadGives name files text → (there : IsAcceptedText text checked) → StepsEnd (on_accepted command there.P) (work_of command (Some there.P)) out r → ReachesBy name command files out (ended_by r)
+reaches_end law whole name command files text out checked (Ok ended) loads there ends = inr (ends_carried_out law whole name command files text out checked ended loads there ends)
+reaches_end law whole name command files text out checked (Err ended) loads there ends = inr (ends_carried_out law whole name command files text out checked ended loads there ends)
 
 -- what a command does with an accepted program: it runs it with its budget
 pub is_run : (c : Command) (P : Program) (budget : ℕ) (out : SinkSeen) (r : Result Ended Ended) → budget ≡ budget_of c → StepsEnd (run_answer P budget) (runs P budget) out r → StepsEnd (on_accepted c P) (work_of c (Some P)) out r

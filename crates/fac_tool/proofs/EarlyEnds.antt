@@ -3,46 +3,58 @@ use Rattle.std.proofs.Common.{◌≡◌, ℕ, List, [], None, Some, refl, sym, s
 use Rattle.std.proofs.lemmas.List.{append-nil}
 use Rattle.std.specs.declared.option.Option.{Option}
 use Rattle.fac_io.specs.Faults.{Rose}
-use Rattle.fac_io.specs.Told.{Grows, Stays-same, GrowsByPrefix-stays}
+use Rattle.fac_io.specs.Told.{Grows, SinkTold, Stays-same, GrowsByPrefix-stays}
 use Rattle.fac_lang.specs.declared.program.Program.{Program}
 use Rattle.fac_notes.specs.declared.report.Report.{Report}
 use Rattle.fac_notes.specs.Statuses.{status_of}
 use Rattle.fac_tool.specs.declared.ended.Ended.{Ended}
 use Rattle.fac_tool.specs.Answer.{Answer, refused, meaning}
-use Rattle.fac_tool.specs.Seen.{SinkSeen, sink_seen}
-use Rattle.fac_tool.specs.Ends.{Ending, Told, ending_of, EndsBy, EndsAs, Work, idle, runs, run_output, StopsWithin, CutShort}
-use Rattle.fac_tool.specs.inner.StepEnds.{bare, reported, EndsEarly}
+use Rattle.fac_tool.specs.Seen.{SinkSeen}
+use Rattle.fac_tool.specs.Ends.{Ending, Told, ending_of, EndsBy, EndsAs, Work, idle, runs, run_output, StopsWithin, CutShort, RunPieces, InPieces}
+use Rattle.fac_tool.specs.inner.StepEnds.{bare, reported, still, EndsEarly}
+
+pub grows_nothing : {A : Type 0} (told : Option (List A)) → Grows told told []
+grows_nothing None = tt
+grows_nothing (Some xs) = sym (append-nil xs)
 
 -- a run that was not begun
-not_begun : (P : Program) (budget : ℕ) (told : Option (List ℕ)) (m : ℕ) → StopsWithin P budget 0 (sink_seen told told m m)
+not_begun : (P : Program) (budget : ℕ) (told : SinkTold) (m : ℕ) → StopsWithin P budget 0 (still told m)
 not_begun P budget told m =
-    record { within = omega arith; spent_before = λ some. absurd (omega (arith, some)); at_most = GrowsByPrefix-stays told told (run_output (meaning P 0)) (Stays-same told) }
+    record { within = omega arith; spent_before = λ some. absurd (omega (arith, some)); at_most = GrowsByPrefix-stays told.taken told.taken (run_output (meaning P 0)) (Stays-same told.taken) }
 
-cut_before : (work : Work) (answer : Answer) (told : Option (List ℕ)) (m : ℕ) → CutShort work answer 0 (sink_seen told told m m)
-cut_before idle answer told m = (refl, GrowsByPrefix-stays told told answer.output (Stays-same told))
+cut_before : (work : Work) (answer : Answer) (told : SinkTold) (m : ℕ) → CutShort work answer 0 (still told m)
+cut_before idle answer told m = (refl, GrowsByPrefix-stays told.taken told.taken answer.output (Stays-same told.taken))
 cut_before (runs P budget) answer told m = not_begun P budget told m
+
+-- nothing was taken of its output
+no_pieces : (work : Work) (told : SinkTold) (m : ℕ) → InPieces work 0 [] (still told m)
+no_pieces idle told m = Stays-same told.pieces
+no_pieces (runs P budget) told m = record { wrote_in = 0; within = omega arith; taken = grows_nothing told.taken; pieces = grows_nothing told.pieces }
 
 -- memory was wanted
 pub no_memory : (answer : Answer) (ended : Ended) → ended ≡ bare 12 0 → EndsEarly answer ended
-no_memory answer ended e = subst (λ (x : Ended). EndsEarly answer x) (sym e) (λ work told m. (cut_before work answer told m, record { stack = refl; refusal = refl }))
-
-grows_nothing : (told : Option (List ℕ)) → Grows told told []
-grows_nothing None = tt
-grows_nothing (Some xs) = sym (append-nil xs)
+no_memory answer ended e =
+    subst (λ (x : Ended). EndsEarly answer x) (sym e) (λ work told m. (cut_before work answer told m, record { stack = refl; refusal = refl }, no_pieces work told m))
 
 -- a refusal is the answer
 pub is_refused : (why : Report) (ended : Ended) → ending_of (status_of why) ≡ Told → ended ≡ reported 0 why → EndsEarly (refused why) ended
 is_refused why ended told_so e =
     let matches : EndsEarly (refused why) (reported 0 why) =
-    λ work told m. subst (λ (k : Ending). EndsBy k (refused why) work (sink_seen told told m m) (reported 0 why)) (sym told_so) (record { status = refl; ticks = refl; stack = refl; refusal = refl; output = grows_nothing told }) in
+    λ work told m.
+    let answered : EndsBy Told (refused why) work (still told m) (reported 0 why) = (record { status = refl; ticks = refl; stack = refl; refusal = refl; output = grows_nothing told.taken }, no_pieces work told m) in
+    subst (λ (k : Ending). EndsBy k (refused why) work (still told m) (reported 0 why)) (sym told_so) answered in
     subst (λ (x : Ended). EndsEarly (refused why) x) (sym e) matches
 
 -- a run that came so far, when memory was wanted
-pub no_memory_in_run : (P : Program) (budget : ℕ) (answer : Answer) (out : SinkSeen) (ticks : ℕ) (ended : Ended) → ended ≡ bare 12 ticks → StopsWithin P budget ticks out → EndsAs answer (runs P budget) out ended
-no_memory_in_run P budget answer out ticks ended e within =
-    subst (λ (x : Ended). EndsAs answer (runs P budget) out x) (sym e) (within, record { stack = refl; refusal = refl })
+pub no_memory_in_run :
+    (P : Program) (budget : ℕ) (answer : Answer) (out : SinkSeen) (ticks : ℕ) (ended : Ended) →
+    ended ≡ bare 12 ticks → StopsWithin P budget ticks out → RunPieces P ticks [] out → EndsAs answer (runs P budget) out ended
+no_memory_in_run P budget answer out ticks ended e within pieces =
+    subst (λ (x : Ended). EndsAs answer (runs P budget) out x) (sym e) (within, record { stack = refl; refusal = refl }, pieces)
 
 -- likewise when a write failed
-pub write_fault_in_run : (P : Program) (budget : ℕ) (answer : Answer) (out : SinkSeen) (ticks : ℕ) (ended : Ended) → ended ≡ bare 10 ticks → Rose out.faults_before out.faults_now → StopsWithin P budget ticks out → EndsAs answer (runs P budget) out ended
-write_fault_in_run P budget answer out ticks ended e rose within =
-    subst (λ (x : Ended). EndsAs answer (runs P budget) out x) (sym e) (rose, within, record { stack = refl; refusal = refl })
+pub write_fault_in_run :
+    (P : Program) (budget : ℕ) (answer : Answer) (out : SinkSeen) (ticks : ℕ) (ended : Ended) →
+    ended ≡ bare 10 ticks → Rose out.faults_before out.faults_now → StopsWithin P budget ticks out → ((last : List ℕ) × RunPieces P ticks last out) → EndsAs answer (runs P budget) out ended
+write_fault_in_run P budget answer out ticks ended e rose within pieces =
+    subst (λ (x : Ended). EndsAs answer (runs P budget) out x) (sym e) (rose, within, record { stack = refl; refusal = refl }, pieces)

@@ -20,9 +20,11 @@ use Rattle.fac_vm.specs.declared.machine.StopKind.TheVariants as stop
 use Rattle.fac_vm.specs.Machine.{empty_world}
 use Rattle.fac_vm.specs.Runs.{error_of}
 use Rattle.fac_emit.specs.View.{template_texts, value_view, values_view, error_view, option_view}
+use Rattle.fac_notes.specs.declared.report.Report.{Report}
 use Rattle.fac_notes.specs.declared.report.Report.TheVariants as report
+use Rattle.fac_tool.specs.declared.ended.Ended.{Ended}
 use Rattle.fac_tool.specs.Answer.{Answer, of_run, run_answer, shown, error_report}
-use Rattle.fac_tool.specs.Seen.{sink_seen}
+use Rattle.fac_tool.specs.Seen.{SinkSeen}
 use Rattle.fac_tool.specs.inner.Stops.{StopsAs, SameNames, value_form, value_text, machine_report}
 use Rattle.fac_tool.specs.Ends.{Matches}
 
@@ -58,19 +60,31 @@ reverse_map : {A B : Type 0} (f : A → B) (xs : List A) → reverse (map f xs) 
 reverse_map f [] = refl
 reverse_map f (x ∷ xs) = rw (reverse-cons, reverse_map f xs, reverse-cons, map-append) refl
 
-stack_texts : (P : Program) (T : List MCallable) (w : World Value) (values : List MachineValue) (stack : List MValue) (meant : List Value) → values_in T (reverse values) ≡ stack → meant ≡ values_view (template_texts P) stack → map (shown P w) (reverse meant) ≡ map value_text values
+stack_texts :
+    (P : Program) (T : List MCallable) (w : World Value) (values : List MachineValue) (stack : List MValue) (meant : List Value) →
+    values_in T (reverse values) ≡ stack → meant ≡ values_view (template_texts P) stack → map (shown P w) (reverse meant) ≡ map value_text values
 stack_texts P T w values stack meant e m =
     let view = value_view (template_texts P) in
     let upside : reverse stack ≡ values_in T values = ap reverse (sym e) ∙ reverse_map (value_in T) (reverse values) ∙ ap (map (value_in T)) (reverse-reverse values) in
     let reversed : reverse meant ≡ map view (values_in T values) = ap reverse m ∙ reverse_map view stack ∙ ap (map view) upside in
     ap (map (shown P w)) reversed ∙ texts_same P T w values
 
-pub done_matches : (P : Program) (budget : ℕ) (T : List MCallable) (values : List MachineValue) (stack : List MValue) (ticks : ℕ) (before now : Option (List ℕ)) (m n : ℕ) (texts : List (List ℕ)) → values_in T (reverse values) ≡ stack → texts ≡ map value_text values → StopsAs P budget T stack ticks before now stop.Done → Matches (run_answer P budget) (sink_seen before now m n) (record { status = 0; ticks = ticks; stack = Some texts; refusal = None })
-done_matches P budget T values stack ticks before now m n texts e t h =
+-- how a run ends that is done, with the texts of its stack
+abbrev done_with : ℕ → List (List ℕ) → Ended
+done_with ticks texts = record { status = 0; ticks = ticks; stack = Some texts; refusal = None }
+
+-- or that has this report
+abbrev reported_with : ℕ → ℕ → Report → Ended
+reported_with status ticks why = record { status = status; ticks = ticks; stack = None; refusal = Some why }
+
+pub done_matches :
+    (P : Program) (budget : ℕ) (T : List MCallable) (values : List MachineValue) (stack : List MValue) (ticks : ℕ) (out : SinkSeen) (texts : List (List ℕ)) →
+    values_in T (reverse values) ≡ stack → texts ≡ map value_text values → StopsAs P budget T stack ticks out stop.Done → Matches (run_answer P budget) out (done_with ticks texts)
+done_matches P budget T values stack ticks out texts e t h =
     let answer = ap (of_run P budget) h.2 in
-    let matches : Matches (of_run P budget (Done h.0 h.1)) (sink_seen before now m n) (record { status = 0; ticks = ticks; stack = Some texts; refusal = None }) =
+    let matches : Matches (of_run P budget (Done h.0 h.1)) out (done_with ticks texts) =
     record { status = refl; ticks = h.3; stack = ap Some (t ∙ sym (stack_texts P T h.0.world values stack h.0.stack e h.5)); refusal = refl; output = h.4 } in
-    subst (λ (a : Answer). Matches a (sink_seen before now m n) (record { status = 0; ticks = ticks; stack = Some texts; refusal = None })) (sym answer) matches
+    subst (λ (a : Answer). Matches a out (done_with ticks texts)) (sym answer) matches
 
 value_same : (P : Program) (T : List MCallable) (w : World Value) (v : Option MachineValue) → option_map (shown P w) (option_view (template_texts P) (option_map (value_in T) v)) ≡ option_map value_text v
 value_same P T w None = refl
@@ -79,16 +93,20 @@ value_same P T w (Some v) = ap Some (text_same P T w v)
 report_same : (P C : Program) (T : List MCallable) (w : World Value) (x : Error Value) (e : RunError) → SameNames P C → x ≡ error_view (template_texts P) (error_of T e) → error_report P w x ≡ machine_report C e
 report_same P C T w x e named same = rw (same, value_same, named e.word) refl
 
-pub failed_matches : (P C : Program) (budget : ℕ) (T : List MCallable) (e : RunError) (stack : List MValue) (ticks : ℕ) (before now : Option (List ℕ)) (m n : ℕ) → SameNames P C → StopsAs P budget T stack ticks before now (stop.Failed e) → Matches (run_answer P budget) (sink_seen before now m n) (record { status = 1; ticks = ticks; stack = None; refusal = Some (machine_report C e) })
-failed_matches P C budget T e stack ticks before now m n named h =
+pub failed_matches :
+    (P C : Program) (budget : ℕ) (T : List MCallable) (e : RunError) (stack : List MValue) (ticks : ℕ) (out : SinkSeen) →
+    SameNames P C → StopsAs P budget T stack ticks out (stop.Failed e) → Matches (run_answer P budget) out (reported_with 1 ticks (machine_report C e))
+failed_matches P C budget T e stack ticks out named h =
     let answer = ap (of_run P budget) h.3 in
-    let matches : Matches (of_run P budget (Failed h.0 h.1 h.2)) (sink_seen before now m n) (record { status = 1; ticks = ticks; stack = None; refusal = Some (machine_report C e) }) =
+    let matches : Matches (of_run P budget (Failed h.0 h.1 h.2)) out (reported_with 1 ticks (machine_report C e)) =
     record { status = refl; ticks = h.4; stack = refl; refusal = ap Some (sym (report_same P C T h.1.world h.0 e named h.6)); output = h.5 } in
-    subst (λ (a : Answer). Matches a (sink_seen before now m n) (record { status = 1; ticks = ticks; stack = None; refusal = Some (machine_report C e) })) (sym answer) matches
+    subst (λ (a : Answer). Matches a out (reported_with 1 ticks (machine_report C e))) (sym answer) matches
 
-pub spent_matches : (P : Program) (budget : ℕ) (T : List MCallable) (stack : List MValue) (ticks : ℕ) (before now : Option (List ℕ)) (m n : ℕ) → StopsAs P budget T stack ticks before now stop.Spent → Matches (run_answer P budget) (sink_seen before now m n) (record { status = 6; ticks = ticks; stack = None; refusal = Some (report.Spent ticks) })
-spent_matches P budget T stack ticks before now m n h =
+pub spent_matches :
+    (P : Program) (budget : ℕ) (T : List MCallable) (stack : List MValue) (ticks : ℕ) (out : SinkSeen) →
+    StopsAs P budget T stack ticks out stop.Spent → Matches (run_answer P budget) out (reported_with 6 ticks (report.Spent ticks))
+spent_matches P budget T stack ticks out h =
     let answer = ap (of_run P budget) h.2 in
-    let matches : Matches (of_run P budget (Spent h.0 h.1)) (sink_seen before now m n) (record { status = 6; ticks = ticks; stack = None; refusal = Some (report.Spent ticks) }) =
+    let matches : Matches (of_run P budget (Spent h.0 h.1)) out (reported_with 6 ticks (report.Spent ticks)) =
     record { status = refl; ticks = h.3; stack = refl; refusal = ap (λ (k : ℕ). Some (report.Spent k)) h.3; output = h.4 } in
-    subst (λ (a : Answer). Matches a (sink_seen before now m n) (record { status = 6; ticks = ticks; stack = None; refusal = Some (report.Spent ticks) })) (sym answer) matches
+    subst (λ (a : Answer). Matches a out (reported_with 6 ticks (report.Spent ticks))) (sym answer) matches

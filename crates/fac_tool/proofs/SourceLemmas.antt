@@ -1,5 +1,5 @@
 -- Every text comes to something, and to one thing; an accepted program is safe.
-use Rattle.std.proofs.Common.{◌≡◌, ℕ, List, Some, None, Result, Ok, Err, refl, sym, ap, ◌∙◌, subst, IfSome}
+use Rattle.std.proofs.Common.{◌≡◌, ℕ, List, Some, None, Result, Ok, Err, refl, sym, ap, ◌∙◌, subst, IfSome, ◌⊎◌, inl, inr}
 use Rattle.std.specs.declared.option.Option.{Option}
 use Rattle.fac_lang.specs.declared.program.Program.{Program}
 use Rattle.fac_lang.specs.declared.token.Token.{Token}
@@ -11,10 +11,8 @@ use Rattle.fac_token.specs.Tokens.{Tokenizes}
 use Rattle.fac_token.specs.ReadingLaws.{IsNotMemory, EveryFileAnswers, OneAnswer}
 use Rattle.fac_parse.specs.declared.reader.Why.TheVariants.{Other}
 use Rattle.fac_parse.specs.declared.resolver.NameFault.{NameFault}
-use Rattle.fac_parse.specs.Trees.{IsWellFormed, Reads, OneTree}
-use Rattle.fac_parse.specs.Resolution.{resolved}
-use Rattle.fac_parse.proofs.ParseLemmas as parse
-use Rattle.fac_parse.proofs.WholePrograms.{resolved_whole}
+use Rattle.fac_parse.specs.Trees.{IsWellFormed, Reads, OneTree, TreeOrNone}
+use Rattle.fac_parse.specs.Resolution.{resolved, ResolvedAreWhole}
 use Rattle.fac_check.specs.Verdicts.{Refusal, verdict}
 use Rattle.fac_check.specs.Promises.{IsSafe, AcceptedAreSafe}
 use Rattle.fac_notes.specs.declared.report.ByteFault.{ByteFault}
@@ -25,31 +23,29 @@ use Rattle.fac_tool.specs.Sources.{token_fault, IsParsedAs, IsReadAs}
 abbrev Comes : ℕ → List ℕ → Type 0
 Comes file text = (source : Source) × IsReadAs file text source
 
--- where a reader of tokens finds each tree that they have
-parsed_by :
-    (tokens : List Token) (fs : Option (List Form)) → ((forms : List Form) → fs ≡ Some forms → Reads tokens forms) →
-    (fs ≡ None → (forms : List Form) → Reads tokens forms → ⊥) → (source : Source) × IsParsedAs tokens source
-parsed_by tokens (Some forms) found none = (tree forms, found forms refl)
-parsed_by tokens None found none = (no_tree 0 Other, (refl, refl, none refl))
+-- tokens are those of a tree, or of none
+parsed_by : (tokens : List Token) → ((forms : List Form) × Reads tokens forms) ⊎ ((forms : List Form) → Reads tokens forms → ⊥) → (source : Source) × IsParsedAs tokens source
+parsed_by tokens (inl read) = (tree read.0, read.1)
+parsed_by tokens (inr none) = (no_tree 0 Other, (refl, refl, none))
 
-parsed : (tokens : List Token) → (source : Source) × IsParsedAs tokens source
-parsed tokens = parsed_by tokens _ (parse.read_is_tree tokens) (parse.no_tree tokens)
+parsed : TreeOrNone → (tokens : List Token) → (source : Source) × IsParsedAs tokens source
+parsed trees tokens = parsed_by tokens (trees tokens)
 
 of_parse : (file : ℕ) (text : List ℕ) (tokens : List Token) (source : Source) → Tokenizes file text (Ok tokens) → IsParsedAs tokens source → Comes file text
 of_parse file text tokens (no_tokens at why) t h = absurd h
 of_parse file text tokens (no_tree at why) t h = (no_tree at why, (tokens, t, h))
 of_parse file text tokens (tree forms) t h = (tree forms, (tokens, t, h))
 
-of_tokens : (file : ℕ) (text : List ℕ) (r : Result (List Token) TokenFault) → IsNotMemory r → Tokenizes file text r → Comes file text
-of_tokens file text (Ok tokens) n h = let p = parsed tokens in of_parse file text tokens p.0 h p.1
-of_tokens file text (Err (token.NotUtf8 at)) n h = (no_tokens at byte.NotUtf8, h)
-of_tokens file text (Err (token.OpenString at)) n h = (no_tokens at byte.OpenString, h)
-of_tokens file text (Err (token.BadEscape at)) n h = (no_tokens at byte.BadEscape, h)
-of_tokens file text (Err (token.StuckQuote at)) n h = (no_tokens at byte.StuckQuote, h)
-of_tokens file text (Err token.Memory) n h = absurd n
+of_tokens : TreeOrNone → (file : ℕ) (text : List ℕ) (r : Result (List Token) TokenFault) → IsNotMemory r → Tokenizes file text r → Comes file text
+of_tokens trees file text (Ok tokens) n h = let p = parsed trees tokens in of_parse file text tokens p.0 h p.1
+of_tokens trees file text (Err (token.NotUtf8 at)) n h = (no_tokens at byte.NotUtf8, h)
+of_tokens trees file text (Err (token.OpenString at)) n h = (no_tokens at byte.OpenString, h)
+of_tokens trees file text (Err (token.BadEscape at)) n h = (no_tokens at byte.BadEscape, h)
+of_tokens trees file text (Err (token.StuckQuote at)) n h = (no_tokens at byte.StuckQuote, h)
+of_tokens trees file text (Err token.Memory) n h = absurd n
 
-pub every_source : EveryFileAnswers → (file : ℕ) (text : List ℕ) → Comes file text
-every_source law file text = let r = law file text in of_tokens file text r.0 r.1 r.2
+pub every_source : EveryFileAnswers → TreeOrNone → (file : ℕ) (text : List ℕ) → Comes file text
+every_source law trees file text = let r = law file text in of_tokens trees file text r.0 r.1 r.2
 
 -- a fault of tokens comes back
 back : TokenFault → Source
@@ -113,11 +109,11 @@ verdict_safe : AcceptedAreSafe → (P : Program) (v : Option (ℕ × Refusal)) �
 verdict_safe law P (Some first) whole e = tt
 verdict_safe law P None whole e = law P 0 whole e
 
-resolved_safe : AcceptedAreSafe → (forms : List Form) (r : Result Program NameFault) → IsWellFormed forms → resolved forms ≡ r → IfSome (accepted_of r) (λ Q. IsSafe Q 0)
-resolved_safe law forms (Ok P) fits e = verdict_safe law P (verdict P 0) (resolved_whole forms (Ok P) fits e) refl
-resolved_safe law forms (Err fault) fits e = tt
+resolved_safe : AcceptedAreSafe → ResolvedAreWhole → (forms : List Form) (r : Result Program NameFault) → IsWellFormed forms → resolved forms ≡ r → IfSome (accepted_of r) (λ Q. IsSafe Q 0)
+resolved_safe law whole forms (Ok P) fits e = verdict_safe law P (verdict P 0) (whole forms P fits e) refl
+resolved_safe law whole forms (Err fault) fits e = tt
 
-pub accepted_safe : AcceptedAreSafe → (file : ℕ) (text : List ℕ) (source : Source) → IsReadAs file text source → IfSome (accepted source) (λ P. IsSafe P 0)
-accepted_safe law file text (no_tokens at why) read = tt
-accepted_safe law file text (no_tree at why) read = tt
-accepted_safe law file text (tree forms) read = resolved_safe law forms (resolved forms) read.2.fits refl
+pub accepted_safe : AcceptedAreSafe → ResolvedAreWhole → (file : ℕ) (text : List ℕ) (source : Source) → IsReadAs file text source → IfSome (accepted source) (λ P. IsSafe P 0)
+accepted_safe law whole file text (no_tokens at why) read = tt
+accepted_safe law whole file text (no_tree at why) read = tt
+accepted_safe law whole file text (tree forms) read = resolved_safe law whole forms (resolved forms) read.2.fits refl

@@ -3,7 +3,7 @@ use Rattle.std.specs.Prelude.{◌≡◌, ◌≤◌, ◌<◌, ◌⊎◌, ℕ, Lis
 use Rattle.std.specs.declared.option.Option.{Option}
 use Rattle.fac_io.specs.declared.files.Asked.TheVariants.{Load}
 use Rattle.fac_io.specs.Faults.{Rose}
-use Rattle.fac_io.specs.Told.{Stays, Grows, GrowsByPrefix}
+use Rattle.fac_io.specs.Told.{Stays, Grows, TookNothing, TookWhole, TookFront}
 use Rattle.fac_check.specs.Promises.{IsSafe}
 use Rattle.fac_notes.specs.declared.report.Report.TheVariants as report
 use Rattle.fac_tool.specs.declared.command.Command.{Command}
@@ -27,7 +27,7 @@ pub record NotLoaded (files : FilesSeen) (out : SinkSeen) (ended : Ended) : Type
   pub bare : IsBare ended
   pub files_are : FilesStay files
   pub faults : files.faults_now ≡ files.faults_before
-  pub out_is : Stays out.before out.now
+  pub out_is : TookNothing out.before out.now
 
 -- the load ended the call
 pub record LoadEnds (name : List ℕ) (files : FilesSeen) (out : SinkSeen) (ended : Ended) : Type 0 where
@@ -35,7 +35,7 @@ pub record LoadEnds (name : List ℕ) (files : FilesSeen) (out : SinkSeen) (ende
   pub stack : ended.stack ≡ None
   pub held : Stays files.held_before files.held_now
   pub asked : Grows files.asked_before files.asked_now (Load name ∷ [])
-  pub out_is : Stays out.before out.now
+  pub out_is : TookNothing out.before out.now
 
 -- the load failed
 pub record LoadFails (name : List ℕ) (files : FilesSeen) (out : SinkSeen) (ended : Ended) : Type 0 where
@@ -83,37 +83,37 @@ pub record Reaches (words : List (List ℕ)) (command : Command) (files : FilesS
   pub out_count : out.faults_before ≤ out.faults_now
   pub ending : ReachesBy (name_of words command) command files out ended
 
--- the note was written whole, or it is empty and nothing was
+-- the note was written whole, in one write, or it is empty and nothing was
 pub record NoteWhole (note : List ℕ) (reached : Ended) (notes : SinkSeen) (ended : Ended) : Type 0 where
   pub same : ended ≡ reached
-  pub count : notes.faults_before ≤ notes.faults_now
-  pub note_is : Grows notes.before notes.now note
+  pub count : notes.faults_now ≡ notes.faults_before
+  pub note_is : TookWhole notes.before notes.now note
 
--- the write of a note failed, which isn't empty
+-- the write of a note failed, which isn't empty, and of this one write a front was taken
 pub record NotePart (note : List ℕ) (reached : Ended) (notes : SinkSeen) (ended : Ended) : Type 0 where
   pub some : 0 < length note
   pub status : ended.status ≡ 10
   pub ticks : ended.ticks ≡ reached.ticks
   pub bare : IsBare ended
   pub rose : Rose notes.faults_before notes.faults_now
-  pub note_is : GrowsByPrefix notes.before notes.now note
+  pub note_is : TookFront notes.before notes.now note
 
--- want of memory was noted
-pub record MemoryNoted (reached : Ended) (notes : SinkSeen) (ended : Ended) : Type 0 where
-  pub status : ended.status ≡ 12
-  pub ticks : ended.ticks ≡ reached.ticks
-  pub bare : IsBare ended
-  pub count : notes.faults_before ≤ notes.faults_now
-  pub note_is : Grows notes.before notes.now memory_note
+-- an ending is told by this note, whole or in part
+abbrev pub TellsBy : List ℕ → Ended → SinkSeen → Ended → Type 0
+TellsBy note reached notes ended = NoteWhole note reached notes ended ⊎ NotePart note reached notes ended
+
+-- the ending in place of another where there was no memory for its note
+abbrev pub unnoted : Ended → Ended
+unnoted reached = record { status = 12; ticks = reached.ticks; stack = None; refusal = None }
 
 -- there was no memory for the note, which isn't empty, and that was noted in its place, whole or in part
 pub record NoteNoMemory (note : List ℕ) (reached : Ended) (notes : SinkSeen) (ended : Ended) : Type 0 where
   pub some : 0 < length note
-  pub noted : MemoryNoted reached notes ended ⊎ NotePart memory_note reached notes ended
+  pub noted : TellsBy memory_note (unnoted reached) notes ended
 
--- the ending is told: its note is written whole, or in part, or there is no memory for it
+-- the ending is told by its note, or there is no memory for that
 abbrev pub TellsNote : List ℕ → Ended → SinkSeen → Ended → Type 0
-TellsNote note reached notes ended = NoteWhole note reached notes ended ⊎ (NotePart note reached notes ended ⊎ NoteNoMemory note reached notes ended)
+TellsNote note reached notes ended = TellsBy note reached notes ended ⊎ NoteNoMemory note reached notes ended
 
 abbrev pub Tells : List (List ℕ) → Ended → SinkSeen → Ended → Type 0
 Tells names reached notes ended = TellsNote (note_of names reached.status reached.ticks reached.refusal) reached notes ended
@@ -124,7 +124,7 @@ usage = record { status = 2; ticks = 0; stack = None; refusal = None }
 
 -- usage is told, which takes no memory
 abbrev pub TellsUsage : SinkSeen → Ended → Type 0
-TellsUsage notes ended = NoteWhole usage_note usage notes ended ⊎ NotePart usage_note usage notes ended
+TellsUsage notes ended = TellsBy usage_note usage notes ended
 
 -- the ending where there is no memory for the words
 abbrev pub no_words : Ended
@@ -132,7 +132,7 @@ no_words = record { status = 12; ticks = 0; stack = None; refusal = None }
 
 -- that is told, which takes no memory
 abbrev pub TellsNoWords : SinkSeen → Ended → Type 0
-TellsNoWords notes ended = NoteWhole memory_note no_words notes ended ⊎ NotePart memory_note no_words notes ended
+TellsNoWords notes ended = TellsBy memory_note no_words notes ended
 
 -- nothing was done with the files and the output
 pub record IsIdle (files : FilesSeen) (out : SinkSeen) : Type 0 where
@@ -140,7 +140,7 @@ pub record IsIdle (files : FilesSeen) (out : SinkSeen) : Type 0 where
   pub out_count : out.faults_now ≡ out.faults_before
   pub held : Stays files.held_before files.held_now
   pub asked : Stays files.asked_before files.asked_now
-  pub out_is : Stays out.before out.now
+  pub out_is : TookNothing out.before out.now
 
 -- the names of the files by their numbers
 abbrev pub file_names : List (List ℕ) → Command → List (List ℕ)

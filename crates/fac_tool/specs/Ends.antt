@@ -1,8 +1,9 @@
 -- How the work of a command ends, before its note is written.
-use Rattle.std.specs.Prelude.{◌≡◌, ◌==◌, ◌≤◌, ℕ, None, Some, if◌then◌else◌, List, [], ◌<◌, ◌-◌}
+use Rattle.std.specs.Prelude.{◌≡◌, ◌==◌, ◌≤◌, ℕ, zero, suc, None, Some, if◌then◌else◌, List, [], ◌++◌, drop, length, ◌<◌, ◌-◌}
 use Rattle.std.specs.declared.option.Option.{Option}
+use Rattle.std.specs.List.{concat}
 use Rattle.fac_io.specs.Faults.{Rose}
-use Rattle.fac_io.specs.Told.{Grows, GrowsByPrefix}
+use Rattle.fac_io.specs.Told.{Stays, Grows, GrowsByPrefix, one_piece}
 use Rattle.fac_lang.specs.declared.program.Program.{Program}
 use Rattle.fac_lang.specs.Texts.{Item, Value}
 use Rattle.fac_lang.specs.World.{State}
@@ -42,7 +43,7 @@ pub record Matches (answer : Answer) (out : SinkSeen) (ended : Ended) : Type 0 w
   pub ticks : ended.ticks ≡ answer.ticks
   pub stack : ended.stack ≡ answer.stack
   pub refusal : ended.refusal ≡ answer.refusal
-  pub output : Grows out.before out.now answer.output
+  pub output : Grows out.before.taken out.now.taken answer.output
 
 -- what a run wrote so far
 abbrev pub run_output : Run → List ℕ
@@ -51,17 +52,40 @@ run_output (Failed e st left) = st.world.output
 run_output (Spent st i) = st.world.output
 run_output Stuck = []
 
+-- the bytes that a run writes in its tick of this number, which is that of one item
+abbrev pub tick_output : Program → ℕ → List ℕ
+tick_output P zero = []
+tick_output P (suc n) = drop (length (run_output (meaning P n))) (run_output (meaning P (suc n)))
+
+-- the pieces that a run writes in so many ticks: one for each item that writes, whole
+abbrev pub pieces_in : Program → ℕ → List (List ℕ)
+pieces_in P zero = []
+pieces_in P (suc n) = pieces_in P n ++ one_piece (tick_output P (suc n))
+
+-- What was taken of the output of a run that used so many ticks was taken in the pieces of its items that wrote, one for each and whole.
+-- Behind them comes what was taken of the piece of a last item, whose write failed.
+pub record RunPieces (P : Program) (ticks : ℕ) (last : List ℕ) (out : SinkSeen) : Type 0 where
+  pub wrote_in : ℕ
+  pub within : wrote_in ≤ ticks
+  pub taken : Grows out.before.taken out.now.taken (concat (pieces_in P wrote_in) ++ last)
+  pub pieces : Grows out.before.pieces out.now.pieces (pieces_in P wrote_in ++ one_piece last)
+
 -- How far a run with a budget came that used so many ticks, however it ended. With one tick less the meaning is spent, and what it
 -- wrote till then was taken. Of what it writes in these ticks a prefix was taken.
 pub record StopsWithin (P : Program) (budget : ℕ) (ticks : ℕ) (out : SinkSeen) : Type 0 where
   pub within : ticks ≤ budget
-  pub spent_before : 0 < ticks → (st : State Value) × (i : Option Item) × (meaning P (ticks - 1) ≡ Spent st i) × GrowsBeyond out.before out.now st.world.output
-  pub at_most : GrowsByPrefix out.before out.now (run_output (meaning P ticks))
+  pub spent_before : 0 < ticks → (st : State Value) × (i : Option Item) × (meaning P (ticks - 1) ≡ Spent st i) × GrowsBeyond out.before.taken out.now.taken st.world.output
+  pub at_most : GrowsByPrefix out.before.taken out.now.taken (run_output (meaning P ticks))
 
 -- what the output had taken when the call was cut short: outside a run a prefix of the answer's, with no tick used
 abbrev pub CutShort : Work → Answer → ℕ → SinkSeen → Type 0
-CutShort idle answer ticks out = (ticks ≡ 0) × GrowsByPrefix out.before out.now answer.output
+CutShort idle answer ticks out = (ticks ≡ 0) × GrowsByPrefix out.before.taken out.now.taken answer.output
 CutShort (runs P budget) answer ticks out = StopsWithin P budget ticks out
+
+-- in which pieces the output was taken: in none outside a run
+abbrev pub InPieces : Work → ℕ → List ℕ → SinkSeen → Type 0
+InPieces idle ticks last out = Stays out.before.pieces out.now.pieces
+InPieces (runs P budget) ticks last out = RunPieces P ticks last out
 
 -- there is neither a stack nor a refusal: what stood on the stack of a run that was cut short isn't told
 pub record IsBare (ended : Ended) : Type 0 where
@@ -70,12 +94,12 @@ pub record IsBare (ended : Ended) : Type 0 where
 
 -- how work on a text ends, by the kind of its status
 abbrev pub EndsBy : Ending → Answer → Work → SinkSeen → Ended → Type 0
-EndsBy Told answer work out ended = Matches answer out ended
+EndsBy Told answer work out ended = Matches answer out ended × InPieces work ended.ticks [] out
 EndsBy Usage answer work out ended = ⊥
 EndsBy TooLong answer work out ended = ⊥
 EndsBy FileFault answer work out ended = ⊥
-EndsBy WriteFault answer work out ended = Rose out.faults_before out.faults_now × CutShort work answer ended.ticks out × IsBare ended
-EndsBy NoMemory answer work out ended = CutShort work answer ended.ticks out × IsBare ended
+EndsBy WriteFault answer work out ended = Rose out.faults_before out.faults_now × CutShort work answer ended.ticks out × IsBare ended × ((last : List ℕ) × InPieces work ended.ticks last out)
+EndsBy NoMemory answer work out ended = CutShort work answer ended.ticks out × IsBare ended × InPieces work ended.ticks [] out
 
 -- the work has this answer, or was cut short
 abbrev pub EndsAs : Answer → Work → SinkSeen → Ended → Type 0

@@ -3,16 +3,19 @@ use Rattle.std.specs.Prelude.{ℕ, List}
 use Rattle.std.specs.declared.option.Option.{Option}
 use Rattle.fac_io.specs.declared.files.Asked.{Asked}
 use Rattle.fac_io.specs.Names.{Held}
+use Rattle.fac_io.specs.Told.{SinkTold, sink_tells}
 
--- a sink: what it had taken and its count of faults, before the call and now
+-- a sink: what it tells of the bytes that it took and of their pieces, and its count of faults, before the call and now
 pub record SinkSeen : Type 0 where
-  pub before : Option (List ℕ)
-  pub now : Option (List ℕ)
+  pub before : SinkTold
+  pub now : SinkTold
   pub faults_before : ℕ
   pub faults_now : ℕ
 
-abbrev pub sink_seen : Option (List ℕ) → Option (List ℕ) → ℕ → ℕ → SinkSeen
-sink_seen before now faults_before faults_now = record { before = before; now = now; faults_before = faults_before; faults_now = faults_now }
+-- a sink of some kind, of which these tell, as it was and as it is
+abbrev pub sink_seen : {S : Type 0} → (S → Option (List ℕ)) → (S → Option (List (List ℕ))) → (S → ℕ) → S → S → SinkSeen
+sink_seen taken pieces faults old new =
+    record { before = sink_tells (taken old) (pieces old); now = sink_tells (taken new) (pieces new); faults_before = faults old; faults_now = faults new }
 
 -- the files: what the names held, what was asked and the count of faults, before the call and now
 pub record FilesSeen : Type 0 where
@@ -23,6 +26,7 @@ pub record FilesSeen : Type 0 where
   pub faults_before : ℕ
   pub faults_now : ℕ
 
-abbrev pub files_seen : Option Held → Option Held → Option (List Asked) → Option (List Asked) → ℕ → ℕ → FilesSeen
-files_seen held_before held_now asked_before asked_now faults_before faults_now =
-    record { held_before = held_before; held_now = held_now; asked_before = asked_before; asked_now = asked_now; faults_before = faults_before; faults_now = faults_now }
+-- files of some kind, of which these tell, as they were and as they are
+abbrev pub files_seen : {F : Type 0} → (F → Option Held) → (F → Option (List Asked)) → (F → ℕ) → F → F → FilesSeen
+files_seen held asked faults old new =
+    record { held_before = held old; held_now = held new; asked_before = asked old; asked_now = asked new; faults_before = faults old; faults_now = faults new }

@@ -1,7 +1,7 @@
 //! Laws of what a file comes to, each on the contract of a function that does nothing but call on laws below.
 ghost use Rattle.fac_tool.specs.Sources.{OneSource, EverySource};
 
-use fac_parse::one_tree;
+use fac_parse::{one_tree, tree_or_none};
 use fac_token::{every_file_has_an_answer, one_answer};
 
 /// No text comes to two things. So what a command answers on a text is a function of its bytes.
@@ -17,4 +17,5 @@ pub fn every_text_is_a_source()
     ensures { EverySource }
 {
     every_file_has_an_answer();
+    tree_or_none();
 }

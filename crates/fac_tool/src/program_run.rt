@@ -6,7 +6,7 @@ ghost use Rattle.fac_vm.specs.Seen.{callables_in, stack_in};
 ghost use Rattle.fac_tool.specs.Answer.{run_answer, shown_text};
 ghost use Rattle.fac_tool.specs.Ends.{EndsAs, runs, StopsWithin};
 ghost use Rattle.fac_tool.specs.Seen.{sink_seen};
-ghost use Rattle.fac_tool.specs.inner.Stops.{StopsAs, Carried, SameNames, StandsForSafe, value_form, value_text as text_of_value, machine_report};
+ghost use Rattle.fac_tool.specs.inner.Stops.{StopsAs, TakesPieces, Carried, SameNames, StandsForSafe, value_form, value_text as text_of_value, machine_report};
 ghost use Rattle.fac_tool.specs.inner.StepEnds.{StepsEnd};
 
 use crate::ended::{bare, reported};
@@ -18,7 +18,7 @@ use fac_io::Sink;
 use fac_lang::{List, Memory, Program, Text};
 use fac_notes::name_of_word;
 use fac_prim::{Value, printed_form};
-use fac_vm::{Machine, RunError, Stop, StopKind};
+use fac_vm::{Machine, RunError, Stop, StopKind, runs_have_one_end};
 use std::alloc::Global;
 
 // A printed form as it is told: three dots where it has more than 1,000 bytes.
@@ -83,10 +83,12 @@ fn error_report(alloc: Global, program: &Program, error: RunError) -> Result<Rep
 // Runs the image of a machine with an empty stack. What is said goes for each program that the image carries.
 fn run_machine<K: Sink>(alloc: Global, machine: &mut Machine, budget: u64, out: &mut K) -> Stop
     requires empty { machine.old.values ≡ [] }
-    ensures within { (P : Source) → Carried P machine.old.image → StopsWithin P budget result.ticks (sink_seen (K.taken out.old) (K.taken out.new) (K.faults out.old) (K.faults out.new)) }
-    ensures stops { (P : Source) → Carried P machine.old.image → StopsAs P budget (callables_in machine.new) (stack_in machine.new) result.ticks (K.taken out.old) (K.taken out.new) result.what }
+    ensures within { (P : Source) → Carried P machine.old.image → StopsWithin P budget result.ticks (sink_seen K.taken K.pieces K.faults out.old out.new) }
+    ensures stops { (P : Source) → Carried P machine.old.image → StopsAs P budget (callables_in machine.new) (stack_in machine.new) result.ticks (sink_seen K.taken K.pieces K.faults out.old out.new) result.what }
+    ensures pieces { (P : Source) → Carried P machine.old.image → TakesPieces P result.ticks (sink_seen K.taken K.pieces K.faults out.old out.new) result.what }
     ensures cause { HasCause (K.faults out.old) (K.faults out.new) (result.what ≡ StopKind.WriteFault) }
 {
+    runs_have_one_end();
     machine.run(alloc, out, budget)
 }
 
@@ -100,7 +102,7 @@ fn run_and_answer<K: Sink>(
 ) -> Ended
     requires carries { (P : Source) × Carried P machine.old.image }
     requires empty { machine.old.values ≡ [] }
-    ensures ends { (P : Source) → SameNames P program.now → Carried P machine.old.image → EndsAs (run_answer P budget) (runs P budget) (sink_seen (K.taken out.old) (K.taken out.new) (K.faults out.old) (K.faults out.new)) result }
+    ensures ends { (P : Source) → SameNames P program.now → Carried P machine.old.image → EndsAs (run_answer P budget) (runs P budget) (sink_seen K.taken K.pieces K.faults out.old out.new) result }
     ensures counts { K.faults out.old ≤ K.faults out.new }
 {
     let stop = run_machine(alloc, machine, budget, out);
@@ -151,7 +153,7 @@ pub fn run_program<K: Sink>(
     out: &mut K,
 ) -> Result<Ended, Ended>
     requires { (P : Source) × StandsForSafe checked.now.closed P }
-    ensures ends { (P : Source) → StandsForSafe checked.now.closed P → StepsEnd (run_answer P budget) (runs P budget) (sink_seen (K.taken out.old) (K.taken out.new) (K.faults out.old) (K.faults out.new)) result }
+    ensures ends { (P : Source) → StandsForSafe checked.now.closed P → StepsEnd (run_answer P budget) (runs P budget) (sink_seen K.taken K.pieces K.faults out.old out.new) result }
     ensures counts { K.faults out.old ≤ K.faults out.new }
 {
     match machine_of(alloc, checked) {

@@ -60,7 +60,7 @@ fn no_tree(at: u32, why: Why) -> Ended
 /// The bytes of the file of this name.
 pub fn load<F: Files>(alloc: Global, name: &str, files: &mut F) -> Result<Bytes, Ended>
     ensures count { F.faults files.old ≤ F.faults files.new }
-    ensures loads { Loads name.now (files_seen (F.held files.old) (F.held files.new) (F.asked files.old) (F.asked files.new) (F.faults files.old) (F.faults files.new)) result }
+    ensures loads { Loads name.now (files_seen F.held F.asked F.faults files.old files.new) result }
 {
     let Ok(file) = Text::from_str(alloc, name) else {
         return Err(bare(12, 0));

@@ -1,11 +1,11 @@
 //! The note of an ending is written.
 ghost use Rattle.std.specs.Prelude.{◌≡◌, ◌∷◌, ◌<◌, [], codes, length, IfOk, OnOk, OnErr, IsErr};
 ghost use Rattle.fac_io.specs.Faults.{HasCause};
-ghost use Rattle.fac_io.specs.Told.{Grows, GrowsByPrefix};
+ghost use Rattle.fac_io.specs.Told.{Took, sink_tells};
 ghost use Rattle.fac_notes.specs.Notes.{line_of};
 ghost use Rattle.fac_tool.specs.Seen.{sink_seen};
 ghost use Rattle.fac_tool.specs.ToldNotes.{note_of, note_of_status};
-ghost use Rattle.fac_tool.specs.Answers.{Tells, TellsUsage, TellsNoWords};
+ghost use Rattle.fac_tool.specs.Answers.{TellsBy, Tells, TellsUsage, TellsNoWords};
 
 use crate::ended::bare;
 use crate::{Ended, Report};
@@ -60,12 +60,13 @@ fn ended_note(alloc: Global, name: &str, ended: &Ended) -> Result<Text, Memory>
     }
 }
 
-// Writes a note, or nothing where it is empty.
+// Writes a note in one write, or nothing where it is empty.
+#[tactic(auto, using(crate::proofs::NoteLemmas::took_no_note))]
 fn write_note<N: Sink>(notes: &mut N, note: &[u8]) -> Result<(), Failed>
-    ensures ok { OnOk result (Grows (N.taken notes.old) (N.taken notes.new) note.now) }
-    ensures err { OnErr result (GrowsByPrefix (N.taken notes.old) (N.taken notes.new) note.now) }
+    ensures took { Took (sink_tells (N.taken notes.old) (N.pieces notes.old)) (sink_tells (N.taken notes.new) (N.pieces notes.new)) note.now result }
     ensures some { OnErr result (0 < length note.now) }
     ensures cause { HasCause (N.faults notes.old) (N.faults notes.new) (IsErr result) }
+    ensures no_fault { OnOk result (N.faults notes.new ≡ N.faults notes.old) }
 {
     if note.is_empty() {
         return Ok(());
@@ -73,42 +74,42 @@ fn write_note<N: Sink>(notes: &mut N, note: &[u8]) -> Result<(), Failed>
     notes.write(note)
 }
 
+// Tells an ending by this note.
+fn tell_by<N: Sink>(note: &[u8], reached: Ended, notes: &mut N) -> Ended
+    ensures { TellsBy note.now reached (sink_seen N.taken N.pieces N.faults notes.old notes.new) result }
+{
+    let ticks = reached.ticks;
+    match write_note(notes, note) {
+        Ok(()) => reached,
+        Err(_) => bare(10, ticks),
+    }
+}
+
 /// Tells an ending, where the command's file has this name.
 pub fn tell<N: Sink>(alloc: Global, name: &str, reached: Ended, notes: &mut N) -> Ended
-    ensures { Tells (codes "prelude" ∷ name.now ∷ []) reached (sink_seen (N.taken notes.old) (N.taken notes.new) (N.faults notes.old) (N.faults notes.new)) result }
+    ensures { Tells (codes "prelude" ∷ name.now ∷ []) reached (sink_seen N.taken N.pieces N.faults notes.old notes.new) result }
 {
     let ticks = reached.ticks;
     match ended_note(alloc, name, &reached) {
-        Ok(note) => match write_note(notes, note.as_bytes()) {
-            Ok(()) => reached,
-            Err(_) => bare(10, ticks),
-        },
-        Err(_) => match write_note(notes, b"out of memory\n".as_slice()) {
-            Ok(()) => bare(12, ticks),
-            Err(_) => bare(10, ticks),
-        },
+        Ok(note) => tell_by(note.as_bytes(), reached, notes),
+        Err(_) => tell_by(b"out of memory\n".as_slice(), bare(12, ticks), notes),
     }
 }
 
 /// Tells that the words of the command line meet no form. It takes no memory.
 pub fn tell_usage<N: Sink>(notes: &mut N) -> Ended
-    ensures { TellsUsage (sink_seen (N.taken notes.old) (N.taken notes.new) (N.faults notes.old) (N.faults notes.new)) result }
+    ensures { TellsUsage (sink_seen N.taken N.pieces N.faults notes.old notes.new) result }
 {
-    match write_note(
-        notes,
+    tell_by(
         b"usage: factorc check, run, build, exec, list, listen or gen\n".as_slice(),
-    ) {
-        Ok(()) => bare(2, 0),
-        Err(_) => bare(10, 0),
-    }
+        bare(2, 0),
+        notes,
+    )
 }
 
 /// Tells that there is no memory for the words of the command line. It takes none.
 pub fn tell_no_words<N: Sink>(notes: &mut N) -> Ended
-    ensures { TellsNoWords (sink_seen (N.taken notes.old) (N.taken notes.new) (N.faults notes.old) (N.faults notes.new)) result }
+    ensures { TellsNoWords (sink_seen N.taken N.pieces N.faults notes.old notes.new) result }
 {
-    match write_note(notes, b"out of memory\n".as_slice()) {
-        Ok(()) => bare(12, 0),
-        Err(_) => bare(10, 0),
-    }
+    tell_by(b"out of memory\n".as_slice(), bare(12, 0), notes)
 }

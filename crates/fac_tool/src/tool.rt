@@ -21,8 +21,8 @@ fn work_on_words<F: Files, K: Sink>(
 ) -> Ended
     requires { file_of command < length words.now }
     ensures { Reaches (map string_bytes words.now) command
-        (files_seen (F.held files.old) (F.held files.new) (F.asked files.old) (F.asked files.new) (F.faults files.old) (F.faults files.new))
-        (sink_seen (K.taken out.old) (K.taken out.new) (K.faults out.old) (K.faults out.new))
+        (files_seen F.held F.asked F.faults files.old files.new)
+        (sink_seen K.taken K.pieces K.faults out.old out.new)
         result }
 {
     work(alloc, command, words[command.file()].as_str(), files, out)
@@ -37,7 +37,7 @@ fn tell_of_words<N: Sink>(
     notes: &mut N,
 ) -> Ended
     requires { file_of command < length words.now }
-    ensures { Tells (file_names (map string_bytes words.now) command) reached (sink_seen (N.taken notes.old) (N.taken notes.new) (N.faults notes.old) (N.faults notes.new)) result }
+    ensures { Tells (file_names (map string_bytes words.now) command) reached (sink_seen N.taken N.pieces N.faults notes.old notes.new) result }
 {
     tell(alloc, words[command.file()].as_str(), reached, notes)
 }
@@ -51,9 +51,9 @@ fn answer<F: Files, K: Sink, N: Sink>(
     notes: &mut N,
 ) -> Ended
     ensures { Answers (map string_bytes words.now)
-        (files_seen (F.held files.old) (F.held files.new) (F.asked files.old) (F.asked files.new) (F.faults files.old) (F.faults files.new))
-        (sink_seen (K.taken out.old) (K.taken out.new) (K.faults out.old) (K.faults out.new))
-        (sink_seen (N.taken notes.old) (N.taken notes.new) (N.faults notes.old) (N.faults notes.new))
+        (files_seen F.held F.asked F.faults files.old files.new)
+        (sink_seen K.taken K.pieces K.faults out.old out.new)
+        (sink_seen N.taken N.pieces N.faults notes.old notes.new)
         result }
 {
     match read_words(words) {
@@ -83,9 +83,9 @@ pub fn factor_top<F: Files, K: Sink, N: Sink>(
 ) -> Ended
     // The status, the ticks, the stack, the refusal, the output and the note, by the command and the bytes of its file.
     ensures answer { Answers (map string_bytes words.now)
-        (files_seen (F.held files.old) (F.held files.new) (F.asked files.old) (F.asked files.new) (F.faults files.old) (F.faults files.new))
-        (sink_seen (K.taken out.old) (K.taken out.new) (K.faults out.old) (K.faults out.new))
-        (sink_seen (N.taken notes.old) (N.taken notes.new) (N.faults notes.old) (N.faults notes.new))
+        (files_seen F.held F.asked F.faults files.old files.new)
+        (sink_seen K.taken K.pieces K.faults out.old out.new)
+        (sink_seen N.taken N.pieces N.faults notes.old notes.new)
         result }
 
     // The causes, each by itself. They follow from `answer`.

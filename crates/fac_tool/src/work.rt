@@ -14,6 +14,7 @@ use crate::reading::load;
 use crate::{Command, Ended};
 use fac_check::{Checked, accepted_programs_are_safe};
 use fac_io::{Files, Sink};
+use fac_parse::resolved_programs_are_whole;
 use std::alloc::Global;
 
 // Does what the command asks for with an accepted program.
@@ -24,7 +25,7 @@ fn carry_out<K: Sink>(
     out: &mut K,
 ) -> Result<Ended, Ended>
     requires { (P : Source) × StandsForSafe checked.now.closed P }
-    ensures ends { (P : Source) → StandsForSafe checked.now.closed P → StepsEnd (on_accepted command P) (work_of command (Some P)) (sink_seen (K.taken out.old) (K.taken out.new) (K.faults out.old) (K.faults out.new)) result }
+    ensures ends { (P : Source) → StandsForSafe checked.now.closed P → StepsEnd (on_accepted command P) (work_of command (Some P)) (sink_seen K.taken K.pieces K.faults out.old out.new) result }
     ensures counts { K.faults out.old ≤ K.faults out.new }
 {
     match command {
@@ -42,9 +43,10 @@ fn steps<F: Files, K: Sink>(
 ) -> Result<Ended, Ended>
     ensures files_count { F.faults files.old ≤ F.faults files.new }
     ensures out_count { K.faults out.old ≤ K.faults out.new }
-    ensures ending { ReachesBy name.now command (files_seen (F.held files.old) (F.held files.new) (F.asked files.old) (F.asked files.new) (F.faults files.old) (F.faults files.new)) (sink_seen (K.taken out.old) (K.taken out.new) (K.faults out.old) (K.faults out.new)) (ended_by result) }
+    ensures ending { ReachesBy name.now command (files_seen F.held F.asked F.faults files.old files.new) (sink_seen K.taken K.pieces K.faults out.old out.new) (ended_by result) }
 {
     accepted_programs_are_safe();
+    resolved_programs_are_whole();
     let text = load(alloc, name, files)?;
     let checked = accepted_program(alloc, text.as_slice())?;
     carry_out(alloc, command, &checked, out)
@@ -60,7 +62,7 @@ pub fn work<F: Files, K: Sink>(
 ) -> Ended
     ensures files_count { F.faults files.old ≤ F.faults files.new }
     ensures out_count { K.faults out.old ≤ K.faults out.new }
-    ensures ending { ReachesBy name.now command (files_seen (F.held files.old) (F.held files.new) (F.asked files.old) (F.asked files.new) (F.faults files.old) (F.faults files.new)) (sink_seen (K.taken out.old) (K.taken out.new) (K.faults out.old) (K.faults out.new)) result }
+    ensures ending { ReachesBy name.now command (files_seen F.held F.asked F.faults files.old files.new) (sink_seen K.taken K.pieces K.faults out.old out.new) result }
 {
     match steps(alloc, command, name, files, out) {
         Ok(ended) => ended,

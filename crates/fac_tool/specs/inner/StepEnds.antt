@@ -1,6 +1,5 @@
 -- Inner contracts: how the steps of a command end. Each gives a result for the next one, or an ending of the work.
 use Rattle.std.specs.Prelude.{◌≡◌, ℕ, List, None, Some, Result, Ok, Err}
-use Rattle.std.specs.declared.option.Option.{Option}
 use Rattle.fac_lang.specs.declared.program.Program.{Program}
 use Rattle.fac_lang.specs.declared.tree.Form.{Form}
 use Rattle.fac_lang.specs.declared.tree.Tree.{Tree}
@@ -17,7 +16,8 @@ use Rattle.fac_tool.specs.declared.command.Command.{Command}
 use Rattle.fac_tool.specs.declared.ended.Ended.{Ended}
 use Rattle.fac_tool.specs.Answer.{Answer, Source, tree, answer_on}
 use Rattle.fac_tool.specs.Sources.{IsReadAs}
-use Rattle.fac_tool.specs.Seen.{SinkSeen, sink_seen, FilesSeen}
+use Rattle.fac_io.specs.Told.{SinkTold}
+use Rattle.fac_tool.specs.Seen.{SinkSeen, FilesSeen}
 use Rattle.fac_tool.specs.Ends.{Work, EndsAs}
 use Rattle.fac_tool.specs.inner.Stops.{StandsForSafe}
 use Rattle.fac_tool.specs.Answers.{NoText, LoadGives}
@@ -38,9 +38,13 @@ fault_ending (token.BadEscape at) = reported 0 (report.Bytes 1 at byte.BadEscape
 fault_ending (token.StuckQuote at) = reported 0 (report.Bytes 1 at byte.StuckQuote)
 fault_ending token.Memory = bare 12 0
 
+-- a sink that stays as it was
+abbrev pub still : SinkTold → ℕ → SinkSeen
+still told faults = record { before = told; now = told; faults_before = faults; faults_now = faults }
+
 -- an ending before anything is written and whatever the work was to be: the answer, or want of memory
 abbrev pub EndsEarly : Answer → Ended → Type 0
-EndsEarly answer ended = (work : Work) (told : Option (List ℕ)) (faults : ℕ) → EndsAs answer work (sink_seen told told faults faults) ended
+EndsEarly answer ended = (work : Work) (told : SinkTold) (faults : ℕ) → EndsAs answer work (still told faults) ended
 
 -- a step of work that has these answers, by the command: it gives a result of which this holds, or the work ends
 abbrev pub Steps : {A : Type 0} → (A → Type 0) → (Command → Answer) → Result A Ended → Type 0
@@ -65,7 +69,7 @@ ended_by (Err ended) = ended
 -- the step that loads the text, whatever the output is that stays as it was
 abbrev pub Loads : List ℕ → FilesSeen → Result (List ℕ) Ended → Type 0
 Loads name files (Ok text) = LoadGives name files text
-Loads name files (Err ended) = (told : Option (List ℕ)) (faults : ℕ) → NoText name files (sink_seen told told faults faults) ended
+Loads name files (Err ended) = (told : SinkTold) (faults : ℕ) → NoText name files (still told faults) ended
 
 -- a text comes to this, which has this answer, whatever the command is
 pub record EndsRead (text : List ℕ) (ended : Ended) : Type 0 where

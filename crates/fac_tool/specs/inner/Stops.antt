@@ -1,5 +1,5 @@
 -- A run of the machine that carries a program, in terms of the program's meaning.
-use Rattle.std.specs.Prelude.{◌≡◌, ℕ, ◌-◌, List, codes}
+use Rattle.std.specs.Prelude.{◌≡◌, ℕ, ◌-◌, List, [], codes}
 use Rattle.std.specs.declared.option.Option.{Option}
 use Rattle.std.specs.Option.{option_map}
 use Rattle.std.specs.Fmt.{signed_decimal}
@@ -29,6 +29,8 @@ use Rattle.fac_notes.specs.declared.report.Report.{Report}
 use Rattle.fac_notes.specs.declared.report.Report.TheVariants as report
 use Rattle.fac_notes.specs.WordNames.{word_name}
 use Rattle.fac_tool.specs.Answer.{meaning, shown_text}
+use Rattle.fac_tool.specs.Seen.{SinkSeen}
+use Rattle.fac_tool.specs.Ends.{RunPieces}
 
 -- the program for which a closed one stands
 pub record StandsFor (closed : Closed) (P : Program) : Type 0 where
@@ -53,13 +55,23 @@ pub record Carried (P : Program) (M : Image) : Type 0 where
   pub not_stuck : (n : ℕ) → IsNotStuck (meaning P n)
 
 -- how a run with this budget stopped that left this stack, where the machine's callables are these
-abbrev pub StopsAs : Program → ℕ → List MCallable → List MValue → ℕ → Option (List ℕ) → Option (List ℕ) → StopKind → Type 0
-StopsAs P budget T stack ticks before now stop.Done = (st : State Value) × (left : ℕ) × (meaning P budget ≡ Done st left) × (ticks ≡ budget - left) × Grows before now st.world.output × (st.stack ≡ values_view (template_texts P) stack)
-StopsAs P budget T stack ticks before now (stop.Failed e) = (x : Error Value) × (st : State Value) × (left : ℕ) × (meaning P budget ≡ Failed x st left) × (ticks ≡ budget - left) × Grows before now st.world.output × (x ≡ error_view (template_texts P) (error_of T e))
-StopsAs P budget T stack ticks before now stop.Spent = (st : State Value) × (i : Option Item) × (meaning P budget ≡ Spent st i) × (ticks ≡ budget) × Grows before now st.world.output
-StopsAs P budget T stack ticks before now (stop.Trap pc why) = ⊥
-StopsAs P budget T stack ticks before now stop.WriteFault = Unit {0}
-StopsAs P budget T stack ticks before now stop.Memory = Unit {0}
+abbrev pub StopsAs : Program → ℕ → List MCallable → List MValue → ℕ → SinkSeen → StopKind → Type 0
+StopsAs P budget T stack ticks out stop.Done = (st : State Value) × (left : ℕ) × (meaning P budget ≡ Done st left) × (ticks ≡ budget - left) × Grows out.before.taken out.now.taken st.world.output × (st.stack ≡ values_view (template_texts P) stack)
+StopsAs P budget T stack ticks out (stop.Failed e) =
+    (x : Error Value) × (st : State Value) × (left : ℕ) × (meaning P budget ≡ Failed x st left) × (ticks ≡ budget - left) × Grows out.before.taken out.now.taken st.world.output × (x ≡ error_view (template_texts P) (error_of T e))
+StopsAs P budget T stack ticks out stop.Spent = (st : State Value) × (i : Option Item) × (meaning P budget ≡ Spent st i) × (ticks ≡ budget) × Grows out.before.taken out.now.taken st.world.output
+StopsAs P budget T stack ticks out (stop.Trap pc why) = ⊥
+StopsAs P budget T stack ticks out stop.WriteFault = Unit {0}
+StopsAs P budget T stack ticks out stop.Memory = Unit {0}
+
+-- in which pieces its output was taken: those of the items that wrote, and at a write fault what was taken of one more
+abbrev pub TakesPieces : Program → ℕ → SinkSeen → StopKind → Type 0
+TakesPieces P ticks out stop.Done = RunPieces P ticks [] out
+TakesPieces P ticks out (stop.Failed e) = RunPieces P ticks [] out
+TakesPieces P ticks out stop.Spent = RunPieces P ticks [] out
+TakesPieces P ticks out (stop.Trap pc why) = RunPieces P ticks [] out
+TakesPieces P ticks out stop.WriteFault = (last : List ℕ) × RunPieces P ticks last out
+TakesPieces P ticks out stop.Memory = RunPieces P ticks [] out
 
 -- the printed form of a value of the machine
 abbrev pub value_form : MachineValue → List ℕ

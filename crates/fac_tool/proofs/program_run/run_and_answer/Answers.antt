@@ -7,33 +7,41 @@ use Rattle.fac_tool.proofs.program_run.run_and_answer.Goals as goal
 pub returns-in-Ok-clause-ends : goal.returns-in-Ok-clause-ends
 returns-in-Ok-clause-ends g c P named carries =
     let stops = rw c.in-Done.is at (c.run_machine-stop.ensures.stops P carries) in
-    done_matches P c.args.budget _ c.stack.result.now _ c.run_machine-stop.result.ticks _ _ _ _ c.in-Ok.texts c.stack.ensures c.in-Ok.ensures stops
+    let pieces = rw c.in-Done.is at (c.run_machine-stop.ensures.pieces P carries) in
+    (done_matches P c.args.budget _ c.stack.result.now _ c.run_machine-stop.result.ticks _ c.in-Ok.texts c.stack.ensures c.in-Ok.ensures stops, pieces)
 
 pub returns-in-Err-clause-ends : goal.returns-in-Err-clause-ends
 returns-in-Err-clause-ends g c P named carries =
-    no_memory_in_run P c.args.budget (run_answer P c.args.budget) _ _ _ c.bare.ensures (c.run_machine-stop.ensures.within P carries)
+    let pieces = rw c.in-Done.is at (c.run_machine-stop.ensures.pieces P carries) in
+    no_memory_in_run P c.args.budget (run_answer P c.args.budget) _ _ _ c.bare.ensures (c.run_machine-stop.ensures.within P carries) pieces
 
 pub returns-in-Ok-error_report-clause-ends : goal.returns-in-Ok-error_report-clause-ends
 returns-in-Ok-error_report-clause-ends g c P named carries =
     let stops = rw c.in-Failed.is at (c.run_machine-stop.ensures.stops P carries) in
-    rw (c.reported.ensures, c.in-Ok-error_report.ensures) (failed_matches P c.args.program.now c.args.budget _ c.in-Failed.error [] c.run_machine-stop.result.ticks _ _ _ _ named stops)
+    let pieces = rw c.in-Failed.is at (c.run_machine-stop.ensures.pieces P carries) in
+    rw (c.reported.ensures, c.in-Ok-error_report.ensures) (failed_matches P c.args.program.now c.args.budget _ c.in-Failed.error [] c.run_machine-stop.result.ticks _ named stops, pieces)
 
 pub returns-in-Err-error_report-clause-ends : goal.returns-in-Err-error_report-clause-ends
 returns-in-Err-error_report-clause-ends g c P named carries =
-    no_memory_in_run P c.args.budget (run_answer P c.args.budget) _ _ _ c.bare-in-Err-error_report.ensures (c.run_machine-stop.ensures.within P carries)
+    let pieces = rw c.in-Failed.is at (c.run_machine-stop.ensures.pieces P carries) in
+    no_memory_in_run P c.args.budget (run_answer P c.args.budget) _ _ _ c.bare-in-Err-error_report.ensures (c.run_machine-stop.ensures.within P carries) pieces
 
 pub returns-in-Spent-clause-ends : goal.returns-in-Spent-clause-ends
 returns-in-Spent-clause-ends g c P named carries =
     let stops = rw c.in-Spent.is at (c.run_machine-stop.ensures.stops P carries) in
-    rw c.reported-in-Spent.ensures (spent_matches P c.args.budget [] [] c.run_machine-stop.result.ticks _ _ _ _ stops)
+    let pieces = rw c.in-Spent.is at (c.run_machine-stop.ensures.pieces P carries) in
+    rw c.reported-in-Spent.ensures (spent_matches P c.args.budget [] [] c.run_machine-stop.result.ticks _ stops, pieces)
 
 pub unreachable-requires : goal.unreachable-requires
 unreachable-requires g c = rw c.in-Trap.is at (c.run_machine-stop.ensures.stops c.requires.carries.0 c.requires.carries.1)
 
 pub returns-in-WriteFault-clause-ends : goal.returns-in-WriteFault-clause-ends
 returns-in-WriteFault-clause-ends g c P named carries =
-    write_fault_in_run P c.args.budget (run_answer P c.args.budget) _ _ _ c.bare-in-WriteFault.ensures (c.run_machine-stop.ensures.cause.cause c.in-WriteFault.is) (c.run_machine-stop.ensures.within P carries)
+    let pieces = rw c.in-WriteFault.is at (c.run_machine-stop.ensures.pieces P carries) in
+    let rose = c.run_machine-stop.ensures.cause.cause c.in-WriteFault.is in
+    write_fault_in_run P c.args.budget (run_answer P c.args.budget) _ _ _ c.bare-in-WriteFault.ensures rose (c.run_machine-stop.ensures.within P carries) pieces
 
 pub returns-in-Memory-clause-ends : goal.returns-in-Memory-clause-ends
 returns-in-Memory-clause-ends g c P named carries =
-    no_memory_in_run P c.args.budget (run_answer P c.args.budget) _ _ _ c.bare-in-Memory.ensures (c.run_machine-stop.ensures.within P carries)
+    let pieces = rw c.in-Memory.is at (c.run_machine-stop.ensures.pieces P carries) in
+    no_memory_in_run P c.args.budget (run_answer P c.args.budget) _ _ _ c.bare-in-Memory.ensures (c.run_machine-stop.ensures.within P carries) pieces
