@@ -4,17 +4,22 @@ use Rattle.fac_lang.specs.Texts.{end, Literal, Mark, any, lit_mark, cur_mark, co
 use Rattle.fac_abs.specs.declared.cells.Cell.{Cell}
 use Rattle.fac_abs.specs.declared.node.Node.TheVariants.{Any, Lit, Cur, Com}
 use Rattle.fac_abs.specs.InTurn.{under, moved, zeros, joined_numbers, cover_numbers}
-use Rattle.fac_abs.specs.Marks.{mark_eq, curried_mark, composed_mark, cover_marks}
+use Rattle.fac_abs.specs.Marks.{named_row, mark_eq, curried_mark, composed_mark, cover_marks}
 use Rattle.fac_abs.specs.inner.Stacks.{stacks_of}
 use Rattle.fac_abs.specs.Trees.{Naming, depths}
 use Rattle.fac_abs.specs.Seen.{MarksSeen, mark_of, numbers_of, stack_of, is_mark, is_stack}
 
--- template k is literal k of word 0, and empty
+rows_apart : (j k : ℕ) → named_row (j ∷ []) ≡ named_row (k ∷ []) → j ≡ k
+rows_apart j k e = cc
+
+-- template k is literal k of word 0, and empty; row k is named by one character
 abbrev sample : Naming
 sample = record {
   literal = λ k. (record { word = 0; index = k }, end);
   apart = λ j k e. ap (λ (l : Literal). l.index) e;
   unmarked = λ k. refl;
+  row = λ k. named_row (k ∷ []);
+  rows_apart = rows_apart;
 }
 
 abbrev five : Mark
