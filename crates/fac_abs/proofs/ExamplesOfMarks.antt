@@ -4,17 +4,22 @@ use Rattle.fac_lang.specs.Texts.{end, Literal, Mark, any, lit_mark, cur_mark, co
 use Rattle.fac_abs.specs.declared.cells.Cell.{Cell}
 use Rattle.fac_abs.specs.declared.node.Node.TheVariants.{Any, Lit, Cur, Com}
 use Rattle.fac_abs.specs.InTurn.{under, moved, zeros, joined_numbers, cover_numbers}
-use Rattle.fac_abs.specs.Marks.{mark_eq, curried_mark, composed_mark, cover_marks}
+use Rattle.fac_abs.specs.Marks.{hidden, named_row, dead, on, mark_eq, curried_mark, composed_mark, cover_marks, joined, covered}
 use Rattle.fac_abs.specs.inner.Stacks.{stacks_of}
 use Rattle.fac_abs.specs.Trees.{Naming, depths}
 use Rattle.fac_abs.specs.Seen.{MarksSeen, mark_of, numbers_of, stack_of, is_mark, is_stack}
 
--- template k is literal k of word 0, and empty
+rows_apart : (j k : ℕ) → named_row (j ∷ []) ≡ named_row (k ∷ []) → j ≡ k
+rows_apart j k e = cc
+
+-- template k is literal k of word 0, and empty; row k is named by one character
 abbrev sample : Naming
 sample = record {
   literal = λ k. (record { word = 0; index = k }, end);
   apart = λ j k e. ap (λ (l : Literal). l.index) e;
   unmarked = λ k. refl;
+  row = λ k. named_row (k ∷ []);
+  rows_apart = rows_apart;
 }
 
 abbrev five : Mark
@@ -127,3 +132,36 @@ not_curried = refl
 
 composed_in_order : composed_mark five (par_mark 1) ≡ com_mark five (par_mark 1)
 composed_in_order = refl
+
+-- a dead stack joins to the other
+dead_joined : joined dead (on None (five ∷ [])) ≡ Some (on None (five ∷ []))
+dead_joined = refl
+
+joined_to_dead : joined (on (Some hidden) []) dead ≡ Some (on (Some hidden) [])
+joined_to_dead = refl
+
+-- a mark that both have stays, and another becomes unknown
+two_joined : joined (on None (five ∷ wrd_mark 3 ∷ [])) (on None (five ∷ wrd_mark 4 ∷ [])) ≡ Some (on None (five ∷ any ∷ []))
+unfolding mark_eq
+two_joined = refl
+
+-- stacks on other bases, or of other heights, have no join
+other_bases_not_joined : joined (on None []) (on (Some hidden) []) ≡ None
+other_bases_not_joined = refl
+
+other_heights_not_joined : joined (on None (any ∷ [])) (on None []) ≡ None
+other_heights_not_joined = refl
+
+-- every stack covers a dead one, which covers no other
+dead_covered : covered (on (Some hidden) (five ∷ [])) dead ≡ true
+dead_covered = refl
+
+dead_covers_none : covered dead (on None []) ≡ false
+dead_covers_none = refl
+
+-- a stack covers none on another base or of another height
+other_base_not_covered : covered (on None []) (on (Some hidden) []) ≡ false
+other_base_not_covered = refl
+
+other_height_not_covered : covered (on None (any ∷ any ∷ [])) (on None (any ∷ [])) ≡ false
+other_height_not_covered = refl

@@ -1,3 +1,4 @@
+pub mod BaseLemmas
 pub mod CallerLemmas
 pub mod EqualMarks
 mod ExamplesOfMarks

@@ -25,7 +25,7 @@ ints_alike : (z : ℤ) → int_eq z z ≡ true
 ints_alike (pos a) = eq-eqb a a refl
 ints_alike (negsuc a) = eq-eqb a a refl
 
-bytes_alike : (xs : List ℕ) → bytes_eq xs xs ≡ true
+pub bytes_alike : (xs : List ℕ) → bytes_eq xs xs ≡ true
 bytes_alike xs = grind (arith, bytes_eq-Decides xs xs)
 
 token_alike : (t : Token) → token_eq t t ≡ true

@@ -49,6 +49,25 @@ module _ (d : Cell) (cells : List Cell) where
       let next : suc (s - 1) ≡ s = omega arith in
       height_next (s - 1) f (omega arith) ∙ ap (λ (k : ℕ). length (get_or (stacks_of cells) k [])) next
 
+-- no stack is higher than its number
+not_higher : (cells : List Cell) (f s : ℕ) → s ≤ f → LieOnEarlier cells → s < suc (length cells) → length (get_or (stacks_of cells) s []) ≤ s
+not_higher cells f zero l h k =
+    let e : length (get_or (stacks_of cells) 0 []) ≡ 0 = ap length (stack_zero cells) in
+    omega (arith, e)
+not_higher cells zero (suc s) l h k = absurd (omega (arith, l))
+not_higher cells (suc f) (suc s) l h k =
+    let d : Cell = record { mark = 0; below = 0; height = 0 } in
+    let b : ℕ = (get_or cells (suc s - 1) d).below in
+    let low : b < suc s = below_within d cells (suc s) h (omega arith) k in
+    let so_far = not_higher cells f b (omega (arith, low, l)) h (omega (arith, low, k)) in
+    let e : length (get_or (stacks_of cells) (suc s) []) ≡ suc (length (get_or (stacks_of cells) b [])) = ap length (stack_at d cells (suc s) h (omega arith) k) in
+    omega (arith, e, so_far, low)
+
+pub low_height : (cells : List Cell) (ss : List (List ℕ)) (s : ℕ) → stacks_of cells ≡ ss → LieOnEarlier cells → s < length ss → length (get_or ss s []) ≤ s
+low_height cells ss s e h l =
+    let long : suc (length cells) ≡ length ss = sym (stacks_length cells) ∙ ap length e in
+    subst (λ (ts : List (List ℕ)). length (get_or ts s []) ≤ s) e (not_higher cells s s (omega arith) h (omega (arith, long, l)))
+
 pub map_push : {A B : Type 0} (f : A → B) (xs : List A) (x : A) → map f (xs ++ x ∷ []) ≡ map f xs ++ f x ∷ []
 map_push f [] x = refl
 map_push f (y ∷ xs) x = ap (λ t. f y ∷ t) (map_push f xs x)

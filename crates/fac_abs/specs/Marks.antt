@@ -1,5 +1,5 @@
 -- What the checker knows of a value and of a stack.
-use Rattle.std.specs.Prelude.{ℕ, zero, suc, max, ℤ, pos, negsuc, List, [], ◌∷◌, Bool, true, false, ◌&&◌, ◌||◌, nat_eq, nat_le, Option, Some, None}
+use Rattle.std.specs.Prelude.{ℕ, zero, suc, max, ℤ, pos, negsuc, List, [], ◌∷◌, length, Bool, true, false, ◌&&◌, ◌||◌, nat_eq, nat_le, Option, Some, None}
 use Rattle.std.specs.Str.{bytes_eq}
 use Rattle.fac_lang.specs.declared.limits.TheConstants.{MOST_MARK_DEPTH}
 use Rattle.fac_lang.specs.Texts.{Text, end, then, Item, quot, fry, known, Mark, any, lit_mark, cur_mark, com_mark, wrd_mark, par_mark}
@@ -112,6 +112,18 @@ abbrev pub cover_marks : List Mark → List Mark → Bool
 cover_marks [] ns = true
 cover_marks (m ∷ ms) [] = false
 cover_marks (m ∷ ms) (n ∷ ns) = (mark_eq m any || mark_eq m n) && cover_marks ms ns
+
+-- Two stacks are joined: a dead one to the other, else those of one base and one length, mark by mark. Others have no join.
+abbrev pub joined : AbstractStack → AbstractStack → Option AbstractStack
+joined dead B = Some B
+joined (on b ms) dead = Some (on b ms)
+joined (on b ms) (on c ns) = elim (base_eq b c && nat_eq (length ms) (length ns)) [ true ↦ Some (on b (join_marks ms ns)) | false ↦ None ]
+
+-- Whether a stack covers another: every one covers a dead one, and else both are of one base and one length, and the marks of the first cover those of the second.
+abbrev pub covered : AbstractStack → AbstractStack → Bool
+covered A dead = true
+covered dead (on c ns) = false
+covered (on b ms) (on c ns) = base_eq b c && (nat_eq (length ms) (length ns) && cover_marks ms ns)
 
 -- n times `any` on the marks
 abbrev pub unknowns : ℕ → List Mark → List Mark

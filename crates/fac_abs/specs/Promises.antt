@@ -3,9 +3,10 @@ use Rattle.std.specs.Prelude.{ℕ, List, [], ◌∷◌, true, false, nat_eq, Opt
 use Rattle.fac_lang.specs.Texts.{Mark, any, lit_mark, cur_mark, com_mark, wrd_mark, par_mark}
 use Rattle.fac_abs.specs.declared.node.Node.{Node}
 use Rattle.fac_abs.specs.declared.node.Node.TheVariants.{Any, Lit, Cur, Com, Wrd, Par}
-use Rattle.fac_abs.specs.Marks.{join_marks}
+use Rattle.fac_abs.specs.declared.reached.Reached.{Reached}
+use Rattle.fac_abs.specs.Marks.{AbstractStack, join_marks}
 use Rattle.fac_abs.specs.Trees.{Naming}
-use Rattle.fac_abs.specs.Seen.{MarksSeen, mark_of, stack_of, IsMark, IsStack}
+use Rattle.fac_abs.specs.Seen.{MarksSeen, mark_of, stack_of, IsMark, IsStack, IsReached, reached_seen}
 
 -- a number stands for this mark
 pub record IsMarkOf (M : MarksSeen) (m : ℕ) (mark : Naming → Mark) : Type 0 where
@@ -49,6 +50,11 @@ pub record HasTop (M : MarksSeen) (s mark below : ℕ) : Type 0 where
 abbrev pub HasTopWhere : MarksSeen → ℕ → Option (ℕ × ℕ) → Type 0
 HasTopWhere M s None = (N : Naming) → stack_of N M s ≡ []
 HasTopWhere M s (Some (mark, below)) = HasTop M s mark below
+
+-- a walk comes to this stack, where there is one
+abbrev pub IsReachedWhere : MarksSeen → Option Reached → (Naming → Option AbstractStack) → Type 0
+IsReachedWhere M None stack = (N : Naming) → stack N ≡ None
+IsReachedWhere M (Some A) stack = IsReached M A × ((N : Naming) → stack N ≡ Some (reached_seen N M A))
 
 -- two stacks of one height are joined by the stack with this number
 pub record IsJoined (M L : MarksSeen) (a b s : ℕ) : Type 0 where

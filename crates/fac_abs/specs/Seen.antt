@@ -1,7 +1,10 @@
 -- Marks and stacks of marks, as contracts see them.
-use Rattle.std.specs.Prelude.{ℕ, List, [], ◌∷◌, Bool, true, ◌&&◌, nat_lt, get_or, length, map, ◌≡◌}
+use Rattle.std.specs.Prelude.{ℕ, List, [], ◌∷◌, Bool, true, ◌&&◌, nat_lt, get_or, length, map, Option, Some, None, ◌≡◌}
 use Rattle.fac_lang.specs.Texts.{Mark, any}
 use Rattle.fac_abs.specs.declared.node.Node.{Node}
+use Rattle.fac_abs.specs.declared.reached.Reached.{Reached}
+use Rattle.fac_abs.specs.declared.reached.Reached.TheVariants.{Dead, On}
+use Rattle.fac_abs.specs.Marks.{Row, AbstractStack, dead, on}
 use Rattle.fac_abs.specs.Trees.{Naming, trees}
 
 -- Nodes, of which each stands for the mark with its number, and stacks with the top first, of which each stands for the stack with its number.
@@ -21,6 +24,16 @@ numbers_of M s = get_or M.stacks s []
 unfoldable pub stack_of : Naming → MarksSeen → ℕ → List Mark
 stack_of N M s = map (mark_of N M) (numbers_of M s)
 
+-- the base with this number, where there is one
+abbrev pub base_seen : Naming → Option ℕ → Option Row
+base_seen N None = None
+base_seen N (Some r) = Some (N.row r)
+
+-- the stack that a walk comes to
+abbrev pub reached_seen : Naming → MarksSeen → Reached → AbstractStack
+reached_seen N M Dead = dead
+reached_seen N M (On b s) = on (base_seen N b) (stack_of N M s)
+
 -- whether these are numbers below n
 abbrev pub are_below : ℕ → List ℕ → Bool
 are_below n [] = true
@@ -39,6 +52,11 @@ IsMark M m = is_mark M m ≡ true
 
 abbrev pub IsStack : MarksSeen → ℕ → Type 0
 IsStack M s = is_stack M s ≡ true
+
+-- the stack that a walk comes to is there
+abbrev pub IsReached : MarksSeen → Reached → Type 0
+IsReached M Dead = Unit {0}
+IsReached M (On b s) = IsStack M s
 
 -- all marks and stacks stay what they are
 pub record Grows (M L : MarksSeen) : Type 0 where

@@ -4,15 +4,19 @@ use Rattle.fac_lang.specs.Texts.{Text, Literal, Mark, any, lit_mark, cur_mark, c
 use Rattle.fac_abs.specs.declared.node.Node.{Node}
 use Rattle.fac_abs.specs.declared.node.Node.TheVariants.{Any, Lit, Cur, Com, Wrd, Par}
 use Rattle.fac_abs.specs.InTurn.{in_turn, FitsInTurn}
-use Rattle.fac_abs.specs.Marks.{text_marks}
+use Rattle.fac_abs.specs.Marks.{Row, text_marks}
 
--- Which literal each template's number names, and its text.
+-- What numbers name: which literal that of a template does, with its text, and which row that of a base.
 pub record Naming : Type 0 where
   pub literal : ℕ → Literal × Text
   -- no two numbers name one literal
   pub apart : (j k : ℕ) → (literal j).0 ≡ (literal k).0 → j ≡ k
   -- no mark stands in a source's text
   pub unmarked : (k : ℕ) → text_marks (literal k).1 ≡ 0
+  -- which row each number of a base names
+  pub row : ℕ → Row
+  -- no two numbers name one row
+  pub rows_apart : (j k : ℕ) → row j ≡ row k → j ≡ k
 
 -- the mark of a node, whose parts are among the marks before it
 abbrev pub tree : Naming → List Mark → Node → Mark

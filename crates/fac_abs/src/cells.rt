@@ -85,9 +85,7 @@ impl Cells {
         ensures made { IfOk result (λ r. Is self.new r (mark ∷ get_or self.old below [])) }
         ensures err { OnErr result (self.new ≡ self.old) }
     {
-        let Some(height) = self.height(below).checked_add(1) else {
-            return Err(Memory);
-        };
+        let height = self.height(below);
         let count = self.cells.len();
         if count >= u32::MAX as usize - 1 {
             return Err(Memory);
@@ -95,7 +93,7 @@ impl Cells {
         self.cells.push(Cell {
             mark,
             below,
-            height,
+            height: height + 1,
         })?;
         Ok(count as u32 + 1)
     }

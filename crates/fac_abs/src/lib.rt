@@ -4,9 +4,11 @@
 mod cells;
 mod node;
 mod nodes;
+mod reached;
 mod rule;
 mod table;
 
 pub use node::Node;
+pub use reached::Reached;
 pub use rule::Rule;
 pub use table::Marks;

@@ -2,14 +2,15 @@
 ghost use Rattle.std.specs.Prelude.{◌≡◌, ◌∷◌, ◌<◌, ◌&&◌, [], length, get_or, map, nat_eq, Some, None, IfOk, OnOk, OnErr};
 ghost use Rattle.fac_lang.specs.Texts.{any, lit_mark, wrd_mark, par_mark};
 ghost use Rattle.fac_abs.specs.InTurn.{under, moved};
-ghost use Rattle.fac_abs.specs.Marks.{mark_eq, mark_depth, is_callable, curried_mark, composed_mark, cover_marks, unknowns};
+ghost use Rattle.fac_abs.specs.Marks.{on, base_eq, mark_eq, mark_depth, is_callable, curried_mark, composed_mark, cover_marks, joined, covered, unknowns};
 ghost use Rattle.fac_abs.specs.Trees.{Naming, tree, trees, node_depth, depths, HasPartsBelow};
-ghost use Rattle.fac_abs.specs.Seen.{mark_of, stack_of, IsMark, IsStack, Grows, NumbersAreMarks};
-ghost use Rattle.fac_abs.specs.Promises.{IsMarkOf, IsStackOf, IsStackWhere, IsNodeOf, HasTopWhere, IsJoinedWhere};
+ghost use Rattle.fac_abs.specs.Seen.{mark_of, stack_of, base_seen, reached_seen, IsMark, IsStack, IsReached, Grows, NumbersAreMarks};
+ghost use Rattle.fac_abs.specs.Promises.{IsMarkOf, IsStackOf, IsStackWhere, IsNodeOf, HasTopWhere, IsJoinedWhere, IsReachedWhere};
 
 use crate::Node;
 use crate::cells::Cells;
 use crate::nodes::Nodes;
+use crate::reached::Reached;
 use fac_lang::Memory;
 use fac_lang::limits::MOST_MARK_DEPTH;
 use std::alloc::Global;
@@ -240,9 +241,8 @@ impl Marks {
         self.cells.shuffle(stack, takes, leaves)
     }
 
-    /// The join of two stacks, which keeps the marks that both have and knows nothing of the others. None where their heights differ. It takes
-    /// the time of the marks above what the two share.
-    pub fn join(&mut self, a: u32, b: u32) -> Result<Option<u32>, Memory>
+    // The join of two stacks. None where their heights differ.
+    fn join_stacks(&mut self, a: u32, b: u32) -> Result<Option<u32>, Memory>
         requires first { IsStack self.old a }
         requires second { IsStack self.old b }
         ensures grows { Grows self.old self.new }
@@ -252,9 +252,51 @@ impl Marks {
         self.cells.join(a, b)
     }
 
-    /// Whether a stack covers another: both have one height, and each mark of `bound` is that of nothing known or the mark of `got` at the same
-    /// place. It takes no memory, and the time of the marks above what the two share.
-    pub fn covers(&self, bound: u32, got: u32) -> bool
+    // The join of two stacks on their bases.
+    fn join_on(
+        &mut self,
+        base: Option<u32>,
+        stack: u32,
+        other: Option<u32>,
+        below: u32,
+    ) -> Result<Option<Reached>, Memory>
+        requires first { IsStack self.old stack }
+        requires second { IsStack self.old below }
+        ensures grows { Grows self.old self.new }
+        ensures made { IfOk result (λ o. IsReachedWhere self.new o (λ N. joined (on (base_seen N base) (stack_of N self.old stack)) (on (base_seen N other) (stack_of N self.old below)))) }
+    {
+        if !same_base(base, other) {
+            return Ok(None);
+        }
+        match self.join_stacks(stack, below)? {
+            Some(stack) => Ok(Some(Reached::On { base, stack })),
+            None => Ok(None),
+        }
+    }
+
+    /// The join of what two branches come to: a dead one joins to the other. Else it keeps the marks that both stacks have and knows nothing of
+    /// the others, and there is none where their bases or heights differ. It takes the time of the marks above what the two share.
+    pub fn join(&mut self, first: Reached, second: Reached) -> Result<Option<Reached>, Memory>
+        requires first { IsReached self.old first }
+        requires second { IsReached self.old second }
+        ensures grows { Grows self.old self.new }
+        ensures made { IfOk result (λ o. IsReachedWhere self.new o (λ N. joined (reached_seen N self.old first) (reached_seen N self.old second))) }
+    {
+        match first {
+            Reached::Dead => Ok(Some(second)),
+            Reached::On { base, stack } => match second {
+                Reached::Dead => Ok(Some(Reached::On { base, stack })),
+                Reached::On {
+                    base: other,
+                    stack: below,
+                } => self.join_on(base, stack, other, below),
+            },
+        }
+    }
+
+    // Whether a stack covers another: both have one height, and each mark of `bound` is that of nothing known or the mark of `got` at the same
+    // place.
+    fn covers_stack(&self, bound: u32, got: u32) -> bool
         requires bound { IsStack self.now bound }
         requires got { IsStack self.now got }
         ensures { (N : Naming) → result ≡ (nat_eq (length (stack_of N self.now bound)) (length (stack_of N self.now got)) && cover_marks (stack_of N self.now bound) (stack_of N self.now got)) }
@@ -263,11 +305,59 @@ impl Marks {
         self.cells.covers(bound, got)
     }
 
+    // Whether a stack on its base covers another.
+    fn covers_on(&self, base: Option<u32>, stack: u32, other: Option<u32>, got: u32) -> bool
+        requires bound { IsStack self.now stack }
+        requires got { IsStack self.now got }
+        ensures { (N : Naming) → result ≡ covered (on (base_seen N base) (stack_of N self.now stack)) (on (base_seen N other) (stack_of N self.now got)) }
+    {
+        if !same_base(base, other) {
+            return false;
+        }
+        self.covers_stack(stack, got)
+    }
+
+    /// Whether what a walk comes to is covered by another, as a bound row asks for: everything covers a dead one. Else both have one base and one
+    /// height, and each mark of `bound` is that of nothing known or the mark of `got` at the same place. It takes no memory, and the time of the
+    /// marks above what the two share.
+    pub fn covers(&self, bound: Reached, got: Reached) -> bool
+        requires bound { IsReached self.now bound }
+        requires got { IsReached self.now got }
+        ensures { (N : Naming) → result ≡ covered (reached_seen N self.now bound) (reached_seen N self.now got) }
+    {
+        match got {
+            Reached::Dead => true,
+            Reached::On {
+                base: other,
+                stack: below,
+            } => match bound {
+                Reached::Dead => false,
+                Reached::On { base, stack } => self.covers_on(base, stack, other, below),
+            },
+        }
+    }
+
     /// Forgets all stacks but the empty one, so that their memory serves again. The marks stay.
     pub fn clear_stacks(&mut self)
         ensures nodes { self.new.nodes ≡ self.old.nodes }
         ensures stack { IsStackOf self.new 0 (λ N. []) }
     {
         self.cells.clear();
+    }
+}
+
+// Whether two bases are the same.
+fn same_base(a: Option<u32>, b: Option<u32>) -> bool
+    ensures { (N : Naming) → result ≡ base_eq (base_seen N a) (base_seen N b) }
+{
+    match a {
+        None => match b {
+            None => true,
+            Some(_) => false,
+        },
+        Some(x) => match b {
+            None => false,
+            Some(y) => x == y,
+        },
     }
 }

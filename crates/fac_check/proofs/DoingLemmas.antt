@@ -11,13 +11,14 @@ use Rattle.fac_abs.specs.InTurn.{under, taken, moved}
 use Rattle.fac_abs.specs.Seen.{MarksSeen}
 use Rattle.fac_check.specs.inner.Walking.{IsDoingOf}
 use Rattle.fac_check.specs.declared.doing.Doing.{Doing}
-use Rattle.fac_check.specs.declared.doing.Doing.TheVariants.{Breaks, Gives, Expands, Walks, Forks}
+use Rattle.fac_check.specs.declared.doing.Doing.TheVariants.{Breaks, Ends, Gives, Expands, Walks, Forks}
 use Rattle.fac_check.specs.Flow.{breaks, gives, forks, by_height, marks_moved, mark_made, core_doing}
 
 -- what names one of these words names one of those
 pub doing_of : (R S : ℕ → Type 0) (M : MarksSeen) (D : Doing) → ((w : ℕ) → R w → S w) → IsDoingOf R M D → IsDoingOf S M D
 doing_of R S M (Breaks r) f h = tt
-doing_of R S M (Gives A) f h = h
+doing_of R S M Ends f h = tt
+doing_of R S M (Gives s) f h = h
 doing_of R S M (Expands w s) f h = (f w h.0, h.1)
 doing_of R S M (Walks m s back) f h = h
 doing_of R S M (Forks m n s) f h = h

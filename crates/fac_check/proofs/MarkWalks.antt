@@ -11,36 +11,36 @@ use Rattle.fac_locals.specs.Literals.{Quoted, literal_or, first_of_word, first_o
 use Rattle.fac_locals.specs.Closed.{Closes, ClosesText}
 use Rattle.fac_locals.specs.declared.closing.Closed.{Closed}
 use Rattle.fac_locals.proofs.Lookups.{word_open, template_closed, template_closed_none}
-use Rattle.fac_abs.specs.Marks.{AbstractStack, on}
+use Rattle.fac_abs.specs.Marks.{Row, AbstractStack, on}
 use Rattle.fac_abs.specs.Trees.{Naming}
-use Rattle.fac_abs.specs.Seen.{MarksSeen, Grows, IsMark, IsStack, mark_of, stack_of}
+use Rattle.fac_abs.specs.Seen.{MarksSeen, Grows, IsMark, IsStack, IsReached, mark_of, stack_of, base_seen, reached_seen}
 use Rattle.fac_check.specs.declared.walker.Step.{Step}
 use Rattle.fac_check.specs.declared.walker.Walked.{Walked as Ended}
 use Rattle.fac_check.specs.declared.walker.Walked.TheVariants.{Found}
-use Rattle.fac_check.specs.declared.doing.Reached.{Reached}
-use Rattle.fac_check.specs.declared.doing.Reached.TheVariants.{Dead, On}
+use Rattle.fac_abs.specs.declared.reached.Reached.{Reached}
+use Rattle.fac_abs.specs.declared.reached.Reached.TheVariants.{Dead, On}
 use Rattle.fac_check.specs.Flow.{Walked, found, and_then, join, living, inside, Walk, walk_text, walk_mark}
-use Rattle.fac_check.specs.inner.Walking.{Opened, IsReached, reached_seen, walked_seen, Enters, body_text, text_of, sort_text, go_at, mark_walk, fork_walk}
+use Rattle.fac_check.specs.inner.Walking.{Opened, walked_seen, Enters, body_text, text_of, sort_text, go_at, mark_walk, fork_walk}
 use Rattle.fac_check.proofs.BuiltWords.{built_as}
 use Rattle.fac_check.proofs.WordItems.{is_body}
 
-module _ (go : Walk) (p : Place) (nested : ℕ) (ms : List Mark) (left rest : ℕ) (counts : left ≡ suc rest) where
+module _ (go : Walk) (p : Place) (nested : ℕ) (b : Option Row) (ms : List Mark) (left rest : ℕ) (counts : left ≡ suc rest) where
   -- what `curry` made
-  pub curried_counts : (m c : Mark) (d : ℕ) → Enters c nested (Ok d) → walk_mark None go (cur_mark m c) p nested None ms left ≡ walk_mark None go c p d None (m ∷ ms) rest
-  curried_counts m c d enters = rw counts (enters p (λ d'. walk_mark None go c p d' None (m ∷ ms) rest))
+  pub curried_counts : (m c : Mark) (d : ℕ) → Enters c nested (Ok d) → walk_mark None go (cur_mark m c) p nested b ms left ≡ walk_mark None go c p d b (m ∷ ms) rest
+  curried_counts m c d enters = rw counts (enters p (λ d'. walk_mark None go c p d' b (m ∷ ms) rest))
 
   -- what `compose` made: its first part, and then its second
-  pub composed_counts : (c e : Mark) (W : Walked AbstractStack) → W ≡ inside c p nested (λ d. walk_mark None go c p d None ms rest) → walk_mark None go (com_mark c e) p nested None ms left ≡ and_then W (λ A k. living A k (λ b ns j. inside e p nested (λ d. walk_mark None go e p d b ns j)))
+  pub composed_counts : (c e : Mark) (W : Walked AbstractStack) → W ≡ inside c p nested (λ d. walk_mark None go c p d b ms rest) → walk_mark None go (com_mark c e) p nested b ms left ≡ and_then W (λ A k. living A k (λ c ns j. inside e p nested (λ d. walk_mark None go e p d c ns j)))
   composed_counts c e W first = rw (counts, first) refl
 
   -- likewise where the walk of the first part came to this
-  pub composed_ends : (N : Naming) (K : MarksSeen) (c e : Mark) (W V : Ended) → W ≡ V → walked_seen N K W ≡ inside c p nested (λ d. walk_mark None go c p d None ms rest) → walk_mark None go (com_mark c e) p nested None ms left ≡ and_then (walked_seen N K V) (λ A k. living A k (λ b ns j. inside e p nested (λ d. walk_mark None go e p d b ns j)))
+  pub composed_ends : (N : Naming) (K : MarksSeen) (c e : Mark) (W V : Ended) → W ≡ V → walked_seen N K W ≡ inside c p nested (λ d. walk_mark None go c p d b ms rest) → walk_mark None go (com_mark c e) p nested b ms left ≡ and_then (walked_seen N K V) (λ A k. living A k (λ c ns j. inside e p nested (λ d. walk_mark None go e p d c ns j)))
   composed_ends N K c e W V is first = composed_counts c e (walked_seen N K V) (ap (walked_seen N K) (sym is) ∙ first)
 
 -- a text is one application deeper
-pub text_entered : (go : Walk) (at : Literal) (t : Text) (p : Place) (nested : ℕ) (ms : List Mark) (n : ℕ) → nested ≢ 0 → walk_text None go at t p nested None ms n ≡ go at (nested - 1) t None ms n
-text_entered go at t p zero ms n h = absurd (h refl)
-text_entered go at t p (suc d) ms n h = (let e : suc d - 1 ≡ d = omega arith in rw e refl)
+pub text_entered : (go : Walk) (at : Literal) (t : Text) (p : Place) (nested : ℕ) (b : Option Row) (ms : List Mark) (n : ℕ) → nested ≢ 0 → walk_text None go at t p nested b ms n ≡ go at (nested - 1) t b ms n
+text_entered go at t p zero b ms n h = absurd (h refl)
+text_entered go at t p (suc d) b ms n h = (let e : suc d - 1 ≡ d = omega arith in rw e refl)
 
 module _ {C : Program} {templates : List Template} (O : Opened C templates) where
   -- the text of a literal, for the body of its template
@@ -65,8 +65,8 @@ carried e O = record {
 }
 
 -- a text with no items
-pub no_items : {C : Program} {templates : List Template} (O : Opened C templates) (f : ℕ) (at : Literal) (t : Text) (p : Place) (nested : ℕ) (ms : List Mark) (n : ℕ) → t ≡ end → nested ≢ 0 → found (on None ms) n ≡ walk_text None (go_at O f) at t p nested None ms n
-no_items O f at t p nested ms n e h = sym (text_entered (go_at O f) at t p nested ms n h ∙ ap (λ u. go_at O f at (nested - 1) u None ms n) e)
+pub no_items : {C : Program} {templates : List Template} (O : Opened C templates) (f : ℕ) (at : Literal) (t : Text) (p : Place) (nested : ℕ) (b : Option Row) (ms : List Mark) (n : ℕ) → t ≡ end → nested ≢ 0 → found (on b ms) n ≡ walk_text None (go_at O f) at t p nested b ms n
+no_items O f at t p nested b ms n e h = sym (text_entered (go_at O f) at t p nested b ms n h ∙ ap (λ u. go_at O f at (nested - 1) u b ms n) e)
 
 module _ {C : Program} {templates : List Template} (O : Opened C templates) where
   -- a number behind the last template names a literal with no items
@@ -76,7 +76,7 @@ module _ {C : Program} {templates : List Template} (O : Opened C templates) wher
 -- what was reached stays what it is
 pub reached_stays : (N : Naming) (M L : MarksSeen) (A : Reached) → Grows M L → IsReached M A → reached_seen N L A ≡ reached_seen N M A
 reached_stays N M L Dead g h = refl
-reached_stays N M L (On s) g h = ap (λ ms. on None ms) (g.same_stack N s h)
+reached_stays N M L (On b s) g h = ap (λ ms. on (base_seen N b) ms) (g.same_stack N s h)
 
 -- two callables, and then their join
 module _ {C : Program} {templates : List Template} (O : Opened C templates) (go : Walk) (M L K : MarksSeen) (s : Step) (m n : ℕ) where
@@ -84,12 +84,12 @@ module _ {C : Program} {templates : List Template} (O : Opened C templates) (go 
   pub forked :
       (W V : Ended) (upper : Reached) (rest : ℕ) (X : Walked AbstractStack) → Grows M L → IsMark M n → IsStack M s.stack → W ≡ Found upper rest →
       walked_seen O.naming L W ≡ mark_walk M s m O go →
-      walked_seen O.naming K V ≡ walk_mark None go (mark_of O.naming L n) s.place s.nested None (stack_of O.naming L s.stack) rest →
+      walked_seen O.naming K V ≡ walk_mark None go (mark_of O.naming L n) s.place s.nested (base_seen O.naming s.base) (stack_of O.naming L s.stack) rest →
       X ≡ and_then (walked_seen O.naming K V) (λ B j. join (reached_seen O.naming L upper) B s.place j) →
       X ≡ fork_walk M s m n O go
   forked W V upper rest X grows there stack is first second joins =
       let N = O.naming in
-      let seconds : ℕ → Walked AbstractStack = λ k. walk_mark None go (mark_of N M n) s.place s.nested None (stack_of N M s.stack) k in
+      let seconds : ℕ → Walked AbstractStack = λ k. walk_mark None go (mark_of N M n) s.place s.nested (base_seen N s.base) (stack_of N M s.stack) k in
       joins
-      ∙ ap (λ w. and_then w (λ B j. join (reached_seen N L upper) B s.place j)) (second ∙ ap (λ q. walk_mark None go q s.place s.nested None (stack_of N L s.stack) rest) (grows.same_mark N n there) ∙ ap (λ ms. walk_mark None go (mark_of N M n) s.place s.nested None ms rest) (grows.same_stack N s.stack stack))
+      ∙ ap (λ w. and_then w (λ B j. join (reached_seen N L upper) B s.place j)) (second ∙ ap (λ q. walk_mark None go q s.place s.nested (base_seen N s.base) (stack_of N L s.stack) rest) (grows.same_mark N n there) ∙ ap (λ ms. walk_mark None go (mark_of N M n) s.place s.nested (base_seen N s.base) ms rest) (grows.same_stack N s.stack stack))
       ∙ ap (λ w. and_then w (λ A k. and_then (seconds k) (λ B j. join A B s.place j))) (ap (walked_seen N L) (sym is) ∙ first)

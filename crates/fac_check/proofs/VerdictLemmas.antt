@@ -1,5 +1,5 @@
 -- The verdict on a word, from the walk of its closed text.
-use Rattle.std.proofs.Common.{◌≡◌, ◌≢◌, ◌<◌, ℕ, List, [], Bool, true, false, Option, Some, None, refl, sym, ap, subst, ◌∙◌, arith}
+use Rattle.std.proofs.Common.{◌≡◌, ◌≢◌, ◌<◌, ℕ, List, [], ◌∷◌, Bool, true, false, Option, Some, None, refl, sym, ap, subst, ◌∙◌, arith}
 use Rattle.std.specs.Prelude.{nat_eq, slice_get}
 use Rattle.std.proofs.lemmas.Bool.{ne_eqb}
 use Rattle.fac_lang.specs.declared.phrase.Place.{Place}
@@ -14,7 +14,7 @@ use Rattle.fac_lang.specs.Forms.{IsBuilt}
 use Rattle.fac_locals.specs.Literals.{first_of_word, literal_numbered}
 use Rattle.fac_locals.specs.Closed.{Closes, ClosesText, ClosesSort, ClosesWord}
 use Rattle.fac_locals.proofs.Places.{literal_apart, literal_built}
-use Rattle.fac_abs.specs.Marks.{unknowns}
+use Rattle.fac_abs.specs.Marks.{Row, named_row, unknowns}
 use Rattle.fac_abs.specs.Trees.{Naming}
 use Rattle.fac_abs.specs.Seen.{MarksSeen, stack_of}
 use Rattle.fac_abs.specs.declared.rule.Rule.{Rule}
@@ -27,13 +27,20 @@ use Rattle.fac_check.specs.Judged.{breach_seen}
 use Rattle.fac_check.proofs.BuiltMarks.{built_unmarked}
 use Rattle.fac_check.proofs.BuiltWords.{BuiltAs, as_primitive, as_core, as_defined, built_as, no_bad_rows, no_bad_generic, no_row_word}
 
+-- A row for each number. The texts of built programs are walked on none.
+abbrev pub numbered_row : ℕ → Row
+numbered_row k = named_row (k ∷ [])
+
+pub numbered_apart : (j k : ℕ) → numbered_row j ≡ numbered_row k → j ≡ k
+numbered_apart j k e = cc
+
 -- the templates of a built program's closed one name its literals
 abbrev pub opened : (P C : Program) (templates : List Template) → Closes P C templates → IsBuilt P → Opened C templates
 opened P C templates closes built = record {
   program = P;
   closes = closes;
   built = built;
-  naming = record { literal = literal_numbered P; apart = literal_apart P; unmarked = λ k. built_unmarked P.top (literal_numbered P k).1 (literal_built P built k) };
+  naming = record { literal = literal_numbered P; apart = literal_apart P; unmarked = λ k. built_unmarked P.top (literal_numbered P k).1 (literal_built P built k); row = numbered_row; rows_apart = numbered_apart };
   naming_is = λ k. refl;
 }
 

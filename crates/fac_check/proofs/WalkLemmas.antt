@@ -1,5 +1,5 @@
 -- How the walk of a text goes on behind an item.
-use Rattle.std.proofs.Common.{◌≡◌, ◌<◌, ◌≤◌, ℕ, zero, suc, List, [], ◌∷◌, None, refl, sym, ap, subst, ◌∙◌, arith}
+use Rattle.std.proofs.Common.{◌≡◌, ◌<◌, ◌≤◌, ℕ, zero, suc, List, [], ◌∷◌, Option, None, refl, sym, ap, subst, ◌∙◌, arith}
 use Rattle.fac_lang.specs.declared.phrase.Place.{Place}
 use Rattle.fac_lang.specs.declared.phrase.Template.{Template}
 use Rattle.fac_lang.specs.declared.phrase.Item.{Item as PlacedItem}
@@ -8,36 +8,37 @@ use Rattle.fac_lang.specs.Texts.{Literal, Text, end, then, Item, Mark}
 use Rattle.fac_lang.specs.View.{what_item, items_text}
 use Rattle.fac_locals.specs.Literals.{behind}
 use Rattle.fac_locals.specs.Closed.{ClosesItem, ClosesText}
-use Rattle.fac_abs.specs.Marks.{dead, on}
+use Rattle.fac_abs.specs.Marks.{Row, dead, on}
 use Rattle.fac_abs.specs.Trees.{Naming}
-use Rattle.fac_abs.specs.Seen.{MarksSeen, stack_of}
+use Rattle.fac_abs.specs.Seen.{MarksSeen, stack_of, base_seen}
 use Rattle.fac_check.specs.Flow.{found, refused, and_then, doing}
 use Rattle.fac_check.specs.inner.ItemWalk.{IsAlone, item_walk}
 use Rattle.fac_check.specs.inner.Walking.{Opened, doing_seen, walked_seen, body_text, go_at, IsBelow}
-use Rattle.fac_check.specs.declared.doing.Reached.TheVariants.{Dead, On}
+use Rattle.fac_abs.specs.declared.reached.Reached.TheVariants.{Dead, On}
 use Rattle.fac_check.specs.declared.doing.Doing.{Doing}
-use Rattle.fac_check.specs.declared.doing.Doing.TheVariants.{Breaks, Gives, Expands, Walks, Forks}
+use Rattle.fac_check.specs.declared.doing.Doing.TheVariants.{Breaks, Ends, Gives, Expands, Walks, Forks}
 use Rattle.fac_check.specs.declared.walker.Walked.{Walked}
 use Rattle.fac_check.specs.declared.walker.Walked.TheVariants.{Found, Refused}
 use Rattle.fac_check.proofs.StepByStep.{rest, walk_on_item}
 
 -- what the code's items do is done by the item alone
-alone : (N : Naming) (M : MarksSeen) (texts : ℕ → Text) (D : Doing) → IsAlone (doing_seen N M texts D)
-alone N M texts (Breaks r) = tt
-alone N M texts (Gives A) = tt
-alone N M texts (Expands w s) = tt
-alone N M texts (Walks m s back) = tt
-alone N M texts (Forks m n s) = tt
+alone : (N : Naming) (M : MarksSeen) (texts : ℕ → Text) (b : Option Row) (D : Doing) → IsAlone (doing_seen N M texts b D)
+alone N M texts b (Breaks r) = tt
+alone N M texts b Ends = tt
+alone N M texts b (Gives s) = tt
+alone N M texts b (Expands w s) = tt
+alone N M texts b (Walks m s back) = tt
+alone N M texts b (Forks m n s) = tt
 
 module _ {C : Program} {templates : List Template} (O : Opened C templates) where
   -- The walk of a text from the start is the walk from here, of what stands for these items.
-  pub record Onward (at : Literal) (t : Text) (f nested : ℕ) (ms : List Mark) (most : ℕ) (M : MarksSeen) (s : ℕ) (items : List PlacedItem) (n : ℕ) : Type 0 where
+  pub record Onward (at : Literal) (t : Text) (f nested : ℕ) (e : Option Row) (ms : List Mark) (most : ℕ) (M : MarksSeen) (b : Option ℕ) (s : ℕ) (items : List PlacedItem) (n : ℕ) : Type 0 where
     pub here : Literal
     pub text : Text
     pub steps : ℕ
     pub closes : ClosesText O.program here text (items_text items)
     pub enough : n < steps
-    pub same : go_at O f at nested t None ms most ≡ go_at O steps here nested text None (stack_of O.naming M s) n
+    pub same : go_at O f at nested t e ms most ≡ go_at O steps here nested text (base_seen O.naming b) (stack_of O.naming M s) n
 
   -- a text for a closed one that begins with this item
   pub record Begins (at : Literal) (t : Text) (j : Item) (p : Place) (c : Text) : Type 0 where
@@ -58,56 +59,56 @@ module _ {C : Program} {templates : List Template} (O : Opened C templates) wher
 
   -- the walk from an item on, by the code's answers
   pub behind_item :
-      (at : Literal) (i : Item) (p : Place) (t : Text) (f nested n s : ℕ) (M L K : MarksSeen) (D : Doing) (W : Walked) →
-      doing_seen O.naming L (body_text O.program) D ≡ doing O.program None at i None (stack_of O.naming M s) →
-      walked_seen O.naming K W ≡ item_walk None (go_at O f) (doing_seen O.naming L (body_text O.program) D) p nested n →
-      go_at O (suc f) at nested (then i p t) None (stack_of O.naming M s) n ≡ and_then (walked_seen O.naming K W) (rest None (go_at O f) nested (behind at i) t)
-  behind_item at i p t f nested n s M L K D W does walks =
-      walk_on_item None (go_at O f) nested (behind at i) t (doing O.program None at i None (stack_of O.naming M s)) p n (subst IsAlone does (alone O.naming L (body_text O.program) D))
+      (at : Literal) (i : Item) (p : Place) (t : Text) (f nested n : ℕ) (b : Option Row) (s : ℕ) (M L K : MarksSeen) (D : Doing) (W : Walked) →
+      doing_seen O.naming L (body_text O.program) b D ≡ doing O.program None at i b (stack_of O.naming M s) →
+      walked_seen O.naming K W ≡ item_walk None (go_at O f) (doing_seen O.naming L (body_text O.program) b D) p nested n →
+      go_at O (suc f) at nested (then i p t) b (stack_of O.naming M s) n ≡ and_then (walked_seen O.naming K W) (rest None (go_at O f) nested (behind at i) t)
+  behind_item at i p t f nested n b s M L K D W does walks =
+      walk_on_item None (go_at O f) nested (behind at i) t (doing O.program None at i b (stack_of O.naming M s)) p n (subst IsAlone does (alone O.naming L (body_text O.program) b D))
       ∙ ap (λ x. and_then (item_walk None (go_at O f) x p nested n) (rest None (go_at O f) nested (behind at i) t)) (sym does)
       ∙ ap (λ x. and_then x (rest None (go_at O f) nested (behind at i) t)) (sym walks)
 
 -- What the code's calls for an item say, with a program at hand.
 abbrev pub DoesItem : {C : Program} {templates : List Template} → Opened C templates → MarksSeen → MarksSeen → ℕ → PlacedItem → Doing → Type 0
-DoesItem O M L s i D = (at : Literal) (j : Item) → ClosesItem O.program at j (what_item i.what) → doing_seen O.naming L (body_text O.program) D ≡ doing O.program None at j None (stack_of O.naming M s)
+DoesItem O M L s i D = (at : Literal) (j : Item) (b : Option Row) → ClosesItem O.program at j (what_item i.what) → doing_seen O.naming L (body_text O.program) b D ≡ doing O.program None at j b (stack_of O.naming M s)
 
 module _ {C : Program} {templates : List Template} (O : Opened C templates) where
   -- at the start
-  pub onward_start : (at : Literal) (t : Text) (f nested : ℕ) (most : ℕ) (M : MarksSeen) (s : ℕ) (items : List PlacedItem) → ClosesText O.program at t (items_text items) → most < f → Onward O at t f nested (stack_of O.naming M s) most M s items most
-  onward_start at t f nested most M s items closes enough = record { here = at; text = t; steps = f; closes = closes; enough = enough; same = refl }
+  pub onward_start : (at : Literal) (t : Text) (f nested : ℕ) (most : ℕ) (M : MarksSeen) (b : Option ℕ) (s : ℕ) (items : List PlacedItem) → ClosesText O.program at t (items_text items) → most < f → Onward O at t f nested (base_seen O.naming b) (stack_of O.naming M s) most M b s items most
+  onward_start at t f nested most M b s items closes enough = record { here = at; text = t; steps = f; closes = closes; enough = enough; same = refl }
 
   -- The walk behind an item whose walk came to this.
-  abbrev pub Behind : (at : Literal) (t : Text) (f nested : ℕ) (ms : List Mark) (most : ℕ) (K : MarksSeen) (items : List PlacedItem) → Walked → Type 0
-  Behind at t f nested ms most K items (Found Dead n) = go_at O f at nested t None ms most ≡ found dead n
-  Behind at t f nested ms most K items (Found (On s) n) = Onward O at t f nested ms most K s items n
-  Behind at t f nested ms most K items (Refused r p) = go_at O f at nested t None ms most ≡ refused r p
+  abbrev pub Behind : (at : Literal) (t : Text) (f nested : ℕ) (e : Option Row) (ms : List Mark) (most : ℕ) (K : MarksSeen) (items : List PlacedItem) → Walked → Type 0
+  Behind at t f nested e ms most K items (Found Dead n) = go_at O f at nested t e ms most ≡ found dead n
+  Behind at t f nested e ms most K items (Found (On b s) n) = Onward O at t f nested e ms most K b s items n
+  Behind at t f nested e ms most K items (Refused r p) = go_at O f at nested t e ms most ≡ refused r p
 
   -- goes on behind an item
   pub onward :
-      (at : Literal) (t : Text) (f nested : ℕ) (ms : List Mark) (most : ℕ) (M L K : MarksSeen) (s n : ℕ) (i : PlacedItem) (items : List PlacedItem) (D : Doing) (W : Walked) →
-      Onward O at t f nested ms most M s (i ∷ items) n → DoesItem O M L s i D →
-      ((g : ℕ) → n ≤ g → walked_seen O.naming K W ≡ item_walk None (go_at O g) (doing_seen O.naming L (body_text O.program) D) i.place nested n) → IsBelow n W →
-      Behind at t f nested ms most K items W
-  onward at t f nested ms most M L K s n i items D W o does walks below = by_steps o.steps o.enough o.same
+      (at : Literal) (t : Text) (f nested : ℕ) (e : Option Row) (ms : List Mark) (most : ℕ) (M L K : MarksSeen) (b : Option ℕ) (s n : ℕ) (i : PlacedItem) (items : List PlacedItem) (D : Doing) (W : Walked) →
+      Onward O at t f nested e ms most M b s (i ∷ items) n → DoesItem O M L s i D →
+      ((g : ℕ) → n ≤ g → walked_seen O.naming K W ≡ item_walk None (go_at O g) (doing_seen O.naming L (body_text O.program) (base_seen O.naming b) D) i.place nested n) → IsBelow n W →
+      Behind at t f nested e ms most K items W
+  onward at t f nested e ms most M L K b s n i items D W o does walks below = by_steps o.steps o.enough o.same
     where
       first : Begins O o.here o.text (what_item i.what) i.place (items_text items)
       first = begins O o.here o.text (what_item i.what) i.place (items_text items) o.closes
 
-      ends : (g : ℕ) → n < suc g → (V : Walked) → IsBelow n V → go_at O f at nested t None ms most ≡ and_then (walked_seen O.naming K V) (rest None (go_at O g) nested (behind o.here first.item) first.more) → Behind at t f nested ms most K items V
-      ends g l (Found Dead k) b e = e
-      ends g l (Found (On q) k) b e = record { here = behind o.here first.item; text = first.more; steps = g; closes = first.closes_more; enough = omega (arith, b, l); same = e }
-      ends g l (Refused r p) b e = e
+      ends : (g : ℕ) → n < suc g → (V : Walked) → IsBelow n V → go_at O f at nested t e ms most ≡ and_then (walked_seen O.naming K V) (rest None (go_at O g) nested (behind o.here first.item) first.more) → Behind at t f nested e ms most K items V
+      ends g l (Found Dead k) low same = same
+      ends g l (Found (On c q) k) low same = record { here = behind o.here first.item; text = first.more; steps = g; closes = first.closes_more; enough = omega (arith, low, l); same = same }
+      ends g l (Refused r p) low same = same
 
-      by_steps : (g : ℕ) → n < g → go_at O f at nested t None ms most ≡ go_at O g o.here nested o.text None (stack_of O.naming M s) n → Behind at t f nested ms most K items W
-      by_steps zero l e = absurd (omega (arith, l))
-      by_steps (suc g) l e =
+      by_steps : (g : ℕ) → n < g → go_at O f at nested t e ms most ≡ go_at O g o.here nested o.text (base_seen O.naming b) (stack_of O.naming M s) n → Behind at t f nested e ms most K items W
+      by_steps zero l same = absurd (omega (arith, l))
+      by_steps (suc g) l same =
           ends g l W below
-          (e ∙ ap (λ x. go_at O (suc g) o.here nested x None (stack_of O.naming M s) n) first.is ∙ behind_item O o.here first.item i.place first.more g nested n s M L K D W (does o.here first.item first.closes_item) (walks g (omega (arith, l))))
+          (same ∙ ap (λ x. go_at O (suc g) o.here nested x (base_seen O.naming b) (stack_of O.naming M s) n) first.is ∙ behind_item O o.here first.item i.place first.more g nested n (base_seen O.naming b) s M L K D W (does o.here first.item (base_seen O.naming b) first.closes_item) (walks g (omega (arith, l))))
 
   -- at the end
-  pub onward_end : (at : Literal) (t : Text) (f nested : ℕ) (ms : List Mark) (most : ℕ) (M : MarksSeen) (s n : ℕ) → Onward O at t f nested ms most M s [] n → found (on None (stack_of O.naming M s)) n ≡ go_at O f at nested t None ms most
-  onward_end at t f nested ms most M s n o = sym (o.same ∙ ended o.steps o.text o.closes)
+  pub onward_end : (at : Literal) (t : Text) (f nested : ℕ) (e : Option Row) (ms : List Mark) (most : ℕ) (M : MarksSeen) (b : Option ℕ) (s n : ℕ) → Onward O at t f nested e ms most M b s [] n → found (on (base_seen O.naming b) (stack_of O.naming M s)) n ≡ go_at O f at nested t e ms most
+  onward_end at t f nested e ms most M b s n o = sym (o.same ∙ ended o.steps o.text o.closes)
     where
-      ended : (g : ℕ) (u : Text) → ClosesText O.program o.here u end → go_at O g o.here nested u None (stack_of O.naming M s) n ≡ found (on None (stack_of O.naming M s)) n
+      ended : (g : ℕ) (u : Text) → ClosesText O.program o.here u end → go_at O g o.here nested u (base_seen O.naming b) (stack_of O.naming M s) n ≡ found (on (base_seen O.naming b) (stack_of O.naming M s)) n
       ended g end h = refl
       ended g (then i p u) h = absurd (let e = h.2 in cc)

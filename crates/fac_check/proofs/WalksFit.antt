@@ -123,7 +123,7 @@ module _ (P : Program) (C : Context) where
   join_left (on b ms) dead p n st k r h f = f (on b ms) n h
   join_left (on b ms) (on c ns) p n st k r h f = joined (base_eq b c && nat_eq (length ms) (length ns)) refl
     where
-      joined : (q : Bool) → (base_eq b c && nat_eq (length ms) (length ns)) ≡ q → Fits (and_then (elim q [ true ↦ found (on b (join_marks ms ns)) n | false ↦ refused (Branches (length ms) (length ns)) p ]) k) r
+      joined : (q : Bool) → (base_eq b c && nat_eq (length ms) (length ns)) ≡ q → (let o : Option AbstractStack = elim q [ true ↦ Some (on b (join_marks ms ns)) | false ↦ None ] in let w : Walked AbstractStack = elim o [ Some D ↦ found D n | None ↦ refused (Branches (length ms) (length ns)) p ] in Fits (and_then w k) r)
       joined true e = f (on b (join_marks ms ns)) n (join_ms_left b ms ns st.stack (length_same (length ms) (length ns) (and_second (base_eq b c) _ e)) h.0, h.1)
       joined false e = tt
 
@@ -132,7 +132,7 @@ module _ (P : Program) (C : Context) where
   join_right (on b ms) dead p n st k r h f = absurd h.0
   join_right (on b ms) (on c ns) p n st k r h f = joined (base_eq b c && nat_eq (length ms) (length ns)) refl
     where
-      joined : (q : Bool) → (base_eq b c && nat_eq (length ms) (length ns)) ≡ q → Fits (and_then (elim q [ true ↦ found (on b (join_marks ms ns)) n | false ↦ refused (Branches (length ms) (length ns)) p ]) k) r
+      joined : (q : Bool) → (base_eq b c && nat_eq (length ms) (length ns)) ≡ q → (let o : Option AbstractStack = elim q [ true ↦ Some (on b (join_marks ms ns)) | false ↦ None ] in let w : Walked AbstractStack = elim o [ Some D ↦ found D n | None ↦ refused (Branches (length ms) (length ns)) p ] in Fits (and_then w k) r)
       joined true e = f (on b (join_marks ms ns)) n (join_ms_right b ms ns st.stack (length_same (length ms) (length ns) (and_second (base_eq b c) _ e)) (rw (base_same b c (and_first (base_eq b c) _ e)) h.0), h.1)
       joined false e = tt
 

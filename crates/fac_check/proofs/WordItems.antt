@@ -14,6 +14,7 @@ use Rattle.fac_lang.specs.Primitives.{Primitive, prim_numbered}
 use Rattle.fac_lang.specs.Meaning.{core_numbered, c_call, c_dip, c_if}
 use Rattle.fac_locals.specs.Literals.{first_of_word}
 use Rattle.fac_locals.specs.Closed.{ClosesWord, ClosesSort, ClosesText}
+use Rattle.fac_abs.specs.Marks.{Row}
 use Rattle.fac_abs.specs.declared.rule.Rule.TheVariants.{NotKnown}
 use Rattle.fac_check.specs.Rows.{is_row}
 use Rattle.fac_check.specs.Flow.{Doing, breaks, expands, by_height, callable_or, prim_doing, core_doing, sort_doing, inline_doing, row_or_text}
@@ -61,8 +62,8 @@ module _ (P : Program) (w : ℕ) (d c : WordDef) (closes : ClosesWord P w d c) w
   height_read : (i : ℕ) (o : Option ℕ) → i ≡ (effect_height c.effect).ins → o ≡ (effect_height c.effect).outs → (let h : Height = record { ins = i; outs = o } in h ≡ effect_height d.effect)
   height_read i o e f = rw (e, f, closes.effect) refl
 
-  pub prim_item : (k : ℕ) (p : Primitive) (X : Doing) (ms : List Mark) → d.sort ≡ prim k → prim_numbered k ≡ Some p → X ≡ prim_doing (Some p) None ms → X ≡ sort_doing P None w d d.sort None ms
-  prim_item k p X ms s e x = x ∙ ap (λ o. prim_doing o None ms) (sym e) ∙ ap (λ q. sort_doing P None w d q None ms) (sym s)
+  pub prim_item : (k : ℕ) (p : Primitive) (X : Doing) (b : Option Row) (ms : List Mark) → d.sort ≡ prim k → prim_numbered k ≡ Some p → X ≡ prim_doing (Some p) b ms → X ≡ sort_doing P None w d d.sort b ms
+  prim_item k p X b ms s e x = x ∙ ap (λ o. prim_doing o b ms) (sym e) ∙ ap (λ q. sort_doing P None w d q b ms) (sym s)
 
   -- a primitive word takes and leaves what is written
   pub prim_ins : (p : Primitive) (i : ℕ) → d.effect ≡ written_effect p.word → i ≡ (effect_height c.effect).ins → i ≡ length p.word.ins
@@ -71,32 +72,32 @@ module _ (P : Program) (w : ℕ) (d c : WordDef) (closes : ClosesWord P w d c) w
   pub prim_outs : (p : Primitive) (o : Option ℕ) → d.effect ≡ written_effect p.word → o ≡ (effect_height c.effect).outs → o ≡ outputs_of p.word
   prim_outs p o e f = ap (λ (h : Height). h.outs) (height_read (effect_height c.effect).ins o refl f ∙ ap effect_height e ∙ written_height p.word)
 
-  pub core_item : (k : ℕ) (X : Doing) (ms : List Mark) → d.sort ≡ core k → X ≡ core_doing P (core_numbered k) None ms → X ≡ sort_doing P None w d d.sort None ms
-  core_item k X ms s x = x ∙ ap (λ q. sort_doing P None w d q None ms) (sym s)
+  pub core_item : (k : ℕ) (X : Doing) (b : Option Row) (ms : List Mark) → d.sort ≡ core k → X ≡ core_doing P (core_numbered k) b ms → X ≡ sort_doing P None w d d.sort b ms
+  core_item k X b ms s x = x ∙ ap (λ q. sort_doing P None w d q b ms) (sym s)
 
-  pub top_item : (t : Text) (ms : List Mark) → d.sort ≡ body t → w ≡ P.top → breaks NotKnown ≡ sort_doing P None w d d.sort None ms
-  top_item t ms s e = top (nat_eq w P.top) (rw e (same_number P.top)) ∙ ap (λ q. sort_doing P None w d q None ms) (sym s)
+  pub top_item : (t : Text) (c : Option Row) (ms : List Mark) → d.sort ≡ body t → w ≡ P.top → breaks NotKnown ≡ sort_doing P None w d d.sort c ms
+  top_item t c ms s e = top (nat_eq w P.top) (rw e (same_number P.top)) ∙ ap (λ q. sort_doing P None w d q c ms) (sym s)
     where
       same_number : (n : ℕ) → nat_eq n n ≡ true
       same_number n = eq-eqb n n refl
 
-      top : (b : Bool) → b ≡ true → breaks NotKnown ≡ callable_or (not b) NotKnown (inline_doing P None d.inline w d t None ms)
+      top : (b : Bool) → b ≡ true → breaks NotKnown ≡ callable_or (not b) NotKnown (inline_doing P None d.inline w d t c ms)
       top true q = refl
       top false q = absurd (cc)
 
-  pub body_item : (t : Text) (X : Doing) (i : ℕ) (o : Option ℕ) (ms : List Mark) → BuiltAs P w d → slice_get P.words w ≡ Some d → d.sort ≡ body t → w ≢ P.top → i ≡ (effect_height c.effect).ins → o ≡ (effect_height c.effect).outs → X ≡ (if c.inline then expands w (body_text P w) None ms else by_height i o None ms) → X ≡ sort_doing P None w d d.sort None ms
-  body_item t X i o ms b at s n e f x =
-      x ∙ chosen c.inline d.inline closes.inline (no_row_word P w d b) ∙ ap (λ q. callable_or q NotKnown (inline_doing P None d.inline w d t None ms)) (sym (ap not (ne_eqb w P.top n))) ∙ ap (λ q. sort_doing P None w d q None ms) (sym s)
+  pub body_item : (t : Text) (X : Doing) (i : ℕ) (o : Option ℕ) (e : Option Row) (ms : List Mark) → BuiltAs P w d → slice_get P.words w ≡ Some d → d.sort ≡ body t → w ≢ P.top → i ≡ (effect_height c.effect).ins → o ≡ (effect_height c.effect).outs → X ≡ (if c.inline then expands w (body_text P w) e ms else by_height i o e ms) → X ≡ sort_doing P None w d d.sort e ms
+  body_item t X i o e ms b at s n g f x =
+      x ∙ chosen c.inline d.inline closes.inline (no_row_word P w d b) ∙ ap (λ q. callable_or q NotKnown (inline_doing P None d.inline w d t e ms)) (sym (ap not (ne_eqb w P.top n))) ∙ ap (λ q. sort_doing P None w d q e ms) (sym s)
     where
       text_is : body_text P w ≡ t
       text_is = ap text_of at ∙ ap sort_text s
 
-      expanded : (r : Bool) → r ≡ false → expands w t None ms ≡ row_or_text P None r false w t d.effect None ms
+      expanded : (r : Bool) → r ≡ false → expands w t e ms ≡ row_or_text P None r false w t d.effect e ms
       expanded true q = absurd (cc)
       expanded false q = refl
 
-      chosen : (a a' : Bool) → a ≡ a' → (a' ≡ true → is_row d.recursive d.effect ≡ false) → (if a then expands w (body_text P w) None ms else by_height i o None ms) ≡ inline_doing P None a' w d t None ms
-      chosen true true q r = ap (λ u. expands w u None ms) text_is ∙ expanded (is_row d.recursive d.effect) (r refl)
+      chosen : (a a' : Bool) → a ≡ a' → (a' ≡ true → is_row d.recursive d.effect ≡ false) → (if a then expands w (body_text P w) e ms else by_height i o e ms) ≡ inline_doing P None a' w d t e ms
+      chosen true true q r = ap (λ u. expands w u e ms) text_is ∙ expanded (is_row d.recursive d.effect) (r refl)
       chosen true false q r = absurd (cc)
       chosen false true q r = absurd (cc)
-      chosen false false q r = ap (λ h. by_height h.ins h.outs None ms) (height_read i o e f)
+      chosen false false q r = ap (λ h. by_height h.ins h.outs e ms) (height_read i o g f)

@@ -13,7 +13,7 @@ use Rattle.fac_lang.specs.declared.program.WordDef.{WordDef}
 use Rattle.fac_lang.specs.declared.program.Sort.{Sort}
 use Rattle.fac_lang.specs.declared.program.Sort.TheVariants.{Prim as prim, Core as core, Body as body, Past as past, Itself as itself, Class as class, Method as method}
 use Rattle.fac_lang.specs.Meaning.{sort_of, names, Core, c_call, c_dip, c_if, c_execute, c_boa, core_numbered}
-use Rattle.fac_abs.specs.Marks.{Row, AbstractStack, dead, on, base_eq, limited, is_callable, curried_mark, composed_mark, join_marks, unknowns, popped, piled}
+use Rattle.fac_abs.specs.Marks.{Row, AbstractStack, dead, on, base_eq, limited, is_callable, curried_mark, composed_mark, joined, unknowns, popped, piled}
 use Rattle.fac_abs.specs.declared.rule.Rule.{Rule}
 use Rattle.fac_abs.specs.declared.rule.Rule.TheVariants.{Underflow, NotKnown, NotAClass, Branches, RecursiveInput, Rows, MethodEffect, TooDeep, TooLarge}
 use Rattle.fac_locals.specs.Literals.{first_of_word, first_of_literal, behind}
@@ -79,11 +79,14 @@ abbrev pub called : Called → Place → ℕ → Walked AbstractStack
 called (call_breaks r) p n = refused r p
 called (call_leaves A) p n = found A n
 
--- Two branches join: a dead one to the other, else equal bases and lengths, mark by mark.
+-- the marks of a stack
+abbrev pub marks_on : AbstractStack → List Mark
+marks_on dead = []
+marks_on (on b ms) = ms
+
+-- two branches, which must have a join
 abbrev pub join : AbstractStack → AbstractStack → Place → ℕ → Walked AbstractStack
-join dead B p n = found B n
-join (on b ms) dead p n = found (on b ms) n
-join (on b ms) (on c ns) p n = elim (base_eq b c && nat_eq (length ms) (length ns)) [ true ↦ found (on b (join_marks ms ns)) n | false ↦ refused (Branches (length ms) (length ns)) p ]
+join A B p n = elim (joined A B) [ Some C ↦ found C n | None ↦ refused (Branches (length (marks_on A)) (length (marks_on B))) p ]
 
 -- marks put back on what was found
 abbrev pub marks_back : List Mark → AbstractStack → AbstractStack

@@ -1,8 +1,8 @@
 //! The verdict on each word.
-ghost use Rattle.std.specs.Prelude.{◌≡◌, true, length, None, IfOk};
+ghost use Rattle.std.specs.Prelude.{◌≡◌, ◌&&◌, true, length, nat_eq, None, IfOk};
 ghost use Rattle.fac_lang.specs.declared.program.Program.{Program as ProgramSeen};
-ghost use Rattle.fac_abs.specs.Marks.{on};
-ghost use Rattle.fac_abs.specs.Seen.{MarksSeen, IsStack, stack_of};
+ghost use Rattle.fac_abs.specs.Marks.{on, base_eq};
+ghost use Rattle.fac_abs.specs.Seen.{MarksSeen, IsStack, stack_of, base_seen};
 ghost use Rattle.fac_abs.specs.Trees.{Naming};
 ghost use Rattle.fac_check.specs.Rows.{effect_leaving};
 ghost use Rattle.fac_check.specs.Verdicts.{end_of, kept_word};
@@ -11,10 +11,9 @@ ghost use Rattle.fac_check.specs.inner.Breaches.{IsOrdinaryBreach, IsTopBreach, 
 ghost use Rattle.fac_check.specs.inner.Taken.{takes_all, takes_text, takes_word};
 ghost use Rattle.fac_check.specs.inner.Walking.{IsWalked, walked_seen};
 
-use crate::doing::Reached;
 use crate::rule::Refusal;
 use crate::walker::{Step, Walked, Walker};
-use fac_abs::{Marks, Rule};
+use fac_abs::{Marks, Reached, Rule};
 use fac_lang::limits::{MOST_APPLICATIONS, MOST_ITEMS};
 use fac_lang::{Memory, Phrase, Place, Sort, WordDef};
 use fac_locals::Closed;
@@ -38,20 +37,35 @@ fn kept(marks: &Marks, word: &WordDef, walked: Walked) -> Option<(Place, Rule)>
         Walked::Refused(rule, place) => Some((place, rule)),
         Walked::Found(reached, _) => match reached {
             Reached::Dead => None,
-            Reached::On(stack) => kept_outputs(marks, word, stack),
+            Reached::On { base, stack } => kept_outputs(marks, word, base, stack),
         },
     }
 }
 
-// What a word breaks that leaves this stack.
-fn kept_outputs(marks: &Marks, word: &WordDef, stack: u32) -> Option<(Place, Rule)>
+// Whether a stack on this base with so many marks is what a word declares that names no row.
+fn as_declared(base: Option<u32>, declared: u32, found: u32) -> bool
+    ensures { (N : Naming) → result ≡ (base_eq (base_seen N base) None && nat_eq found declared) }
+{
+    match base {
+        Some(_) => false,
+        None => found == declared,
+    }
+}
+
+// What a word breaks that leaves this stack on this base.
+fn kept_outputs(
+    marks: &Marks,
+    word: &WordDef,
+    base: Option<u32>,
+    stack: u32,
+) -> Option<(Place, Rule)>
     requires { IsStack marks.now stack }
-    ensures { (P : ProgramSeen) (N : Naming) → breach_seen result ≡ kept_word P (effect_leaving word.now.effect) None word.now.place (on None (stack_of N marks.now stack)) }
+    ensures { (P : ProgramSeen) (N : Naming) → breach_seen result ≡ kept_word P (effect_leaving word.now.effect) None word.now.place (on (base_seen N base) (stack_of N marks.now stack)) }
 {
     let found = marks.height(stack);
     match word.effect.outputs() {
         Some(declared) => {
-            if declared == found {
+            if as_declared(base, declared, found) {
                 return None;
             }
             Some((word.place, Rule::Outputs { declared, found }))
@@ -86,6 +100,7 @@ fn ordinary_breach(
     let step = Step {
         place: word.place,
         nested: MOST_APPLICATIONS,
+        base: None,
         stack,
         left: MOST_ITEMS,
     };
@@ -109,6 +124,7 @@ fn top_breach(
     let step = Step {
         place,
         nested: MOST_APPLICATIONS,
+        base: None,
         stack,
         left: MOST_ITEMS,
     };

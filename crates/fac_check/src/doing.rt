@@ -1,12 +1,13 @@
 //! What an item does to a stack at once.
-ghost use Rattle.std.specs.Prelude.{◌≡◌, ◌<◌, ◌∷◌, ℕ, true, length, nat_lt, Some, None, IfOk};
+ghost use Rattle.std.specs.declared.option.Option.{Option};
+ghost use Rattle.std.specs.Prelude.{◌≡◌, ◌<◌, ◌∷◌, ℕ, true, length, nat_lt, Some, IfOk};
 ghost use Rattle.fac_lang.specs.declared.program.Program.{Program as ProgramSeen};
 ghost use Rattle.fac_lang.specs.Effects.{effect_height};
 ghost use Rattle.fac_lang.specs.Meaning.{c_call, c_dip, c_if, core_numbered};
 ghost use Rattle.fac_lang.specs.Primitives.{built_count};
 ghost use Rattle.fac_lang.specs.Texts.{Text, any, lit_mark};
 ghost use Rattle.fac_lang.specs.View.{what_item};
-ghost use Rattle.fac_abs.specs.Marks.{on, curried_mark, composed_mark};
+ghost use Rattle.fac_abs.specs.Marks.{Row, on, curried_mark, composed_mark};
 ghost use Rattle.fac_abs.specs.Seen.{IsMark, IsStack, Grows, mark_of, stack_of};
 ghost use Rattle.fac_abs.specs.Trees.{Naming};
 ghost use Rattle.fac_check.specs.Flow.{by_height as takes_and_leaves, marks_moved, mark_made, core_doing, gives};
@@ -17,22 +18,17 @@ use fac_abs::{Marks, Rule};
 use fac_lang::{Height, Memory, Operation, Sort, What, WordDef, operation_of};
 use fac_locals::Closed;
 
-/// What a walk comes to.
-#[derive(Clone, Copy)]
-pub enum Reached {
-    /// Something that never returns.
-    Dead,
-    /// The stack of this number.
-    On(u32),
-}
-
-/// What an item does at once, with marks and stacks by their numbers.
+/// What an item does at once, with marks and stacks by their numbers. A stack stays on its base.
 #[derive(Clone, Copy)]
 pub enum Doing {
     /// It breaks a rule before it counts.
     Breaks(Rule),
-    /// It does nothing more.
-    Gives(Reached),
+    /// It never returns.
+    Ends,
+    /// It does nothing more, and leaves this stack.
+    Gives {
+        stack: u32,
+    },
     /// The text of an expanded word is to be walked.
     Expands {
         word: u32,
@@ -68,9 +64,11 @@ fn put(marks: &mut Marks, stack: u32, mark: u32) -> Result<Doing, Memory>
     requires mark { IsMark marks.old mark }
     ensures grows { Grows marks.old marks.new }
     ensures there { IfOk result (λ doing. IsDoing marks.new doing) }
-    ensures does { IfOk result (λ doing. (N : Naming) (texts : ℕ → Text) → doing_seen N marks.new texts doing ≡ gives (on None (mark_of N marks.old mark ∷ stack_of N marks.old stack))) }
+    ensures does { IfOk result (λ doing. (N : Naming) (texts : ℕ → Text) (b : Option Row) → doing_seen N marks.new texts b doing ≡ gives (on b (mark_of N marks.old mark ∷ stack_of N marks.old stack))) }
 {
-    Ok(Doing::Gives(Reached::On(marks.push(stack, mark)?)))
+    Ok(Doing::Gives {
+        stack: marks.push(stack, mark)?,
+    })
 }
 
 // Takes so many values and leaves unknown ones, or never returns.
@@ -78,13 +76,15 @@ fn by_height(marks: &mut Marks, stack: u32, height: Height) -> Result<Doing, Mem
     requires { IsStack marks.old stack }
     ensures grows { Grows marks.old marks.new }
     ensures there { IfOk result (λ doing. IsDoing marks.new doing) }
-    ensures does { IfOk result (λ doing. DoesAs marks.old marks.new stack doing (takes_and_leaves height.ins height.outs None)) }
+    ensures does { IfOk result (λ doing. DoesAs marks.old marks.new stack doing (takes_and_leaves height.ins height.outs)) }
 {
     match marks.below(stack, height.ins) {
         None => Ok(underflow(marks, stack, height.ins)),
         Some(rest) => match height.outs {
-            None => Ok(Doing::Gives(Reached::Dead)),
-            Some(outs) => Ok(Doing::Gives(Reached::On(marks.unknowns(rest, outs as u64)?))),
+            None => Ok(Doing::Ends),
+            Some(outs) => Ok(Doing::Gives {
+                stack: marks.unknowns(rest, outs as u64)?,
+            }),
         },
     }
 }
@@ -104,10 +104,10 @@ fn shuffle(marks: &mut Marks, stack: u32, takes: u32, leaves: &[u32]) -> Result<
     requires { IsStack marks.old stack }
     ensures grows { Grows marks.old marks.new }
     ensures there { IfOk result (λ doing. IsDoing marks.new doing) }
-    ensures does { IfOk result (λ doing. DoesAs marks.old marks.new stack doing (marks_moved takes leaves.now None)) }
+    ensures does { IfOk result (λ doing. DoesAs marks.old marks.new stack doing (marks_moved takes leaves.now)) }
 {
     match marks.shuffle(stack, takes, leaves)? {
-        Some(moved) => Ok(Doing::Gives(Reached::On(moved))),
+        Some(moved) => Ok(Doing::Gives { stack: moved }),
         None => Ok(underflow(marks, stack, takes)),
     }
 }
@@ -118,7 +118,7 @@ fn curry(marks: &mut Marks, stack: u32) -> Result<Doing, Memory>
     requires { IsStack marks.old stack }
     ensures grows { Grows marks.old marks.new }
     ensures there { IfOk result (λ doing. IsDoing marks.new doing) }
-    ensures does { IfOk result (λ doing. DoesAs marks.old marks.new stack doing (mark_made curried_mark 2 0 1 None)) }
+    ensures does { IfOk result (λ doing. DoesAs marks.old marks.new stack doing (mark_made curried_mark 2 0 1)) }
 {
     match pop_two(marks, stack) {
         Some((value, callable, rest)) => {
@@ -135,7 +135,7 @@ fn compose(marks: &mut Marks, stack: u32) -> Result<Doing, Memory>
     requires { IsStack marks.old stack }
     ensures grows { Grows marks.old marks.new }
     ensures there { IfOk result (λ doing. IsDoing marks.new doing) }
-    ensures does { IfOk result (λ doing. DoesAs marks.old marks.new stack doing (mark_made composed_mark 2 0 1 None)) }
+    ensures does { IfOk result (λ doing. DoesAs marks.old marks.new stack doing (mark_made composed_mark 2 0 1)) }
 {
     match pop_two(marks, stack) {
         Some((first, second, rest)) => {
@@ -150,7 +150,7 @@ fn compose(marks: &mut Marks, stack: u32) -> Result<Doing, Memory>
 fn call(marks: &Marks, stack: u32) -> Doing
     requires { IsStack marks.now stack }
     ensures there { IsDoing marks.now result }
-    ensures does { (P : ProgramSeen) → DoesAs marks.now marks.now stack result (core_doing P (Some c_call) None) }
+    ensures does { (P : ProgramSeen) → DoesAs marks.now marks.now stack result (core_doing P (Some c_call)) }
 {
     match marks.pop(stack) {
         Some((mark, rest)) => {
@@ -172,7 +172,7 @@ fn call(marks: &Marks, stack: u32) -> Doing
 fn dip(marks: &Marks, stack: u32) -> Doing
     requires { IsStack marks.now stack }
     ensures there { IsDoing marks.now result }
-    ensures does { (P : ProgramSeen) → DoesAs marks.now marks.now stack result (core_doing P (Some c_dip) None) }
+    ensures does { (P : ProgramSeen) → DoesAs marks.now marks.now stack result (core_doing P (Some c_dip)) }
 {
     match pop_two(marks, stack) {
         Some((value, mark, rest)) => {
@@ -204,7 +204,7 @@ fn pop_branches(marks: &Marks, stack: u32) -> Option<(u32, u32, u32)>
 fn branch(marks: &Marks, stack: u32) -> Doing
     requires { IsStack marks.now stack }
     ensures there { IsDoing marks.now result }
-    ensures does { (P : ProgramSeen) → DoesAs marks.now marks.now stack result (core_doing P (Some c_if) None) }
+    ensures does { (P : ProgramSeen) → DoesAs marks.now marks.now stack result (core_doing P (Some c_if)) }
 {
     match pop_branches(marks, stack) {
         Some((first, second, stack)) => {
@@ -230,7 +230,7 @@ fn core(marks: &Marks, stack: u32, number: u32) -> Doing
     requires stack { IsStack marks.now stack }
     requires number { nat_lt number 3 ≡ true }
     ensures there { IsDoing marks.now result }
-    ensures does { (P : ProgramSeen) → DoesAs marks.now marks.now stack result (core_doing P (core_numbered number) None) }
+    ensures does { (P : ProgramSeen) → DoesAs marks.now marks.now stack result (core_doing P (core_numbered number)) }
 {
     match number {
         0 => call(marks, stack),
@@ -331,9 +331,11 @@ fn unknown(marks: &mut Marks, stack: u32) -> Result<Doing, Memory>
     requires { IsStack marks.old stack }
     ensures grows { Grows marks.old marks.new }
     ensures there { IfOk result (λ doing. IsDoing marks.new doing) }
-    ensures does { IfOk result (λ doing. DoesAs marks.old marks.new stack doing (λ ms. gives (on None (any ∷ ms)))) }
+    ensures does { IfOk result (λ doing. DoesAs marks.old marks.new stack doing (λ b ms. gives (on b (any ∷ ms)))) }
 {
-    Ok(Doing::Gives(Reached::On(marks.unknowns(stack, 1)?)))
+    Ok(Doing::Gives {
+        stack: marks.unknowns(stack, 1)?,
+    })
 }
 
 // A quotation, by its template.
@@ -342,7 +344,7 @@ fn quotation(marks: &mut Marks, stack: u32, template: u32) -> Result<Doing, Memo
     requires { IsStack marks.old stack }
     ensures grows { Grows marks.old marks.new }
     ensures there { IfOk result (λ doing. IsDoing marks.new doing) }
-    ensures does { IfOk result (λ doing. (N : Naming) (texts : ℕ → Text) → doing_seen N marks.new texts doing ≡ gives (on None (lit_mark (N.literal template).0 (N.literal template).1 ∷ stack_of N marks.old stack))) }
+    ensures does { IfOk result (λ doing. (N : Naming) (texts : ℕ → Text) (b : Option Row) → doing_seen N marks.new texts b doing ≡ gives (on b (lit_mark (N.literal template).0 (N.literal template).1 ∷ stack_of N marks.old stack))) }
 {
     let mark = marks.lit(template)?;
     put(marks, stack, mark)

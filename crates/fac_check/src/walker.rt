@@ -1,17 +1,18 @@
 //! The walk of a text.
+ghost use Rattle.std.specs.declared.option.Option.{Option};
 ghost use Rattle.std.specs.Prelude.{◌≡◌, ◌<◌, ◌≤◌, ◌-◌, [], true, suc, Some, None, length, IfOk, MatchResult, MatchOption};
-ghost use Rattle.fac_abs.specs.Marks.{on};
+ghost use Rattle.fac_abs.specs.Marks.{Row};
 ghost use Rattle.fac_abs.specs.Promises.{IsMarkOf, IsStackOf};
-ghost use Rattle.fac_abs.specs.Seen.{IsMark, IsStack, Grows, mark_of, stack_of};
+ghost use Rattle.fac_abs.specs.Seen.{IsMark, IsStack, IsReached, Grows, mark_of, stack_of, reached_seen};
 ghost use Rattle.fac_abs.specs.Trees.{Naming};
 ghost use Rattle.fac_lang.specs.Texts.{any};
-ghost use Rattle.fac_check.specs.Flow.{first_rule as first_rule_of, text_rule as rule_of_text, join, marks_back};
+ghost use Rattle.fac_check.specs.Flow.{first_rule as first_rule_of, text_rule as rule_of_text, join, marks_on, marks_back};
 ghost use Rattle.fac_check.specs.inner.Taken.{takes_all, takes_text};
-ghost use Rattle.fac_check.specs.inner.Walking.{IsDoingOf, NamesText, IsReached, IsWalked, IsWithin, IsBelow, AreMarks, Admits, Enters, reached_seen, walked_seen, marks_of_option};
+ghost use Rattle.fac_check.specs.inner.Walking.{IsDoingOf, NamesText, IsWalked, IsWithin, IsBelow, AreMarks, Admits, Enters, walked_seen, marks_of_option};
 ghost use Rattle.fac_check.specs.inner.Walking.{IsWalkOf, IsWalkOfText, IsWalkOfItem, literal_walk, word_walk, curried_walk, part_walk, composed_walk, mark_walk, callable_walk, fork_walk};
 
-use crate::doing::{Doing, Reached, item_doing};
-use fac_abs::{Marks, Node, Rule};
+use crate::doing::{Doing, item_doing};
+use fac_abs::{Marks, Node, Reached, Rule};
 use fac_lang::{Memory, Phrase, Place, Sort};
 use fac_locals::Closed;
 use std::alloc::Global;
@@ -32,6 +33,8 @@ pub struct Step {
     pub place: Place,
     /// The nested applications that may still be entered.
     pub nested: u32,
+    /// The base of the stack, by its number.
+    pub base: Option<u32>,
     /// The stack, by its number.
     pub stack: u32,
     /// The items that may still be walked.
@@ -42,7 +45,7 @@ impl Step {
     // The step inside of one nested application more.
     fn entered(self) -> Step
         requires { 0 < self.nested }
-        ensures { result ≡ record { place = self.place; nested = self.nested - 1; stack = self.stack; left = self.left } }
+        ensures { result ≡ record { place = self.place; nested = self.nested - 1; base = self.base; stack = self.stack; left = self.left } }
     {
         Step {
             nested: self.nested - 1,
@@ -74,7 +77,7 @@ fn text_rule(nested: u32) -> Option<Rule>
 fn first_rule(marks: &Marks, mark: u32, nested: u32, stack: u32) -> Option<Rule>
     requires mark { IsMark marks.now mark }
     requires stack { IsStack marks.now stack }
-    ensures { (N : Naming) → result ≡ first_rule_of None (mark_of N marks.now mark) nested None (stack_of N marks.now stack) }
+    ensures { (N : Naming) (b : Option Row) → result ≡ first_rule_of None (mark_of N marks.now mark) nested b (stack_of N marks.now stack) }
 {
     match marks.node(mark) {
         Node::Lit(_) => text_rule(nested),
@@ -149,10 +152,27 @@ fn put_back(marks: &mut Marks, found: Reached, back: Option<u32>) -> Result<Reac
 {
     match found {
         Reached::Dead => Ok(Reached::Dead),
-        Reached::On(stack) => match back {
-            Some(mark) => Ok(Reached::On(marks.push(stack, mark)?)),
-            None => Ok(Reached::On(stack)),
+        Reached::On { base, stack } => match back {
+            Some(mark) => {
+                let pushed = marks.push(stack, mark)?;
+                Ok(Reached::On {
+                    base,
+                    stack: pushed,
+                })
+            }
+            None => Ok(Reached::On { base, stack }),
         },
+    }
+}
+
+// The number of marks of what was reached.
+fn height(marks: &Marks, reached: Reached) -> u32
+    requires { IsReached marks.now reached }
+    ensures { (N : Naming) → result ≡ length (marks_on (reached_seen N marks.now reached)) }
+{
+    match reached {
+        Reached::Dead => 0,
+        Reached::On { base: _, stack } => marks.height(stack),
     }
 }
 
@@ -165,28 +185,10 @@ fn joined(marks: &mut Marks, first: Reached, second: Reached, step: Step) -> Res
     ensures within { IfOk result (λ walked. IsWithin step.left walked) }
     ensures joins { IfOk result (λ walked. (N : Naming) → walked_seen N marks.new walked ≡ join (reached_seen N marks.old first) (reached_seen N marks.old second) step.place step.left) }
 {
-    match first {
-        Reached::Dead => Ok(Walked::Found(second, step.left)),
-        Reached::On(upper) => match second {
-            Reached::Dead => Ok(Walked::Found(Reached::On(upper), step.left)),
-            Reached::On(lower) => join_stacks(marks, upper, lower, step),
-        },
-    }
-}
-
-// The join of two stacks.
-fn join_stacks(marks: &mut Marks, first: u32, second: u32, step: Step) -> Result<Walked, Memory>
-    requires first { IsStack marks.old first }
-    requires second { IsStack marks.old second }
-    ensures grows { Grows marks.old marks.new }
-    ensures there { IfOk result (λ walked. IsWalked marks.new walked) }
-    ensures within { IfOk result (λ walked. IsWithin step.left walked) }
-    ensures joins { IfOk result (λ walked. (N : Naming) → walked_seen N marks.new walked ≡ join (on None (stack_of N marks.old first)) (on None (stack_of N marks.old second)) step.place step.left) }
-{
-    let upper = marks.height(first);
-    let lower = marks.height(second);
+    let upper = height(marks, first);
+    let lower = height(marks, second);
     match marks.join(first, second)? {
-        Some(stack) => Ok(Walked::Found(Reached::On(stack), step.left)),
+        Some(reached) => Ok(Walked::Found(reached, step.left)),
         None => Ok(Walked::Refused(
             Rule::Branches {
                 first: upper,
@@ -226,7 +228,13 @@ impl<'a> Walker<'a> {
         let closed = self.closed;
         match closed.templates.get(template as usize) {
             Some(found) => self.walk_phrase(&found.body, step.entered()),
-            None => Ok(Walked::Found(Reached::On(step.stack), step.left)),
+            None => Ok(Walked::Found(
+                Reached::On {
+                    base: step.base,
+                    stack: step.stack,
+                },
+                step.left,
+            )),
         }
     }
 
@@ -280,10 +288,10 @@ impl<'a> Walker<'a> {
                 Ok(deeper) => {
                     let stack = self.marks.push(step.stack, value)?;
                     let inner = Step {
-                        place: step.place,
                         nested: deeper,
                         stack,
                         left: rest,
+                        ..step
                     };
                     self.walk_mark(callable, inner)
                 }
@@ -342,8 +350,9 @@ impl<'a> Walker<'a> {
                 match self.walk_part(whole, first, inner)? {
                     Walked::Refused(rule, place) => Ok(Walked::Refused(rule, place)),
                     Walked::Found(Reached::Dead, rest) => Ok(Walked::Found(Reached::Dead, rest)),
-                    Walked::Found(Reached::On(stack), rest) => {
+                    Walked::Found(Reached::On { base, stack }, rest) => {
                         let next = Step {
+                            base,
                             stack,
                             left: rest,
                             ..step
@@ -443,8 +452,18 @@ impl<'a> Walker<'a> {
     {
         match doing {
             Doing::Breaks(rule) => Ok(Walked::Refused(rule, step.place)),
-            Doing::Gives(reached) => match admitted(None, step.left) {
-                Ok(left) => Ok(Walked::Found(reached, left)),
+            Doing::Ends => match admitted(None, step.left) {
+                Ok(left) => Ok(Walked::Found(Reached::Dead, left)),
+                Err(rule) => Ok(Walked::Refused(rule, step.place)),
+            },
+            Doing::Gives { stack } => match admitted(None, step.left) {
+                Ok(left) => Ok(Walked::Found(
+                    Reached::On {
+                        base: step.base,
+                        stack,
+                    },
+                    left,
+                )),
                 Err(rule) => Ok(Walked::Refused(rule, step.place)),
             },
             Doing::Expands { word, stack } => match admitted(text_rule(step.nested), step.left) {
@@ -506,6 +525,7 @@ impl<'a> Walker<'a> {
         ensures walks { IfOk result (λ walked. IsWalkOfText self.old.closed.now self.old.marks self.new.marks phrase.now step walked) }
     {
         let closed = self.closed;
+        let mut base = step.base;
         let mut stack = step.stack;
         let mut left = step.left;
         for item in &phrase.items {
@@ -513,18 +533,26 @@ impl<'a> Walker<'a> {
             let here = Step {
                 place: item.place,
                 nested: step.nested,
+                base,
                 stack,
                 left,
             };
             match self.walk_item(doing, here)? {
                 Walked::Refused(rule, place) => return Ok(Walked::Refused(rule, place)),
                 Walked::Found(Reached::Dead, rest) => return Ok(Walked::Found(Reached::Dead, rest)),
-                Walked::Found(Reached::On(next), rest) => {
+                Walked::Found(
+                    Reached::On {
+                        base: under,
+                        stack: next,
+                    },
+                    rest,
+                ) => {
+                    base = under;
                     stack = next;
                     left = rest;
                 }
             }
         }
-        Ok(Walked::Found(Reached::On(stack), left))
+        Ok(Walked::Found(Reached::On { base, stack }, left))
     }
 }

@@ -16,17 +16,15 @@ use Rattle.fac_lang.specs.Forms.{IsBuilt}
 use Rattle.fac_locals.specs.Literals.{literal_numbered, first_of_word, first_of_literal}
 use Rattle.fac_locals.specs.Closed.{Closes, ClosesText, ClosesItem, ClosesWord}
 use Rattle.fac_locals.specs.declared.closing.Closed.{Closed}
-use Rattle.fac_abs.specs.Marks.{AbstractStack, dead, on}
+use Rattle.fac_abs.specs.Marks.{Row, AbstractStack, dead, on}
 use Rattle.fac_abs.specs.declared.rule.Rule.{Rule}
 use Rattle.fac_abs.specs.declared.rule.Rule.TheVariants.{Underflow}
 use Rattle.fac_abs.specs.Trees.{Naming}
-use Rattle.fac_abs.specs.Seen.{MarksSeen, mark_of, stack_of, IsMark, IsStack}
+use Rattle.fac_abs.specs.Seen.{MarksSeen, mark_of, stack_of, base_seen, reached_seen, IsMark, IsStack, IsReached}
 use Rattle.fac_check.specs.Flow.{Walked as WalkedText, found, refused, Doing as DoingAtOnce, breaks, gives, expands, walks, forks, and_then, unless_broken, counted, inside, join, marks_back, Walk, walk, walk_text, walk_mark, by_height, prim_doing, word_doing, doing}
 use Rattle.fac_check.specs.inner.ItemWalk.{item_walk}
-use Rattle.fac_check.specs.declared.doing.Reached.{Reached}
-use Rattle.fac_check.specs.declared.doing.Reached.TheVariants.{Dead, On}
 use Rattle.fac_check.specs.declared.doing.Doing.{Doing}
-use Rattle.fac_check.specs.declared.doing.Doing.TheVariants.{Breaks, Gives, Expands, Walks, Forks}
+use Rattle.fac_check.specs.declared.doing.Doing.TheVariants.{Breaks, Ends, Gives, Expands, Walks, Forks}
 use Rattle.fac_check.specs.declared.walker.Step.{Step}
 use Rattle.fac_check.specs.declared.walker.Walked.{Walked}
 use Rattle.fac_check.specs.declared.walker.Walked.TheVariants.{Found, Refused}
@@ -58,27 +56,20 @@ marks_of_option mark None = []
 marks_of_option mark (Some m) = mark m ∷ []
 
 module _ (N : Naming) (M : MarksSeen) where
-  abbrev pub reached_seen : Reached → AbstractStack
-  reached_seen Dead = dead
-  reached_seen (On s) = on None (stack_of N M s)
-
   abbrev pub walked_seen : Walked → WalkedText AbstractStack
-  walked_seen (Found A n) = found (reached_seen A) n
+  walked_seen (Found A n) = found (reached_seen N M A) n
   walked_seen (Refused r p) = refused r p
 
-  -- with the texts of words
-  abbrev pub doing_seen : (ℕ → Text) → Doing → DoingAtOnce
-  doing_seen texts (Breaks r) = breaks r
-  doing_seen texts (Gives A) = gives (reached_seen A)
-  doing_seen texts (Expands w s) = expands w (texts w) None (stack_of N M s)
-  doing_seen texts (Walks m s back) = walks (mark_of N M m) None (stack_of N M s) (marks_of_option (mark_of N M) back)
-  doing_seen texts (Forks m n s) = forks (mark_of N M m) (mark_of N M n) None (stack_of N M s)
+  -- with the texts of words, and the base of the stack, on which nothing depends that an item does
+  abbrev pub doing_seen : (ℕ → Text) → Option Row → Doing → DoingAtOnce
+  doing_seen texts b (Breaks r) = breaks r
+  doing_seen texts b Ends = gives dead
+  doing_seen texts b (Gives s) = gives (on b (stack_of N M s))
+  doing_seen texts b (Expands w s) = expands w (texts w) b (stack_of N M s)
+  doing_seen texts b (Walks m s back) = walks (mark_of N M m) b (stack_of N M s) (marks_of_option (mark_of N M) back)
+  doing_seen texts b (Forks m n s) = forks (mark_of N M m) (mark_of N M n) b (stack_of N M s)
 
 -- The numbers of an answer are those of marks and stacks that are there.
-abbrev pub IsReached : MarksSeen → Reached → Type 0
-IsReached M Dead = Unit {0}
-IsReached M (On s) = IsStack M s
-
 abbrev pub IsWalked : MarksSeen → Walked → Type 0
 IsWalked M (Found A n) = IsReached M A
 IsWalked M (Refused r p) = Unit {0}
@@ -90,7 +81,8 @@ AreMarks M (Some m) = IsMark M m
 -- where a word is expanded, it is one of these
 abbrev pub IsDoingOf : (ℕ → Type 0) → MarksSeen → Doing → Type 0
 IsDoingOf named M (Breaks r) = Unit {0}
-IsDoingOf named M (Gives A) = IsReached M A
+IsDoingOf named M Ends = Unit {0}
+IsDoingOf named M (Gives s) = IsStack M s
 IsDoingOf named M (Expands w s) = named w × IsStack M s
 IsDoingOf named M (Walks m s back) = IsMark M m × IsStack M s × AreMarks M back
 IsDoingOf named M (Forks m n s) = IsMark M m × IsMark M n × IsStack M s
@@ -108,12 +100,12 @@ abbrev pub NamesText : List WordDef → ℕ → Type 0
 NamesText words w = is_defined (slice_get words w) ≡ true
 
 -- what an item does to stack s, from the marks that were there to those that are
-abbrev pub DoesAs : MarksSeen → MarksSeen → ℕ → Doing → (List Mark → DoingAtOnce) → Type 0
-DoesAs old new s result does = (N : Naming) (texts : ℕ → Text) → doing_seen N new texts result ≡ does (stack_of N old s)
+abbrev pub DoesAs : MarksSeen → MarksSeen → ℕ → Doing → (Option Row → List Mark → DoingAtOnce) → Type 0
+DoesAs old new s result does = (N : Naming) (texts : ℕ → Text) (b : Option Row) → doing_seen N new texts b result ≡ does b (stack_of N old s)
 
 -- a rule that an item breaks that needs so many values
-abbrev pub lacks : ℕ → List Mark → DoingAtOnce
-lacks n ms = breaks (Underflow n (length ms))
+abbrev pub lacks : ℕ → Option Row → List Mark → DoingAtOnce
+lacks n b ms = breaks (Underflow n (length ms))
 
 -- the two top marks, the upper one last, and what is below them
 abbrev pub PopsTwo : MarksSeen → ℕ → Option (ℕ × ℕ × ℕ) → Type 0
@@ -161,7 +153,7 @@ go_at O f = walk None (doing O.program None) f
 module _ {C : Program} {templates : List Template} (M : MarksSeen) (s : Step) where
   -- a text is one nested application
   abbrev pub text_walk : Literal → Text → Opened C templates → Walk → WalkedText AbstractStack
-  text_walk at t O go = walk_text None go at t s.place s.nested None (stack_of O.naming M s.stack) s.left
+  text_walk at t O go = walk_text None go at t s.place s.nested (base_seen O.naming s.base) (stack_of O.naming M s.stack) s.left
 
   abbrev pub literal_walk : ℕ → Opened C templates → Walk → WalkedText AbstractStack
   literal_walk k O go = text_walk (first_of_literal (O.naming.literal k).0) (O.naming.literal k).1 O go
@@ -171,18 +163,18 @@ module _ {C : Program} {templates : List Template} (M : MarksSeen) (s : Step) wh
 
   -- of a mark, by its number
   abbrev pub mark_walk : ℕ → Opened C templates → Walk → WalkedText AbstractStack
-  mark_walk m O go = walk_mark None go (mark_of O.naming M m) s.place s.nested None (stack_of O.naming M s.stack) s.left
+  mark_walk m O go = walk_mark None go (mark_of O.naming M m) s.place s.nested (base_seen O.naming s.base) (stack_of O.naming M s.stack) s.left
 
   -- of what `curry` made of these marks, and of what `compose` made
   abbrev pub curried_walk : ℕ → ℕ → Opened C templates → Walk → WalkedText AbstractStack
-  curried_walk m c O go = walk_mark None go (cur_mark (mark_of O.naming M m) (mark_of O.naming M c)) s.place s.nested None (stack_of O.naming M s.stack) s.left
+  curried_walk m c O go = walk_mark None go (cur_mark (mark_of O.naming M m) (mark_of O.naming M c)) s.place s.nested (base_seen O.naming s.base) (stack_of O.naming M s.stack) s.left
 
   abbrev pub composed_walk : ℕ → ℕ → Opened C templates → Walk → WalkedText AbstractStack
-  composed_walk c e O go = walk_mark None go (com_mark (mark_of O.naming M c) (mark_of O.naming M e)) s.place s.nested None (stack_of O.naming M s.stack) s.left
+  composed_walk c e O go = walk_mark None go (com_mark (mark_of O.naming M c) (mark_of O.naming M e)) s.place s.nested (base_seen O.naming s.base) (stack_of O.naming M s.stack) s.left
 
   -- of a part of what `compose` made
   abbrev pub part_walk : ℕ → Opened C templates → Walk → WalkedText AbstractStack
-  part_walk m O go = inside (mark_of O.naming M m) s.place s.nested (λ d. walk_mark None go (mark_of O.naming M m) s.place d None (stack_of O.naming M s.stack) s.left)
+  part_walk m O go = inside (mark_of O.naming M m) s.place s.nested (λ d. walk_mark None go (mark_of O.naming M m) s.place d (base_seen O.naming s.base) (stack_of O.naming M s.stack) s.left)
 
   -- of a callable, and then a mark is put back
   abbrev pub callable_walk : ℕ → Option ℕ → Opened C templates → Walk → WalkedText AbstractStack
@@ -191,7 +183,7 @@ module _ {C : Program} {templates : List Template} (M : MarksSeen) (s : Step) wh
   -- of two callables from one stack, and then a join
   abbrev pub fork_walk : ℕ → ℕ → Opened C templates → Walk → WalkedText AbstractStack
   fork_walk m n O go =
-      and_then (mark_walk m O go) (λ A k. and_then (walk_mark None go (mark_of O.naming M n) s.place s.nested None (stack_of O.naming M s.stack) k) (λ B j. join A B s.place j))
+      and_then (mark_walk m O go) (λ A k. and_then (walk_mark None go (mark_of O.naming M n) s.place s.nested (base_seen O.naming s.base) (stack_of O.naming M s.stack) k) (λ B j. join A B s.place j))
 
 -- An answer is this walk, in each program for which the closed one stands, with more steps than items may be walked.
 abbrev pub IsWalkOf : (closed : Closed) → MarksSeen → Step → Walked → (Opened closed.program closed.templates → Walk → WalkedText AbstractStack) → Type 0
@@ -200,33 +192,33 @@ IsWalkOf closed L s W walk = (O : Opened closed.program closed.templates) (f : �
 -- likewise the walk of a text, for each that this closed one stands for
 abbrev pub IsWalkOfText : Closed → MarksSeen → MarksSeen → Text → Step → Walked → Type 0
 IsWalkOfText closed M L c s W =
-    (O : Opened closed.program closed.templates) (at : Literal) (t : Text) (f : ℕ) → ClosesText O.program at t c → s.left < f → walked_seen O.naming L W ≡ go_at O f at s.nested t None (stack_of O.naming M s.stack) s.left
+    (O : Opened closed.program closed.templates) (at : Literal) (t : Text) (f : ℕ) → ClosesText O.program at t c → s.left < f → walked_seen O.naming L W ≡ go_at O f at s.nested t (base_seen O.naming s.base) (stack_of O.naming M s.stack) s.left
 
 -- likewise the walk of what an item does
 abbrev pub IsWalkOfItem : Closed → MarksSeen → MarksSeen → Doing → Step → Walked → Type 0
 IsWalkOfItem closed M L D s W =
-    (O : Opened closed.program closed.templates) (f : ℕ) → s.left ≤ f → walked_seen O.naming L W ≡ item_walk None (go_at O f) (doing_seen O.naming M (body_text O.program) D) s.place s.nested s.left
+    (O : Opened closed.program closed.templates) (f : ℕ) → s.left ≤ f → walked_seen O.naming L W ≡ item_walk None (go_at O f) (doing_seen O.naming M (body_text O.program) (base_seen O.naming s.base) D) s.place s.nested s.left
 
 -- what a closed item does to a stack, as each item does that it stands for
 abbrev pub DoesItem : Closed → MarksSeen → MarksSeen → ℕ → Item → Doing → Type 0
 DoesItem closed M L s c D =
-    (O : Opened closed.program closed.templates) (at : Literal) (i : Item) → ClosesItem O.program at i c → doing_seen O.naming L (body_text O.program) D ≡ doing O.program None at i None (stack_of O.naming M s)
+    (O : Opened closed.program closed.templates) (at : Literal) (i : Item) (b : Option Row) → ClosesItem O.program at i c → doing_seen O.naming L (body_text O.program) b D ≡ doing O.program None at i b (stack_of O.naming M s)
 
 -- likewise the item of a word, by its number
 abbrev pub DoesWord : Closed → MarksSeen → MarksSeen → ℕ → ℕ → Doing → Type 0
 DoesWord closed M L s w D =
-    (O : Opened closed.program closed.templates) (N : Naming) → doing_seen N L (body_text O.program) D ≡ word_doing O.program None w (slice_get O.program.words w) None (stack_of N M s)
+    (O : Opened closed.program closed.templates) (N : Naming) (b : Option Row) → doing_seen N L (body_text O.program) b D ≡ word_doing O.program None w (slice_get O.program.words w) b (stack_of N M s)
 
 -- likewise that of a word that is closed so
 abbrev pub DoesWordSo : MarksSeen → MarksSeen → ℕ → ℕ → WordDef → Doing → Type 0
 DoesWordSo M L s w c D =
-    (P : Program) (d : WordDef) → w < P.top → slice_get P.words w ≡ Some d → IsBuilt P → ClosesWord P w d c → (N : Naming) → doing_seen N L (body_text P) D ≡ word_doing P None w (Some d) None (stack_of N M s)
+    (P : Program) (d : WordDef) → w < P.top → slice_get P.words w ≡ Some d → IsBuilt P → ClosesWord P w d c → (N : Naming) (b : Option Row) → doing_seen N L (body_text P) b D ≡ word_doing P None w (Some d) b (stack_of N M s)
 
 -- a word that is defined by a text: an inline one is expanded, and every other one goes by its effect
 abbrev pub DoesDefined : MarksSeen → MarksSeen → ℕ → ℕ → WordDef → Doing → Type 0
 DoesDefined M L s w c D =
-    (N : Naming) (texts : ℕ → Text) → doing_seen N L texts D ≡ (if c.inline then expands w (texts w) None (stack_of N M s) else by_height (effect_height c.effect).ins (effect_height c.effect).outs None (stack_of N M s))
+    (N : Naming) (texts : ℕ → Text) (b : Option Row) → doing_seen N L texts b D ≡ (if c.inline then expands w (texts w) b (stack_of N M s) else by_height (effect_height c.effect).ins (effect_height c.effect).outs b (stack_of N M s))
 
 -- a primitive, where this is how many values its row takes and leaves
 abbrev pub DoesPrimitive : MarksSeen → MarksSeen → ℕ → ℕ → Height → Doing → Type 0
-DoesPrimitive M L s k h D = (p : Primitive) → prim_numbered k ≡ Some p → h.ins ≡ length p.word.ins → h.outs ≡ outputs_of p.word → DoesAs M L s D (prim_doing (Some p) None)
+DoesPrimitive M L s k h D = (p : Primitive) → prim_numbered k ≡ Some p → h.ins ≡ length p.word.ins → h.outs ≡ outputs_of p.word → DoesAs M L s D (prim_doing (Some p))

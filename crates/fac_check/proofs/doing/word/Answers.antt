@@ -24,8 +24,8 @@ pub returns-clause-does : goal.returns-clause-does
 returns-clause-does c =
     let C = c.args.closed.now in
     ok_maps c.word_item.result
-    (λ r does O N.
+    (λ r does O N b.
     let there = word_open O.program C.program C.templates O.closes c.args.number c.in-Some.word.now (sym c.in-Some.ensures) in
     let low = subst (λ n. c.args.number < n) O.closes.top (is_below c.args.number C.program.top c.requires.number) in
-    does O.program there.def low there.at O.built there.closes N ∙ ap (λ o. word_doing O.program None c.args.number o None (stack_of N c.args.marks.now c.args.stack)) (sym there.at))
+    does O.program there.def low there.at O.built there.closes N b ∙ ap (λ o. word_doing O.program None c.args.number o b (stack_of N c.args.marks.now c.args.stack)) (sym there.at))
     c.word_item.ensures.does

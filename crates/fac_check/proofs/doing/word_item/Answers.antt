@@ -28,20 +28,20 @@ returns-in-Prim-clause-does c =
     let k = c.in-Prim.primitive_number in
     let w = c.args.word.now in
     ok_maps c.primitive.result
-    (λ r does P d low at built closes N.
+    (λ r does P d low at built closes N b.
     let sort = is_prim P c.args.number d w closes (built_as P built c.args.number d at) k c.in-Prim.is in
     let there = built_primitive_word P built c.args.number d at k sort in
     let ins = prim_ins P c.args.number d w closes there.0 _ there.2 (ap (λ (h : Height). h.ins) c.height_of.ensures) in
     let outs = prim_outs P c.args.number d w closes there.0 _ there.2 (ap (λ (h : Height). h.outs) c.height_of.ensures) in
-    prim_item P c.args.number d w closes k there.0 _ (stack_of N c.args.marks.now c.args.stack) sort there.1 (does there.0 there.1 ins outs N (body_text P)))
+    prim_item P c.args.number d w closes k there.0 _ b (stack_of N c.args.marks.now c.args.stack) sort there.1 (does there.0 there.1 ins outs N (body_text P) b))
     c.primitive.ensures.does
 
 pub returns-in-Body-clause-does : goal.returns-in-Body-clause-does
 returns-in-Body-clause-does c =
     let w = c.args.word.now in
     ok_maps c.defined.result
-    (λ r does P d low at built closes N.
-    let b = built_as P built c.args.number d at in
-    let sort = is_body P c.args.number d w closes b _ c.in-Body.is in
-    body_item P c.args.number d w closes sort.0 _ _ _ (stack_of N c.args.marks.now c.args.stack) b at sort.1 (λ e. omega (arith, low, e)) refl refl (does N (body_text P)))
+    (λ r does P d low at built closes N b.
+    let is_built = built_as P built c.args.number d at in
+    let sort = is_body P c.args.number d w closes is_built _ c.in-Body.is in
+    body_item P c.args.number d w closes sort.0 _ _ _ b (stack_of N c.args.marks.now c.args.stack) is_built at sort.1 (λ e. omega (arith, low, e)) refl refl (does N (body_text P) b))
     c.defined.ensures.does

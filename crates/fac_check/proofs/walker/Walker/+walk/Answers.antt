@@ -6,10 +6,10 @@ use Rattle.fac_locals.specs.Literals.{first_of_word, first_of_literal}
 use Rattle.fac_locals.specs.Closed.{ClosesText}
 use Rattle.fac_locals.specs.declared.closing.Closed.{Closed}
 use Rattle.fac_abs.proofs.SeenLemmas.{grows_refl, grows_trans}
-use Rattle.fac_abs.specs.Seen.{mark_of, stack_of}
+use Rattle.fac_abs.specs.Seen.{mark_of, stack_of, base_seen, reached_seen}
 use Rattle.fac_check.specs.Flow.{and_then, walk_mark, inside, join}
 use Rattle.fac_check.specs.inner.Taken.{takes_text}
-use Rattle.fac_check.specs.inner.Walking.{go_at, body_text, walked_seen, reached_seen, IsDoingOf, NamesText, IsWithin, IsBelow, IsWalked, IsWalkOfText}
+use Rattle.fac_check.specs.inner.Walking.{go_at, body_text, walked_seen, IsDoingOf, NamesText, IsWithin, IsBelow, IsWalked, IsWalkOfText}
 use Rattle.fac_check.specs.declared.walker.Step.{Step}
 use Rattle.fac_check.specs.declared.walker.Walked.TheVariants.{Found}
 use Rattle.fac_check.proofs.MarkWalks.{carried, curried_counts, composed_ends, text_entered, literal_closed, word_text_closed, forked, reached_stays, no_items, no_literal}
@@ -28,7 +28,7 @@ walk_literal-walk_phrase-requires t c =
 pub walk_literal-returns-in-None-clause-walks : goal.walk_literal-returns-in-None-clause-walks
 walk_literal-returns-in-None-clause-walks t c = λ O f l.
     let literal = O.naming.literal c.args.template in
-    no_items O f (first_of_literal literal.0) literal.1 c.args.step.place c.args.step.nested (stack_of O.naming c.args.self.now.marks c.args.step.stack) c.args.step.left (no_literal O c.args.template (sym c.in-None.ensures)) c.if-step-eq0.false
+    no_items O f (first_of_literal literal.0) literal.1 c.args.step.place c.args.step.nested (base_seen O.naming c.args.step.base) (stack_of O.naming c.args.self.now.marks c.args.step.stack) c.args.step.left (no_literal O c.args.template (sym c.in-None.ensures)) c.if-step-eq0.false
 
 pub walk_word-walk_phrase-requires : goal.walk_word-walk_phrase-requires
 walk_word-walk_phrase-requires t c =
@@ -43,7 +43,7 @@ walk_literal-returns-in-Some-clause-walks t c =
     (λ r walks O f l.
     let literal = O.naming.literal c.args.template in
     subst (λ (s : Step). IsWalkOfText c.args.self.now.closed.now c.args.self.now.marks c.walk_phrase.new.self.marks c.in-Some.found.now.body s r) c.entered.ensures walks O (first_of_literal literal.0) literal.1 f (literal_closed O c.args.template c.in-Some.found.now (sym c.in-Some.ensures)) l
-    ∙ sym (text_entered (go_at O f) (first_of_literal literal.0) literal.1 c.args.step.place c.args.step.nested (stack_of O.naming c.args.self.now.marks c.args.step.stack) c.args.step.left c.if-step-eq0.false))
+    ∙ sym (text_entered (go_at O f) (first_of_literal literal.0) literal.1 c.args.step.place c.args.step.nested (base_seen O.naming c.args.step.base) (stack_of O.naming c.args.self.now.marks c.args.step.stack) c.args.step.left c.if-step-eq0.false))
     c.walk_phrase.ensures.walks
 
 pub walk_word-returns-clause-walks : goal.walk_word-returns-clause-walks
@@ -51,19 +51,19 @@ walk_word-returns-clause-walks t c =
     ok_maps c.walk_phrase.result
     (λ r walks O f l.
     subst (λ (s : Step). IsWalkOfText c.args.self.now.closed.now c.args.self.now.marks c.walk_phrase.new.self.marks c.in-Body.phrase s r) c.entered.ensures walks O (first_of_word c.args.word) (body_text O.program c.args.word) f (word_text_closed O c.args.word c.in-Some.found.now _ (sym c.in-Some.ensures) c.in-Body.is) l
-    ∙ sym (text_entered (go_at O f) (first_of_word c.args.word) (body_text O.program c.args.word) c.args.step.place c.args.step.nested (stack_of O.naming c.args.self.now.marks c.args.step.stack) c.args.step.left c.if-step-eq0.false))
+    ∙ sym (text_entered (go_at O f) (first_of_word c.args.word) (body_text O.program c.args.word) c.args.step.place c.args.step.nested (base_seen O.naming c.args.step.base) (stack_of O.naming c.args.self.now.marks c.args.step.stack) c.args.step.left c.if-step-eq0.false))
     c.walk_phrase.ensures.walks
 
 pub walk_mark-returns-in-Cur-clause-walks : goal.walk_mark-returns-in-Cur-clause-walks
 walk_mark-returns-in-Cur-clause-walks t c =
     ok_maps c.walk_curried.result
-    (λ r walks O f l. walks O f l ∙ ap (λ m. walk_mark None (go_at O f) m c.args.step.place c.args.step.nested None (stack_of O.naming c.args.self.now.marks c.args.step.stack) c.args.step.left) (sym (c.in-Cur.ensures.is O.naming)))
+    (λ r walks O f l. walks O f l ∙ ap (λ m. walk_mark None (go_at O f) m c.args.step.place c.args.step.nested (base_seen O.naming c.args.step.base) (stack_of O.naming c.args.self.now.marks c.args.step.stack) c.args.step.left) (sym (c.in-Cur.ensures.is O.naming)))
     c.walk_curried.ensures.walks
 
 pub walk_mark-returns-in-Com-clause-walks : goal.walk_mark-returns-in-Com-clause-walks
 walk_mark-returns-in-Com-clause-walks t c =
     ok_maps c.walk_composed.result
-    (λ r walks O f l. walks O f l ∙ ap (λ m. walk_mark None (go_at O f) m c.args.step.place c.args.step.nested None (stack_of O.naming c.args.self.now.marks c.args.step.stack) c.args.step.left) (sym (c.in-Com.ensures.is O.naming)))
+    (λ r walks O f l. walks O f l ∙ ap (λ m. walk_mark None (go_at O f) m c.args.step.place c.args.step.nested (base_seen O.naming c.args.step.base) (stack_of O.naming c.args.self.now.marks c.args.step.stack) c.args.step.left) (sym (c.in-Com.ensures.is O.naming)))
     c.walk_composed.ensures.walks
 
 pub walk_curried-returns-in_ok-stack-in-Ok-clause-walks : goal.walk_curried-returns-in_ok-stack-in-Ok-clause-walks
@@ -75,22 +75,22 @@ walk_curried-returns-in_ok-stack-in-Ok-clause-walks t c =
     let ms = stack_of N M c.args.step.stack in
     let grows = c.in_ok-stack-in-Ok.ensures.grows in
     walks O f (omega (arith, c.in-Some.ensures, l))
-    ∙ ap (λ m. walk_mark None (go_at O f) m c.args.step.place c.in-Ok.deeper None (stack_of N c.push.new.self c.in_ok-stack-in-Ok.stack) c.in-Some.rest) (grows.same_mark N c.args.callable c.requires.callable)
-    ∙ ap (λ s. walk_mark None (go_at O f) (mark_of N M c.args.callable) c.args.step.place c.in-Ok.deeper None s c.in-Some.rest) (c.in_ok-stack-in-Ok.ensures.made.is N)
-    ∙ sym (curried_counts (go_at O f) c.args.step.place c.args.step.nested ms c.args.step.left c.in-Some.rest c.in-Some.ensures (mark_of N M c.args.value) (mark_of N M c.args.callable) c.in-Ok.deeper (c.in-Ok.ensures.enters N)))
+    ∙ ap (λ m. walk_mark None (go_at O f) m c.args.step.place c.in-Ok.deeper (base_seen O.naming c.args.step.base) (stack_of N c.push.new.self c.in_ok-stack-in-Ok.stack) c.in-Some.rest) (grows.same_mark N c.args.callable c.requires.callable)
+    ∙ ap (λ s. walk_mark None (go_at O f) (mark_of N M c.args.callable) c.args.step.place c.in-Ok.deeper (base_seen O.naming c.args.step.base) s c.in-Some.rest) (c.in_ok-stack-in-Ok.ensures.made.is N)
+    ∙ sym (curried_counts (go_at O f) c.args.step.place c.args.step.nested (base_seen O.naming c.args.step.base) ms c.args.step.left c.in-Some.rest c.in-Some.ensures (mark_of N M c.args.value) (mark_of N M c.args.callable) c.in-Ok.deeper (c.in-Ok.ensures.enters N)))
     c.walk_mark.ensures.walks
 
 pub walk_composed-returns-in-Refused-clause-walks : goal.walk_composed-returns-in-Refused-clause-walks
 walk_composed-returns-in-Refused-clause-walks t c = λ O f l.
     let N = O.naming in
     let M = c.args.self.now.marks in
-    sym (composed_ends (go_at O f) c.args.step.place c.args.step.nested (stack_of N M c.args.step.stack) c.args.step.left c.in-Some.rest c.in-Some.ensures N c.walk_part.new.self.marks (mark_of N M c.args.first) (mark_of N M c.args.second) _ _ c.in-Refused.is (c.in_ok-rule-in-Some.ensures.walks O f (omega (arith, c.in-Some.ensures, l))))
+    sym (composed_ends (go_at O f) c.args.step.place c.args.step.nested (base_seen O.naming c.args.step.base) (stack_of N M c.args.step.stack) c.args.step.left c.in-Some.rest c.in-Some.ensures N c.walk_part.new.self.marks (mark_of N M c.args.first) (mark_of N M c.args.second) _ _ c.in-Refused.is (c.in_ok-rule-in-Some.ensures.walks O f (omega (arith, c.in-Some.ensures, l))))
 
 pub walk_composed-returns-in-Found-Dead-default-clause-walks : goal.walk_composed-returns-in-Found-Dead-default-clause-walks
 walk_composed-returns-in-Found-Dead-default-clause-walks t c = λ O f l.
     let N = O.naming in
     let M = c.args.self.now.marks in
-    sym (composed_ends (go_at O f) c.args.step.place c.args.step.nested (stack_of N M c.args.step.stack) c.args.step.left c.in-Some.rest c.in-Some.ensures N c.walk_part.new.self.marks (mark_of N M c.args.first) (mark_of N M c.args.second) _ _ (c.in-Found-Dead-default.is ∙ ap (λ A. Found A c.in-Found-Dead-default.rest) c.in-Found-Dead-default.field-0-is) (c.in_ok-rule-in-Some.ensures.walks O f (omega (arith, c.in-Some.ensures, l))))
+    sym (composed_ends (go_at O f) c.args.step.place c.args.step.nested (base_seen O.naming c.args.step.base) (stack_of N M c.args.step.stack) c.args.step.left c.in-Some.rest c.in-Some.ensures N c.walk_part.new.self.marks (mark_of N M c.args.first) (mark_of N M c.args.second) _ _ (c.in-Found-Dead-default.is ∙ ap (λ A. Found A c.in-Found-Dead-default.rest) c.in-Found-Dead-default.field-0-is) (c.in_ok-rule-in-Some.ensures.walks O f (omega (arith, c.in-Some.ensures, l))))
 
 pub walk_composed-returns-in-Found-On-default-clause-walks : goal.walk_composed-returns-in-Found-On-default-clause-walks
 walk_composed-returns-in-Found-On-default-clause-walks t c =
@@ -102,8 +102,8 @@ walk_composed-returns-in-Found-On-default-clause-walks t c =
     let is = c.in-Found-On-default.is ∙ ap (λ A. Found A c.in-Found-On-default.rest) c.in-Found-On-default.field-0-is in
     let same : c.walk_part.new.self.closed.now ≡ c.args.self.now.closed.now = ap (λ (b : Bor Closed). b.now) c.in_ok-rule-in-Some.ensures.closed in
     walks (carried same O) f (omega (arith, c.in-Some.ensures, l, subst (IsWithin c.in-Some.rest) c.in-Found-On-default.is c.in_ok-rule-in-Some.ensures.within))
-    ∙ ap (λ m. inside m c.args.step.place c.args.step.nested (λ d. walk_mark None (go_at O f) m c.args.step.place d None (stack_of N c.walk_part.new.self.marks c.in-Found-On-default.stack) c.in-Found-On-default.rest)) (c.in_ok-rule-in-Some.ensures.grows.same_mark N c.args.second c.requires.second)
-    ∙ sym (composed_ends (go_at O f) c.args.step.place c.args.step.nested ms c.args.step.left c.in-Some.rest c.in-Some.ensures N c.walk_part.new.self.marks (mark_of N M c.args.first) (mark_of N M c.args.second) _ _ is (c.in_ok-rule-in-Some.ensures.walks O f (omega (arith, c.in-Some.ensures, l)))))
+    ∙ ap (λ m. inside m c.args.step.place c.args.step.nested (λ d. walk_mark None (go_at O f) m c.args.step.place d (base_seen N c.in-Found-On-default.base) (stack_of N c.walk_part.new.self.marks c.in-Found-On-default.stack) c.in-Found-On-default.rest)) (c.in_ok-rule-in-Some.ensures.grows.same_mark N c.args.second c.requires.second)
+    ∙ sym (composed_ends (go_at O f) c.args.step.place c.args.step.nested (base_seen O.naming c.args.step.base) ms c.args.step.left c.in-Some.rest c.in-Some.ensures N c.walk_part.new.self.marks (mark_of N M c.args.first) (mark_of N M c.args.second) _ _ is (c.in_ok-rule-in-Some.ensures.walks O f (omega (arith, c.in-Some.ensures, l)))))
     c.walk_part-in-Found-On-default.ensures.walks
 
 pub walk_phrase-loop-item-init : goal.walk_phrase-loop-item-init
@@ -116,7 +116,7 @@ walk_phrase-loop-item-init t c =
       stack = c.requires.stack;
       within = omega arith;
       taken = subst (λ x. takes_text c.args.self.now.closed.now.program.top (length c.args.self.now.closed.now.templates) x ≡ true) seen c.requires.taken;
-      onward = λ O at u f closes l. onward_start O at u f c.args.step.nested c.args.step.left c.args.self.now.marks c.args.step.stack items (subst (λ x. ClosesText O.program at u x) seen closes) l;
+      onward = λ O at u f closes l. onward_start O at u f c.args.step.nested c.args.step.left c.args.self.now.marks c.args.step.base c.args.step.stack items (subst (λ x. ClosesText O.program at u x) seen closes) l;
     }
 
 pub walk_phrase-item_doing-requires-clause-item : goal.walk_phrase-item_doing-requires-clause-item
@@ -133,8 +133,8 @@ pub walk_phrase-returns-clause-walks : goal.walk_phrase-returns-clause-walks
 walk_phrase-returns-clause-walks t c = λ O at u f closes l.
     let items = c.deref-item-items.result.now in
     let none : drop c.loop-item.item-index items ≡ [] = grind (arith, common_steps) in
-    onward_end O at u f c.args.step.nested (stack_of O.naming c.args.self.now.marks c.args.step.stack) c.args.step.left c.loop-item.self.marks c.loop-item.stack c.loop-item.left
-    (subst (λ is. Onward O at u f c.args.step.nested (stack_of O.naming c.args.self.now.marks c.args.step.stack) c.args.step.left c.loop-item.self.marks c.loop-item.stack is c.loop-item.left) none (c.loop-item.invariant.onward O at u f closes l))
+    onward_end O at u f c.args.step.nested (base_seen O.naming c.args.step.base) (stack_of O.naming c.args.self.now.marks c.args.step.stack) c.args.step.left c.loop-item.self.marks c.loop-item.base c.loop-item.stack c.loop-item.left
+    (subst (λ is. Onward O at u f c.args.step.nested (base_seen O.naming c.args.step.base) (stack_of O.naming c.args.self.now.marks c.args.step.stack) c.args.step.left c.loop-item.self.marks c.loop-item.base c.loop-item.stack is c.loop-item.left) none (c.loop-item.invariant.onward O at u f closes l))
 
 pub walk_phrase-returns-in-Refused-clause-walks : goal.walk_phrase-returns-in-Refused-clause-walks
 walk_phrase-returns-in-Refused-clause-walks t c = λ O at u f closes l.
@@ -142,9 +142,9 @@ walk_phrase-returns-in-Refused-clause-walks t c = λ O at u f closes l.
     let i = c.loop-item.item-index in
     let ms = stack_of O.naming c.args.self.now.marks c.args.step.stack in
     let next : drop i items ≡ c.item-item.result ∷ drop (suc i) items = drop-cons items i c.item-item.result c.loop-item-test.true ∙ ap (λ (x : PlacedItem). x ∷ drop (suc i) items) (sym c.item-item.is) in
-    let here = subst (λ is. Onward O at u f c.args.step.nested ms c.args.step.left c.loop-item.self.marks c.loop-item.stack is c.loop-item.left) next (c.loop-item.invariant.onward O at u f closes l) in
-    let behind = onward O at u f c.args.step.nested ms c.args.step.left c.loop-item.self.marks c.item_doing.new.marks c.walk_item.new.self.marks c.loop-item.stack c.loop-item.left c.item-item.result (drop (suc i) items) c.in_ok-doing.doing c.in_ok-rule.field-0 here (c.in_ok-doing.ensures.does O) (λ g. c.in_ok-rule.ensures.walks (carried (ap (λ (b : Bor Closed). b.now) c.loop-item.invariant.same) O) g) c.in_ok-rule.ensures.below in
-    sym (subst (Behind O at u f c.args.step.nested ms c.args.step.left c.walk_item.new.self.marks (drop (suc i) items)) c.in-Refused.is behind)
+    let here = subst (λ is. Onward O at u f c.args.step.nested (base_seen O.naming c.args.step.base) ms c.args.step.left c.loop-item.self.marks c.loop-item.base c.loop-item.stack is c.loop-item.left) next (c.loop-item.invariant.onward O at u f closes l) in
+    let behind = onward O at u f c.args.step.nested (base_seen O.naming c.args.step.base) ms c.args.step.left c.loop-item.self.marks c.item_doing.new.marks c.walk_item.new.self.marks c.loop-item.base c.loop-item.stack c.loop-item.left c.item-item.result (drop (suc i) items) c.in_ok-doing.doing c.in_ok-rule.field-0 here (c.in_ok-doing.ensures.does O) (λ g. c.in_ok-rule.ensures.walks (carried (ap (λ (b : Bor Closed). b.now) c.loop-item.invariant.same) O) g) c.in_ok-rule.ensures.below in
+    sym (subst (Behind O at u f c.args.step.nested (base_seen O.naming c.args.step.base) ms c.args.step.left c.walk_item.new.self.marks (drop (suc i) items)) c.in-Refused.is behind)
 
 pub walk_phrase-returns-in-Found-Dead-default-clause-walks : goal.walk_phrase-returns-in-Found-Dead-default-clause-walks
 walk_phrase-returns-in-Found-Dead-default-clause-walks t c = λ O at u f closes l.
@@ -152,9 +152,9 @@ walk_phrase-returns-in-Found-Dead-default-clause-walks t c = λ O at u f closes 
     let i = c.loop-item.item-index in
     let ms = stack_of O.naming c.args.self.now.marks c.args.step.stack in
     let next : drop i items ≡ c.item-item.result ∷ drop (suc i) items = drop-cons items i c.item-item.result c.loop-item-test.true ∙ ap (λ (x : PlacedItem). x ∷ drop (suc i) items) (sym c.item-item.is) in
-    let here = subst (λ is. Onward O at u f c.args.step.nested ms c.args.step.left c.loop-item.self.marks c.loop-item.stack is c.loop-item.left) next (c.loop-item.invariant.onward O at u f closes l) in
-    let behind = onward O at u f c.args.step.nested ms c.args.step.left c.loop-item.self.marks c.item_doing.new.marks c.walk_item.new.self.marks c.loop-item.stack c.loop-item.left c.item-item.result (drop (suc i) items) c.in_ok-doing.doing c.in_ok-rule.field-0 here (c.in_ok-doing.ensures.does O) (λ g. c.in_ok-rule.ensures.walks (carried (ap (λ (b : Bor Closed). b.now) c.loop-item.invariant.same) O) g) c.in_ok-rule.ensures.below in
-    sym (subst (Behind O at u f c.args.step.nested ms c.args.step.left c.walk_item.new.self.marks (drop (suc i) items)) (c.in-Found-Dead-default.is ∙ ap (λ A. Found A c.in-Found-Dead-default.rest) c.in-Found-Dead-default.field-0-is) behind)
+    let here = subst (λ is. Onward O at u f c.args.step.nested (base_seen O.naming c.args.step.base) ms c.args.step.left c.loop-item.self.marks c.loop-item.base c.loop-item.stack is c.loop-item.left) next (c.loop-item.invariant.onward O at u f closes l) in
+    let behind = onward O at u f c.args.step.nested (base_seen O.naming c.args.step.base) ms c.args.step.left c.loop-item.self.marks c.item_doing.new.marks c.walk_item.new.self.marks c.loop-item.base c.loop-item.stack c.loop-item.left c.item-item.result (drop (suc i) items) c.in_ok-doing.doing c.in_ok-rule.field-0 here (c.in_ok-doing.ensures.does O) (λ g. c.in_ok-rule.ensures.walks (carried (ap (λ (b : Bor Closed). b.now) c.loop-item.invariant.same) O) g) c.in_ok-rule.ensures.below in
+    sym (subst (Behind O at u f c.args.step.nested (base_seen O.naming c.args.step.base) ms c.args.step.left c.walk_item.new.self.marks (drop (suc i) items)) (c.in-Found-Dead-default.is ∙ ap (λ A. Found A c.in-Found-Dead-default.rest) c.in-Found-Dead-default.field-0-is) behind)
 
 pub walk_phrase-loop-item-preserved : goal.walk_phrase-loop-item-preserved
 walk_phrase-loop-item-preserved t c =
@@ -172,9 +172,9 @@ walk_phrase-loop-item-preserved t c =
       onward = λ O at u f closes l.
           let ms = stack_of O.naming c.args.self.now.marks c.args.step.stack in
           let next : drop i items ≡ c.item-item.result ∷ drop (i + 1) items = rw add-one (drop-cons items i c.item-item.result c.loop-item-test.true ∙ ap (λ (x : PlacedItem). x ∷ drop (suc i) items) (sym c.item-item.is)) in
-          let here = subst (λ q. Onward O at u f c.args.step.nested ms c.args.step.left c.loop-item.self.marks c.loop-item.stack q c.loop-item.left) next (c.loop-item.invariant.onward O at u f closes l) in
-          let behind = onward O at u f c.args.step.nested ms c.args.step.left c.loop-item.self.marks c.item_doing.new.marks c.walk_item.new.self.marks c.loop-item.stack c.loop-item.left c.item-item.result (drop (i + 1) items) c.in_ok-doing.doing c.in_ok-rule.field-0 here (c.in_ok-doing.ensures.does O) (λ g. c.in_ok-rule.ensures.walks (carried (ap (λ (b : Bor Closed). b.now) c.loop-item.invariant.same) O) g) c.in_ok-rule.ensures.below in
-          subst (Behind O at u f c.args.step.nested ms c.args.step.left c.walk_item.new.self.marks (drop (i + 1) items)) is behind;
+          let here = subst (λ q. Onward O at u f c.args.step.nested (base_seen O.naming c.args.step.base) ms c.args.step.left c.loop-item.self.marks c.loop-item.base c.loop-item.stack q c.loop-item.left) next (c.loop-item.invariant.onward O at u f closes l) in
+          let behind = onward O at u f c.args.step.nested (base_seen O.naming c.args.step.base) ms c.args.step.left c.loop-item.self.marks c.item_doing.new.marks c.walk_item.new.self.marks c.loop-item.base c.loop-item.stack c.loop-item.left c.item-item.result (drop (i + 1) items) c.in_ok-doing.doing c.in_ok-rule.field-0 here (c.in_ok-doing.ensures.does O) (λ g. c.in_ok-rule.ensures.walks (carried (ap (λ (b : Bor Closed). b.now) c.loop-item.invariant.same) O) g) c.in_ok-rule.ensures.below in
+          subst (Behind O at u f c.args.step.nested (base_seen O.naming c.args.step.base) ms c.args.step.left c.walk_item.new.self.marks (drop (i + 1) items)) is behind;
     }
 
 pub walk_fork-returns-in-Refused-2-clause-walks : goal.walk_fork-returns-in-Refused-2-clause-walks

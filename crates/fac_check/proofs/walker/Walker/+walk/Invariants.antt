@@ -2,7 +2,7 @@ use Rattle.std.proofs.Common.{◌≡◌, ◌<◌, ◌≤◌, ◌+◌, ◌*◌, �
 use Rattle.fac_lang.specs.View.{items_text}
 use Rattle.fac_lang.specs.Texts.{Literal, Text}
 use Rattle.fac_locals.specs.Closed.{ClosesText}
-use Rattle.fac_abs.specs.Seen.{Grows, IsStack, stack_of}
+use Rattle.fac_abs.specs.Seen.{Grows, IsStack, stack_of, base_seen}
 use Rattle.fac_check.specs.inner.Taken.{takes_text}
 use Rattle.fac_check.specs.inner.Walking.{Opened}
 use Rattle.fac_check.proofs.WalkLemmas.{Onward}
@@ -48,5 +48,5 @@ invariant-walk_phrase-loop-item l = record {
   taken : takes_text l.initial.self.closed.now.program.top (length l.initial.self.closed.now.templates) (items_text (drop l.item-index l.item-items)) ≡ true;
   onward :
       (O : Opened l.initial.self.closed.now.program l.initial.self.closed.now.templates) (at : Literal) (t : Text) (f : ℕ) → ClosesText O.program at t l.phrase → l.step.left < f →
-      Onward O at t f l.step.nested (stack_of O.naming l.initial.self.marks l.step.stack) l.step.left l.self.marks l.stack (drop l.item-index l.item-items) l.left;
+      Onward O at t f l.step.nested (base_seen O.naming l.step.base) (stack_of O.naming l.initial.self.marks l.step.stack) l.step.left l.self.marks l.base l.stack (drop l.item-index l.item-items) l.left;
 }

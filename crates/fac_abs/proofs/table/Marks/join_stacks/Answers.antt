@@ -3,7 +3,7 @@ use Rattle.fac_abs.specs.Seen.{MarksSeen, Grows}
 use Rattle.fac_abs.specs.Promises.{IsJoinedWhere}
 use Rattle.fac_abs.proofs.SeenLemmas.{seen, stack_in, low_in, grows_cells}
 use Rattle.fac_abs.proofs.MoveLemmas.{joined_by}
-use Rattle.fac_abs.proofs.table.Marks.join.Goals as goal
+use Rattle.fac_abs.proofs.table.Marks.join_stacks.Goals as goal
 
 pub join-requires-clause-first : goal.join-requires-clause-first
 join-requires-clause-first c = stack_in c.self.inside.nodes c.self.inside.cells c.args.self.now c.self.view_is c.args.a c.requires.first

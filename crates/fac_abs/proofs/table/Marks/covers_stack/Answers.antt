@@ -3,7 +3,7 @@ use Rattle.fac_abs.specs.Marks.{cover_marks}
 use Rattle.fac_abs.specs.Seen.{MarksSeen, stack_of}
 use Rattle.fac_abs.proofs.SeenLemmas.{stack_in, low_in}
 use Rattle.fac_abs.proofs.MoveLemmas.{covers_are}
-use Rattle.fac_abs.proofs.table.Marks.covers.Goals as goal
+use Rattle.fac_abs.proofs.table.Marks.covers_stack.Goals as goal
 
 pub covers-requires-clause-bound : goal.covers-requires-clause-bound
 covers-requires-clause-bound c = stack_in c.self.inside.nodes c.self.inside.cells c.args.self.now c.self.view_is c.args.bound c.requires.bound
