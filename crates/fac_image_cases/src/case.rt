@@ -61,6 +61,55 @@ fn template(alloc: Global, numbers: &[u32]) -> Result<TemplateRow, Memory> {
     })
 }
 
+// The templates that numbers tell.
+fn templates(alloc: Global, rows: &[Vec<u32>]) -> Result<List<TemplateRow>, Memory> {
+    let mut templates = List::new(alloc);
+    for numbers in rows {
+        templates.push(template(alloc, numbers.as_slice())?)?;
+    }
+    Ok(templates)
+}
+
+// Copies of words and code.
+fn tables(
+    alloc: Global,
+    words: &[WordRow],
+    code: &[Instr],
+) -> Result<(List<WordRow>, List<Instr>), Memory> {
+    let words = List::from_vec(Vec::from_slice(alloc, words)?)?;
+    let code = List::from_vec(Vec::from_slice(alloc, code)?)?;
+    Ok((words, code))
+}
+
+// The place where a run begins, and its budget.
+fn start_and_budget(text: &str) -> Option<(u32, u64)> {
+    let (start, budget) = text.split_once(' ')?;
+    Some((start.parse::<u32>().ok()?, budget.parse::<u64>().ok()?))
+}
+
+// A sink whose listed writes fail.
+fn sink(alloc: Global, fails: &[(u64, u64)]) -> Result<MemSink, Memory> {
+    MemSink::new(alloc, ROOM, List::from_vec(Vec::from_slice(alloc, fails)?)?)
+}
+
+// Lets a machine run, and tells how the run ended.
+fn run_told(
+    alloc: Global,
+    machine: &mut Machine,
+    out: &mut MemSink,
+    budget: u64,
+) -> Result<Text, Memory> {
+    let stop = machine.run(alloc, out, budget);
+    told(alloc, stop, machine.stack(), out.taken())
+}
+
+// Runs an image, and tells how the run ended.
+fn run(alloc: Global, image: Image, fails: &[(u64, u64)], budget: u64) -> Result<Text, Memory> {
+    let mut machine = Machine::new(alloc, image)?;
+    let mut out = sink(alloc, fails)?;
+    run_told(alloc, &mut machine, &mut out, budget)
+}
+
 impl Case {
     /// No templates, words or code.
     pub fn new(alloc: Global) -> Self {
@@ -127,30 +176,19 @@ impl Case {
 
     // The image that begins at a place. None where the tables and the code are none.
     fn image(&self, alloc: Global, start: u32) -> Result<Option<Image>, Memory> {
-        let mut templates = List::new(alloc);
-        for numbers in &self.templates {
-            templates.push(template(alloc, numbers.as_slice())?)?;
-        }
-        let words = List::from_vec(Vec::from_slice(alloc, self.words.as_slice())?)?;
-        let code = List::from_vec(Vec::from_slice(alloc, self.code.as_slice())?)?;
+        let templates = templates(alloc, self.templates.as_slice())?;
+        let (words, code) = tables(alloc, self.words.as_slice(), self.code.as_slice())?;
         Ok(Image::new(templates, words, code, start))
     }
 
     // Runs the image, and tells how the run ended.
     fn run(&self, alloc: Global, text: &str) -> Result<Text, Memory> {
-        let Some((start, budget)) = text.split_once(' ') else {
+        let Some((start, budget)) = start_and_budget(text) else {
             return Text::from_str(alloc, "  not taken\n");
         };
-        let (Ok(start), Ok(budget)) = (start.parse::<u32>(), budget.parse::<u64>()) else {
-            return Text::from_str(alloc, "  not taken\n");
-        };
-        let Some(image) = self.image(alloc, start)? else {
-            return Text::from_str(alloc, "  no image\n");
-        };
-        let fails = List::from_vec(Vec::from_slice(alloc, self.output.as_slice())?)?;
-        let mut out = MemSink::new(alloc, ROOM, fails)?;
-        let mut machine = Machine::new(alloc, image)?;
-        let stop = machine.run(alloc, &mut out, budget);
-        told(alloc, stop, machine.stack(), out.taken())
+        match self.image(alloc, start)? {
+            Some(image) => run(alloc, image, self.output.as_slice(), budget),
+            None => Text::from_str(alloc, "  no image\n"),
+        }
     }
 }

@@ -11,36 +11,10 @@ mod instructions;
 mod telling;
 
 use case::Case;
-use fac_lang::Memory;
-use std::alloc::AllocError;
 use std::io;
+use std::io::ErrorKind;
 
-// Why the program ends early.
-#[derive(Debug, Drop)]
-enum Fault {
-    Memory,
-    Stream(io::Error),
-}
-
-impl From<Memory> for Fault {
-    fn from(_: Memory) -> Self {
-        Fault::Memory
-    }
-}
-
-impl From<AllocError> for Fault {
-    fn from(_: AllocError) -> Self {
-        Fault::Memory
-    }
-}
-
-impl From<io::Error> for Fault {
-    fn from(error: io::Error) -> Self {
-        Fault::Stream(error)
-    }
-}
-
-fn main(rt: HostRuntime) -> Result<(), Fault> {
+fn main(rt: HostRuntime) -> io::Result<()> {
     let alloc = rt.alloc();
     let mut case = Case::new(alloc);
     for line in rt.lines(alloc) {
@@ -49,7 +23,10 @@ fn main(rt: HostRuntime) -> Result<(), Fault> {
         if line.is_empty() {
             case = Case::new(alloc);
         } else {
-            rt.print(case.take(alloc, line.as_str())?.as_str())?;
+            let Ok(told) = case.take(alloc, line.as_str()) else {
+                return Err(io::Error::from(ErrorKind::OutOfMemory));
+            };
+            rt.print(told.as_str())?;
         }
     }
     Ok(())

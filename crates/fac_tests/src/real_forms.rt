@@ -5,36 +5,59 @@ use std::io::{ErrorKind, Read, Write};
 use std::test::Fail;
 use std::{fs, io, process};
 
+// What becomes of bytes that are saved, and loaded again within a limit.
+fn kept<F: Files>(
+    alloc: Global,
+    files: &mut F,
+    name: &str,
+    bytes: &[u8],
+    limit: u64,
+) -> &'static str {
+    match files.save(alloc, name, bytes) {
+        Ok(()) => {}
+        Err(SaveFault::Failed) => return "not saved",
+        Err(SaveFault::Memory) => return "memory",
+    }
+    match files.load(alloc, name, limit) {
+        Ok(loaded) => if loaded.as_slice() == bytes {
+            "kept"
+        } else {
+            "changed"
+        },
+        Err(LoadFault::Failed) => "not loaded",
+        Err(LoadFault::TooLong) => "too long",
+        Err(LoadFault::Memory) => "memory",
+    }
+}
+
+// Why there are no bytes under a name, or that there are some.
+fn missing<F: Files>(alloc: Global, files: &mut F, name: &str) -> &'static str {
+    match files.load(alloc, name, 9) {
+        Ok(_) => "loaded",
+        Err(LoadFault::Failed) => "not loaded",
+        Err(LoadFault::TooLong) => "too long",
+        Err(LoadFault::Memory) => "memory",
+    }
+}
+
+// Whether files of this name and of two names of the system come to what they should.
+fn keeps_all<F: Files>(alloc: Global, files: &mut F, name: &str, bytes: &[u8]) -> bool {
+    missing(alloc, files, "/dev/null/missing") == "not loaded"
+        && kept(alloc, files, "/dev/full", b"a".as_slice(), 9) == "not saved"
+        && kept(alloc, files, name, bytes, 9999) == "too long"
+        && kept(alloc, files, name, bytes, 10000) == "kept"
+        && kept(alloc, files, name, b"abc".as_slice(), 9) == "kept"
+        && kept(alloc, files, name, b"".as_slice(), 0) == "kept"
+}
+
 #[test]
 fn real_files(rt: HostRuntime) -> Result<(), Fail> {
     let alloc = rt.alloc();
     let name = format!(in alloc; "/tmp/fac_io_{}", process::id(rt.process()))?;
-    let name = name.as_str();
-    let mut files = RealFiles::new(&rt);
-    let missing = files.load(alloc, "/dev/null/missing", 9);
-    assert_eq!(rt; missing.err(), Some(LoadFault::Failed));
-    assert_eq!(rt;
-        files.save(alloc, "/dev/full", b"a".as_slice()),
-        Err(SaveFault::Failed)
-    );
     let bytes = vec![in alloc; 7u8; 10000]?;
-    for (length, limit, answer) in [
-        (10000usize, 9999u64, Err(LoadFault::TooLong)),
-        (10000, 10000, Ok(())),
-        (3, 9, Ok(())),
-        (0, 0, Ok(())),
-    ] {
-        let bytes = bytes.as_slice().get(..length).unwrap_or(&[]);
-        assert_eq!(rt; files.save(alloc, name, bytes), Ok(()));
-        match files.load(alloc, name, limit) {
-            Ok(loaded) => {
-                assert_eq!(rt; answer, Ok(()));
-                assert_eq!(rt; loaded.as_slice(), bytes);
-            }
-            Err(fault) => assert_eq!(rt; answer, Err(fault)),
-        }
-    }
-    fs::remove_file(&rt, name)?;
+    let mut files = RealFiles::new(&rt);
+    assert!(rt; keeps_all(alloc, &mut files, name.as_str(), bytes.as_slice()));
+    fs::remove_file(&rt, name.as_str())?;
     Ok(())
 }
 
