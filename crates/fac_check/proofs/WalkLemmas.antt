@@ -105,6 +105,15 @@ module _ {C : Program} {templates : List Template} (O : Opened C templates) wher
           ends g l W below
           (same ∙ ap (λ x. go_at O (suc g) o.here nested x (base_seen O.naming b) (stack_of O.naming M s) n) first.is ∙ behind_item O o.here first.item i.place first.more g nested n (base_seen O.naming b) s M L K D W (does o.here first.item (base_seen O.naming b) first.closes_item) (walks g (omega (arith, l))))
 
+  -- likewise from the items that were left before, where the walk of the first came to this
+  pub behind_from :
+      (at : Literal) (t : Text) (f nested : ℕ) (e : Option Row) (ms : List Mark) (most : ℕ) (M L K : MarksSeen) (b : Option ℕ) (s n : ℕ) (i : PlacedItem) (left items : List PlacedItem) (D : Doing) (W V : Walked) →
+      left ≡ i ∷ items → W ≡ V → Onward O at t f nested e ms most M b s left n → DoesItem O M L s i D →
+      ((g : ℕ) → n ≤ g → walked_seen O.naming K W ≡ item_walk None (go_at O g) (doing_seen O.naming L (body_text O.program) (base_seen O.naming b) D) i.place nested n) → IsBelow n W →
+      Behind at t f nested e ms most K items V
+  behind_from at t f nested e ms most M L K b s n i left items D W V next is here does walks below =
+      subst (Behind at t f nested e ms most K items) is (onward at t f nested e ms most M L K b s n i items D W (subst (λ (q : List PlacedItem). Onward O at t f nested e ms most M b s q n) next here) does walks below)
+
   -- at the end
   pub onward_end : (at : Literal) (t : Text) (f nested : ℕ) (e : Option Row) (ms : List Mark) (most : ℕ) (M : MarksSeen) (b : Option ℕ) (s n : ℕ) → Onward O at t f nested e ms most M b s [] n → found (on (base_seen O.naming b) (stack_of O.naming M s)) n ≡ go_at O f at nested t e ms most
   onward_end at t f nested e ms most M b s n o = sym (o.same ∙ ended o.steps o.text o.closes)

@@ -212,7 +212,7 @@ impl<'a> Walker<'a> {
     }
 
     // Walks the text of a literal, which is one nested application. A number behind the last template names a literal with no items: no
-    // mark that the walk makes has one, but the contracts of marks say nothing of the numbers of their literals.
+    // mark has one, but the contracts of marks don't bound the numbers of their literals. They will once literals have captures.
     #[cycle(walk)]
     fn walk_literal(&mut self, template: u32, step: Step) -> Result<Walked, Memory>
         requires { IsStack self.old.marks step.stack }

@@ -60,7 +60,7 @@ module _ (N : Naming) (M : MarksSeen) where
   walked_seen (Found A n) = found (reached_seen N M A) n
   walked_seen (Refused r p) = refused r p
 
-  -- with the texts of words, and the base of the stack, on which nothing depends that an item does
+  -- with the texts of words, and the base of the stack, which no item of today looks at
   abbrev pub doing_seen : (ℕ → Text) → Option Row → Doing → DoingAtOnce
   doing_seen texts b (Breaks r) = breaks r
   doing_seen texts b Ends = gives dead
@@ -78,7 +78,7 @@ abbrev pub AreMarks : MarksSeen → Option ℕ → Type 0
 AreMarks M None = Unit {0}
 AreMarks M (Some m) = IsMark M m
 
--- where a word is expanded, it is one of these
+-- likewise, and where a word is expanded, it is one of these
 abbrev pub IsDoingOf : (ℕ → Type 0) → MarksSeen → Doing → Type 0
 IsDoingOf named M (Breaks r) = Unit {0}
 IsDoingOf named M Ends = Unit {0}

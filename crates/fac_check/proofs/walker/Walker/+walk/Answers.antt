@@ -14,7 +14,7 @@ use Rattle.fac_check.specs.declared.walker.Step.{Step}
 use Rattle.fac_check.specs.declared.walker.Walked.TheVariants.{Found}
 use Rattle.fac_check.proofs.MarkWalks.{carried, curried_counts, composed_ends, text_entered, literal_closed, word_text_closed, forked, reached_stays, no_items, no_literal}
 use Rattle.fac_check.proofs.TakenPrograms.{template_taken, text_taken, first_taken, others_taken}
-use Rattle.fac_check.proofs.WalkLemmas.{Onward, Behind, onward_start, onward_end, onward}
+use Rattle.fac_check.proofs.WalkLemmas.{Onward, onward_start, onward_end, behind_from}
 use Rattle.fac_check.proofs.WordItems.{ok_maps}
 use Rattle.fac_check.proofs.walker.Walker.+walk.Goals as goal
 
@@ -140,21 +140,15 @@ pub walk_phrase-returns-in-Refused-clause-walks : goal.walk_phrase-returns-in-Re
 walk_phrase-returns-in-Refused-clause-walks t c = λ O at u f closes l.
     let items = c.deref-item-items.result.now in
     let i = c.loop-item.item-index in
-    let ms = stack_of O.naming c.args.self.now.marks c.args.step.stack in
     let next : drop i items ≡ c.item-item.result ∷ drop (suc i) items = drop-cons items i c.item-item.result c.loop-item-test.true ∙ ap (λ (x : PlacedItem). x ∷ drop (suc i) items) (sym c.item-item.is) in
-    let here = subst (λ is. Onward O at u f c.args.step.nested (base_seen O.naming c.args.step.base) ms c.args.step.left c.loop-item.self.marks c.loop-item.base c.loop-item.stack is c.loop-item.left) next (c.loop-item.invariant.onward O at u f closes l) in
-    let behind = onward O at u f c.args.step.nested (base_seen O.naming c.args.step.base) ms c.args.step.left c.loop-item.self.marks c.item_doing.new.marks c.walk_item.new.self.marks c.loop-item.base c.loop-item.stack c.loop-item.left c.item-item.result (drop (suc i) items) c.in_ok-doing.doing c.in_ok-rule.field-0 here (c.in_ok-doing.ensures.does O) (λ g. c.in_ok-rule.ensures.walks (carried (ap (λ (b : Bor Closed). b.now) c.loop-item.invariant.same) O) g) c.in_ok-rule.ensures.below in
-    sym (subst (Behind O at u f c.args.step.nested (base_seen O.naming c.args.step.base) ms c.args.step.left c.walk_item.new.self.marks (drop (suc i) items)) c.in-Refused.is behind)
+    sym (behind_from O at u f c.args.step.nested (base_seen O.naming c.args.step.base) (stack_of O.naming c.args.self.now.marks c.args.step.stack) c.args.step.left c.loop-item.self.marks c.item_doing.new.marks c.walk_item.new.self.marks c.loop-item.base c.loop-item.stack c.loop-item.left c.item-item.result _ (drop (suc i) items) c.in_ok-doing.doing c.in_ok-rule.field-0 _ next c.in-Refused.is (c.loop-item.invariant.onward O at u f closes l) (c.in_ok-doing.ensures.does O) (λ g. c.in_ok-rule.ensures.walks (carried (ap (λ (b : Bor Closed). b.now) c.loop-item.invariant.same) O) g) c.in_ok-rule.ensures.below)
 
 pub walk_phrase-returns-in-Found-Dead-default-clause-walks : goal.walk_phrase-returns-in-Found-Dead-default-clause-walks
 walk_phrase-returns-in-Found-Dead-default-clause-walks t c = λ O at u f closes l.
     let items = c.deref-item-items.result.now in
     let i = c.loop-item.item-index in
-    let ms = stack_of O.naming c.args.self.now.marks c.args.step.stack in
     let next : drop i items ≡ c.item-item.result ∷ drop (suc i) items = drop-cons items i c.item-item.result c.loop-item-test.true ∙ ap (λ (x : PlacedItem). x ∷ drop (suc i) items) (sym c.item-item.is) in
-    let here = subst (λ is. Onward O at u f c.args.step.nested (base_seen O.naming c.args.step.base) ms c.args.step.left c.loop-item.self.marks c.loop-item.base c.loop-item.stack is c.loop-item.left) next (c.loop-item.invariant.onward O at u f closes l) in
-    let behind = onward O at u f c.args.step.nested (base_seen O.naming c.args.step.base) ms c.args.step.left c.loop-item.self.marks c.item_doing.new.marks c.walk_item.new.self.marks c.loop-item.base c.loop-item.stack c.loop-item.left c.item-item.result (drop (suc i) items) c.in_ok-doing.doing c.in_ok-rule.field-0 here (c.in_ok-doing.ensures.does O) (λ g. c.in_ok-rule.ensures.walks (carried (ap (λ (b : Bor Closed). b.now) c.loop-item.invariant.same) O) g) c.in_ok-rule.ensures.below in
-    sym (subst (Behind O at u f c.args.step.nested (base_seen O.naming c.args.step.base) ms c.args.step.left c.walk_item.new.self.marks (drop (suc i) items)) (c.in-Found-Dead-default.is ∙ ap (λ A. Found A c.in-Found-Dead-default.rest) c.in-Found-Dead-default.field-0-is) behind)
+    sym (behind_from O at u f c.args.step.nested (base_seen O.naming c.args.step.base) (stack_of O.naming c.args.self.now.marks c.args.step.stack) c.args.step.left c.loop-item.self.marks c.item_doing.new.marks c.walk_item.new.self.marks c.loop-item.base c.loop-item.stack c.loop-item.left c.item-item.result _ (drop (suc i) items) c.in_ok-doing.doing c.in_ok-rule.field-0 _ next (c.in-Found-Dead-default.is ∙ ap (λ A. Found A c.in-Found-Dead-default.rest) c.in-Found-Dead-default.field-0-is) (c.loop-item.invariant.onward O at u f closes l) (c.in_ok-doing.ensures.does O) (λ g. c.in_ok-rule.ensures.walks (carried (ap (λ (b : Bor Closed). b.now) c.loop-item.invariant.same) O) g) c.in_ok-rule.ensures.below)
 
 pub walk_phrase-loop-item-preserved : goal.walk_phrase-loop-item-preserved
 walk_phrase-loop-item-preserved t c =
@@ -170,11 +164,8 @@ walk_phrase-loop-item-preserved t c =
           let next : drop i items ≡ c.item-item.result ∷ drop (i + 1) items = rw add-one (drop-cons items i c.item-item.result c.loop-item-test.true ∙ ap (λ (x : PlacedItem). x ∷ drop (suc i) items) (sym c.item-item.is)) in
           others_taken c.args.self.now.closed.now.program.top (length c.args.self.now.closed.now.templates) c.item-item.result (drop (i + 1) items) (subst (λ (q : List PlacedItem). takes_text c.args.self.now.closed.now.program.top (length c.args.self.now.closed.now.templates) (items_text q) ≡ true) next c.loop-item.invariant.taken);
       onward = λ O at u f closes l.
-          let ms = stack_of O.naming c.args.self.now.marks c.args.step.stack in
           let next : drop i items ≡ c.item-item.result ∷ drop (i + 1) items = rw add-one (drop-cons items i c.item-item.result c.loop-item-test.true ∙ ap (λ (x : PlacedItem). x ∷ drop (suc i) items) (sym c.item-item.is)) in
-          let here = subst (λ q. Onward O at u f c.args.step.nested (base_seen O.naming c.args.step.base) ms c.args.step.left c.loop-item.self.marks c.loop-item.base c.loop-item.stack q c.loop-item.left) next (c.loop-item.invariant.onward O at u f closes l) in
-          let behind = onward O at u f c.args.step.nested (base_seen O.naming c.args.step.base) ms c.args.step.left c.loop-item.self.marks c.item_doing.new.marks c.walk_item.new.self.marks c.loop-item.base c.loop-item.stack c.loop-item.left c.item-item.result (drop (i + 1) items) c.in_ok-doing.doing c.in_ok-rule.field-0 here (c.in_ok-doing.ensures.does O) (λ g. c.in_ok-rule.ensures.walks (carried (ap (λ (b : Bor Closed). b.now) c.loop-item.invariant.same) O) g) c.in_ok-rule.ensures.below in
-          subst (Behind O at u f c.args.step.nested (base_seen O.naming c.args.step.base) ms c.args.step.left c.walk_item.new.self.marks (drop (i + 1) items)) is behind;
+          behind_from O at u f c.args.step.nested (base_seen O.naming c.args.step.base) (stack_of O.naming c.args.self.now.marks c.args.step.stack) c.args.step.left c.loop-item.self.marks c.item_doing.new.marks c.walk_item.new.self.marks c.loop-item.base c.loop-item.stack c.loop-item.left c.item-item.result _ (drop (i + 1) items) c.in_ok-doing.doing c.in_ok-rule.field-0 _ next is (c.loop-item.invariant.onward O at u f closes l) (c.in_ok-doing.ensures.does O) (λ g. c.in_ok-rule.ensures.walks (carried (ap (λ (b : Bor Closed). b.now) c.loop-item.invariant.same) O) g) c.in_ok-rule.ensures.below;
     }
 
 pub walk_fork-returns-in-Refused-2-clause-walks : goal.walk_fork-returns-in-Refused-2-clause-walks
