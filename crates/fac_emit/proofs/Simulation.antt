@@ -21,7 +21,7 @@ use Rattle.fac_code.specs.declared.image.Image.{Image}
 use Rattle.fac_code.specs.declared.image.TemplateRow.{TemplateRow}
 use Rattle.fac_code.specs.declared.image.WordRow.{WordRow}
 use Rattle.fac_code.specs.declared.names.TrapWhy.TheVariants.{Kind as t_kind, Frame as t_frame}
-use Rattle.fac_prim.specs.Cells.{MValue, m_plain, m_fun, MCallable, m_lit, m_cur, m_com, Kept, none_kept, kept, kept_list, keep_list, m_seen, cells, cells_at, with_first}
+use Rattle.fac_prim.specs.Cells.{MValue, m_plain, m_fun, MCallable, m_lit, m_cur, m_com, Kept, kept_list, m_seen, cells, cells_at}
 use Rattle.fac_vm.specs.Machine.{Machine, Leads, Entry, resume, put_back, enter, End, done, failed, spent, Step, goes_on, ends, after, given as machine_given, does as machine_does, word_of_prim, or_trap, code_of, branch, entering, fetched, step, Ends}
 use Rattle.fac_vm.proofs.Leading.{leads_on, leads_none, leads_step, ends_after, ends_step}
 use Rattle.fac_emit.specs.View.{Templates, value_view, callable_view, values_view, world_view, state_view, gives_view, error_view}
