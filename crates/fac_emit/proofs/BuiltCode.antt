@@ -1,5 +1,5 @@
 -- The plain code of a closed program has built primitives alone.
-use Rattle.std.proofs.Common.{◌≡◌, ℕ, zero, suc, ◌+◌, List, [], ◌∷◌, ◌++◌, drop, Bool, true, false, ◌&&◌, refl, subst, sym, arith}
+use Rattle.std.proofs.Common.{◌≡◌, ℕ, zero, suc, List, [], ◌∷◌, ◌++◌, Bool, true, false, ◌&&◌, refl, subst, sym, arith}
 use Rattle.std.specs.Prelude.{nat_eq, slice_get}
 use Rattle.fac_lang.specs.declared.phrase.Template.{Template}
 use Rattle.fac_lang.specs.declared.program.Program.{Program}
@@ -13,7 +13,7 @@ use Rattle.fac_locals.specs.Closed.{Closes, ClosesSort, CloseWords}
 use Rattle.fac_code.specs.declared.image.Instr.{Instr}
 use Rattle.fac_code.specs.declared.image.Instr.TheVariants.{Ret}
 use Rattle.fac_code.specs.Code.{is_built_instr, has_built_code}
-use Rattle.fac_emit.specs.Code.{core_instr, sort_instr, word_instr, item_instr, text_code, quotations, first_template, templates_code, last_instr, sort_code, code_from, program_code}
+use Rattle.fac_emit.specs.Code.{core_instr, sort_instr, word_instr, item_instr, text_code, templates_code, last_instr, sort_code, code_from, program_code}
 
 -- a word that isn't a primitive that isn't built
 abbrev Fits : Sort → Type 0
@@ -97,20 +97,19 @@ module _ (words : List WordDef) (fit : AllFit words) where
   text_built last end l = and_true (is_built_instr last) true l refl
   text_built last (then i p t) l = and_true (is_built_instr (item_instr words i)) (has_built_code (text_code words last t)) (item_built i) (text_built last t l)
 
-  templates_built : (ts : List Template) (n : ℕ) → has_built_code (templates_code words n ts) ≡ true
-  templates_built [] zero = refl
-  templates_built [] (suc n) = refl
-  templates_built (t ∷ ts) zero = refl
-  templates_built (t ∷ ts) (suc n) = let more = n + quotations t.body in both_built (text_code words Ret t.body) (templates_code words more ts) (text_built Ret t.body refl) (templates_built ts more)
+  templates_built : (ts : List Template) → has_built_code (templates_code words ts) ≡ true
+  templates_built [] = refl
+  templates_built (t ∷ ts) = both_built (text_code words Ret t.body) (templates_code words ts) (text_built Ret t.body refl) (templates_built ts)
 
-  module _ (templates : List Template) (top : ℕ) where
-    piece_built : (is_top : Bool) (s : Sort) → has_built_code (sort_code words templates is_top s) ≡ true
-    piece_built is_top (body t) = both_built (text_code words (last_instr is_top) t) (templates_code words (quotations t) (drop (first_template t) templates)) (text_built (last_instr is_top) t (last_built is_top)) (templates_built (drop (first_template t) templates) (quotations t))
-    piece_built is_top _ = refl
+  sort_code_built : (is_top : Bool) (s : Sort) → has_built_code (sort_code words is_top s) ≡ true
+  sort_code_built is_top (body t) = text_built (last_instr is_top) t (last_built is_top)
+  sort_code_built is_top _ = refl
 
-    words_built : (w : ℕ) (ds : List WordDef) → has_built_code (code_from words templates top w ds) ≡ true
-    words_built w [] = refl
-    words_built w (d ∷ ds) = both_built (sort_code words templates (nat_eq w top) d.sort) (code_from words templates top (suc w) ds) (piece_built (nat_eq w top) d.sort) (words_built (suc w) ds)
+  words_built : (top w : ℕ) (ds : List WordDef) → has_built_code (code_from words top w ds) ≡ true
+  words_built top w [] = refl
+  words_built top w (d ∷ ds) = both_built (sort_code words (nat_eq w top) d.sort) (code_from words top (suc w) ds) (sort_code_built (nat_eq w top) d.sort) (words_built top (suc w) ds)
 
 pub code_built : (P C : Program) (templates : List Template) → IsBuilt P → Closes P C templates → has_built_code (program_code C templates) ≡ true
-code_built P C templates b closes = words_built C.words (all_fit P C templates b closes) templates C.top 0 C.words
+code_built P C templates b closes =
+    let fit = all_fit P C templates b closes in
+    both_built (templates_code C.words templates) (code_from C.words C.top 0 C.words) (templates_built C.words fit templates) (words_built C.words fit C.top 0 C.words)

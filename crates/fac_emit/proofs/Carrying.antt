@@ -62,5 +62,5 @@ carries P C templates M fits callable_height count b closes is_plain = record {
       let begin = begins_so P b T stack input in
       let going = λ (m : ℕ). not_stuck (top_run P fits callable_height (values_view T stack) input m) (never m) in
       subst (λ (st : State Value). (e : End) × Ends M (names P) (machine_before M stack input) n e × SameEnd T (eval (act P fits callable_height) n text st n) e) begin
-      (carried P fits callable_height M T code.called M.start text code.phrase stack (record empty_world { input = input }) (record { cells = tt; held = tt; values = whole; objects = tt }) (subst (λ (st : State Value). (m : ℕ) → eval (act P fits callable_height) m text st m ≢ Stuck) (sym begin) going) n);
+      (carried (record { program = P; fits = fits; callable_height = callable_height; image = M; texts = T }) code.called M.start text code.phrase stack (record empty_world { input = input }) (record { cells = tt; held = tt; values = whole; objects = tt }) (subst (λ (st : State Value). (m : ℕ) → eval (act P fits callable_height) m text st m ≢ Stuck) (sym begin) going) n);
 }

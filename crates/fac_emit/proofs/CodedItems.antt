@@ -17,7 +17,7 @@ use Rattle.fac_locals.specs.Closed.{Closes, ClosesSort}
 use Rattle.fac_locals.proofs.ClosedPrograms.{HasBuiltText, built_texts}
 use Rattle.fac_locals.proofs.Places.{literal_built}
 use Rattle.fac_locals.proofs.Lookups.{word_closed, word_open, template_closed}
-use Rattle.fac_emit.specs.Code.{sort_is_coded, word_is_coded, item_is_coded, text_is_coded, template_is_coded, body_is_coded}
+use Rattle.fac_emit.specs.Code.{sort_is_coded, word_is_coded, item_is_coded, text_is_coded, template_is_coded, body_is_coded, word_body_is_coded}
 use Rattle.fac_emit.proofs.Closings.{Closing, c_end, c_int, c_true, c_false, c_word, c_quot, closing}
 use Rattle.fac_emit.proofs.BuiltCode.{and_true}
 use Rattle.fac_emit.proofs.EmitLemmas.{next_element}
@@ -40,15 +40,16 @@ each_passes : {A : Type 0} (test : A → Bool) (xs : List A) → ((k : ℕ) (x :
 each_passes test [] h = refl
 each_passes test (x ∷ xs) h = and_true (test x) (list_all test xs) (h 0 x refl) (each_passes test xs (λ k y e. h (suc k) y e))
 
--- of the items, and of the templates, from one place on the first passes
+-- of the items from one place on the first passes
 pub item_coded_at : (words : List WordDef) (items : List Item) (i : ℕ) (x : Item) → i < length items → x ≡ get_or items i x → text_is_coded words (items_text (drop i items)) ≡ true → item_is_coded words (what_item x.what) ≡ true
 item_coded_at words items i x lt is h =
     and_first (item_is_coded words (what_item x.what)) (text_is_coded words (items_text (drop (i + 1) items))) (subst (λ (xs : List Item). text_is_coded words (items_text xs) ≡ true) (next_element items i x lt is) h)
 
-pub template_coded_at : (words : List WordDef) (ts : List Template) (i : ℕ) (t : Template) → i < length ts → t ≡ get_or ts i t → list_all (template_is_coded words) (drop i ts) ≡ true → (template_is_coded words t ≡ true) × (list_all (template_is_coded words) (drop (i + 1) ts) ≡ true)
-template_coded_at words ts i t lt is h =
-    let both : (template_is_coded words t && list_all (template_is_coded words) (drop (i + 1) ts)) ≡ true = subst (λ (xs : List Template). list_all (template_is_coded words) xs ≡ true) (next_element ts i t lt is) h in
-    (and_first (template_is_coded words t) (list_all (template_is_coded words) (drop (i + 1) ts)) both, and_second (template_is_coded words t) (list_all (template_is_coded words) (drop (i + 1) ts)) both)
+-- and the one that a loop is at passes where all do
+pub item_passes : {A : Type 0} (test : A → Bool) (xs : List A) (i : ℕ) (x : A) (items : List A) → items ≡ xs → i < length items → x ≡ get_or items i x → list_all test xs ≡ true → test x ≡ true
+item_passes test xs i x items are lt is h =
+    let next = subst (λ (us : List _). drop i us ≡ x ∷ drop (i + 1) us) are (next_element items i x lt is) in
+    and_first (test x) (list_all test (drop (i + 1) xs)) (subst (λ (us : List _). list_all test us ≡ true) next (all_dropped test i xs h))
 
 module _ (P C : Program) (templates : List Template) (b : IsBuilt P) (closes : Closes P C templates) where
   sort_coded : (w : ℕ) (d : WordDef) (s c : Sort) → ClosesSort P w s c → IsBuiltSort P.top d s → sort_is_coded c ≡ true
@@ -71,11 +72,14 @@ module _ (P C : Program) (templates : List Template) (b : IsBuilt P) (closes : C
   text_coded at t c (c_word {c = c'} w lt h) = and_true (word_is_coded (slice_get C.words w)) (text_is_coded C.words c') (word_coded w lt) (text_coded _ _ _ h)
   text_coded at t c (c_quot u q is h) = text_coded _ _ _ h
 
+  pub template_coded : (q : ℕ) (t : Template) → slice_get templates q ≡ Some t → template_is_coded C.words t ≡ true
+  template_coded q t e =
+      let l = literal_numbered P q in
+      let closed = template_closed P C templates closes q t e in
+      text_coded (first_of_literal l.0) l.1 t.body (closing P (first_of_literal l.0) l.1 t.body closed.body (literal_built P b q))
+
   pub templates_coded : list_all (template_is_coded C.words) templates ≡ true
-  templates_coded = each_passes (template_is_coded C.words) templates (λ k t e.
-      let l = literal_numbered P k in
-      let closed = template_closed P C templates closes k t e in
-      text_coded (first_of_literal l.0) l.1 t.body (closing P (first_of_literal l.0) l.1 t.body closed.body (literal_built P b k)))
+  templates_coded = each_passes (template_is_coded C.words) templates template_coded
 
   body_coded : (w : ℕ) (s c : Sort) → ClosesSort P w s c → HasBuiltText P.top s → body_is_coded C.words c ≡ true
   body_coded w (body t) c h built = rw h.1 (text_coded (first_of_word w) t h.0 (closing P (first_of_word w) t h.0 h.2 built))
@@ -87,3 +91,6 @@ module _ (P C : Program) (templates : List Template) (b : IsBuilt P) (closes : C
   word_body_coded w c at =
       let found = word_open P C templates closes w c at in
       body_coded w found.def.sort c.sort found.closes.sort (built_at P C templates b closes P.words w found.def (built_texts P b) found.at)
+
+  pub words_coded : list_all (word_body_is_coded C.words) C.words ≡ true
+  words_coded = each_passes (word_body_is_coded C.words) C.words word_body_coded

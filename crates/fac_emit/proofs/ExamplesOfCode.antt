@@ -18,7 +18,7 @@ use Rattle.fac_code.specs.declared.image.Action.TheVariants.{Prim as prim_action
 use Rattle.fac_code.specs.declared.image.Image.{Image}
 use Rattle.fac_prim.specs.Cells.{MValue, m_plain}
 use Rattle.fac_vm.specs.Machine.{End, done, steps, starting}
-use Rattle.fac_emit.specs.Code.{program_code, words_from, templates_from}
+use Rattle.fac_emit.specs.Code.{program_code, template_rows, program_words}
 use Rattle.fac_emit.specs.View.{template_texts}
 use Rattle.fac_emit.specs.Symbols.{here, off, cells, k_text, k_cur, k_com, do_text, top_is, needs_none, needs_more, all_none, all_more}
 use Rattle.fac_emit.specs.Expanded.{Code, c_last, c_make, c_end, c_off, c_int, c_prim, c_word, c_call, c_dip}
@@ -36,7 +36,8 @@ named s = record { name = record { vocab = []; name = [] }; sort = s; effect = s
 -- : w [ 2 ] [ [ 3 ] call + ] compose ;   1 w [ 4 ] dip call
 abbrev source : List WordDef
 source =
-    named (prim 23) ∷ named (core 0) ∷ named (core 1) ∷ named (prim 17) ∷ named (body (items (quot (items (number 2 ∷ [])) ∷ quot (items (quot (items (number 3 ∷ [])) ∷ word 1 ∷ word 0 ∷ [])) ∷ word 3 ∷ []))) ∷ named (body (items (number 1 ∷ word 4 ∷ quot (items (number 4 ∷ [])) ∷ word 2 ∷ word 1 ∷ []))) ∷ []
+    named (prim 23) ∷ named (core 0) ∷ named (core 1) ∷ named (prim 17) ∷ named (body (items (quot (items (number 2 ∷ [])) ∷ quot (items (quot (items (number 3 ∷ [])) ∷ word 1 ∷ word 0 ∷ [])) ∷ word 3 ∷ []))) ∷ named
+    (body (items (number 1 ∷ word 4 ∷ quot (items (number 4 ∷ [])) ∷ word 2 ∷ word 1 ∷ []))) ∷ []
 
 abbrev closed : Program
 closed = record { words = closed_words 0 source; arrays = []; classes = []; top = 5 }
@@ -44,28 +45,27 @@ closed = record { words = closed_words 0 source; arrays = []; classes = []; top 
 abbrev templates : List Template
 templates = words_templates 0 source
 
--- the word's text, its three quotations with the inner one last, the top-level phrase and its quotation
-pub code_is : program_code closed templates ≡ Quot 0 ∷ Quot 1 ∷ Prim 17 ∷ Ret ∷ Int (pos 2) ∷ Ret ∷ Quot 2 ∷ Call false ∷ Prim 23 ∷ Ret ∷ Int (pos 3) ∷ Ret ∷ Int (pos 1) ∷ Callw 4 false ∷ Quot 3 ∷ Dip ∷ Call false ∷ Halt ∷ Int (pos 4) ∷ Ret ∷ []
+-- the four quotations, the one inside another behind it, then the word's text and the top-level phrase
+pub code_is : program_code closed templates ≡ Int (pos 2) ∷ Ret ∷ Quot 2 ∷ Call false ∷ Prim 23 ∷ Ret ∷ Int (pos 3) ∷ Ret ∷ Int (pos 4) ∷ Ret ∷ Quot 0 ∷ Quot 1 ∷ Prim 17 ∷ Ret ∷ Int (pos 1) ∷ Callw 4 false ∷ Quot 3 ∷ Dip ∷ Call false ∷ Halt ∷ []
 code_is = refl
 
-pub template_rows_are :
-    templates_from closed.words templates 5 0 0 closed.words ≡ record { entry = 4; cells = []; holes = 0 } ∷ record { entry = 6; cells = []; holes = 0 } ∷ record { entry = 10; cells = []; holes = 0 } ∷ record { entry = 18; cells = []; holes = 0 } ∷ []
+pub template_rows_are : template_rows closed.words 0 templates ≡ record { entry = 0; cells = []; holes = 0 } ∷ record { entry = 2; cells = []; holes = 0 } ∷ record { entry = 6; cells = []; holes = 0 } ∷ record { entry = 8; cells = []; holes = 0 } ∷ []
 template_rows_are = refl
 
 pub word_rows_are :
-    words_from closed.words templates 5 0 0 closed.words ≡ record { action = prim_action 23 } ∷ record { action = core_action 0 } ∷ record { action = core_action 1 } ∷ record { action = prim_action 17 } ∷ record { action = code_action 0 } ∷ record { action = code_action 12 } ∷ []
+    program_words closed templates ≡ record { action = prim_action 23 } ∷ record { action = core_action 0 } ∷ record { action = core_action 1 } ∷ record { action = prim_action 17 } ∷ record { action = code_action 10 } ∷ record { action = code_action 14 } ∷ []
 word_rows_are = refl
 
 pub is_built : has_built_code (program_code closed templates) ≡ true
 unfolding built_count
 is_built = refl
 
-pub words_built : refers (templates_from closed.words templates 5 0 0 closed.words) (words_from closed.words templates 5 0 0 closed.words) (program_code closed templates) 12 ≡ true
+pub words_built : refers (template_rows closed.words 0 templates) (program_words closed templates) (program_code closed templates) 14 ≡ true
 unfolding built_count
 words_built = refl
 
 abbrev image : Image
-image = record { templates = templates_from closed.words templates 5 0 0 closed.words; words = words_from closed.words templates 5 0 0 closed.words; code = program_code closed templates; start = 12; built = is_built; refers = words_built }
+image = record { templates = template_rows closed.words 0 templates; words = program_words closed templates; code = program_code closed templates; start = 14; built = is_built; refers = words_built }
 
 -- the stack and the ticks left where it is done
 abbrev ended : Option End → Option (List MValue × ℕ)
@@ -86,21 +86,21 @@ pub cells_are : cells (off (k_cur here (k_com (k_text end) (k_cur (off (k_text e
 cells_are = refl
 
 -- [ 2 ] [ .. ] compose, from the word's place: both quotations are put off and made at once, so `compose` has its two values
-pub word_code : Code opened image (template_texts opened) [] (Some Ret) [] 0 [] (do_text (items (quot (items (number 2 ∷ [])) ∷ quot (items (quot (items (number 3 ∷ [])) ∷ word 1 ∷ word 0 ∷ [])) ∷ word 3 ∷ [])) ∷ []) 0
+pub word_code : Code opened image (template_texts opened) [] (Some Ret) [] 0 [] (do_text (items (quot (items (number 2 ∷ [])) ∷ quot (items (quot (items (number 3 ∷ [])) ∷ word 1 ∷ word 0 ∷ [])) ∷ word 3 ∷ [])) ∷ []) 10
 unfolding template_texts prim_numbered
 word_code =
-    c_off (c_make 0 (record { entry = 4; cells = []; holes = 0 }) [] refl refl refl refl
-    (c_off (c_make 1 (record { entry = 6; cells = []; holes = 0 }) [] refl refl refl refl
+    c_off (c_make 0 (record { entry = 0; cells = []; holes = 0 }) [] refl refl refl refl
+    (c_off (c_make 1 (record { entry = 2; cells = []; holes = 0 }) [] refl refl refl refl
     (c_prim 3 17 _ refl refl refl (needs_more top_is (needs_more top_is needs_none)) refl
     (c_end (c_last (all_more all_none) refl))))))
 
 -- 1 w [ 4 ] dip call, from its place: behind a call nothing of the stack is known
-pub phrase_code : Code opened image (template_texts opened) [] (Some Halt) [] 0 [] (do_text (items (number 1 ∷ word 4 ∷ quot (items (number 4 ∷ [])) ∷ word 2 ∷ word 1 ∷ [])) ∷ []) 12
+pub phrase_code : Code opened image (template_texts opened) [] (Some Halt) [] 0 [] (do_text (items (number 1 ∷ word 4 ∷ quot (items (number 4 ∷ [])) ∷ word 2 ∷ word 1 ∷ [])) ∷ []) 14
 unfolding template_texts core_numbered
 phrase_code =
     c_int (pos 1) refl
     (c_word 4 _ (omega arith) refl (all_more all_none) refl
-    (c_off (c_make 3 (record { entry = 18; cells = []; holes = 0 }) [] refl refl refl refl
+    (c_off (c_make 3 (record { entry = 8; cells = []; holes = 0 }) [] refl refl refl refl
     (c_dip 2 1 refl refl (all_more all_none) refl
     (c_call 1 0 refl refl all_none refl
     (c_end (c_last all_none refl)))))))

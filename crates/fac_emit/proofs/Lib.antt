@@ -4,6 +4,8 @@ pub mod RunLaws
 pub mod GivenValues
 pub mod WholeValues
 pub mod Standing
+pub mod Following
+pub mod StepLemmas
 pub mod Simulation
 pub mod PlainIsCode
 pub mod LiteralWords

@@ -1,19 +1,18 @@
 -- The plain code of a closed program stands for the texts of its program.
-use Rattle.std.proofs.Common.{◌≡◌, ◌<◌, ℕ, zero, suc, ◌+◌, List, [], ◌∷◌, ◌++◌, length, drop, Bool, true, false, Option, Some, None, refl, ap, sym, subst, ◌∙◌, arith, ◌⊎◌, inl, inr, append_assoc, length-append}
+use Rattle.std.proofs.Common.{◌≡◌, ◌<◌, ℕ, zero, suc, ◌+◌, List, [], ◌∷◌, ◌++◌, length, drop, Bool, true, false, Option, Some, None, refl, ap, sym, subst, ◌∙◌, arith, append_assoc, length-append}
 use Rattle.std.proofs.lemmas.Bool.{ltb-true, ne_eqb}
 use Rattle.std.specs.Prelude.{nat_eq, slice_get}
 use Rattle.fac_lang.specs.declared.phrase.Template.{Template}
 use Rattle.fac_lang.specs.declared.program.Program.{Program}
 use Rattle.fac_lang.specs.declared.program.WordDef.{WordDef}
 use Rattle.fac_lang.specs.declared.program.Sort.{Sort}
-use Rattle.fac_lang.specs.declared.program.Sort.TheVariants.{Prim as prim_sort, Core as core_sort, Body as body, Past as past, Method as method}
+use Rattle.fac_lang.specs.declared.program.Sort.TheVariants.{Prim as prim_sort, Core as core_sort, Body as body}
 use Rattle.fac_lang.specs.Texts.{Literal, Text, quot, word}
 use Rattle.fac_lang.specs.Forms.{IsBuilt, IsBuiltText, IsBuiltSort, has_no_repeats}
 use Rattle.fac_lang.specs.CoreWords.{is_built_core}
 use Rattle.fac_lang.specs.Meaning.{sort_of, word_text, core_numbered}
-use Rattle.fac_locals.specs.Literals.{Quoted, first_of_word, first_of_literal, literals_in, sort_literals, word_literals, literals, literal_or, literal_numbered}
-use Rattle.fac_locals.specs.Closed.{Closes, ClosesText, ClosesSort, CloseWords, CloseLiterals}
-use Rattle.fac_locals.proofs.ClosedPrograms.{HasBuiltText, HaveBuiltTexts, built_texts}
+use Rattle.fac_locals.specs.Literals.{Quoted, first_of_word, first_of_literal, literals, literal_or, literal_numbered}
+use Rattle.fac_locals.specs.Closed.{Closes, ClosesSort}
 use Rattle.fac_locals.proofs.Places.{literal_built}
 use Rattle.fac_locals.proofs.Lookups.{word_closed, template_closed, template_closed_none, templates_count}
 use Rattle.fac_code.specs.declared.image.Instr.{Instr}
@@ -25,10 +24,10 @@ use Rattle.fac_code.specs.declared.image.WordRow.{WordRow}
 use Rattle.fac_prim.specs.Cells.{MValue, kept_list, cells_at}
 use Rattle.fac_vm.specs.Machine.{word_of_prim}
 use Rattle.fac_emit.specs.View.{template_texts}
-use Rattle.fac_emit.specs.Code.{core_instr, sort_instr, word_instr, item_instr, text_code, quotations, first_template, templates_code, row_at, template_rows, last_instr, sort_action, sort_code, sort_rows, piece, code_from, words_from, templates_from, program_code, IsPlain}
+use Rattle.fac_emit.specs.Code.{core_instr, sort_instr, word_instr, item_instr, text_code, templates_code, row_at, template_rows, last_instr, sort_action, sort_code, word_code, code_from, words_from, program_code, program_words, IsPlain}
 use Rattle.fac_emit.specs.Stands.{l_word, l_call, l_if, Translates, t_int, t_true, t_false, t_quot, t_prim, t_dip, t_calling, Stands, s_end, s_item, Coded}
 use Rattle.fac_emit.proofs.LiteralWords.{in_a_word, is_listed}
-use Rattle.fac_emit.proofs.Closings.{drop_behind, get_at, Closing, c_end, c_int, c_true, c_false, c_word, c_quot, closing, same_primitives, split, Forest, text_forest, first_number}
+use Rattle.fac_emit.proofs.Closings.{drop_behind, get_at, Closing, c_end, c_int, c_true, c_false, c_word, c_quot, closing, same_primitives}
 use Rattle.fac_lang.proofs.FormsLemmas.{word_below, sort_at, top_word, top_text, all_distinct}
 use Rattle.fac_emit.proofs.FirstWords.{first_with}
 
@@ -58,12 +57,6 @@ module _ (words : List WordDef) (code : List Instr) where
   Rows (r ∷ rs) (t ∷ ts) = IsRowOf r t × Rows rs ts
   Rows _ _ = ⊥
 
-  rows_both : (rs qs : List TemplateRow) (ts us : List Template) → Rows rs ts → Rows qs us → Rows (rs ++ qs) (ts ++ us)
-  rows_both [] qs [] us h k = k
-  rows_both [] qs (t ∷ ts) us h k = absurd h
-  rows_both (r ∷ rs) qs [] us h k = absurd h
-  rows_both (r ∷ rs) qs (t ∷ ts) us h k = (h.0, rows_both rs qs ts us h.1 k)
-
   pub record RowThere (rs : List TemplateRow) (k : ℕ) (t : Template) : Type 0 where
     pub row : TemplateRow
     pub there : slice_get rs k ≡ Some row
@@ -89,87 +82,49 @@ module _ (words : List WordDef) (code : List Instr) where
   template_at (q ∷ rs) (u ∷ ts) (suc k) r h e = let later = template_at rs ts k r h.1 e in record { template = later.template; there = later.there; of = later.of }
 
   -- templates whose code stands one behind the other
-  forest_rows : (P : Program) (n at : ℕ) (ts us : List Template) (more : List Instr) → Forest P n ts → drop at code ≡ templates_code words n (ts ++ us) ++ more → Rows (template_rows words at n (ts ++ us)) ts
-  forest_rows P zero at [] us more h e = tt
-  forest_rows P zero at (t ∷ ts) us more h e = absurd h
-  forest_rows P (suc n) at [] us more h e = absurd h
-  forest_rows P (suc n) at (t ∷ ts) us more h e =
+  pub rows_placed : (at : ℕ) (ts : List Template) (more : List Instr) → drop at code ≡ templates_code words ts ++ more → Rows (template_rows words at ts) ts
+  rows_placed at [] more e = tt
+  rows_placed at (t ∷ ts) more e =
       let own = text_code words Ret t.body in
-      let others = templates_code words (n + quotations t.body) (ts ++ us) in
-      let there = regroup (drop at code) own others more e in
-      (record { at = at; row = refl; more = others ++ more; there = there }, forest_rows P (n + quotations t.body) (at + length own) ts us more h (drop_behind code at own (others ++ more) there))
+      let there = regroup (drop at code) own (templates_code words ts) more e in
+      (record { at = at; row = refl; more = templates_code words ts ++ more; there = there }, rows_placed (at + length own) ts more (drop_behind code at own (templates_code words ts ++ more) there))
 
--- one of two places is the same where no template is to follow
-pub code_from_place : (words : List WordDef) (templates : List Template) (n f k : ℕ) → (n ≡ 0) ⊎ (f ≡ k) → templates_code words n (drop f templates) ≡ templates_code words n (drop k templates)
-code_from_place words templates n f k (inl none) = rw none refl
-code_from_place words templates n f k (inr same) = ap (λ (k : ℕ). templates_code words n (drop k templates)) same
-
-pub rows_from_place : (words : List WordDef) (templates : List Template) (at n f k : ℕ) → (n ≡ 0) ⊎ (f ≡ k) → template_rows words at n (drop f templates) ≡ template_rows words at n (drop k templates)
-rows_from_place words templates at n f k (inl none) = rw none refl
-rows_from_place words templates at n f k (inr same) = ap (λ (k : ℕ). template_rows words at n (drop k templates)) same
-
-module _ (P : Program) (words : List WordDef) (templates : List Template) (top : ℕ) (code : List Instr) where
-  -- the templates of a text, whose code stands behind the text's
-  text_rows : (w k at : ℕ) (is_top : Bool) (t c : Text) (ts us : List Template) (ls : List Quoted) (more : List Instr) → ClosesText P (first_of_word w) t c → IsBuiltText P.top t → CloseLiterals P (literals_in (first_of_word w) t) ts → drop k (literals P) ≡ literals_in (first_of_word w) t ++ ls → drop k templates ≡ ts ++ us → drop at code ≡ sort_code words templates is_top (body c) ++ more → Rows words code (sort_rows words templates at is_top (body c)) ts
-  text_rows w k at is_top t c ts us ls more h b l number all e =
-      let own = text_code words (last_instr is_top) c in
-      let n = quotations c in
-      let start = first_number P (first_of_word w) t c k ls (closing P (first_of_word w) t c h b) number in
-      let there = drop_behind code at own (templates_code words n (drop (first_template c) templates) ++ more) (regroup (drop at code) own (templates_code words n (drop (first_template c) templates)) more e) in
-      let same = code_from_place words templates n (first_template c) k start ∙ ap (templates_code words n) all in
-      let placed = forest_rows words code P n (at + length own) ts us more (text_forest P (first_of_word w) t c ts h b l) (there ∙ ap (λ (c : List Instr). c ++ more) same) in
-      subst (λ (rs : List TemplateRow). Rows words code rs ts) (sym (rows_from_place words templates (at + length own) n (first_template c) k start ∙ ap (template_rows words (at + length own) n) all)) placed
-
-  no_rows : (rs : List TemplateRow) (ts : List Template) → rs ≡ [] → ts ≡ [] → Rows words code rs ts
-  no_rows rs ts e f = rw (e, f) tt
-
-  rows_of_sort : (w k at : ℕ) (is_top : Bool) (s c : Sort) (ts us : List Template) (ls : List Quoted) (more : List Instr) → ClosesSort P w s c → HasBuiltText P.top s → CloseLiterals P (sort_literals w s) ts → drop k (literals P) ≡ sort_literals w s ++ ls → drop k templates ≡ ts ++ us → drop at code ≡ sort_code words templates is_top c ++ more → Rows words code (sort_rows words templates at is_top c) ts
-  rows_of_sort w k at is_top (body t) c ts us ls more h b l number all e =
-      rw h.1 (text_rows w k at is_top t h.0 ts us ls more h.2 b l number all (e ∙ ap (λ (s : Sort). sort_code words templates is_top s ++ more) h.1))
-  rows_of_sort w k at is_top (past t) c ts us ls more h b l number all e = absurd b
-  rows_of_sort w k at is_top (method n g t) c ts us ls more h b l number all e = absurd b
-  rows_of_sort w k at is_top s c ts us ls more h b l number all e = no_rows _ ts (ap (sort_rows words templates at is_top) h) l
-
-  -- the templates of words
-  pub rows_of_words : (k at v : ℕ) (ds cs : List WordDef) (ts : List Template) → CloseWords P v ds cs → HaveBuiltTexts P.top ds → CloseLiterals P (word_literals v ds) ts → drop k (literals P) ≡ word_literals v ds → drop k templates ≡ ts → drop at code ≡ code_from words templates top v cs → Rows words code (templates_from words templates top at v cs) ts
-  rows_of_words k at v [] cs ts h b l number all e = rw (h, l) tt
-  rows_of_words k at v (d ∷ ds) cs ts h b l number all e =
-      let c = h.0 in
-      let parts = split P (sort_literals v d.sort) (word_literals (suc v) ds) ts l in
-      let own = piece words templates top v c in
-      let others = code_from words templates top (suc v) h.1 in
-      let here : drop at code ≡ own ++ others = e ∙ ap (code_from words templates top v) h.2 in
-      let both : drop k templates ≡ parts.front ++ parts.back = all ∙ parts.are in
-      let first = rows_of_sort v k at (nat_eq v top) d.sort c.sort parts.front parts.back (word_literals (suc v) ds) others h.3.sort b.0 parts.front_closes number both here in
-      let behind = drop_behind (literals P) k (sort_literals v d.sort) (word_literals (suc v) ds) number in
-      let left = ap (λ (n : ℕ). drop (k + n) templates) (sym parts.count) ∙ drop_behind templates k parts.front parts.back both in
-      let later = rows_of_words (k + length (sort_literals v d.sort)) (at + length own) (suc v) ds h.1 parts.back h.4 b.1 parts.back_closes behind left (drop_behind code at own others here) in
-      rw (h.2, parts.are) (rows_both words code (sort_rows words templates at (nat_eq v top) c.sort) (templates_from words templates top (at + length own) (suc v) h.1) parts.front parts.back first later)
-
+module _ (words : List WordDef) (top : ℕ) (code : List Instr) where
   -- a word's row, and the place of its code
   pub record Placed (rows : List WordRow) (w v : ℕ) (d : WordDef) : Type 0 where
     pub at : ℕ
     pub row : slice_get rows w ≡ Some (record { action = sort_action at d.sort })
     pub more : List Instr
-    pub there : drop at code ≡ piece words templates top v d ++ more
+    pub there : drop at code ≡ word_code words top v d ++ more
 
-  pub placed : (at v : ℕ) (ds : List WordDef) (w : ℕ) (d : WordDef) → drop at code ≡ code_from words templates top v ds → slice_get ds w ≡ Some d → Placed (words_from words templates top at v ds) w (v + w) d
+  pub placed : (at v : ℕ) (ds : List WordDef) (w : ℕ) (d : WordDef) → drop at code ≡ code_from words top v ds → slice_get ds w ≡ Some d → Placed (words_from words top at v ds) w (v + w) d
   placed at v [] w d e found = absurd (cc)
   placed at v (x ∷ ds) zero d e found =
       let same : x ≡ d = cc in
       let number : v + zero ≡ v = omega arith in
-      let others = code_from words templates top (suc v) ds in
+      let others = code_from words top (suc v) ds in
       record {
         at = at;
         row = ap (λ (d : WordDef). Some (record { action = sort_action at d.sort })) same;
         more = others;
-        there = e ∙ ap (λ (d : WordDef). piece words templates top v d ++ others) same ∙ ap (λ (k : ℕ). piece words templates top k d ++ others) (sym number);
+        there = e ∙ ap (λ (d : WordDef). word_code words top v d ++ others) same ∙ ap (λ (k : ℕ). word_code words top k d ++ others) (sym number);
       }
   placed at v (x ∷ ds) (suc w) d e found =
-      let own = piece words templates top v x in
-      let later = placed (at + length own) (suc v) ds w d (drop_behind code at own (code_from words templates top (suc v) ds) e) found in
+      let own = word_code words top v x in
+      let later = placed (at + length own) (suc v) ds w d (drop_behind code at own (code_from words top (suc v) ds) e) found in
       let number : suc v + w ≡ v + suc w = omega arith in
-      record { at = later.at; row = later.row; more = later.more; there = later.there ∙ ap (λ (k : ℕ). piece words templates top k d ++ later.more) number }
+      record { at = later.at; row = later.row; more = later.more; there = later.there ∙ ap (λ (k : ℕ). word_code words top k d ++ later.more) number }
+
+-- all words, behind the templates
+pub behind_templates : (C : Program) (templates : List Template) (code : List Instr) → code ≡ program_code C templates → drop (length (templates_code C.words templates)) code ≡ code_from C.words C.top 0 C.words
+behind_templates C templates code e =
+    let first = templates_code C.words templates in
+    let front : 0 + length first ≡ length first = omega arith in
+    ap (λ (k : ℕ). drop k code) (sym front) ∙ drop_behind code 0 first (code_from C.words C.top 0 C.words) e
+
+pub words_placed : (C : Program) (templates : List Template) (w : ℕ) (d : WordDef) → slice_get C.words w ≡ Some d → Placed C.words C.top (program_code C templates) (program_words C templates) w (0 + w) d
+words_placed C templates w d found =
+    placed C.words C.top (program_code C templates) (length (templates_code C.words templates)) 0 C.words w d (behind_templates C templates (program_code C templates) refl) found
 
 -- The rows of the templates of a closed program that stands for a built one.
 module _ (P C : Program) (templates : List Template) (b : IsBuilt P) (closes : Closes P C templates) where
@@ -177,10 +132,9 @@ module _ (P C : Program) (templates : List Template) (b : IsBuilt P) (closes : C
   pub literal_of : (q : ℕ) (t : Template) → slice_get templates q ≡ Some t → (literal_numbered P q).0.word < length P.words
   literal_of q t e = let found = get_other templates (literals P) q t (templates_count P C templates closes) e in subst (λ (l : Quoted). l.0.word < length P.words) (sym (ap (literal_or P q) found.1)) (in_a_word P q found.0 found.1)
 
-  module _ (code : List Instr) (rows : List TemplateRow) (code_is : code ≡ program_code C templates) (rows_are : rows ≡ templates_from C.words templates C.top 0 0 C.words) where
+  module _ (code : List Instr) (rows : List TemplateRow) (code_is : code ≡ program_code C templates) (rows_are : rows ≡ template_rows C.words 0 templates) where
     pub all_rows : Rows C.words code rows templates
-    all_rows =
-        subst (λ (rs : List TemplateRow). Rows C.words code rs templates) (sym rows_are) (rows_of_words P C.words templates C.top code 0 0 0 P.words C.words templates closes.words (built_texts P b) closes.templates_are refl refl code_is)
+    all_rows = subst (λ (rs : List TemplateRow). Rows C.words code rs templates) (sym rows_are) (rows_placed C.words code 0 templates (code_from C.words C.top 0 C.words) code_is)
 
     -- the row of the template that makes a quotation
     pub record RowFor (q : ℕ) : Type 0 where
@@ -205,7 +159,7 @@ module _ (P C : Program) (templates : List Template) (M : Image) (b : IsBuilt P)
   first_word : (w k : ℕ) (c : WordDef) → slice_get C.words w ≡ Some c → c.sort ≡ prim_sort k → word_of_prim k 0 M.words ≡ w
   first_word w k c at is =
       let numbers = same_primitives P 0 P.words C.words closes.words in
-      ap (word_of_prim k 0) is_plain.word_rows_are ∙ first_with C.words templates C.top 0 0 C.words w 0 k c at is (ap has_no_repeats numbers ∙ all_distinct P b) ∙ (omega arith)
+      ap (word_of_prim k 0) is_plain.word_rows_are ∙ first_with C.words C.top (length (templates_code C.words templates)) 0 C.words w 0 k c at is (ap has_no_repeats numbers ∙ all_distinct P b) ∙ (omega arith)
 
   instr_is : (w : ℕ) (c : WordDef) (s : Sort) → slice_get C.words w ≡ Some c → c.sort ≡ s → item_instr C.words (word w) ≡ sort_instr w s
   instr_is w c s at is = ap (word_instr w) at ∙ ap (sort_instr w) is
@@ -217,7 +171,8 @@ module _ (P C : Program) (templates : List Template) (M : Image) (b : IsBuilt P)
   core_translates F w (suc (suc zero)) h e = t_calling (l_if w 2 e refl)
   core_translates F w (suc (suc (suc k))) h e = absurd (let lt : suc (suc (suc k)) < 3 = ltb-true (suc (suc (suc k))) 3 h in omega (arith, lt))
 
-  word_translates : (F : List MValue) (w : ℕ) (d c : WordDef) (s : Sort) → w < P.top → slice_get P.words w ≡ Some d → slice_get C.words w ≡ Some c → d.sort ≡ s → ClosesSort P w s c.sort → IsBuiltSort P.top d s → Translates P M (template_texts P) F (word w) (item_instr C.words (word w))
+  word_translates : (F : List MValue) (w : ℕ) (d c : WordDef) (s : Sort) → w < P.top → slice_get P.words w ≡ Some d → slice_get C.words w ≡ Some c → d.sort ≡ s → ClosesSort P w s c.sort → IsBuiltSort P.top d s →
+      Translates P M (template_texts P) F (word w) (item_instr C.words (word w))
   word_translates F w d c (prim_sort k) lt at closed is h built = rw (instr_is w c (prim_sort k) closed h) (t_prim w k (sort_at P w d at ∙ ap Some is) built.is_built (first_word w k c closed h))
   word_translates F w d c (core_sort k) lt at closed is h built = rw (instr_is w c (core_sort k) closed h) (core_translates F w k built.is_built (sort_at P w d at ∙ ap Some is))
   word_translates F w d c (body t) lt at closed is h built = rw (instr_is w c (body h.0) closed h.1) (t_calling (l_word w t lt (sort_at P w d at ∙ ap Some is)))
@@ -253,19 +208,19 @@ module _ (P C : Program) (templates : List Template) (M : Image) (b : IsBuilt P)
       let found = code_at M.code pc (Quot q) (text_code C.words last c' ++ more) e in s_item (Quot q) found.0 (quotation_translates F q at u lt is) (text_stands last F (pc + 1) _ _ c' more h lt found.1)
 
   -- the code of a word that is defined by a text
-  body_stands : (w : ℕ) (d : WordDef) (t : Text) (is_top : Bool) → nat_eq w C.top ≡ is_top → slice_get P.words w ≡ Some d → d.sort ≡ body t → w < length P.words → IsBuiltText P.top t → (a : ℕ) × (slice_get M.words w ≡ Some (record { action = code_action a })) × Stands P M (template_texts P) (last_instr is_top) [] a t
+  body_stands : (w : ℕ) (d : WordDef) (t : Text) (is_top : Bool) → nat_eq w C.top ≡ is_top → slice_get P.words w ≡ Some d → d.sort ≡ body t → w < length P.words → IsBuiltText P.top t →
+      (a : ℕ) × (slice_get M.words w ≡ Some (record { action = code_action a })) × Stands P M (template_texts P) (last_instr is_top) [] a t
   body_stands w d t is_top which at is lt built =
       let closed = word_closed P C templates closes w d at in
       let sort = subst (λ (s : Sort). ClosesSort P w s closed.closed.sort) is closed.closes.sort in
-      let put = placed P C.words templates C.top M.code 0 0 C.words w closed.closed is_plain.code closed.at in
+      let put = placed C.words C.top M.code (length (templates_code C.words templates)) 0 C.words w closed.closed (behind_templates C templates M.code is_plain.code) closed.at in
       let number : 0 + w ≡ w = omega arith in
       let own = text_code C.words (last_instr is_top) sort.0 in
-      let others = templates_code C.words (quotations sort.0) (drop (first_template sort.0) templates) in
-      let piece_is : piece C.words templates C.top w closed.closed ≡ own ++ others = ap (sort_code C.words templates (nat_eq w C.top)) sort.1 ∙ ap (λ (b : Bool). sort_code C.words templates b (body sort.0)) which in
-      let there : drop put.at M.code ≡ (own ++ others) ++ put.more = put.there ∙ ap (λ (k : ℕ). piece C.words templates C.top k closed.closed ++ put.more) number ∙ ap (λ (c : List Instr). c ++ put.more) piece_is in (
+      let code_is : word_code C.words C.top w closed.closed ≡ own = ap (sort_code C.words (nat_eq w C.top)) sort.1 ∙ ap (λ (b : Bool). sort_code C.words b (body sort.0)) which in
+      let there : drop put.at M.code ≡ own ++ put.more = put.there ∙ ap (λ (k : ℕ). word_code C.words C.top k closed.closed ++ put.more) number ∙ ap (λ (c : List Instr). c ++ put.more) code_is in (
         put.at,
         ap (λ (rs : List WordRow). slice_get rs w) is_plain.word_rows_are ∙ put.row ∙ ap (λ (s : Sort). Some (record { action = sort_action put.at s })) sort.1,
-        text_stands (last_instr is_top) [] put.at (first_of_word w) t sort.0 (others ++ put.more) (closing P (first_of_word w) t sort.0 sort.2 built) lt (regroup (drop put.at M.code) own others put.more there),
+        text_stands (last_instr is_top) [] put.at (first_of_word w) t sort.0 put.more (closing P (first_of_word w) t sort.0 sort.2 built) lt there,
       )
 
   -- the code of a template
@@ -276,7 +231,9 @@ module _ (P C : Program) (templates : List Template) (M : Image) (b : IsBuilt P)
       let l = literal_numbered P q in
       let closed = template_closed P C templates closes q found.template found.there in
       let entry : found.of.at ≡ r.entry = sym (ap (λ (r : TemplateRow). r.entry) found.of.row) in
-      subst (λ (a : ℕ). Stands P M (template_texts P) Ret F a l.1) entry (text_stands Ret F found.of.at (first_of_literal l.0) l.1 found.template.body found.of.more (closing P (first_of_literal l.0) l.1 found.template.body closed.body (literal_built P b q)) (literal_of P C templates b closes q found.template found.there) found.of.there)
+      subst (λ (a : ℕ). Stands P M (template_texts P) Ret F a l.1) entry
+      (text_stands Ret F found.of.at (first_of_literal l.0) l.1 found.template.body found.of.more (closing P (first_of_literal l.0) l.1 found.template.body closed.body (literal_built P b q))
+      (literal_of P C templates b closes q found.template found.there) found.of.there)
 
   sort_is : (w : ℕ) (d : WordDef) (t : Text) → slice_get P.words w ≡ Some d → sort_of P w ≡ Some (body t) → d.sort ≡ body t
   sort_is w d t at e = let found = sort_at P w d at in cc
@@ -290,7 +247,8 @@ module _ (P C : Program) (templates : List Template) (M : Image) (b : IsBuilt P)
         let found = word_below P b w lt in
         let is = sort_is w found.def t found.at e in
         let built = subst (IsBuiltSort P.top found.def) is found.built in
-        let stands = body_stands w found.def t false (ne_eqb w C.top (λ same. let top = closes.top in omega (arith, lt, same, top))) found.at is (below_length w lt) built.text_built in (record { action = code_action stands.0 }, stands.0, stands.1, refl, stands.2);
+        let stands = body_stands w found.def t false (ne_eqb w C.top (λ same. let top = closes.top in omega (arith, lt, same, top))) found.at is (below_length w lt) built.text_built in
+        (record { action = code_action stands.0 }, stands.0, stands.1, refl, stands.2);
     templates = λ q r k e n whole. template_stands q r (kept_list k) e;
   }
 
@@ -304,10 +262,10 @@ module _ (P C : Program) (templates : List Template) (M : Image) (b : IsBuilt P)
       (stands.0, stands.1, rw (top_text P b) stands.2)
 
 -- the row of the top-level phrase, whatever the code is
-pub top_row : (P C : Program) (templates : List Template) → IsBuilt P → Closes P C templates → (rows : List WordRow) → rows ≡ words_from C.words templates C.top 0 0 C.words → (a : ℕ) × (slice_get rows C.top ≡ Some (record { action = code_action a }))
+pub top_row : (P C : Program) (templates : List Template) → IsBuilt P → Closes P C templates → (rows : List WordRow) → rows ≡ program_words C templates → (a : ℕ) × (slice_get rows C.top ≡ Some (record { action = code_action a }))
 top_row P C templates b closes rows e =
     let closed = word_closed P C templates closes P.top b.phrase (top_word P b) in
     let sort = subst (λ (s : Sort). ClosesSort P P.top s closed.closed.sort) b.phrase_is.sort_is closed.closes.sort in
     let at : slice_get C.words C.top ≡ Some closed.closed = ap (slice_get C.words) closes.top ∙ closed.at in
-    let put = placed P C.words templates C.top (program_code C templates) 0 0 C.words C.top closed.closed refl at in
+    let put = words_placed C templates C.top closed.closed at in
     (put.at, ap (λ (rs : List WordRow). slice_get rs C.top) e ∙ put.row ∙ ap (λ (s : Sort). Some (record { action = sort_action put.at s })) sort.1)

@@ -23,10 +23,10 @@ use Rattle.fac_code.specs.declared.image.Action.TheVariants.{Code as code_action
 use Rattle.fac_code.specs.declared.image.TemplateRow.{TemplateRow}
 use Rattle.fac_code.specs.declared.image.WordRow.{WordRow}
 use Rattle.fac_code.specs.References.{names_code, names_quotation, instr_refers, action_refers, word_refers, template_refers, refers}
-use Rattle.fac_emit.specs.Code.{core_instr, sort_instr, word_instr, item_instr, text_code, quotations, first_template, templates_code, last_instr, sort_action, sort_code, piece, code_from, words_from, templates_from, program_code}
+use Rattle.fac_emit.specs.Code.{core_instr, sort_instr, word_instr, item_instr, text_code, templates_code, template_rows, last_instr, sort_action, sort_code, word_code, code_from, words_from, program_code, program_words}
 use Rattle.fac_emit.proofs.BuiltCode.{and_true}
 use Rattle.fac_emit.proofs.Closings.{drop_behind, Closing, c_end, c_int, c_true, c_false, c_word, c_quot, closing}
-use Rattle.fac_emit.proofs.Placed.{regroup, Rows, placed, literal_of, all_rows, quotation_row}
+use Rattle.fac_emit.proofs.Placed.{Rows, behind_templates, words_placed, literal_of, all_rows, quotation_row}
 
 -- a place from which something stands is in the list
 within : {A : Type 0} (xs : List A) (at : ℕ) (y : A) (ys : List A) → drop at xs ≡ y ∷ ys → at < length xs
@@ -40,11 +40,6 @@ found_within : {A : Type 0} (xs : List A) (k : ℕ) (x : A) → slice_get xs k �
 found_within [] k x e = absurd (cc)
 found_within (y ∷ xs) zero x e = omega arith
 found_within (y ∷ xs) (suc k) x e = let later = found_within xs k x e in omega (arith, later)
-
-get_drop : {A : Type 0} (xs : List A) (f k : ℕ) (x : A) → slice_get (drop f xs) k ≡ Some x → slice_get xs (f + k) ≡ Some x
-get_drop xs zero k x e = let n : 0 + k ≡ k = omega arith in rw n e
-get_drop [] (suc f) k x e = absurd (cc)
-get_drop (y ∷ xs) (suc f) k x e = let n : suc f + k ≡ suc (f + k) = omega arith in rw n (get_drop xs f k x e)
 
 both_pass : {A : Type 0} (test : A → Bool) (xs ys : List A) → list_all test xs ≡ true → list_all test ys ≡ true → list_all test (xs ++ ys) ≡ true
 both_pass test xs ys h k = list_all-append test xs ys ∙ and_true (list_all test xs) (list_all test ys) h k
@@ -121,10 +116,10 @@ module _ (P C : Program) (templates : List Template) (b : IsBuilt P) (closes : C
   code = program_code C templates
 
   abbrev rows : List TemplateRow
-  rows = templates_from C.words templates C.top 0 0 C.words
+  rows = template_rows C.words 0 templates
 
   abbrev words : List WordRow
-  words = words_from C.words templates C.top 0 0 C.words
+  words = program_words C templates
 
   word_is : (w : ℕ) (c : WordDef) → slice_get C.words w ≡ Some c → ClosedAs P w c.sort
   word_is w c e = let found = word_open P C templates closes w c e in closed_as P w found.def.sort c.sort found.closes.sort (word_built P b w found.def found.at) (found_within P.words w found.def found.at)
@@ -134,7 +129,7 @@ module _ (P C : Program) (templates : List Template) (b : IsBuilt P) (closes : C
   sort_refers w c (prim_sort k) e is = refl
   sort_refers w c (core_sort k) e is = core_refers rows words k
   sort_refers w c (body t) e is =
-      let put = placed P C.words templates C.top code 0 0 C.words w c refl e in ap names_code (put.row ∙ ap (λ (s : Sort). Some (record { action = sort_action put.at s })) is)
+      let put = words_placed C templates w c e in ap names_code (put.row ∙ ap (λ (s : Sort). Some (record { action = sort_action put.at s })) is)
   sort_refers w c _ e is = refl
 
   word_refers_to : (w : ℕ) (o : Option WordDef) → slice_get C.words w ≡ o → instr_refers rows words (word_instr w o) ≡ true
@@ -152,7 +147,8 @@ module _ (P C : Program) (templates : List Template) (b : IsBuilt P) (closes : C
   text_refers last at t c l (c_int z h) lt = text_refers last _ _ _ l h lt
   text_refers last at t c l (c_true h) lt = text_refers last _ _ _ l h lt
   text_refers last at t c l (c_false h) lt = text_refers last _ _ _ l h lt
-  text_refers last at t c l (c_word {c = d} w below h) lt = and_true (instr_refers rows words (word_instr w (slice_get C.words w))) (list_all (instr_refers rows words) (text_code C.words last d)) (word_refers_to w (slice_get C.words w) refl) (text_refers last _ _ _ l h lt)
+  text_refers last at t c l (c_word {c = d} w below h) lt = and_true (instr_refers rows words (word_instr w (slice_get C.words w))) (list_all (instr_refers rows words) (text_code C.words last d))
+      (word_refers_to w (slice_get C.words w) refl) (text_refers last _ _ _ l h lt)
   text_refers last at t c l (c_quot {c = d} u q is h) lt = and_true (names_quotation (slice_get rows q)) (list_all (instr_refers rows words) (text_code C.words last d)) (quotation_refers q at u lt is) (text_refers last _ _ _ l h lt)
 
   template_refers_to : (q : ℕ) (t : Template) → slice_get templates q ≡ Some t → Refers (text_code C.words Ret t.body)
@@ -161,18 +157,13 @@ module _ (P C : Program) (templates : List Template) (b : IsBuilt P) (closes : C
       let closed = template_closed P C templates closes q t e in
       text_refers Ret (first_of_literal l.0) l.1 t.body refl (closing P (first_of_literal l.0) l.1 t.body closed.body (literal_built P b q)) (literal_of P C templates b closes q t e)
 
-  templates_refer : (ts : List Template) (n : ℕ) → ((k : ℕ) (t : Template) → slice_get ts k ≡ Some t → Refers (text_code C.words Ret t.body)) → Refers (templates_code C.words n ts)
-  templates_refer [] zero h = refl
-  templates_refer [] (suc n) h = refl
-  templates_refer (t ∷ ts) zero h = refl
-  templates_refer (t ∷ ts) (suc n) h =
-      let more = n + quotations t.body in both_pass (instr_refers rows words) (text_code C.words Ret t.body) (templates_code C.words more ts) (h 0 t refl) (templates_refer ts more (λ k u e. h (suc k) u e))
+  templates_refer : (ts : List Template) → ((k : ℕ) (t : Template) → slice_get ts k ≡ Some t → Refers (text_code C.words Ret t.body)) → Refers (templates_code C.words ts)
+  templates_refer [] h = refl
+  templates_refer (t ∷ ts) h = both_pass (instr_refers rows words) (text_code C.words Ret t.body) (templates_code C.words ts) (h 0 t refl) (templates_refer ts (λ k u e. h (suc k) u e))
 
-  piece_refers : (w : ℕ) (is_top : Bool) (s : Sort) → ClosedAs P w s → Refers (sort_code C.words templates is_top s)
-  piece_refers w is_top (body c) h =
-      let first = first_template c in
-      both_pass (instr_refers rows words) (text_code C.words (last_instr is_top) c) (templates_code C.words (quotations c) (drop first templates)) (text_refers (last_instr is_top) (first_of_word w) h.0 c (last_refers rows words is_top) h.1 h.2) (templates_refer (drop first templates) (quotations c) (λ k t e. template_refers_to (first + k) t (get_drop templates first k t e)))
-  piece_refers w is_top _ h = refl
+  word_code_refers : (w : ℕ) (is_top : Bool) (s : Sort) → ClosedAs P w s → Refers (sort_code C.words is_top s)
+  word_code_refers w is_top (body c) h = text_refers (last_instr is_top) (first_of_word w) h.0 c (last_refers rows words is_top) h.1 h.2
+  word_code_refers w is_top _ h = refl
 
   -- words from number w on
   abbrev AreClosed : ℕ → List WordDef → Type 0
@@ -184,26 +175,24 @@ module _ (P C : Program) (templates : List Template) (b : IsBuilt P) (closes : C
   rest_closed : (w : ℕ) (d : WordDef) (ds : List WordDef) → AreClosed w (d ∷ ds) → AreClosed (suc w) ds
   rest_closed w d ds h = λ k c e. let n : w + suc k ≡ suc w + k = omega arith in subst (λ (v : ℕ). ClosedAs P v c.sort) n (h (suc k) c e)
 
-  code_refers : (w : ℕ) (ds : List WordDef) → AreClosed w ds → Refers (code_from C.words templates C.top w ds)
-  code_refers w [] h = refl
-  code_refers w (d ∷ ds) h = both_pass (instr_refers rows words) (piece C.words templates C.top w d) (code_from C.words templates C.top (suc w) ds) (piece_refers w (nat_eq w C.top) d.sort (first_closed w d ds h)) (code_refers (suc w) ds (rest_closed w d ds h))
+  words_refer : (w : ℕ) (ds : List WordDef) → AreClosed w ds → Refers (code_from C.words C.top w ds)
+  words_refer w [] h = refl
+  words_refer w (d ∷ ds) h = both_pass (instr_refers rows words) (word_code C.words C.top w d) (code_from C.words C.top (suc w) ds) (word_code_refers w (nat_eq w C.top) d.sort (first_closed w d ds h)) (words_refer (suc w) ds (rest_closed w d ds h))
 
   -- rows of words
-  action_within : (at w : ℕ) (is_top : Bool) (s : Sort) (more : List Instr) → ClosedAs P w s → drop at code ≡ sort_code C.words templates is_top s ++ more → action_refers (length code) (sort_action at s) ≡ true
+  action_within : (at w : ℕ) (is_top : Bool) (s : Sort) (more : List Instr) → ClosedAs P w s → drop at code ≡ sort_code C.words is_top s ++ more → action_refers (length code) (sort_action at s) ≡ true
   action_within at w is_top (prim_sort k) more h e = h
   action_within at w is_top (core_sort k) more h e = h
-  action_within at w is_top (body c) more h e =
-      let own = text_code C.words (last_instr is_top) c in
-      let others = templates_code C.words (quotations c) (drop (first_template c) templates) in
-      begins_within code C.words (last_instr is_top) c at (others ++ more) (regroup (drop at code) own others more e)
+  action_within at w is_top (body c) more h e = begins_within code C.words (last_instr is_top) c at more e
   action_within at w is_top _ more h e = absurd h
 
-  words_within : (at w : ℕ) (ds : List WordDef) → AreClosed w ds → drop at code ≡ code_from C.words templates C.top w ds → list_all (word_refers (length code)) (words_from C.words templates C.top at w ds) ≡ true
+  words_within : (at w : ℕ) (ds : List WordDef) → AreClosed w ds → drop at code ≡ code_from C.words C.top w ds → list_all (word_refers (length code)) (words_from C.words C.top at w ds) ≡ true
   words_within at w [] h e = refl
   words_within at w (d ∷ ds) h e =
-      let own = piece C.words templates C.top w d in
-      let others = code_from C.words templates C.top (suc w) ds in
-      and_true (action_refers (length code) (sort_action at d.sort)) (list_all (word_refers (length code)) (words_from C.words templates C.top (at + length own) (suc w) ds)) (action_within at w (nat_eq w C.top) d.sort others (first_closed w d ds h) e) (words_within (at + length own) (suc w) ds (rest_closed w d ds h) (drop_behind code at own others e))
+      let own = word_code C.words C.top w d in
+      let others = code_from C.words C.top (suc w) ds in
+      and_true (action_refers (length code) (sort_action at d.sort)) (list_all (word_refers (length code)) (words_from C.words C.top (at + length own) (suc w) ds))
+      (action_within at w (nat_eq w C.top) d.sort others (first_closed w d ds h) e) (words_within (at + length own) (suc w) ds (rest_closed w d ds h) (drop_behind code at own others e))
 
   -- rows of templates
   rows_within : (rs : List TemplateRow) (ts : List Template) → Rows C.words code rs ts → list_all (template_refers (length code)) rs ≡ true
@@ -219,6 +208,10 @@ module _ (P C : Program) (templates : List Template) (b : IsBuilt P) (closes : C
   -- the plain code, which starts at a word's place
   pub plain_refers : (start : ℕ) → slice_get words C.top ≡ Some (record { action = code_action start }) → refers rows words code start ≡ true
   plain_refers start e =
-      let within_words = words_within 0 0 C.words all_closed refl in
+      let first = templates_code C.words templates in
+      let within_words = words_within (length first) 0 C.words all_closed (behind_templates C templates code refl) in
+      let all_refer = both_pass (instr_refers rows words) first (code_from C.words C.top 0 C.words) (templates_refer templates template_refers_to) (words_refer 0 C.words all_closed) in
       let started = one_passes (word_refers (length code)) words C.top (record { action = code_action start }) within_words e in
-      and_true (list_all (template_refers (length code)) rows) (list_all (word_refers (length code)) words && (list_all (instr_refers rows words) code && nat_lt start (length code))) (rows_within rows templates (all_rows P C templates b closes code rows refl refl)) (and_true (list_all (word_refers (length code)) words) (list_all (instr_refers rows words) code && nat_lt start (length code)) within_words (and_true (list_all (instr_refers rows words) code) (nat_lt start (length code)) (code_refers 0 C.words all_closed) started))
+      and_true (list_all (template_refers (length code)) rows) (list_all (word_refers (length code)) words && (list_all (instr_refers rows words) code && nat_lt start (length code)))
+      (rows_within rows templates (all_rows P C templates b closes code rows refl refl))
+      (and_true (list_all (word_refers (length code)) words) (list_all (instr_refers rows words) code && nat_lt start (length code)) within_words (and_true (list_all (instr_refers rows words) code) (nat_lt start (length code)) all_refer started))

@@ -1,6 +1,6 @@
--- The plain code of a closed program. That of a text is an instruction for each item and one behind them. Behind the code of a word's text stands
--- that of the templates of its quotations, by their numbers, and so for each word, one behind the other.
-use Rattle.std.specs.Prelude.{◌≡◌, ℕ, zero, suc, ◌+◌, List, [], ◌∷◌, ◌++◌, length, drop, ◌&&◌, nat_eq, Bool, true, false, Option, Some, None, slice_get}
+-- The plain code of a closed program. That of a text is an instruction for each item and one behind them. First stands the code of the templates, by
+-- their numbers, and behind it that of the words, by theirs. So the code of a word ends where that of the next one begins.
+use Rattle.std.specs.Prelude.{◌≡◌, ℕ, zero, suc, ◌+◌, List, [], ◌∷◌, ◌++◌, length, ◌&&◌, nat_eq, Bool, true, false, Option, Some, None, slice_get}
 use Rattle.fac_lang.specs.declared.phrase.Template.{Template}
 use Rattle.fac_lang.specs.declared.program.Program.{Program}
 use Rattle.fac_lang.specs.declared.program.WordDef.{WordDef}
@@ -57,6 +57,9 @@ abbrev pub body_is_coded : List WordDef → Sort → Bool
 body_is_coded words (body t) = text_is_coded words t
 body_is_coded words _ = true
 
+abbrev pub word_body_is_coded : List WordDef → WordDef → Bool
+word_body_is_coded words d = body_is_coded words d.sort
+
 -- a primitive and a core word are done in place, and a word that is defined by a text is called
 abbrev pub sort_instr : ℕ → Sort → Instr
 sort_instr w (prim_sort k) = Prim k
@@ -81,39 +84,19 @@ abbrev pub text_code : List WordDef → Instr → Text → List Instr
 text_code words last end = last ∷ []
 text_code words last (then i place t) = item_instr words i ∷ text_code words last t
 
--- how many quotations an item and those behind it are
-abbrev pub one_more : Item → ℕ → ℕ
-one_more (made q) n = suc n
-one_more _ n = n
-
-abbrev pub quotations : Text → ℕ
-quotations end = 0
-quotations (then i place t) = one_more i (quotations t)
-
--- the template of the first of them
-abbrev pub first_of : Item → ℕ → ℕ
-first_of (made q) n = q
-first_of _ n = n
-
-abbrev pub first_template : Text → ℕ
-first_template end = 0
-first_template (then i place t) = first_of i (first_template t)
-
--- The code of so many of these templates, and behind each that of the templates of its own quotations, which follow it.
-abbrev pub templates_code : List WordDef → ℕ → List Template → List Instr
-templates_code words zero ts = []
-templates_code words (suc n) [] = []
-templates_code words (suc n) (t ∷ ts) = text_code words Ret t.body ++ templates_code words (n + quotations t.body) ts
+-- the code of templates, one behind the other
+abbrev pub templates_code : List WordDef → List Template → List Instr
+templates_code words [] = []
+templates_code words (t ∷ ts) = text_code words Ret t.body ++ templates_code words ts
 
 -- the row of a template whose code stands at a place
 abbrev pub row_at : ℕ → Template → TemplateRow
 row_at at t = record { entry = at; cells = t.captures; holes = t.holes }
 
--- the rows of those templates, whose code stands from a place on
-abbrev pub template_rows : List WordDef → ℕ → ℕ → List Template → List TemplateRow
-template_rows words at zero ts = []
-template_rows words at (suc n) [] = []
-template_rows words at (suc n) (t ∷ ts) = row_at at t ∷ template_rows words (at + length (text_code words Ret t.body)) (n + quotations t.body) ts
+-- the rows of templates, whose code stands from a place on
+abbrev pub template_rows : List WordDef → ℕ → List Template → List TemplateRow
+template_rows words at [] = []
+template_rows words at (t ∷ ts) = row_at at t ∷ template_rows words (at + length (text_code words Ret t.body)) ts
 
 -- the top-level phrase ends the run, and each other text goes back to where it was called
 abbrev pub last_instr : Bool → Instr
@@ -126,46 +109,39 @@ sort_action at (prim_sort k) = prim_action k
 sort_action at (core_sort k) = core_action k
 sort_action at _ = code_action at
 
--- for the words and templates of a closed program
-module _ (words : List WordDef) (templates : List Template) where
-  -- the code of a word, where it is defined by a text: that of its text and of the templates in it
-  abbrev pub sort_code : Bool → Sort → List Instr
-  sort_code is_top (body t) = text_code words (last_instr is_top) t ++ templates_code words (quotations t) (drop (first_template t) templates)
-  sort_code is_top _ = []
+-- the code of a word, where it is defined by a text
+abbrev pub sort_code : List WordDef → Bool → Sort → List Instr
+sort_code words is_top (body t) = text_code words (last_instr is_top) t
+sort_code words is_top _ = []
 
-  -- the rows of the templates in it, where the word's code stands at a place
-  abbrev pub sort_rows : ℕ → Bool → Sort → List TemplateRow
-  sort_rows at is_top (body t) = template_rows words (at + length (text_code words (last_instr is_top) t)) (quotations t) (drop (first_template t) templates)
-  sort_rows at is_top _ = []
+-- for the words of a closed program, whose top-level phrase has this number
+module _ (words : List WordDef) (top : ℕ) where
+  -- the code of the word with this number
+  abbrev pub word_code : ℕ → WordDef → List Instr
+  word_code w d = sort_code words (nat_eq w top) d.sort
 
-  module _ (top : ℕ) where
-    -- the code of the word with this number
-    abbrev pub piece : ℕ → WordDef → List Instr
-    piece w d = sort_code (nat_eq w top) d.sort
+  -- the code of the words from number w on
+  abbrev pub code_from : ℕ → List WordDef → List Instr
+  code_from w [] = []
+  code_from w (d ∷ ds) = word_code w d ++ code_from (suc w) ds
 
-    -- the code of the words from number w on
-    abbrev pub code_from : ℕ → List WordDef → List Instr
-    code_from w [] = []
-    code_from w (d ∷ ds) = piece w d ++ code_from (suc w) ds
-
-    -- the rows of the words from number w on, whose code stands from a place on
-    abbrev pub words_from : ℕ → ℕ → List WordDef → List WordRow
-    words_from at w [] = []
-    words_from at w (d ∷ ds) = (record { action = sort_action at d.sort }) ∷ words_from (at + length (piece w d)) (suc w) ds
-
-    -- the rows of the templates in them
-    abbrev pub templates_from : ℕ → ℕ → List WordDef → List TemplateRow
-    templates_from at w [] = []
-    templates_from at w (d ∷ ds) = sort_rows at (nat_eq w top) d.sort ++ templates_from (at + length (piece w d)) (suc w) ds
+  -- the rows of the words from number w on, whose code stands from a place on
+  abbrev pub words_from : ℕ → ℕ → List WordDef → List WordRow
+  words_from at w [] = []
+  words_from at w (d ∷ ds) = (record { action = sort_action at d.sort }) ∷ words_from (at + length (word_code w d)) (suc w) ds
 
 -- all code
 abbrev pub program_code : Program → List Template → List Instr
-program_code C ts = code_from C.words ts C.top 0 C.words
+program_code C ts = templates_code C.words ts ++ code_from C.words C.top 0 C.words
+
+-- the rows of the words, whose code stands behind that of the templates
+abbrev pub program_words : Program → List Template → List WordRow
+program_words C ts = words_from C.words C.top (length (templates_code C.words ts)) 0 C.words
 
 -- the image is the plain code of the closed program with these templates, has a row for each template and each word under its number, and starts
 -- at the top-level phrase's place
 pub record IsPlain (C : Program) (templates : List Template) (M : Image) : Type 0 where
   pub code : M.code ≡ program_code C templates
-  pub template_rows_are : M.templates ≡ templates_from C.words templates C.top 0 0 C.words
-  pub word_rows_are : M.words ≡ words_from C.words templates C.top 0 0 C.words
+  pub template_rows_are : M.templates ≡ template_rows C.words 0 templates
+  pub word_rows_are : M.words ≡ program_words C templates
   pub begins : slice_get M.words C.top ≡ Some (record { action = code_action M.start })

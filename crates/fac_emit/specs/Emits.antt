@@ -1,5 +1,5 @@
--- The piece of a word, by cases: which instructions stand for which text of the program.
-use Rattle.std.specs.Prelude.{◌≡◌, ℕ, ◌+◌, ℤ, List, [], ◌∷◌, ◌++◌, length, nat_eq, true, false, Option, Some}
+-- The code of a word and of a template, by cases: which instructions stand for which text of the program.
+use Rattle.std.specs.Prelude.{◌≡◌, ℕ, ℤ, List, [], ◌∷◌, nat_eq, true, false, Option, Some}
 use Rattle.fac_lang.specs.declared.phrase.Place.{Place}
 use Rattle.fac_lang.specs.declared.program.Program.{Program}
 use Rattle.fac_lang.specs.declared.program.Sort.{Sort}
@@ -7,11 +7,10 @@ use Rattle.fac_lang.specs.declared.program.Sort.TheVariants.{Prim as prim_sort, 
 use Rattle.fac_lang.specs.Texts.{int, yes, no, Literal, Text, end, then, Item, lit, quot, word}
 use Rattle.fac_lang.specs.Primitives.{is_built_primitive}
 use Rattle.fac_lang.specs.Meaning.{sort_of, core_numbered, c_call, c_dip, c_if}
-use Rattle.fac_locals.specs.Literals.{Quoted, first_of_word, first_of_literal, behind, literals_in}
+use Rattle.fac_locals.specs.Literals.{first_of_word, first_of_literal, behind, literal_numbered}
 use Rattle.fac_locals.specs.Closed.{IsMadeBy}
 use Rattle.fac_code.specs.declared.image.Instr.{Instr}
 use Rattle.fac_code.specs.declared.image.Instr.TheVariants.{Int, True, False, Quot, Prim, Callw, Call, Dip, If, Ret}
-use Rattle.fac_code.specs.declared.image.TemplateRow.{TemplateRow}
 use Rattle.fac_emit.specs.Code.{last_instr}
 
 -- a word of this sort isn't defined by a text
@@ -39,16 +38,11 @@ module _ (P : Program) where
     e_end : {at : Literal} → TextEmits last at end (last ∷ [])
     e_item : {at : Literal} {i : Item} {p : Place} {t : Text} {x : Instr} {code : List Instr} → ItemEmits at i x → TextEmits last (behind at i) t code → TextEmits last at (then i p t) (x ∷ code)
 
-  -- The instructions of quotations, one behind the other from a place on, each with a `ret` behind it, and the rows of their templates.
-  pub data QuotationsEmit : ℕ → List Quoted → List Instr → List TemplateRow → Type 0 where
-    e_none : {place : ℕ} → QuotationsEmit place [] [] []
-    e_quotation :
-        {place : ℕ} {at : Literal} {t : Text} {ls : List Quoted} {code more : List Instr} {rows : List TemplateRow} →
-        TextEmits Ret (first_of_literal at) t code → QuotationsEmit (place + length code) ls more rows → QuotationsEmit place ((at, t) ∷ ls) (code ++ more) (record { entry = place; cells = []; holes = 0 } ∷ rows)
+  -- What a word of this sort has as its code. One that is defined by a text has the instructions of that text, with a `halt` behind those of the top-level phrase and a `ret` behind others. Another word has none.
+  pub data Emits (w : ℕ) : Option Sort → List Instr → Type 0 where
+    e_text : {t : Text} {code : List Instr} → TextEmits (last_instr (nat_eq w P.top)) (first_of_word w) t code → Emits w (Some (body t)) code
+    e_no_text : {s : Sort} → HasNoText s → Emits w (Some s) []
 
-  -- What a word of this sort has as its code, and the rows of its templates. One that is defined by a text has the instructions of that text, with a `halt` behind those of the top-level phrase and a `ret` behind others, and behind them those of its quotations in reading order, an outer one before those in it. Another word has none.
-  pub data Emits (w : ℕ) : Option Sort → List Instr → List TemplateRow → Type 0 where
-    e_text :
-        {t : Text} {code more : List Instr} {rows : List TemplateRow} →
-        TextEmits (last_instr (nat_eq w P.top)) (first_of_word w) t code → QuotationsEmit (length code) (literals_in (first_of_word w) t) more rows → Emits w (Some (body t)) (code ++ more) rows
-    e_no_text : {s : Sort} → HasNoText s → Emits w (Some s) [] []
+  -- What the template with this number has as its code: the instructions of its quotation's text, with a `ret` behind them.
+  abbrev pub TemplateEmits : ℕ → List Instr → Type 0
+  TemplateEmits q code = let l = literal_numbered P q in TextEmits Ret (first_of_literal l.0) l.1 code

@@ -1,5 +1,5 @@
-//! The plain code of single words.
-ghost use Rattle.std.specs.Prelude.{◌≡◌, ◌<◌, ◌+◌, ◌-◌, ◌++◌, ◌∷◌, [], length, drop, true, IfOk, OnOk};
+//! The plain code of words and templates.
+ghost use Rattle.std.specs.Prelude.{◌≡◌, ◌<◌, ◌++◌, ◌∷◌, [], length, slice_get, true, IfOk, OnOk};
 ghost use Rattle.std.specs.List.{list_all};
 ghost use Rattle.fac_lang.specs.View.{what_item};
 ghost use Rattle.fac_lang.specs.declared.program.Program.{Program as Source};
@@ -7,23 +7,14 @@ ghost use Rattle.fac_lang.specs.Forms.{IsBuilt};
 ghost use Rattle.fac_lang.specs.CoreWords.{is_built_core};
 ghost use Rattle.fac_lang.specs.Meaning.{sort_of};
 ghost use Rattle.fac_locals.specs.Closed.{Closes};
-ghost use Rattle.fac_emit.specs.Code.{sort_is_coded, item_is_coded, text_is_coded, template_is_coded, body_is_coded, core_instr, sort_instr, item_instr, text_code, quotations as quotations_of, first_template as first_template_of, row_at, templates_code, template_rows, last_instr, sort_code, sort_rows};
-ghost use Rattle.fac_emit.specs.Pieces.{IsPiece};
-ghost use Rattle.fac_emit.specs.Emits.{Emits};
+ghost use Rattle.fac_emit.specs.Code.{sort_is_coded, item_is_coded, text_is_coded, template_is_coded, body_is_coded, core_instr, sort_instr, item_instr, text_code, row_at, templates_code, template_rows, last_instr, sort_code};
+ghost use Rattle.fac_emit.specs.Pieces.{found_code, found_template};
+ghost use Rattle.fac_emit.specs.Emits.{Emits, TemplateEmits};
 
 use fac_code::{Instr, TemplateRow};
 use fac_lang::{Duplicate, List, Memory, Phrase, Sort, Template, What, WordDef};
 use fac_locals::Closed;
 use std::alloc::Global;
-
-/// The plain code of a word, before it has its place behind that of others.
-#[derive(Drop)]
-pub struct Piece {
-    /// The code of the word's text, and behind it that of the templates of the quotations in it.
-    pub code: List<Instr>,
-    /// The rows of these templates, in the order of their numbers. Their entries count from the first instruction of this piece.
-    pub templates: List<TemplateRow>,
-}
 
 // The instruction of the core word with this number.
 fn instr_of_core(number: u32) -> Instr
@@ -85,32 +76,6 @@ fn add_text(
     code.push(last)
 }
 
-// How many quotations stand in a closed text itself.
-fn quotations(phrase: &Phrase) -> usize
-    ensures { result ≡ quotations_of phrase.now }
-{
-    let mut count = 0;
-    for item in &phrase.items {
-        match &item.what {
-            What::Made(_) => count += 1,
-            _ => {}
-        }
-    }
-    count
-}
-
-// The template of the first of them, or 0 where there is none.
-fn first_template(phrase: &Phrase) -> u32
-    ensures { result ≡ first_template_of phrase.now }
-{
-    for item in &phrase.items {
-        if let What::Made(number) = &item.what {
-            return *number;
-        }
-    }
-    0
-}
-
 // Adds a template: its code and its row.
 fn add_template(
     alloc: Global,
@@ -132,48 +97,21 @@ fn add_template(
     add_text(code, words, &template.body, Instr::Ret)
 }
 
-// How many templates are to follow a template, where so many were to follow with it.
-fn left(owed: usize, template: &Template) -> Result<usize, Memory>
-    requires { 0 < owed }
-    ensures { IfOk result (λ left. left ≡ owed - 1 + quotations_of template.now.body) }
-{
-    match (owed - 1).checked_add(quotations(&template.body)) {
-        Some(left) => Ok(left),
-        None => Err(Memory),
-    }
-}
-
-// Adds so many of these templates, and behind each those of its own quotations, which follow it.
-fn add_templates(
+/// Adds the code and the rows of these templates, in their order.
+pub fn add_templates(
     alloc: Global,
     code: &mut List<Instr>,
     rows: &mut List<TemplateRow>,
     words: &List<WordDef>,
-    templates: &[Template],
-    count: usize,
+    templates: &List<Template>,
 ) -> Result<(), Memory>
     requires { list_all (template_is_coded words.now) templates.now ≡ true }
-    ensures { OnOk result ((code.new ≡ code.old ++ templates_code words.now count templates.now) × (rows.new ≡ rows.old ++ template_rows words.now (length code.old) count templates.now)) }
+    ensures { OnOk result ((code.new ≡ code.old ++ templates_code words.now templates.now) × (rows.new ≡ rows.old ++ template_rows words.now (length code.old) templates.now)) }
 {
-    let mut owed = count;
-    for template in templates {
-        if owed == 0 {
-            return Ok(());
-        }
+    for template in templates.as_slice() {
         add_template(alloc, code, rows, words, template)?;
-        owed = left(owed, template)?;
     }
     Ok(())
-}
-
-// The templates from this number on.
-fn from_number(templates: &List<Template>, number: u32) -> &[Template]
-    ensures { result.now ≡ drop number templates.now }
-{
-    match templates.as_slice().get(number as usize..) {
-        Some(rest) => rest,
-        None => &[],
-    }
 }
 
 // The instruction behind the last item of a word's text.
@@ -183,58 +121,67 @@ fn last(is_top: bool) -> Instr
     if is_top { Instr::Halt } else { Instr::Ret }
 }
 
-// The piece of a word that is defined by this text.
-fn emit_text(alloc: Global, closed: &Closed, is_top: bool, phrase: &Phrase) -> Result<Piece, Memory>
-    requires { (text_is_coded closed.now.program.words phrase.now ≡ true) × (list_all (template_is_coded closed.now.program.words) closed.now.templates ≡ true) }
-    ensures { IfOk result (λ piece. (piece.code ≡ sort_code closed.now.program.words closed.now.templates is_top (Sort.Body phrase.now)) × (piece.templates ≡ sort_rows closed.now.program.words closed.now.templates 0 is_top (Sort.Body phrase.now))) }
-{
-    let mut code = List::new(alloc);
-    let mut templates = List::new(alloc);
-    let words = &closed.program.words;
-    add_text(&mut code, words, phrase, last(is_top))?;
-    let inner = from_number(&closed.templates, first_template(phrase));
-    add_templates(
-        alloc,
-        &mut code,
-        &mut templates,
-        words,
-        inner,
-        quotations(phrase),
-    )?;
-    Ok(Piece { code, templates })
-}
-
-// The piece of a word of this sort.
-fn emit_sort(alloc: Global, closed: &Closed, is_top: bool, sort: &Sort) -> Result<Piece, Memory>
-    requires { (body_is_coded closed.now.program.words sort.now ≡ true) × (list_all (template_is_coded closed.now.program.words) closed.now.templates ≡ true) }
-    ensures { IfOk result (λ piece. (piece.code ≡ sort_code closed.now.program.words closed.now.templates is_top sort.now) × (piece.templates ≡ sort_rows closed.now.program.words closed.now.templates 0 is_top sort.now)) }
+/// Adds the code of a word of this sort, where it is defined by a text.
+pub fn add_word(
+    code: &mut List<Instr>,
+    words: &List<WordDef>,
+    is_top: bool,
+    sort: &Sort,
+) -> Result<(), Memory>
+    requires { body_is_coded words.now sort.now ≡ true }
+    ensures { OnOk result (code.new ≡ code.old ++ sort_code words.now is_top sort.now) }
 {
     match sort {
-        Sort::Body(phrase) => emit_text(alloc, closed, is_top, phrase),
-        _ => Ok(Piece {
-            code: List::new(alloc),
-            templates: List::new(alloc),
-        }),
+        Sort::Body(phrase) => add_text(code, words, phrase, last(is_top)),
+        _ => Ok(()),
     }
 }
 
-/// The piece of the word with this number, from the closed program.
-pub fn piece_of(alloc: Global, closed: &Closed, word: u32) -> Result<Piece, Memory>
+// The code of the word with this number.
+fn code_of_word(alloc: Global, closed: &Closed, word: u32) -> Result<List<Instr>, Memory>
     requires { ((P : Source) × Closes P closed.now.program closed.now.templates × IsBuilt P) × (word < length closed.now.program.words) }
-    ensures { IfOk result (IsPiece closed.now.program closed.now.templates word) }
+    ensures { IfOk result (λ code. code ≡ found_code closed.now.program word (slice_get closed.now.program.words word)) }
 {
+    let mut code = List::new(alloc);
     match closed.program.words.get(word as usize) {
-        Some(def) => emit_sort(alloc, closed, word == closed.program.top, &def.sort),
+        Some(def) => add_word(
+            &mut code,
+            &closed.program.words,
+            word == closed.program.top,
+            &def.sort,
+        )?,
         None => unreachable!(),
     }
+    Ok(code)
+}
+
+// The code of the template with this number.
+fn code_of_template(alloc: Global, closed: &Closed, template: u32) -> Result<List<Instr>, Memory>
+    requires { ((P : Source) × Closes P closed.now.program closed.now.templates × IsBuilt P) × (template < length closed.now.templates) }
+    ensures { IfOk result (λ code. code ≡ found_template closed.now.program (slice_get closed.now.templates template)) }
+{
+    let mut code = List::new(alloc);
+    match closed.templates.get(template as usize) {
+        Some(found) => add_text(&mut code, &closed.program.words, &found.body, Instr::Ret)?,
+        None => unreachable!(),
+    }
+    Ok(code)
 }
 
 /// The plain code of the word with this number: an instruction for each item of its text, and behind them a `ret`, or a `halt` for the
-/// top-level phrase; then likewise, each with its `ret`, the templates of the quotations in it, an outer one before those in it. A
-/// word that isn't defined by a text has no code. Want of memory is the one error.
-pub fn emit_word(alloc: Global, closed: &Closed, word: u32) -> Result<Piece, Memory>
+/// top-level phrase. A word that isn't defined by a text has no code. Want of memory is the one error.
+pub fn emit_word(alloc: Global, closed: &Closed, word: u32) -> Result<List<Instr>, Memory>
     requires { ((P : Source) × Closes P closed.now.program closed.now.templates × IsBuilt P) × (word < length closed.now.program.words) }
-    ensures { IfOk result (λ piece. (P : Source) → Closes P closed.now.program closed.now.templates → IsBuilt P → Emits P word (sort_of P word) piece.code piece.templates) }
+    ensures { IfOk result (λ code. (P : Source) → Closes P closed.now.program closed.now.templates → IsBuilt P → Emits P word (sort_of P word) code) }
 {
-    piece_of(alloc, closed, word)
+    code_of_word(alloc, closed, word)
+}
+
+/// The plain code of the template with this number: an instruction for each item of its quotation, and behind them a `ret`. Want of
+/// memory is the one error.
+pub fn emit_template(alloc: Global, closed: &Closed, template: u32) -> Result<List<Instr>, Memory>
+    requires { ((P : Source) × Closes P closed.now.program closed.now.templates × IsBuilt P) × (template < length closed.now.templates) }
+    ensures { IfOk result (λ code. (P : Source) → Closes P closed.now.program closed.now.templates → IsBuilt P → TemplateEmits P template code) }
+{
+    code_of_template(alloc, closed, template)
 }

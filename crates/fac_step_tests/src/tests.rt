@@ -60,7 +60,7 @@ fn image_of(alloc: Global, text: &str) -> Result<Image, Fail> {
     Ok(compile(alloc, &closed)?)
 }
 
-// Quotations are numbered word by word, an outer one before those in it; code stands in the order of words and templates.
+// Quotations are numbered word by word, an outer one before those in it; their code stands in this order, and then that of the words.
 #[test]
 fn nested_quotations_are_compiled(rt: HostRuntime) -> Result<(), Fail> {
     let text = ": w ( -- x x x ) [ [ 1 ] f [ 2 ] ] f [ 3 ] ; t w [ 4 ]";
@@ -68,14 +68,10 @@ fn nested_quotations_are_compiled(rt: HostRuntime) -> Result<(), Fail> {
     let [.., defined, top] = image.words.as_slice() else {
         return Ok(assert!(rt; false, "too few words"));
     };
-    assert_eq!(rt; defined.action, Action::Code(0));
-    assert_eq!(rt; top.action, Action::Code(14));
-    assert_eq!(rt; image.start, 14);
+    assert_eq!(rt; defined.action, Action::Code(12));
+    assert_eq!(rt; top.action, Action::Code(16));
+    assert_eq!(rt; image.start, 16);
     let code = [
-        Instr::Quot(0),
-        Instr::False,
-        Instr::Quot(3),
-        Instr::Ret,
         Instr::Quot(1),
         Instr::False,
         Instr::Quot(2),
@@ -86,6 +82,12 @@ fn nested_quotations_are_compiled(rt: HostRuntime) -> Result<(), Fail> {
         Instr::Ret,
         Instr::Int(3),
         Instr::Ret,
+        Instr::Int(4),
+        Instr::Ret,
+        Instr::Quot(0),
+        Instr::False,
+        Instr::Quot(3),
+        Instr::Ret,
         Instr::True,
         Instr::Callw {
             word: 41,
@@ -93,11 +95,9 @@ fn nested_quotations_are_compiled(rt: HostRuntime) -> Result<(), Fail> {
         },
         Instr::Quot(4),
         Instr::Halt,
-        Instr::Int(4),
-        Instr::Ret,
     ];
     assert_eq!(rt; image.code.as_slice(), code.as_slice());
-    for (template, entry) in image.templates.as_slice().iter().zip([4, 8, 10, 12, 18]) {
+    for (template, entry) in image.templates.as_slice().iter().zip([0, 4, 6, 8, 10]) {
         assert_eq!(rt; template.entry, entry);
     }
     Ok(())

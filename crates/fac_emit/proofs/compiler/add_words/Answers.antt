@@ -1,0 +1,25 @@
+use Rattle.std.proofs.Common.{arith, ◌∙◌}
+use Rattle.fac_emit.specs.Code.{word_body_is_coded}
+use Rattle.fac_emit.proofs.EmitLemmas.{word_code_step, word_rows_step}
+use Rattle.fac_emit.proofs.CodedItems.{item_passes}
+use Rattle.fac_emit.proofs.compiler.add_words.Goals as goal
+
+pub loop-word-preserved : goal.loop-word-preserved
+loop-word-preserved c =
+    let at = c.loop-word in
+    let items = c.as_slice-word-items in
+    let words = c.args.words.now in
+    let top = c.args.top in
+    let inv = at.invariant in
+    let added = c.in_ok-place_word.ensures in
+    record {
+      count = omega (arith, inv.count);
+      code_is = word_code_step words top at.number at.word-index c.word-item.result items.result.now items.ensures c.loop-word-test.true c.word-item.is _ _ _ inv.code_is added.0;
+      words_are = word_rows_step words top at.number at.word-index c.word-item.result items.result.now items.ensures c.loop-word-test.true c.word-item.is _ _ _ _ _ inv.words_are added.0 added.2;
+      templates_are = added.1 ∙ inv.templates_are;
+    }
+
+pub place_word-requires : goal.place_word-requires
+place_word-requires c =
+    let items = c.as_slice-word-items in
+    item_passes (word_body_is_coded c.args.words.now) c.args.words.now c.loop-word.word-index c.word-item.result items.result.now items.ensures c.loop-word-test.true c.word-item.is c.requires
