@@ -14,9 +14,10 @@
 //! The source is what the one file `a` holds.
 use crate::telling::{tell_bytes, tell_end, tell_loads, tell_stack, tell_tokens};
 use fac_io::{Files, MemFiles, MemSink, Sink};
-use fac_lang::{Bytes, List, Memory, Text};
+use fac_lang::{Bytes, Duplicate, List, Memory, Text};
 use fac_tool::{Ended, factor_top};
 use std::alloc::Global;
+use std::mem;
 
 // The most bytes that a sink takes.
 const ROOM: u64 = 1000;
@@ -105,24 +106,50 @@ fn call<F: Files, K: Sink, N: Sink>(
 // Tells how a call ended.
 fn tell_call(
     alloc: Global,
+    told: &mut Text,
     ended: &Ended,
     files: &MemFiles,
     output: &MemSink,
     note: &MemSink,
-) -> Result<Text, Memory> {
-    let mut told = Text::new(alloc);
-    tell_end(alloc, &mut told, ended.status, ended.ticks)?;
-    tell_loads(&mut told, files.asked().as_slice())?;
+) -> Result<(), Memory> {
+    tell_end(alloc, told, ended.status, ended.ticks)?;
+    tell_loads(told, files.asked().as_slice())?;
     if ended.refusal.is_some() {
         told.push_str(", refused")?;
     }
     if let Some(texts) = &ended.stack {
-        tell_stack(&mut told, texts.as_slice())?;
+        tell_stack(told, texts.as_slice())?;
     }
     told.push_str("\n")?;
-    tell_bytes(&mut told, "  writes ", output.taken())?;
-    tell_bytes(&mut told, "  notes ", note.taken())?;
+    tell_bytes(told, "  writes ", output.taken())?;
+    tell_bytes(told, "  notes ", note.taken())
+}
+
+// Makes the call, and tells how it ended.
+fn called(
+    alloc: Global,
+    words: &[String],
+    files: &mut MemFiles,
+    output: &mut MemSink,
+    note: &mut MemSink,
+) -> Result<Text, Memory> {
+    let ended = call(alloc, words, files, output, note);
+    let mut told = Text::new(alloc);
+    tell_call(alloc, &mut told, &ended, files, output, note)?;
     Ok(told)
+}
+
+// The file `a` with this source.
+fn held(alloc: Global, source: Bytes) -> Result<List<(Text, Bytes)>, Memory> {
+    let name = Text::from_str(alloc, "a")?;
+    let mut held = List::new(alloc);
+    held.push((name, source))?;
+    Ok(held)
+}
+
+// A sink whose listed writes fail.
+fn sink(alloc: Global, fails: &List<(u64, u64)>) -> Result<MemSink, Memory> {
+    MemSink::new(alloc, ROOM, fails.copy(alloc)?)
 }
 
 impl Case {
@@ -176,28 +203,35 @@ impl Case {
         }
     }
 
-    /// What the case comes to.
-    pub fn told(self, alloc: Global) -> Result<Text, Memory> {
+    /// What the case comes to. Its source is taken.
+    pub fn told(&mut self, alloc: Global) -> Result<Text, Memory> {
         match self.tokens {
             Some(file) => tell_tokens(alloc, file, self.source.as_slice()),
             None => self.called(alloc),
         }
     }
 
+    // The one file, and the loads that fail.
+    fn files(&mut self, alloc: Global) -> Result<MemFiles, Memory> {
+        let source = mem::replace(&mut self.source, Bytes::new(alloc));
+        let held = held(alloc, source)?;
+        match self.loads.copy(alloc) {
+            Ok(loads) => Ok(MemFiles::new(alloc, held, loads)),
+            Err(Memory) => Err(Memory),
+        }
+    }
+
     // Makes the call, and tells how it ended.
-    fn called(self, alloc: Global) -> Result<Text, Memory> {
-        let mut held = List::new(alloc);
-        held.push((Text::from_str(alloc, "a")?, self.source))?;
-        let mut files = MemFiles::new(alloc, held, self.loads);
-        let mut output = MemSink::new(alloc, ROOM, self.output)?;
-        let mut note = MemSink::new(alloc, ROOM, self.note)?;
-        let ended = call(
+    fn called(&mut self, alloc: Global) -> Result<Text, Memory> {
+        let mut files = self.files(alloc)?;
+        let mut output = sink(alloc, &self.output)?;
+        let mut note = sink(alloc, &self.note)?;
+        called(
             alloc,
             self.words.as_slice(),
             &mut files,
             &mut output,
             &mut note,
-        );
-        tell_call(alloc, &ended, &files, &output, &note)
+        )
     }
 }

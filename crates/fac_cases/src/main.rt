@@ -18,46 +18,38 @@ mod case;
 mod telling;
 
 use case::Case;
-use fac_lang::Memory;
-use std::alloc::AllocError;
+use fac_lang::{Memory, Text};
+use std::alloc::Global;
 use std::io;
+use std::io::ErrorKind;
 
-// Why the program ends early.
-#[derive(Debug, Drop)]
-enum Fault {
-    Memory,
-    Stream(io::Error),
+// The system's error for want of memory.
+fn no_memory() -> io::Error {
+    io::Error::from(ErrorKind::OutOfMemory)
 }
 
-impl From<Memory> for Fault {
-    fn from(_: Memory) -> Self {
-        Fault::Memory
+// Takes a line, and tells what is to be told before it.
+fn told(alloc: Global, case: &mut Case, line: &str) -> Result<Text, Memory> {
+    if line.is_empty() {
+        let told = case.told(alloc)?;
+        *case = Case::new(alloc)?;
+        return Ok(told);
     }
+    let is_taken = case.add(alloc, line)?;
+    Text::from_str(alloc, if is_taken { "" } else { "? " })
 }
 
-impl From<AllocError> for Fault {
-    fn from(_: AllocError) -> Self {
-        Fault::Memory
-    }
-}
-
-impl From<io::Error> for Fault {
-    fn from(error: io::Error) -> Self {
-        Fault::Stream(error)
-    }
-}
-
-fn main(rt: HostRuntime) -> Result<(), Fault> {
+fn main(rt: HostRuntime) -> io::Result<()> {
     let alloc = rt.alloc();
-    let mut case = Case::new(alloc)?;
+    let Ok(mut case) = Case::new(alloc) else {
+        return Err(no_memory());
+    };
     for line in rt.lines(alloc) {
         let line = line?;
-        if line.is_empty() {
-            rt.print(case.told(alloc)?.as_str())?;
-            case = Case::new(alloc)?;
-        } else if !case.add(alloc, line.as_str())? {
-            rt.print("? ")?;
-        }
+        let Ok(text) = told(alloc, &mut case, line.as_str()) else {
+            return Err(no_memory());
+        };
+        rt.print(text.as_str())?;
         rt.println(line)?;
     }
     Ok(())

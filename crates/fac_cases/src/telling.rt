@@ -1,7 +1,7 @@
 //! How the end of a call and the tokens of a file are told.
 use fac_io::Asked;
 use fac_lang::{Memory, Text, TokKind, Token};
-use fac_token::tokens;
+use fac_token::{TokenFault, tokens};
 use std::alloc::Global;
 use std::str;
 
@@ -81,21 +81,27 @@ fn tell_token(alloc: Global, told: &mut Text, token: &Token) -> Result<(), Memor
     }
 }
 
+// Tells tokens.
+fn tell_list(alloc: Global, told: &mut Text, list: &[Token]) -> Result<(), Memory> {
+    told.push_str("  tokens")?;
+    for token in list {
+        tell_token(alloc, told, token)?;
+    }
+    told.push_str("\n")
+}
+
+// Tells why a file has no tokens.
+fn tell_fault(alloc: Global, told: &mut Text, fault: TokenFault) -> Result<(), Memory> {
+    let line = format!(in alloc; "  fault {fault}\n")?;
+    told.push_str(line.as_str())
+}
+
 /// Tells the tokens of a file, or why it has none.
 pub fn tell_tokens(alloc: Global, file: u32, source: &[u8]) -> Result<Text, Memory> {
     let mut told = Text::new(alloc);
     match tokens(alloc, file, source) {
-        Ok(list) => {
-            told.push_str("  tokens")?;
-            for token in list.as_slice() {
-                tell_token(alloc, &mut told, token)?;
-            }
-        }
-        Err(fault) => {
-            let line = format!(in alloc; "  fault {fault}")?;
-            told.push_str(line.as_str())?;
-        }
+        Ok(list) => tell_list(alloc, &mut told, list.as_slice())?,
+        Err(fault) => tell_fault(alloc, &mut told, fault)?,
     }
-    told.push_str("\n")?;
     Ok(told)
 }

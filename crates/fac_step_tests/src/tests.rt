@@ -1,56 +1,64 @@
 //! The steps from a text to what is made of it.
 ghost use Rattle.std.specs.Prelude.{IfOk};
 ghost use Rattle.fac_check.specs.Judged.{StandsForBuilt};
+ghost use Rattle.fac_lang.specs.Forms.{IsBuilt};
+ghost use Rattle.fac_lang.specs.Whole.{IsWhole};
+ghost use Rattle.fac_parse.specs.Trees.{IsWellFormed};
 
 use fac_check::{CheckFault, Rule, check};
 use fac_code::{Action, Image, Instr};
 use fac_emit::compile;
-use fac_lang::Duplicate;
+use fac_lang::{Duplicate, Program, Tree};
 use fac_locals::{Closed, close};
 use fac_parse::{parse, resolve};
 use fac_token::tokens;
 use std::alloc::Global;
 use std::test::Fail;
 
-// The closed program of a text. Tree and program are copied on the way.
+// A copy of the tree of a text.
+fn tree_of(alloc: Global, text: &str) -> Result<Tree, Fail>
+    ensures { IfOk result (λ tree. IsWellFormed tree.forms) }
+{
+    let tree = parse(alloc, &tokens(alloc, 1, text.as_bytes())?)?;
+    Ok(tree.copy(alloc)?)
+}
+
+// A copy of the program of a tree.
+fn program_of(alloc: Global, tree: &Tree) -> Result<Program, Fail>
+    requires { IsWellFormed tree.now.forms }
+    ensures { IfOk result (λ program. IsBuilt program × IsWhole program) }
+{
+    let program = resolve(alloc, tree)?;
+    Ok(program.copy(alloc)?)
+}
+
+// The closed program of a text.
 fn closed_text(alloc: Global, text: &str) -> Result<Closed, Fail>
     ensures { IfOk result (λ closed. StandsForBuilt closed) }
 {
-    let tree = parse(alloc, &tokens(alloc, 1, text.as_bytes())?)?;
-    let tree = tree.copy(alloc)?;
-    let program = resolve(alloc, &tree)?;
-    let program = program.copy(alloc)?;
+    let program = program_of(alloc, &tree_of(alloc, text)?)?;
     Ok(close(alloc, program, 0)?)
 }
 
-// The checker's answer to a text.
-fn rule_of(alloc: Global, text: &str) -> Result<Option<Rule>, Fail> {
+// Whether the checker's answer to a text is this.
+fn is_judged(alloc: Global, text: &str, rule: Option<Rule>) -> Result<bool, Fail> {
     match check(alloc, closed_text(alloc, text)?) {
-        Ok(_) => Ok(None),
-        Err(CheckFault::Refused(refusal)) => Ok(Some(refusal.rule)),
+        Ok(_) => Ok(rule.is_none()),
+        Err(CheckFault::Refused(refusal)) => Ok(rule == Some(refusal.rule)),
         Err(CheckFault::Memory) => Err(Fail::from(CheckFault::Memory)),
     }
 }
 
 #[test]
 fn the_checker_alone(rt: HostRuntime) -> Result<(), Fail> {
-    let cases = [
-        ("USING: kernel ; 1 dup", None),
-        (
-            "USING: kernel ; 1 over dup",
-            Some(Rule::Underflow { needs: 2, has: 1 }),
-        ),
-        (
-            ": w ( -- x x ) 1 ;",
-            Some(Rule::Outputs {
-                declared: 2,
-                found: 1,
-            }),
-        ),
-    ];
-    for (text, rule) in cases {
-        assert_eq!(rt; rule_of(rt.alloc(), text)?, rule, "at {text}");
-    }
+    let underflow = Rule::Underflow { needs: 2, has: 1 };
+    let outputs = Rule::Outputs {
+        declared: 2,
+        found: 1,
+    };
+    assert!(rt; is_judged(rt.alloc(), "USING: kernel ; 1 dup", None)?);
+    assert!(rt; is_judged(rt.alloc(), "USING: kernel ; 1 over dup", Some(underflow))?);
+    assert!(rt; is_judged(rt.alloc(), ": w ( -- x x ) 1 ;", Some(outputs))?);
     Ok(())
 }
 
@@ -60,17 +68,20 @@ fn image_of(alloc: Global, text: &str) -> Result<Image, Fail> {
     Ok(compile(alloc, &closed)?)
 }
 
-// Quotations are numbered word by word, an outer one before those in it; their code stands in this order, and then that of the words.
-#[test]
-fn nested_quotations_are_compiled(rt: HostRuntime) -> Result<(), Fail> {
-    let text = ": w ( -- x x x ) [ [ 1 ] f [ 2 ] ] f [ 3 ] ; t w [ 4 ]";
-    let image = image_of(rt.alloc(), text)?;
-    let [.., defined, top] = image.words.as_slice() else {
-        return Ok(assert!(rt; false, "too few words"));
-    };
-    assert_eq!(rt; defined.action, Action::Code(12));
-    assert_eq!(rt; top.action, Action::Code(16));
-    assert_eq!(rt; image.start, 16);
+// Whether the last words and the run begin where they should.
+fn words_begin(image: &Image) -> bool {
+    match image.words.as_slice() {
+        [.., defined, top] => {
+            defined.action == Action::Code(12)
+                && top.action == Action::Code(16)
+                && image.start == 16
+        }
+        _ => false,
+    }
+}
+
+// Whether the code is as it should be.
+fn is_coded(image: &Image) -> bool {
     let code = [
         Instr::Quot(1),
         Instr::False,
@@ -96,9 +107,26 @@ fn nested_quotations_are_compiled(rt: HostRuntime) -> Result<(), Fail> {
         Instr::Quot(4),
         Instr::Halt,
     ];
-    assert_eq!(rt; image.code.as_slice(), code.as_slice());
-    for (template, entry) in image.templates.as_slice().iter().zip([0, 4, 6, 8, 10]) {
-        assert_eq!(rt; template.entry, entry);
+    image.code.as_slice() == code.as_slice()
+}
+
+// Whether templates begin at these places.
+fn templates_begin(image: &Image, entries: &[u32]) -> bool {
+    for (template, entry) in image.templates.as_slice().iter().zip(entries) {
+        if template.entry != *entry {
+            return false;
+        }
     }
+    image.templates.len() as usize == entries.len()
+}
+
+// Quotations are numbered word by word, an outer one before those in it; their code stands in this order, and then that of the words.
+#[test]
+fn nested_quotations_are_compiled(rt: HostRuntime) -> Result<(), Fail> {
+    let text = ": w ( -- x x x ) [ [ 1 ] f [ 2 ] ] f [ 3 ] ; t w [ 4 ]";
+    let image = image_of(rt.alloc(), text)?;
+    assert!(rt; words_begin(&image));
+    assert!(rt; is_coded(&image));
+    assert!(rt; templates_begin(&image, &[0, 4, 6, 8, 10]));
     Ok(())
 }
