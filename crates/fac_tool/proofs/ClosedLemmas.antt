@@ -8,7 +8,9 @@ use Rattle.fac_lang.specs.declared.phrase.Template.{Template}
 use Rattle.fac_lang.specs.declared.program.Program.{Program}
 use Rattle.fac_lang.specs.declared.program.WordDef.{WordDef}
 use Rattle.fac_lang.specs.Texts.{Callable}
+use Rattle.fac_lang.specs.Eval.{Result as Run, Done, Failed, Spent, Stuck}
 use Rattle.fac_lang.specs.Meaning.{start}
+use Rattle.fac_lang.specs.RunningLaws.{IsNotStuck}
 use Rattle.fac_lang.specs.Forms.{IsBuilt}
 use Rattle.fac_locals.specs.Closed.{Closes, CloseWords}
 use Rattle.fac_locals.specs.declared.closing.Closed.{Closed}
@@ -16,8 +18,7 @@ use Rattle.fac_check.specs.CallableEffects.{callable_height, fits}
 use Rattle.fac_check.specs.Checks.{IsKept}
 use Rattle.fac_check.specs.Judged.{refusal_seen}
 use Rattle.fac_check.specs.declared.rule.Refusal.{Refusal}
-use Rattle.fac_check.specs.Promises.{IsSafe}
-use Rattle.fac_check.proofs.Promised.{not_stuck}
+use Rattle.fac_check.specs.Promises.{IsSafe, Lists, Ends}
 use Rattle.fac_code.specs.declared.image.Image.{Image}
 use Rattle.fac_emit.specs.Carries.{Carries}
 use Rattle.fac_notes.specs.WordNames.{name_or}
@@ -41,6 +42,13 @@ refusal_back r = refl
 -- an accepted program is safe
 pub safe_one : (closed : Closed) (P : Program) → IsKept closed → closed.start ≡ 0 → StandsFor closed P → StandsForSafe closed P
 safe_one closed P kept start stands = record { closes = stands.closes; built = stands.built; safe = subst (λ count. IsSafe P count) start (kept P stands.closes stands.built stands.whole); start = start }
+
+-- what ends so isn't stuck
+not_stuck : (P : Program) (after : Lists) (r : Run) → Ends P after r → IsNotStuck r
+not_stuck P after (Done st left) h = tt
+not_stuck P after (Failed e st left) h = tt
+not_stuck P after (Spent st i) h = tt
+not_stuck P after Stuck h = h
 
 -- so its image carries it with the checker's test of effects, and it isn't stuck
 carried_by : (P : Program) (M : Image) (count : ℕ) → IsSafe P 0 → count ≡ 0 → Carries P fits (callable_height P) count M → Carried P M
