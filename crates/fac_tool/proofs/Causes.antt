@@ -29,7 +29,9 @@ of_usage notes ended (inl whole) = inl (ap (λ (x : Ended). x.status) whole.same
 of_usage notes ended (inr part) = inr (part.status, part.rose)
 
 -- the ending of the work on a text at a given status
-loaded_ends : (status : ℕ) (name : List ℕ) (command : Command) (files : FilesSeen) (out : SinkSeen) (ended : Ended) (h : Loaded name command files out ended) → ended.status ≡ status → EndsBy (ending_of status) (answer_on command h.source) (work_of command (accepted h.source)) out ended
+loaded_ends :
+    (status : ℕ) (name : List ℕ) (command : Command) (files : FilesSeen) (out : SinkSeen) (ended : Ended) (h : Loaded name command files out ended) → ended.status ≡ status →
+    EndsBy (ending_of status) (answer_on command h.source) (work_of command (accepted h.source)) out ended
 loaded_ends status name command files out ended h e =
     subst (λ (n : ℕ). EndsBy (ending_of n) (answer_on command h.source) (work_of command (accepted h.source)) out ended) e h.ends
 
@@ -56,7 +58,8 @@ file_cause None words files out notes ended h e = elim (of_usage notes ended h.1
 file_cause (Some command) words files out notes ended h e =
     files_rise (name_of words command) command files out h.0 h.1.ending (status-Tells 8 (file_names words command) h.0 notes ended (omega arith) (omega arith) h.2 e)
 
-pub write_cause : (c : Option Command) (words : List (List ℕ)) (files : FilesSeen) (out notes : SinkSeen) (ended : Ended) → AnswersBy c words files out notes ended → ended.status ≡ 10 → Rose out.faults_before out.faults_now ⊎ Rose notes.faults_before notes.faults_now
+pub write_cause :
+    (c : Option Command) (words : List (List ℕ)) (files : FilesSeen) (out notes : SinkSeen) (ended : Ended) → AnswersBy c words files out notes ended → ended.status ≡ 10 → Rose out.faults_before out.faults_now ⊎ Rose notes.faults_before notes.faults_now
 write_cause None words files out notes ended h e = elim (of_usage notes ended h.1) [ inl r ↦ absurd (omega (arith, r, e)) | inr r ↦ inr r.1 ]
 write_cause (Some command) words files out notes ended h e =
     elim (ten_of (file_names words command) h.0 notes ended h.2 e) [ inl r ↦ inl (out_rises (name_of words command) command files out h.0 h.1.ending r) | inr r ↦ inr r ]

@@ -1,24 +1,24 @@
 -- The pieces that a machine's run writes are those of the program's run, tick by tick.
-use Rattle.std.proofs.Common.{◌≡◌, ◌<◌, ◌≤◌, ℕ, zero, suc, ◌+◌, List, [], ◌∷◌, ◌++◌, Some, None, refl, ap, sym, subst, ◌∙◌, arith, append_assoc}
+use Rattle.std.proofs.Common.{◌≡◌, ◌<◌, ◌≤◌, ℕ, zero, suc, ◌+◌, List, [], ◌∷◌, ◌++◌, Some, refl, ap, sym, subst, ◌∙◌, arith}
 use Rattle.std.proofs.lemmas.List.{append-nil, append_cancel_left}
 use Rattle.std.proofs.lemmas.List.Folds.{concat-append}
 use Rattle.std.proofs.Math.Seq.{drop-append_seam}
 use Rattle.std.specs.Prelude.{length, drop, ⊤}
 use Rattle.std.specs.List.{concat}
 use Rattle.std.specs.declared.option.Option.{Option}
-use Rattle.fac_io.specs.Told.{Grows, one_piece}
+use Rattle.fac_io.specs.Told.{one_piece}
 use Rattle.fac_lang.specs.declared.program.Program.{Program}
 use Rattle.fac_lang.specs.Printed.{Names}
 use Rattle.fac_lang.specs.Meaning.{names}
 use Rattle.fac_code.specs.declared.image.Image.{Image}
-use Rattle.fac_prim.specs.Cells.{MValue, MCallable}
+use Rattle.fac_prim.specs.Cells.{MCallable}
 use Rattle.fac_prim.specs.Trees.{values_in}
 use Rattle.fac_prim.specs.declared.value.Value.{Value as MachineValue}
 use Rattle.fac_vm.specs.declared.machine.StopKind.{StopKind}
 use Rattle.fac_vm.specs.declared.machine.StopKind.TheVariants as stop
 use Rattle.fac_vm.specs.Laws.{RunsHaveOneEnd}
 use Rattle.fac_vm.specs.Machine.{Machine, End, spent, Step, goes_on, ends, step, stepped, steps, Leads, Ends, Writes, w_none, w_silent, w_piece, starting}
-use Rattle.fac_vm.specs.Runs.{InPieces as InMachinePieces, LastPiece, end_world}
+use Rattle.fac_vm.specs.Runs.{InPieces as InMachinePieces, end_world}
 use Rattle.fac_tool.specs.Answer.{meaning}
 use Rattle.fac_tool.specs.Seen.{SinkSeen}
 use Rattle.fac_tool.specs.Ends.{run_output, tick_output, pieces_in, RunPieces}
@@ -138,7 +138,8 @@ module _ (law : RunsHaveOneEnd) (P : Program) (M : Image) (carries : Carried P M
         (way.0, omega (arith, way.1), rw all (way.2 ∙ ap (stepped M (names P) (steps M (names P) c)) (later k)));
   }
 
-  walked_on : (b : ℕ) (pieces : List (List ℕ)) (t t' : Machine) (m m' : ℕ) (piece : List ℕ) → Walked b pieces t m → GoesAt ⊤ (step M (names P) t) t.world.output m t' m' → t'.world.output ≡ t.world.output ++ piece → Walked b (pieces ++ one_piece piece) t' m'
+  walked_on :
+      (b : ℕ) (pieces : List (List ℕ)) (t t' : Machine) (m m' : ℕ) (piece : List ℕ) → Walked b pieces t m → GoesAt ⊤ (step M (names P) t) t.world.output m t' m' → t'.world.output ≡ t.world.output ++ piece → Walked b (pieces ++ one_piece piece) t' m'
   walked_on b pieces t t' m m' piece w at more =
       let comes' = comes_on w.used at.took t t' w.comes at.later in
       record {

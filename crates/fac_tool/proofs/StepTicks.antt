@@ -1,5 +1,5 @@
 -- A step of the machine with other ticks: with those that it took it goes to the same state, and with fewer it is spent there and writes nothing.
-use Rattle.std.proofs.Common.{◌≡◌, ◌<◌, ℕ, zero, suc, ◌+◌, List, [], ◌∷◌, Bool, true, false, Some, None, refl, ap, ◌∙◌, arith}
+use Rattle.std.proofs.Common.{◌≡◌, ◌<◌, ℕ, zero, suc, ◌+◌, List, [], ◌∷◌, Bool, true, false, Some, None, refl, ◌∙◌, arith}
 use Rattle.std.specs.Prelude.{slice_get, ⊤}
 use Rattle.std.specs.declared.option.Option.{Option}
 use Rattle.fac_lang.specs.Printed.{Names}
@@ -12,7 +12,8 @@ use Rattle.fac_code.specs.declared.image.TemplateRow.{TemplateRow}
 use Rattle.fac_code.specs.declared.image.Instr.TheVariants.{Halt, Int, True, False, Quot, Prim as prim, Callw, Call, Dip, If, Ret}
 use Rattle.fac_code.specs.declared.names.TrapWhy.TheVariants.{Kind as t_kind, Frame as t_frame}
 use Rattle.fac_prim.specs.Cells.{MValue, m_plain, m_fun, MCallable, m_lit, m_cur, m_com, Kept, kept_list, keep_list, m_seen, cells, cells_at}
-use Rattle.fac_vm.specs.Machine.{Entry, resume, put_back, enter, Machine, End, spent, Step, goes_on, ends, after, push, waiting, paying, popping1, popping2, popping3, given, does, word_of_prim, or_trap, code_of, leaving, going, want_callable, branch, entering, returning, makes, calls, dips, ifs, does_instr, fetched, step}
+use Rattle.fac_vm.specs.Machine.{Entry, resume, put_back, enter, Machine, spent, Step, goes_on, ends, after, push, waiting, paying, popping1, popping2, popping3}
+use Rattle.fac_vm.specs.Machine.{given, does, word_of_prim, or_trap, code_of, leaving, going, want_callable, branch, entering, returning, makes, does_instr, fetched, step}
 use Rattle.fac_vm.specs.Runs.{end_world}
 
 -- Where a step goes, which is f by the ticks that there are, from a state with this output and with n ticks. At ends and where no tick was taken
@@ -27,6 +28,9 @@ pub record GoesAt (Free : Type 0) (f : ℕ → Step) (out : List ℕ) (n : ℕ) 
 abbrev pub StepsAt : Type 0 → (ℕ → Step) → List ℕ → ℕ → Step → Type 0
 StepsAt Free f out n (goes_on s m) = GoesAt Free f out n s m
 StepsAt Free f out n (ends e) = Free → n ≡ 0 → (end_world e).output ≡ out
+
+abbrev pub Ticks : Type 0 → (ℕ → Step) → List ℕ → ℕ → Type 0
+Ticks Free f out n = StepsAt Free f out n (f n)
 
 -- a step that takes no tick
 goes : (Free : Type 0) (f : ℕ → Step) (s : Machine) (out : List ℕ) → ((n : ℕ) → f n ≡ goes_on s n) → (Free → s.world.output ≡ out) → (n : ℕ) → GoesAt Free f out n s n
@@ -53,31 +57,31 @@ ticking Free More f g s out n next first same (goes_on t m) h = record {
 }
 
 module _ (M : Image) (N : Names) where
-  lit_at : (k : Kept) (s : Machine) (o : Option TemplateRow) (n : ℕ) → StepsAt ⊤ (λ n. or_trap o t_kind s n (λ t. goes_on (going t.entry (kept_list k) s) n)) s.world.output n (or_trap o t_kind s n (λ t. goes_on (going t.entry (kept_list k) s) n))
+  lit_at : (k : Kept) (s : Machine) (o : Option TemplateRow) (n : ℕ) → Ticks ⊤ (λ n. or_trap o t_kind s n (λ t. goes_on (going t.entry (kept_list k) s) n)) s.world.output n
   lit_at k s None n = λ c none. refl
   lit_at k s (Some t) n = goes ⊤ _ (going t.entry (kept_list k) s) s.world.output (λ n. refl) (λ c. refl) n
 
-  enter_at : (c : MCallable) (s : Machine) (n : ℕ) → StepsAt ⊤ (entering M N c s) s.world.output n (entering M N c s n)
+  enter_at : (c : MCallable) (s : Machine) (n : ℕ) → Ticks ⊤ (entering M N c s) s.world.output n
   enter_at (m_lit q k) s n = lit_at k s (slice_get M.templates q) n
   enter_at (m_cur v c) s zero = λ c none. refl
   enter_at (m_cur v c) s (suc n) = ticking ⊤ ⊤ (entering M N (m_cur v c) s) (entering M N c (push v s)) s s.world.output n (λ k. refl) refl refl (entering M N c (push v s) n) (enter_at c (push v s) n)
   enter_at (m_com c d) s zero = λ c none. refl
   enter_at (m_com c d) s (suc n) = ticking ⊤ ⊤ (entering M N (m_com c d) s) (entering M N c (waiting (enter d) s)) s s.world.output n (λ k. refl) refl refl (entering M N c (waiting (enter d) s) n) (enter_at c (waiting (enter d) s) n)
 
-  return_at : (es : List Entry) (s : Machine) (n : ℕ) → StepsAt ⊤ (returning M N es s) s.world.output n (returning M N es s n)
+  return_at : (es : List Entry) (s : Machine) (n : ℕ) → Ticks ⊤ (returning M N es s) s.world.output n
   return_at [] s n = λ c none. refl
   return_at (resume a f ∷ es) s n = goes ⊤ (returning M N (resume a f ∷ es) s) (going a f (record s { returns = es })) s.world.output (λ n. refl) (λ c. refl) n
   return_at (put_back v ∷ es) s n = return_at es (push v s) n
   return_at (enter c ∷ es) s n = enter_at c (record s { returns = es }) n
 
-  call_at : (stack : List MValue) (s : Machine) (n : ℕ) → StepsAt ⊤ (λ n. popping1 stack s n (λ q t. want_callable q t n (λ c. entering M N c t n))) s.world.output n (popping1 stack s n (λ q t. want_callable q t n (λ c. entering M N c t n)))
+  call_at : (stack : List MValue) (s : Machine) (n : ℕ) → Ticks ⊤ (λ n. popping1 stack s n (λ q t. want_callable q t n (λ c. entering M N c t n))) s.world.output n
   call_at [] s n = λ c none. refl
   call_at (m_plain p ∷ r) s n = λ c none. refl
   call_at (m_fun c ∷ r) s n = enter_at c (record s { stack = r }) n
 
   dip_at :
       (stack : List MValue) (s : Machine) (n : ℕ) →
-      StepsAt ⊤ (λ n. popping2 stack s n (λ x q t. want_callable q t n (λ c. entering M N c (waiting (put_back x) (leaving false t)) n))) s.world.output n (popping2 stack s n (λ x q t. want_callable q t n (λ c. entering M N c (waiting (put_back x) (leaving false t)) n)))
+      Ticks ⊤ (λ n. popping2 stack s n (λ x q t. want_callable q t n (λ c. entering M N c (waiting (put_back x) (leaving false t)) n))) s.world.output n
   dip_at [] s n = λ c none. refl
   dip_at (y ∷ []) s n = λ c none. refl
   dip_at (m_plain p ∷ x ∷ r) s n = λ c none. refl
@@ -85,7 +89,7 @@ module _ (M : Image) (N : Names) where
 
   if_at :
       (stack : List MValue) (s : Machine) (n : ℕ) →
-      StepsAt ⊤ (λ n. popping3 stack s n (λ x p q t. want_callable p t n (λ c. want_callable q t n (λ d. entering M N (branch (seen_no (m_seen x)) c d) t n)))) s.world.output n (popping3 stack s n (λ x p q t. want_callable p t n (λ c. want_callable q t n (λ d. entering M N (branch (seen_no (m_seen x)) c d) t n))))
+      Ticks ⊤ (λ n. popping3 stack s n (λ x p q t. want_callable p t n (λ c. want_callable q t n (λ d. entering M N (branch (seen_no (m_seen x)) c d) t n)))) s.world.output n
   if_at [] s n = λ c none. refl
   if_at (z ∷ []) s n = λ c none. refl
   if_at (z ∷ y ∷ []) s n = λ c none. refl
@@ -94,48 +98,48 @@ module _ (M : Image) (N : Names) where
   if_at (m_fun d ∷ m_fun c ∷ x ∷ r) s n = enter_at (branch (seen_no (m_seen x)) c d) (record s { stack = r }) n
 
   -- a primitive, and what has one outcome whatever the ticks are
-  given_at : (a : ℕ) (s : Machine) (out : List ℕ) (g : Gives MValue) (n : ℕ) → StepsAt ⊥ (λ n. given a s n (λ t. goes_on (after t) n) g) out n (given a s n (λ t. goes_on (after t) n) g)
+  given_at : (a : ℕ) (s : Machine) (out : List ℕ) (g : Gives MValue) (n : ℕ) → Ticks ⊥ (λ n. given a s n (λ t. goes_on (after t) n) g) out n
   given_at a s out (gives vs w) n = goes ⊥ _ _ out (λ n. refl) (λ c. absurd c) n
   given_at a s out (bad e v w) n = λ c none. absurd c
 
-  one_at : (a : ℕ) (f : MValue → Machine → Gives MValue) (stack : List MValue) (s : Machine) (out : List ℕ) (n : ℕ) → StepsAt ⊥ (λ n. popping1 stack s n (λ x t. given a t n (λ t. goes_on (after t) n) (f x t))) out n (popping1 stack s n (λ x t. given a t n (λ t. goes_on (after t) n) (f x t)))
+  one_at : (a : ℕ) (f : MValue → Machine → Gives MValue) (stack : List MValue) (s : Machine) (out : List ℕ) (n : ℕ) → Ticks ⊥ (λ n. popping1 stack s n (λ x t. given a t n (λ t. goes_on (after t) n) (f x t))) out n
   one_at a f [] s out n = λ c none. absurd c
   one_at a f (x ∷ r) s out n = given_at a (record s { stack = r }) out (f x (record s { stack = r })) n
 
-  two_at : (a : ℕ) (f : MValue → MValue → Machine → Gives MValue) (stack : List MValue) (s : Machine) (out : List ℕ) (n : ℕ) → StepsAt ⊥ (λ n. popping2 stack s n (λ x y t. given a t n (λ t. goes_on (after t) n) (f x y t))) out n (popping2 stack s n (λ x y t. given a t n (λ t. goes_on (after t) n) (f x y t)))
+  two_at : (a : ℕ) (f : MValue → MValue → Machine → Gives MValue) (stack : List MValue) (s : Machine) (out : List ℕ) (n : ℕ) → Ticks ⊥ (λ n. popping2 stack s n (λ x y t. given a t n (λ t. goes_on (after t) n) (f x y t))) out n
   two_at a f [] s out n = λ c none. absurd c
   two_at a f (y ∷ []) s out n = λ c none. absurd c
   two_at a f (y ∷ x ∷ r) s out n = given_at a (record s { stack = r }) out (f x y (record s { stack = r })) n
 
-  three_at : (a : ℕ) (f : MValue → MValue → MValue → Machine → Gives MValue) (stack : List MValue) (s : Machine) (out : List ℕ) (n : ℕ) → StepsAt ⊥ (λ n. popping3 stack s n (λ x y z t. given a t n (λ t. goes_on (after t) n) (f x y z t))) out n (popping3 stack s n (λ x y z t. given a t n (λ t. goes_on (after t) n) (f x y z t)))
+  three_at : (a : ℕ) (f : MValue → MValue → MValue → Machine → Gives MValue) (stack : List MValue) (s : Machine) (out : List ℕ) (n : ℕ) → Ticks ⊥ (λ n. popping3 stack s n (λ x y z t. given a t n (λ t. goes_on (after t) n) (f x y z t))) out n
   three_at a f [] s out n = λ c none. absurd c
   three_at a f (z ∷ []) s out n = λ c none. absurd c
   three_at a f (z ∷ y ∷ []) s out n = λ c none. absurd c
   three_at a f (z ∷ y ∷ x ∷ r) s out n = given_at a (record s { stack = r }) out (f x y z (record s { stack = r })) n
 
-  does_at : (a : ℕ) (f : Fn MValue) (s : Machine) (out : List ℕ) (n : ℕ) → StepsAt ⊥ (λ n. does a f s n (λ t. goes_on (after t) n)) out n (does a f s n (λ t. goes_on (after t) n))
+  does_at : (a : ℕ) (f : Fn MValue) (s : Machine) (out : List ℕ) (n : ℕ) → Ticks ⊥ (λ n. does a f s n (λ t. goes_on (after t) n)) out n
   does_at a (fn0 f) s out n = given_at a s out (f s.world) n
   does_at a (fn1 f) s out n = one_at a (λ x t. f x t.world) s.stack s out n
   does_at a (fn2 f) s out n = two_at a (λ x y t. f x y t.world) s.stack s out n
   does_at a (fn3 f) s out n = three_at a (λ x y z t. f x y z t.world) s.stack s out n
 
-  prim_at : (a : ℕ) (o : Option Primitive) (s : Machine) (out : List ℕ) (n : ℕ) → StepsAt ⊥ (λ n. or_trap o t_kind s n (λ q. does a (prim_fn cells N q) s n (λ t. goes_on (after t) n))) out n (or_trap o t_kind s n (λ q. does a (prim_fn cells N q) s n (λ t. goes_on (after t) n)))
+  prim_at : (a : ℕ) (o : Option Primitive) (s : Machine) (out : List ℕ) (n : ℕ) → Ticks ⊥ (λ n. or_trap o t_kind s n (λ q. does a (prim_fn cells N q) s n (λ t. goes_on (after t) n))) out n
   prim_at a None s out n = λ c none. absurd c
   prim_at a (Some q) s out n = does_at a (prim_fn cells N q) s out n
 
-  code_at : (o : Option ℕ) (s : Machine) (out : List ℕ) (n : ℕ) → StepsAt ⊥ (λ n. or_trap o t_kind s n (λ a. goes_on (going a [] s) n)) out n (or_trap o t_kind s n (λ a. goes_on (going a [] s) n))
+  code_at : (o : Option ℕ) (s : Machine) (out : List ℕ) (n : ℕ) → Ticks ⊥ (λ n. or_trap o t_kind s n (λ a. goes_on (going a [] s) n)) out n
   code_at None s out n = λ c none. absurd c
   code_at (Some a) s out n = goes ⊥ _ (going a [] s) out (λ n. refl) (λ c. absurd c) n
 
-  word_at : (o : Option WordRow) (s : Machine) (out : List ℕ) (n : ℕ) → StepsAt ⊥ (λ n. or_trap o t_kind s n (λ r. or_trap (code_of r.action) t_kind s n (λ a. goes_on (going a [] s) n))) out n (or_trap o t_kind s n (λ r. or_trap (code_of r.action) t_kind s n (λ a. goes_on (going a [] s) n)))
+  word_at : (o : Option WordRow) (s : Machine) (out : List ℕ) (n : ℕ) → Ticks ⊥ (λ n. or_trap o t_kind s n (λ r. or_trap (code_of r.action) t_kind s n (λ a. goes_on (going a [] s) n))) out n
   word_at None s out n = λ c none. absurd c
   word_at (Some r) s out n = code_at (code_of r.action) s out n
 
-  made_at : (q : ℕ) (o : Option (List MValue)) (s : Machine) (out : List ℕ) (n : ℕ) → StepsAt ⊥ (λ n. or_trap o t_frame s n (λ vs. goes_on (after (push (m_fun (m_lit q (keep_list vs))) s)) n)) out n (or_trap o t_frame s n (λ vs. goes_on (after (push (m_fun (m_lit q (keep_list vs))) s)) n))
+  made_at : (q : ℕ) (o : Option (List MValue)) (s : Machine) (out : List ℕ) (n : ℕ) → Ticks ⊥ (λ n. or_trap o t_frame s n (λ vs. goes_on (after (push (m_fun (m_lit q (keep_list vs))) s)) n)) out n
   made_at q None s out n = λ c none. absurd c
   made_at q (Some vs) s out n = goes ⊥ _ (after (push (m_fun (m_lit q (keep_list vs))) s)) out (λ n. refl) (λ c. absurd c) n
 
-  quot_at : (q : ℕ) (o : Option TemplateRow) (s : Machine) (out : List ℕ) (n : ℕ) → StepsAt ⊥ (λ n. or_trap o t_kind s n (λ t. makes M N q t s n)) out n (or_trap o t_kind s n (λ t. makes M N q t s n))
+  quot_at : (q : ℕ) (o : Option TemplateRow) (s : Machine) (out : List ℕ) (n : ℕ) → Ticks ⊥ (λ n. or_trap o t_kind s n (λ t. makes M N q t s n)) out n
   quot_at q None s out n = λ c none. absurd c
   quot_at q (Some t) s out n = made_at q (cells_at t.cells s.frame) s out n
 
@@ -145,11 +149,11 @@ module _ (M : Image) (N : Names) where
   leaving_at Free false s f n x h = h
 
   -- an instruction that costs a tick
-  paid_at : (Free : Type 0) (g : ℕ → Step) (s : Machine) → ((n : ℕ) → StepsAt Free g s.world.output n (g n)) → (n : ℕ) → StepsAt ⊤ (λ n. paying 1 s n g) s.world.output n (paying 1 s n g)
+  paid_at : (Free : Type 0) (g : ℕ → Step) (s : Machine) → ((n : ℕ) → StepsAt Free g s.world.output n (g n)) → (n : ℕ) → Ticks ⊤ (λ n. paying 1 s n g) s.world.output n
   paid_at Free g s h zero = λ c none. refl
   paid_at Free g s h (suc n) = ticking Free ⊤ (λ n. paying 1 s n g) g s s.world.output n (λ k. refl) refl refl (g n) (h n)
 
-  fetched_at : (o : Option Instr) (s : Machine) (n : ℕ) → StepsAt ⊤ (λ n. fetched M N o s n) s.world.output n (fetched M N o s n)
+  fetched_at : (o : Option Instr) (s : Machine) (n : ℕ) → Ticks ⊤ (λ n. fetched M N o s n) s.world.output n
   fetched_at None s n = λ c none. refl
   fetched_at (Some Halt) s n = λ c none. refl
   fetched_at (Some (Int z)) s n = paid_at ⊥ (does_instr M N (Int z) s) s (goes ⊥ _ _ s.world.output (λ n. refl) (λ c. absurd c)) n
@@ -163,5 +167,5 @@ module _ (M : Image) (N : Names) where
   fetched_at (Some (If t)) s n = paid_at ⊤ (does_instr M N (If t) s) s (λ n. leaving_at ⊤ t s _ n _ (if_at (leaving t s).stack (leaving t s) n)) n
   fetched_at (Some Ret) s n = return_at s.returns s n
 
-  pub step_at : (s : Machine) (n : ℕ) → StepsAt ⊤ (step M N s) s.world.output n (step M N s n)
+  pub step_at : (s : Machine) (n : ℕ) → Ticks ⊤ (step M N s) s.world.output n
   step_at s n = fetched_at (slice_get M.code s.pc) s n

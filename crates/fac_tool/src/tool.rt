@@ -81,7 +81,7 @@ pub fn factor_top<F: Files, K: Sink, N: Sink>(
     out: &mut K,
     notes: &mut N,
 ) -> Ended
-    // The status, the ticks, the stack, the refusal, the output and the note, by the command and the bytes of its file.
+    // The status, the ticks, the stack, the refusal, the output in its pieces and the note, by the command and the bytes of its file.
     ensures answer { Answers (map string_bytes words.now)
         (files_seen F.held F.asked F.faults files.old files.new)
         (sink_seen K.taken K.pieces K.faults out.old out.new)

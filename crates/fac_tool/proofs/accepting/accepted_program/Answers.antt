@@ -16,7 +16,8 @@ pub returns-in_err-closed : goal.returns-in_err-closed
 returns-in_err-closed c =
     let P = c.in_ok-program.program in
     let same = passed_on c.from_residual-in_err-closed.result c.in_err-closed.field-0.0 c.from_residual-in_err-closed.ensures.1 in
-    subst (λ (r : Result Checked Ended). Accepts c.args.text.now r) (sym same) (ends_on_program c.args.text.now c.in_ok-tree.tree.forms P _ c.in_ok-tree.ensures c.in_ok-program.ensures.0 (λ command. c.in_err-closed.ensures (on_verdict command P (verdict P 0))))
+    let ends = ends_on_program c.args.text.now c.in_ok-tree.tree.forms P _ c.in_ok-tree.ensures c.in_ok-program.ensures.0 (λ command. c.in_err-closed.ensures (on_verdict command P (verdict P 0))) in
+    subst (λ (r : Result Checked Ended). Accepts c.args.text.now r) (sym same) ends
 
 pub returns : goal.returns
 returns c =
