@@ -76,7 +76,7 @@ module _ (law : RunsHaveOneEnd) (P : Program) (M : Image) (carries : Carried P M
   -- and what the program wrote in these is the output there
   wrote_at : (u : ℕ) (t : Machine) → Comes P M u t → run_output (meaning P u) ≡ t.world.output
   wrote_at u t comes =
-      let last = carries.carries.same_end [] [] u refl tt (carries.not_stuck u) in
+      let last = carries.carries.same_end [] [] refl tt carries.not_stuck u in
       let way = (comes 0).by last.1.count in
       let all : u + 0 ≡ u = omega arith in
       let there : steps M (names P) way.0 (starting M []) u ≡ Some last.0 = later M (names P) last.0 last.1.count way.0 way.1 (starting M []) u last.1.there in

@@ -83,9 +83,9 @@ CutShort idle answer ticks out = (ticks ≡ 0) × GrowsByPrefix out.before.taken
 CutShort (runs P budget) answer ticks out = StopsWithin P budget ticks out
 
 -- in which pieces the output was taken: in none outside a run
-abbrev pub InPieces : Work → ℕ → List ℕ → SinkSeen → Type 0
-InPieces idle ticks last out = Stays out.before.pieces out.now.pieces
-InPieces (runs P budget) ticks last out = RunPieces P ticks last out
+abbrev pub OutputInPieces : Work → ℕ → List ℕ → SinkSeen → Type 0
+OutputInPieces idle ticks last out = Stays out.before.pieces out.now.pieces
+OutputInPieces (runs P budget) ticks last out = RunPieces P ticks last out
 
 -- there is neither a stack nor a refusal: what stood on the stack of a run that was cut short isn't told
 pub record IsBare (ended : Ended) : Type 0 where
@@ -94,12 +94,12 @@ pub record IsBare (ended : Ended) : Type 0 where
 
 -- how work on a text ends, by the kind of its status
 abbrev pub EndsBy : Ending → Answer → Work → SinkSeen → Ended → Type 0
-EndsBy Told answer work out ended = Matches answer out ended × InPieces work ended.ticks [] out
+EndsBy Told answer work out ended = Matches answer out ended × OutputInPieces work ended.ticks [] out
 EndsBy Usage answer work out ended = ⊥
 EndsBy TooLong answer work out ended = ⊥
 EndsBy FileFault answer work out ended = ⊥
-EndsBy WriteFault answer work out ended = Rose out.faults_before out.faults_now × CutShort work answer ended.ticks out × IsBare ended × ((last : List ℕ) × InPieces work ended.ticks last out)
-EndsBy NoMemory answer work out ended = CutShort work answer ended.ticks out × IsBare ended × InPieces work ended.ticks [] out
+EndsBy WriteFault answer work out ended = Rose out.faults_before out.faults_now × CutShort work answer ended.ticks out × IsBare ended × ((last : List ℕ) × OutputInPieces work ended.ticks last out)
+EndsBy NoMemory answer work out ended = CutShort work answer ended.ticks out × IsBare ended × OutputInPieces work ended.ticks [] out
 
 -- the work has this answer, or was cut short
 abbrev pub EndsAs : Answer → Work → SinkSeen → Ended → Type 0
