@@ -26,6 +26,7 @@ use Rattle.fac_emit.proofs.Following.{Setting, state, at, left, Follows, fetch, 
 use Rattle.fac_emit.proofs.StepLemmas.{g_call, g_called, g_dip, g_end, g_if, g_last, g_make, g_off, g_prim, g_push, g_trim}
 
 module _ (Y : Setting) where
+  -- short names of what a setting has, as in Following: names under a module's argument aren't handed on without it
   abbrev P : Program
   P = Y.program
 

@@ -34,6 +34,7 @@ use Rattle.fac_emit.proofs.Following.{Setting, owing, state, HasNoGuard, at, lef
 use Rattle.fac_emit.proofs.Following.{CallsTo, Templated, first_is, first_goes, first_runs, live_is, live_goes, live_runs, wrong_here, stays_left}
 
 module _ (Y : Setting) where
+  -- short names of what a setting has, as in Following: names under a module's argument aren't handed on without it
   abbrev P : Program
   P = Y.program
 

@@ -7,8 +7,8 @@ ghost use Rattle.fac_lang.specs.Forms.{IsBuilt};
 ghost use Rattle.fac_lang.specs.Texts.{Callable};
 ghost use Rattle.fac_locals.specs.Closed.{Closes};
 ghost use Rattle.fac_emit.specs.Carries.{Carries};
-ghost use Rattle.fac_emit.specs.Code.{body_is_coded, word_body_is_coded, sort_action, sort_code, code_from, words_from, IsPlain};
-ghost use Rattle.fac_emit.specs.Parts.{AreParts};
+ghost use Rattle.fac_emit.specs.Code.{body_is_coded, word_body_is_coded, sort_action, IsPlain};
+ghost use Rattle.fac_emit.specs.Parts.{AreParts, PlacesWord, PlacesWords};
 ghost use Rattle.fac_emit.specs.Stands.{PlainCode};
 
 use crate::emitter::{add_templates, add_word};
@@ -44,7 +44,7 @@ fn place_word(
     sort: &Sort,
 ) -> Result<(), Memory>
     requires { body_is_coded words.now sort.now ≡ true }
-    ensures { OnOk result ((parts.new.code ≡ parts.old.code ++ sort_code words.now is_top sort.now) × (parts.new.templates ≡ parts.old.templates) × (parts.new.words ≡ parts.old.words ++ record { action = sort_action (length parts.old.code) sort.now } ∷ [])) }
+    ensures { OnOk result (PlacesWord words.now is_top sort.now parts.old parts.new) }
 {
     let place = parts.code.len();
     parts.words.push(WordRow {
@@ -56,7 +56,7 @@ fn place_word(
 // Adds the code and the rows of the words.
 fn add_words(parts: &mut Parts, words: &List<WordDef>, top: u32) -> Result<(), Memory>
     requires { list_all (word_body_is_coded words.now) words.now ≡ true }
-    ensures { OnOk result ((parts.new.code ≡ parts.old.code ++ code_from words.now top 0 words.now) × (parts.new.words ≡ parts.old.words ++ words_from words.now top (length parts.old.code) 0 words.now) × (parts.new.templates ≡ parts.old.templates)) }
+    ensures { OnOk result (PlacesWords words.now top parts.old parts.new) }
 {
     let _count = words.len();
     let mut number = 0u32;

@@ -16,6 +16,13 @@ use fac_lang::{Duplicate, List, Memory, Phrase, Sort, Template, What, WordDef};
 use fac_locals::Closed;
 use std::alloc::Global;
 
+/// The plain code of a word, before it has its place behind that of the templates and of the words before it.
+#[derive(Drop)]
+pub struct Piece {
+    /// The instructions of the word's text. A word that isn't defined by a text has none.
+    pub code: List<Instr>,
+}
+
 // The instruction of the core word with this number.
 fn instr_of_core(number: u32) -> Instr
     requires { is_built_core number ≡ true }
@@ -168,13 +175,14 @@ fn code_of_template(alloc: Global, closed: &Closed, template: u32) -> Result<Lis
     Ok(code)
 }
 
-/// The plain code of the word with this number: an instruction for each item of its text, and behind them a `ret`, or a `halt` for the
-/// top-level phrase. A word that isn't defined by a text has no code. Want of memory is the one error.
-pub fn emit_word(alloc: Global, closed: &Closed, word: u32) -> Result<List<Instr>, Memory>
+/// The piece of the word with this number: an instruction for each item of its text, and behind them a `ret`, or a `halt` for the
+/// top-level phrase. Want of memory is the one error.
+pub fn emit_word(alloc: Global, closed: &Closed, word: u32) -> Result<Piece, Memory>
     requires { ((P : Source) × Closes P closed.now.program closed.now.templates × IsBuilt P) × (word < length closed.now.program.words) }
-    ensures { IfOk result (λ code. (P : Source) → Closes P closed.now.program closed.now.templates → IsBuilt P → Emits P word (sort_of P word) code) }
+    ensures { IfOk result (λ piece. (P : Source) → Closes P closed.now.program closed.now.templates → IsBuilt P → Emits P word (sort_of P word) piece.code) }
 {
-    code_of_word(alloc, closed, word)
+    let code = code_of_word(alloc, closed, word)?;
+    Ok(Piece { code })
 }
 
 /// The plain code of the template with this number: an instruction for each item of its quotation, and behind them a `ret`. Want of

@@ -6,5 +6,5 @@ mod emitter;
 mod laws;
 
 pub use compiler::compile;
-pub use emitter::{emit_template, emit_word};
+pub use emitter::{Piece, emit_template, emit_word};
 pub use laws::printed_forms_are_equal;
