@@ -1,8 +1,8 @@
 //! The tree of a source's tokens.
 ghost use Rattle.std.specs.Prelude.{◌≡◌, ◌++◌, ◌∷◌, [], OnOk, IfOk};
 ghost use Rattle.fac_parse.specs.Trees.{Parses, file_of};
-ghost use Rattle.fac_parse.specs.inner.Reader.{step, top_step, names_step, colon_step, named_step, inputs_step, is_fit, outputs_step, with_piece, piece_step, body_step, quotation_step, part_step, mark_of};
-ghost use Rattle.fac_parse.specs.inner.Reader.{defined_form, behind_step, unmarked, form_before, next_state, ended_form, last_forms, Answers, AmongInputs, AmongOutputs, AnswersPiece, AnswersItems, Takes, Finishes};
+ghost use Rattle.fac_parse.specs.inner.Reader.{step, top_step, names_step, colon_step, named_step, inputs_step, is_fit, outputs_step, with_piece, piece_step, body_step, quotation_step, part_step};
+ghost use Rattle.fac_parse.specs.inner.Reader.{mark_of, defined_form, behind_step, unmarked, form_before, next_state, ended_form, last_forms, Answers, AmongInputs, AmongOutputs, AnswersPiece, AnswersItems, Takes, Finishes};
 ghost use Rattle.fac_parse.specs.Spellings.{token_spelling};
 
 use crate::spelling::{Spelling, classify, closes_quotation, is_semicolon, names_a_value};
