@@ -2,11 +2,11 @@
 use Rattle.std.proofs.Common.{◌≡◌, ℕ, List, length, Bool, true, false, Option, Some, None, refl, sym, ap, ◌∙◌}
 use Rattle.std.specs.Prelude.{nat_eq, ◌&&◌}
 use Rattle.std.proofs.lemmas.Bool.{eq-eqb}
-use Rattle.fac_lang.specs.Texts.{Mark}
+use Rattle.fac_lang.specs.Phrases.{Mark}
 use Rattle.fac_abs.specs.Marks.{Row, hidden, named_row, AbstractStack, on, row_eq, base_eq, join_marks, cover_marks, joined, covered}
-use Rattle.fac_abs.specs.Trees.{Naming}
-use Rattle.fac_abs.specs.Seen.{MarksSeen, stack_of, base_seen}
-use Rattle.fac_abs.specs.Promises.{IsJoined, IsReachedWhere}
+use Rattle.fac_abs.specs.MarkTrees.{Naming}
+use Rattle.fac_abs.specs.SeenMarks.{MarksSeen, stack_of, base_seen}
+use Rattle.fac_abs.specs.MarkPromises.{IsJoined, IsReachedWhere}
 use Rattle.fac_abs.specs.declared.reached.Reached.TheVariants.{On}
 use Rattle.fac_abs.proofs.EqualMarks.{length_same, row_same}
 use Rattle.fac_abs.proofs.MoveLemmas.{bytes_alike}

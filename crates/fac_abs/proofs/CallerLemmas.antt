@@ -1,12 +1,12 @@
 -- What callers cite of marks and stacks.
 use Rattle.std.proofs.Common.{◌≡◌, ℕ, zero, suc, ◌<◌, ◌≤◌, List, [], ◌∷◌, Option, Some, None, option_map, length, drop, get_or, refl, sym, ap, ◌∙◌, arith}
-use Rattle.fac_lang.specs.Texts.{Mark, any}
+use Rattle.fac_lang.specs.Phrases.{Mark, any}
 use Rattle.fac_abs.specs.InTurn.{under, taken, moved}
 use Rattle.fac_abs.specs.Marks.{popped}
-use Rattle.fac_abs.specs.declared.node.Node.{Node}
-use Rattle.fac_abs.specs.Trees.{Naming, trees}
-use Rattle.fac_abs.specs.Seen.{MarksSeen, Grows}
-use Rattle.fac_abs.specs.Promises.{IsMarkOf, IsStackOf}
+use Rattle.fac_abs.specs.declared.mark_node.MarkNode.{MarkNode}
+use Rattle.fac_abs.specs.MarkTrees.{Naming, trees}
+use Rattle.fac_abs.specs.SeenMarks.{MarksSeen, Grows}
+use Rattle.fac_abs.specs.MarkPromises.{IsMarkOf, IsStackOf}
 use Rattle.fac_abs.proofs.SeenLemmas.{mark_within, within_mark, mark_reads}
 
 -- a mark that was there
@@ -18,7 +18,7 @@ pub stack_later : (M L : MarksSeen) (s : ℕ) (marks : Naming → List Mark) →
 stack_later M L s marks g f = record { valid = g.stacks s f.valid; is = λ N. g.same_stack N s f.valid ∙ f.is N }
 
 read_by : (N : Naming) (M L : MarksSeen) (m : ℕ) → L.nodes ≡ M.nodes → get_or (trees N L.nodes) m any ≡ get_or (trees N M.nodes) m any
-read_by N M L m e = ap (λ (ns : List Node). get_or (trees N ns) m any) e
+read_by N M L m e = ap (λ (ns : List MarkNode). get_or (trees N ns) m any) e
 
 -- marks stay where their nodes do
 pub mark_by_nodes : (M L : MarksSeen) (m : ℕ) (mark : Naming → Mark) → L.nodes ≡ M.nodes → IsMarkOf M m mark → IsMarkOf L m mark

@@ -2,8 +2,8 @@
 use Rattle.std.proofs.Common.{◌≡◌, ℕ, ℤ, List, [], ◌∷◌, Bool, true, false, refl, sym, ap, ◌∙◌, Option, Some, None, arith}
 use Rattle.std.specs.Prelude.{nat_eq, ◌&&◌, pos, negsuc}
 use Rattle.std.specs.Str.{bytes_eq}
-use Rattle.fac_lang.specs.Texts.{Mark}
-use Rattle.fac_lang.specs.Codes.{Token, mark_tokens, mark_back, read, no_stacks, top_mark}
+use Rattle.fac_lang.specs.Phrases.{Mark}
+use Rattle.fac_lang.specs.PhraseCodes.{Token, mark_tokens, mark_back, read, no_stacks, top_mark}
 use Rattle.fac_abs.specs.Marks.{Row, hidden, named_row, int_eq, token_eq, tokens_eq, mark_eq, row_eq, base_eq}
 use Rattle.std.proofs.lemmas.Bool.{eqb-true}
 use Rattle.std.proofs.lemmas.Float.{T_from_true}

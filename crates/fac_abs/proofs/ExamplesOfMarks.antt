@@ -1,13 +1,13 @@
 -- Small tables of marks and stacks.
 use Rattle.std.proofs.Common.{◌≡◌, ℕ, List, [], ◌∷◌, true, false, Some, None, refl, ap}
-use Rattle.fac_lang.specs.Texts.{end, Literal, Mark, any, lit_mark, cur_mark, com_mark, wrd_mark, par_mark}
-use Rattle.fac_abs.specs.declared.cells.Cell.{Cell}
-use Rattle.fac_abs.specs.declared.node.Node.TheVariants.{Any, Lit, Cur, Com}
+use Rattle.fac_lang.specs.Phrases.{end, Literal, Mark, any, lit_mark, cur_mark, com_mark, wrd_mark, par_mark}
+use Rattle.fac_abs.specs.declared.stack_nodes.StackNode.{StackNode}
+use Rattle.fac_abs.specs.declared.mark_node.MarkNode.TheVariants.{Any, Lit, Cur, Com}
 use Rattle.fac_abs.specs.InTurn.{under, moved, zeros, joined_numbers, cover_numbers}
 use Rattle.fac_abs.specs.Marks.{hidden, named_row, dead, on, mark_eq, curried_mark, composed_mark, cover_marks, joined, covered}
 use Rattle.fac_abs.specs.inner.Stacks.{stacks_of}
-use Rattle.fac_abs.specs.Trees.{Naming, depths}
-use Rattle.fac_abs.specs.Seen.{MarksSeen, mark_of, numbers_of, stack_of, is_mark, is_stack}
+use Rattle.fac_abs.specs.MarkTrees.{Naming, depths}
+use Rattle.fac_abs.specs.SeenMarks.{MarksSeen, mark_of, numbers_of, stack_of, is_mark, is_stack}
 
 rows_apart : (j k : ℕ) → named_row (j ∷ []) ≡ named_row (k ∷ []) → j ≡ k
 rows_apart j k e = cc
@@ -25,14 +25,14 @@ sample = record {
 abbrev five : Mark
 five = lit_mark (record { word = 0; index = 5 }) end
 
--- nothing known, a literal, what `curry` makes of these two, and what `compose` makes of that twice; and four cells
-abbrev cells : List Cell
-cells = record { mark = 1; below = 0; height = 1 } ∷ record { mark = 3; below = 1; height = 2 } ∷ record { mark = 2; below = 1; height = 2 } ∷ record { mark = 0; below = 3; height = 3 } ∷ []
+-- nothing known, a literal, what `curry` makes of these two, and what `compose` makes of that twice; and four stack nodes
+abbrev stack_nodes : List StackNode
+stack_nodes = record { mark = 1; below = 0; height = 1 } ∷ record { mark = 3; below = 1; height = 2 } ∷ record { mark = 2; below = 1; height = 2 } ∷ record { mark = 0; below = 3; height = 3 } ∷ []
 
 abbrev table : MarksSeen
-table = record { nodes = Any ∷ Lit 5 ∷ Cur 0 1 ∷ Com 2 2 ∷ []; stacks = stacks_of cells }
+table = record { nodes = Any ∷ Lit 5 ∷ Cur 0 1 ∷ Com 2 2 ∷ []; stacks = stacks_of stack_nodes }
 
-stacks_share_what_lies_below : stacks_of cells ≡ [] ∷ (1 ∷ []) ∷ (3 ∷ 1 ∷ []) ∷ (2 ∷ 1 ∷ []) ∷ (0 ∷ 2 ∷ 1 ∷ []) ∷ []
+stacks_share_what_lies_below : stacks_of stack_nodes ≡ [] ∷ (1 ∷ []) ∷ (3 ∷ 1 ∷ []) ∷ (2 ∷ 1 ∷ []) ∷ (0 ∷ 2 ∷ 1 ∷ []) ∷ []
 stacks_share_what_lies_below = refl
 
 first_is_any : mark_of sample table 0 ≡ any

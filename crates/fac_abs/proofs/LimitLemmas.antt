@@ -1,12 +1,12 @@
 -- Marks within the limit of depth.
 use Rattle.std.proofs.Common.{◌≡◌, ℕ, suc, ◌<◌, max, Bool, true, false, nat_le, Result, Ok, Err, IfOk, refl, ap, ◌∙◌, arith}
 use Rattle.std.proofs.lemmas.Bool.{le-leb}
-use Rattle.fac_lang.specs.Texts.{Mark, any, cur_mark, com_mark}
-use Rattle.fac_abs.specs.declared.node.Node.TheVariants.{Cur, Com}
+use Rattle.fac_lang.specs.Phrases.{Mark, any, cur_mark, com_mark}
+use Rattle.fac_abs.specs.declared.mark_node.MarkNode.TheVariants.{Cur, Com}
 use Rattle.fac_abs.specs.Marks.{mark_depth, is_callable, limited, curried_mark, composed_mark}
-use Rattle.fac_abs.specs.Trees.{Naming, tree, trees}
-use Rattle.fac_abs.specs.Seen.{MarksSeen, mark_of}
-use Rattle.fac_abs.specs.Promises.{IsMarkOf}
+use Rattle.fac_abs.specs.MarkTrees.{Naming, tree, trees}
+use Rattle.fac_abs.specs.SeenMarks.{MarksSeen, mark_of}
+use Rattle.fac_abs.specs.MarkPromises.{IsMarkOf}
 use Rattle.fac_abs.proofs.SeenLemmas.{both}
 
 within_limit : (m n : ℕ) → m < 64 → n < 64 → nat_le (suc (max m n)) 64 ≡ true

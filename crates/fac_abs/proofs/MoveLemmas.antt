@@ -5,16 +5,16 @@ use Rattle.std.proofs.lemmas.Bool.{eqb-true}
 use Rattle.std.proofs.lemmas.Option.{slice_get-map}
 use Rattle.std.proofs.lemmas.Slice.Eq.{bytes_eq-Decides}
 use Rattle.std.proofs.Math.ListN.{length-map}
-use Rattle.fac_lang.specs.Codes.{Token, mark_tokens}
-use Rattle.fac_lang.specs.Texts.{Mark, any}
+use Rattle.fac_lang.specs.PhraseCodes.{Token, mark_tokens}
+use Rattle.fac_lang.specs.Phrases.{Mark, any}
 use Rattle.fac_lang.specs.Procedures.{or_else, picked}
-use Rattle.fac_abs.specs.declared.node.Node.{Node}
+use Rattle.fac_abs.specs.declared.mark_node.MarkNode.{MarkNode}
 use Rattle.fac_abs.specs.InTurn.{under, zeros, taken, moved, joined_number, joined_numbers, cover_numbers}
 use Rattle.fac_abs.specs.inner.Keeping.{IsWhere, Is, Joins}
 use Rattle.fac_abs.specs.Marks.{int_eq, token_eq, tokens_eq, mark_eq, join_mark, join_marks, cover_marks, unknowns, piled}
-use Rattle.fac_abs.specs.Trees.{Naming, IsTable}
-use Rattle.fac_abs.specs.Seen.{mark_of, stack_of, are_below}
-use Rattle.fac_abs.specs.Promises.{IsStackOf, IsStackWhere, IsJoinedWhere}
+use Rattle.fac_abs.specs.MarkTrees.{Naming, IsTable}
+use Rattle.fac_abs.specs.SeenMarks.{mark_of, stack_of, are_below}
+use Rattle.fac_abs.specs.MarkPromises.{IsStackOf, IsStackWhere, IsJoinedWhere}
 use Rattle.fac_abs.proofs.EqualMarks.{and_first, and_second, never_true, mark_same}
 use Rattle.fac_abs.proofs.TreeLemmas.{one_number}
 use Rattle.fac_abs.proofs.SeenLemmas.{seen, is_below, below_is, both, within_stack, mark_reads, stack_reads, marks_stay, first_mark, made_stack, stack_by}
@@ -178,18 +178,18 @@ module _ (f : ℕ → Mark) (k : ℕ) (first : f 0 ≡ any) (one : (x y : ℕ) �
 
 -- Answers that may be none.
 
-pub where_some : (ns : List Node) (ss ts : List (List ℕ)) (found : Option (List ℕ)) (marks : Naming → Option (List Mark)) (o : Option ℕ) → ((ys : List ℕ) → found ≡ Some ys → are_below (length ns) ys ≡ true) → ((N : Naming) → marks N ≡ option_map (map (mark_of N (seen ns ss))) found) → IsWhere ts o found → IsStackWhere (seen ns ts) o marks
+pub where_some : (ns : List MarkNode) (ss ts : List (List ℕ)) (found : Option (List ℕ)) (marks : Naming → Option (List Mark)) (o : Option ℕ) → ((ys : List ℕ) → found ≡ Some ys → are_below (length ns) ys ≡ true) → ((N : Naming) → marks N ≡ option_map (map (mark_of N (seen ns ss))) found) → IsWhere ts o found → IsStackWhere (seen ns ts) o marks
 where_some ns ss ts found marks None low same h = λ N. same N ∙ ap (option_map (map (mark_of N (seen ns ss)))) h
 where_some ns ss ts found marks (Some s) low same h =
     (within_stack (seen ns ts) s h.0 (low (get_or ts s []) h.1), λ N. same N ∙ ap (option_map (map (mark_of N (seen ns ss)))) h.1 ∙ ap Some (sym (marks_stay N ns ss ts (get_or ts s [])) ∙ sym (stack_reads N (seen ns ts) s)))
 
-pub height_is : (N : Naming) (ns : List Node) (ss : List (List ℕ)) (s : ℕ) → length (stack_of N (seen ns ss) s) ≡ length (get_or ss s [])
+pub height_is : (N : Naming) (ns : List MarkNode) (ss : List (List ℕ)) (s : ℕ) → length (stack_of N (seen ns ss) s) ≡ length (get_or ss s [])
 height_is N ns ss s = ap length (stack_reads N (seen ns ss) s) ∙ length-map (get_or ss s []) (mark_of N (seen ns ss))
 
-heights_are : (N : Naming) (ns : List Node) (ss : List (List ℕ)) (a b : ℕ) → nat_eq (length (stack_of N (seen ns ss) a)) (length (stack_of N (seen ns ss) b)) ≡ nat_eq (length (get_or ss a [])) (length (get_or ss b []))
+heights_are : (N : Naming) (ns : List MarkNode) (ss : List (List ℕ)) (a b : ℕ) → nat_eq (length (stack_of N (seen ns ss) a)) (length (stack_of N (seen ns ss) b)) ≡ nat_eq (length (get_or ss a [])) (length (get_or ss b []))
 heights_are N ns ss a b = ap (λ (k : ℕ). nat_eq k (length (stack_of N (seen ns ss) b))) (height_is N ns ss a) ∙ ap (nat_eq (length (get_or ss a []))) (height_is N ns ss b)
 
-joined_some : (ns : List Node) (ss ts : List (List ℕ)) (a b : ℕ) (o : Option ℕ) → IsTable ns → are_below (length ns) (get_or ss a []) ≡ true → are_below (length ns) (get_or ss b []) ≡ true → Joins ts o (get_or ss a []) (get_or ss b []) → IsJoinedWhere (seen ns ss) (seen ns ts) a b o
+joined_some : (ns : List MarkNode) (ss ts : List (List ℕ)) (a b : ℕ) (o : Option ℕ) → IsTable ns → are_below (length ns) (get_or ss a []) ≡ true → are_below (length ns) (get_or ss b []) ≡ true → Joins ts o (get_or ss a []) (get_or ss b []) → IsJoinedWhere (seen ns ss) (seen ns ts) a b o
 joined_some ns ss ts a b None t f g h = λ N. heights_are N ns ss a b ∙ h
 joined_some ns ss ts a b (Some s) t f g h =
     let zero_low : nat_lt 0 (length ns) ≡ true = below_is 0 (length ns) t.some in
@@ -198,27 +198,27 @@ joined_some ns ss ts a b (Some s) t f g h =
     record { valid = made.valid; heights = λ N. heights_are N ns ss a b ∙ h.0; is = made.is }
 
 module _ {E : Type 0} where
-  pub where_by : (ns : List Node) (ss ts : List (List ℕ)) (found : Option (List ℕ)) (marks : Naming → Option (List Mark)) → ((ys : List ℕ) → found ≡ Some ys → are_below (length ns) ys ≡ true) → ((N : Naming) → marks N ≡ option_map (map (mark_of N (seen ns ss))) found) → (r : Result (Option ℕ) E) → IfOk r (λ o. IsWhere ts o found) → IfOk r (λ o. IsStackWhere (seen ns ts) o marks)
+  pub where_by : (ns : List MarkNode) (ss ts : List (List ℕ)) (found : Option (List ℕ)) (marks : Naming → Option (List Mark)) → ((ys : List ℕ) → found ≡ Some ys → are_below (length ns) ys ≡ true) → ((N : Naming) → marks N ≡ option_map (map (mark_of N (seen ns ss))) found) → (r : Result (Option ℕ) E) → IfOk r (λ o. IsWhere ts o found) → IfOk r (λ o. IsStackWhere (seen ns ts) o marks)
   where_by ns ss ts found marks low same (Ok o) h = where_some ns ss ts found marks o low same h
   where_by ns ss ts found marks low same (Err e) h = tt
 
-  pub joined_by : (ns : List Node) (ss ts : List (List ℕ)) (a b : ℕ) → IsTable ns → are_below (length ns) (get_or ss a []) ≡ true → are_below (length ns) (get_or ss b []) ≡ true → (r : Result (Option ℕ) E) → IfOk r (λ o. Joins ts o (get_or ss a []) (get_or ss b [])) → IfOk r (λ o. IsJoinedWhere (seen ns ss) (seen ns ts) a b o)
+  pub joined_by : (ns : List MarkNode) (ss ts : List (List ℕ)) (a b : ℕ) → IsTable ns → are_below (length ns) (get_or ss a []) ≡ true → are_below (length ns) (get_or ss b []) ≡ true → (r : Result (Option ℕ) E) → IfOk r (λ o. Joins ts o (get_or ss a []) (get_or ss b [])) → IfOk r (λ o. IsJoinedWhere (seen ns ss) (seen ns ts) a b o)
   joined_by ns ss ts a b t f g (Ok o) h = joined_some ns ss ts a b o t f g h
   joined_by ns ss ts a b t f g (Err e) h = tt
 
 -- The calls of stacks of marks.
 
-pub below_where : (ns : List Node) (ss : List (List ℕ)) (s n : ℕ) (o : Option ℕ) → are_below (length ns) (get_or ss s []) ≡ true → IsWhere ss o (under n (get_or ss s [])) → IsStackWhere (seen ns ss) o (λ N. under n (stack_of N (seen ns ss) s))
+pub below_where : (ns : List MarkNode) (ss : List (List ℕ)) (s n : ℕ) (o : Option ℕ) → are_below (length ns) (get_or ss s []) ≡ true → IsWhere ss o (under n (get_or ss s [])) → IsStackWhere (seen ns ss) o (λ N. under n (stack_of N (seen ns ss) s))
 below_where ns ss s n o low h = where_some ns ss ss (under n (get_or ss s [])) (λ N. under n (stack_of N (seen ns ss) s)) o (λ ys e. under_below (length ns) n (get_or ss s []) ys low e) (λ N. ap (under n) (stack_reads N (seen ns ss) s) ∙ under_map (mark_of N (seen ns ss)) n (get_or ss s [])) h
 
 module _ {E : Type 0} where
-  pub push_by : (ns : List Node) (ss ts : List (List ℕ)) (s m : ℕ) (r : Result ℕ E) → IfOk r (λ k. Is ts k (m ∷ get_or ss s [])) → m < length ns → are_below (length ns) (get_or ss s []) ≡ true → IfOk r (λ k. IsStackOf (seen ns ts) k (λ N. mark_of N (seen ns ss) m ∷ stack_of N (seen ns ss) s))
+  pub push_by : (ns : List MarkNode) (ss ts : List (List ℕ)) (s m : ℕ) (r : Result ℕ E) → IfOk r (λ k. Is ts k (m ∷ get_or ss s [])) → m < length ns → are_below (length ns) (get_or ss s []) ≡ true → IfOk r (λ k. IsStackOf (seen ns ts) k (λ N. mark_of N (seen ns ss) m ∷ stack_of N (seen ns ss) s))
   push_by ns ss ts s m r f h low = stack_by ns ss ts (m ∷ get_or ss s []) (λ N. mark_of N (seen ns ss) m ∷ stack_of N (seen ns ss) s) (both (nat_lt m (length ns)) _ (below_is m (length ns) h) low) (λ N. ap (λ (t : List Mark). mark_of N (seen ns ss) m ∷ t) (sym (stack_reads N (seen ns ss) s))) r f
 
-  pub unknowns_by : (ns : List Node) (ss ts : List (List ℕ)) (s n : ℕ) (r : Result ℕ E) → IfOk r (λ k. Is ts k (zeros n (get_or ss s []))) → IsTable ns → are_below (length ns) (get_or ss s []) ≡ true → IfOk r (λ k. IsStackOf (seen ns ts) k (λ N. unknowns n (stack_of N (seen ns ss) s)))
+  pub unknowns_by : (ns : List MarkNode) (ss ts : List (List ℕ)) (s n : ℕ) (r : Result ℕ E) → IfOk r (λ k. Is ts k (zeros n (get_or ss s []))) → IsTable ns → are_below (length ns) (get_or ss s []) ≡ true → IfOk r (λ k. IsStackOf (seen ns ts) k (λ N. unknowns n (stack_of N (seen ns ss) s)))
   unknowns_by ns ss ts s n r f t low = stack_by ns ss ts (zeros n (get_or ss s [])) (λ N. unknowns n (stack_of N (seen ns ss) s)) (zeros_below (length ns) n (get_or ss s []) (below_is 0 (length ns) t.some) low) (λ N. zeros_map (mark_of N (seen ns ss)) ((first_mark ns ss t).is N) n (get_or ss s []) ∙ ap (unknowns n) (sym (stack_reads N (seen ns ss) s))) r f
 
-  pub shuffle_by : (ns : List Node) (ss ts : List (List ℕ)) (s n : ℕ) (places : List ℕ) (r : Result (Option ℕ) E) → IfOk r (λ o. IsWhere ts o (moved 0 n places (get_or ss s []))) → IsTable ns → are_below (length ns) (get_or ss s []) ≡ true → IfOk r (λ o. IsStackWhere (seen ns ts) o (λ N. moved any n places (stack_of N (seen ns ss) s)))
+  pub shuffle_by : (ns : List MarkNode) (ss ts : List (List ℕ)) (s n : ℕ) (places : List ℕ) (r : Result (Option ℕ) E) → IfOk r (λ o. IsWhere ts o (moved 0 n places (get_or ss s []))) → IsTable ns → are_below (length ns) (get_or ss s []) ≡ true → IfOk r (λ o. IsStackWhere (seen ns ts) o (λ N. moved any n places (stack_of N (seen ns ss) s)))
   shuffle_by ns ss ts s n places r f t low =
       let xs : List ℕ = get_or ss s [] in
       let same : (N : Naming) → moved any n places (stack_of N (seen ns ss) s) ≡ option_map (map (mark_of N (seen ns ss))) (moved 0 n places xs) =
@@ -227,7 +227,7 @@ module _ {E : Type 0} where
       ap (moved any n places) (stack_reads N (seen ns ss) s) ∙ ap (λ (m : Mark). moved m n places (map g xs)) (sym ((first_mark ns ss t).is N)) ∙ moved_map g 0 n places xs in
       where_by ns ss ts (moved 0 n places xs) (λ N. moved any n places (stack_of N (seen ns ss) s)) (λ ys e. moved_below (length ns) n places xs ys (below_is 0 (length ns) t.some) low e) same r f
 
-module _ (N : Naming) (ns : List Node) (ss : List (List ℕ)) (t : IsTable ns) where
+module _ (N : Naming) (ns : List MarkNode) (ss : List (List ℕ)) (t : IsTable ns) where
   apart : (x y : ℕ) → x < length ns → y < length ns → mark_of N (seen ns ss) x ≡ mark_of N (seen ns ss) y → x ≡ y
   apart x y h g e = one_number N ns t x y h g (sym (mark_reads N (seen ns ss) x) ∙ e ∙ mark_reads N (seen ns ss) y)
 
@@ -236,7 +236,7 @@ module _ (N : Naming) (ns : List Node) (ss : List (List ℕ)) (t : IsTable ns) w
   same_numbers a b h g = test_same (mark_of N (seen ns ss)) (length ns) ((first_mark ns ss t).is N) apart a b h g
 
 -- stacks of one height cover others where their marks do
-pub covers_are : (N : Naming) (ns : List Node) (ss : List (List ℕ)) (a b : ℕ) → IsTable ns → are_below (length ns) (get_or ss a []) ≡ true → are_below (length ns) (get_or ss b []) ≡ true → (nat_eq (length (get_or ss a [])) (length (get_or ss b [])) && cover_numbers (get_or ss a []) (get_or ss b [])) ≡ (nat_eq (length (stack_of N (seen ns ss) a)) (length (stack_of N (seen ns ss) b)) && cover_marks (stack_of N (seen ns ss) a) (stack_of N (seen ns ss) b))
+pub covers_are : (N : Naming) (ns : List MarkNode) (ss : List (List ℕ)) (a b : ℕ) → IsTable ns → are_below (length ns) (get_or ss a []) ≡ true → are_below (length ns) (get_or ss b []) ≡ true → (nat_eq (length (get_or ss a [])) (length (get_or ss b [])) && cover_numbers (get_or ss a []) (get_or ss b [])) ≡ (nat_eq (length (stack_of N (seen ns ss) a)) (length (stack_of N (seen ns ss) b)) && cover_marks (stack_of N (seen ns ss) a) (stack_of N (seen ns ss) b))
 covers_are N ns ss a b t h g =
     let xs : List ℕ = get_or ss a [] in
     let ys : List ℕ = get_or ss b [] in

@@ -4,9 +4,9 @@ use Rattle.std.proofs.lemmas.Bool.{eqb-true}
 use Rattle.std.proofs.lemmas.List.Quantifiers.{position-Some}
 use Rattle.std.specs.List.{position_from}
 use Rattle.std.proofs.lemmas.Iterator.Adapters.{position_from-zero}
-use Rattle.fac_abs.specs.declared.node.Node.{Node}
-use Rattle.fac_abs.specs.declared.node.Node.TheVariants.{Any, Lit, Cur, Com, Wrd, Par}
-use Rattle.fac_abs.specs.contracts.node.NodePartialEq.TheImpl as test
+use Rattle.fac_abs.specs.declared.mark_node.MarkNode.{MarkNode}
+use Rattle.fac_abs.specs.declared.mark_node.MarkNode.TheVariants.{Any, Lit, Cur, Com, Wrd, Par}
+use Rattle.fac_abs.specs.contracts.mark_node.MarkNodePartialEq.TheImpl as test
 use Rattle.fac_abs.proofs.EqualMarks.{and_first, and_second, never_true}
 
 numbers_same : (a b : ℕ) → nat_eq a b ≡ true → a ≡ b
@@ -16,7 +16,7 @@ number_itself : (a : ℕ) → nat_eq a a ≡ true
 number_itself a = eq-eqb a a refl
 
 -- nodes that pass it are one
-pub node_same : (n r : Node) → test.eq-value.it n r ≡ true → n ≡ r
+pub node_same : (n r : MarkNode) → test.eq-value.it n r ≡ true → n ≡ r
 node_same Any Any e = refl
 node_same (Lit a) (Lit b) e = ap Lit (numbers_same a b e)
 node_same (Cur a b) (Cur c d) e = rw (numbers_same a c (and_first (nat_eq a c) (nat_eq b d) e), numbers_same b d (and_second (nat_eq a c) (nat_eq b d) e)) refl
@@ -26,7 +26,7 @@ node_same (Par a) (Par b) e = ap Par (numbers_same a b e)
 node_same _ _ e = absurd (never_true e)
 
 -- each node passes it with itself
-pub node_itself : (n : Node) → test.eq-value.it n n ≡ true
+pub node_itself : (n : MarkNode) → test.eq-value.it n n ≡ true
 node_itself Any = refl
 node_itself (Lit a) = number_itself a
 node_itself (Cur a b) = rw (number_itself a, number_itself b) refl
@@ -38,20 +38,20 @@ none_first : (b : Bool) (n : ℕ) (r : Option ℕ) → cond b (Some n) r ≡ Non
 none_first true n r e = absurd (cc)
 none_first false n r e = (refl, e)
 
-none_from : (p : Node → Bool) (n : ℕ) (nodes : List Node) → position_from p n nodes ≡ None → (k : ℕ) → k < length nodes → p (get_or nodes k Any) ≡ false
+none_from : (p : MarkNode → Bool) (n : ℕ) (nodes : List MarkNode) → position_from p n nodes ≡ None → (k : ℕ) → k < length nodes → p (get_or nodes k Any) ≡ false
 none_from p n [] e k h = absurd (omega arith)
 none_from p n (x ∷ nodes) e zero h = (none_first (p x) n (position_from p (n + 1) nodes) e).0
 none_from p n (x ∷ nodes) e (suc k) h = none_from p (n + 1) nodes (none_first (p x) n (position_from p (n + 1) nodes) e).1 k (omega arith)
 
-module _ (eq : Node → Node → Bool) (same : (n r : Node) → eq n r ≡ true → n ≡ r) (itself : (n : Node) → eq n n ≡ true) where
+module _ (eq : MarkNode → MarkNode → Bool) (same : (n r : MarkNode) → eq n r ≡ true → n ≡ r) (itself : (n : MarkNode) → eq n n ≡ true) where
   -- the place of a node in a list
-  pub place_found : (node : Node) (nodes : List Node) (k : ℕ) → Some k ≡ position (eq node) nodes → (k < length nodes) × (get_or nodes k Any ≡ node)
+  pub place_found : (node : MarkNode) (nodes : List MarkNode) (k : ℕ) → Some k ≡ position (eq node) nodes → (k < length nodes) × (get_or nodes k Any ≡ node)
   place_found node nodes k e =
       let f = position-Some (eq node) nodes k Any (sym e) in
       (f.0, sym (same node (get_or nodes k Any) f.1))
 
   -- no place where there is none
-  pub no_place : (node : Node) (nodes : List Node) → position (eq node) nodes ≡ None → (k : ℕ) → k < length nodes → get_or nodes k Any ≡ node → ⊥
+  pub no_place : (node : MarkNode) (nodes : List MarkNode) → position (eq node) nodes ≡ None → (k : ℕ) → k < length nodes → get_or nodes k Any ≡ node → ⊥
   no_place node nodes e k h g =
       let no : eq node (get_or nodes k Any) ≡ false = none_from (eq node) 0 nodes (sym (position_from-zero (eq node) nodes) ∙ e) k h in
       never_true (sym no ∙ ap (eq node) g ∙ itself node)

@@ -2,20 +2,20 @@
 use Rattle.std.proofs.Common.{◌≡◌, ℕ, ◌<◌, ◌≤◌, List, [], ◌∷◌, ◌++◌, Bool, true, ◌&&◌, nat_lt, Option, Some, None, Result, Ok, Err, IfOk, OnErr, length, get_or, map, refl, sym, ap, subst, ◌∙◌, arith, length-append}
 use Rattle.std.proofs.lemmas.Bool.{ltb-true, lt-ltb}
 use Rattle.std.proofs.Math.ListN.{get_or-map}
-use Rattle.fac_lang.specs.Texts.{Mark, any, cur_mark, com_mark}
-use Rattle.fac_abs.specs.declared.node.Node.{Node}
-use Rattle.fac_abs.specs.declared.node.Node.TheVariants.{Any, Lit, Cur, Com, Wrd, Par}
+use Rattle.fac_lang.specs.Phrases.{Mark, any, cur_mark, com_mark}
+use Rattle.fac_abs.specs.declared.mark_node.MarkNode.{MarkNode}
+use Rattle.fac_abs.specs.declared.mark_node.MarkNode.TheVariants.{Any, Lit, Cur, Com, Wrd, Par}
 use Rattle.fac_abs.specs.inner.Interning.{Interns}
 use Rattle.fac_abs.specs.inner.Keeping.{Keeps, Is, Uncovers}
 use Rattle.fac_abs.specs.Marks.{mark_depth}
-use Rattle.fac_abs.specs.Trees.{Naming, tree, trees, depths, HasPartsBelow, IsTable}
-use Rattle.fac_abs.specs.Seen.{MarksSeen, mark_of, numbers_of, stack_of, are_below, is_mark, is_stack, IsMark, IsStack, Grows}
-use Rattle.fac_abs.specs.Promises.{IsMarkOf, IsStackOf, IsMadeOf, IsNodeOf, HasTopWhere}
+use Rattle.fac_abs.specs.MarkTrees.{Naming, tree, trees, depths, HasPartsBelow, IsTable}
+use Rattle.fac_abs.specs.SeenMarks.{MarksSeen, mark_of, numbers_of, stack_of, are_below, is_mark, is_stack, IsMark, IsStack, Grows}
+use Rattle.fac_abs.specs.MarkPromises.{IsMarkOf, IsStackOf, IsMadeOf, IsNodeOf, HasTopWhere}
 use Rattle.fac_abs.proofs.EqualMarks.{and_first, and_second}
 use Rattle.fac_abs.proofs.InTurnLemmas.{in_turn_append, in_turn_early, fits_at}
 use Rattle.fac_abs.proofs.TreeLemmas.{trees_length, tree_alike, tree_at, depths_are}
 
-abbrev pub seen : List Node → List (List ℕ) → MarksSeen
+abbrev pub seen : List MarkNode → List (List ℕ) → MarksSeen
 seen ns ss = record { nodes = ns; stacks = ss }
 
 pub is_below : (m n : ℕ) → nat_lt m n ≡ true → m < n
@@ -54,7 +54,7 @@ are_below_more n k (m ∷ ms) h e =
     both (nat_lt m k) _ (below_is m k (omega arith)) (are_below_more n k ms h (and_second (nat_lt m n) _ e))
 
 -- marks that are there stay
-pub trees_early : (N : Naming) (ns more : List Node) (m : ℕ) → m < length ns → get_or (trees N (ns ++ more)) m any ≡ get_or (trees N ns) m any
+pub trees_early : (N : Naming) (ns more : List MarkNode) (m : ℕ) → m < length ns → get_or (trees N (ns ++ more)) m any ≡ get_or (trees N ns) m any
 trees_early N ns more m h =
     ap (λ (ts : List Mark). get_or ts m any) (in_turn_append (tree N) ns more []) ∙ in_turn_early (tree N) more (trees N ns) m any (omega (arith, trees_length N ns))
 
@@ -83,7 +83,7 @@ grows_trans K L M f g = record {
   same_stack = λ N s h. g.same_stack N s (f.stacks s h) ∙ f.same_stack N s h;
 }
 
-pub grows_nodes : (ns more : List Node) (ss : List (List ℕ)) → Grows (seen ns ss) (seen (ns ++ more) ss)
+pub grows_nodes : (ns more : List MarkNode) (ss : List (List ℕ)) → Grows (seen ns ss) (seen (ns ++ more) ss)
 grows_nodes ns more ss =
     let early : (N : Naming) (m : ℕ) → m < length ns → mark_of N (seen (ns ++ more) ss) m ≡ mark_of N (seen ns ss) m = λ N m l. mark_reads N (seen (ns ++ more) ss) m ∙ trees_early N ns more m l ∙ sym (mark_reads N (seen ns ss) m) in
     record {
@@ -93,16 +93,16 @@ grows_nodes ns more ss =
       same_stack = λ N s h. stack_reads N (seen (ns ++ more) ss) s ∙ map_alike (mark_of N (seen (ns ++ more) ss)) (mark_of N (seen ns ss)) (length ns) (get_or ss s []) (early N) (stack_below (seen ns ss) s h) ∙ sym (stack_reads N (seen ns ss) s);
     }
 
-pub mark_stays : (N : Naming) (ns : List Node) (ss ts : List (List ℕ)) (m : ℕ) → mark_of N (seen ns ts) m ≡ mark_of N (seen ns ss) m
+pub mark_stays : (N : Naming) (ns : List MarkNode) (ss ts : List (List ℕ)) (m : ℕ) → mark_of N (seen ns ts) m ≡ mark_of N (seen ns ss) m
 unfolding mark_of
 mark_stays N ns ss ts m = refl
 
-pub marks_stay : (N : Naming) (ns : List Node) (ss ts : List (List ℕ)) (ms : List ℕ) → map (mark_of N (seen ns ts)) ms ≡ map (mark_of N (seen ns ss)) ms
+pub marks_stay : (N : Naming) (ns : List MarkNode) (ss ts : List (List ℕ)) (ms : List ℕ) → map (mark_of N (seen ns ts)) ms ≡ map (mark_of N (seen ns ss)) ms
 unfolding mark_of
 marks_stay N ns ss ts ms = refl
 
-pub grows_cells : (ns : List Node) (ss ts : List (List ℕ)) → Keeps ss ts → Grows (seen ns ss) (seen ns ts)
-grows_cells ns ss ts k = record {
+pub grows_stack_nodes : (ns : List MarkNode) (ss ts : List (List ℕ)) → Keeps ss ts → Grows (seen ns ss) (seen ns ts)
+grows_stack_nodes ns ss ts k = record {
   marks = λ m h. within_mark (seen ns ts) m (mark_within (seen ns ss) m h);
   stacks = λ s h. within_stack (seen ns ts) s (omega (arith, stack_within (seen ns ss) s h, k.longer)) (ap (are_below (length ns)) (k.same s (stack_within (seen ns ss) s h)) ∙ stack_below (seen ns ss) s h);
   same_mark = λ N m h. mark_stays N ns ss ts m;
@@ -110,25 +110,25 @@ grows_cells ns ss ts k = record {
 }
 
 -- A stack of numbers stands for their marks.
-pub made_stack : (ns : List Node) (ss ts : List (List ℕ)) (s : ℕ) (xs : List ℕ) (marks : Naming → List Mark) → Is ts s xs → are_below (length ns) xs ≡ true → ((N : Naming) → map (mark_of N (seen ns ss)) xs ≡ marks N) → IsStackOf (seen ns ts) s marks
+pub made_stack : (ns : List MarkNode) (ss ts : List (List ℕ)) (s : ℕ) (xs : List ℕ) (marks : Naming → List Mark) → Is ts s xs → are_below (length ns) xs ≡ true → ((N : Naming) → map (mark_of N (seen ns ss)) xs ≡ marks N) → IsStackOf (seen ns ts) s marks
 made_stack ns ss ts s xs marks i low same = record {
   valid = within_stack (seen ns ts) s i.within (ap (are_below (length ns)) i.marks_are ∙ low);
   is = λ N. stack_reads N (seen ns ts) s ∙ ap (map (mark_of N (seen ns ts))) i.marks_are ∙ marks_stay N ns ss ts xs ∙ same N;
 }
 
 -- the first mark of a table
-pub first_mark : (ns : List Node) (ss : List (List ℕ)) → IsTable ns → IsMarkOf (seen ns ss) 0 (λ N. any)
+pub first_mark : (ns : List MarkNode) (ss : List (List ℕ)) → IsTable ns → IsMarkOf (seen ns ss) 0 (λ N. any)
 first_mark ns ss t = record {
   valid = within_mark (seen ns ss) 0 t.some;
   is = λ N. mark_reads N (seen ns ss) 0 ∙ tree_at N ns 0 t.ordered t.some ∙ ap (tree N (trees N ns)) t.first;
 }
 
 -- the mark of a number is that of its node
-pub mark_at : (N : Naming) (ns : List Node) (ss : List (List ℕ)) (m : ℕ) (n : Node) → IsTable ns → m < length ns → n ≡ get_or ns m Any → mark_of N (seen ns ss) m ≡ tree N (trees N ns) n
+pub mark_at : (N : Naming) (ns : List MarkNode) (ss : List (List ℕ)) (m : ℕ) (n : MarkNode) → IsTable ns → m < length ns → n ≡ get_or ns m Any → mark_of N (seen ns ss) m ≡ tree N (trees N ns) n
 mark_at N ns ss m n t h e = mark_reads N (seen ns ss) m ∙ tree_at N ns m t.ordered h ∙ ap (tree N (trees N ns)) (sym e)
 
-module _ (ns : List Node) (ss : List (List ℕ)) (m : ℕ) (t : IsTable ns) (h : m < length ns) where
-  parts_at : (n : Node) → n ≡ get_or ns m Any → HasPartsBelow m n
+module _ (ns : List MarkNode) (ss : List (List ℕ)) (m : ℕ) (t : IsTable ns) (h : m < length ns) where
+  parts_at : (n : MarkNode) → n ≡ get_or ns m Any → HasPartsBelow m n
   parts_at n e = subst (HasPartsBelow m) (sym e) (fits_at HasPartsBelow ns 0 m m Any t.ordered (omega arith) h)
 
   pair_at : (a b : ℕ) (make : Mark → Mark → Mark) → a < m → b < m → ((N : Naming) → mark_of N (seen ns ss) m ≡ make (get_or (trees N ns) a any) (get_or (trees N ns) b any)) → IsMadeOf (seen ns ss) m a b make
@@ -141,7 +141,7 @@ module _ (ns : List Node) (ss : List (List ℕ)) (m : ℕ) (t : IsTable ns) (h :
   }
 
   -- what a number's node says of its mark
-  pub node_at : (n : Node) → n ≡ get_or ns m Any → IsNodeOf (seen ns ss) m n
+  pub node_at : (n : MarkNode) → n ≡ get_or ns m Any → IsNodeOf (seen ns ss) m n
   node_at Any e = λ N. mark_at N ns ss m Any t h e
   node_at (Lit q) e = λ N. mark_at N ns ss m (Lit q) t h e
   node_at (Cur a b) e = let p = parts_at (Cur a b) e in pair_at a b cur_mark p.0 p.1 (λ N. mark_at N ns ss m (Cur a b) t h e)
@@ -150,37 +150,37 @@ module _ (ns : List Node) (ss : List (List ℕ)) (m : ℕ) (t : IsTable ns) (h :
   node_at (Par k) e = λ N. mark_at N ns ss m (Par k) t h e
 
 -- a node that was made
-pub made_mark : (ns ns' : List Node) (ss : List (List ℕ)) (n : Node) (r : ℕ) → HasPartsBelow (length ns) n → Interns ns ns' n r → IsMarkOf (seen ns' ss) r (λ N. tree N (trees N ns) n)
+pub made_mark : (ns ns' : List MarkNode) (ss : List (List ℕ)) (n : MarkNode) (r : ℕ) → HasPartsBelow (length ns) n → Interns ns ns' n r → IsMarkOf (seen ns' ss) r (λ N. tree N (trees N ns) n)
 made_mark ns ns' ss n r parts i =
-    let early : (N : Naming) (k : ℕ) → k < length (trees N ns) → get_or (trees N ns') k any ≡ get_or (trees N ns) k any = λ N k l. ap (λ (t : List Node). get_or (trees N t) k any) i.grows ∙ trees_early N ns i.more k (omega (arith, trees_length N ns)) in
+    let early : (N : Naming) (k : ℕ) → k < length (trees N ns) → get_or (trees N ns') k any ≡ get_or (trees N ns) k any = λ N k l. ap (λ (t : List MarkNode). get_or (trees N t) k any) i.grows ∙ trees_early N ns i.more k (omega (arith, trees_length N ns)) in
     record {
       valid = within_mark (seen ns' ss) r i.within;
       is = λ N. mark_at N ns' ss r n i.table i.within (sym i.node_is) ∙ sym (tree_alike N n (trees N ns) (trees N ns') (subst (λ (k : ℕ). HasPartsBelow k n) (sym (trees_length N ns)) parts) (early N));
     }
 
-pub grows_interned : (ns ns' : List Node) (ss : List (List ℕ)) (n : Node) (r : ℕ) → Interns ns ns' n r → Grows (seen ns ss) (seen ns' ss)
-grows_interned ns ns' ss n r i = subst (λ (t : List Node). Grows (seen ns ss) (seen t ss)) (sym i.grows) (grows_nodes ns i.more ss)
+pub grows_interned : (ns ns' : List MarkNode) (ss : List (List ℕ)) (n : MarkNode) (r : ℕ) → Interns ns ns' n r → Grows (seen ns ss) (seen ns' ss)
+grows_interned ns ns' ss n r i = subst (λ (t : List MarkNode). Grows (seen ns ss) (seen t ss)) (sym i.grows) (grows_nodes ns i.more ss)
 
 module _ {E : Type 0} where
-  pub made_by : (ns ns' : List Node) (ss : List (List ℕ)) (n : Node) → HasPartsBelow (length ns) n → (r : Result ℕ E) → IfOk r (λ k. Interns ns ns' n k) → IfOk r (λ k. IsMarkOf (seen ns' ss) k (λ N. tree N (trees N ns) n))
+  pub made_by : (ns ns' : List MarkNode) (ss : List (List ℕ)) (n : MarkNode) → HasPartsBelow (length ns) n → (r : Result ℕ E) → IfOk r (λ k. Interns ns ns' n k) → IfOk r (λ k. IsMarkOf (seen ns' ss) k (λ N. tree N (trees N ns) n))
   made_by ns ns' ss n parts (Ok k) f = made_mark ns ns' ss n k parts f
   made_by ns ns' ss n parts (Err e) f = tt
 
-  pub grows_by : (ns ns' : List Node) (ss : List (List ℕ)) (n : Node) (r : Result ℕ E) → IfOk r (λ k. Interns ns ns' n k) → OnErr r (ns' ≡ ns) → Grows (seen ns ss) (seen ns' ss)
+  pub grows_by : (ns ns' : List MarkNode) (ss : List (List ℕ)) (n : MarkNode) (r : Result ℕ E) → IfOk r (λ k. Interns ns ns' n k) → OnErr r (ns' ≡ ns) → Grows (seen ns ss) (seen ns' ss)
   grows_by ns ns' ss n (Ok k) f g = grows_interned ns ns' ss n k f
-  grows_by ns ns' ss n (Err e) f g = subst (λ (t : List Node). Grows (seen ns ss) (seen t ss)) (sym g) (grows_refl (seen ns ss))
+  grows_by ns ns' ss n (Err e) f g = subst (λ (t : List MarkNode). Grows (seen ns ss) (seen t ss)) (sym g) (grows_refl (seen ns ss))
 
-  pub stack_by : (ns : List Node) (ss ts : List (List ℕ)) (xs : List ℕ) (marks : Naming → List Mark) → are_below (length ns) xs ≡ true → ((N : Naming) → map (mark_of N (seen ns ss)) xs ≡ marks N) → (r : Result ℕ E) → IfOk r (λ s. Is ts s xs) → IfOk r (λ s. IsStackOf (seen ns ts) s marks)
+  pub stack_by : (ns : List MarkNode) (ss ts : List (List ℕ)) (xs : List ℕ) (marks : Naming → List Mark) → are_below (length ns) xs ≡ true → ((N : Naming) → map (mark_of N (seen ns ss)) xs ≡ marks N) → (r : Result ℕ E) → IfOk r (λ s. Is ts s xs) → IfOk r (λ s. IsStackOf (seen ns ts) s marks)
   stack_by ns ss ts xs marks low same (Ok s) f = made_stack ns ss ts s xs marks f low same
   stack_by ns ss ts xs marks low same (Err e) f = tt
 
-pub depth_at : (N : Naming) (ns : List Node) (ss : List (List ℕ)) (m : ℕ) → mark_depth (mark_of N (seen ns ss) m) ≡ get_or (depths ns) m 0
+pub depth_at : (N : Naming) (ns : List MarkNode) (ss : List (List ℕ)) (m : ℕ) → mark_depth (mark_of N (seen ns ss) m) ≡ get_or (depths ns) m 0
 depth_at N ns ss m = ap mark_depth (mark_reads N (seen ns ss) m) ∙ sym (get_or-map mark_depth (trees N ns) m any) ∙ ap (λ (ds : List ℕ). get_or ds m 0) (sym (depths_are N ns))
 
 -- Facts of a table that goes by another name.
-module _ (ns : List Node) (ss : List (List ℕ)) (M : MarksSeen) (v : seen ns ss ≡ M) where
+module _ (ns : List MarkNode) (ss : List (List ℕ)) (M : MarksSeen) (v : seen ns ss ≡ M) where
   pub mark_in : (m : ℕ) → IsMark M m → m < length ns
-  mark_in m h = subst (λ (t : List Node). m < length t) (sym (ap (λ (L : MarksSeen). L.nodes) v)) (mark_within M m h)
+  mark_in m h = subst (λ (t : List MarkNode). m < length t) (sym (ap (λ (L : MarksSeen). L.nodes) v)) (mark_within M m h)
 
   pub stack_in : (s : ℕ) → IsStack M s → s < length ss
   stack_in s h = subst (λ (t : List (List ℕ)). s < length t) (sym (ap (λ (L : MarksSeen). L.stacks) v)) (stack_within M s h)
@@ -189,11 +189,11 @@ module _ (ns : List Node) (ss : List (List ℕ)) (M : MarksSeen) (v : seen ns ss
   low_in s h = let P : MarksSeen → Type 0 = λ L. IsStack L s → are_below (length ns) (get_or ss s []) ≡ true in subst P v (stack_below (seen ns ss) s) h
 
 -- the empty stack
-pub empty_stack : (ns : List Node) (ts : List (List ℕ)) → ts ≡ [] ∷ [] → IsStackOf (seen ns ts) 0 (λ N. [])
+pub empty_stack : (ns : List MarkNode) (ts : List (List ℕ)) → ts ≡ [] ∷ [] → IsStackOf (seen ns ts) 0 (λ N. [])
 empty_stack ns ts e = subst (λ (t : List (List ℕ)). IsStackOf (seen ns t) 0 (λ N. [])) (sym e) (record { valid = within_stack (seen ns ([] ∷ [])) 0 (omega arith) refl; is = λ N. stack_reads N (seen ns ([] ∷ [])) 0 })
 
 -- what a call uncovers
-pub top_where : (ns : List Node) (ss : List (List ℕ)) (s : ℕ) (o : Option (ℕ × ℕ)) → are_below (length ns) (get_or ss s []) ≡ true → Uncovers ss s o → HasTopWhere (seen ns ss) s o
+pub top_where : (ns : List MarkNode) (ss : List (List ℕ)) (s : ℕ) (o : Option (ℕ × ℕ)) → are_below (length ns) (get_or ss s []) ≡ true → Uncovers ss s o → HasTopWhere (seen ns ss) s o
 top_where ns ss s None low h = λ N. stack_reads N (seen ns ss) s ∙ ap (map (mark_of N (seen ns ss))) h
 top_where ns ss s (Some (m, b)) low h =
     let lower : are_below (length ns) (m ∷ get_or ss b []) ≡ true = ap (are_below (length ns)) (sym h.1) ∙ low in

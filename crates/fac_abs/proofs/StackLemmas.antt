@@ -1,9 +1,9 @@
--- Stacks that cells make.
+-- The stacks that stack nodes make.
 use Rattle.std.proofs.Common.{◌≡◌, ℕ, zero, suc, ◌+◌, ◌-◌, ◌<◌, ◌≤◌, List, [], ◌∷◌, ◌++◌, Bool, true, false, ◌&&◌, ◌||◌, nat_eq, Some, None, length, drop, get_or, slice_get, map, refl, sym, ap, subst, ◌∙◌, arith, length-append, eq-eqb}
 use Rattle.std.proofs.lemmas.List.{get_or_append_left, get_or-map}
 use Rattle.std.proofs.Math.Seq.{get_or-append_seam}
 use Rattle.fac_lang.specs.Procedures.{or_else, picked}
-use Rattle.fac_abs.specs.declared.cells.Cell.{Cell}
+use Rattle.fac_abs.specs.declared.stack_nodes.StackNode.{StackNode}
 use Rattle.fac_abs.specs.InTurn.{under, taken, zeros, joined_numbers, cover_numbers}
 use Rattle.fac_abs.specs.inner.Keeping.{Keeps, Is, Going}
 use Rattle.fac_abs.specs.Marks.{piled}
@@ -24,99 +24,99 @@ keeps_push ss xs = record { longer = omega (arith, length-append ss (xs ∷ []))
 pub is_push : (ss : List (List ℕ)) (xs : List ℕ) → Is (ss ++ xs ∷ []) (length ss) xs
 is_push ss xs = record { within = omega (arith, length-append ss (xs ∷ [])); marks_are = get_or-append_seam ss xs [] [] }
 
-pub stacks_length : (cells : List Cell) → length (stacks_of cells) ≡ suc (length cells)
-stacks_length cells = omega (arith, in_turn_length covered cells ([] ∷ []))
+pub stacks_length : (stack_nodes : List StackNode) → length (stacks_of stack_nodes) ≡ suc (length stack_nodes)
+stacks_length stack_nodes = omega (arith, in_turn_length covered stack_nodes ([] ∷ []))
 
-pub stack_zero : (cells : List Cell) → get_or (stacks_of cells) 0 [] ≡ []
-stack_zero cells = in_turn_early covered cells ([] ∷ []) 0 [] (omega arith)
+pub stack_zero : (stack_nodes : List StackNode) → get_or (stacks_of stack_nodes) 0 [] ≡ []
+stack_zero stack_nodes = in_turn_early covered stack_nodes ([] ∷ []) 0 [] (omega arith)
 
-covered_alike : (c : Cell) (xs ys : List (List ℕ)) → LiesOnEarlier (length xs) c → ((k : ℕ) → k < length xs → get_or ys k [] ≡ get_or xs k []) → covered xs c ≡ covered ys c
+covered_alike : (c : StackNode) (xs ys : List (List ℕ)) → LiesOnEarlier (length xs) c → ((k : ℕ) → k < length xs → get_or ys k [] ≡ get_or xs k []) → covered xs c ≡ covered ys c
 covered_alike c xs ys h e = rw (e c.below h) refl
 
-module _ (d : Cell) (cells : List Cell) where
-  pub stack_at : (s : ℕ) → LieOnEarlier cells → 0 < s → s < suc (length cells) → get_or (stacks_of cells) s [] ≡ covered (stacks_of cells) (get_or cells (s - 1) d)
-  stack_at s f h l = in_turn_at covered LiesOnEarlier d [] covered_alike cells ([] ∷ []) (s - 1) s (omega arith) (omega arith) f
+module _ (d : StackNode) (stack_nodes : List StackNode) where
+  pub stack_at : (s : ℕ) → LieOnEarlier stack_nodes → 0 < s → s < suc (length stack_nodes) → get_or (stacks_of stack_nodes) s [] ≡ covered (stacks_of stack_nodes) (get_or stack_nodes (s - 1) d)
+  stack_at s f h l = in_turn_at covered LiesOnEarlier d [] covered_alike stack_nodes ([] ∷ []) (s - 1) s (omega arith) (omega arith) f
 
-  pub below_within : (s : ℕ) → LieOnEarlier cells → 0 < s → s < suc (length cells) → (get_or cells (s - 1) d).below < s
-  below_within s f h l = fits_at LiesOnEarlier cells 1 (s - 1) s d f (omega arith) (omega arith)
+  pub below_within : (s : ℕ) → LieOnEarlier stack_nodes → 0 < s → s < suc (length stack_nodes) → (get_or stack_nodes (s - 1) d).below < s
+  below_within s f h l = fits_at LiesOnEarlier stack_nodes 1 (s - 1) s d f (omega arith) (omega arith)
 
-  height_next : (k : ℕ) → TellHeights cells → k < length cells → (get_or cells k d).height ≡ length (get_or (stacks_of cells) (suc k) [])
+  height_next : (k : ℕ) → TellHeights stack_nodes → k < length stack_nodes → (get_or stack_nodes k d).height ≡ length (get_or (stacks_of stack_nodes) (suc k) [])
   height_next k f l =
-      sym (get_or-map said_height cells k d 0 l) ∙ ap (λ (hs : List ℕ). get_or hs (suc k) 0) f ∙ get_or-map length (stacks_of cells) (suc k) [] 0 (omega (arith, stacks_length cells))
+      sym (get_or-map said_height stack_nodes k d 0 l) ∙ ap (λ (hs : List ℕ). get_or hs (suc k) 0) f ∙ get_or-map length (stacks_of stack_nodes) (suc k) [] 0 (omega (arith, stacks_length stack_nodes))
 
-  pub height_at : (s : ℕ) → TellHeights cells → 0 < s → s < suc (length cells) → (get_or cells (s - 1) d).height ≡ length (get_or (stacks_of cells) s [])
+  pub height_at : (s : ℕ) → TellHeights stack_nodes → 0 < s → s < suc (length stack_nodes) → (get_or stack_nodes (s - 1) d).height ≡ length (get_or (stacks_of stack_nodes) s [])
   height_at s f h l =
       let next : suc (s - 1) ≡ s = omega arith in
-      height_next (s - 1) f (omega arith) ∙ ap (λ (k : ℕ). length (get_or (stacks_of cells) k [])) next
+      height_next (s - 1) f (omega arith) ∙ ap (λ (k : ℕ). length (get_or (stacks_of stack_nodes) k [])) next
 
 -- no stack is higher than its number
-not_higher : (cells : List Cell) (f s : ℕ) → s ≤ f → LieOnEarlier cells → s < suc (length cells) → length (get_or (stacks_of cells) s []) ≤ s
-not_higher cells f zero l h k =
-    let e : length (get_or (stacks_of cells) 0 []) ≡ 0 = ap length (stack_zero cells) in
+not_higher : (stack_nodes : List StackNode) (f s : ℕ) → s ≤ f → LieOnEarlier stack_nodes → s < suc (length stack_nodes) → length (get_or (stacks_of stack_nodes) s []) ≤ s
+not_higher stack_nodes f zero l h k =
+    let e : length (get_or (stacks_of stack_nodes) 0 []) ≡ 0 = ap length (stack_zero stack_nodes) in
     omega (arith, e)
-not_higher cells zero (suc s) l h k = absurd (omega (arith, l))
-not_higher cells (suc f) (suc s) l h k =
-    let d : Cell = record { mark = 0; below = 0; height = 0 } in
-    let b : ℕ = (get_or cells (suc s - 1) d).below in
-    let low : b < suc s = below_within d cells (suc s) h (omega arith) k in
-    let so_far = not_higher cells f b (omega (arith, low, l)) h (omega (arith, low, k)) in
-    let e : length (get_or (stacks_of cells) (suc s) []) ≡ suc (length (get_or (stacks_of cells) b [])) = ap length (stack_at d cells (suc s) h (omega arith) k) in
+not_higher stack_nodes zero (suc s) l h k = absurd (omega (arith, l))
+not_higher stack_nodes (suc f) (suc s) l h k =
+    let d : StackNode = record { mark = 0; below = 0; height = 0 } in
+    let b : ℕ = (get_or stack_nodes (suc s - 1) d).below in
+    let low : b < suc s = below_within d stack_nodes (suc s) h (omega arith) k in
+    let so_far = not_higher stack_nodes f b (omega (arith, low, l)) h (omega (arith, low, k)) in
+    let e : length (get_or (stacks_of stack_nodes) (suc s) []) ≡ suc (length (get_or (stacks_of stack_nodes) b [])) = ap length (stack_at d stack_nodes (suc s) h (omega arith) k) in
     omega (arith, e, so_far, low)
 
-pub low_height : (cells : List Cell) (ss : List (List ℕ)) (s : ℕ) → stacks_of cells ≡ ss → LieOnEarlier cells → s < length ss → length (get_or ss s []) ≤ s
-low_height cells ss s e h l =
-    let long : suc (length cells) ≡ length ss = sym (stacks_length cells) ∙ ap length e in
-    subst (λ (ts : List (List ℕ)). length (get_or ts s []) ≤ s) e (not_higher cells s s (omega arith) h (omega (arith, long, l)))
+pub low_height : (stack_nodes : List StackNode) (ss : List (List ℕ)) (s : ℕ) → stacks_of stack_nodes ≡ ss → LieOnEarlier stack_nodes → s < length ss → length (get_or ss s []) ≤ s
+low_height stack_nodes ss s e h l =
+    let long : suc (length stack_nodes) ≡ length ss = sym (stacks_length stack_nodes) ∙ ap length e in
+    subst (λ (ts : List (List ℕ)). length (get_or ts s []) ≤ s) e (not_higher stack_nodes s s (omega arith) h (omega (arith, long, l)))
 
 pub map_push : {A B : Type 0} (f : A → B) (xs : List A) (x : A) → map f (xs ++ x ∷ []) ≡ map f xs ++ f x ∷ []
 map_push f [] x = refl
 map_push f (y ∷ xs) x = ap (λ t. f y ∷ t) (map_push f xs x)
 
-pub stacks_push : (cells : List Cell) (c : Cell) → stacks_of (cells ++ c ∷ []) ≡ stacks_of cells ++ covered (stacks_of cells) c ∷ []
-stacks_push cells c = in_turn_append covered cells (c ∷ []) ([] ∷ [])
+pub stacks_push : (stack_nodes : List StackNode) (c : StackNode) → stacks_of (stack_nodes ++ c ∷ []) ≡ stacks_of stack_nodes ++ covered (stacks_of stack_nodes) c ∷ []
+stacks_push stack_nodes c = in_turn_append covered stack_nodes (c ∷ []) ([] ∷ [])
 
-pub tell_push : (cells : List Cell) (c : Cell) → TellHeights cells → c.height ≡ suc (length (get_or (stacks_of cells) c.below [])) → TellHeights (cells ++ c ∷ [])
-tell_push cells c f e = ap (λ t. 0 ∷ t) (map_push said_height cells c) ∙ ap (λ t. t ++ c.height ∷ []) f ∙ ap (λ t. map length (stacks_of cells) ++ t ∷ []) e ∙ sym (map_push length (stacks_of cells) (covered (stacks_of cells) c)) ∙ ap (map length) (sym (stacks_push cells c))
+pub tell_push : (stack_nodes : List StackNode) (c : StackNode) → TellHeights stack_nodes → c.height ≡ suc (length (get_or (stacks_of stack_nodes) c.below [])) → TellHeights (stack_nodes ++ c ∷ [])
+tell_push stack_nodes c f e = ap (λ t. 0 ∷ t) (map_push said_height stack_nodes c) ∙ ap (λ t. t ++ c.height ∷ []) f ∙ ap (λ t. map length (stacks_of stack_nodes) ++ t ∷ []) e ∙ sym (map_push length (stacks_of stack_nodes) (covered (stacks_of stack_nodes) c)) ∙ ap (map length) (sym (stacks_push stack_nodes c))
 
-pub lie_push : (cells : List Cell) (c : Cell) → LieOnEarlier cells → c.below < suc (length cells) → LieOnEarlier (cells ++ c ∷ [])
-lie_push cells c f h = fits_push LiesOnEarlier cells 1 (suc (length cells)) c f (omega arith) h
+pub lie_push : (stack_nodes : List StackNode) (c : StackNode) → LieOnEarlier stack_nodes → c.below < suc (length stack_nodes) → LieOnEarlier (stack_nodes ++ c ∷ [])
+lie_push stack_nodes c f h = fits_push LiesOnEarlier stack_nodes 1 (suc (length stack_nodes)) c f (omega arith) h
 
--- A read of a cell, where the stacks go by another name.
-module _ (d : Cell) (given cells : List Cell) (ss : List (List ℕ)) (s : ℕ) (e : given ≡ cells) (v : stacks_of cells ≡ ss) where
-  few : s < length ss → s < suc (length cells)
-  few h = let n : length (stacks_of cells) ≡ length ss = ap length v in omega (arith, stacks_length cells)
+-- A read of a stack node, where the stacks go by another name.
+module _ (d : StackNode) (given stack_nodes : List StackNode) (ss : List (List ℕ)) (s : ℕ) (e : given ≡ stack_nodes) (v : stacks_of stack_nodes ≡ ss) where
+  few : s < length ss → s < suc (length stack_nodes)
+  few h = let n : length (stacks_of stack_nodes) ≡ length ss = ap length v in omega (arith, stacks_length stack_nodes)
 
-  pub height_read : TellHeights cells → 0 < s → s < length ss → (get_or given (s - 1) d).height ≡ length (get_or ss s [])
-  height_read f h l = ap (λ (xs : List Cell). (get_or xs (s - 1) d).height) e ∙ height_at d cells s f h (few l) ∙ ap (λ (t : List (List ℕ)). length (get_or t s [])) v
+  pub height_read : TellHeights stack_nodes → 0 < s → s < length ss → (get_or given (s - 1) d).height ≡ length (get_or ss s [])
+  height_read f h l = ap (λ (xs : List StackNode). (get_or xs (s - 1) d).height) e ∙ height_at d stack_nodes s f h (few l) ∙ ap (λ (t : List (List ℕ)). length (get_or t s [])) v
 
-  read_at : LieOnEarlier cells → 0 < s → s < length ss → (let c : Cell = get_or cells (s - 1) d in (c.below < length ss) × (get_or ss s [] ≡ c.mark ∷ get_or ss c.below []))
+  read_at : LieOnEarlier stack_nodes → 0 < s → s < length ss → (let c : StackNode = get_or stack_nodes (s - 1) d in (c.below < length ss) × (get_or ss s [] ≡ c.mark ∷ get_or ss c.below []))
   read_at f h l =
-      let lower = below_within d cells s f h (few l) in
-      let c : Cell = get_or cells (s - 1) d in
-      (omega arith, sym (ap (λ (t : List (List ℕ)). get_or t s []) v) ∙ stack_at d cells s f h (few l) ∙ ap (λ (t : List (List ℕ)). c.mark ∷ get_or t c.below []) v)
+      let lower = below_within d stack_nodes s f h (few l) in
+      let c : StackNode = get_or stack_nodes (s - 1) d in
+      (omega arith, sym (ap (λ (t : List (List ℕ)). get_or t s []) v) ∙ stack_at d stack_nodes s f h (few l) ∙ ap (λ (t : List (List ℕ)). c.mark ∷ get_or t c.below []) v)
 
-  pub pop_read : LieOnEarlier cells → 0 < s → s < length ss → (let c : Cell = get_or given (s - 1) d in (c.below < length ss) × (get_or ss s [] ≡ c.mark ∷ get_or ss c.below []))
+  pub pop_read : LieOnEarlier stack_nodes → 0 < s → s < length ss → (let c : StackNode = get_or given (s - 1) d in (c.below < length ss) × (get_or ss s [] ≡ c.mark ∷ get_or ss c.below []))
   pop_read f h l =
-      subst (λ (xs : List Cell). ((get_or xs (s - 1) d).below < length ss) × (get_or ss s [] ≡ (get_or xs (s - 1) d).mark ∷ get_or ss (get_or xs (s - 1) d).below [])) (sym e) (read_at f h l)
+      subst (λ (xs : List StackNode). ((get_or xs (s - 1) d).below < length ss) × (get_or ss s [] ≡ (get_or xs (s - 1) d).mark ∷ get_or ss (get_or xs (s - 1) d).below [])) (sym e) (read_at f h l)
 
--- One cell more, where the stacks go by another name.
-module _ (cells new : List Cell) (c : Cell) (ss : List (List ℕ)) (e : new ≡ cells ++ c ∷ []) (v : stacks_of cells ≡ ss) where
-  pub pushed_tell : TellHeights cells → c.height ≡ suc (length (get_or ss c.below [])) → TellHeights new
-  pushed_tell f h = subst TellHeights (sym e) (tell_push cells c f (h ∙ ap (λ (t : List (List ℕ)). suc (length (get_or t c.below []))) (sym v)))
+-- One stack node more, where the stacks go by another name.
+module _ (stack_nodes new : List StackNode) (c : StackNode) (ss : List (List ℕ)) (e : new ≡ stack_nodes ++ c ∷ []) (v : stacks_of stack_nodes ≡ ss) where
+  pub pushed_tell : TellHeights stack_nodes → c.height ≡ suc (length (get_or ss c.below [])) → TellHeights new
+  pushed_tell f h = subst TellHeights (sym e) (tell_push stack_nodes c f (h ∙ ap (λ (t : List (List ℕ)). suc (length (get_or t c.below []))) (sym v)))
 
-  pub pushed_lie : LieOnEarlier cells → c.below < length ss → LieOnEarlier new
-  pushed_lie f h = let n : length (stacks_of cells) ≡ length ss = ap length v in subst LieOnEarlier (sym e) (lie_push cells c f (omega (arith, stacks_length cells)))
+  pub pushed_lie : LieOnEarlier stack_nodes → c.below < length ss → LieOnEarlier new
+  pushed_lie f h = let n : length (stacks_of stack_nodes) ≡ length ss = ap length v in subst LieOnEarlier (sym e) (lie_push stack_nodes c f (omega (arith, stacks_length stack_nodes)))
 
   new_stacks : stacks_of new ≡ ss ++ (c.mark ∷ get_or ss c.below []) ∷ []
-  new_stacks = ap stacks_of e ∙ stacks_push cells c ∙ ap (λ (t : List (List ℕ)). t ++ (c.mark ∷ get_or t c.below []) ∷ []) v
+  new_stacks = ap stacks_of e ∙ stacks_push stack_nodes c ∙ ap (λ (t : List (List ℕ)). t ++ (c.mark ∷ get_or t c.below []) ∷ []) v
 
   pub pushed_keeps : Keeps ss (stacks_of new)
   pushed_keeps = subst (λ (t : List (List ℕ)). Keeps ss t) (sym new_stacks) (keeps_push ss (c.mark ∷ get_or ss c.below []))
 
-  pub pushed_is : (n : ℕ) → n ≡ length cells → Is (stacks_of new) (n + 1) (c.mark ∷ get_or ss c.below [])
+  pub pushed_is : (n : ℕ) → n ≡ length stack_nodes → Is (stacks_of new) (n + 1) (c.mark ∷ get_or ss c.below [])
   pushed_is n h =
-      let k : length (stacks_of cells) ≡ length ss = ap length v in
-      let place : n + 1 ≡ length ss = omega (arith, stacks_length cells) in
+      let k : length (stacks_of stack_nodes) ≡ length ss = ap length v in
+      let place : n + 1 ≡ length ss = omega (arith, stacks_length stack_nodes) in
       rw place (subst (λ (t : List (List ℕ)). Is t (length ss) (c.mark ∷ get_or ss c.below [])) (sym new_stacks) (is_push ss (c.mark ∷ get_or ss c.below [])))
 
 -- Steps of loops.

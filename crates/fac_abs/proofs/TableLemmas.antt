@@ -3,14 +3,14 @@ use Rattle.std.proofs.Common.{◌≡◌, ℕ, zero, suc, ◌+◌, ◌<◌, ◌�
 use Rattle.std.proofs.lemmas.List.{get_or_append_left}
 use Rattle.std.proofs.Math.Seq.{get_or-append_seam}
 use Rattle.std.specs.Map.{keys_of, values_of}
-use Rattle.fac_abs.specs.declared.node.Node.{Node}
-use Rattle.fac_abs.specs.declared.node.Node.TheVariants.{Any}
+use Rattle.fac_abs.specs.declared.mark_node.MarkNode.{MarkNode}
+use Rattle.fac_abs.specs.declared.mark_node.MarkNode.TheVariants.{Any}
 use Rattle.fac_abs.specs.inner.Interning.{Numbers, there, added, Interns}
-use Rattle.fac_abs.specs.Trees.{node_depth, depths, HasPartsBelow, IsTable}
+use Rattle.fac_abs.specs.MarkTrees.{node_depth, depths, HasPartsBelow, IsTable}
 use Rattle.fac_abs.proofs.InTurnLemmas.{in_turn_append, fits_push}
 use Rattle.fac_abs.proofs.StackLemmas.{map_push}
 
-pub depths_push : (ns : List Node) (n : Node) → depths (ns ++ n ∷ []) ≡ depths ns ++ node_depth (depths ns) n ∷ []
+pub depths_push : (ns : List MarkNode) (n : MarkNode) → depths (ns ++ n ∷ []) ≡ depths ns ++ node_depth (depths ns) n ∷ []
 depths_push ns n = in_turn_append node_depth ns (n ∷ []) []
 
 -- the place of an element is before the last, or the last
@@ -20,7 +20,7 @@ early_or_last zero (suc n) h = inl (omega arith)
 early_or_last (suc i) zero h = absurd (omega arith)
 early_or_last (suc i) (suc n) h = elim (early_or_last i n (omega arith)) [ inl l ↦ inl (omega arith) | inr e ↦ inr (ap suc e) ]
 
-module _ (ns : List Node) (n : Node) (absent : (k : ℕ) → k < length ns → get_or ns k Any ≡ n → ⊥) where
+module _ (ns : List MarkNode) (n : MarkNode) (absent : (k : ℕ) → k < length ns → get_or ns k Any ≡ n → ⊥) where
   long : length (ns ++ n ∷ []) ≡ length ns + 1
   long = omega (arith, length-append ns (n ∷ []))
 
@@ -53,28 +53,28 @@ module _ (ns : List Node) (n : Node) (absent : (k : ℕ) → k < length ns → g
 pub first_table : IsTable (Any ∷ [])
 first_table = record { some = omega arith; first = refl; ordered = (tt, tt); distinct = λ i j h l e. omega arith }
 
-pub interns_old : (ns : List Node) (n : Node) (k : ℕ) → IsTable ns → k < length ns → get_or ns k Any ≡ n → Interns ns ns n k
+pub interns_old : (ns : List MarkNode) (n : MarkNode) (k : ℕ) → IsTable ns → k < length ns → get_or ns k Any ≡ n → Interns ns ns n k
 interns_old ns n k t h e = record { more = []; grows = sym (append-nil ns); within = h; node_is = e; table = t }
 
 -- what the fields of a table are
-pub record IsKept (entries : List (Node × ℕ)) : Type 0 where
+pub record IsKept (entries : List (MarkNode × ℕ)) : Type 0 where
   pub table : IsTable (keys_of entries)
   pub told : values_of entries ≡ depths (keys_of entries)
 
-module _ (before after : List (Node × ℕ)) (node : Node) (depth : ℕ) (kept : IsKept before) (parts : HasPartsBelow (length (keys_of before)) node) (deep : depth ≡ node_depth (depths (keys_of before)) node) where
+module _ (before after : List (MarkNode × ℕ)) (node : MarkNode) (depth : ℕ) (kept : IsKept before) (parts : HasPartsBelow (length (keys_of before)) node) (deep : depth ≡ node_depth (depths (keys_of before)) node) where
   keys_push : keys_of (before ++ (node, depth) ∷ []) ≡ keys_of before ++ node ∷ []
-  keys_push = map_push (λ (p : Node × ℕ). p.0) before (node, depth)
+  keys_push = map_push (λ (p : MarkNode × ℕ). p.0) before (node, depth)
 
   values_push : values_of (before ++ (node, depth) ∷ []) ≡ depths (keys_of before ++ node ∷ [])
-  values_push = map_push (λ (p : Node × ℕ). p.1) before (node, depth) ∙ ap (λ (t : List ℕ). t ++ depth ∷ []) kept.told ∙ ap (λ (d : ℕ). depths (keys_of before) ++ d ∷ []) deep ∙ sym (depths_push (keys_of before) node)
+  values_push = map_push (λ (p : MarkNode × ℕ). p.1) before (node, depth) ∙ ap (λ (t : List ℕ). t ++ depth ∷ []) kept.told ∙ ap (λ (d : ℕ). depths (keys_of before) ++ d ∷ []) deep ∙ sym (depths_push (keys_of before) node)
 
   pub kept_after : (r : ℕ) → Numbers before after node depth r → IsKept after
   kept_after r (there h e same) = subst IsKept (sym same) kept
   kept_after r (added absent place e) = subst IsKept (sym e) (record { table = subst IsTable (sym keys_push) (table_push (keys_of before) node absent kept.table parts); told = values_push ∙ ap depths (sym keys_push) })
 
   pub interned : (r : ℕ) → Numbers before after node depth r → Interns (keys_of before) (keys_of after) node r
-  interned r (there h e same) = subst (λ (es : List (Node × ℕ)). Interns (keys_of before) (keys_of es) node r) (sym same) (interns_old (keys_of before) node r kept.table h e)
-  interned r (added absent place e) = subst (λ (es : List (Node × ℕ)). Interns (keys_of before) (keys_of es) node r) (sym e) (subst (λ (ns : List Node). Interns (keys_of before) ns node r) (sym keys_push) (subst (λ (k : ℕ). Interns (keys_of before) (keys_of before ++ node ∷ []) node k) (sym place) (interns_new (keys_of before) node absent kept.table parts)))
+  interned r (there h e same) = subst (λ (es : List (MarkNode × ℕ)). Interns (keys_of before) (keys_of es) node r) (sym same) (interns_old (keys_of before) node r kept.table h e)
+  interned r (added absent place e) = subst (λ (es : List (MarkNode × ℕ)). Interns (keys_of before) (keys_of es) node r) (sym e) (subst (λ (ns : List MarkNode). Interns (keys_of before) ns node r) (sym keys_push) (subst (λ (k : ℕ). Interns (keys_of before) (keys_of before ++ node ∷ []) node k) (sym place) (interns_new (keys_of before) node absent kept.table parts)))
 
   module _ {E : Type 0} where
     pub kept_by : (r : Result ℕ E) → IfOk r (λ k. Numbers before after node depth k) → OnErr r (after ≡ before) → IsKept after

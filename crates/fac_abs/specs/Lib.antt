@@ -1,6 +1,6 @@
 pub mod InTurn
 pub mod Marks
-pub mod Promises
-pub mod Seen
-pub mod Trees
+pub mod MarkPromises
+pub mod SeenMarks
+pub mod MarkTrees
 pub mod inner

@@ -2,8 +2,8 @@
 use Rattle.std.specs.Prelude.{ℕ, zero, suc, max, ℤ, pos, negsuc, List, [], ◌∷◌, length, Bool, true, false, ◌&&◌, ◌||◌, nat_eq, nat_le, Option, Some, None}
 use Rattle.std.specs.Str.{bytes_eq}
 use Rattle.fac_lang.specs.declared.limits.TheConstants.{MOST_MARK_DEPTH}
-use Rattle.fac_lang.specs.Texts.{Text, end, then, Item, quot, fry, known, Mark, any, lit_mark, cur_mark, com_mark, wrd_mark, par_mark}
-use Rattle.fac_lang.specs.Codes.{Token, mark_tokens}
+use Rattle.fac_lang.specs.Phrases.{Phrase, end, then, Item, quot, fry, known, Mark, any, lit_mark, cur_mark, com_mark, wrd_mark, par_mark}
+use Rattle.fac_lang.specs.PhraseCodes.{Token, mark_tokens}
 
 -- A row: the one hidden row of an effect that names none, or a row variable.
 pub data Row : Type 0 where
@@ -51,24 +51,24 @@ base_eq None (Some s) = false
 base_eq (Some r) None = false
 base_eq (Some r) (Some s) = row_eq r s
 
--- The depth of a mark: 0 without parts and captures, else one more than the deepest of them. What a literal captures stands in its text.
+-- The depth of a mark: 0 without parts and captures, else one more than the deepest of them. What a literal captures stands in its phrase.
 abbrev mutual
   pub mark_depth : Mark → ℕ
   mark_depth any = 0
-  mark_depth (lit_mark l t) = text_marks t
+  mark_depth (lit_mark l t) = phrase_marks t
   mark_depth (cur_mark m c) = suc (max (mark_depth m) (mark_depth c))
   mark_depth (com_mark c d) = suc (max (mark_depth c) (mark_depth d))
   mark_depth (wrd_mark w) = 0
   mark_depth (par_mark k) = 0
 
-  -- 0 where no mark stands in the text, else one more than the depth of the deepest
-  pub text_marks : Text → ℕ
-  text_marks end = 0
-  text_marks (then i p t) = max (item_marks i) (text_marks t)
+  -- 0 where no mark stands in the phrase, else one more than the depth of the deepest
+  pub phrase_marks : Phrase → ℕ
+  phrase_marks end = 0
+  phrase_marks (then i p t) = max (item_marks i) (phrase_marks t)
 
   pub item_marks : Item → ℕ
-  item_marks (quot t) = text_marks t
-  item_marks (fry t n) = text_marks t
+  item_marks (quot t) = phrase_marks t
+  item_marks (fry t n) = phrase_marks t
   item_marks (known m) = suc (mark_depth m)
   item_marks _ = 0
 

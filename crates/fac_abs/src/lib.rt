@@ -1,14 +1,14 @@
 //! What the checker knows of values and stacks, and the rules that it tests.
 #![tactic(auto)]
 
-mod cells;
-mod node;
-mod nodes;
+mod stack_nodes;
+mod mark_node;
+mod mark_nodes;
 mod reached;
 mod rule;
 mod table;
 
-pub use node::Node;
+pub use mark_node::MarkNode;
 pub use reached::Reached;
 pub use rule::Rule;
 pub use table::Marks;

@@ -35,7 +35,7 @@ pub enum Rule {
         /// The number of values that stand there.
         found: u32,
     },
-    /// The text of an inline word leads back to it through inline words, otherwise than directly in a word marked `recursive`.
+    /// The phrase of an inline word leads back to it through inline words, otherwise than directly in a word marked `recursive`.
     /// The place is that of the word's name.
     UndeclaredRecursion,
     /// A word with a row variable isn't inline, or its rows can't be bound. The place is that of the word's name.
@@ -50,7 +50,7 @@ pub enum Rule {
     Outputs {
         /// The number of outputs that the effect declares.
         declared: u32,
-        /// The number of values that stand at the end of the word's text, which is another.
+        /// The number of values that stand at the end of the word's phrase, which is another.
         found: u32,
     },
     /// A word that is declared never to return can return. The place is that of the word's name.

@@ -1,15 +1,15 @@
 //! Marks and stacks of marks, each by a number.
 ghost use Rattle.std.specs.Prelude.{◌≡◌, ◌∷◌, ◌<◌, ◌&&◌, [], length, get_or, map, nat_eq, Some, None, IfOk, OnOk, OnErr};
-ghost use Rattle.fac_lang.specs.Texts.{any, lit_mark, wrd_mark, par_mark};
+ghost use Rattle.fac_lang.specs.Phrases.{any, lit_mark, wrd_mark, par_mark};
 ghost use Rattle.fac_abs.specs.InTurn.{under, moved};
 ghost use Rattle.fac_abs.specs.Marks.{on, base_eq, mark_eq, mark_depth, is_callable, curried_mark, composed_mark, cover_marks, joined, covered, unknowns};
-ghost use Rattle.fac_abs.specs.Trees.{Naming, tree, trees, node_depth, depths, HasPartsBelow};
-ghost use Rattle.fac_abs.specs.Seen.{mark_of, stack_of, base_seen, reached_seen, IsMark, IsStack, IsReached, Grows, NumbersAreMarks};
-ghost use Rattle.fac_abs.specs.Promises.{IsMarkOf, IsStackOf, IsStackWhere, IsNodeOf, HasTopWhere, IsJoinedWhere, IsReachedWhere};
+ghost use Rattle.fac_abs.specs.MarkTrees.{Naming, tree, trees, node_depth, depths, HasPartsBelow};
+ghost use Rattle.fac_abs.specs.SeenMarks.{mark_of, stack_of, base_seen, reached_seen, IsMark, IsStack, IsReached, Grows, NumbersAreMarks};
+ghost use Rattle.fac_abs.specs.MarkPromises.{IsMarkOf, IsStackOf, IsStackWhere, IsNodeOf, HasTopWhere, IsJoinedWhere, IsReachedWhere};
 
-use crate::Node;
-use crate::cells::Cells;
-use crate::nodes::Nodes;
+use crate::MarkNode;
+use crate::stack_nodes::StackNodes;
+use crate::mark_nodes::MarkNodes;
 use crate::reached::Reached;
 use fac_lang::Memory;
 use fac_lang::limits::MOST_MARK_DEPTH;
@@ -22,16 +22,16 @@ use std::marker::Model;
 /// stays.
 #[derive(Drop)]
 pub struct Marks {
-    nodes: Nodes,
-    cells: Cells,
+    nodes: MarkNodes,
+    stack_nodes: StackNodes,
 }
 
 impl Model for Marks {
-    ghost use Rattle.fac_abs.specs.Seen.{MarksSeen};
+    ghost use Rattle.fac_abs.specs.SeenMarks.{MarksSeen};
 
     ghost Value = { MarksSeen };
 
-    ghost view = { λ a. record { nodes = a.nodes; stacks = a.cells } };
+    ghost view = { λ a. record { nodes = a.nodes; stacks = a.stack_nodes } };
 }
 
 impl Marks {
@@ -41,13 +41,13 @@ impl Marks {
         ensures stack { IfOk result (λ marks. IsStackOf marks 0 (λ N. [])) }
     {
         Ok(Marks {
-            nodes: Nodes::new(alloc)?,
-            cells: Cells::new(alloc),
+            nodes: MarkNodes::new(alloc)?,
+            stack_nodes: StackNodes::new(alloc),
         })
     }
 
     /// What a mark is, by the numbers of its parts, which are lower than its own.
-    pub fn node(&self, mark: u32) -> Node
+    pub fn node(&self, mark: u32) -> MarkNode
         requires { IsMark self.now mark }
         ensures { IsNodeOf self.now mark result }
     {
@@ -63,7 +63,7 @@ impl Marks {
     }
 
     // The mark of a node.
-    fn make(&mut self, node: Node, depth: u32) -> Result<u32, Memory>
+    fn make(&mut self, node: MarkNode, depth: u32) -> Result<u32, Memory>
         requires parts { HasPartsBelow (length self.old.nodes) node }
         requires depth { depth ≡ node_depth (depths self.old.nodes) node }
         ensures grows { Grows self.old self.new }
@@ -79,7 +79,7 @@ impl Marks {
         ensures made { IfOk result (λ r. IsMarkOf self.new r (λ N. lit_mark (N.literal template).0 (N.literal template).1)) }
         ensures err { OnErr result (self.new ≡ self.old) }
     {
-        self.make(Node::Lit(template), 0)
+        self.make(MarkNode::Lit(template), 0)
     }
 
     /// The mark of a word, by its number.
@@ -88,7 +88,7 @@ impl Marks {
         ensures made { IfOk result (λ r. IsMarkOf self.new r (λ N. wrd_mark word)) }
         ensures err { OnErr result (self.new ≡ self.old) }
     {
-        self.make(Node::Wrd(word), 0)
+        self.make(MarkNode::Wrd(word), 0)
     }
 
     /// The mark of an input of the row word that is checked, by its number.
@@ -97,7 +97,7 @@ impl Marks {
         ensures made { IfOk result (λ r. IsMarkOf self.new r (λ N. par_mark input)) }
         ensures err { OnErr result (self.new ≡ self.old) }
     {
-        self.make(Node::Par(input), 0)
+        self.make(MarkNode::Par(input), 0)
     }
 
     // The depth of a mark.
@@ -115,12 +115,12 @@ impl Marks {
         ensures { (N : Naming) → result ≡ is_callable (mark_of N self.now mark) }
     {
         match self.node(mark) {
-            Node::Any => false,
-            Node::Lit(_) => true,
-            Node::Cur(_, _) => true,
-            Node::Com(_, _) => true,
-            Node::Wrd(_) => false,
-            Node::Par(_) => true,
+            MarkNode::Any => false,
+            MarkNode::Lit(_) => true,
+            MarkNode::Cur(_, _) => true,
+            MarkNode::Com(_, _) => true,
+            MarkNode::Wrd(_) => false,
+            MarkNode::Par(_) => true,
         }
     }
 
@@ -158,7 +158,7 @@ impl Marks {
         if first >= MOST_MARK_DEPTH || second >= MOST_MARK_DEPTH {
             return Ok(self.unknown());
         }
-        self.make(Node::Cur(mark, callable), first.max(second) + 1)
+        self.make(MarkNode::Cur(mark, callable), first.max(second) + 1)
     }
 
     /// The mark of what `compose` makes of two callables, of which `first` runs first. Where one of them doesn't stand for callables alone, or the
@@ -181,7 +181,7 @@ impl Marks {
         if deep >= MOST_MARK_DEPTH || other >= MOST_MARK_DEPTH {
             return Ok(self.unknown());
         }
-        self.make(Node::Com(first, second), deep.max(other) + 1)
+        self.make(MarkNode::Com(first, second), deep.max(other) + 1)
     }
 
     /// The number of marks of a stack.
@@ -189,7 +189,7 @@ impl Marks {
         requires { IsStack self.now stack }
         ensures { (N : Naming) → result ≡ length (stack_of N self.now stack) }
     {
-        self.cells.height(stack)
+        self.stack_nodes.height(stack)
     }
 
     /// The top mark of a stack, and the stack below it. None where the stack is empty.
@@ -197,7 +197,7 @@ impl Marks {
         requires { IsStack self.now stack }
         ensures { HasTopWhere self.now stack result }
     {
-        self.cells.pop(stack)
+        self.stack_nodes.pop(stack)
     }
 
     /// What lies below the first `count` marks of a stack. None where there are fewer. It takes the time of `count` steps.
@@ -205,7 +205,7 @@ impl Marks {
         requires { IsStack self.now stack }
         ensures { IsStackWhere self.now result (λ N. under count (stack_of N self.now stack)) }
     {
-        self.cells.under(stack, count)
+        self.stack_nodes.under(stack, count)
     }
 
     /// A stack with one mark more.
@@ -216,7 +216,7 @@ impl Marks {
         ensures made { IfOk result (λ r. IsStackOf self.new r (λ N. mark_of N self.old mark ∷ stack_of N self.old stack)) }
         ensures err { OnErr result (self.new ≡ self.old) }
     {
-        self.cells.push(stack, mark)
+        self.stack_nodes.push(stack, mark)
     }
 
     /// A stack with `count` more values of which nothing is known. Want of memory can come after some of them.
@@ -226,7 +226,7 @@ impl Marks {
         ensures made { IfOk result (λ r. IsStackOf self.new r (λ N. unknowns count (stack_of N self.old stack))) }
     {
         let _first = self.nodes.first();
-        self.cells.zeros(stack, count)
+        self.stack_nodes.zeros(stack, count)
     }
 
     /// The stack after a shuffle, which takes `takes` marks and puts those at the places `leaves` back, the last on top; the deepest mark that it
@@ -238,7 +238,7 @@ impl Marks {
         ensures made { IfOk result (λ o. IsStackWhere self.new o (λ N. moved any takes leaves.now (stack_of N self.old stack))) }
     {
         let _first = self.nodes.first();
-        self.cells.shuffle(stack, takes, leaves)
+        self.stack_nodes.shuffle(stack, takes, leaves)
     }
 
     // The join of two stacks. None where their heights differ.
@@ -249,7 +249,7 @@ impl Marks {
         ensures made { IfOk result (λ o. IsJoinedWhere self.old self.new a b o) }
     {
         let _first = self.nodes.first();
-        self.cells.join(a, b)
+        self.stack_nodes.join(a, b)
     }
 
     // The join of two stacks on their bases.
@@ -302,7 +302,7 @@ impl Marks {
         ensures { (N : Naming) → result ≡ (nat_eq (length (stack_of N self.now bound)) (length (stack_of N self.now got)) && cover_marks (stack_of N self.now bound) (stack_of N self.now got)) }
     {
         let _first = self.nodes.first();
-        self.cells.covers(bound, got)
+        self.stack_nodes.covers(bound, got)
     }
 
     // Whether a stack on its base covers another.
@@ -342,7 +342,7 @@ impl Marks {
         ensures nodes { self.new.nodes ≡ self.old.nodes }
         ensures stack { IsStackOf self.new 0 (λ N. []) }
     {
-        self.cells.clear();
+        self.stack_nodes.clear();
     }
 }
 

@@ -3,7 +3,7 @@ use Rattle.std.proofs.Common.{◌≡◌, ◌+◌, ℕ, zero, suc, List, [], ◌�
 use Rattle.std.specs.Prelude.{nat_eq, nat_lt, not, ◌&&◌, ◌||◌, slice_get, is_some, codes}
 use Rattle.std.specs.List.{list_all}
 use Rattle.std.proofs.lemmas.Bool.{eqb-true, eq-eqb, leb-true, le-leb}
-use Rattle.fac_lang.specs.Texts.{Text, end, then, Item, lit, lit_arr, quot, word, bind, local, fry, hole, call_eff, exec_eff, next_method, made, next_after, held, known, Value}
+use Rattle.fac_lang.specs.Phrases.{Phrase, end, then, Item, lit, lit_arr, quot, word, bind, local, fry, hole, call_eff, exec_eff, next_method, made, next_after, held, known, Value}
 use Rattle.fac_lang.specs.World.{World, State, array}
 use Rattle.fac_lang.specs.declared.program.Lit.{Lit}
 use Rattle.fac_lang.specs.Signatures.{Signature, signature}
@@ -19,8 +19,8 @@ use Rattle.fac_lang.specs.declared.program.ClassDef.{ClassDef}
 use Rattle.fac_lang.specs.declared.program.WordDef.{WordDef}
 use Rattle.fac_lang.specs.declared.program.Sort.{Sort}
 use Rattle.fac_lang.specs.declared.program.Sort.TheVariants.{Prim as prim, Body as body, Past as past, Itself as itself, Class as class, Isa as isa, Getter as getter, Setter as setter, Putter as putter, Generic as generic, Method as method}
-use Rattle.fac_lang.specs.Meaning.{texts, names, sort_of, word_text, with_arrays, literal_value, array_method, start, run, is_phrase, one_item}
-use Rattle.fac_lang.specs.Whole.{IsWhole, each_item, each_inner, item_fits, word_texts, joined, quotations, has_written_effect, effect_written, is_effect, plain_effect, has_generic_effect, effect_of, sort_fits, is_generic, is_class, is_body, each_numbered, marks_fit}
+use Rattle.fac_lang.specs.Meaning.{meaning_values, names, sort_of, word_phrase, with_arrays, literal_value, array_method, start, run, is_top_phrase, one_item}
+use Rattle.fac_lang.specs.Whole.{IsWhole, each_item, each_inner, item_fits, word_phrases, joined, quotations, has_written_effect, effect_written, is_effect, plain_effect, has_generic_effect, effect_of, sort_fits, is_generic, is_class, is_body, each_numbered, marks_fit}
 use Rattle.fac_lang.proofs.WholeLemmas.{same_effect}
 use Rattle.fac_check.specs.Rows.{has_rows, bindable, is_row, outer_in, outer_out, effect_inputs, effect_leaving, leaving_on}
 use Rattle.fac_check.specs.Verdicts.{Refusal, inputs_marks, any_quoted, is_inline_body, inline_verdict, row_verdict, undeclared, bad_rows, bad_generic, no_generic_effect, ordinary_verdict, body_verdict, top_verdict, phrase_verdict, sort_verdict, ruled_verdict, word_verdict, verdict_from, verdict}
@@ -48,16 +48,16 @@ front_passes test (x ∷ xs) ys h = both (test x) (and_first (test x) (list_all 
     both false e k = e
 
 module _ (P : Program) where
-  -- No mark stands in a text whose items are those of a source.
+  -- No mark stands in a phrase whose items are those of a source.
   mutual
-    unmarked_text : (t : Text) → each_item (item_fits P) t ≡ true → Unmarked t
-    unmarked_text end h = tt
-    unmarked_text (then i p t) h =
-        (let q = and_first (item_fits P i && each_inner (item_fits P) i) (each_item (item_fits P) t) h in (unmarked_item i (and_first (item_fits P i) (each_inner (item_fits P) i) q) (and_second (item_fits P i) (each_inner (item_fits P) i) q), unmarked_text t (and_second (item_fits P i && each_inner (item_fits P) i) (each_item (item_fits P) t) h)))
+    unmarked_phrase : (t : Phrase) → each_item (item_fits P) t ≡ true → Unmarked t
+    unmarked_phrase end h = tt
+    unmarked_phrase (then i p t) h =
+        (let q = and_first (item_fits P i && each_inner (item_fits P) i) (each_item (item_fits P) t) h in (unmarked_item i (and_first (item_fits P i) (each_inner (item_fits P) i) q) (and_second (item_fits P i) (each_inner (item_fits P) i) q), unmarked_phrase t (and_second (item_fits P i && each_inner (item_fits P) i) (each_item (item_fits P) t) h)))
 
     unmarked_item : (i : Item) → item_fits P i ≡ true → each_inner (item_fits P) i ≡ true → UnmarkedItem i
-    unmarked_item (quot t) h k = unmarked_text t k
-    unmarked_item (fry t n) h k = unmarked_text t k
+    unmarked_item (quot t) h k = unmarked_phrase t k
+    unmarked_item (fry t n) h k = unmarked_phrase t k
     unmarked_item (known m) h k = absurd (never_true h)
     unmarked_item (lit p) h k = tt
     unmarked_item (lit_arr a) h k = tt
@@ -73,7 +73,7 @@ module _ (P : Program) where
     unmarked_item (held v) h k = tt
 
   mutual
-    unmarked_method : (m : ℕ) (t : Text) → Unmarked t → Unmarked (of_method m t)
+    unmarked_method : (m : ℕ) (t : Phrase) → Unmarked t → Unmarked (of_method m t)
     unmarked_method m end h = tt
     unmarked_method m (then i p t) h = (unmarked_method_item m i h.0, unmarked_method m t h.1)
 
@@ -94,33 +94,33 @@ module _ (P : Program) where
     unmarked_method_item m (next_after n) h = tt
     unmarked_method_item m (held v) h = tt
 
-  -- the text that a sort has
-  abbrev HasText : Sort → Text → Type 0
-  HasText (body t) u = t ≡ u
-  HasText (method c g t) u = t ≡ u
-  HasText _ u = ⊥
+  -- the phrase that a sort has
+  abbrev HasPhrase : Sort → Phrase → Type 0
+  HasPhrase (body t) u = t ≡ u
+  HasPhrase (method c g t) u = t ≡ u
+  HasPhrase _ u = ⊥
 
-  abbrev texts_with : Sort → List Text → List Text
-  texts_with s ts = elim s [ body t ↦ t ∷ ts | past t ↦ t ∷ ts | method c g t ↦ t ∷ ts | _ ↦ ts ]
+  abbrev phrases_with : Sort → List Phrase → List Phrase
+  phrases_with s ts = elim s [ body t ↦ t ∷ ts | past t ↦ t ∷ ts | method c g t ↦ t ∷ ts | _ ↦ ts ]
 
-  head_passes : (test : Text → Bool) (s : Sort) (ts : List Text) (u : Text) → HasText s u → list_all test (texts_with s ts) ≡ true → test u ≡ true
+  head_passes : (test : Phrase → Bool) (s : Sort) (ts : List Phrase) (u : Phrase) → HasPhrase s u → list_all test (phrases_with s ts) ≡ true → test u ≡ true
   head_passes test (body t) ts u e h = subst (λ x. test x ≡ true) e (and_first (test t) (list_all test ts) h)
   head_passes test (method c g t) ts u e h = subst (λ x. test x ≡ true) e (and_first (test t) (list_all test ts) h)
   head_passes test s ts u e h = absurd e
 
-  rest_passes : (test : Text → Bool) (s : Sort) (ts : List Text) → list_all test (texts_with s ts) ≡ true → list_all test ts ≡ true
+  rest_passes : (test : Phrase → Bool) (s : Sort) (ts : List Phrase) → list_all test (phrases_with s ts) ≡ true → list_all test ts ≡ true
   rest_passes test (body t) ts h = and_second (test t) (list_all test ts) h
   rest_passes test (method c g t) ts h = and_second (test t) (list_all test ts) h
   rest_passes test (past t) ts h = and_second (test t) (list_all test ts) h
   rest_passes test s ts h = h
 
-  text_passes : (test : Text → Bool) (ds : List WordDef) → list_all test (word_texts ds) ≡ true → (k : ℕ) (d : WordDef) (u : Text) → slice_get ds k ≡ Some d → HasText d.sort u → test u ≡ true
-  text_passes test [] h k d u e q = absurd (cc)
-  text_passes test (c ∷ ds) h zero d u e q = (let same : d ≡ c = cc in head_passes test c.sort (word_texts ds) u (subst (λ x. HasText x.sort u) same q) h)
-  text_passes test (c ∷ ds) h (suc k) d u e q = text_passes test ds (rest_passes test c.sort (word_texts ds) h) k d u e q
+  phrase_passes : (test : Phrase → Bool) (ds : List WordDef) → list_all test (word_phrases ds) ≡ true → (k : ℕ) (d : WordDef) (u : Phrase) → slice_get ds k ≡ Some d → HasPhrase d.sort u → test u ≡ true
+  phrase_passes test [] h k d u e q = absurd (cc)
+  phrase_passes test (c ∷ ds) h zero d u e q = (let same : d ≡ c = cc in head_passes test c.sort (word_phrases ds) u (subst (λ x. HasPhrase x.sort u) same q) h)
+  phrase_passes test (c ∷ ds) h (suc k) d u e q = phrase_passes test ds (rest_passes test c.sort (word_phrases ds) h) k d u e q
 
-  unmarked_word : IsWhole P → (w : ℕ) (d : WordDef) (u : Text) → slice_get P.words w ≡ Some d → HasText d.sort u → Unmarked u
-  unmarked_word whole w d u e q = unmarked_text u (text_passes (each_item (item_fits P)) P.words (front_passes (each_item (item_fits P)) (word_texts P.words) (joined (map quotations P.arrays)) whole.items_fit) w d u e q)
+  unmarked_word : IsWhole P → (w : ℕ) (d : WordDef) (u : Phrase) → slice_get P.words w ≡ Some d → HasPhrase d.sort u → Unmarked u
+  unmarked_word whole w d u e q = unmarked_phrase u (phrase_passes (each_item (item_fits P)) P.words (front_passes (each_item (item_fits P)) (word_phrases P.words) (joined (map quotations P.arrays)) whole.items_fit) w d u e q)
 
   -- An accepted program has no refused word.
   abbrev first_refusal : Option Refusal → ℕ → Option (ℕ × Refusal) → Option (ℕ × Refusal)
@@ -152,15 +152,15 @@ module _ (P : Program) where
   of_word start h w d q = by_rules (undeclared P w d) (bad_rows P w d) (bad_generic P d.sort d.effect) start w d (accepted_word start h w d q)
 
   -- an ordinary word
-  by_phrase : (b : Bool) (start w : ℕ) (t : Text) (d : WordDef) → not b ≡ true → phrase_verdict P b start w t d ≡ None → body_verdict P d.inline w t d ≡ None
+  by_phrase : (b : Bool) (start w : ℕ) (t : Phrase) (d : WordDef) → not b ≡ true → phrase_verdict P b start w t d ≡ None → body_verdict P d.inline w t d ≡ None
   by_phrase true start w t d z h = absurd (never_true z)
   by_phrase false start w t d z h = h
 
-  ordinary_accepted : (start : ℕ) → verdict P start ≡ None → (w : ℕ) (d : WordDef) (t : Text) → slice_get P.words w ≡ Some d → d.sort ≡ body t → not (nat_eq w P.top) ≡ true → d.inline ≡ false → ordinary_verdict P w t d ≡ None
+  ordinary_accepted : (start : ℕ) → verdict P start ≡ None → (w : ℕ) (d : WordDef) (t : Phrase) → slice_get P.words w ≡ Some d → d.sort ≡ body t → not (nat_eq w P.top) ≡ true → d.inline ≡ false → ordinary_verdict P w t d ≡ None
   ordinary_accepted start h w d t q s z i = subst (λ b. body_verdict P b w t d ≡ None) i (by_phrase (nat_eq w P.top) start w t d z (subst (λ x. sort_verdict P start w d x ≡ None) s (of_word start h w d q).2))
 
   -- a row word
-  row_accepted : (start : ℕ) → verdict P start ≡ None → (w : ℕ) (d : WordDef) (t : Text) → slice_get P.words w ≡ Some d → d.sort ≡ body t → not (nat_eq w P.top) ≡ true → d.inline ≡ true → is_row d.recursive d.effect ≡ true → row_verdict P w t d ≡ None
+  row_accepted : (start : ℕ) → verdict P start ≡ None → (w : ℕ) (d : WordDef) (t : Phrase) → slice_get P.words w ≡ Some d → d.sort ≡ body t → not (nat_eq w P.top) ≡ true → d.inline ≡ true → is_row d.recursive d.effect ≡ true → row_verdict P w t d ≡ None
   row_accepted start h w d t q s z i x =
       subst (λ b. inline_verdict P b w t d ≡ None) x (subst (λ b. body_verdict P b w t d ≡ None) i (by_phrase (nat_eq w P.top) start w t d z (subst (λ y. sort_verdict P start w d y ≡ None) s (of_word start h w d q).2)))
 
@@ -180,26 +180,26 @@ module _ (P : Program) where
       by_case true u y = bound b (bindable (signature r is l)) y
       by_case false u y = rw u refl
 
-  rows_bindable : (start : ℕ) → verdict P start ≡ None → (w : ℕ) (d : WordDef) (t : Text) → slice_get P.words w ≡ Some d → d.sort ≡ body t → not (nat_eq w P.top) ≡ true → bindable d.effect ≡ true
+  rows_bindable : (start : ℕ) → verdict P start ≡ None → (w : ℕ) (d : WordDef) (t : Phrase) → slice_get P.words w ≡ Some d → d.sort ≡ body t → not (nat_eq w P.top) ≡ true → bindable d.effect ≡ true
   rows_bindable start h w d t q s z = can_bind d.effect (not (nat_eq w P.top)) (is_inline_body P d) z (subst (λ y. bad_rows_of w d y ≡ false) s (of_word start h w d q).0)
 
   -- a method
-  method_accepted : (start : ℕ) → verdict P start ≡ None → (w : ℕ) (d : WordDef) (c g : ℕ) (t : Text) → slice_get P.words w ≡ Some d → d.sort ≡ method c g t → ordinary_verdict P w (of_method w t) d ≡ None
+  method_accepted : (start : ℕ) → verdict P start ≡ None → (w : ℕ) (d : WordDef) (c g : ℕ) (t : Phrase) → slice_get P.words w ≡ Some d → d.sort ≡ method c g t → ordinary_verdict P w (of_method w t) d ≡ None
   method_accepted start h w d c g t q s = subst (λ x. sort_verdict P start w d x ≡ None) s (of_word start h w d q).2
 
   -- the top-level phrase
-  by_top : (b : Bool) (start w : ℕ) (t : Text) (d : WordDef) → b ≡ true → phrase_verdict P b start w t d ≡ None → top_verdict P start w t ≡ None
+  by_top : (b : Bool) (start w : ℕ) (t : Phrase) (d : WordDef) → b ≡ true → phrase_verdict P b start w t d ≡ None → top_verdict P start w t ≡ None
   by_top true start w t d z h = h
   by_top false start w t d z h = absurd (never_true z)
 
-  pub top_accepted : (start : ℕ) → verdict P start ≡ None → (w : ℕ) (d : WordDef) (t : Text) → slice_get P.words w ≡ Some d → d.sort ≡ body t → nat_eq w P.top ≡ true → top_verdict P start w t ≡ None
+  pub top_accepted : (start : ℕ) → verdict P start ≡ None → (w : ℕ) (d : WordDef) (t : Phrase) → slice_get P.words w ≡ Some d → d.sort ≡ body t → nat_eq w P.top ≡ true → top_verdict P start w t ≡ None
   top_accepted start h w d t q s z = by_top (nat_eq w P.top) start w t d z (subst (λ x. sort_verdict P start w d x ≡ None) s (of_word start h w d q).2)
 
   -- Methods.
 
   -- word m is a method of generic g
   abbrev pub IsMethod : ℕ → ℕ → Type 0
-  IsMethod g m = (d : WordDef) × (c : ℕ) × (t : Text) × (slice_get P.words m ≡ Some d) × (d.sort ≡ method c g t)
+  IsMethod g m = (d : WordDef) × (c : ℕ) × (t : Phrase) × (slice_get P.words m ≡ Some d) × (d.sort ≡ method c g t)
 
   abbrev AllMethods : ℕ → List (ℕ × ℕ) → Type 0
   AllMethods g [] = Unit {0}
@@ -216,7 +216,7 @@ module _ (P : Program) where
   abbrev method_or : ℕ → ℕ → Sort → List (ℕ × ℕ) → List (ℕ × ℕ)
   method_or g k s rest = elim s [ method c h t ↦ elim (nat_eq g h) [ true ↦ (k, c) ∷ rest | false ↦ rest ] | _ ↦ rest ]
 
-  with_method : (g k : ℕ) (s : Sort) (rest : List (ℕ × ℕ)) → ((c h : ℕ) (t : Text) → s ≡ method c h t → g ≡ h → IsMethod g k) → AllMethods g rest → AllMethods g (method_or g k s rest)
+  with_method : (g k : ℕ) (s : Sort) (rest : List (ℕ × ℕ)) → ((c h : ℕ) (t : Phrase) → s ≡ method c h t → g ≡ h → IsMethod g k) → AllMethods g rest → AllMethods g (method_or g k s rest)
   with_method g k (method c h t) rest x y = chosen (nat_eq g h) refl
     where
       chosen : (q : Bool) → nat_eq g h ≡ q → AllMethods g (elim q [ true ↦ (k, c) ∷ rest | false ↦ rest ])
@@ -262,7 +262,7 @@ module _ (P : Program) where
   abbrev next_by : ℕ → Sort → Option ℕ
   next_by k s = elim s [ method c g t ↦ elim (has_kind P.classes c k) [ true ↦ word_in (first_method P.classes k (λ d. class_before P.classes c d) (methods_from g 0 P.words)) | false ↦ None ] | _ ↦ None ]
 
-  next_is : (k n c g : ℕ) (t : Text) → next_by k (method c g t) ≡ Some n → IsMethod g n
+  next_is : (k n c g : ℕ) (t : Phrase) → next_by k (method c g t) ≡ Some n → IsMethod g n
   next_is k n c g t e = chosen (has_kind P.classes c k) e
     where
       chosen : (q : Bool) → (let o : Option ℕ = elim q [ true ↦ word_in (first_method P.classes k (λ d. class_before P.classes c d) (methods_from g 0 P.words)) | false ↦ None ] in o ≡ Some n) → IsMethod g n
@@ -277,7 +277,7 @@ module _ (P : Program) where
   found_word None s e = absurd (cc)
   found_word (Some d) s e = (d, refl, cc)
 
-  next_method_is : (m k n c g : ℕ) (t : Text) → sort_of P m ≡ Some (method c g t) → next P m k ≡ Some n → IsMethod g n
+  next_method_is : (m k n c g : ℕ) (t : Phrase) → sort_of P m ≡ Some (method c g t) → next P m k ≡ Some n → IsMethod g n
   next_method_is m k n c g t e q =
       (let z = found_word (slice_get P.words m) (method c g t) e in next_is k n c g t (subst (λ s. next_by k s ≡ Some n) z.2 (subst (λ o. next_from P k o ≡ Some n) z.1 q)))
 
@@ -285,7 +285,7 @@ module _ (P : Program) where
   same_sort w d e = ap sort_in e
 
   module _ (whole : IsWhole P) where
-    -- the effect that a word without a text is written to have
+    -- the effect that a word without a phrase is written to have
     written : (w : ℕ) (d : WordDef) → slice_get P.words w ≡ Some d → has_written_effect d ≡ true
     written w d e = one_passes has_written_effect P.words whole.written_effects w d e
 
@@ -313,9 +313,9 @@ module _ (P : Program) where
 
     method_of : (start : ℕ) → verdict P start ≡ None → (g : ℕ) (d : WordDef) → slice_get P.words g ≡ Some d → (m : ℕ) → IsMethod g m → AcceptedMethod P (height_of d) m
     method_of start h g d e m x =
-        (let text_is : word_text P m ≡ of_method m x.2 = ap (λ o. elim o [ Some s ↦ elim s [ body t ↦ t | past t ↦ t | method c i t ↦ of_method m t | _ ↦ end ] | None ↦ end ]) (same_sort m x.0 x.3 ∙ ap (λ s. Some s) x.4) in (x.0, subst (λ u. ordinary_verdict P m u x.0 ≡ None) (sym text_is) (method_accepted start h m x.0 x.1 g x.2 x.3 x.4), sym (ap effect_height (effect_found (slice_get P.words g) d x.0.effect e (subst (λ s. has_generic s x.0.effect ≡ true) x.4 (one_passes (has_generic_effect P) P.words whole.method_effects m x.0 x.3)))), subst Unmarked (sym text_is) (unmarked_method m x.2 (unmarked_word whole m x.0 x.2 x.3 (subst (λ s. HasText s x.2) (sym x.4) refl)))))
+        (let body_is : word_phrase P m ≡ of_method m x.2 = ap (λ o. elim o [ Some s ↦ elim s [ body t ↦ t | past t ↦ t | method c i t ↦ of_method m t | _ ↦ end ] | None ↦ end ]) (same_sort m x.0 x.3 ∙ ap (λ s. Some s) x.4) in (x.0, subst (λ u. ordinary_verdict P m u x.0 ≡ None) (sym body_is) (method_accepted start h m x.0 x.1 g x.2 x.3 x.4), sym (ap effect_height (effect_found (slice_get P.words g) d x.0.effect e (subst (λ s. has_generic s x.0.effect ≡ true) x.4 (one_passes (has_generic_effect P) P.words whole.method_effects m x.0 x.3)))), subst Unmarked (sym body_is) (unmarked_method m x.2 (unmarked_word whole m x.0 x.2 x.3 (subst (λ s. HasPhrase s x.2) (sym x.4) refl)))))
 
-    -- an inline word has a text and isn't the top-level phrase
+    -- an inline word has a phrase and isn't the top-level word
     numbered_passes : (test : ℕ → WordDef → Bool) (j : ℕ) (ds : List WordDef) → each_numbered test j ds ≡ true → (n v : ℕ) (d : WordDef) → v ≡ j + n → slice_get ds n ≡ Some d → test v d ≡ true
     numbered_passes test j [] h n v d e q = absurd (cc)
     numbered_passes test j (c ∷ ds) h zero v d e q =
@@ -326,12 +326,12 @@ module _ (P : Program) where
     marked_passes true r x e h = h
     marked_passes false r x e h = absurd (never_true e)
 
-    has_body : (s : Sort) → is_body (Some s) ≡ true → (t : Text) × (s ≡ body t)
+    has_body : (s : Sort) → is_body (Some s) ≡ true → (t : Phrase) × (s ≡ body t)
     has_body (body t) h = (t, refl)
     has_body s h = absurd (never_true h)
 
-    pub inline_text : (w : ℕ) (d : WordDef) → slice_get P.words w ≡ Some d → d.inline ≡ true → (t : Text) × (d.sort ≡ body t) × (not (nat_eq w P.top) ≡ true)
-    inline_text w d e i =
+    pub inline_phrase : (w : ℕ) (d : WordDef) → slice_get P.words w ≡ Some d → d.inline ≡ true → (t : Phrase) × (d.sort ≡ body t) × (not (nat_eq w P.top) ≡ true)
+    inline_phrase w d e i =
         (let z = marked_passes d.inline d.recursive (is_body (Some d.sort) && not (nat_eq w P.top)) i (numbered_passes (marks_fit P) 0 P.words whole.marks_of_bodies w w d (omega arith) e) in let b = has_body d.sort (and_first (is_body (Some d.sort)) (not (nat_eq w P.top)) z) in (b.0, b.1, and_second (is_body (Some d.sort)) (not (nat_eq w P.top)) z))
 
     has_prim : (o : Option PrimitiveWord) → is_some o ≡ true → (r : PrimitiveWord) × (o ≡ Some r)
@@ -353,7 +353,7 @@ module _ (P : Program) where
     generic_input start h w d e s = some_input d.effect (subst (λ x. bad_generic P x d.effect ≡ false) s (of_word start h w d e).1)
 
     -- the generic of a method
-    generic_sort : (m c g : ℕ) (t : Text) (d : WordDef) → sort_of P m ≡ Some (method c g t) → slice_get P.words g ≡ Some d → d.sort ≡ generic
+    generic_sort : (m c g : ℕ) (t : Phrase) (d : WordDef) → sort_of P m ≡ Some (method c g t) → slice_get P.words g ≡ Some d → d.sort ≡ generic
     generic_sort m c g t d e q =
         (let z = found_word (slice_get P.words m) (method c g t) e in let fits : (is_class P c && is_generic (sort_of P g)) ≡ true = subst (λ s. sort_fits P s ≡ true) z.2 (one_passes (λ x. sort_fits P x.sort) P.words whole.sorts_fit m z.0 z.1) in only_generic d.sort (subst (λ o. is_generic o ≡ true) (same_sort g d q) (and_second (is_class P c) (is_generic (sort_of P g)) fits)))
       where
@@ -366,18 +366,18 @@ module _ (P : Program) where
     accepted_program start h =
         record {
           accepted = ordinary_accepted start h;
-          unmarked = λ w d t e s. unmarked_word whole w d t e (subst (λ x. HasText x t) (sym s) refl);
+          unmarked = λ w d t e s. unmarked_word whole w d t e (subst (λ x. HasPhrase x t) (sym s) refl);
           row_accepted = row_accepted start h;
           rows_bindable = rows_bindable start h;
-          prims = λ w d k p e s q. subst (λ x. RegularFn x.ins x.outs (prim_fn texts (names P) p)) (prim_height w d k p e s q) (prim_regular (names P) k p q);
-          getters = λ w d n e s. subst (λ x. RegularFn (effect_height x).ins (effect_height x).outs (get_slot texts (names P) n)) (same_effect (plain_effect (codes "object" ∷ []) (codes "value" ∷ [])) d.effect (by_sort d (getter n) s (written w d e))) (getter_regular (names P) n);
-          setters = λ w d n e s. subst (λ x. RegularFn (effect_height x).ins (effect_height x).outs (set_slot texts (names P) n)) (same_effect (plain_effect (codes "object" ∷ codes "value" ∷ []) (codes "object" ∷ [])) d.effect (by_sort d (setter n) s (written w d e))) (setter_regular (names P) n);
-          putters = λ w d n e s. subst (λ x. RegularFn (effect_height x).ins (effect_height x).outs (put_slot texts (names P) n)) (same_effect (plain_effect (codes "value" ∷ codes "object" ∷ []) []) d.effect (by_sort d (putter n) s (written w d e))) (putter_regular (names P) n);
+          prims = λ w d k p e s q. subst (λ x. RegularFn x.ins x.outs (prim_fn meaning_values (names P) p)) (prim_height w d k p e s q) (prim_regular (names P) k p q);
+          getters = λ w d n e s. subst (λ x. RegularFn (effect_height x).ins (effect_height x).outs (get_slot meaning_values (names P) n)) (same_effect (plain_effect (codes "object" ∷ []) (codes "value" ∷ [])) d.effect (by_sort d (getter n) s (written w d e))) (getter_regular (names P) n);
+          setters = λ w d n e s. subst (λ x. RegularFn (effect_height x).ins (effect_height x).outs (set_slot meaning_values (names P) n)) (same_effect (plain_effect (codes "object" ∷ codes "value" ∷ []) (codes "object" ∷ [])) d.effect (by_sort d (setter n) s (written w d e))) (setter_regular (names P) n);
+          putters = λ w d n e s. subst (λ x. RegularFn (effect_height x).ins (effect_height x).outs (put_slot meaning_values (names P) n)) (same_effect (plain_effect (codes "value" ∷ codes "object" ∷ []) []) d.effect (by_sort d (putter n) s (written w d e))) (putter_regular (names P) n);
           tests = λ w d c e s. subst (λ x. ((effect_height x).ins ≡ 1) × ((effect_height x).outs ≡ Some 1)) (same_effect (plain_effect (codes "object" ∷ []) (codes "?" ∷ [])) d.effect (by_sort d (isa c) s (written w d e))) (refl, refl);
           numbered = prim_there;
           selves = λ w d e s. subst (λ x. ((effect_height x).ins ≡ 0) × ((effect_height x).outs ≡ Some 1)) (same_effect (plain_effect [] (codes "value" ∷ [])) d.effect (by_sort d itself s (written w d e))) (refl, refl);
           classes = λ w d c e s. subst (λ x. ((effect_height x).ins ≡ 0) × ((effect_height x).outs ≡ Some 1)) (same_effect (plain_effect [] (codes "value" ∷ [])) d.effect (by_sort d (class c) s (written w d e))) (refl, refl);
-          methods = λ w d c g t e s. (method_accepted start h w d c g t e s, unmarked_method w t (unmarked_word whole w d t e (subst (λ x. HasText x t) (sym s) refl)));
+          methods = λ w d c g t e s. (method_accepted start h w d c g t e s, unmarked_method w t (unmarked_word whole w d t e (subst (λ x. HasPhrase x t) (sym s) refl)));
           generics = λ w d e s. (let z = generic_input start h w d e s in (z.0, z.1, λ k m y. method_of start h w d e m (picked_is w k m y)));
           nexts = λ m c g t d e q. (let z = generic_input start h g d q (generic_sort m c g t d e q) in (z.0, z.1, λ k n y. method_of start h g d q n (next_method_is m k n c g t e y)));
         }
@@ -409,23 +409,23 @@ module _ (P : Program) where
   pub start_valid : (input : List ℕ) → Valid P (start P input).world
   start_valid input a h = there_is (start P input).world.literals a (length P.arrays) (let z = arrays_made 0 P.arrays (record { objects = []; literals = []; input = input; output = [] }) in z ∙ omega arith) h
 
-  text_there : (w : ℕ) (t : Text) → sort_of P w ≡ Some (body t) → word_text P w ≡ t
-  text_there w t e = ap (λ o. elim o [ Some x ↦ elim x [ body u ↦ u | past u ↦ u | method k g u ↦ of_method w u | _ ↦ end ] | None ↦ end ]) e
+  phrase_there : (w : ℕ) (t : Phrase) → sort_of P w ≡ Some (body t) → word_phrase P w ≡ t
+  phrase_there w t e = ap (λ o. elim o [ Some x ↦ elim x [ body u ↦ u | past u ↦ u | method k g u ↦ of_method w u | _ ↦ end ] | None ↦ end ]) e
 
   module _ (k : ℕ) (whole : IsWhole P) (accepted : verdict P k ≡ None) where
     -- Of a whole program that is accepted, with k values on the list before its top-level phrase: the item of a word that has an effect by itself, from every state with its declared inputs on any values, at every budget, isn't stuck, and where it is done exactly its declared outputs stand on those values.
-    pub word_sound : (w : ℕ) (d : WordDef) (h : Height) → slice_get P.words w ≡ Some d → word_height d ≡ Some h → is_phrase P w ≡ false → (below : List Value) (st : State Value) (n : ℕ) → Over h.ins below st.stack → Valid P st.world → EndsSo (Leaves P h.outs below) (run P fits (callable_height P) n (one_item (word w)) st)
+    pub word_sound : (w : ℕ) (d : WordDef) (h : Height) → slice_get P.words w ≡ Some d → word_height d ≡ Some h → is_top_phrase P w ≡ false → (below : List Value) (st : State Value) (n : ℕ) → Over h.ins below st.stack → Valid P st.world → EndsSo (Leaves P h.outs below) (run P fits (callable_height P) n (one_item (word w)) st)
     word_sound w d h e q z below st n o v = item_sound P (accepted_program P whole k accepted) w d h e q z below st n o v
 
     -- Likewise a row word, in every context in which what may be handed in for its inputs does what its effect says.
     pub row_sound : (w : ℕ) (d : WordDef) → slice_get P.words w ≡ Some d → d.inline ≡ true → is_row d.recursive d.effect ≡ true → (C : Context) → C.own ≡ Some d.effect → C.word ≡ Some w → (n : ℕ) → Good P n C → (st : State Value) → OnState P C (outer_in d.effect) (inputs_marks 1 (effect_inputs d.effect) []) st → EndsSo (StackState P C (leaving_on (effect_leaving d.effect) (outer_out d.effect) [])) (run P fits (callable_height P) n (one_item (word w)) st)
-    row_sound w d e i x C own is_word n good st o = (let b = inline_text P whole w d e i in row_word_sound P (accepted_program P whole k accepted) w d b.0 e b.1 b.2 i x C own is_word n good st o)
+    row_sound w d e i x C own is_word n good st o = (let b = inline_phrase P whole w d e i in row_word_sound P (accepted_program P whole k accepted) w d b.0 e b.1 b.2 i x C own is_word n good st o)
 
-    found_body : (o : Option Sort) → is_body o ≡ true → (t : Text) × (o ≡ Some (body t))
+    found_body : (o : Option Sort) → is_body o ≡ true → (t : Phrase) × (o ≡ Some (body t))
     found_body (Some (body t)) h = (t, refl)
     found_body o h = absurd (never_true h)
 
     -- The top-level phrase, from every state with those k values, at every budget, isn't stuck.
-    pub phrase_sound : (st : State Value) (n : ℕ) → Over k [] st.stack → Valid P st.world → EndsSo (λ st'. Unit {0}) (run P fits (callable_height P) n (word_text P P.top) st)
+    pub phrase_sound : (st : State Value) (n : ℕ) → Over k [] st.stack → Valid P st.world → EndsSo (λ st'. Unit {0}) (run P fits (callable_height P) n (word_phrase P P.top) st)
     phrase_sound st n o v =
-        (let z = found_body (sort_of P P.top) whole.top_phrase in let y = found_word P (slice_get P.words P.top) (body z.0) z.1 in let text_is : word_text P P.top ≡ z.0 = text_there P.top z.0 z.1 in subst (λ t. EndsSo (λ st'. Unit {0}) (run P fits (callable_height P) n t st)) (sym text_is) (top_sound P (accepted_program P whole k accepted) P.top z.0 k (unmarked_word P whole P.top y.0 z.0 y.1 (subst (λ s. HasText P s z.0) (sym y.2) refl)) (top_accepted P k accepted P.top y.0 z.0 y.1 y.2 (eq-eqb P.top P.top refl)) st n o v))
+        (let z = found_body (sort_of P P.top) whole.top_phrase in let y = found_word P (slice_get P.words P.top) (body z.0) z.1 in let body_is : word_phrase P P.top ≡ z.0 = phrase_there P.top z.0 z.1 in subst (λ t. EndsSo (λ st'. Unit {0}) (run P fits (callable_height P) n t st)) (sym body_is) (top_sound P (accepted_program P whole k accepted) P.top z.0 k (unmarked_word P whole P.top y.0 z.0 y.1 (subst (λ s. HasPhrase P s z.0) (sym y.2) refl)) (top_accepted P k accepted P.top y.0 z.0 y.1 y.2 (eq-eqb P.top P.top refl)) st n o v))

@@ -1,17 +1,17 @@
--- No mark stands in the texts of built programs.
+-- No mark stands in the phrases of built programs.
 use Rattle.std.proofs.Common.{◌≡◌, ℕ, refl}
 use Rattle.std.specs.Prelude.{max}
-use Rattle.fac_lang.specs.Texts.{Text, end, then, Item, lit, lit_arr, quot, word, bind, local, fry, hole, call_eff, exec_eff, next_method, made, next_after, held, known}
-use Rattle.fac_lang.specs.Forms.{IsBuiltText, IsBuiltItem}
-use Rattle.fac_abs.specs.Marks.{text_marks, item_marks}
+use Rattle.fac_lang.specs.Phrases.{Phrase, end, then, Item, lit, lit_arr, quot, word, bind, local, fry, hole, call_eff, exec_eff, next_method, made, next_after, held, known}
+use Rattle.fac_lang.specs.Forms.{IsBuiltPhrase, IsBuiltItem}
+use Rattle.fac_abs.specs.Marks.{phrase_marks, item_marks}
 
 none_of_both : (a b : ℕ) → a ≡ 0 → b ≡ 0 → max a b ≡ 0
 none_of_both a b e f = rw (e, f) refl
 
 mutual
-  pub built_unmarked : (bound : ℕ) (t : Text) → IsBuiltText bound t → text_marks t ≡ 0
+  pub built_unmarked : (bound : ℕ) (t : Phrase) → IsBuiltPhrase bound t → phrase_marks t ≡ 0
   built_unmarked bound end h = refl
-  built_unmarked bound (then i p t) h = none_of_both (item_marks i) (text_marks t) (built_item_unmarked bound i h.0) (built_unmarked bound t h.1)
+  built_unmarked bound (then i p t) h = none_of_both (item_marks i) (phrase_marks t) (built_item_unmarked bound i h.0) (built_unmarked bound t h.1)
 
   built_item_unmarked : (bound : ℕ) (i : Item) → IsBuiltItem bound i → item_marks i ≡ 0
   built_item_unmarked bound (quot t) h = built_unmarked bound t h

@@ -76,24 +76,24 @@ built_so P w bound d (method c g t) e h = absurd h
 top_so : (P : Program) (w bound : ℕ) (d : WordDef) (t : _) → IsTopPhrase bound d t → BuiltAs P w d
 top_so P w bound d t h = as_defined t h.sort_is (rw h.not_inline refl) (subst (λ x. has_rows x ≡ false) (sym h.effect_is) refl)
 
--- each word of a built program is a primitive, a core word or is defined by a text
+-- each word of a built program is a primitive, a core word or is defined by a phrase
 pub built_as : (P : Program) → IsBuilt P → (w : ℕ) (d : WordDef) → slice_get P.words w ≡ Some d → BuiltAs P w d
-built_as P b w d e = which (at_or_last b.words b.phrase w d (subst (λ ws. slice_get ws w ≡ Some d) b.words_are e))
+built_as P b w d e = which (at_or_last b.words b.last_word w d (subst (λ ws. slice_get ws w ≡ Some d) b.words_are e))
   where
-    which : (slice_get b.words w ≡ Some d) ⊎ ((w ≡ length b.words) × (b.phrase ≡ d)) → BuiltAs P w d
+    which : (slice_get b.words w ≡ Some d) ⊎ ((w ≡ length b.words) × (b.last_word ≡ d)) → BuiltAs P w d
     which (inl f) = built_so P w P.top d d.sort refl (built_there P.top b.words b.built w d f)
-    which (inr f) = subst (λ x. BuiltAs P w x) f.1 (top_so P w P.top b.phrase b.text b.phrase_is)
+    which (inr f) = subst (λ x. BuiltAs P w x) f.1 (top_so P w P.top b.last_word b.phrase b.last_word_is)
 
 primitive_so : (d : WordDef) (k : ℕ) → IsPrimitiveWord d k → (p : Primitive) × (prim_numbered k ≡ Some p) × (d.effect ≡ written_effect p.word)
 primitive_so d k h = (let z = prim_found k h.row h.row_is in (z.0, z.1, h.effect_is ∙ ap written_effect (sym z.2)))
 
 -- a primitive word has the effect that is written for its primitive
 pub built_primitive_word : (P : Program) → IsBuilt P → (w : ℕ) (d : WordDef) → slice_get P.words w ≡ Some d → (k : ℕ) → d.sort ≡ prim k → (p : Primitive) × (prim_numbered k ≡ Some p) × (d.effect ≡ written_effect p.word)
-built_primitive_word P b w d e k s = which (at_or_last b.words b.phrase w d (subst (λ ws. slice_get ws w ≡ Some d) b.words_are e))
+built_primitive_word P b w d e k s = which (at_or_last b.words b.last_word w d (subst (λ ws. slice_get ws w ≡ Some d) b.words_are e))
   where
-    which : (slice_get b.words w ≡ Some d) ⊎ ((w ≡ length b.words) × (b.phrase ≡ d)) → (p : Primitive) × (prim_numbered k ≡ Some p) × (d.effect ≡ written_effect p.word)
+    which : (slice_get b.words w ≡ Some d) ⊎ ((w ≡ length b.words) × (b.last_word ≡ d)) → (p : Primitive) × (prim_numbered k ≡ Some p) × (d.effect ≡ written_effect p.word)
     which (inl f) = primitive_so d k (subst (λ x. IsBuiltSort P.top d x) s (built_there P.top b.words b.built w d f))
-    which (inr f) = absurd (let is_phrase = b.phrase_is in let body_sort : b.phrase.sort ≡ body b.text = is_phrase.sort_is in let prim_sort : b.phrase.sort ≡ prim k = subst (λ (x : WordDef). x.sort ≡ prim k) (sym f.1) s in cc)
+    which (inr f) = absurd (let is_top_phrase = b.last_word_is in let body_sort : b.last_word.sort ≡ body b.phrase = is_top_phrase.sort_is in let prim_sort : b.last_word.sort ≡ prim k = subst (λ (x : WordDef). x.sort ≡ prim k) (sym f.1) s in cc)
 
 -- no word has a row variable
 pub built_rows : (P : Program) (w : ℕ) (d : WordDef) → BuiltAs P w d → has_rows d.effect ≡ false

@@ -4,7 +4,7 @@ use Rattle.std.specs.Prelude.{nat_le, ◌&&◌}
 use Rattle.std.proofs.lemmas.Bool.{eqb-true, leb-true, leb-false}
 use native.Mathlib.Numerals.{unary_clauses}
 use Rattle.fac_lang.specs.declared.phrase.Height.{Height}
-use Rattle.fac_lang.specs.Texts.{Value, Callable, text, cur, both}
+use Rattle.fac_lang.specs.Phrases.{Value, Callable, of_phrase, cur, both}
 use Rattle.fac_lang.specs.World.{State, push}
 use Rattle.fac_lang.specs.declared.program.Program.{Program}
 use Rattle.fac_lang.specs.Eval.{Result, Done, Failed, Spent, Stuck, then_do, run_callable, eval}
@@ -159,7 +159,7 @@ module _ (P : Program) (f : ℕ) where
 
     -- A callable takes and leaves what its effect says.
     pub callable_keeps : (c : Callable) (h : Height) → callable_height P c ≡ Some h → KeepsNumbers h.ins h.outs c
-    callable_keeps (text t) h e = λ r st n le x va. least_keeps P f known t (suc most_inputs) 0 h e r st n le x va
+    callable_keeps (of_phrase t) h e = λ r st n le x va. least_keeps P f known t (suc most_inputs) 0 h e r st n le x va
     callable_keeps (cur v c) h e = curried_from v c (callable_height P c) refl (callable_keeps c) h e
     callable_keeps (both c d) h e = composed_from c d (callable_height P c) (callable_height P d) refl refl (callable_keeps c) (callable_keeps d) h e
 

@@ -2,11 +2,11 @@
 use Rattle.std.proofs.Common.{◌≡◌, ℕ, Option, None, refl, sym, ap, subst, ◌∙◌, List, ◌∷◌}
 use Rattle.std.specs.Prelude.{nat_le, true, false}
 use Rattle.fac_lang.specs.declared.program.Program.{Program}
-use Rattle.fac_lang.specs.Texts.{Literal, Plain, Text, Item, lit, lit_arr, quot, word, bind, local, fry, hole, call_eff, exec_eff, next_method, made, next_after, held, known, Mark, any, lit_mark}
+use Rattle.fac_lang.specs.Phrases.{Literal, Plain, Phrase, Item, lit, lit_arr, quot, word, bind, local, fry, hole, call_eff, exec_eff, next_method, made, next_after, held, known, Mark, any, lit_mark}
 use Rattle.fac_locals.specs.Literals.{Quoted, literal_numbered}
 use Rattle.fac_locals.specs.Closed.{ClosesItem, IsMadeBy}
-use Rattle.fac_abs.specs.Marks.{Row, on, limited, text_marks, deepest_mark}
-use Rattle.fac_abs.specs.Trees.{Naming}
+use Rattle.fac_abs.specs.Marks.{Row, on, limited, phrase_marks, deepest_mark}
+use Rattle.fac_abs.specs.MarkTrees.{Naming}
 use Rattle.fac_check.specs.Flow.{gives, doing}
 
 module _ (P : Program) (at : Literal) where
@@ -44,7 +44,7 @@ module _ (P : Program) (at : Literal) where
   closes_word (held v) w h = absurd h
   closes_word (known m) w h = absurd h
 
-  pub closes_made : (i : Item) (k : ℕ) → ClosesItem P at i (made k) → (t : Text) × (i ≡ quot t) × IsMadeBy P at t k
+  pub closes_made : (i : Item) (k : ℕ) → ClosesItem P at i (made k) → (t : Phrase) × (i ≡ quot t) × IsMadeBy P at t k
   closes_made (quot t) k h = (let same : h.0 ≡ k = (let e = h.1 in cc) in (t, refl, subst (λ n. IsMadeBy P at t n) same h.2))
   closes_made (lit q) k h = absurd (cc)
   closes_made (lit_arr a) k h = absurd (cc)
@@ -61,14 +61,14 @@ module _ (P : Program) (at : Literal) where
   closes_made (held v) k h = absurd h
   closes_made (known m) k h = absurd h
 
--- a mark of a text without marks isn't too deep
-pub not_limited : (l : Literal) (t : Text) → text_marks t ≡ 0 → limited (lit_mark l t) ≡ lit_mark l t
+-- a mark of a phrase without marks isn't too deep
+pub not_limited : (l : Literal) (t : Phrase) → phrase_marks t ≡ 0 → limited (lit_mark l t) ≡ lit_mark l t
 not_limited l t e = subst (λ n. (elim (nat_le n deepest_mark) [ true ↦ lit_mark l t | false ↦ any ]) ≡ lit_mark l t) (sym e) refl
 
 -- a quotation that stands here has the mark of its template's literal
-pub made_doing : (P : Program) (N : Naming) (at : Literal) (t : Text) (k : ℕ) (b : Option Row) (ms : List Mark) → ((j : ℕ) → N.literal j ≡ literal_numbered P j) → IsMadeBy P at t k → gives (on b (lit_mark (N.literal k).0 (N.literal k).1 ∷ ms)) ≡ doing P None at (quot t) b ms
+pub made_doing : (P : Program) (N : Naming) (at : Literal) (t : Phrase) (k : ℕ) (b : Option Row) (ms : List Mark) → ((j : ℕ) → N.literal j ≡ literal_numbered P j) → IsMadeBy P at t k → gives (on b (lit_mark (N.literal k).0 (N.literal k).1 ∷ ms)) ≡ doing P None at (quot t) b ms
 made_doing P N at t k b ms named made_by =
     let here : Quoted = (at, t) in
     let same : N.literal k ≡ here = named k ∙ made_by in
-    let unmarked : text_marks t ≡ 0 = subst (λ (q : Quoted). text_marks q.1 ≡ 0) same (N.unmarked k) in
+    let unmarked : phrase_marks t ≡ 0 = subst (λ (q : Quoted). phrase_marks q.1 ≡ 0) same (N.unmarked k) in
     ap (λ (q : Quoted). gives (on b (lit_mark q.0 q.1 ∷ ms))) same ∙ ap (λ m. gives (on b (m ∷ ms))) (sym (not_limited at t unmarked))

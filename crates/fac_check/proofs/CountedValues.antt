@@ -1,6 +1,6 @@
 -- So many values on a list, as the promises say it and as the proofs of walks do.
 use Rattle.std.proofs.Common.{◌≡◌, ℕ, zero, suc, List, [], ◌∷◌, ◌++◌, length, refl, ap, ◌∙◌, arith}
-use Rattle.fac_lang.specs.Texts.{Value}
+use Rattle.fac_lang.specs.Phrases.{Value}
 use Rattle.fac_check.proofs.ItemsFit.{Over}
 
 pub inputs_over : (n : ℕ) (inputs below list : List Value) → list ≡ inputs ++ below → length inputs ≡ n → Over n below list

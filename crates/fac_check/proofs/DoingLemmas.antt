@@ -1,14 +1,14 @@
 -- What items do at once, from what is known of the stack.
 use Rattle.std.proofs.Common.{◌≡◌, ◌<◌, ℕ, List, [], ◌∷◌, length, true, false, Option, Some, None, option_map, refl, sym, ap, subst, arith}
 use Rattle.fac_lang.specs.declared.program.Program.{Program}
-use Rattle.fac_lang.specs.Texts.{Mark, any}
+use Rattle.fac_lang.specs.Phrases.{Mark, any}
 use Rattle.fac_lang.specs.Meaning.{c_dip, c_if}
 use Rattle.fac_lang.specs.Procedures.{picked}
 use Rattle.fac_abs.specs.Marks.{Row, dead, on, is_callable, unknowns, piled}
 use Rattle.fac_abs.specs.declared.rule.Rule.TheVariants.{Underflow, NotKnown}
 use Rattle.fac_abs.proofs.CallerLemmas.{popped_none, popped_some}
 use Rattle.fac_abs.specs.InTurn.{under, taken, moved}
-use Rattle.fac_abs.specs.Seen.{MarksSeen}
+use Rattle.fac_abs.specs.SeenMarks.{MarksSeen}
 use Rattle.fac_check.specs.inner.Walking.{IsDoingOf}
 use Rattle.fac_check.specs.declared.doing.Doing.{Doing}
 use Rattle.fac_check.specs.declared.doing.Doing.TheVariants.{Breaks, Ends, Gives, Expands, Walks, Forks}

@@ -7,15 +7,15 @@ use Rattle.fac_lang.specs.declared.program.Program.{Program}
 use Rattle.fac_lang.specs.declared.program.WordDef.{WordDef}
 use Rattle.fac_lang.specs.declared.program.Sort.{Sort}
 use Rattle.fac_lang.specs.declared.program.Sort.TheVariants.{Prim as prim, Core as core, Body as body, Past as past, Itself as itself, Class as class, Isa as isa, Getter as getter, Setter as setter, Putter as putter, Generic as generic, Method as method}
-use Rattle.fac_lang.specs.Texts.{int, yes, no, str, iota, wrd, arr, tup, Text, end, then, Item, lit, lit_arr, quot, word, bind, local, fry, hole, call_eff, exec_eff, next_method, made, next_after, held, known}
-use Rattle.fac_lang.specs.Forms.{IsBuilt, IsBuiltText, IsBuiltItem}
+use Rattle.fac_lang.specs.Phrases.{int, yes, no, str, iota, wrd, arr, tup, Phrase, end, then, Item, lit, lit_arr, quot, word, bind, local, fry, hole, call_eff, exec_eff, next_method, made, next_after, held, known}
+use Rattle.fac_lang.specs.Forms.{IsBuilt, IsBuiltPhrase, IsBuiltItem}
 use Rattle.fac_locals.specs.Closed.{Closes}
-use Rattle.fac_locals.proofs.ClosedPrograms.{HasBuiltText, HaveBuiltTexts, built_texts}
-use Rattle.fac_abs.specs.Seen.{are_below}
+use Rattle.fac_locals.proofs.ClosedPrograms.{HasBuiltPhrase, HaveBuiltPhrases, built_phrases}
+use Rattle.fac_abs.specs.SeenMarks.{are_below}
 use Rattle.fac_abs.proofs.EqualMarks.{and_first, and_second}
 use Rattle.fac_abs.proofs.SeenLemmas.{both, is_below, below_is}
 use Rattle.fac_check.specs.Verdicts.{one_of, inline_words, item_words, without}
-use Rattle.fac_check.specs.inner.UndeclaredRecursion.{IsOneOf, IsWithin, inline_text, one_if, inline_word, led_from, text_edges, inline_edges, sort_edges, edges_from, AreEdges, Searches, all_there}
+use Rattle.fac_check.specs.inner.UndeclaredRecursion.{IsOneOf, IsWithin, inline_phrase, one_if, inline_word, led_from, phrase_edges, inline_edges, sort_edges, edges_from, AreEdges, Searches, all_there}
 use Rattle.fac_check.proofs.LeadingBack.{or_either, same_number}
 use Rattle.fac_check.proofs.NamedWords.{inline_same}
 use Rattle.fac_check.proofs.UndeclaredWords.{edges_count}
@@ -31,18 +31,18 @@ module _ (P : Program) (n : ℕ) (high : P.top ≤ n) where
 
   word_inside : (w : ℕ) (o : Option WordDef) → w < n → are_below n (inline_word w o) ≡ true
   word_inside w None l = refl
-  word_inside w (Some d) l = one_inside (inline_text d.inline d.sort) w l
+  word_inside w (Some d) l = one_inside (inline_phrase d.inline d.sort) w l
 
   mutual
-    text_inside : (t : Text) → IsBuiltText P.top t → are_below n (inline_words P t) ≡ true
-    text_inside end h = refl
-    text_inside (then i p t) h = below_append n (item_words P i) (inline_words P t) (item_inside i h.0) (text_inside t h.1)
+    phrase_inside : (t : Phrase) → IsBuiltPhrase P.top t → are_below n (inline_words P t) ≡ true
+    phrase_inside end h = refl
+    phrase_inside (then i p t) h = below_append n (item_words P i) (inline_words P t) (item_inside i h.0) (phrase_inside t h.1)
 
     item_inside : (i : Item) → IsBuiltItem P.top i → are_below n (item_words P i) ≡ true
     item_inside (word w) h =
         let low = is_below w P.top h in
         subst (λ (vs : List ℕ). are_below n vs ≡ true) (inline_same P w (slice_get P.words w)) (word_inside w (slice_get P.words w) (omega (arith, low, high)))
-    item_inside (quot t) h = text_inside t h
+    item_inside (quot t) h = phrase_inside t h
     item_inside (lit (int z)) h = refl
     item_inside (lit yes) h = refl
     item_inside (lit no) h = refl
@@ -72,15 +72,15 @@ module _ (P : Program) (n : ℕ) (high : P.top ≤ n) where
       kept true k = k
       kept false k = both (nat_lt v n) (are_below n (without P w vs)) (and_first _ _ h) k
 
-  led_inside : (w : ℕ) (r : Bool) (t : Text) → IsBuiltText P.top t → are_below n (text_edges P w r t) ≡ true
-  led_inside w true t h = without_inside w (inline_words P t) (text_inside t h)
-  led_inside w false t h = text_inside t h
+  led_inside : (w : ℕ) (r : Bool) (t : Phrase) → IsBuiltPhrase P.top t → are_below n (phrase_edges P w r t) ≡ true
+  led_inside w true t h = without_inside w (inline_words P t) (phrase_inside t h)
+  led_inside w false t h = phrase_inside t h
 
-  inline_inside : (w : ℕ) (i r : Bool) (t : Text) → IsBuiltText P.top t → are_below n (inline_edges P w i r t) ≡ true
+  inline_inside : (w : ℕ) (i r : Bool) (t : Phrase) → IsBuiltPhrase P.top t → are_below n (inline_edges P w i r t) ≡ true
   inline_inside w true r t h = led_inside w r t h
   inline_inside w false r t h = refl
 
-  sort_inside : (w : ℕ) (i r : Bool) (s : Sort) → HasBuiltText P.top s → are_below n (sort_edges P w i r s) ≡ true
+  sort_inside : (w : ℕ) (i r : Bool) (s : Sort) → HasBuiltPhrase P.top s → are_below n (sort_edges P w i r s) ≡ true
   sort_inside w i r (body t) h = inline_inside w i r t h
   sort_inside w i r (past t) h = refl
   sort_inside w i r (method c g t) h = refl
@@ -94,7 +94,7 @@ module _ (P : Program) (n : ℕ) (high : P.top ≤ n) where
   sort_inside w i r (putter x) h = refl
   sort_inside w i r generic h = refl
 
-  words_inside : (w : ℕ) (ds : List WordDef) → HaveBuiltTexts P.top ds → list_all (are_below n) (edges_from P w ds) ≡ true
+  words_inside : (w : ℕ) (ds : List WordDef) → HaveBuiltPhrases P.top ds → list_all (are_below n) (edges_from P w ds) ≡ true
   words_inside w [] h = refl
   words_inside w (d ∷ ds) h = both (are_below n (sort_edges P w d.inline d.recursive d.sort)) (list_all (are_below n) (edges_from P (suc w) ds)) (sort_inside w d.inline d.recursive d.sort h.0) (words_inside (suc w) ds h.1)
 
@@ -103,8 +103,8 @@ pub edges_there : (P C : Program) (ts : List Template) (edges : List (List ℕ))
 edges_there P C ts edges closes built are =
     let count : length (edges_from P 0 P.words) ≡ length P.words = edges_count P 0 P.words in
     let top : P.top ≡ length built.words = built.top_is in
-    let long : length P.words ≡ length built.words + 1 = ap length built.words_are ∙ length-append built.words (built.phrase ∷ []) in
-    subst (λ (es : List (List ℕ)). all_there es ≡ true) (sym (are P closes)) (words_inside P (length (edges_from P 0 P.words)) (omega (arith, count, top, long)) 0 P.words (built_texts P built))
+    let long : length P.words ≡ length built.words + 1 = ap length built.words_are ∙ length-append built.words (built.last_word ∷ []) in
+    subst (λ (es : List (List ℕ)). all_there es ≡ true) (sym (are P closes)) (words_inside P (length (edges_from P 0 P.words)) (omega (arith, count, top, long)) 0 P.words (built_phrases P built))
 
 -- numbers below others, one by one
 pub below_at : (n : ℕ) (xs : List ℕ) (k : ℕ) → are_below n xs ≡ true → k < length xs → get_or xs k 0 < n

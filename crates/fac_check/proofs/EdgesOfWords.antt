@@ -2,16 +2,16 @@
 use Rattle.std.proofs.Common.{◌≡◌, ℕ, suc, List, [], ◌∷◌, ◌++◌, Bool, true, false, refl, sym, ap, ◌∙◌, append_assoc, subst, arith}
 use Rattle.std.specs.Prelude.{nat_eq, Result, Ok, Err, IfOk}
 use Rattle.std.proofs.lemmas.List.{append-nil}
-use Rattle.fac_lang.specs.Texts.{Text}
+use Rattle.fac_lang.specs.Phrases.{Phrase}
 use Rattle.fac_lang.specs.declared.phrase.Template.{Template}
 use Rattle.fac_lang.specs.declared.program.Program.{Program}
 use Rattle.fac_lang.specs.declared.program.WordDef.{WordDef}
 use Rattle.fac_lang.specs.declared.program.Sort.{Sort}
 use Rattle.fac_lang.specs.declared.program.Sort.TheVariants.{Prim as prim, Core as core, Body as body, Past as past, Itself as itself, Class as class, Isa as isa, Getter as getter, Setter as setter, Putter as putter, Generic as generic, Method as method}
 use Rattle.fac_locals.specs.Literals.{first_of_word}
-use Rattle.fac_locals.specs.Closed.{Closes, CloseWords, ClosesWord, ClosesSort, ClosesText}
+use Rattle.fac_locals.specs.Closed.{Closes, CloseWords, ClosesWord, ClosesSort, ClosesPhrase}
 use Rattle.fac_check.specs.Verdicts.{inline_words, without}
-use Rattle.fac_check.specs.inner.UndeclaredRecursion.{kept_unless, left_out, text_edges, sort_edges, word_edges, edges_from, AddsNames, LedByText, LedBy}
+use Rattle.fac_check.specs.inner.UndeclaredRecursion.{kept_unless, left_out, phrase_edges, sort_edges, word_edges, edges_from, AddsNames, LedByPhrase, LedBy}
 
 -- what follows from a call's fact
 pub if_ok : {T E : Type 0} (A B : T → Type 0) (r : Result T E) → ((x : T) → A x → B x) → IfOk r A → IfOk r B
@@ -27,15 +27,15 @@ left_out_same P w [] = refl
 left_out_same P w (v ∷ vs) = ap (kept_unless (nat_eq w v) v) (left_out_same P w vs) ∙ kept_same (nat_eq w v) v (without P w vs)
 
 -- a word that is marked recursive
-pub led_recursive : (C : Program) (ts : List Template) (w : ℕ) (r : Bool) (phrase : Text) (none named left : List ℕ) → r ≡ true → none ≡ [] → AddsNames C ts 0 phrase none named → left ≡ left_out w named → LedByText C ts w r phrase left
+pub led_recursive : (C : Program) (ts : List Template) (w : ℕ) (r : Bool) (phrase : Phrase) (none named left : List ℕ) → r ≡ true → none ≡ [] → AddsNames C ts 0 phrase none named → left ≡ left_out w named → LedByPhrase C ts w r phrase left
 led_recursive C ts w r phrase none named left marked is_none adds is =
-    λ P h t closes. is ∙ left_out_same P w named ∙ ap (without P w) (adds P h (first_of_word w) t closes (λ k e. omega arith) ∙ ap (λ (vs : List ℕ). vs ++ inline_words P t) is_none) ∙ sym (ap (λ (b : Bool). text_edges P w b t) marked)
+    λ P h t closes. is ∙ left_out_same P w named ∙ ap (without P w) (adds P h (first_of_word w) t closes (λ k e. omega arith) ∙ ap (λ (vs : List ℕ). vs ++ inline_words P t) is_none) ∙ sym (ap (λ (b : Bool). phrase_edges P w b t) marked)
 
-sort_led : (P : Program) (w : ℕ) (r : Bool) (s c : Sort) (phrase : Text) (vs : List ℕ) → ClosesSort P w s c → c ≡ body phrase → ((t : Text) → ClosesText P (first_of_word w) t phrase → vs ≡ text_edges P w r t) → vs ≡ sort_edges P w true r s
+sort_led : (P : Program) (w : ℕ) (r : Bool) (s c : Sort) (phrase : Phrase) (vs : List ℕ) → ClosesSort P w s c → c ≡ body phrase → ((t : Phrase) → ClosesPhrase P (first_of_word w) t phrase → vs ≡ phrase_edges P w r t) → vs ≡ sort_edges P w true r s
 sort_led P w r (body t) c phrase vs h is led =
     let e : body h.0 ≡ body phrase = sym h.1 ∙ is in
     let same : h.0 ≡ phrase = cc in
-    led t (subst (λ (u : Text). ClosesText P (first_of_word w) t u) same h.2)
+    led t (subst (λ (u : Phrase). ClosesPhrase P (first_of_word w) t u) same h.2)
 sort_led P w r (past t) c phrase vs h is led =
     let e : past h.0 ≡ body phrase = sym h.1 ∙ is in
     absurd cc
@@ -52,8 +52,8 @@ sort_led P w r (setter x) c phrase vs h is led = absurd cc
 sort_led P w r (putter x) c phrase vs h is led = absurd cc
 sort_led P w r generic c phrase vs h is led = absurd cc
 
--- an inline word with a text
-pub led_inline : (C : Program) (ts : List Template) (w : ℕ) (c : WordDef) (phrase : Text) (vs : List ℕ) → c.sort ≡ body phrase → c.inline ≡ true → LedByText C ts w c.recursive phrase vs → LedBy C ts w c vs
+-- an inline word with a phrase
+pub led_inline : (C : Program) (ts : List Template) (w : ℕ) (c : WordDef) (phrase : Phrase) (vs : List ℕ) → c.sort ≡ body phrase → c.inline ≡ true → LedByPhrase C ts w c.recursive phrase vs → LedBy C ts w c vs
 led_inline C ts w c phrase vs is inline led =
     λ P h d closes. sort_led P w c.recursive d.sort c.sort phrase vs closes.sort is (led P h) ∙ ap (λ (b : Bool). sort_edges P w b c.recursive d.sort) (sym inline ∙ closes.inline) ∙ ap (λ (b : Bool). sort_edges P w d.inline b d.sort) closes.recursive
 
@@ -75,7 +75,7 @@ no_edges P w r generic = refl
 pub led_ordinary : (C : Program) (ts : List Template) (w : ℕ) (c : WordDef) → c.inline ≡ false → LedBy C ts w c []
 led_ordinary C ts w c inline = λ P h d closes. no_edges P w d.recursive d.sort ∙ ap (λ (b : Bool). sort_edges P w b d.recursive d.sort) (sym inline ∙ closes.inline)
 
-sort_other : (P : Program) (w : ℕ) (i r : Bool) (s c : Sort) → ClosesSort P w s c → ((t : Text) → c ≡ body t → ⊥) → [] ≡ sort_edges P w i r s
+sort_other : (P : Program) (w : ℕ) (i r : Bool) (s c : Sort) → ClosesSort P w s c → ((t : Phrase) → c ≡ body t → ⊥) → [] ≡ sort_edges P w i r s
 sort_other P w i r (body t) c h none = absurd (none h.0 h.1)
 sort_other P w i r (past t) c h none = refl
 sort_other P w i r (method n g t) c h none = refl
@@ -90,7 +90,7 @@ sort_other P w i r (putter x) c h none = refl
 sort_other P w i r generic c h none = refl
 
 -- one without a body
-pub led_other : (C : Program) (ts : List Template) (w : ℕ) (c : WordDef) → ((t : Text) → c.sort ≡ body t → ⊥) → LedBy C ts w c []
+pub led_other : (C : Program) (ts : List Template) (w : ℕ) (c : WordDef) → ((t : Phrase) → c.sort ≡ body t → ⊥) → LedBy C ts w c []
 led_other C ts w c none = λ P h d closes. sort_other P w d.inline d.recursive d.sort c.sort closes.sort none
 
 -- The words that are left, for those that are left of the closed program.

@@ -9,7 +9,7 @@ use Rattle.fac_lang.specs.declared.program.ClassDef.{ClassDef}
 use Rattle.fac_lang.specs.declared.program.Sort.TheVariants.{Body as body, Past as past, Method as method, Generic as generic}
 use Rattle.fac_lang.specs.Signatures.{Signature, signature, Inputs, no_inputs, value, quoted, never, leaves}
 use Rattle.fac_lang.specs.PrimitiveWords.{x}
-use Rattle.fac_lang.specs.Texts.{int, wrd, Text, end, then, Item, lit, quot, bind, local, fry, hole, next_method, held, known, Value, plain, Callable, text, cur, both, Mark, any, lit_mark}
+use Rattle.fac_lang.specs.Phrases.{int, wrd, Phrase, end, then, Item, lit, quot, bind, local, fry, hole, next_method, held, known, Value, plain, Callable, of_phrase, cur, both, Mark, any, lit_mark}
 use Rattle.fac_lang.specs.Primitives.{prim_numbered}
 use Rattle.fac_lang.specs.Meaning.{core_numbered}
 use Rattle.fac_lang.proofs.DemoPrelude.{word_of, shared_words, built_in_classes}
@@ -23,9 +23,9 @@ use Rattle.fac_check.specs.Flow.{Walked, found, refused, walk, doing, most_neste
 use Rattle.fac_check.specs.Verdicts.{Refusal, verdict, verdict_from}
 use Rattle.fac_check.specs.CallableEffects.{curried_height, composed_height, least_height, callable_height, fits}
 
--- The tokens of a text in order, so that each item has its place. A quotation stands at its opening bracket.
+-- The tokens of a phrase in order, so that each item has its place. A quotation stands at its opening bracket.
 abbrev mutual
-  tokens_in : Text → ℕ
+  tokens_in : Phrase → ℕ
   tokens_in end = 0
   tokens_in (then i p t) = tokens_of i + tokens_in t
 
@@ -40,9 +40,9 @@ abbrev mutual
 abbrev token : ℕ → Place
 token k = record { file = 1; token = k }
 
--- a text whose first token is k
+-- a phrase whose first token is k
 abbrev mutual
-  placed : ℕ → Text → Text
+  placed : ℕ → Phrase → Phrase
   placed k end = end
   placed k (then i p t) = then (placed_item k i) (token k) (placed (tokens_of i + k) t)
 
@@ -82,7 +82,7 @@ from_to r s i o = signature r (some_inputs i) (leaves s (some_names o))
 abbrev takes_quotation : Option (List ℕ) → Option (List ℕ) → Signature → Signature
 takes_quotation r s e = signature r (quoted x e no_inputs) (leaves s [])
 
--- a definition with its name at token 2 and its text from token 10 on: its effect, whether it is inline and recursive, and its items
+-- a definition with its name at token 2 and its phrase from token 10 on: its effect, whether it is inline and recursive, and its items
 abbrev defined : Signature → Bool → Bool → List Item → WordDef
 defined e inline recursive is = record (word_of (codes "scratchpad") (codes "name") (body (placed 10 (phrase is))) e inline recursive) { place = token 2 }
 
@@ -286,7 +286,7 @@ local_known = refl
 
 -- The identity of literals.
 
--- t [ [ ] ] [ [ ] ] if call: equal texts at two places are two literals
+-- t [ [ ] ] [ [ ] ] if call: equal phrases at two places are two literals
 pub two_literals : verdict_of [] (yes ∷ quotation (quotation ([]) ∷ []) ∷ quotation (quotation ([]) ∷ []) ∷ if ∷ call ∷ []) ≡ refuses 0 NotKnown 11
 unfolding prim_numbered core_numbered mark_eq
 two_literals = refl
@@ -301,12 +301,12 @@ pub one_expanded : verdict_of (defined (takes 0 1) true false (quotation ([]) �
 unfolding prim_numbered core_numbered mark_eq
 one_expanded = refl
 
--- two such words: equal texts at equal places are two literals
+-- two such words: equal phrases at equal places are two literals
 pub two_expanded : verdict_of (defined (takes 0 1) true false (quotation ([]) ∷ []) ∷ defined (takes 0 1) true false (quotation ([]) ∷ []) ∷ []) (yes ∷ quotation (own 0 ∷ []) ∷ quotation (own 1 ∷ []) ∷ if ∷ call ∷ []) ≡ refuses 2 NotKnown 9
 unfolding prim_numbered core_numbered mark_eq
 two_expanded = refl
 
--- [ ] and [ ] in one text, one behind the other, are two
+-- [ ] and [ ] in one phrase, one behind the other, are two
 pub two_in_one : verdict_of [] (yes ∷ quotation ([]) ∷ quotation ([]) ∷ bind 1 ∷ bind 0 ∷ quotation (local 0 ∷ []) ∷ quotation (local 1 ∷ []) ∷ if ∷ call ∷ []) ≡ refuses 0 NotKnown 17
 unfolding prim_numbered core_numbered mark_eq
 two_in_one = refl
@@ -665,12 +665,12 @@ marks_of (found (on b ms) n) = ms
 marks_of (found dead n) = []
 marks_of (refused r p) = []
 
--- [ 2 [ ] ] call [ ]: the second is item 2, in the text of item 0, and the third item 4
+-- [ 2 [ ] ] call [ ]: the second is item 2, in the phrase of item 0, and the third item 4
 pub numbered : marks_of (walk_of [] 9 (quotation (number 2 ∷ quotation ([]) ∷ []) ∷ call ∷ quotation ([]) ∷ [])) ≡ literal_mark 4 [] ∷ literal_mark 2 [] ∷ any ∷ []
 unfolding prim_numbered core_numbered mark_eq
 numbered = refl
 
--- of an expanded word the first item is item 0 of its own text
+-- of an expanded word the first item is item 0 of its own phrase
 pub numbered_in_word : marks_of (walk_of (defined (takes 0 2) true false (quotation ([]) ∷ number 1 ∷ quotation ([]) ∷ []) ∷ []) 9 (number 1 ∷ own 0 ∷ [])) ≡ literal_mark 2 [] ∷ any ∷ literal_mark 0 [] ∷ any ∷ []
 unfolding prim_numbered core_numbered mark_eq
 numbered_in_word = refl
@@ -777,7 +777,7 @@ pub expanded_not_walked : verdict_of (defined (takes 0 0) true false (plus ∷ [
 unfolding prim_numbered core_numbered mark_eq
 expanded_not_walked = refl
 
--- but at each use, at the place in its text
+-- but at each use, at the place in its phrase
 pub expanded_at_use : verdict_of (defined (takes 0 0) true false (plus ∷ []) ∷ []) (number 1 ∷ own 0 ∷ []) ≡ refuses 1 (Underflow 2 1) 10
 unfolding prim_numbered core_numbered mark_eq
 expanded_at_use = refl
@@ -802,7 +802,7 @@ effect_of c = callable_height (program_of [] [] []) c
 
 -- a literal
 abbrev literal : List Item → Callable
-literal is = text (phrase is)
+literal is = of_phrase (phrase is)
 
 abbrev one : Value
 one = plain (int (pos 1))

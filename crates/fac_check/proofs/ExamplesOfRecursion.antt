@@ -5,13 +5,13 @@ use Rattle.fac_lang.specs.declared.program.Program.{Program}
 use Rattle.fac_lang.specs.declared.program.WordDef.{WordDef}
 use Rattle.fac_lang.specs.declared.program.Sort.TheVariants.{Body as body}
 use Rattle.fac_lang.specs.Signatures.{signature, no_inputs, leaves}
-use Rattle.fac_lang.specs.Texts.{Item, word}
+use Rattle.fac_lang.specs.Phrases.{Item, word}
 use Rattle.fac_lang.proofs.DemoWords.{phrase, quotation, itself}
 use Rattle.fac_lang.proofs.DemoPrelude.{word_of}
 use Rattle.fac_check.specs.inner.UndeclaredRecursion.{edges_from}
 use Rattle.fac_check.specs.Judged.{undeclared_from}
 
--- a word with this text, marked `inline` or not, and `recursive` or not
+-- a word with this phrase, marked `inline` or not, and `recursive` or not
 abbrev written : Bool → Bool → List Item → WordDef
 written inline recursive is = word_of (codes "scratchpad") (codes "w") (body (phrase is)) (signature None no_inputs (leaves None [])) inline recursive
 

@@ -5,9 +5,9 @@ use Rattle.std.proofs.lemmas.Bool.{eqb-true, eq-eqb}
 use Rattle.fac_lang.specs.Signatures.{signature, no_inputs, quoted, leaves}
 use Rattle.fac_lang.specs.Eval.{Result, Done, Failed, Spent, Stuck}
 use Rattle.fac_lang.specs.declared.program.Program.{Program}
-use Rattle.fac_lang.specs.Texts.{int, Value, plain, fun, Callable, text}
+use Rattle.fac_lang.specs.Phrases.{int, Value, plain, fun, Callable, of_phrase}
 use Rattle.fac_lang.specs.Primitives.{prim_numbered, prim_fn}
-use Rattle.fac_lang.specs.Meaning.{core_numbered, nowhere, start, word_text, one_item}
+use Rattle.fac_lang.specs.Meaning.{core_numbered, nowhere, start, word_phrase, one_item}
 use Rattle.fac_lang.specs.Whole.{IsWhole, plain_effect}
 use Rattle.fac_lang.proofs.DemoWords.{phrase, number, own, +, show, drop, throw, loop}
 use Rattle.fac_lang.proofs.DemoPrelude.{ordinary, expanded}
@@ -17,12 +17,12 @@ use Rattle.fac_lang.proofs.ExamplesOfWhole.{sum_whole, shapes_whole, kept_whole}
 use Rattle.fac_abs.specs.Marks.{Row, named_row, row_eq, mark_eq}
 use Rattle.fac_abs.specs.declared.rule.Rule.TheVariants.{Underflow, Outputs}
 use Rattle.fac_check.specs.Verdicts.{verdict}
-use Rattle.fac_check.specs.Promises.{Lists, Exactly, AnyOf, On, LeftOn, Ends, text_run, callable_run, Behaves, OfRow, DoesInput, InputsOn, IsSafe}
+use Rattle.fac_check.specs.Promises.{Lists, Exactly, AnyOf, On, LeftOn, Ends, phrase_run, callable_run, Behaves, OfRow, DoesInput, InputsOn, IsSafe}
 use Rattle.fac_check.proofs.Promised.{accepted_are_safe}
 
 -- with every input and at every budget the top-level phrase isn't stuck, and whatever its end the world behind it is valid
 abbrev pub NeverStuck : Program → Type 0
-NeverStuck P = (input : List ℕ) (n : ℕ) → Ends P (λ list. Unit {0}) (text_run P (word_text P P.top) (start P input) n)
+NeverStuck P = (input : List ℕ) (n : ℕ) → Ends P (λ list. Unit {0}) (phrase_run P (word_phrase P P.top) (start P input) n)
 
 -- So it is of a safe program that starts on no value: the state before the first item is one of those of which `IsSafe` speaks.
 never_stuck : (P : Program) → IsSafe P 0 → NeverStuck P
@@ -50,21 +50,21 @@ pub sum_sound : NeverStuck sum
 sum_sound = never_stuck sum sum_safe
 
 -- a primitive word: `+` takes two values and leaves one, and touches no value below
-pub plus_keeps : (budget : ℕ) (below : List Value) → Behaves sum budget (text_run sum (one_item +)) (On 2 (Exactly below)) (LeftOn (Some 1) (Exactly below))
+pub plus_keeps : (budget : ℕ) (below : List Value) → Behaves sum budget (phrase_run sum (one_item +)) (On 2 (Exactly below)) (LeftOn (Some 1) (Exactly below))
 plus_keeps = sum_safe.words _ _ (record { ins = 2; outs = Some 1 }) refl refl refl
 
 -- `throw` takes a value and is never done
-pub throw_never_done : (budget : ℕ) (below : List Value) → Behaves sum budget (text_run sum (one_item throw)) (On 1 (Exactly below)) (λ list. ⊥)
+pub throw_never_done : (budget : ℕ) (below : List Value) → Behaves sum budget (phrase_run sum (one_item throw)) (On 1 (Exactly below)) (λ list. ⊥)
 throw_never_done = sum_safe.words _ _ (record { ins = 1; outs = None }) refl refl refl
 
 -- A row word, `loop ( ..a pred: ( ..a -- ..a ? ) -- ..a )`: whatever lists ..a stands for, a callable that leaves one value on such lists can be handed in, and then `loop` leaves such a list.
-pub loop_keeps : (rows : Row → List Value → Bool) (budget : ℕ) → Behaves sum budget (text_run sum (one_item loop)) (InputsOn sum rows budget (quoted (codes "pred") (signature (Some (codes "..a")) no_inputs (leaves (Some (codes "..a")) (codes "?" ∷ []))) no_inputs) (OfRow sum rows (Some (named_row (codes "..a"))))) (LeftOn (Some 0) (OfRow sum rows (Some (named_row (codes "..a")))))
+pub loop_keeps : (rows : Row → List Value → Bool) (budget : ℕ) → Behaves sum budget (phrase_run sum (one_item loop)) (InputsOn sum rows budget (quoted (codes "pred") (signature (Some (codes "..a")) no_inputs (leaves (Some (codes "..a")) (codes "?" ∷ []))) no_inputs) (OfRow sum rows (Some (named_row (codes "..a"))))) (LeftOn (Some 0) (OfRow sum rows (Some (named_row (codes "..a")))))
 loop_keeps = sum_safe.row_words _ _ refl refl refl
 
 -- So on lists of each length.
-pub loop_on_length : (n budget : ℕ) (pred : Callable) → Behaves sum budget (callable_run sum pred) (On 0 (AnyOf n)) (LeftOn (Some 1) (AnyOf n)) → Behaves sum budget (text_run sum (one_item loop)) (λ list. (rest : List Value) × (list ≡ fun pred ∷ rest) × AnyOf n rest) (LeftOn (Some 0) (AnyOf n))
+pub loop_on_length : (n budget : ℕ) (pred : Callable) → Behaves sum budget (callable_run sum pred) (On 0 (AnyOf n)) (LeftOn (Some 1) (AnyOf n)) → Behaves sum budget (phrase_run sum (one_item loop)) (λ list. (rest : List Value) × (list ≡ fun pred ∷ rest) × AnyOf n rest) (LeftOn (Some 0) (AnyOf n))
 loop_on_length n budget pred does st k le on valid =
-    ends_as sum (LeftOn (Some 0) (λ list. nat_eq (length list) n ≡ true)) (LeftOn (Some 0) (AnyOf n)) (λ list h. (h.0, h.1, h.2, h.3, eqb-true (length h.1) n h.4)) (text_run sum (one_item loop) st k) (loop_keeps (λ r list. nat_eq (length list) n) budget st k le (fun pred ∷ [], on.0, on.1, (λ st' k' le' on' valid'. ends_as sum (LeftOn (Some 1) (AnyOf n)) (LeftOn (Some 1) (λ list. nat_eq (length list) n ≡ true)) (λ list h. (h.0, h.1, h.2, h.3, eq-eqb (length h.1) n h.4)) (callable_run sum pred st' k') (does st' k' le' (on'.0, on'.1, on'.2, on'.3, eqb-true (length on'.1) n on'.4) valid'), tt), eq-eqb (length on.0) n on.2) valid)
+    ends_as sum (LeftOn (Some 0) (λ list. nat_eq (length list) n ≡ true)) (LeftOn (Some 0) (AnyOf n)) (λ list h. (h.0, h.1, h.2, h.3, eqb-true (length h.1) n h.4)) (phrase_run sum (one_item loop) st k) (loop_keeps (λ r list. nat_eq (length list) n) budget st k le (fun pred ∷ [], on.0, on.1, (λ st' k' le' on' valid'. ends_as sum (LeftOn (Some 1) (AnyOf n)) (LeftOn (Some 1) (λ list. nat_eq (length list) n ≡ true)) (λ list h. (h.0, h.1, h.2, h.3, eq-eqb (length h.1) n h.4)) (callable_run sum pred st' k') (does st' k' le' (on'.0, on'.1, on'.2, on'.3, eqb-true (length on'.1) n on'.4) valid'), tt), eq-eqb (length on.0) n on.2) valid)
 
 -- + . on two values
 abbrev rest : Program
@@ -80,7 +80,7 @@ unfolding prim_numbered core_numbered mark_eq
 rest_accepted = refl
 
 -- whatever they are, and whatever stands in the world before it
-pub rest_sound : (budget : ℕ) → Behaves rest budget (text_run rest (word_text rest rest.top)) (AnyOf 2) (λ list. Unit {0})
+pub rest_sound : (budget : ℕ) → Behaves rest budget (phrase_run rest (word_phrase rest rest.top)) (AnyOf 2) (λ list. Unit {0})
 rest_sound = (accepted_are_safe rest 2 rest_whole rest_accepted).phrase
 
 -- on one value it is refused
@@ -100,16 +100,16 @@ pub shapes_sound : NeverStuck (shapes (number 7 ∷ name ∷ show ∷ []))
 shapes_sound = never_stuck (shapes (number 7 ∷ name ∷ show ∷ [])) shapes_safe
 
 -- a generic, a method of it, and an accessor
-pub name_keeps : (budget : ℕ) (below : List Value) → Behaves (shapes (number 7 ∷ name ∷ show ∷ [])) budget (text_run (shapes (number 7 ∷ name ∷ show ∷ [])) (one_item name)) (On 1 (Exactly below)) (LeftOn (Some 1) (Exactly below))
+pub name_keeps : (budget : ℕ) (below : List Value) → Behaves (shapes (number 7 ∷ name ∷ show ∷ [])) budget (phrase_run (shapes (number 7 ∷ name ∷ show ∷ [])) (one_item name)) (On 1 (Exactly below)) (LeftOn (Some 1) (Exactly below))
 name_keeps = shapes_safe.words _ _ (record { ins = 1; outs = Some 1 }) refl refl refl
 
-pub name_of_round_keeps : (budget : ℕ) (below : List Value) → Behaves (shapes (number 7 ∷ name ∷ show ∷ [])) budget (text_run (shapes (number 7 ∷ name ∷ show ∷ [])) (one_item (own 10))) (On 1 (Exactly below)) (LeftOn (Some 1) (Exactly below))
+pub name_of_round_keeps : (budget : ℕ) (below : List Value) → Behaves (shapes (number 7 ∷ name ∷ show ∷ [])) budget (phrase_run (shapes (number 7 ∷ name ∷ show ∷ [])) (one_item (own 10))) (On 1 (Exactly below)) (LeftOn (Some 1) (Exactly below))
 name_of_round_keeps = shapes_safe.words _ _ (record { ins = 1; outs = Some 1 }) refl refl refl
 
-pub set_slot_keeps : (budget : ℕ) (below : List Value) → Behaves (shapes (number 7 ∷ name ∷ show ∷ [])) budget (text_run (shapes (number 7 ∷ name ∷ show ∷ [])) (one_item >>r)) (On 2 (Exactly below)) (LeftOn (Some 1) (Exactly below))
+pub set_slot_keeps : (budget : ℕ) (below : List Value) → Behaves (shapes (number 7 ∷ name ∷ show ∷ [])) budget (phrase_run (shapes (number 7 ∷ name ∷ show ∷ [])) (one_item >>r)) (On 2 (Exactly below)) (LeftOn (Some 1) (Exactly below))
 set_slot_keeps = shapes_safe.words _ _ (record { ins = 2; outs = Some 1 }) refl refl refl
 
--- a method whose text has a literal array with a quotation
+-- a method whose phrase has a literal array with a quotation
 pub kept_accepted : verdict (kept_in_array (number 7 ∷ own 0 ∷ [])) 0 ≡ None
 unfolding prim_numbered core_numbered mark_eq
 kept_accepted = refl
@@ -153,7 +153,7 @@ one_on_none : (list : List Value) → list ≡ [] → nat_eq (suc (length list))
 one_on_none list e = rw e refl
 
 -- [ 1 ] does what the effect says of the input
-pub one_does : (budget : ℕ) → DoesInput skipped none_and_one budget (signature (Some (codes "..a")) no_inputs (leaves (Some (codes "..b")) [])) (text (phrase (number 1 ∷ [])))
+pub one_does : (budget : ℕ) → DoesInput skipped none_and_one budget (signature (Some (codes "..a")) no_inputs (leaves (Some (codes "..b")) [])) (of_phrase (phrase (number 1 ∷ [])))
 one_does budget st zero le on valid = valid
 one_does budget st (suc n) le on valid = (([], plain (int (pos 1)) ∷ st.stack, refl, refl, one_on_none st.stack (none_on on.0 on.1 st.stack on.2 on.3 on.4)), valid)
 
@@ -166,7 +166,7 @@ not_one (v ∷ vs) more e z = absurd (cc)
 pub skipped_unsafe : IsSafe skipped 0 → ⊥
 unfolding prim_numbered prim_fn
 skipped_unsafe safe =
-    (let h = safe.row_words 82 _ refl refl refl none_and_one 2 (record { stack = fun (text (phrase (number 1 ∷ []))) ∷ []; world = (start skipped []).world }) 2 (omega arith) (fun (text (phrase (number 1 ∷ []))) ∷ [], [], refl, (one_does 2, tt), refl) (safe.begins []) in not_one h.0.0 h.0.1 h.0.2 h.0.4)
+    (let h = safe.row_words 82 _ refl refl refl none_and_one 2 (record { stack = fun (of_phrase (phrase (number 1 ∷ []))) ∷ []; world = (start skipped []).world }) 2 (omega arith) (fun (of_phrase (phrase (number 1 ∷ []))) ∷ [], [], refl, (one_does 2, tt), refl) (safe.begins []) in not_one h.0.0 h.0.1 h.0.2 h.0.4)
 
 pub skipped_refused : verdict skipped 0 ≡ Some (82, record { rule = Outputs 0 0; place = nowhere })
 unfolding prim_numbered core_numbered mark_eq

@@ -1,8 +1,8 @@
--- The context of a row word's text at a use: its inputs are what stood for the marks, its rows are what was bound.
+-- The context of a row word's phrase at a use: its inputs are what stood for the marks, its rows are what was bound.
 use Rattle.std.proofs.Common.{◌≡◌, ℕ, zero, suc, ◌≤◌, List, [], ◌∷◌, length, drop, Bool, true, false, refl, sym, Option, Some, None, subst}
 use Rattle.std.specs.Prelude.{nat_eq, nat_lt, ◌&&◌, not}
 use Rattle.fac_lang.specs.declared.phrase.Place.{Place}
-use Rattle.fac_lang.specs.Texts.{Value, fun, Callable, Mark}
+use Rattle.fac_lang.specs.Phrases.{Value, fun, Callable, Mark}
 use Rattle.fac_lang.specs.World.{State}
 use Rattle.fac_lang.specs.Signatures.{Signature, signature, Inputs, no_inputs, value, quoted, Leaving, never, leaves}
 use Rattle.fac_lang.specs.Effects.{inputs_count, leaving_outs}
@@ -32,7 +32,7 @@ module _ (P : Program) (C : Context) where
   Given (suc (suc k)) (value x is) (m ∷ ms) c = Given (suc k) is ms c
   Given (suc (suc k)) (quoted x e is) (m ∷ ms) c = Given (suc k) is ms c
 
-  -- the context of the text of row word w with effect e, used on these marks with these rows bound
+  -- the context of the phrase of row word w with effect e, used on these marks with these rows bound
   abbrev pub callee : ℕ → Signature → List Mark → Binding → (List Value → Type 0) → Context
   callee w e taken ds base =
       record {
@@ -93,7 +93,7 @@ module _ (P : Program) (C : Context) where
     given_fits (suc (suc j)) (value x is) (m ∷ ns) c h does k b ms p left st n le o = given_fits (suc j) is ns c h does k b ms p left st n le o
     given_fits (suc (suc j)) (quoted x e' is) (m ∷ ns) c h does k b ms p left st n le o = given_fits (suc j) is ns c h does.1 k b ms p left st n le o
 
-    -- So the inputs of the row word's text do what its effect says: the text can be walked and run in this context.
+    -- So the inputs of the row word's phrase do what its effect says: the phrase can be walked and run in this context.
     pub callee_fits : DoInputs P C go run f ds (effect_inputs e) taken → InputsFit P K run f
     callee_fits does k c h b ms p left st n le o = given_fits k (effect_inputs e) taken c h does k b ms p left st n le o
 
@@ -105,7 +105,7 @@ module _ (P : Program) (C : Context) where
     by_abs dead x names r st h o v = absurd h
     by_abs (on b ms) x names r st h o v = (over_unknowns P C (length names) b ms r st.stack o h, v)
 
-    -- what the text leaves on its output row is the result of the use
+    -- what the phrase leaves on its output row is the result of the use
     pub callee_leaves : (l : Leaving) (r : Row) (st : State Value) → StackState P K (leaving_on l (Some r) []) st → StackState P C (elim (stack_or_dead (bound_to r ds)) [ dead ↦ dead | on b ms ↦ leaving_on l b ms ]) st
     callee_leaves never r st q = absurd q.0
     callee_leaves (leaves x names) r st q = (let z = unknowns_on (length names) (Some r) st.stack q.0 in by_abs (stack_or_dead (bound_to r ds)) x names z.0 st z.2 z.1 q.1)

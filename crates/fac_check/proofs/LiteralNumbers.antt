@@ -1,7 +1,7 @@
--- Each quotation in a text of a program has a number below that of its templates.
+-- Each quotation in a phrase of a program has a number below that of its templates.
 use Rattle.std.proofs.Common.{◌≡◌, ◌<◌, ◌≤◌, ℕ, zero, suc, ◌+◌, List, [], ◌∷◌, ◌++◌, length, true, Option, Some, None, refl, sym, ap, ◌∙◌, arith}
 use Rattle.std.specs.Prelude.{nat_lt, slice_get}
-use Rattle.fac_lang.specs.Texts.{Literal, Text, end, then, Item, lit, lit_arr, quot, word, bind, local, fry, hole, call_eff, exec_eff, next_method, made, next_after, held, known}
+use Rattle.fac_lang.specs.Phrases.{Literal, Phrase, end, then, Item, lit, lit_arr, quot, word, bind, local, fry, hole, call_eff, exec_eff, next_method, made, next_after, held, known}
 use Rattle.fac_lang.specs.Substitution.{of_method}
 use Rattle.fac_lang.specs.declared.phrase.Template.{Template}
 use Rattle.fac_lang.specs.declared.program.Program.{Program}
@@ -14,7 +14,7 @@ use Rattle.fac_locals.proofs.Lookups.{templates_count}
 use Rattle.fac_abs.proofs.SeenLemmas.{below_is}
 use Rattle.fac_check.proofs.NamedWords.{number_below}
 
--- literals in texts of words with numbers below n
+-- literals in phrases of words with numbers below n
 abbrev AreOfWords : ℕ → List Quoted → Type 0
 AreOfWords n [] = Unit {0}
 AreOfWords n (l ∷ ls) = (l.0.word < n) × AreOfWords n ls
@@ -25,13 +25,13 @@ both_of_words n (l ∷ ls) ms h k = (h.0, both_of_words n ls ms h.1 k)
 
 module _ (n : ℕ) where
   mutual
-    text_of_words : (at : Literal) (t : Text) → at.word < n → AreOfWords n (literals_in at t)
-    text_of_words at end l = tt
-    text_of_words at (then i p t) l = both_of_words n (literals_at at i) (literals_in (behind at i) t) (item_of_words at i l) (text_of_words (behind at i) t l)
+    phrase_of_words : (at : Literal) (t : Phrase) → at.word < n → AreOfWords n (literals_in at t)
+    phrase_of_words at end l = tt
+    phrase_of_words at (then i p t) l = both_of_words n (literals_at at i) (literals_in (behind at i) t) (item_of_words at i l) (phrase_of_words (behind at i) t l)
 
     item_of_words : (at : Literal) (i : Item) → at.word < n → AreOfWords n (literals_at at i)
-    item_of_words at (quot t) l = (l, text_of_words (first_of_literal at) t l)
-    item_of_words at (fry t k) l = (l, text_of_words (first_of_literal at) t l)
+    item_of_words at (quot t) l = (l, phrase_of_words (first_of_literal at) t l)
+    item_of_words at (fry t k) l = (l, phrase_of_words (first_of_literal at) t l)
     item_of_words at (lit q) l = tt
     item_of_words at (word w) l = tt
     item_of_words at (lit_arr a) l = tt
@@ -47,9 +47,9 @@ module _ (n : ℕ) where
     item_of_words at (known m) l = tt
 
   sort_of_words : (w : ℕ) (s : Sort) → w < n → AreOfWords n (sort_literals w s)
-  sort_of_words w (body t) l = text_of_words (first_of_word w) t l
-  sort_of_words w (past t) l = text_of_words (first_of_word w) t l
-  sort_of_words w (method c g t) l = text_of_words (first_of_word w) (of_method w t) l
+  sort_of_words w (body t) l = phrase_of_words (first_of_word w) t l
+  sort_of_words w (past t) l = phrase_of_words (first_of_word w) t l
+  sort_of_words w (method c g t) l = phrase_of_words (first_of_word w) (of_method w t) l
   sort_of_words w (prim k) l = tt
   sort_of_words w (core k) l = tt
   sort_of_words w itself l = tt
@@ -75,7 +75,7 @@ some_below (x ∷ xs) zero l = (x, refl)
 some_below (x ∷ xs) (suc k) l = some_below xs k (omega (arith, l))
 
 module _ (P C : Program) (templates : List Template) (closes : Closes P C templates) where
-  -- a template's literal is in the text of a word
+  -- a template's literal is in the phrase of a word
   pub template_of_words : (k : ℕ) (t : Template) → slice_get templates k ≡ Some t → (literal_numbered P k).0.word < length P.words
   template_of_words k t e =
       let low = number_below templates k t e in
@@ -84,8 +84,8 @@ module _ (P C : Program) (templates : List Template) (closes : Closes P C templa
       let found = at_of_words (length P.words) (literals P) k there.0 (words_of_words (length P.words) 0 P.words (omega arith)) there.1 in
       rw there.1 found
 
-  -- a quotation in such a text is made by a template that is there
-  pub made_there : (at : Literal) (t : Text) (k : ℕ) → at.word < length P.words → IsMadeBy P at t k → nat_lt k (length templates) ≡ true
+  -- a quotation in such a phrase is made by a template that is there
+  pub made_there : (at : Literal) (t : Phrase) (k : ℕ) → at.word < length P.words → IsMadeBy P at t k → nat_lt k (length templates) ≡ true
   made_there at t k l is = by_literal (slice_get (literals P) k) refl
     where
       by_literal : (o : Option Quoted) → slice_get (literals P) k ≡ o → nat_lt k (length templates) ≡ true

@@ -2,7 +2,7 @@
 use Rattle.std.proofs.Common.{◌≡◌, ℕ, zero, suc, List, [], ◌∷◌, map, Bool, true, false, Option, Some, None, refl}
 use Rattle.std.specs.Prelude.{slice_get}
 use Rattle.fac_lang.specs.declared.phrase.Height.{Height}
-use Rattle.fac_lang.specs.Texts.{int, yes, no, str, iota, wrd, arr, tup, Text, end, then, Item, lit, lit_arr, quot, word, bind, local, fry, hole, call_eff, exec_eff, next_method, made, next_after, held, known, Value, plain, fun, Callable, text, cur, both}
+use Rattle.fac_lang.specs.Phrases.{int, yes, no, str, iota, wrd, arr, tup, Phrase, end, then, Item, lit, lit_arr, quot, word, bind, local, fry, hole, call_eff, exec_eff, next_method, made, next_after, held, known, Value, plain, fun, Callable, of_phrase, cur, both}
 use Rattle.fac_lang.specs.World.{World, State, push, push_each}
 use Rattle.fac_lang.specs.declared.error_name.ErrorName.{ErrorName}
 use Rattle.fac_lang.specs.declared.error_name.ErrorName.TheVariants.{NoMethod, NoNextMethod}
@@ -15,7 +15,7 @@ use Rattle.fac_lang.specs.declared.program.Sort.TheVariants.{Prim as prim, Core 
 use Rattle.fac_lang.specs.Classes.{has_kind, pick, next}
 use Rattle.fac_lang.specs.Substitution.{put_local, put_holes}
 use Rattle.fac_lang.specs.Eval.{Result, Done, Failed, Spent, Stuck, then_do, Act, wrong, fails, goes, binds, runs, Run, run_callable, go_on, eval}
-use Rattle.fac_lang.specs.Meaning.{texts, names, seen, taking1, taking2, taking3, taking, with_callable, with_word, given, does, makes_tuple, Core, c_call, c_dip, c_if, c_execute, c_boa, core_numbered, core_act, prim_act, enters, sort_of, sort_act, truth_value, one_item, either, callable_fits, word_fits, tested_call, tested_execute, pushes_array, generic_of, act, run}
+use Rattle.fac_lang.specs.Meaning.{meaning_values, names, seen, taking1, taking2, taking3, taking, with_callable, with_word, given, does, makes_tuple, Core, c_call, c_dip, c_if, c_execute, c_boa, core_numbered, core_act, prim_act, enters, sort_of, sort_act, truth_value, one_item, either, callable_fits, word_fits, tested_call, tested_execute, pushes_array, generic_of, act, run}
 use Rattle.fac_check.proofs.PrimitivesStay.{StaysGives, StaysFn, prim_stays, getter_stays, setter_stays, putter_stays}
 
 -- behind the run the literal arrays have these addresses
@@ -34,7 +34,7 @@ module _ (ls : List ℕ) where
   StaysAct (runs c st back) = st.world.literals ≡ ls
 
   abbrev StaysRun : Run → Type 0
-  StaysRun run = (t : Text) (st : State Value) (n : ℕ) → st.world.literals ≡ ls → Stays ls (run t st n)
+  StaysRun run = (t : Phrase) (st : State Value) (n : ℕ) → st.world.literals ≡ ls → Stays ls (run t st n)
 
   stays_then : (r : Result) (go : State Value → ℕ → Result) → Stays ls r → ((st : State Value) (m : ℕ) → st.world.literals ≡ ls → Stays ls (go st m)) → Stays ls (then_do r go)
   stays_then (Done st m) go e h = h st m e
@@ -43,13 +43,13 @@ module _ (ls : List ℕ) where
   stays_then Stuck go e h = tt
 
   stays_call : (run : Run) → StaysRun run → (c : Callable) (st : State Value) (n : ℕ) → st.world.literals ≡ ls → Stays ls (run_callable run c st n)
-  stays_call run h (text t) st n e = h t st n e
+  stays_call run h (of_phrase t) st n e = h t st n e
   stays_call run h (cur v c) st zero e = e
   stays_call run h (cur v c) st (suc n) e = stays_call run h c (push v st) n e
   stays_call run h (both c d) st zero e = e
   stays_call run h (both c d) st (suc n) e = stays_then (run_callable run c st n) (run_callable run d) (stays_call run h c st n e) (λ st' m e'. stays_call run h d st' m e')
 
-  stays_go : (run : Run) → StaysRun run → (a : Act) (t : Text) (n : ℕ) → StaysAct a → Stays ls (go_on run a t n)
+  stays_go : (run : Run) → StaysRun run → (a : Act) (t : Phrase) (n : ℕ) → StaysAct a → Stays ls (go_on run a t n)
   stays_go run h wrong t n e = tt
   stays_go run h (fails x st) t n e = e
   stays_go run h (goes st) t n e = h t st n e
@@ -116,7 +116,7 @@ module _ (ls : List ℕ) where
     makes_stays : (c : Option (ℕ × ℕ)) → Keeps (makes_tuple P c)
     makes_stays None st e = tt
     makes_stays (Some c) st e =
-        taking_stays c.1 [] st.stack st.world (λ vs st'. given 0 st'.stack (made_tuple texts (names P) c.0 vs st'.world)) e (λ vs st' e'. e')
+        taking_stays c.1 [] st.stack st.world (λ vs st'. given 0 st'.stack (made_tuple meaning_values (names P) c.0 vs st'.world)) e (λ vs st' e'. e')
 
     core_stays : (c : Option Core) → Keeps (core_act P c)
     core_stays None st e = tt
@@ -124,12 +124,12 @@ module _ (ls : List ℕ) where
     core_stays (Some c_dip) st e = taking2_stays st.stack st.world (λ x q st'. with_callable q (λ c. runs c st' (x ∷ []))) e (λ x q. callable_stays q (λ c st'. runs c st' (x ∷ [])) (λ c st' e'. e'))
     core_stays (Some c_if) st e =
         taking3_stays st.stack st.world (λ t p q st'. with_callable p (λ c. with_callable q (λ d. runs (elim (seen_no (seen t)) [ true ↦ d | false ↦ c ]) st' []))) e (λ t p q. callable_stays p (λ c st'. with_callable q (λ d. runs (elim (seen_no (seen t)) [ true ↦ d | false ↦ c ]) st' [])) (λ c. callable_stays q (λ d st'. runs (elim (seen_no (seen t)) [ true ↦ d | false ↦ c ]) st' []) (λ d st' e'. e')))
-    core_stays (Some c_execute) st e = taking1_stays st.stack st.world (λ v st'. with_word v (λ a. runs (text (one_item (word a))) st' [])) e (λ v. word_stays v (λ a st'. runs (text (one_item (word a))) st' []) (λ a st' e'. e'))
+    core_stays (Some c_execute) st e = taking1_stays st.stack st.world (λ v st'. with_word v (λ a. runs (of_phrase (one_item (word a))) st' [])) e (λ v. word_stays v (λ a st'. runs (of_phrase (one_item (word a))) st' []) (λ a st' e'. e'))
     core_stays (Some c_boa) st e = taking1_stays st.stack st.world (λ v st'. with_word v (λ a. makes_tuple P ((names P).tuple_class a) st')) e (λ v. word_stays v (λ a st'. makes_tuple P ((names P).tuple_class a) st') (λ a. makes_stays ((names P).tuple_class a)))
 
     primitive_stays : (a : ℕ) (p : Option Primitive) → Keeps (prim_act P a p)
     primitive_stays a None st e = tt
-    primitive_stays a (Some p) st e = does_stays a (prim_fn texts (names P) p) (prim_stays ls P p) st e
+    primitive_stays a (Some p) st e = does_stays a (prim_fn meaning_values (names P) p) (prim_stays ls P p) st e
 
     enters_stays : (m : Option ℕ) (x : ErrorName) (g : ℕ) (v : Value) → Keeps (enters P m x g v)
     enters_stays None x g v st e = e
@@ -143,12 +143,12 @@ module _ (ls : List ℕ) where
     sort_stays a (Some (past t)) st e = e
     sort_stays a (Some itself) st e = e
     sort_stays a (Some (class c)) st e = e
-    sort_stays a (Some (isa c)) st e = taking1_stays st.stack st.world (λ v st'. goes (push (truth_value (has_kind P.classes c (kind_of texts (names P) st'.world v))) st')) e (λ v st' e'. e')
-    sort_stays a (Some (getter s)) st e = does_stays a (get_slot texts (names P) s) (getter_stays ls P s) st e
-    sort_stays a (Some (setter s)) st e = does_stays a (set_slot texts (names P) s) (setter_stays ls P s) st e
-    sort_stays a (Some (putter s)) st e = does_stays a (put_slot texts (names P) s) (putter_stays ls P s) st e
+    sort_stays a (Some (isa c)) st e = taking1_stays st.stack st.world (λ v st'. goes (push (truth_value (has_kind P.classes c (kind_of meaning_values (names P) st'.world v))) st')) e (λ v st' e'. e')
+    sort_stays a (Some (getter s)) st e = does_stays a (get_slot meaning_values (names P) s) (getter_stays ls P s) st e
+    sort_stays a (Some (setter s)) st e = does_stays a (set_slot meaning_values (names P) s) (setter_stays ls P s) st e
+    sort_stays a (Some (putter s)) st e = does_stays a (put_slot meaning_values (names P) s) (putter_stays ls P s) st e
     sort_stays a (Some generic) st e =
-        taking1_stays st.stack st.world (λ v st'. enters P (pick P a (kind_of texts (names P) st'.world v)) NoMethod a v st') e (λ v st' e'. enters_stays (pick P a (kind_of texts (names P) st'.world v)) NoMethod a v st' e')
+        taking1_stays st.stack st.world (λ v st'. enters P (pick P a (kind_of meaning_values (names P) st'.world v)) NoMethod a v st') e (λ v st' e'. enters_stays (pick P a (kind_of meaning_values (names P) st'.world v)) NoMethod a v st' e')
     sort_stays a (Some (method c g t)) st e = e
 
     module _ (fits : Height → Height → Bool) (callable_height : Callable → Option Height) where
@@ -176,19 +176,19 @@ module _ (ls : List ℕ) where
       act_stays (word a) st e = sort_stays a (sort_of P a) st e
       act_stays (bind x) st e = taking1_stays st.stack st.world (λ v st'. binds x v st') e (λ v st' e'. e')
       act_stays (local x) st e = tt
-      act_stays (fry t n) st e = taking_stays n [] st.stack st.world (λ vs st'. goes (push (fun (text (put_holes (map held vs) t))) st')) e (λ vs st' e'. e')
+      act_stays (fry t n) st e = taking_stays n [] st.stack st.world (λ vs st'. goes (push (fun (of_phrase (put_holes (map held vs) t))) st')) e (λ vs st' e'. e')
       act_stays (hole k) st e = tt
       act_stays (call_eff h) st e = taking1_stays st.stack st.world (tested_call P fits callable_height h) e (tested_call_stays h)
       act_stays (exec_eff h) st e = taking1_stays st.stack st.world (tested_execute P fits callable_height h) e (tested_execute_stays h)
       act_stays next_method st e = tt
       act_stays (made k) st e = tt
       act_stays (next_after m) st e =
-          taking1_stays st.stack st.world (λ v st'. enters P (next P m (kind_of texts (names P) st'.world v)) NoNextMethod (generic_of P (sort_of P m)) v st') e (λ v st' e'. enters_stays (next P m (kind_of texts (names P) st'.world v)) NoNextMethod (generic_of P (sort_of P m)) v st' e')
+          taking1_stays st.stack st.world (λ v st'. enters P (next P m (kind_of meaning_values (names P) st'.world v)) NoNextMethod (generic_of P (sort_of P m)) v st') e (λ v st' e'. enters_stays (next P m (kind_of meaning_values (names P) st'.world v)) NoNextMethod (generic_of P (sort_of P m)) v st' e')
       act_stays (held v) st e = e
       act_stays (known m) st e = tt
 
 -- Behind every run the literal arrays have the addresses that they had before it.
-pub literals_stay : (P : Program) (fits : Height → Height → Bool) (callable_height : Callable → Option Height) (n : ℕ) (t : Text) (st : State Value) → Stays st.world.literals (run P fits callable_height n t st)
+pub literals_stay : (P : Program) (fits : Height → Height → Bool) (callable_height : Callable → Option Height) (n : ℕ) (t : Phrase) (st : State Value) → Stays st.world.literals (run P fits callable_height n t st)
 literals_stay P fits callable_height n t st = stays_eval st.world.literals (act P fits callable_height) (act_stays st.world.literals P fits callable_height) n t st n refl
 
 -- likewise of a callable

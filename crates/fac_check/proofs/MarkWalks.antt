@@ -6,21 +6,21 @@ use Rattle.fac_lang.specs.declared.phrase.Template.{Template}
 use Rattle.fac_lang.specs.declared.program.Program.{Program}
 use Rattle.fac_lang.specs.declared.program.WordDef.{WordDef}
 use Rattle.fac_lang.specs.declared.program.Sort.TheVariants.{Body as body}
-use Rattle.fac_lang.specs.Texts.{Literal, Text, end, Mark, cur_mark, com_mark}
+use Rattle.fac_lang.specs.Phrases.{Literal, Phrase, end, Mark, cur_mark, com_mark}
 use Rattle.fac_locals.specs.Literals.{Quoted, literal_or, first_of_word, first_of_literal}
-use Rattle.fac_locals.specs.Closed.{Closes, ClosesText}
+use Rattle.fac_locals.specs.Closed.{Closes, ClosesPhrase}
 use Rattle.fac_locals.specs.declared.closing.Closed.{Closed}
 use Rattle.fac_locals.proofs.Lookups.{word_open, template_closed, template_closed_none}
 use Rattle.fac_abs.specs.Marks.{Row, AbstractStack, on}
-use Rattle.fac_abs.specs.Trees.{Naming}
-use Rattle.fac_abs.specs.Seen.{MarksSeen, Grows, IsMark, IsStack, IsReached, mark_of, stack_of, base_seen, reached_seen}
+use Rattle.fac_abs.specs.MarkTrees.{Naming}
+use Rattle.fac_abs.specs.SeenMarks.{MarksSeen, Grows, IsMark, IsStack, IsReached, mark_of, stack_of, base_seen, reached_seen}
 use Rattle.fac_check.specs.declared.walker.Step.{Step}
 use Rattle.fac_check.specs.declared.walker.Walked.{Walked as Ended}
 use Rattle.fac_check.specs.declared.walker.Walked.TheVariants.{Found}
 use Rattle.fac_abs.specs.declared.reached.Reached.{Reached}
 use Rattle.fac_abs.specs.declared.reached.Reached.TheVariants.{Dead, On}
-use Rattle.fac_check.specs.Flow.{Walked, found, and_then, join, living, inside, Walk, walk_text, walk_mark}
-use Rattle.fac_check.specs.inner.Walking.{Opened, walked_seen, Enters, body_text, text_of, sort_text, go_at, mark_walk, fork_walk}
+use Rattle.fac_check.specs.Flow.{Walked, found, and_then, join, living, inside, Walk, walk_phrase, walk_mark}
+use Rattle.fac_check.specs.inner.Walking.{Opened, walked_seen, Enters, body_phrase, phrase_of, sort_phrase, go_at, mark_walk, fork_walk}
 use Rattle.fac_check.proofs.BuiltWords.{built_as}
 use Rattle.fac_check.proofs.WordItems.{is_body}
 
@@ -37,22 +37,22 @@ module _ (go : Walk) (p : Place) (nested : ℕ) (b : Option Row) (ms : List Mark
   pub composed_ends : (N : Naming) (K : MarksSeen) (c e : Mark) (W V : Ended) → W ≡ V → walked_seen N K W ≡ inside c p nested (λ d. walk_mark None go c p d b ms rest) → walk_mark None go (com_mark c e) p nested b ms left ≡ and_then (walked_seen N K V) (λ A k. living A k (λ c ns j. inside e p nested (λ d. walk_mark None go e p d c ns j)))
   composed_ends N K c e W V is first = composed_counts c e (walked_seen N K V) (ap (walked_seen N K) (sym is) ∙ first)
 
--- a text is one application deeper
-pub text_entered : (go : Walk) (at : Literal) (t : Text) (p : Place) (nested : ℕ) (b : Option Row) (ms : List Mark) (n : ℕ) → nested ≢ 0 → walk_text None go at t p nested b ms n ≡ go at (nested - 1) t b ms n
-text_entered go at t p zero b ms n h = absurd (h refl)
-text_entered go at t p (suc d) b ms n h = (let e : suc d - 1 ≡ d = omega arith in rw e refl)
+-- a phrase is one application deeper
+pub phrase_entered : (go : Walk) (at : Literal) (t : Phrase) (p : Place) (nested : ℕ) (b : Option Row) (ms : List Mark) (n : ℕ) → nested ≢ 0 → walk_phrase None go at t p nested b ms n ≡ go at (nested - 1) t b ms n
+phrase_entered go at t p zero b ms n h = absurd (h refl)
+phrase_entered go at t p (suc d) b ms n h = (let e : suc d - 1 ≡ d = omega arith in rw e refl)
 
 module _ {C : Program} {templates : List Template} (O : Opened C templates) where
-  -- the text of a literal, for the body of its template
-  pub literal_closed : (k : ℕ) (t : Template) → slice_get templates k ≡ Some t → ClosesText O.program (first_of_literal (O.naming.literal k).0) (O.naming.literal k).1 t.body
-  literal_closed k t e = subst (λ (l : Quoted). ClosesText O.program (first_of_literal l.0) l.1 t.body) (sym (O.naming_is k)) (template_closed O.program C templates O.closes k t e).body
+  -- the phrase of a literal, for the body of its template
+  pub literal_closed : (k : ℕ) (t : Template) → slice_get templates k ≡ Some t → ClosesPhrase O.program (first_of_literal (O.naming.literal k).0) (O.naming.literal k).1 t.body
+  literal_closed k t e = subst (λ (l : Quoted). ClosesPhrase O.program (first_of_literal l.0) l.1 t.body) (sym (O.naming_is k)) (template_closed O.program C templates O.closes k t e).body
 
-  -- the text of a word, for its closed text
-  pub word_text_closed : (w : ℕ) (c : WordDef) (t : Text) → slice_get C.words w ≡ Some c → c.sort ≡ body t → ClosesText O.program (first_of_word w) (body_text O.program w) t
-  word_text_closed w c t e s =
+  -- the phrase of a word, for its closed phrase
+  pub word_phrase_closed : (w : ℕ) (c : WordDef) (t : Phrase) → slice_get C.words w ≡ Some c → c.sort ≡ body t → ClosesPhrase O.program (first_of_word w) (body_phrase O.program w) t
+  word_phrase_closed w c t e s =
       let there = word_open O.program C templates O.closes w c e in
       let sort = is_body O.program w there.def c there.closes (built_as O.program O.built w there.def there.at) t s in
-      subst (λ (u : Text). ClosesText O.program (first_of_word w) u t) (sym (ap text_of there.at ∙ ap sort_text sort.1)) sort.2
+      subst (λ (u : Phrase). ClosesPhrase O.program (first_of_word w) u t) (sym (ap phrase_of there.at ∙ ap sort_phrase sort.1)) sort.2
 
 -- a program for which a closed one stands, where the closed one is told by an equal
 abbrev pub carried : {A B : Closed} → B ≡ A → Opened A.program A.templates → Opened B.program B.templates
@@ -64,9 +64,9 @@ carried e O = record {
   naming_is = O.naming_is;
 }
 
--- a text with no items
-pub no_items : {C : Program} {templates : List Template} (O : Opened C templates) (f : ℕ) (at : Literal) (t : Text) (p : Place) (nested : ℕ) (b : Option Row) (ms : List Mark) (n : ℕ) → t ≡ end → nested ≢ 0 → found (on b ms) n ≡ walk_text None (go_at O f) at t p nested b ms n
-no_items O f at t p nested b ms n e h = sym (text_entered (go_at O f) at t p nested b ms n h ∙ ap (λ u. go_at O f at (nested - 1) u b ms n) e)
+-- a phrase with no items
+pub no_items : {C : Program} {templates : List Template} (O : Opened C templates) (f : ℕ) (at : Literal) (t : Phrase) (p : Place) (nested : ℕ) (b : Option Row) (ms : List Mark) (n : ℕ) → t ≡ end → nested ≢ 0 → found (on b ms) n ≡ walk_phrase None (go_at O f) at t p nested b ms n
+no_items O f at t p nested b ms n e h = sym (phrase_entered (go_at O f) at t p nested b ms n h ∙ ap (λ u. go_at O f at (nested - 1) u b ms n) e)
 
 module _ {C : Program} {templates : List Template} (O : Opened C templates) where
   -- a number behind the last template names a literal with no items

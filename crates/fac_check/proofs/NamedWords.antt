@@ -1,8 +1,8 @@
--- The words that a text names are those that its closed form names.
+-- The words that a phrase names are those that its closed form names.
 use Rattle.std.proofs.Common.{◌≡◌, ◌<◌, ◌≤◌, ℕ, zero, suc, ◌+◌, List, [], ◌∷◌, ◌++◌, length, Bool, true, false, Option, Some, None, refl, sym, ap, ◌∙◌, append_assoc, subst, inr, arith}
 use Rattle.std.specs.Prelude.{slice_get, Result, Ok, Err, OnOk}
 use Rattle.std.proofs.lemmas.List.{append-nil}
-use Rattle.fac_lang.specs.Texts.{Plain, int, yes, no, str, iota, wrd, arr, tup, Literal, Text, end, then, Item, lit, lit_arr, quot, word, bind, local, fry, hole, call_eff, exec_eff, next_method, made, next_after, held, known}
+use Rattle.fac_lang.specs.Phrases.{Plain, int, yes, no, str, iota, wrd, arr, tup, Literal, Phrase, end, then, Item, lit, lit_arr, quot, word, bind, local, fry, hole, call_eff, exec_eff, next_method, made, next_after, held, known}
 use Rattle.fac_lang.specs.declared.phrase.Place.{Place}
 use Rattle.fac_lang.specs.declared.phrase.Template.{Template}
 use Rattle.fac_lang.specs.declared.program.Program.{Program}
@@ -10,13 +10,13 @@ use Rattle.fac_lang.specs.declared.program.WordDef.{WordDef}
 use Rattle.fac_lang.specs.declared.program.Sort.{Sort}
 use Rattle.fac_lang.specs.declared.program.Sort.TheVariants.{Prim as prim, Core as core, Body as body, Past as past, Itself as itself, Class as class, Isa as isa, Getter as getter, Setter as setter, Putter as putter, Generic as generic, Method as method}
 use Rattle.fac_locals.specs.Literals.{Quoted, behind, first_of_literal, literal_numbered}
-use Rattle.fac_locals.specs.Closed.{Closes, ClosesSort, ClosesText, ClosesItem}
+use Rattle.fac_locals.specs.Closed.{Closes, ClosesSort, ClosesPhrase, ClosesItem}
 use Rattle.fac_locals.proofs.Places.{not_before, literal_behind}
 use Rattle.fac_locals.proofs.Lookups.{word_closed, word_closed_none, template_closed}
 use Rattle.fac_check.specs.Verdicts.{inline_body, inline_words, item_words}
-use Rattle.fac_check.specs.inner.UndeclaredRecursion.{named_word, made_template, inline_text, one_if, inline_word, NumbersFrom, NamesLeft, AddsNames, AddsItemNames, AddsMadeNames}
+use Rattle.fac_check.specs.inner.UndeclaredRecursion.{named_word, made_template, inline_phrase, one_if, inline_word, NumbersFrom, NamesLeft, AddsNames, AddsItemNames, AddsMadeNames}
 
-inline_sort : (w : ℕ) (b : Bool) (s : Sort) → one_if (inline_text b s) w ≡ elim s [ body t ↦ elim b [ true ↦ w ∷ [] | false ↦ [] ] | _ ↦ [] ]
+inline_sort : (w : ℕ) (b : Bool) (s : Sort) → one_if (inline_phrase b s) w ≡ elim s [ body t ↦ elim b [ true ↦ w ∷ [] | false ↦ [] ] | _ ↦ [] ]
 inline_sort w true (body t) = refl
 inline_sort w false (body t) = refl
 inline_sort w b (prim k) = refl
@@ -35,25 +35,25 @@ pub inline_same : (P : Program) (w : ℕ) (o : Option WordDef) → inline_word w
 inline_same P w None = refl
 inline_same P w (Some d) = inline_sort w d.inline d.sort
 
-closes_inline : (P : Program) (w : ℕ) (b : Bool) (s c : Sort) → ClosesSort P w s c → inline_text b c ≡ inline_text b s
-closes_inline P w b (body t) c h = ap (inline_text b) h.1
-closes_inline P w b (past t) c h = ap (inline_text b) h.1
-closes_inline P w b (method n g t) c h = ap (inline_text b) h.1
-closes_inline P w b (prim k) c h = ap (inline_text b) h
-closes_inline P w b (core k) c h = ap (inline_text b) h
-closes_inline P w b itself c h = ap (inline_text b) h
-closes_inline P w b (class k) c h = ap (inline_text b) h
-closes_inline P w b (isa k) c h = ap (inline_text b) h
-closes_inline P w b (getter x) c h = ap (inline_text b) h
-closes_inline P w b (setter x) c h = ap (inline_text b) h
-closes_inline P w b (putter x) c h = ap (inline_text b) h
-closes_inline P w b generic c h = ap (inline_text b) h
+closes_inline : (P : Program) (w : ℕ) (b : Bool) (s c : Sort) → ClosesSort P w s c → inline_phrase b c ≡ inline_phrase b s
+closes_inline P w b (body t) c h = ap (inline_phrase b) h.1
+closes_inline P w b (past t) c h = ap (inline_phrase b) h.1
+closes_inline P w b (method n g t) c h = ap (inline_phrase b) h.1
+closes_inline P w b (prim k) c h = ap (inline_phrase b) h
+closes_inline P w b (core k) c h = ap (inline_phrase b) h
+closes_inline P w b itself c h = ap (inline_phrase b) h
+closes_inline P w b (class k) c h = ap (inline_phrase b) h
+closes_inline P w b (isa k) c h = ap (inline_phrase b) h
+closes_inline P w b (getter x) c h = ap (inline_phrase b) h
+closes_inline P w b (setter x) c h = ap (inline_phrase b) h
+closes_inline P w b (putter x) c h = ap (inline_phrase b) h
+closes_inline P w b generic c h = ap (inline_phrase b) h
 
 inline_closed_at : (P C : Program) (ts : List Template) (h : Closes P C ts) (w : ℕ) (o : Option WordDef) → slice_get P.words w ≡ o → inline_word w (slice_get C.words w) ≡ inline_word w o
 inline_closed_at P C ts h w None e = ap (inline_word w) (word_closed_none P C ts h w e)
 inline_closed_at P C ts h w (Some d) e =
     let found = word_closed P C ts h w d e in
-    ap (inline_word w) found.at ∙ ap (λ (b : Bool). one_if b w) (ap (λ (b : Bool). inline_text b found.closed.sort) found.closes.inline ∙ closes_inline P w d.inline d.sort found.closed.sort found.closes.sort)
+    ap (inline_word w) found.at ∙ ap (λ (b : Bool). one_if b w) (ap (λ (b : Bool). inline_phrase b found.closed.sort) found.closes.inline ∙ closes_inline P w d.inline d.sort found.closed.sort found.closes.sort)
 
 -- a closed program has the inline words of the program
 pub inline_closed : (P C : Program) (ts : List Template) → Closes P C ts → (w : ℕ) → inline_word w (slice_get C.words w) ≡ inline_body P w (slice_get P.words w)
@@ -143,7 +143,7 @@ made_item P at (made n) j k h e = absurd h
 made_item P at (held v) j k h e = absurd h
 made_item P at (known m) j k h e = absurd h
 
--- an item that names a template adds the names of its text
+-- an item that names a template adds the names of its phrase
 pub adds_made : (C : Program) (ts : List Template) (from k : ℕ) (j : Item) (before after : List ℕ) → made_template j ≡ Some k → AddsMadeNames C ts from k before after → AddsItemNames C ts from j before after
 adds_made C ts from k j before after is adds =
     λ P h at i closes numbers. let found = made_item P at i j k closes is in adds P h at found.0 numbers ∙ ap (λ (vs : List ℕ). before ++ vs) (sym found.1)
@@ -157,46 +157,46 @@ adds_named C ts from n j before after is adds =
 pub adds_none : (C : Program) (ts : List Template) (from : ℕ) (j : Item) (before : List ℕ) → named_word j ≡ None → made_template j ≡ None → AddsItemNames C ts from j before before
 adds_none C ts from j before is made_is = λ P h at i closes numbers. sym (ap (λ (vs : List ℕ). before ++ vs) (unnamed_item P at i j closes is made_is) ∙ append-nil before)
 
--- a template has no lower number than those of the text around it
+-- a template has no lower number than those of the phrase around it
 pub adds_earlier : (C : Program) (ts : List Template) (from k : ℕ) (before after : List ℕ) → k < from → AddsMadeNames C ts from k before after
 adds_earlier C ts from k before after lt =
     λ P h at is numbers. let le : from ≤ k = numbers k (inr (ap (λ (l : Literal). l.word) is, omega (arith, ap (λ (l : Literal). l.index) is))) in absurd (omega (arith, le, lt))
 
--- the text of a template adds its names
+-- the phrase of a template adds its names
 pub adds_template : (C : Program) (ts : List Template) (from k : ℕ) (t : Template) (before after : List ℕ) → slice_get ts k ≡ Some t → AddsNames C ts (k + 1) t.body before after → AddsMadeNames C ts from k before after
 adds_template C ts from k t before after is adds =
     λ P h at here numbers. adds P h (first_of_literal (literal_numbered P k).0) (literal_numbered P k).1 (template_closed P C ts h k t is).body (λ j e. let lt = literal_behind P j k e in omega (arith, lt))
 
--- a text before its first item
-pub names_begin : (P : Program) (from : ℕ) (at : Literal) (t left : Text) (named : List ℕ) → ClosesText P at t left → NumbersFrom P at from → NamesLeft P from left (named ++ inline_words P t) named
-names_begin P from at t left named closes numbers = record { at = at; text = t; closes = closes; numbers = numbers; so_far = refl }
+-- a phrase before its first item
+pub names_begin : (P : Program) (from : ℕ) (at : Literal) (t left : Phrase) (named : List ℕ) → ClosesPhrase P at t left → NumbersFrom P at from → NamesLeft P from left (named ++ inline_words P t) named
+names_begin P from at t left named closes numbers = record { at = at; phrase = t; closes = closes; numbers = numbers; so_far = refl }
 
-step_text : (P : Program) (C : Program) (ts : List Template) (h : Closes P C ts) (from : ℕ) (at : Literal) (t : Text) (j : Item) (p : Place) (s : Text) (whole before after : List ℕ) → ClosesText P at t (then j p s) → NumbersFrom P at from → whole ≡ before ++ inline_words P t → AddsItemNames C ts from j before after → NamesLeft P from s whole after
-step_text P C ts h from at end j p s whole before after closes numbers so_far adds = absurd cc
-step_text P C ts h from at (then i q t) j p s whole before after closes numbers so_far adds =
+step_phrase : (P : Program) (C : Program) (ts : List Template) (h : Closes P C ts) (from : ℕ) (at : Literal) (t : Phrase) (j : Item) (p : Place) (s : Phrase) (whole before after : List ℕ) → ClosesPhrase P at t (then j p s) → NumbersFrom P at from → whole ≡ before ++ inline_words P t → AddsItemNames C ts from j before after → NamesLeft P from s whole after
+step_phrase P C ts h from at end j p s whole before after closes numbers so_far adds = absurd cc
+step_phrase P C ts h from at (then i q t) j p s whole before after closes numbers so_far adds =
     let same_item : closes.0 ≡ j = cc in
-    let same_text : closes.1 ≡ s = cc in
+    let same_phrase : closes.1 ≡ s = cc in
     let item_closes = subst (λ (x : Item). ClosesItem P at i x) same_item closes.3 in
     record {
       at = behind at i;
-      text = t;
-      closes = subst (λ (x : Text). ClosesText P (behind at i) t x) same_text closes.4;
+      phrase = t;
+      closes = subst (λ (x : Phrase). ClosesPhrase P (behind at i) t x) same_phrase closes.4;
       numbers = λ k e. numbers k (not_before at (behind at i) (literal_numbered P k).0 (inr (refl, omega arith)) e);
       so_far = so_far ∙ sym (append_assoc before (item_words P i) (inline_words P t)) ∙ ap (λ (vs : List ℕ). vs ++ inline_words P t) (sym (adds P h at i item_closes numbers));
     }
 
 -- one item further
-pub names_step : (P : Program) (C : Program) (ts : List Template) (h : Closes P C ts) (from : ℕ) (left : Text) (j : Item) (p : Place) (s : Text) (whole before after : List ℕ) → NamesLeft P from left whole before → left ≡ then j p s → AddsItemNames C ts from j before after → NamesLeft P from s whole after
+pub names_step : (P : Program) (C : Program) (ts : List Template) (h : Closes P C ts) (from : ℕ) (left : Phrase) (j : Item) (p : Place) (s : Phrase) (whole before after : List ℕ) → NamesLeft P from left whole before → left ≡ then j p s → AddsItemNames C ts from j before after → NamesLeft P from s whole after
 names_step P C ts h from left j p s whole before after names is adds =
-    step_text P C ts h from names.at names.text j p s whole before after (subst (λ (x : Text). ClosesText P names.at names.text x) is names.closes) names.numbers names.so_far adds
+    step_phrase P C ts h from names.at names.phrase j p s whole before after (subst (λ (x : Phrase). ClosesPhrase P names.at names.phrase x) is names.closes) names.numbers names.so_far adds
 
-last_text : (P : Program) (at : Literal) (t : Text) (whole named : List ℕ) → ClosesText P at t end → whole ≡ named ++ inline_words P t → named ≡ whole
-last_text P at end whole named closes so_far = sym (so_far ∙ append-nil named)
-last_text P at (then i q t) whole named closes so_far = absurd cc
+last_phrase : (P : Program) (at : Literal) (t : Phrase) (whole named : List ℕ) → ClosesPhrase P at t end → whole ≡ named ++ inline_words P t → named ≡ whole
+last_phrase P at end whole named closes so_far = sym (so_far ∙ append-nil named)
+last_phrase P at (then i q t) whole named closes so_far = absurd cc
 
 -- behind the last item
-pub names_end : (P : Program) (from : ℕ) (left : Text) (whole named : List ℕ) → NamesLeft P from left whole named → left ≡ end → named ≡ whole
-names_end P from left whole named names is = last_text P names.at names.text whole named (subst (λ (x : Text). ClosesText P names.at names.text x) is names.closes) names.so_far
+pub names_end : (P : Program) (from : ℕ) (left : Phrase) (whole named : List ℕ) → NamesLeft P from left whole named → left ≡ end → named ≡ whole
+names_end P from left whole named names is = last_phrase P names.at names.phrase whole named (subst (λ (x : Phrase). ClosesPhrase P names.at names.phrase x) is names.closes) names.so_far
 
 -- what follows from a call's fact
 pub on_ok : {T E A B : Type 0} (r : Result T E) → (A → B) → OnOk r A → OnOk r B

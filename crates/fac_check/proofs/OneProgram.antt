@@ -1,4 +1,4 @@
--- A closed program stands for at most one built program: its texts and templates tell what was closed.
+-- A closed program stands for at most one built program: its phrases and templates tell what was closed.
 use Rattle.std.proofs.Common.{◌≡◌, ℕ, suc, List, [], ◌∷◌, Bool, true, false, Option, Some, None, refl, sym, ap, ◌∙◌, subst}
 use Rattle.std.specs.Prelude.{slice_get}
 use Rattle.fac_lang.specs.declared.phrase.Place.{Place}
@@ -10,60 +10,60 @@ use Rattle.fac_lang.specs.declared.program.Program.{Program}
 use Rattle.fac_lang.specs.declared.program.WordDef.{WordDef}
 use Rattle.fac_lang.specs.declared.program.Sort.{Sort}
 use Rattle.fac_lang.specs.declared.program.Sort.TheVariants.{Prim as prim, Core as core, Body as body, Past as past, Itself as itself, Class as class, Isa as isa, Getter as getter, Setter as setter, Putter as putter, Generic as generic, Method as method}
-use Rattle.fac_lang.specs.Texts.{Literal, Text, end, then, Item, lit, lit_arr, quot, word, bind, local, fry, hole, call_eff, exec_eff, next_method, made, next_after, held, known}
+use Rattle.fac_lang.specs.Phrases.{Literal, Phrase, end, then, Item, lit, lit_arr, quot, word, bind, local, fry, hole, call_eff, exec_eff, next_method, made, next_after, held, known}
 use Rattle.fac_lang.specs.Signatures.{Signature}
-use Rattle.fac_lang.specs.Forms.{IsBuiltText, IsBuiltItem}
+use Rattle.fac_lang.specs.Forms.{IsBuiltPhrase, IsBuiltItem}
 use Rattle.fac_locals.specs.Literals.{Quoted, behind, first_of_word, first_of_literal, literal_or}
-use Rattle.fac_locals.specs.Closed.{Closes, ClosesItem, ClosesText, ClosesSort, ClosesWord, CloseWords, IsMadeBy}
-use Rattle.fac_locals.proofs.ClosedPrograms.{HasBuiltText, HaveBuiltTexts, built_texts}
+use Rattle.fac_locals.specs.Closed.{Closes, ClosesItem, ClosesPhrase, ClosesSort, ClosesWord, CloseWords, IsMadeBy}
+use Rattle.fac_locals.proofs.ClosedPrograms.{HasBuiltPhrase, HaveBuiltPhrases, built_phrases}
 use Rattle.fac_locals.proofs.Lookups.{template_closed, template_closed_none}
 use Rattle.fac_check.specs.OneProgram.{StandsForOne}
 use Rattle.fac_check.proofs.ClosedItems.{closes_literal, closes_word, closes_made}
 
--- a text by its closed one
+-- a phrase by its closed one
 module _ (Q : Program) where
-  end_only : (at : Literal) (u : Text) → ClosesText Q at u end → u ≡ end
+  end_only : (at : Literal) (u : Phrase) → ClosesPhrase Q at u end → u ≡ end
   end_only at end f = refl
   end_only at (then i p u) f = absurd (let e = f.2 in cc)
 
-  pub record Then (at : Literal) (u : Text) (j : Item) (p : Place) (s : Text) : Type 0 where
+  pub record Then (at : Literal) (u : Phrase) (j : Item) (p : Place) (s : Phrase) : Type 0 where
     pub item : Item
-    pub rest : Text
+    pub rest : Phrase
     pub are : u ≡ then item p rest
     pub item_closes : ClosesItem Q at item j
-    pub rest_closes : ClosesText Q (behind at item) rest s
+    pub rest_closes : ClosesPhrase Q (behind at item) rest s
 
-  then_only : (at : Literal) (u : Text) (j : Item) (p : Place) (s : Text) → ClosesText Q at u (then j p s) → Then at u j p s
+  then_only : (at : Literal) (u : Phrase) (j : Item) (p : Place) (s : Phrase) → ClosesPhrase Q at u (then j p s) → Then at u j p s
   then_only at end j p s f = absurd (cc)
   then_only at (then i r u) j p s f =
       let e = f.2 in
       let items : f.0 ≡ j = cc in
       let places : r ≡ p = cc in
-      let texts : f.1 ≡ s = cc in
+      let phrases : f.1 ≡ s = cc in
       record {
         item = i;
         rest = u;
         are = ap (λ (x : Place). then i x u) places;
         item_closes = subst (λ (x : Item). ClosesItem Q at i x) items f.3;
-        rest_closes = subst (λ (x : Text). ClosesText Q (behind at i) u x) texts f.4;
+        rest_closes = subst (λ (x : Phrase). ClosesPhrase Q (behind at i) u x) phrases f.4;
       }
 
--- whether a word of this sort has a text
-abbrev has_text : Sort → Bool
-has_text (body t) = true
-has_text (past t) = true
-has_text (method c g t) = true
-has_text _ = false
+-- whether a word of this sort has a phrase
+abbrev has_phrase : Sort → Bool
+has_phrase (body t) = true
+has_phrase (past t) = true
+has_phrase (method c g t) = true
+has_phrase _ = false
 
-not_both : (s : Sort) → has_text s ≡ true → has_text s ≡ false → ⊥
+not_both : (s : Sort) → has_phrase s ≡ true → has_phrase s ≡ false → ⊥
 not_both s e f = let clash : true ≡ false = sym e ∙ f in cc
 
 -- a sort by its closed one
 module _ (Q : Program) (w : ℕ) where
-  plain_only : (s c : Sort) → ClosesSort Q w s c → has_text c ≡ false → s ≡ c
-  plain_only (body t) c f n = absurd (not_both c (ap has_text f.1) n)
-  plain_only (past t) c f n = absurd (not_both c (ap has_text f.1) n)
-  plain_only (method k g t) c f n = absurd (not_both c (ap has_text f.1) n)
+  plain_only : (s c : Sort) → ClosesSort Q w s c → has_phrase c ≡ false → s ≡ c
+  plain_only (body t) c f n = absurd (not_both c (ap has_phrase f.1) n)
+  plain_only (past t) c f n = absurd (not_both c (ap has_phrase f.1) n)
+  plain_only (method k g t) c f n = absurd (not_both c (ap has_phrase f.1) n)
   plain_only (prim k) c f n = sym f
   plain_only (core k) c f n = sym f
   plain_only itself c f n = sym f
@@ -74,8 +74,8 @@ module _ (Q : Program) (w : ℕ) where
   plain_only (putter x) c f n = sym f
   plain_only generic c f n = sym f
 
-  body_only : (s : Sort) (c : Text) → ClosesSort Q w s (body c) → (t : Text) × (s ≡ body t) × ClosesText Q (first_of_word w) t c
-  body_only (body t) c f = let same : f.0 ≡ c = (let e = f.1 in cc) in (t, refl, subst (λ (x : Text). ClosesText Q (first_of_word w) t x) same f.2)
+  body_only : (s : Sort) (c : Phrase) → ClosesSort Q w s (body c) → (t : Phrase) × (s ≡ body t) × ClosesPhrase Q (first_of_word w) t c
+  body_only (body t) c f = let same : f.0 ≡ c = (let e = f.1 in cc) in (t, refl, subst (λ (x : Phrase). ClosesPhrase Q (first_of_word w) t x) same f.2)
   body_only (past t) c f = absurd (let e = f.1 in cc)
   body_only (method k g t) c f = absurd (let e = f.1 in cc)
   body_only (prim k) c f = absurd (cc)
@@ -97,31 +97,31 @@ same_program P Q w a c t = ap (λ (x : List WordDef). record P { words = x }) w 
 
 module _ (P Q C : Program) (templates : List Template) (p : Closes P C templates) (q : Closes Q C templates) where
   -- the quotations that one template makes
-  quotation_one : (at : Literal) (t u : Text) (k : ℕ) → ((c : Text) → ClosesText P (first_of_literal at) t c → ClosesText Q (first_of_literal at) u c → t ≡ u) → IsMadeBy P at t k → IsMadeBy Q at u k → (o : Option Template) → slice_get templates k ≡ o → t ≡ u
+  quotation_one : (at : Literal) (t u : Phrase) (k : ℕ) → ((c : Phrase) → ClosesPhrase P (first_of_literal at) t c → ClosesPhrase Q (first_of_literal at) u c → t ≡ u) → IsMadeBy P at t k → IsMadeBy Q at u k → (o : Option Template) → slice_get templates k ≡ o → t ≡ u
   quotation_one at t u k one h g None e =
       let first : end ≡ t = ap (λ (l : Quoted). l.1) (sym (ap (literal_or P k) (template_closed_none P C templates p k e)) ∙ h) in
       let second : end ≡ u = ap (λ (l : Quoted). l.1) (sym (ap (literal_or Q k) (template_closed_none Q C templates q k e)) ∙ g) in
       sym first ∙ second
   quotation_one at t u k one h g (Some r) e =
-      let first = subst (λ (l : Quoted). ClosesText P (first_of_literal l.0) l.1 r.body) h (template_closed P C templates p k r e).body in
-      let second = subst (λ (l : Quoted). ClosesText Q (first_of_literal l.0) l.1 r.body) g (template_closed Q C templates q k r e).body in
+      let first = subst (λ (l : Quoted). ClosesPhrase P (first_of_literal l.0) l.1 r.body) h (template_closed P C templates p k r e).body in
+      let second = subst (λ (l : Quoted). ClosesPhrase Q (first_of_literal l.0) l.1 r.body) g (template_closed Q C templates q k r e).body in
       one r.body first second
 
   mutual
-    text_one : (bound : ℕ) (at : Literal) (t u c : Text) → IsBuiltText bound t → ClosesText P at t c → ClosesText Q at u c → t ≡ u
-    text_one bound at end u c h e f = sym (end_only Q at u (subst (λ (x : Text). ClosesText Q at u x) e f))
-    text_one bound at (then i r t) u c h e f =
-        let other = then_only Q at u e.0 r e.1 (subst (λ (x : Text). ClosesText Q at u x) e.2 f) in
+    phrase_one : (bound : ℕ) (at : Literal) (t u c : Phrase) → IsBuiltPhrase bound t → ClosesPhrase P at t c → ClosesPhrase Q at u c → t ≡ u
+    phrase_one bound at end u c h e f = sym (end_only Q at u (subst (λ (x : Phrase). ClosesPhrase Q at u x) e f))
+    phrase_one bound at (then i r t) u c h e f =
+        let other = then_only Q at u e.0 r e.1 (subst (λ (x : Phrase). ClosesPhrase Q at u x) e.2 f) in
         let item : i ≡ other.item = item_one bound at i other.item e.0 h.0 e.3 other.item_closes in
-        let rest : t ≡ other.rest = text_one bound (behind at i) t other.rest e.1 h.1 e.4 (subst (λ (x : Item). ClosesText Q (behind at x) other.rest e.1) (sym item) other.rest_closes) in
-        ap (λ (x : Item). then x r t) item ∙ ap (λ (x : Text). then other.item r x) rest ∙ sym other.are
+        let rest : t ≡ other.rest = phrase_one bound (behind at i) t other.rest e.1 h.1 e.4 (subst (λ (x : Item). ClosesPhrase Q (behind at x) other.rest e.1) (sym item) other.rest_closes) in
+        ap (λ (x : Item). then x r t) item ∙ ap (λ (x : Phrase). then other.item r x) rest ∙ sym other.are
 
     item_one : (bound : ℕ) (at : Literal) (i k j : Item) → IsBuiltItem bound i → ClosesItem P at i j → ClosesItem Q at k j → i ≡ k
     item_one bound at (lit x) k j h e f = sym (closes_literal Q at k x (subst (λ (y : Item). ClosesItem Q at k y) e f))
     item_one bound at (word w) k j h e f = sym (closes_word Q at k w (subst (λ (y : Item). ClosesItem Q at k y) e f))
     item_one bound at (quot t) k j h e f =
         let other = closes_made Q at k e.0 (subst (λ (y : Item). ClosesItem Q at k y) e.1 f) in
-        ap quot (quotation_one at t other.0 e.0 (λ c g l. text_one bound (first_of_literal at) t other.0 c h g l) e.2 other.2 (slice_get templates e.0) refl) ∙ sym other.1
+        ap quot (quotation_one at t other.0 e.0 (λ c g l. phrase_one bound (first_of_literal at) t other.0 c h g l) e.2 other.2 (slice_get templates e.0) refl) ∙ sym other.1
     item_one bound at (lit_arr a) k j h e f = absurd h
     item_one bound at (bind x) k j h e f = absurd h
     item_one bound at (local x) k j h e f = absurd h
@@ -135,25 +135,25 @@ module _ (P Q C : Program) (templates : List Template) (p : Closes P C templates
     item_one bound at (held v) k j h e f = absurd h
     item_one bound at (known m) k j h e f = absurd h
 
-  sort_one : (bound w : ℕ) (s z c : Sort) → HasBuiltText bound s → ClosesSort P w s c → ClosesSort Q w z c → s ≡ z
+  sort_one : (bound w : ℕ) (s z c : Sort) → HasBuiltPhrase bound s → ClosesSort P w s c → ClosesSort Q w z c → s ≡ z
   sort_one bound w (body t) z c h e f =
-      let other = body_only Q w z e.0 (subst (λ (x : Sort). ClosesSort Q w z x) e.1 f) in ap body (text_one bound (first_of_word w) t other.0 e.0 h e.2 other.2) ∙ sym other.1
+      let other = body_only Q w z e.0 (subst (λ (x : Sort). ClosesSort Q w z x) e.1 f) in ap body (phrase_one bound (first_of_word w) t other.0 e.0 h e.2 other.2) ∙ sym other.1
   sort_one bound w (past t) z c h e f = absurd h
   sort_one bound w (method k g t) z c h e f = absurd h
-  sort_one bound w (prim k) z c h e f = sym e ∙ sym (plain_only Q w z c f (ap has_text e))
-  sort_one bound w (core k) z c h e f = sym e ∙ sym (plain_only Q w z c f (ap has_text e))
-  sort_one bound w itself z c h e f = sym e ∙ sym (plain_only Q w z c f (ap has_text e))
-  sort_one bound w (class k) z c h e f = sym e ∙ sym (plain_only Q w z c f (ap has_text e))
-  sort_one bound w (isa k) z c h e f = sym e ∙ sym (plain_only Q w z c f (ap has_text e))
-  sort_one bound w (getter x) z c h e f = sym e ∙ sym (plain_only Q w z c f (ap has_text e))
-  sort_one bound w (setter x) z c h e f = sym e ∙ sym (plain_only Q w z c f (ap has_text e))
-  sort_one bound w (putter x) z c h e f = sym e ∙ sym (plain_only Q w z c f (ap has_text e))
-  sort_one bound w generic z c h e f = sym e ∙ sym (plain_only Q w z c f (ap has_text e))
+  sort_one bound w (prim k) z c h e f = sym e ∙ sym (plain_only Q w z c f (ap has_phrase e))
+  sort_one bound w (core k) z c h e f = sym e ∙ sym (plain_only Q w z c f (ap has_phrase e))
+  sort_one bound w itself z c h e f = sym e ∙ sym (plain_only Q w z c f (ap has_phrase e))
+  sort_one bound w (class k) z c h e f = sym e ∙ sym (plain_only Q w z c f (ap has_phrase e))
+  sort_one bound w (isa k) z c h e f = sym e ∙ sym (plain_only Q w z c f (ap has_phrase e))
+  sort_one bound w (getter x) z c h e f = sym e ∙ sym (plain_only Q w z c f (ap has_phrase e))
+  sort_one bound w (setter x) z c h e f = sym e ∙ sym (plain_only Q w z c f (ap has_phrase e))
+  sort_one bound w (putter x) z c h e f = sym e ∙ sym (plain_only Q w z c f (ap has_phrase e))
+  sort_one bound w generic z c h e f = sym e ∙ sym (plain_only Q w z c f (ap has_phrase e))
 
-  word_one : (bound w : ℕ) (d g c : WordDef) → HasBuiltText bound d.sort → ClosesWord P w d c → ClosesWord Q w g c → d ≡ g
+  word_one : (bound w : ℕ) (d g c : WordDef) → HasBuiltPhrase bound d.sort → ClosesWord P w d c → ClosesWord Q w g c → d ≡ g
   word_one bound w d g c h e f = same_word d g (sym e.name ∙ f.name) (sort_one bound w d.sort g.sort c.sort h e.sort f.sort) (sym e.effect ∙ f.effect) (sym e.inline ∙ f.inline) (sym e.recursive ∙ f.recursive) (sym e.place ∙ f.place)
 
-  words_one : (bound w : ℕ) (ds gs cs : List WordDef) → HaveBuiltTexts bound ds → CloseWords P w ds cs → CloseWords Q w gs cs → ds ≡ gs
+  words_one : (bound w : ℕ) (ds gs cs : List WordDef) → HaveBuiltPhrases bound ds → CloseWords P w ds cs → CloseWords Q w gs cs → ds ≡ gs
   words_one bound w [] [] cs h e f = refl
   words_one bound w [] (g ∷ gs) cs h e f = absurd (let clash : [] ≡ f.0 ∷ f.1 = sym e ∙ f.2 in cc)
   words_one bound w (d ∷ ds) [] cs h e f = absurd (let clash : [] ≡ e.0 ∷ e.1 = sym f ∙ e.2 in cc)
@@ -167,4 +167,4 @@ module _ (P Q C : Program) (templates : List Template) (p : Closes P C templates
 
 pub stands_for_one : StandsForOne
 stands_for_one P Q C templates p b q d =
-    same_program P Q (words_one P Q C templates p q P.top 0 P.words Q.words C.words (built_texts P b) p.words q.words) (sym p.arrays ∙ q.arrays) (sym p.classes ∙ q.classes) (sym p.top ∙ q.top)
+    same_program P Q (words_one P Q C templates p q P.top 0 P.words Q.words C.words (built_phrases P b) p.words q.words) (sym p.arrays ∙ q.arrays) (sym p.classes ∙ q.classes) (sym p.top ∙ q.top)

@@ -1,6 +1,6 @@
 -- What the operations of the code's table of primitives do in the checker's walk.
 use Rattle.std.proofs.Common.{◌≡◌, ℕ, List, length, Bool, true, false, Option, Some, option_map, refl, sym, ap, ◌∙◌}
-use Rattle.fac_lang.specs.Texts.{Mark}
+use Rattle.fac_lang.specs.Phrases.{Mark}
 use Rattle.fac_lang.specs.PrimitiveWords.{outputs_of}
 use Rattle.fac_lang.specs.Primitives.{Primitive, prim_numbered}
 use Rattle.fac_lang.specs.Operations.{Doing as Does, operation_does, primitive_does, IsOperationOf}

@@ -3,7 +3,7 @@ use Rattle.std.proofs.Common.{◌≡◌, ℕ, zero, suc, List, [], ◌∷◌, �
 use Rattle.std.specs.Prelude.{nat_le, map, slice_get}
 use Rattle.std.specs.List.{list_all}
 use Rattle.fac_lang.specs.declared.phrase.Height.{Height}
-use Rattle.fac_lang.specs.Texts.{Value, plain, no}
+use Rattle.fac_lang.specs.Phrases.{Value, plain, no}
 use Rattle.fac_lang.specs.World.{World}
 use Rattle.fac_lang.specs.declared.error_name.ErrorName.{ErrorName}
 use Rattle.fac_lang.specs.declared.error_name.ErrorName.TheVariants.{NotTuple, NoSlot}
@@ -15,7 +15,7 @@ use Rattle.fac_lang.specs.PrimitiveWords.{PrimitiveWord, outputs_of, plain_input
 use Rattle.fac_lang.specs.Procedures.{Procedure, leaves, answers, answers_array, answers_tuple, curries, composes, fails, looks, adds, opens, puts, compares, prints, asks, writes, reads, Gives, gives, bad, Fn, fn0, fn1, fn2, fn3, followed, by_inputs, picked, places_from, value_at, array_in, opened, opened_places, with_element, made_or, line_in, behind_line}
 use Rattle.fac_lang.specs.Primitives.{Primitive, built_primitives, later_primitives, prim_numbered, primitive_word, prim_fn}
 use Rattle.fac_lang.specs.Objects.{Slot, or_bad, name_at, seen_tuple, slot_place, want_slot, with_slot, get_slot, set_slot, put_slot, tuple_of}
-use Rattle.fac_lang.specs.Meaning.{texts, seen}
+use Rattle.fac_lang.specs.Meaning.{meaning_values, seen}
 use Rattle.std.proofs.lemmas.Bool.{leb-true}
 use Rattle.fac_abs.proofs.EqualMarks.{and_first, and_second}
 
@@ -35,32 +35,32 @@ picked_length : (d : Value) (vs : List Value) (places : List ℕ) → length (pi
 picked_length d vs [] = refl
 picked_length d vs (k ∷ places) = ap suc (picked_length d vs places)
 
-made_regular : (v : Option Value) (w : World Value) (g : Gives Value) → Regular (Some 1) w.literals g → Regular (Some 1) w.literals (made_or texts v w g)
+made_regular : (v : Option Value) (w : World Value) (g : Gives Value) → Regular (Some 1) w.literals g → Regular (Some 1) w.literals (made_or meaning_values v w g)
 made_regular None w g h = h
 made_regular (Some v) w g h = (refl, refl)
 
 module _ (N : Names) where
   -- Each procedure, from any values.
-  pub followed_regular : {o : Option ℕ} (p : Procedure o) (vs : List Value) (w : World Value) → Regular o w.literals (followed texts N p vs w)
+  pub followed_regular : {o : Option ℕ} (p : Procedure o) (vs : List Value) (w : World Value) → Regular o w.literals (followed meaning_values N p vs w)
   followed_regular (leaves places) vs w = (ap Some (sym (picked_length (plain no) vs places)), refl)
   followed_regular (answers p) vs w = (refl, refl)
   followed_regular (answers_array places) vs w = (refl, refl)
   followed_regular (answers_tuple c n) vs w = (refl, refl)
-  followed_regular (curries j k p) vs w = made_regular (texts.curried (value_at texts vs j) (value_at texts vs k)) w (followed texts N p vs w) (followed_regular p vs w)
-  followed_regular (composes j k p) vs w = made_regular (texts.composed (value_at texts vs j) (value_at texts vs k)) w (followed texts N p vs w) (followed_regular p vs w)
+  followed_regular (curries j k p) vs w = made_regular (meaning_values.curried (value_at meaning_values vs j) (value_at meaning_values vs k)) w (followed meaning_values N p vs w) (followed_regular p vs w)
+  followed_regular (composes j k p) vs w = made_regular (meaning_values.composed (value_at meaning_values vs j) (value_at meaning_values vs k)) w (followed meaning_values N p vs w) (followed_regular p vs w)
   followed_regular (fails e k) vs w = refl
-  followed_regular (looks k go) vs w = followed_regular (go (seen (value_at texts vs k))) vs w
+  followed_regular (looks k go) vs w = followed_regular (go (seen (value_at meaning_values vs k))) vs w
   followed_regular (adds ps go) vs w = followed_regular (go (places_from (length vs) (length ps))) (vs ++ map plain ps) w
-  followed_regular (opens a go) vs w = followed_regular (go (opened_places texts (length vs) (array_in texts (slice_get w.objects a)))) (opened texts vs (array_in texts (slice_get w.objects a))) w
-  followed_regular (puts a i k p) vs w = followed_regular p vs (record w { objects = with_element texts w.objects a i (value_at texts vs k) (array_in texts (slice_get w.objects a)) })
-  followed_regular (compares j k go) vs w = followed_regular (go (equal_pairs texts MOST_PAIRS w ((value_at texts vs j, value_at texts vs k) ∷ []))) vs w
-  followed_regular (prints k go) vs w = followed_regular (go (printed texts N w (value_at texts vs k))) vs w
+  followed_regular (opens a go) vs w = followed_regular (go (opened_places meaning_values (length vs) (array_in meaning_values (slice_get w.objects a)))) (opened meaning_values vs (array_in meaning_values (slice_get w.objects a))) w
+  followed_regular (puts a i k p) vs w = followed_regular p vs (record w { objects = with_element meaning_values w.objects a i (value_at meaning_values vs k) (array_in meaning_values (slice_get w.objects a)) })
+  followed_regular (compares j k go) vs w = followed_regular (go (equal_pairs meaning_values MOST_PAIRS w ((value_at meaning_values vs j, value_at meaning_values vs k) ∷ []))) vs w
+  followed_regular (prints k go) vs w = followed_regular (go (printed meaning_values N w (value_at meaning_values vs k))) vs w
   followed_regular (asks a go) vs w = followed_regular (go (N.tuple_class a)) vs w
   followed_regular (writes bs p) vs w = followed_regular p vs (record w { output = w.output ++ bs })
   followed_regular (reads go) vs w = followed_regular (go (line_in w.input)) vs (record w { input = behind_line w.input })
 
   -- as a function of no more than three inputs
-  pub inputs_regular : {o : Option ℕ} (n : ℕ) (p : Procedure o) → n ≤ 3 → RegularFn n o (by_inputs texts N n p)
+  pub inputs_regular : {o : Option ℕ} (n : ℕ) (p : Procedure o) → n ≤ 3 → RegularFn n o (by_inputs meaning_values N n p)
   inputs_regular zero p few = (refl, λ w. followed_regular p [] w)
   inputs_regular (suc zero) p few = (refl, λ x w. followed_regular p (x ∷ []) w)
   inputs_regular (suc (suc zero)) p few = (refl, λ x y w. followed_regular p (x ∷ y ∷ []) w)
@@ -81,7 +81,7 @@ unfolding prim_numbered
 few_inputs k p e = leb-true _ _ (one_passes (built_primitives ++ later_primitives) refl k p e)
 
 -- so each primitive takes and gives as many values as its word is written to
-pub prim_regular : (N : Names) (k : ℕ) (p : Primitive) → prim_numbered k ≡ Some p → RegularFn (length p.word.ins) (outputs_of p.word) (prim_fn texts N p)
+pub prim_regular : (N : Names) (k : ℕ) (p : Primitive) → prim_numbered k ≡ Some p → RegularFn (length p.word.ins) (outputs_of p.word) (prim_fn meaning_values N p)
 unfolding prim_fn
 prim_regular N k p e = inputs_regular N (length p.word.ins) p.does (few_inputs k p e)
 
@@ -109,23 +109,23 @@ prim_found k r e = found (prim_numbered k) refl e
     found (Some p) q h = (p, q, cc)
 
 module _ (N : Names) where
-  or_bad_regular : {X : Type 0} (o : Option ℕ) (y : Option X) (e : ErrorName) (v : Option Value) (w : World Value) (go : X → Gives Value) → ((x : X) → Regular o w.literals (go x)) → Regular o w.literals (or_bad texts y e v w go)
+  or_bad_regular : {X : Type 0} (o : Option ℕ) (y : Option X) (e : ErrorName) (v : Option Value) (w : World Value) (go : X → Gives Value) → ((x : X) → Regular o w.literals (go x)) → Regular o w.literals (or_bad meaning_values y e v w go)
   or_bad_regular o None e v w go h = refl
   or_bad_regular o (Some x) e v w go h = h x
 
-  slot_regular : (o : Option ℕ) (n : List ℕ) (x : Value) (w : World Value) (a : ℕ) (q : Option (ℕ × List Value)) (go : Slot texts N → Gives Value) → ((p : Slot texts N) → Regular o w.literals (go p)) → Regular o w.literals (slot_place texts N n x w a q go)
+  slot_regular : (o : Option ℕ) (n : List ℕ) (x : Value) (w : World Value) (a : ℕ) (q : Option (ℕ × List Value)) (go : Slot meaning_values N → Gives Value) → ((p : Slot meaning_values N) → Regular o w.literals (go p)) → Regular o w.literals (slot_place meaning_values N n x w a q go)
   slot_regular o n x w a None go h = refl
   slot_regular o n x w a (Some q) go h = or_bad_regular o (name_at 0 n (N.kind_slots q.0)) NoSlot (Some x) w (λ k. go (record { address = a; kind = q.0; values = q.1; place = k })) (λ k. h (record { address = a; kind = q.0; values = q.1; place = k }))
 
-  wanted_regular : (o : Option ℕ) (n : List ℕ) (x : Value) (w : World Value) (go : Slot texts N → Gives Value) → ((p : Slot texts N) → Regular o w.literals (go p)) → Regular o w.literals (want_slot texts N n x w go)
-  wanted_regular o n x w go h = or_bad_regular o (seen_tuple (seen x)) NotTuple (Some x) w (λ a. slot_place texts N n x w a (tuple_of texts (slice_get w.objects a)) go) (λ a. slot_regular o n x w a (tuple_of texts (slice_get w.objects a)) go h)
+  wanted_regular : (o : Option ℕ) (n : List ℕ) (x : Value) (w : World Value) (go : Slot meaning_values N → Gives Value) → ((p : Slot meaning_values N) → Regular o w.literals (go p)) → Regular o w.literals (want_slot meaning_values N n x w go)
+  wanted_regular o n x w go h = or_bad_regular o (seen_tuple (seen x)) NotTuple (Some x) w (λ a. slot_place meaning_values N n x w a (tuple_of meaning_values (slice_get w.objects a)) go) (λ a. slot_regular o n x w a (tuple_of meaning_values (slice_get w.objects a)) go h)
 
   -- Each accessor.
-  pub getter_regular : (n : List ℕ) → RegularFn 1 (Some 1) (get_slot texts N n)
-  getter_regular n = (refl, λ x w. wanted_regular (Some 1) n x w (λ p. or_bad texts (slice_get p.values p.place) NoSlot (Some x) w (λ u. gives (u ∷ []) w)) (λ p. or_bad_regular (Some 1) (slice_get p.values p.place) NoSlot (Some x) w (λ u. gives (u ∷ []) w) (λ u. (refl, refl))))
+  pub getter_regular : (n : List ℕ) → RegularFn 1 (Some 1) (get_slot meaning_values N n)
+  getter_regular n = (refl, λ x w. wanted_regular (Some 1) n x w (λ p. or_bad meaning_values (slice_get p.values p.place) NoSlot (Some x) w (λ u. gives (u ∷ []) w)) (λ p. or_bad_regular (Some 1) (slice_get p.values p.place) NoSlot (Some x) w (λ u. gives (u ∷ []) w) (λ u. (refl, refl))))
 
-  pub setter_regular : (n : List ℕ) → RegularFn 2 (Some 1) (set_slot texts N n)
-  setter_regular n = (refl, λ x u w. wanted_regular (Some 1) n x w (λ p. gives (x ∷ []) (with_slot texts N p u w)) (λ p. (refl, refl)))
+  pub setter_regular : (n : List ℕ) → RegularFn 2 (Some 1) (set_slot meaning_values N n)
+  setter_regular n = (refl, λ x u w. wanted_regular (Some 1) n x w (λ p. gives (x ∷ []) (with_slot meaning_values N p u w)) (λ p. (refl, refl)))
 
-  pub putter_regular : (n : List ℕ) → RegularFn 2 (Some 0) (put_slot texts N n)
-  putter_regular n = (refl, λ u x w. wanted_regular (Some 0) n x w (λ p. gives [] (with_slot texts N p u w)) (λ p. (refl, refl)))
+  pub putter_regular : (n : List ℕ) → RegularFn 2 (Some 0) (put_slot meaning_values N n)
+  putter_regular n = (refl, λ u x w. wanted_regular (Some 0) n x w (λ p. gives [] (with_slot meaning_values N p u w)) (λ p. (refl, refl)))

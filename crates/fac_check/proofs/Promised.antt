@@ -2,10 +2,10 @@
 use Rattle.std.proofs.Common.{◌≡◌, ℕ, zero, suc, List, [], ◌∷◌, length, Option, Some, None, refl, sym, arith, subst}
 use Rattle.std.specs.Prelude.{slice_get}
 use Rattle.fac_lang.specs.declared.program.Program.{Program}
-use Rattle.fac_lang.specs.Texts.{Value, word}
+use Rattle.fac_lang.specs.Phrases.{Value, word}
 use Rattle.fac_lang.specs.World.{World, State}
 use Rattle.fac_lang.specs.Eval.{Result, Done, Failed, Spent, Stuck}
-use Rattle.fac_lang.specs.Meaning.{word_text, one_item}
+use Rattle.fac_lang.specs.Meaning.{word_phrase, one_item}
 use Rattle.fac_lang.specs.RunningLaws.{IsNotStuck}
 use Rattle.fac_check.specs.CallableEffects.{callable_height, fits}
 use Rattle.fac_check.specs.Standing.{Valid, EndsSo}
@@ -58,6 +58,6 @@ accepted_are_safe P count whole accepted = record {
   row_words = λ w d e i x tests budget st n le on valid.
       ends_valid P (StackState P (handed P tests budget w d) (leaving_on (effect_leaving d.effect) (outer_out d.effect) [])) (LeftOn (effect_height d.effect).outs (OfRow P tests (outer_out d.effect))) st.world _ valid (literals_stay P fits (callable_height P) n (one_item (word w)) st) (outputs_left P tests budget w d) (row_sound P count whole accepted w d e i x (handed P tests budget w d) refl refl n (handed_good P tests budget w d e n le) st (inputs_stand P tests budget w d st on.0 on.1 on.2 on.3 on.4 valid));
   phrase = λ budget st n le many valid.
-      ends_valid P (λ st'. Unit {0}) (λ list. Unit {0}) st.world _ valid (literals_stay P fits (callable_height P) n (word_text P P.top) st) (λ st' u. tt) (phrase_sound P count whole accepted st n (whole_over count st.stack many) valid);
+      ends_valid P (λ st'. Unit {0}) (λ list. Unit {0}) st.world _ valid (literals_stay P fits (callable_height P) n (word_phrase P P.top) st) (λ st' u. tt) (phrase_sound P count whole accepted st n (whole_over count st.stack many) valid);
   begins = start_valid P;
 }

@@ -1,6 +1,6 @@
--- The values on which a row word is used stand for the marks from which its text is walked.
+-- The values on which a row word is used stand for the marks from which its phrase is walked.
 use Rattle.std.proofs.Common.{◌≡◌, ℕ, zero, suc, List, [], ◌∷◌, true, false, refl, sym, ap, Option}
-use Rattle.fac_lang.specs.Texts.{Value, Callable, Mark, any, par_mark}
+use Rattle.fac_lang.specs.Phrases.{Value, Callable, Mark, any, par_mark}
 use Rattle.fac_lang.specs.World.{pile}
 use Rattle.fac_lang.specs.Signatures.{Inputs, no_inputs, value, quoted}
 use Rattle.fac_lang.specs.declared.program.Program.{Program}

@@ -1,11 +1,11 @@
--- The context of a row word's text in which each of its rows is any lists, and each of its inputs any callable that does what the effect says of it.
+-- The context of a row word's phrase in which each of its rows is any lists, and each of its inputs any callable that does what the effect says of it.
 use Rattle.std.proofs.Common.{◌≡◌, ◌≤◌, ℕ, zero, suc, List, [], ◌∷◌, length, drop, Bool, true, false, Option, Some, None, refl, sym, ap, ◌∙◌, arith, subst}
 use Rattle.std.specs.Prelude.{nat_eq, nat_lt, ◌&&◌, not, slice_get}
 use Rattle.std.proofs.lemmas.Bool.{ltb-false}
 use Rattle.fac_lang.specs.declared.phrase.Place.{Place}
 use Rattle.fac_lang.specs.declared.program.Program.{Program}
 use Rattle.fac_lang.specs.declared.program.WordDef.{WordDef}
-use Rattle.fac_lang.specs.Texts.{Value, plain, fun, Callable, Mark, any, par_mark}
+use Rattle.fac_lang.specs.Phrases.{Value, plain, fun, Callable, Mark, any, par_mark}
 use Rattle.fac_lang.specs.World.{State, pile}
 use Rattle.fac_lang.specs.Signatures.{Signature, signature, Inputs, no_inputs, value, quoted, Leaving, never, leaves}
 use Rattle.fac_lang.specs.Effects.{inputs_count, leaving_outs, effect_height}
@@ -18,7 +18,7 @@ use Rattle.fac_check.specs.Rows.{leaving_row, effect_inputs, effect_leaving, inp
 use Rattle.fac_check.specs.Flow.{called}
 use Rattle.fac_check.specs.Verdicts.{inputs_marks}
 use Rattle.fac_check.specs.Standing.{StandsOn, Valid, EndsSo}
-use Rattle.fac_check.specs.Promises.{Lists, Exactly, LeftOn, Ends, text_run, callable_run, OfRow, DoesInput, AreInputs}
+use Rattle.fac_check.specs.Promises.{Lists, Exactly, LeftOn, Ends, phrase_run, callable_run, OfRow, DoesInput, AreInputs}
 use Rattle.fac_check.proofs.WalksFit.{Context, OnState, StackState, Fits, InputsFit}
 use Rattle.fac_check.proofs.ItemsFit.{Over, over_unknowns}
 use Rattle.fac_check.proofs.SoundWalks.{A}
@@ -40,7 +40,7 @@ module _ (P : Program) (tests : Row → List Value → Bool) (budget : ℕ) (w :
 
   same_call : (g n : ℕ) (c : Callable) (st : State Value) → n ≤ g → callable_run P c st n ≡ run_callable (eval (A P) g) c st n
   same_call g n c st le =
-      agree_call (text_run P) (eval (A P) g) n (λ b t s m le'. within (A P) m b t s m le') (λ t s m le'. same_run (A P) m g m (omega arith) (omega (arith, le, le')) t s m (omega arith)) c st n (omega arith)
+      agree_call (phrase_run P) (eval (A P) g) n (λ b t s m le'. within (A P) m b t s m le') (λ t s m le'. same_run (A P) m g m (omega arith) (omega (arith, le, le')) t s m (omega arith)) c st n (omega arith)
 
   ends_so : (after : Lists) (good : State Value → Type 0) (r : Result) → ((st : State Value) → after st.stack → Valid P st.world → good st) → Ends P after r → EndsSo good r
   ends_so after good (Done st m) f h = f st h.0 h.1

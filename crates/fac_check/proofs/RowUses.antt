@@ -2,7 +2,7 @@
 use Rattle.std.proofs.Common.{◌≡◌, ℕ, ◌≤◌, List, [], ◌∷◌, length, Bool, true, false, refl, Option, Some, None, subst}
 use Rattle.std.specs.Prelude.{nat_eq, ◌&&◌}
 use Rattle.fac_lang.specs.declared.phrase.Place.{Place}
-use Rattle.fac_lang.specs.Texts.{Text, Value, Mark}
+use Rattle.fac_lang.specs.Phrases.{Phrase, Value, Mark}
 use Rattle.fac_lang.specs.World.{State}
 use Rattle.fac_lang.specs.Signatures.{Signature, Leaving, never, leaves}
 use Rattle.fac_lang.specs.declared.program.Program.{Program}
@@ -14,7 +14,7 @@ use Rattle.fac_check.specs.Rows.{Binding, effect_inputs, effect_leaving, outer_i
 use Rattle.fac_locals.specs.Literals.{first_of_word}
 use Rattle.fac_check.specs.Flow.{Walked, found, refused, and_then, Walk, row_result, walked, most_walked, most_steps, most_nested}
 use Rattle.fac_check.specs.Verdicts.{Refusal, refusal, end_of, kept_word, row_verdict, inputs_marks}
-use Rattle.fac_check.specs.Standing.{StandsText, StandsOn, EndsSo}
+use Rattle.fac_check.specs.Standing.{StandsPhrase, StandsOn, EndsSo}
 use Rattle.fac_abs.proofs.EqualMarks.{and_first, and_second, length_same, base_same}
 use Rattle.fac_check.proofs.WalksFit.{Context, OnState, StackState, Fits}
 use Rattle.fac_check.proofs.ItemsFit.{Over, ends_map, over_unknowns}
@@ -22,7 +22,7 @@ use Rattle.fac_check.proofs.SoundWalks.{A, Known, some_none}
 use Rattle.fac_check.proofs.RowsFit.{Extends, DoInputs, Shows}
 
 module _ (P : Program) (C : Context) where
-  -- A use: where its inputs were walked, it is enough that the text leaves the result for the rows bound at the end.
+  -- A use: where its inputs were walked, it is enough that the phrase leaves the result for the rows bound at the end.
   pub use_fits : (go : Walk) (run : Run) (f : ℕ) (e : Signature) (taken : List Mark) (bs : Binding) (W : Walked Binding) (r : Result) → Shows P C go run f bs (effect_inputs e) taken W → ((ds : Binding) → Extends bs ds → DoInputs P C go run f ds (effect_inputs e) taken → EndsSo (StackState P C (row_result e ds)) r) → Fits P C (and_then W (λ ds n. found (row_result e ds) n)) r
   use_fits go run f e taken bs (found ds n) r s h = h ds s.0 s.1
   use_fits go run f e taken bs (refused x p) r s h = tt
@@ -46,6 +46,6 @@ module _ (P : Program) (C : Context) where
   row_ends l out p (refused x q) r e h = absurd (some_none P x q e)
 
   -- In a context of its own, on a list for its input row with its inputs on it, an accepted row word leaves its outputs on a list for its output row.
-  pub accepted_row : (w : ℕ) (d : WordDef) (t : Text) → row_verdict P w t d ≡ None → C.own ≡ Some d.effect → C.word ≡ Some w → (f : ℕ) → Known P f C → StandsText C.inputs t t → (st : State Value) (n : ℕ) → n ≤ f → OnState P C (outer_in d.effect) (inputs_marks 1 (effect_inputs d.effect) []) st → EndsSo (StackState P C (leaving_on (effect_leaving d.effect) (outer_out d.effect) [])) (eval (A P) f t st n)
+  pub accepted_row : (w : ℕ) (d : WordDef) (t : Phrase) → row_verdict P w t d ≡ None → C.own ≡ Some d.effect → C.word ≡ Some w → (f : ℕ) → Known P f C → StandsPhrase C.inputs t t → (st : State Value) (n : ℕ) → n ≤ f → OnState P C (outer_in d.effect) (inputs_marks 1 (effect_inputs d.effect) []) st → EndsSo (StackState P C (leaving_on (effect_leaving d.effect) (outer_out d.effect) [])) (eval (A P) f t st n)
   accepted_row w d t e own word f known self st n le o =
       row_ends (effect_leaving d.effect) (outer_out d.effect) d.place (walked P C.own C.word w t (outer_in d.effect) (inputs_marks 1 (effect_inputs d.effect) [])) (eval (A P) f t st n) (rw own (rw word e)) (known most_steps (first_of_word w) most_nested t t (outer_in d.effect) (inputs_marks 1 (effect_inputs d.effect) []) most_walked st n le self o)

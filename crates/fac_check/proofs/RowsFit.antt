@@ -3,7 +3,7 @@ use Rattle.std.proofs.Common.{◌≡◌, ℕ, zero, suc, ◌≤◌, ◌+◌, Lis
 use Rattle.std.specs.Prelude.{nat_eq, nat_lt, ◌&&◌, ◌||◌, not}
 use Rattle.std.specs.Str.{bytes_eq}
 use Rattle.fac_lang.specs.declared.phrase.Place.{Place}
-use Rattle.fac_lang.specs.Texts.{Value, fun, Callable, Mark, any}
+use Rattle.fac_lang.specs.Phrases.{Value, fun, Callable, Mark, any}
 use Rattle.fac_lang.specs.World.{State}
 use Rattle.fac_lang.specs.Signatures.{Signature, signature, Inputs, no_inputs, value, quoted, Leaving, never, leaves}
 use Rattle.fac_lang.specs.Effects.{inputs_count, leaving_outs}
@@ -19,7 +19,7 @@ use Rattle.std.proofs.lemmas.Bool.{ltb-false}
 use Rattle.std.proofs.Common.{length-drop}
 use Rattle.fac_lang.proofs.Laws.{Sparing}
 use Rattle.fac_abs.proofs.EqualMarks.{never_true, and_first, and_second, length_same, base_same, mark_same, row_same}
-use Rattle.fac_check.proofs.WalksFit.{Context, StackState, Fits, TextsFit, InputsFit, mark_fits}
+use Rattle.fac_check.proofs.WalksFit.{Context, StackState, Fits, PhrasesFit, InputsFit, mark_fits}
 use Rattle.fac_check.proofs.ItemsFit.{Over, Leaves, ends_map, over_unknowns}
 
 -- the same context, in which an absent base is this list
@@ -190,11 +190,11 @@ module _ (P : Program) (C : Context) where
     WalkEnds bs e m (found A n) = EndsAt bs e m A
     WalkEnds bs e m (refused x p) = Unit {0}
 
-    module _ (sparing : Sparing run) (texts_fit : TextsFit P C go run f) (inputs_fit : InputsFit P C run f) (texts_below : (r : List Value) → TextsFit P (with_base C r) go run f) (inputs_below : (r : List Value) → InputsFit P (with_base C r) run f) where
+    module _ (sparing : Sparing run) (phrases_fit : PhrasesFit P C go run f) (inputs_fit : InputsFit P C run f) (phrases_below : (r : List Value) → PhrasesFit P (with_base C r) go run f) (inputs_below : (r : List Value) → InputsFit P (with_base C r) run f) where
       row_fits : (bs : Binding) (y : List ℕ) (i : ℕ) (B : AbstractStack) → bound_to (named_row y) bs ≡ Some B → (m : Mark) (c : Callable) → Stands C.inputs m (fun c) → (r : List Value) (st : State Value) (n : ℕ) → n ≤ f → RowOf bs (Some (named_row y)) r → Over i r st.stack → Valid P st.world → (p : Place) (d left : ℕ) → Fits P C (walk_from C.own go m p d B i left) (run_callable run c st n)
       row_fits bs y i dead e m c sc r st n le ro ov v p d left = absurd (row_at bs (named_row y) dead e r ro)
       row_fits bs y i (on b ms) e m c sc r st n le ro ov v p d left =
-          mark_fits P C go run f sparing texts_fit inputs_fit m c sc p d b (unknowns i ms) left st n le (over_unknowns P C i b ms r st.stack ov (row_at bs (named_row y) (on b ms) e r ro), v)
+          mark_fits P C go run f sparing phrases_fit inputs_fit m c sc p d b (unknowns i ms) left st n le (over_unknowns P C i b ms r st.stack ov (row_at bs (named_row y) (on b ms) e r ro), v)
 
       walk_ends : (bs : Binding) (y : List ℕ) (is : Inputs) (l : Leaving) (B : AbstractStack) → bound_to (named_row y) bs ≡ Some B → (m : Mark) (p : Place) (d left : ℕ) → (W : Walked AbstractStack) → ((c : Callable) → Stands C.inputs m (fun c) → (r : List Value) (st : State Value) (n : ℕ) → n ≤ f → RowOf bs (Some (named_row y)) r → Over (inputs_count is) r st.stack → Valid P st.world → Fits P C W (run_callable run c st n)) → WalkEnds bs (signature (Some y) is l) m W
       walk_ends bs y is l B e m p d left (found A n) h = h
@@ -206,7 +206,7 @@ module _ (P : Program) (C : Context) where
 
       plain_fits : (is : Inputs) (m : Mark) (c : Callable) → Stands C.inputs m (fun c) → (r : List Value) (st : State Value) (n : ℕ) → n ≤ f → Over (inputs_count is) r st.stack → Valid P st.world → (p : Place) (d left : ℕ) → Fits P (with_base C r) (walk_from C.own go m p d (on None []) (inputs_count is) left) (run_callable run c st n)
       plain_fits is m c sc r st n le ov v p d left =
-          mark_fits P (with_base C r) go run f sparing (texts_below r) (inputs_below r) m c sc p d None (unknowns (inputs_count is) []) left st n le (over_unknowns P (with_base C r) (inputs_count is) None [] r st.stack ov refl, v)
+          mark_fits P (with_base C r) go run f sparing (phrases_below r) (inputs_below r) m c sc p d None (unknowns (inputs_count is) []) left st n le (over_unknowns P (with_base C r) (inputs_count is) None [] r st.stack ov refl, v)
 
       shows_more : (bs cs : Binding) (x : List ℕ) (e : Signature) (is : Inputs) (m : Mark) (ms : List Mark) (W : Walked Binding) → Extends bs cs → ((ds : Binding) → Extends cs ds → DoesInput ds e m) → Shows cs is ms W → Shows bs (quoted x e is) (m ∷ ms) W
       shows_more bs cs x e is m ms (found ds n) t h s = (λ r X z. s.0 r X (t r X z), (h ds s.0, s.1))

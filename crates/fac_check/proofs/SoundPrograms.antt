@@ -1,10 +1,10 @@
--- Accepted programs are sound, by induction on the ticks, over all contexts in which a text is walked.
+-- Accepted programs are sound, by induction on the ticks, over all contexts in which a phrase is walked.
 use Rattle.std.proofs.Common.{◌≡◌, ℕ, zero, suc, ◌≤◌, ◌+◌, List, [], ◌∷◌, length, Bool, true, false, refl, sym, ap, ◌∙◌, Option, Some, None, arith, subst}
 use Rattle.std.specs.Prelude.{slice_get, nat_eq, nat_le, not, ◌&&◌, ◌||◌}
 use Rattle.std.proofs.lemmas.Slice.Eq.{bytes_eq-Decides}
 use Rattle.std.proofs.lemmas.Bool.{eqb-true, eq-eqb, le-leb}
 use Rattle.fac_lang.specs.declared.phrase.Height.{Height}
-use Rattle.fac_lang.specs.Texts.{Text, end, Value, text, word, Mark, any, par_mark}
+use Rattle.fac_lang.specs.Phrases.{Phrase, end, Value, of_phrase, word, Mark, any, par_mark}
 use Rattle.fac_lang.specs.World.{State, pile}
 use Rattle.fac_lang.specs.Signatures.{Signature, signature, Inputs, no_inputs, value, quoted, never, leaves}
 use Rattle.fac_lang.specs.Primitives.{Primitive, prim_numbered, prim_fn}
@@ -16,20 +16,20 @@ use Rattle.fac_lang.specs.declared.program.WordDef.{WordDef}
 use Rattle.fac_lang.specs.declared.program.Sort.{Sort}
 use Rattle.fac_lang.specs.declared.program.Sort.TheVariants.{Prim as prim, Core as core, Body as body, Past as past, Itself as itself, Class as class, Isa as isa, Getter as getter, Setter as setter, Putter as putter, Generic as generic, Method as method}
 use Rattle.fac_lang.specs.Eval.{Result, Done, Failed, Spent, Stuck, then_do, Act, go_on, eval}
-use Rattle.fac_lang.specs.Meaning.{texts, names, sort_of, is_past, is_phrase, word_text, word_fits, one_item, run_text, sort_act, nowhere}
+use Rattle.fac_lang.specs.Meaning.{meaning_values, names, sort_of, is_past, is_top_phrase, word_phrase, word_fits, one_item, run_phrase, sort_act, nowhere}
 use Rattle.fac_lang.specs.Effects.{effect_height, inputs_count, word_height}
 use Rattle.fac_abs.specs.Marks.{Row, hidden, named_row, AbstractStack, dead, on, row_eq, base_eq, mark_eq, popped, unknowns}
 use Rattle.fac_abs.specs.declared.rule.Rule.{Rule}
 use Rattle.fac_abs.specs.declared.rule.Rule.TheVariants.{Underflow, NotKnown, Rows, RecursiveInput}
 use Rattle.fac_check.specs.Rows.{is_row, bindable, inputs_rows, nested_one_sided, bound_all, bound_rows, outer_in, outer_out, effect_inputs, effect_leaving, Binding, stack_or_dead, row_bound, row_binding, inputs_known, other_input, leaving_on}
 use Rattle.fac_locals.specs.Literals.{first_of_word}
-use Rattle.fac_check.specs.Flow.{Walked, found, refused, and_then, Walk, walk_on, Doing, breaks, gives, uses, by_height, callable_or, walk_inputs, row_result, is_own, own_rest, own_doing, row_doing, row_or_text}
+use Rattle.fac_check.specs.Flow.{Walked, found, refused, and_then, Walk, walk_on, Doing, breaks, gives, uses, by_height, callable_or, walk_inputs, row_result, is_own, own_rest, own_doing, row_doing, row_or_phrase}
 use Rattle.fac_check.specs.CallableEffects.{fits, fits_outs}
 use Rattle.fac_check.specs.Verdicts.{inputs_marks, ordinary_verdict, row_verdict, top_verdict}
 use Rattle.fac_check.specs.Standing.{Stands, StandsOn, StandsStack, Valid, EndsSo}
 use Rattle.fac_lang.proofs.Laws.{within}
 use Rattle.fac_abs.proofs.EqualMarks.{never_true, and_first, and_second, length_same, base_same, mark_same}
-use Rattle.fac_check.proofs.StandingLaws.{Unmarked, self_text}
+use Rattle.fac_check.proofs.StandingLaws.{Unmarked, self_phrase}
 use Rattle.fac_check.proofs.WalksFit.{Context, OnState, StackState, Fits, InputsFit, Does, does_fits}
 use Rattle.fac_check.proofs.ItemsFit.{Over, Leaves, Facts, if_callable, ends_map, left_on, HasEffect, effect_does}
 use Rattle.fac_check.proofs.PrimitivesKeep.{RegularFn}
@@ -44,29 +44,29 @@ use Rattle.fac_check.proofs.RowUses.{accepted_row}
 abbrev pub height_of : WordDef → Height
 height_of d = effect_height d.effect
 
--- A method is accepted with these numbers, and no mark stands in its text.
+-- A method is accepted with these numbers, and no mark stands in its phrase.
 abbrev pub AcceptedMethod : Program → Height → ℕ → Type 0
-AcceptedMethod P h m = (d : WordDef) × (ordinary_verdict P m (word_text P m) d ≡ None) × (height_of d ≡ h) × Unmarked (word_text P m)
+AcceptedMethod P h m = (d : WordDef) × (ordinary_verdict P m (word_phrase P m) d ≡ None) × (height_of d ≡ h) × Unmarked (word_phrase P m)
 
--- What a program is taken to be: its words are accepted, no mark stands in a text, and words without a text declare what they do. `AcceptedPrograms` gives all this for a whole program that is accepted.
+-- What a program is taken to be: its words are accepted, no mark stands in a phrase, and words without a phrase declare what they do. `AcceptedPrograms` gives all this for a whole program that is accepted.
 pub record Accepted (P : Program) : Type 0 where
-  pub accepted : (w : ℕ) (d : WordDef) (t : Text) → slice_get P.words w ≡ Some d → d.sort ≡ body t → not (nat_eq w P.top) ≡ true → d.inline ≡ false → ordinary_verdict P w t d ≡ None
-  pub unmarked : (w : ℕ) (d : WordDef) (t : Text) → slice_get P.words w ≡ Some d → d.sort ≡ body t → Unmarked t
-  pub row_accepted : (w : ℕ) (d : WordDef) (t : Text) → slice_get P.words w ≡ Some d → d.sort ≡ body t → not (nat_eq w P.top) ≡ true → d.inline ≡ true → is_row d.recursive d.effect ≡ true → row_verdict P w t d ≡ None
-  pub rows_bindable : (w : ℕ) (d : WordDef) (t : Text) → slice_get P.words w ≡ Some d → d.sort ≡ body t → not (nat_eq w P.top) ≡ true → bindable d.effect ≡ true
-  pub prims : (w : ℕ) (d : WordDef) (k : ℕ) (p : Primitive) → slice_get P.words w ≡ Some d → d.sort ≡ prim k → prim_numbered k ≡ Some p → RegularFn (height_of d).ins (height_of d).outs (prim_fn texts (names P) p)
-  pub getters : (w : ℕ) (d : WordDef) (x : List ℕ) → slice_get P.words w ≡ Some d → d.sort ≡ getter x → RegularFn (height_of d).ins (height_of d).outs (get_slot texts (names P) x)
-  pub setters : (w : ℕ) (d : WordDef) (x : List ℕ) → slice_get P.words w ≡ Some d → d.sort ≡ setter x → RegularFn (height_of d).ins (height_of d).outs (set_slot texts (names P) x)
-  pub putters : (w : ℕ) (d : WordDef) (x : List ℕ) → slice_get P.words w ≡ Some d → d.sort ≡ putter x → RegularFn (height_of d).ins (height_of d).outs (put_slot texts (names P) x)
+  pub accepted : (w : ℕ) (d : WordDef) (t : Phrase) → slice_get P.words w ≡ Some d → d.sort ≡ body t → not (nat_eq w P.top) ≡ true → d.inline ≡ false → ordinary_verdict P w t d ≡ None
+  pub unmarked : (w : ℕ) (d : WordDef) (t : Phrase) → slice_get P.words w ≡ Some d → d.sort ≡ body t → Unmarked t
+  pub row_accepted : (w : ℕ) (d : WordDef) (t : Phrase) → slice_get P.words w ≡ Some d → d.sort ≡ body t → not (nat_eq w P.top) ≡ true → d.inline ≡ true → is_row d.recursive d.effect ≡ true → row_verdict P w t d ≡ None
+  pub rows_bindable : (w : ℕ) (d : WordDef) (t : Phrase) → slice_get P.words w ≡ Some d → d.sort ≡ body t → not (nat_eq w P.top) ≡ true → bindable d.effect ≡ true
+  pub prims : (w : ℕ) (d : WordDef) (k : ℕ) (p : Primitive) → slice_get P.words w ≡ Some d → d.sort ≡ prim k → prim_numbered k ≡ Some p → RegularFn (height_of d).ins (height_of d).outs (prim_fn meaning_values (names P) p)
+  pub getters : (w : ℕ) (d : WordDef) (x : List ℕ) → slice_get P.words w ≡ Some d → d.sort ≡ getter x → RegularFn (height_of d).ins (height_of d).outs (get_slot meaning_values (names P) x)
+  pub setters : (w : ℕ) (d : WordDef) (x : List ℕ) → slice_get P.words w ≡ Some d → d.sort ≡ setter x → RegularFn (height_of d).ins (height_of d).outs (set_slot meaning_values (names P) x)
+  pub putters : (w : ℕ) (d : WordDef) (x : List ℕ) → slice_get P.words w ≡ Some d → d.sort ≡ putter x → RegularFn (height_of d).ins (height_of d).outs (put_slot meaning_values (names P) x)
   pub tests : (w : ℕ) (d : WordDef) (c : ℕ) → slice_get P.words w ≡ Some d → d.sort ≡ isa c → ((height_of d).ins ≡ 1) × ((height_of d).outs ≡ Some 1)
   pub generics : (w : ℕ) (d : WordDef) → slice_get P.words w ≡ Some d → d.sort ≡ generic → (i : ℕ) × ((height_of d).ins ≡ suc i) × ((k m : ℕ) → pick P w k ≡ Some m → AcceptedMethod P (height_of d) m)
-  pub nexts : (m c g : ℕ) (t : Text) (d : WordDef) → sort_of P m ≡ Some (method c g t) → slice_get P.words g ≡ Some d → (i : ℕ) × ((height_of d).ins ≡ suc i) × ((k n : ℕ) → next P m k ≡ Some n → AcceptedMethod P (height_of d) n)
+  pub nexts : (m c g : ℕ) (t : Phrase) (d : WordDef) → sort_of P m ≡ Some (method c g t) → slice_get P.words g ≡ Some d → (i : ℕ) × ((height_of d).ins ≡ suc i) × ((k n : ℕ) → next P m k ≡ Some n → AcceptedMethod P (height_of d) n)
   pub numbered : (w : ℕ) (d : WordDef) (k : ℕ) → slice_get P.words w ≡ Some d → d.sort ≡ prim k → (p : Primitive) × (prim_numbered k ≡ Some p)
   pub selves : (w : ℕ) (d : WordDef) → slice_get P.words w ≡ Some d → d.sort ≡ itself → ((height_of d).ins ≡ 0) × ((height_of d).outs ≡ Some 1)
   pub classes : (w : ℕ) (d : WordDef) (c : ℕ) → slice_get P.words w ≡ Some d → d.sort ≡ class c → ((height_of d).ins ≡ 0) × ((height_of d).outs ≡ Some 1)
-  pub methods : (w : ℕ) (d : WordDef) (c g : ℕ) (t : Text) → slice_get P.words w ≡ Some d → d.sort ≡ method c g t → (ordinary_verdict P w (of_method w t) d ≡ None) × Unmarked (of_method w t)
+  pub methods : (w : ℕ) (d : WordDef) (c g : ℕ) (t : Phrase) → slice_get P.words w ≡ Some d → d.sort ≡ method c g t → (ordinary_verdict P w (of_method w t) d ≡ None) × Unmarked (of_method w t)
 
--- the row word whose text is walked, where there is one
+-- the row word whose phrase is walked, where there is one
 abbrev pub OwnWord : Program → Option Signature → Option ℕ → Type 0
 OwnWord P None None = Unit {0}
 OwnWord P None (Some w) = ⊥
@@ -114,7 +114,7 @@ module _ (P : Program) where
   good_base : (f : ℕ) (C : Context) (r : List Value) → Good f C → Good f (with_base C r)
   good_base f C r good = record { inputs_fit = λ h le. good.bases_fit h le r; bases_fit = λ h le s. good.bases_fit h le s; own_word = good.own_word }
 
-  -- a list that a text doesn't touch
+  -- a list that a phrase doesn't touch
   good_values : (f : ℕ) (s : List Value) → Good f (on_values P s)
   good_values f s = record { inputs_fit = λ h le k c x. absurd x; bases_fit = λ h le r k c x. absurd x; own_word = tt }
 
@@ -146,7 +146,7 @@ module _ (P : Program) where
 
   -- the item of a word that `execute( )` finds, and whose effect fits, takes and leaves as tested
   abbrev pub Executed : ℕ → Type 0
-  Executed f = (h : Height) (w : ℕ) → word_fits P fits h w ≡ true → KeepsNumbers P f h.ins h.outs (text (one_item (word w)))
+  Executed f = (h : Height) (w : ℕ) → word_fits P fits h w ≡ true → KeepsNumbers P f h.ins h.outs (of_phrase (one_item (word w)))
 
   popped_unknowns : (n : ℕ) (taken : List Mark) → (x : List Mark) × (popped n taken (unknowns n []) ≡ Some (x, []))
   popped_unknowns zero taken = (taken, refl)
@@ -182,7 +182,7 @@ module _ (P : Program) where
       as_many (quoted x q is) [] e = absurd (omega (arith, e))
       as_many (quoted x q is) (m ∷ ns) e = as_many is ns (omega (arith, e))
 
-      module _ (w : ℕ) (d : WordDef) (t : Text) (is_word : slice_get P.words w ≡ Some d) (is_text : d.sort ≡ body t) (not_top : not (nat_eq w P.top) ≡ true) (is_inline : d.inline ≡ true) (row_word : is_row d.recursive d.effect ≡ true) where
+      module _ (w : ℕ) (d : WordDef) (t : Phrase) (is_word : slice_get P.words w ≡ Some d) (sort_is_body : d.sort ≡ body t) (not_top : not (nat_eq w P.top) ≡ true) (is_inline : d.inline ≡ true) (row_word : is_row d.recursive d.effect ≡ true) where
         abbrev ins : Inputs
         ins = effect_inputs d.effect
 
@@ -206,36 +206,36 @@ module _ (P : Program) where
           plus_is zero = refl
           plus_is (suc j) = plus_one j 1 ∙ ap suc (plus_is j)
 
-          -- the list stands for the marks from which the row word's text is walked
+          -- the list stands for the marks from which the row word's phrase is walked
           on_callee : (ds : Binding) → Extends (row_binding (outer_in d.effect) (on b rest)) ds → inputs_known ins taken ≡ true → OnState P (K ds) (outer_in d.effect) (inputs_marks 1 ins []) st
           on_callee ds x known_inputs =
               (subst (λ s. StandsOn (K ds).inputs (K ds).row (outer_in d.effect) (inputs_marks 1 ins []) s) (sym there) (inputs_stand P C (K ds) 1 ins taken vs many stand known_inputs (λ j c y. subst (λ i. Given P C i ins taken c) (sym (plus_is j)) y) (outer_in d.effect) [] r (row_there ds (outer_in d.effect) x)), valid)
 
-          -- what the text leaves is the result of the use
+          -- what the phrase leaves is the result of the use
           used : (ds : Binding) (o : Option Row) → outer_out d.effect ≡ o → (st' : State Value) → StackState P (K ds) (leaving_on (effect_leaving d.effect) o []) st' → StackState P C (elim (stack_or_dead (row_bound o ds)) [ dead ↦ dead | on c ns ↦ leaving_on (effect_leaving d.effect) c ns ]) st'
           used ds (Some y) e st' h = callee_leaves P C G (eval (A P) f) f w d.effect taken ds (λ s. StandsOn C.inputs C.row b rest s) (effect_leaving d.effect) y st' h
-          used ds None e st' h = absurd (subst (λ l. StackState P (K ds) (leaving_on l None []) st') (out_never d.effect (accepted.rows_bindable w d t is_word is_text not_top) e) h).0
+          used ds None e st' h = absurd (subst (λ l. StackState P (K ds) (leaving_on l None []) st') (out_never d.effect (accepted.rows_bindable w d t is_word sort_is_body not_top) e) h).0
 
           -- the walk of the inputs, for runs of each number of ticks
           use_ends : (W : Walked Binding) → ((h : ℕ) → h ≤ f → Shows P C G (eval (A P) h) h (row_binding (outer_in d.effect) (on b rest)) ins taken W) → inputs_known ins taken ≡ true → (n : ℕ) → n ≤ f → Fits P C (and_then W (λ ds j. found (row_result d.effect ds) j)) (eval (A P) f t st n)
           use_ends (refused x p) shows known_inputs n le = tt
           use_ends (found ds j) shows known_inputs n le =
-              (let base : (List Value → Type 0) = λ s. StandsOn C.inputs C.row b rest s in let good_callee : Good f (K ds) = record { inputs_fit = λ h le'. callee_fits P C G (eval (A P) h) h w d.effect taken ds base (shows h le').1; bases_fit = λ h le' q. callee_fits P C G (eval (A P) h) h w d.effect taken ds (λ s. s ≡ q) (shows h le').1; own_word = (d, is_word, refl) } in ends_map P C (StackState P (K ds) (leaving_on (effect_leaving d.effect) (outer_out d.effect) [])) (StackState P C (row_result d.effect ds)) (eval (A P) f t st n) (λ st' h. used ds (outer_out d.effect) refl st' h) (accepted_row P (K ds) w d t (accepted.row_accepted w d t is_word is_text not_top is_inline row_word) refl refl f (known f (le_self f) (K ds) good_callee) (self_text (K ds).inputs t (accepted.unmarked w d t is_word is_text)) st n le (on_callee ds (shows f (le_self f)).0 known_inputs)))
+              (let base : (List Value → Type 0) = λ s. StandsOn C.inputs C.row b rest s in let good_callee : Good f (K ds) = record { inputs_fit = λ h le'. callee_fits P C G (eval (A P) h) h w d.effect taken ds base (shows h le').1; bases_fit = λ h le' q. callee_fits P C G (eval (A P) h) h w d.effect taken ds (λ s. s ≡ q) (shows h le').1; own_word = (d, is_word, refl) } in ends_map P C (StackState P (K ds) (leaving_on (effect_leaving d.effect) (outer_out d.effect) [])) (StackState P C (row_result d.effect ds)) (eval (A P) f t st n) (λ st' h. used ds (outer_out d.effect) refl st' h) (accepted_row P (K ds) w d t (accepted.row_accepted w d t is_word sort_is_body not_top is_inline row_word) refl refl f (known f (le_self f) (K ds) good_callee) (self_phrase (K ds).inputs t (accepted.unmarked w d t is_word sort_is_body)) st n le (on_callee ds (shows f (le_self f)).0 known_inputs)))
 
-          use_does : D (elim (bindable d.effect) [ true ↦ callable_or (inputs_known ins taken) NotKnown (uses d.effect taken b rest) | false ↦ gives dead ]) (run_text t st)
-          use_does = bound (bindable d.effect) (accepted.rows_bindable w d t is_word is_text not_top)
+          use_does : D (elim (bindable d.effect) [ true ↦ callable_or (inputs_known ins taken) NotKnown (uses d.effect taken b rest) | false ↦ gives dead ]) (run_phrase t st)
+          use_does = bound (bindable d.effect) (accepted.rows_bindable w d t is_word sort_is_body not_top)
             where
-              bound : (q : Bool) → q ≡ true → D (elim q [ true ↦ callable_or (inputs_known ins taken) NotKnown (uses d.effect taken b rest) | false ↦ gives dead ]) (run_text t st)
+              bound : (q : Bool) → q ≡ true → D (elim q [ true ↦ callable_or (inputs_known ins taken) NotKnown (uses d.effect taken b rest) | false ↦ gives dead ]) (run_phrase t st)
               bound true e =
-                  if_callable P C G (eval (A P) f) f (within (A P) f) (known f (le_self f) C good g) (good.inputs_fit f (le_self f)) (inputs_known ins taken) NotKnown (uses d.effect taken b rest) (run_text t st) (λ known_inputs. (text t, st, refl, λ p k left n le. use_ends (walk_inputs C.own G 1 ins taken p k (row_binding (outer_in d.effect) (on b rest)) left) (λ h le'. inputs_show P C G (eval (A P) h) h (within (A P) h) (known h le' C (good_less f h C le' good) g) (good.inputs_fit h le') (λ q. known h le' (with_base C q) (good_base h C q (good_less f h C le' good)) g) (λ q. good.bases_fit h le' q) ins taken 1 p k (row_binding (outer_in d.effect) (on b rest)) left) known_inputs n le))
+                  if_callable P C G (eval (A P) f) f (within (A P) f) (known f (le_self f) C good g) (good.inputs_fit f (le_self f)) (inputs_known ins taken) NotKnown (uses d.effect taken b rest) (run_phrase t st) (λ known_inputs. (of_phrase t, st, refl, λ p k left n le. use_ends (walk_inputs C.own G 1 ins taken p k (row_binding (outer_in d.effect) (on b rest)) left) (λ h le'. inputs_show P C G (eval (A P) h) h (within (A P) h) (known h le' C (good_less f h C le' good) g) (good.inputs_fit h le') (λ q. known h le' (with_base C q) (good_base h C q (good_less f h C le' good)) g) (λ q. good.bases_fit h le' q) ins taken 1 p k (row_binding (outer_in d.effect) (on b rest)) left) known_inputs n le))
               bound false e = absurd (never_true e)
 
         -- a use of a row word
-        row_does : (b : Option Row) (ms : List Mark) (st : State Value) → OnState P C b ms st → D (row_doing P C.word d.effect b ms) (run_text t st)
+        row_does : (b : Option Row) (ms : List Mark) (st : State Value) → OnState P C b ms st → D (row_doing P C.word d.effect b ms) (run_phrase t st)
         row_does b ms st e =
-            popped_takes (inputs_count ins) [] [] b ms st.stack (run_text t st) (λ taken rest. elim (bindable d.effect) [ true ↦ callable_or (inputs_known ins taken) NotKnown (uses d.effect taken b rest) | false ↦ gives dead ]) (Underflow (inputs_count ins) (length ms)) refl e.0 (λ taken rest vs r x q z len. use_does taken rest vs r b st (as_many ins taken (omega (arith, len))) x q z e.1)
+            popped_takes (inputs_count ins) [] [] b ms st.stack (run_phrase t st) (λ taken rest. elim (bindable d.effect) [ true ↦ callable_or (inputs_known ins taken) NotKnown (uses d.effect taken b rest) | false ↦ gives dead ]) (Underflow (inputs_count ins) (length ms)) refl e.0 (λ taken rest vs r x q z len. use_does taken rest vs r b st (as_many ins taken (omega (arith, len))) x q z e.1)
 
-        -- the values of the own recursive call stand for the marks from which the text is walked
+        -- the values of the own recursive call stand for the marks from which the phrase is walked
         own_stand : (k : ℕ) (is : Inputs) (ns : List Mark) (vs : List Value) → AsMany P C C is ns → Vs ns vs → other_input k is ns ≡ None → (b : Option Row) (ms : List Mark) (s : List Value) → StandsOn C.inputs C.row b ms s → StandsOn C.inputs C.row b (inputs_marks k is ms) (pile vs s)
         own_stand k no_inputs [] vs a x e b ms s o = rw x o
         own_stand k no_inputs (m ∷ ns) vs a x e b ms s o = absurd (cc)
@@ -250,17 +250,17 @@ module _ (P : Program) where
             same false u v = absurd (cc)
 
         -- the own recursive call
-        own_does : C.own ≡ Some d.effect → C.word ≡ Some w → (b : Option Row) (ms : List Mark) (st : State Value) → OnState P C b ms st → D (own_doing P C.word d.effect b ms) (run_text t st)
+        own_does : C.own ≡ Some d.effect → C.word ≡ Some w → (b : Option Row) (ms : List Mark) (st : State Value) → OnState P C b ms st → D (own_doing P C.word d.effect b ms) (run_phrase t st)
         own_does is_own_effect is_own_word b ms st e =
-            popped_takes (inputs_count ins) [] [] b ms st.stack (run_text t st) (λ taken rest. elim (other_input 1 ins taken) [ Some k ↦ breaks (RecursiveInput k) | None ↦ own_rest P C.word d.effect b rest ]) (Underflow (inputs_count ins) (length ms)) refl e.0 (λ taken rest vs r x q z len. same taken rest vs r x q z (as_many ins taken (omega (arith, len))) (other_input 1 ins taken) refl)
+            popped_takes (inputs_count ins) [] [] b ms st.stack (run_phrase t st) (λ taken rest. elim (other_input 1 ins taken) [ Some k ↦ breaks (RecursiveInput k) | None ↦ own_rest P C.word d.effect b rest ]) (Underflow (inputs_count ins) (length ms)) refl e.0 (λ taken rest vs r x q z len. same taken rest vs r x q z (as_many ins taken (omega (arith, len))) (other_input 1 ins taken) refl)
           where
-            rested : (taken rest : List Mark) (vs r : List Value) → Vs taken vs → StandsOn C.inputs C.row b rest r → st.stack ≡ pile vs r → AsMany P C C ins taken → other_input 1 ins taken ≡ None → (q : Bool) → (base_eq b (outer_in d.effect) && nat_eq (length rest) 0) ≡ q → D (elim q [ true ↦ gives (leaving_on (effect_leaving d.effect) (outer_out d.effect) []) | false ↦ breaks (Rows 0 0 (length rest)) ]) (run_text t st)
+            rested : (taken rest : List Mark) (vs r : List Value) → Vs taken vs → StandsOn C.inputs C.row b rest r → st.stack ≡ pile vs r → AsMany P C C ins taken → other_input 1 ins taken ≡ None → (q : Bool) → (base_eq b (outer_in d.effect) && nat_eq (length rest) 0) ≡ q → D (elim q [ true ↦ gives (leaving_on (effect_leaving d.effect) (outer_out d.effect) []) | false ↦ breaks (Rows 0 0 (length rest)) ]) (run_phrase t st)
             rested taken rest vs r x h z many none false u = tt
             rested taken [] vs r x h z many none true u =
-                (refl, λ n le. accepted_row P C w d t (accepted.row_accepted w d t is_word is_text not_top is_inline row_word) is_own_effect is_own_word f (known f (le_self f) C good) (self_text C.inputs t (accepted.unmarked w d t is_word is_text)) st n le (subst (λ s. StandsOn C.inputs C.row (outer_in d.effect) (inputs_marks 1 ins []) s) (sym z) (own_stand 1 ins taken vs many x none (outer_in d.effect) [] r (subst (λ c. C.row c r) (base_same b (outer_in d.effect) (and_first (base_eq b (outer_in d.effect)) true u)) h)), e.1))
+                (refl, λ n le. accepted_row P C w d t (accepted.row_accepted w d t is_word sort_is_body not_top is_inline row_word) is_own_effect is_own_word f (known f (le_self f) C good) (self_phrase C.inputs t (accepted.unmarked w d t is_word sort_is_body)) st n le (subst (λ s. StandsOn C.inputs C.row (outer_in d.effect) (inputs_marks 1 ins []) s) (sym z) (own_stand 1 ins taken vs many x none (outer_in d.effect) [] r (subst (λ c. C.row c r) (base_same b (outer_in d.effect) (and_first (base_eq b (outer_in d.effect)) true u)) h)), e.1))
             rested taken (m ∷ rest) vs r x h z many none true u = absurd (omega (arith, length_same (length (m ∷ rest)) 0 (and_second (base_eq b (outer_in d.effect)) (nat_eq (length (m ∷ rest)) 0) u)))
 
-            same : (taken rest : List Mark) (vs r : List Value) → Vs taken vs → StandsOn C.inputs C.row b rest r → st.stack ≡ pile vs r → AsMany P C C ins taken → (o : Option ℕ) → other_input 1 ins taken ≡ o → D (elim o [ Some k ↦ breaks (RecursiveInput k) | None ↦ own_rest P C.word d.effect b rest ]) (run_text t st)
+            same : (taken rest : List Mark) (vs r : List Value) → Vs taken vs → StandsOn C.inputs C.row b rest r → st.stack ≡ pile vs r → AsMany P C C ins taken → (o : Option ℕ) → other_input 1 ins taken ≡ o → D (elim o [ Some k ↦ breaks (RecursiveInput k) | None ↦ own_rest P C.word d.effect b rest ]) (run_phrase t st)
             same taken rest vs r x h z many (Some k) u = tt
             same taken rest vs r x h z many None u = rested taken rest vs r x h z many u (base_eq b (outer_in d.effect) && nat_eq (length rest) 0) refl
 
@@ -272,25 +272,25 @@ module _ (P : Program) where
             (let same : w ≡ v = eqb-true w v e in let at : slice_get P.words v ≡ Some d = subst (λ i. slice_get P.words i ≡ Some d) same is_word in let one : x.0 ≡ d = cc in (ap (λ i. Some i) (sym x.2 ∙ ap (λ i. i.effect) one), ap (λ i. Some i) (sym same)))
 
         -- each use of a row word
-        row_or_own : (b : Option Row) (ms : List Mark) (st : State Value) → OnState P C b ms st → D (row_or_text P C.word true (is_own P C.word w C.word) w t d.effect b ms) (run_text t st)
+        row_or_own : (b : Option Row) (ms : List Mark) (st : State Value) → OnState P C b ms st → D (row_or_phrase P C.word true (is_own P C.word w C.word) w t d.effect b ms) (run_phrase t st)
         row_or_own b ms st e = which (is_own P C.word w C.word) refl
           where
-            which : (q : Bool) → is_own P C.word w C.word ≡ q → D (row_or_text P C.word true q w t d.effect b ms) (run_text t st)
+            which : (q : Bool) → is_own P C.word w C.word ≡ q → D (row_or_phrase P C.word true q w t d.effect b ms) (run_phrase t st)
             which true u = (let z = own_facts C.own C.word good.own_word u in own_does z.0 z.1 b ms st e)
             which false u = row_does b ms st e
 
     all_of : (f : ℕ) → AllKnown f → All f
     all_of f known s = known f (le_self f) (on_values P s) (good_values f s)
 
-    method_keeps : (f : ℕ) → All f → (h : Height) (m : ℕ) → AcceptedMethod P h m → KeepsNumbers P f h.ins h.outs (text (word_text P m))
+    method_keeps : (f : ℕ) → All f → (h : Height) (m : ℕ) → AcceptedMethod P h m → KeepsNumbers P f h.ins h.outs (of_phrase (word_phrase P m))
     method_keeps f known h m x =
-        subst (λ k. KeepsNumbers P f k.ins k.outs (text (word_text P m))) x.2 (λ r st n le o v. accepted_keeps P m x.0 (word_text P m) x.1 f r (known r) (self_text (λ k c. ⊥) (word_text P m) x.3) st n le o v)
+        subst (λ k. KeepsNumbers P f k.ins k.outs (of_phrase (word_phrase P m))) x.2 (λ r st n le o v. accepted_keeps P m x.0 (word_phrase P m) x.1 f r (known r) (self_phrase (λ k c. ⊥) (word_phrase P m) x.3) st n le o v)
 
     facts_at : (f : ℕ) (known : AllKnown f) → Executed f → (C : Context) (good : Good f C) (g : ℕ) → Facts P C (walk_in P C g) (eval (A P) f) f (within (A P) f) (known f (le_self f) C good g) (good.inputs_fit f (le_self f))
     facts_at f known executed C good g =
         record {
-          ordinary = λ w d t e q z i r st n le o v. accepted_keeps P w d t (accepted.accepted w d t e q z i) f r (all_of f known r) (self_text (λ k c. ⊥) t (accepted.unmarked w d t e q)) st n le o v;
-          expanded = λ w d t e q. self_text C.inputs t (accepted.unmarked w d t e q);
+          ordinary = λ w d t e q z i r st n le o v. accepted_keeps P w d t (accepted.accepted w d t e q z i) f r (all_of f known r) (self_phrase (λ k c. ⊥) t (accepted.unmarked w d t e q)) st n le o v;
+          expanded = λ w d t e q. self_phrase C.inputs t (accepted.unmarked w d t e q);
           row_words = λ w d t e q z i x. row_or_own f known C good g w d t e q z i x;
           prims = accepted.prims;
           getters = accepted.getters;
@@ -302,7 +302,7 @@ module _ (P : Program) where
           numbered = accepted.numbered;
           selves = accepted.selves;
           classes = accepted.classes;
-          methods = λ w d c i t e q. (let z = accepted.methods w d c i t e q in λ r st n le o v. accepted_keeps P w d (of_method w t) z.0 f r (all_of f known r) (self_text (λ k c'. ⊥) (of_method w t) z.1) st n le o v);
+          methods = λ w d c i t e q. (let z = accepted.methods w d c i t e q in λ r st n le o v. accepted_keeps P w d (of_method w t) z.0 f r (all_of f known r) (self_phrase (λ k c'. ⊥) (of_method w t) z.1) st n le o v);
           heights = λ h c e. fitting_keeps P f (all_of f known) h c e;
           executed = executed;
         }
@@ -332,21 +332,21 @@ module _ (P : Program) where
           ended (height_of d).outs (go_on (eval (A P) f) (sort_act P w (Some d.sort) st) end n) (does_fits P C (walk_in P C 0) (eval (A P) f) f (within (A P) f) (known f (le_self f) C (good_values f r) 0) ((good_values f r).inputs_fit f (le_self f)) (gives (left_on P C (height_of d).outs None [])) (sort_act P w (Some d.sort) st) nowhere 0 (first_of_word 0) 1 end end n le refl (all_taken (height_of d).ins (height_of d).outs (sort_act P w (Some d.sort) st) (effect_does P C (walk_in P C 0) (eval (A P) f) f (within (A P) f) (known f (le_self f) C (good_values f r) 0) ((good_values f r).inputs_fit f (le_self f)) (facts_at f known executed C (good_values f r) 0) w d d.sort is_word refl not_inline x None (unknowns (height_of d).ins []) st (over_marks P r (height_of d).ins st.stack over, valid))))
 
     -- The item of a word that has an effect and is no top-level phrase, with one tick more.
-    module _ (f : ℕ) (known : AllKnown f) (executed : Executed f) (h : Height) (w : ℕ) (no_phrase : not (is_phrase P w) ≡ true) where
+    module _ (f : ℕ) (known : AllKnown f) (executed : Executed f) (h : Height) (w : ℕ) (no_phrase : not (is_top_phrase P w) ≡ true) where
       abbrev Wanted : Type 0
-      Wanted = KeepsNumbers P (suc f) h.ins h.outs (text (one_item (word w)))
+      Wanted = KeepsNumbers P (suc f) h.ins h.outs (of_phrase (one_item (word w)))
 
       module _ (d : WordDef) (is_word : slice_get P.words w ≡ Some d) where
         is_sort : sort_of P w ≡ Some d.sort
         is_sort = ap (λ o. elim o [ Some c ↦ Some c.sort | None ↦ None ]) is_word
 
-        item_keeps : d.inline ≡ false → HasEffect P w d.sort → KeepsNumbers P (suc f) (height_of d).ins (height_of d).outs (text (one_item (word w)))
+        item_keeps : d.inline ≡ false → HasEffect P w d.sort → KeepsNumbers P (suc f) (height_of d).ins (height_of d).outs (of_phrase (one_item (word w)))
         item_keeps i x r st zero le o v = tt
         item_keeps i x r st (suc n) le o v = subst (λ z. EndsSo (Leaves P (height_of d).outs r) (go_on (eval (A P) f) (sort_act P w z st) end n)) (sym is_sort) (sort_ends f known executed w d is_word i r st o v x n (omega (arith, le)))
 
         from_word : d.inline ≡ false → HasEffect P w d.sort → fits (height_of d) h ≡ true → Wanted
         from_word i x e =
-            more_keeps P (suc f) (text (one_item (word w))) (height_of d).ins h.ins (height_of d).outs h.outs (and_first (nat_le (height_of d).ins h.ins) (fits_outs (height_of d).ins (height_of d).outs h.ins h.outs) e) (and_second (nat_le (height_of d).ins h.ins) (fits_outs (height_of d).ins (height_of d).outs h.ins h.outs) e) (item_keeps i x)
+            more_keeps P (suc f) (of_phrase (one_item (word w))) (height_of d).ins h.ins (height_of d).outs h.outs (and_first (nat_le (height_of d).ins h.ins) (fits_outs (height_of d).ins (height_of d).outs h.ins h.outs) e) (and_second (nat_le (height_of d).ins h.ins) (fits_outs (height_of d).ins (height_of d).outs h.ins h.outs) e) (item_keeps i x)
 
         abbrev sort_fits_so : Sort → Bool
         sort_fits_so s = (let o : Option Height = elim s [ core k ↦ None | _ ↦ Some (effect_height d.effect) ] in elim o [ Some k ↦ fits k h | None ↦ false ])
@@ -382,7 +382,7 @@ module _ (P : Program) where
     executed_at : (f : ℕ) → AllKnown f → Executed f
     executed_at zero known h w e = λ r st n le o v. tt
     executed_at (suc f) known h w e =
-        by_word f (less_known f known) (executed_at f (less_known f known)) h w (and_first (not (is_phrase P w)) (declared_fits h (slice_get P.words w)) e) (slice_get P.words w) refl (and_second (not (is_phrase P w)) (declared_fits h (slice_get P.words w)) e)
+        by_word f (less_known f known) (executed_at f (less_known f known)) h w (and_first (not (is_top_phrase P w)) (declared_fits h (slice_get P.words w)) e) (slice_get P.words w) refl (and_second (not (is_top_phrase P w)) (declared_fits h (slice_get P.words w)) e)
 
     one_more : (g : ℕ) → AllKnown g → Executed g → (C : Context) → Good (suc g) C → Known P (suc g) C
     one_more g below executed C good = step (good_less (suc g) g C (omega arith) good)
@@ -401,12 +401,12 @@ module _ (P : Program) where
     known_values n s = all_known n n (omega arith) (on_values P s) (good_values n s)
 
     -- The item of a word that has an effect by itself takes and leaves what it declares, and touches nothing below.
-    pub item_sound : (w : ℕ) (d : WordDef) (h : Height) → slice_get P.words w ≡ Some d → word_height d ≡ Some h → is_phrase P w ≡ false → (s : List Value) (st : State Value) (n : ℕ) → Over h.ins s st.stack → Valid P st.world → EndsSo (Leaves P h.outs s) (eval (A P) n (one_item (word w)) st n)
-    item_sound w d h e q z s st n o v = executed_at n (all_known n) h w (word_tested (is_phrase P w) (slice_get P.words w) d h z e q) s st n (omega arith) o v
+    pub item_sound : (w : ℕ) (d : WordDef) (h : Height) → slice_get P.words w ≡ Some d → word_height d ≡ Some h → is_top_phrase P w ≡ false → (s : List Value) (st : State Value) (n : ℕ) → Over h.ins s st.stack → Valid P st.world → EndsSo (Leaves P h.outs s) (eval (A P) n (one_item (word w)) st n)
+    item_sound w d h e q z s st n o v = executed_at n (all_known n) h w (word_tested (is_top_phrase P w) (slice_get P.words w) d h z e q) s st n (omega arith) o v
 
-    -- The text of a row word, in every context in which what may be handed in for its inputs does what its effect says: on a list for its input row with its inputs on it, it leaves its outputs on a list for its output row.
-    row_text_sound : (w : ℕ) (d : WordDef) (t : Text) → slice_get P.words w ≡ Some d → d.sort ≡ body t → not (nat_eq w P.top) ≡ true → d.inline ≡ true → is_row d.recursive d.effect ≡ true → (C : Context) → C.own ≡ Some d.effect → C.word ≡ Some w → (n : ℕ) → Good n C → (st : State Value) → OnState P C (outer_in d.effect) (inputs_marks 1 (effect_inputs d.effect) []) st → EndsSo (StackState P C (leaving_on (effect_leaving d.effect) (outer_out d.effect) [])) (eval (A P) n t st n)
-    row_text_sound w d t e q z i x C own is_word n good st o = accepted_row P C w d t (accepted.row_accepted w d t e q z i x) own is_word n (all_known n n (omega arith) C good) (self_text C.inputs t (accepted.unmarked w d t e q)) st n (omega arith) o
+    -- The phrase of a row word, in every context in which what may be handed in for its inputs does what its effect says: on a list for its input row with its inputs on it, it leaves its outputs on a list for its output row.
+    row_phrase_sound : (w : ℕ) (d : WordDef) (t : Phrase) → slice_get P.words w ≡ Some d → d.sort ≡ body t → not (nat_eq w P.top) ≡ true → d.inline ≡ true → is_row d.recursive d.effect ≡ true → (C : Context) → C.own ≡ Some d.effect → C.word ≡ Some w → (n : ℕ) → Good n C → (st : State Value) → OnState P C (outer_in d.effect) (inputs_marks 1 (effect_inputs d.effect) []) st → EndsSo (StackState P C (leaving_on (effect_leaving d.effect) (outer_out d.effect) [])) (eval (A P) n t st n)
+    row_phrase_sound w d t e q z i x C own is_word n good st o = accepted_row P C w d t (accepted.row_accepted w d t e q z i x) own is_word n (all_known n n (omega arith) C good) (self_phrase C.inputs t (accepted.unmarked w d t e q)) st n (omega arith) o
 
     ended_there : (f : ℕ) (good : State Value → Type 0) (r : Result) → EndsSo good r → EndsSo good (then_do r (λ st' k. eval (A P) f end st' k))
     ended_there f good (Done st m) h = h
@@ -415,11 +415,11 @@ module _ (P : Program) where
     ended_there f good Stuck h = h
 
     -- So does its item.
-    pub row_word_sound : (w : ℕ) (d : WordDef) (t : Text) → slice_get P.words w ≡ Some d → d.sort ≡ body t → not (nat_eq w P.top) ≡ true → d.inline ≡ true → is_row d.recursive d.effect ≡ true → (C : Context) → C.own ≡ Some d.effect → C.word ≡ Some w → (n : ℕ) → Good n C → (st : State Value) → OnState P C (outer_in d.effect) (inputs_marks 1 (effect_inputs d.effect) []) st → EndsSo (StackState P C (leaving_on (effect_leaving d.effect) (outer_out d.effect) [])) (eval (A P) n (one_item (word w)) st n)
+    pub row_word_sound : (w : ℕ) (d : WordDef) (t : Phrase) → slice_get P.words w ≡ Some d → d.sort ≡ body t → not (nat_eq w P.top) ≡ true → d.inline ≡ true → is_row d.recursive d.effect ≡ true → (C : Context) → C.own ≡ Some d.effect → C.word ≡ Some w → (n : ℕ) → Good n C → (st : State Value) → OnState P C (outer_in d.effect) (inputs_marks 1 (effect_inputs d.effect) []) st → EndsSo (StackState P C (leaving_on (effect_leaving d.effect) (outer_out d.effect) [])) (eval (A P) n (one_item (word w)) st n)
     row_word_sound w d t e q z i x C own is_word zero good st o = tt
     row_word_sound w d t e q z i x C own is_word (suc n) good st o =
-        (let is_text : sort_of P w ≡ Some (body t) = ap (λ v. elim v [ Some c ↦ Some c.sort | None ↦ None ]) e ∙ ap (λ s. Some s) q in subst (λ s. EndsSo (StackState P C (leaving_on (effect_leaving d.effect) (outer_out d.effect) [])) (go_on (eval (A P) n) (sort_act P w s st) end n)) (sym is_text) (ended_there n (StackState P C (leaving_on (effect_leaving d.effect) (outer_out d.effect) [])) (eval (A P) n t st n) (row_text_sound w d t e q z i x C own is_word n (good_less (suc n) n C (omega arith) good) st o)))
+        (let sort_is_body : sort_of P w ≡ Some (body t) = ap (λ v. elim v [ Some c ↦ Some c.sort | None ↦ None ]) e ∙ ap (λ s. Some s) q in subst (λ s. EndsSo (StackState P C (leaving_on (effect_leaving d.effect) (outer_out d.effect) [])) (go_on (eval (A P) n) (sort_act P w s st) end n)) (sym sort_is_body) (ended_there n (StackState P C (leaving_on (effect_leaving d.effect) (outer_out d.effect) [])) (eval (A P) n t st n) (row_phrase_sound w d t e q z i x C own is_word n (good_less (suc n) n C (omega arith) good) st o)))
 
     -- The top-level phrase isn't stuck.
-    pub top_sound : (w : ℕ) (t : Text) (start : ℕ) → Unmarked t → top_verdict P start w t ≡ None → (st : State Value) (n : ℕ) → Over start [] st.stack → Valid P st.world → EndsSo (λ st'. Unit {0}) (eval (A P) n t st n)
-    top_sound w t start u e st n o v = top_runs P w t start e n (known_values n []) (self_text (λ k c. ⊥) t u) st n (omega arith) o v
+    pub top_sound : (w : ℕ) (t : Phrase) (start : ℕ) → Unmarked t → top_verdict P start w t ≡ None → (st : State Value) (n : ℕ) → Over start [] st.stack → Valid P st.world → EndsSo (λ st'. Unit {0}) (eval (A P) n t st n)
+    top_sound w t start u e st n o v = top_runs P w t start e n (known_values n []) (self_phrase (λ k c. ⊥) t u) st n (omega arith) o v

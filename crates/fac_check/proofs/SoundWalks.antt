@@ -1,8 +1,8 @@
--- The walk of a text fits its run, by induction on the ticks.
+-- The walk of a phrase fits its run, by induction on the ticks.
 use Rattle.std.proofs.Common.{◌≡◌, ℕ, zero, suc, ◌≤◌, List, [], ◌∷◌, length, Bool, true, false, refl, sym, ap, Option, Some, None, arith}
 use Rattle.std.specs.Prelude.{nat_eq, ◌&&◌}
 use Rattle.fac_lang.specs.declared.phrase.Place.{Place}
-use Rattle.fac_lang.specs.Texts.{Literal, Text, end, then, Item, Value, Mark}
+use Rattle.fac_lang.specs.Phrases.{Literal, Phrase, end, then, Item, Value, Mark}
 use Rattle.fac_lang.specs.World.{State}
 use Rattle.fac_lang.specs.Signatures.{Signature, signature, Leaving, never, leaves}
 use Rattle.fac_lang.specs.Effects.{inputs_count, leaving_outs, effect_height}
@@ -18,10 +18,10 @@ use Rattle.fac_locals.specs.Literals.{first_of_word, behind}
 use Rattle.fac_check.specs.Flow.{Walked, found, refused, walk, doing, walked, most_walked, most_steps, most_nested}
 use Rattle.fac_check.specs.CallableEffects.{fits, callable_height}
 use Rattle.fac_check.specs.Verdicts.{Refusal, refusal, end_of, kept_word, ordinary_verdict, top_verdict}
-use Rattle.fac_check.specs.Standing.{StandsText, StandsOn, Valid, EndsSo}
+use Rattle.fac_check.specs.Standing.{StandsPhrase, StandsOn, Valid, EndsSo}
 use Rattle.fac_lang.proofs.Laws.{within}
 use Rattle.fac_abs.proofs.EqualMarks.{never_true, and_second, length_same}
-use Rattle.fac_check.proofs.WalksFit.{Context, StackState, Fits, TextsFit, InputsFit, any_spent, does_fits}
+use Rattle.fac_check.proofs.WalksFit.{Context, StackState, Fits, PhrasesFit, InputsFit, any_spent, does_fits}
 use Rattle.fac_check.proofs.ItemsFit.{Over, Leaves, Facts, item_does, ends_map}
 
 module _ (P : Program) where
@@ -30,12 +30,12 @@ module _ (P : Program) where
   A = act P fits (callable_height P)
 
   -- a walk in a context
-  abbrev pub walk_in : Context → ℕ → Literal → ℕ → Text → Option Row → List Mark → ℕ → Walked AbstractStack
+  abbrev pub walk_in : Context → ℕ → Literal → ℕ → Phrase → Option Row → List Mark → ℕ → Walked AbstractStack
   walk_in C g = walk C.own (doing P C.word) g
 
   -- In the context C every walk that isn't refused fits the run, for every run of up to f ticks.
   abbrev pub Known : ℕ → Context → Type 0
-  Known f C = (g : ℕ) → TextsFit P C (walk_in C g) (eval A f) f
+  Known f C = (g : ℕ) → PhrasesFit P C (walk_in C g) (eval A f) f
 
   -- with no tick
   pub known_none : (C : Context) → Known zero C
@@ -51,7 +51,7 @@ module _ (P : Program) where
   known_more C f known inputs_fit facts (suc g) at d (then i p t) u b ms left st (suc n) le s o =
       rw s.3 (does_fits P C (walk_in C g) (eval A f) f (within A f) (known g) inputs_fit (doing P C.word at i b ms) (A s.0 st) p d (behind at i) left t s.2 n (omega (arith, le)) s.5 (item_does P C (walk_in C g) (eval A f) f (within A f) (known g) inputs_fit (facts g) at i s.0 s.4 b ms st o))
 
-  -- A text on values s of which nothing is known and that it doesn't touch.
+  -- A phrase on values s of which nothing is known and that it doesn't touch.
   abbrev pub on_values : List Value → Context
   on_values s = record { own = None; word = None; inputs = λ k c. ⊥; row = λ b r. r ≡ s }
 
@@ -69,7 +69,7 @@ module _ (P : Program) where
   pub some_none : (r : Rule) (p : Place) → refusal r p ≡ None → ⊥
   some_none r p e = never_true (ap (λ o. elim o [ Some x ↦ false | None ↦ true ]) e)
 
-  -- an accepted text leaves what is declared
+  -- an accepted phrase leaves what is declared
   kept_ends : (s : List Value) (l : Leaving) (p : Place) (B : AbstractStack) (st : State Value) → kept_word P l None p B ≡ None → StackState P (on_values s) B st → Leaves P (leaving_outs l) s st
   kept_ends s l p dead st e h = absurd h.0
   kept_ends s never p (on b ms) st e h = absurd (some_none MustReturn p e)
@@ -84,7 +84,7 @@ module _ (P : Program) where
   walked_ends s l p (refused x q) r e h = absurd (some_none x q e)
 
   -- An accepted ordinary word or method takes and leaves what it declares, and touches nothing below.
-  pub accepted_keeps : (w : ℕ) (d : WordDef) (t : Text) → ordinary_verdict P w t d ≡ None → (f : ℕ) (s : List Value) → Known f (on_values s) → StandsText (λ k c. ⊥) t t → (st : State Value) (n : ℕ) → n ≤ f → Over (effect_height d.effect).ins s st.stack → Valid P st.world → EndsSo (Leaves P (effect_height d.effect).outs s) (eval A f t st n)
+  pub accepted_keeps : (w : ℕ) (d : WordDef) (t : Phrase) → ordinary_verdict P w t d ≡ None → (f : ℕ) (s : List Value) → Known f (on_values s) → StandsPhrase (λ k c. ⊥) t t → (st : State Value) (n : ℕ) → n ≤ f → Over (effect_height d.effect).ins s st.stack → Valid P st.world → EndsSo (Leaves P (effect_height d.effect).outs s) (eval A f t st n)
   accepted_keeps w d t e f s known self st n le o v = kept d.effect e o
     where
       kept : (x : Signature) → end_of P (walked P None None w t None (unknowns (inputs_count (effect_inputs x)) [])) (kept_word P (effect_leaving x) None d.place) ≡ None → Over (effect_height x).ins s st.stack → EndsSo (Leaves P (effect_height x).outs s) (eval A f t st n)
@@ -101,5 +101,5 @@ module _ (P : Program) where
   top_walked (found B n) r e h = ends_any (StackState P (on_values []) B) r h
   top_walked (refused x q) r e h = absurd (some_none x q e)
 
-  pub top_runs : (w : ℕ) (t : Text) (start : ℕ) → top_verdict P start w t ≡ None → (f : ℕ) → Known f (on_values []) → StandsText (λ k c. ⊥) t t → (st : State Value) (n : ℕ) → n ≤ f → Over start [] st.stack → Valid P st.world → EndsSo (λ st'. Unit {0}) (eval A f t st n)
+  pub top_runs : (w : ℕ) (t : Phrase) (start : ℕ) → top_verdict P start w t ≡ None → (f : ℕ) → Known f (on_values []) → StandsPhrase (λ k c. ⊥) t t → (st : State Value) (n : ℕ) → n ≤ f → Over start [] st.stack → Valid P st.world → EndsSo (λ st'. Unit {0}) (eval A f t st n)
   top_runs w t start e f known self st n le o v = top_walked (walked P None None w t None (unknowns start [])) (eval A f t st n) e (known most_steps (first_of_word w) most_nested t t None (unknowns start []) most_walked st n le self (over_marks [] start st.stack o, v))

@@ -1,11 +1,11 @@
--- The walk of a text is the walk of its first item, and then that of the rest.
+-- The walk of a phrase is the walk of its first item, and then that of the rest.
 use Rattle.std.proofs.Common.{◌≡◌, ℕ, zero, suc, List, Option, Some, None, refl}
 use Rattle.fac_lang.specs.declared.phrase.Place.{Place}
 use Rattle.fac_lang.specs.Signatures.{Signature}
-use Rattle.fac_lang.specs.Texts.{Literal, Text, Mark}
+use Rattle.fac_lang.specs.Phrases.{Literal, Phrase, Mark}
 use Rattle.fac_abs.specs.Marks.{AbstractStack}
 use Rattle.fac_abs.specs.declared.rule.Rule.{Rule}
-use Rattle.fac_check.specs.Flow.{Walked, found, refused, and_then, living, Doing, breaks, gives, names_local, expands, walks, forks, again, uses, Walk, counted, join, marks_back, walk_mark, text_rule, first_rule, unless_broken, walk_on}
+use Rattle.fac_check.specs.Flow.{Walked, found, refused, and_then, living, Doing, breaks, gives, names_local, expands, walks, forks, again, uses, Walk, counted, join, marks_back, walk_mark, phrase_rule, first_rule, unless_broken, walk_on}
 use Rattle.fac_check.specs.inner.ItemWalk.{IsAlone, item_walk}
 
 -- what follows a walk that goes on
@@ -13,8 +13,8 @@ pub and_then_each : {A B C : Type 0} (W : Walked A) (f : A → ℕ → Walked B)
 and_then_each (found a n) f g = refl
 and_then_each (refused r p) f g = refl
 
-module _ (own : Option Signature) (go : Walk) (d : ℕ) (next : Literal) (t : Text) where
-  -- the rest of the text
+module _ (own : Option Signature) (go : Walk) (d : ℕ) (next : Literal) (t : Phrase) where
+  -- the rest of the phrase
   abbrev pub rest : AbstractStack → ℕ → Walked AbstractStack
   rest A k = living A k (λ b ms j. go next d t b ms j)
 
@@ -44,7 +44,7 @@ module _ (own : Option Signature) (go : Walk) (d : ℕ) (next : Literal) (t : Te
   walk_on_item (gives A) p zero alone = refl
   walk_on_item (gives A) p (suc n) alone = refl
   walk_on_item (names_local x m b ms) p n alone = absurd alone
-  walk_on_item (expands w u b ms) p n alone = broken_first (text_rule own d) p _ _ (counted_first p n _ _ (λ k. refl))
+  walk_on_item (expands w u b ms) p n alone = broken_first (phrase_rule own d) p _ _ (counted_first p n _ _ (λ k. refl))
   walk_on_item (walks m b ms back) p n alone = broken_first (first_rule own m d b ms) p _ _ (counted_first p n _ _ (λ k. back_first (walk_mark own go m p d b ms k) back))
   walk_on_item (forks l r b ms) p n alone = broken_first (first_rule own l d b ms) p _ _ (counted_first p n _ _ (λ k. joined_first p (walk_mark own go l p d b ms k) (λ j. walk_mark own go r p d b ms j)))
   walk_on_item (again w b ms) p n alone = absurd alone

@@ -1,14 +1,14 @@
 -- A word leads back to itself by the words that each word leads to exactly where it does so in the program.
 use Rattle.std.proofs.Common.{◌≡◌, ◌<◌, ◌⊎◌, inl, inr, ℕ, zero, suc, ◌+◌, List, [], ◌∷◌, length, Bool, true, false, Option, Some, None, refl, sym, ap, ◌∙◌, subst, arith}
 use Rattle.std.specs.Prelude.{slice_get, nat_eq, ◌&&◌}
-use Rattle.fac_lang.specs.Texts.{Plain, int, yes, no, str, iota, wrd, arr, tup, Text, end, then, Item, lit, lit_arr, quot, word, bind, local, fry, hole, call_eff, exec_eff, next_method, made, next_after, held, known}
+use Rattle.fac_lang.specs.Phrases.{Plain, int, yes, no, str, iota, wrd, arr, tup, Phrase, end, then, Item, lit, lit_arr, quot, word, bind, local, fry, hole, call_eff, exec_eff, next_method, made, next_after, held, known}
 use Rattle.fac_lang.specs.declared.phrase.Template.{Template}
 use Rattle.fac_lang.specs.declared.program.Program.{Program}
 use Rattle.fac_lang.specs.declared.program.WordDef.{WordDef}
 use Rattle.fac_lang.specs.declared.program.Sort.{Sort}
 use Rattle.fac_lang.specs.declared.program.Sort.TheVariants.{Prim as prim, Core as core, Body as body, Past as past, Itself as itself, Class as class, Isa as isa, Getter as getter, Setter as setter, Putter as putter, Generic as generic, Method as method}
 use Rattle.fac_check.specs.Verdicts.{one_of, more_of, inline_body, inline_words, item_words, body_words, named_by, led_to, without, leads_back, undeclared}
-use Rattle.fac_check.specs.inner.UndeclaredRecursion.{IsOneOf, one_if, inline_text, inline_word, list_or_none, led_from, IsWithin, StaysInside, Decides, DecidesAll, text_edges, inline_edges, sort_edges, word_edges, edges_from, AreEdges}
+use Rattle.fac_check.specs.inner.UndeclaredRecursion.{IsOneOf, one_if, inline_phrase, inline_word, list_or_none, led_from, IsWithin, StaysInside, Decides, DecidesAll, phrase_edges, inline_edges, sort_edges, word_edges, edges_from, AreEdges}
 use Rattle.fac_check.specs.Judged.{undeclared_from, AreUndeclared}
 use Rattle.fac_check.proofs.NamedWords.{inline_same, number_below}
 use Rattle.fac_check.proofs.LeadingBack.{or_left, or_right, or_either, same_number, in_either, in_one}
@@ -69,15 +69,15 @@ without_keeps P w [] v other e = e
 without_keeps P w (u ∷ vs) v other e =
     without_keeps_by (nat_eq w u) w u (without P w vs) v refl other (elim (or_either (nat_eq v u) (one_of v vs) e) [ inl p ↦ inl p | inr p ↦ inr (without_keeps P w vs v other p) ])
 
--- an inline word with a text
+-- an inline word with a phrase
 pub record InlineWord (P : Program) (v : ℕ) : Type 0 where
   pub def : WordDef
-  pub text : Text
+  pub phrase : Phrase
   pub at : slice_get P.words v ≡ Some def
-  pub sort_is : def.sort ≡ body text
+  pub sort_is : def.sort ≡ body phrase
   pub inline_is : def.inline ≡ true
 
-body_sort : (b : Bool) (s : Sort) → inline_text b s ≡ true → (t : Text) × (s ≡ body t) × (b ≡ true)
+body_sort : (b : Bool) (s : Sort) → inline_phrase b s ≡ true → (t : Phrase) × (s ≡ body t) × (b ≡ true)
 body_sort b (body t) e = (t, refl, e)
 body_sort b (past t) e = absurd cc
 body_sort b (method n g t) e = absurd cc
@@ -99,9 +99,9 @@ module _ (P : Program) where
   inline_found : (w v : ℕ) (o : Option WordDef) → slice_get P.words w ≡ o → IsOneOf v (inline_word w o) → InlineWord P v
   inline_found w v None is e = absurd cc
   inline_found w v (Some d) is e =
-      let one = one_if_true (inline_text d.inline d.sort) w v e in
+      let one = one_if_true (inline_phrase d.inline d.sort) w v e in
       let sort = body_sort d.inline d.sort one.0 in
-      record { def = d; text = sort.0; at = ap (slice_get P.words) one.1 ∙ is; sort_is = sort.1; inline_is = sort.2 }
+      record { def = d; phrase = sort.0; at = ap (slice_get P.words) one.1 ∙ is; sort_is = sort.1; inline_is = sort.2 }
 
   named_inline : (w v : ℕ) → IsOneOf v (inline_body P w (slice_get P.words w)) → InlineWord P v
   named_inline w v e = inline_found w v (slice_get P.words w) refl (subst (λ (vs : List ℕ). IsOneOf v vs) (sym (inline_same P w (slice_get P.words w))) e)
@@ -116,9 +116,9 @@ module _ (P : Program) where
   lit_inline (arr k) v e = absurd cc
   lit_inline (tup k) v e = absurd cc
 
-  -- the words that a text names are inline words
+  -- the words that a phrase names are inline words
   mutual
-    words_inline : (t : Text) (v : ℕ) → IsOneOf v (inline_words P t) → InlineWord P v
+    words_inline : (t : Phrase) (v : ℕ) → IsOneOf v (inline_words P t) → InlineWord P v
     words_inline end v e = absurd cc
     words_inline (then i p t) v e = elim (in_either v (item_words P i) (inline_words P t) e) [ inl h ↦ item_inline i v h | inr h ↦ words_inline t v h ]
 
@@ -186,12 +186,12 @@ module _ (P : Program) where
   abbrev edges : List (List ℕ)
   edges = edges_from P 0 P.words
 
-  text_edges_named : (w : ℕ) (r : Bool) (t : Text) (v : ℕ) → IsOneOf v (text_edges P w r t) → IsOneOf v (inline_words P t)
-  text_edges_named w true t v e = without_only P w (inline_words P t) v e
-  text_edges_named w false t v e = e
+  phrase_edges_named : (w : ℕ) (r : Bool) (t : Phrase) (v : ℕ) → IsOneOf v (phrase_edges P w r t) → IsOneOf v (inline_words P t)
+  phrase_edges_named w true t v e = without_only P w (inline_words P t) v e
+  phrase_edges_named w false t v e = e
 
   sort_edges_named : (w : ℕ) (i r : Bool) (s : Sort) (v : ℕ) → IsOneOf v (sort_edges P w i r s) → IsOneOf v (elim s [ body t ↦ inline_words P t | _ ↦ [] ])
-  sort_edges_named w true r (body t) v e = text_edges_named w r t v e
+  sort_edges_named w true r (body t) v e = phrase_edges_named w r t v e
   sort_edges_named w false r (body t) v e = absurd cc
   sort_edges_named w i r (past t) v e = absurd cc
   sort_edges_named w i r (method n g t) v e = absurd cc
@@ -215,14 +215,14 @@ module _ (P : Program) where
   within_led starts (suc n) v (inl p) = rw (led_last n starts) (named_keeps (led_to P n starts) (led_to P n starts) v (within_led starts n v p))
   within_led starts (suc n) v (inr p) = rw (led_last n starts) (named_adds (led_to P n starts) (led_to P n starts) p.0 v (within_led starts n p.0 p.1) (led_named p.0 v (slice_get P.words p.0) refl p.2))
 
-  text_edges_other : (u : ℕ) (r : Bool) (t : Text) (v : ℕ) → (v ≡ u → ⊥) → IsOneOf v (inline_words P t) → IsOneOf v (text_edges P u r t)
-  text_edges_other u true t v other e = without_keeps P u (inline_words P t) v other e
-  text_edges_other u false t v other e = e
+  phrase_edges_other : (u : ℕ) (r : Bool) (t : Phrase) (v : ℕ) → (v ≡ u → ⊥) → IsOneOf v (inline_words P t) → IsOneOf v (phrase_edges P u r t)
+  phrase_edges_other u true t v other e = without_keeps P u (inline_words P t) v other e
+  phrase_edges_other u false t v other e = e
 
-  inline_edges_are : (u : ℕ) (f : InlineWord P u) → led_from edges u ≡ text_edges P u f.def.recursive f.text
-  inline_edges_are u f = edges_at 0 u u P.words f.def (omega arith) f.at ∙ ap (sort_edges P u f.def.inline f.def.recursive) f.sort_is ∙ ap (λ (b : Bool). inline_edges P u b f.def.recursive f.text) f.inline_is
+  inline_edges_are : (u : ℕ) (f : InlineWord P u) → led_from edges u ≡ phrase_edges P u f.def.recursive f.phrase
+  inline_edges_are u f = edges_at 0 u u P.words f.def (omega arith) f.at ∙ ap (sort_edges P u f.def.inline f.def.recursive) f.sort_is ∙ ap (λ (b : Bool). inline_edges P u b f.def.recursive f.phrase) f.inline_is
 
-  inline_named : (u v : ℕ) (f : InlineWord P u) → IsOneOf v (body_words P (slice_get P.words u)) → IsOneOf v (inline_words P f.text)
+  inline_named : (u v : ℕ) (f : InlineWord P u) → IsOneOf v (body_words P (slice_get P.words u)) → IsOneOf v (inline_words P f.phrase)
   inline_named u v f e = subst (λ (vs : List ℕ). IsOneOf v vs) (ap (body_words P) f.at ∙ ap (λ (s : Sort). elim s [ body t ↦ inline_words P t | _ ↦ [] ]) f.sort_is) e
 
   is_below : (v : ℕ) → InlineWord P v → v < length edges
@@ -230,10 +230,10 @@ module _ (P : Program) where
       let lt = number_below P.words v f.def f.at in
       omega (arith, lt, edges_count 0 P.words)
 
-  stays_by : (w : ℕ) (s : StaysInside edges w) (u v : ℕ) (b : Bool) → nat_eq v u ≡ b → s.inside u ≡ true → (f : InlineWord P u) → IsOneOf v (inline_words P f.text) → v < length edges → s.inside v ≡ true
+  stays_by : (w : ℕ) (s : StaysInside edges w) (u v : ℕ) (b : Bool) → nat_eq v u ≡ b → s.inside u ≡ true → (f : InlineWord P u) → IsOneOf v (inline_words P f.phrase) → v < length edges → s.inside v ≡ true
   stays_by w s u v true is inside f e lt = ap s.inside (same_number v u is) ∙ inside
   stays_by w s u v false is inside f e lt =
-      s.closed u v inside (subst (λ (vs : List ℕ). IsOneOf v vs) (sym (inline_edges_are u f)) (text_edges_other u f.def.recursive f.text v (λ same. let itself : nat_eq u u ≡ false = ap (λ (x : ℕ). nat_eq x u) (sym same) ∙ is in absurd (grind arith)) e)) lt
+      s.closed u v inside (subst (λ (vs : List ℕ). IsOneOf v vs) (sym (inline_edges_are u f)) (phrase_edges_other u f.def.recursive f.phrase v (λ same. let itself : nat_eq u u ≡ false = ap (λ (x : ℕ). nat_eq x u) (sym same) ∙ is in absurd (grind arith)) e)) lt
 
   -- all words that these lead to stay inside
   stays_led : (w : ℕ) (s : StaysInside edges w) (n : ℕ) (ws : List ℕ) → ((v : ℕ) → IsOneOf v ws → (s.inside v ≡ true) × InlineWord P v) → (v : ℕ) → IsOneOf v (led_to P n ws) → s.inside v ≡ true
@@ -241,7 +241,7 @@ module _ (P : Program) where
   stays_led w s (suc n) ws all v e =
       stays_led w s n (named_by P ws ws) (λ u h. elim (named_only ws ws u h) [
         | inl p ↦ all u p
-        | inr p ↦ let from = all p.0 p.1 in let named = inline_named p.0 u from.1 p.2 in let found = words_inline from.1.text u named in (stays_by w s p.0 u (nat_eq u p.0) refl from.0 from.1 named (is_below u found), found)
+        | inr p ↦ let from = all p.0 p.1 in let named = inline_named p.0 u from.1 p.2 in let found = words_inline from.1.phrase u named in (stays_by w s p.0 u (nat_eq u p.0) refl from.0 from.1 named (is_below u found), found)
       ]) v e
 
   nowhere : (n v : ℕ) → IsWithin edges [] n v → ⊥
@@ -257,17 +257,17 @@ module _ (P : Program) where
   not_both true h = absurd (h refl)
   not_both false h = refl
 
-  begins_text : (w : ℕ) (r : Bool) (t : Text) → text_edges P w r t ≡ elim r [ true ↦ without P w (inline_words P t) | false ↦ inline_words P t ]
-  begins_text w true t = refl
-  begins_text w false t = refl
+  begins_phrase : (w : ℕ) (r : Bool) (t : Phrase) → phrase_edges P w r t ≡ elim r [ true ↦ without P w (inline_words P t) | false ↦ inline_words P t ]
+  begins_phrase w true t = refl
+  begins_phrase w false t = refl
 
-  decides_inline : (w : ℕ) (r : Bool) (t : Text) (b : Bool) → led_from edges w ≡ text_edges P w r t → Decides edges w b → b ≡ one_of w (led_to P (length P.words) (text_edges P w r t))
-  decides_inline w r t true is h = sym (within_led (text_edges P w r t) (length P.words) w (subst (λ (n : ℕ). IsWithin edges (text_edges P w r t) n w) (edges_count 0 P.words) (subst (λ (vs : List ℕ). IsWithin edges vs (length edges) w) is h)))
+  decides_inline : (w : ℕ) (r : Bool) (t : Phrase) (b : Bool) → led_from edges w ≡ phrase_edges P w r t → Decides edges w b → b ≡ one_of w (led_to P (length P.words) (phrase_edges P w r t))
+  decides_inline w r t true is h = sym (within_led (phrase_edges P w r t) (length P.words) w (subst (λ (n : ℕ). IsWithin edges (phrase_edges P w r t) n w) (edges_count 0 P.words) (subst (λ (vs : List ℕ). IsWithin edges vs (length edges) w) is h)))
   decides_inline w r t false is h =
-      not_both (one_of w (led_to P (length P.words) (text_edges P w r t))) (λ e. let back = stays_led w h (length P.words) (text_edges P w r t) (λ v f. let found = words_inline t v (text_edges_named w r t v f) in (h.begins v (subst (λ (vs : List ℕ). IsOneOf v vs) (sym is) f) (is_below v found), found)) w e in let clash : true ≡ false = sym back ∙ h.apart in cc)
+      not_both (one_of w (led_to P (length P.words) (phrase_edges P w r t))) (λ e. let back = stays_led w h (length P.words) (phrase_edges P w r t) (λ v f. let found = words_inline t v (phrase_edges_named w r t v f) in (h.begins v (subst (λ (vs : List ℕ). IsOneOf v vs) (sym is) f) (is_below v found), found)) w e in let clash : true ≡ false = sym back ∙ h.apart in cc)
 
   decides_sort : (w : ℕ) (i r : Bool) (s : Sort) (b : Bool) → led_from edges w ≡ sort_edges P w i r s → Decides edges w b → b ≡ elim s [ body t ↦ i && leads_back P w r t | _ ↦ false ]
-  decides_sort w true r (body t) b is h = decides_inline w r t b is h ∙ ap (λ (vs : List ℕ). one_of w (led_to P (length P.words) vs)) (begins_text w r t)
+  decides_sort w true r (body t) b is h = decides_inline w r t b is h ∙ ap (λ (vs : List ℕ). one_of w (led_to P (length P.words) vs)) (begins_phrase w r t)
   decides_sort w false r (body t) b is h = no_start w b is h
   decides_sort w i r (past t) b is h = no_start w b is h
   decides_sort w i r (method n g t) b is h = no_start w b is h

@@ -1,4 +1,4 @@
--- The verdict on a word, from the walk of its closed text.
+-- The verdict on a word, from the walk of its closed phrase.
 use Rattle.std.proofs.Common.{◌≡◌, ◌≢◌, ◌<◌, ℕ, List, [], ◌∷◌, Bool, true, false, Option, Some, None, refl, sym, ap, subst, ◌∙◌, arith}
 use Rattle.std.specs.Prelude.{nat_eq, slice_get}
 use Rattle.std.proofs.lemmas.Bool.{ne_eqb}
@@ -7,16 +7,16 @@ use Rattle.fac_lang.specs.declared.phrase.Template.{Template}
 use Rattle.fac_lang.specs.declared.program.Program.{Program}
 use Rattle.fac_lang.specs.declared.program.WordDef.{WordDef}
 use Rattle.fac_lang.specs.declared.program.Sort.TheVariants.{Body as body}
-use Rattle.fac_lang.specs.Texts.{Literal, Text}
+use Rattle.fac_lang.specs.Phrases.{Literal, Phrase}
 use Rattle.fac_lang.specs.Signatures.{Signature, signature}
 use Rattle.fac_lang.specs.Effects.{effect_height, inputs_count}
 use Rattle.fac_lang.specs.Forms.{IsBuilt}
 use Rattle.fac_locals.specs.Literals.{first_of_word, literal_numbered}
-use Rattle.fac_locals.specs.Closed.{Closes, ClosesText, ClosesSort, ClosesWord}
+use Rattle.fac_locals.specs.Closed.{Closes, ClosesPhrase, ClosesSort, ClosesWord}
 use Rattle.fac_locals.proofs.Places.{literal_apart, literal_built}
 use Rattle.fac_abs.specs.Marks.{Row, named_row, unknowns}
-use Rattle.fac_abs.specs.Trees.{Naming}
-use Rattle.fac_abs.specs.Seen.{MarksSeen, stack_of}
+use Rattle.fac_abs.specs.MarkTrees.{Naming}
+use Rattle.fac_abs.specs.SeenMarks.{MarksSeen, stack_of}
 use Rattle.fac_abs.specs.declared.rule.Rule.{Rule}
 use Rattle.fac_check.specs.declared.walker.Walked.{Walked}
 use Rattle.fac_check.specs.Rows.{effect_inputs, effect_leaving, is_row}
@@ -27,7 +27,7 @@ use Rattle.fac_check.specs.Judged.{breach_seen}
 use Rattle.fac_check.proofs.BuiltMarks.{built_unmarked}
 use Rattle.fac_check.proofs.BuiltWords.{BuiltAs, as_primitive, as_core, as_defined, built_as, no_bad_rows, no_bad_generic, no_row_word}
 
--- A row for each number. The texts of built programs are walked on none.
+-- A row for each number. The phrases of built programs are walked on none.
 abbrev pub numbered_row : ℕ → Row
 numbered_row k = named_row (k ∷ [])
 
@@ -47,15 +47,15 @@ opened P C templates closes built = record {
 height_inputs : (e : Signature) → (effect_height e).ins ≡ inputs_count (effect_inputs e)
 height_inputs (signature r is l) = refl
 
--- a walk of a whole text, as the code's calls tell it
-abbrev pub WalksWhole : Program → List Template → Text → MarksSeen → MarksSeen → ℕ → Walked → Type 0
+-- a walk of a whole phrase, as the code's calls tell it
+abbrev pub WalksWhole : Program → List Template → Phrase → MarksSeen → MarksSeen → ℕ → Walked → Type 0
 WalksWhole C templates phrase M K s W =
-    (O : Opened C templates) (at : Literal) (t : Text) (f : ℕ) → ClosesText O.program at t phrase → 200000 < f → walked_seen O.naming K W ≡ go_at O f at 64 t None (stack_of O.naming M s) 200000
+    (O : Opened C templates) (at : Literal) (t : Phrase) (f : ℕ) → ClosesPhrase O.program at t phrase → 200000 < f → walked_seen O.naming K W ≡ go_at O f at 64 t None (stack_of O.naming M s) 200000
 
 module _ (P C : Program) (templates : List Template) (closes : Closes P C templates) (built : IsBuilt P) where
   pub ordinary_is :
-      (w : ℕ) (d c : WordDef) (t phrase : Text) (M K : MarksSeen) (s ins : ℕ) (W : Walked) (b : Option (Place × Rule)) →
-      ClosesWord P w d c → ClosesText P (first_of_word w) t phrase →
+      (w : ℕ) (d c : WordDef) (t phrase : Phrase) (M K : MarksSeen) (s ins : ℕ) (W : Walked) (b : Option (Place × Rule)) →
+      ClosesWord P w d c → ClosesPhrase P (first_of_word w) t phrase →
       ((Q : Program) (N : Naming) → breach_seen b ≡ end_of Q (walked_seen N K W) (kept_word Q (effect_leaving c.effect) None c.place)) →
       WalksWhole C templates phrase M K s W → ((N : Naming) → stack_of N M s ≡ unknowns ins []) → ins ≡ (effect_height c.effect).ins →
       breach_seen b ≡ ordinary_verdict P w t d
@@ -69,8 +69,8 @@ module _ (P C : Program) (templates : List Template) (closes : Closes P C templa
       ∙ ap (λ p. end_of P (go_at O most_steps (first_of_word w) 64 t None (unknowns (inputs_count (effect_inputs d.effect)) []) 200000) (kept_word P (effect_leaving d.effect) None p)) word.place
 
   pub top_is :
-      (w : ℕ) (t phrase : Text) (M K : MarksSeen) (s start : ℕ) (W : Walked) (b : Option (Place × Rule)) →
-      ClosesText P (first_of_word w) t phrase → ((Q : Program) (N : Naming) (L : MarksSeen) → breach_seen b ≡ end_of Q (walked_seen N L W) (λ A. None)) →
+      (w : ℕ) (t phrase : Phrase) (M K : MarksSeen) (s start : ℕ) (W : Walked) (b : Option (Place × Rule)) →
+      ClosesPhrase P (first_of_word w) t phrase → ((Q : Program) (N : Naming) (L : MarksSeen) → breach_seen b ≡ end_of Q (walked_seen N L W) (λ A. None)) →
       WalksWhole C templates phrase M K s W → ((N : Naming) → stack_of N M s ≡ unknowns start []) →
       breach_seen b ≡ top_verdict P start w t
   top_is w t phrase M K s start W b text kept walks stack =
@@ -80,7 +80,7 @@ module _ (P C : Program) (templates : List Template) (closes : Closes P C templa
 
 module _ (P : Program) (built : IsBuilt P) (w : ℕ) (d : WordDef) (at : slice_get P.words w ≡ Some d) where
   -- an expanded word isn't walked
-  pub expanded_is : (start : ℕ) (t : Text) → w ≢ P.top → d.inline ≡ true → None ≡ phrase_verdict P (nat_eq w P.top) start w t d
+  pub expanded_is : (start : ℕ) (t : Phrase) → w ≢ P.top → d.inline ≡ true → None ≡ phrase_verdict P (nat_eq w P.top) start w t d
   expanded_is start t other inline =
       not_walked (is_row d.recursive d.effect) (no_row_word P w d (built_as P built w d at) inline)
       ∙ ap (λ i. body_verdict P i w t d) (sym inline)
@@ -101,11 +101,11 @@ module _ (P : Program) (built : IsBuilt P) (w : ℕ) (d : WordDef) (at : slice_g
       ruled false true g e f h = absurd (cc)
       ruled false false true e f h = absurd (cc)
 
-  pub body_verdict_is : (start : ℕ) (t : Text) (x : Option Refusal) → d.sort ≡ body t → false ≡ undeclared P w d → x ≡ phrase_verdict P (nat_eq w P.top) start w t d → x ≡ word_verdict P start w d
+  pub body_verdict_is : (start : ℕ) (t : Phrase) (x : Option Refusal) → d.sort ≡ body t → false ≡ undeclared P w d → x ≡ phrase_verdict P (nat_eq w P.top) start w t d → x ≡ word_verdict P start w d
   body_verdict_is start t x s e h = h ∙ ap (λ q. sort_verdict P start w d q) (sym s) ∙ walked_verdict start e
 
-  pub no_text_verdict : (start : ℕ) (c : WordDef) → ClosesWord P w d c → ((t : Text) → c.sort ≡ body t → ⊥) → false ≡ undeclared P w d → None ≡ word_verdict P start w d
-  no_text_verdict start c closes none e = by_sort (built_as P built w d at) ∙ walked_verdict start e
+  pub no_phrase_verdict : (start : ℕ) (c : WordDef) → ClosesWord P w d c → ((t : Phrase) → c.sort ≡ body t → ⊥) → false ≡ undeclared P w d → None ≡ word_verdict P start w d
+  no_phrase_verdict start c closes none e = by_sort (built_as P built w d at) ∙ walked_verdict start e
     where
       by_sort : BuiltAs P w d → None ≡ sort_verdict P start w d d.sort
       by_sort (as_primitive k s b i r) = ap (λ q. sort_verdict P start w d q) (sym s)

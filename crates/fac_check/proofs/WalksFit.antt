@@ -1,9 +1,9 @@
--- The walk of a text fits its run, where what each item does at once in the walk fits what it does at once in the run. Here no item is known.
+-- The walk of a phrase fits its run, where what each item does at once in the walk fits what it does at once in the run. Here no item is known.
 use Rattle.std.proofs.Common.{◌≡◌, ◌⊎◌, ℕ, zero, suc, ◌≤◌, List, [], ◌∷◌, length, Bool, true, false, refl, ap, Option, Some, None, arith}
 use Rattle.std.specs.Prelude.{nat_eq, ◌&&◌}
 use mathlib.Core.Logic.{inl, inr}
 use Rattle.fac_lang.specs.declared.phrase.Place.{Place}
-use Rattle.fac_lang.specs.Texts.{Literal, Text, end, then, Item, word, held, known, Value, plain, fun, Callable, text, Mark, any, lit_mark, cur_mark, com_mark, wrd_mark, par_mark}
+use Rattle.fac_lang.specs.Phrases.{Literal, Phrase, end, then, Item, word, held, known, Value, plain, fun, Callable, of_phrase, Mark, any, lit_mark, cur_mark, com_mark, wrd_mark, par_mark}
 use Rattle.fac_lang.specs.World.{State, Error, push, pile, push_each}
 use Rattle.fac_lang.specs.Substitution.{put_local}
 use Rattle.fac_lang.specs.Signatures.{Signature}
@@ -15,13 +15,13 @@ use Rattle.fac_abs.specs.declared.rule.Rule.{Rule}
 use Rattle.fac_abs.specs.declared.rule.Rule.TheVariants.{Branches}
 use Rattle.fac_check.specs.Rows.{calls_own}
 use Rattle.fac_locals.specs.Literals.{first_of_word, first_of_literal}
-use Rattle.fac_check.specs.Flow.{Walked, found, refused, and_then, living, Doing, breaks, gives, names_local, expands, walks, forks, again, uses, Walk, counted, inside, called, join, marks_back, walk_text, walk_mark, walk_use, text_rule, first_rule, unless_broken, walk_on}
-use Rattle.fac_check.specs.Standing.{Stands, StandsText, StandsOn, StandsStack, Valid, EndsSo}
+use Rattle.fac_check.specs.Flow.{Walked, found, refused, and_then, living, Doing, breaks, gives, names_local, expands, walks, forks, again, uses, Walk, counted, inside, called, join, marks_back, walk_phrase, walk_mark, walk_use, phrase_rule, first_rule, unless_broken, walk_on}
+use Rattle.fac_check.specs.Standing.{Stands, StandsPhrase, StandsOn, StandsStack, Valid, EndsSo}
 use Rattle.fac_lang.proofs.Laws.{Within, Sparing, within_call}
-use Rattle.fac_check.proofs.StandingLaws.{put_text}
+use Rattle.fac_check.proofs.StandingLaws.{put_phrase}
 use Rattle.fac_abs.proofs.EqualMarks.{mark_same, base_same, length_same, and_first, and_second}
 
--- In which a text is walked: the row word that is checked, what its quotation inputs may be, and which lists stand for each base.
+-- In which a phrase is walked: the row word that is checked, what its quotation inputs may be, and which lists stand for each base.
 pub record Context : Type 1 where
   pub own : Option Signature
   pub word : Option ℕ
@@ -31,7 +31,7 @@ pub record Context : Type 1 where
 -- the callable that a value is
 abbrev pub callable_in : Value → Callable
 callable_in (fun c) = c
-callable_in (plain p) = text end
+callable_in (plain p) = of_phrase end
 
 module _ (P : Program) (C : Context) where
   -- a state whose list stands for marks on a base
@@ -136,25 +136,25 @@ module _ (P : Program) (C : Context) where
       joined true e = f (on b (join_marks ms ns)) n (join_ms_right b ms ns st.stack (length_same (length ms) (length ns) (and_second (base_eq b c) _ e)) (rw (base_same b c (and_first (base_eq b c) _ e)) h.0), h.1)
       joined false e = tt
 
-  -- A walk of texts and a run of texts, up to f ticks.
-  abbrev pub TextsFit : Walk → Run → ℕ → Type 0
-  TextsFit go run f = (at : Literal) (d : ℕ) (t u : Text) (b : Option Row) (ms : List Mark) (left : ℕ) (st : State Value) (n : ℕ) → n ≤ f → StandsText C.inputs t u → OnState b ms st → Fits (go at d t b ms left) (run u st n)
+  -- A walk of phrases and a run of phrases, up to f ticks.
+  abbrev pub PhrasesFit : Walk → Run → ℕ → Type 0
+  PhrasesFit go run f = (at : Literal) (d : ℕ) (t u : Phrase) (b : Option Row) (ms : List Mark) (left : ℕ) (st : State Value) (n : ℕ) → n ≤ f → StandsPhrase C.inputs t u → OnState b ms st → Fits (go at d t b ms left) (run u st n)
 
   -- what may be handed in for the inputs of the row word that is checked does what the word's effect says of them
   abbrev pub InputsFit : Run → ℕ → Type 0
   InputsFit run f = (k : ℕ) (c : Callable) → C.inputs k c → (b : Option Row) (ms : List Mark) (p : Place) (left : ℕ) (st : State Value) (n : ℕ) → n ≤ f → OnState b ms st → Fits (called (calls_own k C.own b ms) p left) (run_callable run c st n)
 
-  module _ (go : Walk) (run : Run) (f : ℕ) (sparing : Sparing run) (texts_fit : TextsFit go run f) (inputs_fit : InputsFit run f) where
-    -- entering a text, and running one that stands for it
-    text_fits : (at : Literal) (t u : Text) → StandsText C.inputs t u → (p : Place) (d : ℕ) (b : Option Row) (ms : List Mark) (left : ℕ) (st : State Value) (n : ℕ) → n ≤ f → OnState b ms st → Fits (walk_text C.own go at t p d b ms left) (run u st n)
-    text_fits at t u h p zero b ms left st n le o = tt
-    text_fits at t u h p (suc d) b ms left st n le o = texts_fit at d t u b ms left st n le h o
+  module _ (go : Walk) (run : Run) (f : ℕ) (sparing : Sparing run) (phrases_fit : PhrasesFit go run f) (inputs_fit : InputsFit run f) where
+    -- entering a phrase, and running one that stands for it
+    phrase_fits : (at : Literal) (t u : Phrase) → StandsPhrase C.inputs t u → (p : Place) (d : ℕ) (b : Option Row) (ms : List Mark) (left : ℕ) (st : State Value) (n : ℕ) → n ≤ f → OnState b ms st → Fits (walk_phrase C.own go at t p d b ms left) (run u st n)
+    phrase_fits at t u h p zero b ms left st n le o = tt
+    phrase_fits at t u h p (suc d) b ms left st n le o = phrases_fit at d t u b ms left st n le h o
 
     -- entering a mark, and entering a callable that stands for it
     pub mark_fits : (m : Mark) (c : Callable) → Stands C.inputs m (fun c) → (p : Place) (d : ℕ) (b : Option Row) (ms : List Mark) (left : ℕ) (st : State Value) (n : ℕ) → n ≤ f → OnState b ms st → Fits (walk_mark C.own go m p d b ms left) (run_callable run c st n)
     mark_fits any c h p d b ms left st n le o = tt
     mark_fits (wrd_mark w) c h p d b ms left st n le o = tt
-    mark_fits (lit_mark l t) c h p d b ms left st n le o = rw (ap callable_in h.1) (text_fits (first_of_literal l) t h.0 h.2 p d b ms left st n le o)
+    mark_fits (lit_mark l t) c h p d b ms left st n le o = rw (ap callable_in h.1) (phrase_fits (first_of_literal l) t h.0 h.2 p d b ms left st n le o)
     mark_fits (par_mark k) c h p d b ms left st n le o = rw (ap callable_in h.1) (inputs_fit k h.0 h.2 b ms p left st n le o)
     mark_fits (cur_mark m c') c h p d b ms left st zero le o = rw (ap callable_in h.2) (any_spent (walk_mark C.own go (cur_mark m c') p d b ms left) st None)
     mark_fits (cur_mark m c') c h p d b ms left st (suc n) le o =
@@ -194,21 +194,21 @@ module _ (P : Program) (C : Context) where
     Does (breaks x) a = Unit {0}
     Does (gives A) a = Gives A a
     Does (names_local x m b ms) a = (v : Value) × (st : State Value) × (a ≡ binds x v st) × Stands C.inputs m v × OnState b ms st
-    Does (expands w t b ms) a = (u : Text) × (st : State Value) × (a ≡ runs (text u) st []) × StandsText C.inputs t u × OnState b ms st
+    Does (expands w t b ms) a = (u : Phrase) × (st : State Value) × (a ≡ runs (of_phrase u) st []) × StandsPhrase C.inputs t u × OnState b ms st
     Does (walks m b ms back) a = (c : Callable) × (st : State Value) × (vs : List Value) × (a ≡ runs c st vs) × Stands C.inputs m (fun c) × OnState b ms st × Back back vs
     Does (forks l r b ms) a = (c : Callable) × (st : State Value) × (a ≡ runs c st []) × (Stands C.inputs l (fun c) ⊎ Stands C.inputs r (fun c)) × OnState b ms st
-    Does (again w b ms) a = (st : State Value) × (a ≡ runs (text (one_item (word w))) st []) × OnState b ms st
+    Does (again w b ms) a = (st : State Value) × (a ≡ runs (of_phrase (one_item (word w))) st []) × OnState b ms st
     Does (uses e is b ms) a = (c : Callable) × (st : State Value) × (a ≡ runs c st []) × ((p : Place) (d left n : ℕ) → n ≤ f → Fits (walk_use C.own go e is p d b ms left) (run_callable run c st n))
 
-    -- the rest of the text after what an item does
-    rest_fits : (at : Literal) (d : ℕ) (t u : Text) → StandsText C.inputs t u → (back : List Mark) (vs : List Value) → Back back vs → (A : AbstractStack) (left : ℕ) (st : State Value) (n : ℕ) → n ≤ f → StackState A st → Fits (living (marks_back back A) left (λ b ms k. go at d t b ms k)) (run u (push_each vs st) n)
+    -- the rest of the phrase after what an item does
+    rest_fits : (at : Literal) (d : ℕ) (t u : Phrase) → StandsPhrase C.inputs t u → (back : List Mark) (vs : List Value) → Back back vs → (A : AbstractStack) (left : ℕ) (st : State Value) (n : ℕ) → n ≤ f → StackState A st → Fits (living (marks_back back A) left (λ b ms k. go at d t b ms k)) (run u (push_each vs st) n)
     rest_fits at d t u s back vs e A left st n le h =
-        fits_living (marks_back back A) left (push_each vs st) (λ b ms k. go at d t b ms k) (run u (push_each vs st) n) (back_stack back vs A st e h) (λ b ms o. texts_fit at d t u b ms left (push_each vs st) n le s o)
+        fits_living (marks_back back A) left (push_each vs st) (λ b ms k. go at d t b ms k) (run u (push_each vs st) n) (back_stack back vs A st e h) (λ b ms o. phrases_fit at d t u b ms left (push_each vs st) n le s o)
 
-    plain_rest : (at : Literal) (d : ℕ) (t u : Text) → StandsText C.inputs t u → (A : AbstractStack) (left : ℕ) (st : State Value) (n : ℕ) → n ≤ f → StackState A st → Fits (living A left (λ b ms k. go at d t b ms k)) (run u st n)
-    plain_rest at d t u s A left st n le h = fits_living A left st (λ b ms k. go at d t b ms k) (run u st n) h (λ b ms o. texts_fit at d t u b ms left st n le s o)
+    plain_rest : (at : Literal) (d : ℕ) (t u : Phrase) → StandsPhrase C.inputs t u → (A : AbstractStack) (left : ℕ) (st : State Value) (n : ℕ) → n ≤ f → StackState A st → Fits (living A left (λ b ms k. go at d t b ms k)) (run u st n)
+    plain_rest at d t u s A left st n le h = fits_living A left st (λ b ms k. go at d t b ms k) (run u st n) h (λ b ms o. phrases_fit at d t u b ms left st n le s o)
 
-    gives_fits : (A : AbstractStack) (a : Act) (p : Place) (d : ℕ) (at : Literal) (left : ℕ) (t u : Text) (n : ℕ) → n ≤ f → StandsText C.inputs t u → Gives A a → Fits (walk_on C.own go (gives A) p d at t left) (go_on run a u n)
+    gives_fits : (A : AbstractStack) (a : Act) (p : Place) (d : ℕ) (at : Literal) (left : ℕ) (t u : Phrase) (n : ℕ) → n ≤ f → StandsPhrase C.inputs t u → Gives A a → Fits (walk_on C.own go (gives A) p d at t left) (go_on run a u n)
     gives_fits A wrong p d at left t u n le s h = absurd h
     gives_fits A (fails e st) p d at left t u n le s h = any_failed (walk_on C.own go (gives A) p d at t left) e st n
     gives_fits A (goes st) p d at left t u n le s h = fits_counted p left (λ k. living A k (λ b ms k'. go at d t b ms k')) (run u st n) (λ k. plain_rest at d t u s A k st n le h)
@@ -217,13 +217,13 @@ module _ (P : Program) (C : Context) where
         rw h.0 (ends_then f (StackState A) (walk_on C.own go (gives A) p d at t left) (run_callable run c st n) (λ st' m. run u st' m) (within_call run sparing f c st n le) (h.1 n le) (λ st' m le' h'. fits_counted p left (λ k. living A k (λ b ms k'. go at d t b ms k')) (run u st' m) (λ k. plain_rest at d t u s A k st' m le' h')))
 
     -- so the walk of the item and of the rest fits the run of the item and of the rest
-    pub does_fits : (D : Doing) (a : Act) (p : Place) (d : ℕ) (at : Literal) (left : ℕ) (t u : Text) (n : ℕ) → n ≤ f → StandsText C.inputs t u → Does D a → Fits (walk_on C.own go D p d at t left) (go_on run a u n)
+    pub does_fits : (D : Doing) (a : Act) (p : Place) (d : ℕ) (at : Literal) (left : ℕ) (t u : Phrase) (n : ℕ) → n ≤ f → StandsPhrase C.inputs t u → Does D a → Fits (walk_on C.own go D p d at t left) (go_on run a u n)
     does_fits (breaks x) a p d at left t u n le s h = tt
     does_fits (gives A) a p d at left t u n le s h = gives_fits A a p d at left t u n le s h
     does_fits (names_local x m b ms) a p d at left t u n le s h =
-        rw h.2 (fits_counted p left (λ k. go at d (put_local x (known m) t) b ms k) (run (put_local x (held h.0) u) h.1 n) (λ k. texts_fit at d (put_local x (known m) t) (put_local x (held h.0) u) b ms k h.1 n le (put_text C.inputs x (known m) (held h.0) (h.0, refl, h.3) t u s) h.4))
+        rw h.2 (fits_counted p left (λ k. go at d (put_local x (known m) t) b ms k) (run (put_local x (held h.0) u) h.1 n) (λ k. phrases_fit at d (put_local x (known m) t) (put_local x (held h.0) u) b ms k h.1 n le (put_phrase C.inputs x (known m) (held h.0) (h.0, refl, h.3) t u s) h.4))
     does_fits (expands w t' b ms) a p d at left t u n le s h =
-        rw h.2 (fits_unless (text_rule C.own d) p (counted p left (λ k. and_then (walk_text C.own go (first_of_word w) t' p d b ms k) after)) (then_do (run h.0 h.1 n) (λ st' m'. run u st' m')) (fits_counted p left (λ k. and_then (walk_text C.own go (first_of_word w) t' p d b ms k) after) (then_do (run h.0 h.1 n) (λ st' m'. run u st' m')) (λ k. fits_then f (walk_text C.own go (first_of_word w) t' p d b ms k) (run h.0 h.1 n) after (λ st' m'. run u st' m') (sparing f h.0 h.1 n le) (text_fits (first_of_word w) t' h.0 h.3 p d b ms k h.1 n le h.4) (λ A k' st' m' le' o'. plain_rest at d t u s A k' st' m' le' o'))))
+        rw h.2 (fits_unless (phrase_rule C.own d) p (counted p left (λ k. and_then (walk_phrase C.own go (first_of_word w) t' p d b ms k) after)) (then_do (run h.0 h.1 n) (λ st' m'. run u st' m')) (fits_counted p left (λ k. and_then (walk_phrase C.own go (first_of_word w) t' p d b ms k) after) (then_do (run h.0 h.1 n) (λ st' m'. run u st' m')) (λ k. fits_then f (walk_phrase C.own go (first_of_word w) t' p d b ms k) (run h.0 h.1 n) after (λ st' m'. run u st' m') (sparing f h.0 h.1 n le) (phrase_fits (first_of_word w) t' h.0 h.3 p d b ms k h.1 n le h.4) (λ A k' st' m' le' o'. plain_rest at d t u s A k' st' m' le' o'))))
       where
         after : AbstractStack → ℕ → Walked AbstractStack
         after A k' = living A k' (λ b' ms' k''. go at d t b' ms' k'')
@@ -250,6 +250,6 @@ module _ (P : Program) (C : Context) where
         chosen k (inr x) =
             walk_then (walk_mark C.own go l p d b ms k) second (then_do (run_callable run h.0 h.1 n) (λ st' m'. run u st' m')) (λ A k'. fits_then f (walk_mark C.own go r p d b ms k') (run_callable run h.0 h.1 n) (joined A) (λ st' m'. run u st' m') (within_call run sparing f h.0 h.1 n le) (mark_fits r h.0 x p d b ms k' h.1 n le h.4) (λ B k'' st' m' le' o'. join_right A B p k'' st' last (run u st' m') o' (λ D j o''. plain_rest at d t u s D j st' m' le' o'')))
     does_fits (again w b ms) a p d at left t u n le s h =
-        rw h.1 (fits_counted p left (λ k. and_then (go at d (then (word w) p end) b ms k) (λ A k'. living A k' (λ b' ms' k''. go at d t b' ms' k''))) (then_do (run (one_item (word w)) h.0 n) (λ st' m'. run u st' m')) (λ k. fits_then f (go at d (then (word w) p end) b ms k) (run (one_item (word w)) h.0 n) (λ A k'. living A k' (λ b' ms' k''. go at d t b' ms' k'')) (λ st' m'. run u st' m') (sparing f (one_item (word w)) h.0 n le) (texts_fit at d (then (word w) p end) (one_item (word w)) b ms k h.0 n le (word w, nowhere, end, refl, refl, refl) h.2) (λ A k' st' m' le' o'. plain_rest at d t u s A k' st' m' le' o')))
+        rw h.1 (fits_counted p left (λ k. and_then (go at d (then (word w) p end) b ms k) (λ A k'. living A k' (λ b' ms' k''. go at d t b' ms' k''))) (then_do (run (one_item (word w)) h.0 n) (λ st' m'. run u st' m')) (λ k. fits_then f (go at d (then (word w) p end) b ms k) (run (one_item (word w)) h.0 n) (λ A k'. living A k' (λ b' ms' k''. go at d t b' ms' k'')) (λ st' m'. run u st' m') (sparing f (one_item (word w)) h.0 n le) (phrases_fit at d (then (word w) p end) (one_item (word w)) b ms k h.0 n le (word w, nowhere, end, refl, refl, refl) h.2) (λ A k' st' m' le' o'. plain_rest at d t u s A k' st' m' le' o')))
     does_fits (uses e is b ms) a p d at left t u n le s h =
         rw h.2 (fits_counted p left (λ k. and_then (walk_use C.own go e is p d b ms k) (λ A k'. living A k' (λ b' ms' k''. go at d t b' ms' k''))) (then_do (run_callable run h.0 h.1 n) (λ st' m'. run u st' m')) (λ k. fits_then f (walk_use C.own go e is p d b ms k) (run_callable run h.0 h.1 n) (λ A k'. living A k' (λ b' ms' k''. go at d t b' ms' k'')) (λ st' m'. run u st' m') (within_call run sparing f h.0 h.1 n le) (h.3 p d k n le) (λ A k' st' m' le' o'. plain_rest at d t u s A k' st' m' le' o')))

@@ -7,18 +7,18 @@ use Rattle.fac_lang.specs.declared.program.Program.{Program}
 use Rattle.fac_lang.specs.declared.program.WordDef.{WordDef}
 use Rattle.fac_lang.specs.declared.program.Sort.{Sort}
 use Rattle.fac_lang.specs.declared.program.Sort.TheVariants.{Prim as prim, Core as core, Body as body}
-use Rattle.fac_lang.specs.Texts.{Text, Mark}
+use Rattle.fac_lang.specs.Phrases.{Phrase, Mark}
 use Rattle.fac_lang.specs.Effects.{effect_height}
 use Rattle.fac_lang.specs.PrimitiveWords.{outputs_of, written_effect}
 use Rattle.fac_lang.specs.Primitives.{Primitive, prim_numbered}
 use Rattle.fac_lang.specs.Meaning.{core_numbered, c_call, c_dip, c_if}
 use Rattle.fac_locals.specs.Literals.{first_of_word}
-use Rattle.fac_locals.specs.Closed.{ClosesWord, ClosesSort, ClosesText}
+use Rattle.fac_locals.specs.Closed.{ClosesWord, ClosesSort, ClosesPhrase}
 use Rattle.fac_abs.specs.Marks.{Row}
 use Rattle.fac_abs.specs.declared.rule.Rule.TheVariants.{NotKnown}
 use Rattle.fac_check.specs.Rows.{is_row}
-use Rattle.fac_check.specs.Flow.{Doing, breaks, expands, by_height, callable_or, prim_doing, core_doing, sort_doing, inline_doing, row_or_text}
-use Rattle.fac_check.specs.inner.Walking.{body_text, text_of, sort_text}
+use Rattle.fac_check.specs.Flow.{Doing, breaks, expands, by_height, callable_or, prim_doing, core_doing, sort_doing, inline_doing, row_or_phrase}
+use Rattle.fac_check.specs.inner.Walking.{body_phrase, phrase_of, sort_phrase}
 use Rattle.fac_check.proofs.PrimitivesKeep.{written_height}
 use Rattle.fac_check.proofs.BuiltWords.{BuiltAs, as_primitive, as_core, as_defined, no_row_word}
 
@@ -53,10 +53,10 @@ module _ (P : Program) (w : ℕ) (d c : WordDef) (closes : ClosesWord P w d c) w
   is_core (as_core j e b i r) k s = (let same : j ≡ k = (let f = sorted (core j) e in cc) in subst (λ n. d.sort ≡ core n) same e)
   is_core (as_defined t e i r) k s = absurd (let f = sorted (body t) e in let g = f.1 in cc)
 
-  pub is_body : BuiltAs P w d → (t : Text) → c.sort ≡ body t → (u : Text) × (d.sort ≡ body u) × ClosesText P (first_of_word w) u t
+  pub is_body : BuiltAs P w d → (t : Phrase) → c.sort ≡ body t → (u : Phrase) × (d.sort ≡ body u) × ClosesPhrase P (first_of_word w) u t
   is_body (as_primitive j e b i r) t s = absurd (let f = sorted (prim j) e in cc)
   is_body (as_core j e b i r) t s = absurd (let f = sorted (core j) e in cc)
-  is_body (as_defined u e i r) t s = (let f = sorted (body u) e in (u, e, (let same : f.0 ≡ t = (let g = f.1 in cc) in subst (λ x. ClosesText P (first_of_word w) u x) same f.2)))
+  is_body (as_defined u e i r) t s = (let f = sorted (body u) e in (u, e, (let same : f.0 ≡ t = (let g = f.1 in cc) in subst (λ x. ClosesPhrase P (first_of_word w) u x) same f.2)))
 
   -- the height that the code reads off
   height_read : (i : ℕ) (o : Option ℕ) → i ≡ (effect_height c.effect).ins → o ≡ (effect_height c.effect).outs → (let h : Height = record { ins = i; outs = o } in h ≡ effect_height d.effect)
@@ -75,7 +75,7 @@ module _ (P : Program) (w : ℕ) (d c : WordDef) (closes : ClosesWord P w d c) w
   pub core_item : (k : ℕ) (X : Doing) (b : Option Row) (ms : List Mark) → d.sort ≡ core k → X ≡ core_doing P (core_numbered k) b ms → X ≡ sort_doing P None w d d.sort b ms
   core_item k X b ms s x = x ∙ ap (λ q. sort_doing P None w d q b ms) (sym s)
 
-  pub top_item : (t : Text) (c : Option Row) (ms : List Mark) → d.sort ≡ body t → w ≡ P.top → breaks NotKnown ≡ sort_doing P None w d d.sort c ms
+  pub top_item : (t : Phrase) (c : Option Row) (ms : List Mark) → d.sort ≡ body t → w ≡ P.top → breaks NotKnown ≡ sort_doing P None w d d.sort c ms
   top_item t c ms s e = top (nat_eq w P.top) (rw e (same_number P.top)) ∙ ap (λ q. sort_doing P None w d q c ms) (sym s)
     where
       same_number : (n : ℕ) → nat_eq n n ≡ true
@@ -85,19 +85,19 @@ module _ (P : Program) (w : ℕ) (d c : WordDef) (closes : ClosesWord P w d c) w
       top true q = refl
       top false q = absurd (cc)
 
-  pub body_item : (t : Text) (X : Doing) (i : ℕ) (o : Option ℕ) (e : Option Row) (ms : List Mark) → BuiltAs P w d → slice_get P.words w ≡ Some d → d.sort ≡ body t → w ≢ P.top → i ≡ (effect_height c.effect).ins → o ≡ (effect_height c.effect).outs → X ≡ (if c.inline then expands w (body_text P w) e ms else by_height i o e ms) → X ≡ sort_doing P None w d d.sort e ms
+  pub body_item : (t : Phrase) (X : Doing) (i : ℕ) (o : Option ℕ) (e : Option Row) (ms : List Mark) → BuiltAs P w d → slice_get P.words w ≡ Some d → d.sort ≡ body t → w ≢ P.top → i ≡ (effect_height c.effect).ins → o ≡ (effect_height c.effect).outs → X ≡ (if c.inline then expands w (body_phrase P w) e ms else by_height i o e ms) → X ≡ sort_doing P None w d d.sort e ms
   body_item t X i o e ms b at s n g f x =
       x ∙ chosen c.inline d.inline closes.inline (no_row_word P w d b) ∙ ap (λ q. callable_or q NotKnown (inline_doing P None d.inline w d t e ms)) (sym (ap not (ne_eqb w P.top n))) ∙ ap (λ q. sort_doing P None w d q e ms) (sym s)
     where
-      text_is : body_text P w ≡ t
-      text_is = ap text_of at ∙ ap sort_text s
+      body_is : body_phrase P w ≡ t
+      body_is = ap phrase_of at ∙ ap sort_phrase s
 
-      expanded : (r : Bool) → r ≡ false → expands w t e ms ≡ row_or_text P None r false w t d.effect e ms
+      expanded : (r : Bool) → r ≡ false → expands w t e ms ≡ row_or_phrase P None r false w t d.effect e ms
       expanded true q = absurd (cc)
       expanded false q = refl
 
-      chosen : (a a' : Bool) → a ≡ a' → (a' ≡ true → is_row d.recursive d.effect ≡ false) → (if a then expands w (body_text P w) e ms else by_height i o e ms) ≡ inline_doing P None a' w d t e ms
-      chosen true true q r = ap (λ u. expands w u e ms) text_is ∙ expanded (is_row d.recursive d.effect) (r refl)
+      chosen : (a a' : Bool) → a ≡ a' → (a' ≡ true → is_row d.recursive d.effect ≡ false) → (if a then expands w (body_phrase P w) e ms else by_height i o e ms) ≡ inline_doing P None a' w d t e ms
+      chosen true true q r = ap (λ u. expands w u e ms) body_is ∙ expanded (is_row d.recursive d.effect) (r refl)
       chosen true false q r = absurd (cc)
       chosen false true q r = absurd (cc)
       chosen false false q r = ap (λ h. by_height h.ins h.outs e ms) (height_read i o g f)

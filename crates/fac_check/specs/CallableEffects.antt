@@ -1,14 +1,14 @@
--- The effect of a callable: how many values it takes and leaves. That of a literal is found by walks of its text, and those of what `curry` and `compose` made by arithmetic.
+-- The effect of a callable: how many values it takes and leaves. That of a literal is found by walks of its phrase, and those of what `curry` and `compose` made by arithmetic.
 use Rattle.std.specs.Prelude.{ℕ, zero, suc, ◌+◌, ◌-◌, [], length, Bool, true, false, ◌&&◌, nat_eq, nat_le, Option, Some, None}
 use Rattle.fac_lang.specs.declared.phrase.Height.{Height}
 use Rattle.fac_lang.specs.declared.program.Program.{Program}
-use Rattle.fac_lang.specs.Texts.{Text, end, then, Item, lit, lit_arr, quot, word, bind, local, fry, hole, call_eff, exec_eff, next_method, made, next_after, held, known, any, Callable, text, cur, both}
+use Rattle.fac_lang.specs.Phrases.{Phrase, end, then, Item, lit, lit_arr, quot, word, bind, local, fry, hole, call_eff, exec_eff, next_method, made, next_after, held, known, any, Callable, of_phrase, cur, both}
 use Rattle.fac_abs.specs.Marks.{dead, on, unknowns}
 use Rattle.fac_check.specs.Flow.{found, refused, walked}
 
--- A running text as the checker walks it: nothing is known of a held value. A mark never stands in a running text; one there would be an item that breaks a rule.
+-- A running phrase as the checker walks it: nothing is known of a held value. A mark never stands in a running phrase; one there would be an item that breaks a rule.
 abbrev mutual
-  pub forgotten : Text → Text
+  pub forgotten : Phrase → Phrase
   forgotten end = end
   forgotten (then i p t) = then (forgotten_item i) p (forgotten t)
 
@@ -76,15 +76,15 @@ composed_height (Some h) None = None
 composed_height (Some h) (Some k) = composed_numbers h.ins h.outs k.ins k.outs
 
 module _ (P : Program) where
-  -- The least number of inputs, from i on and in k tries, with which a text walks from unknown values over no base, and how many it leaves. The text is of no word, so its literals have the number behind the last word.
-  abbrev pub least_height : ℕ → ℕ → Text → Option Height
+  -- The least number of inputs, from i on and in k tries, with which a phrase walks from unknown values over no base, and how many it leaves. The phrase is of no word, so its literals have the number behind the last word.
+  abbrev pub least_height : ℕ → ℕ → Phrase → Option Height
   least_height zero i t = None
   least_height (suc k) i t =
       elim (walked P None None (length P.words) t None (unknowns i [])) [ found A n ↦ elim A [ dead ↦ Some (record { ins = i; outs = None }) | on b ms ↦ elim (nat_le (length ms) most_outputs) [ true ↦ Some (record { ins = i; outs = Some (length ms) }) | false ↦ None ] ] | refused r p ↦ least_height k (suc i) t ]
 
   -- the effect of a callable, where it has one
   abbrev pub callable_height : Callable → Option Height
-  callable_height (text t) = least_height (suc most_inputs) 0 (forgotten t)
+  callable_height (of_phrase t) = least_height (suc most_inputs) 0 (forgotten t)
   callable_height (cur v c) = curried_height (callable_height c)
   callable_height (both c d) = composed_height (callable_height c) (callable_height d)
 

@@ -6,9 +6,9 @@ use Rattle.fac_check.specs.Verdicts.{verdict}
 use Rattle.fac_check.specs.Promises.{IsSafe}
 use Rattle.fac_check.specs.Judged.{OfEach, IsAccepted, refusal_seen}
 use Rattle.fac_check.specs.declared.accepted.Checked.{Checked}
-use Rattle.fac_check.specs.declared.rule.Refusal.{Refusal}
-use Rattle.fac_check.specs.declared.rule.CheckFault.{CheckFault}
-use Rattle.fac_check.specs.declared.rule.CheckFault.TheVariants.{Refused, Memory}
+use Rattle.fac_check.specs.declared.refusal.Refusal.{Refusal}
+use Rattle.fac_check.specs.declared.refusal.CheckFault.{CheckFault}
+use Rattle.fac_check.specs.declared.refusal.CheckFault.TheVariants.{Refused, Memory}
 
 -- each whole program for which this stands is safe, with its top-level phrase on as many values as this starts on
 abbrev pub IsKept : Closed → Type 0

@@ -1,8 +1,8 @@
--- How the checker walks a text: it takes the items in order and follows what each does to the stack as it knows it. A text of the walk is a text as a run has it, with a known mark where a run has a held value.
+-- How the checker walks a phrase: it takes the items in order and follows what each does to the stack as it knows it. A phrase of the walk is a phrase as a run has it, with a known mark where a run has a held value.
 use Rattle.std.specs.Prelude.{ℕ, zero, suc, List, [], ◌∷◌, map, length, Bool, true, false, ◌&&◌, not, nat_eq, nat_lt, Option, Some, None, slice_get}
 use Rattle.fac_lang.specs.declared.limits.TheConstants.{MOST_APPLICATIONS, MOST_ITEMS}
 use Rattle.fac_lang.specs.declared.phrase.Place.{Place}
-use Rattle.fac_lang.specs.Texts.{Literal, Plain, wrd, Text, end, then, Item, lit, lit_arr, quot, word, bind, local, fry, hole, call_eff, exec_eff, next_method, made, next_after, held, known, Mark, any, lit_mark, cur_mark, com_mark, wrd_mark, par_mark}
+use Rattle.fac_lang.specs.Phrases.{Literal, Plain, wrd, Phrase, end, then, Item, lit, lit_arr, quot, word, bind, local, fry, hole, call_eff, exec_eff, next_method, made, next_after, held, known, Mark, any, lit_mark, cur_mark, com_mark, wrd_mark, par_mark}
 use Rattle.fac_lang.specs.Signatures.{Signature, Inputs, no_inputs, value, quoted}
 use Rattle.fac_lang.specs.Effects.{inputs_count, effect_height}
 use Rattle.fac_lang.specs.Procedures.{Procedure, leaves, curries, composes, or_else, picked}
@@ -40,10 +40,10 @@ pub data Doing : Type 0 where
   breaks : Rule → Doing
   -- nothing more to do
   gives : AbstractStack → Doing
-  -- a mark for a local in the rest of the text
+  -- a mark for a local in the rest of the phrase
   names_local : ℕ → Mark → Option Row → List Mark → Doing
-  -- the text of an expanded word to walk
-  expands : ℕ → Text → Option Row → List Mark → Doing
+  -- the phrase of an expanded word to walk
+  expands : ℕ → Phrase → Option Row → List Mark → Doing
   -- a callable to walk, and marks to put on the stack after it
   walks : Mark → Option Row → List Mark → List Mark → Doing
   -- two callables to walk from one stack, and a join
@@ -53,16 +53,16 @@ pub data Doing : Type 0 where
   -- a use of a row word of this effect, on the marks of its inputs, the deepest first, and the rest
   uses : Signature → List Mark → Option Row → List Mark → Doing
 
--- Walking a text: where its first item stands, how many more nested applications may be entered, the text, the base and its marks, and how many items may still be walked.
+-- Walking a phrase: where its first item stands, how many more nested applications may be entered, the phrase, the base and its marks, and how many items may still be walked.
 abbrev pub Walk : Type 0
-Walk = Literal → ℕ → Text → Option Row → List Mark → ℕ → Walked AbstractStack
+Walk = Literal → ℕ → Phrase → Option Row → List Mark → ℕ → Walked AbstractStack
 
 -- an item counts
 abbrev pub counted : {A : Type 0} → Place → ℕ → (ℕ → Walked A) → Walked A
 counted p zero go = refused TooLarge p
 counted p (suc n) go = go n
 
--- Entering a part of what `curry` or `compose` made is one nested application. For a quotation that is the entry of its text, which counts by itself.
+-- Entering a part of what `curry` or `compose` made is one nested application. For a quotation that is the entry of its phrase, which counts by itself.
 abbrev pub inside : {A : Type 0} → Mark → Place → ℕ → (ℕ → Walked A) → Walked A
 inside (lit_mark q t) p d go = go d
 inside any p d go = refused NotKnown p
@@ -110,16 +110,16 @@ row_result e bs = elim (stack_or_dead (row_bound (outer_out e) bs)) [ dead ↦ d
 -- All this is with the effect of the row word that is checked, where one is.
 module _ (own : Option Signature) where
   module _ (go : Walk) where
-    -- entering a text is one nested application
-    abbrev pub walk_text : Literal → Text → Place → ℕ → Option Row → List Mark → ℕ → Walked AbstractStack
-    walk_text at t p zero b ms n = refused TooDeep p
-    walk_text at t p (suc d) b ms n = go at d t b ms n
+    -- entering a phrase is one nested application
+    abbrev pub walk_phrase : Literal → Phrase → Place → ℕ → Option Row → List Mark → ℕ → Walked AbstractStack
+    walk_phrase at t p zero b ms n = refused TooDeep p
+    walk_phrase at t p (suc d) b ms n = go at d t b ms n
 
     -- Entering a callable that a mark stands for. The value of `curry` and the entry of `compose` count as an item each.
     abbrev pub walk_mark : Mark → Place → ℕ → Option Row → List Mark → ℕ → Walked AbstractStack
     walk_mark any p d b ms n = refused NotKnown p
     walk_mark (wrd_mark w) p d b ms n = refused NotKnown p
-    walk_mark (lit_mark l t) p d b ms n = walk_text (first_of_literal l) t p d b ms n
+    walk_mark (lit_mark l t) p d b ms n = walk_phrase (first_of_literal l) t p d b ms n
     walk_mark (cur_mark m c) p d b ms n = counted p n (λ k. inside c p d (λ d'. walk_mark c p d' b (m ∷ ms) k))
     walk_mark (com_mark c e) p d b ms n = counted p n (λ k. and_then (inside c p d (λ d'. walk_mark c p d' b ms k)) (λ A k'. living A k' (λ b' ms' k''. inside e p d (λ d'. walk_mark e p d' b' ms' k''))))
     walk_mark (par_mark j) p d b ms n = called (calls_own j own b ms) p n
@@ -141,14 +141,14 @@ module _ (own : Option Signature) where
     abbrev pub walk_use : Signature → List Mark → Place → ℕ → Option Row → List Mark → ℕ → Walked AbstractStack
     walk_use e is p d b ms n = and_then (walk_inputs 1 (effect_inputs e) is p d (row_binding (outer_in e) (on b ms)) n) (λ bs n'. found (row_result e bs) n')
 
-  -- what an item breaks by entering a text, before it counts
-  abbrev pub text_rule : ℕ → Option Rule
-  text_rule zero = Some TooDeep
-  text_rule (suc d) = None
+  -- what an item breaks by entering a phrase, before it counts
+  abbrev pub phrase_rule : ℕ → Option Rule
+  phrase_rule zero = Some TooDeep
+  phrase_rule (suc d) = None
 
   -- likewise by the callable that it walks first
   abbrev pub first_rule : Mark → ℕ → Option Row → List Mark → Option Rule
-  first_rule (lit_mark l t) d b ms = text_rule d
+  first_rule (lit_mark l t) d b ms = phrase_rule d
   first_rule (par_mark j) d b ms = elim (calls_own j own b ms) [ call_breaks r ↦ Some r | call_leaves A ↦ None ]
   first_rule _ d b ms = None
 
@@ -157,13 +157,13 @@ module _ (own : Option Signature) where
   unless_broken None p w = w
   unless_broken (Some r) p w = refused r p
 
-  -- The rest of what an item does, and then the rest of the text, whose first item stands at `next`. The item of a word that `execute` finds has no literal in it, so it doesn't matter where it stands.
-  abbrev pub walk_on : Walk → Doing → Place → ℕ → Literal → Text → ℕ → Walked AbstractStack
+  -- The rest of what an item does, and then the rest of the phrase, whose first item stands at `next`. The item of a word that `execute` finds has no literal in it, so it doesn't matter where it stands.
+  abbrev pub walk_on : Walk → Doing → Place → ℕ → Literal → Phrase → ℕ → Walked AbstractStack
   walk_on go (breaks r) p d next t n = refused r p
   walk_on go (gives A) p d next t n = counted p n (λ k. living A k (λ b ms k'. go next d t b ms k'))
   walk_on go (names_local x m b ms) p d next t n = counted p n (λ k. go next d (put_local x (known m) t) b ms k)
   walk_on go (expands w u b ms) p d next t n =
-      unless_broken (text_rule d) p (counted p n (λ k. and_then (walk_text go (first_of_word w) u p d b ms k) (λ A k'. living A k' (λ b' ms' k''. go next d t b' ms' k''))))
+      unless_broken (phrase_rule d) p (counted p n (λ k. and_then (walk_phrase go (first_of_word w) u p d b ms k) (λ A k'. living A k' (λ b' ms' k''. go next d t b' ms' k''))))
   walk_on go (walks m b ms back) p d next t n =
       unless_broken (first_rule m d b ms) p (counted p n (λ k. and_then (walk_mark go m p d b ms k) (λ A k'. living (marks_back back A) k' (λ b' ms' k''. go next d t b' ms' k''))))
   walk_on go (forks l r b ms) p d next t n =
@@ -267,18 +267,18 @@ module _ (P : Program) where
         needing (inputs_count (effect_inputs e)) ms (λ taken rest. elim (bindable e) [ true ↦ callable_or (inputs_known (effect_inputs e) taken) NotKnown (uses e taken b rest) | false ↦ gives dead ])
 
     -- an inline word: whether it is a row word, and whether it is the one that is checked
-    abbrev pub row_or_text : Bool → Bool → ℕ → Text → Signature → Option Row → List Mark → Doing
-    row_or_text true true w t e b ms = own_doing e b ms
-    row_or_text true false w t e b ms = row_doing e b ms
-    row_or_text false o w t e b ms = expands w t b ms
+    abbrev pub row_or_phrase : Bool → Bool → ℕ → Phrase → Signature → Option Row → List Mark → Doing
+    row_or_phrase true true w t e b ms = own_doing e b ms
+    row_or_phrase true false w t e b ms = row_doing e b ms
+    row_or_phrase false o w t e b ms = expands w t b ms
 
-    -- A word with a text: an inline one is expanded, unless it is recursive or has a row variable; every other one goes by its effect.
-    abbrev pub inline_doing : Bool → ℕ → WordDef → Text → Option Row → List Mark → Doing
-    inline_doing true w d t b ms = row_or_text (is_row d.recursive d.effect) (is_own w own) w t d.effect b ms
+    -- A word with a phrase: an inline one is expanded, unless it is recursive or has a row variable; every other one goes by its effect.
+    abbrev pub inline_doing : Bool → ℕ → WordDef → Phrase → Option Row → List Mark → Doing
+    inline_doing true w d t b ms = row_or_phrase (is_row d.recursive d.effect) (is_own w own) w t d.effect b ms
     inline_doing false w d t b ms = by_height (effect_height d.effect).ins (effect_height d.effect).outs b ms
 
-    -- a word with this text, by its mark `inline`; the top-level phrase is never an item
-    abbrev pub body_doing : ℕ → WordDef → Text → Option Row → List Mark → Doing
+    -- a word with this phrase, by its mark `inline`; the top-level phrase is never an item
+    abbrev pub body_doing : ℕ → WordDef → Phrase → Option Row → List Mark → Doing
     body_doing w d t b ms = callable_or (not (nat_eq w P.top)) NotKnown (inline_doing d.inline w d t b ms)
 
     -- the item of a word, by its sort; an earlier top-level phrase and a method are never items
@@ -302,12 +302,12 @@ module _ (P : Program) where
     generic_doing None b ms = breaks MethodEffect
     generic_doing (Some d) b ms = by_height (effect_height d.effect).ins (effect_height d.effect).outs b ms
 
-    -- `call-next-method` in the text of a word of this sort
+    -- `call-next-method` in the phrase of a word of this sort
     abbrev pub next_doing : Option Sort → Option Row → List Mark → Doing
     next_doing (Some (method c g t)) b ms = generic_doing (slice_get P.words g) b ms
     next_doing _ b ms = breaks MethodEffect
 
-    -- a value in the text; only words are known
+    -- a value in the phrase; only words are known
     abbrev pub lit_doing : Plain → Option Row → List Mark → Doing
     lit_doing (wrd w) b ms = gives (on b (wrd_mark w ∷ ms))
     lit_doing _ b ms = gives (on b (any ∷ ms))
@@ -343,6 +343,6 @@ most_walked = MOST_ITEMS
 abbrev pub most_steps : ℕ
 most_steps = 200001
 
--- A text with all counts full: with the effect and number of the row word that is checked, where one is, and the number of the word in whose text it is.
-abbrev pub walked : Program → Option Signature → Option ℕ → ℕ → Text → Option Row → List Mark → Walked AbstractStack
+-- A phrase with all counts full: with the effect and number of the row word that is checked, where one is, and the number of the word in whose phrase it is.
+abbrev pub walked : Program → Option Signature → Option ℕ → ℕ → Phrase → Option Row → List Mark → Walked AbstractStack
 walked P e own w t b ms = walk e (doing P own) most_steps (first_of_word w) most_nested t b ms most_walked

@@ -11,7 +11,7 @@ use Rattle.fac_locals.specs.Closed.{Closes}
 use Rattle.fac_locals.specs.declared.closing.Closed.{Closed}
 use Rattle.fac_check.specs.Verdicts.{Refusal as RefusalSeen, undeclared, word_verdict, verdict}
 use Rattle.fac_abs.specs.declared.rule.Rule.{Rule}
-use Rattle.fac_check.specs.declared.rule.Refusal.{Refusal}
+use Rattle.fac_check.specs.declared.refusal.Refusal.{Refusal}
 use Rattle.fac_check.specs.declared.checker.Verdict.{Verdict}
 use Rattle.fac_check.specs.declared.checker.Verdict.TheVariants.{Accepted, Refused}
 

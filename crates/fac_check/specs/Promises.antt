@@ -3,12 +3,12 @@ use Rattle.std.specs.Prelude.{◌≡◌, ◌≤◌, ℕ, List, [], ◌∷◌, �
 use Rattle.fac_lang.specs.declared.phrase.Height.{Height}
 use Rattle.fac_lang.specs.declared.program.Program.{Program}
 use Rattle.fac_lang.specs.declared.program.WordDef.{WordDef}
-use Rattle.fac_lang.specs.Texts.{Text, word, Value, fun, Callable}
+use Rattle.fac_lang.specs.Phrases.{Phrase, word, Value, fun, Callable}
 use Rattle.fac_lang.specs.World.{State, pile}
 use Rattle.fac_lang.specs.Signatures.{Signature, signature, Inputs, no_inputs, value, quoted}
 use Rattle.fac_lang.specs.Effects.{inputs_count, leaving_outs, effect_height, word_height}
 use Rattle.fac_lang.specs.Eval.{Result, Done, Failed, Spent, Stuck, run_callable}
-use Rattle.fac_lang.specs.Meaning.{run, start, word_text, one_item, is_phrase}
+use Rattle.fac_lang.specs.Meaning.{run, start, word_phrase, one_item, is_top_phrase}
 use Rattle.fac_lang.specs.RunningLaws.{IsNotStuck}
 use Rattle.fac_lang.specs.Whole.{IsWhole}
 use Rattle.fac_abs.specs.Marks.{Row, named_row}
@@ -46,15 +46,15 @@ module _ (P : Program) where
   Ends after (Spent st i) = Valid P st.world
   Ends after Stuck = ⊥
 
-  -- the run of a text, of the item of a word, and of a callable, with so many ticks
-  abbrev pub text_run : Text → State Value → ℕ → Result
-  text_run t st n = run P fits (callable_height P) n t st
+  -- the run of a phrase, of the item of a word, and of a callable, with so many ticks
+  abbrev pub phrase_run : Phrase → State Value → ℕ → Result
+  phrase_run t st n = run P fits (callable_height P) n t st
 
   abbrev pub word_run : ℕ → State Value → ℕ → Result
-  word_run w = text_run (one_item (word w))
+  word_run w = phrase_run (one_item (word w))
 
   abbrev pub callable_run : Callable → State Value → ℕ → Result
-  callable_run c = run_callable text_run c
+  callable_run c = run_callable phrase_run c
 
   -- With every budget up to this one, from every state with a list of the first and a valid world, the run ends with a list of the second.
   abbrev pub Behaves : ℕ → (State Value → ℕ → Result) → Lists → Lists → Type 0
@@ -87,14 +87,14 @@ module _ (P : Program) where
 pub record IsSafe (P : Program) (count : ℕ) : Type 0 where
   -- Each word that has an effect by itself: primitives, ordinary words, methods, generics, symbols, words of classes, predicates and accessors; not inline words, `call`, `dip`, `if`, `execute`, `boa`, `cond` and top-level phrases. Its item takes its inputs and leaves its outputs, and touches no value below.
   pub words :
-      (w : ℕ) (d : WordDef) (h : Height) → slice_get P.words w ≡ Some d → word_height d ≡ Some h → is_phrase P w ≡ false →
+      (w : ℕ) (d : WordDef) (h : Height) → slice_get P.words w ≡ Some d → word_height d ≡ Some h → is_top_phrase P w ≡ false →
       (budget : ℕ) (below : List Value) → Behaves P budget (word_run P w) (On h.ins (Exactly below)) (LeftOn h.outs (Exactly below))
   -- Each row word: whatever lists its rows are, and whatever does as its effect says up to a budget is handed in, its item takes its inputs on a list for its outer input row, and leaves its outputs on one for its outer output row.
   pub row_words :
       (w : ℕ) (d : WordDef) → slice_get P.words w ≡ Some d → d.inline ≡ true → is_row d.recursive d.effect ≡ true →
       (rows : Row → List Value → Bool) (budget : ℕ) → Behaves P budget (word_run P w) (InputsOn P rows budget (effect_inputs d.effect) (OfRow P rows (outer_in d.effect))) (LeftOn (effect_height d.effect).outs (OfRow P rows (outer_out d.effect)))
   -- the top-level phrase, from each list of so many values
-  pub phrase : (budget : ℕ) → Behaves P budget (text_run P (word_text P P.top)) (AnyOf count) (λ list. Unit {0})
+  pub phrase : (budget : ℕ) → Behaves P budget (phrase_run P (word_phrase P P.top)) (AnyOf count) (λ list. Unit {0})
   -- the state before the first item has a valid world, with every input
   pub begins : (input : List ℕ) → Valid P (start P input).world
 
@@ -104,4 +104,4 @@ AcceptedAreSafe = (P : Program) (count : ℕ) → IsWhole P → verdict P count 
 
 -- No run of a safe program's top-level phrase is stuck, from as many values as it starts on.
 abbrev pub SafeAreNotStuck : Type 0
-SafeAreNotStuck = (P : Program) (count : ℕ) → IsSafe P count → (budget : ℕ) (st : State Value) → AnyOf count st.stack → Valid P st.world → IsNotStuck (text_run P (word_text P P.top) st budget)
+SafeAreNotStuck = (P : Program) (count : ℕ) → IsSafe P count → (budget : ℕ) (st : State Value) → AnyOf count st.stack → Valid P st.world → IsNotStuck (phrase_run P (word_phrase P P.top) st budget)

@@ -1,6 +1,6 @@
 -- Row variables: which effects have them, how a use of a row word binds them, and what they are inside the row word. A row word is an inline word that has a row variable or is marked `recursive`.
 use Rattle.std.specs.Prelude.{ℕ, zero, suc, ◌+◌, List, [], ◌∷◌, length, drop, Bool, true, false, ◌&&◌, ◌||◌, not, nat_eq, nat_lt, Option, Some, None}
-use Rattle.fac_lang.specs.Texts.{Mark, par_mark}
+use Rattle.fac_lang.specs.Phrases.{Mark, par_mark}
 use Rattle.fac_lang.specs.Signatures.{Signature, signature, Inputs, no_inputs, value, quoted, Leaving, never, leaves}
 use Rattle.fac_lang.specs.Effects.{inputs_count}
 use Rattle.fac_abs.specs.Marks.{Row, hidden, named_row, AbstractStack, dead, on, base_eq, row_eq, mark_eq, unknowns, cover_marks, is_callable}

@@ -1,37 +1,37 @@
--- What the marks and stacks of the checker stand for: values, running texts and lists of values.
+-- What the marks and stacks of the checker stand for: values, running phrases and lists of values.
 use Rattle.std.specs.Prelude.{ℕ, ◌≡◌, List, [], ◌∷◌, length, true, nat_lt, Option, Some, slice_get}
 use Rattle.fac_lang.specs.declared.phrase.Place.{Place}
-use Rattle.fac_lang.specs.Texts.{wrd, Text, end, then, Item, lit, lit_arr, quot, word, bind, local, fry, hole, call_eff, exec_eff, next_method, made, next_after, held, known, Value, plain, fun, Callable, text, cur, both, Mark, any, lit_mark, cur_mark, com_mark, wrd_mark, par_mark}
+use Rattle.fac_lang.specs.Phrases.{wrd, Phrase, end, then, Item, lit, lit_arr, quot, word, bind, local, fry, hole, call_eff, exec_eff, next_method, made, next_after, held, known, Value, plain, fun, Callable, of_phrase, cur, both, Mark, any, lit_mark, cur_mark, com_mark, wrd_mark, par_mark}
 use Rattle.fac_lang.specs.World.{World, State}
 use Rattle.fac_lang.specs.declared.program.Program.{Program}
 use Rattle.fac_lang.specs.Eval.{Result, Done, Failed, Spent, Stuck}
 use Rattle.fac_abs.specs.Marks.{Row, AbstractStack, dead, on}
 
--- an item that no running text has, and that is stuck where one has it
+-- an item that no running phrase has, and that is stuck where one has it
 abbrev pub Unmeant : Item → Type 0
 Unmeant (made k) = Unit {0}
 Unmeant (known m) = Unit {0}
 Unmeant _ = ⊥
 
 module _ (inputs : ℕ → Callable → Type 0) where
-  -- A value stands for a mark: any value where nothing is known, and for a literal a running text that stands for its text. Where the mark is an input of the row word that is checked, the callable is one of those that `inputs` allows.
+  -- A value stands for a mark: any value where nothing is known, and for a literal a running phrase that stands for its phrase. Where the mark is an input of the row word that is checked, the callable is one of those that `inputs` allows.
   abbrev mutual
     pub Stands : Mark → Value → Type 0
     Stands any v = Unit {0}
-    Stands (lit_mark p t) v = (u : Text) × (v ≡ fun (text u)) × StandsText t u
+    Stands (lit_mark p t) v = (u : Phrase) × (v ≡ fun (of_phrase u)) × StandsPhrase t u
     Stands (cur_mark m c) v = (x : Value) × (d : Callable) × (v ≡ fun (cur x d)) × Stands m x × Stands c (fun d)
     Stands (com_mark c d) v = (e : Callable) × (f : Callable) × (v ≡ fun (both e f)) × Stands c (fun e) × Stands d (fun f)
     Stands (wrd_mark w) v = v ≡ plain (wrd w)
     Stands (par_mark k) v = (c : Callable) × (v ≡ fun c) × inputs k c
 
-    -- a running text, for a text in which marks stand in place of held values
-    pub StandsText : Text → Text → Type 0
-    StandsText end u = u ≡ end
-    StandsText (then i p t) u = (j : Item) × (q : Place) × (s : Text) × (u ≡ then j q s) × StandsItem i j × StandsText t s
+    -- a running phrase, for a phrase in which marks stand in place of held values
+    pub StandsPhrase : Phrase → Phrase → Type 0
+    StandsPhrase end u = u ≡ end
+    StandsPhrase (then i p t) u = (j : Item) × (q : Place) × (s : Phrase) × (u ≡ then j q s) × StandsItem i j × StandsPhrase t s
 
     pub StandsItem : Item → Item → Type 0
-    StandsItem (quot t) j = (u : Text) × (j ≡ quot u) × StandsText t u
-    StandsItem (fry t n) j = (u : Text) × (j ≡ fry u n) × StandsText t u
+    StandsItem (quot t) j = (u : Phrase) × (j ≡ quot u) × StandsPhrase t u
+    StandsItem (fry t n) j = (u : Phrase) × (j ≡ fry u n) × StandsPhrase t u
     StandsItem (known m) j = (v : Value) × (j ≡ held v) × Stands m v
     StandsItem (made k) j = Unmeant j
     StandsItem (lit p) j = j ≡ lit p

@@ -1,7 +1,7 @@
 -- The verdict on each word and on the program.
 use Rattle.std.specs.Prelude.{ℕ, zero, suc, List, [], ◌∷◌, ◌++◌, length, Bool, true, false, ◌&&◌, ◌||◌, not, nat_eq, Option, Some, None, slice_get}
 use Rattle.fac_lang.specs.declared.phrase.Place.{Place}
-use Rattle.fac_lang.specs.Texts.{wrd, Text, end, then, Item, lit, quot, word, fry, Mark, any, par_mark}
+use Rattle.fac_lang.specs.Phrases.{wrd, Phrase, end, then, Item, lit, quot, word, fry, Mark, any, par_mark}
 use Rattle.fac_lang.specs.Signatures.{Signature, Inputs, no_inputs, value, quoted, Leaving, never, leaves}
 use Rattle.fac_lang.specs.Effects.{inputs_count}
 use Rattle.fac_lang.specs.Substitution.{of_method}
@@ -41,14 +41,14 @@ inputs_marks k (value x is) ms = inputs_marks (suc k) is (any ∷ ms)
 inputs_marks k (quoted x e is) ms = inputs_marks (suc k) is (par_mark k ∷ ms)
 
 module _ (P : Program) where
-  -- the number of a word, where it is an inline word with a text
+  -- the number of a word, where it is an inline word with a phrase
   abbrev pub inline_body : ℕ → Option WordDef → List ℕ
   inline_body w None = []
   inline_body w (Some d) = elim d.sort [ body t ↦ elim d.inline [ true ↦ w ∷ [] | false ↦ [] ] | _ ↦ [] ]
 
-  -- The inline words that a text names, as items or by `\`, also in its quotations and fry bodies. What stands in a literal array isn't followed.
+  -- The inline words that a phrase names, as items or by `\`, also in its quotations and fry bodies. What stands in a literal array isn't followed.
   abbrev mutual
-    pub inline_words : Text → List ℕ
+    pub inline_words : Phrase → List ℕ
     inline_words end = []
     inline_words (then i p t) = item_words i ++ inline_words t
 
@@ -59,12 +59,12 @@ module _ (P : Program) where
     item_words (fry t n) = inline_words t
     item_words _ = []
 
-  -- the inline words that a word's text names
+  -- the inline words that a word's phrase names
   abbrev pub body_words : Option WordDef → List ℕ
   body_words None = []
   body_words (Some d) = elim d.sort [ body t ↦ inline_words t | _ ↦ [] ]
 
-  -- these words, and those that their texts name
+  -- these words, and those that their phrases name
   abbrev pub named_by : List ℕ → List ℕ → List ℕ
   named_by [] seen = seen
   named_by (w ∷ ws) seen = more_of (body_words (slice_get P.words w)) (named_by ws seen)
@@ -79,8 +79,8 @@ module _ (P : Program) where
   without w [] = []
   without w (v ∷ vs) = elim (nat_eq w v) [ true ↦ without w vs | false ↦ v ∷ without w vs ]
 
-  -- whether the text of an inline word leads back to it, otherwise than directly where it is marked recursive
-  abbrev pub leads_back : ℕ → Bool → Text → Bool
+  -- whether the phrase of an inline word leads back to it, otherwise than directly where it is marked recursive
+  abbrev pub leads_back : ℕ → Bool → Phrase → Bool
   leads_back w recursive t = one_of w (led_to (length P.words) (elim recursive [ true ↦ without w (inline_words t) | false ↦ inline_words t ]))
 
   -- whether a word breaks `undeclared-recursion`
@@ -122,33 +122,33 @@ module _ (P : Program) where
   end_of (refused r p) go = refusal r p
 
   -- an ordinary word or a method starts from its inputs, of which nothing is known, over no base
-  abbrev pub ordinary_verdict : ℕ → Text → WordDef → Option Refusal
+  abbrev pub ordinary_verdict : ℕ → Phrase → WordDef → Option Refusal
   ordinary_verdict w t d = end_of (walked P None None w t None (unknowns (inputs_count (effect_inputs d.effect)) [])) (kept_word (effect_leaving d.effect) None d.place)
 
   -- a row word starts from its input row, with a mark of its own for each quotation input
-  abbrev pub row_verdict : ℕ → Text → WordDef → Option Refusal
+  abbrev pub row_verdict : ℕ → Phrase → WordDef → Option Refusal
   row_verdict w t d = end_of (walked P (Some d.effect) (Some w) w t (outer_in d.effect) (inputs_marks 1 (effect_inputs d.effect) [])) (kept_word (effect_leaving d.effect) (outer_out d.effect) d.place)
 
   -- an expanded word isn't walked at its definition
-  abbrev pub inline_verdict : Bool → ℕ → Text → WordDef → Option Refusal
+  abbrev pub inline_verdict : Bool → ℕ → Phrase → WordDef → Option Refusal
   inline_verdict true w t d = row_verdict w t d
   inline_verdict false w t d = None
 
-  -- a word with a text, by its mark `inline`
-  abbrev pub body_verdict : Bool → ℕ → Text → WordDef → Option Refusal
+  -- a word with a phrase, by its mark `inline`
+  abbrev pub body_verdict : Bool → ℕ → Phrase → WordDef → Option Refusal
   body_verdict true w t d = inline_verdict (is_row d.recursive d.effect) w t d
   body_verdict false w t d = ordinary_verdict w t d
 
   -- the top-level phrase starts on so many values, and promises nothing
-  abbrev pub top_verdict : ℕ → ℕ → Text → Option Refusal
+  abbrev pub top_verdict : ℕ → ℕ → Phrase → Option Refusal
   top_verdict start w t = end_of (walked P None None w t None (unknowns start [])) (λ A. None)
 
-  -- the top-level phrase, or a word with a text
-  abbrev pub phrase_verdict : Bool → ℕ → ℕ → Text → WordDef → Option Refusal
+  -- the top-level word, or another with a phrase
+  abbrev pub phrase_verdict : Bool → ℕ → ℕ → Phrase → WordDef → Option Refusal
   phrase_verdict true start w t d = top_verdict start w t
   phrase_verdict false start w t d = body_verdict d.inline w t d
 
-  -- by the walk of the word's text; earlier top-level phrases are accepted, and words without a text have none to walk
+  -- by the walk of the word's phrase; earlier top-level phrases are accepted, and words without a phrase have none to walk
   abbrev pub sort_verdict : ℕ → ℕ → WordDef → Sort → Option Refusal
   sort_verdict start w d (body t) = phrase_verdict (nat_eq w P.top) start w t d
   sort_verdict start w d (method c g t) = ordinary_verdict w (of_method w t) d

@@ -2,16 +2,16 @@
 ghost use Rattle.std.specs.Prelude.{◌≡◌, ◌&&◌, true, length, nat_eq, None, IfOk};
 ghost use Rattle.fac_lang.specs.declared.program.Program.{Program as ProgramSeen};
 ghost use Rattle.fac_abs.specs.Marks.{on, base_eq};
-ghost use Rattle.fac_abs.specs.Seen.{MarksSeen, IsStack, stack_of, base_seen};
-ghost use Rattle.fac_abs.specs.Trees.{Naming};
+ghost use Rattle.fac_abs.specs.SeenMarks.{MarksSeen, IsStack, stack_of, base_seen};
+ghost use Rattle.fac_abs.specs.MarkTrees.{Naming};
 ghost use Rattle.fac_check.specs.Rows.{effect_leaving};
 ghost use Rattle.fac_check.specs.Verdicts.{end_of, kept_word};
 ghost use Rattle.fac_check.specs.Judged.{breach_seen};
 ghost use Rattle.fac_check.specs.inner.Breaches.{IsOrdinaryBreach, IsTopBreach, IsPhraseBreach, IsWordBreach};
-ghost use Rattle.fac_check.specs.inner.Taken.{takes_all, takes_text, takes_word};
+ghost use Rattle.fac_check.specs.inner.Taken.{takes_all, takes_phrase, takes_word};
 ghost use Rattle.fac_check.specs.inner.Walking.{IsWalked, walked_seen};
 
-use crate::rule::Refusal;
+use crate::refusal::Refusal;
 use crate::walker::{Step, Walked, Walker};
 use fac_abs::{Marks, Reached, Rule};
 use fac_lang::limits::{MOST_APPLICATIONS, MOST_ITEMS};
@@ -84,7 +84,7 @@ fn top_kept(walked: Walked) -> Option<(Place, Rule)>
     }
 }
 
-// What an ordinary word with this text breaks, which starts from its inputs.
+// What an ordinary word with this phrase breaks, which starts from its inputs.
 fn ordinary_breach(
     alloc: Global,
     closed: &Closed,
@@ -92,7 +92,7 @@ fn ordinary_breach(
     phrase: &Phrase,
 ) -> Result<Option<(Place, Rule)>, Memory>
     requires program { takes_all closed.now.program closed.now.templates ≡ true }
-    requires text { takes_text closed.now.program.top (length closed.now.templates) phrase.now ≡ true }
+    requires phrase { takes_phrase closed.now.program.top (length closed.now.templates) phrase.now ≡ true }
     ensures { IfOk result (λ breach. IsOrdinaryBreach closed.now word.now phrase.now breach) }
 {
     let mut walker = Walker::new(alloc, closed)?;
@@ -108,7 +108,7 @@ fn ordinary_breach(
     Ok(kept(&walker.marks, word, walked))
 }
 
-// What the top-level phrase with this text breaks, which starts from so many values.
+// What the top-level word with this phrase breaks, which starts from so many values.
 fn top_breach(
     alloc: Global,
     closed: &Closed,
@@ -116,7 +116,7 @@ fn top_breach(
     phrase: &Phrase,
 ) -> Result<Option<(Place, Rule)>, Memory>
     requires program { takes_all closed.now.program closed.now.templates ≡ true }
-    requires text { takes_text closed.now.program.top (length closed.now.templates) phrase.now ≡ true }
+    requires phrase { takes_phrase closed.now.program.top (length closed.now.templates) phrase.now ≡ true }
     ensures { IfOk result (λ breach. IsTopBreach closed.now phrase.now breach) }
 {
     let mut walker = Walker::new(alloc, closed)?;
@@ -132,7 +132,7 @@ fn top_breach(
     Ok(top_kept(walked))
 }
 
-// What a word with this text breaks. An expanded word isn't walked at its definition.
+// What a word with this phrase breaks. An expanded word isn't walked at its definition.
 fn phrase_breach(
     alloc: Global,
     closed: &Closed,
@@ -141,7 +141,7 @@ fn phrase_breach(
     phrase: &Phrase,
 ) -> Result<Option<(Place, Rule)>, Memory>
     requires program { takes_all closed.now.program closed.now.templates ≡ true }
-    requires text { takes_text closed.now.program.top (length closed.now.templates) phrase.now ≡ true }
+    requires phrase { takes_phrase closed.now.program.top (length closed.now.templates) phrase.now ≡ true }
     ensures { IfOk result (λ breach. IsPhraseBreach closed.now number word.now phrase.now breach) }
 {
     if number == closed.program.top {
@@ -153,7 +153,7 @@ fn phrase_breach(
     ordinary_breach(alloc, closed, word, phrase)
 }
 
-/// What the word with this number breaks, where it is known whether its text leads back to it.
+/// What the word with this number breaks, where it is known whether its phrase leads back to it.
 pub fn word_breach(
     alloc: Global,
     closed: &Closed,

@@ -5,14 +5,14 @@ ghost use Rattle.fac_lang.specs.declared.program.Program.{Program as ProgramSeen
 ghost use Rattle.fac_lang.specs.Effects.{effect_height};
 ghost use Rattle.fac_lang.specs.Meaning.{c_call, c_dip, c_if, core_numbered};
 ghost use Rattle.fac_lang.specs.Primitives.{built_count};
-ghost use Rattle.fac_lang.specs.Texts.{Text, any, lit_mark};
-ghost use Rattle.fac_lang.specs.View.{what_item};
+ghost use Rattle.fac_lang.specs.Phrases.{Phrase as Tree, any, lit_mark};
+ghost use Rattle.fac_lang.specs.PhraseView.{what_item};
 ghost use Rattle.fac_abs.specs.Marks.{Row, on, curried_mark, composed_mark};
-ghost use Rattle.fac_abs.specs.Seen.{IsMark, IsStack, Grows, mark_of, stack_of};
-ghost use Rattle.fac_abs.specs.Trees.{Naming};
+ghost use Rattle.fac_abs.specs.SeenMarks.{IsMark, IsStack, Grows, mark_of, stack_of};
+ghost use Rattle.fac_abs.specs.MarkTrees.{Naming};
 ghost use Rattle.fac_check.specs.Flow.{by_height as takes_and_leaves, marks_moved, mark_made, core_doing, gives};
 ghost use Rattle.fac_check.specs.inner.Taken.{takes_all, takes_item, takes_word};
-ghost use Rattle.fac_check.specs.inner.Walking.{IsDoing, IsDoingOf, IsThisWord, NamesText, has_text, DoesAs, doing_seen, PopsTwo, PopsBranches, lacks, DoesItem, DoesWord, DoesWordSo, DoesDefined, DoesPrimitive};
+ghost use Rattle.fac_check.specs.inner.Walking.{IsDoing, IsDoingOf, IsThisWord, NamesPhrase, has_phrase, DoesAs, doing_seen, PopsTwo, PopsBranches, lacks, DoesItem, DoesWord, DoesWordSo, DoesDefined, DoesPrimitive};
 
 use fac_abs::{Marks, Rule};
 use fac_lang::{Height, Memory, Operation, Sort, What, WordDef, operation_of};
@@ -29,7 +29,7 @@ pub enum Doing {
     Gives {
         stack: u32,
     },
-    /// The text of an expanded word is to be walked.
+    /// The phrase of an expanded word is to be walked.
     Expands {
         word: u32,
         stack: u32,
@@ -64,7 +64,7 @@ fn put(marks: &mut Marks, stack: u32, mark: u32) -> Result<Doing, Memory>
     requires mark { IsMark marks.old mark }
     ensures grows { Grows marks.old marks.new }
     ensures there { IfOk result (λ doing. IsDoing marks.new doing) }
-    ensures does { IfOk result (λ doing. (N : Naming) (texts : ℕ → Text) (b : Option Row) → doing_seen N marks.new texts b doing ≡ gives (on b (mark_of N marks.old mark ∷ stack_of N marks.old stack))) }
+    ensures does { IfOk result (λ doing. (N : Naming) (phrases : ℕ → Tree) (b : Option Row) → doing_seen N marks.new phrases b doing ≡ gives (on b (mark_of N marks.old mark ∷ stack_of N marks.old stack))) }
 {
     Ok(Doing::Gives {
         stack: marks.push(stack, mark)?,
@@ -267,11 +267,11 @@ fn height_of(word: &WordDef) -> Height
     }
 }
 
-// A word that is defined by a text: an inline one is expanded, and every other one goes by its effect.
+// A word that is defined by a phrase: an inline one is expanded, and every other one goes by its effect.
 fn defined(marks: &mut Marks, stack: u32, number: u32, word: &WordDef) -> Result<Doing, Memory>
     requires stack { IsStack marks.old stack }
     requires word { (top : ℕ) × (count : ℕ) × (takes_word top count word.now ≡ true) }
-    requires text { has_text word.now.sort ≡ true }
+    requires phrase { has_phrase word.now.sort ≡ true }
     ensures grows { Grows marks.old marks.new }
     ensures there { IfOk result (λ doing. IsDoingOf (IsThisWord number word.now) marks.new doing) }
     ensures does { IfOk result (λ doing. DoesDefined marks.old marks.new stack number word.now doing) }
@@ -317,7 +317,7 @@ fn word(closed: &Closed, marks: &mut Marks, stack: u32, number: u32) -> Result<D
     requires program { takes_all closed.now.program closed.now.templates ≡ true }
     requires number { nat_lt number closed.now.program.top ≡ true }
     ensures grows { Grows marks.old marks.new }
-    ensures there { IfOk result (λ doing. IsDoingOf (NamesText closed.now.program.words) marks.new doing) }
+    ensures there { IfOk result (λ doing. IsDoingOf (NamesPhrase closed.now.program.words) marks.new doing) }
     ensures does { IfOk result (λ doing. DoesWord closed.now marks.old marks.new stack number doing) }
 {
     match closed.program.words.get(number as usize) {
@@ -344,13 +344,13 @@ fn quotation(marks: &mut Marks, stack: u32, template: u32) -> Result<Doing, Memo
     requires { IsStack marks.old stack }
     ensures grows { Grows marks.old marks.new }
     ensures there { IfOk result (λ doing. IsDoing marks.new doing) }
-    ensures does { IfOk result (λ doing. (N : Naming) (texts : ℕ → Text) (b : Option Row) → doing_seen N marks.new texts b doing ≡ gives (on b (lit_mark (N.literal template).0 (N.literal template).1 ∷ stack_of N marks.old stack))) }
+    ensures does { IfOk result (λ doing. (N : Naming) (phrases : ℕ → Tree) (b : Option Row) → doing_seen N marks.new phrases b doing ≡ gives (on b (lit_mark (N.literal template).0 (N.literal template).1 ∷ stack_of N marks.old stack))) }
 {
     let mark = marks.lit(template)?;
     put(marks, stack, mark)
 }
 
-/// What an item of a closed text does to a stack.
+/// What an item of a closed phrase does to a stack.
 pub fn item_doing(
     closed: &Closed,
     marks: &mut Marks,
@@ -361,7 +361,7 @@ pub fn item_doing(
     requires program { takes_all closed.now.program closed.now.templates ≡ true }
     requires item { takes_item closed.now.program.top (length closed.now.templates) (what_item what.now) ≡ true }
     ensures grows { Grows marks.old marks.new }
-    ensures there { IfOk result (λ doing. IsDoingOf (NamesText closed.now.program.words) marks.new doing) }
+    ensures there { IfOk result (λ doing. IsDoingOf (NamesPhrase closed.now.program.words) marks.new doing) }
     ensures does { IfOk result (λ doing. DoesItem closed.now marks.old marks.new stack (what_item what.now) doing) }
 {
     match what {

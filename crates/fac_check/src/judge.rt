@@ -6,7 +6,7 @@ ghost use Rattle.fac_check.specs.Checks.{IsKept, Checks, Gathers};
 use crate::Checked;
 use crate::checker::{Verdict, word_breach};
 use crate::recursion::undeclared_words;
-use crate::rule::{CheckFault, Refusal};
+use crate::refusal::{CheckFault, Refusal};
 use fac_lang::{List, Memory};
 use fac_locals::Closed;
 use std::alloc::Global;
@@ -22,7 +22,7 @@ fn flag(flags: &List<bool>, number: u32) -> bool
     }
 }
 
-/// The verdict on the word of this number: the first rule that it breaks, with its place. `undeclared` has for each word whether its text
+/// The verdict on the word of this number: the first rule that it breaks, with its place. `undeclared` has for each word whether its phrase
 /// leads back to it through inline words, as `undeclared_words` finds it for all words at once.
 pub fn check_word(
     alloc: Global,

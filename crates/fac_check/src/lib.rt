@@ -8,7 +8,7 @@ mod doing;
 mod judge;
 mod laws;
 mod recursion;
-mod rule;
+mod refusal;
 mod walker;
 
 pub use accepted::Checked;
@@ -20,4 +20,4 @@ pub use laws::{
     safe_programs_are_not_stuck,
 };
 pub use recursion::undeclared_words;
-pub use rule::{CheckFault, Refusal};
+pub use refusal::{CheckFault, Refusal};

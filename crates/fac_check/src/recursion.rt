@@ -1,11 +1,11 @@
 //! The rule of undeclared recursion.
 ghost use Rattle.std.specs.Prelude.{◌≡◌, ◌++◌, ◌∷◌, ◌<◌, ◌-◌, [], true, false, length, drop, IsTrue, IfOk, OnOk, slice_get, Some};
-ghost use Rattle.fac_abs.specs.Seen.{are_below};
-ghost use Rattle.fac_lang.specs.View.{what_item};
+ghost use Rattle.fac_abs.specs.SeenMarks.{are_below};
+ghost use Rattle.fac_lang.specs.PhraseView.{what_item};
 ghost use Rattle.fac_check.specs.Verdicts.{one_of};
-ghost use Rattle.fac_check.specs.inner.Taken.{takes_all, takes_item, takes_text, takes_word};
-ghost use Rattle.fac_check.specs.inner.UndeclaredRecursion.{all_there, named_word, made_template, inline_text, inline_word, left_out, led_from, Decides, rank_of, same_or_lower, all_lower, leads_lower, all_descend};
-ghost use Rattle.fac_check.specs.inner.UndeclaredRecursion.{Adds, Finds, DecidesAll, AddsNames, AddsItemNames, AddsMadeNames, LedBy, LedByText, AreEdges};
+ghost use Rattle.fac_check.specs.inner.Taken.{takes_all, takes_item, takes_phrase, takes_word};
+ghost use Rattle.fac_check.specs.inner.UndeclaredRecursion.{all_there, named_word, made_template, inline_phrase, inline_word, left_out, led_from, Decides, rank_of, same_or_lower, all_lower, leads_lower, all_descend};
+ghost use Rattle.fac_check.specs.inner.UndeclaredRecursion.{Adds, Finds, DecidesAll, AddsNames, AddsItemNames, AddsMadeNames, LedBy, LedByPhrase, AreEdges};
 ghost use Rattle.fac_check.specs.Judged.{AreUndeclared, StandsForBuilt};
 
 use fac_lang::{List, Memory, Phrase, Sort, What, WordDef};
@@ -33,9 +33,9 @@ fn made_in(what: &What) -> Option<u32>
     }
 }
 
-// Whether a word is an inline word with a text.
+// Whether a word is an inline word with a phrase.
 fn is_inline(word: &WordDef) -> bool
-    ensures { result ≡ inline_text word.now.inline word.now.sort }
+    ensures { result ≡ inline_phrase word.now.inline word.now.sort }
 {
     match &word.sort {
         Sort::Body(_) => word.inline,
@@ -43,7 +43,7 @@ fn is_inline(word: &WordDef) -> bool
     }
 }
 
-// Adds a word, where it is an inline word with a text.
+// Adds a word, where it is an inline word with a phrase.
 fn add_word(words: &List<WordDef>, number: u32, named: &mut List<u32>) -> Result<(), Memory>
     requires { number < length words.now }
     ensures { OnOk result (named.new ≡ named.old ++ inline_word number (slice_get words.now number)) }
@@ -59,7 +59,7 @@ fn add_word(words: &List<WordDef>, number: u32, named: &mut List<u32>) -> Result
     }
 }
 
-// Adds the words that the text of a template names. Those in a closed program have numbers from that of the quotation around them on.
+// Adds the words that the phrase of a template names. Those in a closed program have numbers from that of the quotation around them on.
 #[cycle(names)]
 fn add_template(
     closed: &Closed,
@@ -76,7 +76,7 @@ fn add_template(
     }
     let _count = closed.templates.len();
     match closed.templates.get(number as usize) {
-        Some(template) => add_text(closed, number + 1, &template.body, named),
+        Some(template) => add_phrase(closed, number + 1, &template.body, named),
         None => unreachable!(),
     }
 }
@@ -97,16 +97,16 @@ fn add_item(closed: &Closed, from: u32, what: &What, named: &mut List<u32>) -> R
     }
 }
 
-// Adds the words that a text names, where its templates have numbers from this one on.
+// Adds the words that a phrase names, where its templates have numbers from this one on.
 #[cycle(names)]
-fn add_text(
+fn add_phrase(
     closed: &Closed,
     from: u32,
     phrase: &Phrase,
     named: &mut List<u32>,
 ) -> Result<(), Memory>
     requires program { takes_all closed.now.program closed.now.templates ≡ true }
-    requires text { takes_text closed.now.program.top (length closed.now.templates) phrase.now ≡ true }
+    requires phrase { takes_phrase closed.now.program.top (length closed.now.templates) phrase.now ≡ true }
     ensures { OnOk result (AddsNames closed.now.program closed.now.templates from phrase.now named.old named.new) }
 {
     for item in &phrase.items {
@@ -132,7 +132,7 @@ fn leave_out(alloc: Global, number: u32, numbers: &List<u32>) -> Result<List<u32
 }
 
 // The words that an inline word leads to.
-fn led_by_text(
+fn led_by_phrase(
     alloc: Global,
     closed: &Closed,
     number: u32,
@@ -140,11 +140,11 @@ fn led_by_text(
     phrase: &Phrase,
 ) -> Result<List<u32>, Memory>
     requires program { takes_all closed.now.program closed.now.templates ≡ true }
-    requires text { takes_text closed.now.program.top (length closed.now.templates) phrase.now ≡ true }
-    ensures { IfOk result (LedByText closed.now.program closed.now.templates number recursive phrase.now) }
+    requires phrase { takes_phrase closed.now.program.top (length closed.now.templates) phrase.now ≡ true }
+    ensures { IfOk result (LedByPhrase closed.now.program closed.now.templates number recursive phrase.now) }
 {
     let mut named = List::new(alloc);
-    match add_text(closed, 0, phrase, &mut named) {
+    match add_phrase(closed, 0, phrase, &mut named) {
         Ok(()) => {}
         Err(fault) => return Err(fault),
     }
@@ -163,7 +163,7 @@ fn led_by(alloc: Global, closed: &Closed, number: u32, word: &WordDef) -> Result
     match &word.sort {
         Sort::Body(phrase) => {
             if word.inline {
-                return led_by_text(alloc, closed, number, word.recursive, phrase);
+                return led_by_phrase(alloc, closed, number, word.recursive, phrase);
             }
             Ok(List::new(alloc))
         }
@@ -491,9 +491,9 @@ fn decide_all(alloc: Global, edges: &List<List<u32>>, ranks: &[u32]) -> Result<L
     Ok(flags)
 }
 
-/// For each word of a closed program whether it breaks the rule of undeclared recursion: whether the text of an inline word, followed
+/// For each word of a closed program whether it breaks the rule of undeclared recursion: whether the phrase of an inline word, followed
 /// through the inline words that it names, leads back to the word, otherwise than directly where it is marked recursive.
-/// The time is about that of one walk through all texts, but that a word of a cycle of several words, or one that leads to such a cycle, is
+/// The time is about that of one walk through all phrases, but that a word of a cycle of several words, or one that leads to such a cycle, is
 /// decided by a search of its own. In a source whose names are used after their definitions there is no such cycle. Want of memory is the
 /// one error.
 pub fn undeclared_words(alloc: Global, closed: &Closed) -> Result<List<bool>, Memory>

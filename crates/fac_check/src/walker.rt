@@ -1,18 +1,18 @@
-//! The walk of a text.
+//! The walk of a phrase.
 ghost use Rattle.std.specs.declared.option.Option.{Option};
 ghost use Rattle.std.specs.Prelude.{◌≡◌, ◌<◌, ◌≤◌, ◌-◌, [], true, suc, Some, None, length, IfOk, MatchResult, MatchOption};
 ghost use Rattle.fac_abs.specs.Marks.{Row};
-ghost use Rattle.fac_abs.specs.Promises.{IsMarkOf, IsStackOf};
-ghost use Rattle.fac_abs.specs.Seen.{IsMark, IsStack, IsReached, Grows, mark_of, stack_of, reached_seen};
-ghost use Rattle.fac_abs.specs.Trees.{Naming};
-ghost use Rattle.fac_lang.specs.Texts.{any};
-ghost use Rattle.fac_check.specs.Flow.{first_rule as first_rule_of, text_rule as rule_of_text, join, marks_on, marks_back};
-ghost use Rattle.fac_check.specs.inner.Taken.{takes_all, takes_text};
-ghost use Rattle.fac_check.specs.inner.Walking.{IsDoingOf, NamesText, IsWalked, IsWithin, IsBelow, AreMarks, Admits, Enters, walked_seen, marks_of_option};
-ghost use Rattle.fac_check.specs.inner.Walking.{IsWalkOf, IsWalkOfText, IsWalkOfItem, literal_walk, word_walk, curried_walk, part_walk, composed_walk, mark_walk, callable_walk, fork_walk};
+ghost use Rattle.fac_abs.specs.MarkPromises.{IsMarkOf, IsStackOf};
+ghost use Rattle.fac_abs.specs.SeenMarks.{IsMark, IsStack, IsReached, Grows, mark_of, stack_of, reached_seen};
+ghost use Rattle.fac_abs.specs.MarkTrees.{Naming};
+ghost use Rattle.fac_lang.specs.Phrases.{any};
+ghost use Rattle.fac_check.specs.Flow.{first_rule as first_rule_of, phrase_rule as rule_of_phrase, join, marks_on, marks_back};
+ghost use Rattle.fac_check.specs.inner.Taken.{takes_all, takes_phrase};
+ghost use Rattle.fac_check.specs.inner.Walking.{IsDoingOf, NamesPhrase, IsWalked, IsWithin, IsBelow, AreMarks, Admits, Enters, walked_seen, marks_of_option};
+ghost use Rattle.fac_check.specs.inner.Walking.{IsWalkOf, IsWalkOfPhrase, IsWalkOfItem, literal_walk, word_walk, curried_walk, part_walk, composed_walk, mark_walk, callable_walk, fork_walk};
 
 use crate::doing::{Doing, item_doing};
-use fac_abs::{Marks, Node, Reached, Rule};
+use fac_abs::{Marks, MarkNode, Reached, Rule};
 use fac_lang::{Memory, Phrase, Place, Sort};
 use fac_locals::Closed;
 use std::alloc::Global;
@@ -63,9 +63,9 @@ pub enum Walked {
     Refused(Rule, Place),
 }
 
-// What an item breaks by entering a text, before it counts.
-fn text_rule(nested: u32) -> Option<Rule>
-    ensures { result ≡ rule_of_text None nested }
+// What an item breaks by entering a phrase, before it counts.
+fn phrase_rule(nested: u32) -> Option<Rule>
+    ensures { result ≡ rule_of_phrase None nested }
 {
     if nested == 0 {
         return Some(Rule::TooDeep);
@@ -80,8 +80,8 @@ fn first_rule(marks: &Marks, mark: u32, nested: u32, stack: u32) -> Option<Rule>
     ensures { (N : Naming) (b : Option Row) → result ≡ first_rule_of None (mark_of N marks.now mark) nested b (stack_of N marks.now stack) }
 {
     match marks.node(mark) {
-        Node::Lit(_) => text_rule(nested),
-        Node::Par(input) => {
+        MarkNode::Lit(_) => phrase_rule(nested),
+        MarkNode::Par(input) => {
             let found = marks.height(stack);
             Some(Rule::Rows {
                 input,
@@ -89,10 +89,10 @@ fn first_rule(marks: &Marks, mark: u32, nested: u32, stack: u32) -> Option<Rule>
                 found,
             })
         }
-        Node::Any => None,
-        Node::Wrd(_) => None,
-        Node::Cur(_, _) => None,
-        Node::Com(_, _) => None,
+        MarkNode::Any => None,
+        MarkNode::Wrd(_) => None,
+        MarkNode::Cur(_, _) => None,
+        MarkNode::Com(_, _) => None,
     }
 }
 
@@ -123,12 +123,12 @@ fn inside(marks: &Marks, part: u32, nested: u32) -> Result<u32, Rule>
     ensures enters { (N : Naming) → Enters (mark_of N marks.now part) nested result }
 {
     match marks.node(part) {
-        Node::Lit(_) => Ok(nested),
-        Node::Any => Err(Rule::NotKnown),
-        Node::Wrd(_) => Err(Rule::NotKnown),
-        Node::Cur(_, _) => deeper(nested),
-        Node::Com(_, _) => deeper(nested),
-        Node::Par(_) => deeper(nested),
+        MarkNode::Lit(_) => Ok(nested),
+        MarkNode::Any => Err(Rule::NotKnown),
+        MarkNode::Wrd(_) => Err(Rule::NotKnown),
+        MarkNode::Cur(_, _) => deeper(nested),
+        MarkNode::Com(_, _) => deeper(nested),
+        MarkNode::Par(_) => deeper(nested),
     }
 }
 
@@ -211,7 +211,7 @@ impl<'a> Walker<'a> {
         Ok(Walker { closed, marks })
     }
 
-    // Walks the text of a literal, which is one nested application. A number behind the last template names a literal with no items: no
+    // Walks the phrase of a literal, which is one nested application. A number behind the last template names a literal with no items: no
     // mark has one, but the contracts of marks don't bound the numbers of their literals. They will once literals have captures.
     #[cycle(walk)]
     fn walk_literal(&mut self, template: u32, step: Step) -> Result<Walked, Memory>
@@ -238,10 +238,10 @@ impl<'a> Walker<'a> {
         }
     }
 
-    // Walks the text of an expanded word, which is one nested application.
+    // Walks the phrase of an expanded word, which is one nested application.
     #[cycle(walk)]
     fn walk_word(&mut self, word: u32, step: Step) -> Result<Walked, Memory>
-        requires named { NamesText self.old.closed.now.program.words word }
+        requires named { NamesPhrase self.old.closed.now.program.words word }
         requires stack { IsStack self.old.marks step.stack }
         ensures closed { self.new.closed ≡ self.old.closed }
         ensures grows { Grows self.old.marks self.new.marks }
@@ -376,10 +376,10 @@ impl<'a> Walker<'a> {
         ensures walks { IfOk result (λ walked. IsWalkOf self.old.closed.now self.new.marks step walked (mark_walk self.old.marks step mark)) }
     {
         match self.marks.node(mark) {
-            Node::Lit(template) => self.walk_literal(template, step),
-            Node::Cur(value, callable) => self.walk_curried(mark, value, callable, step),
-            Node::Com(first, second) => self.walk_composed(mark, first, second, step),
-            Node::Par(input) => {
+            MarkNode::Lit(template) => self.walk_literal(template, step),
+            MarkNode::Cur(value, callable) => self.walk_curried(mark, value, callable, step),
+            MarkNode::Com(first, second) => self.walk_composed(mark, first, second, step),
+            MarkNode::Par(input) => {
                 let found = self.marks.height(step.stack);
                 let rule = Rule::Rows {
                     input,
@@ -388,8 +388,8 @@ impl<'a> Walker<'a> {
                 };
                 Ok(Walked::Refused(rule, step.place))
             }
-            Node::Any => Ok(Walked::Refused(Rule::NotKnown, step.place)),
-            Node::Wrd(_) => Ok(Walked::Refused(Rule::NotKnown, step.place)),
+            MarkNode::Any => Ok(Walked::Refused(Rule::NotKnown, step.place)),
+            MarkNode::Wrd(_) => Ok(Walked::Refused(Rule::NotKnown, step.place)),
         }
     }
 
@@ -440,10 +440,10 @@ impl<'a> Walker<'a> {
         }
     }
 
-    // Walks an item, apart from the rest of its text, where the step's stack isn't that of what the item does.
+    // Walks an item, apart from the rest of its phrase, where the step's stack isn't that of what the item does.
     #[cycle(walk)]
     fn walk_item(&mut self, doing: Doing, step: Step) -> Result<Walked, Memory>
-        requires { IsDoingOf (NamesText self.old.closed.now.program.words) self.old.marks doing }
+        requires { IsDoingOf (NamesPhrase self.old.closed.now.program.words) self.old.marks doing }
         ensures closed { self.new.closed ≡ self.old.closed }
         ensures grows { Grows self.old.marks self.new.marks }
         ensures there { IfOk result (λ walked. IsWalked self.new.marks walked) }
@@ -466,7 +466,7 @@ impl<'a> Walker<'a> {
                 )),
                 Err(rule) => Ok(Walked::Refused(rule, step.place)),
             },
-            Doing::Expands { word, stack } => match admitted(text_rule(step.nested), step.left) {
+            Doing::Expands { word, stack } => match admitted(phrase_rule(step.nested), step.left) {
                 Ok(left) => self.walk_word(
                     word,
                     Step {
@@ -513,16 +513,16 @@ impl<'a> Walker<'a> {
         }
     }
 
-    /// Walks a closed text. The step's place doesn't matter: each item has its own.
+    /// Walks a closed phrase. The step's place doesn't matter: each item has its own.
     #[cycle(walk)]
     pub fn walk_phrase(&mut self, phrase: &Phrase, step: Step) -> Result<Walked, Memory>
         requires stack { IsStack self.old.marks step.stack }
-        requires taken { takes_text self.old.closed.now.program.top (length self.old.closed.now.templates) phrase.now ≡ true }
+        requires taken { takes_phrase self.old.closed.now.program.top (length self.old.closed.now.templates) phrase.now ≡ true }
         ensures closed { self.new.closed ≡ self.old.closed }
         ensures grows { Grows self.old.marks self.new.marks }
         ensures there { IfOk result (λ walked. IsWalked self.new.marks walked) }
         ensures within { IfOk result (λ walked. IsWithin step.left walked) }
-        ensures walks { IfOk result (λ walked. IsWalkOfText self.old.closed.now self.old.marks self.new.marks phrase.now step walked) }
+        ensures walks { IfOk result (λ walked. IsWalkOfPhrase self.old.closed.now self.old.marks self.new.marks phrase.now step walked) }
     {
         let closed = self.closed;
         let mut base = step.base;

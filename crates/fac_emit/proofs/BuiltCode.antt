@@ -6,14 +6,14 @@ use Rattle.fac_lang.specs.declared.program.Program.{Program}
 use Rattle.fac_lang.specs.declared.program.WordDef.{WordDef}
 use Rattle.fac_lang.specs.declared.program.Sort.{Sort}
 use Rattle.fac_lang.specs.declared.program.Sort.TheVariants.{Prim as prim, Core as core, Body as body, Past as past, Itself as itself, Class as class, Isa as isa, Getter as getter, Setter as setter, Putter as putter, Generic as generic, Method as method}
-use Rattle.fac_lang.specs.Texts.{int, yes, no, Text, end, then, Item, lit, word, made}
+use Rattle.fac_lang.specs.Phrases.{int, yes, no, Phrase, end, then, Item, lit, word, made}
 use Rattle.fac_lang.specs.Forms.{IsBuilt, IsBuiltSort, AreBuiltWords}
 use Rattle.fac_lang.specs.Primitives.{is_built_primitive}
 use Rattle.fac_locals.specs.Closed.{Closes, ClosesSort, CloseWords}
 use Rattle.fac_code.specs.declared.image.Instr.{Instr}
 use Rattle.fac_code.specs.declared.image.Instr.TheVariants.{Ret}
 use Rattle.fac_code.specs.Code.{is_built_instr, has_built_code}
-use Rattle.fac_emit.specs.Code.{core_instr, sort_instr, word_instr, item_instr, text_code, templates_code, last_instr, sort_code, code_from, program_code}
+use Rattle.fac_emit.specs.ProgramCode.{core_instr, sort_instr, word_instr, item_instr, phrase_code, templates_code, last_instr, sort_code, code_from, program_code}
 
 -- a word that isn't a primitive that isn't built
 abbrev Fits : Sort → Type 0
@@ -53,8 +53,8 @@ module _ (P : Program) where
 
   all_fit : (C : Program) (templates : List Template) → IsBuilt P → Closes P C templates → AllFit C.words
   all_fit C templates b closes =
-      let phrase : Fits b.phrase.sort = rw b.phrase_is.sort_is tt in
-      closed_fit 0 P.words C.words closes.words (subst AllFit (sym b.words_are) (built_fit b.words b.phrase b.built phrase))
+      let phrase : Fits b.last_word.sort = rw b.last_word_is.sort_is tt in
+      closed_fit 0 P.words C.words closes.words (subst AllFit (sym b.words_are) (built_fit b.words b.last_word b.built phrase))
 
 pub and_true : (b c : Bool) → b ≡ true → c ≡ true → (b && c) ≡ true
 and_true true c e h = h
@@ -93,16 +93,16 @@ module _ (words : List WordDef) (fit : AllFit words) where
   item_built (made q) = refl
   item_built _ = refl
 
-  text_built : (last : Instr) (t : Text) → is_built_instr last ≡ true → has_built_code (text_code words last t) ≡ true
-  text_built last end l = and_true (is_built_instr last) true l refl
-  text_built last (then i p t) l = and_true (is_built_instr (item_instr words i)) (has_built_code (text_code words last t)) (item_built i) (text_built last t l)
+  phrase_built : (last : Instr) (t : Phrase) → is_built_instr last ≡ true → has_built_code (phrase_code words last t) ≡ true
+  phrase_built last end l = and_true (is_built_instr last) true l refl
+  phrase_built last (then i p t) l = and_true (is_built_instr (item_instr words i)) (has_built_code (phrase_code words last t)) (item_built i) (phrase_built last t l)
 
   templates_built : (ts : List Template) → has_built_code (templates_code words ts) ≡ true
   templates_built [] = refl
-  templates_built (t ∷ ts) = both_built (text_code words Ret t.body) (templates_code words ts) (text_built Ret t.body refl) (templates_built ts)
+  templates_built (t ∷ ts) = both_built (phrase_code words Ret t.body) (templates_code words ts) (phrase_built Ret t.body refl) (templates_built ts)
 
   sort_code_built : (is_top : Bool) (s : Sort) → has_built_code (sort_code words is_top s) ≡ true
-  sort_code_built is_top (body t) = text_built (last_instr is_top) t (last_built is_top)
+  sort_code_built is_top (body t) = phrase_built (last_instr is_top) t (last_built is_top)
   sort_code_built is_top _ = refl
 
   words_built : (top w : ℕ) (ds : List WordDef) → has_built_code (code_from words top w ds) ≡ true

@@ -5,22 +5,22 @@ use Rattle.fac_lang.specs.declared.phrase.Height.{Height}
 use Rattle.fac_lang.specs.declared.phrase.Template.{Template}
 use Rattle.fac_lang.specs.declared.program.Program.{Program}
 use Rattle.fac_lang.specs.declared.program.Lit.{Lit}
-use Rattle.fac_lang.specs.Texts.{Value, Callable}
+use Rattle.fac_lang.specs.Phrases.{Value, Callable}
 use Rattle.fac_lang.specs.World.{State}
 use Rattle.fac_lang.specs.Forms.{IsBuilt}
 use Rattle.fac_lang.specs.Eval.{Result, Done, Failed, Spent, Stuck, eval}
-use Rattle.fac_lang.specs.Meaning.{names, act, start, word_text, with_arrays}
+use Rattle.fac_lang.specs.Meaning.{names, act, start, word_phrase, with_arrays}
 use Rattle.fac_lang.specs.RunningLaws.{IsNotStuck}
 use Rattle.fac_locals.specs.Closed.{Closes}
 use Rattle.fac_code.specs.declared.image.Instr.TheVariants.{Halt}
 use Rattle.fac_code.specs.declared.image.Image.{Image}
 use Rattle.fac_code.specs.declared.image.Action.TheVariants.{Code as code_action}
 use Rattle.fac_code.specs.declared.image.WordRow.{WordRow}
-use Rattle.fac_prim.specs.Cells.{MValue}
+use Rattle.fac_prim.specs.MachineValues.{MValue}
 use Rattle.fac_vm.specs.Machine.{End, Ends, empty_world}
-use Rattle.fac_emit.specs.View.{Templates, template_texts, values_view, state_view}
+use Rattle.fac_emit.specs.MachineView.{Templates, template_phrases, values_view, state_view}
 use Rattle.fac_emit.specs.Carries.{SameEnd, Carries, state_before, machine_before, top_run}
-use Rattle.fac_emit.specs.Code.{IsPlain}
+use Rattle.fac_emit.specs.ProgramCode.{IsPlain}
 use Rattle.fac_emit.specs.Stands.{Stands, PlainCode}
 use Rattle.fac_emit.proofs.Simulation.{carried}
 use Rattle.fac_emit.proofs.PlainIsCode.{plain_code_is_code}
@@ -45,7 +45,7 @@ plain_code P C templates M b closes is_plain =
     let top = top_stands P C templates M b closes is_plain in
     let begins : slice_get M.words P.top ≡ Some (record { action = code_action M.start }) = sym (ap (slice_get M.words) closes.top) ∙ is_plain.begins in
     let there : top.0 ≡ M.start = ap place_of (sym top.1 ∙ begins) in
-    record { coded = coded P C templates M b closes is_plain; phrase = subst (λ (a : ℕ). Stands P M (template_texts P) Halt [] a (word_text P P.top)) there top.2 }
+    record { coded = coded P C templates M b closes is_plain; phrase = subst (λ (a : ℕ). Stands P M (template_phrases P) Halt [] a (word_phrase P P.top)) there top.2 }
 
 -- The machine's state before its first instruction stands for the meaning's, since no array is made.
 begins_so : (P : Program) → IsBuilt P → (T : Templates) (stack : List MValue) (input : List ℕ) → state_view T stack (record empty_world { input = input }) ≡ state_before P (values_view T stack) input
@@ -56,11 +56,11 @@ pub carries :
     IsBuilt P → Closes P C templates → IsPlain C templates M → Carries P fits callable_height count M
 carries P C templates M fits callable_height count b closes is_plain = record {
   same_end = λ stack input many whole never n.
-      let text = word_text P P.top in
-      let T = template_texts P in
+      let phrase = word_phrase P P.top in
+      let T = template_phrases P in
       let code = plain_code_is_code P M (plain_code P C templates M b closes is_plain) in
       let begin = begins_so P b T stack input in
       let going = λ (m : ℕ). not_stuck (top_run P fits callable_height (values_view T stack) input m) (never m) in
-      subst (λ (st : State Value). (e : End) × Ends M (names P) (machine_before M stack input) n e × SameEnd T (eval (act P fits callable_height) n text st n) e) begin
-      (carried (record { program = P; fits = fits; callable_height = callable_height; image = M; texts = T }) code.called M.start text code.phrase stack (record empty_world { input = input }) (record { cells = tt; held = tt; values = whole; objects = tt }) (subst (λ (st : State Value). (m : ℕ) → eval (act P fits callable_height) m text st m ≢ Stuck) (sym begin) going) n);
+      subst (λ (st : State Value). (e : End) × Ends M (names P) (machine_before M stack input) n e × SameEnd T (eval (act P fits callable_height) n phrase st n) e) begin
+      (carried (record { program = P; fits = fits; callable_height = callable_height; image = M; texts = T }) code.called M.start phrase code.phrase stack (record empty_world { input = input }) (record { cells = tt; held = tt; values = whole; objects = tt }) (subst (λ (st : State Value). (m : ℕ) → eval (act P fits callable_height) m phrase st m ≢ Stuck) (sym begin) going) n);
 }

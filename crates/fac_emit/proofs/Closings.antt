@@ -7,10 +7,10 @@ use Rattle.fac_lang.specs.declared.program.Program.{Program}
 use Rattle.fac_lang.specs.declared.program.WordDef.{WordDef}
 use Rattle.fac_lang.specs.declared.program.Sort.{Sort}
 use Rattle.fac_lang.specs.declared.program.Sort.TheVariants.{Prim as prim, Core as core, Body as body, Past as past, Itself as itself, Class as class, Isa as isa, Getter as getter, Setter as setter, Putter as putter, Generic as generic, Method as method}
-use Rattle.fac_lang.specs.Texts.{int, yes, no, Literal, Text, end, then, lit, quot, word, made}
-use Rattle.fac_lang.specs.Forms.{IsBuiltText, primitive_numbers, numbers_before}
+use Rattle.fac_lang.specs.Phrases.{int, yes, no, Literal, Phrase, end, then, lit, quot, word, made}
+use Rattle.fac_lang.specs.Forms.{IsBuiltPhrase, primitive_numbers, numbers_before}
 use Rattle.fac_locals.specs.Literals.{Quoted, behind, literal_numbered}
-use Rattle.fac_locals.specs.Closed.{ClosesText, ClosesSort, CloseWords}
+use Rattle.fac_locals.specs.Closed.{ClosesPhrase, ClosesSort, CloseWords}
 
 -- lists behind a part of them
 behind_none : {A : Type 0} (xs ys : List A) → [] ≡ xs ++ ys → [] ≡ ys
@@ -34,16 +34,16 @@ get_at (y ∷ list) zero x xs e = let same : y ≡ x = cc in ap Some same
 get_at (y ∷ list) (suc at) x xs e = get_at list at x xs e
 
 module _ (P : Program) where
-  -- a built text and its closed one, item by item
-  pub data Closing : Literal → Text → Text → Type 0 where
+  -- a built phrase and its closed one, item by item
+  pub data Closing : Literal → Phrase → Phrase → Type 0 where
     c_end : {at : Literal} → Closing at end end
-    c_int : {at : Literal} {p : Place} {t c : Text} (z : ℤ) → Closing (behind at (lit (int z))) t c → Closing at (then (lit (int z)) p t) (then (lit (int z)) p c)
-    c_true : {at : Literal} {p : Place} {t c : Text} → Closing (behind at (lit yes)) t c → Closing at (then (lit yes) p t) (then (lit yes) p c)
-    c_false : {at : Literal} {p : Place} {t c : Text} → Closing (behind at (lit no)) t c → Closing at (then (lit no) p t) (then (lit no) p c)
-    c_word : {at : Literal} {p : Place} {t c : Text} (w : ℕ) → w < P.top → Closing (behind at (word w)) t c → Closing at (then (word w) p t) (then (word w) p c)
-    c_quot : {at : Literal} {p : Place} {t c : Text} (u : Text) (k : ℕ) → (let l : Quoted = (at, u) in literal_numbered P k ≡ l) → Closing (behind at (quot u)) t c → Closing at (then (quot u) p t) (then (made k) p c)
+    c_int : {at : Literal} {p : Place} {t c : Phrase} (z : ℤ) → Closing (behind at (lit (int z))) t c → Closing at (then (lit (int z)) p t) (then (lit (int z)) p c)
+    c_true : {at : Literal} {p : Place} {t c : Phrase} → Closing (behind at (lit yes)) t c → Closing at (then (lit yes) p t) (then (lit yes) p c)
+    c_false : {at : Literal} {p : Place} {t c : Phrase} → Closing (behind at (lit no)) t c → Closing at (then (lit no) p t) (then (lit no) p c)
+    c_word : {at : Literal} {p : Place} {t c : Phrase} (w : ℕ) → w < P.top → Closing (behind at (word w)) t c → Closing at (then (word w) p t) (then (word w) p c)
+    c_quot : {at : Literal} {p : Place} {t c : Phrase} (u : Phrase) (k : ℕ) → (let l : Quoted = (at, u) in literal_numbered P k ≡ l) → Closing (behind at (quot u)) t c → Closing at (then (quot u) p t) (then (made k) p c)
 
-  pub closing : (at : Literal) (t c : Text) → ClosesText P at t c → IsBuiltText P.top t → Closing at t c
+  pub closing : (at : Literal) (t c : Phrase) → ClosesPhrase P at t c → IsBuiltPhrase P.top t → Closing at t c
   closing at end c h b = rw h c_end
   closing at (then (lit (int z)) p t) c h b = rw (h.2, h.3) (c_int z (closing (behind at (lit (int z))) t h.1 h.4 b.1))
   closing at (then (lit yes) p t) c h b = rw (h.2, h.3) (c_true (closing (behind at (lit yes)) t h.1 h.4 b.1))

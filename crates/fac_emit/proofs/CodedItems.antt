@@ -8,16 +8,16 @@ use Rattle.fac_lang.specs.declared.program.WordDef.{WordDef}
 use Rattle.fac_lang.specs.declared.program.Sort.{Sort}
 use Rattle.fac_lang.specs.declared.program.Sort.TheVariants.{Prim as prim_sort, Core as core_sort, Body as body, Past as past, Method as method}
 use Rattle.fac_lang.specs.declared.phrase.Item.{Item}
-use Rattle.fac_lang.specs.View.{what_item, items_text}
-use Rattle.fac_lang.specs.Texts.{Literal, Text}
+use Rattle.fac_lang.specs.PhraseView.{what_item, items_phrase}
+use Rattle.fac_lang.specs.Phrases.{Literal, Phrase}
 use Rattle.fac_lang.specs.Forms.{IsBuilt, IsBuiltSort}
 use Rattle.fac_lang.proofs.FormsLemmas.{word_below}
 use Rattle.fac_locals.specs.Literals.{first_of_word, first_of_literal, literal_numbered}
 use Rattle.fac_locals.specs.Closed.{Closes, ClosesSort}
-use Rattle.fac_locals.proofs.ClosedPrograms.{HasBuiltText, built_texts}
+use Rattle.fac_locals.proofs.ClosedPrograms.{HasBuiltPhrase, built_phrases}
 use Rattle.fac_locals.proofs.Places.{literal_built}
 use Rattle.fac_locals.proofs.Lookups.{word_closed, word_open, template_closed}
-use Rattle.fac_emit.specs.Code.{sort_is_coded, word_is_coded, item_is_coded, text_is_coded, template_is_coded, body_is_coded, word_body_is_coded}
+use Rattle.fac_emit.specs.ProgramCode.{sort_is_coded, word_is_coded, item_is_coded, phrase_is_coded, template_is_coded, body_is_coded, word_body_is_coded}
 use Rattle.fac_emit.proofs.Closings.{Closing, c_end, c_int, c_true, c_false, c_word, c_quot, closing}
 use Rattle.fac_emit.proofs.BuiltCode.{and_true}
 use Rattle.fac_emit.proofs.EmitLemmas.{next_element}
@@ -41,9 +41,9 @@ each_passes test [] h = refl
 each_passes test (x ∷ xs) h = and_true (test x) (list_all test xs) (h 0 x refl) (each_passes test xs (λ k y e. h (suc k) y e))
 
 -- of the items from one place on the first passes
-pub item_coded_at : (words : List WordDef) (items : List Item) (i : ℕ) (x : Item) → i < length items → x ≡ get_or items i x → text_is_coded words (items_text (drop i items)) ≡ true → item_is_coded words (what_item x.what) ≡ true
+pub item_coded_at : (words : List WordDef) (items : List Item) (i : ℕ) (x : Item) → i < length items → x ≡ get_or items i x → phrase_is_coded words (items_phrase (drop i items)) ≡ true → item_is_coded words (what_item x.what) ≡ true
 item_coded_at words items i x lt is h =
-    and_first (item_is_coded words (what_item x.what)) (text_is_coded words (items_text (drop (i + 1) items))) (subst (λ (xs : List Item). text_is_coded words (items_text xs) ≡ true) (next_element items i x lt is) h)
+    and_first (item_is_coded words (what_item x.what)) (phrase_is_coded words (items_phrase (drop (i + 1) items))) (subst (λ (xs : List Item). phrase_is_coded words (items_phrase xs) ≡ true) (next_element items i x lt is) h)
 
 -- and the one that a loop is at passes where all do
 pub item_passes : {A : Type 0} (test : A → Bool) (xs : List A) (i : ℕ) (x : A) (items : List A) → items ≡ xs → i < length items → x ≡ get_or items i x → list_all test xs ≡ true → test x ≡ true
@@ -64,25 +64,25 @@ module _ (P C : Program) (templates : List Template) (b : IsBuilt P) (closes : C
       let closed = word_closed P C templates closes w found.def found.at in
       rw closed.at (sort_coded w found.def found.def.sort closed.closed.sort closed.closes.sort found.built)
 
-  text_coded : (at : Literal) (t c : Text) → Closing P at t c → text_is_coded C.words c ≡ true
-  text_coded at t c c_end = refl
-  text_coded at t c (c_int z h) = text_coded _ _ _ h
-  text_coded at t c (c_true h) = text_coded _ _ _ h
-  text_coded at t c (c_false h) = text_coded _ _ _ h
-  text_coded at t c (c_word {c = c'} w lt h) = and_true (word_is_coded (slice_get C.words w)) (text_is_coded C.words c') (word_coded w lt) (text_coded _ _ _ h)
-  text_coded at t c (c_quot u q is h) = text_coded _ _ _ h
+  phrase_coded : (at : Literal) (t c : Phrase) → Closing P at t c → phrase_is_coded C.words c ≡ true
+  phrase_coded at t c c_end = refl
+  phrase_coded at t c (c_int z h) = phrase_coded _ _ _ h
+  phrase_coded at t c (c_true h) = phrase_coded _ _ _ h
+  phrase_coded at t c (c_false h) = phrase_coded _ _ _ h
+  phrase_coded at t c (c_word {c = c'} w lt h) = and_true (word_is_coded (slice_get C.words w)) (phrase_is_coded C.words c') (word_coded w lt) (phrase_coded _ _ _ h)
+  phrase_coded at t c (c_quot u q is h) = phrase_coded _ _ _ h
 
   pub template_coded : (q : ℕ) (t : Template) → slice_get templates q ≡ Some t → template_is_coded C.words t ≡ true
   template_coded q t e =
       let l = literal_numbered P q in
       let closed = template_closed P C templates closes q t e in
-      text_coded (first_of_literal l.0) l.1 t.body (closing P (first_of_literal l.0) l.1 t.body closed.body (literal_built P b q))
+      phrase_coded (first_of_literal l.0) l.1 t.body (closing P (first_of_literal l.0) l.1 t.body closed.body (literal_built P b q))
 
   pub templates_coded : list_all (template_is_coded C.words) templates ≡ true
   templates_coded = each_passes (template_is_coded C.words) templates template_coded
 
-  body_coded : (w : ℕ) (s c : Sort) → ClosesSort P w s c → HasBuiltText P.top s → body_is_coded C.words c ≡ true
-  body_coded w (body t) c h built = rw h.1 (text_coded (first_of_word w) t h.0 (closing P (first_of_word w) t h.0 h.2 built))
+  body_coded : (w : ℕ) (s c : Sort) → ClosesSort P w s c → HasBuiltPhrase P.top s → body_is_coded C.words c ≡ true
+  body_coded w (body t) c h built = rw h.1 (phrase_coded (first_of_word w) t h.0 (closing P (first_of_word w) t h.0 h.2 built))
   body_coded w (past t) c h built = absurd built
   body_coded w (method n g t) c h built = absurd built
   body_coded w s c h built = rw h refl
@@ -90,7 +90,7 @@ module _ (P C : Program) (templates : List Template) (b : IsBuilt P) (closes : C
   pub word_body_coded : (w : ℕ) (c : WordDef) → slice_get C.words w ≡ Some c → body_is_coded C.words c.sort ≡ true
   word_body_coded w c at =
       let found = word_open P C templates closes w c at in
-      body_coded w found.def.sort c.sort found.closes.sort (built_at P C templates b closes P.words w found.def (built_texts P b) found.at)
+      body_coded w found.def.sort c.sort found.closes.sort (built_at P C templates b closes P.words w found.def (built_phrases P b) found.at)
 
   pub words_coded : list_all (word_body_is_coded C.words) C.words ≡ true
   words_coded = each_passes (word_body_is_coded C.words) C.words word_body_coded

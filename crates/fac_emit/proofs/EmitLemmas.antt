@@ -7,7 +7,7 @@ use Rattle.fac_code.specs.declared.image.Instr.{Instr}
 use Rattle.fac_code.specs.declared.image.Instr.TheVariants.{Ret}
 use Rattle.fac_code.specs.declared.image.TemplateRow.{TemplateRow}
 use Rattle.fac_code.specs.declared.image.WordRow.{WordRow}
-use Rattle.fac_emit.specs.Code.{text_code, templates_code, row_at, template_rows, sort_action, sort_code, word_code, code_from, words_from}
+use Rattle.fac_emit.specs.ProgramCode.{phrase_code, templates_code, row_at, template_rows, sort_action, sort_code, word_code, code_from, words_from}
 
 -- the element that a loop is at
 pub next_element : {A : Type 0} (xs : List A) (i : ℕ) (x : A) → i < length xs → x ≡ get_or xs i x → drop i xs ≡ x ∷ drop (i + 1) xs
@@ -18,14 +18,14 @@ module _ (words : List WordDef) (ts : List Template) (i : ℕ) (t : Template) (i
   next_template : drop i ts ≡ t ∷ drop (i + 1) ts
   next_template = subst (λ (us : List Template). drop i us ≡ t ∷ drop (i + 1) us) are (next_element items i t lt is)
 
-  pub template_code_step : (whole code pushed : List Instr) → whole ≡ code ++ templates_code words (drop i ts) → pushed ≡ code ++ text_code words Ret t.body → whole ≡ pushed ++ templates_code words (drop (i + 1) ts)
+  pub template_code_step : (whole code pushed : List Instr) → whole ≡ code ++ templates_code words (drop i ts) → pushed ≡ code ++ phrase_code words Ret t.body → whole ≡ pushed ++ templates_code words (drop (i + 1) ts)
   template_code_step whole code pushed all is_pushed =
-      rw is_pushed (all ∙ ap (λ (us : List Template). code ++ templates_code words us) next_template ∙ sym (append_assoc code (text_code words Ret t.body) (templates_code words (drop (i + 1) ts))))
+      rw is_pushed (all ∙ ap (λ (us : List Template). code ++ templates_code words us) next_template ∙ sym (append_assoc code (phrase_code words Ret t.body) (templates_code words (drop (i + 1) ts))))
 
-  pub template_rows_step : (code pushed : List Instr) (whole rows pushed_rows : List TemplateRow) → whole ≡ rows ++ template_rows words (length code) (drop i ts) → pushed ≡ code ++ text_code words Ret t.body →
+  pub template_rows_step : (code pushed : List Instr) (whole rows pushed_rows : List TemplateRow) → whole ≡ rows ++ template_rows words (length code) (drop i ts) → pushed ≡ code ++ phrase_code words Ret t.body →
       pushed_rows ≡ rows ++ row_at (length code) t ∷ [] → whole ≡ pushed_rows ++ template_rows words (length pushed) (drop (i + 1) ts)
   template_rows_step code pushed whole rows pushed_rows all is_pushed are_pushed =
-      let own = text_code words Ret t.body in
+      let own = phrase_code words Ret t.body in
       let count : length pushed ≡ length code + length own = ap length is_pushed ∙ length-append code own in
       rw (are_pushed, count) (all ∙ ap (λ (us : List Template). rows ++ template_rows words (length code) us) next_template ∙ sym (append_assoc rows (row_at (length code) t ∷ []) (template_rows words (length code + length own) (drop (i + 1) ts))))
 

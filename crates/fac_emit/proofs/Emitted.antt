@@ -8,21 +8,21 @@ use Rattle.fac_lang.specs.declared.program.Program.{Program}
 use Rattle.fac_lang.specs.declared.program.WordDef.{WordDef}
 use Rattle.fac_lang.specs.declared.program.Sort.{Sort}
 use Rattle.fac_lang.specs.declared.program.Sort.TheVariants.{Prim as prim_sort, Core as core_sort, Body as body, Past as past, Method as method}
-use Rattle.fac_lang.specs.Texts.{Literal, Text, word}
+use Rattle.fac_lang.specs.Phrases.{Literal, Phrase, word}
 use Rattle.fac_lang.specs.Forms.{IsBuilt, IsBuiltSort}
 use Rattle.fac_lang.specs.CoreWords.{is_built_core}
 use Rattle.fac_lang.specs.Meaning.{sort_of, core_numbered}
 use Rattle.fac_lang.proofs.FormsLemmas.{word_below, sort_at}
 use Rattle.fac_locals.specs.Literals.{first_of_word, first_of_literal, literal_numbered}
 use Rattle.fac_locals.specs.Closed.{Closes, ClosesSort}
-use Rattle.fac_locals.proofs.ClosedPrograms.{HasBuiltText, HaveBuiltTexts, built_texts}
+use Rattle.fac_locals.proofs.ClosedPrograms.{HasBuiltPhrase, HaveBuiltPhrases, built_phrases}
 use Rattle.fac_locals.proofs.Places.{literal_built}
 use Rattle.fac_locals.proofs.Lookups.{word_closed, word_open, template_closed}
 use Rattle.fac_code.specs.declared.image.Instr.{Instr}
 use Rattle.fac_code.specs.declared.image.Instr.TheVariants.{Ret}
-use Rattle.fac_emit.specs.Code.{core_instr, sort_instr, word_instr, item_instr, text_code, last_instr, sort_code, word_code}
-use Rattle.fac_emit.specs.Pieces.{found_code, found_template}
-use Rattle.fac_emit.specs.Emits.{ItemEmits, e_int, e_true, e_false, e_quot, e_prim, e_word, e_call, e_dip, e_if, TextEmits, e_end, e_item, Emits, e_text, e_no_text, TemplateEmits}
+use Rattle.fac_emit.specs.ProgramCode.{core_instr, sort_instr, word_instr, item_instr, phrase_code, last_instr, sort_code, word_code}
+use Rattle.fac_emit.specs.inner.Pieces.{found_code, found_template}
+use Rattle.fac_emit.specs.Emits.{ItemEmits, e_int, e_true, e_false, e_quot, e_prim, e_word, e_call, e_dip, e_if, PhraseEmits, e_end, e_item, Emits, e_phrase, e_no_phrase, TemplateEmits}
 use Rattle.fac_emit.proofs.Closings.{Closing, c_end, c_int, c_true, c_false, c_word, c_quot, closing}
 
 module _ (P C : Program) (templates : List Template) (b : IsBuilt P) (closes : Closes P C templates) where
@@ -49,38 +49,38 @@ module _ (P C : Program) (templates : List Template) (b : IsBuilt P) (closes : C
       let closed = word_closed P C templates closes w found.def found.at in
       sort_emits at w found.def closed.closed found.def.sort found.at closed.at refl closed.closes.sort found.built
 
-  text_emits : (last : Instr) (at : Literal) (t c : Text) → Closing P at t c → TextEmits P last at t (text_code C.words last c)
-  text_emits last at t c c_end = e_end
-  text_emits last at t c (c_int z h) = e_item (e_int z) (text_emits last _ _ _ h)
-  text_emits last at t c (c_true h) = e_item e_true (text_emits last _ _ _ h)
-  text_emits last at t c (c_false h) = e_item e_false (text_emits last _ _ _ h)
-  text_emits last at t c (c_word w lt h) = e_item (word_emits at w lt) (text_emits last _ _ _ h)
-  text_emits last at t c (c_quot u q is h) = e_item (e_quot u q is) (text_emits last _ _ _ h)
+  phrase_emits : (last : Instr) (at : Literal) (t c : Phrase) → Closing P at t c → PhraseEmits P last at t (phrase_code C.words last c)
+  phrase_emits last at t c c_end = e_end
+  phrase_emits last at t c (c_int z h) = e_item (e_int z) (phrase_emits last _ _ _ h)
+  phrase_emits last at t c (c_true h) = e_item e_true (phrase_emits last _ _ _ h)
+  phrase_emits last at t c (c_false h) = e_item e_false (phrase_emits last _ _ _ h)
+  phrase_emits last at t c (c_word w lt h) = e_item (word_emits at w lt) (phrase_emits last _ _ _ h)
+  phrase_emits last at t c (c_quot u q is h) = e_item (e_quot u q is) (phrase_emits last _ _ _ h)
 
-  pub built_at : (ds : List WordDef) (w : ℕ) (d : WordDef) → HaveBuiltTexts P.top ds → slice_get ds w ≡ Some d → HasBuiltText P.top d.sort
+  pub built_at : (ds : List WordDef) (w : ℕ) (d : WordDef) → HaveBuiltPhrases P.top ds → slice_get ds w ≡ Some d → HasBuiltPhrase P.top d.sort
   built_at [] w d h e = absurd (cc)
-  built_at (x ∷ ds) zero d h e = let same : x ≡ d = cc in subst (λ (y : WordDef). HasBuiltText P.top y.sort) same h.0
+  built_at (x ∷ ds) zero d h e = let same : x ≡ d = cc in subst (λ (y : WordDef). HasBuiltPhrase P.top y.sort) same h.0
   built_at (x ∷ ds) (suc w) d h e = built_at ds w d h.1 e
 
-  sort_emitted : (w : ℕ) (s c : Sort) (is_top : Bool) → is_top ≡ nat_eq w P.top → ClosesSort P w s c → HasBuiltText P.top s → Emits P w (Some s) (sort_code C.words is_top c)
+  sort_emitted : (w : ℕ) (s c : Sort) (is_top : Bool) → is_top ≡ nat_eq w P.top → ClosesSort P w s c → HasBuiltPhrase P.top s → Emits P w (Some s) (sort_code C.words is_top c)
   sort_emitted w (body t) c is_top which h built =
-      rw h.1 (e_text (subst (λ (q : Bool). TextEmits P (last_instr q) (first_of_word w) t (text_code C.words (last_instr is_top) h.0)) which (text_emits (last_instr is_top) (first_of_word w) t h.0 (closing P (first_of_word w) t h.0 h.2 built))))
+      rw h.1 (e_phrase (subst (λ (q : Bool). PhraseEmits P (last_instr q) (first_of_word w) t (phrase_code C.words (last_instr is_top) h.0)) which (phrase_emits (last_instr is_top) (first_of_word w) t h.0 (closing P (first_of_word w) t h.0 h.2 built))))
   sort_emitted w (past t) c is_top which h built = absurd built
   sort_emitted w (method n g t) c is_top which h built = absurd built
-  sort_emitted w s c is_top which h built = rw h (e_no_text tt)
+  sort_emitted w s c is_top which h built = rw h (e_no_phrase tt)
 
   -- the code of a word that is there
   word_emitted_at : (w : ℕ) (c : WordDef) → slice_get C.words w ≡ Some c → Emits P w (sort_of P w) (word_code C.words C.top w c)
   word_emitted_at w c at =
       let found = word_open P C templates closes w c at in
-      rw (sort_at P w found.def found.at) (sort_emitted w found.def.sort c.sort (nat_eq w C.top) (ap (nat_eq w) closes.top) found.closes.sort (built_at P.words w found.def (built_texts P b) found.at))
+      rw (sort_at P w found.def found.at) (sort_emitted w found.def.sort c.sort (nat_eq w C.top) (ap (nat_eq w) closes.top) found.closes.sort (built_at P.words w found.def (built_phrases P b) found.at))
 
   -- and of a template
-  template_emitted_at : (q : ℕ) (t : Template) → slice_get templates q ≡ Some t → TemplateEmits P q (text_code C.words Ret t.body)
+  template_emitted_at : (q : ℕ) (t : Template) → slice_get templates q ≡ Some t → TemplateEmits P q (phrase_code C.words Ret t.body)
   template_emitted_at q t at =
       let l = literal_numbered P q in
       let closed = template_closed P C templates closes q t at in
-      text_emits Ret (first_of_literal l.0) l.1 t.body (closing P (first_of_literal l.0) l.1 t.body closed.body (literal_built P b q))
+      phrase_emits Ret (first_of_literal l.0) l.1 t.body (closing P (first_of_literal l.0) l.1 t.body closed.body (literal_built P b q))
 
 element_at : {A : Type 0} (xs : List A) (k : ℕ) → k < length xs → (x : A) × (slice_get xs k ≡ Some x)
 element_at [] k lt = absurd (omega (arith, lt))

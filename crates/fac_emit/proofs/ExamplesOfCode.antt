@@ -7,7 +7,7 @@ use Rattle.fac_lang.specs.declared.program.Program.{Program}
 use Rattle.fac_lang.specs.declared.program.WordDef.{WordDef}
 use Rattle.fac_lang.specs.declared.program.Sort.{Sort}
 use Rattle.fac_lang.specs.declared.program.Sort.TheVariants.{Prim as prim, Core as core, Body as body}
-use Rattle.fac_lang.specs.Texts.{int, Text, end, then, Item, lit, quot, word}
+use Rattle.fac_lang.specs.Phrases.{int, Phrase, end, then, Item, lit, quot, word}
 use Rattle.fac_lang.specs.Primitives.{built_count, prim_numbered, prim_fn}
 use Rattle.fac_code.specs.Code.{has_built_code}
 use Rattle.fac_code.specs.References.{refers}
@@ -16,14 +16,14 @@ use Rattle.fac_locals.specs.inner.Numbering.{closed_words, words_templates}
 use Rattle.fac_code.specs.declared.image.Instr.TheVariants.{Halt, Int, Quot, Prim, Callw, Call, Dip, Ret}
 use Rattle.fac_code.specs.declared.image.Action.TheVariants.{Prim as prim_action, Core as core_action, Code as code_action}
 use Rattle.fac_code.specs.declared.image.Image.{Image}
-use Rattle.fac_prim.specs.Cells.{MValue, m_plain}
+use Rattle.fac_prim.specs.MachineValues.{MValue, m_plain}
 use Rattle.fac_vm.specs.Machine.{End, done, steps, starting}
-use Rattle.fac_emit.specs.Code.{program_code, template_rows, program_words}
-use Rattle.fac_emit.specs.View.{template_texts}
-use Rattle.fac_emit.specs.Symbols.{here, off, cells, k_text, k_cur, k_com, do_text, top_is, needs_none, needs_more, all_none, all_more}
+use Rattle.fac_emit.specs.ProgramCode.{program_code, template_rows, program_words}
+use Rattle.fac_emit.specs.MachineView.{template_phrases}
+use Rattle.fac_emit.specs.Symbols.{here, off, cells, k_phrase, k_cur, k_com, do_phrase, top_is, needs_none, needs_more, all_none, all_more}
 use Rattle.fac_emit.specs.Expanded.{Code, c_last, c_make, c_end, c_off, c_int, c_prim, c_word, c_call, c_dip}
 
-abbrev items : List Item → Text
+abbrev items : List Item → Phrase
 items [] = end
 items (i ∷ is) = then i nowhere (items is)
 
@@ -45,7 +45,7 @@ closed = record { words = closed_words 0 source; arrays = []; classes = []; top 
 abbrev templates : List Template
 templates = words_templates 0 source
 
--- the four quotations, the one inside another behind it, then the word's text and the top-level phrase
+-- the four quotations, the one inside another behind it, then the word's phrase and the top-level phrase
 pub code_is : program_code closed templates ≡ Int (pos 2) ∷ Ret ∷ Quot 2 ∷ Call false ∷ Prim 23 ∷ Ret ∷ Int (pos 3) ∷ Ret ∷ Int (pos 4) ∷ Ret ∷ Quot 0 ∷ Quot 1 ∷ Prim 17 ∷ Ret ∷ Int (pos 1) ∷ Callw 4 false ∷ Quot 3 ∷ Dip ∷ Call false ∷ Halt ∷ []
 code_is = refl
 
@@ -82,12 +82,12 @@ abbrev opened : Program
 opened = record { words = source; arrays = []; classes = []; top = 5 }
 
 -- A callable that was put off has the cells of the values in it.
-pub cells_are : cells (off (k_cur here (k_com (k_text end) (k_cur (off (k_text end)) (k_text end))))) ≡ 1
+pub cells_are : cells (off (k_cur here (k_com (k_phrase end) (k_cur (off (k_phrase end)) (k_phrase end))))) ≡ 1
 cells_are = refl
 
 -- [ 2 ] [ .. ] compose, from the word's place: both quotations are put off and made at once, so `compose` has its two values
-pub word_code : Code opened image (template_texts opened) [] (Some Ret) [] 0 [] (do_text (items (quot (items (number 2 ∷ [])) ∷ quot (items (quot (items (number 3 ∷ [])) ∷ word 1 ∷ word 0 ∷ [])) ∷ word 3 ∷ [])) ∷ []) 10
-unfolding template_texts prim_numbered
+pub word_code : Code opened image (template_phrases opened) [] (Some Ret) [] 0 [] (do_phrase (items (quot (items (number 2 ∷ [])) ∷ quot (items (quot (items (number 3 ∷ [])) ∷ word 1 ∷ word 0 ∷ [])) ∷ word 3 ∷ [])) ∷ []) 10
+unfolding template_phrases prim_numbered
 word_code =
     c_off (c_make 0 (record { entry = 0; cells = []; holes = 0 }) [] refl refl refl refl
     (c_off (c_make 1 (record { entry = 2; cells = []; holes = 0 }) [] refl refl refl refl
@@ -95,8 +95,8 @@ word_code =
     (c_end (c_last (all_more all_none) refl))))))
 
 -- 1 w [ 4 ] dip call, from its place: behind a call nothing of the stack is known
-pub phrase_code : Code opened image (template_texts opened) [] (Some Halt) [] 0 [] (do_text (items (number 1 ∷ word 4 ∷ quot (items (number 4 ∷ [])) ∷ word 2 ∷ word 1 ∷ [])) ∷ []) 14
-unfolding template_texts core_numbered
+pub phrase_code : Code opened image (template_phrases opened) [] (Some Halt) [] 0 [] (do_phrase (items (number 1 ∷ word 4 ∷ quot (items (number 4 ∷ [])) ∷ word 2 ∷ word 1 ∷ [])) ∷ []) 14
+unfolding template_phrases core_numbered
 phrase_code =
     c_int (pos 1) refl
     (c_word 4 _ (omega arith) refl (all_more all_none) refl

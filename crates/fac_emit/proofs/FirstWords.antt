@@ -6,7 +6,7 @@ use Rattle.fac_lang.specs.declared.program.Sort.{Sort}
 use Rattle.fac_lang.specs.declared.program.Sort.TheVariants.{Prim as prim}
 use Rattle.fac_lang.specs.Forms.{is_member, primitive_numbers, numbers_before, has_no_repeats}
 use Rattle.fac_vm.specs.Machine.{word_of_prim, is_prim_action}
-use Rattle.fac_emit.specs.Code.{sort_action, word_code, words_from}
+use Rattle.fac_emit.specs.ProgramCode.{sort_action, word_code, words_from}
 
 more_members : (s : Sort) (k : ℕ) (ks : List ℕ) → is_member k ks ≡ true → is_member k (numbers_before s ks) ≡ true
 more_members (prim j) k ks h = rw h (grind arith)

@@ -1,6 +1,6 @@
 -- What it means that the machine follows the meaning, from a place at which code stands.
 --
--- The letters: P, M and T are the program, its image and the texts of the templates. F is the frame, d the ticks that are owed, S what the code knows
+-- The letters: P, M and T are the program, its image and the phrases of the templates. F is the frame, d the ticks that are owed, S what the code knows
 -- of the stack, K what is left to do; R are the return entries, base the values held before, ms the machine's stack, rs what it holds, vs the
 -- meaning's list, L what is left of the meaning, w the machine's world, n its ticks and f a bound on them.
 use Rattle.std.proofs.Common.{◌≡◌, ◌≢◌, ℕ, zero, suc, ◌+◌, ◌≤◌, ◌<◌, List, [], ◌∷◌, ◌++◌, length, Bool, Option, Some, None, refl, ap, sym, subst, ◌∙◌, append_assoc}
@@ -8,7 +8,7 @@ use Rattle.std.specs.Prelude.{slice_get}
 use Rattle.fac_lang.specs.declared.phrase.Height.{Height}
 use Rattle.fac_lang.specs.declared.phrase.Place.{Place}
 use Rattle.fac_lang.specs.declared.program.Program.{Program}
-use Rattle.fac_lang.specs.Texts.{Text, then, Item, Value, plain, fun, Callable}
+use Rattle.fac_lang.specs.Phrases.{Phrase, then, Item, Value, plain, fun, Callable}
 use Rattle.fac_lang.specs.World.{World, State, Error, push, push_each}
 use Rattle.fac_lang.specs.Eval.{Result, Done, Failed, Spent, Stuck, then_do, Act, wrong, goes, runs, Run, run_callable, go_on}
 use Rattle.fac_lang.specs.Meaning.{names, act}
@@ -17,16 +17,16 @@ use Rattle.fac_code.specs.declared.image.Instr.{Instr}
 use Rattle.fac_code.specs.declared.image.Instr.TheVariants.{Ret}
 use Rattle.fac_code.specs.declared.image.Image.{Image}
 use Rattle.fac_code.specs.declared.image.TemplateRow.{TemplateRow}
-use Rattle.fac_prim.specs.Cells.{MValue, Kept, kept_list}
+use Rattle.fac_prim.specs.MachineValues.{MValue, Kept, kept_list}
 use Rattle.fac_vm.specs.Machine.{Machine, Leads, Entry, resume, put_back, enter, failed, spent, Step, goes_on, ends, fetched, step, Ends}
 use Rattle.fac_vm.proofs.Leading.{leads_on, leads_step, ends_after, ends_step}
-use Rattle.fac_emit.specs.View.{Templates, world_view, state_view, error_view}
-use Rattle.fac_emit.specs.Whole as whole
+use Rattle.fac_emit.specs.MachineView.{Templates, world_view, state_view, error_view}
+use Rattle.fac_emit.specs.WholeValues as whole
 use Rattle.fac_emit.specs.Symbols.{Sym, Task, Special}
-use Rattle.fac_emit.proofs.RunLaws.{free, unfolds, then_again, Stays, stays_then, stays_text, stays_call}
-use Rattle.fac_emit.proofs.Standing.{Left, l_text, l_back, l_call, Lies, Keeps}
+use Rattle.fac_emit.proofs.RunLaws.{free, unfolds, then_again, Stays, stays_then, stays_phrase, stays_call}
+use Rattle.fac_emit.proofs.Standing.{Left, l_phrase, l_back, l_call, Lies, Keeps}
 
--- A program, with a test of effects and the effects of callables; its image, and the texts of the templates.
+-- A program, with a test of effects and the effects of callables; its image, and the phrases of the templates.
 pub record Setting : Type 0 where
   pub program : Program
   pub fits : Height → Height → Bool
@@ -57,7 +57,7 @@ pub no_guard_more : (xs ys : List Entry) → HasNoGuard xs → HasNoGuard ys →
 no_guard_more [] ys h g = g
 no_guard_more (x ∷ xs) ys h g = (h.0, no_guard_more xs ys h.1 g)
 
--- a machine, by the frame, the place and what changes while a text runs
+-- a machine, by the frame, the place and what changes while a phrase runs
 abbrev pub at : List MValue → ℕ → List MValue → List MValue → List Entry → World MValue → Machine
 at F pc ms rs R w = record { pc = pc; stack = ms; retain = rs; returns = R; frame = F; world = w }
 
@@ -97,7 +97,7 @@ module _ (Y : Setting) where
 
   abbrev pub left : List Left → State Value → ℕ → Result
   left [] st n = Done st n
-  left (l_text t ∷ L) st n = then_do (run t st n) (left L)
+  left (l_phrase t ∷ L) st n = then_do (run t st n) (left L)
   left (l_back v ∷ L) st n = left L (push v st) n
   left (l_call ∷ L) st n = called st.stack st.world n (left L)
 
@@ -205,8 +205,8 @@ module _ (Y : Setting) where
   abbrev pub Live : List Left → State Value → Type 0
   Live L st = (m : ℕ) → left L st m ≢ Stuck
 
-  abbrev pub LiveText : Text → State Value → Type 0
-  LiveText b st = (m : ℕ) → run b st m ≢ Stuck
+  abbrev pub LivePhrase : Phrase → State Value → Type 0
+  LivePhrase b st = (m : ℕ) → run b st m ≢ Stuck
 
   -- What stands at a place, with at most f ticks: from there the machine follows what is left of the meaning, which has the ticks that the machine has,
   -- less those that are owed. So it does whatever the return entries and the values held before are.
@@ -215,10 +215,10 @@ module _ (Y : Setting) where
       (R : List Entry) (base ms rs : List MValue) (vs : List Value) (L : List Left) (w : World MValue) (n : ℕ) → n ≤ f → Fine F rs ms w → Live L (state vs (V w)) → Lies T S ms vs → Keeps T base K rs L →
       Follows last R base (at F pc ms rs R w) n (owing (V w) d n (left L (state vs (V w))))
 
-  -- a text that is called at a place with fewer than f ticks
-  abbrev pub CallsTo : Option Instr → ℕ → List MValue → ℕ → List Sym → Text → Type 0
+  -- a phrase that is called at a place with fewer than f ticks
+  abbrev pub CallsTo : Option Instr → ℕ → List MValue → ℕ → List Sym → Phrase → Type 0
   CallsTo last f F a S b =
-      (R : List Entry) (base ms : List MValue) (vs : List Value) (w : World MValue) (n : ℕ) → n < f → Fine F base ms w → LiveText b (state vs (V w)) → Lies T S ms vs → Follows last R base (at F a ms base R w) n (run b (state vs (V w)) n)
+      (R : List Entry) (base ms : List MValue) (vs : List Value) (w : World MValue) (n : ℕ) → n < f → Fine F base ms w → LivePhrase b (state vs (V w)) → Lies T S ms vs → Follows last R base (at F a ms base R w) n (run b (state vs (V w)) n)
 
   -- so the templates' code
   abbrev pub Templated : ℕ → Type 0
@@ -227,31 +227,31 @@ module _ (Y : Setting) where
   -- and the special code in which a place stands
   abbrev pub Valid : ℕ → List Special → Type 0
   Valid f [] = Unit {0}
-  Valid f (x ∷ Γ) = CallsTo x.last f x.frame x.place x.stack x.text × Valid f Γ
+  Valid f (x ∷ Γ) = CallsTo x.last f x.frame x.place x.stack x.phrase × Valid f Γ
 
-  -- the first item of a text, by what it does at once
-  pub first_is : (i : Item) (p : Place) (t : Text) (L : List Left) (st : State Value) (m : ℕ) (a : Act) → A i st ≡ a → left (l_text (then i p t) ∷ L) st (suc m) ≡ then_do (go_on run a t m) (left L)
+  -- the first item of a phrase, by what it does at once
+  pub first_is : (i : Item) (p : Place) (t : Phrase) (L : List Left) (st : State Value) (m : ℕ) (a : Act) → A i st ≡ a → left (l_phrase (then i p t) ∷ L) st (suc m) ≡ then_do (go_on run a t m) (left L)
   first_is i p t L st m a e = ap (λ r. then_do r (left L)) (unfolds A i p t st m ∙ ap (λ a. go_on run a t m) e)
 
-  pub first_goes : (i : Item) (p : Place) (t : Text) (L : List Left) (st st' : State Value) (m : ℕ) → A i st ≡ goes st' → left (l_text (then i p t) ∷ L) st (suc m) ≡ left (l_text t ∷ L) st' m
+  pub first_goes : (i : Item) (p : Place) (t : Phrase) (L : List Left) (st st' : State Value) (m : ℕ) → A i st ≡ goes st' → left (l_phrase (then i p t) ∷ L) st (suc m) ≡ left (l_phrase t ∷ L) st' m
   first_goes i p t L st st' m e = first_is i p t L st m (goes st') e
 
-  pub first_runs : (i : Item) (p : Place) (t : Text) (L : List Left) (st st' : State Value) (c : Callable) (put : List Value) (m : ℕ) → A i st ≡ runs c st' put →
-      left (l_text (then i p t) ∷ L) st (suc m) ≡ then_do (run_callable run c st' m) (λ s k. left (l_text t ∷ L) (push_each put s) k)
+  pub first_runs : (i : Item) (p : Place) (t : Phrase) (L : List Left) (st st' : State Value) (c : Callable) (put : List Value) (m : ℕ) → A i st ≡ runs c st' put →
+      left (l_phrase (then i p t) ∷ L) st (suc m) ≡ then_do (run_callable run c st' m) (λ s k. left (l_phrase t ∷ L) (push_each put s) k)
   first_runs i p t L st st' c put m e = first_is i p t L st m (runs c st' put) e ∙ then_again (run_callable run c st' m) (λ s k. run t (push_each put s) k) (left L)
 
-  pub live_is : (i : Item) (p : Place) (t : Text) (L : List Left) (st : State Value) (a : Act) → A i st ≡ a → Live (l_text (then i p t) ∷ L) st → (m : ℕ) → then_do (go_on run a t m) (left L) ≢ Stuck
+  pub live_is : (i : Item) (p : Place) (t : Phrase) (L : List Left) (st : State Value) (a : Act) → A i st ≡ a → Live (l_phrase (then i p t) ∷ L) st → (m : ℕ) → then_do (go_on run a t m) (left L) ≢ Stuck
   live_is i p t L st a e lv m is = lv (suc m) (first_is i p t L st m a e ∙ is)
 
-  pub live_goes : (i : Item) (p : Place) (t : Text) (L : List Left) (st st' : State Value) → A i st ≡ goes st' → Live (l_text (then i p t) ∷ L) st → Live (l_text t ∷ L) st'
+  pub live_goes : (i : Item) (p : Place) (t : Phrase) (L : List Left) (st st' : State Value) → A i st ≡ goes st' → Live (l_phrase (then i p t) ∷ L) st → Live (l_phrase t ∷ L) st'
   live_goes i p t L st st' e lv m is = lv (suc m) (first_goes i p t L st st' m e ∙ is)
 
-  pub live_runs : (i : Item) (p : Place) (t : Text) (L : List Left) (st st' : State Value) (c : Callable) (put : List Value) → A i st ≡ runs c st' put → Live (l_text (then i p t) ∷ L) st → (m : ℕ) →
-      then_do (run_callable run c st' m) (λ s k. left (l_text t ∷ L) (push_each put s) k) ≢ Stuck
+  pub live_runs : (i : Item) (p : Place) (t : Phrase) (L : List Left) (st st' : State Value) (c : Callable) (put : List Value) → A i st ≡ runs c st' put → Live (l_phrase (then i p t) ∷ L) st → (m : ℕ) →
+      then_do (run_callable run c st' m) (λ s k. left (l_phrase t ∷ L) (push_each put s) k) ≢ Stuck
   live_runs i p t L st st' c put e lv m is = lv (suc m) (first_runs i p t L st st' c put m e ∙ is)
 
   -- an item that can't take what is on the list
-  pub wrong_here : {X : Type 0} (i : Item) (p : Place) (t : Text) (L : List Left) (st : State Value) → A i st ≡ wrong → Live (l_text (then i p t) ∷ L) st → X
+  pub wrong_here : {X : Type 0} (i : Item) (p : Place) (t : Phrase) (L : List Left) (st : State Value) → A i st ≡ wrong → Live (l_phrase (then i p t) ∷ L) st → X
   wrong_here i p t L st e lv = absurd (lv 1 (first_is i p t L st 0 wrong e))
 
   -- more ticks change no end
@@ -262,6 +262,6 @@ module _ (Y : Setting) where
 
   pub stays_left : (L : List Left) (st : State Value) → Stays (left L st)
   stays_left [] st n k = refl
-  stays_left (l_text t ∷ L) st n k = stays_then k (run t st n) (run t st _) (left L) (left L) (stays_text A t st n k) (λ st' m. stays_left L st' m k)
+  stays_left (l_phrase t ∷ L) st n k = stays_then k (run t st n) (run t st _) (left L) (left L) (stays_phrase A t st n k) (λ st' m. stays_left L st' m k)
   stays_left (l_back v ∷ L) st n k = stays_left L (push v st) n k
   stays_left (l_call ∷ L) st n k = stays_called L (stays_left L) st.stack st.world n k

@@ -1,7 +1,7 @@
 -- The primitives make values whose callables are of the image's templates.
 use Rattle.std.proofs.Common.{ℕ, zero, suc, List, [], ◌∷◌, ◌++◌, Option, Some, None}
 use Rattle.std.specs.Prelude.{map, length, set, slice_get}
-use Rattle.fac_lang.specs.Texts.{Plain, no}
+use Rattle.fac_lang.specs.Phrases.{Plain, no}
 use Rattle.fac_lang.specs.World.{Object, array, tuple, World}
 use Rattle.fac_lang.specs.declared.limits.TheConstants.{MOST_PAIRS}
 use Rattle.fac_lang.specs.Equality.{equal_pairs}
@@ -9,8 +9,8 @@ use Rattle.fac_lang.specs.Printed.{Names, printed}
 use Rattle.fac_lang.specs.Procedures.{Procedure, leaves, answers, answers_array, answers_tuple, curries, composes, fails, looks, adds, opens, puts, compares, prints, asks, writes, reads, Gives, line_in, behind_line, places_from, picked, repeated, value_at, array_in, opened, opened_places, with_element, made_or, followed, by_inputs}
 use Rattle.fac_lang.specs.Primitives.{Primitive, prim_fn}
 use Rattle.fac_code.specs.declared.image.Image.{Image}
-use Rattle.fac_prim.specs.Cells.{MValue, m_plain, m_fun, m_seen, m_curry, m_compose, cells}
-use Rattle.fac_emit.specs.Whole.{Whole, AllWhole, WholeObject, WholeObjects, WholeGives, Keeps}
+use Rattle.fac_prim.specs.MachineValues.{MValue, m_plain, m_fun, m_seen, m_curry, m_compose, machine_values}
+use Rattle.fac_emit.specs.WholeValues.{Whole, AllWhole, WholeObject, WholeObjects, WholeGives, Keeps}
 
 module _ (M : Image) where
   abbrev or_whole : Option MValue → Type 0
@@ -18,7 +18,7 @@ module _ (M : Image) where
   or_whole (Some v) = Whole M v
 
   -- values at places
-  at_whole : (vs : List MValue) (k : ℕ) → AllWhole M vs → Whole M (value_at cells vs k)
+  at_whole : (vs : List MValue) (k : ℕ) → AllWhole M vs → Whole M (value_at machine_values vs k)
   at_whole [] k h = tt
   at_whole (v ∷ vs) zero h = h.0
   at_whole (v ∷ vs) (suc k) h = at_whole vs k h.1
@@ -58,25 +58,25 @@ module _ (M : Image) where
   WholeArray None = Unit {0}
   WholeArray (Some es) = AllWhole M es
 
-  array_of_object : (o : Object MValue) → WholeObject M o → WholeArray (array_in cells (Some o))
+  array_of_object : (o : Object MValue) → WholeObject M o → WholeArray (array_in machine_values (Some o))
   array_of_object (array vs) h = h
   array_of_object (tuple k vs) h = tt
 
-  array_whole : (os : List (Object MValue)) (a : ℕ) → WholeObjects M os → WholeArray (array_in cells (slice_get os a))
+  array_whole : (os : List (Object MValue)) (a : ℕ) → WholeObjects M os → WholeArray (array_in machine_values (slice_get os a))
   array_whole [] a h = tt
   array_whole (x ∷ os) zero h = array_of_object x h.0
   array_whole (x ∷ os) (suc a) h = array_whole os a h.1
 
-  opened_whole : (vs : List MValue) (o : Option (List MValue)) → AllWhole M vs → WholeArray o → AllWhole M (opened cells vs o)
+  opened_whole : (vs : List MValue) (o : Option (List MValue)) → AllWhole M vs → WholeArray o → AllWhole M (opened machine_values vs o)
   opened_whole vs None h g = h
   opened_whole vs (Some es) h g = more_whole vs es h g
 
-  element_whole : (os : List (Object MValue)) (a i : ℕ) (v : MValue) (o : Option (List MValue)) → WholeObjects M os → Whole M v → WholeArray o → WholeObjects M (with_element cells os a i v o)
+  element_whole : (os : List (Object MValue)) (a i : ℕ) (v : MValue) (o : Option (List MValue)) → WholeObjects M os → Whole M v → WholeArray o → WholeObjects M (with_element machine_values os a i v o)
   element_whole os a i v None h g e = h
   element_whole os a i v (Some es) h g e = object_set os a (array (set es i v)) h (set_whole es i v e g)
 
   -- what `curry` and `compose` make
-  made_keeps : (o : Option MValue) (w : World MValue) (g : Gives MValue) → or_whole o → WholeObjects M w.objects → WholeGives M g → WholeGives M (made_or cells o w g)
+  made_keeps : (o : Option MValue) (w : World MValue) (g : Gives MValue) → or_whole o → WholeObjects M w.objects → WholeGives M g → WholeGives M (made_or machine_values o w g)
   made_keeps None w g h os k = k
   made_keeps (Some c) w g h os k = ((h, tt), os)
 
@@ -91,35 +91,35 @@ module _ (M : Image) where
 
   module _ (N : Names) where
     -- A procedure that is followed from whole values makes whole ones.
-    followed_keeps : {o : Option ℕ} (p : Procedure o) (vs : List MValue) (w : World MValue) → AllWhole M vs → WholeObjects M w.objects → WholeGives M (followed cells N p vs w)
+    followed_keeps : {o : Option ℕ} (p : Procedure o) (vs : List MValue) (w : World MValue) → AllWhole M vs → WholeObjects M w.objects → WholeGives M (followed machine_values N p vs w)
     followed_keeps (leaves ks) vs w h os = (picked_whole vs ks h, os)
     followed_keeps (answers p) vs w h os = ((tt, tt), os)
     followed_keeps (answers_array ks) vs w h os = ((tt, tt), object_added w.objects (array (picked (m_plain no) vs ks)) os (picked_whole vs ks h))
     followed_keeps (answers_tuple c n) vs w h os = ((tt, tt), object_added w.objects (tuple c (repeated n (m_plain no))) os (repeated_whole n (m_plain no) tt))
-    followed_keeps (curries j k p) vs w h os = made_keeps (m_curry (value_at cells vs j) (value_at cells vs k)) w (followed cells N p vs w) (curry_whole (value_at cells vs j) (value_at cells vs k) (at_whole vs j h) (at_whole vs k h)) os (followed_keeps p vs w h os)
-    followed_keeps (composes j k p) vs w h os = made_keeps (m_compose (value_at cells vs j) (value_at cells vs k)) w (followed cells N p vs w) (compose_whole (value_at cells vs j) (value_at cells vs k) (at_whole vs j h) (at_whole vs k h)) os (followed_keeps p vs w h os)
+    followed_keeps (curries j k p) vs w h os = made_keeps (m_curry (value_at machine_values vs j) (value_at machine_values vs k)) w (followed machine_values N p vs w) (curry_whole (value_at machine_values vs j) (value_at machine_values vs k) (at_whole vs j h) (at_whole vs k h)) os (followed_keeps p vs w h os)
+    followed_keeps (composes j k p) vs w h os = made_keeps (m_compose (value_at machine_values vs j) (value_at machine_values vs k)) w (followed machine_values N p vs w) (compose_whole (value_at machine_values vs j) (value_at machine_values vs k) (at_whole vs j h) (at_whole vs k h)) os (followed_keeps p vs w h os)
     followed_keeps (fails e k) vs w h os = tt
-    followed_keeps (looks k go) vs w h os = followed_keeps (go (m_seen (value_at cells vs k))) vs w h os
+    followed_keeps (looks k go) vs w h os = followed_keeps (go (m_seen (value_at machine_values vs k))) vs w h os
     followed_keeps (adds ps go) vs w h os = followed_keeps (go (places_from (length vs) (length ps))) (vs ++ map m_plain ps) w (more_whole vs (map m_plain ps) h (plains_whole ps)) os
     followed_keeps (opens a go) vs w h os =
-        let o = array_in cells (slice_get w.objects a) in followed_keeps (go (opened_places cells (length vs) o)) (opened cells vs o) w (opened_whole vs o h (array_whole w.objects a os)) os
+        let o = array_in machine_values (slice_get w.objects a) in followed_keeps (go (opened_places machine_values (length vs) o)) (opened machine_values vs o) w (opened_whole vs o h (array_whole w.objects a os)) os
     followed_keeps (puts a i k p) vs w h os =
-        let o = array_in cells (slice_get w.objects a) in
-        let v = value_at cells vs k in
-        followed_keeps p vs (record w { objects = with_element cells w.objects a i v o }) h (element_whole w.objects a i v o os (at_whole vs k h) (array_whole w.objects a os))
-    followed_keeps (compares j k go) vs w h os = followed_keeps (go (equal_pairs cells MOST_PAIRS w ((value_at cells vs j, value_at cells vs k) ∷ []))) vs w h os
-    followed_keeps (prints k go) vs w h os = followed_keeps (go (printed cells N w (value_at cells vs k))) vs w h os
+        let o = array_in machine_values (slice_get w.objects a) in
+        let v = value_at machine_values vs k in
+        followed_keeps p vs (record w { objects = with_element machine_values w.objects a i v o }) h (element_whole w.objects a i v o os (at_whole vs k h) (array_whole w.objects a os))
+    followed_keeps (compares j k go) vs w h os = followed_keeps (go (equal_pairs machine_values MOST_PAIRS w ((value_at machine_values vs j, value_at machine_values vs k) ∷ []))) vs w h os
+    followed_keeps (prints k go) vs w h os = followed_keeps (go (printed machine_values N w (value_at machine_values vs k))) vs w h os
     followed_keeps (asks a go) vs w h os = followed_keeps (go (N.tuple_class a)) vs w h os
     followed_keeps (writes bs p) vs w h os = followed_keeps p vs (record w { output = w.output ++ bs }) h os
     followed_keeps (reads go) vs w h os = followed_keeps (go (line_in w.input)) vs (record w { input = behind_line w.input }) h os
 
-    inputs_keep : {o : Option ℕ} (n : ℕ) (p : Procedure o) → Keeps M (by_inputs cells N n p)
+    inputs_keep : {o : Option ℕ} (n : ℕ) (p : Procedure o) → Keeps M (by_inputs machine_values N n p)
     inputs_keep zero p = λ w os. followed_keeps p [] w tt os
     inputs_keep (suc zero) p = λ x w hx os. followed_keeps p (x ∷ []) w (hx, tt) os
     inputs_keep (suc (suc zero)) p = λ x y w hx hy os. followed_keeps p (x ∷ y ∷ []) w (hx, (hy, tt)) os
     inputs_keep (suc (suc (suc n))) p = λ x y z w hx hy hz os. followed_keeps p (x ∷ y ∷ z ∷ []) w (hx, (hy, (hz, tt))) os
 
     -- Each primitive makes whole values of whole ones.
-    pub prim_keeps : (q : Primitive) → Keeps M (prim_fn cells N q)
+    pub prim_keeps : (q : Primitive) → Keeps M (prim_fn machine_values N q)
     unfolding prim_fn
     prim_keeps q = inputs_keep (length q.word.ins) q.does

@@ -5,7 +5,7 @@ use Rattle.fac_lang.specs.declared.program.Program.{Program}
 use Rattle.fac_lang.specs.declared.program.WordDef.{WordDef}
 use Rattle.fac_lang.specs.declared.program.Sort.{Sort}
 use Rattle.fac_lang.specs.declared.program.Sort.TheVariants.{Body as body, Past as past, Method as method}
-use Rattle.fac_lang.specs.Texts.{Literal, Text, end, then, Item, quot, fry}
+use Rattle.fac_lang.specs.Phrases.{Literal, Phrase, end, then, Item, quot, fry}
 use Rattle.fac_lang.specs.Substitution.{of_method}
 use Rattle.fac_locals.specs.Literals.{first_of_word, first_of_literal, behind, Quoted, literals_in, literals_at, sort_literals, word_literals, literals, literal_or, literal_numbered}
 
@@ -19,19 +19,19 @@ both_below n [] ls h k = k
 both_below n (l ∷ ks) ls h k = (h.0, both_below n ks ls h.1 k)
 
 mutual
-  text_below : (n : ℕ) (at : Literal) (t : Text) → at.word < n → Below n (literals_in at t)
-  text_below n at end h = tt
-  text_below n at (then i p t) h = both_below n (literals_at at i) (literals_in (behind at i) t) (item_below n at i h) (text_below n (behind at i) t h)
+  phrase_below : (n : ℕ) (at : Literal) (t : Phrase) → at.word < n → Below n (literals_in at t)
+  phrase_below n at end h = tt
+  phrase_below n at (then i p t) h = both_below n (literals_at at i) (literals_in (behind at i) t) (item_below n at i h) (phrase_below n (behind at i) t h)
 
   item_below : (n : ℕ) (at : Literal) (i : Item) → at.word < n → Below n (literals_at at i)
-  item_below n at (quot t) h = (h, text_below n (first_of_literal at) t h)
-  item_below n at (fry t k) h = (h, text_below n (first_of_literal at) t h)
+  item_below n at (quot t) h = (h, phrase_below n (first_of_literal at) t h)
+  item_below n at (fry t k) h = (h, phrase_below n (first_of_literal at) t h)
   item_below n at _ h = tt
 
 sort_below : (n w : ℕ) (s : Sort) → w < n → Below n (sort_literals w s)
-sort_below n w (body t) h = text_below n (first_of_word w) t h
-sort_below n w (past t) h = text_below n (first_of_word w) t h
-sort_below n w (method c g t) h = text_below n (first_of_word w) (of_method w t) h
+sort_below n w (body t) h = phrase_below n (first_of_word w) t h
+sort_below n w (past t) h = phrase_below n (first_of_word w) t h
+sort_below n w (method c g t) h = phrase_below n (first_of_word w) (of_method w t) h
 sort_below n w _ h = tt
 
 words_below : (n w : ℕ) (ds : List WordDef) → w + length ds ≤ n → Below n (word_literals w ds)

@@ -1,4 +1,4 @@
--- The plain code of a closed program stands for the texts of its program.
+-- The plain code of a closed program stands for the phrases of its program.
 use Rattle.std.proofs.Common.{◌≡◌, ◌<◌, ℕ, zero, suc, ◌+◌, List, [], ◌∷◌, ◌++◌, length, drop, Bool, true, false, Option, Some, None, refl, ap, sym, subst, ◌∙◌, arith, append_assoc, length-append}
 use Rattle.std.proofs.lemmas.Bool.{ltb-true, ne_eqb}
 use Rattle.std.specs.Prelude.{nat_eq, slice_get}
@@ -7,10 +7,10 @@ use Rattle.fac_lang.specs.declared.program.Program.{Program}
 use Rattle.fac_lang.specs.declared.program.WordDef.{WordDef}
 use Rattle.fac_lang.specs.declared.program.Sort.{Sort}
 use Rattle.fac_lang.specs.declared.program.Sort.TheVariants.{Prim as prim_sort, Core as core_sort, Body as body}
-use Rattle.fac_lang.specs.Texts.{Literal, Text, quot, word}
-use Rattle.fac_lang.specs.Forms.{IsBuilt, IsBuiltText, IsBuiltSort, has_no_repeats}
+use Rattle.fac_lang.specs.Phrases.{Literal, Phrase, quot, word}
+use Rattle.fac_lang.specs.Forms.{IsBuilt, IsBuiltPhrase, IsBuiltSort, has_no_repeats}
 use Rattle.fac_lang.specs.CoreWords.{is_built_core}
-use Rattle.fac_lang.specs.Meaning.{sort_of, word_text, core_numbered}
+use Rattle.fac_lang.specs.Meaning.{sort_of, word_phrase, core_numbered}
 use Rattle.fac_locals.specs.Literals.{Quoted, first_of_word, first_of_literal, literals, literal_or, literal_numbered}
 use Rattle.fac_locals.specs.Closed.{Closes, ClosesSort}
 use Rattle.fac_locals.proofs.Places.{literal_built}
@@ -21,14 +21,14 @@ use Rattle.fac_code.specs.declared.image.Action.TheVariants.{Code as code_action
 use Rattle.fac_code.specs.declared.image.Image.{Image}
 use Rattle.fac_code.specs.declared.image.TemplateRow.{TemplateRow}
 use Rattle.fac_code.specs.declared.image.WordRow.{WordRow}
-use Rattle.fac_prim.specs.Cells.{MValue, kept_list, cells_at}
+use Rattle.fac_prim.specs.MachineValues.{MValue, kept_list, cells_at}
 use Rattle.fac_vm.specs.Machine.{word_of_prim}
-use Rattle.fac_emit.specs.View.{template_texts}
-use Rattle.fac_emit.specs.Code.{core_instr, sort_instr, word_instr, item_instr, text_code, templates_code, row_at, template_rows, last_instr, sort_action, sort_code, word_code, code_from, words_from, program_code, program_words, IsPlain}
+use Rattle.fac_emit.specs.MachineView.{template_phrases}
+use Rattle.fac_emit.specs.ProgramCode.{core_instr, sort_instr, word_instr, item_instr, phrase_code, templates_code, row_at, template_rows, last_instr, sort_action, sort_code, word_code, code_from, words_from, program_code, program_words, IsPlain}
 use Rattle.fac_emit.specs.Stands.{l_word, l_call, l_if, Translates, t_int, t_true, t_false, t_quot, t_prim, t_dip, t_calling, Stands, s_end, s_item, Coded}
 use Rattle.fac_emit.proofs.LiteralWords.{in_a_word, is_listed}
 use Rattle.fac_emit.proofs.Closings.{drop_behind, get_at, Closing, c_end, c_int, c_true, c_false, c_word, c_quot, closing, same_primitives}
-use Rattle.fac_lang.proofs.FormsLemmas.{word_below, sort_at, top_word, top_text, all_distinct}
+use Rattle.fac_lang.proofs.FormsLemmas.{word_below, sort_at, top_word, phrase_of_top, all_distinct}
 use Rattle.fac_emit.proofs.FirstWords.{first_with}
 
 -- the code from a place on
@@ -50,7 +50,7 @@ module _ (words : List WordDef) (code : List Instr) where
     pub at : ℕ
     pub row : r ≡ row_at at t
     pub more : List Instr
-    pub there : drop at code ≡ text_code words Ret t.body ++ more
+    pub there : drop at code ≡ phrase_code words Ret t.body ++ more
 
   abbrev pub Rows : List TemplateRow → List Template → Type 0
   Rows [] [] = Unit {0}
@@ -85,7 +85,7 @@ module _ (words : List WordDef) (code : List Instr) where
   pub rows_placed : (at : ℕ) (ts : List Template) (more : List Instr) → drop at code ≡ templates_code words ts ++ more → Rows (template_rows words at ts) ts
   rows_placed at [] more e = tt
   rows_placed at (t ∷ ts) more e =
-      let own = text_code words Ret t.body in
+      let own = phrase_code words Ret t.body in
       let there = regroup (drop at code) own (templates_code words ts) more e in
       (record { at = at; row = refl; more = templates_code words ts ++ more; there = there }, rows_placed (at + length own) ts more (drop_behind code at own (templates_code words ts ++ more) there))
 
@@ -164,7 +164,7 @@ module _ (P C : Program) (templates : List Template) (M : Image) (b : IsBuilt P)
   instr_is : (w : ℕ) (c : WordDef) (s : Sort) → slice_get C.words w ≡ Some c → c.sort ≡ s → item_instr C.words (word w) ≡ sort_instr w s
   instr_is w c s at is = ap (word_instr w) at ∙ ap (sort_instr w) is
 
-  core_translates : (F : List MValue) (w k : ℕ) → is_built_core k ≡ true → sort_of P w ≡ Some (core_sort k) → Translates P M (template_texts P) F (word w) (core_instr k)
+  core_translates : (F : List MValue) (w k : ℕ) → is_built_core k ≡ true → sort_of P w ≡ Some (core_sort k) → Translates P M (template_phrases P) F (word w) (core_instr k)
   unfolding core_numbered
   core_translates F w zero h e = t_calling (l_call w 0 e refl)
   core_translates F w (suc zero) h e = t_dip w 1 e refl
@@ -172,100 +172,100 @@ module _ (P C : Program) (templates : List Template) (M : Image) (b : IsBuilt P)
   core_translates F w (suc (suc (suc k))) h e = absurd (let lt : suc (suc (suc k)) < 3 = ltb-true (suc (suc (suc k))) 3 h in omega (arith, lt))
 
   word_translates : (F : List MValue) (w : ℕ) (d c : WordDef) (s : Sort) → w < P.top → slice_get P.words w ≡ Some d → slice_get C.words w ≡ Some c → d.sort ≡ s → ClosesSort P w s c.sort → IsBuiltSort P.top d s →
-      Translates P M (template_texts P) F (word w) (item_instr C.words (word w))
+      Translates P M (template_phrases P) F (word w) (item_instr C.words (word w))
   word_translates F w d c (prim_sort k) lt at closed is h built = rw (instr_is w c (prim_sort k) closed h) (t_prim w k (sort_at P w d at ∙ ap Some is) built.is_built (first_word w k c closed h))
   word_translates F w d c (core_sort k) lt at closed is h built = rw (instr_is w c (core_sort k) closed h) (core_translates F w k built.is_built (sort_at P w d at ∙ ap Some is))
   word_translates F w d c (body t) lt at closed is h built = rw (instr_is w c (body h.0) closed h.1) (t_calling (l_word w t lt (sort_at P w d at ∙ ap Some is)))
   word_translates F w d c _ lt at closed is h built = absurd built
 
-  word_item : (F : List MValue) (w : ℕ) → w < P.top → Translates P M (template_texts P) F (word w) (item_instr C.words (word w))
+  word_item : (F : List MValue) (w : ℕ) → w < P.top → Translates P M (template_phrases P) F (word w) (item_instr C.words (word w))
   word_item F w lt =
       let found = word_below P b w lt in
       let closed = word_closed P C templates closes w found.def found.at in
       word_translates F w found.def closed.closed found.def.sort lt found.at closed.at refl closed.closes.sort found.built
 
-  quotation_translates : (F : List MValue) (q : ℕ) (at : Literal) (u : Text) → at.word < length P.words → (let l : Quoted = (at, u) in literal_numbered P q ≡ l) → Translates P M (template_texts P) F (quot u) (Quot q)
-  unfolding template_texts
+  quotation_translates : (F : List MValue) (q : ℕ) (at : Literal) (u : Phrase) → at.word < length P.words → (let l : Quoted = (at, u) in literal_numbered P q ≡ l) → Translates P M (template_phrases P) F (quot u) (Quot q)
+  unfolding template_phrases
   quotation_translates F q at u lt e =
       let found = quotation_row P C templates b closes M.code M.templates is_plain.code is_plain.template_rows_are q (at, u) lt e in
       let none : cells_at found.row.cells F ≡ Some [] = ap (λ (ks : List ℕ). cells_at ks F) found.cells in
-      subst (λ (t : Text). Translates P M (template_texts P) F (quot t) (Quot q)) (ap (λ (l : Quoted). l.1) e) (t_quot q found.row [] found.there found.holes none)
+      subst (λ (t : Phrase). Translates P M (template_phrases P) F (quot t) (Quot q)) (ap (λ (l : Quoted). l.1) e) (t_quot q found.row [] found.there found.holes none)
 
-  -- The code of a closed text stands for its text, whatever comes behind. It stands so under every frame, since no value is put into a frame yet.
+  -- The code of a closed phrase stands for its phrase, whatever comes behind. It stands so under every frame, since no value is put into a frame yet.
 
-  pub text_stands : (last : Instr) (F : List MValue) (pc : ℕ) (at : Literal) (t c : Text) (more : List Instr) → Closing P at t c → at.word < length P.words → drop pc M.code ≡ text_code C.words last c ++ more → Stands P M (template_texts P) last F pc t
-  text_stands last F pc at t c more c_end lt e = s_end (code_at M.code pc last more e).0
-  text_stands last F pc at t c more (c_int {c = c'} z h) lt e =
-      let found = code_at M.code pc (Int z) (text_code C.words last c' ++ more) e in s_item (Int z) found.0 (t_int z) (text_stands last F (pc + 1) _ _ c' more h lt found.1)
-  text_stands last F pc at t c more (c_true {c = c'} h) lt e =
-      let found = code_at M.code pc True (text_code C.words last c' ++ more) e in s_item True found.0 t_true (text_stands last F (pc + 1) _ _ c' more h lt found.1)
-  text_stands last F pc at t c more (c_false {c = c'} h) lt e =
-      let found = code_at M.code pc False (text_code C.words last c' ++ more) e in s_item False found.0 t_false (text_stands last F (pc + 1) _ _ c' more h lt found.1)
-  text_stands last F pc at t c more (c_word {c = c'} w below h) lt e =
+  pub phrase_stands : (last : Instr) (F : List MValue) (pc : ℕ) (at : Literal) (t c : Phrase) (more : List Instr) → Closing P at t c → at.word < length P.words → drop pc M.code ≡ phrase_code C.words last c ++ more → Stands P M (template_phrases P) last F pc t
+  phrase_stands last F pc at t c more c_end lt e = s_end (code_at M.code pc last more e).0
+  phrase_stands last F pc at t c more (c_int {c = c'} z h) lt e =
+      let found = code_at M.code pc (Int z) (phrase_code C.words last c' ++ more) e in s_item (Int z) found.0 (t_int z) (phrase_stands last F (pc + 1) _ _ c' more h lt found.1)
+  phrase_stands last F pc at t c more (c_true {c = c'} h) lt e =
+      let found = code_at M.code pc True (phrase_code C.words last c' ++ more) e in s_item True found.0 t_true (phrase_stands last F (pc + 1) _ _ c' more h lt found.1)
+  phrase_stands last F pc at t c more (c_false {c = c'} h) lt e =
+      let found = code_at M.code pc False (phrase_code C.words last c' ++ more) e in s_item False found.0 t_false (phrase_stands last F (pc + 1) _ _ c' more h lt found.1)
+  phrase_stands last F pc at t c more (c_word {c = c'} w below h) lt e =
       let x = item_instr C.words (word w) in
-      let found = code_at M.code pc x (text_code C.words last c' ++ more) e in s_item x found.0 (word_item F w below) (text_stands last F (pc + 1) _ _ c' more h lt found.1)
-  text_stands last F pc at t c more (c_quot {c = c'} u q is h) lt e =
-      let found = code_at M.code pc (Quot q) (text_code C.words last c' ++ more) e in s_item (Quot q) found.0 (quotation_translates F q at u lt is) (text_stands last F (pc + 1) _ _ c' more h lt found.1)
+      let found = code_at M.code pc x (phrase_code C.words last c' ++ more) e in s_item x found.0 (word_item F w below) (phrase_stands last F (pc + 1) _ _ c' more h lt found.1)
+  phrase_stands last F pc at t c more (c_quot {c = c'} u q is h) lt e =
+      let found = code_at M.code pc (Quot q) (phrase_code C.words last c' ++ more) e in s_item (Quot q) found.0 (quotation_translates F q at u lt is) (phrase_stands last F (pc + 1) _ _ c' more h lt found.1)
 
-  -- the code of a word that is defined by a text
-  body_stands : (w : ℕ) (d : WordDef) (t : Text) (is_top : Bool) → nat_eq w C.top ≡ is_top → slice_get P.words w ≡ Some d → d.sort ≡ body t → w < length P.words → IsBuiltText P.top t →
-      (a : ℕ) × (slice_get M.words w ≡ Some (record { action = code_action a })) × Stands P M (template_texts P) (last_instr is_top) [] a t
+  -- the code of a word that is defined by a phrase
+  body_stands : (w : ℕ) (d : WordDef) (t : Phrase) (is_top : Bool) → nat_eq w C.top ≡ is_top → slice_get P.words w ≡ Some d → d.sort ≡ body t → w < length P.words → IsBuiltPhrase P.top t →
+      (a : ℕ) × (slice_get M.words w ≡ Some (record { action = code_action a })) × Stands P M (template_phrases P) (last_instr is_top) [] a t
   body_stands w d t is_top which at is lt built =
       let closed = word_closed P C templates closes w d at in
       let sort = subst (λ (s : Sort). ClosesSort P w s closed.closed.sort) is closed.closes.sort in
       let put = placed C.words C.top M.code (length (templates_code C.words templates)) 0 C.words w closed.closed (behind_templates C templates M.code is_plain.code) closed.at in
       let number : 0 + w ≡ w = omega arith in
-      let own = text_code C.words (last_instr is_top) sort.0 in
+      let own = phrase_code C.words (last_instr is_top) sort.0 in
       let code_is : word_code C.words C.top w closed.closed ≡ own = ap (sort_code C.words (nat_eq w C.top)) sort.1 ∙ ap (λ (b : Bool). sort_code C.words b (body sort.0)) which in
       let there : drop put.at M.code ≡ own ++ put.more = put.there ∙ ap (λ (k : ℕ). word_code C.words C.top k closed.closed ++ put.more) number ∙ ap (λ (c : List Instr). c ++ put.more) code_is in (
         put.at,
         ap (λ (rs : List WordRow). slice_get rs w) is_plain.word_rows_are ∙ put.row ∙ ap (λ (s : Sort). Some (record { action = sort_action put.at s })) sort.1,
-        text_stands (last_instr is_top) [] put.at (first_of_word w) t sort.0 put.more (closing P (first_of_word w) t sort.0 sort.2 built) lt there,
+        phrase_stands (last_instr is_top) [] put.at (first_of_word w) t sort.0 put.more (closing P (first_of_word w) t sort.0 sort.2 built) lt there,
       )
 
   -- the code of a template
-  template_stands : (q : ℕ) (r : TemplateRow) (F : List MValue) → slice_get M.templates q ≡ Some r → Stands P M (template_texts P) Ret F r.entry (template_texts P q)
-  unfolding template_texts
+  template_stands : (q : ℕ) (r : TemplateRow) (F : List MValue) → slice_get M.templates q ≡ Some r → Stands P M (template_phrases P) Ret F r.entry (template_phrases P q)
+  unfolding template_phrases
   template_stands q r F e =
       let found = template_at C.words M.code M.templates templates q r (all_rows P C templates b closes M.code M.templates is_plain.code is_plain.template_rows_are) e in
       let l = literal_numbered P q in
       let closed = template_closed P C templates closes q found.template found.there in
       let entry : found.of.at ≡ r.entry = sym (ap (λ (r : TemplateRow). r.entry) found.of.row) in
-      subst (λ (a : ℕ). Stands P M (template_texts P) Ret F a l.1) entry
-      (text_stands Ret F found.of.at (first_of_literal l.0) l.1 found.template.body found.of.more (closing P (first_of_literal l.0) l.1 found.template.body closed.body (literal_built P b q))
+      subst (λ (a : ℕ). Stands P M (template_phrases P) Ret F a l.1) entry
+      (phrase_stands Ret F found.of.at (first_of_literal l.0) l.1 found.template.body found.of.more (closing P (first_of_literal l.0) l.1 found.template.body closed.body (literal_built P b q))
       (literal_of P C templates b closes q found.template found.there) found.of.there)
 
-  sort_is : (w : ℕ) (d : WordDef) (t : Text) → slice_get P.words w ≡ Some d → sort_of P w ≡ Some (body t) → d.sort ≡ body t
+  sort_is : (w : ℕ) (d : WordDef) (t : Phrase) → slice_get P.words w ≡ Some d → sort_of P w ≡ Some (body t) → d.sort ≡ body t
   sort_is w d t at e = let found = sort_at P w d at in cc
 
   below_length : (w : ℕ) → w < P.top → w < length P.words
-  below_length w lt = let n = ap length b.words_are ∙ length-append b.words (b.phrase ∷ []) in omega (arith, n, lt, b.top_is)
+  below_length w lt = let n = ap length b.words_are ∙ length-append b.words (b.last_word ∷ []) in omega (arith, n, lt, b.top_is)
 
-  pub coded : Coded P M (template_texts P)
+  pub coded : Coded P M (template_phrases P)
   coded = record {
     bodies = λ w t lt e.
         let found = word_below P b w lt in
         let is = sort_is w found.def t found.at e in
         let built = subst (IsBuiltSort P.top found.def) is found.built in
-        let stands = body_stands w found.def t false (ne_eqb w C.top (λ same. let top = closes.top in omega (arith, lt, same, top))) found.at is (below_length w lt) built.text_built in
+        let stands = body_stands w found.def t false (ne_eqb w C.top (λ same. let top = closes.top in omega (arith, lt, same, top))) found.at is (below_length w lt) built.phrase_built in
         (record { action = code_action stands.0 }, stands.0, stands.1, refl, stands.2);
     templates = λ q r k e n whole. template_stands q r (kept_list k) e;
   }
 
   -- the code of the top-level phrase stands at its word's place, and then `halt`
-  pub top_stands : (a : ℕ) × (slice_get M.words P.top ≡ Some (record { action = code_action a })) × Stands P M (template_texts P) Halt [] a (word_text P P.top)
+  pub top_stands : (a : ℕ) × (slice_get M.words P.top ≡ Some (record { action = code_action a })) × Stands P M (template_phrases P) Halt [] a (word_phrase P P.top)
   top_stands =
       let top = closes.top in
       let same : nat_eq P.top C.top ≡ true = grind (arith, top) in
-      let n = ap length b.words_are ∙ length-append b.words (b.phrase ∷ []) in
-      let stands = body_stands P.top b.phrase b.text true same (top_word P b) b.phrase_is.sort_is (omega (arith, n, b.top_is)) b.phrase_is.text_built in
-      (stands.0, stands.1, rw (top_text P b) stands.2)
+      let n = ap length b.words_are ∙ length-append b.words (b.last_word ∷ []) in
+      let stands = body_stands P.top b.last_word b.phrase true same (top_word P b) b.last_word_is.sort_is (omega (arith, n, b.top_is)) b.last_word_is.phrase_built in
+      (stands.0, stands.1, rw (phrase_of_top P b) stands.2)
 
 -- the row of the top-level phrase, whatever the code is
 pub top_row : (P C : Program) (templates : List Template) → IsBuilt P → Closes P C templates → (rows : List WordRow) → rows ≡ program_words C templates → (a : ℕ) × (slice_get rows C.top ≡ Some (record { action = code_action a }))
 top_row P C templates b closes rows e =
-    let closed = word_closed P C templates closes P.top b.phrase (top_word P b) in
-    let sort = subst (λ (s : Sort). ClosesSort P P.top s closed.closed.sort) b.phrase_is.sort_is closed.closes.sort in
+    let closed = word_closed P C templates closes P.top b.last_word (top_word P b) in
+    let sort = subst (λ (s : Sort). ClosesSort P P.top s closed.closed.sort) b.last_word_is.sort_is closed.closes.sort in
     let at : slice_get C.words C.top ≡ Some closed.closed = ap (slice_get C.words) closes.top ∙ closed.at in
     let put = words_placed C templates C.top closed.closed at in
     (put.at, ap (λ (rs : List WordRow). slice_get rs C.top) e ∙ put.row ∙ ap (λ (s : Sort). Some (record { action = sort_action put.at s })) sort.1)

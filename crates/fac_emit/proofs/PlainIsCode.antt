@@ -1,17 +1,17 @@
--- The plain code of a text is code in which a quotation is made where it is pushed, whatever stands behind it.
+-- The plain code of a phrase is code in which a quotation is made where it is pushed, whatever stands behind it.
 use Rattle.std.proofs.Common.{◌≡◌, ◌<◌, ℕ, zero, suc, ◌+◌, List, [], ◌∷◌, ◌++◌, length, Option, Some, true, false, refl, arith}
 use Rattle.std.proofs.lemmas.Bool.{ltb-true}
 use Rattle.std.specs.Prelude.{slice_get}
 use Rattle.fac_lang.specs.declared.phrase.Place.{Place}
 use Rattle.fac_lang.specs.declared.program.Program.{Program}
-use Rattle.fac_lang.specs.Texts.{Text, end, then, Item}
+use Rattle.fac_lang.specs.Phrases.{Phrase, end, then, Item}
 use Rattle.fac_lang.specs.Primitives.{Primitive, prim_numbered, is_built_primitive, built_primitives, later_primitives, built_count}
 use Rattle.fac_code.specs.declared.image.Instr.{Instr}
 use Rattle.fac_code.specs.declared.image.Instr.TheVariants.{Ret}
 use Rattle.fac_code.specs.declared.image.Image.{Image}
-use Rattle.fac_prim.specs.Cells.{MValue}
-use Rattle.fac_emit.specs.View.{Templates, template_texts}
-use Rattle.fac_emit.specs.Symbols.{Sym, here, Task, do_text, top_none, Needs, needs_none, needs_more, heres, AllHere, all_none, all_more, ins, outs, Special}
+use Rattle.fac_prim.specs.MachineValues.{MValue}
+use Rattle.fac_emit.specs.MachineView.{Templates, template_phrases}
+use Rattle.fac_emit.specs.Symbols.{Sym, here, Task, do_phrase, top_none, Needs, needs_none, needs_more, heres, AllHere, all_none, all_more, ins, outs, Special}
 use Rattle.fac_emit.specs.Expanded.{Code, c_last, c_make, c_trim, c_end, c_off, c_int, c_true, c_false, c_prim, c_word, c_call, c_dip, c_if, EachCalled, ExpandedCode}
 use Rattle.fac_emit.specs.Stands.{Calling, l_word, l_call, l_if, Translates, t_int, t_true, t_false, t_quot, t_prim, t_dip, t_calling, Stands, s_end, s_item, Coded, PlainCode}
 
@@ -34,15 +34,15 @@ unfolding prim_numbered built_count
 built_there k h = in_front built_primitives later_primitives k (ltb-true k (length built_primitives) h)
 
 module _ (P : Program) (M : Image) (T : Templates) where
-  calling_code : (Γ : List Special) (last : Option Instr) (F : List MValue) (i : Item) (x : Instr) (p : Place) (t : Text) (K : List Task) (pc : ℕ) → slice_get M.code pc ≡ Some x → Calling P M T false i x →
-      Code P M T Γ last F zero [] (do_text t ∷ K) (pc + 1) → Code P M T Γ last F zero [] (do_text (then i p t) ∷ K) pc
+  calling_code : (Γ : List Special) (last : Option Instr) (F : List MValue) (i : Item) (x : Instr) (p : Place) (t : Phrase) (K : List Task) (pc : ℕ) → slice_get M.code pc ≡ Some x → Calling P M T false i x →
+      Code P M T Γ last F zero [] (do_phrase t ∷ K) (pc + 1) → Code P M T Γ last F zero [] (do_phrase (then i p t) ∷ K) pc
   calling_code Γ last F i x p t K pc e (l_word w b lt es) rest = c_word w b lt es all_none e rest
   calling_code Γ last F i x p t K pc e (l_call w k es en) rest = c_call w k es en all_none e rest
   calling_code Γ last F i x p t K pc e (l_if w k es en) rest = c_if w k es en all_none e rest
 
   -- an item before code that stands for any stack on which nothing is put off
-  item_code : (Γ : List Special) (last : Option Instr) (F : List MValue) (i : Item) (x : Instr) (p : Place) (t : Text) (K : List Task) (pc : ℕ) → slice_get M.code pc ≡ Some x → Translates P M T F i x →
-      ((S : List Sym) → AllHere S → Code P M T Γ last F zero S (do_text t ∷ K) (pc + 1)) → Code P M T Γ last F zero [] (do_text (then i p t) ∷ K) pc
+  item_code : (Γ : List Special) (last : Option Instr) (F : List MValue) (i : Item) (x : Instr) (p : Place) (t : Phrase) (K : List Task) (pc : ℕ) → slice_get M.code pc ≡ Some x → Translates P M T F i x →
+      ((S : List Sym) → AllHere S → Code P M T Γ last F zero S (do_phrase t ∷ K) (pc + 1)) → Code P M T Γ last F zero [] (do_phrase (then i p t) ∷ K) pc
   item_code Γ last F i x p t K pc e (t_int z) rest = c_int z e (rest (here ∷ []) (all_more all_none))
   item_code Γ last F i x p t K pc e t_true rest = c_true e (rest (here ∷ []) (all_more all_none))
   item_code Γ last F i x p t K pc e t_false rest = c_false e (rest (here ∷ []) (all_more all_none))
@@ -53,19 +53,19 @@ module _ (P : Program) (M : Image) (T : Templates) where
   item_code Γ last F i x p t K pc e (t_dip w k es en) rest = c_dip w k es en all_none e (rest [] all_none)
   item_code Γ last F i x p t K pc e (t_calling c) rest = calling_code Γ last F i x p t K pc e c (rest [] all_none)
 
-  -- Code that takes a text from one place to another, where its last instruction stands: whatever is left to do there, the text is left to do before it.
-  pub record Reaches (last : Instr) (F : List MValue) (pc : ℕ) (t : Text) : Type 0 where
+  -- Code that takes a phrase from one place to another, where its last instruction stands: whatever is left to do there, the phrase is left to do before it.
+  pub record Reaches (last : Instr) (F : List MValue) (pc : ℕ) (t : Phrase) : Type 0 where
     pub to : ℕ
     pub there : slice_get M.code to ≡ Some last
-    pub behind : (Γ : List Special) (at_end : Option Instr) (K : List Task) → Code P M T Γ at_end F zero [] K to → Code P M T Γ at_end F zero [] (do_text t ∷ K) pc
+    pub behind : (Γ : List Special) (at_end : Option Instr) (K : List Task) → Code P M T Γ at_end F zero [] K to → Code P M T Γ at_end F zero [] (do_phrase t ∷ K) pc
 
-  pub plain_reaches : (last : Instr) (F : List MValue) (pc : ℕ) (t : Text) → Stands P M T last F pc t → Reaches last F pc t
+  pub plain_reaches : (last : Instr) (F : List MValue) (pc : ℕ) (t : Phrase) → Stands P M T last F pc t → Reaches last F pc t
   plain_reaches last F pc end (s_end e) = record { to = pc; there = e; behind = λ Γ at_end K c. c_end c }
   plain_reaches last F pc (then i p t) (s_item x e tr st) =
       let r = plain_reaches last F (pc + 1) t st in
       record { to = r.to; there = r.there; behind = λ Γ at_end K c. item_code Γ at_end F i x p t K pc e tr (λ S a. c_trim {S = []} S a (r.behind Γ at_end K c)) }
 
-  pub plain_is_code : (last : Instr) (F : List MValue) (pc : ℕ) (t : Text) → Stands P M T last F pc t → Code P M T [] (Some last) F zero [] (do_text t ∷ []) pc
+  pub plain_is_code : (last : Instr) (F : List MValue) (pc : ℕ) (t : Phrase) → Stands P M T last F pc t → Code P M T [] (Some last) F zero [] (do_phrase t ∷ []) pc
   plain_is_code last F pc t st = let r = plain_reaches last F pc t st in r.behind [] (Some last) [] (c_last all_none r.there)
 
   pub each_called : Coded P M T → EachCalled P M T
@@ -76,4 +76,4 @@ module _ (P : Program) (M : Image) (T : Templates) where
 
 -- so plain code is a part of it
 pub plain_code_is_code : (P : Program) (M : Image) → PlainCode P M → ExpandedCode P M
-plain_code_is_code P M h = record { called = each_called P M (template_texts P) h.coded; phrase = plain_is_code P M (template_texts P) _ [] M.start _ h.phrase }
+plain_code_is_code P M h = record { called = each_called P M (template_phrases P) h.coded; phrase = plain_is_code P M (template_phrases P) _ [] M.start _ h.phrase }

@@ -9,8 +9,8 @@ use Rattle.fac_lang.specs.declared.program.Program.{Program}
 use Rattle.fac_lang.specs.declared.program.WordDef.{WordDef}
 use Rattle.fac_lang.specs.declared.program.Sort.{Sort}
 use Rattle.fac_lang.specs.declared.program.Sort.TheVariants.{Prim as prim_sort, Core as core_sort, Body as body}
-use Rattle.fac_lang.specs.Texts.{Literal, Text, end, then}
-use Rattle.fac_lang.specs.Forms.{IsBuilt, IsBuiltSort, IsBuiltText, AreBuiltWords}
+use Rattle.fac_lang.specs.Phrases.{Literal, Phrase, end, then}
+use Rattle.fac_lang.specs.Forms.{IsBuilt, IsBuiltSort, IsBuiltPhrase, AreBuiltWords}
 use Rattle.fac_lang.specs.CoreWords.{is_built_core}
 use Rattle.fac_lang.specs.Primitives.{is_built_primitive}
 use Rattle.fac_locals.specs.Literals.{Quoted, first_of_word, first_of_literal, literal_numbered}
@@ -23,7 +23,7 @@ use Rattle.fac_code.specs.declared.image.Action.TheVariants.{Code as code_action
 use Rattle.fac_code.specs.declared.image.TemplateRow.{TemplateRow}
 use Rattle.fac_code.specs.declared.image.WordRow.{WordRow}
 use Rattle.fac_code.specs.References.{names_code, names_quotation, instr_refers, action_refers, word_refers, template_refers, refers}
-use Rattle.fac_emit.specs.Code.{core_instr, sort_instr, word_instr, item_instr, text_code, templates_code, template_rows, last_instr, sort_action, sort_code, word_code, code_from, words_from, program_code, program_words}
+use Rattle.fac_emit.specs.ProgramCode.{core_instr, sort_instr, word_instr, item_instr, phrase_code, templates_code, template_rows, last_instr, sort_action, sort_code, word_code, code_from, words_from, program_code, program_words}
 use Rattle.fac_emit.proofs.BuiltCode.{and_true}
 use Rattle.fac_emit.proofs.Closings.{drop_behind, Closing, c_end, c_int, c_true, c_false, c_word, c_quot, closing}
 use Rattle.fac_emit.proofs.Placed.{Rows, behind_templates, words_placed, literal_of, all_rows, quotation_row}
@@ -53,15 +53,15 @@ one_passes test [] k x h e = absurd (cc)
 one_passes test (y ∷ xs) zero x h e = let same : y ≡ x = cc in subst (λ (z : _). test z ≡ true) same (first_true (test y) (list_all test xs) h).0
 one_passes test (y ∷ xs) (suc k) x h e = one_passes test xs k x (first_true (test y) (list_all test xs) h).1 e
 
--- code of a text isn't empty
-text_first : (words : List WordDef) (last : Instr) (t : Text) → (x : Instr) × (more : List Instr) × (text_code words last t ≡ x ∷ more)
-text_first words last end = (last, [], refl)
-text_first words last (then i p t) = (item_instr words i, text_code words last t, refl)
+-- code of a phrase isn't empty
+phrase_first : (words : List WordDef) (last : Instr) (t : Phrase) → (x : Instr) × (more : List Instr) × (phrase_code words last t ≡ x ∷ more)
+phrase_first words last end = (last, [], refl)
+phrase_first words last (then i p t) = (item_instr words i, phrase_code words last t, refl)
 
 -- so it begins at a place in the code
-begins_within : (code : List Instr) (words : List WordDef) (last : Instr) (t : Text) (at : ℕ) (more : List Instr) → drop at code ≡ text_code words last t ++ more → nat_lt at (length code) ≡ true
+begins_within : (code : List Instr) (words : List WordDef) (last : Instr) (t : Phrase) (at : ℕ) (more : List Instr) → drop at code ≡ phrase_code words last t ++ more → nat_lt at (length code) ≡ true
 begins_within code words last t at more e =
-    let first = text_first words last t in lt-ltb at (length code) (within code at first.0 (first.1 ++ more) (e ∙ ap (λ (is : List Instr). is ++ more) first.2))
+    let first = phrase_first words last t in lt-ltb at (length code) (within code at first.0 (first.1 ++ more) (e ∙ ap (λ (is : List Instr). is ++ more) first.2))
 
 core_refers : (rows : List TemplateRow) (words : List WordRow) (k : ℕ) → instr_refers rows words (core_instr k) ≡ true
 core_refers rows words zero = refl
@@ -78,13 +78,13 @@ module _ (P : Program) where
   abbrev HasBuilt : Sort → Type 0
   HasBuilt (prim_sort k) = is_built_primitive k ≡ true
   HasBuilt (core_sort k) = is_built_core k ≡ true
-  HasBuilt (body t) = IsBuiltText P.top t
+  HasBuilt (body t) = IsBuiltPhrase P.top t
   HasBuilt _ = ⊥
 
   sort_built : (d : WordDef) (s : Sort) → IsBuiltSort P.top d s → HasBuilt s
   sort_built d (prim_sort k) h = h.is_built
   sort_built d (core_sort k) h = h.is_built
-  sort_built d (body t) h = h.text_built
+  sort_built d (body t) h = h.phrase_built
   sort_built d _ h = absurd h
 
   among : (ds : List WordDef) (d : WordDef) (w : ℕ) (x : WordDef) → AreBuiltWords P.top ds → HasBuilt d.sort → slice_get (ds ++ d ∷ []) w ≡ Some x → HasBuilt x.sort
@@ -95,14 +95,14 @@ module _ (P : Program) where
 
   word_built : IsBuilt P → (w : ℕ) (d : WordDef) → slice_get P.words w ≡ Some d → HasBuilt d.sort
   word_built b w d e =
-      let phrase : HasBuilt b.phrase.sort = subst HasBuilt (sym b.phrase_is.sort_is) b.phrase_is.text_built in
-      among b.words b.phrase w d b.built phrase (subst (λ (ds : List WordDef). slice_get ds w ≡ Some d) b.words_are e)
+      let phrase : HasBuilt b.last_word.sort = subst HasBuilt (sym b.last_word_is.sort_is) b.last_word_is.phrase_built in
+      among b.words b.last_word w d b.built phrase (subst (λ (ds : List WordDef). slice_get ds w ≡ Some d) b.words_are e)
 
   -- what a word of the closed program is, with the number w
   abbrev ClosedAs : ℕ → Sort → Type 0
   ClosedAs w (prim_sort k) = is_built_primitive k ≡ true
   ClosedAs w (core_sort k) = is_built_core k ≡ true
-  ClosedAs w (body c) = (t : Text) × Closing P (first_of_word w) t c × (w < length P.words)
+  ClosedAs w (body c) = (t : Phrase) × Closing P (first_of_word w) t c × (w < length P.words)
   ClosedAs w _ = ⊥
 
   closed_as : (w : ℕ) (s c : Sort) → ClosesSort P w s c → HasBuilt s → w < length P.words → ClosedAs w c
@@ -136,33 +136,33 @@ module _ (P C : Program) (templates : List Template) (b : IsBuilt P) (closes : C
   word_refers_to w None e = refl
   word_refers_to w (Some c) e = sort_refers w c c.sort e refl
 
-  quotation_refers : (q : ℕ) (at : Literal) (u : Text) → at.word < length P.words → (let l : Quoted = (at, u) in literal_numbered P q ≡ l) → names_quotation (slice_get rows q) ≡ true
+  quotation_refers : (q : ℕ) (at : Literal) (u : Phrase) → at.word < length P.words → (let l : Quoted = (at, u) in literal_numbered P q ≡ l) → names_quotation (slice_get rows q) ≡ true
   quotation_refers q at u lt e = let found = quotation_row P C templates b closes code rows refl refl q (at, u) lt e in rw found.there (rw found.holes refl)
 
   abbrev Refers : List Instr → Type 0
   Refers is = list_all (instr_refers rows words) is ≡ true
 
-  text_refers : (last : Instr) (at : Literal) (t c : Text) → instr_refers rows words last ≡ true → Closing P at t c → at.word < length P.words → Refers (text_code C.words last c)
-  text_refers last at t c l c_end lt = and_true (instr_refers rows words last) true l refl
-  text_refers last at t c l (c_int z h) lt = text_refers last _ _ _ l h lt
-  text_refers last at t c l (c_true h) lt = text_refers last _ _ _ l h lt
-  text_refers last at t c l (c_false h) lt = text_refers last _ _ _ l h lt
-  text_refers last at t c l (c_word {c = d} w below h) lt = and_true (instr_refers rows words (word_instr w (slice_get C.words w))) (list_all (instr_refers rows words) (text_code C.words last d))
-      (word_refers_to w (slice_get C.words w) refl) (text_refers last _ _ _ l h lt)
-  text_refers last at t c l (c_quot {c = d} u q is h) lt = and_true (names_quotation (slice_get rows q)) (list_all (instr_refers rows words) (text_code C.words last d)) (quotation_refers q at u lt is) (text_refers last _ _ _ l h lt)
+  phrase_refers : (last : Instr) (at : Literal) (t c : Phrase) → instr_refers rows words last ≡ true → Closing P at t c → at.word < length P.words → Refers (phrase_code C.words last c)
+  phrase_refers last at t c l c_end lt = and_true (instr_refers rows words last) true l refl
+  phrase_refers last at t c l (c_int z h) lt = phrase_refers last _ _ _ l h lt
+  phrase_refers last at t c l (c_true h) lt = phrase_refers last _ _ _ l h lt
+  phrase_refers last at t c l (c_false h) lt = phrase_refers last _ _ _ l h lt
+  phrase_refers last at t c l (c_word {c = d} w below h) lt = and_true (instr_refers rows words (word_instr w (slice_get C.words w))) (list_all (instr_refers rows words) (phrase_code C.words last d))
+      (word_refers_to w (slice_get C.words w) refl) (phrase_refers last _ _ _ l h lt)
+  phrase_refers last at t c l (c_quot {c = d} u q is h) lt = and_true (names_quotation (slice_get rows q)) (list_all (instr_refers rows words) (phrase_code C.words last d)) (quotation_refers q at u lt is) (phrase_refers last _ _ _ l h lt)
 
-  template_refers_to : (q : ℕ) (t : Template) → slice_get templates q ≡ Some t → Refers (text_code C.words Ret t.body)
+  template_refers_to : (q : ℕ) (t : Template) → slice_get templates q ≡ Some t → Refers (phrase_code C.words Ret t.body)
   template_refers_to q t e =
       let l = literal_numbered P q in
       let closed = template_closed P C templates closes q t e in
-      text_refers Ret (first_of_literal l.0) l.1 t.body refl (closing P (first_of_literal l.0) l.1 t.body closed.body (literal_built P b q)) (literal_of P C templates b closes q t e)
+      phrase_refers Ret (first_of_literal l.0) l.1 t.body refl (closing P (first_of_literal l.0) l.1 t.body closed.body (literal_built P b q)) (literal_of P C templates b closes q t e)
 
-  templates_refer : (ts : List Template) → ((k : ℕ) (t : Template) → slice_get ts k ≡ Some t → Refers (text_code C.words Ret t.body)) → Refers (templates_code C.words ts)
+  templates_refer : (ts : List Template) → ((k : ℕ) (t : Template) → slice_get ts k ≡ Some t → Refers (phrase_code C.words Ret t.body)) → Refers (templates_code C.words ts)
   templates_refer [] h = refl
-  templates_refer (t ∷ ts) h = both_pass (instr_refers rows words) (text_code C.words Ret t.body) (templates_code C.words ts) (h 0 t refl) (templates_refer ts (λ k u e. h (suc k) u e))
+  templates_refer (t ∷ ts) h = both_pass (instr_refers rows words) (phrase_code C.words Ret t.body) (templates_code C.words ts) (h 0 t refl) (templates_refer ts (λ k u e. h (suc k) u e))
 
   word_code_refers : (w : ℕ) (is_top : Bool) (s : Sort) → ClosedAs P w s → Refers (sort_code C.words is_top s)
-  word_code_refers w is_top (body c) h = text_refers (last_instr is_top) (first_of_word w) h.0 c (last_refers rows words is_top) h.1 h.2
+  word_code_refers w is_top (body c) h = phrase_refers (last_instr is_top) (first_of_word w) h.0 c (last_refers rows words is_top) h.1 h.2
   word_code_refers w is_top _ h = refl
 
   -- words from number w on

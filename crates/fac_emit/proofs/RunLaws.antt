@@ -1,14 +1,14 @@
 -- Laws of a run whose fuel is its ticks.
 use Rattle.std.proofs.Common.{◌≡◌, ◌≢◌, ℕ, zero, suc, ◌≤◌, refl, ap, subst, ◌∙◌, arith}
-use Rattle.fac_lang.specs.Texts.{Text, then, Item, held, Callable, text, cur, both}
+use Rattle.fac_lang.specs.Phrases.{Phrase, then, Item, held, Callable, of_phrase, cur, both}
 use Rattle.fac_lang.specs.declared.phrase.Place.{Place}
 use Rattle.fac_lang.specs.World.{State, push, push_each}
-use Rattle.fac_lang.specs.Texts.{Value}
+use Rattle.fac_lang.specs.Phrases.{Value}
 use Rattle.fac_lang.specs.Substitution.{put_local}
 use Rattle.fac_lang.specs.Eval.{Result, Done, Failed, Spent, Stuck, then_do, Act, wrong, fails, goes, binds, runs, Run, run_callable, go_on, eval}
 use Rattle.fac_lang.proofs.Laws.{Sparing, within, within_call, Agree, agree_then, agree_call, same_run, more, Longer, longer}
 
-acts_agree : (run run' : Run) (b : ℕ) → Sparing run → Agree b run run' → (a : Act) (t : Text) (n : ℕ) → n ≤ b → go_on run a t n ≡ go_on run' a t n
+acts_agree : (run run' : Run) (b : ℕ) → Sparing run → Agree b run run' → (a : Act) (t : Phrase) (n : ℕ) → n ≤ b → go_on run a t n ≡ go_on run' a t n
 acts_agree run run' b s h wrong t n le = refl
 acts_agree run run' b s h (fails e st) t n le = refl
 acts_agree run run' b s h (goes st) t n le = h t st n le
@@ -24,8 +24,8 @@ module _ (act : Item → State Value → Act) where
   pub spares : Sparing free
   spares b t st n le = within act n b t st n le
 
-  -- the first item of a text, and then the rest
-  pub unfolds : (i : Item) (p : Place) (t : Text) (st : State Value) (n : ℕ) → free (then i p t) st (suc n) ≡ go_on free (act i st) t n
+  -- the first item of a phrase, and then the rest
+  pub unfolds : (i : Item) (p : Place) (t : Phrase) (st : State Value) (n : ℕ) → free (then i p t) st (suc n) ≡ go_on free (act i st) t n
   unfolds i p t st n = acts_agree (eval act n) free n (within act n) (λ u s m le. same_run act n m m le (omega arith) u s m (omega arith)) (act i st) t n (omega arith)
 
 pub then_again : (r : Result) (go go' : State Value → ℕ → Result) → then_do (then_do r go) go' ≡ then_do r (λ st m. then_do (go st m) go')
@@ -61,11 +61,11 @@ more_turned (suc n) k = ap suc (more_turned n k) ∙ one k n
     one (suc k) n = ap suc (one k n)
 
 module _ (act : Item → State Value → Act) where
-  pub stays_text : (t : Text) (st : State Value) → Stays (free act t st)
-  stays_text t st n k = longer act k n (more n k) (more_least n k) t st n
+  pub stays_phrase : (t : Phrase) (st : State Value) → Stays (free act t st)
+  stays_phrase t st n k = longer act k n (more n k) (more_least n k) t st n
 
   pub stays_call : (c : Callable) (st : State Value) → Stays (run_callable (free act) c st)
-  stays_call (text t) st n k = stays_text t st n k
+  stays_call (of_phrase t) st n k = stays_phrase t st n k
   stays_call (cur v c) st zero k = tt
   stays_call (cur v c) st (suc n) k = stays_call c (push v st) n k
   stays_call (both c d) st zero k = tt

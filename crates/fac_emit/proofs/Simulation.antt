@@ -2,7 +2,7 @@
 use Rattle.std.proofs.Common.{◌≡◌, ◌≢◌, ℕ, zero, suc, ◌+◌, ◌<◌, List, [], ◌∷◌, false, Option, Some, refl, ap, sym, subst, ◌∙◌, arith}
 use Rattle.std.specs.Prelude.{slice_get}
 use Rattle.fac_lang.specs.declared.program.Program.{Program}
-use Rattle.fac_lang.specs.Texts.{int, yes, no, Text, Item, lit, Value}
+use Rattle.fac_lang.specs.Phrases.{int, yes, no, Phrase, Item, lit, Value}
 use Rattle.fac_lang.specs.World.{World, State}
 use Rattle.fac_lang.specs.Eval.{Result, Done, Failed, Spent, Stuck, then_do, Act, Run}
 use Rattle.fac_lang.specs.Meaning.{names, act}
@@ -12,17 +12,17 @@ use Rattle.fac_code.specs.declared.image.Action.TheVariants.{Code as code_action
 use Rattle.fac_code.specs.declared.image.Image.{Image}
 use Rattle.fac_code.specs.declared.image.WordRow.{WordRow}
 use Rattle.fac_code.specs.declared.names.TrapWhy.TheVariants.{Kind as t_kind}
-use Rattle.fac_prim.specs.Cells.{MValue, m_plain, kept_list}
+use Rattle.fac_prim.specs.MachineValues.{MValue, m_plain, kept_list}
 use Rattle.fac_vm.specs.Machine.{Machine, Entry, resume, End, done, failed, spent, Step, goes_on, or_trap, code_of, fetched, step, Ends}
 use Rattle.fac_vm.proofs.Leading.{ends_after, ends_step}
-use Rattle.fac_emit.specs.View.{Templates, values_view, world_view, state_view}
+use Rattle.fac_emit.specs.MachineView.{Templates, values_view, world_view, state_view}
 use Rattle.fac_emit.specs.Carries.{SameEnd}
-use Rattle.fac_emit.specs.Whole as whole
-use Rattle.fac_emit.specs.Symbols.{Sym, here, off, k_text, Task, do_text, heres, AllHere, outs, Special}
+use Rattle.fac_emit.specs.WholeValues as whole
+use Rattle.fac_emit.specs.Symbols.{Sym, here, off, k_phrase, Task, do_phrase, heres, AllHere, outs, Special}
 use Rattle.fac_emit.specs.Expanded.{Code, c_last, c_make, c_trim, c_end, c_off, c_int, c_true, c_false, c_prim, c_word, c_call, c_dip, c_if, EachCalled}
 use Rattle.fac_emit.proofs.RunLaws.{free}
-use Rattle.fac_emit.proofs.Standing.{l_text, Lies, lies_none, keeps_none, keeps_text, all_here}
-use Rattle.fac_emit.proofs.Following.{Setting, state, at, left, Follows, fetch, Live, LiveText, Go, CallsTo, Templated, Valid}
+use Rattle.fac_emit.proofs.Standing.{l_phrase, Lies, lies_none, keeps_none, keeps_phrase, all_here}
+use Rattle.fac_emit.proofs.Following.{Setting, state, at, left, Follows, fetch, Live, LivePhrase, Go, CallsTo, Templated, Valid}
 use Rattle.fac_emit.proofs.StepLemmas.{g_call, g_called, g_dip, g_end, g_if, g_last, g_make, g_off, g_prim, g_push, g_trim}
 
 module _ (Y : Setting) where
@@ -61,17 +61,17 @@ module _ (Y : Setting) where
   then_done (Spent st i) = refl
   then_done Stuck = refl
 
-  live_text : (b : Text) (st : State Value) → LiveText Y b st → Live Y (l_text b ∷ []) st
-  live_text b st lv m is = lv m (sym (then_done (run b st m)) ∙ is)
+  live_phrase : (b : Phrase) (st : State Value) → LivePhrase Y b st → Live Y (l_phrase b ∷ []) st
+  live_phrase b st lv m is = lv m (sym (then_done (run b st m)) ∙ is)
 
-  -- a text whose code stands at a place, at fewer ticks
-  called_text : (last : Option Instr) (f : ℕ) → Below f → (Γ : List Special) (F : List MValue) (a : ℕ) (S : List Sym) (b : Text) → Code P M T Γ last F zero S (do_text b ∷ []) a → ((g : ℕ) → g < f → Valid Y g Γ) → CallsTo Y last f F a S b
-  called_text last f below Γ F a S b code v R base ms vs w n lt ok lv l =
+  -- a phrase whose code stands at a place, at fewer ticks
+  called_phrase : (last : Option Instr) (f : ℕ) → Below f → (Γ : List Special) (F : List MValue) (a : ℕ) (S : List Sym) (b : Phrase) → Code P M T Γ last F zero S (do_phrase b ∷ []) a → ((g : ℕ) → g < f → Valid Y g Γ) → CallsTo Y last f F a S b
+  called_phrase last f below Γ F a S b code v R base ms vs w n lt ok lv l =
       subst (λ (r : Result). Follows Y last R base (at F a ms base R w) n r) (then_done (run b (state vs (V w)) n))
-      (below n lt Γ last F zero S (do_text b ∷ []) a code (v n lt) R base ms base vs (l_text b ∷ []) w n (omega arith) ok (live_text b (state vs (V w)) lv) l (keeps_text keeps_none))
+      (below n lt Γ last F zero S (do_phrase b ∷ []) a code (v n lt) R base ms base vs (l_phrase b ∷ []) w n (omega arith) ok (live_phrase b (state vs (V w)) lv) l (keeps_phrase keeps_none))
 
   -- a stack on which nothing is put off needs no names
-  on_all : (S : List Sym) (F : List MValue) (a : ℕ) (b : Text) (f : ℕ) → AllHere S → CallsTo Y (Some Ret) f F a [] b → CallsTo Y (Some Ret) f F a S b
+  on_all : (S : List Sym) (F : List MValue) (a : ℕ) (b : Phrase) (f : ℕ) → AllHere S → CallsTo Y (Some Ret) f F a [] b → CallsTo Y (Some Ret) f F a S b
   on_all S F a b f h calls R base ms vs w n lt ok lv l = calls R base ms vs w n lt ok lv (subst (λ (us : List Value). Lies T [] ms us) (all_here T S ms vs h l) lies_none)
 
   word_goes : (wd a : ℕ) (r : WordRow) (F : List MValue) (pc : ℕ) → slice_get M.words wd ≡ Some r → r.action ≡ code_action a → (ms rs : List MValue) (R : List Entry) (w : World MValue) (n : ℕ) →
@@ -87,27 +87,27 @@ module _ (Y : Setting) where
   main f below each tpl Γ last F d S K pc (c_make {d = d1} {S = S1} q r ks e et eh ec c) v = g_make Y f F last d1 S1 K pc q r ks e et eh ec (main f below each tpl Γ last F d1 (here ∷ S1) K (pc + 1) c v)
   main f below each tpl Γ last F d S K pc (c_trim {S = S1} H a c) v = g_trim Y f F last d S1 H K pc a (main f below each tpl Γ last F d S1 K pc c v)
   main f below each tpl Γ last F d S K pc (c_end {K = K1} c) v = g_end Y f F last d S K1 pc (main f below each tpl Γ last F d S K1 pc c v)
-  main f below each tpl Γ last F d S K pc (c_off {b = b} {t = t} {p = p} {K = K1} c) v = g_off Y f F last d b p t S K1 pc (main f below each tpl Γ last F (suc d) (off (k_text b) ∷ S) (do_text t ∷ K1) pc c v)
+  main f below each tpl Γ last F d S K pc (c_off {b = b} {t = t} {p = p} {K = K1} c) v = g_off Y f F last d b p t S K1 pc (main f below each tpl Γ last F (suc d) (off (k_phrase b) ∷ S) (do_phrase t ∷ K1) pc c v)
   main f below each tpl Γ last F d S K pc (c_int {p = p} {t = t} {K = K1} z e c) v = g_push Y f F last (lit (int z)) p t S K1 pc (Int z) (m_plain (int z)) tt e (λ s. refl) (λ ms rs R w n. refl) (λ st. refl)
-      (main f below each tpl Γ last F zero (here ∷ S) (do_text t ∷ K1) (pc + 1) c v)
+      (main f below each tpl Γ last F zero (here ∷ S) (do_phrase t ∷ K1) (pc + 1) c v)
   main f below each tpl Γ last F d S K pc (c_true {p = p} {t = t} {K = K1} e c) v = g_push Y f F last (lit yes) p t S K1 pc True (m_plain yes) tt e (λ s. refl) (λ ms rs R w n. refl) (λ st. refl)
-      (main f below each tpl Γ last F zero (here ∷ S) (do_text t ∷ K1) (pc + 1) c v)
+      (main f below each tpl Γ last F zero (here ∷ S) (do_phrase t ∷ K1) (pc + 1) c v)
   main f below each tpl Γ last F d S K pc (c_false {p = p} {t = t} {K = K1} e c) v = g_push Y f F last (lit no) p t S K1 pc False (m_plain no) tt e (λ s. refl) (λ ms rs R w n. refl) (λ st. refl)
-      (main f below each tpl Γ last F zero (here ∷ S) (do_text t ∷ K1) (pc + 1) c v)
-  main f below each tpl Γ last F d S K pc (c_prim {p = p} {t = t} {S1 = S1} {K = K1} wd k q es en ew needs e c) v = g_prim Y f F last wd k q p t S S1 K1 pc es en ew needs e (main f below each tpl Γ last F zero (heres (outs q) S1) (do_text t ∷ K1) (pc + 1) c v)
+      (main f below each tpl Γ last F zero (here ∷ S) (do_phrase t ∷ K1) (pc + 1) c v)
+  main f below each tpl Γ last F d S K pc (c_prim {p = p} {t = t} {S1 = S1} {K = K1} wd k q es en ew needs e c) v = g_prim Y f F last wd k q p t S S1 K1 pc es en ew needs e (main f below each tpl Γ last F zero (heres (outs q) S1) (do_phrase t ∷ K1) (pc + 1) c v)
   main f below each tpl Γ last F d S K pc (c_word {p = p} {t = t} {K = K1} wd b lt es a e c) v =
       let there = each.bodies wd b lt es in
       g_called Y f F last (Callw wd false) wd b p t [] there.1 S K1 pc es tt e (λ s. refl) (word_goes wd there.1 there.0 F pc there.2 there.3)
-      (on_all S [] there.1 b f a (called_text (Some Ret) f below [] [] there.1 [] b there.4 (λ g less. tt))) (main f below each tpl Γ last F zero [] (do_text t ∷ K1) (pc + 1) c v)
-  main f below each tpl Γ last F d S K pc (c_call {p = p} {t = t} {K = K1} wd k es en a e c) v = g_call Y f F tpl last wd k p t S K1 pc es en a e (main f below each tpl Γ last F zero [] (do_text t ∷ K1) (pc + 1) c v)
-  main f below each tpl Γ last F d S K pc (c_dip {p = p} {t = t} {K = K1} wd k es en a e c) v = g_dip Y f F tpl last wd k p t S K1 pc es en a e (main f below each tpl Γ last F zero [] (do_text t ∷ K1) (pc + 1) c v)
-  main f below each tpl Γ last F d S K pc (c_if {p = p} {t = t} {K = K1} wd k es en a e c) v = g_if Y f F tpl last wd k p t S K1 pc es en a e (main f below each tpl Γ last F zero [] (do_text t ∷ K1) (pc + 1) c v)
+      (on_all S [] there.1 b f a (called_phrase (Some Ret) f below [] [] there.1 [] b there.4 (λ g less. tt))) (main f below each tpl Γ last F zero [] (do_phrase t ∷ K1) (pc + 1) c v)
+  main f below each tpl Γ last F d S K pc (c_call {p = p} {t = t} {K = K1} wd k es en a e c) v = g_call Y f F tpl last wd k p t S K1 pc es en a e (main f below each tpl Γ last F zero [] (do_phrase t ∷ K1) (pc + 1) c v)
+  main f below each tpl Γ last F d S K pc (c_dip {p = p} {t = t} {K = K1} wd k es en a e c) v = g_dip Y f F tpl last wd k p t S K1 pc es en a e (main f below each tpl Γ last F zero [] (do_phrase t ∷ K1) (pc + 1) c v)
+  main f below each tpl Γ last F d S K pc (c_if {p = p} {t = t} {K = K1} wd k es en a e c) v = g_if Y f F tpl last wd k p t S K1 pc es en a e (main f below each tpl Γ last F zero [] (do_phrase t ∷ K1) (pc + 1) c v)
 
   below_all : EachCalled P M T → (f : ℕ) → Below f
   below_all each zero g lt = absurd (omega (arith, lt))
   below_all each (suc f) g lt =
       let lower : Below g = λ j less. below_all each f j (omega (arith, lt, less)) in
-      main g lower each (λ q r k e size hk. called_text (Some Ret) g lower [] (kept_list k) r.entry [] (T q) (each.templates q r k e size hk) (λ j less. tt))
+      main g lower each (λ q r k e size hk. called_phrase (Some Ret) g lower [] (kept_list k) r.entry [] (T q) (each.templates q r k e size hk) (λ j less. tt))
 
   -- what stands at a place does in the machine what is left of the meaning
   pub follows : EachCalled P M T → (f : ℕ) → Main f
@@ -120,11 +120,11 @@ module _ (Y : Setting) where
   ending s n (Spent st i) ns h = (spent h.0, h.1, h.2)
   ending s n Stuck ns h = absurd (ns refl)
 
-  -- The code of a text stands at a place, and then `halt`: from there the machine ends as the meaning does, tick for tick, at every budget, where the
+  -- The code of a phrase stands at a place, and then `halt`: from there the machine ends as the meaning does, tick for tick, at every budget, where the
   -- meaning is stuck at none.
-  pub carried : EachCalled P M T → (pc : ℕ) (t : Text) → Code P M T [] (Some Halt) [] zero [] (do_text t ∷ []) pc → (stack : List MValue) (world : World MValue) → Fine [] [] stack world → LiveText Y t (state_view T stack world) → (n : ℕ) →
+  pub carried : EachCalled P M T → (pc : ℕ) (t : Phrase) → Code P M T [] (Some Halt) [] zero [] (do_phrase t ∷ []) pc → (stack : List MValue) (world : World MValue) → Fine [] [] stack world → LivePhrase Y t (state_view T stack world) → (n : ℕ) →
       (e : End) × Ends M (names P) (at [] pc stack [] [] world) n e × SameEnd T (run t (state_view T stack world) n) e
   carried each pc t code stack world ok lv n =
       let st = state_view T stack world in
       ending (at [] pc stack [] [] world) n (run t st n) (lv n) (subst (λ (r : Result). Follows Y (Some Halt) [] [] (at [] pc stack [] [] world) n r) (then_done (run t st n))
-      (follows each n [] (Some Halt) [] zero [] (do_text t ∷ []) pc code tt [] [] stack [] (values_view T stack) (l_text t ∷ []) world n (omega arith) ok (live_text t st lv) lies_none (keeps_text keeps_none)))
+      (follows each n [] (Some Halt) [] zero [] (do_phrase t ∷ []) pc code tt [] [] stack [] (values_view T stack) (l_phrase t ∷ []) world n (omega arith) ok (live_phrase t st lv) lies_none (keeps_phrase keeps_none)))

@@ -5,27 +5,27 @@ use Rattle.fac_lang.specs.declared.phrase.Place.{Place}
 use Rattle.fac_lang.specs.declared.program.Program.{Program}
 use Rattle.fac_lang.specs.declared.program.Sort.{Sort}
 use Rattle.fac_lang.specs.declared.program.Sort.TheVariants.{Prim as prim_sort, Core as core_sort, Body as body}
-use Rattle.fac_lang.specs.Texts.{Text, end, then, Item, quot, word, Value, fun, text}
+use Rattle.fac_lang.specs.Phrases.{Phrase, end, then, Item, quot, word, Value, fun, of_phrase}
 use Rattle.fac_lang.specs.World.{World, State, pile, push, push_each}
 use Rattle.fac_lang.specs.PrimitiveWords.{outputs_of}
 use Rattle.fac_lang.specs.Procedures.{Gives, gives, bad, Fn, fn0, fn1, fn2, fn3}
 use Rattle.fac_lang.specs.Primitives.{Primitive, prim_numbered, prim_fn, seen_no}
 use Rattle.fac_lang.specs.Eval.{Result, Stuck, then_do, Act, wrong, goes, runs, Run, run_callable, go_on}
-use Rattle.fac_lang.specs.Meaning.{texts, names, sort_of, Core, core_numbered, c_call as w_call, c_dip as w_dip, c_if as w_if, does, given, prim_act, core_act, sort_act, act}
+use Rattle.fac_lang.specs.Meaning.{meaning_values, names, sort_of, Core, core_numbered, c_call as w_call, c_dip as w_dip, c_if as w_if, does, given, prim_act, core_act, sort_act, act}
 use Rattle.fac_lang.proofs.Laws.{Within, within_call}
 use Rattle.fac_code.specs.declared.image.Instr.{Instr}
 use Rattle.fac_code.specs.declared.image.Instr.TheVariants.{Quot, Prim as prim_instr, Call, Dip, If, Ret}
 use Rattle.fac_code.specs.declared.image.Image.{Image}
 use Rattle.fac_code.specs.declared.image.TemplateRow.{TemplateRow}
 use Rattle.fac_code.specs.declared.names.TrapWhy.TheVariants.{Kind as t_kind, Frame as t_frame}
-use Rattle.fac_prim.specs.Cells.{MValue, m_plain, m_fun, MCallable, m_lit, m_cur, m_com, kept_list, m_seen, cells, cells_at}
+use Rattle.fac_prim.specs.MachineValues.{MValue, m_plain, m_fun, MCallable, m_lit, m_cur, m_com, kept_list, m_seen, machine_values, cells_at}
 use Rattle.fac_vm.specs.Machine.{Machine, Entry, resume, put_back, enter, spent, Step, goes_on, ends, after, given as machine_given, does as machine_does, word_of_prim, or_trap, branch, entering, fetched, step}
 use Rattle.fac_vm.proofs.Leading.{leads_none, ends_step}
-use Rattle.fac_emit.specs.View.{Templates, value_view, callable_view, values_view, world_view, state_view, gives_view}
-use Rattle.fac_emit.specs.Whole as whole
-use Rattle.fac_emit.specs.Symbols.{Sym, here, off, k_text, Task, do_text, Needs, heres, AllHere, ins, outs, count}
-use Rattle.fac_emit.proofs.RunLaws.{free, spares, Stays, stays_text, stays_call, live_first, live_rest}
-use Rattle.fac_emit.proofs.Standing.{Left, l_text, r_here, r_off, r_text, Lies, lies_none, lies_more, Keeps, keeps_none, keeps_text, Has, has, too_short, needed, all_here, trim, lies_pile}
+use Rattle.fac_emit.specs.MachineView.{Templates, value_view, callable_view, values_view, world_view, state_view, gives_view}
+use Rattle.fac_emit.specs.WholeValues as whole
+use Rattle.fac_emit.specs.Symbols.{Sym, here, off, k_phrase, Task, do_phrase, Needs, heres, AllHere, ins, outs, count}
+use Rattle.fac_emit.proofs.RunLaws.{free, spares, Stays, stays_phrase, stays_call, live_first, live_rest}
+use Rattle.fac_emit.proofs.Standing.{Left, l_phrase, r_here, r_off, r_phrase, Lies, lies_none, lies_more, Keeps, keeps_none, keeps_phrase, Has, has, too_short, needed, all_here, trim, lies_pile}
 use Rattle.fac_emit.proofs.GivenValues.{IsLong, IsCounted, prim_counted}
 use Rattle.fac_emit.proofs.WholeValues.{pile_whole, kept_whole, cells_whole, made, made_whole, branch_whole}
 use Rattle.fac_emit.proofs.SamePrimitives.{Same, prim_same, seen_same}
@@ -75,16 +75,16 @@ module _ (Y : Setting) where
   pub g_trim : (f : ℕ) (F : List MValue) (last : Option Instr) (d : ℕ) (S H : List Sym) (K : List Task) (pc : ℕ) → AllHere H → Go Y f F last d S K pc → Go Y f F last d (S ++ H) K pc
   g_trim f F last d S H K pc a go R base ms rs vs L w n le ok lv l k = go R base ms rs vs L w n le ok lv (trim T S H a ms vs l) k
 
-  pub g_end : (f : ℕ) (F : List MValue) (last : Option Instr) (d : ℕ) (S : List Sym) (K : List Task) (pc : ℕ) → Go Y f F last d S K pc → Go Y f F last d S (do_text end ∷ K) pc
-  g_end f F last d S K pc go R base ms rs vs L w n le ok lv l (keeps_text {L = L1} k) = go R base ms rs vs L1 w n le ok lv l k
+  pub g_end : (f : ℕ) (F : List MValue) (last : Option Instr) (d : ℕ) (S : List Sym) (K : List Task) (pc : ℕ) → Go Y f F last d S K pc → Go Y f F last d S (do_phrase end ∷ K) pc
+  g_end f F last d S K pc go R base ms rs vs L w n le ok lv l (keeps_phrase {L = L1} k) = go R base ms rs vs L1 w n le ok lv l k
 
   pub g_make : (f : ℕ) (F : List MValue) (last : Option Instr) (d : ℕ) (S : List Sym) (K : List Task) (pc q : ℕ) (r : TemplateRow) (ks : List MValue) → slice_get M.code pc ≡ Some (Quot q) → slice_get M.templates q ≡ Some r → r.holes ≡ 0 →
-      cells_at r.cells F ≡ Some ks → Go Y f F last d (here ∷ S) K (pc + 1) → Go Y f F last (suc d) (off (k_text (T q)) ∷ S) K pc
+      cells_at r.cells F ≡ Some ks → Go Y f F last d (here ∷ S) K (pc + 1) → Go Y f F last (suc d) (off (k_phrase (T q)) ∷ S) K pc
   g_make f F last d S K pc q r ks e et eh ec go R base ms rs vs L w zero le ok lv l h = spent_here Y last R base (at F pc ms rs R w) (state [] (V w)) None (Quot q) e refl refl
   g_make f F last d S K pc q r ks e et eh ec go R base ms rs vs L w (suc n) le ok lv l h = one ms vs ok lv l
     where
-      one : (ms : List MValue) (vs : List Value) → Fine F rs ms w → Live Y L (state vs (V w)) → Lies T (off (k_text (T q)) ∷ S) ms vs → Follows Y last R base (at F pc ms rs R w) (suc n) (owing (V w) d n (left Y L (state vs (V w))))
-      one ms vs ok lv (lies_more {vs = us} (r_off r_text) l) =
+      one : (ms : List MValue) (vs : List Value) → Fine F rs ms w → Live Y L (state vs (V w)) → Lies T (off (k_phrase (T q)) ∷ S) ms vs → Follows Y last R base (at F pc ms rs R w) (suc n) (owing (V w) d n (left Y L (state vs (V w))))
+      one ms vs ok lv (lies_more {vs = us} (r_off r_phrase) l) =
           let s = at F pc ms rs R w in
           let m = made q ks in
           let row = ap (λ o. or_trap o t_kind s n (λ u. or_trap (cells_at u.cells F) t_frame s n (λ ws. goes_on (at F (pc + 1) (made q ws ∷ ms) rs R w) n))) et in
@@ -94,30 +94,30 @@ module _ (Y : Setting) where
           let ok1 : Fine F rs (m ∷ ms) w = record { cells = ok.cells; held = ok.held; values = (made_whole M q r ks et size c.0, ok.values); objects = ok.objects } in
           step_before Y last R base s (at F (pc + 1) (m ∷ ms) rs R w) (suc n) n _ (fetch Y s (suc n) (Quot q) e ∙ row ∙ there) (go R base (m ∷ ms) rs (value_view T m ∷ us) L w n (omega (arith, le)) ok1 lv (lies_more r_here l) h)
 
-  pub g_off : (f : ℕ) (F : List MValue) (last : Option Instr) (d : ℕ) (b : Text) (p : Place) (t : Text) (S : List Sym) (K : List Task) (pc : ℕ) → Go Y f F last (suc d) (off (k_text b) ∷ S) (do_text t ∷ K) pc →
-      Go Y f F last d S (do_text (then (quot b) p t) ∷ K) pc
-  g_off f F last d b p t S K pc go R base ms rs vs L w n le ok lv l (keeps_text {L = L1} h) =
+  pub g_off : (f : ℕ) (F : List MValue) (last : Option Instr) (d : ℕ) (b : Phrase) (p : Place) (t : Phrase) (S : List Sym) (K : List Task) (pc : ℕ) → Go Y f F last (suc d) (off (k_phrase b) ∷ S) (do_phrase t ∷ K) pc →
+      Go Y f F last d S (do_phrase (then (quot b) p t) ∷ K) pc
+  g_off f F last d b p t S K pc go R base ms rs vs L w n le ok lv l (keeps_phrase {L = L1} h) =
       let st = state vs (V w) in
-      let st' = state (fun (text b) ∷ vs) (V w) in
-      owe Y last R base (at F pc ms rs R w) n (V w) d n (left Y (l_text (then (quot b) p t) ∷ L1) st) (left Y (l_text t ∷ L1) st') st (Some (quot b)) refl refl (λ m. first_goes Y (quot b) p t L1 st st' m refl)
-      (go R base ms rs (fun (text b) ∷ vs) (l_text t ∷ L1) w n le ok (live_goes Y (quot b) p t L1 st st' refl lv) (lies_more (r_off r_text) l) (keeps_text h))
+      let st' = state (fun (of_phrase b) ∷ vs) (V w) in
+      owe Y last R base (at F pc ms rs R w) n (V w) d n (left Y (l_phrase (then (quot b) p t) ∷ L1) st) (left Y (l_phrase t ∷ L1) st') st (Some (quot b)) refl refl (λ m. first_goes Y (quot b) p t L1 st st' m refl)
+      (go R base ms rs (fun (of_phrase b) ∷ vs) (l_phrase t ∷ L1) w n le ok (live_goes Y (quot b) p t L1 st st' refl lv) (lies_more (r_off r_phrase) l) (keeps_phrase h))
 
   -- an instruction that pushes a value
-  pub g_push : (f : ℕ) (F : List MValue) (last : Option Instr) (i : Item) (p : Place) (t : Text) (S : List Sym) (K : List Task) (pc : ℕ) (x : Instr) (m : MValue) → Whole m → slice_get M.code pc ≡ Some x →
+  pub g_push : (f : ℕ) (F : List MValue) (last : Option Instr) (i : Item) (p : Place) (t : Phrase) (S : List Sym) (K : List Task) (pc : ℕ) (x : Instr) (m : MValue) → Whole m → slice_get M.code pc ≡ Some x →
       ((s : Machine) → fetched M (names P) (Some x) s zero ≡ ends (spent s)) →
       ((ms rs : List MValue) (R : List Entry) (w : World MValue) (n : ℕ) → fetched M (names P) (Some x) (at F pc ms rs R w) (suc n) ≡ goes_on (at F (pc + 1) (m ∷ ms) rs R w) n) →
-      ((st : State Value) → A i st ≡ goes (push (value_view T m) st)) → Go Y f F last zero (here ∷ S) (do_text t ∷ K) (pc + 1) → Go Y f F last zero S (do_text (then i p t) ∷ K) pc
-  g_push f F last i p t S K pc x m hm e none some acts go R base ms rs vs L w zero le ok lv l (keeps_text h) = spent_here Y last R base (at F pc ms rs R w) (state vs (V w)) (Some i) x e (none (at F pc ms rs R w)) refl
-  g_push f F last i p t S K pc x m hm e none some acts go R base ms rs vs L w (suc n) le ok lv l (keeps_text {L = L1} h) =
+      ((st : State Value) → A i st ≡ goes (push (value_view T m) st)) → Go Y f F last zero (here ∷ S) (do_phrase t ∷ K) (pc + 1) → Go Y f F last zero S (do_phrase (then i p t) ∷ K) pc
+  g_push f F last i p t S K pc x m hm e none some acts go R base ms rs vs L w zero le ok lv l (keeps_phrase h) = spent_here Y last R base (at F pc ms rs R w) (state vs (V w)) (Some i) x e (none (at F pc ms rs R w)) refl
+  g_push f F last i p t S K pc x m hm e none some acts go R base ms rs vs L w (suc n) le ok lv l (keeps_phrase {L = L1} h) =
       let s = at F pc ms rs R w in
       let st = state vs (V w) in
       let st' = state (value_view T m ∷ vs) (V w) in
       let ok1 : Fine F rs (m ∷ ms) w = record { cells = ok.cells; held = ok.held; values = (hm, ok.values); objects = ok.objects } in
       rw (first_goes Y i p t L1 st st' n (acts st)) (step_before Y last R base s (at F (pc + 1) (m ∷ ms) rs R w) (suc n) n _ (fetch Y s (suc n) x e ∙ some ms rs R w n)
-      (go R base (m ∷ ms) rs (value_view T m ∷ vs) (l_text t ∷ L1) w n (omega (arith, le)) ok1 (live_goes Y i p t L1 st st' (acts st) lv) (lies_more r_here l) (keeps_text h)))
+      (go R base (m ∷ ms) rs (value_view T m ∷ vs) (l_phrase t ∷ L1) w n (omega (arith, le)) ok1 (live_goes Y i p t L1 st st' (acts st) lv) (lies_more r_here l) (keeps_phrase h)))
 
   -- what a primitive gives
-  gave : (f : ℕ) (F : List MValue) (last : Option Instr) (o : Option ℕ) (t : Text) (S1 : List Sym) (K : List Task) (pc : ℕ) → Go Y f F last zero (heres (count o) S1) (do_text t ∷ K) (pc + 1) →
+  gave : (f : ℕ) (F : List MValue) (last : Option Instr) (o : Option ℕ) (t : Phrase) (S1 : List Sym) (K : List Task) (pc : ℕ) → Go Y f F last zero (heres (count o) S1) (do_phrase t ∷ K) (pc + 1) →
       (R : List Entry) (base rs : List MValue) (L : List Left) (n : ℕ) → n ≤ f → Keeps T base K rs L → (all ms : List MValue) (us : List Value) (w0 w : World MValue) (a : ℕ) → AllWhole F → AllWhole rs → AllWhole ms → Lies T S1 ms us →
       (g : Gives MValue) (g' : Gives Value) → g' ≡ gives_view T g → whole.WholeGives M g → IsLong o g → ((m : ℕ) → then_do (go_on run (given a us g') t m) (left Y L) ≢ Stuck) →
       stepping (at F pc all rs R w0) (suc n) ≡ machine_given a (at F pc ms rs R w) n (λ s'. goes_on (after s') n) g → Follows Y last R base (at F pc all rs R w0) (suc n) (then_do (go_on run (given a us g') t n) (left Y L))
@@ -127,7 +127,7 @@ module _ (Y : Setting) where
       let named : Lies T (heres (count o) S1) (pile vs ms) us' = subst (λ (k : ℕ). Lies T (heres k S1) (pile vs ms) us') (sym size) (lies_pile T vs S1 ms us l) in
       let ok : Fine F rs (pile vs ms) w' = record { cells = hf; held = hr; values = pile_whole M vs ms hg.0 hs; objects = hg.1 } in
       rw same (step_before Y last R base (at F pc all rs R w0) (at F (pc + 1) (pile vs ms) rs R w') (suc n) n _ e
-      (go R base (pile vs ms) rs us' (l_text t ∷ L) w' n le ok (λ m is. lv m (ap (λ x. then_do (go_on run (given a us x) t m) (left Y L)) same ∙ is)) named (keeps_text h)))
+      (go R base (pile vs ms) rs us' (l_phrase t ∷ L) w' n le ok (λ m is. lv m (ap (λ x. then_do (go_on run (given a us x) t m) (left Y L)) same ∙ is)) named (keeps_phrase h)))
   gave f F last o t S1 K pc go R base rs L n le h all ms us w0 w a hf hr hs l (bad x v w') g' same hg long lv e =
       rw same (record {
         stood = at F pc all rs R w0;
@@ -159,10 +159,10 @@ module _ (Y : Setting) where
   short_wrong a N o mf tf c h vs w lt = absurd h
 
   -- what it does with what is there
-  prim_done : (f : ℕ) (F : List MValue) (last : Option Instr) (i : Item) (p : Place) (t : Text) (a N : ℕ) (o : Option ℕ) (S1 : List Sym) (K : List Task) (pc : ℕ) → Go Y f F last zero (heres (count o) S1) (do_text t ∷ K) (pc + 1) →
+  prim_done : (f : ℕ) (F : List MValue) (last : Option Instr) (i : Item) (p : Place) (t : Phrase) (a N : ℕ) (o : Option ℕ) (S1 : List Sym) (K : List Task) (pc : ℕ) → Go Y f F last zero (heres (count o) S1) (do_phrase t ∷ K) (pc + 1) →
       (R : List Entry) (base rs : List MValue) (L : List Left) (w : World MValue) (n : ℕ) → n ≤ f → Keeps T base K rs L → AllWhole F → AllWhole rs → whole.WholeObjects M w.objects → (mf : Fn MValue) (tf : Fn Value) → IsCounted N o mf →
       Same T mf tf → whole.Keeps M mf → ((st : State Value) → A i st ≡ does a tf st) → ((ms : List MValue) → stepping (at F pc ms rs R w) (suc n) ≡ machine_does a mf (at F pc ms rs R w) n (λ s'. goes_on (after s') n)) →
-      (ms : List MValue) (vs : List Value) → AllWhole ms → Live Y (l_text (then i p t) ∷ L) (state vs (V w)) → Has T N S1 ms vs → Follows Y last R base (at F pc ms rs R w) (suc n) (left Y (l_text (then i p t) ∷ L) (state vs (V w)) (suc n))
+      (ms : List MValue) (vs : List Value) → AllWhole ms → Live Y (l_phrase (then i p t) ∷ L) (state vs (V w)) → Has T N S1 ms vs → Follows Y last R base (at F pc ms rs R w) (suc n) (left Y (l_phrase (then i p t) ∷ L) (state vs (V w)) (suc n))
   prim_done f F last i p t a N o S1 K pc go R base rs L w n le h hf hr hw (fn0 mf) (fn0 tf) c same kp acts steps ms vs hs lv (has [] {vs = us} e l) =
       let st = state us (V w) in
       let act = acts st in
@@ -197,21 +197,21 @@ module _ (Y : Setting) where
   prim_done f F last i p t a N o S1 K pc go R base rs L w n le h hf hr hw mf tf c same kp acts steps ms vs hs lv (too_short lt) = wrong_here Y i p t L (state vs (V w)) (acts (state vs (V w)) ∙ short_wrong a N o mf tf c same vs (V w) lt) lv
   prim_done f F last i p t a N o S1 K pc go R base rs L w n le h hf hr hw mf tf c same kp acts steps ms vs hs lv x = absurd same
 
-  pub g_prim : (f : ℕ) (F : List MValue) (last : Option Instr) (wd k : ℕ) (q : Primitive) (p : Place) (t : Text) (S S1 : List Sym) (K : List Task) (pc : ℕ) → sort_of P wd ≡ Some (prim_sort k) → prim_numbered k ≡ Some q →
-      word_of_prim k 0 M.words ≡ wd → Needs (ins q) S S1 → slice_get M.code pc ≡ Some (prim_instr k) → Go Y f F last zero (heres (outs q) S1) (do_text t ∷ K) (pc + 1) → Go Y f F last zero S (do_text (then (word wd) p t) ∷ K) pc
-  g_prim f F last wd k q p t S S1 K pc es en ew needs e go R base ms rs vs L w zero le ok lv l (keeps_text h) = spent_here Y last R base (at F pc ms rs R w) (state vs (V w)) (Some (word wd)) (prim_instr k) e refl refl
-  g_prim f F last wd k q p t S S1 K pc es en ew needs e go R base ms rs vs L w (suc n) le ok lv l (keeps_text {L = L1} h) =
-      prim_done f F last (word wd) p t wd (ins q) (outputs_of q.word) S1 K pc go R base rs L1 w n (omega (arith, le)) h ok.cells ok.held ok.objects (prim_fn cells (names P) q) (prim_fn texts (names P) q) (prim_counted (names P) q)
+  pub g_prim : (f : ℕ) (F : List MValue) (last : Option Instr) (wd k : ℕ) (q : Primitive) (p : Place) (t : Phrase) (S S1 : List Sym) (K : List Task) (pc : ℕ) → sort_of P wd ≡ Some (prim_sort k) → prim_numbered k ≡ Some q →
+      word_of_prim k 0 M.words ≡ wd → Needs (ins q) S S1 → slice_get M.code pc ≡ Some (prim_instr k) → Go Y f F last zero (heres (outs q) S1) (do_phrase t ∷ K) (pc + 1) → Go Y f F last zero S (do_phrase (then (word wd) p t) ∷ K) pc
+  g_prim f F last wd k q p t S S1 K pc es en ew needs e go R base ms rs vs L w zero le ok lv l (keeps_phrase h) = spent_here Y last R base (at F pc ms rs R w) (state vs (V w)) (Some (word wd)) (prim_instr k) e refl refl
+  g_prim f F last wd k q p t S S1 K pc es en ew needs e go R base ms rs vs L w (suc n) le ok lv l (keeps_phrase {L = L1} h) =
+      prim_done f F last (word wd) p t wd (ins q) (outputs_of q.word) S1 K pc go R base rs L1 w n (omega (arith, le)) h ok.cells ok.held ok.objects (prim_fn machine_values (names P) q) (prim_fn meaning_values (names P) q) (prim_counted (names P) q)
       (prim_same T (names P) q) (prim_keeps M (names P) q) acts steps ms vs ok.values lv (needed T (ins q) S S1 needs ms vs l)
     where
-      acts : (st : State Value) → A (word wd) st ≡ does wd (prim_fn texts (names P) q) st
+      acts : (st : State Value) → A (word wd) st ≡ does wd (prim_fn meaning_values (names P) q) st
       acts st = ap (λ (o : Option Sort). sort_act P wd o st) es ∙ ap (λ (o : Option Primitive). prim_act P wd o st) en
 
-      steps : (ms : List MValue) → stepping (at F pc ms rs R w) (suc n) ≡ machine_does wd (prim_fn cells (names P) q) (at F pc ms rs R w) n (λ s'. goes_on (after s') n)
+      steps : (ms : List MValue) → stepping (at F pc ms rs R w) (suc n) ≡ machine_does wd (prim_fn machine_values (names P) q) (at F pc ms rs R w) n (λ s'. goes_on (after s') n)
       steps ms =
           let s = at F pc ms rs R w in
-          let one = ap (λ (v : ℕ). or_trap (prim_numbered k) t_kind s n (λ q. machine_does v (prim_fn cells (names P) q) s n (λ s'. goes_on (after s') n))) ew in
-          let two = ap (λ (o : Option Primitive). or_trap o t_kind s n (λ q. machine_does wd (prim_fn cells (names P) q) s n (λ s'. goes_on (after s') n))) en in
+          let one = ap (λ (v : ℕ). or_trap (prim_numbered k) t_kind s n (λ q. machine_does v (prim_fn machine_values (names P) q) s n (λ s'. goes_on (after s') n))) ew in
+          let two = ap (λ (o : Option Primitive). or_trap o t_kind s n (λ q. machine_does wd (prim_fn machine_values (names P) q) s n (λ s'. goes_on (after s') n))) en in
           fetch Y s (suc n) (prim_instr k) e ∙ one ∙ two
 
   pile_views : (put ms : List MValue) → values_view T (pile put ms) ≡ pile (values_view T put) (values_view T ms)
@@ -219,21 +219,21 @@ module _ (Y : Setting) where
   pile_views (v ∷ put) ms = pile_views put (v ∷ ms)
 
   -- What runs behind a run that a step entered: at its `ret` the machine goes on behind the instruction, where values are put back.
-  behind : (f : ℕ) (F : List MValue) (last : Option Instr) (t : Text) (K : List Task) (pc : ℕ) → Go Y f F last zero [] (do_text t ∷ K) (pc + 1) → (R own : List Entry) → HasNoGuard own → (base rs : List MValue) (L : List Left) →
+  behind : (f : ℕ) (F : List MValue) (last : Option Instr) (t : Phrase) (K : List Task) (pc : ℕ) → Go Y f F last zero [] (do_phrase t ∷ K) (pc + 1) → (R own : List Entry) → HasNoGuard own → (base rs : List MValue) (L : List Left) →
       Keeps T base K rs L → AllWhole F → AllWhole rs → (put : List MValue) → AllWhole put →
       ((G : List MValue) (pc2 : ℕ) (ms2 : List MValue) (w2 : World MValue) (m : ℕ) → slice_get M.code pc2 ≡ Some Ret → stepping (at G pc2 ms2 rs (own ++ R) w2) m ≡ goes_on (at F (pc + 1) (pile put ms2) rs R w2) m) → (X : ℕ → Result) →
-      Stays X → (s : Machine) (N n : ℕ) → n ≤ f → Within n (X n) → ((m : ℕ) → then_do (X m) (λ st k. left Y (l_text t ∷ L) (push_each (values_view T put) st) k) ≢ Stuck) → Follows Y (Some Ret) (own ++ R) rs s N (X n) →
-      Follows Y last R base s N (then_do (X n) (λ st k. left Y (l_text t ∷ L) (push_each (values_view T put) st) k))
+      Stays X → (s : Machine) (N n : ℕ) → n ≤ f → Within n (X n) → ((m : ℕ) → then_do (X m) (λ st k. left Y (l_phrase t ∷ L) (push_each (values_view T put) st) k) ≢ Stuck) → Follows Y (Some Ret) (own ++ R) rs s N (X n) →
+      Follows Y last R base s N (then_do (X n) (λ st k. left Y (l_phrase t ∷ L) (push_each (values_view T put) st) k))
   behind f F last t K pc go R own none base rs L h hf hr put hp back_step X stays s N n le within lv first =
-      let rest = λ (st : State Value) (k : ℕ). left Y (l_text t ∷ L) (push_each (values_view T put) st) k in
-      let rest_stays = λ (st : State Value). stays_left Y (l_text t ∷ L) (push_each (values_view T put) st) in
+      let rest = λ (st : State Value) (k : ℕ). left Y (l_phrase t ∷ L) (push_each (values_view T put) st) k in
+      let rest_stays = λ (st : State Value). stays_left Y (l_phrase t ∷ L) (push_each (values_view T put) st) in
       then_follows Y n last R own none base rs s N (X n) rest within first (λ G pc2 ms2 w2 m lem ok is code.
       let live = live_rest X rest stays rest_stays lv n m (state_view T ms2 w2) is in
       let same = pile_views put ms2 in
       let ok1 : Fine F rs (pile put ms2) w2 = record { cells = hf; held = hr; values = pile_whole M put ms2 hp ok.values; objects = ok.objects } in
       step_before Y last R base (at G pc2 ms2 rs (own ++ R) w2) (at F (pc + 1) (pile put ms2) rs R w2) m m _ (back_step G pc2 ms2 w2 m code)
-      (subst (λ (us : List Value). Follows Y last R base (at F (pc + 1) (pile put ms2) rs R w2) m (left Y (l_text t ∷ L) (state us (V w2)) m)) same
-      (go R base (pile put ms2) rs (values_view T (pile put ms2)) (l_text t ∷ L) w2 m (omega (arith, lem, le)) ok1 (λ k. subst (λ (us : List Value). left Y (l_text t ∷ L) (state us (V w2)) k ≢ Stuck) (sym same) (live k)) lies_none (keeps_text h))))
+      (subst (λ (us : List Value). Follows Y last R base (at F (pc + 1) (pile put ms2) rs R w2) m (left Y (l_phrase t ∷ L) (state us (V w2)) m)) same
+      (go R base (pile put ms2) rs (values_view T (pile put ms2)) (l_phrase t ∷ L) w2 m (omega (arith, lem, le)) ok1 (λ k. subst (λ (us : List Value). left Y (l_phrase t ∷ L) (state us (V w2)) k ≢ Stuck) (sym same) (live k)) lies_none (keeps_phrase h))))
 
   -- a `ret` goes on behind the call
   ret_resume : (F : List MValue) (pc : ℕ) (R : List Entry) (rs G : List MValue) (pc2 : ℕ) (ms2 : List MValue) (w2 : World MValue) (m : ℕ) → slice_get M.code pc2 ≡ Some Ret →
@@ -246,22 +246,22 @@ module _ (Y : Setting) where
   ret_put x F pc R rs G pc2 ms2 w2 m e = fetch Y (at G pc2 ms2 rs (put_back x ∷ resume (pc + 1) F ∷ R) w2) m Ret e
 
   -- a word whose code is called at a place under a frame, and its rest behind the instruction
-  pub g_called : (f : ℕ) (F : List MValue) (last : Option Instr) (x : Instr) (wd : ℕ) (b : Text) (p : Place) (t : Text) (G : List MValue) (a : ℕ) (S : List Sym) (K : List Task) (pc : ℕ) → sort_of P wd ≡ Some (body b) → AllWhole G →
+  pub g_called : (f : ℕ) (F : List MValue) (last : Option Instr) (x : Instr) (wd : ℕ) (b : Phrase) (p : Place) (t : Phrase) (G : List MValue) (a : ℕ) (S : List Sym) (K : List Task) (pc : ℕ) → sort_of P wd ≡ Some (body b) → AllWhole G →
       slice_get M.code pc ≡ Some x → ((s : Machine) → fetched M (names P) (Some x) s zero ≡ ends (spent s)) →
       ((ms rs : List MValue) (R : List Entry) (w : World MValue) (n : ℕ) → fetched M (names P) (Some x) (at F pc ms rs R w) (suc n) ≡ goes_on (at G a ms rs (resume (pc + 1) F ∷ R) w) n) → CallsTo Y (Some Ret) f G a S b →
-      Go Y f F last zero [] (do_text t ∷ K) (pc + 1) → Go Y f F last zero S (do_text (then (word wd) p t) ∷ K) pc
-  g_called f F last x wd b p t G a S K pc es hg e none some calls go R base ms rs vs L w zero le ok lv l (keeps_text h) = spent_here Y last R base (at F pc ms rs R w) (state vs (V w)) (Some (word wd)) x e (none (at F pc ms rs R w)) refl
-  g_called f F last x wd b p t G a S K pc es hg e none some calls go R base ms rs vs L w (suc n) le ok lv l (keeps_text {L = L1} h) =
+      Go Y f F last zero [] (do_phrase t ∷ K) (pc + 1) → Go Y f F last zero S (do_phrase (then (word wd) p t) ∷ K) pc
+  g_called f F last x wd b p t G a S K pc es hg e none some calls go R base ms rs vs L w zero le ok lv l (keeps_phrase h) = spent_here Y last R base (at F pc ms rs R w) (state vs (V w)) (Some (word wd)) x e (none (at F pc ms rs R w)) refl
+  g_called f F last x wd b p t G a S K pc es hg e none some calls go R base ms rs vs L w (suc n) le ok lv l (keeps_phrase {L = L1} h) =
       let s = at F pc ms rs R w in
       let st = state vs (V w) in
       let entry = resume (pc + 1) F in
-      let acts : A (word wd) st ≡ runs (text b) st [] = ap (λ (o : Option Sort). sort_act P wd o st) es in
-      let live = live_runs Y (word wd) p t L1 st st (text b) [] acts lv in
+      let acts : A (word wd) st ≡ runs (of_phrase b) st [] = ap (λ (o : Option Sort). sort_act P wd o st) es in
+      let live = live_runs Y (word wd) p t L1 st st (of_phrase b) [] acts lv in
       let ok1 : Fine G rs ms w = record { cells = hg; held = ok.held; values = ok.values; objects = ok.objects } in
       let first = step_before Y (Some Ret) (entry ∷ R) rs s (at G a ms rs (entry ∷ R) w) (suc n) n (run b st n) (fetch Y s (suc n) x e ∙ some ms rs R w n)
-      (calls (entry ∷ R) rs ms vs w n (omega (arith, le)) ok1 (live_first (run b st) (left Y (l_text t ∷ L1)) live) l) in
-      subst (λ (r : Result). Follows Y last R base s (suc n) r) (sym (first_runs Y (word wd) p t L1 st st (text b) [] n acts))
-      (behind f F last t K pc go R (entry ∷ []) (tt, tt) base rs L1 h ok.cells ok.held [] tt (ret_resume F pc R rs) (run b st) (stays_text A b st) s (suc n) n (omega (arith, le)) (spares A n b st n (omega arith)) live first)
+      (calls (entry ∷ R) rs ms vs w n (omega (arith, le)) ok1 (live_first (run b st) (left Y (l_phrase t ∷ L1)) live) l) in
+      subst (λ (r : Result). Follows Y last R base s (suc n) r) (sym (first_runs Y (word wd) p t L1 st st (of_phrase b) [] n acts))
+      (behind f F last t K pc go R (entry ∷ []) (tt, tt) base rs L1 h ok.cells ok.held [] tt (ret_resume F pc R rs) (run b st) (stays_phrase A b st) s (suc n) n (omega (arith, le)) (spares A n b st n (omega arith)) live first)
 
   -- A callable that a step enters. What `compose` made leaves an entry for its second part, which is entered at the `ret` of the first.
   enters : (f : ℕ) → Templated Y f → (c : MCallable) → WholeCallable c → (F : List MValue) (pc : ℕ) (R : List Entry) (base ms : List MValue) (w : World MValue) (n : ℕ) → n < f → Fine [] base ms w →
@@ -287,17 +287,17 @@ module _ (Y : Setting) where
       (fetch Y (at G pc2 ms2 base (enter d ∷ R) w2) m Ret code))
 
   -- an instruction that enters a callable of the machine, and the rest behind it
-  pub g_entered : (f : ℕ) (F : List MValue) → Templated Y f → (last : Option Instr) (i : Item) (p : Place) (t : Text) (K : List Task) (pc : ℕ) → Go Y f F last zero [] (do_text t ∷ K) (pc + 1) → (R own : List Entry) → HasNoGuard own →
+  pub g_entered : (f : ℕ) (F : List MValue) → Templated Y f → (last : Option Instr) (i : Item) (p : Place) (t : Phrase) (K : List Task) (pc : ℕ) → Go Y f F last zero [] (do_phrase t ∷ K) (pc + 1) → (R own : List Entry) → HasNoGuard own →
       (base all ms rs : List MValue) (vs : List Value) (L : List Left) (w : World MValue) (n : ℕ) → suc n ≤ f → AllWhole F → Fine [] rs ms w → Keeps T base K rs L → (c : MCallable) → WholeCallable c → (put : List MValue) → AllWhole put →
       A i (state vs (V w)) ≡ runs (callable_view T c) (state_view T ms w) (values_view T put) → stepping (at F pc all rs R w) (suc n) ≡ entering M (names P) c (at F pc ms rs (own ++ R) w) n →
       ((G : List MValue) (pc2 : ℕ) (ms2 : List MValue) (w2 : World MValue) (m : ℕ) → slice_get M.code pc2 ≡ Some Ret → stepping (at G pc2 ms2 rs (own ++ R) w2) m ≡ goes_on (at F (pc + 1) (pile put ms2) rs R w2) m) →
-      Live Y (l_text (then i p t) ∷ L) (state vs (V w)) → Follows Y last R base (at F pc all rs R w) (suc n) (left Y (l_text (then i p t) ∷ L) (state vs (V w)) (suc n))
+      Live Y (l_phrase (then i p t) ∷ L) (state vs (V w)) → Follows Y last R base (at F pc all rs R w) (suc n) (left Y (l_phrase (then i p t) ∷ L) (state vs (V w)) (suc n))
   g_entered f F tpl last i p t K pc go R own none base all ms rs vs L w n le hf ok h c hc put hp acts e back_step lv =
       let s = at F pc all rs R w in
       let st = state vs (V w) in
       let st' = state_view T ms w in
       let v = callable_view T c in
-      let rest = λ (st : State Value) (k : ℕ). left Y (l_text t ∷ L) (push_each (values_view T put) st) k in
+      let rest = λ (st : State Value) (k : ℕ). left Y (l_phrase t ∷ L) (push_each (values_view T put) st) k in
       let live = live_runs Y i p t L st st' v (values_view T put) acts lv in
       let first = enters f tpl c hc F pc (own ++ R) rs ms w n (omega (arith, le)) ok (live_first (run_callable run v st') rest live) s (suc n) e in
       subst (λ (r : Result). Follows Y last R base s (suc n) r) (sym (first_runs Y i p t L st st' v (values_view T put) n acts))
@@ -307,13 +307,13 @@ module _ (Y : Setting) where
   core_is : (wd k : ℕ) (c : Core) (st : State Value) → sort_of P wd ≡ Some (core_sort k) → core_numbered k ≡ Some c → A (word wd) st ≡ core_act P (Some c) st
   core_is wd k c st es en = ap (λ (o : Option Sort). sort_act P wd o st) es ∙ ap (λ (o : Option Core). core_act P o st) en
 
-  pub g_call : (f : ℕ) (F : List MValue) → Templated Y f → (last : Option Instr) (wd k : ℕ) (p : Place) (t : Text) (S : List Sym) (K : List Task) (pc : ℕ) → sort_of P wd ≡ Some (core_sort k) → core_numbered k ≡ Some w_call → AllHere S →
-      slice_get M.code pc ≡ Some (Call false) → Go Y f F last zero [] (do_text t ∷ K) (pc + 1) → Go Y f F last zero S (do_text (then (word wd) p t) ∷ K) pc
-  g_call f F tpl last wd k p t S K pc es en a e go R base ms rs vs L w zero le ok lv l (keeps_text h) = spent_here Y last R base (at F pc ms rs R w) (state vs (V w)) (Some (word wd)) (Call false) e refl refl
-  g_call f F tpl last wd k p t S K pc es en a e go R base ms rs vs L w (suc n) le ok lv l (keeps_text {L = L1} h) = one ms vs (sym (all_here T S ms vs a l)) ok lv
+  pub g_call : (f : ℕ) (F : List MValue) → Templated Y f → (last : Option Instr) (wd k : ℕ) (p : Place) (t : Phrase) (S : List Sym) (K : List Task) (pc : ℕ) → sort_of P wd ≡ Some (core_sort k) → core_numbered k ≡ Some w_call → AllHere S →
+      slice_get M.code pc ≡ Some (Call false) → Go Y f F last zero [] (do_phrase t ∷ K) (pc + 1) → Go Y f F last zero S (do_phrase (then (word wd) p t) ∷ K) pc
+  g_call f F tpl last wd k p t S K pc es en a e go R base ms rs vs L w zero le ok lv l (keeps_phrase h) = spent_here Y last R base (at F pc ms rs R w) (state vs (V w)) (Some (word wd)) (Call false) e refl refl
+  g_call f F tpl last wd k p t S K pc es en a e go R base ms rs vs L w (suc n) le ok lv l (keeps_phrase {L = L1} h) = one ms vs (sym (all_here T S ms vs a l)) ok lv
     where
-      one : (ms : List MValue) (vs : List Value) → vs ≡ values_view T ms → Fine F rs ms w → Live Y (l_text (then (word wd) p t) ∷ L1) (state vs (V w)) →
-          Follows Y last R base (at F pc ms rs R w) (suc n) (left Y (l_text (then (word wd) p t) ∷ L1) (state vs (V w)) (suc n))
+      one : (ms : List MValue) (vs : List Value) → vs ≡ values_view T ms → Fine F rs ms w → Live Y (l_phrase (then (word wd) p t) ∷ L1) (state vs (V w)) →
+          Follows Y last R base (at F pc ms rs R w) (suc n) (left Y (l_phrase (then (word wd) p t) ∷ L1) (state vs (V w)) (suc n))
       one [] vs is ok lv = wrong_here Y (word wd) p t L1 (state vs (V w)) (core_is wd k w_call (state vs (V w)) es en ∙ rw is refl) lv
       one (m_plain x ∷ ms) vs is ok lv = wrong_here Y (word wd) p t L1 (state vs (V w)) (core_is wd k w_call (state vs (V w)) es en ∙ rw is refl) lv
       one (m_fun c ∷ ms) vs is ok lv =
@@ -321,13 +321,13 @@ module _ (Y : Setting) where
           g_entered f F tpl last (word wd) p t K pc go R (resume (pc + 1) F ∷ []) (tt, tt) base (m_fun c ∷ ms) ms rs vs L1 w n le ok.cells (record { cells = tt; held = ok.held; values = ok.values.1; objects = ok.objects }) h c ok.values.0
           [] tt (core_is wd k w_call (state vs (V w)) es en ∙ rw is refl) (fetch Y s (suc n) (Call false) e) (ret_resume F pc R rs) lv
 
-  pub g_dip : (f : ℕ) (F : List MValue) → Templated Y f → (last : Option Instr) (wd k : ℕ) (p : Place) (t : Text) (S : List Sym) (K : List Task) (pc : ℕ) → sort_of P wd ≡ Some (core_sort k) → core_numbered k ≡ Some w_dip → AllHere S →
-      slice_get M.code pc ≡ Some Dip → Go Y f F last zero [] (do_text t ∷ K) (pc + 1) → Go Y f F last zero S (do_text (then (word wd) p t) ∷ K) pc
-  g_dip f F tpl last wd k p t S K pc es en a e go R base ms rs vs L w zero le ok lv l (keeps_text h) = spent_here Y last R base (at F pc ms rs R w) (state vs (V w)) (Some (word wd)) Dip e refl refl
-  g_dip f F tpl last wd k p t S K pc es en a e go R base ms rs vs L w (suc n) le ok lv l (keeps_text {L = L1} h) = one ms vs (sym (all_here T S ms vs a l)) ok lv
+  pub g_dip : (f : ℕ) (F : List MValue) → Templated Y f → (last : Option Instr) (wd k : ℕ) (p : Place) (t : Phrase) (S : List Sym) (K : List Task) (pc : ℕ) → sort_of P wd ≡ Some (core_sort k) → core_numbered k ≡ Some w_dip → AllHere S →
+      slice_get M.code pc ≡ Some Dip → Go Y f F last zero [] (do_phrase t ∷ K) (pc + 1) → Go Y f F last zero S (do_phrase (then (word wd) p t) ∷ K) pc
+  g_dip f F tpl last wd k p t S K pc es en a e go R base ms rs vs L w zero le ok lv l (keeps_phrase h) = spent_here Y last R base (at F pc ms rs R w) (state vs (V w)) (Some (word wd)) Dip e refl refl
+  g_dip f F tpl last wd k p t S K pc es en a e go R base ms rs vs L w (suc n) le ok lv l (keeps_phrase {L = L1} h) = one ms vs (sym (all_here T S ms vs a l)) ok lv
     where
-      one : (ms : List MValue) (vs : List Value) → vs ≡ values_view T ms → Fine F rs ms w → Live Y (l_text (then (word wd) p t) ∷ L1) (state vs (V w)) →
-          Follows Y last R base (at F pc ms rs R w) (suc n) (left Y (l_text (then (word wd) p t) ∷ L1) (state vs (V w)) (suc n))
+      one : (ms : List MValue) (vs : List Value) → vs ≡ values_view T ms → Fine F rs ms w → Live Y (l_phrase (then (word wd) p t) ∷ L1) (state vs (V w)) →
+          Follows Y last R base (at F pc ms rs R w) (suc n) (left Y (l_phrase (then (word wd) p t) ∷ L1) (state vs (V w)) (suc n))
       one [] vs is ok lv = wrong_here Y (word wd) p t L1 (state vs (V w)) (core_is wd k w_dip (state vs (V w)) es en ∙ rw is refl) lv
       one (q ∷ []) vs is ok lv = wrong_here Y (word wd) p t L1 (state vs (V w)) (core_is wd k w_dip (state vs (V w)) es en ∙ rw is refl) lv
       one (m_plain y ∷ x ∷ ms) vs is ok lv = wrong_here Y (word wd) p t L1 (state vs (V w)) (core_is wd k w_dip (state vs (V w)) es en ∙ rw is refl) lv
@@ -345,13 +345,13 @@ module _ (Y : Setting) where
       choose true = refl
       choose false = refl
 
-  pub g_if : (f : ℕ) (F : List MValue) → Templated Y f → (last : Option Instr) (wd k : ℕ) (p : Place) (t : Text) (S : List Sym) (K : List Task) (pc : ℕ) → sort_of P wd ≡ Some (core_sort k) → core_numbered k ≡ Some w_if → AllHere S →
-      slice_get M.code pc ≡ Some (If false) → Go Y f F last zero [] (do_text t ∷ K) (pc + 1) → Go Y f F last zero S (do_text (then (word wd) p t) ∷ K) pc
-  g_if f F tpl last wd k p t S K pc es en a e go R base ms rs vs L w zero le ok lv l (keeps_text h) = spent_here Y last R base (at F pc ms rs R w) (state vs (V w)) (Some (word wd)) (If false) e refl refl
-  g_if f F tpl last wd k p t S K pc es en a e go R base ms rs vs L w (suc n) le ok lv l (keeps_text {L = L1} h) = one ms vs (sym (all_here T S ms vs a l)) ok lv
+  pub g_if : (f : ℕ) (F : List MValue) → Templated Y f → (last : Option Instr) (wd k : ℕ) (p : Place) (t : Phrase) (S : List Sym) (K : List Task) (pc : ℕ) → sort_of P wd ≡ Some (core_sort k) → core_numbered k ≡ Some w_if → AllHere S →
+      slice_get M.code pc ≡ Some (If false) → Go Y f F last zero [] (do_phrase t ∷ K) (pc + 1) → Go Y f F last zero S (do_phrase (then (word wd) p t) ∷ K) pc
+  g_if f F tpl last wd k p t S K pc es en a e go R base ms rs vs L w zero le ok lv l (keeps_phrase h) = spent_here Y last R base (at F pc ms rs R w) (state vs (V w)) (Some (word wd)) (If false) e refl refl
+  g_if f F tpl last wd k p t S K pc es en a e go R base ms rs vs L w (suc n) le ok lv l (keeps_phrase {L = L1} h) = one ms vs (sym (all_here T S ms vs a l)) ok lv
     where
-      one : (ms : List MValue) (vs : List Value) → vs ≡ values_view T ms → Fine F rs ms w → Live Y (l_text (then (word wd) p t) ∷ L1) (state vs (V w)) →
-          Follows Y last R base (at F pc ms rs R w) (suc n) (left Y (l_text (then (word wd) p t) ∷ L1) (state vs (V w)) (suc n))
+      one : (ms : List MValue) (vs : List Value) → vs ≡ values_view T ms → Fine F rs ms w → Live Y (l_phrase (then (word wd) p t) ∷ L1) (state vs (V w)) →
+          Follows Y last R base (at F pc ms rs R w) (suc n) (left Y (l_phrase (then (word wd) p t) ∷ L1) (state vs (V w)) (suc n))
       one [] vs is ok lv = wrong_here Y (word wd) p t L1 (state vs (V w)) (core_is wd k w_if (state vs (V w)) es en ∙ rw is refl) lv
       one (q ∷ []) vs is ok lv = wrong_here Y (word wd) p t L1 (state vs (V w)) (core_is wd k w_if (state vs (V w)) es en ∙ rw is refl) lv
       one (q ∷ y ∷ []) vs is ok lv = wrong_here Y (word wd) p t L1 (state vs (V w)) (core_is wd k w_if (state vs (V w)) es en ∙ rw is refl) lv

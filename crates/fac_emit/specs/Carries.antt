@@ -2,18 +2,18 @@
 use Rattle.std.specs.Prelude.{◌≡◌, ℕ, List, length, Option, Bool}
 use Rattle.fac_lang.specs.declared.phrase.Height.{Height}
 use Rattle.fac_lang.specs.declared.program.Program.{Program}
-use Rattle.fac_lang.specs.Texts.{Value, Callable}
+use Rattle.fac_lang.specs.Phrases.{Value, Callable}
 use Rattle.fac_lang.specs.World.{State}
 use Rattle.fac_lang.specs.Eval.{Result, Done, Failed, Spent}
-use Rattle.fac_lang.specs.Meaning.{run, start, word_text, names}
+use Rattle.fac_lang.specs.Meaning.{run, start, word_phrase, names}
 use Rattle.fac_lang.specs.RunningLaws.{IsNotStuck}
 use Rattle.fac_code.specs.declared.image.Image.{Image}
-use Rattle.fac_prim.specs.Cells.{MValue}
+use Rattle.fac_prim.specs.MachineValues.{MValue}
 use Rattle.fac_vm.specs.Machine.{Machine, End, done, failed, spent, Ends, starting, empty_world}
-use Rattle.fac_emit.specs.View.{Templates, template_texts, values_view, state_view, world_view, error_view}
-use Rattle.fac_emit.specs.Whole.{AllWhole}
+use Rattle.fac_emit.specs.MachineView.{Templates, template_phrases, values_view, state_view, world_view, error_view}
+use Rattle.fac_emit.specs.WholeValues.{AllWhole}
 
--- The same end, where T has the texts of the templates. A stuck run and a trap are the same as nothing.
+-- The same end, where T has the phrases of the templates. A stuck run and a trap are the same as nothing.
 abbrev pub SameEnd : Templates → Result → End → Type 0
 SameEnd T (Done st m) (done s left) = (state_view T s.stack s.world ≡ st) × (left ≡ m)
 SameEnd T (Failed e st m) (failed x s left) = (error_view T x ≡ e) × (world_view T s.world ≡ st.world) × (left ≡ m)
@@ -30,10 +30,10 @@ machine_before M stack input = record (starting M stack) { world = record empty_
 
 -- what the top-level phrase comes to with n ticks
 abbrev pub top_run : Program → (Height → Height → Bool) → (Callable → Option Height) → List Value → List ℕ → ℕ → Result
-top_run P fits callable_height values input n = run P fits callable_height n (word_text P P.top) (state_before P values input)
+top_run P fits callable_height values input n = run P fits callable_height n (word_phrase P P.top) (state_before P values input)
 
 -- With this test of effects, and from every list of so many values whose callables are of the image's templates, with every input and at every budget, where the top-level phrase is stuck at no budget from the values for which these stand: the machine ends as that phrase does, with the same values and ticks, the same error, the same output, objects and input left.
 pub record Carries (P : Program) (fits : Height → Height → Bool) (callable_height : Callable → Option Height) (count : ℕ) (M : Image) : Type 0 where
   pub same_end :
-      (stack : List MValue) (input : List ℕ) → length stack ≡ count → AllWhole M stack → ((m : ℕ) → IsNotStuck (top_run P fits callable_height (values_view (template_texts P) stack) input m)) →
-      (n : ℕ) → (e : End) × Ends M (names P) (machine_before M stack input) n e × SameEnd (template_texts P) (top_run P fits callable_height (values_view (template_texts P) stack) input n) e
+      (stack : List MValue) (input : List ℕ) → length stack ≡ count → AllWhole M stack → ((m : ℕ) → IsNotStuck (top_run P fits callable_height (values_view (template_phrases P) stack) input m)) →
+      (n : ℕ) → (e : End) × Ends M (names P) (machine_before M stack input) n e × SameEnd (template_phrases P) (top_run P fits callable_height (values_view (template_phrases P) stack) input n) e

@@ -1,11 +1,10 @@
-pub mod View
+pub mod MachineView
 pub mod Carries
-pub mod Whole
+pub mod WholeValues
 pub mod Stands
 pub mod Symbols
 pub mod Expanded
-pub mod Code
-pub mod Pieces
+pub mod ProgramCode
 pub mod Emits
-pub mod Parts
 pub mod PrintedForms
+pub mod inner

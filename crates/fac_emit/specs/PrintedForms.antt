@@ -2,10 +2,10 @@
 use Rattle.std.specs.Prelude.{◌≡◌, List, map}
 use Rattle.fac_lang.specs.World.{World}
 use Rattle.fac_lang.specs.Printed.{Names, printed}
-use Rattle.fac_lang.specs.Meaning.{texts}
-use Rattle.fac_prim.specs.Cells.{MValue, cells}
-use Rattle.fac_emit.specs.View.{Templates, values_view, world_view}
+use Rattle.fac_lang.specs.Meaning.{meaning_values}
+use Rattle.fac_prim.specs.MachineValues.{MValue, machine_values}
+use Rattle.fac_emit.specs.MachineView.{Templates, values_view, world_view}
 
--- Whatever words and kinds are called and templates have as their texts: values print as what they stand for.
+-- Whatever words and kinds are called and templates have as their phrases: values print as what they stand for.
 abbrev pub PrintedFormsAreEqual : Type 0
-PrintedFormsAreEqual = (N : Names) (T : Templates) (w : World MValue) (vs : List MValue) → map (printed texts N (world_view T w)) (values_view T vs) ≡ map (printed cells N w) vs
+PrintedFormsAreEqual = (N : Names) (T : Templates) (w : World MValue) (vs : List MValue) → map (printed meaning_values N (world_view T w)) (values_view T vs) ≡ map (printed machine_values N w) vs

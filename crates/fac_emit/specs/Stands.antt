@@ -1,31 +1,31 @@
--- Which code stands for which text. The relation is of running texts, under the frame of the code that runs, and whatever stands around the
+-- Which code stands for which phrase. The relation is of running phrases, under the frame of the code that runs, and whatever stands around the
 -- code.
 use Rattle.std.specs.Prelude.{◌≡◌, ◌<◌, ◌+◌, ℕ, ℤ, List, [], length, Bool, true, false, Some, slice_get}
 use Rattle.fac_lang.specs.declared.phrase.Place.{Place}
 use Rattle.fac_lang.specs.declared.program.Program.{Program}
 use Rattle.fac_lang.specs.declared.program.Sort.TheVariants.{Prim as prim_sort, Core as core_sort, Body as body}
-use Rattle.fac_lang.specs.Texts.{int, yes, no, Text, end, then, Item, lit, quot, word}
+use Rattle.fac_lang.specs.Phrases.{int, yes, no, Phrase, end, then, Item, lit, quot, word}
 use Rattle.fac_lang.specs.Primitives.{is_built_primitive}
-use Rattle.fac_lang.specs.Meaning.{sort_of, word_text, core_numbered, c_call, c_dip, c_if}
+use Rattle.fac_lang.specs.Meaning.{sort_of, word_phrase, core_numbered, c_call, c_dip, c_if}
 use Rattle.fac_code.specs.declared.image.Instr.{Instr}
 use Rattle.fac_code.specs.declared.image.Instr.TheVariants.{Halt, Int, True, False, Quot, Prim, Callw, Call, Dip, If, Ret}
 use Rattle.fac_code.specs.declared.image.Action.TheVariants.{Code as code_action}
 use Rattle.fac_code.specs.declared.image.Image.{Image}
 use Rattle.fac_code.specs.declared.image.TemplateRow.{TemplateRow}
 use Rattle.fac_code.specs.declared.image.WordRow.{WordRow}
-use Rattle.fac_prim.specs.Cells.{MValue, Kept, kept_list, cells_at}
+use Rattle.fac_prim.specs.MachineValues.{MValue, Kept, kept_list, cells_at}
 use Rattle.fac_vm.specs.Machine.{word_of_prim}
-use Rattle.fac_emit.specs.View.{Templates, template_texts}
-use Rattle.fac_emit.specs.Whole.{WholeKept}
+use Rattle.fac_emit.specs.MachineView.{Templates, template_phrases}
+use Rattle.fac_emit.specs.WholeValues.{WholeKept}
 
 module _ (P : Program) (M : Image) (T : Templates) where
   -- An item that calls, and its instruction, which in a tail call leaves no return entry.
   pub data Calling (tail : Bool) : Item → Instr → Type 0 where
-    l_word : (w : ℕ) (t : Text) → w < P.top → sort_of P w ≡ Some (body t) → Calling tail (word w) (Callw w tail)
+    l_word : (w : ℕ) (t : Phrase) → w < P.top → sort_of P w ≡ Some (body t) → Calling tail (word w) (Callw w tail)
     l_call : (w k : ℕ) → sort_of P w ≡ Some (core_sort k) → core_numbered k ≡ Some c_call → Calling tail (word w) (Call tail)
     l_if : (w k : ℕ) → sort_of P w ≡ Some (core_sort k) → core_numbered k ≡ Some c_if → Calling tail (word w) (If tail)
 
-  -- An item and its plain instruction, where the frame is F and T has the texts of the templates. A run error of a primitive names the first word
+  -- An item and its plain instruction, where the frame is F and T has the phrases of the templates. A run error of a primitive names the first word
   -- of the image that does it, so that is to be the item's word.
   pub data Translates (F : List MValue) : Item → Instr → Type 0 where
     t_int : (z : ℤ) → Translates F (lit (int z)) (Int z)
@@ -36,18 +36,18 @@ module _ (P : Program) (M : Image) (T : Templates) where
     t_dip : (w k : ℕ) → sort_of P w ≡ Some (core_sort k) → core_numbered k ≡ Some c_dip → Translates F (word w) Dip
     t_calling : {i : Item} {x : Instr} → Calling false i x → Translates F i x
 
-  -- The plain instructions of a text stand at this place under the frame F, and behind them the last one.
-  pub data Stands (last : Instr) : List MValue → ℕ → Text → Type 0 where
+  -- The plain instructions of a phrase stand at this place under the frame F, and behind them the last one.
+  pub data Stands (last : Instr) : List MValue → ℕ → Phrase → Type 0 where
     s_end : {F : List MValue} {pc : ℕ} → slice_get M.code pc ≡ Some last → Stands last F pc end
-    s_item : {F : List MValue} {pc : ℕ} {i : Item} {p : Place} {t : Text} (x : Instr) → slice_get M.code pc ≡ Some x → Translates F i x → Stands last F (pc + 1) t → Stands last F pc (then i p t)
+    s_item : {F : List MValue} {pc : ℕ} {i : Item} {p : Place} {t : Phrase} (x : Instr) → slice_get M.code pc ≡ Some x → Translates F i x → Stands last F (pc + 1) t → Stands last F pc (then i p t)
 
-  -- Each word that is defined by a text, but for the top-level phrase, has its code, which ends in `ret`; and so has each template, under the values
+  -- Each word that is defined by a phrase, but for the top-level phrase, has its code, which ends in `ret`; and so has each template, under the values
   -- that its callables keep.
   pub record Coded : Type 0 where
-    pub bodies : (w : ℕ) (t : Text) → w < P.top → sort_of P w ≡ Some (body t) → (r : WordRow) × (a : ℕ) × (slice_get M.words w ≡ Some r) × (r.action ≡ code_action a) × Stands Ret [] a t
+    pub bodies : (w : ℕ) (t : Phrase) → w < P.top → sort_of P w ≡ Some (body t) → (r : WordRow) × (a : ℕ) × (slice_get M.words w ≡ Some r) × (r.action ≡ code_action a) × Stands Ret [] a t
     pub templates : (q : ℕ) (r : TemplateRow) (k : Kept) → slice_get M.templates q ≡ Some r → length (kept_list k) ≡ length r.cells + r.holes → WholeKept M k → Stands Ret (kept_list k) r.entry (T q)
 
--- The code of an image stands for the texts of a program: those of its words, of its templates, and of the top-level phrase, where it starts.
+-- The code of an image stands for the phrases of a program: those of its words, of its templates, and of the top-level phrase, where it starts.
 pub record PlainCode (P : Program) (M : Image) : Type 0 where
-  pub coded : Coded P M (template_texts P)
-  pub phrase : Stands P M (template_texts P) Halt [] M.start (word_text P P.top)
+  pub coded : Coded P M (template_phrases P)
+  pub phrase : Stands P M (template_phrases P) Halt [] M.start (word_phrase P P.top)

@@ -4,11 +4,11 @@ ghost use Rattle.std.specs.List.{list_all};
 ghost use Rattle.fac_lang.specs.declared.phrase.Height.{Height};
 ghost use Rattle.fac_lang.specs.declared.program.Program.{Program as Source};
 ghost use Rattle.fac_lang.specs.Forms.{IsBuilt};
-ghost use Rattle.fac_lang.specs.Texts.{Callable};
+ghost use Rattle.fac_lang.specs.Phrases.{Callable};
 ghost use Rattle.fac_locals.specs.Closed.{Closes};
 ghost use Rattle.fac_emit.specs.Carries.{Carries};
-ghost use Rattle.fac_emit.specs.Code.{body_is_coded, word_body_is_coded, sort_action, IsPlain};
-ghost use Rattle.fac_emit.specs.Parts.{AreParts, PlacesWord, PlacesWords};
+ghost use Rattle.fac_emit.specs.ProgramCode.{body_is_coded, word_body_is_coded, sort_action, IsPlain};
+ghost use Rattle.fac_emit.specs.inner.Parts.{AreParts, PlacesWord, PlacesWords};
 ghost use Rattle.fac_emit.specs.Stands.{PlainCode};
 
 use crate::emitter::{add_templates, add_word};
@@ -106,7 +106,7 @@ fn place(rows: &List<WordRow>, word: u32) -> u32
 
 /// The image of a closed program of the built forms. It carries the program that this one stands for, on every list of as many values as
 /// the closed program starts on, with every input and at every budget, where that program is stuck at none. Its code stands for the
-/// texts of that program, item by item, and is plain: the code of the templates and behind it that of the words, each in their order, with a row
+/// phrases of that program, item by item, and is plain: the code of the templates and behind it that of the words, each in their order, with a row
 /// for each template and each word; it starts at the top-level phrase. Want of memory is the one error.
 pub fn compile(alloc: Global, closed: &Closed) -> Result<Image, Memory>
     requires { (P : Source) × Closes P closed.now.program closed.now.templates × IsBuilt P }

@@ -1,14 +1,14 @@
 //! The plain code of words and templates.
 ghost use Rattle.std.specs.Prelude.{◌≡◌, ◌<◌, ◌++◌, ◌∷◌, [], length, slice_get, true, IfOk, OnOk};
 ghost use Rattle.std.specs.List.{list_all};
-ghost use Rattle.fac_lang.specs.View.{what_item};
+ghost use Rattle.fac_lang.specs.PhraseView.{what_item};
 ghost use Rattle.fac_lang.specs.declared.program.Program.{Program as Source};
 ghost use Rattle.fac_lang.specs.Forms.{IsBuilt};
 ghost use Rattle.fac_lang.specs.CoreWords.{is_built_core};
 ghost use Rattle.fac_lang.specs.Meaning.{sort_of};
 ghost use Rattle.fac_locals.specs.Closed.{Closes};
-ghost use Rattle.fac_emit.specs.Code.{sort_is_coded, item_is_coded, text_is_coded, template_is_coded, body_is_coded, core_instr, sort_instr, item_instr, text_code, row_at, templates_code, template_rows, last_instr, sort_code};
-ghost use Rattle.fac_emit.specs.Pieces.{found_code, found_template};
+ghost use Rattle.fac_emit.specs.ProgramCode.{sort_is_coded, item_is_coded, phrase_is_coded, template_is_coded, body_is_coded, core_instr, sort_instr, item_instr, phrase_code, row_at, templates_code, template_rows, last_instr, sort_code};
+ghost use Rattle.fac_emit.specs.inner.Pieces.{found_code, found_template};
 ghost use Rattle.fac_emit.specs.Emits.{Emits, TemplateEmits};
 
 use fac_code::{Instr, TemplateRow};
@@ -19,7 +19,7 @@ use std::alloc::Global;
 /// The plain code of a word, before it has its place behind that of the templates and of the words before it.
 #[derive(Drop)]
 pub struct Piece {
-    /// The instructions of the word's text. A word that isn't defined by a text has none.
+    /// The instructions of the word's phrase. A word that isn't defined by a phrase has none.
     pub code: List<Instr>,
 }
 
@@ -67,15 +67,15 @@ fn instr_of(words: &List<WordDef>, what: &What) -> Instr
     }
 }
 
-// Adds the code of a text.
-fn add_text(
+// Adds the code of a phrase.
+fn add_phrase(
     code: &mut List<Instr>,
     words: &List<WordDef>,
     phrase: &Phrase,
     last: Instr,
 ) -> Result<(), Memory>
-    requires { text_is_coded words.now phrase.now ≡ true }
-    ensures { OnOk result (code.new ≡ code.old ++ text_code words.now last phrase.now) }
+    requires { phrase_is_coded words.now phrase.now ≡ true }
+    ensures { OnOk result (code.new ≡ code.old ++ phrase_code words.now last phrase.now) }
 {
     for item in &phrase.items {
         code.push(instr_of(words, &item.what))?;
@@ -92,7 +92,7 @@ fn add_template(
     template: &Template,
 ) -> Result<(), Memory>
     requires { template_is_coded words.now template.now ≡ true }
-    ensures { OnOk result ((code.new ≡ code.old ++ text_code words.now Instr.Ret template.now.body) × (rows.new ≡ rows.old ++ row_at (length code.old) template.now ∷ [])) }
+    ensures { OnOk result ((code.new ≡ code.old ++ phrase_code words.now Instr.Ret template.now.body) × (rows.new ≡ rows.old ++ row_at (length code.old) template.now ∷ [])) }
 {
     let entry = code.len();
     let cells = template.captures.copy(alloc)?;
@@ -101,7 +101,7 @@ fn add_template(
         cells,
         holes: template.holes,
     })?;
-    add_text(code, words, &template.body, Instr::Ret)
+    add_phrase(code, words, &template.body, Instr::Ret)
 }
 
 /// Adds the code and the rows of these templates, in their order.
@@ -121,14 +121,14 @@ pub fn add_templates(
     Ok(())
 }
 
-// The instruction behind the last item of a word's text.
+// The instruction behind the last item of a word's phrase.
 fn last(is_top: bool) -> Instr
     ensures { result ≡ last_instr is_top }
 {
     if is_top { Instr::Halt } else { Instr::Ret }
 }
 
-/// Adds the code of a word of this sort, where it is defined by a text.
+/// Adds the code of a word of this sort, where it is defined by a phrase.
 pub fn add_word(
     code: &mut List<Instr>,
     words: &List<WordDef>,
@@ -139,7 +139,7 @@ pub fn add_word(
     ensures { OnOk result (code.new ≡ code.old ++ sort_code words.now is_top sort.now) }
 {
     match sort {
-        Sort::Body(phrase) => add_text(code, words, phrase, last(is_top)),
+        Sort::Body(phrase) => add_phrase(code, words, phrase, last(is_top)),
         _ => Ok(()),
     }
 }
@@ -169,13 +169,13 @@ fn code_of_template(alloc: Global, closed: &Closed, template: u32) -> Result<Lis
 {
     let mut code = List::new(alloc);
     match closed.templates.get(template as usize) {
-        Some(found) => add_text(&mut code, &closed.program.words, &found.body, Instr::Ret)?,
+        Some(found) => add_phrase(&mut code, &closed.program.words, &found.body, Instr::Ret)?,
         None => unreachable!(),
     }
     Ok(code)
 }
 
-/// The piece of the word with this number: an instruction for each item of its text, and behind them a `ret`, or a `halt` for the
+/// The piece of the word with this number: an instruction for each item of its phrase, and behind them a `ret`, or a `halt` for the
 /// top-level phrase. Want of memory is the one error.
 pub fn emit_word(alloc: Global, closed: &Closed, word: u32) -> Result<Piece, Memory>
     requires { ((P : Source) × Closes P closed.now.program closed.now.templates × IsBuilt P) × (word < length closed.now.program.words) }

@@ -2,32 +2,32 @@
 use Rattle.std.proofs.Common.{◌≡◌, ℕ, zero, suc, List, [], ◌∷◌, ◌++◌, length, Some, refl, sym, ap, ◌∙◌, append_assoc, length-append, arith}
 use Rattle.std.specs.Prelude.{map, slice_get}
 use Rattle.std.proofs.lemmas.List.{append-nil, map-append}
-use Rattle.fac_lang.specs.Texts.{Literal, Text, end, then, Item, lit, lit_arr, quot, word, bind, local, fry, hole, call_eff, exec_eff, next_method, made, next_after, held, known}
+use Rattle.fac_lang.specs.Phrases.{Literal, Phrase, end, then, Item, lit, lit_arr, quot, word, bind, local, fry, hole, call_eff, exec_eff, next_method, made, next_after, held, known}
 use Rattle.fac_lang.specs.declared.phrase.Place.{Place}
 use Rattle.fac_lang.specs.declared.phrase.Template.{Template}
 use Rattle.fac_lang.specs.declared.program.Program.{Program}
 use Rattle.fac_lang.specs.declared.program.WordDef.{WordDef}
 use Rattle.fac_lang.specs.declared.program.Sort.{Sort}
 use Rattle.fac_lang.specs.declared.program.Sort.TheVariants.{Prim as prim, Core as core, Body as body, Past as past, Itself as itself, Class as class, Isa as isa, Getter as getter, Setter as setter, Putter as putter, Generic as generic, Method as method}
-use Rattle.fac_lang.specs.Forms.{IsBuilt, IsBuiltText, IsBuiltItem, IsBuiltSort, AreBuiltWords}
+use Rattle.fac_lang.specs.Forms.{IsBuilt, IsBuiltPhrase, IsBuiltItem, IsBuiltSort, AreBuiltWords}
 use Rattle.fac_locals.specs.Literals.{Quoted, first_of_word, first_of_literal, behind, literals_in, literals_at, sort_literals, word_literals, literals, places_in, places_at, sort_places, word_places, literal_or}
-use Rattle.fac_locals.specs.Closed.{Closes, CloseWords, ClosesSort, ClosesText, ClosesItem, CloseLiterals}
-use Rattle.fac_locals.specs.inner.Numbering.{text_behind, item_behind, closed_item, closed_text, template_of, text_templates, item_templates, closed_sort, sort_behind, sort_templates, closed_word, closed_words, words_templates, WordsClose}
+use Rattle.fac_locals.specs.Closed.{Closes, CloseWords, ClosesSort, ClosesPhrase, ClosesItem, CloseLiterals}
+use Rattle.fac_locals.specs.inner.Numbering.{phrase_behind, item_behind, closed_item, closed_phrase, template_of, phrase_templates, item_templates, closed_sort, sort_behind, sort_templates, closed_word, closed_words, words_templates, WordsClose}
 
--- the text of a word, where it has one, is of the built forms
-abbrev pub HasBuiltText : ℕ → Sort → Type 0
-HasBuiltText bound (body t) = IsBuiltText bound t
-HasBuiltText bound (past t) = ⊥
-HasBuiltText bound (method c g t) = ⊥
-HasBuiltText bound _ = Unit {0}
+-- the phrase of a word, where it has one, is of the built forms
+abbrev pub HasBuiltPhrase : ℕ → Sort → Type 0
+HasBuiltPhrase bound (body t) = IsBuiltPhrase bound t
+HasBuiltPhrase bound (past t) = ⊥
+HasBuiltPhrase bound (method c g t) = ⊥
+HasBuiltPhrase bound _ = Unit {0}
 
--- likewise the texts of words
-abbrev pub HaveBuiltTexts : ℕ → List WordDef → Type 0
-HaveBuiltTexts bound [] = Unit {0}
-HaveBuiltTexts bound (d ∷ ds) = HasBuiltText bound d.sort × HaveBuiltTexts bound ds
+-- likewise the phrases of words
+abbrev pub HaveBuiltPhrases : ℕ → List WordDef → Type 0
+HaveBuiltPhrases bound [] = Unit {0}
+HaveBuiltPhrases bound (d ∷ ds) = HasBuiltPhrase bound d.sort × HaveBuiltPhrases bound ds
 
-sort_built : (bound : ℕ) (d : WordDef) (s : Sort) → IsBuiltSort bound d s → HasBuiltText bound s
-sort_built bound d (body t) h = h.text_built
+sort_built : (bound : ℕ) (d : WordDef) (s : Sort) → IsBuiltSort bound d s → HasBuiltPhrase bound s
+sort_built bound d (body t) h = h.phrase_built
 sort_built bound d (prim k) h = tt
 sort_built bound d (core k) h = tt
 sort_built bound d (past t) h = absurd h
@@ -40,13 +40,13 @@ sort_built bound d (putter x) h = tt
 sort_built bound d generic h = tt
 sort_built bound d (method c g t) h = absurd h
 
-texts_built : (bound : ℕ) (ds : List WordDef) (d : WordDef) → AreBuiltWords bound ds → HasBuiltText bound d.sort → HaveBuiltTexts bound (ds ++ d ∷ [])
-texts_built bound [] d hs h = (h, tt)
-texts_built bound (x ∷ ds) d hs h = (sort_built bound x x.sort hs.0, texts_built bound ds d hs.1 h)
+phrases_built : (bound : ℕ) (ds : List WordDef) (d : WordDef) → AreBuiltWords bound ds → HasBuiltPhrase bound d.sort → HaveBuiltPhrases bound (ds ++ d ∷ [])
+phrases_built bound [] d hs h = (h, tt)
+phrases_built bound (x ∷ ds) d hs h = (sort_built bound x x.sort hs.0, phrases_built bound ds d hs.1 h)
 
--- each text of a program of the built forms is of the built forms
-pub built_texts : (P : Program) → IsBuilt P → HaveBuiltTexts P.top P.words
-built_texts P b = rw b.words_are (texts_built P.top b.words b.phrase b.built (rw b.phrase_is.sort_is b.phrase_is.text_built))
+-- each phrase of a program of the built forms is of the built forms
+pub built_phrases : (P : Program) → IsBuilt P → HaveBuiltPhrases P.top P.words
+built_phrases P b = rw b.words_are (phrases_built P.top b.words b.last_word b.built (rw b.last_word_is.sort_is b.last_word_is.phrase_built))
 
 no_more : {A : Type 0} (xs : List A) (n : ℕ) → length xs ≡ n → length (xs ++ []) ≡ n
 no_more xs n e = rw (append-nil xs) e
@@ -54,9 +54,9 @@ no_more xs n e = rw (append-nil xs) e
 one_more : {A : Type 0} (xs : List A) (x : A) (n : ℕ) → length xs ≡ n → length (xs ++ x ∷ []) ≡ suc n
 one_more xs x n e = rw (length-append xs (x ∷ [])) (omega arith)
 
--- a text's literals are as many as its quotations
+-- a phrase's literals are as many as its quotations
 mutual
-  pub literals_counted : (bound n : ℕ) (ls : List Quoted) (at : Literal) (t : Text) → IsBuiltText bound t → length ls ≡ n → length (ls ++ literals_in at t) ≡ text_behind n t
+  pub literals_counted : (bound n : ℕ) (ls : List Quoted) (at : Literal) (t : Phrase) → IsBuiltPhrase bound t → length ls ≡ n → length (ls ++ literals_in at t) ≡ phrase_behind n t
   literals_counted bound n ls at end h e = no_more ls n e
   literals_counted bound n ls at (then i p t) h e =
       ap length (sym (append_assoc ls (literals_at at i) (literals_in (behind at i) t))) ∙ literals_counted bound (item_behind n i) (ls ++ literals_at at i) (behind at i) t h.1 (item_literals_counted bound n ls at i h.0 e)
@@ -80,7 +80,7 @@ mutual
   item_literals_counted bound n ls at (held v) h e = absurd h
   item_literals_counted bound n ls at (known m) h e = absurd h
 
-sort_literals_counted : (bound n : ℕ) (ls : List Quoted) (w : ℕ) (s : Sort) → HasBuiltText bound s → length ls ≡ n → length (ls ++ sort_literals w s) ≡ sort_behind n s
+sort_literals_counted : (bound n : ℕ) (ls : List Quoted) (w : ℕ) (s : Sort) → HasBuiltPhrase bound s → length ls ≡ n → length (ls ++ sort_literals w s) ≡ sort_behind n s
 sort_literals_counted bound n ls w (body t) h e = literals_counted bound n ls (first_of_word w) t h e
 sort_literals_counted bound n ls w (prim k) h e = no_more ls n e
 sort_literals_counted bound n ls w (core k) h e = no_more ls n e
@@ -105,13 +105,13 @@ literals_append P [] ms ts us h k = rw h k
 literals_append P (l ∷ ls) ms ts us h k = (h.0, h.1 ++ us, rw h.2 refl, h.3, literals_append P ls ms h.1 us h.4 k)
 
 module _ (P : Program) (bound : ℕ) where
-  -- Where the program's literals are those before a text, those of the text and those behind it, the text is closed with numbers from there on.
+  -- Where the program's literals are those before a phrase, those of the phrase and those behind it, the phrase is closed with numbers from there on.
   mutual
-    text_closes : (n : ℕ) (before after : List Quoted) (at : Literal) (t : Text) → IsBuiltText bound t → length before ≡ n → literals P ≡ before ++ (literals_in at t ++ after) → ClosesText P at t (closed_text n t)
-    text_closes n before after at end h e is = refl
-    text_closes n before after at (then i p t) h e is =
+    phrase_closes : (n : ℕ) (before after : List Quoted) (at : Literal) (t : Phrase) → IsBuiltPhrase bound t → length before ≡ n → literals P ≡ before ++ (literals_in at t ++ after) → ClosesPhrase P at t (closed_phrase n t)
+    phrase_closes n before after at end h e is = refl
+    phrase_closes n before after at (then i p t) h e is =
         let rest = literals_in (behind at i) t in
-        (closed_item n i, closed_text (item_behind n i) t, refl, item_closes n before (rest ++ after) at i h.0 e (is ∙ ap (λ (ls : List Quoted). before ++ ls) (append_assoc (literals_at at i) rest after)), text_closes (item_behind n i) (before ++ literals_at at i) after (behind at i) t h.1 (item_literals_counted bound n before at i h.0 e) (is ∙ ap (λ (ls : List Quoted). before ++ ls) (append_assoc (literals_at at i) rest after) ∙ sym (append_assoc before (literals_at at i) (rest ++ after))))
+        (closed_item n i, closed_phrase (item_behind n i) t, refl, item_closes n before (rest ++ after) at i h.0 e (is ∙ ap (λ (ls : List Quoted). before ++ ls) (append_assoc (literals_at at i) rest after)), phrase_closes (item_behind n i) (before ++ literals_at at i) after (behind at i) t h.1 (item_literals_counted bound n before at i h.0 e) (is ∙ ap (λ (ls : List Quoted). before ++ ls) (append_assoc (literals_at at i) rest after) ∙ sym (append_assoc before (literals_at at i) (rest ++ after))))
 
     item_closes : (n : ℕ) (before after : List Quoted) (at : Literal) (i : Item) → IsBuiltItem bound i → length before ≡ n → literals P ≡ before ++ (literals_at at i ++ after) → ClosesItem P at i (closed_item n i)
     item_closes n before after at (quot t) h e is =
@@ -132,21 +132,21 @@ module _ (P : Program) (bound : ℕ) where
     item_closes n before after at (held v) h e is = absurd h
     item_closes n before after at (known m) h e is = absurd h
 
-  -- likewise the templates of the text's quotations
+  -- likewise the templates of the phrase's quotations
   mutual
-    templates_close : (n : ℕ) (before after : List Quoted) (at : Literal) (t : Text) → IsBuiltText bound t → length before ≡ n → literals P ≡ before ++ (literals_in at t ++ after) → CloseLiterals P (literals_in at t) (text_templates n t)
+    templates_close : (n : ℕ) (before after : List Quoted) (at : Literal) (t : Phrase) → IsBuiltPhrase bound t → length before ≡ n → literals P ≡ before ++ (literals_in at t ++ after) → CloseLiterals P (literals_in at t) (phrase_templates n t)
     templates_close n before after at end h e is = refl
     templates_close n before after at (then i p t) h e is =
         let rest = literals_in (behind at i) t in
-        literals_append P (literals_at at i) rest (item_templates n p i) (text_templates (item_behind n i) t) (item_templates_close n before (rest ++ after) at p i h.0 e (is ∙ ap (λ (ls : List Quoted). before ++ ls) (append_assoc (literals_at at i) rest after))) (templates_close (item_behind n i) (before ++ literals_at at i) after (behind at i) t h.1 (item_literals_counted bound n before at i h.0 e) (is ∙ ap (λ (ls : List Quoted). before ++ ls) (append_assoc (literals_at at i) rest after) ∙ sym (append_assoc before (literals_at at i) (rest ++ after))))
+        literals_append P (literals_at at i) rest (item_templates n p i) (phrase_templates (item_behind n i) t) (item_templates_close n before (rest ++ after) at p i h.0 e (is ∙ ap (λ (ls : List Quoted). before ++ ls) (append_assoc (literals_at at i) rest after))) (templates_close (item_behind n i) (before ++ literals_at at i) after (behind at i) t h.1 (item_literals_counted bound n before at i h.0 e) (is ∙ ap (λ (ls : List Quoted). before ++ ls) (append_assoc (literals_at at i) rest after) ∙ sym (append_assoc before (literals_at at i) (rest ++ after))))
 
     item_templates_close : (n : ℕ) (before after : List Quoted) (at : Literal) (p : Place) (i : Item) → IsBuiltItem bound i → length before ≡ n → literals P ≡ before ++ (literals_at at i ++ after) → CloseLiterals P (literals_at at i) (item_templates n p i)
     item_templates_close n before after at p (quot t) h e is =
         let x : Quoted = (at, t) in
         let count : length (before ++ x ∷ []) ≡ suc n = one_more before x n e in
         let inside : literals P ≡ (before ++ x ∷ []) ++ (literals_in (first_of_literal at) t ++ after) = is ∙ sym (append_assoc before (x ∷ []) (literals_in (first_of_literal at) t ++ after)) in
-        let closed = closed_text (suc n) t in
-        (template_of p closed, text_templates (suc n) t, refl, record { body = text_closes (suc n) (before ++ x ∷ []) after (first_of_literal at) t h count inside; captures = refl; holes = refl }, templates_close (suc n) (before ++ x ∷ []) after (first_of_literal at) t h count inside)
+        let closed = closed_phrase (suc n) t in
+        (template_of p closed, phrase_templates (suc n) t, refl, record { body = phrase_closes (suc n) (before ++ x ∷ []) after (first_of_literal at) t h count inside; captures = refl; holes = refl }, templates_close (suc n) (before ++ x ∷ []) after (first_of_literal at) t h count inside)
     item_templates_close n before after at p (lit q) h e is = refl
     item_templates_close n before after at p (word w) h e is = refl
     item_templates_close n before after at p (lit_arr a) h e is = absurd h
@@ -162,8 +162,8 @@ module _ (P : Program) (bound : ℕ) where
     item_templates_close n before after at p (held v) h e is = absurd h
     item_templates_close n before after at p (known m) h e is = absurd h
 
-  sort_closes : (n w : ℕ) (before after : List Quoted) (s : Sort) → HasBuiltText bound s → length before ≡ n → literals P ≡ before ++ (sort_literals w s ++ after) → ClosesSort P w s (closed_sort n s)
-  sort_closes n w before after (body t) h e is = (closed_text n t, refl, text_closes n before after (first_of_word w) t h e is)
+  sort_closes : (n w : ℕ) (before after : List Quoted) (s : Sort) → HasBuiltPhrase bound s → length before ≡ n → literals P ≡ before ++ (sort_literals w s ++ after) → ClosesSort P w s (closed_sort n s)
+  sort_closes n w before after (body t) h e is = (closed_phrase n t, refl, phrase_closes n before after (first_of_word w) t h e is)
   sort_closes n w before after (prim k) h e is = refl
   sort_closes n w before after (core k) h e is = refl
   sort_closes n w before after (past t) h e is = absurd h
@@ -176,7 +176,7 @@ module _ (P : Program) (bound : ℕ) where
   sort_closes n w before after generic h e is = refl
   sort_closes n w before after (method c g t) h e is = absurd h
 
-  sort_templates_close : (n w : ℕ) (before after : List Quoted) (s : Sort) → HasBuiltText bound s → length before ≡ n → literals P ≡ before ++ (sort_literals w s ++ after) → CloseLiterals P (sort_literals w s) (sort_templates n s)
+  sort_templates_close : (n w : ℕ) (before after : List Quoted) (s : Sort) → HasBuiltPhrase bound s → length before ≡ n → literals P ≡ before ++ (sort_literals w s ++ after) → CloseLiterals P (sort_literals w s) (sort_templates n s)
   sort_templates_close n w before after (body t) h e is = templates_close n before after (first_of_word w) t h e is
   sort_templates_close n w before after (prim k) h e is = refl
   sort_templates_close n w before after (core k) h e is = refl
@@ -191,12 +191,12 @@ module _ (P : Program) (bound : ℕ) where
   sort_templates_close n w before after (method c g t) h e is = absurd h
 
   -- words from word w on, whose literals are the last ones
-  words_close : (n w : ℕ) (before : List Quoted) (ds : List WordDef) → HaveBuiltTexts bound ds → length before ≡ n → literals P ≡ before ++ word_literals w ds → CloseWords P w ds (closed_words n ds)
+  words_close : (n w : ℕ) (before : List Quoted) (ds : List WordDef) → HaveBuiltPhrases bound ds → length before ≡ n → literals P ≡ before ++ word_literals w ds → CloseWords P w ds (closed_words n ds)
   words_close n w before [] h e is = refl
   words_close n w before (d ∷ ds) h e is =
       (closed_word n d, closed_words (sort_behind n d.sort) ds, refl, record { name = refl; sort = sort_closes n w before (word_literals (suc w) ds) d.sort h.0 e is; effect = refl; inline = refl; recursive = refl; place = refl }, words_close (sort_behind n d.sort) (suc w) (before ++ sort_literals w d.sort) ds h.1 (sort_literals_counted bound n before w d.sort h.0 e) (is ∙ sym (append_assoc before (sort_literals w d.sort) (word_literals (suc w) ds))))
 
-  words_templates_close : (n w : ℕ) (before : List Quoted) (ds : List WordDef) → HaveBuiltTexts bound ds → length before ≡ n → literals P ≡ before ++ word_literals w ds → CloseLiterals P (word_literals w ds) (words_templates n ds)
+  words_templates_close : (n w : ℕ) (before : List Quoted) (ds : List WordDef) → HaveBuiltPhrases bound ds → length before ≡ n → literals P ≡ before ++ word_literals w ds → CloseLiterals P (word_literals w ds) (words_templates n ds)
   words_templates_close n w before [] h e is = refl
   words_templates_close n w before (d ∷ ds) h e is =
       literals_append P (sort_literals w d.sort) (word_literals (suc w) ds) (sort_templates n d.sort) (words_templates (sort_behind n d.sort) ds) (sort_templates_close n w before (word_literals (suc w) ds) d.sort h.0 e is) (words_templates_close (sort_behind n d.sort) (suc w) (before ++ sort_literals w d.sort) ds h.1 (sort_literals_counted bound n before w d.sort h.0 e) (is ∙ sym (append_assoc before (sort_literals w d.sort) (word_literals (suc w) ds))))
@@ -207,14 +207,14 @@ place_of t = t.place
 both_placed : (ts us : List Template) (ps qs : List Place) → map place_of ts ≡ ps → map place_of us ≡ qs → map place_of (ts ++ us) ≡ ps ++ qs
 both_placed ts us ps qs e f = map-append place_of ts us ∙ rw (e, f) refl
 
--- a text's templates stand at the places of its quotations
+-- a phrase's templates stand at the places of its quotations
 mutual
-  text_placed : (bound n : ℕ) (t : Text) → IsBuiltText bound t → map place_of (text_templates n t) ≡ places_in t
-  text_placed bound n end h = refl
-  text_placed bound n (then i p t) h = both_placed (item_templates n p i) (text_templates (item_behind n i) t) (places_at p i) (places_in t) (item_placed bound n p i h.0) (text_placed bound (item_behind n i) t h.1)
+  phrase_placed : (bound n : ℕ) (t : Phrase) → IsBuiltPhrase bound t → map place_of (phrase_templates n t) ≡ places_in t
+  phrase_placed bound n end h = refl
+  phrase_placed bound n (then i p t) h = both_placed (item_templates n p i) (phrase_templates (item_behind n i) t) (places_at p i) (places_in t) (item_placed bound n p i h.0) (phrase_placed bound (item_behind n i) t h.1)
 
   item_placed : (bound n : ℕ) (p : Place) (i : Item) → IsBuiltItem bound i → map place_of (item_templates n p i) ≡ places_at p i
-  item_placed bound n p (quot t) h = ap (λ (ps : List Place). p ∷ ps) (text_placed bound (suc n) t h)
+  item_placed bound n p (quot t) h = ap (λ (ps : List Place). p ∷ ps) (phrase_placed bound (suc n) t h)
   item_placed bound n p (lit q) h = refl
   item_placed bound n p (word w) h = refl
   item_placed bound n p (lit_arr a) h = absurd h
@@ -230,8 +230,8 @@ mutual
   item_placed bound n p (held v) h = absurd h
   item_placed bound n p (known m) h = absurd h
 
-sort_placed : (bound n w : ℕ) (s : Sort) → HasBuiltText bound s → map place_of (sort_templates n s) ≡ sort_places w s
-sort_placed bound n w (body t) h = text_placed bound n t h
+sort_placed : (bound n w : ℕ) (s : Sort) → HasBuiltPhrase bound s → map place_of (sort_templates n s) ≡ sort_places w s
+sort_placed bound n w (body t) h = phrase_placed bound n t h
 sort_placed bound n w (prim k) h = refl
 sort_placed bound n w (core k) h = refl
 sort_placed bound n w (past t) h = absurd h
@@ -244,11 +244,11 @@ sort_placed bound n w (putter x) h = refl
 sort_placed bound n w generic h = refl
 sort_placed bound n w (method c g t) h = absurd h
 
-words_placed : (bound n w : ℕ) (ds : List WordDef) → HaveBuiltTexts bound ds → map place_of (words_templates n ds) ≡ word_places w ds
+words_placed : (bound n w : ℕ) (ds : List WordDef) → HaveBuiltPhrases bound ds → map place_of (words_templates n ds) ≡ word_places w ds
 words_placed bound n w [] h = refl
 words_placed bound n w (d ∷ ds) h = both_placed (sort_templates n d.sort) (words_templates (sort_behind n d.sort) ds) (sort_places w d.sort) (word_places (suc w) ds) (sort_placed bound n w d.sort h.0) (words_placed bound (sort_behind n d.sort) (suc w) ds h.1)
 
 -- words and templates that closing makes of a program's words
 pub closes_program : (P : Program) → IsBuilt P → (words : List WordDef) (templates : List Template) → WordsClose P.words words templates → Closes P (record { words = words; arrays = P.arrays; classes = P.classes; top = P.top }) templates
 closes_program P b words templates made_of =
-    let built = built_texts P b in record { words = rw made_of.words_are (words_close P P.top 0 0 [] P.words built refl refl); templates_are = rw made_of.templates_are (words_templates_close P P.top 0 0 [] P.words built refl refl); places = rw made_of.templates_are (words_placed P.top 0 0 P.words built); arrays = refl; classes = refl; top = refl }
+    let built = built_phrases P b in record { words = rw made_of.words_are (words_close P P.top 0 0 [] P.words built refl refl); templates_are = rw made_of.templates_are (words_templates_close P P.top 0 0 [] P.words built refl refl); places = rw made_of.templates_are (words_placed P.top 0 0 P.words built); arrays = refl; classes = refl; top = refl }

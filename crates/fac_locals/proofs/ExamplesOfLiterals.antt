@@ -7,14 +7,14 @@ use Rattle.fac_lang.specs.declared.program.Program.{Program}
 use Rattle.fac_lang.specs.declared.program.WordDef.{WordDef}
 use Rattle.fac_lang.specs.declared.program.Sort.TheVariants.{Body as body}
 use Rattle.fac_lang.specs.Signatures.{signature, no_inputs, leaves}
-use Rattle.fac_lang.specs.Texts.{Text, end, then, Item, quot, word, made}
+use Rattle.fac_lang.specs.Phrases.{Phrase, end, then, Item, quot, word, made}
 use Rattle.fac_lang.specs.Meaning.{nowhere}
 use Rattle.fac_lang.proofs.DemoWords.{phrase, number, quotation}
 use Rattle.fac_lang.proofs.DemoPrelude.{word_of}
 use Rattle.fac_locals.specs.Literals.{Quoted, literals, literal_places, literal_numbered}
 use Rattle.fac_locals.specs.inner.Numbering.{template_of, closed_words, words_templates}
 
--- a word with this text
+-- a word with this phrase
 abbrev written : List Item → WordDef
 written is = word_of (codes "scratchpad") (codes "w") (body (phrase is)) (signature None no_inputs (leaves None [])) false false
 
@@ -25,7 +25,7 @@ words = written (number 1 ∷ quotation (number 2 ∷ quotation (number 3 ∷ []
 abbrev program : Program
 program = record { words = words; arrays = []; classes = []; top = 1 }
 
--- the quotation of a word with so many items before it, and its text
+-- the quotation of a word with so many items before it, and its phrase
 abbrev literal : ℕ → ℕ → List Item → Quoted
 literal w index is = (record { word = w; index = index }, phrase is)
 
@@ -52,8 +52,8 @@ templates_are = refl
 abbrev token : ℕ → Place
 token n = record { file = 1; token = n }
 
--- a word with this text
-abbrev holding : Text → WordDef
+-- a word with this phrase
+abbrev holding : Phrase → WordDef
 holding t = word_of (codes "scratchpad") (codes "w") (body t) (signature None no_inputs (leaves None [])) false false
 
 -- From token 5 on   : w ( -- ) [ 5 [ ] ] [ ] ;   and at the top, from token 18 on,   5 [ ]

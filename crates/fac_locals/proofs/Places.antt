@@ -1,15 +1,15 @@
 -- Each literal of a program has a place of its own: in reading order places grow.
 use Rattle.std.proofs.Common.{◌≡◌, ◌<◌, ◌≤◌, inl, inr, ℕ, zero, suc, ◌+◌, List, [], ◌∷◌, ◌++◌, length, Option, Some, None, refl, sym, ap, ◌∙◌, arith}
 use Rattle.std.specs.Prelude.{slice_get}
-use Rattle.fac_lang.specs.Texts.{Literal, Text, end, then, Item, lit, lit_arr, quot, word, bind, local, fry, hole, call_eff, exec_eff, next_method, made, next_after, held, known}
+use Rattle.fac_lang.specs.Phrases.{Literal, Phrase, end, then, Item, lit, lit_arr, quot, word, bind, local, fry, hole, call_eff, exec_eff, next_method, made, next_after, held, known}
 use Rattle.fac_lang.specs.Substitution.{of_method}
 use Rattle.fac_lang.specs.declared.program.Program.{Program}
 use Rattle.fac_lang.specs.declared.program.WordDef.{WordDef}
 use Rattle.fac_lang.specs.declared.program.Sort.{Sort}
 use Rattle.fac_lang.specs.declared.program.Sort.TheVariants.{Prim as prim, Core as core, Body as body, Past as past, Itself as itself, Class as class, Isa as isa, Getter as getter, Setter as setter, Putter as putter, Generic as generic, Method as method}
-use Rattle.fac_lang.specs.Forms.{IsBuilt, IsBuiltText, IsBuiltItem}
+use Rattle.fac_lang.specs.Forms.{IsBuilt, IsBuiltPhrase, IsBuiltItem}
 use Rattle.fac_locals.specs.Literals.{NotBefore, Quoted, items_in, first_of_word, first_of_literal, behind, literals_in, literals_at, sort_literals, word_literals, literals, literal_or, literal_numbered}
-use Rattle.fac_locals.proofs.ClosedPrograms.{HasBuiltText, HaveBuiltTexts, built_texts}
+use Rattle.fac_locals.proofs.ClosedPrograms.{HasBuiltPhrase, HaveBuiltPhrases, built_phrases}
 
 -- places of literals grow from one place on, and all stand before another
 abbrev pub Between : Literal → Literal → List Quoted → Type 0
@@ -31,9 +31,9 @@ join : (a b c : Literal) (ls ms : List Quoted) → Between a b ls → Between b 
 join a b c [] ms h k = later a b c ms h k
 join a b c (l ∷ ls) ms h k = (h.0, join (first_of_literal l.0) b c ls ms h.1 k)
 
--- the place behind a text whose first item stands here
-abbrev behind_text : Literal → Text → Literal
-behind_text at t = record { word = at.word; index = at.index + items_in t }
+-- the place behind a phrase whose first item stands here
+abbrev behind_phrase : Literal → Phrase → Literal
+behind_phrase at t = record { word = at.word; index = at.index + items_in t }
 
 same_word : (w : ℕ) (i j : ℕ) → i ≤ j → NotBefore (record { word = w; index = i }) (record { word = w; index = j })
 same_word w i j h = inr (refl, h)
@@ -46,14 +46,14 @@ none_at : (at : Literal) (i : Item) → NotBefore at (behind at i)
 none_at at i = inr (refl, omega arith)
 
 mutual
-  text_between : (at : Literal) (t : Text) → Between at (behind_text at t) (literals_in at t)
-  text_between at end = inr (refl, omega arith)
-  text_between at (then i p t) =
-      upto at (behind_text (behind at i) t) (behind_text at (then i p t)) (literals_at at i ++ literals_in (behind at i) t) (join at (behind at i) (behind_text (behind at i) t) (literals_at at i) (literals_in (behind at i) t) (item_between at i) (text_between (behind at i) t)) (inr (refl, omega arith))
+  phrase_between : (at : Literal) (t : Phrase) → Between at (behind_phrase at t) (literals_in at t)
+  phrase_between at end = inr (refl, omega arith)
+  phrase_between at (then i p t) =
+      upto at (behind_phrase (behind at i) t) (behind_phrase at (then i p t)) (literals_at at i ++ literals_in (behind at i) t) (join at (behind at i) (behind_phrase (behind at i) t) (literals_at at i) (literals_in (behind at i) t) (item_between at i) (phrase_between (behind at i) t)) (inr (refl, omega arith))
 
   item_between : (at : Literal) (i : Item) → Between at (behind at i) (literals_at at i)
-  item_between at (quot t) = (inr (refl, omega arith), upto (first_of_literal at) (behind_text (first_of_literal at) t) (behind at (quot t)) (literals_in (first_of_literal at) t) (text_between (first_of_literal at) t) (inr (refl, omega arith)))
-  item_between at (fry t n) = (inr (refl, omega arith), upto (first_of_literal at) (behind_text (first_of_literal at) t) (behind at (fry t n)) (literals_in (first_of_literal at) t) (text_between (first_of_literal at) t) (inr (refl, omega arith)))
+  item_between at (quot t) = (inr (refl, omega arith), upto (first_of_literal at) (behind_phrase (first_of_literal at) t) (behind at (quot t)) (literals_in (first_of_literal at) t) (phrase_between (first_of_literal at) t) (inr (refl, omega arith)))
+  item_between at (fry t n) = (inr (refl, omega arith), upto (first_of_literal at) (behind_phrase (first_of_literal at) t) (behind at (fry t n)) (literals_in (first_of_literal at) t) (phrase_between (first_of_literal at) t) (inr (refl, omega arith)))
   item_between at (lit q) = none_at at (lit q)
   item_between at (word w) = none_at at (word w)
   item_between at (lit_arr a) = none_at at (lit_arr a)
@@ -68,25 +68,25 @@ mutual
   item_between at (held v) = none_at at (held v)
   item_between at (known m) = none_at at (known m)
 
-next_word : (w : ℕ) (t : Text) → Between (first_of_word w) (first_of_word (suc w)) (literals_in (first_of_word w) t)
-next_word w t = upto (first_of_word w) (behind_text (first_of_word w) t) (first_of_word (suc w)) (literals_in (first_of_word w) t) (text_between (first_of_word w) t) (inl (omega arith))
+next_word : (w : ℕ) (t : Phrase) → Between (first_of_word w) (first_of_word (suc w)) (literals_in (first_of_word w) t)
+next_word w t = upto (first_of_word w) (behind_phrase (first_of_word w) t) (first_of_word (suc w)) (literals_in (first_of_word w) t) (phrase_between (first_of_word w) t) (inl (omega arith))
 
-no_text : (w : ℕ) → NotBefore (first_of_word w) (first_of_word (suc w))
-no_text w = inl (omega arith)
+no_phrase : (w : ℕ) → NotBefore (first_of_word w) (first_of_word (suc w))
+no_phrase w = inl (omega arith)
 
 sort_between : (w : ℕ) (s : Sort) → Between (first_of_word w) (first_of_word (suc w)) (sort_literals w s)
 sort_between w (body t) = next_word w t
 sort_between w (past t) = next_word w t
 sort_between w (method c g t) = next_word w (of_method w t)
-sort_between w (prim k) = no_text w
-sort_between w (core k) = no_text w
-sort_between w itself = no_text w
-sort_between w (class k) = no_text w
-sort_between w (isa k) = no_text w
-sort_between w (getter x) = no_text w
-sort_between w (setter x) = no_text w
-sort_between w (putter x) = no_text w
-sort_between w generic = no_text w
+sort_between w (prim k) = no_phrase w
+sort_between w (core k) = no_phrase w
+sort_between w itself = no_phrase w
+sort_between w (class k) = no_phrase w
+sort_between w (isa k) = no_phrase w
+sort_between w (getter x) = no_phrase w
+sort_between w (setter x) = no_phrase w
+sort_between w (putter x) = no_phrase w
+sort_between w generic = no_phrase w
 
 words_between : (w v : ℕ) (ds : List WordDef) → w + length ds ≡ v → Between (first_of_word w) (first_of_word v) (word_literals w ds)
 words_between w v [] e = inr (omega (arith, e), omega arith)
@@ -181,22 +181,22 @@ grows_or P j k None None o p e = last_numbers (length P.words) j k e
 pub literal_behind : (P : Program) (j k : ℕ) → NotBefore (first_of_literal (literal_numbered P k).0) (literal_numbered P j).0 → k < j
 literal_behind P j k e = grows_or P j k (slice_get (literals P) k) (slice_get (literals P) j) refl refl e
 
--- each of these literals has a text of the built forms
+-- each of these literals has a phrase of the built forms
 abbrev AreBuiltLiterals : ℕ → List Quoted → Type 0
 AreBuiltLiterals bound [] = Unit {0}
-AreBuiltLiterals bound (l ∷ ls) = IsBuiltText bound l.1 × AreBuiltLiterals bound ls
+AreBuiltLiterals bound (l ∷ ls) = IsBuiltPhrase bound l.1 × AreBuiltLiterals bound ls
 
 both_built : (bound : ℕ) (ls ms : List Quoted) → AreBuiltLiterals bound ls → AreBuiltLiterals bound ms → AreBuiltLiterals bound (ls ++ ms)
 both_built bound [] ms h k = k
 both_built bound (l ∷ ls) ms h k = (h.0, both_built bound ls ms h.1 k)
 
 mutual
-  text_literals_built : (bound : ℕ) (at : Literal) (t : Text) → IsBuiltText bound t → AreBuiltLiterals bound (literals_in at t)
-  text_literals_built bound at end h = tt
-  text_literals_built bound at (then i p t) h = both_built bound (literals_at at i) (literals_in (behind at i) t) (item_literals_built bound at i h.0) (text_literals_built bound (behind at i) t h.1)
+  phrase_literals_built : (bound : ℕ) (at : Literal) (t : Phrase) → IsBuiltPhrase bound t → AreBuiltLiterals bound (literals_in at t)
+  phrase_literals_built bound at end h = tt
+  phrase_literals_built bound at (then i p t) h = both_built bound (literals_at at i) (literals_in (behind at i) t) (item_literals_built bound at i h.0) (phrase_literals_built bound (behind at i) t h.1)
 
   item_literals_built : (bound : ℕ) (at : Literal) (i : Item) → IsBuiltItem bound i → AreBuiltLiterals bound (literals_at at i)
-  item_literals_built bound at (quot t) h = (h, text_literals_built bound (first_of_literal at) t h)
+  item_literals_built bound at (quot t) h = (h, phrase_literals_built bound (first_of_literal at) t h)
   item_literals_built bound at (fry t n) h = absurd h
   item_literals_built bound at (lit q) h = tt
   item_literals_built bound at (word w) h = tt
@@ -212,8 +212,8 @@ mutual
   item_literals_built bound at (held v) h = tt
   item_literals_built bound at (known m) h = tt
 
-sort_literals_built : (bound w : ℕ) (s : Sort) → HasBuiltText bound s → AreBuiltLiterals bound (sort_literals w s)
-sort_literals_built bound w (body t) h = text_literals_built bound (first_of_word w) t h
+sort_literals_built : (bound w : ℕ) (s : Sort) → HasBuiltPhrase bound s → AreBuiltLiterals bound (sort_literals w s)
+sort_literals_built bound w (body t) h = phrase_literals_built bound (first_of_word w) t h
 sort_literals_built bound w (past t) h = absurd h
 sort_literals_built bound w (method c g t) h = absurd h
 sort_literals_built bound w (prim k) h = tt
@@ -226,15 +226,15 @@ sort_literals_built bound w (setter x) h = tt
 sort_literals_built bound w (putter x) h = tt
 sort_literals_built bound w generic h = tt
 
-word_literals_built : (bound w : ℕ) (ds : List WordDef) → HaveBuiltTexts bound ds → AreBuiltLiterals bound (word_literals w ds)
+word_literals_built : (bound w : ℕ) (ds : List WordDef) → HaveBuiltPhrases bound ds → AreBuiltLiterals bound (word_literals w ds)
 word_literals_built bound w [] h = tt
 word_literals_built bound w (d ∷ ds) h = both_built bound (sort_literals w d.sort) (word_literals (suc w) ds) (sort_literals_built bound w d.sort h.0) (word_literals_built bound (suc w) ds h.1)
 
-built_literal : (P : Program) (bound n k : ℕ) (ls : List Quoted) → AreBuiltLiterals bound ls → IsBuiltText bound (literal_or P n (slice_get ls k)).1
+built_literal : (P : Program) (bound n k : ℕ) (ls : List Quoted) → AreBuiltLiterals bound ls → IsBuiltPhrase bound (literal_or P n (slice_get ls k)).1
 built_literal P bound n k [] h = tt
 built_literal P bound n zero (l ∷ ls) h = h.0
 built_literal P bound n (suc k) (l ∷ ls) h = built_literal P bound n k ls h.1
 
--- the text of each literal is of the built forms, so no mark stands in it
-pub literal_built : (P : Program) → IsBuilt P → (k : ℕ) → IsBuiltText P.top (literal_numbered P k).1
-literal_built P b k = built_literal P P.top k k (literals P) (word_literals_built P.top 0 P.words (built_texts P b))
+-- the phrase of each literal is of the built forms, so no mark stands in it
+pub literal_built : (P : Program) → IsBuilt P → (k : ℕ) → IsBuiltPhrase P.top (literal_numbered P k).1
+literal_built P b k = built_literal P P.top k k (literals P) (word_literals_built P.top 0 P.words (built_phrases P b))

@@ -1,6 +1,6 @@
--- When a closed program stands for a program: each quotation in a text is made by the template of its literal, and a template's text is closed likewise.
+-- When a closed program stands for a program: each quotation in a phrase is made by the template of its literal, and a template's phrase is closed likewise.
 use Rattle.std.specs.Prelude.{◌≡◌, ℕ, suc, List, [], ◌∷◌, map}
-use Rattle.fac_lang.specs.Texts.{Literal, Text, end, then, Item, lit, lit_arr, quot, word, bind, local, fry, hole, call_eff, exec_eff, next_method, made, next_after, held, known}
+use Rattle.fac_lang.specs.Phrases.{Literal, Phrase, end, then, Item, lit, lit_arr, quot, word, bind, local, fry, hole, call_eff, exec_eff, next_method, made, next_after, held, known}
 use Rattle.fac_lang.specs.Substitution.{of_method}
 use Rattle.fac_lang.specs.declared.phrase.Template.{Template}
 use Rattle.fac_lang.specs.declared.program.Program.{Program}
@@ -10,11 +10,11 @@ use Rattle.fac_lang.specs.declared.program.Sort.TheVariants.{Body as body, Past 
 use Rattle.fac_locals.specs.Literals.{Quoted, behind, first_of_word, first_of_literal, literals, literal_places, literal_numbered}
 
 module _ (P : Program) where
-  -- the template with this number makes the quotation that stands here with this text
-  abbrev pub IsMadeBy : Literal → Text → ℕ → Type 0
+  -- the template with this number makes the quotation that stands here with this phrase
+  abbrev pub IsMadeBy : Literal → Phrase → ℕ → Type 0
   IsMadeBy at t k = let l : Quoted = (at, t) in literal_numbered P k ≡ l
 
-  -- An item for one that stands here. Texts with locals, holes and fries aren't closed yet.
+  -- An item for one that stands here. Phrases with locals, holes and fries aren't closed yet.
   abbrev pub ClosesItem : Literal → Item → Item → Type 0
   ClosesItem at (quot t) j = (k : ℕ) × (j ≡ made k) × IsMadeBy at t k
   ClosesItem at (next_after m) j = j ≡ next_method
@@ -32,16 +32,16 @@ module _ (P : Program) where
   ClosesItem at (held v) j = ⊥
   ClosesItem at (known m) j = ⊥
 
-  -- a text for one whose first item stands here
-  abbrev pub ClosesText : Literal → Text → Text → Type 0
-  ClosesText at end c = c ≡ end
-  ClosesText at (then i p t) c = (j : Item) × (s : Text) × (c ≡ then j p s) × ClosesItem at i j × ClosesText (behind at i) t s
+  -- a phrase for one whose first item stands here
+  abbrev pub ClosesPhrase : Literal → Phrase → Phrase → Type 0
+  ClosesPhrase at end c = c ≡ end
+  ClosesPhrase at (then i p t) c = (j : Item) × (s : Phrase) × (c ≡ then j p s) × ClosesItem at i j × ClosesPhrase (behind at i) t s
 
   -- what word w is, for what it is in the program
   abbrev pub ClosesSort : ℕ → Sort → Sort → Type 0
-  ClosesSort w (body t) s = (c : Text) × (s ≡ body c) × ClosesText (first_of_word w) t c
-  ClosesSort w (past t) s = (c : Text) × (s ≡ past c) × ClosesText (first_of_word w) t c
-  ClosesSort w (method n g t) s = (c : Text) × (s ≡ method n g c) × ClosesText (first_of_word w) (of_method w t) c
+  ClosesSort w (body t) s = (c : Phrase) × (s ≡ body c) × ClosesPhrase (first_of_word w) t c
+  ClosesSort w (past t) s = (c : Phrase) × (s ≡ past c) × ClosesPhrase (first_of_word w) t c
+  ClosesSort w (method n g t) s = (c : Phrase) × (s ≡ method n g c) × ClosesPhrase (first_of_word w) (of_method w t) c
   ClosesSort w o s = s ≡ o
 
   -- word w, for the word in the program
@@ -60,7 +60,7 @@ module _ (P : Program) where
 
   -- the template of this literal: it captures nothing yet, and has no holes
   pub record ClosesLiteral (l : Quoted) (t : Template) : Type 0 where
-    pub body : ClosesText (first_of_literal l.0) l.1 t.body
+    pub body : ClosesPhrase (first_of_literal l.0) l.1 t.body
     pub captures : t.captures ≡ []
     pub holes : t.holes ≡ 0
 

@@ -2,7 +2,7 @@
 ghost use Rattle.std.specs.Prelude.{◌≡◌, ◌++◌, ◌∷◌, ◌<◌, [], length, set, IfOk};
 ghost use Rattle.fac_lang.specs.Forms.{IsBuilt};
 ghost use Rattle.fac_locals.specs.Closed.{Closes};
-ghost use Rattle.fac_locals.specs.inner.Numbering.{TextCloses, ItemCloses, SortCloses, WordCloses, WordsClose, template_of, placeholder};
+ghost use Rattle.fac_locals.specs.inner.Numbering.{PhraseCloses, ItemCloses, SortCloses, WordCloses, WordsClose, template_of, placeholder};
 
 use fac_lang::{Item, List, Memory, Phrase, Place, Program, Sort, Template, What, WordDef};
 use std::alloc::Global;
@@ -18,7 +18,7 @@ pub struct Closed {
     pub start: u64,
 }
 
-// The template of a quotation that stands here, with this closed text.
+// The template of a quotation that stands here, with this closed phrase.
 fn template(alloc: Global, place: Place, body: Phrase) -> Template
     ensures { result ≡ template_of place body }
 {
@@ -44,7 +44,7 @@ fn reserve(alloc: Global, templates: &mut Vec<Template>, place: Place) -> Result
     Ok(number)
 }
 
-// Puts a closed text into the template of this number.
+// Puts a closed phrase into the template of this number.
 fn fill(alloc: Global, templates: &mut Vec<Template>, number: u32, place: Place, body: Phrase)
     requires { number < length templates.old.items }
     ensures { templates.new.items ≡ set templates.old.items number (template_of place body) }
@@ -65,7 +65,7 @@ fn close_what(
     match what {
         What::Quot(inner) => {
             let number = reserve(alloc, templates, place)?;
-            let body = close_text(inner, alloc, templates)?;
+            let body = close_phrase(inner, alloc, templates)?;
             fill(alloc, templates, number, place, body);
             Ok(What::Made(number))
         }
@@ -73,14 +73,14 @@ fn close_what(
     }
 }
 
-// A text with templates in place of its quotations.
+// A phrase with templates in place of its quotations.
 #[cycle(closing)]
-fn close_text(
+fn close_phrase(
     phrase: Phrase,
     alloc: Global,
     templates: &mut Vec<Template>,
 ) -> Result<Phrase, Memory>
-    ensures { IfOk result (λ closed. TextCloses templates.old.items phrase closed templates.new.items) }
+    ensures { IfOk result (λ closed. PhraseCloses templates.old.items phrase closed templates.new.items) }
 {
     let mut items = Vec::new(alloc);
     for item in phrase.items {
@@ -91,17 +91,17 @@ fn close_text(
     Ok(Phrase { items })
 }
 
-// What a word is, with its text closed.
+// What a word is, with its phrase closed.
 fn close_sort(alloc: Global, templates: &mut Vec<Template>, sort: Sort) -> Result<Sort, Memory>
     ensures { IfOk result (λ closed. SortCloses templates.old.items sort closed templates.new.items) }
 {
     match sort {
-        Sort::Body(phrase) => Ok(Sort::Body(close_text(phrase, alloc, templates)?)),
+        Sort::Body(phrase) => Ok(Sort::Body(close_phrase(phrase, alloc, templates)?)),
         other => Ok(other),
     }
 }
 
-// A word with its text closed.
+// A word with its phrase closed.
 fn close_word(
     alloc: Global,
     templates: &mut Vec<Template>,
@@ -128,7 +128,7 @@ fn close_word(
     })
 }
 
-// The words of a program with their texts closed, and the templates.
+// The words of a program with their phrases closed, and the templates.
 fn close_words(
     alloc: Global,
     words: Vec<WordDef>,

@@ -3,7 +3,7 @@ use Rattle.std.specs.Prelude.{◌<◌, ℕ, List, length, [], ◌++◌, None, So
 use Rattle.std.specs.declared.option.Option.{Option}
 use Rattle.fac_parse.specs.declared.reader.Why.{Why}
 use Rattle.fac_parse.specs.declared.resolver.NameFault.{NameFault}
-use Rattle.fac_check.specs.declared.rule.Refusal.{Refusal}
+use Rattle.fac_check.specs.declared.refusal.Refusal.{Refusal}
 use Rattle.fac_lang.specs.declared.error_name.ErrorName.{ErrorName}
 use Rattle.fac_lang.specs.declared.program.Name.{Name}
 use Rattle.fac_notes.specs.declared.report.ByteFault.{ByteFault}

@@ -6,7 +6,7 @@ use Rattle.fac_lang.specs.Numbers.{in_range, is_in_range, signed_in, magnitude_i
 use Rattle.fac_num.specs.declared.read.NumFault.{NumFault}
 use Rattle.fac_num.specs.declared.read.NumFault.TheVariants.{TooWide}
 use Rattle.fac_num.specs.Reading.{ReadsInt}
-use Rattle.fac_num.specs.inner.Steps.{capped, capped_some, with_sign, signed_some, narrowed, answer}
+use Rattle.fac_num.specs.inner.NumberSteps.{capped, capped_some, with_sign, signed_some, narrowed, answer}
 
 range_by : (z : ℤ) (b : Bool) → is_in_range z ≡ b → in_range z ≡ elim b [ true ↦ Some z | false ↦ None ]
 range_by z b e = ap (λ (x : Bool). elim x [ true ↦ Some z | false ↦ None ]) e

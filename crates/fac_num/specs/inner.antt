@@ -1,2 +1,2 @@
 -- What only the contracts of inner functions cite.
-pub mod Steps
+pub mod NumberSteps

@@ -5,13 +5,13 @@ use Rattle.std.specs.Option.{option_map}
 use Rattle.std.specs.Str.{bytes_eq}
 use Rattle.std.proofs.lemmas.Bool.Decides.{Decides-ltb}
 use Rattle.std.proofs.lemmas.List.{length_push}
-use Rattle.fac_lang.specs.Forms.{IsBuilt, IsBuiltText, IsBuiltItem, IsBuiltSort, AreBuiltWords, IsDefinedWord, ArePlainInputs, IsPlainLeaving, primitive_numbers, has_no_repeats, numbers_before}
+use Rattle.fac_lang.specs.Forms.{IsBuilt, IsBuiltPhrase, IsBuiltItem, IsBuiltSort, AreBuiltWords, IsDefinedWord, ArePlainInputs, IsPlainLeaving, primitive_numbers, has_no_repeats, numbers_before}
 use Rattle.fac_lang.specs.Primitives.{is_built_primitive}
 use Rattle.fac_lang.specs.CoreWords.{core_word, built_core_words, is_built_core}
 use Rattle.fac_lang.specs.Primitives.{Primitive, built_primitives, later_primitives, built_primitive_words, prim_numbered, primitive_word, built_count, is_built_primitive}
 use Rattle.fac_lang.specs.Signatures.{never, leaves}
 use Rattle.fac_lang.specs.PrimitiveWords.{PrimitiveWord, plain_inputs}
-use Rattle.fac_lang.specs.Texts.{Text, end, then, Item, quot, word}
+use Rattle.fac_lang.specs.Phrases.{Phrase, end, then, Item, quot, word}
 use Rattle.fac_lang.specs.Whole.{name_count, inputs_name_count, leaving_count}
 use Rattle.fac_lang.specs.declared.phrase.Place.{Place}
 use Rattle.fac_lang.specs.declared.program.Name.{Name as FullName}
@@ -22,13 +22,13 @@ use Rattle.fac_lang.specs.declared.tree.Form.{Form}
 use Rattle.fac_lang.specs.declared.tree.Form.TheVariants as form
 use Rattle.fac_lang.specs.declared.tree.Mark.{Mark}
 use Rattle.fac_lang.specs.declared.tree.Mark.TheVariants.{Inline, Recursive}
-use Rattle.fac_lang.specs.declared.tree.Piece.{Piece}
-use Rattle.fac_lang.specs.declared.tree.Piece.TheVariants as piece
+use Rattle.fac_lang.specs.declared.tree.Element.{Element}
+use Rattle.fac_lang.specs.declared.tree.Element.TheVariants as element
 use Rattle.fac_lang.specs.declared.tree.Term.{Term}
 use Rattle.fac_lang.specs.declared.tree.Term.TheVariants as term
 use Rattle.fac_lang.specs.declared.tree.WrittenEffect.{WrittenEffect}
 use Rattle.fac_parse.specs.declared.resolver.NameFault.{NameFault}
-use Rattle.fac_parse.specs.Resolution.{words_from, known_words, first_names, held_from, or_else, held_by, current, found, own_name, is_taken, uses, result_map, word_item, item_of, term_place, Following, with_item, with_quotation, opened, closed, following, text_of, token_texts, is_star, leaving_of, effect_of, is_inline, is_recursive, defined_word, Contents, after_uses, with_top_item, with_defined, unless_taken, contents_of, top_word, program_of}
+use Rattle.fac_parse.specs.Resolution.{words_from, known_words, first_names, held_from, or_else, held_by, current, found, own_name, is_taken, uses, result_map, word_item, item_of, term_place, Following, with_item, with_quotation, opened, closed, following, phrase_of, token_texts, is_star, leaving_of, effect_of, is_inline, is_recursive, defined_word, Contents, after_uses, with_top_item, with_defined, unless_taken, contents_of, top_word, program_of}
 use Rattle.fac_parse.specs.Trees.{token_text, IsEffect, IsWellFormed}
 use Rattle.fac_parse.proofs.NameLemmas.{names_counted}
 
@@ -58,7 +58,7 @@ found_below n known used name e = held_by_below n known (current ∷ used) name 
 found_within : (bound n : ℕ) (known : List FullName) (used : List (List ℕ)) (name : List ℕ) → length known ≤ bound → found known used name ≡ Some n → nat_lt n bound ≡ true
 found_within bound n known used name few e = let below = found_below n known used name e in (Decides-ltb n bound).1 (omega (arith, below, few))
 
--- Texts.
+-- Phrases.
 
 word_built : (bound : ℕ) (o : Option ℕ) (t : Token) (i : Item) → ((n : ℕ) → o ≡ Some n → nat_lt n bound ≡ true) → word_item o t ≡ Ok i → IsBuiltItem bound i
 word_built bound (Some n) t i below e = let same : word n ≡ i = cc in subst (IsBuiltItem bound) same (below n refl)
@@ -73,12 +73,12 @@ item_built bound known used (term.Integer t z) i few e = literal_built bound _ i
 item_built bound known used (term.True place) i few e = literal_built bound _ i _ tt refl e
 item_built bound known used (term.False place) i few e = literal_built bound _ i _ tt refl e
 
-abbrev AreBuiltTexts : ℕ → List Text → Type 0
-AreBuiltTexts bound [] = Unit {0}
-AreBuiltTexts bound (t ∷ ts) = IsBuiltText bound t × AreBuiltTexts bound ts
+abbrev AreBuiltPhrases : ℕ → List Phrase → Type 0
+AreBuiltPhrases bound [] = Unit {0}
+AreBuiltPhrases bound (t ∷ ts) = IsBuiltPhrase bound t × AreBuiltPhrases bound ts
 
 abbrev IsBuiltFollowing : ℕ → Following → Type 0
-IsBuiltFollowing bound f = IsBuiltText bound f.here × AreBuiltTexts bound f.around
+IsBuiltFollowing bound f = IsBuiltPhrase bound f.here × AreBuiltPhrases bound f.around
 
 -- what follows is built, where no name is refused
 abbrev Builds : ℕ → Result Following NameFault → Type 0
@@ -92,29 +92,29 @@ item_before : (bound : ℕ) (r : Result Item NameFault) (place : Place) (rest : 
 item_before bound (Err fault) place rest item later = λ f e. cc
 item_before bound (Ok i) place rest item later = mapped_builds bound (λ f. record { here = then i place f.here; around = f.around }) rest (λ f h. ((item i refl, h.0), h.1)) later
 
-quotation_built : (bound : ℕ) (place : Place) (t : Text) (ts : List Text) → IsBuiltText bound t → AreBuiltTexts bound ts → IsBuiltFollowing bound (with_quotation place t ts)
+quotation_built : (bound : ℕ) (place : Place) (t : Phrase) (ts : List Phrase) → IsBuiltPhrase bound t → AreBuiltPhrases bound ts → IsBuiltFollowing bound (with_quotation place t ts)
 quotation_built bound place t [] h k = ((h, tt), tt)
 quotation_built bound place t (u ∷ us) h k = ((h, k.0), k.1)
 
-pieces_build : (bound : ℕ) (known : List FullName) (used : List (List ℕ)) (items : List Piece) → length known ≤ bound → Builds bound (following known used items)
-pieces_build bound known used [] few = λ f e. let same : record { here = end; around = [] } ≡ f = cc in subst (IsBuiltFollowing bound) same (tt, tt)
-pieces_build bound known used (piece.Item item ∷ items) few = item_before bound (item_of known used item) (term_place item) (following known used items) (λ i h. item_built bound known used item i few h) (pieces_build bound known used items few)
-pieces_build bound known used (piece.Opens place ∷ items) few = mapped_builds bound (opened place) (following known used items) (λ f h. quotation_built bound place f.here f.around h.0 h.1) (pieces_build bound known used items few)
-pieces_build bound known used (piece.Closes place ∷ items) few = mapped_builds bound closed (following known used items) (λ f h. (tt, h)) (pieces_build bound known used items few)
+elements_build : (bound : ℕ) (known : List FullName) (used : List (List ℕ)) (items : List Element) → length known ≤ bound → Builds bound (following known used items)
+elements_build bound known used [] few = λ f e. let same : record { here = end; around = [] } ≡ f = cc in subst (IsBuiltFollowing bound) same (tt, tt)
+elements_build bound known used (element.Item item ∷ items) few = item_before bound (item_of known used item) (term_place item) (following known used items) (λ i h. item_built bound known used item i few h) (elements_build bound known used items few)
+elements_build bound known used (element.Opens place ∷ items) few = mapped_builds bound (opened place) (following known used items) (λ f h. quotation_built bound place f.here f.around h.0 h.1) (elements_build bound known used items few)
+elements_build bound known used (element.Closes place ∷ items) few = mapped_builds bound closed (following known used items) (λ f h. (tt, h)) (elements_build bound known used items few)
 
-here_built : (bound : ℕ) (r : Result Following NameFault) (t : Text) → Builds bound r → result_map (λ f. f.here) r ≡ Ok t → IsBuiltText bound t
-here_built bound (Ok f) t h e = let same : f.here ≡ t = cc in subst (IsBuiltText bound) same (h f refl).0
+here_built : (bound : ℕ) (r : Result Following NameFault) (t : Phrase) → Builds bound r → result_map (λ f. f.here) r ≡ Ok t → IsBuiltPhrase bound t
+here_built bound (Ok f) t h e = let same : f.here ≡ t = cc in subst (IsBuiltPhrase bound) same (h f refl).0
 here_built bound (Err fault) t h e = cc
 
-text_built : (bound : ℕ) (known : List FullName) (used : List (List ℕ)) (items : List Piece) (t : Text) → length known ≤ bound → text_of known used items ≡ Ok t → IsBuiltText bound t
-text_built bound known used items t few e = here_built bound (following known used items) t (pieces_build bound known used items few) e
+phrase_built : (bound : ℕ) (known : List FullName) (used : List (List ℕ)) (items : List Element) (t : Phrase) → length known ≤ bound → phrase_of known used items ≡ Ok t → IsBuiltPhrase bound t
+phrase_built bound known used items t few e = here_built bound (following known used items) t (elements_build bound known used items few) e
 
 -- Words that a file defines.
 
 pub record IsOwnWord (bound : ℕ) (d : WordDef) : Type 0 where
-  pub text : Text
-  pub sort_is : d.sort ≡ Body text
-  pub defined : IsDefinedWord bound d text
+  pub phrase : Phrase
+  pub sort_is : d.sort ≡ Body phrase
+  pub defined : IsDefinedWord bound d phrase
   pub few : nat_le (name_count d.effect) 65 ≡ true
 
 abbrev pub AreOwnWords : ℕ → List WordDef → Type 0
@@ -161,19 +161,19 @@ no_row_word None = refl
 no_row_word (Some (Inline place)) = refl
 no_row_word (Some (Recursive place)) = refl
 
-own_word : (bound : ℕ) (name : Token) (effect : WrittenEffect) (mark : Option Mark) (t : Text) → IsEffect effect → IsBuiltText bound t → IsOwnWord bound (defined_word name effect mark t)
+own_word : (bound : ℕ) (name : Token) (effect : WrittenEffect) (mark : Option Mark) (t : Phrase) → IsEffect effect → IsBuiltPhrase bound t → IsOwnWord bound (defined_word name effect mark t)
 own_word bound name effect mark t fits built =
     record {
-      text = t;
+      phrase = t;
       sort_is = refl;
-      defined = record { text_built = built; plain = (refl, are_plain (token_texts effect.ins), star_plain (is_star effect.outs) (token_texts effect.outs)); no_row_word = no_row_word mark };
+      defined = record { phrase_built = built; plain = (refl, are_plain (token_texts effect.ins), star_plain (is_star effect.outs) (token_texts effect.outs)); no_row_word = no_row_word mark };
       few = few_names effect fits;
     }
 
 -- Contents.
 
 abbrev AreBuilt : ℕ → Contents → Type 0
-AreBuilt bound c = AreOwnWords bound c.words × IsBuiltText bound c.text
+AreBuilt bound c = AreOwnWords bound c.words × IsBuiltPhrase bound c.phrase
 
 -- where there are at most as many words as the bound says, what was made is built
 abbrev BuildsWithin : ℕ → ℕ → Result Contents NameFault → Type 0
@@ -187,45 +187,45 @@ item_builds : (bound k : ℕ) (r : Result Item NameFault) (p : Place) (q : Resul
 item_builds bound k (Err f) p q item later = λ c e few. cc
 item_builds bound k (Ok i) p (Err f) item later = λ c e few. cc
 item_builds bound k (Ok i) p (Ok d) item later = λ c e few.
-    let same : record { words = d.words; text = then i p d.text } ≡ c = cc in
+    let same : record { words = d.words; phrase = then i p d.phrase } ≡ c = cc in
     subst (AreBuilt bound) same (let fits : k + length d.words ≤ bound = subst (λ (x : Contents). k + length x.words ≤ bound) (sym same) few in
     let rest = later d refl fits in (rest.0, (item i (omega (arith, fits)) refl, rest.1)))
 
--- a quotation is an item as built as its text
-quoted_built : (bound : ℕ) (r : Result Text NameFault) (i : Item) → ((t : Text) → r ≡ Ok t → IsBuiltText bound t) → result_map quot r ≡ Ok i → IsBuiltItem bound i
-quoted_built bound (Ok t) i text e = let same : quot t ≡ i = cc in subst (IsBuiltItem bound) same (text t refl)
-quoted_built bound (Err f) i text e = cc
+-- a quotation is an item as built as its phrase
+quoted_built : (bound : ℕ) (r : Result Phrase NameFault) (i : Item) → ((t : Phrase) → r ≡ Ok t → IsBuiltPhrase bound t) → result_map quot r ≡ Ok i → IsBuiltItem bound i
+quoted_built bound (Ok t) i phrase e = let same : quot t ≡ i = cc in subst (IsBuiltItem bound) same (phrase t refl)
+quoted_built bound (Err f) i phrase e = cc
 
-definition_builds : (bound k : ℕ) (b : Bool) (name : Token) (effect : WrittenEffect) (mark : Option Mark) (r : Result Text NameFault) (q : Result Contents NameFault) → IsEffect effect → ((t : Text) → k + 1 ≤ bound → r ≡ Ok t → IsBuiltText bound t) → BuildsWithin bound (k + 1) q → BuildsWithin bound k (unless_taken b name (with_defined (result_map (defined_word name effect mark) r) q))
-definition_builds bound k true name effect mark r q fits text later = λ c e few. cc
-definition_builds bound k false name effect mark (Err f) q fits text later = λ c e few. cc
-definition_builds bound k false name effect mark (Ok t) (Err f) fits text later = λ c e few. cc
-definition_builds bound k false name effect mark (Ok t) (Ok d) fits text later = λ c e few.
-    let same : record { words = defined_word name effect mark t ∷ d.words; text = d.text } ≡ c = cc in
+definition_builds : (bound k : ℕ) (b : Bool) (name : Token) (effect : WrittenEffect) (mark : Option Mark) (r : Result Phrase NameFault) (q : Result Contents NameFault) → IsEffect effect → ((t : Phrase) → k + 1 ≤ bound → r ≡ Ok t → IsBuiltPhrase bound t) → BuildsWithin bound (k + 1) q → BuildsWithin bound k (unless_taken b name (with_defined (result_map (defined_word name effect mark) r) q))
+definition_builds bound k true name effect mark r q fits phrase later = λ c e few. cc
+definition_builds bound k false name effect mark (Err f) q fits phrase later = λ c e few. cc
+definition_builds bound k false name effect mark (Ok t) (Err f) fits phrase later = λ c e few. cc
+definition_builds bound k false name effect mark (Ok t) (Ok d) fits phrase later = λ c e few.
+    let same : record { words = defined_word name effect mark t ∷ d.words; phrase = d.phrase } ≡ c = cc in
     let within : k + suc (length d.words) ≤ bound = subst (λ (x : Contents). k + length x.words ≤ bound) (sym same) few in
     let rest = later d refl (omega (arith, within)) in
-    subst (AreBuilt bound) same ((own_word bound name effect mark t fits (text t (omega (arith, within)) refl), rest.0), rest.1)
+    subst (AreBuilt bound) same ((own_word bound name effect mark t fits (phrase t (omega (arith, within)) refl), rest.0), rest.1)
 
 at_length : (bound : ℕ) (known : List FullName) (x : FullName) (r : Result Contents NameFault) → BuildsWithin bound (length (known ++ x ∷ [])) r → BuildsWithin bound (length known + 1) r
 at_length bound known x r h = subst (λ (k : ℕ). BuildsWithin bound k r) (length_push known x) h
 
 contents_build : (bound : ℕ) (forms : List Form) (known : List FullName) (used : List (List ℕ)) → IsWellFormed forms → BuildsWithin bound (length known) (contents_of known used forms)
-contents_build bound [] known used fits = λ c e few. let same : record { words = []; text = end } ≡ c = cc in subst (AreBuilt bound) same (tt, tt)
+contents_build bound [] known used fits = λ c e few. let same : record { words = []; phrase = end } ≡ c = cc in subst (AreBuilt bound) same (tt, tt)
 contents_build bound (form.Using opens vocabs closes ∷ forms) known used fits =
     uses_build bound (length known) (uses used vocabs) (λ more. contents_of known more forms) (λ more. contents_build bound forms known more fits.1)
 contents_build bound (form.Define opens name effect items closes mark ∷ forms) known used fits =
     let x = own_name (token_text name.kind) in
     let more = known ++ x ∷ [] in
-    definition_builds bound (length known) (is_taken known (token_text name.kind)) name effect mark (text_of more used items) (contents_of more used forms) fits.0.1
-    (λ t few h. text_built bound more used items t (let pushed = length_push known x in omega (arith, pushed, few)) h)
+    definition_builds bound (length known) (is_taken known (token_text name.kind)) name effect mark (phrase_of more used items) (contents_of more used forms) fits.0.1
+    (λ t few h. phrase_built bound more used items t (let pushed = length_push known x in omega (arith, pushed, few)) h)
     (at_length bound known x (contents_of more used forms) (contents_build bound forms more used fits.1))
 contents_build bound (form.Item item ∷ forms) known used fits =
     item_builds bound (length known) (item_of known used item) (term_place item) (contents_of known used forms) (λ i few h. item_built bound known used item i few h) (contents_build bound forms known used fits.1)
 contents_build bound (form.Quotation opens items closes ∷ forms) known used fits =
-    item_builds bound (length known) (result_map quot (text_of known used items)) opens (contents_of known used forms) (λ i few h. quoted_built bound (text_of known used items) i (λ t e. text_built bound known used items t few e) h) (contents_build bound forms known used fits.1)
+    item_builds bound (length known) (result_map quot (phrase_of known used items)) opens (contents_of known used forms) (λ i few h. quoted_built bound (phrase_of known used items) i (λ t e. phrase_built bound known used items t few e) h) (contents_build bound forms known used fits.1)
 
 -- what the forms of a file make, with the number of the top-level phrase as the bound
-pub contents_built : (forms : List Form) (used : List (List ℕ)) (c : Contents) → IsWellFormed forms → contents_of first_names used forms ≡ Ok c → AreOwnWords (length known_words + length c.words) c.words × IsBuiltText (length known_words + length c.words) c.text
+pub contents_built : (forms : List Form) (used : List (List ℕ)) (c : Contents) → IsWellFormed forms → contents_of first_names used forms ≡ Ok c → AreOwnWords (length known_words + length c.words) c.words × IsBuiltPhrase (length known_words + length c.words) c.phrase
 contents_built forms used c fits e = contents_build (length known_words + length c.words) forms first_names used fits c e (let counted = names_counted known_words in omega (arith, counted))
 
 -- Words that are known from the start.
@@ -290,16 +290,16 @@ numbers_with : (bound : ℕ) (ds es : List WordDef) → AreOwnWords bound es →
 numbers_with bound [] es h = no_numbers bound es h
 numbers_with bound (d ∷ ds) es h = ap (numbers_before d.sort) (numbers_with bound ds es h)
 
-pub program_built : (c : Contents) → AreOwnWords (length known_words + length c.words) c.words → IsBuiltText (length known_words + length c.words) c.text → IsBuilt (program_of c)
-program_built c own text =
+pub program_built : (c : Contents) → AreOwnWords (length known_words + length c.words) c.words → IsBuiltPhrase (length known_words + length c.words) c.phrase → IsBuilt (program_of c)
+program_built c own phrase =
     let n = length known_words + length c.words in
     record {
       words = known_words ++ c.words;
-      phrase = top_word c.text;
-      text = c.text;
+      last_word = top_word c.phrase;
+      phrase = c.phrase;
       words_are = refl;
       top_is = sym (length-append known_words c.words);
-      phrase_is = record { sort_is = refl; text_built = text; effect_is = refl; not_inline = refl; not_recursive = refl };
+      last_word_is = record { sort_is = refl; phrase_built = phrase; effect_is = refl; not_inline = refl; not_recursive = refl };
       built = built_with n known_words c.words (known_built n) (own_built n c.words own);
       distinct = ap has_no_repeats (numbers_with n known_words c.words own) ∙ known_distinct;
       no_arrays = refl;

@@ -8,8 +8,8 @@ use Rattle.std.proofs.lemmas.List.{append-nil}
 use Rattle.fac_lang.specs.declared.phrase.Place.{Place}
 use Rattle.fac_lang.specs.declared.token.Token.{Token}
 use Rattle.fac_lang.specs.declared.tree.Term.TheVariants as term
-use Rattle.fac_lang.specs.declared.tree.Piece.{Piece}
-use Rattle.fac_lang.specs.declared.tree.Piece.TheVariants as piece
+use Rattle.fac_lang.specs.declared.tree.Element.{Element}
+use Rattle.fac_lang.specs.declared.tree.Element.TheVariants as element
 use Rattle.fac_lang.specs.declared.tree.Mark.{Mark}
 use Rattle.fac_lang.specs.declared.tree.Mark.TheVariants as mark
 use Rattle.fac_lang.specs.declared.tree.Form.{Form}
@@ -29,8 +29,8 @@ use Rattle.fac_parse.specs.declared.reader.ParseFault.TheVariants.{Syntax, Memor
 use Rattle.fac_parse.specs.declared.spelling.Spelling.{Spelling}
 use Rattle.fac_parse.specs.declared.spelling.Spelling.TheVariants.{Using, Colon, Semi, Opens, Closes, Dashes, OpensQuotation, ClosesQuotation, True, False, Inline, Recursive, Integer, Name}
 use Rattle.fac_parse.specs.Spellings.{token_spelling, is_value_name, is_semi, is_closing}
-use Rattle.fac_parse.specs.Trees.{plain_token, piece_tokens, items_tokens, mark_tokens, effect_tokens, form_tokens, flatten, token_text, AreNames, AreValueNames, most_levels, MayStand, depth_behind, Lead, most_names, IsEffect, IsForm, IsWellFormed, Reads, Parses}
-use Rattle.fac_parse.specs.inner.Reader.{Step, only_if, no_items, top_step, names_step, colon_step, named_step, inputs_step, is_fit, written, outputs_step, with_piece, piece_step, body_step, quotation_step, part_step, mark_of, defined_form, behind_step, step, unmarked, form_before, next_state, ended_form, last_forms, forms_after, forms_from, Takes, Finishes}
+use Rattle.fac_parse.specs.Trees.{plain_token, element_tokens, items_tokens, mark_tokens, effect_tokens, form_tokens, flatten, token_text, AreNames, AreValueNames, most_levels, MayStand, depth_behind, Lead, most_names, IsEffect, IsForm, IsWellFormed, Reads, Parses}
+use Rattle.fac_parse.specs.inner.Reader.{Step, only_if, no_items, top_step, names_step, colon_step, named_step, inputs_step, is_fit, written, outputs_step, with_element, element_step, body_step, quotation_step, part_step, mark_of, defined_form, behind_step, step, unmarked, form_before, next_state, ended_form, last_forms, forms_after, forms_from, Takes, Finishes}
 use Rattle.fac_parse.proofs.SpellingLemmas.{using_is_using, colon_is_colon, semi_is_semi, opens_is_opens, closes_is_closes, dashes_is_dashes, bracket_is_bracket, end_is_end, t_is_true, f_is_false, inline_is_inline, recursive_is_recursive, sign_token}
 
 -- the tokens of a form that isn't closed
@@ -40,8 +40,8 @@ part_tokens (part.Colon opens) = plain_token opens (codes ":") ∷ []
 part_tokens (part.Named opens name) = plain_token opens (codes ":") ∷ name ∷ []
 part_tokens (part.Inputs head ins) = plain_token head.opens (codes ":") ∷ head.name ∷ plain_token head.starts (codes "(") ∷ ins
 part_tokens (part.Outputs head ins dashes outs) = plain_token head.opens (codes ":") ∷ head.name ∷ plain_token head.starts (codes "(") ∷ ins ++ plain_token dashes (codes "--") ∷ outs
-part_tokens (part.Body opens name effect items) = plain_token opens (codes ":") ∷ name ∷ effect_tokens effect ++ items_tokens items.pieces
-part_tokens (part.Quotation opens items) = plain_token opens (codes "[") ∷ items_tokens items.pieces
+part_tokens (part.Body opens name effect items) = plain_token opens (codes ":") ∷ name ∷ effect_tokens effect ++ items_tokens items.elements
+part_tokens (part.Quotation opens items) = plain_token opens (codes "[") ∷ items_tokens items.elements
 
 -- the tokens of what is open
 abbrev open_tokens : State → List Token
@@ -55,8 +55,8 @@ IsGoodPart (part.Colon opens) = Unit {0}
 IsGoodPart (part.Named opens name) = token_spelling name.kind ≡ Name
 IsGoodPart (part.Inputs head ins) = (token_spelling head.name.kind ≡ Name) × AreValueNames ins
 IsGoodPart (part.Outputs head ins dashes outs) = (token_spelling head.name.kind ≡ Name) × AreValueNames ins × AreValueNames outs
-IsGoodPart (part.Body opens name effect items) = (token_spelling name.kind ≡ Name) × IsEffect effect × Lead most_levels 0 items.pieces items.depth
-IsGoodPart (part.Quotation opens items) = Lead (most_levels - 1) 0 items.pieces items.depth
+IsGoodPart (part.Body opens name effect items) = (token_spelling name.kind ≡ Name) × IsEffect effect × Lead most_levels 0 items.elements items.depth
+IsGoodPart (part.Quotation opens items) = Lead (most_levels - 1) 0 items.elements items.depth
 
 abbrev IsGood : State → Type 0
 IsGood Top = Unit {0}
@@ -71,7 +71,7 @@ AreValueNames-more : (ts : List Token) (t : Token) → AreValueNames ts → toke
 AreValueNames-more [] t h e v = (e, v, tt)
 AreValueNames-more (u ∷ ts) t h e v = (h.0, h.1, AreValueNames-more ts t h.2 e v)
 
-Lead-more : (most from to : ℕ) (ps : List Piece) (p : Piece) → Lead most from ps to → MayStand most to p → Lead most from (ps ++ p ∷ []) (depth_behind to p)
+Lead-more : (most from to : ℕ) (ps : List Element) (p : Element) → Lead most from ps to → MayStand most to p → Lead most from (ps ++ p ∷ []) (depth_behind to p)
 Lead-more most from to [] p h m = (subst (λ (d : ℕ). MayStand most d p) (sym h) m, ap (λ (d : ℕ). depth_behind d p) h)
 Lead-more most from to (q ∷ ps) p h m = (h.0, Lead-more most (depth_behind from q) to ps p h.1 m)
 
@@ -83,13 +83,13 @@ flatten-append : (fs gs : List Form) → flatten (fs ++ gs) ≡ flatten fs ++ fl
 flatten-append [] gs = refl
 flatten-append (f ∷ fs) gs = ap (λ (ts : List Token). form_tokens f ++ ts) (flatten-append fs gs) ∙ sym (append_assoc (form_tokens f) (flatten fs) (flatten gs))
 
-items-append : (xs ys : List Piece) → items_tokens (xs ++ ys) ≡ items_tokens xs ++ items_tokens ys
+items-append : (xs ys : List Element) → items_tokens (xs ++ ys) ≡ items_tokens xs ++ items_tokens ys
 items-append [] ys = refl
-items-append (x ∷ xs) ys = ap (λ (ts : List Token). piece_tokens x ++ ts) (items-append xs ys) ∙ sym (append_assoc (piece_tokens x) (items_tokens xs) (items_tokens ys))
+items-append (x ∷ xs) ys = ap (λ (ts : List Token). element_tokens x ++ ts) (items-append xs ys) ∙ sym (append_assoc (element_tokens x) (items_tokens xs) (items_tokens ys))
 
--- a piece of one token behind others
-piece_behind : (ps : List Piece) (p : Piece) (t : Token) → piece_tokens p ≡ t ∷ [] → items_tokens (ps ++ p ∷ []) ≡ items_tokens ps ++ t ∷ []
-piece_behind ps p t e = items-append ps (p ∷ []) ∙ ap (λ (ts : List Token). items_tokens ps ++ ts) (append-nil (piece_tokens p) ∙ e)
+-- an element of one token behind others
+element_behind : (ps : List Element) (p : Element) (t : Token) → element_tokens p ≡ t ∷ [] → items_tokens (ps ++ p ∷ []) ≡ items_tokens ps ++ t ∷ []
+element_behind ps p t e = items-append ps (p ∷ []) ∙ ap (λ (ts : List Token). items_tokens ps ++ ts) (append-nil (element_tokens p) ∙ e)
 
 fits_effect : (ins outs : List Token) → is_fit ins outs ≡ true → length ins + length outs ≤ most_names
 fits_effect ins outs h = grind arith
@@ -169,8 +169,8 @@ outputs_keeps head ins dashes outs t _ g h = tt
 
 -- Items with one more token are good again.
 record KeptItems (most : ℕ) (items : Items) (t : Token) (more : Items) : Type 0 where
-  lead : Lead most 0 more.pieces more.depth
-  tokens : items_tokens more.pieces ≡ items_tokens items.pieces ++ t ∷ []
+  lead : Lead most 0 more.elements more.depth
+  tokens : items_tokens more.elements ≡ items_tokens items.elements ++ t ∷ []
 
 abbrev KeepsItems : ℕ → Items → Token → Option Items → Type 0
 KeepsItems most items t None = Unit {0}
@@ -183,22 +183,22 @@ only_if_items false most items t more h = tt
 sign_alone : (t : Token) (u : Token) → t ≡ u → u ∷ [] ≡ t ∷ []
 sign_alone t u e = ap (λ (v : Token). v ∷ []) (sym e)
 
-piece_keeps : (most : ℕ) (items : Items) (t : Token) (s : Spelling) → Lead most 0 items.pieces items.depth → token_spelling t.kind ≡ s → KeepsItems most items t (piece_step most items s t)
-piece_keeps most items t (Integer z) g h =
-    record { lead = Lead-more most 0 items.depth items.pieces (piece.Item (term.Integer t z)) g h; tokens = piece_behind items.pieces (piece.Item (term.Integer t z)) t refl }
-piece_keeps most items t Name g h =
-    record { lead = Lead-more most 0 items.depth items.pieces (piece.Item (term.Name t)) g h; tokens = piece_behind items.pieces (piece.Item (term.Name t)) t refl }
-piece_keeps most items t True g h =
-    record { lead = Lead-more most 0 items.depth items.pieces (piece.Item (term.True t.place)) g tt; tokens = piece_behind items.pieces (piece.Item (term.True t.place)) t (sign_alone t _ (sign_token t True h tt)) }
-piece_keeps most items t False g h =
-    record { lead = Lead-more most 0 items.depth items.pieces (piece.Item (term.False t.place)) g tt; tokens = piece_behind items.pieces (piece.Item (term.False t.place)) t (sign_alone t _ (sign_token t False h tt)) }
-piece_keeps most items t OpensQuotation g h =
-    only_if_items (nat_lt items.depth most) most items t (with_piece items (piece.Opens t.place) (items.depth + 1)) (λ v.
-    record { lead = Lead-more most 0 items.depth items.pieces (piece.Opens t.place) g ((Decides-ltb items.depth most).0 v); tokens = piece_behind items.pieces (piece.Opens t.place) t (sign_alone t _ (sign_token t OpensQuotation h tt)) })
-piece_keeps most items t ClosesQuotation g h =
-    only_if_items (nat_lt 0 items.depth) most items t (with_piece items (piece.Closes t.place) (items.depth - 1)) (λ v.
-    record { lead = Lead-more most 0 items.depth items.pieces (piece.Closes t.place) g ((Decides-ltb 0 items.depth).0 v); tokens = piece_behind items.pieces (piece.Closes t.place) t (sign_alone t _ (sign_token t ClosesQuotation h tt)) })
-piece_keeps most items t _ g h = tt
+element_keeps : (most : ℕ) (items : Items) (t : Token) (s : Spelling) → Lead most 0 items.elements items.depth → token_spelling t.kind ≡ s → KeepsItems most items t (element_step most items s t)
+element_keeps most items t (Integer z) g h =
+    record { lead = Lead-more most 0 items.depth items.elements (element.Item (term.Integer t z)) g h; tokens = element_behind items.elements (element.Item (term.Integer t z)) t refl }
+element_keeps most items t Name g h =
+    record { lead = Lead-more most 0 items.depth items.elements (element.Item (term.Name t)) g h; tokens = element_behind items.elements (element.Item (term.Name t)) t refl }
+element_keeps most items t True g h =
+    record { lead = Lead-more most 0 items.depth items.elements (element.Item (term.True t.place)) g tt; tokens = element_behind items.elements (element.Item (term.True t.place)) t (sign_alone t _ (sign_token t True h tt)) }
+element_keeps most items t False g h =
+    record { lead = Lead-more most 0 items.depth items.elements (element.Item (term.False t.place)) g tt; tokens = element_behind items.elements (element.Item (term.False t.place)) t (sign_alone t _ (sign_token t False h tt)) }
+element_keeps most items t OpensQuotation g h =
+    only_if_items (nat_lt items.depth most) most items t (with_element items (element.Opens t.place) (items.depth + 1)) (λ v.
+    record { lead = Lead-more most 0 items.depth items.elements (element.Opens t.place) g ((Decides-ltb items.depth most).0 v); tokens = element_behind items.elements (element.Opens t.place) t (sign_alone t _ (sign_token t OpensQuotation h tt)) })
+element_keeps most items t ClosesQuotation g h =
+    only_if_items (nat_lt 0 items.depth) most items t (with_element items (element.Closes t.place) (items.depth - 1)) (λ v.
+    record { lead = Lead-more most 0 items.depth items.elements (element.Closes t.place) g ((Decides-ltb 0 items.depth).0 v); tokens = element_behind items.elements (element.Closes t.place) t (sign_alone t _ (sign_token t ClosesQuotation h tt)) })
+element_keeps most items t _ g h = tt
 
 semi_only : (s : Spelling) → is_semi s ≡ true → s ≡ Semi
 semi_only Semi h = refl
@@ -209,8 +209,8 @@ closing_only ClosesQuotation h = refl
 closing_only _ h = cc
 
 -- items that end with no quotation open
-all_closed : (most : ℕ) (items : Items) → Lead most 0 items.pieces items.depth → nat_eq items.depth 0 ≡ true → Lead most 0 items.pieces 0
-all_closed most items g e = subst (Lead most 0 items.pieces) (eqb-true items.depth 0 e) g
+all_closed : (most : ℕ) (items : Items) → Lead most 0 items.elements items.depth → nat_eq items.depth 0 ≡ true → Lead most 0 items.elements 0
+all_closed most items g e = subst (Lead most 0 items.elements) (eqb-true items.depth 0 e) g
 
 body_goes_on : (opens : Place) (name : Token) (effect : WrittenEffect) (items : Items) (t : Token) (r : Option Items) → IsGoodPart (part.Body opens name effect items) → KeepsItems most_levels items t r → Keeps (Inside (part.Body opens name effect items)) t [] (option_map (λ more. Goes (part.Body opens name effect more)) r)
 body_goes_on opens name effect items t None g k = tt
@@ -219,37 +219,37 @@ body_goes_on opens name effect items t (Some more) g k =
     record {
       good = (g.0, g.1, k.lead);
       fits = tt;
-      tokens = ap (λ (ts : List Token). front (effect_tokens effect ++ ts)) k.tokens ∙ ap front (sym (append_assoc (effect_tokens effect) (items_tokens items.pieces) (t ∷ [])));
+      tokens = ap (λ (ts : List Token). front (effect_tokens effect ++ ts)) k.tokens ∙ ap front (sym (append_assoc (effect_tokens effect) (items_tokens items.elements) (t ∷ [])));
     }
 
-body_completes : (opens : Place) (name : Token) (effect : WrittenEffect) (items : Items) (t : Token) → IsGoodPart (part.Body opens name effect items) → token_spelling t.kind ≡ Semi → nat_eq items.depth 0 ≡ true → Kept (Inside (part.Body opens name effect items)) t [] (Completes (record { opens = opens; name = name; effect = effect; items = items.pieces; closes = t.place }))
+body_completes : (opens : Place) (name : Token) (effect : WrittenEffect) (items : Items) (t : Token) → IsGoodPart (part.Body opens name effect items) → token_spelling t.kind ≡ Semi → nat_eq items.depth 0 ≡ true → Kept (Inside (part.Body opens name effect items)) t [] (Completes (record { opens = opens; name = name; effect = effect; items = items.elements; closes = t.place }))
 body_completes opens name effect items t g h e =
     record {
       good = (g.0, g.1, all_closed most_levels items g.2 e);
       fits = tt;
-      tokens = ap (λ (u : Token). plain_token opens (codes ":") ∷ name ∷ (effect_tokens effect ++ items_tokens items.pieces) ++ u ∷ []) (sym (sign_token t Semi h tt));
+      tokens = ap (λ (u : Token). plain_token opens (codes ":") ∷ name ∷ (effect_tokens effect ++ items_tokens items.elements) ++ u ∷ []) (sym (sign_token t Semi h tt));
     }
 
 body_keeps : (opens : Place) (name : Token) (effect : WrittenEffect) (items : Items) (t : Token) (s : Spelling) → IsGoodPart (part.Body opens name effect items) → token_spelling t.kind ≡ s → Keeps (Inside (part.Body opens name effect items)) t [] (body_step opens name effect items s t)
 body_keeps opens name effect items t s g h =
-    cond_keeps (is_semi s && nat_eq items.depth 0) (Inside (part.Body opens name effect items)) t (Completes (record { opens = opens; name = name; effect = effect; items = items.pieces; closes = t.place })) (option_map (λ more. Goes (part.Body opens name effect more)) (piece_step most_levels items s t))
+    cond_keeps (is_semi s && nat_eq items.depth 0) (Inside (part.Body opens name effect items)) t (Completes (record { opens = opens; name = name; effect = effect; items = items.elements; closes = t.place })) (option_map (λ more. Goes (part.Body opens name effect more)) (element_step most_levels items s t))
     (λ v. let both = both_true (is_semi s) (nat_eq items.depth 0) v in body_completes opens name effect items t g (h ∙ semi_only s both.0) both.1)
-    (body_goes_on opens name effect items t (piece_step most_levels items s t) g (piece_keeps most_levels items t s g.2 h))
+    (body_goes_on opens name effect items t (element_step most_levels items s t) g (element_keeps most_levels items t s g.2 h))
 
 quotation_goes_on : (opens : Place) (items : Items) (t : Token) (r : Option Items) → KeepsItems (most_levels - 1) items t r → Keeps (Inside (part.Quotation opens items)) t [] (option_map (λ more. Goes (part.Quotation opens more)) r)
 quotation_goes_on opens items t None k = tt
 quotation_goes_on opens items t (Some more) k = record { good = k.lead; fits = tt; tokens = ap (λ (ts : List Token). plain_token opens (codes "[") ∷ ts) k.tokens }
 
-quotation_ends : (opens : Place) (items : Items) (t : Token) → IsGoodPart (part.Quotation opens items) → token_spelling t.kind ≡ ClosesQuotation → nat_eq items.depth 0 ≡ true → Kept (Inside (part.Quotation opens items)) t [] (Ends (form.Quotation opens items.pieces t.place))
+quotation_ends : (opens : Place) (items : Items) (t : Token) → IsGoodPart (part.Quotation opens items) → token_spelling t.kind ≡ ClosesQuotation → nat_eq items.depth 0 ≡ true → Kept (Inside (part.Quotation opens items)) t [] (Ends (form.Quotation opens items.elements t.place))
 quotation_ends opens items t g h e =
-    let last = ap (λ (u : Token). plain_token opens (codes "[") ∷ items_tokens items.pieces ++ u ∷ []) (sym (sign_token t ClosesQuotation h tt)) in
+    let last = ap (λ (u : Token). plain_token opens (codes "[") ∷ items_tokens items.elements ++ u ∷ []) (sym (sign_token t ClosesQuotation h tt)) in
     record { good = tt; fits = (all_closed (most_levels - 1) items g e, tt); tokens = ended _ _ last }
 
 quotation_keeps : (opens : Place) (items : Items) (t : Token) (s : Spelling) → IsGoodPart (part.Quotation opens items) → token_spelling t.kind ≡ s → Keeps (Inside (part.Quotation opens items)) t [] (quotation_step opens items s t)
 quotation_keeps opens items t s g h =
-    cond_keeps (is_closing s && nat_eq items.depth 0) (Inside (part.Quotation opens items)) t (Ends (form.Quotation opens items.pieces t.place)) (option_map (λ more. Goes (part.Quotation opens more)) (piece_step (most_levels - 1) items s t))
+    cond_keeps (is_closing s && nat_eq items.depth 0) (Inside (part.Quotation opens items)) t (Ends (form.Quotation opens items.elements t.place)) (option_map (λ more. Goes (part.Quotation opens more)) (element_step (most_levels - 1) items s t))
     (λ v. let both = both_true (is_closing s) (nat_eq items.depth 0) v in quotation_ends opens items t g (h ∙ closing_only s both.0) both.1)
-    (quotation_goes_on opens items t (piece_step (most_levels - 1) items s t) (piece_keeps (most_levels - 1) items t s g h))
+    (quotation_goes_on opens items t (element_step (most_levels - 1) items s t) (element_keeps (most_levels - 1) items t s g h))
 
 part_keeps : (p : Part) (t : Token) (s : Spelling) → IsGoodPart p → token_spelling t.kind ≡ s → Keeps (Inside p) t [] (part_step p s t)
 part_keeps (part.Names opens names) t s g h = names_keeps opens names t s g h
@@ -370,57 +370,57 @@ outputs_read (v ∷ vs) head ins dashes outs rest h =
 
 -- Items, wherever they stand.
 
-abbrev items_with : List Piece → ℕ → Items
-items_with pieces depth = record { pieces = pieces; depth = depth }
+abbrev items_with : List Element → ℕ → Items
+items_with elements depth = record { elements = elements; depth = depth }
 
--- the one token of a piece
-abbrev piece_token : Piece → Token
-piece_token (piece.Item (term.Name t)) = t
-piece_token (piece.Item (term.Integer t z)) = t
-piece_token (piece.Item (term.True place)) = plain_token place (codes "t")
-piece_token (piece.Item (term.False place)) = plain_token place (codes "f")
-piece_token (piece.Opens place) = plain_token place (codes "[")
-piece_token (piece.Closes place) = plain_token place (codes "]")
+-- the one token of an element
+abbrev element_token : Element → Token
+element_token (element.Item (term.Name t)) = t
+element_token (element.Item (term.Integer t z)) = t
+element_token (element.Item (term.True place)) = plain_token place (codes "t")
+element_token (element.Item (term.False place)) = plain_token place (codes "f")
+element_token (element.Opens place) = plain_token place (codes "[")
+element_token (element.Closes place) = plain_token place (codes "]")
 
-one_token : (p : Piece) → piece_tokens p ≡ piece_token p ∷ []
-one_token (piece.Item (term.Name t)) = refl
-one_token (piece.Item (term.Integer t z)) = refl
-one_token (piece.Item (term.True place)) = refl
-one_token (piece.Item (term.False place)) = refl
-one_token (piece.Opens place) = refl
-one_token (piece.Closes place) = refl
+one_token : (p : Element) → element_tokens p ≡ element_token p ∷ []
+one_token (element.Item (term.Name t)) = refl
+one_token (element.Item (term.Integer t z)) = refl
+one_token (element.Item (term.True place)) = refl
+one_token (element.Item (term.False place)) = refl
+one_token (element.Opens place) = refl
+one_token (element.Closes place) = refl
 
-piece_read : (most depth : ℕ) (ps : List Piece) (p : Piece) → MayStand most depth p → piece_step most (items_with ps depth) (token_spelling (piece_token p).kind) (piece_token p) ≡ Some (items_with (ps ++ p ∷ []) (depth_behind depth p))
-piece_read most depth ps (piece.Item (term.Name t)) m = ap (λ (s : Spelling). piece_step most (items_with ps depth) s t) m
-piece_read most depth ps (piece.Item (term.Integer t z)) m = ap (λ (s : Spelling). piece_step most (items_with ps depth) s t) m
-piece_read most depth ps (piece.Item (term.True place)) m = ap (λ (s : Spelling). piece_step most (items_with ps depth) s (plain_token place (codes "t"))) t_is_true
-piece_read most depth ps (piece.Item (term.False place)) m = ap (λ (s : Spelling). piece_step most (items_with ps depth) s (plain_token place (codes "f"))) f_is_false
-piece_read most depth ps (piece.Opens place) m =
-    ap (λ (s : Spelling). piece_step most (items_with ps depth) s (plain_token place (codes "["))) bracket_is_bracket
-    ∙ ap (λ (b : Bool). only_if b (items_with (ps ++ piece.Opens place ∷ []) (depth + 1))) ((Decides-ltb depth most).1 m)
-piece_read most depth ps (piece.Closes place) m =
-    ap (λ (s : Spelling). piece_step most (items_with ps depth) s (plain_token place (codes "]"))) end_is_end
-    ∙ ap (λ (b : Bool). only_if b (items_with (ps ++ piece.Closes place ∷ []) (depth - 1))) ((Decides-ltb 0 depth).1 m)
+element_read : (most depth : ℕ) (ps : List Element) (p : Element) → MayStand most depth p → element_step most (items_with ps depth) (token_spelling (element_token p).kind) (element_token p) ≡ Some (items_with (ps ++ p ∷ []) (depth_behind depth p))
+element_read most depth ps (element.Item (term.Name t)) m = ap (λ (s : Spelling). element_step most (items_with ps depth) s t) m
+element_read most depth ps (element.Item (term.Integer t z)) m = ap (λ (s : Spelling). element_step most (items_with ps depth) s t) m
+element_read most depth ps (element.Item (term.True place)) m = ap (λ (s : Spelling). element_step most (items_with ps depth) s (plain_token place (codes "t"))) t_is_true
+element_read most depth ps (element.Item (term.False place)) m = ap (λ (s : Spelling). element_step most (items_with ps depth) s (plain_token place (codes "f"))) f_is_false
+element_read most depth ps (element.Opens place) m =
+    ap (λ (s : Spelling). element_step most (items_with ps depth) s (plain_token place (codes "["))) bracket_is_bracket
+    ∙ ap (λ (b : Bool). only_if b (items_with (ps ++ element.Opens place ∷ []) (depth + 1))) ((Decides-ltb depth most).1 m)
+element_read most depth ps (element.Closes place) m =
+    ap (λ (s : Spelling). element_step most (items_with ps depth) s (plain_token place (codes "]"))) end_is_end
+    ∙ ap (λ (b : Bool). only_if b (items_with (ps ++ element.Closes place ∷ []) (depth - 1))) ((Decides-ltb 0 depth).1 m)
 
--- a part that goes on with each piece of its items
-abbrev TakesPieces : ℕ → (Items → Part) → Type 0
-TakesPieces most part_with =
-    (ps : List Piece) (depth : ℕ) (t : Token) (more : Items) → piece_step most (items_with ps depth) (token_spelling t.kind) t ≡ Some more → step (Inside (part_with (items_with ps depth))) t ≡ Some (Goes (part_with more))
+-- a part that goes on with each element of its items
+abbrev TakesElements : ℕ → (Items → Part) → Type 0
+TakesElements most part_with =
+    (ps : List Element) (depth : ℕ) (t : Token) (more : Items) → element_step most (items_with ps depth) (token_spelling t.kind) t ≡ Some more → step (Inside (part_with (items_with ps depth))) t ≡ Some (Goes (part_with more))
 
-items_read : (most : ℕ) (part_with : Items → Part) → TakesPieces most part_with → (new ps : List Piece) (depth last : ℕ) (rest : List Token) → Lead most depth new last → forms_from (Inside (part_with (items_with ps depth))) (items_tokens new ++ rest) ≡ forms_from (Inside (part_with (items_with (ps ++ new) last))) rest
+items_read : (most : ℕ) (part_with : Items → Part) → TakesElements most part_with → (new ps : List Element) (depth last : ℕ) (rest : List Token) → Lead most depth new last → forms_from (Inside (part_with (items_with ps depth))) (items_tokens new ++ rest) ≡ forms_from (Inside (part_with (items_with (ps ++ new) last))) rest
 items_read most part_with takes [] ps depth last rest h =
-    ap (λ (us : List Piece). forms_from (Inside (part_with (items_with us depth))) rest) (sym (append-nil ps)) ∙ ap (λ (k : ℕ). forms_from (Inside (part_with (items_with (ps ++ []) k))) rest) h
+    ap (λ (us : List Element). forms_from (Inside (part_with (items_with us depth))) rest) (sym (append-nil ps)) ∙ ap (λ (k : ℕ). forms_from (Inside (part_with (items_with (ps ++ []) k))) rest) h
 items_read most part_with takes (p ∷ new) ps depth last rest h =
     ap (λ (ts : List Token). forms_from (Inside (part_with (items_with ps depth))) ((ts ++ items_tokens new) ++ rest)) (one_token p)
-    ∙ goes_on (Inside (part_with (items_with ps depth))) (part_with (items_with (ps ++ p ∷ []) (depth_behind depth p))) (piece_token p) (items_tokens new ++ rest) refl (takes ps depth (piece_token p) (items_with (ps ++ p ∷ []) (depth_behind depth p)) (piece_read most depth ps p h.0))
+    ∙ goes_on (Inside (part_with (items_with ps depth))) (part_with (items_with (ps ++ p ∷ []) (depth_behind depth p))) (element_token p) (items_tokens new ++ rest) refl (takes ps depth (element_token p) (items_with (ps ++ p ∷ []) (depth_behind depth p)) (element_read most depth ps p h.0))
     ∙ items_read most part_with takes new (ps ++ p ∷ []) (depth_behind depth p) last rest h.1
-    ∙ ap (λ (us : List Piece). forms_from (Inside (part_with (items_with us last))) rest) (append_assoc ps (p ∷ []) new)
+    ∙ ap (λ (us : List Element). forms_from (Inside (part_with (items_with us last))) rest) (append_assoc ps (p ∷ []) new)
 
-body_takes_by : (opens : Place) (name : Token) (effect : WrittenEffect) (items : Items) (t : Token) (more : Items) (s : Spelling) → piece_step most_levels items s t ≡ Some more → body_step opens name effect items s t ≡ Some (Goes (part.Body opens name effect more))
+body_takes_by : (opens : Place) (name : Token) (effect : WrittenEffect) (items : Items) (t : Token) (more : Items) (s : Spelling) → element_step most_levels items s t ≡ Some more → body_step opens name effect items s t ≡ Some (Goes (part.Body opens name effect more))
 body_takes_by opens name effect items t more Semi e = cc
 body_takes_by opens name effect items t more s e = ap (option_map (λ (more : Items). Goes (part.Body opens name effect more))) e
 
-body_takes : (opens : Place) (name : Token) (effect : WrittenEffect) → TakesPieces most_levels (part.Body opens name effect)
+body_takes : (opens : Place) (name : Token) (effect : WrittenEffect) → TakesElements most_levels (part.Body opens name effect)
 body_takes opens name effect ps depth t more e = body_takes_by opens name effect (items_with ps depth) t more (token_spelling t.kind) e
 
 only_true : {A : Type 0} (b : Bool) (x y : A) → only_if b x ≡ Some y → b ≡ true
@@ -430,14 +430,14 @@ only_true false x y e = cc
 not_zero : (n : ℕ) → nat_lt 0 n ≡ true → nat_eq n 0 ≡ false
 not_zero n h = grind arith
 
-quotation_takes_by : (opens : Place) (items : Items) (t : Token) (more : Items) (s : Spelling) → piece_step (most_levels - 1) items s t ≡ Some more → quotation_step opens items s t ≡ Some (Goes (part.Quotation opens more))
+quotation_takes_by : (opens : Place) (items : Items) (t : Token) (more : Items) (s : Spelling) → element_step (most_levels - 1) items s t ≡ Some more → quotation_step opens items s t ≡ Some (Goes (part.Quotation opens more))
 quotation_takes_by opens items t more ClosesQuotation e =
-    let inner = not_zero items.depth (only_true (nat_lt 0 items.depth) (with_piece items (piece.Closes t.place) (items.depth - 1)) more e) in
-    ap (λ (b : Bool). cond b (Some (Ends (form.Quotation opens items.pieces t.place))) (option_map (λ (more : Items). Goes (part.Quotation opens more)) (piece_step (most_levels - 1) items ClosesQuotation t))) inner
+    let inner = not_zero items.depth (only_true (nat_lt 0 items.depth) (with_element items (element.Closes t.place) (items.depth - 1)) more e) in
+    ap (λ (b : Bool). cond b (Some (Ends (form.Quotation opens items.elements t.place))) (option_map (λ (more : Items). Goes (part.Quotation opens more)) (element_step (most_levels - 1) items ClosesQuotation t))) inner
     ∙ ap (option_map (λ (more : Items). Goes (part.Quotation opens more))) e
 quotation_takes_by opens items t more s e = ap (option_map (λ (more : Items). Goes (part.Quotation opens more))) e
 
-quotation_takes : (opens : Place) → TakesPieces (most_levels - 1) (part.Quotation opens)
+quotation_takes : (opens : Place) → TakesElements (most_levels - 1) (part.Quotation opens)
 quotation_takes opens ps depth t more e = quotation_takes_by opens (items_with ps depth) t more (token_spelling t.kind) e
 
 -- Forms.
@@ -451,7 +451,7 @@ using_read opens vs closes rest h =
     ∙ names_read vs opens [] (last ∷ rest) h
     ∙ ends (Inside (part.Names opens vs)) (form.Using opens vs closes) last rest refl (ap (λ (s : Spelling). names_step opens vs s last) semi_is_semi)
 
-quotation_read : (opens : Place) (items : List Piece) (closes : Place) (rest : List Token) → Lead (most_levels - 1) 0 items 0 → forms_from Top (form_tokens (form.Quotation opens items closes) ++ rest) ≡ option_map (λ (forms : List Form). form.Quotation opens items closes ∷ forms) (forms_from Top rest)
+quotation_read : (opens : Place) (items : List Element) (closes : Place) (rest : List Token) → Lead (most_levels - 1) 0 items 0 → forms_from Top (form_tokens (form.Quotation opens items closes) ++ rest) ≡ option_map (λ (forms : List Form). form.Quotation opens items closes ∷ forms) (forms_from Top rest)
 quotation_read opens items closes rest h =
     let first = plain_token opens (codes "[") in
     let last = plain_token closes (codes "]") in
@@ -461,14 +461,14 @@ quotation_read opens items closes rest h =
     ∙ ends (Inside (part.Quotation opens (items_with items 0))) (form.Quotation opens items closes) last rest refl (ap (λ (s : Spelling). quotation_step opens (items_with items 0) s last) end_is_end)
 
 -- the tokens of a definition before others, from its effect on
-define_tokens : (effect : WrittenEffect) (items : List Piece) (last : Token) (marks rest : List Token) → ((effect_tokens effect ++ items_tokens items) ++ last ∷ marks) ++ rest ≡ plain_token effect.opens (codes "(") ∷ (effect.ins ++ plain_token effect.dashes (codes "--") ∷ (effect.outs ++ plain_token effect.closes (codes ")") ∷ (items_tokens items ++ last ∷ (marks ++ rest))))
+define_tokens : (effect : WrittenEffect) (items : List Element) (last : Token) (marks rest : List Token) → ((effect_tokens effect ++ items_tokens items) ++ last ∷ marks) ++ rest ≡ plain_token effect.opens (codes "(") ∷ (effect.ins ++ plain_token effect.dashes (codes "--") ∷ (effect.outs ++ plain_token effect.closes (codes ")") ∷ (items_tokens items ++ last ∷ (marks ++ rest))))
 define_tokens effect items last marks rest = simp append_assoc
 
-abbrev whole : Place → Token → WrittenEffect → List Piece → Place → Definition
+abbrev whole : Place → Token → WrittenEffect → List Element → Place → Definition
 whole opens name effect items closes = record { opens = opens; name = name; effect = effect; items = items; closes = closes }
 
 -- a definition as far as its `;`
-define_read : (opens : Place) (name : Token) (effect : WrittenEffect) (items : List Piece) (closes : Place) (m : Option Mark) (rest : List Token) → IsForm (form.Define opens name effect items closes m) → forms_from Top (form_tokens (form.Define opens name effect items closes m) ++ rest) ≡ forms_from (Behind (whole opens name effect items closes)) (mark_tokens m ++ rest)
+define_read : (opens : Place) (name : Token) (effect : WrittenEffect) (items : List Element) (closes : Place) (m : Option Mark) (rest : List Token) → IsForm (form.Define opens name effect items closes m) → forms_from Top (form_tokens (form.Define opens name effect items closes m) ++ rest) ≡ forms_from (Behind (whole opens name effect items closes)) (mark_tokens m ++ rest)
 define_read opens name effect items closes m rest h =
     let first = plain_token opens (codes ":") in
     let begins = plain_token effect.opens (codes "(") in

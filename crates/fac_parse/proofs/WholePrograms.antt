@@ -7,12 +7,12 @@ use Rattle.std.proofs.lemmas.Slice.Eq.{bytes_eq-Decides}
 use Rattle.std.specs.Prelude.{IfOk, ◌+◌, ℤ, codes, nat_lt, nat_le, nat_eq}
 use Rattle.std.specs.List.{list_all, list_any}
 use Rattle.std.specs.Str.{bytes_eq}
-use Rattle.fac_lang.specs.Forms.{IsBuilt, IsBuiltText, IsBuiltSort, AreBuiltWords, IsPrimitiveWord, IsCoreWord, IsDefinedWord, IsTopPhrase, IsPlainEffect, is_member, numbers_before, primitive_numbers, has_no_repeats}
+use Rattle.fac_lang.specs.Forms.{IsBuilt, IsBuiltPhrase, IsBuiltSort, AreBuiltWords, IsPrimitiveWord, IsCoreWord, IsDefinedWord, IsTopPhrase, IsPlainEffect, is_member, numbers_before, primitive_numbers, has_no_repeats}
 use Rattle.fac_lang.specs.Meaning.{sort_of, is_past}
 use Rattle.fac_lang.specs.PrimitiveWords.{PrimitiveWord, plain_inputs, plain_leaving, written_effect}
 use Rattle.fac_lang.specs.Primitives.{built_primitive_words}
-use Rattle.fac_lang.specs.Texts.{Text, end, then, Item, lit, int, yes, no, quot, word}
-use Rattle.fac_lang.specs.Whole.{IsWhole, each_item, each_numbered, locals_bound, holes_within, item_fits, item_spares, is_body, tests_small, word_texts, sort_fits, has_written_effect, has_generic_effect, marks_fit, effect_eq, inputs_eq, leaving_eq, names_eq, name_count, no_two, same_word, same_method}
+use Rattle.fac_lang.specs.Phrases.{Phrase, end, then, Item, lit, int, yes, no, quot, word}
+use Rattle.fac_lang.specs.Whole.{IsWhole, each_item, each_numbered, locals_bound, holes_within, item_fits, item_spares, is_body, tests_small, word_phrases, sort_fits, has_written_effect, has_generic_effect, marks_fit, effect_eq, inputs_eq, leaving_eq, names_eq, name_count, no_two, same_word, same_method}
 use Rattle.fac_lang.specs.declared.program.Program.{Program}
 use Rattle.fac_lang.specs.declared.program.Sort.{Sort}
 use Rattle.fac_lang.specs.declared.program.Sort.TheVariants.{Prim as prim, Core as core, Body as body, Past as past, Method as method}
@@ -25,7 +25,7 @@ use Rattle.fac_parse.specs.Trees.{IsWellFormed}
 use Rattle.fac_parse.proofs.BuiltPrograms.{AreOwnWords, contents_built, program_built}
 use Rattle.fac_lang.proofs.FormsLemmas.{word_below, sort_at, top_sort, all_distinct}
 
--- Texts.
+-- Phrases.
 
 three_true : (a b c : Bool) → a ≡ true → b ≡ true → c ≡ true → (a && b && c) ≡ true
 three_true a b c h k l = rw (h, k, l) refl
@@ -33,15 +33,15 @@ three_true a b c h k l = rw (h, k, l) refl
 both_are : (a b : Bool) → a ≡ true → b ≡ true → (a && b) ≡ true
 both_are a b h k = rw (h, k) refl
 
--- a test that each item of a built text passes
+-- a test that each item of a built phrase passes
 record Passes (bound : ℕ) (f : Item → Bool) : Type 0 where
   ints : (z : ℤ) → f (lit (int z)) ≡ true
   truth : f (lit yes) ≡ true
   falsity : f (lit no) ≡ true
-  quotations : (t : Text) → f (quot t) ≡ true
+  quotations : (t : Phrase) → f (quot t) ≡ true
   words : (w : ℕ) → nat_lt w bound ≡ true → f (word w) ≡ true
 
-items_pass : (bound : ℕ) (f : Item → Bool) → Passes bound f → (t : Text) → IsBuiltText bound t → each_item f t ≡ true
+items_pass : (bound : ℕ) (f : Item → Bool) → Passes bound f → (t : Phrase) → IsBuiltPhrase bound t → each_item f t ≡ true
 items_pass bound f p end h = refl
 items_pass bound f p (then (lit (int z)) place t) h = three_true (f (lit (int z))) true (each_item f t) (p.ints z) refl (items_pass bound f p t h.1)
 items_pass bound f p (then (lit yes) place t) h = three_true (f (lit yes)) true (each_item f t) p.truth refl (items_pass bound f p t h.1)
@@ -50,28 +50,28 @@ items_pass bound f p (then (quot u) place t) h = three_true (f (quot u)) (each_i
 items_pass bound f p (then (word w) place t) h = three_true (f (word w)) true (each_item f t) (p.words w h.0) refl (items_pass bound f p t h.1)
 items_pass bound f p (then i place t) h = absurd h.0
 
-text_bound : (bound : ℕ) (xs : List ℕ) (t : Text) → IsBuiltText bound t → locals_bound xs t ≡ true
-text_bound bound xs end h = refl
-text_bound bound xs (then (lit (int z)) place t) h = text_bound bound xs t h.1
-text_bound bound xs (then (lit yes) place t) h = text_bound bound xs t h.1
-text_bound bound xs (then (lit no) place t) h = text_bound bound xs t h.1
-text_bound bound xs (then (quot u) place t) h = both_are (locals_bound xs u) (locals_bound xs t) (text_bound bound xs u h.0) (text_bound bound xs t h.1)
-text_bound bound xs (then (word w) place t) h = text_bound bound xs t h.1
-text_bound bound xs (then i place t) h = absurd h.0
+phrase_bound : (bound : ℕ) (xs : List ℕ) (t : Phrase) → IsBuiltPhrase bound t → locals_bound xs t ≡ true
+phrase_bound bound xs end h = refl
+phrase_bound bound xs (then (lit (int z)) place t) h = phrase_bound bound xs t h.1
+phrase_bound bound xs (then (lit yes) place t) h = phrase_bound bound xs t h.1
+phrase_bound bound xs (then (lit no) place t) h = phrase_bound bound xs t h.1
+phrase_bound bound xs (then (quot u) place t) h = both_are (locals_bound xs u) (locals_bound xs t) (phrase_bound bound xs u h.0) (phrase_bound bound xs t h.1)
+phrase_bound bound xs (then (word w) place t) h = phrase_bound bound xs t h.1
+phrase_bound bound xs (then i place t) h = absurd h.0
 
-text_without_holes : (bound : ℕ) (t : Text) → IsBuiltText bound t → holes_within 0 t ≡ true
-text_without_holes bound end h = refl
-text_without_holes bound (then (lit (int z)) place t) h = text_without_holes bound t h.1
-text_without_holes bound (then (lit yes) place t) h = text_without_holes bound t h.1
-text_without_holes bound (then (lit no) place t) h = text_without_holes bound t h.1
-text_without_holes bound (then (quot u) place t) h = both_are (holes_within 0 u) (holes_within 0 t) (text_without_holes bound u h.0) (text_without_holes bound t h.1)
-text_without_holes bound (then (word w) place t) h = text_without_holes bound t h.1
-text_without_holes bound (then i place t) h = absurd h.0
+phrase_without_holes : (bound : ℕ) (t : Phrase) → IsBuiltPhrase bound t → holes_within 0 t ≡ true
+phrase_without_holes bound end h = refl
+phrase_without_holes bound (then (lit (int z)) place t) h = phrase_without_holes bound t h.1
+phrase_without_holes bound (then (lit yes) place t) h = phrase_without_holes bound t h.1
+phrase_without_holes bound (then (lit no) place t) h = phrase_without_holes bound t h.1
+phrase_without_holes bound (then (quot u) place t) h = both_are (holes_within 0 u) (holes_within 0 t) (phrase_without_holes bound u h.0) (phrase_without_holes bound t h.1)
+phrase_without_holes bound (then (word w) place t) h = phrase_without_holes bound t h.1
+phrase_without_holes bound (then i place t) h = absurd h.0
 
 -- Words.
 
--- what holds of each primitive, each core word and each word that is defined by a text holds of each built word
-built_sort : (bound : ℕ) (d : WordDef) (M : Sort → Type 0) → ((k : ℕ) → IsPrimitiveWord d k → M (prim k)) → ((k : ℕ) → IsCoreWord d k → M (core k)) → ((t : Text) → IsDefinedWord bound d t → M (body t)) → (s : Sort) → IsBuiltSort bound d s → M s
+-- what holds of each primitive, each core word and each word that is defined by a phrase holds of each built word
+built_sort : (bound : ℕ) (d : WordDef) (M : Sort → Type 0) → ((k : ℕ) → IsPrimitiveWord d k → M (prim k)) → ((k : ℕ) → IsCoreWord d k → M (core k)) → ((t : Phrase) → IsDefinedWord bound d t → M (body t)) → (s : Sort) → IsBuiltSort bound d s → M s
 built_sort bound d M prims cores bodies (prim k) h = prims k h
 built_sort bound d M prims cores bodies (core k) h = cores k h
 built_sort bound d M prims cores bodies (body t) h = bodies t h
@@ -81,29 +81,29 @@ words_pass : (bound : ℕ) (f : WordDef → Bool) → ((d : WordDef) → IsBuilt
 words_pass bound f each [] h = refl
 words_pass bound f each (d ∷ ds) h = both_are (f d) (list_all f ds) (each d h.0) (words_pass bound f each ds h.1)
 
--- the texts of words
-texts_pass : (bound : ℕ) (f : Text → Bool) → ((t : Text) → IsBuiltText bound t → f t ≡ true) → (ds : List WordDef) → AreBuiltWords bound ds → list_all f (word_texts ds) ≡ true
-texts_pass bound f each [] h = refl
-texts_pass bound f each (d ∷ ds) h =
-    let later = texts_pass bound f each ds h.1 in
-    built_sort bound d (λ s. list_all f (elim s [ body t ↦ t ∷ word_texts ds | past t ↦ t ∷ word_texts ds | method c g t ↦ t ∷ word_texts ds | _ ↦ word_texts ds ]) ≡ true)
-    (λ k prim_is. later) (λ k core_is. later) (λ u own. both_are (f u) (list_all f (word_texts ds)) (each u own.text_built) later) d.sort h.0
+-- the phrases of words
+phrases_pass : (bound : ℕ) (f : Phrase → Bool) → ((t : Phrase) → IsBuiltPhrase bound t → f t ≡ true) → (ds : List WordDef) → AreBuiltWords bound ds → list_all f (word_phrases ds) ≡ true
+phrases_pass bound f each [] h = refl
+phrases_pass bound f each (d ∷ ds) h =
+    let later = phrases_pass bound f each ds h.1 in
+    built_sort bound d (λ s. list_all f (elim s [ body t ↦ t ∷ word_phrases ds | past t ↦ t ∷ word_phrases ds | method c g t ↦ t ∷ word_phrases ds | _ ↦ word_phrases ds ]) ≡ true)
+    (λ k prim_is. later) (λ k core_is. later) (λ u own. both_are (f u) (list_all f (word_phrases ds)) (each u own.phrase_built) later) d.sort h.0
 
-all_texts_pass : (bound : ℕ) (f : Text → Bool) → ((t : Text) → IsBuiltText bound t → f t ≡ true) → (ds : List WordDef) → AreBuiltWords bound ds → list_all f (word_texts ds ++ []) ≡ true
-all_texts_pass bound f each ds h = ap (list_all f) (append-nil (word_texts ds)) ∙ texts_pass bound f each ds h
+all_phrases_pass : (bound : ℕ) (f : Phrase → Bool) → ((t : Phrase) → IsBuiltPhrase bound t → f t ≡ true) → (ds : List WordDef) → AreBuiltWords bound ds → list_all f (word_phrases ds ++ []) ≡ true
+all_phrases_pass bound f each ds h = ap (list_all f) (append-nil (word_phrases ds)) ∙ phrases_pass bound f each ds h
 
-all_items_pass : (bound : ℕ) (f : Item → Bool) → Passes bound f → (ds : List WordDef) → AreBuiltWords bound ds → list_all (each_item f) (word_texts ds ++ []) ≡ true
-all_items_pass bound f p ds h = all_texts_pass bound (each_item f) (λ t built. items_pass bound f p t built) ds h
+all_items_pass : (bound : ℕ) (f : Item → Bool) → Passes bound f → (ds : List WordDef) → AreBuiltWords bound ds → list_all (each_item f) (word_phrases ds ++ []) ≡ true
+all_items_pass bound f p ds h = all_phrases_pass bound (each_item f) (λ t built. items_pass bound f p t built) ds h
 
 -- the words with the top-level phrase
 all_built : (P : Program) (b : IsBuilt P) → AreBuiltWords P.top P.words
-all_built P b = subst (AreBuiltWords P.top) (sym b.words_are) (phrase_last P.top b.words b.phrase b.text b.built b.phrase_is)
+all_built P b = subst (AreBuiltWords P.top) (sym b.words_are) (phrase_last P.top b.words b.last_word b.phrase b.built b.last_word_is)
   where
-    phrase_built : (bound : ℕ) (p : WordDef) (t : Text) → IsTopPhrase bound p t → IsBuiltSort bound p p.sort
+    phrase_built : (bound : ℕ) (p : WordDef) (t : Phrase) → IsTopPhrase bound p t → IsBuiltSort bound p p.sort
     phrase_built bound p t h =
-        subst (IsBuiltSort bound p) (sym h.sort_is) (record { text_built = h.text_built; plain = subst IsPlainEffect (sym h.effect_is) (refl, tt, refl); no_row_word = rw h.not_inline refl })
+        subst (IsBuiltSort bound p) (sym h.sort_is) (record { phrase_built = h.phrase_built; plain = subst IsPlainEffect (sym h.effect_is) (refl, tt, refl); no_row_word = rw h.not_inline refl })
 
-    phrase_last : (bound : ℕ) (ds : List WordDef) (p : WordDef) (t : Text) → AreBuiltWords bound ds → IsTopPhrase bound p t → AreBuiltWords bound (ds ++ p ∷ [])
+    phrase_last : (bound : ℕ) (ds : List WordDef) (p : WordDef) (t : Phrase) → AreBuiltWords bound ds → IsTopPhrase bound p t → AreBuiltWords bound (ds ++ p ∷ [])
     phrase_last bound [] p t h is = (phrase_built bound p t is, tt)
     phrase_last bound (d ∷ ds) p t h is = (h.0, phrase_last bound ds p t h.1 is)
 
@@ -144,7 +144,7 @@ or_true : (b c : Bool) → c ≡ true → (b || c) ≡ true
 or_true true c h = refl
 or_true false c h = h
 
-with_body : (P : Program) (n : ℕ) (d : WordDef) (t : Text) → d.sort ≡ body t → n < P.top → marks_fit P n d ≡ true
+with_body : (P : Program) (n : ℕ) (d : WordDef) (t : Phrase) → d.sort ≡ body t → n < P.top → marks_fit P n d ≡ true
 with_body P n d t is below =
     or_true (not (d.inline || d.recursive)) (is_body (Some d.sort) && not (nat_eq n P.top)) (both_are (is_body (Some d.sort)) (not (nat_eq n P.top)) (ap (λ (s : Sort). is_body (Some s)) is) (ap not (is_other n P.top below)))
 
@@ -160,7 +160,7 @@ marks_pass P bound n (d ∷ ds) last h few i r =
 all_marks : (P : Program) (b : IsBuilt P) → each_numbered (marks_fit P) 0 P.words ≡ true
 all_marks P b =
     ap (each_numbered (marks_fit P) 0) b.words_are
-    ∙ marks_pass P P.top 0 b.words b.phrase b.built (let top = b.top_is in omega (arith, top)) b.phrase_is.not_inline b.phrase_is.not_recursive
+    ∙ marks_pass P P.top 0 b.words b.last_word b.built (let top = b.top_is in omega (arith, top)) b.last_word_is.not_inline b.last_word_is.not_recursive
 
 -- Numbers of words.
 
@@ -168,7 +168,7 @@ not_past : (bound : ℕ) (d : WordDef) → IsBuiltSort bound d d.sort → is_pas
 not_past bound d h = built_sort bound d (λ s. is_past (Some s) ≡ false) (λ k p. refl) (λ k p. refl) (λ t p. refl) d.sort h
 
 words_counted : (P : Program) → IsBuilt P → length P.words ≡ suc P.top
-words_counted P b = let all = ap length b.words_are ∙ length_push b.words b.phrase in let top = b.top_is in omega (arith, all, top)
+words_counted P b = let all = ap length b.words_are ∙ length_push b.words b.last_word in let top = b.top_is in omega (arith, all, top)
 
 word_fits : (P : Program) → IsBuilt P → (w : ℕ) → nat_lt w P.top ≡ true → item_fits P (word w) ≡ true
 word_fits P b w h = let below = (Decides-ltb w P.top).0 h in let all = words_counted P b in (Decides-ltb w (length P.words)).1 (omega (arith, below, all))
@@ -191,7 +191,7 @@ none_passes f each (x ∷ xs) = rw (each x) (none_passes f each xs)
 same_primitive : (c d : WordDef) (j k : ℕ) → c.sort ≡ prim j → d.sort ≡ prim k → same_word c d ≡ nat_eq j k
 same_primitive c d j k is there = rw (is, there) refl
 
-not_defined : (c d : WordDef) (j : ℕ) (t : Text) → c.sort ≡ prim j → d.sort ≡ body t → same_word c d ≡ false
+not_defined : (c d : WordDef) (j : ℕ) (t : Phrase) → c.sort ≡ prim j → d.sort ≡ body t → same_word c d ≡ false
 not_defined c d j t is there = rw (is, there) refl
 
 not_core : (c d : WordDef) (j k : ℕ) → c.sort ≡ prim j → d.sort ≡ core k → same_word c d ≡ false
@@ -249,8 +249,8 @@ whole words top b few =
       top_phrase = ap is_body (top_sort P b);
       items_spare = all_items_pass top (item_spares P) (record { ints = λ z. refl; truth = refl; falsity = refl; quotations = λ t. refl; words = word_spares P b }) words all;
       literals_spare = refl;
-      bound = all_texts_pass top (locals_bound []) (text_bound top []) words all;
-      holes_in_fries = all_texts_pass top (holes_within 0) (text_without_holes top) words all;
+      bound = all_phrases_pass top (locals_bound []) (phrase_bound top []) words all;
+      holes_in_fries = all_phrases_pass top (holes_within 0) (phrase_without_holes top) words all;
       written_effects = words_pass top has_written_effect (effect_passes top) words all;
       method_effects = words_pass top (has_generic_effect P) (generic_effect_passes P top) words all;
       marks_of_bodies = all_marks P b;
@@ -277,9 +277,9 @@ known_few : list_all has_few_names known_words ≡ true
 unfolding known_words built_primitive_words
 known_few = refl
 
-all_few : (bound : ℕ) (c : Contents) → AreOwnWords bound c.words → list_all has_few_names (known_words ++ c.words ++ top_word c.text ∷ []) ≡ true
+all_few : (bound : ℕ) (c : Contents) → AreOwnWords bound c.words → list_all has_few_names (known_words ++ c.words ++ top_word c.phrase ∷ []) ≡ true
 all_few bound c own =
-    list_all-append has_few_names (known_words ++ c.words) (top_word c.text ∷ [])
+    list_all-append has_few_names (known_words ++ c.words) (top_word c.phrase ∷ [])
     ∙ both_are (list_all has_few_names (known_words ++ c.words)) true
     (list_all-append has_few_names known_words c.words ∙ both_are (list_all has_few_names known_words) (list_all has_few_names c.words) known_few (own_few bound c.words own))
     refl
@@ -296,7 +296,7 @@ program_whole_of forms (Ok c) P fits e is =
     let same : program_of c ≡ P = cc in
     let top = length known_words + length c.words in
     let built = contents_built forms (codes "syntax" ∷ []) c fits e in
-    subst IsWhole same (whole (known_words ++ c.words ++ top_word c.text ∷ []) top (program_built c built.0 built.1) (all_few top c built.0))
+    subst IsWhole same (whole (known_words ++ c.words ++ top_word c.phrase ∷ []) top (program_built c built.0 built.1) (all_few top c built.0))
 program_whole_of forms (Err f) P fits e is = cc
 
 pub resolved_built : (forms : List Form) (e : Result Program ResolveFault) → IsWellFormed forms → Resolves forms e → IfOk e (λ P. IsBuilt P)

@@ -1,27 +1,27 @@
--- The text of items is written as the items are.
+-- The phrase of items is written as the items are.
 use Rattle.std.proofs.Common.{◌≡◌, ℕ, ◌+◌, ◌-◌, ◌<◌, List, [], ◌∷◌, ◌++◌, length, Option, Some, None, Result, Ok, Err, refl, ap, sym, ◌∙◌, append_assoc, append-nil, arith}
-use Rattle.fac_lang.specs.Texts.{Text, Item, word}
+use Rattle.fac_lang.specs.Phrases.{Phrase, Item, word}
 use Rattle.fac_lang.specs.declared.phrase.Place.{Place}
 use Rattle.fac_lang.specs.declared.program.Name.{Name as FullName}
 use Rattle.fac_lang.specs.declared.token.Token.{Token}
-use Rattle.fac_lang.specs.declared.tree.Piece.{Piece}
-use Rattle.fac_lang.specs.declared.tree.Piece.TheVariants as piece
+use Rattle.fac_lang.specs.declared.tree.Element.{Element}
+use Rattle.fac_lang.specs.declared.tree.Element.TheVariants as element
 use Rattle.fac_lang.specs.declared.tree.Term.{Term}
 use Rattle.fac_lang.specs.declared.tree.Term.TheVariants as term
 use Rattle.fac_parse.specs.declared.resolver.NameFault.{NameFault}
 use Rattle.fac_parse.specs.Resolution.{found, result_map, word_item, item_of, term_place, Following, with_item, with_quotation, opened, closed, following}
 use Rattle.fac_parse.specs.Trees.{token_text, Lead}
-use Rattle.fac_parse.specs.Written.{Sign, one, opens, closes, text_signs, item_signs, with_sign, pieces_signs, TextsAreWrittenAsItems}
+use Rattle.fac_parse.specs.Written.{Sign, one, opens, closes, phrase_signs, item_signs, with_sign, elements_signs, PhrasesAreWrittenAsItems}
 
--- the texts around, each behind the bracket that ends the one before
-abbrev around_signs : List Text → List Sign
+-- the phrases around, each behind the bracket that ends the one before
+abbrev around_signs : List Phrase → List Sign
 around_signs [] = []
-around_signs (t ∷ ts) = closes ∷ text_signs t ++ around_signs ts
+around_signs (t ∷ ts) = closes ∷ phrase_signs t ++ around_signs ts
 
 abbrev all_signs : Following → List Sign
-all_signs f = text_signs f.here ++ around_signs f.around
+all_signs f = phrase_signs f.here ++ around_signs f.around
 
--- What follows has so many texts around it, and is written so; or its first refused name is this one.
+-- What follows has so many phrases around it, and is written so; or its first refused name is this one.
 abbrev Spells : ℕ → Result Following NameFault → Result (List Sign) NameFault → Type 0
 Spells depth (Ok f) r = (length f.around ≡ depth) × (r ≡ Ok (all_signs f))
 Spells depth (Err fault) r = r ≡ Err fault
@@ -44,9 +44,9 @@ item_spells : (depth : ℕ) (r : Result Item NameFault) (place : Place) (rest : 
 item_spells depth (Err fault) place rest q alone h = refl
 item_spells depth (Ok i) place (Err fault) q alone h = ap (result_map (λ (signs : List Sign). one i place ∷ signs)) h
 item_spells depth (Ok i) place (Ok f) q alone h =
-    (h.0, ap (result_map (λ (signs : List Sign). one i place ∷ signs)) h.1 ∙ ap (λ (first : List Sign). Ok ((first ++ text_signs f.here) ++ around_signs f.around)) (sym (alone i refl)))
+    (h.0, ap (result_map (λ (signs : List Sign). one i place ∷ signs)) h.1 ∙ ap (λ (first : List Sign). Ok ((first ++ phrase_signs f.here) ++ around_signs f.around)) (sym (alone i refl)))
 
-quotation_spells : (depth : ℕ) (place : Place) (t : Text) (ts : List Text) → length ts ≡ depth + 1 → Spells depth (Ok (with_quotation place t ts)) (Ok (opens place ∷ text_signs t ++ around_signs ts))
+quotation_spells : (depth : ℕ) (place : Place) (t : Phrase) (ts : List Phrase) → length ts ≡ depth + 1 → Spells depth (Ok (with_quotation place t ts)) (Ok (opens place ∷ phrase_signs t ++ around_signs ts))
 quotation_spells depth place t [] e = absurd (omega (arith, e))
 quotation_spells depth place t (u ∷ us) e = (omega (arith, e), simp append_assoc)
 
@@ -59,20 +59,20 @@ closed_spells : (depth : ℕ) (rest : Result Following NameFault) (q : Result (L
 closed_spells depth (Err fault) q lt h = ap (result_map (λ (signs : List Sign). closes ∷ signs)) h
 closed_spells depth (Ok f) q lt h = (let less = h.0 in omega (arith, less, lt), ap (result_map (λ (signs : List Sign). closes ∷ signs)) h.1)
 
-pieces_spell : (known : List FullName) (used : List (List ℕ)) (most depth : ℕ) (items : List Piece) → Lead most depth items 0 → Spells depth (following known used items) (pieces_signs known used items)
-pieces_spell known used most depth [] h = (sym h, refl)
-pieces_spell known used most depth (piece.Item item ∷ items) h =
-    item_spells depth (item_of known used item) (term_place item) (following known used items) (pieces_signs known used items) (λ i e. item_alone known used item i (term_place item) e) (pieces_spell known used most depth items h.1)
-pieces_spell known used most depth (piece.Opens place ∷ items) h = opened_spells depth place (following known used items) (pieces_signs known used items) (pieces_spell known used most (depth + 1) items h.1)
-pieces_spell known used most depth (piece.Closes place ∷ items) h = closed_spells depth (following known used items) (pieces_signs known used items) h.0 (pieces_spell known used most (depth - 1) items h.1)
+elements_spell : (known : List FullName) (used : List (List ℕ)) (most depth : ℕ) (items : List Element) → Lead most depth items 0 → Spells depth (following known used items) (elements_signs known used items)
+elements_spell known used most depth [] h = (sym h, refl)
+elements_spell known used most depth (element.Item item ∷ items) h =
+    item_spells depth (item_of known used item) (term_place item) (following known used items) (elements_signs known used items) (λ i e. item_alone known used item i (term_place item) e) (elements_spell known used most depth items h.1)
+elements_spell known used most depth (element.Opens place ∷ items) h = opened_spells depth place (following known used items) (elements_signs known used items) (elements_spell known used most (depth + 1) items h.1)
+elements_spell known used most depth (element.Closes place ∷ items) h = closed_spells depth (following known used items) (elements_signs known used items) h.0 (elements_spell known used most (depth - 1) items h.1)
 
-none_around : (here : Text) (around : List Text) → length around ≡ 0 → text_signs here ≡ text_signs here ++ around_signs around
-none_around here [] e = sym (append-nil (text_signs here))
+none_around : (here : Phrase) (around : List Phrase) → length around ≡ 0 → phrase_signs here ≡ phrase_signs here ++ around_signs around
+none_around here [] e = sym (append-nil (phrase_signs here))
 none_around here (t ∷ ts) e = absurd (omega (arith, e))
 
-here_spells : (r : Result Following NameFault) (q : Result (List Sign) NameFault) → Spells 0 r q → result_map text_signs (result_map (λ f. f.here) r) ≡ q
+here_spells : (r : Result Following NameFault) (q : Result (List Sign) NameFault) → Spells 0 r q → result_map phrase_signs (result_map (λ f. f.here) r) ≡ q
 here_spells (Ok f) q h = ap (λ (signs : List Sign). Ok signs) (none_around f.here f.around h.0) ∙ sym h.1
 here_spells (Err fault) q h = sym h
 
-pub texts_are_written : TextsAreWrittenAsItems
-texts_are_written known used most items h = here_spells (following known used items) (pieces_signs known used items) (pieces_spell known used most 0 items h)
+pub phrases_are_written : PhrasesAreWrittenAsItems
+phrases_are_written known used most items h = here_spells (following known used items) (elements_signs known used items) (elements_spell known used most 0 items h)

@@ -6,7 +6,7 @@ use Rattle.fac_lang.specs.PrimitiveWords.{PrimitiveWord, written_effect, plain_i
 use Rattle.fac_lang.specs.Primitives.{built_primitive_words}
 use Rattle.fac_lang.specs.Signatures.{Signature, signature, no_inputs, Leaving, never, leaves}
 use Rattle.fac_lang.specs.Whole.{IsWhole}
-use Rattle.fac_lang.specs.Texts.{Text, end, then as placed, Item, lit, int, yes, no, quot, word}
+use Rattle.fac_lang.specs.Phrases.{Phrase, end, then as placed, Item, lit, int, yes, no, quot, word}
 use Rattle.fac_lang.specs.declared.phrase.Place.{Place}
 use Rattle.fac_lang.specs.declared.program.Name.{Name as FullName}
 use Rattle.fac_lang.specs.declared.program.Program.{Program}
@@ -18,8 +18,8 @@ use Rattle.fac_lang.specs.declared.tree.Form.{Form}
 use Rattle.fac_lang.specs.declared.tree.Form.TheVariants as form
 use Rattle.fac_lang.specs.declared.tree.Term.{Term}
 use Rattle.fac_lang.specs.declared.tree.Term.TheVariants as term
-use Rattle.fac_lang.specs.declared.tree.Piece.{Piece}
-use Rattle.fac_lang.specs.declared.tree.Piece.TheVariants as piece
+use Rattle.fac_lang.specs.declared.tree.Element.{Element}
+use Rattle.fac_lang.specs.declared.tree.Element.TheVariants as element
 use Rattle.fac_lang.specs.declared.tree.Mark.{Mark}
 use Rattle.fac_lang.specs.declared.tree.Mark.TheVariants.{Inline, Recursive}
 use Rattle.fac_lang.specs.declared.tree.WrittenEffect.{WrittenEffect}
@@ -115,39 +115,39 @@ term_place (term.Integer t value) = t.place
 term_place (term.True place) = place
 term_place (term.False place) = place
 
--- What follows a place among items: the rest of the text in which it stands, and the rests of the texts around that one, from the inside out.
+-- What follows a place among items: the rest of the phrase in which it stands, and the rests of the phrases around that one, from the inside out.
 pub record Following : Type 0 where
-  pub here : Text
-  pub around : List Text
+  pub here : Phrase
+  pub around : List Phrase
 
 -- an item before what follows
 abbrev pub with_item : Result Item NameFault → Place → Result Following NameFault → Result Following NameFault
 with_item (Err fault) place rest = Err fault
 with_item (Ok item) place rest = result_map (λ f. record { here = placed item place f.here; around = f.around }) rest
 
--- A quotation with this text, before the texts around it. One that nothing ends reaches to the end.
-abbrev pub with_quotation : Place → Text → List Text → Following
-with_quotation place text [] = record { here = placed (quot text) place end; around = [] }
-with_quotation place text (t ∷ ts) = record { here = placed (quot text) place t; around = ts }
+-- A quotation with this phrase, before the phrases around it. One that nothing ends reaches to the end.
+abbrev pub with_quotation : Place → Phrase → List Phrase → Following
+with_quotation place phrase [] = record { here = placed (quot phrase) place end; around = [] }
+with_quotation place phrase (t ∷ ts) = record { here = placed (quot phrase) place t; around = ts }
 
--- a `[` before what follows: the text behind it is the quotation's
+-- a `[` before what follows: the phrase behind it is the quotation's
 abbrev pub opened : Place → Following → Following
 opened place f = with_quotation place f.here f.around
 
--- a `]` before what follows: the text ends here, and what follows is the text around it
+-- a `]` before what follows: the phrase ends here, and what follows is the phrase around it
 abbrev pub closed : Following → Following
 closed f = record { here = end; around = f.here ∷ f.around }
 
--- what these pieces are, or the first refused name among them
-abbrev pub following : List FullName → List (List ℕ) → List Piece → Result Following NameFault
+-- what these elements are, or the first refused name among them
+abbrev pub following : List FullName → List (List ℕ) → List Element → Result Following NameFault
 following known used [] = Ok (record { here = end; around = [] })
-following known used (piece.Item item ∷ items) = with_item (item_of known used item) (term_place item) (following known used items)
-following known used (piece.Opens place ∷ items) = result_map (opened place) (following known used items)
-following known used (piece.Closes place ∷ items) = result_map closed (following known used items)
+following known used (element.Item item ∷ items) = with_item (item_of known used item) (term_place item) (following known used items)
+following known used (element.Opens place ∷ items) = result_map (opened place) (following known used items)
+following known used (element.Closes place ∷ items) = result_map closed (following known used items)
 
--- the text of items, or the first refused name in it
-abbrev pub text_of : List FullName → List (List ℕ) → List Piece → Result Text NameFault
-text_of known used items = result_map (λ f. f.here) (following known used items)
+-- the phrase of items, or the first refused name in it
+abbrev pub phrase_of : List FullName → List (List ℕ) → List Element → Result Phrase NameFault
+phrase_of known used items = result_map (λ f. f.here) (following known used items)
 
 -- the spellings of tokens
 abbrev pub token_texts : List Token → List (List ℕ)
@@ -176,14 +176,14 @@ is_recursive (Some (Recursive place)) = true
 is_recursive _ = false
 
 -- a word that a file defines
-abbrev pub defined_word : Token → WrittenEffect → Option Mark → Text → WordDef
-defined_word name effect mark text =
-    record { name = own_name (token_text name.kind); sort = Body text; effect = effect_of effect; inline = is_inline mark; recursive = is_recursive mark; place = name.place }
+abbrev pub defined_word : Token → WrittenEffect → Option Mark → Phrase → WordDef
+defined_word name effect mark phrase =
+    record { name = own_name (token_text name.kind); sort = Body phrase; effect = effect_of effect; inline = is_inline mark; recursive = is_recursive mark; place = name.place }
 
--- the words that a file defines, and the text of its items
+-- the words that a file defines, and the phrase of its items
 pub record Contents : Type 0 where
   pub words : List WordDef
-  pub text : Text
+  pub phrase : Phrase
 
 abbrev pub after_uses : Result (List (List ℕ)) NameFault → (List (List ℕ) → Result Contents NameFault) → Result Contents NameFault
 after_uses (Ok used) rest = rest used
@@ -192,12 +192,12 @@ after_uses (Err fault) rest = Err fault
 -- an item at the top level before what follows
 abbrev pub with_top_item : Result Item NameFault → Place → Result Contents NameFault → Result Contents NameFault
 with_top_item (Err fault) place rest = Err fault
-with_top_item (Ok item) place rest = result_map (λ c. record { words = c.words; text = placed item place c.text }) rest
+with_top_item (Ok item) place rest = result_map (λ c. record { words = c.words; phrase = placed item place c.phrase }) rest
 
 -- a word before what follows
 abbrev pub with_defined : Result WordDef NameFault → Result Contents NameFault → Result Contents NameFault
 with_defined (Err fault) rest = Err fault
-with_defined (Ok d) rest = result_map (λ c. record { words = d ∷ c.words; text = c.text }) rest
+with_defined (Ok d) rest = result_map (λ c. record { words = d ∷ c.words; phrase = c.phrase }) rest
 
 -- a name that is taken already is refused
 abbrev pub unless_taken : Bool → Token → Result Contents NameFault → Result Contents NameFault
@@ -205,15 +205,15 @@ unless_taken true name rest = Err (name_fault Twice name)
 unless_taken false name rest = rest
 
 -- What forms define and do, where these words are known and these vocabularies used, or the first refused name. A word's own name is
--- known in its text.
+-- known in its phrase.
 abbrev pub contents_of : List FullName → List (List ℕ) → List Form → Result Contents NameFault
-contents_of known used [] = Ok (record { words = []; text = end })
+contents_of known used [] = Ok (record { words = []; phrase = end })
 contents_of known used (form.Using opens vocabs closes ∷ forms) = after_uses (uses used vocabs) (λ more. contents_of known more forms)
 contents_of known used (form.Define opens name effect items closes mark ∷ forms) =
     let more = known ++ own_name (token_text name.kind) ∷ [] in
-    unless_taken (is_taken known (token_text name.kind)) name (with_defined (result_map (defined_word name effect mark) (text_of more used items)) (contents_of more used forms))
+    unless_taken (is_taken known (token_text name.kind)) name (with_defined (result_map (defined_word name effect mark) (phrase_of more used items)) (contents_of more used forms))
 contents_of known used (form.Item item ∷ forms) = with_top_item (item_of known used item) (term_place item) (contents_of known used forms)
-contents_of known used (form.Quotation opens items closes ∷ forms) = with_top_item (result_map quot (text_of known used items)) opens (contents_of known used forms)
+contents_of known used (form.Quotation opens items closes ∷ forms) = with_top_item (result_map quot (phrase_of known used items)) opens (contents_of known used forms)
 
 -- the names that are known before a source is read
 abbrev pub first_names : List FullName
@@ -224,12 +224,12 @@ abbrev pub file_contents : List Form → Result Contents NameFault
 file_contents forms = contents_of first_names (codes "syntax" ∷ []) forms
 
 -- the word of the top-level phrase
-abbrev pub top_word : Text → WordDef
-top_word text = plain_word [] (codes "top-level") (Body text) (signature None no_inputs (leaves None []))
+abbrev pub top_word : Phrase → WordDef
+top_word phrase = plain_word [] (codes "top-level") (Body phrase) (signature None no_inputs (leaves None []))
 
 -- the words that are known from the start, those of the file in its order, and the top-level phrase
 abbrev pub program_of : Contents → Program
-program_of c = record { words = known_words ++ c.words ++ top_word c.text ∷ []; arrays = []; classes = []; top = length known_words + length c.words }
+program_of c = record { words = known_words ++ c.words ++ top_word c.phrase ∷ []; arrays = []; classes = []; top = length known_words + length c.words }
 
 -- the program of a tree, or the first refused name by place
 abbrev pub resolved : List Form → Result Program NameFault

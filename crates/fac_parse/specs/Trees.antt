@@ -8,8 +8,8 @@ use Rattle.fac_lang.specs.declared.token.TokKind.TheVariants.{Plain, Str}
 use Rattle.fac_lang.specs.declared.tree.Tree.{Tree}
 use Rattle.fac_lang.specs.declared.tree.Term.{Term}
 use Rattle.fac_lang.specs.declared.tree.Term.TheVariants as term
-use Rattle.fac_lang.specs.declared.tree.Piece.{Piece}
-use Rattle.fac_lang.specs.declared.tree.Piece.TheVariants as piece
+use Rattle.fac_lang.specs.declared.tree.Element.{Element}
+use Rattle.fac_lang.specs.declared.tree.Element.TheVariants as element
 use Rattle.fac_lang.specs.declared.tree.Mark.{Mark}
 use Rattle.fac_lang.specs.declared.tree.Mark.TheVariants.{Inline, Recursive}
 use Rattle.fac_lang.specs.declared.tree.Form.{Form}
@@ -31,15 +31,15 @@ term_tokens (term.Integer token value) = token ∷ []
 term_tokens (term.True place) = plain_token place (codes "t") ∷ []
 term_tokens (term.False place) = plain_token place (codes "f") ∷ []
 
-abbrev pub piece_tokens : Piece → List Token
-piece_tokens (piece.Item item) = term_tokens item
-piece_tokens (piece.Opens place) = plain_token place (codes "[") ∷ []
-piece_tokens (piece.Closes place) = plain_token place (codes "]") ∷ []
+abbrev pub element_tokens : Element → List Token
+element_tokens (element.Item item) = term_tokens item
+element_tokens (element.Opens place) = plain_token place (codes "[") ∷ []
+element_tokens (element.Closes place) = plain_token place (codes "]") ∷ []
 
 -- the tokens of items, in order
-abbrev pub items_tokens : List Piece → List Token
+abbrev pub items_tokens : List Element → List Token
 items_tokens [] = []
-items_tokens (piece ∷ pieces) = piece_tokens piece ++ items_tokens pieces
+items_tokens (element ∷ elements) = element_tokens element ++ items_tokens elements
 
 abbrev pub mark_tokens : Option Mark → List Token
 mark_tokens None = []
@@ -74,26 +74,26 @@ IsTerm (term.False place) = Unit {0}
 abbrev pub most_levels : ℕ
 most_levels = MOST_LEVELS
 
--- whether a piece may stand where `depth` quotations are open, of which there may be `most`
-abbrev pub MayStand : ℕ → ℕ → Piece → Type 0
-MayStand most depth (piece.Item item) = IsTerm item
-MayStand most depth (piece.Opens place) = depth < most
-MayStand most depth (piece.Closes place) = 0 < depth
+-- whether an element may stand where `depth` quotations are open, of which there may be `most`
+abbrev pub MayStand : ℕ → ℕ → Element → Type 0
+MayStand most depth (element.Item item) = IsTerm item
+MayStand most depth (element.Opens place) = depth < most
+MayStand most depth (element.Closes place) = 0 < depth
 
--- the number of open quotations behind a piece
-abbrev pub depth_behind : ℕ → Piece → ℕ
-depth_behind depth (piece.Item item) = depth
-depth_behind depth (piece.Opens place) = depth + 1
-depth_behind depth (piece.Closes place) = depth - 1
+-- the number of open quotations behind an element
+abbrev pub depth_behind : ℕ → Element → ℕ
+depth_behind depth (element.Item item) = depth
+depth_behind depth (element.Opens place) = depth + 1
+depth_behind depth (element.Closes place) = depth - 1
 
--- each of these pieces may stand where it does, with so many quotations open before them and so many behind
-abbrev pub Lead : ℕ → ℕ → List Piece → ℕ → Type 0
+-- each of these elements may stand where it does, with so many quotations open before them and so many behind
+abbrev pub Lead : ℕ → ℕ → List Element → ℕ → Type 0
 Lead most depth [] last = depth ≡ last
-Lead most depth (piece ∷ pieces) last = MayStand most depth piece × Lead most (depth_behind depth piece) pieces last
+Lead most depth (element ∷ elements) last = MayStand most depth element × Lead most (depth_behind depth element) elements last
 
 -- items whose brackets match, with at most so many quotations in one another
-abbrev pub AreItems : ℕ → List Piece → Type 0
-AreItems most pieces = Lead most 0 pieces 0
+abbrev pub AreItems : ℕ → List Element → Type 0
+AreItems most elements = Lead most 0 elements 0
 
 -- a token's spelling, or a string's content
 abbrev pub token_text : TokKind → List ℕ

@@ -27,7 +27,7 @@ fn add_input(alloc: Global, inputs: &mut Vec<Input>, name: &str) -> Result<(), M
 }
 
 // Adds a copy of a name.
-fn add_text(alloc: Global, texts: &mut List<Text>, name: &str) -> Result<(), Memory>
+fn add_phrase(alloc: Global, texts: &mut List<Text>, name: &str) -> Result<(), Memory>
     ensures { OnOk result (texts.new ≡ texts.old ++ name.now ∷ []) }
 {
     texts.push(Text::from_str(alloc, name)?)
@@ -50,7 +50,7 @@ fn texts(alloc: Global, names: &[&str]) -> Result<List<Text>, Memory>
 {
     let mut texts = List::new(alloc);
     for name in names {
-        add_text(alloc, &mut texts, name)?;
+        add_phrase(alloc, &mut texts, name)?;
     }
     Ok(texts)
 }
@@ -199,7 +199,7 @@ fn written_outputs(alloc: Global, names: &[Token]) -> Result<List<Text>, Memory>
 {
     let mut texts = List::new(alloc);
     for token in names {
-        add_text(alloc, &mut texts, text(&token.kind))?;
+        add_phrase(alloc, &mut texts, text(&token.kind))?;
     }
     Ok(texts)
 }

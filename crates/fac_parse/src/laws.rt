@@ -2,7 +2,7 @@
 ghost use Rattle.fac_parse.specs.Spellings.{LiteralsAreIntegers};
 ghost use Rattle.fac_parse.specs.Resolution.{ResolvedAreWhole};
 ghost use Rattle.fac_parse.specs.Trees.{OneTree, TreeOrNone};
-ghost use Rattle.fac_parse.specs.Written.{TextsAreWrittenAsItems};
+ghost use Rattle.fac_parse.specs.Written.{PhrasesAreWrittenAsItems};
 
 /// No two trees have the same tokens.
 pub fn one_tree()
@@ -24,7 +24,7 @@ pub fn literals_are_integers()
     ensures { LiteralsAreIntegers }
 {}
 
-/// The text of items is written as the items are, with their names resolved, and its first refused name is theirs.
-pub fn texts_are_written_as_items()
-    ensures { TextsAreWrittenAsItems }
+/// The phrase of items is written as the items are, with their names resolved, and its first refused name is theirs.
+pub fn phrases_are_written_as_items()
+    ensures { PhrasesAreWrittenAsItems }
 {}

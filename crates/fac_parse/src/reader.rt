@@ -1,14 +1,14 @@
 //! The tree of a source's tokens.
 ghost use Rattle.std.specs.Prelude.{◌≡◌, ◌++◌, ◌∷◌, [], OnOk, IfOk};
 ghost use Rattle.fac_parse.specs.Trees.{Parses, file_of};
-ghost use Rattle.fac_parse.specs.inner.Reader.{step, top_step, names_step, colon_step, named_step, inputs_step, is_fit, outputs_step, with_piece, piece_step, body_step, quotation_step, part_step};
-ghost use Rattle.fac_parse.specs.inner.Reader.{mark_of, defined_form, behind_step, unmarked, form_before, next_state, ended_form, last_forms, Answers, AmongInputs, AmongOutputs, AnswersPiece, AnswersItems, Takes, Finishes};
+ghost use Rattle.fac_parse.specs.inner.Reader.{step, top_step, names_step, colon_step, named_step, inputs_step, is_fit, outputs_step, with_element, element_step, body_step, quotation_step, part_step};
+ghost use Rattle.fac_parse.specs.inner.Reader.{mark_of, defined_form, behind_step, unmarked, form_before, next_state, ended_form, last_forms, Answers, AmongInputs, AmongOutputs, AnswersElement, AnswersItems, Takes, Finishes};
 ghost use Rattle.fac_parse.specs.Spellings.{token_spelling};
 
 use crate::spelling::{Spelling, classify, closes_quotation, is_semicolon, names_a_value};
 use fac_lang::limits::{MOST_LEVELS, MOST_NAMES};
 use fac_lang::{
-    Duplicate, Form, List, Mark, Memory, Piece, Place, Term, Token, Tree, WrittenEffect,
+    Duplicate, Form, List, Mark, Memory, Element, Place, Term, Token, Tree, WrittenEffect,
 };
 use std::alloc::Global;
 use thiserror::Error;
@@ -54,7 +54,7 @@ pub struct Head {
 /// Items in which quotations may be open.
 #[derive(Drop)]
 pub struct Items {
-    pub pieces: List<Piece>,
+    pub elements: List<Element>,
     /// The number of quotations that are open.
     pub depth: u32,
 }
@@ -108,7 +108,7 @@ pub struct Definition {
     pub opens: Place,
     pub name: Token,
     pub effect: WrittenEffect,
-    pub items: List<Piece>,
+    pub items: List<Element>,
     pub closes: Place,
 }
 
@@ -168,7 +168,7 @@ fn take_at_top(alloc: Global, token: &Token) -> Result<Taken, ParseFault>
         Spelling::OpensQuotation => Ok(Taken::Goes(Part::Quotation {
             opens: token.place,
             items: Items {
-                pieces: List::new(alloc),
+                elements: List::new(alloc),
                 depth: 0,
             },
         })),
@@ -352,7 +352,7 @@ fn take_output(
                     closes: token.place,
                 },
                 items: Items {
-                    pieces: List::new(alloc),
+                    elements: List::new(alloc),
                     depth: 0,
                 },
             }))
@@ -361,46 +361,46 @@ fn take_output(
     }
 }
 
-// Items with a piece more, behind which so many quotations are open.
-fn with(items: Items, piece: Piece, depth: u32) -> Result<Items, Memory>
-    ensures { IfOk result (λ more. more ≡ with_piece items piece depth) }
+// Items with an element more, behind which so many quotations are open.
+fn with(items: Items, element: Element, depth: u32) -> Result<Items, Memory>
+    ensures { IfOk result (λ more. more ≡ with_element items element depth) }
 {
-    let Items { mut pieces, .. } = items;
-    pieces.push(piece)?;
-    Ok(Items { pieces, depth })
+    let Items { mut elements, .. } = items;
+    elements.push(element)?;
+    Ok(Items { elements, depth })
 }
 
-// The piece that a token of this spelling is among items, where so many quotations may be open, and how many are open behind it.
-fn next_piece(
+// The element that a token of this spelling is among items, where so many quotations may be open, and how many are open behind it.
+fn next_element(
     alloc: Global,
     most: u32,
     items: &Items,
     spelling: Spelling,
     token: &Token,
-) -> Result<(Piece, u32), ParseFault>
-    ensures { AnswersPiece (piece_step most items.now spelling token.now) items.now result }
+) -> Result<(Element, u32), ParseFault>
+    ensures { AnswersElement (element_step most items.now spelling token.now) items.now result }
 {
     match spelling {
         Spelling::Integer(value) => {
             let item = Term::Integer(token.copy(alloc)?, value);
-            Ok((Piece::Item(item), items.depth))
+            Ok((Element::Item(item), items.depth))
         }
         Spelling::Name => {
             let item = Term::Name(token.copy(alloc)?);
-            Ok((Piece::Item(item), items.depth))
+            Ok((Element::Item(item), items.depth))
         }
-        Spelling::True => Ok((Piece::Item(Term::True(token.place)), items.depth)),
-        Spelling::False => Ok((Piece::Item(Term::False(token.place)), items.depth)),
+        Spelling::True => Ok((Element::Item(Term::True(token.place)), items.depth)),
+        Spelling::False => Ok((Element::Item(Term::False(token.place)), items.depth)),
         Spelling::OpensQuotation => {
             if items.depth < most {
-                Ok((Piece::Opens(token.place), items.depth + 1))
+                Ok((Element::Opens(token.place), items.depth + 1))
             } else {
                 Err(refused())
             }
         }
         Spelling::ClosesQuotation => {
             if 0 < items.depth {
-                Ok((Piece::Closes(token.place), items.depth - 1))
+                Ok((Element::Closes(token.place), items.depth - 1))
             } else {
                 Err(refused())
             }
@@ -410,17 +410,17 @@ fn next_piece(
 }
 
 // Takes a token of this spelling among items, where so many quotations may be open.
-fn take_piece(
+fn take_element(
     alloc: Global,
     most: u32,
     items: Items,
     spelling: Spelling,
     token: &Token,
 ) -> Result<Items, ParseFault>
-    ensures { AnswersItems (piece_step most items spelling token.now) result }
+    ensures { AnswersItems (element_step most items spelling token.now) result }
 {
-    match next_piece(alloc, most, &items, spelling, token) {
-        Ok((piece, depth)) => Ok(with(items, piece, depth)?),
+    match next_element(alloc, most, &items, spelling, token) {
+        Ok((element, depth)) => Ok(with(items, element, depth)?),
         Err(fault) => Err(fault),
     }
 }
@@ -442,11 +442,11 @@ fn take_in_body(
             opens,
             name,
             effect,
-            items: items.pieces,
+            items: items.elements,
             closes: token.place,
         }))
     } else {
-        match take_piece(alloc, MOST_LEVELS, items, spelling, token) {
+        match take_element(alloc, MOST_LEVELS, items, spelling, token) {
             Ok(items) => Ok(Taken::Goes(Part::Body {
                 opens,
                 name,
@@ -471,11 +471,11 @@ fn take_in_quotation(
     if closes_quotation(spelling) && items.depth == 0 {
         Ok(Taken::Ends(Form::Quotation {
             opens,
-            items: items.pieces,
+            items: items.elements,
             closes: token.place,
         }))
     } else {
-        match take_piece(alloc, MOST_LEVELS - 1, items, spelling, token) {
+        match take_element(alloc, MOST_LEVELS - 1, items, spelling, token) {
             Ok(items) => Ok(Taken::Goes(Part::Quotation { opens, items })),
             Err(fault) => Err(fault),
         }

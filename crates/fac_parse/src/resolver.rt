@@ -1,10 +1,10 @@
 //! Names to words.
 ghost use Rattle.std.specs.Prelude.{◌≡◌, ◌<◌, ◌-◌, ◌++◌, ◌∷◌, [], codes, length, IfOk, OnOk};
 ghost use Rattle.fac_lang.specs.Forms.{IsBuilt};
-ghost use Rattle.fac_lang.specs.View.{items_text};
+ghost use Rattle.fac_lang.specs.PhraseView.{items_phrase};
 ghost use Rattle.fac_lang.specs.Whole.{IsWhole};
 ghost use Rattle.fac_parse.specs.Resolution.{known_words, first_names, name_fault, defined_word, top_word, Resolves};
-ghost use Rattle.fac_parse.specs.inner.Resolver.{Uses, TakesItem, Closes, IsClosable, TakesPiece, AreClosed, ReadsText, TakesQuotation, Defines, TakesForm, IsFirst, TakesForms, ReadsForms, program_with};
+ghost use Rattle.fac_parse.specs.inner.Resolver.{Uses, TakesItem, Closes, IsClosable, TakesElement, AreClosed, ReadsPhrase, TakesQuotation, Defines, TakesForm, IsFirst, TakesForms, ReadsForms, program_with};
 ghost use Rattle.fac_parse.specs.Trees.{AreItems, most_levels, IsForm, IsWellFormed};
 
 use crate::built_words::{defined, first_words, phrase_word};
@@ -13,7 +13,7 @@ use crate::spelling::text;
 use crate::text_set::TextSet;
 use crate::vocabularies::is_vocabulary;
 use fac_lang::{
-    Form, Item, List, Mark, Memory, Phrase, Piece, Place, Program, Term, Text, Token, Tree, What,
+    Form, Item, List, Mark, Memory, Phrase, Element, Place, Program, Term, Text, Token, Tree, What,
     WordDef, WrittenEffect,
 };
 use std::alloc::Global;
@@ -140,7 +140,7 @@ fn take_item(
 // A quotation that is open.
 #[derive(Drop)]
 struct OpenQuotation {
-    // The items before it in the text around it.
+    // The items before it in the phrase around it.
     before: Vec<Item>,
     place: Place,
 }
@@ -188,46 +188,46 @@ fn close_quotation(nest: Nest) -> Result<Nest, Memory>
     }
 }
 
-// Takes a piece of items.
-fn take_piece(
+// Takes an element of items.
+fn take_element(
     alloc: Global,
     known: &KnownNames,
     used: &TextSet,
     nest: Nest,
-    piece: &Piece,
+    element: &Element,
 ) -> Result<Nest, ResolveFault>
-    requires { IsClosable (length nest.outer.items) piece.now }
-    ensures { TakesPiece known.now used.now piece.now nest result }
+    requires { IsClosable (length nest.outer.items) element.now }
+    ensures { TakesElement known.now used.now element.now nest result }
 {
-    match piece {
-        Piece::Item(item) => {
+    match element {
+        Element::Item(item) => {
             let Nest { outer, mut items } = nest;
             match take_item(alloc, known, used, &mut items, item) {
                 Ok(()) => Ok(Nest { outer, items }),
                 Err(fault) => Err(fault),
             }
         }
-        Piece::Opens(place) => Ok(open_quotation(alloc, nest, *place)?),
-        Piece::Closes(_) => Ok(close_quotation(nest)?),
+        Element::Opens(place) => Ok(open_quotation(alloc, nest, *place)?),
+        Element::Closes(_) => Ok(close_quotation(nest)?),
     }
 }
 
-// The text of items.
+// The phrase of items.
 fn body_of(
     alloc: Global,
     known: &KnownNames,
     used: &TextSet,
-    pieces: &[Piece],
+    elements: &[Element],
 ) -> Result<Phrase, ResolveFault>
-    requires { AreClosed pieces.now }
-    ensures { ReadsText known.now used.now pieces.now result }
+    requires { AreClosed elements.now }
+    ensures { ReadsPhrase known.now used.now elements.now result }
 {
     let mut nest = Nest {
         outer: Vec::new(alloc),
         items: Vec::new(alloc),
     };
-    for piece in pieces {
-        match take_piece(alloc, known, used, nest, piece) {
+    for element in elements {
+        match take_element(alloc, known, used, nest, element) {
             Ok(next) => nest = next,
             Err(fault) => return Err(fault),
         }
@@ -257,7 +257,7 @@ fn define(
     so_far: &mut SoFar,
     name: &Token,
     effect: &WrittenEffect,
-    items: &[Piece],
+    items: &[Element],
     mark: Option<Mark>,
 ) -> Result<(), ResolveFault>
     requires { AreItems most_levels items.now }
@@ -283,12 +283,12 @@ fn take_quotation(
     used: &TextSet,
     items: &mut Vec<Item>,
     place: Place,
-    pieces: &[Piece],
+    elements: &[Element],
 ) -> Result<(), ResolveFault>
-    requires { AreItems (most_levels - 1) pieces.now }
-    ensures { TakesQuotation known.now used.now place pieces.now items.old.items items.new.items result }
+    requires { AreItems (most_levels - 1) elements.now }
+    ensures { TakesQuotation known.now used.now place elements.now items.old.items items.new.items result }
 {
-    match body_of(alloc, known, used, pieces) {
+    match body_of(alloc, known, used, elements) {
         Ok(body) => {
             add_item(items, What::Quot(body), place)?;
             Ok(())
@@ -419,7 +419,7 @@ fn contents(so_far: SoFar) -> (List<WordDef>, Vec<Item>)
 
 // The program of what a file made.
 fn completed(alloc: Global, so_far: SoFar) -> Result<Program, Memory>
-    ensures { IfOk result (λ program. program ≡ program_with so_far.words (items_text so_far.items.items)) }
+    ensures { IfOk result (λ program. program ≡ program_with so_far.words (items_phrase so_far.items.items)) }
 {
     let (words, items) = contents(so_far);
     with_phrase(alloc, words, Phrase { items })
@@ -438,7 +438,7 @@ fn program_of(alloc: Global, forms: &[Form]) -> Result<Program, ResolveFault>
 
 /// The program of a tree: the primitive words that are built, numbered from 0 in the order of their table, then the core words, then the
 /// words that the file defines in its order, and as the last word the top-level phrase.
-/// A vocabulary of a `USING:` must exist. A word is known in its own text and behind it, and its name may be defined once in a file.
+/// A vocabulary of a `USING:` must exist. A word is known in its own phrase and behind it, and its name may be defined once in a file.
 /// A name must find a word: among those that the file has defined so far, or else in the first vocabulary used before it that holds the name.
 pub fn resolve(alloc: Global, tree: &Tree) -> Result<Program, ResolveFault>
     requires { IsWellFormed tree.now.forms }

@@ -5,8 +5,8 @@ use Rattle.std.proofs.lemmas.Str.{encodes_same, utf8_valid_len-IsValidUpTo}
 use Rattle.fac_lang.specs.declared.token.Token.{Token}
 use Rattle.fac_token.specs.declared.fault.TokenFault.{TokenFault}
 use Rattle.fac_token.specs.declared.fault.TokenFault.TheVariants.{NotUtf8, OpenString, BadEscape, StuckQuote, Memory}
-use Rattle.fac_token.specs.Pieces.{open_string, bad_escape, stuck_quote}
-use Rattle.fac_token.specs.inner.Scan.{pieces}
+use Rattle.fac_token.specs.Lexemes.{open_string, bad_escape, stuck_quote}
+use Rattle.fac_token.specs.inner.Scan.{lexemes}
 use Rattle.fac_token.specs.Tokens.{Spells, Tokenizes}
 use Rattle.fac_token.specs.ReadingLaws.{IsNotMemory}
 use Rattle.fac_token.proofs.OneReading.{reading_read, fault_read}
@@ -14,7 +14,7 @@ use Rattle.fac_token.proofs.StepLemmas.{view_end, listed}
 
 -- the answer of a text
 abbrev OfText : ℕ → List ℕ → Result (List Token) TokenFault → Type 0
-OfText file bytes r = (chars : List ℕ) × Spells chars bytes × (r ≡ view_end file (pieces chars))
+OfText file bytes r = (chars : List ℕ) × Spells chars bytes × (r ≡ view_end file (lexemes chars))
 
 -- that of bytes that are none
 abbrev OfBytes : List ℕ → Result (List Token) TokenFault → Type 0
@@ -35,7 +35,7 @@ is_text : (chars bytes : List ℕ) → Spells chars bytes → IsUtf8 bytes
 is_text chars bytes s = (chars, (s.scalars, s.encoded))
 
 same : (file : ℕ) (bytes : List ℕ) (r t : Result (List Token) TokenFault) → OfText file bytes r ⊎ OfBytes bytes r → OfText file bytes t ⊎ OfBytes bytes t → r ≡ t
-same file bytes r t (inl (chars, s, e)) (inl (others, z, d)) = e ∙ (ap (λ (cs : List ℕ). view_end file (pieces cs)) (encodes_same chars others (s.encoded ∙ sym z.encoded)) ∙ sym d)
+same file bytes r t (inl (chars, s, e)) (inl (others, z, d)) = e ∙ (ap (λ (cs : List ℕ). view_end file (lexemes cs)) (encodes_same chars others (s.encoded ∙ sym z.encoded)) ∙ sym d)
 same file bytes r t (inl (chars, s, e)) (inr (at, n, v, d)) = absurd (n (is_text chars bytes s))
 same file bytes r t (inr (at, n, v, e)) (inl (chars, s, d)) = absurd (n (is_text chars bytes s))
 same file bytes r t (inr (at, n, v, e)) (inr (k, m, w, d)) = e ∙ (ap (λ (i : ℕ). failed (NotUtf8 i)) (sym (utf8_valid_len-IsValidUpTo bytes at v) ∙ utf8_valid_len-IsValidUpTo bytes k w) ∙ sym d)

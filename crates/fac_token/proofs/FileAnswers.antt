@@ -7,7 +7,7 @@ use Rattle.std.proofs.lemmas.List.{take_all}
 use Rattle.fac_lang.specs.declared.token.Token.{Token}
 use Rattle.fac_token.specs.declared.fault.TokenFault.{TokenFault}
 use Rattle.fac_token.specs.declared.fault.TokenFault.TheVariants.{NotUtf8, OpenString, BadEscape, StuckQuote}
-use Rattle.fac_token.specs.Pieces.{Piece, Reading, Fault, open_string, bad_escape, stuck_quote, FirstFault}
+use Rattle.fac_token.specs.Lexemes.{Lexeme, Reading, Fault, open_string, bad_escape, stuck_quote, FirstFault}
 use Rattle.fac_token.specs.Tokens.{Tokenizes, Spells, numbered, kinds}
 use Rattle.fac_token.specs.ReadingLaws.{IsNotMemory}
 use Rattle.fac_token.proofs.ScanLemmas.{read_or_faulty}
@@ -42,7 +42,7 @@ of_fault file chars bytes (open_string before) spells first = (Err (OpenString _
 of_fault file chars bytes (bad_escape before) spells first = (Err (BadEscape _), tt, record { chars = chars; before = before; spells = spells; first = first; offset = refl })
 of_fault file chars bytes (stuck_quote before) spells first = (Err (StuckQuote _), tt, record { chars = chars; before = before; spells = spells; first = first; offset = refl })
 
-of_text : (file : ℕ) (chars bytes : List ℕ) → Spells chars bytes → ((ps : List Piece) × Reading chars ps) ⊎ ((f : Fault) × FirstFault chars f) → Answer file bytes
+of_text : (file : ℕ) (chars bytes : List ℕ) → Spells chars bytes → ((ps : List Lexeme) × Reading chars ps) ⊎ ((f : Fault) × FirstFault chars f) → Answer file bytes
 of_text file chars bytes spells (inl read) = (Ok (numbered file 1 (kinds read.0)), tt, record { chars = chars; ps = read.0; spells = spells; reading = read.1; are = refl })
 of_text file chars bytes spells (inr wrong) = of_fault file chars bytes wrong.0 spells wrong.1
 

@@ -1,4 +1,4 @@
--- What the code holds is what the pieces and the open one are, by a view.
+-- What the code holds is what the lexemes and the open one are, by a view.
 use Rattle.std.proofs.Common.{◌≡◌, ℕ, ◌+◌, ◌==◌, List, [], ◌∷◌, ◌++◌, ◌<◌, ◌≤◌, length, drop, get_or, length-append, Bool, true, false, Option, Some, None, Result, Ok, Err, refl, sym, ◌∙◌, ap, subst, append_assoc, arith, cond}
 use Rattle.std.specs.Str.{encode_utf8_all, bytes_eq, chars, IsUtf8}
 use Rattle.std.specs.Char.{encode_utf8, len_utf8}
@@ -13,11 +13,11 @@ use Rattle.fac_token.specs.declared.fault.TokenFault.{TokenFault}
 use Rattle.fac_token.specs.declared.fault.TokenFault.TheVariants.{NotUtf8, OpenString, BadEscape, StuckQuote, Memory}
 use Rattle.fac_token.specs.declared.scanner.Mode.{Mode}
 use Rattle.fac_token.specs.declared.scanner.Mode.TheVariants.{Between, InPlain, InComment, InString, InEscape, Closed}
-use Rattle.fac_token.specs.Pieces.{is_white, escaped, is_some, StringPart, itself, escape, Piece, white, comment, plain, string, parts_chars, spelled, is_bang, Fault, open_string, bad_escape, stuck_quote}
-use Rattle.fac_token.specs.inner.Scan.{Pending, between, in_plain, in_comment, in_string, in_escape, closed, Scan, scan, take_white, take_quote, take_inner, take_char, at_end, scan_from, pieces}
+use Rattle.fac_token.specs.Lexemes.{is_white, escaped, is_some, StringPart, itself, escape, Lexeme, white, comment, plain, string, parts_chars, spelled, is_bang, Fault, open_string, bad_escape, stuck_quote}
+use Rattle.fac_token.specs.inner.Scan.{Pending, between, in_plain, in_comment, in_string, in_escape, closed, Scan, scan, take_white, take_quote, take_inner, take_char, at_end, scan_from, lexemes}
 use Rattle.fac_token.specs.Tokens.{part_content, content, kinds, numbered, token_at, escape_content, Spells, Tokenizes}
-use Rattle.fac_token.specs.inner.Steps.{Held, held, with_token, hold_plain_end, hold_white, hold_quote, hold_escape, hold_inner, hold_char, hold_end, hold_from, Holds, Ends}
-use Rattle.fac_token.proofs.ScanLemmas.{pending_chars, scan_chars, Known, take_known, Answers, pieces_known, bang_is}
+use Rattle.fac_token.specs.inner.TokenSteps.{Held, held, with_token, hold_plain_end, hold_white, hold_quote, hold_escape, hold_inner, hold_char, hold_end, hold_from, Holds, Ends}
+use Rattle.fac_token.proofs.ScanLemmas.{pending_chars, scan_chars, Known, take_known, Answers, lexemes_known, bang_is}
 
 -- a step of the code by the two tests of the character
 pub char_holds : (x y : Bool) (file n : ℕ) (h : Held) (c : ℕ) (ts : List Token) (text : List ℕ) (r : Result Mode TokenFault) → is_white c ≡ x → (c == 34) ≡ y → Holds (cond x (hold_white file h.tokens h.text h.mode c) (cond y (hold_quote n h.tokens h.text h.mode) (hold_inner n h.tokens h.text h.mode c))) ts text r → Holds (hold_char file n h c) ts text r
@@ -43,10 +43,10 @@ pending_mode before (in_string us) = InString (size before)
 pending_mode before (in_escape us) = InEscape (size before) (size (before ++ 34 ∷ parts_chars us))
 pending_mode before (closed us) = Closed
 
-abbrev pub tokens_of : ℕ → List Piece → List Token
+abbrev pub tokens_of : ℕ → List Lexeme → List Token
 tokens_of file ps = numbered file 1 (kinds ps)
 
-abbrev pub view : ℕ → List Piece → Pending → Result Held TokenFault
+abbrev pub view : ℕ → List Lexeme → Pending → Result Held TokenFault
 view file ps m = held (tokens_of file ps) (pending_text m) (pending_mode (spelled ps) m)
 
 abbrev pub view_fault : Fault → TokenFault
@@ -61,11 +61,11 @@ view_scan file (Err f) = Err (view_fault f)
 abbrev pub listed : List Token → Result (List Token) TokenFault
 listed ts = Ok ts
 
-abbrev pub view_end : ℕ → Result (List Piece) Fault → Result (List Token) TokenFault
+abbrev pub view_end : ℕ → Result (List Lexeme) Fault → Result (List Token) TokenFault
 view_end file (Ok ps) = Ok (tokens_of file ps)
 view_end file (Err f) = Err (view_fault f)
 
-kinds-append : (ps qs : List Piece) → kinds (ps ++ qs) ≡ kinds ps ++ kinds qs
+kinds-append : (ps qs : List Lexeme) → kinds (ps ++ qs) ≡ kinds ps ++ kinds qs
 kinds-append [] qs = refl
 kinds-append (white c ∷ ps) qs = kinds-append ps qs
 kinds-append (comment cs ∷ ps) qs = kinds-append ps qs
@@ -84,12 +84,12 @@ numbered-more : (file n m : ℕ) (ks : List TokKind) (k : TokKind) → m ≡ n +
 numbered-more file n m [] k e = let same : m ≡ n = omega arith in ap (λ (i : ℕ). token_at file i k ∷ []) (sym same)
 numbered-more file n m (j ∷ ks) k e = ap (λ (ts : List Token). token_at file n j ∷ ts) (numbered-more file (n + 1) m ks k (omega arith))
 
--- pieces with no token
-none_more : (file : ℕ) (ps qs : List Piece) → kinds qs ≡ [] → tokens_of file (ps ++ qs) ≡ tokens_of file ps
+-- lexemes with no token
+none_more : (file : ℕ) (ps qs : List Lexeme) → kinds qs ≡ [] → tokens_of file (ps ++ qs) ≡ tokens_of file ps
 none_more file ps qs e = ap (λ (ks : List TokKind). numbered file 1 ks) (kinds-append ps qs ∙ (ap (λ (ks : List TokKind). kinds ps ++ ks) e ∙ append-nil (kinds ps)))
 
--- pieces with one token
-one_more : (file : ℕ) (ps qs : List Piece) (k : TokKind) → kinds qs ≡ k ∷ [] → tokens_of file (ps ++ qs) ≡ with_token file (tokens_of file ps) k
+-- lexemes with one token
+one_more : (file : ℕ) (ps qs : List Lexeme) (k : TokKind) → kinds qs ≡ k ∷ [] → tokens_of file (ps ++ qs) ≡ with_token file (tokens_of file ps) k
 one_more file ps qs k e =
     let many : length (tokens_of file ps) + 1 ≡ 1 + length (kinds ps) = omega (arith, length-numbered file 1 (kinds ps)) in
     ap (λ (ks : List TokKind). numbered file 1 ks) (kinds-append ps qs ∙ ap (λ (ks : List TokKind). kinds ps ++ ks) e) ∙ numbered-more file 1 (length (tokens_of file ps) + 1) (kinds ps) k many
@@ -117,25 +117,25 @@ bang_test_by false false cs h k = refl
 bang_test : (cs : List ℕ) → bytes_eq (encode_utf8_all cs) (33 ∷ []) ≡ is_bang cs
 bang_test cs = bang_test_by (is_bang cs) (bytes_eq (encode_utf8_all cs) (33 ∷ [])) cs refl refl
 
-step_plain : (x y : Bool) (file : ℕ) (ps : List Piece) (d : ℕ) (cs : List ℕ) (c : ℕ) → is_bang (d ∷ cs) ≡ x → (c == 10) ≡ y → hold_plain_end file (tokens_of file ps) (encode_utf8_all (d ∷ cs)) c ≡ view_scan file (take_white ps (in_plain d cs) c)
+step_plain : (x y : Bool) (file : ℕ) (ps : List Lexeme) (d : ℕ) (cs : List ℕ) (c : ℕ) → is_bang (d ∷ cs) ≡ x → (c == 10) ≡ y → hold_plain_end file (tokens_of file ps) (encode_utf8_all (d ∷ cs)) c ≡ view_scan file (take_white ps (in_plain d cs) c)
 step_plain true true file ps d cs c e n = rw (bang_test (d ∷ cs), e, n) (ap (λ (ts : List Token). held ts [] Between) (sym (none_more file ps (comment [] ∷ white c ∷ []) refl)))
 step_plain true false file ps d cs c e n = rw (bang_test (d ∷ cs), e, n) refl
 step_plain false y file ps d cs c e n = rw (bang_test (d ∷ cs), e) (ap (λ (ts : List Token). held ts [] Between) (sym (one_more file ps (plain (d ∷ cs) ∷ white c ∷ []) (Plain (encode_utf8_all (d ∷ cs))) refl)))
 
-step_comment : (x : Bool) (file : ℕ) (ps : List Piece) (cs : List ℕ) (c : ℕ) → (c == 10) ≡ x → hold_white file (tokens_of file ps) [] InComment c ≡ view_scan file (take_white ps (in_comment cs) c)
+step_comment : (x : Bool) (file : ℕ) (ps : List Lexeme) (cs : List ℕ) (c : ℕ) → (c == 10) ≡ x → hold_white file (tokens_of file ps) [] InComment c ≡ view_scan file (take_white ps (in_comment cs) c)
 step_comment true file ps cs c e = rw e (ap (λ (ts : List Token). held ts [] Between) (sym (none_more file ps (comment cs ∷ white c ∷ []) refl)))
 step_comment false file ps cs c e = rw e refl
 
-step_string : (x : Bool) (file : ℕ) (ps : List Piece) (us : List StringPart) (c : ℕ) → (c == 10) ≡ x → hold_white file (tokens_of file ps) (encode_utf8_all (content us)) (InString (size (spelled ps))) c ≡ view_scan file (take_white ps (in_string us) c)
+step_string : (x : Bool) (file : ℕ) (ps : List Lexeme) (us : List StringPart) (c : ℕ) → (c == 10) ≡ x → hold_white file (tokens_of file ps) (encode_utf8_all (content us)) (InString (size (spelled ps))) c ≡ view_scan file (take_white ps (in_string us) c)
 step_string true file ps us c e = rw e refl
 step_string false file ps us c e = rw e (ap (λ (text : List ℕ). held (tokens_of file ps) text (InString (size (spelled ps)))) (sym (content_encoded us (itself c) c refl)))
 
-step_escape : (x : Bool) (file : ℕ) (ps : List Piece) (us : List StringPart) (c : ℕ) → (c == 10) ≡ x → hold_white file (tokens_of file ps) (encode_utf8_all (content us)) (InEscape (size (spelled ps)) (size (spelled ps ++ 34 ∷ parts_chars us))) c ≡ view_scan file (take_white ps (in_escape us) c)
+step_escape : (x : Bool) (file : ℕ) (ps : List Lexeme) (us : List StringPart) (c : ℕ) → (c == 10) ≡ x → hold_white file (tokens_of file ps) (encode_utf8_all (content us)) (InEscape (size (spelled ps)) (size (spelled ps ++ 34 ∷ parts_chars us))) c ≡ view_scan file (take_white ps (in_escape us) c)
 step_escape true file ps us c e = rw e refl
 step_escape false file ps us c e = rw e refl
 
 -- what the code holds behind white space
-step_white : (file : ℕ) (ps : List Piece) (m : Pending) (c : ℕ) → hold_white file (tokens_of file ps) (pending_text m) (pending_mode (spelled ps) m) c ≡ view_scan file (take_white ps m c)
+step_white : (file : ℕ) (ps : List Lexeme) (m : Pending) (c : ℕ) → hold_white file (tokens_of file ps) (pending_text m) (pending_mode (spelled ps) m) c ≡ view_scan file (take_white ps m c)
 step_white file ps between c = ap (λ (ts : List Token). held ts [] Between) (sym (none_more file ps (white c ∷ []) refl))
 step_white file ps (in_plain d cs) c = step_plain (is_bang (d ∷ cs)) (c == 10) file ps d cs c refl refl
 step_white file ps (in_comment cs) c = step_comment (c == 10) file ps cs c refl
@@ -144,7 +144,7 @@ step_white file ps (in_escape us) c = step_escape (c == 10) file ps us c refl
 step_white file ps (closed us) c = ap (λ (ts : List Token). held ts [] Between) (sym (one_more file ps (string us ∷ white c ∷ []) (Str (encode_utf8_all (content us))) refl))
 
 -- behind a quote
-step_quote : (file n : ℕ) (ps : List Piece) (m : Pending) → n ≡ size (spelled ps ++ pending_chars m) → hold_quote n (tokens_of file ps) (pending_text m) (pending_mode (spelled ps) m) ≡ view_scan file (take_quote ps m)
+step_quote : (file n : ℕ) (ps : List Lexeme) (m : Pending) → n ≡ size (spelled ps ++ pending_chars m) → hold_quote n (tokens_of file ps) (pending_text m) (pending_mode (spelled ps) m) ≡ view_scan file (take_quote ps m)
 step_quote file n ps between e = ap (λ (k : ℕ). held (tokens_of file ps) [] (InString k)) (e ∙ ap size (append-nil (spelled ps)))
 step_quote file n ps (in_plain d cs) e = rw e refl
 step_quote file n ps (in_comment cs) e = refl
@@ -152,16 +152,16 @@ step_quote file n ps (in_string us) e = refl
 step_quote file n ps (in_escape us) e = ap (λ (text : List ℕ). held (tokens_of file ps) text (InString (size (spelled ps)))) (sym (content_encoded us (escape 34) 34 refl))
 step_quote file n ps (closed us) e = rw e refl
 
-step_read_escape : (o : Option ℕ) (file : ℕ) (ps : List Piece) (us : List StringPart) (c : ℕ) → escaped c ≡ o → hold_escape (tokens_of file ps) (encode_utf8_all (content us)) (size (spelled ps)) (size (spelled ps ++ 34 ∷ parts_chars us)) o ≡ view_scan file (cond (is_some o) (scan ps (in_string (us ++ escape c ∷ []))) (Err (bad_escape (spelled ps ++ 34 ∷ parts_chars us))))
+step_read_escape : (o : Option ℕ) (file : ℕ) (ps : List Lexeme) (us : List StringPart) (c : ℕ) → escaped c ≡ o → hold_escape (tokens_of file ps) (encode_utf8_all (content us)) (size (spelled ps)) (size (spelled ps ++ 34 ∷ parts_chars us)) o ≡ view_scan file (cond (is_some o) (scan ps (in_string (us ++ escape c ∷ []))) (Err (bad_escape (spelled ps ++ 34 ∷ parts_chars us))))
 step_read_escape (Some d) file ps us c e = ap (λ (text : List ℕ). held (tokens_of file ps) text (InString (size (spelled ps)))) (sym (content_encoded us (escape c) d (ap escape_content e)))
 step_read_escape None file ps us c e = refl
 
-step_backslash : (x : Bool) (file n : ℕ) (ps : List Piece) (us : List StringPart) (c : ℕ) → (c == 92) ≡ x → n ≡ size (spelled ps ++ 34 ∷ parts_chars us) → hold_inner n (tokens_of file ps) (encode_utf8_all (content us)) (InString (size (spelled ps))) c ≡ view_scan file (take_inner ps (in_string us) c)
+step_backslash : (x : Bool) (file n : ℕ) (ps : List Lexeme) (us : List StringPart) (c : ℕ) → (c == 92) ≡ x → n ≡ size (spelled ps ++ 34 ∷ parts_chars us) → hold_inner n (tokens_of file ps) (encode_utf8_all (content us)) (InString (size (spelled ps))) c ≡ view_scan file (take_inner ps (in_string us) c)
 step_backslash true file n ps us c e h = rw (e, h) refl
 step_backslash false file n ps us c e h = rw e (ap (λ (text : List ℕ). held (tokens_of file ps) text (InString (size (spelled ps)))) (sym (content_encoded us (itself c) c refl)))
 
 -- behind another character
-step_inner : (file n : ℕ) (ps : List Piece) (m : Pending) (c : ℕ) → n ≡ size (spelled ps ++ pending_chars m) → hold_inner n (tokens_of file ps) (pending_text m) (pending_mode (spelled ps) m) c ≡ view_scan file (take_inner ps m c)
+step_inner : (file n : ℕ) (ps : List Lexeme) (m : Pending) (c : ℕ) → n ≡ size (spelled ps ++ pending_chars m) → hold_inner n (tokens_of file ps) (pending_text m) (pending_mode (spelled ps) m) c ≡ view_scan file (take_inner ps m c)
 step_inner file n ps between c e = ap (λ (text : List ℕ). held (tokens_of file ps) text InPlain) (sym (encode_one c))
 step_inner file n ps (in_plain d cs) c e = ap (λ (text : List ℕ). held (tokens_of file ps) text InPlain) (sym (encode_more (d ∷ cs) c))
 step_inner file n ps (in_comment cs) c e = refl
@@ -169,17 +169,17 @@ step_inner file n ps (in_string us) c e = step_backslash (c == 92) file n ps us 
 step_inner file n ps (in_escape us) c e = step_read_escape (escaped c) file ps us c refl
 step_inner file n ps (closed us) c e = rw e refl
 
-step_by : (x y : Bool) (file n : ℕ) (ps : List Piece) (m : Pending) (c : ℕ) → n ≡ size (spelled ps ++ pending_chars m) → cond x (hold_white file (tokens_of file ps) (pending_text m) (pending_mode (spelled ps) m) c) (cond y (hold_quote n (tokens_of file ps) (pending_text m) (pending_mode (spelled ps) m)) (hold_inner n (tokens_of file ps) (pending_text m) (pending_mode (spelled ps) m) c)) ≡ view_scan file (cond x (take_white ps m c) (cond y (take_quote ps m) (take_inner ps m c)))
+step_by : (x y : Bool) (file n : ℕ) (ps : List Lexeme) (m : Pending) (c : ℕ) → n ≡ size (spelled ps ++ pending_chars m) → cond x (hold_white file (tokens_of file ps) (pending_text m) (pending_mode (spelled ps) m) c) (cond y (hold_quote n (tokens_of file ps) (pending_text m) (pending_mode (spelled ps) m)) (hold_inner n (tokens_of file ps) (pending_text m) (pending_mode (spelled ps) m) c)) ≡ view_scan file (cond x (take_white ps m c) (cond y (take_quote ps m) (take_inner ps m c)))
 step_by true y file n ps m c e = step_white file ps m c
 step_by false true file n ps m c e = step_quote file n ps m e
 step_by false false file n ps m c e = step_inner file n ps m c e
 
-last_plain : (x : Bool) (file : ℕ) (ps : List Piece) (d : ℕ) (cs : List ℕ) → is_bang (d ∷ cs) ≡ x → hold_end file (tokens_of file ps) (encode_utf8_all (d ∷ cs)) InPlain ≡ view_end file (at_end ps (in_plain d cs))
+last_plain : (x : Bool) (file : ℕ) (ps : List Lexeme) (d : ℕ) (cs : List ℕ) → is_bang (d ∷ cs) ≡ x → hold_end file (tokens_of file ps) (encode_utf8_all (d ∷ cs)) InPlain ≡ view_end file (at_end ps (in_plain d cs))
 last_plain true file ps d cs e = rw (bang_test (d ∷ cs), e) (ap listed (sym (none_more file ps (comment [] ∷ []) refl)))
 last_plain false file ps d cs e = rw (bang_test (d ∷ cs), e) (ap listed (sym (one_more file ps (plain (d ∷ cs) ∷ []) (Plain (encode_utf8_all (d ∷ cs))) refl)))
 
 -- at the end
-last_step : (file : ℕ) (ps : List Piece) (m : Pending) → hold_end file (tokens_of file ps) (pending_text m) (pending_mode (spelled ps) m) ≡ view_end file (at_end ps m)
+last_step : (file : ℕ) (ps : List Lexeme) (m : Pending) → hold_end file (tokens_of file ps) (pending_text m) (pending_mode (spelled ps) m) ≡ view_end file (at_end ps m)
 last_step file ps between = refl
 last_step file ps (in_plain d cs) = last_plain (is_bang (d ∷ cs)) file ps d cs refl
 last_step file ps (in_comment cs) = ap listed (sym (none_more file ps (comment cs ∷ []) refl))
@@ -198,14 +198,14 @@ steps_seen : (file n : ℕ) (r : Result Scan Fault) (done cs : List ℕ) → Kno
 steps_seen file n (Err f) done cs k e = refl
 steps_seen file n (Ok s) done [] k e = last_step file s.done s.pending
 steps_seen file n (Ok s) done (c ∷ cs) k e =
-    let known : Known ((spelled s.done ++ pending_chars s.pending) ++ c ∷ []) (take_char s c) = take_known (is_white c) (c == 34) s.done s.pending c refl refl k.0.pieces_fit k.0.pending_fits in
+    let known : Known ((spelled s.done ++ pending_chars s.pending) ++ c ∷ []) (take_char s c) = take_known (is_white c) (c == 34) s.done s.pending c refl refl k.0.lexemes_fit k.0.pending_fits in
     let here : n ≡ size (scan_chars s) = e ∙ ap size (sym k.1) in
     ap (λ (r : Result Held TokenFault). hold_from file (n + len_utf8 c) r cs) (step_by (is_white c) (c == 34) file n s.done s.pending c here) ∙ steps_seen file (n + len_utf8 c) (take_char s c) (scan_chars s ++ c ∷ []) cs known (size-more n c (scan_chars s) here)
 
-pub seen_whole : (file : ℕ) (cs : List ℕ) → hold_from file 0 (held [] [] Between) cs ≡ view_end file (pieces cs)
-seen_whole file cs = steps_seen file 0 (scan [] between) [] cs (record { pieces_fit = λ next. refl; pending_fits = tt }, refl) refl
+pub seen_whole : (file : ℕ) (cs : List ℕ) → hold_from file 0 (held [] [] Between) cs ≡ view_end file (lexemes cs)
+seen_whole file cs = steps_seen file 0 (scan [] between) [] cs (record { lexemes_fit = λ next. refl; pending_fits = tt }, refl) refl
 
-tokenizes_by : (file : ℕ) (bytes chars : List ℕ) (r : Result (List Piece) Fault) (t : Result (List Token) TokenFault) → Spells chars bytes → Answers chars r → Ends (view_end file r) t → Tokenizes file bytes t
+tokenizes_by : (file : ℕ) (bytes chars : List ℕ) (r : Result (List Lexeme) Fault) (t : Result (List Token) TokenFault) → Spells chars bytes → Answers chars r → Ends (view_end file r) t → Tokenizes file bytes t
 tokenizes_by file bytes chars (Ok ps) (Ok ts) s a e = record { chars = chars; ps = ps; spells = s; reading = a; are = cc }
 tokenizes_by file bytes chars (Ok ps) (Err (NotUtf8 at)) s a e = cc
 tokenizes_by file bytes chars (Ok ps) (Err (OpenString at)) s a e = cc
@@ -228,7 +228,7 @@ tokenizes_by file bytes chars (Err (stuck_quote b)) (Err (StuckQuote at)) s a e 
 
 -- the steps' answer is the file's
 pub tokenizes : (file : ℕ) (bytes chars : List ℕ) (t : Result (List Token) TokenFault) → Spells chars bytes → Ends (hold_from file 0 (held [] [] Between) chars) t → Tokenizes file bytes t
-tokenizes file bytes chars t s e = tokenizes_by file bytes chars (pieces chars) t s (pieces_known chars) (subst (λ (r : Result (List Token) TokenFault). Ends r t) (seen_whole file chars) e)
+tokenizes file bytes chars t s e = tokenizes_by file bytes chars (lexemes chars) t s (lexemes_known chars) (subst (λ (r : Result (List Token) TokenFault). Ends r t) (seen_whole file chars) e)
 
 spells_chars : (bs : List ℕ) → IsUtf8 bs → Spells (chars bs) bs
 spells_chars bs u = record { scalars = scalars-chars bs u; encoded = encodes-chars bs u }

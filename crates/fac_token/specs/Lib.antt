@@ -1,4 +1,4 @@
-pub mod Pieces
+pub mod Lexemes
 pub mod Tokens
 pub mod ReadingLaws
 pub mod inner

@@ -4,16 +4,16 @@ use Rattle.fac_lang.specs.declared.token.Token.{Token}
 use Rattle.fac_token.specs.declared.fault.TokenFault.{TokenFault}
 use Rattle.fac_token.specs.declared.fault.TokenFault.TheVariants.{Memory}
 use Rattle.fac_token.specs.Tokens.{Tokenizes}
-use Rattle.fac_token.specs.Pieces.{Piece, Reading, Fault, FirstFault}
+use Rattle.fac_token.specs.Lexemes.{Lexeme, Reading, Fault, FirstFault}
 
 abbrev pub ReadOrFaulty : Type 0
-ReadOrFaulty = (chars : List ℕ) → ((ps : List Piece) × Reading chars ps) ⊎ ((f : Fault) × FirstFault chars f)
+ReadOrFaulty = (chars : List ℕ) → ((ps : List Lexeme) × Reading chars ps) ⊎ ((f : Fault) × FirstFault chars f)
 
 abbrev pub NotBoth : Type 0
-NotBoth = (chars : List ℕ) (ps : List Piece) (f : Fault) → Reading chars ps → FirstFault chars f → ⊥
+NotBoth = (chars : List ℕ) (ps : List Lexeme) (f : Fault) → Reading chars ps → FirstFault chars f → ⊥
 
 abbrev pub OneReading : Type 0
-OneReading = (chars : List ℕ) (ps qs : List Piece) → Reading chars ps → Reading chars qs → ps ≡ qs
+OneReading = (chars : List ℕ) (ps qs : List Lexeme) → Reading chars ps → Reading chars qs → ps ≡ qs
 
 abbrev pub OneFirstFault : Type 0
 OneFirstFault = (chars : List ℕ) (f g : Fault) → FirstFault chars f → FirstFault chars g → f ≡ g

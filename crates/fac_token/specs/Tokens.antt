@@ -1,4 +1,4 @@
--- The tokens of a file: those of the pieces of its characters.
+-- The tokens of a file: those of the lexemes of its characters.
 use Rattle.std.specs.Prelude.{◌≡◌, ℕ, ◌+◌, List, [], ◌∷◌, ◌++◌, length, true, Option, Some, None, Result, Ok, Err}
 use Rattle.std.specs.Str.{encode_utf8_all, all_scalars, IsUtf8, IsValidUpTo}
 use Rattle.fac_lang.specs.declared.token.Token.{Token}
@@ -6,7 +6,7 @@ use Rattle.fac_lang.specs.declared.token.TokKind.{TokKind}
 use Rattle.fac_lang.specs.declared.token.TokKind.TheVariants.{Plain, Str}
 use Rattle.fac_token.specs.declared.fault.TokenFault.{TokenFault}
 use Rattle.fac_token.specs.declared.fault.TokenFault.TheVariants.{NotUtf8, OpenString, BadEscape, StuckQuote, Memory}
-use Rattle.fac_token.specs.Pieces.{escaped, StringPart, itself, escape, Piece, white, comment, plain, string, Reading, Fault, open_string, bad_escape, stuck_quote, FirstFault}
+use Rattle.fac_token.specs.Lexemes.{escaped, StringPart, itself, escape, Lexeme, white, comment, plain, string, Reading, Fault, open_string, bad_escape, stuck_quote, FirstFault}
 
 abbrev pub escape_content : Option ℕ → List ℕ
 escape_content (Some c) = c ∷ []
@@ -21,8 +21,8 @@ abbrev pub content : List StringPart → List ℕ
 content [] = []
 content (p ∷ ps) = part_content p ++ content ps
 
--- the tokens of pieces
-abbrev pub kinds : List Piece → List TokKind
+-- the tokens of lexemes
+abbrev pub kinds : List Lexeme → List TokKind
 kinds [] = []
 kinds (white c ∷ ps) = kinds ps
 kinds (comment cs ∷ ps) = kinds ps
@@ -45,7 +45,7 @@ pub record Spells (chars bytes : List ℕ) : Type 0 where
 -- the tokens of a reading
 pub record HasTokens (file : ℕ) (bytes : List ℕ) (tokens : List Token) : Type 0 where
   pub chars : List ℕ
-  pub ps : List Piece
+  pub ps : List Lexeme
   pub spells : Spells chars bytes
   pub reading : Reading chars ps
   pub are : tokens ≡ numbered file 1 (kinds ps)

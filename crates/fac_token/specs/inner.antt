@@ -1,3 +1,3 @@
 -- What only the contracts of inner functions cite.
 pub mod Scan
-pub mod Steps
+pub mod TokenSteps

@@ -1,7 +1,7 @@
 //! Laws of readings and answers, each on the contract of a function that does nothing.
 ghost use Rattle.fac_token.specs.ReadingLaws.{ReadOrFaulty, NotBoth, OneReading, OneFirstFault, OneAnswer, EveryFileAnswers};
 
-/// Every text has a reading, as pieces that spell it, or a first fault.
+/// Every text has a reading, as lexemes that spell it, or a first fault.
 pub fn every_text_is_read_or_faulty()
     ensures { ReadOrFaulty }
 {}

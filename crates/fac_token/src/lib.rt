@@ -2,8 +2,8 @@
 //! other characters, except that one that begins with a quote is a string and ends at its closing quote. A token that is exactly `!`
 //! begins a comment, which runs to the next line break or the end.
 //!
-//! `specs/Pieces.antt` defines it on the whole text: pieces that are white space, comments, plain tokens and strings, one after the
-//! other, which spell the text. So each byte belongs to exactly one piece. `specs/Tokens.antt` says what `tokens` answers.
+//! `specs/Lexemes.antt` defines it on the whole text: lexemes that are white space, comments, plain tokens and strings, one after the
+//! other, which spell the text. So each byte belongs to exactly one lexeme. `specs/Tokens.antt` says what `tokens` answers.
 #![tactic(auto)]
 
 mod fault;

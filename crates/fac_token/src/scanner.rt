@@ -2,9 +2,9 @@
 ghost use Rattle.std.specs.Prelude.{◌≡◌, ◌++◌, ◌∷◌, ◌+◌, [], List as Items, string_bytes, OnOk};
 ghost use Rattle.std.specs.Char.{encode_utf8};
 ghost use Rattle.std.specs.Str.{chars};
-ghost use Rattle.fac_token.specs.Pieces.{is_white, escaped};
+ghost use Rattle.fac_token.specs.Lexemes.{is_white, escaped};
 ghost use Rattle.fac_token.specs.Tokens.{Tokenizes};
-ghost use Rattle.fac_token.specs.inner.Steps.{with_token, hold_plain_end, hold_white, hold_quote, hold_inner, hold_char, hold_end, hold_from, held, Holds, Ends};
+ghost use Rattle.fac_token.specs.inner.TokenSteps.{with_token, hold_plain_end, hold_white, hold_quote, hold_inner, hold_char, hold_end, hold_from, held, Holds, Ends};
 
 use crate::TokenFault;
 use fac_lang::{List, Memory, Place, Text, TokKind, Token};

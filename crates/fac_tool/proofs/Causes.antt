@@ -4,7 +4,7 @@ use Rattle.std.specs.declared.option.Option.{Option}
 use Rattle.fac_io.specs.Faults.{Rose}
 use Rattle.fac_tool.specs.declared.command.Command.{Command}
 use Rattle.fac_tool.specs.declared.ended.Ended.{Ended}
-use Rattle.fac_tool.specs.Seen.{SinkSeen, FilesSeen}
+use Rattle.fac_tool.specs.SeenObjects.{SinkSeen, FilesSeen}
 use Rattle.fac_tool.specs.Command.{name_of}
 use Rattle.fac_tool.specs.Answer.{answer_on, accepted}
 use Rattle.fac_tool.specs.Ends.{ending_of, EndsBy, work_of}

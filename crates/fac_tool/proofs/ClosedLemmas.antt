@@ -7,7 +7,7 @@ use Rattle.fac_lang.specs.declared.phrase.Height.{Height}
 use Rattle.fac_lang.specs.declared.phrase.Template.{Template}
 use Rattle.fac_lang.specs.declared.program.Program.{Program}
 use Rattle.fac_lang.specs.declared.program.WordDef.{WordDef}
-use Rattle.fac_lang.specs.Texts.{Callable}
+use Rattle.fac_lang.specs.Phrases.{Callable}
 use Rattle.fac_lang.specs.Meaning.{start}
 use Rattle.fac_lang.specs.Forms.{IsBuilt}
 use Rattle.fac_locals.specs.Closed.{Closes, CloseWords}
@@ -15,7 +15,7 @@ use Rattle.fac_locals.specs.declared.closing.Closed.{Closed}
 use Rattle.fac_check.specs.CallableEffects.{callable_height, fits}
 use Rattle.fac_check.specs.Checks.{IsKept}
 use Rattle.fac_check.specs.Judged.{refusal_seen}
-use Rattle.fac_check.specs.declared.rule.Refusal.{Refusal}
+use Rattle.fac_check.specs.declared.refusal.Refusal.{Refusal}
 use Rattle.fac_check.specs.Promises.{IsSafe, SafeAreNotStuck}
 use Rattle.fac_code.specs.declared.image.Image.{Image}
 use Rattle.fac_emit.specs.Carries.{Carries}

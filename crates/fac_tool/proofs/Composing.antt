@@ -24,7 +24,7 @@ use Rattle.fac_tool.specs.declared.ended.Ended.{Ended}
 use Rattle.fac_tool.specs.Answer.{no_tokens, no_tree, tree, accepted, answer_on, run_answer, on_accepted, on_resolved, on_verdict}
 use Rattle.fac_tool.specs.Sources.{token_fault, IsReadAs, EverySource}
 use Rattle.fac_io.specs.Told.{SinkTold}
-use Rattle.fac_tool.specs.Seen.{SinkSeen, FilesSeen}
+use Rattle.fac_tool.specs.SeenObjects.{SinkSeen, FilesSeen}
 use Rattle.fac_tool.specs.Ends.{EndsAs, runs, work_of}
 use Rattle.fac_tool.specs.inner.Stops.{StandsForSafe}
 use Rattle.fac_tool.specs.Answers.{NoText, LoadGives, Loaded, ReachesBy}

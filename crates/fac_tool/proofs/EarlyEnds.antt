@@ -9,7 +9,7 @@ use Rattle.fac_notes.specs.declared.report.Report.{Report}
 use Rattle.fac_notes.specs.Statuses.{status_of}
 use Rattle.fac_tool.specs.declared.ended.Ended.{Ended}
 use Rattle.fac_tool.specs.Answer.{Answer, refused, meaning}
-use Rattle.fac_tool.specs.Seen.{SinkSeen}
+use Rattle.fac_tool.specs.SeenObjects.{SinkSeen}
 use Rattle.fac_tool.specs.Ends.{Ending, Told, ending_of, EndsBy, EndsAs, Work, idle, runs, run_output, StopsWithin, CutShort, RunPieces, OutputInPieces}
 use Rattle.fac_tool.specs.inner.StepEnds.{bare, reported, still, EndsEarly}
 

@@ -7,30 +7,30 @@ use Rattle.std.specs.Option.{option_map}
 use Rattle.std.specs.declared.option.Option.{Option}
 use Rattle.fac_lang.specs.declared.memory.Memory.{Memory}
 use Rattle.fac_lang.specs.declared.program.Program.{Program}
-use Rattle.fac_lang.specs.Texts.{Value}
+use Rattle.fac_lang.specs.Phrases.{Value}
 use Rattle.fac_lang.specs.World.{World, Error}
 use Rattle.fac_lang.specs.Printed.{Names, printed}
 use Rattle.fac_lang.specs.Eval.{Done, Failed, Spent}
-use Rattle.fac_prim.specs.Cells.{MValue, MCallable, cells}
-use Rattle.fac_prim.specs.Trees.{value_in, values_in}
+use Rattle.fac_prim.specs.MachineValues.{MValue, MCallable, machine_values}
+use Rattle.fac_prim.specs.ValueTrees.{value_in, values_in}
 use Rattle.fac_prim.specs.declared.value.Value.{Value as MachineValue}
 use Rattle.fac_prim.specs.declared.value.Value.TheVariants.{Int, True, False, Callable}
 use Rattle.fac_vm.specs.declared.machine.RunError.{RunError}
 use Rattle.fac_vm.specs.declared.machine.StopKind.TheVariants as stop
 use Rattle.fac_vm.specs.Machine.{empty_world}
 use Rattle.fac_vm.specs.Runs.{error_of}
-use Rattle.fac_emit.specs.View.{template_texts, value_view, values_view, error_view, option_view}
+use Rattle.fac_emit.specs.MachineView.{template_phrases, value_view, values_view, error_view, option_view}
 use Rattle.fac_notes.specs.declared.report.Report.{Report}
 use Rattle.fac_notes.specs.declared.report.Report.TheVariants as report
 use Rattle.fac_tool.specs.declared.ended.Ended.{Ended}
 use Rattle.fac_tool.specs.Answer.{Answer, of_run, run_answer, shown, error_report}
-use Rattle.fac_tool.specs.Seen.{SinkSeen}
+use Rattle.fac_tool.specs.SeenObjects.{SinkSeen}
 use Rattle.fac_tool.specs.inner.Stops.{StopsAs, SameNames, value_form, value_text, machine_report}
 use Rattle.fac_tool.specs.Ends.{Matches}
 
 -- the printed form of a value of the machine, whatever the callables are
 abbrev Prints : MachineValue → List ℕ → Type 0
-Prints v text = (N : Names) (T : List MCallable) (w : World MValue) → text ≡ printed cells N w (value_in T v)
+Prints v text = (N : Names) (T : List MCallable) (w : World MValue) → text ≡ printed machine_values N w (value_in T v)
 
 no_names : Names
 no_names = record { word_name = λ w. []; kind_name = λ k. []; kind_slots = λ k. []; word_kind = λ w. 0; tuple_class = λ w. None }
@@ -46,13 +46,13 @@ if_form v (Ok text) h = form_is v text h
 if_form v (Err e) h = tt
 
 -- the text of a value of the machine is that of the value in the meaning
-text_same : (P : Program) (T : List MCallable) (w : World Value) (v : MachineValue) → shown P w (value_view (template_texts P) (value_in T v)) ≡ value_text v
+text_same : (P : Program) (T : List MCallable) (w : World Value) (v : MachineValue) → shown P w (value_view (template_phrases P) (value_in T v)) ≡ value_text v
 text_same P T w (Int z) = refl
 text_same P T w True = refl
 text_same P T w False = refl
 text_same P T w (Callable k) = refl
 
-texts_same : (P : Program) (T : List MCallable) (w : World Value) (vs : List MachineValue) → map (shown P w) (values_view (template_texts P) (values_in T vs)) ≡ map value_text vs
+texts_same : (P : Program) (T : List MCallable) (w : World Value) (vs : List MachineValue) → map (shown P w) (values_view (template_phrases P) (values_in T vs)) ≡ map value_text vs
 texts_same P T w [] = refl
 texts_same P T w (v ∷ vs) = rw (text_same P T w v, texts_same P T w vs) refl
 
@@ -62,9 +62,9 @@ reverse_map f (x ∷ xs) = rw (reverse-cons, reverse_map f xs, reverse-cons, map
 
 stack_texts :
     (P : Program) (T : List MCallable) (w : World Value) (values : List MachineValue) (stack : List MValue) (meant : List Value) →
-    values_in T (reverse values) ≡ stack → meant ≡ values_view (template_texts P) stack → map (shown P w) (reverse meant) ≡ map value_text values
+    values_in T (reverse values) ≡ stack → meant ≡ values_view (template_phrases P) stack → map (shown P w) (reverse meant) ≡ map value_text values
 stack_texts P T w values stack meant e m =
-    let view = value_view (template_texts P) in
+    let view = value_view (template_phrases P) in
     let upside : reverse stack ≡ values_in T values = ap reverse (sym e) ∙ reverse_map (value_in T) (reverse values) ∙ ap (map (value_in T)) (reverse-reverse values) in
     let reversed : reverse meant ≡ map view (values_in T values) = ap reverse m ∙ reverse_map view stack ∙ ap (map view) upside in
     ap (map (shown P w)) reversed ∙ texts_same P T w values
@@ -86,11 +86,11 @@ done_matches P budget T values stack ticks out texts e t h =
     record { status = refl; ticks = h.3; stack = ap Some (t ∙ sym (stack_texts P T h.0.world values stack h.0.stack e h.5)); refusal = refl; output = h.4 } in
     subst (λ (a : Answer). Matches a out (done_with ticks texts)) (sym answer) matches
 
-value_same : (P : Program) (T : List MCallable) (w : World Value) (v : Option MachineValue) → option_map (shown P w) (option_view (template_texts P) (option_map (value_in T) v)) ≡ option_map value_text v
+value_same : (P : Program) (T : List MCallable) (w : World Value) (v : Option MachineValue) → option_map (shown P w) (option_view (template_phrases P) (option_map (value_in T) v)) ≡ option_map value_text v
 value_same P T w None = refl
 value_same P T w (Some v) = ap Some (text_same P T w v)
 
-report_same : (P C : Program) (T : List MCallable) (w : World Value) (x : Error Value) (e : RunError) → SameNames P C → x ≡ error_view (template_texts P) (error_of T e) → error_report P w x ≡ machine_report C e
+report_same : (P C : Program) (T : List MCallable) (w : World Value) (x : Error Value) (e : RunError) → SameNames P C → x ≡ error_view (template_phrases P) (error_of T e) → error_report P w x ≡ machine_report C e
 report_same P C T w x e named same = rw (same, value_same, named e.word) refl
 
 pub failed_matches :

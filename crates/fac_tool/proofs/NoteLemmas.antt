@@ -3,7 +3,7 @@ use Rattle.std.proofs.Common.{◌≡◌, ◌<◌, ℕ, List, [], ◌∷◌, inr,
 use Rattle.std.specs.Prelude.{length}
 use Rattle.fac_io.specs.Told.{SinkTold, TookWhole}
 use Rattle.fac_tool.specs.declared.ended.Ended.{Ended}
-use Rattle.fac_tool.specs.Seen.{SinkSeen}
+use Rattle.fac_tool.specs.SeenObjects.{SinkSeen}
 use Rattle.fac_tool.specs.ToldNotes.{memory_note}
 use Rattle.fac_tool.specs.Answers.{TellsBy, TellsNote, unnoted}
 use Rattle.fac_tool.proofs.EarlyEnds.{grows_nothing}

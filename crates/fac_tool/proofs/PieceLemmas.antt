@@ -11,16 +11,16 @@ use Rattle.fac_lang.specs.declared.program.Program.{Program}
 use Rattle.fac_lang.specs.Printed.{Names}
 use Rattle.fac_lang.specs.Meaning.{names}
 use Rattle.fac_code.specs.declared.image.Image.{Image}
-use Rattle.fac_prim.specs.Cells.{MCallable}
-use Rattle.fac_prim.specs.Trees.{values_in}
+use Rattle.fac_prim.specs.MachineValues.{MCallable}
+use Rattle.fac_prim.specs.ValueTrees.{values_in}
 use Rattle.fac_prim.specs.declared.value.Value.{Value as MachineValue}
 use Rattle.fac_vm.specs.declared.machine.StopKind.{StopKind}
 use Rattle.fac_vm.specs.declared.machine.StopKind.TheVariants as stop
-use Rattle.fac_vm.specs.Laws.{RunsHaveOneEnd}
+use Rattle.fac_vm.specs.MachineLaws.{RunsHaveOneEnd}
 use Rattle.fac_vm.specs.Machine.{Machine, End, spent, Step, goes_on, ends, step, stepped, steps, Leads, Ends, Writes, w_none, w_silent, w_piece, starting}
 use Rattle.fac_vm.specs.Runs.{InPieces as InMachinePieces, end_world}
 use Rattle.fac_tool.specs.Answer.{meaning}
-use Rattle.fac_tool.specs.Seen.{SinkSeen}
+use Rattle.fac_tool.specs.SeenObjects.{SinkSeen}
 use Rattle.fac_tool.specs.Ends.{run_output, tick_output, pieces_in, RunPieces}
 use Rattle.fac_tool.specs.inner.Stops.{Carried, TakesPieces}
 use Rattle.fac_tool.proofs.StepTicks.{StepsAt, GoesAt, step_at}

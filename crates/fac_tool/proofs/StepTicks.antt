@@ -11,7 +11,7 @@ use Rattle.fac_code.specs.declared.image.WordRow.{WordRow}
 use Rattle.fac_code.specs.declared.image.TemplateRow.{TemplateRow}
 use Rattle.fac_code.specs.declared.image.Instr.TheVariants.{Halt, Int, True, False, Quot, Prim as prim, Callw, Call, Dip, If, Ret}
 use Rattle.fac_code.specs.declared.names.TrapWhy.TheVariants.{Kind as t_kind, Frame as t_frame}
-use Rattle.fac_prim.specs.Cells.{MValue, m_plain, m_fun, MCallable, m_lit, m_cur, m_com, Kept, kept_list, keep_list, m_seen, cells, cells_at}
+use Rattle.fac_prim.specs.MachineValues.{MValue, m_plain, m_fun, MCallable, m_lit, m_cur, m_com, Kept, kept_list, keep_list, m_seen, machine_values, cells_at}
 use Rattle.fac_vm.specs.Machine.{Entry, resume, put_back, enter, Machine, spent, Step, goes_on, ends, after, push, waiting, paying, popping1, popping2, popping3}
 use Rattle.fac_vm.specs.Machine.{given, does, word_of_prim, or_trap, code_of, leaving, going, want_callable, branch, entering, returning, makes, does_instr, fetched, step}
 use Rattle.fac_vm.specs.Runs.{end_world}
@@ -123,9 +123,9 @@ module _ (M : Image) (N : Names) where
   does_at a (fn2 f) s out n = two_at a (λ x y t. f x y t.world) s.stack s out n
   does_at a (fn3 f) s out n = three_at a (λ x y z t. f x y z t.world) s.stack s out n
 
-  prim_at : (a : ℕ) (o : Option Primitive) (s : Machine) (out : List ℕ) (n : ℕ) → Ticks ⊥ (λ n. or_trap o t_kind s n (λ q. does a (prim_fn cells N q) s n (λ t. goes_on (after t) n))) out n
+  prim_at : (a : ℕ) (o : Option Primitive) (s : Machine) (out : List ℕ) (n : ℕ) → Ticks ⊥ (λ n. or_trap o t_kind s n (λ q. does a (prim_fn machine_values N q) s n (λ t. goes_on (after t) n))) out n
   prim_at a None s out n = λ c none. absurd c
-  prim_at a (Some q) s out n = does_at a (prim_fn cells N q) s out n
+  prim_at a (Some q) s out n = does_at a (prim_fn machine_values N q) s out n
 
   code_at : (o : Option ℕ) (s : Machine) (out : List ℕ) (n : ℕ) → Ticks ⊥ (λ n. or_trap o t_kind s n (λ a. goes_on (going a [] s) n)) out n
   code_at None s out n = λ c none. absurd c

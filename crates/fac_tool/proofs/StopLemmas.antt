@@ -3,31 +3,31 @@ use Rattle.std.proofs.Common.{◌≡◌, ◌+◌, ◌-◌, ◌≤◌, ℕ, List,
 use Rattle.std.specs.declared.option.Option.{Option}
 use Rattle.fac_io.specs.Told.{Grows, GrowsByPrefix}
 use Rattle.fac_lang.specs.declared.program.Program.{Program}
-use Rattle.fac_lang.specs.Texts.{Item, Value}
+use Rattle.fac_lang.specs.Phrases.{Item, Value}
 use Rattle.fac_lang.specs.World.{World, State}
 use Rattle.fac_lang.specs.Eval.{Result, Done, Failed, Spent, Stuck}
 use Rattle.fac_lang.specs.Meaning.{names}
 use Rattle.fac_code.specs.declared.image.Image.{Image}
 use Rattle.fac_code.specs.declared.names.TrapWhy.{TrapWhy}
-use Rattle.fac_prim.specs.Cells.{MValue, MCallable}
-use Rattle.fac_prim.specs.Trees.{values_in}
+use Rattle.fac_prim.specs.MachineValues.{MValue, MCallable}
+use Rattle.fac_prim.specs.ValueTrees.{values_in}
 use Rattle.fac_prim.specs.declared.value.Value.{Value as MachineValue}
 use Rattle.fac_vm.specs.declared.machine.RunError.{RunError}
 use Rattle.fac_vm.specs.declared.machine.StopKind.{StopKind}
 use Rattle.fac_vm.specs.declared.machine.StopKind.TheVariants as stop
 use Rattle.fac_vm.specs.Machine.{Machine, End, done, failed, spent, trap, Ends, starting}
 use Rattle.fac_vm.specs.Runs.{Runs, Reaches, GrowsBeyond, end_world, error_of}
-use Rattle.fac_vm.specs.Laws.{RunsHaveOneEnd}
+use Rattle.fac_vm.specs.MachineLaws.{RunsHaveOneEnd}
 use Rattle.fac_emit.specs.Carries.{SameEnd}
-use Rattle.fac_emit.specs.View.{template_texts, values_view}
+use Rattle.fac_emit.specs.MachineView.{template_phrases, values_view}
 use Rattle.fac_tool.specs.Answer.{meaning}
-use Rattle.fac_tool.specs.Seen.{SinkSeen}
+use Rattle.fac_tool.specs.SeenObjects.{SinkSeen}
 use Rattle.fac_tool.specs.Ends.{run_output, StopsWithin}
 use Rattle.fac_tool.specs.inner.Stops.{StopsAs, Carried}
 
--- the same end, with the texts of this program's templates
+-- the same end, with the phrases of this program's templates
 abbrev pub EndsSame : Program → Result → End → Type 0
-EndsSame P r e = SameEnd (template_texts P) r e
+EndsSame P r e = SameEnd (template_phrases P) r e
 
 -- the end of the meaning is that of the machine
 pub same_end : RunsHaveOneEnd → (P : Program) (M : Image) (n : ℕ) → Carried P M → (e : End) → Ends M (names P) (starting M []) n e → EndsSame P (meaning P n) e
@@ -42,8 +42,8 @@ done_is :
     meaning P budget ≡ r → EndsSame P r (done s left) → ticks + left ≡ budget → Grows out.before.taken out.now.taken s.world.output → new ≡ s.stack → StopsAs P budget T new ticks out stop.Done
 done_is P budget T (Done st m) s left ticks new out e same total grows stack =
     let output : s.world.output ≡ st.world.output = ap (λ (st : State Value). st.world.output) same.0 in
-    let values : values_view (template_texts P) s.stack ≡ st.stack = ap (λ (st : State Value). st.stack) same.0 in
-    (st, m, e, rw (← same.1) (left_is ticks left budget total), rw output at grows, sym values ∙ ap (values_view (template_texts P)) (sym stack))
+    let values : values_view (template_phrases P) s.stack ≡ st.stack = ap (λ (st : State Value). st.stack) same.0 in
+    (st, m, e, rw (← same.1) (left_is ticks left budget total), rw output at grows, sym values ∙ ap (values_view (template_phrases P)) (sym stack))
 done_is P budget T (Failed x st m) s left ticks new out e same total grows stack = absurd same
 done_is P budget T (Spent st i) s left ticks new out e same total grows stack = absurd same
 done_is P budget T Stuck s left ticks new out e same total grows stack = absurd same

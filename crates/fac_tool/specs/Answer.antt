@@ -5,11 +5,11 @@ use Rattle.std.specs.Option.{option_map}
 use Rattle.fac_lang.specs.declared.limits.TheConstants.{MOST_SOURCE_BYTES}
 use Rattle.fac_lang.specs.declared.program.Program.{Program}
 use Rattle.fac_lang.specs.declared.tree.Form.{Form}
-use Rattle.fac_lang.specs.Texts.{Value}
+use Rattle.fac_lang.specs.Phrases.{Value}
 use Rattle.fac_lang.specs.World.{World, Error}
 use Rattle.fac_lang.specs.Printed.{printed}
 use Rattle.fac_lang.specs.Eval.{Result as Run, Done, Failed, Spent, Stuck}
-use Rattle.fac_lang.specs.Meaning.{texts, names, run, start, word_text}
+use Rattle.fac_lang.specs.Meaning.{meaning_values, names, run, start, word_phrase}
 use Rattle.fac_parse.specs.declared.reader.Why.{Why}
 use Rattle.fac_parse.specs.declared.resolver.NameFault.{NameFault}
 use Rattle.fac_parse.specs.Resolution.{resolved}
@@ -49,14 +49,14 @@ refused why = record { status = status_of why; ticks = 0; stack = None; refusal 
 
 -- a run of the top-level phrase with so many ticks, where callables are tested by the effects that the checker finds
 abbrev pub meaning : Program → ℕ → Run
-meaning P n = run P fits (callable_height P) n (word_text P P.top) (start P [])
+meaning P n = run P fits (callable_height P) n (word_phrase P P.top) (start P [])
 
 -- a printed form, or three dots where it has more than 1,000 bytes
 abbrev pub shown_text : List ℕ → List ℕ
 shown_text text = (if nat_le (length text) 1000 then text else codes "...")
 
 abbrev pub shown : Program → World Value → Value → List ℕ
-shown P w v = shown_text (printed texts (names P) w v)
+shown P w v = shown_text (printed meaning_values (names P) w v)
 
 abbrev pub error_report : Program → World Value → Error Value → Report
 error_report P w e = report.Error e.name (word_name P e.word) (option_map (shown P w) e.value)

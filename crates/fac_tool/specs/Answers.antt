@@ -12,7 +12,7 @@ use Rattle.fac_tool.specs.Command.{command_of, name_of}
 use Rattle.fac_tool.specs.Answer.{Source, answer_on, limit, accepted}
 use Rattle.fac_tool.specs.Sources.{IsReadAs}
 use Rattle.fac_tool.specs.ToldNotes.{note_of, memory_note, usage_note}
-use Rattle.fac_tool.specs.Seen.{SinkSeen, FilesSeen}
+use Rattle.fac_tool.specs.SeenObjects.{SinkSeen, FilesSeen}
 use Rattle.fac_tool.specs.Ends.{EndsAs, IsBare, work_of}
 
 -- the files are as they were, and nothing was asked

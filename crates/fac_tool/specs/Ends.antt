@@ -5,7 +5,7 @@ use Rattle.std.specs.List.{concat}
 use Rattle.fac_io.specs.Faults.{Rose}
 use Rattle.fac_io.specs.Told.{Stays, Grows, GrowsByPrefix, one_piece}
 use Rattle.fac_lang.specs.declared.program.Program.{Program}
-use Rattle.fac_lang.specs.Texts.{Item, Value}
+use Rattle.fac_lang.specs.Phrases.{Item, Value}
 use Rattle.fac_lang.specs.World.{State}
 use Rattle.fac_lang.specs.Eval.{Result as Run, Done, Failed, Spent, Stuck}
 use Rattle.fac_vm.specs.Runs.{GrowsBeyond}
@@ -14,7 +14,7 @@ use Rattle.fac_tool.specs.declared.command.Command.TheVariants as command
 use Rattle.fac_tool.specs.declared.ended.Ended.{Ended}
 use Rattle.fac_tool.specs.Command.{budget_of}
 use Rattle.fac_tool.specs.Answer.{Answer, meaning}
-use Rattle.fac_tool.specs.Seen.{SinkSeen}
+use Rattle.fac_tool.specs.SeenObjects.{SinkSeen}
 
 -- the kinds of statuses: an answer of the definition, or one that the outside or want of memory brings
 pub data Ending : Type 0 where

@@ -1,5 +1,5 @@
 pub mod Command
-pub mod Seen
+pub mod SeenObjects
 pub mod Refusals
 pub mod Answer
 pub mod Sources

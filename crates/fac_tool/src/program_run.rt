@@ -2,10 +2,10 @@
 ghost use Rattle.std.specs.Prelude.{◌≡◌, ◌≤◌, [], IfOk, map};
 ghost use Rattle.fac_io.specs.Faults.{HasCause};
 ghost use Rattle.fac_lang.specs.declared.program.Program.{Program as Source};
-ghost use Rattle.fac_vm.specs.Seen.{callables_in, stack_in};
+ghost use Rattle.fac_vm.specs.SeenMachine.{callables_in, stack_in};
 ghost use Rattle.fac_tool.specs.Answer.{run_answer, shown_text};
 ghost use Rattle.fac_tool.specs.Ends.{EndsAs, runs, StopsWithin};
-ghost use Rattle.fac_tool.specs.Seen.{sink_seen};
+ghost use Rattle.fac_tool.specs.SeenObjects.{sink_seen};
 ghost use Rattle.fac_tool.specs.inner.Stops.{StopsAs, TakesPieces, Carried, SameNames, StandsForSafe, value_form, value_text as text_of_value, machine_report};
 ghost use Rattle.fac_tool.specs.inner.StepEnds.{StepsEnd};
 

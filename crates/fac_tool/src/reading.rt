@@ -1,6 +1,6 @@
 //! The first steps of a command: its file, the tokens of that and their tree.
 ghost use Rattle.std.specs.Prelude.{◌≡◌, ◌≤◌};
-ghost use Rattle.fac_tool.specs.Seen.{files_seen};
+ghost use Rattle.fac_tool.specs.SeenObjects.{files_seen};
 ghost use Rattle.fac_notes.specs.declared.report.Report.TheVariants.{Bytes as bytes_report, Syntax as syntax_report};
 ghost use Rattle.fac_tool.specs.inner.StepEnds.{Loads, ReadsTree, fault_ending, reported as reported_ending};
 

@@ -3,7 +3,7 @@ ghost use Rattle.std.specs.Prelude.{◌≡◌, ◌∷◌, ◌<◌, [], codes, le
 ghost use Rattle.fac_io.specs.Faults.{HasCause};
 ghost use Rattle.fac_io.specs.Told.{Took, sink_tells};
 ghost use Rattle.fac_notes.specs.Notes.{line_of};
-ghost use Rattle.fac_tool.specs.Seen.{sink_seen};
+ghost use Rattle.fac_tool.specs.SeenObjects.{sink_seen};
 ghost use Rattle.fac_tool.specs.ToldNotes.{note_of, note_of_status};
 ghost use Rattle.fac_tool.specs.Answers.{TellsBy, Tells, TellsUsage, TellsNoWords};
 

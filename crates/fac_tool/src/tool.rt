@@ -2,7 +2,7 @@
 ghost use Rattle.std.specs.Prelude.{◌≡◌, ◌<◌, ◌⊎◌, None, length, map, string_bytes};
 ghost use Rattle.fac_io.specs.Faults.{Rose};
 ghost use Rattle.fac_tool.specs.Command.{command_of, file_of};
-ghost use Rattle.fac_tool.specs.Seen.{sink_seen, files_seen};
+ghost use Rattle.fac_tool.specs.SeenObjects.{sink_seen, files_seen};
 ghost use Rattle.fac_tool.specs.Answers.{Answers, Reaches, Tells, file_names};
 
 use crate::telling::{tell, tell_usage};

@@ -3,7 +3,7 @@ ghost use Rattle.std.specs.Prelude.{◌≡◌, ◌≤◌, Some};
 ghost use Rattle.fac_lang.specs.declared.program.Program.{Program as Source};
 ghost use Rattle.fac_tool.specs.Answer.{on_accepted};
 ghost use Rattle.fac_tool.specs.Ends.{work_of};
-ghost use Rattle.fac_tool.specs.Seen.{sink_seen, files_seen};
+ghost use Rattle.fac_tool.specs.SeenObjects.{sink_seen, files_seen};
 ghost use Rattle.fac_tool.specs.inner.Stops.{StandsForSafe};
 ghost use Rattle.fac_tool.specs.inner.StepEnds.{StepsEnd, ended_by};
 ghost use Rattle.fac_tool.specs.Answers.{ReachesBy};

@@ -6,7 +6,7 @@ use Rattle.std.specs.declared.process.ExitCode.{ExitCode}
 use Rattle.std.specs.declared.vec.IntoIter.{IntoIter}
 use Rattle.std.specs.declared.string.String.{String}
 use Rattle.fac_tool.specs.declared.ended.Ended.{Ended}
-use Rattle.fac_tool.specs.Seen.{SinkSeen, FilesSeen}
+use Rattle.fac_tool.specs.SeenObjects.{SinkSeen, FilesSeen}
 use Rattle.fac_tool.specs.Answers.{Answers, IsIdle, TellsNoWords}
 
 -- the words of a command line behind the program's name; no words, where one of them isn't text

@@ -1,13 +1,13 @@
--- What one item comes to, apart from the rest of its text.
+-- What one item comes to, apart from the rest of its phrase.
 use Rattle.std.specs.Prelude.{ℕ, Option}
 use Rattle.fac_lang.specs.declared.phrase.Place.{Place}
 use Rattle.fac_lang.specs.Signatures.{Signature}
 use Rattle.fac_locals.specs.Literals.{first_of_word}
 use Rattle.fac_abs.specs.Marks.{AbstractStack}
 use Rattle.fac_abs.specs.declared.rule.Rule.TheVariants.{TooLarge}
-use Rattle.fac_check.specs.Flow.{Walked, found, refused, and_then, Doing, breaks, gives, names_local, expands, walks, forks, again, uses, Walk, counted, join, marks_back, walk_text, walk_mark, text_rule, first_rule, unless_broken}
+use Rattle.fac_check.specs.Flow.{Walked, found, refused, and_then, Doing, breaks, gives, names_local, expands, walks, forks, again, uses, Walk, counted, join, marks_back, walk_phrase, walk_mark, phrase_rule, first_rule, unless_broken}
 
--- whether the rest of the text has no part in what an item does, and no other item
+-- whether the rest of the phrase has no part in what an item does, and no other item
 abbrev pub IsAlone : Doing → Type 0
 IsAlone (breaks r) = Unit {0}
 IsAlone (gives A) = Unit {0}
@@ -24,7 +24,7 @@ module _ (own : Option Signature) where
   item_walk go (breaks r) p d n = refused r p
   item_walk go (gives A) p d n = counted p n (found A)
   item_walk go (names_local x m b ms) p d n = refused TooLarge p
-  item_walk go (expands w u b ms) p d n = unless_broken own (text_rule own d) p (counted p n (λ k. walk_text own go (first_of_word w) u p d b ms k))
+  item_walk go (expands w u b ms) p d n = unless_broken own (phrase_rule own d) p (counted p n (λ k. walk_phrase own go (first_of_word w) u p d b ms k))
   item_walk go (walks m b ms back) p d n =
       unless_broken own (first_rule own m d b ms) p (counted p n (λ k. and_then (walk_mark own go m p d b ms k) (λ A k'. found (marks_back back A) k')))
   item_walk go (forks l r b ms) p d n =

@@ -1,4 +1,4 @@
--- Which closed programs the walk takes: numbers, truth values, quotations and words in texts, and words that are built primitives or core words, or defined by texts.
+-- Which closed programs the walk takes: numbers, truth values, quotations and words in phrases, and words that are built primitives or core words, or defined by phrases.
 use Rattle.std.specs.Prelude.{ℕ, List, Bool, true, false, ◌&&◌, nat_lt, nat_le, length}
 use Rattle.std.specs.List.{list_all}
 use Rattle.fac_lang.specs.declared.phrase.Template.{Template}
@@ -7,10 +7,10 @@ use Rattle.fac_lang.specs.declared.program.WordDef.{WordDef}
 use Rattle.fac_lang.specs.declared.program.Sort.{Sort}
 use Rattle.fac_lang.specs.declared.program.Sort.TheVariants.{Prim as prim, Core as core, Body as body}
 use Rattle.fac_lang.specs.Primitives.{is_built_primitive}
-use Rattle.fac_lang.specs.Texts.{int, yes, no, Text, end, then, Item, lit, word, made}
+use Rattle.fac_lang.specs.Phrases.{int, yes, no, Phrase, end, then, Item, lit, word, made}
 use Rattle.fac_lang.specs.Effects.{effect_height}
 
--- whether the walk takes an item, where words that texts may name have numbers below the first number, and templates below the second
+-- whether the walk takes an item, where words that phrases may name have numbers below the first number, and templates below the second
 abbrev pub takes_item : ℕ → ℕ → Item → Bool
 takes_item top count (lit (int z)) = true
 takes_item top count (lit yes) = true
@@ -19,18 +19,18 @@ takes_item top count (word w) = nat_lt w top
 takes_item top count (made k) = nat_lt k count
 takes_item top count _ = false
 
--- whether it takes each item of a text
-abbrev pub takes_text : ℕ → ℕ → Text → Bool
-takes_text top count end = true
-takes_text top count (then i p t) = takes_item top count i && takes_text top count t
+-- whether it takes each item of a phrase
+abbrev pub takes_phrase : ℕ → ℕ → Phrase → Bool
+takes_phrase top count end = true
+takes_phrase top count (then i p t) = takes_item top count i && takes_phrase top count t
 
 abbrev pub takes_template : ℕ → ℕ → Template → Bool
-takes_template top count t = takes_text top count t.body
+takes_template top count t = takes_phrase top count t.body
 
 abbrev pub takes_sort : ℕ → ℕ → Sort → Bool
 takes_sort top count (prim k) = is_built_primitive k
 takes_sort top count (core k) = nat_lt k 3
-takes_sort top count (body t) = takes_text top count t
+takes_sort top count (body t) = takes_phrase top count t
 takes_sort top count _ = false
 
 -- no effect has more than 65 inputs

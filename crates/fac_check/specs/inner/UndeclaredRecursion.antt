@@ -1,15 +1,15 @@
 -- How the rule of undeclared recursion is decided for all words of a program: by the words that each inline word leads to.
 use Rattle.std.specs.Prelude.{◌≡◌, ◌<◌, ◌≤◌, ◌++◌, ◌⊎◌, ℕ, zero, suc, List, [], ◌∷◌, length, Bool, true, false, nat_eq, nat_lt, ◌&&◌, ◌||◌, Option, Some, None, slice_get}
 use Rattle.std.specs.List.{list_all}
-use Rattle.fac_abs.specs.Seen.{are_below}
-use Rattle.fac_lang.specs.Texts.{wrd, Literal, Text, Item, lit, word, made}
+use Rattle.fac_abs.specs.SeenMarks.{are_below}
+use Rattle.fac_lang.specs.Phrases.{wrd, Literal, Phrase, Item, lit, word, made}
 use Rattle.fac_lang.specs.declared.phrase.Template.{Template}
 use Rattle.fac_lang.specs.declared.program.Program.{Program}
 use Rattle.fac_lang.specs.declared.program.WordDef.{WordDef}
 use Rattle.fac_lang.specs.declared.program.Sort.{Sort}
 use Rattle.fac_lang.specs.declared.program.Sort.TheVariants.{Body as body}
 use Rattle.fac_locals.specs.Literals.{literal_numbered, first_of_word, NotBefore}
-use Rattle.fac_locals.specs.Closed.{Closes, ClosesWord, ClosesText, ClosesItem}
+use Rattle.fac_locals.specs.Closed.{Closes, ClosesWord, ClosesPhrase, ClosesItem}
 use Rattle.fac_check.specs.Verdicts.{one_of, without, inline_words, item_words}
 
 -- a number is in a list
@@ -27,20 +27,20 @@ abbrev pub made_template : Item → Option ℕ
 made_template (made k) = Some k
 made_template _ = None
 
--- whether a word of this sort, marked inline or not, is an inline word with a text
-abbrev pub inline_text : Bool → Sort → Bool
-inline_text inline (body t) = inline
-inline_text inline _ = false
+-- whether a word of this sort, marked inline or not, is an inline word with a phrase
+abbrev pub inline_phrase : Bool → Sort → Bool
+inline_phrase inline (body t) = inline
+inline_phrase inline _ = false
 
 -- a number, or none
 abbrev pub one_if : Bool → ℕ → List ℕ
 one_if true w = w ∷ []
 one_if false w = []
 
--- the number of a word, where it is an inline word with a text
+-- the number of a word, where it is an inline word with a phrase
 abbrev pub inline_word : ℕ → Option WordDef → List ℕ
 inline_word w None = []
-inline_word w (Some d) = one_if (inline_text d.inline d.sort) w
+inline_word w (Some d) = one_if (inline_phrase d.inline d.sort) w
 
 -- a list, without its first number or with it
 abbrev pub kept_unless : Bool → ℕ → List ℕ → List ℕ
@@ -152,12 +152,12 @@ pub record DecidesAll (edges : List (List ℕ)) (flags : List Bool) : Type 0 whe
 
 module _ (P : Program) where
   -- the words that word w leads to, otherwise than directly to itself where it is marked recursive
-  abbrev pub text_edges : ℕ → Bool → Text → List ℕ
-  text_edges w true t = without P w (inline_words P t)
-  text_edges w false t = inline_words P t
+  abbrev pub phrase_edges : ℕ → Bool → Phrase → List ℕ
+  phrase_edges w true t = without P w (inline_words P t)
+  phrase_edges w false t = inline_words P t
 
-  abbrev pub inline_edges : ℕ → Bool → Bool → Text → List ℕ
-  inline_edges w true recursive t = text_edges w recursive t
+  abbrev pub inline_edges : ℕ → Bool → Bool → Phrase → List ℕ
+  inline_edges w true recursive t = phrase_edges w recursive t
   inline_edges w false recursive t = []
 
   abbrev pub sort_edges : ℕ → Bool → Bool → Sort → List ℕ
@@ -176,18 +176,18 @@ module _ (P : Program) where
   abbrev pub NumbersFrom : Literal → ℕ → Type 0
   NumbersFrom at from = (k : ℕ) → NotBefore at (literal_numbered P k).0 → from ≤ k
 
-  -- What is left of a closed text, the names of which are added to those so far.
-  pub record NamesLeft (from : ℕ) (left : Text) (whole named : List ℕ) : Type 0 where
+  -- What is left of a closed phrase, the names of which are added to those so far.
+  pub record NamesLeft (from : ℕ) (left : Phrase) (whole named : List ℕ) : Type 0 where
     pub at : Literal
-    pub text : Text
-    pub closes : ClosesText P at text left
+    pub phrase : Phrase
+    pub closes : ClosesPhrase P at phrase left
     pub numbers : NumbersFrom at from
-    pub so_far : whole ≡ named ++ inline_words P text
+    pub so_far : whole ≡ named ++ inline_words P phrase
 
--- the names of a text are added to these, for each program that the closed one stands for
-abbrev pub AddsNames : Program → List Template → ℕ → Text → List ℕ → List ℕ → Type 0
+-- the names of a phrase are added to these, for each program that the closed one stands for
+abbrev pub AddsNames : Program → List Template → ℕ → Phrase → List ℕ → List ℕ → Type 0
 AddsNames C templates from closed before after =
-    (P : Program) → Closes P C templates → (at : Literal) (t : Text) → ClosesText P at t closed → NumbersFrom P at from → after ≡ before ++ inline_words P t
+    (P : Program) → Closes P C templates → (at : Literal) (t : Phrase) → ClosesPhrase P at t closed → NumbersFrom P at from → after ≡ before ++ inline_words P t
 
 -- likewise those of an item
 abbrev pub AddsItemNames : Program → List Template → ℕ → Item → List ℕ → List ℕ → Type 0
@@ -203,9 +203,9 @@ AddsMadeNames C templates from k before after =
 abbrev pub LedBy : Program → List Template → ℕ → WordDef → List ℕ → Type 0
 LedBy C templates w c vs = (P : Program) → Closes P C templates → (d : WordDef) → ClosesWord P w d c → vs ≡ word_edges P w d
 
--- likewise a word with this text
-abbrev pub LedByText : Program → List Template → ℕ → Bool → Text → List ℕ → Type 0
-LedByText C templates w recursive closed vs = (P : Program) → Closes P C templates → (t : Text) → ClosesText P (first_of_word w) t closed → vs ≡ text_edges P w recursive t
+-- likewise a word with this phrase
+abbrev pub LedByPhrase : Program → List Template → ℕ → Bool → Phrase → List ℕ → Type 0
+LedByPhrase C templates w recursive closed vs = (P : Program) → Closes P C templates → (t : Phrase) → ClosesPhrase P (first_of_word w) t closed → vs ≡ phrase_edges P w recursive t
 
 -- those of all words
 abbrev pub AreEdges : Program → List Template → List (List ℕ) → Type 0

@@ -1,6 +1,6 @@
 -- How closing goes through a program: the numbers that its templates get, word by word and an outer quotation before those in it.
 use Rattle.std.specs.Prelude.{◌≡◌, ℕ, suc, List, [], ◌∷◌, ◌++◌, length}
-use Rattle.fac_lang.specs.Texts.{Text, end, then, Item, quot, made}
+use Rattle.fac_lang.specs.Phrases.{Phrase, end, then, Item, quot, made}
 use Rattle.fac_lang.specs.declared.phrase.Place.{Place}
 use Rattle.fac_lang.specs.declared.phrase.Item.{Item as PlacedItem}
 use Rattle.fac_lang.specs.declared.phrase.What.{What}
@@ -9,16 +9,16 @@ use Rattle.fac_lang.specs.declared.phrase.Template.{Template}
 use Rattle.fac_lang.specs.declared.program.WordDef.{WordDef}
 use Rattle.fac_lang.specs.declared.program.Sort.{Sort}
 use Rattle.fac_lang.specs.declared.program.Sort.TheVariants.{Body as body}
-use Rattle.fac_lang.specs.View.{what_item}
+use Rattle.fac_lang.specs.PhraseView.{what_item}
 
--- The number behind those of a text's quotations, where the first of them gets this number.
+-- The number behind those of a phrase's quotations, where the first of them gets this number.
 abbrev mutual
-  pub text_behind : ℕ → Text → ℕ
-  text_behind n end = n
-  text_behind n (then i p t) = text_behind (item_behind n i) t
+  pub phrase_behind : ℕ → Phrase → ℕ
+  phrase_behind n end = n
+  phrase_behind n (then i p t) = phrase_behind (item_behind n i) t
 
   pub item_behind : ℕ → Item → ℕ
-  item_behind n (quot t) = text_behind (suc n) t
+  item_behind n (quot t) = phrase_behind (suc n) t
   item_behind n _ = n
 
 -- an item, where a quotation gets this number
@@ -26,27 +26,27 @@ abbrev pub closed_item : ℕ → Item → Item
 closed_item n (quot t) = made n
 closed_item n i = i
 
--- a text, where its first quotation gets this number
-abbrev pub closed_text : ℕ → Text → Text
-closed_text n end = end
-closed_text n (then i p t) = then (closed_item n i) p (closed_text (item_behind n i) t)
+-- a phrase, where its first quotation gets this number
+abbrev pub closed_phrase : ℕ → Phrase → Phrase
+closed_phrase n end = end
+closed_phrase n (then i p t) = then (closed_item n i) p (closed_phrase (item_behind n i) t)
 
--- the template of a quotation that stands here, with this closed text
-abbrev pub template_of : Place → Text → Template
+-- the template of a quotation that stands here, with this closed phrase
+abbrev pub template_of : Place → Phrase → Template
 template_of p t = record { body = t; captures = []; holes = 0; place = p }
 
--- what stands in place of such a template until its text is closed
+-- what stands in place of such a template until its phrase is closed
 abbrev pub placeholder : Place → Template
 placeholder p = template_of p end
 
--- the templates of a text's quotations, where the first of them gets this number
+-- the templates of a phrase's quotations, where the first of them gets this number
 abbrev mutual
-  pub text_templates : ℕ → Text → List Template
-  text_templates n end = []
-  text_templates n (then i p t) = item_templates n p i ++ text_templates (item_behind n i) t
+  pub phrase_templates : ℕ → Phrase → List Template
+  phrase_templates n end = []
+  phrase_templates n (then i p t) = item_templates n p i ++ phrase_templates (item_behind n i) t
 
   pub item_templates : ℕ → Place → Item → List Template
-  item_templates n p (quot t) = template_of p (closed_text (suc n) t) ∷ text_templates (suc n) t
+  item_templates n p (quot t) = template_of p (closed_phrase (suc n) t) ∷ phrase_templates (suc n) t
   item_templates n p _ = []
 
 -- the same item in a list of items
@@ -58,17 +58,17 @@ abbrev pub closed_items : ℕ → List PlacedItem → List PlacedItem
 closed_items n [] = []
 closed_items n (i ∷ is) = record { what = closed_what n i.what; place = i.place } ∷ closed_items (item_behind n (what_item i.what)) is
 
--- what a word is, where the first quotation of its text gets this number
+-- what a word is, where the first quotation of its phrase gets this number
 abbrev pub closed_sort : ℕ → Sort → Sort
-closed_sort n (body t) = body (closed_text n t)
+closed_sort n (body t) = body (closed_phrase n t)
 closed_sort n s = s
 
 abbrev pub sort_behind : ℕ → Sort → ℕ
-sort_behind n (body t) = text_behind n t
+sort_behind n (body t) = phrase_behind n t
 sort_behind n _ = n
 
 abbrev pub sort_templates : ℕ → Sort → List Template
-sort_templates n (body t) = text_templates n t
+sort_templates n (body t) = phrase_templates n t
 sort_templates n _ = []
 
 -- the words of a program, where the first quotation in them gets this number
@@ -83,10 +83,10 @@ abbrev pub words_templates : ℕ → List WordDef → List Template
 words_templates n [] = []
 words_templates n (d ∷ ds) = sort_templates n d.sort ++ words_templates (sort_behind n d.sort) ds
 
--- A text is closed with these templates before it and those behind it.
-pub record TextCloses (before : List Template) (t closed : Text) (behind : List Template) : Type 0 where
-  pub text_is : closed ≡ closed_text (length before) t
-  pub templates_are : behind ≡ before ++ text_templates (length before) t
+-- A phrase is closed with these templates before it and those behind it.
+pub record PhraseCloses (before : List Template) (t closed : Phrase) (behind : List Template) : Type 0 where
+  pub closed_phrase_is : closed ≡ closed_phrase (length before) t
+  pub templates_are : behind ≡ before ++ phrase_templates (length before) t
 
 -- likewise an item that stands here
 pub record ItemCloses (before : List Template) (p : Place) (w closed : What) (behind : List Template) : Type 0 where

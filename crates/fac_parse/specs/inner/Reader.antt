@@ -4,8 +4,8 @@ use Rattle.std.specs.Option.{option_map}
 use Rattle.fac_lang.specs.declared.phrase.Place.{Place}
 use Rattle.fac_lang.specs.declared.token.Token.{Token}
 use Rattle.fac_lang.specs.declared.tree.Term.TheVariants as term
-use Rattle.fac_lang.specs.declared.tree.Piece.{Piece}
-use Rattle.fac_lang.specs.declared.tree.Piece.TheVariants as piece
+use Rattle.fac_lang.specs.declared.tree.Element.{Element}
+use Rattle.fac_lang.specs.declared.tree.Element.TheVariants as element
 use Rattle.fac_lang.specs.declared.tree.Mark.{Mark}
 use Rattle.fac_lang.specs.declared.tree.Mark.TheVariants as mark
 use Rattle.fac_lang.specs.declared.tree.Form.{Form}
@@ -39,7 +39,7 @@ only_if true taken = Some taken
 only_if false taken = None
 
 abbrev pub no_items : Items
-no_items = record { pieces = []; depth = 0 }
+no_items = record { elements = []; depth = 0 }
 
 -- outside of all forms
 abbrev pub top_step : Spelling → Token → Step
@@ -87,33 +87,33 @@ outputs_step head ins dashes outs Name t = only_if (is_value_name (token_text t.
 outputs_step head ins dashes outs Closes t = only_if (is_fit ins outs) (Goes (part.Body head.opens head.name (written head.starts ins dashes outs t.place) no_items))
 outputs_step head ins dashes outs _ t = None
 
--- items with a piece more, and the number of quotations that are open then
-abbrev pub with_piece : Items → Piece → ℕ → Items
-with_piece items piece depth = record { pieces = items.pieces ++ piece ∷ []; depth = depth }
+-- items with an element more, and the number of quotations that are open then
+abbrev pub with_element : Items → Element → ℕ → Items
+with_element items element depth = record { elements = items.elements ++ element ∷ []; depth = depth }
 
 -- among items, where so many quotations may be open
-abbrev pub piece_step : ℕ → Items → Spelling → Token → Option Items
-piece_step most items (Integer z) t = Some (with_piece items (piece.Item (term.Integer t z)) items.depth)
-piece_step most items Name t = Some (with_piece items (piece.Item (term.Name t)) items.depth)
-piece_step most items True t = Some (with_piece items (piece.Item (term.True t.place)) items.depth)
-piece_step most items False t = Some (with_piece items (piece.Item (term.False t.place)) items.depth)
-piece_step most items OpensQuotation t = only_if (nat_lt items.depth most) (with_piece items (piece.Opens t.place) (items.depth + 1))
-piece_step most items ClosesQuotation t = only_if (nat_lt 0 items.depth) (with_piece items (piece.Closes t.place) (items.depth - 1))
-piece_step most items _ t = None
+abbrev pub element_step : ℕ → Items → Spelling → Token → Option Items
+element_step most items (Integer z) t = Some (with_element items (element.Item (term.Integer t z)) items.depth)
+element_step most items Name t = Some (with_element items (element.Item (term.Name t)) items.depth)
+element_step most items True t = Some (with_element items (element.Item (term.True t.place)) items.depth)
+element_step most items False t = Some (with_element items (element.Item (term.False t.place)) items.depth)
+element_step most items OpensQuotation t = only_if (nat_lt items.depth most) (with_element items (element.Opens t.place) (items.depth + 1))
+element_step most items ClosesQuotation t = only_if (nat_lt 0 items.depth) (with_element items (element.Closes t.place) (items.depth - 1))
+element_step most items _ t = None
 
 -- among the items of a definition
 abbrev pub body_step : Place → Token → WrittenEffect → Items → Spelling → Token → Step
 body_step opens name effect items s t =
     (if is_semi s && nat_eq items.depth 0
-    then Some (Completes (record { opens = opens; name = name; effect = effect; items = items.pieces; closes = t.place }))
-    else option_map (λ more. Goes (part.Body opens name effect more)) (piece_step most_levels items s t))
+    then Some (Completes (record { opens = opens; name = name; effect = effect; items = items.elements; closes = t.place }))
+    else option_map (λ more. Goes (part.Body opens name effect more)) (element_step most_levels items s t))
 
 -- among the items of a quotation at the top level
 abbrev pub quotation_step : Place → Items → Spelling → Token → Step
 quotation_step opens items s t =
     (if is_closing s && nat_eq items.depth 0
-    then Some (Ends (form.Quotation opens items.pieces t.place))
-    else option_map (λ more. Goes (part.Quotation opens more)) (piece_step (most_levels - 1) items s t))
+    then Some (Ends (form.Quotation opens items.elements t.place))
+    else option_map (λ more. Goes (part.Quotation opens more)) (element_step (most_levels - 1) items s t))
 
 abbrev pub part_step : Part → Spelling → Token → Step
 part_step (part.Names opens names) s t = names_step opens names s t
@@ -200,11 +200,11 @@ AmongOutputs ins outs s t among.Ends =
     (head : Head) (dashes : Place) → outputs_step head ins dashes outs s t ≡ Some (Goes (part.Body head.opens head.name (written head.starts ins dashes outs t.place) no_items))
 AmongOutputs ins outs s t among.Refused = (head : Head) (dashes : Place) → outputs_step head ins dashes outs s t ≡ None
 
--- what the piece that a token is among items answers
-abbrev pub AnswersPiece : Option Items → Items → Result (Piece × ℕ) ParseFault → Type 0
-AnswersPiece s items (Ok next) = s ≡ Some (with_piece items next.0 next.1)
-AnswersPiece s items (Err (Syntax at w)) = (s ≡ None) × (at ≡ 0) × (w ≡ why.Other)
-AnswersPiece s items (Err Memory) = Unit {0}
+-- what the element that a token is among items answers
+abbrev pub AnswersElement : Option Items → Items → Result (Element × ℕ) ParseFault → Type 0
+AnswersElement s items (Ok next) = s ≡ Some (with_element items next.0 next.1)
+AnswersElement s items (Err (Syntax at w)) = (s ≡ None) × (at ≡ 0) × (w ≡ why.Other)
+AnswersElement s items (Err Memory) = Unit {0}
 
 -- what a token among items answers
 abbrev pub AnswersItems : Option Items → Result Items ParseFault → Type 0

@@ -1,7 +1,7 @@
 -- How names are resolved, a form at a time.
 use Rattle.std.specs.Prelude.{◌≡◌, ℕ, ◌<◌, List, [], ◌∷◌, ◌++◌, length, Option, Some, None, Result, Ok, Err}
-use Rattle.fac_lang.specs.Texts.{Text, then}
-use Rattle.fac_lang.specs.View.{what_item, items_text}
+use Rattle.fac_lang.specs.Phrases.{Phrase, then}
+use Rattle.fac_lang.specs.PhraseView.{what_item, items_phrase}
 use Rattle.fac_lang.specs.declared.phrase.Item.{Item}
 use Rattle.fac_lang.specs.declared.phrase.Place.{Place}
 use Rattle.fac_lang.specs.declared.phrase.What.TheVariants.{Int, True, False, Quot, Word}
@@ -12,8 +12,8 @@ use Rattle.fac_lang.specs.declared.token.Token.{Token}
 use Rattle.fac_lang.specs.declared.tree.Form.{Form}
 use Rattle.fac_lang.specs.declared.tree.Term.{Term}
 use Rattle.fac_lang.specs.declared.tree.Term.TheVariants as term
-use Rattle.fac_lang.specs.declared.tree.Piece.{Piece}
-use Rattle.fac_lang.specs.declared.tree.Piece.TheVariants as piece
+use Rattle.fac_lang.specs.declared.tree.Element.{Element}
+use Rattle.fac_lang.specs.declared.tree.Element.TheVariants as element
 use Rattle.fac_lang.specs.declared.tree.Mark.{Mark}
 use Rattle.fac_lang.specs.declared.tree.WrittenEffect.{WrittenEffect}
 use Rattle.fac_parse.specs.declared.resolver.NameFault.{NameFault}
@@ -23,7 +23,7 @@ use Rattle.fac_parse.specs.declared.resolver.ResolveFault.TheVariants.{Name, Mem
 use Rattle.fac_parse.specs.declared.resolver.OpenQuotation.{OpenQuotation}
 use Rattle.fac_parse.specs.declared.resolver.Nest.{Nest}
 use Rattle.fac_parse.specs.declared.resolver.SoFar.{SoFar}
-use Rattle.fac_parse.specs.Resolution.{known_words, found, own_name, is_taken, name_fault, uses, result_map, Following, with_quotation, following, text_of, defined_word, Contents, unless_taken, with_defined, contents_of, file_contents, top_word}
+use Rattle.fac_parse.specs.Resolution.{known_words, found, own_name, is_taken, name_fault, uses, result_map, Following, with_quotation, following, phrase_of, defined_word, Contents, unless_taken, with_defined, contents_of, file_contents, top_word}
 use Rattle.fac_parse.specs.Trees.{token_text, depth_behind, AreItems}
 
 -- what using vocabularies answers
@@ -55,12 +55,12 @@ TakesItem known used item items items_then (Ok done) = with_new items (term_item
 TakesItem known used item items items_then (Err (Name fault)) = term_item known used item ≡ Err fault
 TakesItem known used item items items_then (Err Memory) = Unit {0}
 
--- items before a text
-abbrev pub items_before : List Item → Text → Text
-items_before [] text = text
-items_before (i ∷ is) text = then (what_item i.what) i.place (items_before is text)
+-- items before a phrase
+abbrev pub items_before : List Item → Phrase → Phrase
+items_before [] phrase = phrase
+items_before (i ∷ is) phrase = then (what_item i.what) i.place (items_before is phrase)
 
--- Pieces.
+-- Elements.
 
 -- a quotation that is open, before what follows in it
 abbrev pub enclosed : OpenQuotation → Following → Following
@@ -79,39 +79,39 @@ after_nest n r = result_map (nested n.outer.items n.items.items) r
 pub record Closes (n n_then : Nest) : Type 0 where
   pub last : OpenQuotation
   pub outer : n.outer.items ≡ n_then.outer.items ++ last ∷ []
-  pub items : n_then.items.items ≡ last.before.items ++ (record { what = Quot (items_text n.items.items); place = last.place }) ∷ []
+  pub items : n_then.items.items ≡ last.before.items ++ (record { what = Quot (items_phrase n.items.items); place = last.place }) ∷ []
 
--- whether a piece may stand where so many quotations are open
-abbrev pub IsClosable : ℕ → Piece → Type 0
-IsClosable depth (piece.Closes place) = 0 < depth
+-- whether an element may stand where so many quotations are open
+abbrev pub IsClosable : ℕ → Element → Type 0
+IsClosable depth (element.Closes place) = 0 < depth
 IsClosable depth _ = Unit {0}
 
--- the piece is behind the others
-pub record IsAdded (known : List FullName) (used : List (List ℕ)) (piece : Piece) (n n_then : Nest) : Type 0 where
-  pub text : (rest : List Piece) → after_nest n (following known used (piece ∷ rest)) ≡ after_nest n_then (following known used rest)
-  pub depth : length n_then.outer.items ≡ depth_behind (length n.outer.items) piece
+-- the element is behind the others
+pub record IsAdded (known : List FullName) (used : List (List ℕ)) (element : Element) (n n_then : Nest) : Type 0 where
+  pub phrase : (rest : List Element) → after_nest n (following known used (element ∷ rest)) ≡ after_nest n_then (following known used rest)
+  pub depth : length n_then.outer.items ≡ depth_behind (length n.outer.items) element
 
--- what taking a piece answers
-abbrev pub TakesPiece : List FullName → List (List ℕ) → Piece → Nest → Result Nest ResolveFault → Type 0
-TakesPiece known used piece n (Ok n_then) = IsAdded known used piece n n_then
-TakesPiece known used piece n (Err (Name fault)) = (rest : List Piece) → following known used (piece ∷ rest) ≡ Err fault
-TakesPiece known used piece n (Err Memory) = Unit {0}
+-- what taking an element answers
+abbrev pub TakesElement : List FullName → List (List ℕ) → Element → Nest → Result Nest ResolveFault → Type 0
+TakesElement known used element n (Ok n_then) = IsAdded known used element n n_then
+TakesElement known used element n (Err (Name fault)) = (rest : List Element) → following known used (element ∷ rest) ≡ Err fault
+TakesElement known used element n (Err Memory) = Unit {0}
 
 -- items whose brackets match
-abbrev pub AreClosed : List Piece → Type 0
+abbrev pub AreClosed : List Element → Type 0
 AreClosed items = (most : ℕ) × AreItems most items
 
 -- what reading items answers
-abbrev pub ReadsText : List FullName → List (List ℕ) → List Piece → Result Text ResolveFault → Type 0
-ReadsText known used items (Ok text) = text_of known used items ≡ Ok text
-ReadsText known used items (Err (Name fault)) = text_of known used items ≡ Err fault
-ReadsText known used items (Err Memory) = Unit {0}
+abbrev pub ReadsPhrase : List FullName → List (List ℕ) → List Element → Result Phrase ResolveFault → Type 0
+ReadsPhrase known used items (Ok phrase) = phrase_of known used items ≡ Ok phrase
+ReadsPhrase known used items (Err (Name fault)) = phrase_of known used items ≡ Err fault
+ReadsPhrase known used items (Err Memory) = Unit {0}
 
 -- Forms.
 
 -- words and items before what follows
 abbrev pub after_made : List WordDef → List Item → Result Contents NameFault → Result Contents NameFault
-after_made words items (Ok c) = Ok (record { words = words ++ c.words; text = items_before items c.text })
+after_made words items (Ok c) = Ok (record { words = words ++ c.words; phrase = items_before items c.phrase })
 after_made words items (Err fault) = Err fault
 
 -- what was made so far, and then what the forms from here on define and do
@@ -119,31 +119,31 @@ abbrev pub contents_after : SoFar → List Form → Result Contents NameFault
 contents_after s forms = after_made s.words s.items.items (contents_of s.names s.used forms)
 
 -- a definition before what follows
-abbrev pub defining : SoFar → Token → WrittenEffect → List Piece → Option Mark → Result Contents NameFault → Result Contents NameFault
+abbrev pub defining : SoFar → Token → WrittenEffect → List Element → Option Mark → Result Contents NameFault → Result Contents NameFault
 defining s name effect items mark rest =
-    unless_taken (is_taken s.names (token_text name.kind)) name (with_defined (result_map (defined_word name effect mark) (text_of (s.names ++ own_name (token_text name.kind) ∷ []) s.used items)) rest)
+    unless_taken (is_taken s.names (token_text name.kind)) name (with_defined (result_map (defined_word name effect mark) (phrase_of (s.names ++ own_name (token_text name.kind) ∷ []) s.used items)) rest)
 
 -- the definition adds its word and its name, and nothing else
-pub record IsDefined (s : SoFar) (name : Token) (effect : WrittenEffect) (items : List Piece) (mark : Option Mark) (s_then : SoFar) : Type 0 where
+pub record IsDefined (s : SoFar) (name : Token) (effect : WrittenEffect) (items : List Element) (mark : Option Mark) (s_then : SoFar) : Type 0 where
   pub made : (rest : Result Contents NameFault) → after_made s.words s.items.items (defining s name effect items mark rest) ≡ after_made s_then.words s_then.items.items rest
   pub names : s_then.names ≡ s.names ++ own_name (token_text name.kind) ∷ []
   pub used : s_then.used ≡ s.used
 
 -- a name of the definition is refused
-abbrev pub DefinitionFails : SoFar → Token → WrittenEffect → List Piece → Option Mark → ResolveFault → Type 0
+abbrev pub DefinitionFails : SoFar → Token → WrittenEffect → List Element → Option Mark → ResolveFault → Type 0
 DefinitionFails s name effect items mark (Name fault) = (rest : Result Contents NameFault) → defining s name effect items mark rest ≡ Err fault
 DefinitionFails s name effect items mark Memory = Unit {0}
 
 -- what taking a definition answers, with what was made before and after it
-abbrev pub Defines : SoFar → Token → WrittenEffect → List Piece → Option Mark → SoFar → Result Unit ResolveFault → Type 0
+abbrev pub Defines : SoFar → Token → WrittenEffect → List Element → Option Mark → SoFar → Result Unit ResolveFault → Type 0
 Defines s name effect items mark s_then (Ok done) = IsDefined s name effect items mark s_then
 Defines s name effect items mark s_then (Err fault) = DefinitionFails s name effect items mark fault
 
 -- what taking a quotation at the top level answers, with the items before and after it
-abbrev pub TakesQuotation : List FullName → List (List ℕ) → Place → List Piece → List Item → List Item → Result Unit ResolveFault → Type 0
-TakesQuotation known used place pieces items items_then (Ok done) = with_new items (result_map (λ text. record { what = Quot text; place = place }) (text_of known used pieces)) ≡ Ok items_then
-TakesQuotation known used place pieces items items_then (Err (Name fault)) = text_of known used pieces ≡ Err fault
-TakesQuotation known used place pieces items items_then (Err Memory) = Unit {0}
+abbrev pub TakesQuotation : List FullName → List (List ℕ) → Place → List Element → List Item → List Item → Result Unit ResolveFault → Type 0
+TakesQuotation known used place elements items items_then (Ok done) = with_new items (result_map (λ phrase. record { what = Quot phrase; place = place }) (phrase_of known used elements)) ≡ Ok items_then
+TakesQuotation known used place elements items items_then (Err (Name fault)) = phrase_of known used elements ≡ Err fault
+TakesQuotation known used place elements items items_then (Err Memory) = Unit {0}
 
 -- what taking a form answers, with what was made before and after it
 abbrev pub TakesForm : SoFar → Form → SoFar → Result Unit ResolveFault → Type 0
@@ -157,7 +157,7 @@ IsFirst s = (forms : List Form) → contents_after s forms ≡ after_made known_
 
 -- what reading all forms answers
 abbrev pub ReadsForms : List Form → Result SoFar ResolveFault → Type 0
-ReadsForms forms (Ok s) = after_made known_words [] (file_contents forms) ≡ Ok (record { words = s.words; text = items_text s.items.items })
+ReadsForms forms (Ok s) = after_made known_words [] (file_contents forms) ≡ Ok (record { words = s.words; phrase = items_phrase s.items.items })
 ReadsForms forms (Err (Name fault)) = file_contents forms ≡ Err fault
 ReadsForms forms (Err Memory) = Unit {0}
 
@@ -167,5 +167,5 @@ TakesForms forms s_then (Ok done) = ReadsForms forms (Ok s_then)
 TakesForms forms s_then (Err fault) = ReadsForms forms (Err fault)
 
 -- the program of these words and this top-level phrase
-abbrev pub program_with : List WordDef → Text → Program
-program_with words text = record { words = words ++ top_word text ∷ []; arrays = []; classes = []; top = length words }
+abbrev pub program_with : List WordDef → Phrase → Program
+program_with words phrase = record { words = words ++ top_word phrase ∷ []; arrays = []; classes = []; top = length words }

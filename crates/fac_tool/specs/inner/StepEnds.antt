@@ -17,7 +17,7 @@ use Rattle.fac_tool.specs.declared.ended.Ended.{Ended}
 use Rattle.fac_tool.specs.Answer.{Answer, Source, tree, answer_on}
 use Rattle.fac_tool.specs.Sources.{IsReadAs}
 use Rattle.fac_io.specs.Told.{SinkTold}
-use Rattle.fac_tool.specs.Seen.{SinkSeen, FilesSeen}
+use Rattle.fac_tool.specs.SeenObjects.{SinkSeen, FilesSeen}
 use Rattle.fac_tool.specs.Ends.{Work, EndsAs}
 use Rattle.fac_tool.specs.inner.Stops.{StandsForSafe}
 use Rattle.fac_tool.specs.Answers.{NoText, LoadGives}

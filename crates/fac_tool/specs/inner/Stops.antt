@@ -5,7 +5,7 @@ use Rattle.std.specs.Option.{option_map}
 use Rattle.std.specs.Fmt.{signed_decimal}
 use Rattle.fac_io.specs.Told.{Grows}
 use Rattle.fac_lang.specs.declared.program.Program.{Program}
-use Rattle.fac_lang.specs.Texts.{Item, Value}
+use Rattle.fac_lang.specs.Phrases.{Item, Value}
 use Rattle.fac_lang.specs.World.{State, Error}
 use Rattle.fac_lang.specs.Eval.{Done, Failed, Spent}
 use Rattle.fac_lang.specs.RunningLaws.{IsNotStuck}
@@ -16,7 +16,7 @@ use Rattle.fac_locals.specs.declared.closing.Closed.{Closed}
 use Rattle.fac_check.specs.CallableEffects.{callable_height, fits}
 use Rattle.fac_check.specs.Promises.{IsSafe}
 use Rattle.fac_code.specs.declared.image.Image.{Image}
-use Rattle.fac_prim.specs.Cells.{MValue, MCallable}
+use Rattle.fac_prim.specs.MachineValues.{MValue, MCallable}
 use Rattle.fac_prim.specs.declared.value.Value.{Value as MachineValue}
 use Rattle.fac_prim.specs.declared.value.Value.TheVariants.{Int, True, False, Callable}
 use Rattle.fac_vm.specs.declared.machine.RunError.{RunError}
@@ -24,12 +24,12 @@ use Rattle.fac_vm.specs.declared.machine.StopKind.{StopKind}
 use Rattle.fac_vm.specs.declared.machine.StopKind.TheVariants as stop
 use Rattle.fac_vm.specs.Runs.{error_of}
 use Rattle.fac_emit.specs.Carries.{Carries}
-use Rattle.fac_emit.specs.View.{template_texts, values_view, error_view}
+use Rattle.fac_emit.specs.MachineView.{template_phrases, values_view, error_view}
 use Rattle.fac_notes.specs.declared.report.Report.{Report}
 use Rattle.fac_notes.specs.declared.report.Report.TheVariants as report
 use Rattle.fac_notes.specs.WordNames.{word_name}
 use Rattle.fac_tool.specs.Answer.{meaning, shown_text}
-use Rattle.fac_tool.specs.Seen.{SinkSeen}
+use Rattle.fac_tool.specs.SeenObjects.{SinkSeen}
 use Rattle.fac_tool.specs.Ends.{RunPieces}
 
 -- the program for which a closed one stands
@@ -56,9 +56,9 @@ pub record Carried (P : Program) (M : Image) : Type 0 where
 
 -- how a run with this budget stopped that left this stack, where the machine's callables are these
 abbrev pub StopsAs : Program → ℕ → List MCallable → List MValue → ℕ → SinkSeen → StopKind → Type 0
-StopsAs P budget T stack ticks out stop.Done = (st : State Value) × (left : ℕ) × (meaning P budget ≡ Done st left) × (ticks ≡ budget - left) × Grows out.before.taken out.now.taken st.world.output × (st.stack ≡ values_view (template_texts P) stack)
+StopsAs P budget T stack ticks out stop.Done = (st : State Value) × (left : ℕ) × (meaning P budget ≡ Done st left) × (ticks ≡ budget - left) × Grows out.before.taken out.now.taken st.world.output × (st.stack ≡ values_view (template_phrases P) stack)
 StopsAs P budget T stack ticks out (stop.Failed e) =
-    (x : Error Value) × (st : State Value) × (left : ℕ) × (meaning P budget ≡ Failed x st left) × (ticks ≡ budget - left) × Grows out.before.taken out.now.taken st.world.output × (x ≡ error_view (template_texts P) (error_of T e))
+    (x : Error Value) × (st : State Value) × (left : ℕ) × (meaning P budget ≡ Failed x st left) × (ticks ≡ budget - left) × Grows out.before.taken out.now.taken st.world.output × (x ≡ error_view (template_phrases P) (error_of T e))
 StopsAs P budget T stack ticks out stop.Spent = (st : State Value) × (i : Option Item) × (meaning P budget ≡ Spent st i) × (ticks ≡ budget) × Grows out.before.taken out.now.taken st.world.output
 StopsAs P budget T stack ticks out (stop.Trap pc why) = ⊥
 StopsAs P budget T stack ticks out stop.WriteFault = Unit {0}

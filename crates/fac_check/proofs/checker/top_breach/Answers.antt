@@ -1,12 +1,12 @@
 use Rattle.std.proofs.Common.{◌≡◌, true, ◌∙◌, length, ap, sym, subst, Bor}
 use Rattle.fac_locals.specs.declared.closing.Closed.{Closed}
 use Rattle.fac_abs.specs.Marks.{unknowns}
-use Rattle.fac_check.specs.inner.Taken.{takes_text}
+use Rattle.fac_check.specs.inner.Taken.{takes_phrase}
 use Rattle.fac_check.proofs.VerdictLemmas.{WalksWhole, top_is}
 use Rattle.fac_check.proofs.checker.top_breach.Goals as goal
 
 pub walk_phrase-requires-clause-taken : goal.walk_phrase-requires-clause-taken
-walk_phrase-requires-clause-taken c = subst (λ (b : Bor Closed). takes_text b.now.program.top (length b.now.templates) c.args.phrase.now ≡ true) (sym c.in_ok-walker.ensures.closed) c.requires.text
+walk_phrase-requires-clause-taken c = subst (λ (b : Bor Closed). takes_phrase b.now.program.top (length b.now.templates) c.args.phrase.now ≡ true) (sym c.in_ok-walker.ensures.closed) c.requires.phrase
 
 pub returns : goal.returns
 returns c = λ P closes built w t text.

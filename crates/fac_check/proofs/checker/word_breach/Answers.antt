@@ -3,11 +3,11 @@ use Rattle.fac_abs.proofs.EqualMarks.{and_first}
 use Rattle.fac_check.specs.inner.Taken.{takes_sort}
 use Rattle.fac_check.proofs.BuiltWords.{built_as}
 use Rattle.fac_check.proofs.WordItems.{ok_maps, is_body}
-use Rattle.fac_check.proofs.VerdictLemmas.{body_verdict_is, no_text_verdict}
+use Rattle.fac_check.proofs.VerdictLemmas.{body_verdict_is, no_phrase_verdict}
 use Rattle.fac_check.proofs.checker.word_breach.Goals as goal
 
-pub phrase_breach-requires-clause-text : goal.phrase_breach-requires-clause-text
-phrase_breach-requires-clause-text c = subst (λ x. takes_sort c.args.closed.now.program.top (length c.args.closed.now.templates) x ≡ true) c.in-Body.is (and_first _ _ c.requires.word)
+pub phrase_breach-requires-clause-phrase : goal.phrase_breach-requires-clause-phrase
+phrase_breach-requires-clause-phrase c = subst (λ x. takes_sort c.args.closed.now.program.top (length c.args.closed.now.templates) x ≡ true) c.in-Body.is (and_first _ _ c.requires.word)
 
 pub returns-in-Body : goal.returns-in-Body
 returns-in-Body c =
@@ -19,4 +19,4 @@ returns-in-Body c =
 
 pub returns-in_default : goal.returns-in_default
 returns-in_default c = λ P closes built d at word leads.
-    no_text_verdict P built c.args.number d at c.args.closed.now.start c.args.word.now word (λ t s. c.in_default.not-Body t s) (sym c.if-leads_back.false ∙ leads)
+    no_phrase_verdict P built c.args.number d at c.args.closed.now.start c.args.word.now word (λ t s. c.in_default.not-Body t s) (sym c.if-leads_back.false ∙ leads)

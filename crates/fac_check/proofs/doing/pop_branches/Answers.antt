@@ -1,5 +1,5 @@
 use Rattle.std.proofs.Common.{◌∙◌, ap, ◌∷◌}
-use Rattle.fac_abs.specs.Seen.{mark_of}
+use Rattle.fac_abs.specs.SeenMarks.{mark_of}
 use Rattle.fac_check.proofs.doing.pop_branches.Goals as goal
 
 pub returns : goal.returns

@@ -1,10 +1,10 @@
 use Rattle.std.proofs.Common.{◌≡◌, ◌<◌, ℕ, true, None, length, sym, ◌∙◌, ap, subst}
 use Rattle.std.specs.Prelude.{slice_get}
-use Rattle.fac_abs.specs.Seen.{stack_of}
+use Rattle.fac_abs.specs.SeenMarks.{stack_of}
 use Rattle.fac_abs.proofs.SeenLemmas.{is_below}
 use Rattle.fac_locals.proofs.Lookups.{word_open}
 use Rattle.fac_check.specs.Flow.{word_doing}
-use Rattle.fac_check.specs.inner.Walking.{NamesText, is_defined}
+use Rattle.fac_check.specs.inner.Walking.{NamesPhrase, is_defined}
 use Rattle.fac_check.proofs.DoingLemmas.{doing_of}
 use Rattle.fac_check.proofs.TakenPrograms.{word_taken}
 use Rattle.fac_check.proofs.WordItems.{ok_maps}
@@ -18,7 +18,7 @@ word_item-requires-clause-word c =
 pub returns-clause-there : goal.returns-clause-there
 returns-clause-there c =
     let words = c.args.closed.now.program.words in
-    ok_maps c.word_item.result (λ r there. doing_of _ (NamesText words) _ r (λ w this. subst (λ (v : ℕ). is_defined (slice_get words v) ≡ true) (sym this.0) (ap is_defined (sym c.in-Some.ensures) ∙ this.1)) there) c.word_item.ensures.there
+    ok_maps c.word_item.result (λ r there. doing_of _ (NamesPhrase words) _ r (λ w this. subst (λ (v : ℕ). is_defined (slice_get words v) ≡ true) (sym this.0) (ap is_defined (sym c.in-Some.ensures) ∙ this.1)) there) c.word_item.ensures.there
 
 pub returns-clause-does : goal.returns-clause-does
 returns-clause-does c =

@@ -1,7 +1,7 @@
 use Rattle.std.proofs.Common.{refl, ap, arith}
 use Rattle.fac_lang.specs.declared.phrase.Height.{Height}
-use Rattle.fac_abs.specs.Seen.{stack_of}
-use Rattle.fac_check.specs.inner.Walking.{body_text, IsThisWord}
+use Rattle.fac_abs.specs.SeenMarks.{stack_of}
+use Rattle.fac_check.specs.inner.Walking.{body_phrase, IsThisWord}
 use Rattle.fac_check.proofs.BuiltWords.{built_as, built_primitive_word}
 use Rattle.fac_check.proofs.DoingLemmas.{doing_of}
 use Rattle.fac_check.proofs.TakenPrograms.{core_below, primitive_below}
@@ -14,8 +14,8 @@ core-requires-clause-number c = core_below c.requires.word.0 c.requires.word.1 c
 pub primitive-requires-clause-number : goal.primitive-requires-clause-number
 primitive-requires-clause-number c = primitive_below c.requires.word.0 c.requires.word.1 c.in-Prim.primitive_number c.args.word.now c.requires.word.2 c.in-Prim.is
 
-pub defined-requires-clause-text : goal.defined-requires-clause-text
-defined-requires-clause-text c = rw c.in-Body.is refl
+pub defined-requires-clause-phrase : goal.defined-requires-clause-phrase
+defined-requires-clause-phrase c = rw c.in-Body.is refl
 
 pub returns-in-Prim-clause-there : goal.returns-in-Prim-clause-there
 returns-in-Prim-clause-there c = ok_maps c.primitive.result (λ r there. doing_of _ (IsThisWord c.args.number c.args.word.now) _ r (λ w none. absurd none) there) c.primitive.ensures.there
@@ -33,7 +33,7 @@ returns-in-Prim-clause-does c =
     let there = built_primitive_word P built c.args.number d at k sort in
     let ins = prim_ins P c.args.number d w closes there.0 _ there.2 (ap (λ (h : Height). h.ins) c.height_of.ensures) in
     let outs = prim_outs P c.args.number d w closes there.0 _ there.2 (ap (λ (h : Height). h.outs) c.height_of.ensures) in
-    prim_item P c.args.number d w closes k there.0 _ b (stack_of N c.args.marks.now c.args.stack) sort there.1 (does there.0 there.1 ins outs N (body_text P) b))
+    prim_item P c.args.number d w closes k there.0 _ b (stack_of N c.args.marks.now c.args.stack) sort there.1 (does there.0 there.1 ins outs N (body_phrase P) b))
     c.primitive.ensures.does
 
 pub returns-in-Body-clause-does : goal.returns-in-Body-clause-does
@@ -43,5 +43,5 @@ returns-in-Body-clause-does c =
     (λ r does P d low at built closes N b.
     let is_built = built_as P built c.args.number d at in
     let sort = is_body P c.args.number d w closes is_built _ c.in-Body.is in
-    body_item P c.args.number d w closes sort.0 _ _ _ b (stack_of N c.args.marks.now c.args.stack) is_built at sort.1 (λ e. omega (arith, low, e)) refl refl (does N (body_text P) b))
+    body_item P c.args.number d w closes sort.0 _ _ _ b (stack_of N c.args.marks.now c.args.stack) is_built at sort.1 (λ e. omega (arith, low, e)) refl refl (does N (body_phrase P) b))
     c.defined.ensures.does

@@ -1,11 +1,11 @@
 use Rattle.std.proofs.Common.{◌≡◌, ◌+◌, ◌∷◌, true, length, drop, List, sym, ap, subst, ◌∙◌, arith}
 use Rattle.std.proofs.lemmas.List.{drop_more, drop_all}
-use Rattle.fac_locals.specs.Closed.{ClosesText}
-use Rattle.fac_check.specs.inner.Taken.{takes_text}
+use Rattle.fac_locals.specs.Closed.{ClosesPhrase}
+use Rattle.fac_check.specs.inner.Taken.{takes_phrase}
 use Rattle.fac_check.proofs.TakenPrograms.{template_taken, first_taken, others_taken, named_below, made_below}
-use Rattle.fac_lang.specs.Texts.{then}
+use Rattle.fac_lang.specs.Phrases.{then}
 use Rattle.fac_lang.specs.declared.phrase.Item.{Item as PlacedItem}
-use Rattle.fac_lang.specs.View.{what_item, items_text}
+use Rattle.fac_lang.specs.PhraseView.{what_item, items_phrase}
 use Rattle.fac_check.proofs.NamedWords.{adds_made, adds_named, adds_template, names_begin, names_step, names_end, on_ok, number_below}
 use Rattle.fac_check.proofs.recursion.+names.Goals as goal
 
@@ -30,43 +30,43 @@ add_template-overflow_add-number t c =
     let lt = number_below c.args.closed.now.templates c.args.number c.in-Some.template.now (sym c.in-Some.ensures) in
     omega (arith, lt, c.len-count.ensures, c.len-count.type_inv)
 
-pub add_template-add_text-requires : goal.add_template-add_text-requires
-add_template-add_text-requires t c =
+pub add_template-add_phrase-requires : goal.add_template-add_phrase-requires
+add_template-add_phrase-requires t c =
     let lt = number_below c.args.closed.now.templates c.args.number c.in-Some.template.now (sym c.in-Some.ensures) in
     let C = c.args.closed.now in
     (omega (arith, lt, c.decreases, c.if-number-from.false), (c.requires.program, template_taken C.program C.templates c.requires.program c.args.number c.in-Some.template.now (sym c.in-Some.ensures)))
 
 pub add_template-returns : goal.add_template-returns
-add_template-returns t c = on_ok c.add_text.result (adds_template _ _ _ c.args.number c.in-Some.template.now _ _ (sym c.in-Some.ensures)) c.add_text.ensures
+add_template-returns t c = on_ok c.add_phrase.result (adds_template _ _ _ c.args.number c.in-Some.template.now _ _ (sym c.in-Some.ensures)) c.add_phrase.ensures
 
-pub add_text-loop-item-init : goal.add_text-loop-item-init
-add_text-loop-item-init t c =
+pub add_phrase-loop-item-init : goal.add_phrase-loop-item-init
+add_phrase-loop-item-init t c =
     let items = c.deref-item-items.result.now in
-    let seen : c.args.phrase.now ≡ items_text items = cc in
+    let seen : c.args.phrase.now ≡ items_phrase items = cc in
     record {
-      taken = subst (λ x. takes_text c.args.closed.now.program.top (length c.args.closed.now.templates) x ≡ true) seen c.requires.text;
-      names = λ P h at u closes numbers. names_begin P c.args.from at u (items_text items) c.args.named.now (subst (λ x. ClosesText P at u x) seen closes) numbers;
+      taken = subst (λ x. takes_phrase c.args.closed.now.program.top (length c.args.closed.now.templates) x ≡ true) seen c.requires.phrase;
+      names = λ P h at u closes numbers. names_begin P c.args.from at u (items_phrase items) c.args.named.now (subst (λ x. ClosesPhrase P at u x) seen closes) numbers;
     }
 
-pub add_text-add_item-requires : goal.add_text-add_item-requires
-add_text-add_item-requires t c =
+pub add_phrase-add_item-requires : goal.add_phrase-add_item-requires
+add_phrase-add_item-requires t c =
     let C = c.args.closed.now in
     let items = c.deref-item-items.result.now in
     let k = c.loop-item.item-index in
     let next : drop k items ≡ c.item-item.result ∷ drop (k + 1) items = drop_more items k c.item-item.result c.loop-item-test.true ∙ ap (λ (i : PlacedItem). i ∷ drop (k + 1) items) (sym c.item-item.is) in
-    (omega (arith, c.decreases), (c.requires.program, first_taken C.program.top (length C.templates) c.item-item.result (drop (k + 1) items) (subst (λ (q : List PlacedItem). takes_text C.program.top (length C.templates) (items_text q) ≡ true) next c.loop-item.invariant.taken)))
+    (omega (arith, c.decreases), (c.requires.program, first_taken C.program.top (length C.templates) c.item-item.result (drop (k + 1) items) (subst (λ (q : List PlacedItem). takes_phrase C.program.top (length C.templates) (items_phrase q) ≡ true) next c.loop-item.invariant.taken)))
 
-pub add_text-loop-item-preserved : goal.add_text-loop-item-preserved
-add_text-loop-item-preserved t c =
+pub add_phrase-loop-item-preserved : goal.add_phrase-loop-item-preserved
+add_phrase-loop-item-preserved t c =
     let C = c.args.closed.now in
     let k = c.loop-item.item-index in
     let items = c.deref-item-items.result.now in
     let next : drop k items ≡ c.item-item.result ∷ drop (k + 1) items = drop_more items k c.item-item.result c.loop-item-test.true ∙ ap (λ (i : PlacedItem). i ∷ drop (k + 1) items) (sym c.item-item.is) in
     record {
-      taken = others_taken C.program.top (length C.templates) c.item-item.result (drop (k + 1) items) (subst (λ (q : List PlacedItem). takes_text C.program.top (length C.templates) (items_text q) ≡ true) next c.loop-item.invariant.taken);
+      taken = others_taken C.program.top (length C.templates) c.item-item.result (drop (k + 1) items) (subst (λ (q : List PlacedItem). takes_phrase C.program.top (length C.templates) (items_phrase q) ≡ true) next c.loop-item.invariant.taken);
       names = λ P h at u closes numbers.
-          names_step P _ _ h _ (items_text (drop k items)) (what_item c.item-item.result.what) c.item-item.result.place _ _ _ _ (c.loop-item.invariant.names P h at u closes numbers) (ap items_text (drop_more items k c.item-item.result c.loop-item-test.true) ∙ ap (λ (i : PlacedItem). then (what_item i.what) i.place (items_text (drop (k + 1) items))) (sym c.item-item.is)) c.in-Ok.ensures;
+          names_step P _ _ h _ (items_phrase (drop k items)) (what_item c.item-item.result.what) c.item-item.result.place _ _ _ _ (c.loop-item.invariant.names P h at u closes numbers) (ap items_phrase (drop_more items k c.item-item.result c.loop-item-test.true) ∙ ap (λ (i : PlacedItem). then (what_item i.what) i.place (items_phrase (drop (k + 1) items))) (sym c.item-item.is)) c.in-Ok.ensures;
     }
 
-pub add_text-returns : goal.add_text-returns
-add_text-returns t c = λ P h at u closes numbers. names_end P _ (items_text (drop c.loop-item.item-index c.deref-item-items.result.now)) _ _ (c.loop-item.invariant.names P h at u closes numbers) (ap items_text (drop_all c.loop-item.item-index c.deref-item-items.result.now c.loop-item-test.false))
+pub add_phrase-returns : goal.add_phrase-returns
+add_phrase-returns t c = λ P h at u closes numbers. names_end P _ (items_phrase (drop c.loop-item.item-index c.deref-item-items.result.now)) _ _ (c.loop-item.invariant.names P h at u closes numbers) (ap items_phrase (drop_all c.loop-item.item-index c.deref-item-items.result.now c.loop-item-test.false))

@@ -1,6 +1,6 @@
 use Rattle.std.proofs.Common.{◌≡◌, ℕ, List, Bool, true, length, sym, ap, ◌∙◌, subst, arith}
 use Rattle.std.specs.Prelude.{slice_get}
-use Rattle.fac_abs.specs.Seen.{are_below}
+use Rattle.fac_abs.specs.SeenMarks.{are_below}
 use Rattle.fac_check.specs.inner.UndeclaredRecursion.{Finds}
 use Rattle.fac_check.proofs.LeadingBack.{search_decides}
 use Rattle.fac_check.proofs.EdgesInside.{led_there}

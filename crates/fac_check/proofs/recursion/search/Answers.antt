@@ -1,5 +1,5 @@
 use Rattle.std.proofs.Common.{◌≡◌, ℕ, List, true, length, sym, ap, subst, arith}
-use Rattle.fac_abs.specs.Seen.{are_below}
+use Rattle.fac_abs.specs.SeenMarks.{are_below}
 use Rattle.fac_check.specs.inner.UndeclaredRecursion.{Adds}
 use Rattle.fac_check.proofs.LeadingBack.{search_begins, search_step, search_ends, seen_below, some_at}
 use Rattle.fac_check.proofs.EdgesInside.{led_there, seen_there}

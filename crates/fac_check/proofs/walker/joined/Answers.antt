@@ -1,7 +1,7 @@
 use Rattle.std.proofs.Common.{refl, subst}
 use Rattle.fac_abs.specs.Marks.{joined}
-use Rattle.fac_abs.specs.Seen.{reached_seen}
-use Rattle.fac_abs.specs.Promises.{IsReachedWhere}
+use Rattle.fac_abs.specs.SeenMarks.{reached_seen}
+use Rattle.fac_abs.specs.MarkPromises.{IsReachedWhere}
 use Rattle.fac_check.proofs.walker.joined.Goals as goal
 
 pub returns-in-Some-clause-joins : goal.returns-in-Some-clause-joins

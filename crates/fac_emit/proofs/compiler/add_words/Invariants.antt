@@ -1,5 +1,5 @@
 use Rattle.std.proofs.Common.{◌≡◌, ◌++◌, drop, length}
-use Rattle.fac_emit.specs.Code.{code_from, words_from}
+use Rattle.fac_emit.specs.ProgramCode.{code_from, words_from}
 use Rattle.fac_emit.proofs.compiler.add_words.Given as goal
 
 abbrev pub invariant-loop-word : goal.invariant-loop-word

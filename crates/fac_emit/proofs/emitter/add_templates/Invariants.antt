@@ -1,5 +1,5 @@
 use Rattle.std.proofs.Common.{◌≡◌, ◌++◌, drop, length}
-use Rattle.fac_emit.specs.Code.{templates_code, template_rows}
+use Rattle.fac_emit.specs.ProgramCode.{templates_code, template_rows}
 use Rattle.fac_emit.proofs.emitter.add_templates.Given as goal
 
 abbrev pub invariant-loop-template : goal.invariant-loop-template

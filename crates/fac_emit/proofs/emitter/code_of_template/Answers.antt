@@ -3,8 +3,8 @@ use Rattle.fac_emit.proofs.CodedItems.{template_coded}
 use Rattle.fac_emit.proofs.Emitted.{is_there}
 use Rattle.fac_emit.proofs.emitter.code_of_template.Goals as goal
 
-pub add_text-requires : goal.add_text-requires
-add_text-requires c =
+pub add_phrase-requires : goal.add_phrase-requires
+add_phrase-requires c =
     let given = c.requires.0 in
     let closed = c.args.closed.now in
     template_coded given.0 closed.program closed.templates given.2 given.1 c.args.template c.in-Some.found.now (sym c.in-Some.ensures)

@@ -1,11 +1,11 @@
 use Rattle.std.proofs.Common.{length, sym, ap, ◌∙◌, arith}
 use Rattle.std.specs.Vec.Iter.{into_iter_items}
-use Rattle.fac_lang.specs.View.{items_text}
+use Rattle.fac_lang.specs.PhraseView.{items_phrase}
 use Rattle.fac_locals.proofs.Numbers.{step_items, step_templates, all_closed, quotation_closed}
 use Rattle.fac_locals.proofs.closing.+closing.Goals as goal
 
-pub close_text-loop-item-preserved : goal.close_text-loop-item-preserved
-close_text-loop-item-preserved t c =
+pub close_phrase-loop-item-preserved : goal.close_phrase-loop-item-preserved
+close_phrase-loop-item-preserved t c =
     let at = c.loop-item in
     let next = c.in-Some.ensures.steps in
     let closes = c.in_ok-what.ensures in
@@ -15,10 +15,10 @@ close_text-loop-item-preserved t c =
       count = omega (arith, ap length next.0, at.invariant.count, next.1);
     }
 
-pub close_text-returns : goal.close_text-returns
-close_text-returns t c =
+pub close_phrase-returns : goal.close_phrase-returns
+close_phrase-returns t c =
     let at = c.loop-item in
-    all_closed _ (into_iter_items c.into_iter-item-iterator.result) at.items.items (into_iter_items at.item-iterator) _ _ (ap items_text c.into_iter-item-iterator.ensures.into_iter_gives.0 ∙ c.phrase.view_is) (sym at.invariant.count ∙ c.in-None.ensures.steps.0) at.invariant.items_are at.invariant.templates_are
+    all_closed _ (into_iter_items c.into_iter-item-iterator.result) at.items.items (into_iter_items at.item-iterator) _ _ (ap items_phrase c.into_iter-item-iterator.ensures.into_iter_gives.0 ∙ c.phrase.view_is) (sym at.invariant.count ∙ c.in-None.ensures.steps.0) at.invariant.items_are at.invariant.templates_are
 
 pub close_what-returns-in_ok-body-in-Quot : goal.close_what-returns-in_ok-body-in-Quot
 close_what-returns-in_ok-body-in-Quot t c =

@@ -4,9 +4,9 @@ use Rattle.fac_parse.specs.inner.Resolver.{after_nest}
 use Rattle.fac_parse.proofs.ResolutionLemmas.{Leads}
 use Rattle.fac_parse.proofs.resolver.body_of.Given as goal
 
-abbrev pub invariant-loop-piece : goal.invariant-loop-piece
-invariant-loop-piece l =
+abbrev pub invariant-loop-element : goal.invariant-loop-element
+invariant-loop-element l =
     record {
-      text : following l.known l.used l.pieces ≡ after_nest l.nest (following l.known l.used (drop l.piece-index l.pieces));
-      lead : Leads l.nest (drop l.piece-index l.pieces);
+      text : following l.known l.used l.elements ≡ after_nest l.nest (following l.known l.used (drop l.element-index l.elements));
+      lead : Leads l.nest (drop l.element-index l.elements);
     }

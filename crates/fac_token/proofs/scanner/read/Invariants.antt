@@ -1,7 +1,7 @@
 use Rattle.std.proofs.Common.{◌≡◌, ◌+◌, drop, length, [], string_bytes}
 use Rattle.std.specs.Str.{chars}
 use Rattle.fac_token.specs.declared.scanner.Mode.TheVariants.{Between}
-use Rattle.fac_token.specs.inner.Steps.{held, hold_from}
+use Rattle.fac_token.specs.inner.TokenSteps.{held, hold_from}
 use Rattle.fac_token.proofs.StepLemmas.{size}
 use Rattle.fac_token.proofs.scanner.read.Given as goal
 

@@ -1,6 +1,6 @@
 use Rattle.std.proofs.Common.{◌≡◌, ◌==◌, true, false, arith}
 use Rattle.std.proofs.lemmas.Grind.{common_steps}
-use Rattle.fac_token.specs.Pieces.{is_white}
+use Rattle.fac_token.specs.Lexemes.{is_white}
 use Rattle.fac_token.proofs.StepLemmas.{char_holds}
 use Rattle.fac_token.proofs.scanner.take_char.Goals as goal
 

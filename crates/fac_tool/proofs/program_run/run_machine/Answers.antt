@@ -1,4 +1,4 @@
-use Rattle.fac_tool.specs.Seen.{sink_seen}
+use Rattle.fac_tool.specs.SeenObjects.{sink_seen}
 use Rattle.fac_tool.proofs.StopLemmas.{within, stops}
 use Rattle.fac_tool.proofs.PieceLemmas.{takes_pieces}
 use Rattle.fac_tool.proofs.program_run.run_machine.Goals as goal

@@ -1,17 +1,17 @@
 use Rattle.std.proofs.Common.{subst}
 use Rattle.fac_abs.specs.InTurn.{under}
-use Rattle.fac_abs.specs.Seen.{MarksSeen, stack_of}
-use Rattle.fac_abs.specs.Promises.{IsStackWhere}
+use Rattle.fac_abs.specs.SeenMarks.{MarksSeen, stack_of}
+use Rattle.fac_abs.specs.MarkPromises.{IsStackWhere}
 use Rattle.fac_abs.proofs.SeenLemmas.{stack_in, low_in}
 use Rattle.fac_abs.proofs.MoveLemmas.{below_where}
 use Rattle.fac_abs.proofs.table.Marks.below.Goals as goal
 
 pub under-requires : goal.under-requires
-under-requires c = stack_in c.self.inside.nodes c.self.inside.cells c.args.self.now c.self.view_is c.args.stack c.requires
+under-requires c = stack_in c.self.inside.nodes c.self.inside.stack_nodes c.args.self.now c.self.view_is c.args.stack c.requires
 
 pub returns : goal.returns
 returns c =
     let ns = c.self.inside.nodes in
-    let ss = c.self.inside.cells in
+    let ss = c.self.inside.stack_nodes in
     let low = low_in ns ss c.args.self.now c.self.view_is c.args.stack c.requires in
     subst (λ (M : MarksSeen). IsStackWhere M c.under.result (λ N. under c.args.count (stack_of N M c.args.stack))) c.self.view_is (below_where ns ss c.args.stack c.args.count c.under.result low c.under.ensures)

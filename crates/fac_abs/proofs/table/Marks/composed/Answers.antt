@@ -1,8 +1,8 @@
 use Rattle.std.proofs.Common.{◌≡◌, ◌<◌, true, sym, ◌∙◌, arith}
-use Rattle.fac_abs.specs.declared.node.Node.TheVariants.{Com}
+use Rattle.fac_abs.specs.declared.mark_node.MarkNode.TheVariants.{Com}
 use Rattle.fac_abs.specs.Marks.{mark_depth, is_callable, composed_mark}
-use Rattle.fac_abs.specs.Trees.{Naming, tree, trees}
-use Rattle.fac_abs.specs.Seen.{mark_of}
+use Rattle.fac_abs.specs.MarkTrees.{Naming, tree, trees}
+use Rattle.fac_abs.specs.SeenMarks.{mark_of}
 use Rattle.fac_abs.proofs.LimitLemmas.{composed_kept, com_reads, renamed}
 use Rattle.fac_abs.proofs.SeenLemmas.{mark_within}
 use Rattle.fac_abs.proofs.table.Marks.composed.Goals as goal

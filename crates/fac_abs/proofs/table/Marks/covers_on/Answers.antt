@@ -1,4 +1,4 @@
-use Rattle.fac_abs.specs.Seen.{base_seen, stack_of}
+use Rattle.fac_abs.specs.SeenMarks.{base_seen, stack_of}
 use Rattle.fac_abs.proofs.BaseLemmas.{covers_none}
 use Rattle.fac_abs.proofs.table.Marks.covers_on.Goals as goal
 

@@ -1,4 +1,4 @@
-use Rattle.fac_abs.specs.Seen.{base_seen, stack_of}
+use Rattle.fac_abs.specs.SeenMarks.{base_seen, stack_of}
 use Rattle.fac_abs.proofs.BaseLemmas.{apart_bases}
 use Rattle.fac_abs.proofs.table.Marks.join_on.Goals as goal
 

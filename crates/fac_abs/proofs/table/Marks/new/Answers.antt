@@ -1,13 +1,13 @@
 use Rattle.std.proofs.Common.{List, subst, sym}
-use Rattle.fac_lang.specs.Texts.{any}
-use Rattle.fac_abs.specs.declared.node.Node.{Node}
-use Rattle.fac_abs.specs.Promises.{IsMarkOf}
+use Rattle.fac_lang.specs.Phrases.{any}
+use Rattle.fac_abs.specs.declared.mark_node.MarkNode.{MarkNode}
+use Rattle.fac_abs.specs.MarkPromises.{IsMarkOf}
 use Rattle.fac_abs.proofs.SeenLemmas.{seen, first_mark, empty_stack}
 use Rattle.fac_abs.proofs.TableLemmas.{first_table}
 use Rattle.fac_abs.proofs.table.Marks.new.Goals as goal
 
 pub returns-clause-mark : goal.returns-clause-mark
-returns-clause-mark c = subst (λ (ns : List Node). IsMarkOf (seen ns c.new-2.result) 0 (λ N. any)) (sym c.in_ok-new.ensures) (first_mark _ c.new-2.result first_table)
+returns-clause-mark c = subst (λ (ns : List MarkNode). IsMarkOf (seen ns c.new-2.result) 0 (λ N. any)) (sym c.in_ok-new.ensures) (first_mark _ c.new-2.result first_table)
 
 pub returns-clause-stack : goal.returns-clause-stack
 returns-clause-stack c = empty_stack c.in_ok-new.field-0 c.new-2.result c.new-2.ensures

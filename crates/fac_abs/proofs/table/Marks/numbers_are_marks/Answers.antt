@@ -2,7 +2,7 @@ use Rattle.std.proofs.Common.{◌≡◌, refl, sym, ap, ◌∙◌}
 use Rattle.std.specs.Prelude.{nat_eq}
 use Rattle.std.proofs.lemmas.Bool.{eqb-true, eq-eqb}
 use Rattle.fac_abs.specs.Marks.{mark_eq}
-use Rattle.fac_abs.specs.Seen.{MarksSeen, mark_of}
+use Rattle.fac_abs.specs.SeenMarks.{MarksSeen, mark_of}
 use Rattle.fac_abs.proofs.SeenLemmas.{mark_in}
 use Rattle.fac_abs.proofs.MoveLemmas.{same_numbers}
 use Rattle.fac_abs.proofs.table.Marks.numbers_are_marks.Goals as goal
@@ -10,7 +10,7 @@ use Rattle.fac_abs.proofs.table.Marks.numbers_are_marks.Goals as goal
 pub returns : goal.returns
 returns c = λ N m n first second e.
     let ns = c.self.inside.nodes in
-    let ss = c.self.inside.cells in
+    let ss = c.self.inside.stack_nodes in
     let M = c.args.self.now in
     let low = mark_in ns ss M c.self.view_is m first in
     let lower = mark_in ns ss M c.self.view_is n second in

@@ -1,23 +1,23 @@
 use Rattle.std.proofs.Common.{◌∷◌, IfOk, subst}
-use Rattle.fac_abs.specs.Seen.{MarksSeen, mark_of, stack_of, Grows}
-use Rattle.fac_abs.specs.Promises.{IsStackOf}
-use Rattle.fac_abs.proofs.SeenLemmas.{seen, mark_in, stack_in, low_in, grows_cells}
+use Rattle.fac_abs.specs.SeenMarks.{MarksSeen, mark_of, stack_of, Grows}
+use Rattle.fac_abs.specs.MarkPromises.{IsStackOf}
+use Rattle.fac_abs.proofs.SeenLemmas.{seen, mark_in, stack_in, low_in, grows_stack_nodes}
 use Rattle.fac_abs.proofs.MoveLemmas.{push_by}
 use Rattle.fac_abs.proofs.table.Marks.push.Goals as goal
 
 pub push-requires : goal.push-requires
-push-requires c = stack_in c.self.inside.nodes c.self.inside.cells c.args.self.now c.self.view_is c.args.stack c.requires.stack
+push-requires c = stack_in c.self.inside.nodes c.self.inside.stack_nodes c.args.self.now c.self.view_is c.args.stack c.requires.stack
 
 pub returns-clause-grows : goal.returns-clause-grows
 returns-clause-grows c =
     let ns = c.self.inside.nodes in
     let ts = c.push.new.self in
-    subst (λ (M : MarksSeen). Grows M (seen ns ts)) c.self.view_is (grows_cells ns c.self.inside.cells ts c.push.ensures.keeps)
+    subst (λ (M : MarksSeen). Grows M (seen ns ts)) c.self.view_is (grows_stack_nodes ns c.self.inside.stack_nodes ts c.push.ensures.keeps)
 
 pub returns-clause-made : goal.returns-clause-made
 returns-clause-made c =
     let ns = c.self.inside.nodes in
-    let ss = c.self.inside.cells in
+    let ss = c.self.inside.stack_nodes in
     let ts = c.push.new.self in
     let low = low_in ns ss c.args.self.now c.self.view_is c.args.stack c.requires.stack in
     let within = mark_in ns ss c.args.self.now c.self.view_is c.args.mark c.requires.mark in

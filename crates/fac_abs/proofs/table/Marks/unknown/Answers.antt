@@ -1,12 +1,12 @@
 use Rattle.std.proofs.Common.{ℕ, subst, sym}
-use Rattle.fac_lang.specs.Texts.{any}
-use Rattle.fac_abs.specs.Seen.{MarksSeen}
-use Rattle.fac_abs.specs.Promises.{IsMarkOf}
+use Rattle.fac_lang.specs.Phrases.{any}
+use Rattle.fac_abs.specs.SeenMarks.{MarksSeen}
+use Rattle.fac_abs.specs.MarkPromises.{IsMarkOf}
 use Rattle.fac_abs.proofs.SeenLemmas.{seen, first_mark}
 use Rattle.fac_abs.proofs.table.Marks.unknown.Goals as goal
 
 pub returns-clause-any : goal.returns-clause-any
 returns-clause-any c =
     let ns = c.self.inside.nodes in
-    let ss = c.self.inside.cells in
+    let ss = c.self.inside.stack_nodes in
     subst (λ (M : MarksSeen). IsMarkOf M c.first.result (λ N. any)) c.self.view_is (subst (λ (k : ℕ). IsMarkOf (seen ns ss) k (λ N. any)) (sym c.first.ensures.zero) (first_mark ns ss c.first.ensures.table))

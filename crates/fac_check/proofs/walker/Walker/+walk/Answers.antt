@@ -1,19 +1,19 @@
 use Rattle.std.proofs.Common.{◌≡◌, ◌+◌, ◌-◌, suc, true, None, [], ◌∷◌, List, length, refl, sym, ap, subst, ◌∙◌, arith, drop, drop-cons, add-one, Bor}
 use Rattle.std.proofs.lemmas.Grind.{common_steps}
 use Rattle.fac_lang.specs.declared.phrase.Item.{Item as PlacedItem}
-use Rattle.fac_lang.specs.View.{items_text}
+use Rattle.fac_lang.specs.PhraseView.{items_phrase}
 use Rattle.fac_locals.specs.Literals.{first_of_word, first_of_literal}
-use Rattle.fac_locals.specs.Closed.{ClosesText}
+use Rattle.fac_locals.specs.Closed.{ClosesPhrase}
 use Rattle.fac_locals.specs.declared.closing.Closed.{Closed}
 use Rattle.fac_abs.proofs.SeenLemmas.{grows_refl, grows_trans}
-use Rattle.fac_abs.specs.Seen.{mark_of, stack_of, base_seen, reached_seen}
+use Rattle.fac_abs.specs.SeenMarks.{mark_of, stack_of, base_seen, reached_seen}
 use Rattle.fac_check.specs.Flow.{and_then, walk_mark, inside, join}
-use Rattle.fac_check.specs.inner.Taken.{takes_text}
-use Rattle.fac_check.specs.inner.Walking.{go_at, body_text, walked_seen, IsDoingOf, NamesText, IsWithin, IsBelow, IsWalked, IsWalkOfText}
+use Rattle.fac_check.specs.inner.Taken.{takes_phrase}
+use Rattle.fac_check.specs.inner.Walking.{go_at, body_phrase, walked_seen, IsDoingOf, NamesPhrase, IsWithin, IsBelow, IsWalked, IsWalkOfPhrase}
 use Rattle.fac_check.specs.declared.walker.Step.{Step}
 use Rattle.fac_check.specs.declared.walker.Walked.TheVariants.{Found}
-use Rattle.fac_check.proofs.MarkWalks.{carried, curried_counts, composed_ends, text_entered, literal_closed, word_text_closed, forked, reached_stays, no_items, no_literal}
-use Rattle.fac_check.proofs.TakenPrograms.{template_taken, text_taken, first_taken, others_taken}
+use Rattle.fac_check.proofs.MarkWalks.{carried, curried_counts, composed_ends, phrase_entered, literal_closed, word_phrase_closed, forked, reached_stays, no_items, no_literal}
+use Rattle.fac_check.proofs.TakenPrograms.{template_taken, phrase_taken, first_taken, others_taken}
 use Rattle.fac_check.proofs.WalkLemmas.{Onward, onward_start, onward_end, behind_from}
 use Rattle.fac_check.proofs.WordItems.{ok_maps}
 use Rattle.fac_check.proofs.walker.Walker.+walk.Goals as goal
@@ -35,23 +35,23 @@ walk_word-walk_phrase-requires t c =
     let C = c.args.self.now.closed.now in
     let deeper : c.entered.result.nested ≡ c.args.step.nested - 1 = ap (λ (s : Step). s.nested) c.entered.ensures in
     let same : c.entered.result.stack ≡ c.args.step.stack = ap (λ (s : Step). s.stack) c.entered.ensures in
-    (omega (arith, c.decreases, c.if-step-eq0.false, deeper), (rw same c.requires.stack, text_taken C.program C.templates c.args.self.now.taken c.args.word c.in-Some.found.now _ (sym c.in-Some.ensures) c.in-Body.is))
+    (omega (arith, c.decreases, c.if-step-eq0.false, deeper), (rw same c.requires.stack, phrase_taken C.program C.templates c.args.self.now.taken c.args.word c.in-Some.found.now _ (sym c.in-Some.ensures) c.in-Body.is))
 
 pub walk_literal-returns-in-Some-clause-walks : goal.walk_literal-returns-in-Some-clause-walks
 walk_literal-returns-in-Some-clause-walks t c =
     ok_maps c.walk_phrase.result
     (λ r walks O f l.
     let literal = O.naming.literal c.args.template in
-    subst (λ (s : Step). IsWalkOfText c.args.self.now.closed.now c.args.self.now.marks c.walk_phrase.new.self.marks c.in-Some.found.now.body s r) c.entered.ensures walks O (first_of_literal literal.0) literal.1 f (literal_closed O c.args.template c.in-Some.found.now (sym c.in-Some.ensures)) l
-    ∙ sym (text_entered (go_at O f) (first_of_literal literal.0) literal.1 c.args.step.place c.args.step.nested (base_seen O.naming c.args.step.base) (stack_of O.naming c.args.self.now.marks c.args.step.stack) c.args.step.left c.if-step-eq0.false))
+    subst (λ (s : Step). IsWalkOfPhrase c.args.self.now.closed.now c.args.self.now.marks c.walk_phrase.new.self.marks c.in-Some.found.now.body s r) c.entered.ensures walks O (first_of_literal literal.0) literal.1 f (literal_closed O c.args.template c.in-Some.found.now (sym c.in-Some.ensures)) l
+    ∙ sym (phrase_entered (go_at O f) (first_of_literal literal.0) literal.1 c.args.step.place c.args.step.nested (base_seen O.naming c.args.step.base) (stack_of O.naming c.args.self.now.marks c.args.step.stack) c.args.step.left c.if-step-eq0.false))
     c.walk_phrase.ensures.walks
 
 pub walk_word-returns-clause-walks : goal.walk_word-returns-clause-walks
 walk_word-returns-clause-walks t c =
     ok_maps c.walk_phrase.result
     (λ r walks O f l.
-    subst (λ (s : Step). IsWalkOfText c.args.self.now.closed.now c.args.self.now.marks c.walk_phrase.new.self.marks c.in-Body.phrase s r) c.entered.ensures walks O (first_of_word c.args.word) (body_text O.program c.args.word) f (word_text_closed O c.args.word c.in-Some.found.now _ (sym c.in-Some.ensures) c.in-Body.is) l
-    ∙ sym (text_entered (go_at O f) (first_of_word c.args.word) (body_text O.program c.args.word) c.args.step.place c.args.step.nested (base_seen O.naming c.args.step.base) (stack_of O.naming c.args.self.now.marks c.args.step.stack) c.args.step.left c.if-step-eq0.false))
+    subst (λ (s : Step). IsWalkOfPhrase c.args.self.now.closed.now c.args.self.now.marks c.walk_phrase.new.self.marks c.in-Body.phrase s r) c.entered.ensures walks O (first_of_word c.args.word) (body_phrase O.program c.args.word) f (word_phrase_closed O c.args.word c.in-Some.found.now _ (sym c.in-Some.ensures) c.in-Body.is) l
+    ∙ sym (phrase_entered (go_at O f) (first_of_word c.args.word) (body_phrase O.program c.args.word) c.args.step.place c.args.step.nested (base_seen O.naming c.args.step.base) (stack_of O.naming c.args.self.now.marks c.args.step.stack) c.args.step.left c.if-step-eq0.false))
     c.walk_phrase.ensures.walks
 
 pub walk_mark-returns-in-Cur-clause-walks : goal.walk_mark-returns-in-Cur-clause-walks
@@ -109,14 +109,14 @@ walk_composed-returns-in-Found-On-default-clause-walks t c =
 pub walk_phrase-loop-item-init : goal.walk_phrase-loop-item-init
 walk_phrase-loop-item-init t c =
     let items = c.deref-item-items.result.now in
-    let seen : c.args.phrase.now ≡ items_text items = cc in
+    let seen : c.args.phrase.now ≡ items_phrase items = cc in
     record {
       same = refl;
       grows = grows_refl c.args.self.now.marks;
       stack = c.requires.stack;
       within = omega arith;
-      taken = subst (λ x. takes_text c.args.self.now.closed.now.program.top (length c.args.self.now.closed.now.templates) x ≡ true) seen c.requires.taken;
-      onward = λ O at u f closes l. onward_start O at u f c.args.step.nested c.args.step.left c.args.self.now.marks c.args.step.base c.args.step.stack items (subst (λ x. ClosesText O.program at u x) seen closes) l;
+      taken = subst (λ x. takes_phrase c.args.self.now.closed.now.program.top (length c.args.self.now.closed.now.templates) x ≡ true) seen c.requires.taken;
+      onward = λ O at u f closes l. onward_start O at u f c.args.step.nested c.args.step.left c.args.self.now.marks c.args.step.base c.args.step.stack items (subst (λ x. ClosesPhrase O.program at u x) seen closes) l;
     }
 
 pub walk_phrase-item_doing-requires-clause-item : goal.walk_phrase-item_doing-requires-clause-item
@@ -124,10 +124,10 @@ walk_phrase-item_doing-requires-clause-item t c =
     let items = c.deref-item-items.result.now in
     let i = c.loop-item.item-index in
     let next : drop i items ≡ c.item-item.result ∷ drop (suc i) items = drop-cons items i c.item-item.result c.loop-item-test.true ∙ ap (λ (x : PlacedItem). x ∷ drop (suc i) items) (sym c.item-item.is) in
-    first_taken c.args.self.now.closed.now.program.top (length c.args.self.now.closed.now.templates) c.item-item.result (drop (suc i) items) (subst (λ (q : List PlacedItem). takes_text c.args.self.now.closed.now.program.top (length c.args.self.now.closed.now.templates) (items_text q) ≡ true) next c.loop-item.invariant.taken)
+    first_taken c.args.self.now.closed.now.program.top (length c.args.self.now.closed.now.templates) c.item-item.result (drop (suc i) items) (subst (λ (q : List PlacedItem). takes_phrase c.args.self.now.closed.now.program.top (length c.args.self.now.closed.now.templates) (items_phrase q) ≡ true) next c.loop-item.invariant.taken)
 
 pub walk_phrase-walk_item-requires : goal.walk_phrase-walk_item-requires
-walk_phrase-walk_item-requires t c = (omega (arith, c.decreases), subst (λ (b : Bor Closed). IsDoingOf (NamesText b.now.program.words) c.item_doing.new.marks c.in_ok-doing.doing) (sym c.loop-item.invariant.same) c.in_ok-doing.ensures.there)
+walk_phrase-walk_item-requires t c = (omega (arith, c.decreases), subst (λ (b : Bor Closed). IsDoingOf (NamesPhrase b.now.program.words) c.item_doing.new.marks c.in_ok-doing.doing) (sym c.loop-item.invariant.same) c.in_ok-doing.ensures.there)
 
 pub walk_phrase-returns-clause-walks : goal.walk_phrase-returns-clause-walks
 walk_phrase-returns-clause-walks t c = λ O at u f closes l.
@@ -162,7 +162,7 @@ walk_phrase-loop-item-preserved t c =
       within = omega (arith, c.loop-item.invariant.within, subst (IsBelow c.loop-item.left) is c.in_ok-rule.ensures.below);
       taken =
           let next : drop i items ≡ c.item-item.result ∷ drop (i + 1) items = rw add-one (drop-cons items i c.item-item.result c.loop-item-test.true ∙ ap (λ (x : PlacedItem). x ∷ drop (suc i) items) (sym c.item-item.is)) in
-          others_taken c.args.self.now.closed.now.program.top (length c.args.self.now.closed.now.templates) c.item-item.result (drop (i + 1) items) (subst (λ (q : List PlacedItem). takes_text c.args.self.now.closed.now.program.top (length c.args.self.now.closed.now.templates) (items_text q) ≡ true) next c.loop-item.invariant.taken);
+          others_taken c.args.self.now.closed.now.program.top (length c.args.self.now.closed.now.templates) c.item-item.result (drop (i + 1) items) (subst (λ (q : List PlacedItem). takes_phrase c.args.self.now.closed.now.program.top (length c.args.self.now.closed.now.templates) (items_phrase q) ≡ true) next c.loop-item.invariant.taken);
       onward = λ O at u f closes l.
           let next : drop i items ≡ c.item-item.result ∷ drop (i + 1) items = rw add-one (drop-cons items i c.item-item.result c.loop-item-test.true ∙ ap (λ (x : PlacedItem). x ∷ drop (suc i) items) (sym c.item-item.is)) in
           behind_from O at u f c.args.step.nested (base_seen O.naming c.args.step.base) (stack_of O.naming c.args.self.now.marks c.args.step.stack) c.args.step.left c.loop-item.self.marks c.item_doing.new.marks c.walk_item.new.self.marks c.loop-item.base c.loop-item.stack c.loop-item.left c.item-item.result _ (drop (i + 1) items) c.in_ok-doing.doing c.in_ok-rule.field-0 _ next is (c.loop-item.invariant.onward O at u f closes l) (c.in_ok-doing.ensures.does O) (λ g. c.in_ok-rule.ensures.walks (carried (ap (λ (b : Bor Closed). b.now) c.loop-item.invariant.same) O) g) c.in_ok-rule.ensures.below;

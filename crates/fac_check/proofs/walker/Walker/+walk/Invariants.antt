@@ -1,14 +1,14 @@
 use Rattle.std.proofs.Common.{◌≡◌, ◌<◌, ◌≤◌, ◌+◌, ◌*◌, ℕ, true, length, drop}
-use Rattle.fac_lang.specs.View.{items_text}
-use Rattle.fac_lang.specs.Texts.{Literal, Text}
-use Rattle.fac_locals.specs.Closed.{ClosesText}
-use Rattle.fac_abs.specs.Seen.{Grows, IsStack, stack_of, base_seen}
-use Rattle.fac_check.specs.inner.Taken.{takes_text}
+use Rattle.fac_lang.specs.PhraseView.{items_phrase}
+use Rattle.fac_lang.specs.Phrases.{Literal, Phrase}
+use Rattle.fac_locals.specs.Closed.{ClosesPhrase}
+use Rattle.fac_abs.specs.SeenMarks.{Grows, IsStack, stack_of, base_seen}
+use Rattle.fac_check.specs.inner.Taken.{takes_phrase}
 use Rattle.fac_check.specs.inner.Walking.{Opened}
 use Rattle.fac_check.proofs.WalkLemmas.{Onward}
 use Rattle.fac_check.proofs.walker.Walker.+walk.Given as goal
 
--- A text takes more than its items, these more than the callables that they walk, and those more than their parts; and all of it more than a text that is one application deeper.
+-- A phrase takes more than its items, these more than the callables that they walk, and those more than their parts; and all of it more than a phrase that is one application deeper.
 abbrev pub decreases-walk_phrase : goal.decreases-walk_phrase
 decreases-walk_phrase l = l.step.nested * 12884901910 + 12884901902
 
@@ -45,8 +45,8 @@ invariant-walk_phrase-loop-item l = record {
   grows : Grows l.initial.self.marks l.self.marks;
   stack : IsStack l.self.marks l.stack;
   within : l.left ≤ l.step.left;
-  taken : takes_text l.initial.self.closed.now.program.top (length l.initial.self.closed.now.templates) (items_text (drop l.item-index l.item-items)) ≡ true;
+  taken : takes_phrase l.initial.self.closed.now.program.top (length l.initial.self.closed.now.templates) (items_phrase (drop l.item-index l.item-items)) ≡ true;
   onward :
-      (O : Opened l.initial.self.closed.now.program l.initial.self.closed.now.templates) (at : Literal) (t : Text) (f : ℕ) → ClosesText O.program at t l.phrase → l.step.left < f →
+      (O : Opened l.initial.self.closed.now.program l.initial.self.closed.now.templates) (at : Literal) (t : Phrase) (f : ℕ) → ClosesPhrase O.program at t l.phrase → l.step.left < f →
       Onward O at t f l.step.nested (base_seen O.naming l.step.base) (stack_of O.naming l.initial.self.marks l.step.stack) l.step.left l.self.marks l.base l.stack (drop l.item-index l.item-items) l.left;
 }

@@ -1,0 +1,92 @@
+//! Marks by numbers: the nodes that were seen so far.
+ghost use Rattle.std.specs.Prelude.{◌≡◌, ◌<◌, ◌^◌, ◌++◌, ◌∷◌, [], length, get_or, slice_get, IfOk, OnErr};
+ghost use Rattle.indexmap.specs.IndexMap.{keys, values};
+ghost use Rattle.fac_abs.specs.declared.mark_node.MarkNode.TheVariants.{Any};
+ghost use Rattle.fac_abs.specs.MarkTrees.{node_depth, depths, HasPartsBelow, IsTable};
+ghost use Rattle.fac_abs.specs.inner.Interning.{Numbers, Interns};
+
+use crate::MarkNode;
+use fac_lang::Memory;
+use indexmap::IndexMap;
+use std::alloc::Global;
+use std::marker::Model;
+
+/// Nodes in the order in which they were first seen, each with the depth of its mark. The first is that of nothing known.
+#[derive(Drop)]
+pub struct MarkNodes {
+    nodes: IndexMap<MarkNode, u32>,
+}
+
+impl Model for MarkNodes {
+    ghost use Rattle.std.specs.Prelude.{List, ◌≡◌, ◌<◌, ◌^◌, length};
+    ghost use Rattle.fac_abs.specs.declared.mark_node.MarkNode.{MarkNode};
+    ghost use Rattle.indexmap.specs.IndexMap.{keys, values};
+    ghost use Rattle.fac_abs.specs.MarkTrees.{depths, IsTable};
+
+    ghost Value = { List MarkNode };
+
+    ghost view = { λ a. keys a.nodes };
+
+    ghost invariant = { λ a. IsTable (keys a.nodes) × (values a.nodes ≡ depths (keys a.nodes)) × (length (keys a.nodes) < 2 ^ 32) };
+}
+
+// The number of a node, which is added with its depth where it isn't there.
+fn number(nodes: &mut IndexMap<MarkNode, u32>, node: MarkNode, depth: u32) -> Result<u32, Memory>
+    requires { length (keys nodes.old) < 2 ^ 32 }
+    ensures found { IfOk result (λ r. Numbers nodes.old.entries nodes.new.entries node depth r) }
+    ensures short { length (keys nodes.new) < 2 ^ 32 }
+    ensures err { OnErr result (nodes.new.entries ≡ nodes.old.entries) }
+{
+    if let Some(place) = nodes.get_index_of(&node) {
+        return Ok(place as u32);
+    }
+    let place = nodes.len();
+    if place >= u32::MAX as usize {
+        return Err(Memory);
+    }
+    nodes.insert(node, depth)?;
+    Ok(place as u32)
+}
+
+impl MarkNodes {
+    /// The table with the mark of nothing known.
+    pub fn new(alloc: Global) -> Result<MarkNodes, Memory>
+        ensures { IfOk result (λ nodes. nodes ≡ Any ∷ []) }
+    {
+        let mut nodes = IndexMap::new(alloc);
+        number(&mut nodes, MarkNode::Any, 0)?;
+        Ok(MarkNodes { nodes })
+    }
+
+    /// The number of the mark of nothing known.
+    pub fn first(&self) -> u32
+        ensures zero { result ≡ 0 }
+        ensures table { IsTable self.now }
+    {
+        let _nodes = &self.nodes;
+        0
+    }
+
+    /// The node of a number, and the depth of its mark.
+    pub fn at(&self, mark: u32) -> (MarkNode, u32)
+        requires { mark < length self.now }
+        ensures node { result.0 ≡ get_or self.now mark Any }
+        ensures depth { result.1 ≡ get_or (depths self.now) mark 0 }
+        ensures table { IsTable self.now }
+    {
+        let Some((node, depth)) = self.nodes.get_index(mark as usize) else {
+            unreachable!()
+        };
+        (*node, *depth)
+    }
+
+    /// The number of a node, which is added where it isn't there.
+    pub fn intern(&mut self, node: MarkNode, depth: u32) -> Result<u32, Memory>
+        requires parts { HasPartsBelow (length self.old) node }
+        requires depth { depth ≡ node_depth (depths self.old) node }
+        ensures made { IfOk result (λ r. Interns self.old self.new node r) }
+        ensures err { OnErr result (self.new ≡ self.old) }
+    {
+        number(&mut self.nodes, node, depth)
+    }
+}

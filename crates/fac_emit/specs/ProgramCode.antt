@@ -1,0 +1,147 @@
+-- The plain code of a closed program. That of a phrase is an instruction for each item and one behind them. First stands the code of the templates, by
+-- their numbers, and behind it that of the words, by theirs. So the code of a word ends where that of the next one begins.
+use Rattle.std.specs.Prelude.{◌≡◌, ℕ, zero, suc, ◌+◌, List, [], ◌∷◌, ◌++◌, length, ◌&&◌, nat_eq, Bool, true, false, Option, Some, None, slice_get}
+use Rattle.fac_lang.specs.declared.phrase.Template.{Template}
+use Rattle.fac_lang.specs.declared.program.Program.{Program}
+use Rattle.fac_lang.specs.declared.program.WordDef.{WordDef}
+use Rattle.fac_lang.specs.declared.program.Sort.{Sort}
+use Rattle.fac_lang.specs.declared.program.Sort.TheVariants.{Prim as prim_sort, Core as core_sort, Body as body}
+use Rattle.fac_lang.specs.Phrases.{int, yes, no, Phrase, end, then, Item, lit, word, made}
+use Rattle.fac_lang.specs.CoreWords.{is_built_core}
+use Rattle.fac_code.specs.declared.image.Instr.{Instr}
+use Rattle.fac_code.specs.declared.image.Instr.TheVariants.{Halt, Int, True, False, Quot, Prim, Callw, Call, Dip, If, Ret}
+use Rattle.fac_code.specs.declared.image.Action.{Action}
+use Rattle.fac_code.specs.declared.image.Action.TheVariants.{Prim as prim_action, Core as core_action, Code as code_action}
+use Rattle.fac_code.specs.declared.image.TemplateRow.{TemplateRow}
+use Rattle.fac_code.specs.declared.image.WordRow.{WordRow}
+use Rattle.fac_code.specs.declared.image.Image.{Image}
+
+-- the core words `call`, `dip` and `if`; the others aren't built yet
+abbrev pub core_instr : ℕ → Instr
+core_instr zero = Call false
+core_instr (suc zero) = Dip
+core_instr (suc (suc zero)) = If false
+core_instr (suc (suc (suc k))) = Halt
+
+-- whether a word of this sort has an instruction
+abbrev pub sort_is_coded : Sort → Bool
+sort_is_coded (prim_sort k) = true
+sort_is_coded (core_sort k) = is_built_core k
+sort_is_coded (body t) = true
+sort_is_coded _ = false
+
+abbrev pub word_is_coded : Option WordDef → Bool
+word_is_coded None = false
+word_is_coded (Some d) = sort_is_coded d.sort
+
+-- whether an item has one
+abbrev pub item_is_coded : List WordDef → Item → Bool
+item_is_coded words (lit (int z)) = true
+item_is_coded words (lit yes) = true
+item_is_coded words (lit no) = true
+item_is_coded words (word w) = word_is_coded (slice_get words w)
+item_is_coded words (made q) = true
+item_is_coded words _ = false
+
+-- whether each item of a phrase has one
+abbrev pub phrase_is_coded : List WordDef → Phrase → Bool
+phrase_is_coded words end = true
+phrase_is_coded words (then i place t) = item_is_coded words i && phrase_is_coded words t
+
+-- whether each item of a template has one
+abbrev pub template_is_coded : List WordDef → Template → Bool
+template_is_coded words t = phrase_is_coded words t.body
+
+-- whether each item of a word's phrase has one, where it is defined by a phrase
+abbrev pub body_is_coded : List WordDef → Sort → Bool
+body_is_coded words (body t) = phrase_is_coded words t
+body_is_coded words _ = true
+
+abbrev pub word_body_is_coded : List WordDef → WordDef → Bool
+word_body_is_coded words d = body_is_coded words d.sort
+
+-- a primitive and a core word are done in place, and a word that is defined by a phrase is called
+abbrev pub sort_instr : ℕ → Sort → Instr
+sort_instr w (prim_sort k) = Prim k
+sort_instr w (core_sort k) = core_instr k
+sort_instr w (body t) = Callw w false
+sort_instr w _ = Halt
+
+abbrev pub word_instr : ℕ → Option WordDef → Instr
+word_instr w None = Halt
+word_instr w (Some d) = sort_instr w d.sort
+
+-- a quotation is made by its template; the other items aren't built yet
+abbrev pub item_instr : List WordDef → Item → Instr
+item_instr words (lit (int z)) = Int z
+item_instr words (lit yes) = True
+item_instr words (lit no) = False
+item_instr words (word w) = word_instr w (slice_get words w)
+item_instr words (made q) = Quot q
+item_instr words _ = Halt
+
+abbrev pub phrase_code : List WordDef → Instr → Phrase → List Instr
+phrase_code words last end = last ∷ []
+phrase_code words last (then i place t) = item_instr words i ∷ phrase_code words last t
+
+-- the code of templates, one behind the other
+abbrev pub templates_code : List WordDef → List Template → List Instr
+templates_code words [] = []
+templates_code words (t ∷ ts) = phrase_code words Ret t.body ++ templates_code words ts
+
+-- the row of a template whose code stands at a place
+abbrev pub row_at : ℕ → Template → TemplateRow
+row_at at t = record { entry = at; cells = t.captures; holes = t.holes }
+
+-- the rows of templates, whose code stands from a place on
+abbrev pub template_rows : List WordDef → ℕ → List Template → List TemplateRow
+template_rows words at [] = []
+template_rows words at (t ∷ ts) = row_at at t ∷ template_rows words (at + length (phrase_code words Ret t.body)) ts
+
+-- the top-level phrase ends the run, and each other phrase goes back to where it was called
+abbrev pub last_instr : Bool → Instr
+last_instr true = Halt
+last_instr false = Ret
+
+-- what a word does, whose code, where it has code, stands at a place
+abbrev pub sort_action : ℕ → Sort → Action
+sort_action at (prim_sort k) = prim_action k
+sort_action at (core_sort k) = core_action k
+sort_action at _ = code_action at
+
+-- the code of a word, where it is defined by a phrase
+abbrev pub sort_code : List WordDef → Bool → Sort → List Instr
+sort_code words is_top (body t) = phrase_code words (last_instr is_top) t
+sort_code words is_top _ = []
+
+-- for the words of a closed program, whose top-level phrase has this number
+module _ (words : List WordDef) (top : ℕ) where
+  -- the code of the word with this number
+  abbrev pub word_code : ℕ → WordDef → List Instr
+  word_code w d = sort_code words (nat_eq w top) d.sort
+
+  -- the code of the words from number w on
+  abbrev pub code_from : ℕ → List WordDef → List Instr
+  code_from w [] = []
+  code_from w (d ∷ ds) = word_code w d ++ code_from (suc w) ds
+
+  -- the rows of the words from number w on, whose code stands from a place on
+  abbrev pub words_from : ℕ → ℕ → List WordDef → List WordRow
+  words_from at w [] = []
+  words_from at w (d ∷ ds) = (record { action = sort_action at d.sort }) ∷ words_from (at + length (word_code w d)) (suc w) ds
+
+-- all code
+abbrev pub program_code : Program → List Template → List Instr
+program_code C ts = templates_code C.words ts ++ code_from C.words C.top 0 C.words
+
+-- the rows of the words, whose code stands behind that of the templates
+abbrev pub program_words : Program → List Template → List WordRow
+program_words C ts = words_from C.words C.top (length (templates_code C.words ts)) 0 C.words
+
+-- the image is the plain code of the closed program with these templates, has a row for each template and each word under its number, and starts
+-- at the top-level phrase's place
+pub record IsPlain (C : Program) (templates : List Template) (M : Image) : Type 0 where
+  pub code : M.code ≡ program_code C templates
+  pub template_rows_are : M.templates ≡ template_rows C.words 0 templates
+  pub word_rows_are : M.words ≡ program_words C templates
+  pub begins : slice_get M.words C.top ≡ Some (record { action = code_action M.start })

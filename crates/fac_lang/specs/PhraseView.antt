@@ -1,0 +1,29 @@
+-- The tree that a phrase stands for.
+use Rattle.std.specs.Prelude.{List, [], ◌∷◌}
+use Rattle.fac_lang.specs.declared.phrase.Item.{Item as PlacedItem}
+use Rattle.fac_lang.specs.declared.phrase.What.{What}
+use Rattle.fac_lang.specs.declared.phrase.What.TheVariants.{Int, True, False, Str, Arr, Wref, Quot, Word, Bind, Local, Fry, Hole, CallEff, ExecEff, NextMethod, Made}
+use Rattle.fac_lang.specs.Phrases.{int, yes, no, str, wrd, Phrase, end, then, Item, lit, lit_arr, quot, word, bind, local, fry, hole, call_eff, exec_eff, next_method, made}
+
+abbrev pub what_item : What → Item
+what_item (Int z) = lit (int z)
+what_item True = lit yes
+what_item False = lit no
+what_item (Str s) = lit (str s)
+what_item (Arr n) = lit_arr n
+what_item (Wref n) = lit (wrd n)
+what_item (Quot p) = quot p
+what_item (Word n) = word n
+what_item (Bind n) = bind n
+what_item (Local n) = local n
+what_item (Fry p n) = fry p n
+what_item (Hole n) = hole n
+what_item (CallEff h) = call_eff h
+what_item (ExecEff h) = exec_eff h
+what_item NextMethod = next_method
+what_item (Made n) = made n
+
+-- the phrase of a list of items
+abbrev pub items_phrase : List PlacedItem → Phrase
+items_phrase [] = end
+items_phrase (i ∷ is) = then (what_item i.what) i.place (items_phrase is)

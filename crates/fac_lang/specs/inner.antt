@@ -1,0 +1,3 @@
+-- What no contract cites: that what stands in a phrase or an effect is smaller than it is.
+pub mod PhraseFalls
+pub mod EffectFalls
