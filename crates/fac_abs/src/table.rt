@@ -8,9 +8,9 @@ ghost use Rattle.fac_abs.specs.SeenMarks.{mark_of, stack_of, base_seen, reached_
 ghost use Rattle.fac_abs.specs.MarkPromises.{IsMarkOf, IsStackOf, IsStackWhere, IsNodeOf, HasTopWhere, IsJoinedWhere, IsReachedWhere};
 
 use crate::MarkNode;
-use crate::stack_nodes::StackNodes;
 use crate::mark_nodes::MarkNodes;
 use crate::reached::Reached;
+use crate::stack_nodes::StackNodes;
 use fac_lang::Memory;
 use fac_lang::limits::MOST_MARK_DEPTH;
 use std::alloc::Global;

@@ -12,7 +12,7 @@ ghost use Rattle.fac_check.specs.inner.Walking.{IsDoingOf, NamesPhrase, IsWalked
 ghost use Rattle.fac_check.specs.inner.Walking.{IsWalkOf, IsWalkOfPhrase, IsWalkOfItem, literal_walk, word_walk, curried_walk, part_walk, composed_walk, mark_walk, callable_walk, fork_walk};
 
 use crate::doing::{Doing, item_doing};
-use fac_abs::{Marks, MarkNode, Reached, Rule};
+use fac_abs::{MarkNode, Marks, Reached, Rule};
 use fac_lang::{Memory, Phrase, Place, Sort};
 use fac_locals::Closed;
 use std::alloc::Global;

@@ -11,7 +11,7 @@ mod text_set;
 mod vocabularies;
 
 pub use laws::{
-    literals_are_integers, one_tree, resolved_programs_are_whole, phrases_are_written_as_items,
+    literals_are_integers, one_tree, phrases_are_written_as_items, resolved_programs_are_whole,
     tree_or_none,
 };
 pub use reader::{ParseFault, Why, parse};

@@ -8,7 +8,7 @@ ghost use Rattle.fac_parse.specs.Spellings.{token_spelling};
 use crate::spelling::{Spelling, classify, closes_quotation, is_semicolon, names_a_value};
 use fac_lang::limits::{MOST_LEVELS, MOST_NAMES};
 use fac_lang::{
-    Duplicate, Form, List, Mark, Memory, Element, Place, Term, Token, Tree, WrittenEffect,
+    Duplicate, Element, Form, List, Mark, Memory, Place, Term, Token, Tree, WrittenEffect,
 };
 use std::alloc::Global;
 use thiserror::Error;

@@ -13,7 +13,7 @@ use crate::spelling::text;
 use crate::text_set::TextSet;
 use crate::vocabularies::is_vocabulary;
 use fac_lang::{
-    Form, Item, List, Mark, Memory, Phrase, Element, Place, Program, Term, Text, Token, Tree, What,
+    Element, Form, Item, List, Mark, Memory, Phrase, Place, Program, Term, Text, Token, Tree, What,
     WordDef, WrittenEffect,
 };
 use std::alloc::Global;
