@@ -32,8 +32,12 @@ machine_before M stack input = record (starting M stack) { world = record empty_
 abbrev pub top_run : Program → (Height → Height → Bool) → (Callable → Option Height) → List Value → List ℕ → ℕ → Result
 top_run P fits callable_height values input n = run P fits callable_height n (word_phrase P P.top) (state_before P values input)
 
+-- a run that is stuck at no budget
+abbrev pub IsNeverStuck : (ℕ → Result) → Type 0
+IsNeverStuck go = (m : ℕ) → IsNotStuck (go m)
+
 -- With this test of effects, and from every list of so many values whose callables are of the image's templates, with every input and at every budget, where the top-level phrase is stuck at no budget from the values for which these stand: the machine ends as that phrase does, with the same values and ticks, the same error, the same output, objects and input left.
 pub record Carries (P : Program) (fits : Height → Height → Bool) (callable_height : Callable → Option Height) (count : ℕ) (M : Image) : Type 0 where
   pub same_end :
-      (stack : List MValue) (input : List ℕ) → length stack ≡ count → AllWhole M stack → ((m : ℕ) → IsNotStuck (top_run P fits callable_height (values_view (template_phrases P) stack) input m)) →
+      (stack : List MValue) (input : List ℕ) → length stack ≡ count → AllWhole M stack → IsNeverStuck (top_run P fits callable_height (values_view (template_phrases P) stack) input) →
       (n : ℕ) → (e : End) × Ends M (names P) (machine_before M stack input) n e × SameEnd (template_phrases P) (top_run P fits callable_height (values_view (template_phrases P) stack) input n) e
