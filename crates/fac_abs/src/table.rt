@@ -340,7 +340,7 @@ impl Marks {
     /// Forgets all stacks but the empty one, so that their memory serves again. The marks stay.
     pub fn clear_stacks(&mut self)
         ensures nodes { self.new.nodes ≡ self.old.nodes }
-        ensures stack { IsStackOf self.new 0 (λ N. []) }
+        ensures stacks { self.new.stacks ≡ [] ∷ [] }
     {
         self.stack_nodes.clear();
     }

@@ -341,7 +341,7 @@ most_walked = MOST_ITEMS
 
 -- one more than the items, so that the item after the last one can still break a rule of its own
 abbrev pub most_steps : ℕ
-most_steps = 200001
+most_steps = suc MOST_ITEMS
 
 -- A phrase with all counts full: with the effect and number of the row word that is checked, where one is, and the number of the word in whose phrase it is.
 abbrev pub walked : Program → Option Signature → Option ℕ → ℕ → Phrase → Option Row → List Mark → Walked AbstractStack

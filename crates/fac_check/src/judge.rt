@@ -75,7 +75,7 @@ pub fn first_refused(verdicts: &List<Verdict>) -> Option<Refusal>
     None
 }
 
-/// Keeps an accepted program as one.
+/// The closed program as an accepted one, which is safe.
 pub fn accept(closed: Closed) -> Checked
     requires stands { StandsForBuilt closed }
     requires accepted { IsAccepted closed }

@@ -20,7 +20,7 @@ pub enum CheckFault {
     /// The program breaks a rule.
     #[error("the program is refused")]
     Refused(Refusal),
-    /// A number was too wide, or a growth was refused.
+    /// A growth was refused.
     #[error("out of memory")]
     Memory,
 }

@@ -21,7 +21,7 @@ use Rattle.fac_locals.proofs.Lookups.{word_closed, word_open, template_closed}
 use Rattle.fac_code.specs.declared.image.Instr.{Instr}
 use Rattle.fac_code.specs.declared.image.Instr.TheVariants.{Ret}
 use Rattle.fac_emit.specs.ProgramCode.{core_instr, sort_instr, word_instr, item_instr, phrase_code, last_instr, sort_code, word_code}
-use Rattle.fac_emit.specs.inner.Pieces.{found_code, found_template}
+use Rattle.fac_emit.specs.inner.FoundCode.{found_code, found_template}
 use Rattle.fac_emit.specs.Emits.{ItemEmits, e_int, e_true, e_false, e_quot, e_prim, e_word, e_call, e_dip, e_if, PhraseEmits, e_end, e_item, Emits, e_phrase, e_no_phrase, TemplateEmits}
 use Rattle.fac_emit.proofs.Closings.{Closing, c_end, c_int, c_true, c_false, c_word, c_quot, closing}
 

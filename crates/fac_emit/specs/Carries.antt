@@ -36,7 +36,9 @@ top_run P fits callable_height values input n = run P fits callable_height n (wo
 abbrev pub IsNeverStuck : (ℕ → Result) → Type 0
 IsNeverStuck go = (m : ℕ) → IsNotStuck (go m)
 
--- With this test of effects, and from every list of so many values whose callables are of the image's templates, with every input and at every budget, where the top-level phrase is stuck at no budget from the values for which these stand: the machine ends as that phrase does, with the same values and ticks, the same error, the same output, objects and input left.
+-- With this test of effects, from every list of so many values whose callables are of the image's templates, with every input and at every
+-- budget, where the top-level phrase is stuck at no budget from the values for which these stand: the machine ends as that phrase does. Done:
+-- with the same stack and ticks. Failed: with the same error and ticks. Spent too: with the same objects, output and input left.
 pub record Carries (P : Program) (fits : Height → Height → Bool) (callable_height : Callable → Option Height) (count : ℕ) (M : Image) : Type 0 where
   pub same_end :
       (stack : List MValue) (input : List ℕ) → length stack ≡ count → AllWhole M stack → IsNeverStuck (top_run P fits callable_height (values_view (template_phrases P) stack) input) →

@@ -1,3 +1,3 @@
 -- What only the contracts of inner functions cite.
-pub mod Pieces
+pub mod FoundCode
 pub mod Parts

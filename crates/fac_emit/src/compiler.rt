@@ -105,7 +105,8 @@ fn place(rows: &List<WordRow>, word: u32) -> u32
 }
 
 /// The image of a closed program of the built forms. It carries the program that this one stands for, on every list of as many values as
-/// the closed program starts on, with every input and at every budget, where that program is stuck at none. Its code stands for the
+/// the closed program starts on whose callables are of the image's templates, with every input and at every budget, where that program is
+/// stuck at none. Its code stands for the
 /// phrases of that program, item by item, and is plain: the code of the templates and behind it that of the words, each in their order, with a row
 /// for each template and each word; it starts at the top-level phrase. Want of memory is the one error.
 pub fn compile(alloc: Global, closed: &Closed) -> Result<Image, Memory>

@@ -8,7 +8,7 @@ ghost use Rattle.fac_lang.specs.CoreWords.{is_built_core};
 ghost use Rattle.fac_lang.specs.Meaning.{sort_of};
 ghost use Rattle.fac_locals.specs.Closed.{Closes};
 ghost use Rattle.fac_emit.specs.ProgramCode.{sort_is_coded, item_is_coded, phrase_is_coded, template_is_coded, body_is_coded, core_instr, sort_instr, item_instr, phrase_code, row_at, templates_code, template_rows, last_instr, sort_code};
-ghost use Rattle.fac_emit.specs.inner.Pieces.{found_code, found_template};
+ghost use Rattle.fac_emit.specs.inner.FoundCode.{found_code, found_template};
 ghost use Rattle.fac_emit.specs.Emits.{Emits, TemplateEmits};
 
 use fac_code::{Instr, TemplateRow};
@@ -175,8 +175,8 @@ fn code_of_template(alloc: Global, closed: &Closed, template: u32) -> Result<Lis
     Ok(code)
 }
 
-/// The piece of the word with this number: an instruction for each item of its phrase, and behind them a `ret`, or a `halt` for the
-/// top-level phrase. Want of memory is the one error.
+/// The plain code of the word with this number, as a piece: an instruction for each item of its phrase, and behind them a `ret`, or a `halt`
+/// for the top-level phrase. A word that isn't defined by a phrase has none. Want of memory is the one error.
 pub fn emit_word(alloc: Global, closed: &Closed, word: u32) -> Result<Piece, Memory>
     requires { ((P : Source) × Closes P closed.now.program closed.now.templates × IsBuilt P) × (word < length closed.now.program.words) }
     ensures { IfOk result (λ piece. (P : Source) → Closes P closed.now.program closed.now.templates → IsBuilt P → Emits P word (sort_of P word) piece.code) }

@@ -115,8 +115,8 @@ LoadFails folder name (Err load.TooLong) after = (is_next_listed folder ≡ fals
 LoadFails folder name (Err load.Failed) after = ((is_next_listed folder || is_none (bytes_of folder.files name)) ≡ true) × (after.faults ≡ one_more folder.faults)
 LoadFails folder name (Err load.Memory) after = after.faults ≡ folder.faults
 
--- a save fails exactly at a listed call, and the count rises by one exactly there
+-- a save fails exactly at a listed call, where the files stay, and the count rises by one exactly there
 abbrev pub SaveFails : {A : Type 0} → MemFiles → Result A SaveFault → MemFiles → Type 0
 SaveFails folder (Ok done) after = (is_next_listed folder ≡ false) × (after.faults ≡ folder.faults)
-SaveFails folder (Err save.Failed) after = (is_next_listed folder ≡ true) × (after.faults ≡ one_more folder.faults)
+SaveFails folder (Err save.Failed) after = (is_next_listed folder ≡ true) × (after.files ≡ folder.files) × (after.faults ≡ one_more folder.faults)
 SaveFails folder (Err save.Memory) after = after.faults ≡ folder.faults

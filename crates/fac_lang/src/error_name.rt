@@ -1,6 +1,6 @@
 //! The names of run errors.
 
-/// The names of the run errors. They and their limits are this profile's own rule.
+/// The names of the run errors. They and their limits are this profile's own.
 #[derive(Clone, Copy, Debug, PartialEq, Eq)]
 pub enum ErrorName {
     /// An operand that must be an integer is another value.

@@ -1,5 +1,5 @@
 //! The limits of the language and of the tool, each with its name. Definitions and code cite them here, and `docs/LANGUAGE.md` lists those
-//! that a user can meet. All of them are this profile's own rule.
+//! that a user can meet. All of them are this profile's own.
 
 /// The most bytes that a source file has.
 pub const MOST_SOURCE_BYTES: u64 = 4_194_304;
@@ -19,7 +19,7 @@ pub const MOST_APPLICATIONS: u32 = 64;
 /// The most items that the checker walks for one word.
 pub const MOST_ITEMS: u32 = 200_000;
 
-/// The most parts of one inside another that the mark of a callable has. Of a deeper one nothing is known.
+/// The most parts inside one another that the mark of a callable has. Of a deeper one nothing is known.
 pub const MOST_MARK_DEPTH: u32 = 64;
 
 /// The most elements of an array or a string.
@@ -30,6 +30,9 @@ pub const MOST_PAIRS: usize = 1_000_000;
 
 /// The most bytes of a printed form that is written.
 pub const MOST_PRINTED_BYTES: usize = 1_000_000;
+
+/// The most bytes of a printed form that is told at the end of a run. In place of a longer one stand three dots.
+pub const MOST_SHOWN_BYTES: usize = 1_000;
 
 /// The most levels of arrays and tuples in a printed form. The printed value is at level 1.
 pub const MOST_PRINTED_LEVELS: usize = 16;

@@ -4,10 +4,11 @@ use Rattle.std.specs.declared.option.Option.{Option}
 use Rattle.fac_lang.specs.declared.program.Name.{Name}
 use Rattle.fac_lang.specs.declared.program.Program.{Program}
 use Rattle.fac_lang.specs.declared.program.WordDef.{WordDef}
+use Rattle.fac_lang.specs.Meaning.{word_call, word_execute}
 
 -- the name of a number that no word has: the tests of `call( )` and `execute( )` have the two greatest numbers
 abbrev pub name_without_word : ℕ → List ℕ
-name_without_word w = (if w == 4294967294 then codes "call(" else if w == 4294967295 then codes "execute(" else codes "unnamed")
+name_without_word w = (if w == word_call then codes "call(" else if w == word_execute then codes "execute(" else codes "unnamed")
 
 -- the name of a word by its number
 abbrev pub name_or : ℕ → Option WordDef → Name

@@ -20,6 +20,7 @@ pub enum TokenFault {
     /// what stands behind the closing one.
     #[error("white space is missing before byte {at}")]
     StuckQuote { at: u64 },
+    /// A growth was refused, or a token would have the number 2^32.
     #[error("out of memory")]
     Memory,
 }

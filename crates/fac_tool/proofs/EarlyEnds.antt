@@ -10,7 +10,7 @@ use Rattle.fac_notes.specs.Statuses.{status_of}
 use Rattle.fac_tool.specs.declared.ended.Ended.{Ended}
 use Rattle.fac_tool.specs.Answer.{Answer, refused, meaning}
 use Rattle.fac_tool.specs.SeenObjects.{SinkSeen}
-use Rattle.fac_tool.specs.Ends.{Ending, Told, ending_of, EndsBy, EndsAs, Work, idle, runs, run_output, StopsWithin, CutShort, RunPieces, OutputInPieces}
+use Rattle.fac_tool.specs.Ends.{Ending, Told, ending_of, EndsBy, EndsAs, Work, idle, runs, run_output, StopsWithin, CutShort, RunPieces, RunFront, OutputInPieces}
 use Rattle.fac_tool.specs.inner.StepEnds.{bare, reported, still, EndsEarly}
 
 pub grows_nothing : {A : Type 0} (told : Option (List A)) → Grows told told []
@@ -27,7 +27,7 @@ cut_before idle answer told m = (refl, GrowsByPrefix-stays told.taken told.taken
 cut_before (runs P budget) answer told m = not_begun P budget told m
 
 -- nothing was taken of its output
-no_pieces : (work : Work) (told : SinkTold) (m : ℕ) → OutputInPieces work 0 [] (still told m)
+no_pieces : (work : Work) (told : SinkTold) (m : ℕ) → OutputInPieces work 0 (still told m)
 no_pieces idle told m = Stays-same told.pieces
 no_pieces (runs P budget) told m = record { wrote_in = 0; within = omega arith; taken = grows_nothing told.taken; pieces = grows_nothing told.pieces }
 
@@ -55,6 +55,6 @@ no_memory_in_run P budget answer out ticks ended e within pieces =
 -- likewise when a write failed
 pub write_fault_in_run :
     (P : Program) (budget : ℕ) (answer : Answer) (out : SinkSeen) (ticks : ℕ) (ended : Ended) →
-    ended ≡ bare 10 ticks → Rose out.faults_before out.faults_now → StopsWithin P budget ticks out → ((last : List ℕ) × RunPieces P ticks last out) → EndsAs answer (runs P budget) out ended
+    ended ≡ bare 10 ticks → Rose out.faults_before out.faults_now → StopsWithin P budget ticks out → RunFront P ticks out → EndsAs answer (runs P budget) out ended
 write_fault_in_run P budget answer out ticks ended e rose within pieces =
     subst (λ (x : Ended). EndsAs answer (runs P budget) out x) (sym e) (rose, within, record { stack = refl; refusal = refl }, pieces)

@@ -183,7 +183,16 @@ module _ (law : RunsHaveOneEnd) (P : Program) (M : Image) (carries : Carried P M
   takes_by ticks out (stop.Failed e) h = run_pieces ticks out (stop.Failed e) [] h h.only_at_fault
   takes_by ticks out stop.Spent h = run_pieces ticks out stop.Spent [] h h.only_at_fault
   takes_by ticks out (stop.Trap pc y) h = run_pieces ticks out (stop.Trap pc y) [] h h.only_at_fault
-  takes_by ticks out stop.WriteFault h = (h.last, run_pieces ticks out stop.WriteFault h.last h refl)
+  takes_by ticks out stop.WriteFault h =
+      let fault = h.only_at_fault in
+      record {
+        last = h.last;
+        taken = run_pieces ticks out stop.WriteFault h.last h refl;
+        piece = fault.piece;
+        next = sym (are_pieces ticks (h.pieces ++ one_piece fault.piece) fault.behind fault.writes) ∙ ap (λ (ps : List (List ℕ)). ps ++ one_piece fault.piece) (are_pieces h.used h.pieces h.stood h.writes);
+        count = fault.count;
+        front = fault.front;
+      }
   takes_by ticks out stop.Memory h = run_pieces ticks out stop.Memory [] h h.only_at_fault
 
 -- a run from an empty stack

@@ -2,7 +2,7 @@
 use Rattle.std.specs.Prelude.{ℕ, ◌-◌, List, [], length, map, reverse, None, Some, codes, nat_le, Result, Ok, Err, if◌then◌else◌}
 use Rattle.std.specs.declared.option.Option.{Option}
 use Rattle.std.specs.Option.{option_map}
-use Rattle.fac_lang.specs.declared.limits.TheConstants.{MOST_SOURCE_BYTES}
+use Rattle.fac_lang.specs.declared.limits.TheConstants.{MOST_SOURCE_BYTES, MOST_SHOWN_BYTES}
 use Rattle.fac_lang.specs.declared.program.Program.{Program}
 use Rattle.fac_lang.specs.declared.tree.Form.{Form}
 use Rattle.fac_lang.specs.Phrases.{Value}
@@ -53,7 +53,7 @@ meaning P n = run P fits (callable_height P) n (word_phrase P P.top) (start P []
 
 -- a printed form, or three dots where it has more than 1,000 bytes
 abbrev pub shown_text : List ℕ → List ℕ
-shown_text text = (if nat_le (length text) 1000 then text else codes "...")
+shown_text text = (if nat_le (length text) MOST_SHOWN_BYTES then text else codes "...")
 
 abbrev pub shown : Program → World Value → Value → List ℕ
 shown P w v = shown_text (printed meaning_values (names P) w v)

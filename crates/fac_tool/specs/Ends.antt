@@ -1,5 +1,5 @@
 -- How the work of a command ends, before its note is written.
-use Rattle.std.specs.Prelude.{◌≡◌, ◌==◌, ◌≤◌, ℕ, zero, suc, None, Some, if◌then◌else◌, List, [], ◌++◌, drop, length, ◌<◌, ◌-◌}
+use Rattle.std.specs.Prelude.{◌≡◌, ◌==◌, ◌≤◌, ℕ, zero, suc, None, Some, if◌then◌else◌, List, [], ◌++◌, drop, take, length, ◌<◌, ◌-◌}
 use Rattle.std.specs.declared.option.Option.{Option}
 use Rattle.std.specs.List.{concat}
 use Rattle.fac_io.specs.Faults.{Rose}
@@ -63,12 +63,22 @@ pieces_in P zero = []
 pieces_in P (suc n) = pieces_in P n ++ one_piece (tick_output P (suc n))
 
 -- What was taken of the output of a run that used so many ticks was taken in the pieces of its items that wrote, one for each and whole.
--- Behind them comes what was taken of the piece of a last item, whose write failed.
+-- Behind them comes `last`, in one piece.
 pub record RunPieces (P : Program) (ticks : ℕ) (last : List ℕ) (out : SinkSeen) : Type 0 where
   pub wrote_in : ℕ
   pub within : wrote_in ≤ ticks
   pub taken : Grows out.before.taken out.now.taken (concat (pieces_in P wrote_in) ++ last)
   pub pieces : Grows out.before.pieces out.now.pieces (pieces_in P wrote_in ++ one_piece last)
+
+-- Likewise where the last write failed: behind the pieces that were taken whole comes a front of the next one, that of the last item that writes in
+-- these ticks.
+pub record RunFront (P : Program) (ticks : ℕ) (out : SinkSeen) : Type 0 where
+  pub last : List ℕ
+  pub taken : RunPieces P ticks last out
+  pub piece : List ℕ
+  pub next : pieces_in P ticks ≡ pieces_in P taken.wrote_in ++ one_piece piece
+  pub count : ℕ
+  pub front : last ≡ take count piece
 
 -- How far a run with a budget came that used so many ticks, however it ended. With one tick less the meaning is spent, and what it
 -- wrote till then was taken. Of what it writes in these ticks a prefix was taken.
@@ -83,9 +93,14 @@ CutShort idle answer ticks out = (ticks ≡ 0) × GrowsByPrefix out.before.taken
 CutShort (runs P budget) answer ticks out = StopsWithin P budget ticks out
 
 -- in which pieces the output was taken: in none outside a run
-abbrev pub OutputInPieces : Work → ℕ → List ℕ → SinkSeen → Type 0
-OutputInPieces idle ticks last out = Stays out.before.pieces out.now.pieces
-OutputInPieces (runs P budget) ticks last out = RunPieces P ticks last out
+abbrev pub OutputInPieces : Work → ℕ → SinkSeen → Type 0
+OutputInPieces idle ticks out = Stays out.before.pieces out.now.pieces
+OutputInPieces (runs P budget) ticks out = RunPieces P ticks [] out
+
+-- likewise where a write failed
+abbrev pub OutputFront : Work → ℕ → SinkSeen → Type 0
+OutputFront idle ticks out = Stays out.before.pieces out.now.pieces
+OutputFront (runs P budget) ticks out = RunFront P ticks out
 
 -- there is neither a stack nor a refusal: what stood on the stack of a run that was cut short isn't told
 pub record IsBare (ended : Ended) : Type 0 where
@@ -94,12 +109,12 @@ pub record IsBare (ended : Ended) : Type 0 where
 
 -- how work on a text ends, by the kind of its status
 abbrev pub EndsBy : Ending → Answer → Work → SinkSeen → Ended → Type 0
-EndsBy Told answer work out ended = Matches answer out ended × OutputInPieces work ended.ticks [] out
+EndsBy Told answer work out ended = Matches answer out ended × OutputInPieces work ended.ticks out
 EndsBy Usage answer work out ended = ⊥
 EndsBy TooLong answer work out ended = ⊥
 EndsBy FileFault answer work out ended = ⊥
-EndsBy WriteFault answer work out ended = Rose out.faults_before out.faults_now × CutShort work answer ended.ticks out × IsBare ended × ((last : List ℕ) × OutputInPieces work ended.ticks last out)
-EndsBy NoMemory answer work out ended = CutShort work answer ended.ticks out × IsBare ended × OutputInPieces work ended.ticks [] out
+EndsBy WriteFault answer work out ended = Rose out.faults_before out.faults_now × CutShort work answer ended.ticks out × IsBare ended × OutputFront work ended.ticks out
+EndsBy NoMemory answer work out ended = CutShort work answer ended.ticks out × IsBare ended × OutputInPieces work ended.ticks out
 
 -- the work has this answer, or was cut short
 abbrev pub EndsAs : Answer → Work → SinkSeen → Ended → Type 0

@@ -15,6 +15,7 @@ use fac_check::{Checked, safe_programs_are_not_stuck};
 use fac_code::Image;
 use fac_emit::compile;
 use fac_io::Sink;
+use fac_lang::limits::MOST_SHOWN_BYTES;
 use fac_lang::{List, Memory, Program, Text};
 use fac_notes::name_of_word;
 use fac_prim::{Value, printed_form};
@@ -25,7 +26,7 @@ use std::alloc::Global;
 fn shown(alloc: Global, text: &str) -> Result<Text, Memory>
     ensures { IfOk result (λ shown. shown ≡ shown_text text.now) }
 {
-    if text.len() <= 1000 {
+    if text.len() <= MOST_SHOWN_BYTES {
         Text::from_str(alloc, text)
     } else {
         Text::from_str(alloc, "...")

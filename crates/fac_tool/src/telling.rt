@@ -1,4 +1,4 @@
-//! The note of an ending is written.
+//! Writing the note of an ending.
 ghost use Rattle.std.specs.Prelude.{◌≡◌, ◌∷◌, ◌<◌, [], codes, length, IfOk, OnOk, OnErr, IsErr};
 ghost use Rattle.fac_io.specs.Faults.{HasCause};
 ghost use Rattle.fac_io.specs.Told.{Took, sink_tells};
@@ -24,7 +24,7 @@ fn file_names(alloc: Global, name: &str) -> Result<List<Text>, Memory>
     Ok(names)
 }
 
-// The note of a status that comes without a report. There is no memory in it where it is empty.
+// The note of a status that comes without a report. An empty one takes no memory.
 fn status_note(alloc: Global, status: u8, ticks: u64) -> Result<Text, Memory>
     ensures note { IfOk result (λ note. note ≡ note_of_status status ticks) }
     ensures some { OnErr result (0 < length (note_of_status status ticks)) }

@@ -30,7 +30,7 @@ use Rattle.fac_notes.specs.declared.report.Report.TheVariants as report
 use Rattle.fac_notes.specs.WordNames.{word_name}
 use Rattle.fac_tool.specs.Answer.{meaning, shown_text}
 use Rattle.fac_tool.specs.SeenObjects.{SinkSeen}
-use Rattle.fac_tool.specs.Ends.{RunPieces}
+use Rattle.fac_tool.specs.Ends.{RunPieces, RunFront}
 
 -- the program for which a closed one stands
 pub record StandsFor (closed : Closed) (P : Program) : Type 0 where
@@ -64,13 +64,13 @@ StopsAs P budget T stack ticks out (stop.Trap pc why) = ⊥
 StopsAs P budget T stack ticks out stop.WriteFault = Unit {0}
 StopsAs P budget T stack ticks out stop.Memory = Unit {0}
 
--- in which pieces its output was taken: those of the items that wrote, and at a write fault what was taken of one more
+-- in which pieces its output was taken: those of the items that wrote, and at a write fault a front of the next one
 abbrev pub TakesPieces : Program → ℕ → SinkSeen → StopKind → Type 0
 TakesPieces P ticks out stop.Done = RunPieces P ticks [] out
 TakesPieces P ticks out (stop.Failed e) = RunPieces P ticks [] out
 TakesPieces P ticks out stop.Spent = RunPieces P ticks [] out
 TakesPieces P ticks out (stop.Trap pc why) = RunPieces P ticks [] out
-TakesPieces P ticks out stop.WriteFault = (last : List ℕ) × RunPieces P ticks last out
+TakesPieces P ticks out stop.WriteFault = RunFront P ticks out
 TakesPieces P ticks out stop.Memory = RunPieces P ticks [] out
 
 -- the printed form of a value of the machine
