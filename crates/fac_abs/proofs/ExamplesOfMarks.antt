@@ -3,10 +3,12 @@ use Rattle.std.proofs.Common.{◌≡◌, ℕ, List, [], ◌∷◌, true, false, 
 use Rattle.fac_lang.specs.Phrases.{end, Literal, Mark, any, lit_mark, cur_mark, com_mark, wrd_mark, par_mark}
 use Rattle.fac_abs.specs.declared.stack_nodes.StackNode.{StackNode}
 use Rattle.fac_abs.specs.declared.mark_node.MarkNode.TheVariants.{Any, Lit, Cur, Com}
-use Rattle.fac_abs.specs.InTurn.{under, moved, zeros, joined_numbers, cover_numbers}
+use Rattle.fac_abs.specs.InTurn.{under, moved}
+use Rattle.fac_abs.specs.inner.Stacks.{zeros, joined_numbers, cover_numbers}
 use Rattle.fac_abs.specs.Marks.{hidden, named_row, dead, on, mark_eq, curried_mark, composed_mark, cover_marks, joined, covered}
 use Rattle.fac_abs.specs.inner.Stacks.{stacks_of}
-use Rattle.fac_abs.specs.MarkTrees.{Naming, depths}
+use Rattle.fac_abs.specs.MarkTrees.{Naming}
+use Rattle.fac_abs.specs.inner.Interning.{depths}
 use Rattle.fac_abs.specs.SeenMarks.{MarksSeen, mark_of, numbers_of, stack_of, is_mark, is_stack}
 
 rows_apart : (j k : ℕ) → named_row (j ∷ []) ≡ named_row (k ∷ []) → j ≡ k

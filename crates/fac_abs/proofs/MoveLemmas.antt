@@ -9,10 +9,12 @@ use Rattle.fac_lang.specs.PhraseCodes.{Token, mark_tokens}
 use Rattle.fac_lang.specs.Phrases.{Mark, any}
 use Rattle.fac_lang.specs.Procedures.{or_else, picked}
 use Rattle.fac_abs.specs.declared.mark_node.MarkNode.{MarkNode}
-use Rattle.fac_abs.specs.InTurn.{under, zeros, taken, moved, joined_number, joined_numbers, cover_numbers}
-use Rattle.fac_abs.specs.inner.Keeping.{IsWhere, Is, Joins}
+use Rattle.fac_abs.specs.InTurn.{under, taken, moved}
+use Rattle.fac_abs.specs.inner.Stacks.{zeros, joined_number, joined_numbers, cover_numbers}
+use Rattle.fac_abs.specs.inner.Keeping.{IsWhere, IsStackWith, Joins}
 use Rattle.fac_abs.specs.Marks.{int_eq, token_eq, tokens_eq, mark_eq, join_mark, join_marks, cover_marks, unknowns, piled}
-use Rattle.fac_abs.specs.MarkTrees.{Naming, IsTable}
+use Rattle.fac_abs.specs.MarkTrees.{Naming}
+use Rattle.fac_abs.specs.inner.Interning.{IsTable}
 use Rattle.fac_abs.specs.SeenMarks.{mark_of, stack_of, are_below}
 use Rattle.fac_abs.specs.MarkPromises.{IsStackOf, IsStackWhere, IsJoinedWhere}
 use Rattle.fac_abs.proofs.EqualMarks.{and_first, and_second, never_true, mark_same}
@@ -212,10 +214,10 @@ pub below_where : (ns : List MarkNode) (ss : List (List ℕ)) (s n : ℕ) (o : O
 below_where ns ss s n o low h = where_some ns ss ss (under n (get_or ss s [])) (λ N. under n (stack_of N (seen ns ss) s)) o (λ ys e. under_below (length ns) n (get_or ss s []) ys low e) (λ N. ap (under n) (stack_reads N (seen ns ss) s) ∙ under_map (mark_of N (seen ns ss)) n (get_or ss s [])) h
 
 module _ {E : Type 0} where
-  pub push_by : (ns : List MarkNode) (ss ts : List (List ℕ)) (s m : ℕ) (r : Result ℕ E) → IfOk r (λ k. Is ts k (m ∷ get_or ss s [])) → m < length ns → are_below (length ns) (get_or ss s []) ≡ true → IfOk r (λ k. IsStackOf (seen ns ts) k (λ N. mark_of N (seen ns ss) m ∷ stack_of N (seen ns ss) s))
+  pub push_by : (ns : List MarkNode) (ss ts : List (List ℕ)) (s m : ℕ) (r : Result ℕ E) → IfOk r (λ k. IsStackWith ts k (m ∷ get_or ss s [])) → m < length ns → are_below (length ns) (get_or ss s []) ≡ true → IfOk r (λ k. IsStackOf (seen ns ts) k (λ N. mark_of N (seen ns ss) m ∷ stack_of N (seen ns ss) s))
   push_by ns ss ts s m r f h low = stack_by ns ss ts (m ∷ get_or ss s []) (λ N. mark_of N (seen ns ss) m ∷ stack_of N (seen ns ss) s) (both (nat_lt m (length ns)) _ (below_is m (length ns) h) low) (λ N. ap (λ (t : List Mark). mark_of N (seen ns ss) m ∷ t) (sym (stack_reads N (seen ns ss) s))) r f
 
-  pub unknowns_by : (ns : List MarkNode) (ss ts : List (List ℕ)) (s n : ℕ) (r : Result ℕ E) → IfOk r (λ k. Is ts k (zeros n (get_or ss s []))) → IsTable ns → are_below (length ns) (get_or ss s []) ≡ true → IfOk r (λ k. IsStackOf (seen ns ts) k (λ N. unknowns n (stack_of N (seen ns ss) s)))
+  pub unknowns_by : (ns : List MarkNode) (ss ts : List (List ℕ)) (s n : ℕ) (r : Result ℕ E) → IfOk r (λ k. IsStackWith ts k (zeros n (get_or ss s []))) → IsTable ns → are_below (length ns) (get_or ss s []) ≡ true → IfOk r (λ k. IsStackOf (seen ns ts) k (λ N. unknowns n (stack_of N (seen ns ss) s)))
   unknowns_by ns ss ts s n r f t low = stack_by ns ss ts (zeros n (get_or ss s [])) (λ N. unknowns n (stack_of N (seen ns ss) s)) (zeros_below (length ns) n (get_or ss s []) (below_is 0 (length ns) t.some) low) (λ N. zeros_map (mark_of N (seen ns ss)) ((first_mark ns ss t).is N) n (get_or ss s []) ∙ ap (unknowns n) (sym (stack_reads N (seen ns ss) s))) r f
 
   pub shuffle_by : (ns : List MarkNode) (ss ts : List (List ℕ)) (s n : ℕ) (places : List ℕ) (r : Result (Option ℕ) E) → IfOk r (λ o. IsWhere ts o (moved 0 n places (get_or ss s []))) → IsTable ns → are_below (length ns) (get_or ss s []) ≡ true → IfOk r (λ o. IsStackWhere (seen ns ts) o (λ N. moved any n places (stack_of N (seen ns ss) s)))

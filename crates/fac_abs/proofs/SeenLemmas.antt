@@ -6,9 +6,10 @@ use Rattle.fac_lang.specs.Phrases.{Mark, any, cur_mark, com_mark}
 use Rattle.fac_abs.specs.declared.mark_node.MarkNode.{MarkNode}
 use Rattle.fac_abs.specs.declared.mark_node.MarkNode.TheVariants.{Any, Lit, Cur, Com, Wrd, Par}
 use Rattle.fac_abs.specs.inner.Interning.{Interns}
-use Rattle.fac_abs.specs.inner.Keeping.{Keeps, Is, Uncovers}
+use Rattle.fac_abs.specs.inner.Keeping.{Keeps, IsStackWith, Uncovers}
 use Rattle.fac_abs.specs.Marks.{mark_depth}
-use Rattle.fac_abs.specs.MarkTrees.{Naming, tree, trees, depths, HasPartsBelow, IsTable}
+use Rattle.fac_abs.specs.MarkTrees.{Naming, tree, trees}
+use Rattle.fac_abs.specs.inner.Interning.{depths, HasPartsBelow, IsTable}
 use Rattle.fac_abs.specs.SeenMarks.{MarksSeen, mark_of, numbers_of, stack_of, are_below, is_mark, is_stack, IsMark, IsStack, Grows}
 use Rattle.fac_abs.specs.MarkPromises.{IsMarkOf, IsStackOf, IsMadeOf, IsNodeOf, HasTopWhere}
 use Rattle.fac_abs.proofs.EqualMarks.{and_first, and_second}
@@ -110,7 +111,7 @@ grows_stack_nodes ns ss ts k = record {
 }
 
 -- A stack of numbers stands for their marks.
-pub made_stack : (ns : List MarkNode) (ss ts : List (List ℕ)) (s : ℕ) (xs : List ℕ) (marks : Naming → List Mark) → Is ts s xs → are_below (length ns) xs ≡ true → ((N : Naming) → map (mark_of N (seen ns ss)) xs ≡ marks N) → IsStackOf (seen ns ts) s marks
+pub made_stack : (ns : List MarkNode) (ss ts : List (List ℕ)) (s : ℕ) (xs : List ℕ) (marks : Naming → List Mark) → IsStackWith ts s xs → are_below (length ns) xs ≡ true → ((N : Naming) → map (mark_of N (seen ns ss)) xs ≡ marks N) → IsStackOf (seen ns ts) s marks
 made_stack ns ss ts s xs marks i low same = record {
   valid = within_stack (seen ns ts) s i.within (ap (are_below (length ns)) i.marks_are ∙ low);
   is = λ N. stack_reads N (seen ns ts) s ∙ ap (map (mark_of N (seen ns ts))) i.marks_are ∙ marks_stay N ns ss ts xs ∙ same N;
@@ -170,7 +171,7 @@ module _ {E : Type 0} where
   grows_by ns ns' ss n (Ok k) f g = grows_interned ns ns' ss n k f
   grows_by ns ns' ss n (Err e) f g = subst (λ (t : List MarkNode). Grows (seen ns ss) (seen t ss)) (sym g) (grows_refl (seen ns ss))
 
-  pub stack_by : (ns : List MarkNode) (ss ts : List (List ℕ)) (xs : List ℕ) (marks : Naming → List Mark) → are_below (length ns) xs ≡ true → ((N : Naming) → map (mark_of N (seen ns ss)) xs ≡ marks N) → (r : Result ℕ E) → IfOk r (λ s. Is ts s xs) → IfOk r (λ s. IsStackOf (seen ns ts) s marks)
+  pub stack_by : (ns : List MarkNode) (ss ts : List (List ℕ)) (xs : List ℕ) (marks : Naming → List Mark) → are_below (length ns) xs ≡ true → ((N : Naming) → map (mark_of N (seen ns ss)) xs ≡ marks N) → (r : Result ℕ E) → IfOk r (λ s. IsStackWith ts s xs) → IfOk r (λ s. IsStackOf (seen ns ts) s marks)
   stack_by ns ss ts xs marks low same (Ok s) f = made_stack ns ss ts s xs marks f low same
   stack_by ns ss ts xs marks low same (Err e) f = tt
 

@@ -4,10 +4,11 @@ use Rattle.std.proofs.lemmas.List.{get_or_append_left, get_or-map}
 use Rattle.std.proofs.Math.Seq.{get_or-append_seam}
 use Rattle.fac_lang.specs.Procedures.{or_else, picked}
 use Rattle.fac_abs.specs.declared.stack_nodes.StackNode.{StackNode}
-use Rattle.fac_abs.specs.InTurn.{under, taken, zeros, joined_numbers, cover_numbers}
-use Rattle.fac_abs.specs.inner.Keeping.{Keeps, Is, Going}
+use Rattle.fac_abs.specs.InTurn.{under, taken}
+use Rattle.fac_abs.specs.inner.Stacks.{zeros, joined_numbers, cover_numbers}
+use Rattle.fac_abs.specs.inner.Keeping.{Keeps, IsStackWith, Going}
 use Rattle.fac_abs.specs.Marks.{piled}
-use Rattle.fac_abs.specs.inner.Stacks.{covered, stacks_of, said_height, TellHeights, LiesOnEarlier, LieOnEarlier}
+use Rattle.fac_abs.specs.inner.Stacks.{stack_made, stacks_of, said_height, TellHeights, LiesOnEarlier, LieOnEarlier}
 use Rattle.fac_abs.proofs.InTurnLemmas.{in_turn_length, in_turn_append, in_turn_early, in_turn_at, fits_push, fits_at}
 
 pub keeps_refl : (ss : List (List ℕ)) → Keeps ss ss
@@ -21,21 +22,21 @@ keeps_trans rs ss ts f g =
 pub keeps_push : (ss : List (List ℕ)) (xs : List ℕ) → Keeps ss (ss ++ xs ∷ [])
 keeps_push ss xs = record { longer = omega (arith, length-append ss (xs ∷ [])); same = λ k h. get_or_append_left ss (xs ∷ []) [] k h }
 
-pub is_push : (ss : List (List ℕ)) (xs : List ℕ) → Is (ss ++ xs ∷ []) (length ss) xs
+pub is_push : (ss : List (List ℕ)) (xs : List ℕ) → IsStackWith (ss ++ xs ∷ []) (length ss) xs
 is_push ss xs = record { within = omega (arith, length-append ss (xs ∷ [])); marks_are = get_or-append_seam ss xs [] [] }
 
 pub stacks_length : (stack_nodes : List StackNode) → length (stacks_of stack_nodes) ≡ suc (length stack_nodes)
-stacks_length stack_nodes = omega (arith, in_turn_length covered stack_nodes ([] ∷ []))
+stacks_length stack_nodes = omega (arith, in_turn_length stack_made stack_nodes ([] ∷ []))
 
 pub stack_zero : (stack_nodes : List StackNode) → get_or (stacks_of stack_nodes) 0 [] ≡ []
-stack_zero stack_nodes = in_turn_early covered stack_nodes ([] ∷ []) 0 [] (omega arith)
+stack_zero stack_nodes = in_turn_early stack_made stack_nodes ([] ∷ []) 0 [] (omega arith)
 
-covered_alike : (c : StackNode) (xs ys : List (List ℕ)) → LiesOnEarlier (length xs) c → ((k : ℕ) → k < length xs → get_or ys k [] ≡ get_or xs k []) → covered xs c ≡ covered ys c
+covered_alike : (c : StackNode) (xs ys : List (List ℕ)) → LiesOnEarlier (length xs) c → ((k : ℕ) → k < length xs → get_or ys k [] ≡ get_or xs k []) → stack_made xs c ≡ stack_made ys c
 covered_alike c xs ys h e = rw (e c.below h) refl
 
 module _ (d : StackNode) (stack_nodes : List StackNode) where
-  pub stack_at : (s : ℕ) → LieOnEarlier stack_nodes → 0 < s → s < suc (length stack_nodes) → get_or (stacks_of stack_nodes) s [] ≡ covered (stacks_of stack_nodes) (get_or stack_nodes (s - 1) d)
-  stack_at s f h l = in_turn_at covered LiesOnEarlier d [] covered_alike stack_nodes ([] ∷ []) (s - 1) s (omega arith) (omega arith) f
+  pub stack_at : (s : ℕ) → LieOnEarlier stack_nodes → 0 < s → s < suc (length stack_nodes) → get_or (stacks_of stack_nodes) s [] ≡ stack_made (stacks_of stack_nodes) (get_or stack_nodes (s - 1) d)
+  stack_at s f h l = in_turn_at stack_made LiesOnEarlier d [] covered_alike stack_nodes ([] ∷ []) (s - 1) s (omega arith) (omega arith) f
 
   pub below_within : (s : ℕ) → LieOnEarlier stack_nodes → 0 < s → s < suc (length stack_nodes) → (get_or stack_nodes (s - 1) d).below < s
   below_within s f h l = fits_at LiesOnEarlier stack_nodes 1 (s - 1) s d f (omega arith) (omega arith)
@@ -72,11 +73,11 @@ pub map_push : {A B : Type 0} (f : A → B) (xs : List A) (x : A) → map f (xs 
 map_push f [] x = refl
 map_push f (y ∷ xs) x = ap (λ t. f y ∷ t) (map_push f xs x)
 
-pub stacks_push : (stack_nodes : List StackNode) (c : StackNode) → stacks_of (stack_nodes ++ c ∷ []) ≡ stacks_of stack_nodes ++ covered (stacks_of stack_nodes) c ∷ []
-stacks_push stack_nodes c = in_turn_append covered stack_nodes (c ∷ []) ([] ∷ [])
+pub stacks_push : (stack_nodes : List StackNode) (c : StackNode) → stacks_of (stack_nodes ++ c ∷ []) ≡ stacks_of stack_nodes ++ stack_made (stacks_of stack_nodes) c ∷ []
+stacks_push stack_nodes c = in_turn_append stack_made stack_nodes (c ∷ []) ([] ∷ [])
 
 pub tell_push : (stack_nodes : List StackNode) (c : StackNode) → TellHeights stack_nodes → c.height ≡ suc (length (get_or (stacks_of stack_nodes) c.below [])) → TellHeights (stack_nodes ++ c ∷ [])
-tell_push stack_nodes c f e = ap (λ t. 0 ∷ t) (map_push said_height stack_nodes c) ∙ ap (λ t. t ++ c.height ∷ []) f ∙ ap (λ t. map length (stacks_of stack_nodes) ++ t ∷ []) e ∙ sym (map_push length (stacks_of stack_nodes) (covered (stacks_of stack_nodes) c)) ∙ ap (map length) (sym (stacks_push stack_nodes c))
+tell_push stack_nodes c f e = ap (λ t. 0 ∷ t) (map_push said_height stack_nodes c) ∙ ap (λ t. t ++ c.height ∷ []) f ∙ ap (λ t. map length (stacks_of stack_nodes) ++ t ∷ []) e ∙ sym (map_push length (stacks_of stack_nodes) (stack_made (stacks_of stack_nodes) c)) ∙ ap (map length) (sym (stacks_push stack_nodes c))
 
 pub lie_push : (stack_nodes : List StackNode) (c : StackNode) → LieOnEarlier stack_nodes → c.below < suc (length stack_nodes) → LieOnEarlier (stack_nodes ++ c ∷ [])
 lie_push stack_nodes c f h = fits_push LiesOnEarlier stack_nodes 1 (suc (length stack_nodes)) c f (omega arith) h
@@ -113,11 +114,11 @@ module _ (stack_nodes new : List StackNode) (c : StackNode) (ss : List (List ℕ
   pub pushed_keeps : Keeps ss (stacks_of new)
   pushed_keeps = subst (λ (t : List (List ℕ)). Keeps ss t) (sym new_stacks) (keeps_push ss (c.mark ∷ get_or ss c.below []))
 
-  pub pushed_is : (n : ℕ) → n ≡ length stack_nodes → Is (stacks_of new) (n + 1) (c.mark ∷ get_or ss c.below [])
+  pub pushed_is : (n : ℕ) → n ≡ length stack_nodes → IsStackWith (stacks_of new) (n + 1) (c.mark ∷ get_or ss c.below [])
   pushed_is n h =
       let k : length (stacks_of stack_nodes) ≡ length ss = ap length v in
       let place : n + 1 ≡ length ss = omega (arith, stacks_length stack_nodes) in
-      rw place (subst (λ (t : List (List ℕ)). Is t (length ss) (c.mark ∷ get_or ss c.below [])) (sym new_stacks) (is_push ss (c.mark ∷ get_or ss c.below [])))
+      rw place (subst (λ (t : List (List ℕ)). IsStackWith t (length ss) (c.mark ∷ get_or ss c.below [])) (sym new_stacks) (is_push ss (c.mark ∷ get_or ss c.below [])))
 
 -- Steps of loops.
 pub zeros_step : (n : ℕ) (xs : List ℕ) → 0 < n → zeros n xs ≡ zeros (n - 1) (0 ∷ xs)
@@ -192,7 +193,7 @@ still_enough before now stack n ys k h e = rw (k.same stack h) (enough n (get_or
     enough (suc m) (x ∷ xs) zs e = (let more = enough m xs zs e in omega arith)
 
 -- one value is put back
-pub shuffle_step : (before now after : List (List ℕ)) (stack top next n mark place i : ℕ) (places wanted : List ℕ) → stack < length before → Going before now top (piled (picked 0 (taken n [] (get_or before stack [])) (drop i places)) (get_or now top [])) wanted → drop i places ≡ place ∷ drop (i + 1) places → mark ≡ or_else 0 (slice_get (taken n [] (get_or now stack [])) place) → Keeps now after → Is after next (mark ∷ get_or now top []) → Going before after next (piled (picked 0 (taken n [] (get_or before stack [])) (drop (i + 1) places)) (get_or after next [])) wanted
+pub shuffle_step : (before now after : List (List ℕ)) (stack top next n mark place i : ℕ) (places wanted : List ℕ) → stack < length before → Going before now top (piled (picked 0 (taken n [] (get_or before stack [])) (drop i places)) (get_or now top [])) wanted → drop i places ≡ place ∷ drop (i + 1) places → mark ≡ or_else 0 (slice_get (taken n [] (get_or now stack [])) place) → Keeps now after → IsStackWith after next (mark ∷ get_or now top []) → Going before after next (piled (picked 0 (taken n [] (get_or before stack [])) (drop (i + 1) places)) (get_or after next [])) wanted
 shuffle_step before now after stack top next n mark place i places wanted h g e m k is =
     let row : List ℕ = taken n [] (get_or before stack []) in
     let rest : List ℕ = picked 0 row (drop (i + 1) places) in

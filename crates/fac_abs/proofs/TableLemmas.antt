@@ -6,7 +6,7 @@ use Rattle.std.specs.Map.{keys_of, values_of}
 use Rattle.fac_abs.specs.declared.mark_node.MarkNode.{MarkNode}
 use Rattle.fac_abs.specs.declared.mark_node.MarkNode.TheVariants.{Any}
 use Rattle.fac_abs.specs.inner.Interning.{Numbers, there, added, Interns}
-use Rattle.fac_abs.specs.MarkTrees.{node_depth, depths, HasPartsBelow, IsTable}
+use Rattle.fac_abs.specs.inner.Interning.{node_depth, depths, HasPartsBelow, IsTable}
 use Rattle.fac_abs.proofs.InTurnLemmas.{in_turn_append, fits_push}
 use Rattle.fac_abs.proofs.StackLemmas.{map_push}
 

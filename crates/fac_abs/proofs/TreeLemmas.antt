@@ -5,7 +5,8 @@ use Rattle.fac_abs.specs.declared.mark_node.MarkNode.{MarkNode}
 use Rattle.fac_abs.specs.declared.mark_node.MarkNode.TheVariants.{Any, Lit, Cur, Com, Wrd, Par}
 use Rattle.fac_abs.specs.InTurn.{in_turn, FitsInTurn}
 use Rattle.fac_abs.specs.Marks.{mark_depth}
-use Rattle.fac_abs.specs.MarkTrees.{Naming, tree, trees, node_depth, depths, HasPartsBelow, IsTable}
+use Rattle.fac_abs.specs.MarkTrees.{Naming, tree, trees}
+use Rattle.fac_abs.specs.inner.Interning.{node_depth, depths, HasPartsBelow, IsTable}
 use Rattle.fac_abs.proofs.InTurnLemmas.{in_turn_length, in_turn_at, fits_at}
 use Rattle.fac_abs.proofs.StackLemmas.{map_push}
 use Rattle.std.proofs.Math.ListN.{get_or-map}

@@ -1,5 +1,5 @@
 -- Lists that are made from left to right.
-use Rattle.std.specs.Prelude.{ℕ, zero, suc, List, [], ◌∷◌, ◌++◌, Bool, true, false, ◌&&◌, ◌||◌, Option, Some, None, cond, nat_eq}
+use Rattle.std.specs.Prelude.{ℕ, zero, suc, List, [], ◌∷◌, ◌++◌, Option, Some, None}
 use Rattle.std.specs.Option.{option_map}
 use Rattle.fac_lang.specs.Procedures.{picked}
 use Rattle.fac_abs.specs.Marks.{piled}
@@ -32,24 +32,3 @@ module _ {A : Type 0} where
   -- The first n values are taken, and those of them at these places put back, the last on top; the deepest that was taken is at place 0. None where there are fewer values.
   abbrev pub moved : A → ℕ → List ℕ → List A → Option (List A)
   moved d n places xs = option_map (piled (picked d (taken n [] xs) places)) (under n xs)
-
--- n times the number 0 on others
-abbrev pub zeros : ℕ → List ℕ → List ℕ
-zeros zero xs = xs
-zeros (suc n) xs = zeros n (0 ∷ xs)
-
--- a number that two agree on, else 0
-abbrev pub joined_number : ℕ → ℕ → ℕ
-joined_number x y = cond (nat_eq x y) x 0
-
--- likewise for each of two lists of one length
-abbrev pub joined_numbers : List ℕ → List ℕ → List ℕ
-joined_numbers [] ys = []
-joined_numbers (x ∷ xs) [] = []
-joined_numbers (x ∷ xs) (y ∷ ys) = joined_number x y ∷ joined_numbers xs ys
-
--- whether numbers cover others: each is 0 or equal
-abbrev pub cover_numbers : List ℕ → List ℕ → Bool
-cover_numbers [] ys = true
-cover_numbers (x ∷ xs) [] = false
-cover_numbers (x ∷ xs) (y ∷ ys) = (nat_eq x 0 || nat_eq x y) && cover_numbers xs ys

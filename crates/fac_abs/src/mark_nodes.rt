@@ -2,7 +2,7 @@
 ghost use Rattle.std.specs.Prelude.{◌≡◌, ◌<◌, ◌^◌, ◌++◌, ◌∷◌, [], length, get_or, slice_get, IfOk, OnErr};
 ghost use Rattle.indexmap.specs.IndexMap.{keys, values};
 ghost use Rattle.fac_abs.specs.declared.mark_node.MarkNode.TheVariants.{Any};
-ghost use Rattle.fac_abs.specs.MarkTrees.{node_depth, depths, HasPartsBelow, IsTable};
+ghost use Rattle.fac_abs.specs.inner.Interning.{node_depth, depths, HasPartsBelow, IsTable};
 ghost use Rattle.fac_abs.specs.inner.Interning.{Numbers, Interns};
 
 use crate::MarkNode;
@@ -21,7 +21,7 @@ impl Model for MarkNodes {
     ghost use Rattle.std.specs.Prelude.{List, ◌≡◌, ◌<◌, ◌^◌, length};
     ghost use Rattle.fac_abs.specs.declared.mark_node.MarkNode.{MarkNode};
     ghost use Rattle.indexmap.specs.IndexMap.{keys, values};
-    ghost use Rattle.fac_abs.specs.MarkTrees.{depths, IsTable};
+    ghost use Rattle.fac_abs.specs.inner.Interning.{depths, IsTable};
 
     ghost Value = { List MarkNode };
 

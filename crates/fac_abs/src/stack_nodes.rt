@@ -1,8 +1,9 @@
 //! Stacks of marks, which share what lies below.
 ghost use Rattle.std.specs.Prelude.{◌≡◌, ◌∷◌, ◌++◌, ◌<◌, ◌≤◌, ◌&&◌, ◌||◌, [], length, get_or, slice_get, map, nat_eq, Some, None, IfOk, OnErr};
 ghost use Rattle.fac_lang.specs.Procedures.{or_else};
-ghost use Rattle.fac_abs.specs.InTurn.{under, zeros, taken, moved, joined_number, joined_numbers, cover_numbers};
-ghost use Rattle.fac_abs.specs.inner.Keeping.{Keeps, Is, Uncovers, IsWhere, Joins};
+ghost use Rattle.fac_abs.specs.InTurn.{under, taken, moved};
+ghost use Rattle.fac_abs.specs.inner.Stacks.{zeros, joined_number, joined_numbers, cover_numbers};
+ghost use Rattle.fac_abs.specs.inner.Keeping.{Keeps, IsStackWith, Uncovers, IsWhere, Joins};
 
 use fac_lang::Memory;
 use std::alloc::Global;
@@ -82,7 +83,7 @@ impl StackNodes {
     pub fn push(&mut self, below: u32, mark: u32) -> Result<u32, Memory>
         requires { below < length self.old }
         ensures keeps { Keeps self.old self.new }
-        ensures made { IfOk result (λ r. Is self.new r (mark ∷ get_or self.old below [])) }
+        ensures made { IfOk result (λ r. IsStackWith self.new r (mark ∷ get_or self.old below [])) }
         ensures err { OnErr result (self.new ≡ self.old) }
     {
         let height = self.height(below);
@@ -102,7 +103,7 @@ impl StackNodes {
     pub fn zeros(&mut self, below: u32, count: u64) -> Result<u32, Memory>
         requires { below < length self.old }
         ensures keeps { Keeps self.old self.new }
-        ensures made { IfOk result (λ r. Is self.new r (zeros count (get_or self.old below []))) }
+        ensures made { IfOk result (λ r. IsStackWith self.new r (zeros count (get_or self.old below []))) }
     {
         let mut stack = below;
         let mut left = count;
@@ -202,7 +203,7 @@ impl StackNodes {
     fn lay(&mut self, below: u32, marks: Vec<u32>) -> Result<u32, Memory>
         requires { below < length self.old }
         ensures keeps { Keeps self.old self.new }
-        ensures made { IfOk result (λ r. Is self.new r (marks.items ++ get_or self.old below [])) }
+        ensures made { IfOk result (λ r. IsStackWith self.new r (marks.items ++ get_or self.old below [])) }
     {
         let mut left = marks;
         let mut stack = below;

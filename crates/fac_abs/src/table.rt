@@ -3,7 +3,8 @@ ghost use Rattle.std.specs.Prelude.{◌≡◌, ◌∷◌, ◌<◌, ◌&&◌, [],
 ghost use Rattle.fac_lang.specs.Phrases.{any, lit_mark, wrd_mark, par_mark};
 ghost use Rattle.fac_abs.specs.InTurn.{under, moved};
 ghost use Rattle.fac_abs.specs.Marks.{on, base_eq, mark_eq, mark_depth, is_callable, curried_mark, composed_mark, cover_marks, joined, covered, unknowns};
-ghost use Rattle.fac_abs.specs.MarkTrees.{Naming, tree, trees, node_depth, depths, HasPartsBelow};
+ghost use Rattle.fac_abs.specs.MarkTrees.{Naming, tree, trees};
+ghost use Rattle.fac_abs.specs.inner.Interning.{node_depth, depths, HasPartsBelow};
 ghost use Rattle.fac_abs.specs.SeenMarks.{mark_of, stack_of, base_seen, reached_seen, IsMark, IsStack, IsReached, Grows, NumbersAreMarks};
 ghost use Rattle.fac_abs.specs.MarkPromises.{IsMarkOf, IsStackOf, IsStackWhere, IsNodeOf, HasTopWhere, IsJoinedWhere, IsReachedWhere};
 

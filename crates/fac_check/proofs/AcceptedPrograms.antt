@@ -27,7 +27,8 @@ use Rattle.fac_check.specs.Verdicts.{Refusal, inputs_marks, any_quoted, is_inlin
 use Rattle.fac_abs.proofs.EqualMarks.{never_true, and_first, and_second}
 use Rattle.fac_check.proofs.StandingLaws.{Unmarked, UnmarkedItem}
 use Rattle.fac_check.specs.CallableEffects.{fits, callable_height}
-use Rattle.fac_check.specs.Standing.{Valid, EndsSo}
+use Rattle.fac_check.specs.Promises.{Valid}
+use Rattle.fac_check.proofs.ValuesOfMarks.{EndsSo}
 use Rattle.fac_check.proofs.WalksFit.{Context, OnState, StackState}
 use Rattle.fac_check.proofs.ItemsFit.{Over, Leaves}
 use Rattle.fac_check.proofs.PrimitivesKeep.{RegularFn, prim_regular, getter_regular, setter_regular, putter_regular, word_numbers, written_height, prim_found}

@@ -11,7 +11,8 @@ use Rattle.fac_lang.specs.Eval.{Result, Done, Failed, Spent, Stuck, then_do, run
 use Rattle.fac_lang.specs.Meaning.{callable_fits}
 use Rattle.fac_lang.proofs.Laws.{Within, within, within_call}
 use Rattle.fac_check.specs.CallableEffects.{limited_if, limited_height, curried_numbers, curried_height, composed_over, composed_numbers, composed_height, callable_height, most_inputs, fits, fits_outs}
-use Rattle.fac_check.specs.Standing.{Valid, EndsSo}
+use Rattle.fac_check.specs.Promises.{Valid}
+use Rattle.fac_check.proofs.ValuesOfMarks.{EndsSo}
 use Rattle.fac_abs.proofs.EqualMarks.{never_true, and_first, and_second}
 use Rattle.fac_check.proofs.ItemsFit.{Over, Leaves}
 use Rattle.fac_check.proofs.SoundWalks.{A, Known, on_values}

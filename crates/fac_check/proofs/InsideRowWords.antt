@@ -12,7 +12,8 @@ use Rattle.fac_abs.specs.Marks.{Row, named_row, AbstractStack, dead, on, base_eq
 use Rattle.fac_abs.specs.declared.rule.Rule.TheVariants.{Rows}
 use Rattle.fac_check.specs.Rows.{Binding, bound_to, stack_or_dead, leaving_row, effect_inputs, input_effect, leaving_on, Called, call_breaks, called_if, calls_input}
 use Rattle.fac_check.specs.Flow.{Walk, called}
-use Rattle.fac_check.specs.Standing.{Stands, StandsOn, StandsStack, Valid}
+use Rattle.fac_check.specs.Promises.{Valid}
+use Rattle.fac_check.proofs.ValuesOfMarks.{Stands, StandsOn, StandsStack}
 use Rattle.fac_abs.proofs.EqualMarks.{and_first, and_second, length_same, base_same}
 use Rattle.std.proofs.lemmas.Bool.{ltb-false}
 use Rattle.fac_check.proofs.WalksFit.{Context, OnState, StackState, Fits, InputsFit}

@@ -25,7 +25,8 @@ use Rattle.fac_abs.specs.declared.rule.Rule.TheVariants.{Underflow, NotKnown}
 use Rattle.fac_check.specs.Flow.{Doing, breaks, gives, expands, walks, forks, again, Walk, needing, by_height, callable_or, mark_at, core_doing, known_word, makes_by, word_doing, sort_doing, procedure_doing, prim_doing, inline_doing, row_or_phrase, generic_doing, next_doing, doing, lit_doing, is_own}
 use Rattle.fac_check.specs.Rows.{is_row}
 use Rattle.fac_check.specs.CallableEffects.{fits, callable_height}
-use Rattle.fac_check.specs.Standing.{Stands, StandsPhrase, StandsItem, StandsOn, Valid, EndsSo}
+use Rattle.fac_check.specs.Promises.{Valid}
+use Rattle.fac_check.proofs.ValuesOfMarks.{Stands, StandsPhrase, StandsItem, StandsOn, EndsSo}
 use Rattle.fac_lang.proofs.Laws.{Sparing}
 use Rattle.fac_abs.proofs.EqualMarks.{never_true, and_first, and_second}
 use Rattle.fac_check.proofs.StandingLaws.{Each, holes_phrase, callable_is}

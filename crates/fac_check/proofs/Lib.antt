@@ -1,3 +1,4 @@
+pub mod ValuesOfMarks
 pub mod StandingLaws
 pub mod WalksFit
 pub mod ItemsFit

@@ -10,7 +10,8 @@ use Rattle.fac_abs.specs.Marks.{AbstractStack, dead, on, unknowns}
 use Rattle.fac_locals.specs.Literals.{first_of_word}
 use Rattle.fac_check.specs.Flow.{Walked, found, refused, walked, most_walked, most_steps, most_nested}
 use Rattle.fac_check.specs.CallableEffects.{forgotten, least_height, most_outputs}
-use Rattle.fac_check.specs.Standing.{Valid, EndsSo}
+use Rattle.fac_check.specs.Promises.{Valid}
+use Rattle.fac_check.proofs.ValuesOfMarks.{EndsSo}
 use Rattle.fac_abs.proofs.EqualMarks.{never_true}
 use Rattle.fac_check.proofs.StandingLaws.{forgotten_stands}
 use Rattle.fac_check.proofs.WalksFit.{Fits, StackState}

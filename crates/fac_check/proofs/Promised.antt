@@ -8,7 +8,8 @@ use Rattle.fac_lang.specs.Eval.{Result, Done, Failed, Spent, Stuck}
 use Rattle.fac_lang.specs.Meaning.{word_phrase, one_item}
 use Rattle.fac_lang.specs.RunningLaws.{IsNotStuck}
 use Rattle.fac_check.specs.CallableEffects.{callable_height, fits}
-use Rattle.fac_check.specs.Standing.{Valid, EndsSo}
+use Rattle.fac_check.specs.Promises.{Valid}
+use Rattle.fac_check.proofs.ValuesOfMarks.{EndsSo}
 use Rattle.fac_check.specs.Promises.{AcceptedAreSafe, SafeAreNotStuck, Lists, Exactly, LeftOn, Ends, OfRow}
 use Rattle.fac_lang.specs.Effects.{effect_height}
 use Rattle.fac_check.specs.Rows.{effect_leaving, leaving_on, outer_out}

@@ -7,7 +7,7 @@ use Rattle.fac_lang.specs.declared.program.Program.{Program}
 use Rattle.fac_abs.specs.Marks.{Row, is_callable}
 use Rattle.fac_check.specs.Rows.{inputs_known}
 use Rattle.fac_check.specs.Verdicts.{inputs_marks}
-use Rattle.fac_check.specs.Standing.{Stands, StandsOn}
+use Rattle.fac_check.proofs.ValuesOfMarks.{Stands, StandsOn}
 use Rattle.fac_abs.proofs.EqualMarks.{never_true, and_first, and_second}
 use Rattle.fac_check.proofs.StandingLaws.{callable_is}
 use Rattle.fac_check.proofs.WalksFit.{Context}

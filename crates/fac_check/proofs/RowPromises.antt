@@ -17,7 +17,8 @@ use Rattle.fac_abs.proofs.EqualMarks.{and_first, and_second, length_same, base_s
 use Rattle.fac_check.specs.Rows.{leaving_row, effect_inputs, effect_leaving, input_effect, leaving_on, Called, call_breaks, called_if, calls_input, outer_in, outer_out}
 use Rattle.fac_check.specs.Flow.{called}
 use Rattle.fac_check.specs.Verdicts.{inputs_marks}
-use Rattle.fac_check.specs.Standing.{StandsOn, Valid, EndsSo}
+use Rattle.fac_check.specs.Promises.{Valid}
+use Rattle.fac_check.proofs.ValuesOfMarks.{StandsOn, EndsSo}
 use Rattle.fac_check.specs.Promises.{Lists, Exactly, LeftOn, Ends, phrase_run, callable_run, OfRow, DoesInput, AreInputs}
 use Rattle.fac_check.proofs.WalksFit.{Context, OnState, StackState, Fits, InputsFit}
 use Rattle.fac_check.proofs.ItemsFit.{Over, over_unknowns}

@@ -14,7 +14,7 @@ use Rattle.fac_check.specs.Rows.{Binding, effect_inputs, effect_leaving, outer_i
 use Rattle.fac_locals.specs.Literals.{first_of_word}
 use Rattle.fac_check.specs.Flow.{Walked, found, refused, and_then, Walk, row_result, walked, most_walked, most_steps, most_nested}
 use Rattle.fac_check.specs.Verdicts.{Refusal, refusal, end_of, kept_word, row_verdict, inputs_marks}
-use Rattle.fac_check.specs.Standing.{StandsPhrase, StandsOn, EndsSo}
+use Rattle.fac_check.proofs.ValuesOfMarks.{StandsPhrase, StandsOn, EndsSo}
 use Rattle.fac_abs.proofs.EqualMarks.{and_first, and_second, length_same, base_same}
 use Rattle.fac_check.proofs.WalksFit.{Context, OnState, StackState, Fits}
 use Rattle.fac_check.proofs.ItemsFit.{Over, ends_map, over_unknowns}

@@ -13,7 +13,8 @@ use Rattle.fac_abs.specs.Marks.{Row, named_row, AbstractStack, dead, on, row_eq,
 use Rattle.fac_abs.specs.declared.rule.Rule.TheVariants.{Rows}
 use Rattle.fac_check.specs.Rows.{Binding, bound_to, stack_or_dead, row_of, row_name, effect_leaving, Tied, tied, untied, tied_if, tie, tie_row, start_row}
 use Rattle.fac_check.specs.Flow.{Walked, found, refused, and_then, Walk, walk_from, walk_inputs, started, tied_on}
-use Rattle.fac_check.specs.Standing.{Stands, StandsOn, StandsStack, Valid, EndsSo}
+use Rattle.fac_check.specs.Promises.{Valid}
+use Rattle.fac_check.proofs.ValuesOfMarks.{Stands, StandsOn, StandsStack, EndsSo}
 use Rattle.std.proofs.lemmas.Slice.Eq.{bytes_eq-Decides}
 use Rattle.std.proofs.lemmas.Bool.{ltb-false}
 use Rattle.std.proofs.Common.{length-drop}

@@ -26,7 +26,8 @@ use Rattle.fac_locals.specs.Literals.{first_of_word}
 use Rattle.fac_check.specs.Flow.{Walked, found, refused, and_then, Walk, walk_on, Doing, breaks, gives, uses, by_height, callable_or, walk_inputs, row_result, is_own, own_rest, own_doing, row_doing, row_or_phrase}
 use Rattle.fac_check.specs.CallableEffects.{fits, fits_outs}
 use Rattle.fac_check.specs.Verdicts.{inputs_marks, ordinary_verdict, row_verdict, top_verdict}
-use Rattle.fac_check.specs.Standing.{Stands, StandsOn, StandsStack, Valid, EndsSo}
+use Rattle.fac_check.specs.Promises.{Valid}
+use Rattle.fac_check.proofs.ValuesOfMarks.{Stands, StandsOn, StandsStack, EndsSo}
 use Rattle.fac_lang.proofs.Laws.{within}
 use Rattle.fac_abs.proofs.EqualMarks.{never_true, and_first, and_second, length_same, base_same, mark_same}
 use Rattle.fac_check.proofs.StandingLaws.{Unmarked, self_phrase}

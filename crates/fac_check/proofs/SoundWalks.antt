@@ -18,7 +18,8 @@ use Rattle.fac_locals.specs.Literals.{first_of_word, behind}
 use Rattle.fac_check.specs.Flow.{Walked, found, refused, walk, doing, walked, most_walked, most_steps, most_nested}
 use Rattle.fac_check.specs.CallableEffects.{fits, callable_height}
 use Rattle.fac_check.specs.Verdicts.{Refusal, refusal, end_of, kept_word, ordinary_verdict, top_verdict}
-use Rattle.fac_check.specs.Standing.{StandsPhrase, StandsOn, Valid, EndsSo}
+use Rattle.fac_check.specs.Promises.{Valid}
+use Rattle.fac_check.proofs.ValuesOfMarks.{StandsPhrase, StandsOn, EndsSo}
 use Rattle.fac_lang.proofs.Laws.{within}
 use Rattle.fac_abs.proofs.EqualMarks.{never_true, and_second, length_same}
 use Rattle.fac_check.proofs.WalksFit.{Context, StackState, Fits, PhrasesFit, InputsFit, any_spent, does_fits}

@@ -4,7 +4,7 @@ use Rattle.std.specs.Prelude.{slice_get, nat_eq}
 use Rattle.fac_lang.specs.Phrases.{Phrase, end, then, Item, lit, lit_arr, quot, word, bind, local, fry, hole, call_eff, exec_eff, next_method, made, next_after, held, known, Value, fun, Callable, of_phrase, cur, both, Mark, any, lit_mark, cur_mark, com_mark, wrd_mark, par_mark}
 use Rattle.fac_lang.specs.Substitution.{binds_local, put_local, put_local_item, put_holes, put_holes_item, item_or_hole}
 use Rattle.fac_check.specs.CallableEffects.{forgotten, forgotten_item}
-use Rattle.fac_check.specs.Standing.{Stands, StandsPhrase, StandsItem, Unmeant}
+use Rattle.fac_check.proofs.ValuesOfMarks.{Stands, StandsPhrase, StandsItem, Unmeant}
 use Rattle.fac_abs.specs.Marks.{is_callable}
 use Rattle.fac_abs.proofs.EqualMarks.{never_true}
 

@@ -16,7 +16,8 @@ use Rattle.fac_abs.specs.declared.rule.Rule.TheVariants.{Branches}
 use Rattle.fac_check.specs.Rows.{calls_own}
 use Rattle.fac_locals.specs.Literals.{first_of_word, first_of_literal}
 use Rattle.fac_check.specs.Flow.{Walked, found, refused, and_then, living, Doing, breaks, gives, names_local, expands, walks, forks, again, uses, Walk, counted, inside, called, join, marks_back, walk_phrase, walk_mark, walk_use, phrase_rule, first_rule, unless_broken, walk_on}
-use Rattle.fac_check.specs.Standing.{Stands, StandsPhrase, StandsOn, StandsStack, Valid, EndsSo}
+use Rattle.fac_check.specs.Promises.{Valid}
+use Rattle.fac_check.proofs.ValuesOfMarks.{Stands, StandsPhrase, StandsOn, StandsStack, EndsSo}
 use Rattle.fac_lang.proofs.Laws.{Within, Sparing, within_call}
 use Rattle.fac_check.proofs.StandingLaws.{put_phrase}
 use Rattle.fac_abs.proofs.EqualMarks.{mark_same, base_same, length_same, and_first, and_second}

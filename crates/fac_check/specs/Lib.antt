@@ -2,7 +2,6 @@ pub mod Rows
 pub mod Flow
 pub mod Verdicts
 pub mod CallableEffects
-pub mod Standing
 pub mod Promises
 pub mod Judged
 pub mod Checks

@@ -1,10 +1,10 @@
 -- What a program promises that is accepted by the checker of the whole language, in terms of the meaning alone.
-use Rattle.std.specs.Prelude.{◌≡◌, ◌≤◌, ℕ, List, [], ◌∷◌, ◌++◌, length, Bool, true, false, Option, Some, None, slice_get}
+use Rattle.std.specs.Prelude.{◌≡◌, ◌≤◌, ℕ, List, [], ◌∷◌, ◌++◌, length, Bool, true, false, nat_lt, Option, Some, None, slice_get}
 use Rattle.fac_lang.specs.declared.phrase.Height.{Height}
 use Rattle.fac_lang.specs.declared.program.Program.{Program}
 use Rattle.fac_lang.specs.declared.program.WordDef.{WordDef}
 use Rattle.fac_lang.specs.Phrases.{Phrase, word, Value, fun, Callable}
-use Rattle.fac_lang.specs.World.{State, pile}
+use Rattle.fac_lang.specs.World.{World, State, pile}
 use Rattle.fac_lang.specs.Signatures.{Signature, signature, Inputs, no_inputs, value, quoted}
 use Rattle.fac_lang.specs.Effects.{inputs_count, leaving_outs, effect_height, word_height}
 use Rattle.fac_lang.specs.Eval.{Result, Done, Failed, Spent, Stuck, run_callable}
@@ -13,9 +13,12 @@ use Rattle.fac_lang.specs.RunningLaws.{IsNotStuck}
 use Rattle.fac_lang.specs.Whole.{IsWhole}
 use Rattle.fac_abs.specs.Marks.{Row, named_row}
 use Rattle.fac_check.specs.Rows.{leaving_row, effect_inputs, outer_in, outer_out, is_row}
-use Rattle.fac_check.specs.Standing.{Valid}
 use Rattle.fac_check.specs.CallableEffects.{callable_height, fits}
 use Rattle.fac_check.specs.Verdicts.{verdict}
+
+-- Of a state soundness needs this alone: each literal array has its address.
+abbrev pub Valid : Program → World Value → Type 0
+Valid P w = (a : ℕ) → nat_lt a (length P.arrays) ≡ true → (k : ℕ) × (slice_get w.literals a ≡ Some k)
 
 -- which lists of values are meant
 abbrev pub Lists : Type 1

@@ -17,7 +17,7 @@ use Rattle.fac_locals.specs.Closed.{Closes, ClosesSort}
 use Rattle.fac_locals.proofs.ClosedPrograms.{HasBuiltPhrase, built_phrases}
 use Rattle.fac_locals.proofs.Places.{literal_built}
 use Rattle.fac_locals.proofs.Lookups.{word_closed, word_open, template_closed}
-use Rattle.fac_emit.specs.ProgramCode.{sort_is_coded, word_is_coded, item_is_coded, phrase_is_coded, template_is_coded, body_is_coded, word_body_is_coded}
+use Rattle.fac_emit.specs.inner.Coded.{sort_is_coded, word_is_coded, item_is_coded, phrase_is_coded, template_is_coded, body_is_coded, word_body_is_coded}
 use Rattle.fac_emit.proofs.Closings.{Closing, c_end, c_int, c_true, c_false, c_word, c_quot, closing}
 use Rattle.fac_emit.proofs.BuiltCode.{and_true}
 use Rattle.fac_emit.proofs.EmitLemmas.{next_element}

@@ -24,7 +24,7 @@ use Rattle.fac_emit.specs.MachineView.{Templates, world_view, state_view, error_
 use Rattle.fac_emit.specs.WholeValues as whole
 use Rattle.fac_emit.specs.Symbols.{Sym, Task, Special}
 use Rattle.fac_emit.proofs.RunLaws.{free, unfolds, then_again, Stays, stays_then, stays_phrase, stays_call}
-use Rattle.fac_emit.proofs.Standing.{Left, l_phrase, l_back, l_call, Lies, Keeps}
+use Rattle.fac_emit.proofs.SymbolicStacks.{Left, l_phrase, l_back, l_call, Lies, Keeps}
 
 -- A program, with a test of effects and the effects of callables; its image, and the phrases of the templates.
 pub record Setting : Type 0 where

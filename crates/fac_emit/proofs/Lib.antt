@@ -3,7 +3,7 @@ pub mod KeptPrimitives
 pub mod RunLaws
 pub mod GivenValues
 pub mod WholeValues
-pub mod Standing
+pub mod SymbolicStacks
 pub mod Following
 pub mod StepLemmas
 pub mod Simulation

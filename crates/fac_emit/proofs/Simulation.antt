@@ -21,7 +21,7 @@ use Rattle.fac_emit.specs.WholeValues as whole
 use Rattle.fac_emit.specs.Symbols.{Sym, here, off, k_phrase, Task, do_phrase, heres, AllHere, outs, Special}
 use Rattle.fac_emit.specs.Expanded.{Code, c_last, c_make, c_trim, c_end, c_off, c_int, c_true, c_false, c_prim, c_word, c_call, c_dip, c_if, EachCalled}
 use Rattle.fac_emit.proofs.RunLaws.{free}
-use Rattle.fac_emit.proofs.Standing.{l_phrase, Lies, lies_none, keeps_none, keeps_phrase, all_here}
+use Rattle.fac_emit.proofs.SymbolicStacks.{l_phrase, Lies, lies_none, keeps_none, keeps_phrase, all_here}
 use Rattle.fac_emit.proofs.Following.{Setting, state, at, left, Follows, fetch, Live, LivePhrase, Go, CallsTo, Templated, Valid}
 use Rattle.fac_emit.proofs.StepLemmas.{g_call, g_called, g_dip, g_end, g_if, g_last, g_make, g_off, g_prim, g_push, g_trim}
 

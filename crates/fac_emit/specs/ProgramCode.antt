@@ -1,13 +1,12 @@
 -- The plain code of a closed program. That of a phrase is an instruction for each item and one behind them. First stands the code of the templates, by
 -- their numbers, and behind it that of the words, by theirs. So the code of a word ends where that of the next one begins.
-use Rattle.std.specs.Prelude.{◌≡◌, ℕ, zero, suc, ◌+◌, List, [], ◌∷◌, ◌++◌, length, ◌&&◌, nat_eq, Bool, true, false, Option, Some, None, slice_get}
+use Rattle.std.specs.Prelude.{◌≡◌, ℕ, zero, suc, ◌+◌, List, [], ◌∷◌, ◌++◌, length, nat_eq, Bool, true, false, Option, Some, None, slice_get}
 use Rattle.fac_lang.specs.declared.phrase.Template.{Template}
 use Rattle.fac_lang.specs.declared.program.Program.{Program}
 use Rattle.fac_lang.specs.declared.program.WordDef.{WordDef}
 use Rattle.fac_lang.specs.declared.program.Sort.{Sort}
 use Rattle.fac_lang.specs.declared.program.Sort.TheVariants.{Prim as prim_sort, Core as core_sort, Body as body}
 use Rattle.fac_lang.specs.Phrases.{int, yes, no, Phrase, end, then, Item, lit, word, made}
-use Rattle.fac_lang.specs.CoreWords.{is_built_core}
 use Rattle.fac_code.specs.declared.image.Instr.{Instr}
 use Rattle.fac_code.specs.declared.image.Instr.TheVariants.{Halt, Int, True, False, Quot, Prim, Callw, Call, Dip, If, Ret}
 use Rattle.fac_code.specs.declared.image.Action.{Action}
@@ -22,43 +21,6 @@ core_instr zero = Call false
 core_instr (suc zero) = Dip
 core_instr (suc (suc zero)) = If false
 core_instr (suc (suc (suc k))) = Halt
-
--- whether a word of this sort has an instruction
-abbrev pub sort_is_coded : Sort → Bool
-sort_is_coded (prim_sort k) = true
-sort_is_coded (core_sort k) = is_built_core k
-sort_is_coded (body t) = true
-sort_is_coded _ = false
-
-abbrev pub word_is_coded : Option WordDef → Bool
-word_is_coded None = false
-word_is_coded (Some d) = sort_is_coded d.sort
-
--- whether an item has one
-abbrev pub item_is_coded : List WordDef → Item → Bool
-item_is_coded words (lit (int z)) = true
-item_is_coded words (lit yes) = true
-item_is_coded words (lit no) = true
-item_is_coded words (word w) = word_is_coded (slice_get words w)
-item_is_coded words (made q) = true
-item_is_coded words _ = false
-
--- whether each item of a phrase has one
-abbrev pub phrase_is_coded : List WordDef → Phrase → Bool
-phrase_is_coded words end = true
-phrase_is_coded words (then i place t) = item_is_coded words i && phrase_is_coded words t
-
--- whether each item of a template has one
-abbrev pub template_is_coded : List WordDef → Template → Bool
-template_is_coded words t = phrase_is_coded words t.body
-
--- whether each item of a word's phrase has one, where it is defined by a phrase
-abbrev pub body_is_coded : List WordDef → Sort → Bool
-body_is_coded words (body t) = phrase_is_coded words t
-body_is_coded words _ = true
-
-abbrev pub word_body_is_coded : List WordDef → WordDef → Bool
-word_body_is_coded words d = body_is_coded words d.sort
 
 -- a primitive and a core word are done in place, and a word that is defined by a phrase is called
 abbrev pub sort_instr : ℕ → Sort → Instr

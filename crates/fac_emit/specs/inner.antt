@@ -1,3 +1,4 @@
 -- What only the contracts of inner functions cite.
 pub mod FoundCode
 pub mod Parts
+pub mod Coded

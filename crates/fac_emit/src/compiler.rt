@@ -7,7 +7,8 @@ ghost use Rattle.fac_lang.specs.Forms.{IsBuilt};
 ghost use Rattle.fac_lang.specs.Phrases.{Callable};
 ghost use Rattle.fac_locals.specs.Closed.{Closes};
 ghost use Rattle.fac_emit.specs.Carries.{Carries};
-ghost use Rattle.fac_emit.specs.ProgramCode.{body_is_coded, word_body_is_coded, sort_action, IsPlain};
+ghost use Rattle.fac_emit.specs.ProgramCode.{sort_action, IsPlain};
+ghost use Rattle.fac_emit.specs.inner.Coded.{body_is_coded, word_body_is_coded};
 ghost use Rattle.fac_emit.specs.inner.Parts.{AreParts, PlacesWord, PlacesWords};
 ghost use Rattle.fac_emit.specs.Stands.{PlainCode};
 

@@ -7,7 +7,8 @@ ghost use Rattle.fac_lang.specs.Forms.{IsBuilt};
 ghost use Rattle.fac_lang.specs.CoreWords.{is_built_core};
 ghost use Rattle.fac_lang.specs.Meaning.{sort_of};
 ghost use Rattle.fac_locals.specs.Closed.{Closes};
-ghost use Rattle.fac_emit.specs.ProgramCode.{sort_is_coded, item_is_coded, phrase_is_coded, template_is_coded, body_is_coded, core_instr, sort_instr, item_instr, phrase_code, row_at, templates_code, template_rows, last_instr, sort_code};
+ghost use Rattle.fac_emit.specs.ProgramCode.{core_instr, sort_instr, item_instr, phrase_code, row_at, templates_code, template_rows, last_instr, sort_code};
+ghost use Rattle.fac_emit.specs.inner.Coded.{sort_is_coded, item_is_coded, phrase_is_coded, template_is_coded, body_is_coded};
 ghost use Rattle.fac_emit.specs.inner.FoundCode.{found_code, found_template};
 ghost use Rattle.fac_emit.specs.Emits.{Emits, TemplateEmits};
 

@@ -1,5 +1,5 @@
 -- What the calls of a folder answer and leave.
-use Rattle.std.specs.Prelude.{◌≡◌, ℕ, ◌<◌, ◌≤◌, List, [], ◌∷◌, length, Some, Result, Ok, Err, ⊤, IfSome, IsSomeAnd, Bool, true, false, ◌||◌, is_none}
+use Rattle.std.specs.Prelude.{◌≡◌, ℕ, ◌<◌, ◌≤◌, List, [], ◌∷◌, length, Some, Result, Ok, Err, ⊤, IfSome, IsSomeAnd}
 use Rattle.std.specs.declared.option.Option.{Option}
 use Rattle.fac_io.specs.declared.files.Asked.{Asked}
 use Rattle.fac_io.specs.declared.files.Asked.TheVariants.{Load, Save}
@@ -48,17 +48,3 @@ abbrev pub SaveCounts : {A : Type 0} → ℕ → ℕ → Result A SaveFault → 
 SaveCounts before now (Ok done) = now ≡ before
 SaveCounts before now (Err save.Failed) = (before ≤ now) × Rose before now
 SaveCounts before now (Err save.Memory) = now ≡ before
-
--- what a reader with these bytes left gives, where they are known: all of them, or that they are more than the limit
-abbrev pub ReadsUpTo : Option (List ℕ) → ℕ → Result (List ℕ) LoadFault → Type 0
-ReadsUpTo left limit (Ok bytes) = (length bytes ≤ limit) × IfSome left (λ all. all ≡ bytes)
-ReadsUpTo left limit (Err load.TooLong) = IfSome left (λ all. limit < length all)
-ReadsUpTo left limit (Err load.Failed) = ⊤
-ReadsUpTo left limit (Err load.Memory) = ⊤
-
--- what a load in memory answers, by whether its call is listed and by the bytes of its name
-abbrev pub AnswersBytes : Bool → Option (List ℕ) → ℕ → Result (List ℕ) LoadFault → Type 0
-AnswersBytes listed found limit (Ok bytes) = (listed ≡ false) × (length bytes ≤ limit) × (found ≡ Some bytes)
-AnswersBytes listed found limit (Err load.TooLong) = (listed ≡ false) × IsSomeAnd found (λ bytes. limit < length bytes)
-AnswersBytes listed found limit (Err load.Failed) = (listed || is_none found) ≡ true
-AnswersBytes listed found limit (Err load.Memory) = ⊤

@@ -4,7 +4,8 @@ ghost use Rattle.std.specs.Option.{option_copied};
 ghost use Rattle.std.specs.List.{list_any};
 ghost use Rattle.fac_io.specs.Names.{bytes_of};
 ghost use Rattle.fac_io.specs.Told.{Stays};
-ghost use Rattle.fac_io.specs.Files.{AnswersBytes, LoadAnswers, LoadAsks, LoadCounts, SaveLeaves, SaveAsks, SaveCounts};
+ghost use Rattle.fac_io.specs.Files.{LoadAnswers, LoadAsks, LoadCounts, SaveLeaves, SaveAsks, SaveCounts};
+ghost use Rattle.fac_io.specs.inner.Loading.{AnswersBytes};
 
 use crate::{Asked, Files, LoadFault, SaveFault};
 use fac_lang::{Bytes, List, Memory, Text};

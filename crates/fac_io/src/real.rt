@@ -5,7 +5,7 @@
 ghost use Rattle.std.specs.Prelude.{◌≡◌, ◌+◌, ◌-◌, ◌^◌, ◌<◌, ◌≤◌, length, IfOk, OnOk, OnErr, None, take};
 ghost use Rattle.std.specs.Io.{ReadsAtMost};
 ghost use Rattle.std.specs.Io.KnownBytes.{ReadConsumes, Appends, Keeps};
-ghost use Rattle.fac_io.specs.Files.{ReadsUpTo};
+ghost use Rattle.fac_io.specs.inner.Loading.{ReadsUpTo};
 ghost use Rattle.fac_io.specs.Told.{Grows, GrowsByPrefix};
 
 use crate::{Failed, Files, LoadFault, SaveFault, Sink, Source};

@@ -1,5 +1,5 @@
 use Rattle.std.proofs.Common.{arith, ◌∙◌}
-use Rattle.fac_emit.specs.ProgramCode.{word_body_is_coded}
+use Rattle.fac_emit.specs.inner.Coded.{word_body_is_coded}
 use Rattle.fac_emit.proofs.EmitLemmas.{word_code_step, word_rows_step}
 use Rattle.fac_emit.proofs.CodedItems.{item_passes}
 use Rattle.fac_emit.proofs.compiler.add_words.Goals as goal

@@ -1,6 +1,7 @@
 use Rattle.std.proofs.Common.{◌≡◌, ◌++◌, drop, true}
 use Rattle.fac_lang.specs.PhraseView.{items_phrase}
-use Rattle.fac_emit.specs.ProgramCode.{phrase_code, phrase_is_coded}
+use Rattle.fac_emit.specs.ProgramCode.{phrase_code}
+use Rattle.fac_emit.specs.inner.Coded.{phrase_is_coded}
 use Rattle.fac_emit.proofs.emitter.add_phrase.Given as goal
 
 abbrev pub invariant-loop-item : goal.invariant-loop-item

@@ -1,4 +1,4 @@
-use Rattle.fac_emit.specs.ProgramCode.{template_is_coded}
+use Rattle.fac_emit.specs.inner.Coded.{template_is_coded}
 use Rattle.fac_emit.proofs.EmitLemmas.{template_code_step, template_rows_step}
 use Rattle.fac_emit.proofs.CodedItems.{item_passes}
 use Rattle.fac_emit.proofs.emitter.add_templates.Goals as goal

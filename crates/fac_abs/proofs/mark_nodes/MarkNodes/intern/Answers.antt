@@ -2,7 +2,7 @@ use Rattle.std.proofs.Common.{List, ◌≡◌, IfOk, length, subst, sym}
 use Rattle.std.specs.Map.{keys_of}
 use Rattle.fac_abs.specs.declared.mark_node.MarkNode.{MarkNode}
 use Rattle.fac_abs.specs.inner.Interning.{Interns}
-use Rattle.fac_abs.specs.MarkTrees.{node_depth, depths, HasPartsBelow}
+use Rattle.fac_abs.specs.inner.Interning.{node_depth, depths, HasPartsBelow}
 use Rattle.fac_abs.proofs.TableLemmas.{IsKept, kept_by, interned_by}
 use Rattle.fac_abs.proofs.mark_nodes.MarkNodes.intern.Goals as goal
 

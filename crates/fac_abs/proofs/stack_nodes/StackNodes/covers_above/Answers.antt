@@ -1,5 +1,5 @@
 use Rattle.std.proofs.Common.{ℕ, List, [], get_or, ap, sym, ◌∙◌}
-use Rattle.fac_abs.specs.InTurn.{cover_numbers}
+use Rattle.fac_abs.specs.inner.Stacks.{cover_numbers}
 use Rattle.fac_abs.proofs.StackLemmas.{covers_same}
 use Rattle.fac_abs.proofs.stack_nodes.StackNodes.covers_above.Goals as goal
 

@@ -1,5 +1,5 @@
 use Rattle.std.proofs.Common.{◌≡◌, ◌<◌, [], length, get_or}
-use Rattle.fac_abs.specs.InTurn.{cover_numbers}
+use Rattle.fac_abs.specs.inner.Stacks.{cover_numbers}
 use Rattle.fac_abs.proofs.stack_nodes.StackNodes.covers_above.Given as goal
 
 abbrev pub invariant-loop-left : goal.invariant-loop-left

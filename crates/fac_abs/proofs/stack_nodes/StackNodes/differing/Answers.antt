@@ -1,5 +1,5 @@
 use Rattle.std.proofs.Common.{ℕ, List, [], ◌++◌, get_or, ap, sym, ◌∙◌}
-use Rattle.fac_abs.specs.InTurn.{joined_numbers}
+use Rattle.fac_abs.specs.inner.Stacks.{joined_numbers}
 use Rattle.fac_abs.proofs.StackLemmas.{joined_same}
 use Rattle.fac_abs.proofs.stack_nodes.StackNodes.differing.Goals as goal
 

@@ -1,5 +1,5 @@
 use Rattle.std.proofs.Common.{◌≡◌, ◌<◌, [], ◌++◌, length, get_or}
-use Rattle.fac_abs.specs.InTurn.{joined_numbers}
+use Rattle.fac_abs.specs.inner.Stacks.{joined_numbers}
 use Rattle.fac_abs.proofs.stack_nodes.StackNodes.differing.Given as goal
 
 abbrev pub invariant-loop-left : goal.invariant-loop-left

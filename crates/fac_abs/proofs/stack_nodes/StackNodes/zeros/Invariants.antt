@@ -1,5 +1,5 @@
 use Rattle.std.proofs.Common.{[], get_or}
-use Rattle.fac_abs.specs.InTurn.{zeros}
+use Rattle.fac_abs.specs.inner.Stacks.{zeros}
 use Rattle.fac_abs.specs.inner.Keeping.{Going}
 use Rattle.fac_abs.proofs.stack_nodes.StackNodes.zeros.Given as goal
 

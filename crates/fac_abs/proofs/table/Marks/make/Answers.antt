@@ -1,5 +1,6 @@
 use Rattle.std.proofs.Common.{IfOk, length, subst}
-use Rattle.fac_abs.specs.MarkTrees.{tree, trees, HasPartsBelow}
+use Rattle.fac_abs.specs.MarkTrees.{tree, trees}
+use Rattle.fac_abs.specs.inner.Interning.{HasPartsBelow}
 use Rattle.fac_abs.specs.SeenMarks.{MarksSeen, Grows}
 use Rattle.fac_abs.specs.MarkPromises.{IsMarkOf}
 use Rattle.fac_abs.proofs.SeenLemmas.{seen, grows_by, made_by}

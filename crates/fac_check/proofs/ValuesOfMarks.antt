@@ -1,9 +1,8 @@
--- What the marks and stacks of the checker stand for: values, running phrases and lists of values.
-use Rattle.std.specs.Prelude.{ℕ, ◌≡◌, List, [], ◌∷◌, length, true, nat_lt, Option, Some, slice_get}
+-- Which values a mark stands for, which running phrases a phrase of the walk, and which lists an abstract stack.
+use Rattle.std.specs.Prelude.{ℕ, ◌≡◌, List, [], ◌∷◌, Option}
 use Rattle.fac_lang.specs.declared.phrase.Place.{Place}
 use Rattle.fac_lang.specs.Phrases.{wrd, Phrase, end, then, Item, lit, lit_arr, quot, word, bind, local, fry, hole, call_eff, exec_eff, next_method, made, next_after, held, known, Value, plain, fun, Callable, of_phrase, cur, both, Mark, any, lit_mark, cur_mark, com_mark, wrd_mark, par_mark}
-use Rattle.fac_lang.specs.World.{World, State}
-use Rattle.fac_lang.specs.declared.program.Program.{Program}
+use Rattle.fac_lang.specs.World.{State}
 use Rattle.fac_lang.specs.Eval.{Result, Done, Failed, Spent, Stuck}
 use Rattle.fac_abs.specs.Marks.{Row, AbstractStack, dead, on}
 
@@ -14,7 +13,7 @@ Unmeant (known m) = Unit {0}
 Unmeant _ = ⊥
 
 module _ (inputs : ℕ → Callable → Type 0) where
-  -- A value stands for a mark: any value where nothing is known, and for a literal a running phrase that stands for its phrase. Where the mark is an input of the row word that is checked, the callable is one of those that `inputs` allows.
+  -- Which values a mark stands for: any value where nothing is known, and for a literal a running phrase that is as its phrase says. Where the mark is an input of the row word that is checked, the callable is one of those that `inputs` allows.
   abbrev mutual
     pub Stands : Mark → Value → Type 0
     Stands any v = Unit {0}
@@ -56,10 +55,6 @@ module _ (inputs : ℕ → Callable → Type 0) where
     abbrev pub StandsStack : AbstractStack → List Value → Type 0
     StandsStack dead s = ⊥
     StandsStack (on b ms) s = StandsOn b ms s
-
--- Of a state soundness needs this alone: each literal array has its address.
-abbrev pub Valid : Program → World Value → Type 0
-Valid P w = (a : ℕ) → nat_lt a (length P.arrays) ≡ true → (k : ℕ) × (slice_get w.literals a ≡ Some k)
 
 -- a run that isn't stuck, and if it is done satisfies this
 abbrev pub EndsSo : (State Value → Type 0) → Result → Type 0
