@@ -8,5 +8,5 @@ pub mod MoveLemmas
 pub mod NodeEquality
 pub mod SeenLemmas
 pub mod StackLemmas
-pub mod TableLemmas
+pub mod MarkTableLemmas
 pub mod TreeLemmas

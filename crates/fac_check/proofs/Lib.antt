@@ -38,4 +38,4 @@ pub mod UndeclaredWords
 pub mod EdgesInside
 pub mod JudgeLemmas
 pub mod ExamplesOfRecursion
-pub mod OneProgram
+pub mod OneProgramLemmas

@@ -23,7 +23,7 @@ use Rattle.fac_emit.specs.Expanded.{Code, c_last, c_make, c_trim, c_end, c_off, 
 use Rattle.fac_emit.proofs.RunLaws.{free}
 use Rattle.fac_emit.proofs.SymbolicStacks.{l_phrase, Lies, lies_none, keeps_none, keeps_phrase, all_here}
 use Rattle.fac_emit.proofs.Following.{Setting, state, at, left, Follows, fetch, Live, LivePhrase, Go, CallsTo, Templated, Valid}
-use Rattle.fac_emit.proofs.StepLemmas.{g_call, g_called, g_dip, g_end, g_if, g_last, g_make, g_off, g_prim, g_push, g_trim}
+use Rattle.fac_emit.proofs.CaseLemmas.{g_call, g_called, g_dip, g_end, g_if, g_last, g_make, g_off, g_prim, g_push, g_trim}
 
 module _ (Y : Setting) where
   -- short names of what a setting has, as in Following: names under a module's argument aren't handed on without it

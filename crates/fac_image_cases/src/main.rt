@@ -6,11 +6,11 @@
 //! the machine means what was meant: each budget, each trap, each run error, and which tables and code are no image.
 #![tactic(auto)]
 
-mod case;
+mod image_case;
 mod instructions;
-mod telling;
+mod told_runs;
 
-use case::Case;
+use image_case::Case;
 use std::io;
 use std::io::ErrorKind;
 

@@ -1,4 +1,4 @@
-pub mod Numbers
+pub mod TemplateNumbers
 pub mod ClosedPrograms
 pub mod Places
 pub mod Lookups

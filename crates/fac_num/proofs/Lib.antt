@@ -1,5 +1,5 @@
 pub mod Capping
-pub mod Forms
+pub mod IntegerForms
 pub mod Ranges
 pub mod ForCallers
 pub mod ExamplesOfAnswers

@@ -104,7 +104,7 @@ fn base(text: &[u8]) -> Option<u8>
 }
 
 // The value of digits behind a base, or of decimal digits.
-#[tactic(auto, using(crate::proofs::Forms::magnitude_marked, crate::proofs::Forms::magnitude_plain))]
+#[tactic(auto, using(crate::proofs::IntegerForms::magnitude_marked, crate::proofs::IntegerForms::magnitude_plain))]
 fn magnitude(text: &[u8]) -> Option<u128>
     ensures { result ≡ capped_some (magnitude_in text.now) }
 {

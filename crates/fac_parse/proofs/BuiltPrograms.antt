@@ -30,7 +30,7 @@ use Rattle.fac_lang.specs.declared.tree.WrittenEffect.{WrittenEffect}
 use Rattle.fac_parse.specs.declared.resolver.NameFault.{NameFault}
 use Rattle.fac_parse.specs.Resolution.{words_from, known_words, first_names, held_from, or_else, held_by, current, found, own_name, is_taken, uses, result_map, word_item, item_of, term_place, Following, with_item, with_quotation, opened, closed, following, phrase_of, token_texts, is_star, leaving_of, effect_of, is_inline, is_recursive, defined_word, Contents, after_uses, with_top_item, with_defined, unless_taken, contents_of, top_word, program_of}
 use Rattle.fac_parse.specs.Trees.{token_text, IsEffect, IsWellFormed}
-use Rattle.fac_parse.proofs.NameLemmas.{names_counted}
+use Rattle.fac_parse.proofs.KnownNameLemmas.{names_counted}
 
 -- What a name finds is known.
 

@@ -2,9 +2,9 @@ pub mod SpellingLemmas
 pub mod MapLemmas
 pub mod ParseLemmas
 pub mod FirstWordLemmas
-pub mod NameLemmas
+pub mod KnownNameLemmas
 pub mod ResolutionLemmas
 pub mod WrittenLemmas
 pub mod BuiltPrograms
 pub mod WholePrograms
-pub mod EffectLemmas
+pub mod PlainEffectLemmas

@@ -69,7 +69,7 @@ fn leaving(alloc: Global, outs: Option<&[&str]>) -> Result<Outs, Memory>
 }
 
 // The effect of a row.
-#[tactic(auto, using(crate::proofs::EffectLemmas::plain_tree))]
+#[tactic(auto, using(crate::proofs::PlainEffectLemmas::plain_tree))]
 fn effect(alloc: Global, row: &WordRow) -> Result<Effect, Memory>
     ensures { IfOk result (λ effect. effect ≡ written_effect (written_word row.now)) }
 {
@@ -215,7 +215,7 @@ fn never_returns(outs: &[Token]) -> bool
 }
 
 // What is left, as it is written.
-#[tactic(auto, using(crate::proofs::EffectLemmas::texts_map))]
+#[tactic(auto, using(crate::proofs::PlainEffectLemmas::texts_map))]
 fn written_leaving(alloc: Global, names: &[Token]) -> Result<Outs, Memory>
     ensures { IfOk result (λ outs. outs_leaving outs ≡ leaving_of names.now) }
 {
@@ -228,7 +228,7 @@ fn written_leaving(alloc: Global, names: &[Token]) -> Result<Outs, Memory>
 }
 
 // The effect that is written.
-#[tactic(auto, using(crate::proofs::EffectLemmas::plain_tree, crate::proofs::EffectLemmas::texts_map))]
+#[tactic(auto, using(crate::proofs::PlainEffectLemmas::plain_tree, crate::proofs::PlainEffectLemmas::texts_map))]
 fn written(alloc: Global, effect: &WrittenEffect) -> Result<Effect, Memory>
     ensures { IfOk result (λ written. written ≡ effect_of effect.now) }
 {

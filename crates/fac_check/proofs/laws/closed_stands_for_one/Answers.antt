@@ -1,4 +1,4 @@
-use Rattle.fac_check.proofs.OneProgram.{stands_for_one}
+use Rattle.fac_check.proofs.OneProgramLemmas.{stands_for_one}
 use Rattle.fac_check.proofs.laws.closed_stands_for_one.Goals as goal
 
 pub returns : goal.returns

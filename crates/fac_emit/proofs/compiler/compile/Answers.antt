@@ -4,7 +4,7 @@ use Rattle.fac_code.specs.declared.image.WordRow.{WordRow}
 use Rattle.fac_emit.proofs.BuiltCode.{code_built}
 use Rattle.fac_emit.proofs.Carrying.{plain_code, carries}
 use Rattle.fac_emit.proofs.Placed.{top_row}
-use Rattle.fac_emit.proofs.References.{plain_refers}
+use Rattle.fac_emit.proofs.ReferenceLemmas.{plain_refers}
 use Rattle.fac_emit.proofs.compiler.compile.Goals as goal
 
 pub place-start-requires : goal.place-start-requires

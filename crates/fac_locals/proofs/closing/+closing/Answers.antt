@@ -1,7 +1,7 @@
 use Rattle.std.proofs.Common.{length, sym, ap, ◌∙◌, arith}
 use Rattle.std.specs.Vec.Iter.{into_iter_items}
 use Rattle.fac_lang.specs.PhraseView.{items_phrase}
-use Rattle.fac_locals.proofs.Numbers.{step_items, step_templates, all_closed, quotation_closed}
+use Rattle.fac_locals.proofs.TemplateNumbers.{step_items, step_templates, all_closed, quotation_closed}
 use Rattle.fac_locals.proofs.closing.+closing.Goals as goal
 
 pub close_phrase-loop-item-preserved : goal.close_phrase-loop-item-preserved

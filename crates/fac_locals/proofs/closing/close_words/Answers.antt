@@ -1,5 +1,5 @@
 use Rattle.std.proofs.Common.{length, ap, arith}
-use Rattle.fac_locals.proofs.Numbers.{step_words, step_word_templates}
+use Rattle.fac_locals.proofs.TemplateNumbers.{step_words, step_word_templates}
 use Rattle.fac_locals.proofs.closing.close_words.Goals as goal
 
 pub loop-word-preserved : goal.loop-word-preserved

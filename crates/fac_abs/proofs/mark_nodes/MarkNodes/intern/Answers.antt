@@ -3,7 +3,7 @@ use Rattle.std.specs.Map.{keys_of}
 use Rattle.fac_abs.specs.declared.mark_node.MarkNode.{MarkNode}
 use Rattle.fac_abs.specs.inner.Interning.{Interns}
 use Rattle.fac_abs.specs.inner.Interning.{node_depth, depths, HasPartsBelow}
-use Rattle.fac_abs.proofs.TableLemmas.{IsKept, kept_by, interned_by}
+use Rattle.fac_abs.proofs.MarkTableLemmas.{IsKept, kept_by, interned_by}
 use Rattle.fac_abs.proofs.mark_nodes.MarkNodes.intern.Goals as goal
 
 pub invariant_of-self : goal.invariant_of-self

@@ -3,7 +3,7 @@ use Rattle.fac_lang.specs.Phrases.{any}
 use Rattle.fac_abs.specs.declared.mark_node.MarkNode.{MarkNode}
 use Rattle.fac_abs.specs.MarkPromises.{IsMarkOf}
 use Rattle.fac_abs.proofs.SeenLemmas.{seen, first_mark, empty_stack}
-use Rattle.fac_abs.proofs.TableLemmas.{first_table}
+use Rattle.fac_abs.proofs.MarkTableLemmas.{first_table}
 use Rattle.fac_abs.proofs.table.Marks.new.Goals as goal
 
 pub returns-clause-mark : goal.returns-clause-mark

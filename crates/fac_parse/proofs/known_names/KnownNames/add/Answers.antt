@@ -1,4 +1,4 @@
-use Rattle.fac_parse.proofs.NameLemmas.{name_added}
+use Rattle.fac_parse.proofs.KnownNameLemmas.{name_added}
 use Rattle.fac_parse.proofs.known_names.KnownNames.add.Goals as goal
 
 pub returns : goal.returns

@@ -1,7 +1,7 @@
 use Rattle.std.proofs.Common.{List, sym, ap, ◌∙◌}
 use Rattle.fac_lang.specs.declared.program.Name.{Name as FullName}
 use Rattle.fac_parse.specs.Resolution.{is_taken}
-use Rattle.fac_parse.proofs.NameLemmas.{taken_own}
+use Rattle.fac_parse.proofs.KnownNameLemmas.{taken_own}
 use Rattle.fac_parse.proofs.known_names.KnownNames.defines.Goals as goal
 
 pub returns : goal.returns

@@ -1,5 +1,5 @@
 use Rattle.std.proofs.Common.{◌∙◌}
-use Rattle.fac_parse.proofs.NameLemmas.{own_found, none_found}
+use Rattle.fac_parse.proofs.KnownNameLemmas.{own_found, none_found}
 use Rattle.fac_parse.proofs.known_names.KnownNames.find.Goals as goal
 
 pub returns-in-Some : goal.returns-in-Some

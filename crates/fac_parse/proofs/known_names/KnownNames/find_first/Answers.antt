@@ -1,5 +1,5 @@
 use Rattle.std.proofs.Common.{◌∙◌}
-use Rattle.fac_parse.proofs.NameLemmas.{first_found}
+use Rattle.fac_parse.proofs.KnownNameLemmas.{first_found}
 use Rattle.fac_parse.proofs.known_names.KnownNames.find_first.Goals as goal
 
 pub returns-in-Some : goal.returns-in-Some

@@ -1,7 +1,7 @@
 use Rattle.std.proofs.Common.{List, ap, ◌∙◌}
 use Rattle.fac_lang.specs.declared.program.WordDef.{WordDef}
 use Rattle.fac_parse.specs.inner.KnownNames.{word_vocabs}
-use Rattle.fac_parse.proofs.NameLemmas.{first_names_kept, first_room}
+use Rattle.fac_parse.proofs.KnownNameLemmas.{first_names_kept, first_room}
 use Rattle.fac_parse.proofs.known_names.KnownNames.new.Goals as goal
 
 pub invariant_of-result : goal.invariant_of-result

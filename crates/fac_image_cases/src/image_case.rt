@@ -10,7 +10,7 @@
 //!     @output N M             the write of this number fails after M bytes
 //!     @run N M                runs the code from the place N, with M ticks
 use crate::instructions::{action, instr};
-use crate::telling::told;
+use crate::told_runs::told;
 use fac_code::{Image, Instr, TemplateRow, WordRow};
 use fac_io::MemSink;
 use fac_lang::{List, Memory, Text};

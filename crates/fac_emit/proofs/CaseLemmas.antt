@@ -27,7 +27,7 @@ use Rattle.fac_emit.specs.Symbols.{Sym, here, off, k_phrase, Task, do_phrase, Ne
 use Rattle.fac_emit.proofs.RunLaws.{free, spares, Stays, stays_phrase, stays_call, live_first, live_rest}
 use Rattle.fac_emit.proofs.SymbolicStacks.{Left, l_phrase, r_here, r_off, r_phrase, Lies, lies_none, lies_more, Keeps, keeps_none, keeps_phrase, Has, has, too_short, needed, all_here, trim, lies_pile}
 use Rattle.fac_emit.proofs.GivenValues.{IsLong, IsCounted, prim_counted}
-use Rattle.fac_emit.proofs.WholeValues.{pile_whole, kept_whole, cells_whole, made, made_whole, branch_whole}
+use Rattle.fac_emit.proofs.WholeValueLemmas.{pile_whole, kept_whole, cells_whole, made, made_whole, branch_whole}
 use Rattle.fac_emit.proofs.SamePrimitives.{Same, prim_same, seen_same}
 use Rattle.fac_emit.proofs.KeptPrimitives.{prim_keeps}
 use Rattle.fac_emit.proofs.Following.{Setting, owing, state, HasNoGuard, at, left, Follows, step_before, fetch, spent_here, then_follows, owe, Live, Go}
