@@ -179,6 +179,7 @@ module _ (law : RunsHaveOneEnd) (P : Program) (M : Image) (carries : Carried P M
       }
 
   takes_by : (ticks : ℕ) (out : SinkSeen) (what : StopKind) → InMachinePieces M [] ticks out.before out.now what → TakesPieces P ticks out what
+  unfolding run_pieces
   takes_by ticks out stop.Done h = run_pieces ticks out stop.Done [] h h.only_at_fault
   takes_by ticks out (stop.Failed e) h = run_pieces ticks out (stop.Failed e) [] h h.only_at_fault
   takes_by ticks out stop.Spent h = run_pieces ticks out stop.Spent [] h h.only_at_fault
