@@ -1,5 +1,5 @@
 //! The compiler: the code of the templates and the words is linked to an image.
-ghost use Rattle.std.specs.Prelude.{◌≡◌, ◌++◌, ◌∷◌, [], length, ℕ, true, Some, IfOk, OnOk, slice_get, Bool, Option};
+ghost use Rattle.std.specs.Prelude.{◌≡◌, ℕ, true, Some, IfOk, OnOk, slice_get, Bool, Option};
 ghost use Rattle.std.specs.List.{list_all};
 ghost use Rattle.fac_lang.specs.declared.phrase.Height.{Height};
 ghost use Rattle.fac_lang.specs.declared.program.Program.{Program as Source};
