@@ -129,7 +129,7 @@ fn curry(marks: &mut Marks, stack: u32) -> Result<Doing, Memory>
     }
 }
 
-// `compose`
+// `compose`, as `curry`: each has a call and a definition of its own.
 #[tactic(auto, using(fac_abs::proofs::SeenLemmas::grows_trans))]
 fn compose(marks: &mut Marks, stack: u32) -> Result<Doing, Memory>
     requires { IsStack marks.old stack }

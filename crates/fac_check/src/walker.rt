@@ -393,7 +393,7 @@ impl<'a> Walker<'a> {
         }
     }
 
-    // Walks a callable, and then puts a mark back.
+    // Walks a callable, and then puts a mark back. Its clauses are those of every function of the walk.
     #[cycle(walk)]
     fn walk_callable(&mut self, mark: u32, back: Option<u32>, step: Step) -> Result<Walked, Memory>
         requires mark { IsMark self.old.marks mark }
@@ -413,7 +413,7 @@ impl<'a> Walker<'a> {
         }
     }
 
-    // Walks both callables of an `if` from one stack, and joins what they leave.
+    // Walks both callables of an `if` from one stack, and joins what they leave. Its clauses are those of every function of the walk.
     #[cycle(walk)]
     fn walk_fork(&mut self, first: u32, second: u32, step: Step) -> Result<Walked, Memory>
         requires first { IsMark self.old.marks first }

@@ -1,3 +1,4 @@
+-- As for `curried`. The goals of each function are a module of its own, so answers of one shape are written for each.
 use Rattle.std.proofs.Common.{◌≡◌, ◌<◌, true, sym, ◌∙◌, arith}
 use Rattle.fac_abs.specs.declared.mark_node.MarkNode.TheVariants.{Com}
 use Rattle.fac_abs.specs.Marks.{mark_depth, is_callable, composed_mark}

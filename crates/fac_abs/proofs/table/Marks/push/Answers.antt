@@ -1,3 +1,4 @@
+-- As for `join_stacks`. The goals of each function are a module of its own, so answers of one shape are written for each.
 use Rattle.std.proofs.Common.{◌∷◌, IfOk, subst}
 use Rattle.fac_abs.specs.SeenMarks.{MarksSeen, mark_of, stack_of, Grows}
 use Rattle.fac_abs.specs.MarkPromises.{IsStackOf}

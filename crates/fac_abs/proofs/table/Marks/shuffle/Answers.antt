@@ -1,3 +1,4 @@
+-- As for `unknowns`. The goals of each function are a module of its own, so answers of one shape are written for each.
 use Rattle.std.proofs.Common.{IfOk, subst}
 use Rattle.fac_lang.specs.Phrases.{any}
 use Rattle.fac_abs.specs.InTurn.{moved}

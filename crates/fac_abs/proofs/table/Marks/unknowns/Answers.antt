@@ -1,3 +1,4 @@
+-- As for `shuffle`. The goals of each function are a module of its own, so answers of one shape are written for each.
 use Rattle.std.proofs.Common.{IfOk, subst}
 use Rattle.fac_abs.specs.Marks.{unknowns}
 use Rattle.fac_abs.specs.SeenMarks.{MarksSeen, stack_of, Grows}
