@@ -1,5 +1,5 @@
 //! The scanner: it takes a file's characters one by one.
-ghost use Rattle.std.specs.Prelude.{◌≡◌, ◌++◌, ◌∷◌, ◌+◌, [], List as Items, string_bytes, OnOk};
+ghost use Rattle.std.specs.Prelude.{◌≡◌, ◌++◌, ◌∷◌, ◌+◌, [], List as Items, string_bytes, IfOk, OnOk};
 ghost use Rattle.std.specs.Char.{encode_utf8};
 ghost use Rattle.std.specs.Str.{chars};
 ghost use Rattle.fac_token.specs.Lexemes.{is_white, escaped};
@@ -9,7 +9,6 @@ ghost use Rattle.fac_token.specs.inner.TokenSteps.{with_token, hold_plain_end, h
 use crate::TokenFault;
 use fac_lang::{List, Memory, Place, Text, TokKind, Token};
 use std::alloc::Global;
-use std::mem;
 
 /// What the next character stands in. Offsets count bytes from 0.
 #[derive(Clone, Copy)]
@@ -55,12 +54,14 @@ fn add(text: &mut String, c: char) -> Result<(), Memory>
     Ok(())
 }
 
-// The text of a token that ends, and an empty one in its place.
-fn take_text(alloc: Global, text: &mut String) -> Text
-    ensures taken { result ≡ string_bytes text.old }
-    ensures empty { string_bytes text.new ≡ [] }
+// The text of a token that ends. What it was read into is empty then, and keeps its room.
+fn take_text(alloc: Global, text: &mut String) -> Result<Text, Memory>
+    ensures taken { IfOk result (λ taken. taken ≡ string_bytes text.old) }
+    ensures empty { OnOk result (string_bytes text.new ≡ []) }
 {
-    Text::from_string(mem::replace(text, String::new(alloc)))
+    let taken = Text::from_str(alloc, text.as_str())?;
+    text.clear();
+    Ok(taken)
 }
 
 // Adds a token.
@@ -85,13 +86,14 @@ fn take_plain_end(
 ) -> Result<Mode, TokenFault>
     ensures { Holds (hold_plain_end file tokens.old (string_bytes text.old) c) tokens.new (string_bytes text.new) result }
 {
-    let spelling = take_text(alloc, text);
-    if spelling.as_str() == "!" {
+    if text.as_str() == "!" {
+        text.clear();
         if c == '\n' {
             return Ok(Mode::Between);
         }
         return Ok(Mode::InComment);
     }
+    let spelling = take_text(alloc, text)?;
     add_token(tokens, file, TokKind::Plain(spelling))?;
     Ok(Mode::Between)
 }
@@ -130,7 +132,7 @@ fn take_white(
             Err(TokenFault::OpenString { at: quote })
         }
         Mode::Closed => {
-            let content = take_text(alloc, text);
+            let content = take_text(alloc, text)?;
             add_token(tokens, file, TokKind::Str(content))?;
             Ok(Mode::Between)
         }
