@@ -32,7 +32,7 @@ abbrev stack_nodes : List StackNode
 stack_nodes = record { mark = 1; below = 0; height = 1 } ∷ record { mark = 3; below = 1; height = 2 } ∷ record { mark = 2; below = 1; height = 2 } ∷ record { mark = 0; below = 3; height = 3 } ∷ []
 
 abbrev table : MarksSeen
-table = record { nodes = Any ∷ Lit 5 ∷ Cur 0 1 ∷ Com 2 2 ∷ []; stacks = stacks_of stack_nodes }
+table = record { templates = 6; nodes = Any ∷ Lit 5 ∷ Cur 0 1 ∷ Com 2 2 ∷ []; stacks = stacks_of stack_nodes }
 
 stacks_share_what_lies_below : stacks_of stack_nodes ≡ [] ∷ (1 ∷ []) ∷ (3 ∷ 1 ∷ []) ∷ (2 ∷ 1 ∷ []) ∷ (0 ∷ 2 ∷ 1 ∷ []) ∷ []
 stacks_share_what_lies_below = refl

@@ -1,7 +1,9 @@
 -- The table of marks grows.
 use Rattle.std.proofs.Common.{◌≡◌, ℕ, zero, suc, ◌+◌, ◌<◌, ◌⊎◌, inl, inr, List, [], ◌∷◌, ◌++◌, Result, Ok, Err, IfOk, OnErr, length, get_or, refl, sym, ap, subst, ◌∙◌, arith, length-append, append-nil}
 use Rattle.std.proofs.lemmas.List.{get_or_append_left}
+use Rattle.std.proofs.lemmas.List.Elements.{All-nil, All-cons, All-append, All-weaker}
 use Rattle.std.proofs.Math.Seq.{get_or-append_seam}
+use Rattle.std.specs.List.{All}
 use Rattle.std.specs.Map.{keys_of, values_of}
 use Rattle.fac_abs.specs.declared.mark_node.MarkNode.{MarkNode}
 use Rattle.fac_abs.specs.declared.mark_node.MarkNode.TheVariants.{Any}
@@ -47,14 +49,25 @@ module _ (ns : List MarkNode) (n : MarkNode) (absent : (k : ℕ) → k < length 
       }
 
   pub interns_new : IsTable ns → HasPartsBelow (length ns) n → Interns ns (ns ++ n ∷ []) n (length ns)
-  interns_new t parts = record { more = n ∷ []; grows = refl; within = omega (arith, long); node_is = get_or-append_seam ns n [] Any; table = table_push t parts }
+  interns_new t parts = record { more = n ∷ []; only = All-cons (λ (x : MarkNode). x ≡ n) n [] refl (All-nil (λ (x : MarkNode). x ≡ n)); grows = refl; within = omega (arith, long); node_is = get_or-append_seam ns n [] Any; table = table_push t parts }
 
 -- the table of the first node alone
 pub first_table : IsTable (Any ∷ [])
 first_table = record { some = omega arith; first = refl; ordered = (tt, tt); distinct = λ i j h l e. omega arith }
 
 pub interns_old : (ns : List MarkNode) (n : MarkNode) (k : ℕ) → IsTable ns → k < length ns → get_or ns k Any ≡ n → Interns ns ns n k
-interns_old ns n k t h e = record { more = []; grows = sym (append-nil ns); within = h; node_is = e; table = t }
+interns_old ns n k t h e = record { more = []; only = All-nil (λ (x : MarkNode). x ≡ n); grows = sym (append-nil ns); within = h; node_is = e; table = t }
+
+-- what holds of all nodes and of one holds of all where it has its number
+pub all_interned : (P : MarkNode → Type 0) (before after : List MarkNode) (node : MarkNode) (number : ℕ) → All P before → P node → Interns before after node number → All P after
+all_interned P before after node number all one i =
+    subst (All P) (sym i.grows) (All-append P before i.more all (All-weaker (λ (n : MarkNode). n ≡ node) P (λ n e. subst P (sym e) one) i.more i.only))
+
+module _ {E : Type 0} where
+  -- likewise, or nothing changed
+  pub all_by : (P : MarkNode → Type 0) (before after : List MarkNode) (node : MarkNode) → All P before → P node → (r : Result ℕ E) → IfOk r (λ k. Interns before after node k) → OnErr r (after ≡ before) → All P after
+  all_by P before after node all one (Ok k) f g = all_interned P before after node k all one f
+  all_by P before after node all one (Err e) f g = subst (All P) (sym g) all
 
 -- what the fields of a table are
 pub record IsKept (entries : List (MarkNode × ℕ)) : Type 0 where

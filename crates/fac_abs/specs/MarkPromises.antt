@@ -23,6 +23,11 @@ abbrev pub IsStackWhere : MarksSeen → Option ℕ → (Naming → Option (List 
 IsStackWhere M None marks = (N : Naming) → marks N ≡ None
 IsStackWhere M (Some s) marks = IsStack M s × ((N : Naming) → marks N ≡ Some (stack_of N M s))
 
+-- a mark is the literal of this template
+pub record IsLiteral (M : MarksSeen) (m q : ℕ) : Type 0 where
+  pub within : q < M.templates
+  pub is : (N : Naming) → mark_of N M m ≡ lit_mark (N.literal q).0 (N.literal q).1
+
 -- a mark is made of two others with lower numbers
 pub record IsMadeOf (M : MarksSeen) (m a b : ℕ) (make : Mark → Mark → Mark) : Type 0 where
   pub first : IsMark M a
@@ -34,7 +39,7 @@ pub record IsMadeOf (M : MarksSeen) (m a b : ℕ) (make : Mark → Mark → Mark
 -- a mark is what its node says
 abbrev pub IsNodeOf : MarksSeen → ℕ → MarkNode → Type 0
 IsNodeOf M m Any = (N : Naming) → mark_of N M m ≡ any
-IsNodeOf M m (Lit q) = (N : Naming) → mark_of N M m ≡ lit_mark (N.literal q).0 (N.literal q).1
+IsNodeOf M m (Lit q) = IsLiteral M m q
 IsNodeOf M m (Cur a b) = IsMadeOf M m a b cur_mark
 IsNodeOf M m (Com a b) = IsMadeOf M m a b com_mark
 IsNodeOf M m (Wrd w) = (N : Naming) → mark_of N M m ≡ wrd_mark w

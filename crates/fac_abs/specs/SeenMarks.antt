@@ -7,8 +7,9 @@ use Rattle.fac_abs.specs.declared.reached.Reached.TheVariants.{Dead, On}
 use Rattle.fac_abs.specs.Marks.{Row, AbstractStack, dead, on}
 use Rattle.fac_abs.specs.MarkTrees.{Naming, trees}
 
--- Nodes, of which each stands for the mark with its number, and stacks with the top first, of which each stands for the stack with its number.
+-- How many templates there are, of which each literal is one; nodes, of which each stands for the mark with its number; and stacks with the top first, of which each stands for the stack with its number.
 pub record MarksSeen : Type 0 where
+  pub templates : ℕ
   pub nodes : List MarkNode
   pub stacks : List (List ℕ)
 
@@ -58,8 +59,9 @@ abbrev pub IsReached : MarksSeen → Reached → Type 0
 IsReached M Dead = Unit {0}
 IsReached M (On b s) = IsStack M s
 
--- all marks and stacks stay what they are
+-- all marks and stacks stay what they are, and there are as many templates
 pub record Grows (M L : MarksSeen) : Type 0 where
+  pub templates : L.templates ≡ M.templates
   pub marks : (m : ℕ) → IsMark M m → IsMark L m
   pub stacks : (s : ℕ) → IsStack M s → IsStack L s
   pub same_mark : (N : Naming) (m : ℕ) → IsMark M m → mark_of N L m ≡ mark_of N M m

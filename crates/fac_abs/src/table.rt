@@ -4,7 +4,7 @@ ghost use Rattle.fac_lang.specs.Phrases.{any, lit_mark, wrd_mark, par_mark};
 ghost use Rattle.fac_abs.specs.InTurn.{under, moved};
 ghost use Rattle.fac_abs.specs.Marks.{on, base_eq, mark_eq, mark_depth, is_callable, curried_mark, composed_mark, cover_marks, joined, covered, unknowns};
 ghost use Rattle.fac_abs.specs.MarkTrees.{Naming, tree, trees};
-ghost use Rattle.fac_abs.specs.inner.Interning.{node_depth, depths, HasPartsBelow};
+ghost use Rattle.fac_abs.specs.inner.Interning.{node_depth, depths, HasPartsBelow, HasTemplateBelow};
 ghost use Rattle.fac_abs.specs.SeenMarks.{mark_of, stack_of, base_seen, reached_seen, IsMark, IsStack, IsReached, Grows, NumbersAreMarks};
 ghost use Rattle.fac_abs.specs.MarkPromises.{IsMarkOf, IsStackOf, IsStackWhere, IsNodeOf, HasTopWhere, IsJoinedWhere, IsReachedWhere};
 
@@ -19,29 +19,36 @@ use std::marker::Model;
 
 /// Marks and stacks of marks, each by a number. Marks are numbered in the order in which they were first made, so that two of them are equal
 /// where their numbers are, and number 0 is the mark of a value of which nothing is known. Stack 0 is empty. Numbers stay what they are until
-/// the stacks are cleared. The one error is want of memory, which comes too at the 2^32-th mark or stack; what was there before such an error
-/// stays.
+/// the stacks are cleared. Each literal is that of one of so many templates. The one error is want of memory, which comes too at the 2^32-th mark
+/// or stack; what was there before such an error stays.
 #[derive(Drop)]
 pub struct Marks {
+    templates: u32,
     nodes: MarkNodes,
     stack_nodes: StackNodes,
 }
 
 impl Model for Marks {
+    ghost use Rattle.std.specs.List.{All};
+    ghost use Rattle.fac_abs.specs.inner.Interning.{HasTemplateBelow};
     ghost use Rattle.fac_abs.specs.SeenMarks.{MarksSeen};
 
     ghost Value = { MarksSeen };
 
-    ghost view = { λ a. record { nodes = a.nodes; stacks = a.stack_nodes } };
+    ghost view = { λ a. record { templates = a.templates; nodes = a.nodes; stacks = a.stack_nodes } };
+
+    ghost invariant = { λ a. All (HasTemplateBelow a.templates) a.nodes };
 }
 
 impl Marks {
-    /// The mark of nothing known, with number 0, and the empty stack, with number 0.
-    pub fn new(alloc: Global) -> Result<Marks, Memory>
+    /// The mark of nothing known, with number 0, and the empty stack, with number 0, where there are so many templates.
+    pub fn new(alloc: Global, templates: u32) -> Result<Marks, Memory>
+        ensures templates { IfOk result (λ marks. marks.templates ≡ templates) }
         ensures mark { IfOk result (λ marks. IsMarkOf marks 0 (λ N. any)) }
         ensures stack { IfOk result (λ marks. IsStackOf marks 0 (λ N. [])) }
     {
         Ok(Marks {
+            templates,
             nodes: MarkNodes::new(alloc)?,
             stack_nodes: StackNodes::new(alloc),
         })
@@ -66,6 +73,7 @@ impl Marks {
     // The mark of a node.
     fn make(&mut self, node: MarkNode, depth: u32) -> Result<u32, Memory>
         requires parts { HasPartsBelow (length self.old.nodes) node }
+        requires template { HasTemplateBelow self.old.templates node }
         requires depth { depth ≡ node_depth (depths self.old.nodes) node }
         ensures grows { Grows self.old self.new }
         ensures made { IfOk result (λ r. IsMarkOf self.new r (λ N. tree N (trees N self.old.nodes) node)) }
@@ -76,6 +84,7 @@ impl Marks {
 
     /// The mark of a literal, by the number of its template.
     pub fn lit(&mut self, template: u32) -> Result<u32, Memory>
+        requires { template < self.old.templates }
         ensures grows { Grows self.old self.new }
         ensures made { IfOk result (λ r. IsMarkOf self.new r (λ N. lit_mark (N.literal template).0 (N.literal template).1)) }
         ensures err { OnErr result (self.new ≡ self.old) }
@@ -340,6 +349,7 @@ impl Marks {
 
     /// Forgets all stacks but the empty one, so that their memory serves again. The marks stay.
     pub fn clear_stacks(&mut self)
+        ensures templates { self.new.templates ≡ self.old.templates }
         ensures nodes { self.new.nodes ≡ self.old.nodes }
         ensures stacks { self.new.stacks ≡ [] ∷ [] }
     {

@@ -6,11 +6,11 @@ use Rattle.fac_lang.specs.declared.phrase.Template.{Template}
 use Rattle.fac_lang.specs.declared.program.Program.{Program}
 use Rattle.fac_lang.specs.declared.program.WordDef.{WordDef}
 use Rattle.fac_lang.specs.declared.program.Sort.TheVariants.{Body as body}
-use Rattle.fac_lang.specs.Phrases.{Literal, Phrase, end, Mark, cur_mark, com_mark}
-use Rattle.fac_locals.specs.Literals.{Quoted, literal_or, first_of_word, first_of_literal}
+use Rattle.fac_lang.specs.Phrases.{Literal, Phrase, Mark, cur_mark, com_mark}
+use Rattle.fac_locals.specs.Literals.{Quoted, first_of_word, first_of_literal}
 use Rattle.fac_locals.specs.Closed.{Closes, ClosesPhrase}
 use Rattle.fac_locals.specs.declared.closing.Closed.{Closed}
-use Rattle.fac_locals.proofs.Lookups.{word_open, template_closed, template_closed_none}
+use Rattle.fac_locals.proofs.Lookups.{word_open, template_closed}
 use Rattle.fac_abs.specs.Marks.{Row, AbstractStack, on}
 use Rattle.fac_abs.specs.MarkTrees.{Naming}
 use Rattle.fac_abs.specs.SeenMarks.{MarksSeen, Grows, IsMark, IsStack, IsReached, mark_of, stack_of, base_seen, reached_seen}
@@ -19,8 +19,8 @@ use Rattle.fac_check.specs.declared.walker.Walked.{Walked as Ended}
 use Rattle.fac_check.specs.declared.walker.Walked.TheVariants.{Found}
 use Rattle.fac_abs.specs.declared.reached.Reached.{Reached}
 use Rattle.fac_abs.specs.declared.reached.Reached.TheVariants.{Dead, On}
-use Rattle.fac_check.specs.Flow.{Walked, found, and_then, join, living, inside, Walk, walk_phrase, walk_mark}
-use Rattle.fac_check.specs.inner.Walking.{Opened, walked_seen, Enters, body_phrase, phrase_of, sort_phrase, go_at, mark_walk, fork_walk}
+use Rattle.fac_check.specs.Flow.{Walked, and_then, join, living, inside, Walk, walk_phrase, walk_mark}
+use Rattle.fac_check.specs.inner.Walking.{Opened, walked_seen, Enters, body_phrase, phrase_of, sort_phrase, mark_walk, fork_walk}
 use Rattle.fac_check.proofs.BuiltWords.{built_as}
 use Rattle.fac_check.proofs.WordItems.{is_body}
 
@@ -63,15 +63,6 @@ carried e O = record {
   naming = O.naming;
   naming_is = O.naming_is;
 }
-
--- a phrase with no items
-pub no_items : {C : Program} {templates : List Template} (O : Opened C templates) (f : ℕ) (at : Literal) (t : Phrase) (p : Place) (nested : ℕ) (b : Option Row) (ms : List Mark) (n : ℕ) → t ≡ end → nested ≢ 0 → found (on b ms) n ≡ walk_phrase None (go_at O f) at t p nested b ms n
-no_items O f at t p nested b ms n e h = sym (phrase_entered (go_at O f) at t p nested b ms n h ∙ ap (λ u. go_at O f at (nested - 1) u b ms n) e)
-
-module _ {C : Program} {templates : List Template} (O : Opened C templates) where
-  -- a number behind the last template names a literal with no items
-  pub no_literal : (k : ℕ) → slice_get templates k ≡ None → (O.naming.literal k).1 ≡ end
-  no_literal k e = ap (λ (l : Quoted). l.1) (O.naming_is k) ∙ ap (λ (o : Option Quoted). (literal_or O.program k o).1) (template_closed_none O.program C templates O.closes k e)
 
 -- what was reached stays what it is
 pub reached_stays : (N : Naming) (M L : MarksSeen) (A : Reached) → Grows M L → IsReached M A → reached_seen N L A ≡ reached_seen N M A

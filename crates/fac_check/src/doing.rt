@@ -341,7 +341,8 @@ fn unknown(marks: &mut Marks, stack: u32) -> Result<Doing, Memory>
 // A quotation, by its template.
 #[tactic(auto, using(fac_abs::proofs::SeenLemmas::grows_trans))]
 fn quotation(marks: &mut Marks, stack: u32, template: u32) -> Result<Doing, Memory>
-    requires { IsStack marks.old stack }
+    requires stack { IsStack marks.old stack }
+    requires template { template < marks.old.templates }
     ensures grows { Grows marks.old marks.new }
     ensures there { IfOk result (λ doing. IsDoing marks.new doing) }
     ensures does { IfOk result (λ doing. (N : Naming) (phrases : ℕ → Tree) (b : Option Row) → doing_seen N marks.new phrases b doing ≡ gives (on b (lit_mark (N.literal template).0 (N.literal template).1 ∷ stack_of N marks.old stack))) }
@@ -358,6 +359,7 @@ pub fn item_doing(
     what: &What,
 ) -> Result<Doing, Memory>
     requires stack { IsStack marks.old stack }
+    requires templates { marks.old.templates ≡ length closed.now.templates }
     requires program { takes_all closed.now.program closed.now.templates ≡ true }
     requires item { takes_item closed.now.program.top (length closed.now.templates) (what_item what.now) ≡ true }
     ensures grows { Grows marks.old marks.new }

@@ -24,6 +24,7 @@ pub struct Walker<'a> {
     /// The marks and stacks that the walk has come to.
     pub marks: Marks,
     ghost taken: { takes_all closed.now.program closed.now.templates ≡ true },
+    ghost templates: { marks.templates ≡ length closed.now.templates },
 }
 
 /// Where a walk stands.
@@ -207,15 +208,15 @@ impl<'a> Walker<'a> {
         ensures mark { IfOk result (λ walker. IsMarkOf walker.marks 0 (λ N. any)) }
         ensures stack { IfOk result (λ walker. IsStackOf walker.marks 0 (λ N. [])) }
     {
-        let marks = Marks::new(alloc)?;
+        let marks = Marks::new(alloc, closed.templates.len())?;
         Ok(Walker { closed, marks })
     }
 
-    // Walks the phrase of a literal, which is one nested application. A number behind the last template names a literal with no items: no
-    // mark has one, but the contracts of marks don't bound the numbers of their literals. They will once literals have captures.
+    // Walks the phrase of a literal, which is one nested application.
     #[cycle(walk)]
     fn walk_literal(&mut self, template: u32, step: Step) -> Result<Walked, Memory>
-        requires { IsStack self.old.marks step.stack }
+        requires template { template < self.old.marks.templates }
+        requires stack { IsStack self.old.marks step.stack }
         ensures closed { self.new.closed ≡ self.old.closed }
         ensures grows { Grows self.old.marks self.new.marks }
         ensures there { IfOk result (λ walked. IsWalked self.new.marks walked) }
@@ -228,13 +229,7 @@ impl<'a> Walker<'a> {
         let closed = self.closed;
         match closed.templates.get(template as usize) {
             Some(found) => self.walk_phrase(&found.body, step.entered()),
-            None => Ok(Walked::Found(
-                Reached::On {
-                    base: step.base,
-                    stack: step.stack,
-                },
-                step.left,
-            )),
+            None => unreachable!(),
         }
     }
 

@@ -12,6 +12,6 @@ fn add_others(marks: &mut Marks) -> Result<(), Memory> {
 
 #[test]
 fn other_marks(rt: HostRuntime) -> Result<(), Fail> {
-    let mut marks = Marks::new(rt.alloc())?;
+    let mut marks = Marks::new(rt.alloc(), 0)?;
     Ok(add_others(&mut marks)?)
 }

@@ -12,9 +12,9 @@ returns c = λ N m n first second e.
     let ns = c.self.inside.nodes in
     let ss = c.self.inside.stack_nodes in
     let M = c.args.self.now in
-    let low = mark_in ns ss M c.self.view_is m first in
-    let lower = mark_in ns ss M c.self.view_is n second in
+    let low = mark_in c.self.inside.templates ns ss M c.self.view_is m first in
+    let lower = mark_in c.self.inside.templates ns ss M c.self.view_is n second in
     let table = c.first-first.ensures.table in
-    let told : nat_eq m n ≡ mark_eq (mark_of N M m) (mark_of N M n) = same_numbers N ns ss table m n low lower ∙ ap (λ (L : MarksSeen). mark_eq (mark_of N L m) (mark_of N L n)) c.self.view_is in
-    let own : nat_eq n n ≡ mark_eq (mark_of N M n) (mark_of N M n) = same_numbers N ns ss table n n lower lower ∙ ap (λ (L : MarksSeen). mark_eq (mark_of N L n) (mark_of N L n)) c.self.view_is in
+    let told : nat_eq m n ≡ mark_eq (mark_of N M m) (mark_of N M n) = same_numbers c.self.inside.templates N ns ss table m n low lower ∙ ap (λ (L : MarksSeen). mark_eq (mark_of N L m) (mark_of N L n)) c.self.view_is in
+    let own : nat_eq n n ≡ mark_eq (mark_of N M n) (mark_of N M n) = same_numbers c.self.inside.templates N ns ss table n n lower lower ∙ ap (λ (L : MarksSeen). mark_eq (mark_of N L n) (mark_of N L n)) c.self.view_is in
     eqb-true m n (told ∙ ap (λ x. mark_eq x (mark_of N M n)) e ∙ sym own ∙ eq-eqb n n refl)

@@ -5,11 +5,11 @@ use Rattle.fac_abs.proofs.SeenLemmas.{stack_in, low_in, top_where}
 use Rattle.fac_abs.proofs.table.Marks.pop.Goals as goal
 
 pub pop-requires : goal.pop-requires
-pop-requires c = stack_in c.self.inside.nodes c.self.inside.stack_nodes c.args.self.now c.self.view_is c.args.stack c.requires
+pop-requires c = stack_in c.self.inside.templates c.self.inside.nodes c.self.inside.stack_nodes c.args.self.now c.self.view_is c.args.stack c.requires
 
 pub returns : goal.returns
 returns c =
     let ns = c.self.inside.nodes in
     let ss = c.self.inside.stack_nodes in
-    let low = low_in ns ss c.args.self.now c.self.view_is c.args.stack c.requires in
-    subst (λ (M : MarksSeen). HasTopWhere M c.args.stack c.pop.result) c.self.view_is (top_where ns ss c.args.stack c.pop.result low c.pop.ensures)
+    let low = low_in c.self.inside.templates ns ss c.args.self.now c.self.view_is c.args.stack c.requires in
+    subst (λ (M : MarksSeen). HasTopWhere M c.args.stack c.pop.result) c.self.view_is (top_where c.self.inside.templates ns ss c.args.stack c.pop.result low c.pop.ensures)

@@ -9,6 +9,6 @@ pub returns : goal.returns
 returns c =
     let ns = c.self.inside.nodes in
     let ss = c.self.inside.stack_nodes in
-    let low = mark_in ns ss c.args.self.now c.self.view_is c.args.a c.requires.first in
-    let lower = mark_in ns ss c.args.self.now c.self.view_is c.args.b c.requires.second in
-    λ N. same_numbers N ns ss c.first-first.ensures.table c.args.a c.args.b low lower ∙ ap (λ (M : MarksSeen). mark_eq (mark_of N M c.args.a) (mark_of N M c.args.b)) c.self.view_is
+    let low = mark_in c.self.inside.templates ns ss c.args.self.now c.self.view_is c.args.a c.requires.first in
+    let lower = mark_in c.self.inside.templates ns ss c.args.self.now c.self.view_is c.args.b c.requires.second in
+    λ N. same_numbers c.self.inside.templates N ns ss c.first-first.ensures.table c.args.a c.args.b low lower ∙ ap (λ (M : MarksSeen). mark_eq (mark_of N M c.args.a) (mark_of N M c.args.b)) c.self.view_is

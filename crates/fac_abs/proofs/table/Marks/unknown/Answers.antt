@@ -9,4 +9,4 @@ pub returns-clause-any : goal.returns-clause-any
 returns-clause-any c =
     let ns = c.self.inside.nodes in
     let ss = c.self.inside.stack_nodes in
-    subst (λ (M : MarksSeen). IsMarkOf M c.first.result (λ N. any)) c.self.view_is (subst (λ (k : ℕ). IsMarkOf (seen ns ss) k (λ N. any)) (sym c.first.ensures.zero) (first_mark ns ss c.first.ensures.table))
+    subst (λ (M : MarksSeen). IsMarkOf M c.first.result (λ N. any)) c.self.view_is (subst (λ (k : ℕ). IsMarkOf (seen c.self.inside.templates ns ss) k (λ N. any)) (sym c.first.ensures.zero) (first_mark c.self.inside.templates ns ss c.first.ensures.table))

@@ -12,7 +12,7 @@ use Rattle.fac_check.specs.inner.Taken.{takes_phrase}
 use Rattle.fac_check.specs.inner.Walking.{go_at, body_phrase, walked_seen, IsDoingOf, NamesPhrase, IsWithin, IsBelow, IsWalked, IsWalkOfPhrase}
 use Rattle.fac_check.specs.declared.walker.Step.{Step}
 use Rattle.fac_check.specs.declared.walker.Walked.TheVariants.{Found}
-use Rattle.fac_check.proofs.MarkWalks.{carried, curried_counts, composed_ends, phrase_entered, literal_closed, word_phrase_closed, forked, reached_stays, no_items, no_literal}
+use Rattle.fac_check.proofs.MarkWalks.{carried, curried_counts, composed_ends, phrase_entered, literal_closed, word_phrase_closed, forked, reached_stays}
 use Rattle.fac_check.proofs.TakenPrograms.{template_taken, phrase_taken, first_taken, others_taken}
 use Rattle.fac_check.proofs.WalkLemmas.{Onward, onward_start, onward_end, behind_from}
 use Rattle.fac_check.proofs.WordItems.{ok_maps}
@@ -23,12 +23,7 @@ walk_literal-walk_phrase-requires t c =
     let C = c.args.self.now.closed.now in
     let deeper : c.entered.result.nested ≡ c.args.step.nested - 1 = ap (λ (s : Step). s.nested) c.entered.ensures in
     let same : c.entered.result.stack ≡ c.args.step.stack = ap (λ (s : Step). s.stack) c.entered.ensures in
-    (omega (arith, c.decreases, c.if-step-eq0.false, deeper), (rw same c.requires, template_taken C.program C.templates c.args.self.now.taken c.args.template c.in-Some.found.now (sym c.in-Some.ensures)))
-
-pub walk_literal-returns-in-None-clause-walks : goal.walk_literal-returns-in-None-clause-walks
-walk_literal-returns-in-None-clause-walks t c = λ O f l.
-    let literal = O.naming.literal c.args.template in
-    no_items O f (first_of_literal literal.0) literal.1 c.args.step.place c.args.step.nested (base_seen O.naming c.args.step.base) (stack_of O.naming c.args.self.now.marks c.args.step.stack) c.args.step.left (no_literal O c.args.template (sym c.in-None.ensures)) c.if-step-eq0.false
+    (omega (arith, c.decreases, c.if-step-eq0.false, deeper), (rw same c.requires.stack, template_taken C.program C.templates c.args.self.now.taken c.args.template c.in-Some.found.now (sym c.in-Some.ensures)))
 
 pub walk_word-walk_phrase-requires : goal.walk_word-walk_phrase-requires
 walk_word-walk_phrase-requires t c =
@@ -37,8 +32,8 @@ walk_word-walk_phrase-requires t c =
     let same : c.entered.result.stack ≡ c.args.step.stack = ap (λ (s : Step). s.stack) c.entered.ensures in
     (omega (arith, c.decreases, c.if-step-eq0.false, deeper), (rw same c.requires.stack, phrase_taken C.program C.templates c.args.self.now.taken c.args.word c.in-Some.found.now _ (sym c.in-Some.ensures) c.in-Body.is))
 
-pub walk_literal-returns-in-Some-clause-walks : goal.walk_literal-returns-in-Some-clause-walks
-walk_literal-returns-in-Some-clause-walks t c =
+pub walk_literal-returns-clause-walks : goal.walk_literal-returns-clause-walks
+walk_literal-returns-clause-walks t c =
     ok_maps c.walk_phrase.result
     (λ r walks O f l.
     let literal = O.naming.literal c.args.template in
