@@ -19,10 +19,11 @@ use std::marker::Model;
 
 /// Marks and stacks of marks, each by a number. Marks are numbered in the order in which they were first made, so that two of them are equal
 /// where their numbers are, and number 0 is the mark of a value of which nothing is known. Stack 0 is empty. Numbers stay what they are until
-/// the stacks are cleared. Each literal is that of one of so many templates. The one error is want of memory, which comes too at the 2^32-th mark
-/// or stack; what was there before such an error stays.
+/// the stacks are cleared. Each literal among the marks is that of one of as many templates as `new` was given. The one error is want of memory,
+/// which comes too at the 2^32-th mark or stack; what was there before such an error stays.
 #[derive(Drop)]
 pub struct Marks {
+    // How many templates there are, which contracts alone ask.
     templates: u32,
     nodes: MarkNodes,
     stack_nodes: StackNodes,
@@ -41,7 +42,7 @@ impl Model for Marks {
 }
 
 impl Marks {
-    /// The mark of nothing known, with number 0, and the empty stack, with number 0, where there are so many templates.
+    /// The mark of nothing known, with number 0, and the empty stack, with number 0, for literals of so many templates.
     pub fn new(alloc: Global, templates: u32) -> Result<Marks, Memory>
         ensures templates { IfOk result (λ marks. marks.templates ≡ templates) }
         ensures mark { IfOk result (λ marks. IsMarkOf marks 0 (λ N. any)) }
@@ -54,7 +55,7 @@ impl Marks {
         })
     }
 
-    /// What a mark is, by the numbers of its parts, which are lower than its own.
+    /// What a mark is, by the numbers of its parts, which are lower than its own. A literal's template is there.
     pub fn node(&self, mark: u32) -> MarkNode
         requires { IsMark self.now mark }
         ensures { IsNodeOf self.now mark result }
@@ -82,7 +83,7 @@ impl Marks {
         self.nodes.intern(node, depth)
     }
 
-    /// The mark of a literal, by the number of its template.
+    /// The mark of a literal, by the number of its template, which is there.
     pub fn lit(&mut self, template: u32) -> Result<u32, Memory>
         requires { template < self.old.templates }
         ensures grows { Grows self.old self.new }
