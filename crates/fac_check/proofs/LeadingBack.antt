@@ -3,7 +3,43 @@ use Rattle.std.proofs.Common.{◌≡◌, ◌<◌, ◌≤◌, ◌⊎◌, inl, inr
 use Rattle.std.specs.Prelude.{slice_get, nat_eq, nat_lt, ◌||◌, ◌&&◌}
 use Rattle.std.proofs.lemmas.List.{append-nil, length-replicate}
 use Rattle.fac_check.specs.Verdicts.{one_of}
-use Rattle.fac_check.specs.inner.UndeclaredRecursion.{IsOneOf, list_or_none, led_from, IsWithin, StaysInside, Decides, rank_of, same_or_lower, all_lower, leads_lower, all_descend, count_one, trues, Adds, Searches, Finds}
+use Rattle.fac_check.specs.inner.UndeclaredRecursion.{IsOneOf, list_or_none, led_from, IsWithin, StaysInside, Decides}
+
+-- how many are true
+abbrev pub count_one : Bool → ℕ → ℕ
+count_one true n = suc n
+count_one false n = n
+
+abbrev pub trues : List Bool → ℕ
+trues [] = 0
+trues (b ∷ bs) = count_one b (trues bs)
+
+-- these numbers are added to those that were seen, where they aren't marked as seen
+pub record Adds (vs seen : List ℕ) (marks : List Bool) (seen_after : List ℕ) (marks_after : List Bool) : Type 0 where
+  pub more : List ℕ
+  pub seen_is : seen_after ≡ seen ++ more
+  pub only : (v : ℕ) → IsOneOf v more → IsOneOf v vs
+  pub all : (v : ℕ) → IsOneOf v vs → v < length marks → slice_get marks_after v ≡ Some true
+  pub kept : (v : ℕ) → slice_get marks v ≡ Some true → slice_get marks_after v ≡ Some true
+  pub marked : ((v : ℕ) → slice_get marks v ≡ Some true → IsOneOf v seen) → (v : ℕ) → slice_get marks_after v ≡ Some true → IsOneOf v seen_after
+  pub counted : length seen ≡ trues marks → length seen_after ≡ trues marks_after
+  pub same_length : length marks_after ≡ length marks
+
+-- what a search has seen, where it has followed the first so many
+pub record Searches (edges : List (List ℕ)) (starts : List ℕ) (head : ℕ) (seen : List ℕ) (marks : List Bool) : Type 0 where
+  pub begins : (v : ℕ) → IsOneOf v starts → v < length edges → slice_get marks v ≡ Some true
+  pub followed : (i u v : ℕ) → i < head → slice_get seen i ≡ Some u → IsOneOf v (led_from edges u) → v < length edges → slice_get marks v ≡ Some true
+  pub within : (i v : ℕ) → slice_get seen i ≡ Some v → IsWithin edges starts i v
+  pub marked : (v : ℕ) → slice_get marks v ≡ Some true → IsOneOf v seen
+  pub counted : length seen ≡ trues marks
+  pub same_length : length marks ≡ length edges
+
+-- A number below the end is marked where it is led to, and then in at most as many steps as there are words.
+pub record Finds (edges : List (List ℕ)) (starts : List ℕ) (marks : List Bool) : Type 0 where
+  pub begins : (v : ℕ) → IsOneOf v starts → v < length edges → slice_get marks v ≡ Some true
+  pub closed : (u v : ℕ) → slice_get marks u ≡ Some true → IsOneOf v (led_from edges u) → v < length edges → slice_get marks v ≡ Some true
+  pub within : (v : ℕ) → slice_get marks v ≡ Some true → IsWithin edges starts (length edges) v
+  pub same_length : length marks ≡ length edges
 
 pub or_left : (a b : Bool) → a ≡ true → (a || b) ≡ true
 or_left true b e = refl
@@ -52,14 +88,14 @@ in_either v (x ∷ xs) ys e =
       | inr p ↦ elim (in_either v xs ys p) [ inl q ↦ inl (or_right (nat_eq v x) (one_of v xs) q) | inr q ↦ inr q ]
     ]
 
-only_one : (v w : ℕ) → IsOneOf v (w ∷ []) → v ≡ w
+pub only_one : (v w : ℕ) → IsOneOf v (w ∷ []) → v ≡ w
 only_one v w e = elim (or_either (nat_eq v w) (one_of v []) e) [ inl p ↦ same_number v w p | inr p ↦ absurd cc ]
 
 pub in_one : (v : ℕ) (xs : List ℕ) → IsOneOf v (v ∷ xs)
 in_one v xs = or_left (nat_eq v v) (one_of v xs) (itself v)
 
 -- a member has a number, and what has a number is a member
-member_at : (v : ℕ) (xs : List ℕ) → IsOneOf v xs → (i : ℕ) × (slice_get xs i ≡ Some v)
+pub member_at : (v : ℕ) (xs : List ℕ) → IsOneOf v xs → (i : ℕ) × (slice_get xs i ≡ Some v)
 member_at v [] e = absurd cc
 member_at v (x ∷ xs) e =
     elim (or_either (nat_eq v x) (one_of v xs) e) [
@@ -67,7 +103,7 @@ member_at v (x ∷ xs) e =
       | inr p ↦ let found = member_at v xs p in (suc found.0, found.1)
     ]
 
-at_member : (v : ℕ) (xs : List ℕ) (i : ℕ) → slice_get xs i ≡ Some v → IsOneOf v xs
+pub at_member : (v : ℕ) (xs : List ℕ) (i : ℕ) → slice_get xs i ≡ Some v → IsOneOf v xs
 at_member v [] i e = absurd cc
 at_member v (x ∷ xs) zero e = let same : x ≡ v = cc in or_left (nat_eq v x) (one_of v xs) (rw same (itself v))
 at_member v (x ∷ xs) (suc i) e = or_right (nat_eq v x) (one_of v xs) (at_member v xs i e)
@@ -80,7 +116,7 @@ at_below (x ∷ xs) (suc i) v e =
     omega (arith, lt)
 
 -- an element of two lists is one of the first, or behind it one of the second
-at_either : (xs ys : List ℕ) (i v : ℕ) → slice_get (xs ++ ys) i ≡ Some v → (slice_get xs i ≡ Some v) ⊎ ((length xs ≤ i) × IsOneOf v ys)
+pub at_either : (xs ys : List ℕ) (i v : ℕ) → slice_get (xs ++ ys) i ≡ Some v → (slice_get xs i ≡ Some v) ⊎ ((length xs ≤ i) × IsOneOf v ys)
 at_either [] ys i v e = inr (omega arith, at_member v ys i e)
 at_either (x ∷ xs) ys zero v e = inl e
 at_either (x ∷ xs) ys (suc i) v e = elim (at_either xs ys i v e) [ inl p ↦ inl p | inr p ↦ inr (omega (arith, p.0), p.1) ]
@@ -222,7 +258,7 @@ step_followed edges starts seen marks marks_after more head word i u v s at all 
     let same : u ≡ word = cc in
     all v (subst (λ (x : ℕ). IsOneOf v (led_from edges x)) same h) (rw s.same_length lt)
 
-last_or_before : (i head : ℕ) → i < head + 1 → (i < head) ⊎ (i ≡ head)
+pub last_or_before : (i head : ℕ) → i < head + 1 → (i < head) ⊎ (i ≡ head)
 last_or_before i head lt = grind arith
 
 -- one word further
@@ -247,72 +283,6 @@ search_ends edges starts seen marks head s le = record {
   closed = λ u v h e lt. let found = member_at u seen (s.marked u h) in s.followed found.0 u v (omega (arith, le, at_below seen found.0 u found.1)) found.1 e lt;
   within = λ v h. let found = member_at v seen (s.marked v h) in within_more edges starts found.0 (length edges) v (omega (arith, at_below seen found.0 v found.1, seen_below edges starts seen marks head s)) (s.within found.0 v found.1);
   same_length = s.same_length;
-}
-
-abbrev is_marked : Option Bool → Bool
-is_marked None = false
-is_marked (Some b) = b
-
-marked_true : (o : Option Bool) → is_marked o ≡ true → o ≡ Some true
-marked_true None e = absurd cc
-marked_true (Some b) e = ap Some e
-
-unmarked : (edges : List (List ℕ)) (w : ℕ) (marks : List Bool) → Finds edges (led_from edges w) marks → is_marked (slice_get marks w) ≡ false → StaysInside edges w
-unmarked edges w marks f e = record {
-  inside = λ u. is_marked (slice_get marks u);
-  begins = λ v h lt. ap is_marked (f.begins v h lt);
-  closed = λ u v h g lt. ap is_marked (f.closed u v (marked_true (slice_get marks u) h) g lt);
-  apart = e;
-}
-
--- what a search says of the word whose words it started from
-pub search_decides : (edges : List (List ℕ)) (w : ℕ) (marks : List Bool) (b : Bool) → Finds edges (led_from edges w) marks → slice_get marks w ≡ Some b → Decides edges w b
-search_decides edges w marks true f e = f.within w e
-search_decides edges w marks false f e = unmarked edges w marks f (ap is_marked e)
-
-abbrev lower : ℕ → ℕ → Bool
-lower a b = nat_lt 0 a && nat_lt a b
-
-lower_each : (ranks : List ℕ) (w r v : ℕ) (vs : List ℕ) → all_lower ranks w r vs ≡ true → IsOneOf v vs → same_or_lower ranks w r v ≡ true
-lower_each ranks w r v [] h e = absurd cc
-lower_each ranks w r v (x ∷ vs) h e = elim (or_either (nat_eq v x) (one_of v vs) e) [
-  | inl p ↦ ap (same_or_lower ranks w r) (same_number v x p) ∙ and_left (same_or_lower ranks w r x) (all_lower ranks w r vs) h
-  | inr p ↦ lower_each ranks w r v vs (and_right (same_or_lower ranks w r x) (all_lower ranks w r vs) h) p
-]
-
-leads_each : (ranks : List ℕ) (w r v : ℕ) (vs : List ℕ) → leads_lower ranks w r vs ≡ true → 0 < r → IsOneOf v vs → same_or_lower ranks w r v ≡ true
-leads_each ranks w zero v vs h lt e = absurd (omega (arith, lt))
-leads_each ranks w (suc r) v vs h lt e = lower_each ranks w (suc r) v vs h e
-
-descends_each : (ranks : List ℕ) (w k u v : ℕ) (edges : List (List ℕ)) → u ≡ w + k → all_descend ranks w edges ≡ true → 0 < rank_of ranks u → IsOneOf v (list_or_none (slice_get edges k)) → same_or_lower ranks u (rank_of ranks u) v ≡ true
-descends_each ranks w k u v [] is h lt e = absurd cc
-descends_each ranks w zero u v (vs ∷ edges) is h lt e =
-    let here : u ≡ w = omega (arith, is) in
-    leads_each ranks u (rank_of ranks u) v vs (ap (λ (x : ℕ). leads_lower ranks x (rank_of ranks x) vs) here ∙ and_left (leads_lower ranks w (rank_of ranks w) vs) (all_descend ranks (suc w) edges) h) lt e
-descends_each ranks w (suc k) u v (vs ∷ edges) is h lt e = descends_each ranks (suc w) k u v edges (omega (arith, is)) (and_right (leads_lower ranks w (rank_of ranks w) vs) (all_descend ranks (suc w) edges) h) lt e
-
-lower_than : (a b c : ℕ) → lower a b ≡ true → lower b c ≡ true → lower a c ≡ true
-lower_than a b c p q = grind arith
-
-lower_first : (a b : ℕ) → lower a b ≡ true → 0 < a
-lower_first a b p = grind arith
-
-not_lower : (a : ℕ) → lower a a ≡ false
-not_lower a = grind arith
-
--- a word with a rank that doesn't name itself stays among those with lower ranks
-pub ranked_stays : (edges : List (List ℕ)) (ranks : List ℕ) (w : ℕ) → all_descend ranks 0 edges ≡ true → 0 < rank_of ranks w → one_of w (led_from edges w) ≡ false → StaysInside edges w
-ranked_stays edges ranks w h lt alone = record {
-  inside = λ u. lower (rank_of ranks u) (rank_of ranks w);
-  begins = λ v e below. elim (or_either (nat_eq v w) (lower (rank_of ranks v) (rank_of ranks w)) (descends_each ranks 0 w w v edges (omega arith) h lt e)) [
-    | inl p ↦ absurd (let named : one_of w (led_from edges w) ≡ true = subst (λ (x : ℕ). IsOneOf x (led_from edges w)) (same_number v w p) e in let clash : true ≡ false = sym named ∙ alone in cc)
-    | inr q ↦ q
-  ];
-  closed = λ u v p e below. elim (or_either (nat_eq v u) (lower (rank_of ranks v) (rank_of ranks u)) (descends_each ranks 0 u u v edges (omega arith) h (lower_first (rank_of ranks u) (rank_of ranks w) p) e)) [
-    | inl q ↦ ap (λ (x : ℕ). lower (rank_of ranks x) (rank_of ranks w)) (same_number v u q) ∙ p
-    | inr q ↦ lower_than (rank_of ranks v) (rank_of ranks u) (rank_of ranks w) q p
-  ];
-  apart = not_lower (rank_of ranks w);
 }
 
 -- a word that names itself leads back to itself

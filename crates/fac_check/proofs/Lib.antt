@@ -36,6 +36,10 @@ pub mod EdgesOfWords
 pub mod LeadingBack
 pub mod UndeclaredWords
 pub mod EdgesInside
+pub mod FoundWords
+pub mod ComponentLists
+pub mod ComponentLemmas
+pub mod SearchSteps
 pub mod JudgeLemmas
 pub mod ExamplesOfRecursion
 pub mod OneProgramLemmas
