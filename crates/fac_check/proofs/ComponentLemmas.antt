@@ -1,20 +1,18 @@
 -- Each step of a search along a path keeps what it knows.
-use Rattle.std.proofs.Common.{◌≡◌, ◌<◌, ◌≤◌, ◌⊎◌, inl, inr, ℕ, zero, suc, ◌+◌, ◌-◌, List, [], ◌∷◌, ◌++◌, length, get_or, set, take, drop, replicate, map, Bool, true, false, Option, Some, None, refl, sym, ap, ◌∙◌, append_assoc, length-append, length-set, subst, arith}
-use Rattle.std.specs.Prelude.{slice_get, nat_eq, nat_lt, ◌||◌, ◌&&◌}
+use Rattle.std.proofs.Common.{◌≡◌, ◌<◌, ◌≤◌, ◌⊎◌, inl, inr, ℕ, zero, suc, ◌+◌, ◌-◌, List, [], ◌∷◌, ◌++◌, length, get_or, set, take, drop, Bool, true, false, Option, Some, None, refl, sym, ap, ◌∙◌, append_assoc, length-append, length-set, subst, arith}
+use Rattle.std.specs.Prelude.{slice_get, nat_eq, nat_lt, ◌||◌}
 use Rattle.std.specs.Option.{option_to_list}
-use Rattle.std.proofs.lemmas.List.{append-nil, length-take-le, length-replicate}
-use Rattle.fac_abs.specs.SeenMarks.{are_below}
-use Rattle.fac_abs.proofs.SeenLemmas.{both, below_is}
+use Rattle.std.proofs.lemmas.List.{append-nil, length-take-le}
 use Rattle.fac_check.specs.Verdicts.{one_of}
-use Rattle.fac_check.specs.inner.UndeclaredRecursion.{IsOneOf, list_or_none, led_from, all_there, StaysInside, Decides, DecidesAll}
-use Rattle.fac_check.specs.inner.StrongComponents.{IsClosed, Leads, is_seen, is_done, done_at, IsSettled, NoneBetween, Source, Explores, last_of, behind_place, Joins, itself_named, comes_back, all_done, to_open, all_to_open, KeepsSeen, all_finished}
+use Rattle.fac_check.specs.inner.UndeclaredRecursion.{IsOneOf, led_from, all_there, StaysInside, Decides}
+use Rattle.fac_check.specs.inner.StrongComponents.{IsClosed, Leads, is_seen, is_done, done_at, IsSettled, NoneBetween, Source, Explores, last_of, behind_place, Joins, itself_named, comes_back, all_done, KeepsSeen}
 use Rattle.fac_check.specs.declared.components.Standing.{Standing}
 use Rattle.fac_check.specs.declared.components.Standing.TheVariants.{Unseen, Open, Done}
 use Rattle.fac_check.specs.declared.components.Component.{Component}
 use Rattle.fac_check.proofs.LeadingBack.{or_right, or_either, same_number, in_one, only_one, itself_leads, at_either}
 use Rattle.fac_check.proofs.EdgesInside.{below_each, led_there}
 use Rattle.fac_check.proofs.FoundWords.{there, at_or_behind, pair_leads_back}
-use Rattle.fac_check.proofs.ComponentLists.{some_same, yes_or_no, under, in_front, at_last, at_end, at_either_part, last_there, set_here, set_other, set_same, set_keeps, set_back, drop_left, drop_right, drop_either, none_left, is_member, in_drop, Found, drop_at, take_at, at_take, at_get}
+use Rattle.fac_check.proofs.ComponentLists.{some_same, yes_or_no, under, in_front, at_last, at_end, at_either_part, last_there, set_here, set_other, set_same, set_keeps, set_back, drop_left, drop_right, drop_either, none_left, in_drop, Found, drop_at, take_at, at_take, at_get}
 
 -- standings
 not_unseen : (q : ℕ) → Open q ≡ Unseen → ⊥

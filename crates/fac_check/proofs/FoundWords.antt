@@ -1,11 +1,10 @@
 -- A search finds all words that some lead to, so what is led to in any number of steps is so in at most as many as there are words.
-use Rattle.std.proofs.Common.{◌≡◌, ◌<◌, ◌≤◌, ◌⊎◌, inl, inr, ℕ, zero, suc, ◌+◌, List, [], ◌∷◌, length, replicate, Bool, true, false, Option, Some, None, refl, sym, ap, ◌∙◌, subst, arith}
-use Rattle.std.specs.Prelude.{slice_get, nat_eq, nat_lt, ◌||◌, ◌&&◌}
+use Rattle.std.proofs.Common.{◌≡◌, ◌<◌, ◌≤◌, ◌⊎◌, inl, inr, ℕ, zero, suc, ◌+◌, List, [], ◌∷◌, length, replicate, Bool, true, false, Option, Some, None, refl, sym, ap, subst, arith}
+use Rattle.std.specs.Prelude.{slice_get, nat_eq, nat_lt, ◌||◌}
 use Rattle.std.proofs.lemmas.List.{length-replicate}
 use Rattle.fac_abs.specs.SeenMarks.{are_below}
 use Rattle.fac_abs.proofs.EqualMarks.{and_first, and_second}
 use Rattle.fac_abs.proofs.SeenLemmas.{is_below}
-use Rattle.fac_check.specs.Verdicts.{one_of}
 use Rattle.fac_check.specs.inner.UndeclaredRecursion.{IsOneOf, led_from, all_there, IsWithin}
 use Rattle.fac_check.specs.inner.StrongComponents.{IsClosed, Leads}
 use Rattle.fac_check.proofs.LeadingBack.{Adds, Searches, Finds, or_left, or_right, or_either, same_number, seen_before, seen_now, adds_begin, adds_more, search_begins, search_step, search_ends, seen_below}

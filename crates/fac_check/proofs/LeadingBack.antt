@@ -1,9 +1,9 @@
 -- A search finds the words that others lead to.
-use Rattle.std.proofs.Common.{◌≡◌, ◌<◌, ◌≤◌, ◌⊎◌, inl, inr, ℕ, zero, suc, ◌+◌, List, [], ◌∷◌, ◌++◌, length, set, get_or, replicate, Bool, true, false, Option, Some, None, refl, sym, ap, ◌∙◌, append_assoc, length-append, length-set, subst, arith}
-use Rattle.std.specs.Prelude.{slice_get, nat_eq, nat_lt, ◌||◌, ◌&&◌}
+use Rattle.std.proofs.Common.{◌≡◌, ◌<◌, ◌≤◌, ◌⊎◌, inl, inr, ℕ, zero, suc, ◌+◌, List, [], ◌∷◌, ◌++◌, length, set, get_or, replicate, Bool, true, false, Some, refl, sym, ap, ◌∙◌, append_assoc, length-append, length-set, subst, arith}
+use Rattle.std.specs.Prelude.{slice_get, nat_eq, ◌||◌, ◌&&◌}
 use Rattle.std.proofs.lemmas.List.{append-nil, length-replicate}
 use Rattle.fac_check.specs.Verdicts.{one_of}
-use Rattle.fac_check.specs.inner.UndeclaredRecursion.{IsOneOf, list_or_none, led_from, IsWithin, StaysInside, Decides}
+use Rattle.fac_check.specs.inner.UndeclaredRecursion.{IsOneOf, led_from, IsWithin}
 
 -- how many are true
 abbrev pub count_one : Bool → ℕ → ℕ

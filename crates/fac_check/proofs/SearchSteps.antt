@@ -1,21 +1,19 @@
 -- The steps of a search along a path, and how many are left.
-use Rattle.std.proofs.Common.{◌≡◌, ◌<◌, ◌≤◌, ◌⊎◌, inl, inr, ℕ, zero, suc, ◌+◌, ◌-◌, List, [], ◌∷◌, ◌++◌, length, set, take, drop, replicate, map, Bool, true, false, Option, Some, None, refl, sym, ap, ◌∙◌, length-append, subst, arith}
-use Rattle.std.specs.Prelude.{slice_get, nat_lt, ◌&&◌}
-use Rattle.std.specs.Option.{option_to_list}
+use Rattle.std.proofs.Common.{◌≡◌, ◌<◌, ◌≤◌, inl, inr, ℕ, zero, suc, ◌+◌, ◌-◌, List, [], ◌∷◌, ◌++◌, length, set, drop, replicate, map, Bool, true, Some, None, refl, sym, ap, ◌∙◌, length-append, subst, arith}
+use Rattle.std.specs.Prelude.{slice_get, nat_lt}
 use Rattle.std.proofs.lemmas.List.{append-nil, length-replicate}
 use Rattle.fac_abs.specs.SeenMarks.{are_below}
-use Rattle.fac_abs.proofs.EqualMarks.{and_first, and_second}
 use Rattle.fac_abs.proofs.SeenLemmas.{both, below_is}
-use Rattle.fac_check.specs.inner.UndeclaredRecursion.{IsOneOf, led_from, all_there, Decides, DecidesAll}
-use Rattle.fac_check.specs.inner.StrongComponents.{Leads, is_seen, is_done, Explores, IsExplored, last_of, Joins, Opens, Closes, comes_back, all_done, to_open, all_to_open, steps_left, KeepsSeen, Steps, MayFollow, Follows, IsIdle, SeenBelow, all_finished, IsOver, Visits}
+use Rattle.fac_check.specs.inner.UndeclaredRecursion.{IsOneOf, led_from, all_there, DecidesAll}
+use Rattle.fac_check.specs.inner.StrongComponents.{Leads, is_seen, is_done, Explores, IsExplored, last_of, Joins, Opens, Closes, comes_back, all_done, to_open, all_to_open, KeepsSeen, Steps, MayFollow, Follows, IsIdle, SeenBelow, all_finished, IsOver, Visits}
 use Rattle.fac_check.specs.declared.components.Standing.{Standing}
 use Rattle.fac_check.specs.declared.components.Standing.TheVariants.{Unseen, Open, Done}
 use Rattle.fac_check.specs.declared.components.Component.{Component}
 use Rattle.fac_check.specs.declared.components.Search.{Search}
 use Rattle.fac_check.proofs.LeadingBack.{only_one, last_or_before}
 use Rattle.fac_check.proofs.FoundWords.{there}
-use Rattle.fac_check.proofs.ComponentLists.{some_same, under, in_front, at_last, last_there, set_here}
-use Rattle.fac_check.proofs.ComponentLemmas.{no_elements, in_order, opened, opened_seen, leads_to, followed_below, followed_done, followed_open, closed, closed_seen}
+use Rattle.fac_check.proofs.ComponentLists.{some_same, under, last_there, set_here}
+use Rattle.fac_check.proofs.ComponentLemmas.{in_order, opened, opened_seen, leads_to, followed_below, followed_done, followed_open, closed, closed_seen}
 
 -- how many steps are left
 left_opened : (S : List Standing) (edges : List (List ℕ)) (w q : ℕ) → slice_get S w ≡ Some Unseen → length S ≡ length edges → all_to_open (set S w (Open q)) edges + suc (length (led_from edges w)) ≡ all_to_open S edges

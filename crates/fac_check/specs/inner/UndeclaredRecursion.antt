@@ -1,5 +1,5 @@
 -- How the rule of undeclared recursion is decided for all words of a program: by the words that each inline word leads to.
-use Rattle.std.specs.Prelude.{◌≡◌, ◌<◌, ◌≤◌, ◌++◌, ◌⊎◌, ℕ, zero, suc, List, [], ◌∷◌, length, Bool, true, false, nat_eq, nat_lt, ◌&&◌, ◌||◌, Option, Some, None, slice_get}
+use Rattle.std.specs.Prelude.{◌≡◌, ◌<◌, ◌≤◌, ◌++◌, ◌⊎◌, ℕ, zero, suc, List, [], ◌∷◌, length, Bool, true, false, nat_eq, Option, Some, None, slice_get}
 use Rattle.std.specs.List.{list_all}
 use Rattle.fac_abs.specs.SeenMarks.{are_below}
 use Rattle.fac_lang.specs.Phrases.{wrd, Literal, Phrase, Item, lit, word, made}

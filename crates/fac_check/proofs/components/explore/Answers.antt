@@ -1,6 +1,5 @@
-use Rattle.std.proofs.Common.{List, sym, ap, ◌∙◌}
+use Rattle.std.proofs.Common.{sym, ap, ◌∙◌}
 use Rattle.fac_check.specs.inner.StrongComponents.{last_of}
-use Rattle.fac_check.specs.declared.components.Component.{Component}
 use Rattle.fac_check.proofs.SearchSteps.{visiting_begins, visiting_ends}
 use Rattle.fac_check.proofs.components.explore.Goals as goal
 

@@ -1,4 +1,4 @@
-use Rattle.std.proofs.Common.{◌<◌, length, arith}
+use Rattle.std.proofs.Common.{length, arith}
 use Rattle.fac_check.proofs.EdgesInside.{below_at}
 use Rattle.fac_check.proofs.components.finish.Goals as goal
 

@@ -1,4 +1,4 @@
-use Rattle.std.proofs.Common.{◌<◌, List, length, Some, refl, sym, ap, ◌∙◌, arith}
+use Rattle.std.proofs.Common.{List, length, Some, refl, sym, ap, ◌∙◌, arith}
 use Rattle.std.specs.Prelude.{slice_get}
 use Rattle.fac_check.specs.declared.components.Standing.{Standing}
 use Rattle.fac_check.proofs.NamedWords.{on_ok}

@@ -1,4 +1,4 @@
-use Rattle.std.proofs.Common.{◌<◌, length, sym, ◌∙◌, arith}
+use Rattle.std.proofs.Common.{length, sym, ◌∙◌, arith}
 use Rattle.fac_check.proofs.EdgesInside.{below_at}
 use Rattle.fac_check.proofs.ComponentLemmas.{one_comes_back}
 use Rattle.fac_check.proofs.components.leads_back.Goals as goal

@@ -1,5 +1,4 @@
-use Rattle.std.proofs.Common.{◌≡◌, List, ℕ, length, true, sym, subst, arith}
-use Rattle.fac_abs.specs.SeenMarks.{are_below}
+use Rattle.std.proofs.Common.{arith}
 use Rattle.fac_check.proofs.SearchSteps.{path_there, steps_back}
 use Rattle.fac_check.proofs.components.step.Goals as goal
 
