@@ -9,10 +9,10 @@ use Rattle.fac_check.specs.inner.StrongComponents.{IsClosed, Leads, is_seen, is_
 use Rattle.fac_check.specs.declared.components.Standing.{Standing}
 use Rattle.fac_check.specs.declared.components.Standing.TheVariants.{Unseen, Open, Done}
 use Rattle.fac_check.specs.declared.components.Component.{Component}
-use Rattle.fac_check.proofs.LeadingBack.{or_right, or_either, same_number, in_one, only_one, itself_leads, at_either}
+use Rattle.fac_check.proofs.NumberLists.{or_right, or_either, same_number, in_one, only_one, at_either, some_same, yes_or_no, under, in_front, at_last, at_end, at_part, last_there, set_here, set_other, set_same, set_keeps, set_back, drop_left, drop_right, drop_either, none_left, in_drop, Found, drop_at, take_at, at_take, at_get, there}
+use Rattle.fac_check.proofs.LeadingBack.{itself_leads}
 use Rattle.fac_check.proofs.EdgesInside.{below_each, led_there}
-use Rattle.fac_check.proofs.FoundWords.{there, at_or_behind, pair_leads_back}
-use Rattle.fac_check.proofs.ComponentLists.{some_same, yes_or_no, under, in_front, at_last, at_end, at_either_part, last_there, set_here, set_other, set_same, set_keeps, set_back, drop_left, drop_right, drop_either, none_left, in_drop, Found, drop_at, take_at, at_take, at_get}
+use Rattle.fac_check.proofs.FoundWords.{at_or_behind, pair_leads_back}
 
 -- standings
 not_unseen : (q : ℕ) → Open q ≡ Unseen → ⊥
@@ -65,25 +65,25 @@ not_behind : (p q : ℕ) → nat_lt p q ≡ false → q ≤ p
 not_behind p q e = grind arith
 
 -- components in their order
-in_order_by : (edges : List (List ℕ)) (S : List Standing) (path : List ℕ) (comps : List Component) (pend : List ℕ) → Explores edges S path comps pend → (i j : ℕ) (c d : Component) → (i < j) ⊎ (j ≤ i) → i ≤ j → slice_get comps i ≡ Some c → slice_get comps j ≡ Some d → (c.first ≤ d.first) × (c.pending ≤ d.pending)
-in_order_by edges S path comps pend h i j c d (inl lt) le ci dj =
+in_order_by : (edges : List (List ℕ)) (S : List Standing) (path : List ℕ) (components : List Component) (pending : List ℕ) → Explores edges S path components pending → (i j : ℕ) (c d : Component) → (i < j) ⊎ (j ≤ i) → i ≤ j → slice_get components i ≡ Some c → slice_get components j ≡ Some d → (c.first ≤ d.first) × (c.pending ≤ d.pending)
+in_order_by edges S path components pending h i j c d (inl lt) le ci dj =
     let o = h.ordered i j c d lt ci dj in
     (omega (arith, o.0), o.1)
-in_order_by edges S path comps pend h i j c d (inr ge) le ci dj =
+in_order_by edges S path components pending h i j c d (inr ge) le ci dj =
     let here : i ≡ j = omega (arith, le, ge) in
-    let same : c ≡ d = some_same c d (sym ci ∙ ap (slice_get comps) here ∙ dj) in
+    let same : c ≡ d = some_same c d (sym ci ∙ ap (slice_get components) here ∙ dj) in
     (subst (λ (x : Component). c.first ≤ x.first) same (omega arith), subst (λ (x : Component). c.pending ≤ x.pending) same (omega arith))
 
-pub in_order : (edges : List (List ℕ)) (S : List Standing) (path : List ℕ) (comps : List Component) (pend : List ℕ) → Explores edges S path comps pend → (i j : ℕ) (c d : Component) → i ≤ j → slice_get comps i ≡ Some c → slice_get comps j ≡ Some d → (c.first ≤ d.first) × (c.pending ≤ d.pending)
-in_order edges S path comps pend h i j c d le ci dj = in_order_by edges S path comps pend h i j c d (at_or_behind j i) le ci dj
+pub in_order : (edges : List (List ℕ)) (S : List Standing) (path : List ℕ) (components : List Component) (pending : List ℕ) → Explores edges S path components pending → (i j : ℕ) (c d : Component) → i ≤ j → slice_get components i ≡ Some c → slice_get components j ≡ Some d → (c.first ≤ d.first) × (c.pending ≤ d.pending)
+in_order edges S path components pending h i j c d le ci dj = in_order_by edges S path components pending h i j c d (at_or_behind j i) le ci dj
 
 -- A word is opened.
-module _ (edges : List (List ℕ)) (S : List Standing) (path : List ℕ) (comps : List Component) (pend ws : List ℕ) (w : ℕ) (h : Explores edges S path comps (pend ++ ws)) (unseen : slice_get S w ≡ Some Unseen) (only : (v : ℕ) → IsOneOf v ws → v ≡ w) (to_w : (p u : ℕ) → slice_get path p ≡ Some u → Leads edges u w) (low : (i : ℕ) (c : Component) → slice_get comps i ≡ Some c → c.pending ≤ length pend) where
+module _ (edges : List (List ℕ)) (S : List Standing) (path : List ℕ) (components : List Component) (pending ws : List ℕ) (w : ℕ) (h : Explores edges S path components (pending ++ ws)) (unseen : slice_get S w ≡ Some Unseen) (only : (v : ℕ) → IsOneOf v ws → v ≡ w) (to_w : (p u : ℕ) → slice_get path p ≡ Some u → Leads edges u w) (low : (i : ℕ) (c : Component) → slice_get components i ≡ Some c → c.pending ≤ length pending) where
   abbrev n : ℕ
   n = length path
 
   abbrev new : Component
-  new = record { first = length path; pending = length pend }
+  new = record { first = length path; pending = length pending }
 
   abbrev after : List Standing
   after = set S w (Open n)
@@ -116,92 +116,92 @@ module _ (edges : List (List ℕ)) (S : List Standing) (path : List ℕ) (comps 
       let done = done_is (slice_get after u) d in
       keeps_done v (h.finished u v (ap is_done (was_done u done.0 done.1)) e)
 
-  pends_w : (t v : ℕ) → IsOneOf v (drop t (pend ++ ws)) → IsOneOf v (drop t (pend ++ led_from edges w)) ⊎ (v ≡ w)
-  pends_w t v e = elim (drop_either t v pend ws e) [ inl p ↦ inl (drop_left t v pend (led_from edges w) p) | inr p ↦ inr (only v p) ]
+  pends_w : (t v : ℕ) → IsOneOf v (drop t (pending ++ ws)) → IsOneOf v (drop t (pending ++ led_from edges w)) ⊎ (v ≡ w)
+  pends_w t v e = elim (drop_either t v pending ws e) [ inl p ↦ inl (drop_left t v pending (led_from edges w) p) | inr p ↦ inr (only v p) ]
 
   here_open : slice_get after w ≡ Some (Open n)
   here_open = set_here S w Unseen (Open n) unseen
 
-  widen : (first t v : ℕ) → first ≤ n → IsSettled S (pend ++ ws) first t v → IsSettled after (pend ++ led_from edges w) first t v
+  widen : (first t v : ℕ) → first ≤ n → IsSettled S (pending ++ ws) first t v → IsSettled after (pending ++ led_from edges w) first t v
   widen first t v le (inl p) = inl (keeps_done v p)
   widen first t v le (inr (inl p)) = inr (inl (p.0, keeps v (Open p.0) p.1 (not_unseen p.0), p.2))
   widen first t v le (inr (inr p)) = elim (pends_w t v p) [ inl q ↦ inr (inr q) | inr q ↦ inr (inl (n, ap (slice_get after) q ∙ here_open, le)) ]
 
-  opened_settled : (i p u v : ℕ) (c : Component) → (slice_get comps i ≡ Some c) ⊎ ((i ≡ length comps) × (c ≡ new)) → (slice_get path p ≡ Some u) ⊎ ((p ≡ n) × (u ≡ w)) → c.first ≤ p → IsOneOf v (led_from edges u) → IsSettled after (pend ++ led_from edges w) c.first c.pending v
+  opened_settled : (i p u v : ℕ) (c : Component) → (slice_get components i ≡ Some c) ⊎ ((i ≡ length components) × (c ≡ new)) → (slice_get path p ≡ Some u) ⊎ ((p ≡ n) × (u ≡ w)) → c.first ≤ p → IsOneOf v (led_from edges u) → IsSettled after (pending ++ led_from edges w) c.first c.pending v
   opened_settled i p u v c (inl ci) (inl pu) le e = widen c.first c.pending v (omega (arith, (h.inside i c ci).0)) (h.settled i p u v c ci pu le e)
   opened_settled i p u v c (inr ci) (inl pu) le e =
       let first : c.first ≡ n = ap (λ (d : Component). d.first) ci.1 in
       absurd (omega (arith, first, le, under path p u pu))
-  opened_settled i p u v c (inl ci) (inr pu) le e = inr (inr (drop_right c.pending v pend (led_from edges w) (low i c ci) (subst (λ (x : ℕ). IsOneOf v (led_from edges x)) pu.1 e)))
+  opened_settled i p u v c (inl ci) (inr pu) le e = inr (inr (drop_right c.pending v pending (led_from edges w) (low i c ci) (subst (λ (x : ℕ). IsOneOf v (led_from edges x)) pu.1 e)))
   opened_settled i p u v c (inr ci) (inr pu) le e =
-      let number : c.pending ≡ length pend = ap (λ (d : Component). d.pending) ci.1 in
-      inr (inr (drop_right c.pending v pend (led_from edges w) (omega (arith, number)) (subst (λ (x : ℕ). IsOneOf v (led_from edges x)) pu.1 e)))
+      let number : c.pending ≡ length pending = ap (λ (d : Component). d.pending) ci.1 in
+      inr (inr (drop_right c.pending v pending (led_from edges w) (omega (arith, number)) (subst (λ (x : ℕ). IsOneOf v (led_from edges x)) pu.1 e)))
 
-  opened_leads : (p q u v : ℕ) → (slice_get path p ≡ Some u) ⊎ ((p ≡ n) × (u ≡ w)) → (slice_get path q ≡ Some v) ⊎ ((q ≡ n) × (v ≡ w)) → NoneBetween (comps ++ new ∷ []) q p → Leads edges u v
-  opened_leads p q u v (inl pu) (inl qv) none = h.leads p q u v pu qv (λ i c ci le. none i c (in_front comps (new ∷ []) i c ci) le)
+  opened_leads : (p q u v : ℕ) → (slice_get path p ≡ Some u) ⊎ ((p ≡ n) × (u ≡ w)) → (slice_get path q ≡ Some v) ⊎ ((q ≡ n) × (v ≡ w)) → NoneBetween (components ++ new ∷ []) q p → Leads edges u v
+  opened_leads p q u v (inl pu) (inl qv) none = h.leads p q u v pu qv (λ i c ci le. none i c (in_front components (new ∷ []) i c ci) le)
   opened_leads p q u v (inl pu) (inr qv) none = subst (λ (x : ℕ). Leads edges u x) (sym qv.1) (to_w p u pu)
   opened_leads p q u v (inr pu) (inl qv) none =
-      let le : n ≤ q = none (length comps) new (at_last comps new) (omega (arith, pu.0)) in
+      let le : n ≤ q = none (length components) new (at_last components new) (omega (arith, pu.0)) in
       absurd (omega (arith, le, under path q v qv))
   opened_leads p q u v (inr pu) (inr qv) none = subst (λ (x : ℕ). Leads edges u x) (pu.1 ∙ sym qv.1) (leads_itself edges u)
 
-  old_source : (k v : ℕ) → k < length pend → Source edges path comps k v → Source edges (path ++ w ∷ []) (comps ++ new ∷ []) k v
+  old_source : (k v : ℕ) → k < length pending → Source edges path components k v → Source edges (path ++ w ∷ []) (components ++ new ∷ []) k v
   old_source k v lt s = record {
     at = s.at;
     word = s.word;
     is = in_front path (w ∷ []) s.at s.word s.is;
     leads = s.leads;
-    behind = λ i c ci le. elim (at_end comps new i c ci) [ inl p ↦ s.behind i c p le | inr p ↦ absurd (let number : c.pending ≡ length pend = ap (λ (d : Component). d.pending) p.1 in omega (arith, number, le, lt)) ];
-    before = λ i c ci below. elim (at_end comps new i c ci) [ inl p ↦ s.before i c p below | inr p ↦ let first : c.first ≡ n = ap (λ (d : Component). d.first) p.1 in omega (arith, first, under path s.at s.word s.is) ];
+    behind = λ i c ci le. elim (at_end components new i c ci) [ inl p ↦ s.behind i c p le | inr p ↦ absurd (let number : c.pending ≡ length pending = ap (λ (d : Component). d.pending) p.1 in omega (arith, number, le, lt)) ];
+    before = λ i c ci below. elim (at_end components new i c ci) [ inl p ↦ s.before i c p below | inr p ↦ let first : c.first ≡ n = ap (λ (d : Component). d.first) p.1 in omega (arith, first, under path s.at s.word s.is) ];
   }
 
-  new_source : (k v : ℕ) → length pend ≤ k → IsOneOf v (led_from edges w) → Source edges (path ++ w ∷ []) (comps ++ new ∷ []) k v
+  new_source : (k v : ℕ) → length pending ≤ k → IsOneOf v (led_from edges w) → Source edges (path ++ w ∷ []) (components ++ new ∷ []) k v
   new_source k v ge e = record {
     at = n;
     word = w;
     is = at_last path w;
     leads = e;
-    behind = λ i c ci le. elim (at_end comps new i c ci) [ inl p ↦ omega (arith, (h.inside i c p).0) | inr p ↦ let first : c.first ≡ n = ap (λ (d : Component). d.first) p.1 in omega (arith, first) ];
-    before = λ i c ci below. elim (at_end comps new i c ci) [ inl p ↦ absurd (omega (arith, low i c p, below, ge)) | inr p ↦ absurd (let number : c.pending ≡ length pend = ap (λ (d : Component). d.pending) p.1 in omega (arith, number, below, ge)) ];
+    behind = λ i c ci le. elim (at_end components new i c ci) [ inl p ↦ omega (arith, (h.inside i c p).0) | inr p ↦ let first : c.first ≡ n = ap (λ (d : Component). d.first) p.1 in omega (arith, first) ];
+    before = λ i c ci below. elim (at_end components new i c ci) [ inl p ↦ absurd (omega (arith, low i c p, below, ge)) | inr p ↦ absurd (let number : c.pending ≡ length pending = ap (λ (d : Component). d.pending) p.1 in omega (arith, number, below, ge)) ];
   }
 
-  opened_sources : (k v : ℕ) → slice_get (pend ++ led_from edges w) k ≡ Some v → Source edges (path ++ w ∷ []) (comps ++ new ∷ []) k v
-  opened_sources k v e = elim (at_either pend (led_from edges w) k v e) [ inl p ↦ old_source k v (under pend k v p) (h.sources k v (in_front pend ws k v p)) | inr p ↦ new_source k v p.0 p.1 ]
+  opened_sources : (k v : ℕ) → slice_get (pending ++ led_from edges w) k ≡ Some v → Source edges (path ++ w ∷ []) (components ++ new ∷ []) k v
+  opened_sources k v e = elim (at_either pending (led_from edges w) k v e) [ inl p ↦ old_source k v (under pending k v p) (h.sources k v (in_front pending ws k v p)) | inr p ↦ new_source k v p.0 p.1 ]
 
-  opened_ordered : (i j : ℕ) (c d : Component) → i < j → (slice_get comps i ≡ Some c) ⊎ ((i ≡ length comps) × (c ≡ new)) → (slice_get comps j ≡ Some d) ⊎ ((j ≡ length comps) × (d ≡ new)) → (c.first < d.first) × (c.pending ≤ d.pending)
+  opened_ordered : (i j : ℕ) (c d : Component) → i < j → (slice_get components i ≡ Some c) ⊎ ((i ≡ length components) × (c ≡ new)) → (slice_get components j ≡ Some d) ⊎ ((j ≡ length components) × (d ≡ new)) → (c.first < d.first) × (c.pending ≤ d.pending)
   opened_ordered i j c d lt (inl ci) (inl dj) = h.ordered i j c d lt ci dj
   opened_ordered i j c d lt (inl ci) (inr dj) =
       let first : d.first ≡ n = ap (λ (x : Component). x.first) dj.1 in
-      let number : d.pending ≡ length pend = ap (λ (x : Component). x.pending) dj.1 in
+      let number : d.pending ≡ length pending = ap (λ (x : Component). x.pending) dj.1 in
       (omega (arith, first, (h.inside i c ci).0), omega (arith, number, low i c ci))
-  opened_ordered i j c d lt (inr ci) (inl dj) = absurd (omega (arith, ci.0, lt, under comps j d dj))
+  opened_ordered i j c d lt (inr ci) (inl dj) = absurd (omega (arith, ci.0, lt, under components j d dj))
   opened_ordered i j c d lt (inr ci) (inr dj) = absurd (omega (arith, ci.0, lt, dj.0))
 
-  opened_inside : (i : ℕ) (c : Component) → (slice_get comps i ≡ Some c) ⊎ ((i ≡ length comps) × (c ≡ new)) → (c.first < length (path ++ w ∷ [])) × (c.pending ≤ length (pend ++ led_from edges w))
-  opened_inside i c (inl ci) = (omega (arith, (h.inside i c ci).0, length-append path (w ∷ [])), omega (arith, low i c ci, length-append pend (led_from edges w)))
+  opened_inside : (i : ℕ) (c : Component) → (slice_get components i ≡ Some c) ⊎ ((i ≡ length components) × (c ≡ new)) → (c.first < length (path ++ w ∷ [])) × (c.pending ≤ length (pending ++ led_from edges w))
+  opened_inside i c (inl ci) = (omega (arith, (h.inside i c ci).0, length-append path (w ∷ [])), omega (arith, low i c ci, length-append pending (led_from edges w)))
   opened_inside i c (inr ci) =
       let first : c.first ≡ n = ap (λ (x : Component). x.first) ci.1 in
-      let number : c.pending ≡ length pend = ap (λ (x : Component). x.pending) ci.1 in
-      (omega (arith, first, length-append path (w ∷ [])), omega (arith, number, length-append pend (led_from edges w)))
+      let number : c.pending ≡ length pending = ap (λ (x : Component). x.pending) ci.1 in
+      (omega (arith, first, length-append path (w ∷ [])), omega (arith, number, length-append pending (led_from edges w)))
 
-  opened_begins : (c : Component) → (slice_get comps 0 ≡ Some c) ⊎ ((0 ≡ length comps) × (c ≡ new)) → c.first ≡ 0
+  opened_begins : (c : Component) → (slice_get components 0 ≡ Some c) ⊎ ((0 ≡ length components) × (c ≡ new)) → c.first ≡ 0
   opened_begins c (inl ci) = h.begins c ci
-  opened_begins c (inr ci) = ap (λ (x : Component). x.first) ci.1 ∙ ap length (h.ends (no_elements comps (omega (arith, ci.0))))
+  opened_begins c (inr ci) = ap (λ (x : Component). x.first) ci.1 ∙ ap length (h.ends (no_elements components (omega (arith, ci.0))))
 
-  pub opened : Explores edges after (path ++ w ∷ []) (comps ++ new ∷ []) (pend ++ led_from edges w)
+  pub opened : Explores edges after (path ++ w ∷ []) (components ++ new ∷ []) (pending ++ led_from edges w)
   opened = record {
     counted = length-set S w (Open n) ∙ h.counted;
     open_is = opened_open;
     path_is = opened_path;
     finished = opened_finished;
     decided = λ v b e. h.decided v b (was_done v b e);
-    settled = λ i p u v c ci pu le e. opened_settled i p u v c (at_end comps new i c ci) (at_end path w p u pu) le e;
+    settled = λ i p u v c ci pu le e. opened_settled i p u v c (at_end components new i c ci) (at_end path w p u pu) le e;
     leads = λ p q u v pu qv none. opened_leads p q u v (at_end path w p u pu) (at_end path w q v qv) none;
     sources = opened_sources;
-    ordered = λ i j c d lt ci dj. opened_ordered i j c d lt (at_end comps new i c ci) (at_end comps new j d dj);
-    inside = λ i c ci. opened_inside i c (at_end comps new i c ci);
-    begins = λ c ci. opened_begins c (at_end comps new 0 c ci);
-    ends = λ e. absurd (omega (arith, ap length e, length-append comps (new ∷ [])));
+    ordered = λ i j c d lt ci dj. opened_ordered i j c d lt (at_end components new i c ci) (at_end components new j d dj);
+    inside = λ i c ci. opened_inside i c (at_end components new i c ci);
+    begins = λ c ci. opened_begins c (at_end components new 0 c ci);
+    ends = λ e. absurd (omega (arith, ap length e, length-append components (new ∷ [])));
   }
 
   pub opened_seen : KeepsSeen S after
@@ -210,35 +210,35 @@ module _ (edges : List (List ℕ)) (S : List Standing) (path : List ℕ) (comps 
       ap is_seen (keeps v s.0 s.1 s.2) ∙ is_seen_by s.0 s.2
 
 -- A word that was pending is followed: from the end of what is pending.
-module _ (edges : List (List ℕ)) (S : List Standing) (path : List ℕ) (all : List Component) (pend : List ℕ) (w : ℕ) (h : Explores edges S path all (pend ++ w ∷ [])) (low : (i : ℕ) (c : Component) → slice_get all i ≡ Some c → c.pending ≤ length pend) where
+module _ (edges : List (List ℕ)) (S : List Standing) (path : List ℕ) (all : List Component) (pending : List ℕ) (w : ℕ) (h : Explores edges S path all (pending ++ w ∷ [])) (low : (i : ℕ) (c : Component) → slice_get all i ≡ Some c → c.pending ≤ length pending) where
   -- all words of the path lead to it
   pub leads_to : (p u : ℕ) → slice_get path p ≡ Some u → Leads edges u w
   leads_to p u pu =
-      let s = h.sources (length pend) w (at_last pend w) in
+      let s = h.sources (length pending) w (at_last pending w) in
       leads_on edges u s.word w (h.leads p s.at u s.word pu s.is (λ i c ci le. s.behind i c ci (low i c ci))) s.leads
 
   -- it is a word of the program
   pub followed_below : all_there edges ≡ true → w < length edges
   followed_below inside =
-      let s = h.sources (length pend) w (at_last pend w) in
+      let s = h.sources (length pending) w (at_last pending w) in
       below_each (length edges) (led_from edges s.word) w (led_there (length edges) edges s.word inside) s.leads
 
-  w_settled : (first t : ℕ) (s : Standing) → slice_get S w ≡ Some s → (s ≡ Unseen → ⊥) → ((q : ℕ) → s ≡ Open q → first ≤ q) → IsSettled S pend first t w
+  w_settled : (first t : ℕ) (s : Standing) → slice_get S w ≡ Some s → (s ≡ Unseen → ⊥) → ((q : ℕ) → s ≡ Open q → first ≤ q) → IsSettled S pending first t w
   w_settled first t Unseen e met reaches = absurd (met refl)
   w_settled first t (Open q) e met reaches = inr (inl (q, e, reaches q refl))
   w_settled first t (Done b) e met reaches = inl (ap is_done e)
 
-  less_settled : (first t v : ℕ) → IsSettled S pend first t w → IsSettled S (pend ++ w ∷ []) first t v → IsSettled S pend first t v
+  less_settled : (first t v : ℕ) → IsSettled S pending first t w → IsSettled S (pending ++ w ∷ []) first t v → IsSettled S pending first t v
   less_settled first t v w_is (inl p) = inl p
   less_settled first t v w_is (inr (inl p)) = inr (inl p)
-  less_settled first t v w_is (inr (inr p)) = elim (drop_either t v pend (w ∷ []) p) [ inl q ↦ inr (inr q) | inr q ↦ subst (λ (x : ℕ). IsSettled S pend first t x) (sym (only_one v w q)) w_is ]
+  less_settled first t v w_is (inr (inr p)) = elim (drop_either t v pending (w ∷ []) p) [ inl q ↦ inr (inr q) | inr q ↦ subst (λ (x : ℕ). IsSettled S pending first t x) (sym (only_one v w q)) w_is ]
 
   -- with fewer components
   module _ (kept joined : List Component) (whole : all ≡ kept ++ joined) where
     sub : (i : ℕ) (c : Component) → slice_get kept i ≡ Some c → slice_get all i ≡ Some c
     sub i c ci = ap (λ (xs : List Component). slice_get xs i) whole ∙ in_front kept joined i c ci
 
-    followed : (s : Standing) → slice_get S w ≡ Some s → (s ≡ Unseen → ⊥) → ((i : ℕ) (c : Component) → slice_get kept i ≡ Some c → (q : ℕ) → s ≡ Open q → c.first ≤ q) → ((p q u v : ℕ) → slice_get path p ≡ Some u → slice_get path q ≡ Some v → NoneBetween kept q p → Leads edges u v) → (kept ≡ [] → path ≡ []) → Explores edges S path kept pend
+    followed : (s : Standing) → slice_get S w ≡ Some s → (s ≡ Unseen → ⊥) → ((i : ℕ) (c : Component) → slice_get kept i ≡ Some c → (q : ℕ) → s ≡ Open q → c.first ≤ q) → ((p q u v : ℕ) → slice_get path p ≡ Some u → slice_get path q ≡ Some v → NoneBetween kept q p → Leads edges u v) → (kept ≡ [] → path ≡ []) → Explores edges S path kept pending
     followed s e met reaches leads ends = record {
       counted = h.counted;
       open_is = h.open_is;
@@ -247,7 +247,7 @@ module _ (edges : List (List ℕ)) (S : List Standing) (path : List ℕ) (all : 
       decided = h.decided;
       settled = λ i p u v c ci pu le n. less_settled c.first c.pending v (w_settled c.first c.pending s e met (reaches i c ci)) (h.settled i p u v c (sub i c ci) pu le n);
       leads = leads;
-      sources = λ k v at. (let s : Source edges path all k v = h.sources k v (in_front pend (w ∷ []) k v at) in record { at = s.at; word = s.word; is = s.is; leads = s.leads; behind = λ i c ci. s.behind i c (sub i c ci); before = λ i c ci. s.before i c (sub i c ci) });
+      sources = λ k v at. (let s : Source edges path all k v = h.sources k v (in_front pending (w ∷ []) k v at) in record { at = s.at; word = s.word; is = s.is; leads = s.leads; behind = λ i c ci. s.behind i c (sub i c ci); before = λ i c ci. s.before i c (sub i c ci) });
       ordered = λ i j c d lt ci dj. h.ordered i j c d lt (sub i c ci) (sub j d dj);
       inside = λ i c ci. ((h.inside i c (sub i c ci)).0, low i c (sub i c ci));
       begins = λ c ci. h.begins c (sub 0 c ci);
@@ -255,13 +255,13 @@ module _ (edges : List (List ℕ)) (S : List Standing) (path : List ℕ) (all : 
     }
 
   -- one that is done
-  pub followed_done : (b : Bool) → slice_get S w ≡ Some (Done b) → Explores edges S path all pend
+  pub followed_done : (b : Bool) → slice_get S w ≡ Some (Done b) → Explores edges S path all pending
   followed_done b e = followed all [] (sym (append-nil all)) (Done b) e (done_not_unseen b) (λ i c ci q same. absurd (done_not_open b q same)) h.leads h.ends
 
   -- one that is at this place of the path
   module _ (place : ℕ) (is_open : slice_get S w ≡ Some (Open place)) (kept : List Component) (j : Joins place all kept) where
     part : (i : ℕ) (c : Component) → slice_get all i ≡ Some c → (slice_get kept i ≡ Some c) ⊎ (place < c.first)
-    part i c ci = elim (at_either_part kept j.joined i c (sym (ap (λ (xs : List Component). slice_get xs i) j.whole) ∙ ci)) [ inl p ↦ inl p | inr p ↦ inr (j.behind p.0 c p.1) ]
+    part i c ci = elim (at_part kept j.joined i c (sym (ap (λ (xs : List Component). slice_get xs i) j.whole) ∙ ci)) [ inl p ↦ inl p | inr p ↦ inr (j.behind p.0 c p.2) ]
 
     kept_low : (i : ℕ) (c : Component) → slice_get kept i ≡ Some c → c.first ≤ place
     kept_low i c ci =
@@ -269,7 +269,7 @@ module _ (edges : List (List ℕ)) (S : List Standing) (path : List ℕ) (all : 
         let last = there kept (length kept - 1) (omega (arith, lt)) in
         let same : behind_place place (last_of kept) ≡ nat_lt place (last.0).first = ap (behind_place place) last.1 in
         let le = not_behind place (last.0).first (sym same ∙ j.kept) in
-        omega (arith, le, (in_order edges S path all (pend ++ w ∷ []) h i (length kept - 1) c last.0 (omega (arith, lt)) (sub kept j.joined j.whole i c ci) (sub kept j.joined j.whole (length kept - 1) last.0 last.1)).0)
+        omega (arith, le, (in_order edges S path all (pending ++ w ∷ []) h i (length kept - 1) c last.0 (omega (arith, lt)) (sub kept j.joined j.whole i c ci) (sub kept j.joined j.whole (length kept - 1) last.0 last.1)).0)
 
     joined_leads : (p q u v : ℕ) → slice_get path p ≡ Some u → slice_get path q ≡ Some v → NoneBetween kept q p → (place < p) ⊎ (p ≤ place) → Leads edges u v
     joined_leads p q u v pu qv none (inr le) = h.leads p q u v pu qv (λ i c ci lf. elim (part i c ci) [ inl k ↦ none i c k lf | inr k ↦ absurd (omega (arith, k, lf, le)) ])
@@ -282,7 +282,7 @@ module _ (edges : List (List ℕ)) (S : List Standing) (path : List ℕ) (all : 
         let start : (first.0).first ≡ 0 = h.begins first.0 first.1 in
         elim (part 0 first.0 first.1) [ inl k ↦ absurd (let lost : slice_get [] 0 ≡ Some first.0 = sym (ap (λ (xs : List Component). slice_get xs 0) none) ∙ k in cc) | inr k ↦ absurd (omega (arith, start, k)) ]
 
-    pub followed_open : Explores edges S path kept pend
+    pub followed_open : Explores edges S path kept pending
     followed_open = followed kept j.joined j.whole (Open place) is_open (not_unseen place) (λ i c ci q same. subst (λ (x : ℕ). c.first ≤ x) (same_place place q same) (kept_low i c ci)) (λ p q u v pu qv none. joined_leads p q u v pu qv none (at_or_behind p place)) (λ none. joined_ends none (at_or_behind (length all) 0))
 
 -- words that are done
@@ -307,35 +307,35 @@ done_other b (w ∷ ws) S v other =
     done_other b ws (set S w (Done b)) v (λ h. other (or_right (nat_eq v w) (one_of v ws) h)) ∙ set_other S w v (Done b) (λ same. other (subst (λ (x : ℕ). IsOneOf v (x ∷ ws)) same (in_one v ws)))
 
 -- The last component is closed.
-module _ (edges : List (List ℕ)) (S : List Standing) (path : List ℕ) (comps : List Component) (top : Component) (pend : List ℕ) (h : Explores edges S path (comps ++ top ∷ []) pend) (inside : all_there edges ≡ true) (few : length pend ≤ top.pending) where
+module _ (edges : List (List ℕ)) (S : List Standing) (path : List ℕ) (components : List Component) (top : Component) (pending : List ℕ) (h : Explores edges S path (components ++ top ∷ []) pending) (inside : all_there edges ≡ true) (few : length pending ≤ top.pending) where
   abbrev start : ℕ
   start = top.first
 
   abbrev closing : List ℕ
   closing = drop start path
 
-  top_at : slice_get (comps ++ top ∷ []) (length comps) ≡ Some top
-  top_at = at_last comps top
+  top_at : slice_get (components ++ top ∷ []) (length components) ≡ Some top
+  top_at = at_last components top
 
   start_low : start < length path
-  start_low = (h.inside (length comps) top top_at).0
+  start_low = (h.inside (length components) top top_at).0
 
-  before_start : (i : ℕ) (c : Component) → slice_get (comps ++ top ∷ []) i ≡ Some c → c.first ≤ start
-  before_start i c ci = (in_order edges S path (comps ++ top ∷ []) pend h i (length comps) c top (let lt = under (comps ++ top ∷ []) i c ci in omega (arith, lt, length-append comps (top ∷ []))) ci top_at).0
+  before_start : (i : ℕ) (c : Component) → slice_get (components ++ top ∷ []) i ≡ Some c → c.first ≤ start
+  before_start i c ci = (in_order edges S path (components ++ top ∷ []) pending h i (length components) c top (let lt = under (components ++ top ∷ []) i c ci in omega (arith, lt, length-append components (top ∷ []))) ci top_at).0
 
-  none_between : (p q : ℕ) → start ≤ q → NoneBetween (comps ++ top ∷ []) q p
+  none_between : (p q : ℕ) → start ≤ q → NoneBetween (components ++ top ∷ []) q p
   none_between p q le i c ci lf =
       let low = before_start i c ci in
       omega (arith, low, le)
 
-  settled_target : (v : ℕ) → IsSettled S pend start top.pending v → (done_at S v ≡ true) ⊎ Found start v path
+  settled_target : (v : ℕ) → IsSettled S pending start top.pending v → (done_at S v ≡ true) ⊎ Found start v path
   settled_target v (inl p) = inl p
   settled_target v (inr (inl p)) = inr (record { place = p.0; from = p.2; is = h.open_is v p.0 p.1 })
-  settled_target v (inr (inr p)) = absurd (none_left top.pending v pend few p)
+  settled_target v (inr (inr p)) = absurd (none_left top.pending v pending few p)
 
   -- its words lead to themselves and to words that are done
   target : (p u v : ℕ) → slice_get path p ≡ Some u → start ≤ p → IsOneOf v (led_from edges u) → (done_at S v ≡ true) ⊎ Found start v path
-  target p u v pu le e = settled_target v (h.settled (length comps) p u v top top_at pu le e)
+  target p u v pu le e = settled_target v (h.settled (length components) p u v top top_at pu le e)
 
   one_place : (p q u v : ℕ) → slice_get path p ≡ Some u → slice_get path q ≡ Some v → v ≡ u → p ≡ q
   one_place p q u v pu qv same = same_place p q (some_same (Open p) (Open q) (sym (h.path_is p u pu) ∙ ap (slice_get S) (sym same) ∙ h.path_is q v qv))
@@ -416,8 +416,8 @@ module _ (edges : List (List ℕ)) (S : List Standing) (path : List ℕ) (comps 
   closed_open v q (inl e) at = absurd (done_not_open (comes_back edges path start) q (some_same _ _ (sym (closes_one v e) ∙ at)))
   closed_open v q (inr other) at =
       let before : slice_get S v ≡ Some (Open q) = sym (keeps_other v other) ∙ at in
-      let there_ = h.open_is v q before in
-      (before, at_take start q v path there_ (elim (at_or_behind start q) [ inl lt ↦ lt | inr le ↦ absurd (other (in_closing q v there_ le)) ]))
+      let place_is = h.open_is v q before in
+      (before, at_take start q v path place_is (elim (at_or_behind start q) [ inl lt ↦ lt | inr le ↦ absurd (other (in_closing q v place_is le)) ]))
 
   closed_path : (q v : ℕ) → (q < start) × (slice_get path q ≡ Some v) → slice_get closed_standings v ≡ Some (Open q)
   closed_path q v found = keeps_other v (not_closing q v found.1 found.0) ∙ h.path_is q v found.1
@@ -438,7 +438,7 @@ module _ (edges : List (List ℕ)) (S : List Standing) (path : List ℕ) (comps 
       subst (λ (x : Bool). Decides edges v x) (same_flag _ _ (some_same _ _ (sym (closes_one v c) ∙ at))) (closing_decides f.place v f.is f.from)
   closed_decided v b (inr other) at = h.decided v b (sym (keeps_other v other) ∙ at)
 
-  closed_settled : (first t v : ℕ) → first ≤ start → IsSettled S pend first t v → IsSettled closed_standings pend first t v
+  closed_settled : (first t v : ℕ) → first ≤ start → IsSettled S pending first t v → IsSettled closed_standings pending first t v
   closed_settled first t v le (inl d) = inl (closed_done v (one_or_other v) d)
   closed_settled first t v le (inr (inl p)) = elim (at_or_behind start p.0) [
     | inl lt ↦ inr (inl (p.0, closed_path p.0 v (lt, h.open_is v p.0 p.1), p.2))
@@ -446,22 +446,22 @@ module _ (edges : List (List ℕ)) (S : List Standing) (path : List ℕ) (comps 
   ]
   closed_settled first t v le (inr (inr p)) = inr (inr p)
 
-  lower : (i : ℕ) (c : Component) → slice_get comps i ≡ Some c → slice_get (comps ++ top ∷ []) i ≡ Some c
-  lower i c ci = in_front comps (top ∷ []) i c ci
+  lower : (i : ℕ) (c : Component) → slice_get components i ≡ Some c → slice_get (components ++ top ∷ []) i ≡ Some c
+  lower i c ci = in_front components (top ∷ []) i c ci
 
-  lower_leads : (p q u v : ℕ) → (p < start) × (slice_get path p ≡ Some u) → (q < start) × (slice_get path q ≡ Some v) → NoneBetween comps q p → Leads edges u v
-  lower_leads p q u v pu qv none = h.leads p q u v pu.1 qv.1 (λ i c ci le. elim (at_end comps top i c ci) [
+  lower_leads : (p q u v : ℕ) → (p < start) × (slice_get path p ≡ Some u) → (q < start) × (slice_get path q ≡ Some v) → NoneBetween components q p → Leads edges u v
+  lower_leads p q u v pu qv none = h.leads p q u v pu.1 qv.1 (λ i c ci le. elim (at_end components top i c ci) [
     | inl k ↦ none i c k le
     | inr k ↦ absurd (let first : c.first ≡ start = ap (λ (x : Component). x.first) k.1 in omega (arith, first, le, pu.0))
   ])
 
-  lower_source : (k v : ℕ) → slice_get pend k ≡ Some v → Source edges (take start path) comps k v
+  lower_source : (k v : ℕ) → slice_get pending k ≡ Some v → Source edges (take start path) components k v
   lower_source k v e =
-      let s : Source edges path (comps ++ top ∷ []) k v = h.sources k v e in
-      let lt = under pend k v e in
-      record { at = s.at; word = s.word; is = at_take start s.at s.word path s.is (s.before (length comps) top top_at (omega (arith, lt, few))); leads = s.leads; behind = λ i c ci. s.behind i c (lower i c ci); before = λ i c ci. s.before i c (lower i c ci) }
+      let s : Source edges path (components ++ top ∷ []) k v = h.sources k v e in
+      let lt = under pending k v e in
+      record { at = s.at; word = s.word; is = at_take start s.at s.word path s.is (s.before (length components) top top_at (omega (arith, lt, few))); leads = s.leads; behind = λ i c ci. s.behind i c (lower i c ci); before = λ i c ci. s.before i c (lower i c ci) }
 
-  pub closed : Explores edges closed_standings (take start path) comps pend
+  pub closed : Explores edges closed_standings (take start path) components pending
   closed = record {
     counted = done_length (comes_back edges path start) closing S ∙ h.counted;
     open_is = λ v q e. (closed_open v q (one_or_other v) e).1;
@@ -472,14 +472,14 @@ module _ (edges : List (List ℕ)) (S : List Standing) (path : List ℕ) (comps 
     leads = λ p q u v pu qv none. lower_leads p q u v (take_at start p u path pu) (take_at start q v path qv) none;
     sources = lower_source;
     ordered = λ i j c d lt ci dj. h.ordered i j c d lt (lower i c ci) (lower j d dj);
-    inside = λ i c ci. (let lt = (h.ordered i (length comps) c top (under comps i c ci) (lower i c ci) top_at).0 in omega (arith, lt, length-take-le start path (omega (arith, start_low))), (h.inside i c (lower i c ci)).1);
+    inside = λ i c ci. (let lt = (h.ordered i (length components) c top (under components i c ci) (lower i c ci) top_at).0 in omega (arith, lt, length-take-le start path (omega (arith, start_low))), (h.inside i c (lower i c ci)).1);
     begins = λ c ci. h.begins c (lower 0 c ci);
     ends = λ none. ends_by none;
   }
     where
-      ends_by : comps ≡ [] → take start path ≡ []
+      ends_by : components ≡ [] → take start path ≡ []
       ends_by none =
-          let first : slice_get (comps ++ top ∷ []) 0 ≡ Some top = ap (λ (xs : List Component). slice_get (xs ++ top ∷ []) 0) none in
+          let first : slice_get (components ++ top ∷ []) 0 ≡ Some top = ap (λ (xs : List Component). slice_get (xs ++ top ∷ []) 0) none in
           ap (λ (k : ℕ). take k path) (h.begins top first)
 
   pub closed_seen : KeepsSeen S closed_standings
@@ -495,8 +495,8 @@ pub record JoinsPart (place : ℕ) (before after : List Component) : Type 0 wher
   pub whole : before ≡ after ++ joined
   pub behind : (i : ℕ) (c : Component) → slice_get joined i ≡ Some c → place < c.first
 
-pub joins_begin : (place : ℕ) (comps : List Component) → JoinsPart place comps comps
-joins_begin place comps = record { joined = []; whole = sym (append-nil comps); behind = λ i c e. absurd cc }
+pub joins_begin : (place : ℕ) (components : List Component) → JoinsPart place components components
+joins_begin place components = record { joined = []; whole = sym (append-nil components); behind = λ i c e. absurd cc }
 
 behind_more : (place : ℕ) (c : Component) (joined : List Component) → place < c.first → ((i : ℕ) (d : Component) → slice_get joined i ≡ Some d → place < d.first) → (i : ℕ) (d : Component) → slice_get (c ∷ joined) i ≡ Some d → place < d.first
 behind_more place c joined lt all zero d e = subst (λ (x : Component). place < x.first) (some_same c d e) lt
@@ -520,14 +520,14 @@ joins_more place before old new (Some c) j e behind =
 pub joins_end : (place : ℕ) (before after : List Component) → JoinsPart place before after → behind_place place (last_of after) ≡ false → Joins place before after
 joins_end place before kept j e = record { joined = j.joined; whole = j.whole; behind = j.behind; kept = e }
 
-pub none_behind : (place : ℕ) (comps : List Component) → length comps ≡ 0 → behind_place place (last_of comps) ≡ true → ⊥
+pub none_behind : (place : ℕ) (components : List Component) → length components ≡ 0 → behind_place place (last_of components) ≡ true → ⊥
 none_behind place [] e b = cc
-none_behind place (c ∷ comps) e b = absurd (omega (arith, e))
+none_behind place (c ∷ components) e b = absurd (omega (arith, e))
 
 -- whether one word leads back to itself
 pub one_comes_back : (edges : List (List ℕ)) (path : List ℕ) (first : ℕ) → first < length path → length path - first ≤ 1 → comes_back edges path first ≡ one_of (get_or path first 0) (led_from edges (get_or path first 0))
 one_comes_back edges path first lt le = one_by (nat_lt 1 (length path - first)) refl
   where
     one_by : (b : Bool) → nat_lt 1 (length path - first) ≡ b → (nat_lt 1 (length path - first) || itself_named edges (slice_get path first)) ≡ one_of (get_or path first 0) (led_from edges (get_or path first 0))
-    one_by true e = absurd (let lt_ = is_behind 1 (length path - first) e in omega (arith, lt_, le))
+    one_by true e = absurd (let more = is_behind 1 (length path - first) e in omega (arith, more, le))
     one_by false e = ap (λ (b : Bool). b || itself_named edges (slice_get path first)) e ∙ ap (itself_named edges) (at_get path first lt)

@@ -16,7 +16,7 @@ use Rattle.fac_abs.proofs.EqualMarks.{and_first, and_second}
 use Rattle.fac_abs.proofs.SeenLemmas.{both, is_below, below_is}
 use Rattle.fac_check.specs.Verdicts.{one_of, inline_words, item_words, without}
 use Rattle.fac_check.specs.inner.UndeclaredRecursion.{IsOneOf, inline_phrase, one_if, inline_word, led_from, phrase_edges, inline_edges, sort_edges, edges_from, AreEdges, all_there}
-use Rattle.fac_check.proofs.LeadingBack.{or_either, same_number}
+use Rattle.fac_check.proofs.NumberLists.{or_either, same_number}
 use Rattle.fac_check.proofs.NamedWords.{inline_same}
 use Rattle.fac_check.proofs.UndeclaredWords.{edges_count}
 

@@ -7,7 +7,8 @@ use Rattle.fac_abs.proofs.EqualMarks.{and_first, and_second}
 use Rattle.fac_abs.proofs.SeenLemmas.{is_below}
 use Rattle.fac_check.specs.inner.UndeclaredRecursion.{IsOneOf, led_from, all_there, IsWithin}
 use Rattle.fac_check.specs.inner.StrongComponents.{IsClosed, Leads}
-use Rattle.fac_check.proofs.LeadingBack.{Adds, Searches, Finds, or_left, or_right, or_either, same_number, seen_before, seen_now, adds_begin, adds_more, search_begins, search_step, search_ends, seen_below}
+use Rattle.fac_check.proofs.LeadingBack.{Adds, Searches, Finds, seen_before, seen_now, adds_begin, adds_more, search_begins, search_step, search_ends, seen_below}
+use Rattle.fac_check.proofs.NumberLists.{or_left, or_right, or_either, same_number, there}
 use Rattle.fac_check.proofs.EdgesInside.{below_each, led_there}
 
 -- what comes of adding words
@@ -15,12 +16,6 @@ record Added (vs seen : List ℕ) (marks : List Bool) : Type 0 where
   pub after : List ℕ
   pub marks_after : List Bool
   pub adds : Adds vs seen marks after marks_after
-
--- an element below the end is there
-pub there : {A : Type 0} → (xs : List A) (k : ℕ) → k < length xs → (x : A) × (slice_get xs k ≡ Some x)
-there [] k lt = absurd (omega (arith, lt))
-there (x ∷ xs) zero lt = (x, refl)
-there (x ∷ xs) (suc k) lt = there xs k (omega (arith, lt))
 
 add_one : (v : ℕ) (seen : List ℕ) (marks : List Bool) (b : Bool) → slice_get marks v ≡ Some b → Added (v ∷ []) seen marks
 add_one v seen marks true e = record { after = seen; marks_after = marks; adds = seen_before v seen marks e }
@@ -82,10 +77,10 @@ module _ (edges : List (List ℕ)) (inside : all_there edges ≡ true) where
 
   -- a word that leads to another one, which leads to it, leads back to itself
   pub pair_leads_back : (u v : ℕ) → (v ≡ u → ⊥) → Leads edges u v → Leads edges v u → IsWithin edges (led_from edges u) (length edges) u
-  pair_leads_back u v other there_ back =
+  pair_leads_back u v other forth back =
       let search = found_from (led_from edges u) (led_there (length edges) edges u inside) in
       let marks = search.0 in
       let f = search.1 in
-      let first = there_ (marked_or marks u) (closed_or u marks f) (or_left (nat_eq u u) (is_marked (slice_get marks u)) (grind arith)) in
+      let first = forth (marked_or marks u) (closed_or u marks f) (or_left (nat_eq u u) (is_marked (slice_get marks u)) (grind arith)) in
       let met : is_marked (slice_get marks v) ≡ true = elim (or_either (nat_eq v u) (is_marked (slice_get marks v)) first) [ inl p ↦ absurd (other (same_number v u p)) | inr p ↦ p ] in
       f.within u (marked_true (slice_get marks u) (back (λ x. is_marked (slice_get marks x)) (closed_marks (led_from edges u) marks f) met))

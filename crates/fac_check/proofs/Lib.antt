@@ -33,11 +33,11 @@ pub mod MarkWalks
 pub mod VerdictLemmas
 pub mod NamedWords
 pub mod EdgesOfWords
+pub mod NumberLists
 pub mod LeadingBack
 pub mod UndeclaredWords
 pub mod EdgesInside
 pub mod FoundWords
-pub mod ComponentLists
 pub mod ComponentLemmas
 pub mod SearchSteps
 pub mod JudgeLemmas

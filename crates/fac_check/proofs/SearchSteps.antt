@@ -10,9 +10,8 @@ use Rattle.fac_check.specs.declared.components.Standing.{Standing}
 use Rattle.fac_check.specs.declared.components.Standing.TheVariants.{Unseen, Open, Done}
 use Rattle.fac_check.specs.declared.components.Component.{Component}
 use Rattle.fac_check.specs.declared.components.Search.{Search}
-use Rattle.fac_check.proofs.LeadingBack.{only_one, last_or_before}
-use Rattle.fac_check.proofs.FoundWords.{there}
-use Rattle.fac_check.proofs.ComponentLists.{some_same, under, last_there, set_here}
+use Rattle.fac_check.proofs.NumberLists.{only_one, some_same, under, last_there, set_here, there}
+use Rattle.fac_check.proofs.LeadingBack.{last_or_before}
 use Rattle.fac_check.proofs.ComponentLemmas.{in_order, opened, opened_seen, leads_to, followed_below, followed_done, followed_open, closed, closed_seen}
 
 -- how many steps are left
@@ -42,8 +41,8 @@ left_done S edges (w ∷ ws) b =
     let one = left_set S edges w b in
     omega (arith, rest, one)
 
-explores_same : (edges : List (List ℕ)) (S S' : List Standing) (path path' : List ℕ) (comps comps' : List Component) (pend pend' : List ℕ) → S' ≡ S → path' ≡ path → comps' ≡ comps → pend' ≡ pend → Explores edges S path comps pend → Explores edges S' path' comps' pend'
-explores_same edges S S' path path' comps comps' pend pend' a b c d h = rw (a, b, c, d) h
+explores_same : (edges : List (List ℕ)) (S S' : List Standing) (path path' : List ℕ) (components components' : List Component) (pending pending' : List ℕ) → S' ≡ S → path' ≡ path → components' ≡ components → pending' ≡ pending → Explores edges S path components pending → Explores edges S' path' components' pending'
+explores_same edges S S' path path' components components' pending pending' a b c d h = rw (a, b, c, d) h
 
 seen_same : (S T T' : List Standing) → T' ≡ T → KeepsSeen S T → KeepsSeen S T'
 seen_same S T T' e h = rw e h
@@ -77,8 +76,8 @@ follows_open edges before after w place m is_open a b d j = record {
 }
 
 pub follows_done : (edges : List (List ℕ)) (before after : Search) (w : ℕ) (b : Bool) → MayFollow edges before w → slice_get before.standings.items w ≡ Some (Done b) → after.standings.items ≡ before.standings.items → after.path.items ≡ before.path.items → after.components.items ≡ before.components.items → after.pending.items ≡ before.pending.items → Follows edges before after
-follows_done edges before after w b m is_done_ a p k d = record {
-  explored = explores_same edges before.standings.items after.standings.items before.path.items after.path.items before.components.items after.components.items before.pending.items after.pending.items a p k d (followed_done edges before.standings.items before.path.items before.components.items before.pending.items w m.explored m.low b is_done_);
+follows_done edges before after w b m is_done_at a p k d = record {
+  explored = explores_same edges before.standings.items after.standings.items before.path.items after.path.items before.components.items after.components.items before.pending.items after.pending.items a p k d (followed_done edges before.standings.items before.path.items before.components.items before.pending.items w m.explored m.low b is_done_at);
   fewer = omega (arith, ap (λ (S : List Standing). all_to_open S edges) a, ap length d, ap length k);
   kept = seen_same before.standings.items before.standings.items after.standings.items a (λ v e. e);
 }
@@ -87,9 +86,9 @@ pub may_follow_below : (edges : List (List ℕ)) (before : Search) (w : ℕ) →
 may_follow_below edges before w inside m = followed_below edges before.standings.items before.path.items before.components.items before.pending.items w m.explored m.low inside
 
 -- components are bounded by the last
-last_is : (comps : List Component) (top : Component) → last_of comps ≡ Some top → (i : ℕ) (c : Component) → slice_get comps i ≡ Some c → i ≤ length comps - 1
-last_is comps top e i c ci =
-    let lt = under comps i c ci in
+last_is : (components : List Component) (top : Component) → last_of components ≡ Some top → (i : ℕ) (c : Component) → slice_get components i ≡ Some c → i ≤ length components - 1
+last_is components top e i c ci =
+    let lt = under components i c ci in
     omega (arith, lt)
 
 pub pends_below : (edges : List (List ℕ)) (s : Search) (top : Component) → IsExplored edges s → last_of s.components.items ≡ Some top → (i : ℕ) (c : Component) → slice_get s.components.items i ≡ Some c → c.pending ≤ top.pending
@@ -126,15 +125,15 @@ path_there edges s h = path_below edges (length edges) s.standings.items s.path.
 pub top_starts : (edges : List (List ℕ)) (s : Search) (top : Component) → IsExplored edges s → last_of s.components.items ≡ Some top → top.first < length s.path.items
 top_starts edges s top h e = (h.inside (length s.components.items - 1) top e).0
 
-pub some_component : (comps : List Component) (top : Component) → last_of comps ≡ Some top → 0 < length comps
+pub some_component : (components : List Component) (top : Component) → last_of components ≡ Some top → 0 < length components
 some_component [] top e = absurd cc
-some_component (c ∷ comps) top e = omega arith
+some_component (c ∷ components) top e = omega arith
 
 -- a search that has no component
-pub no_last : (comps : List Component) → last_of comps ≡ None → comps ≡ []
+pub no_last : (components : List Component) → last_of components ≡ None → components ≡ []
 no_last [] e = refl
-no_last (c ∷ comps) e =
-    let found = there (c ∷ comps) (length (c ∷ comps) - 1) (omega arith) in
+no_last (c ∷ components) e =
+    let found = there (c ∷ components) (length (c ∷ components) - 1) (omega arith) in
     let clash : Some found.0 ≡ None = sym found.1 ∙ e in
     absurd cc
 
@@ -147,8 +146,8 @@ pub record Visiting (edges : List (List ℕ)) (word : ℕ) (before now : Search)
 no_word : (path : List ℕ) → path ≡ [] → (p u : ℕ) → slice_get path p ≡ Some u → ⊥
 no_word path e p u at = absurd (let lost : slice_get [] p ≡ Some u = sym (ap (λ (xs : List ℕ). slice_get xs p) e) ∙ at in cc)
 
-no_component_at : (comps : List Component) → comps ≡ [] → (i : ℕ) (c : Component) → slice_get comps i ≡ Some c → ⊥
-no_component_at comps e i c at = absurd (let lost : slice_get [] i ≡ Some c = sym (ap (λ (xs : List Component). slice_get xs i) e) ∙ at in cc)
+no_component_at : (components : List Component) → components ≡ [] → (i : ℕ) (c : Component) → slice_get components i ≡ Some c → ⊥
+no_component_at components e i c at = absurd (let lost : slice_get [] i ≡ Some c = sym (ap (λ (xs : List Component). slice_get xs i) e) ∙ at in cc)
 
 pub visiting_begins : (edges : List (List ℕ)) (before now : Search) (w : ℕ) → IsIdle edges before → slice_get before.standings.items w ≡ Some Unseen → Opens edges w before now → Visiting edges w before now
 visiting_begins edges before now w idle unseen o =

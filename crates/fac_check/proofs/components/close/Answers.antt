@@ -1,6 +1,6 @@
 use Rattle.std.proofs.Common.{◌≡◌, List, ℕ, length, ◌-◌, take, drop, true, sym, subst}
 use Rattle.fac_abs.specs.SeenMarks.{are_below}
-use Rattle.fac_check.proofs.ComponentLists.{below_part}
+use Rattle.fac_check.proofs.NumberLists.{below_part}
 use Rattle.fac_check.proofs.components.close.Goals as goal
 
 pub finish-requires : goal.finish-requires

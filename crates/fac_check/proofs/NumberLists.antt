@@ -1,15 +1,80 @@
--- Lists whose elements are looked up by their numbers.
-use Rattle.std.proofs.Common.{◌≡◌, ◌<◌, ◌≤◌, ◌⊎◌, inl, inr, ℕ, zero, suc, ◌-◌, List, [], ◌∷◌, ◌++◌, length, get_or, set, take, drop, Bool, true, false, Some, refl, sym, ap, ◌∙◌, length-append, subst, arith}
-use Rattle.std.specs.Prelude.{slice_get, nat_eq, nat_lt}
+-- Lists of numbers, and elements by their numbers.
+use Rattle.std.proofs.Common.{◌≡◌, ◌<◌, ◌≤◌, ◌⊎◌, inl, inr, ℕ, zero, suc, ◌+◌, ◌-◌, List, [], ◌∷◌, ◌++◌, length, get_or, set, take, drop, Bool, true, false, Some, refl, sym, ap, ◌∙◌, length-append, subst, arith}
+use Rattle.std.specs.Prelude.{slice_get, nat_eq, nat_lt, ◌||◌}
 use Rattle.fac_abs.specs.SeenMarks.{are_below}
 use Rattle.fac_abs.proofs.EqualMarks.{and_first, and_second}
 use Rattle.fac_abs.proofs.SeenLemmas.{both}
 use Rattle.fac_check.specs.Verdicts.{one_of}
 use Rattle.fac_check.specs.inner.UndeclaredRecursion.{IsOneOf}
-use Rattle.fac_check.proofs.LeadingBack.{in_left, in_right, in_either, in_one, or_right, or_either, same_number}
 
 pub some_same : {A : Type 0} → (x y : A) → Some x ≡ Some y → x ≡ y
 some_same x y e = cc
+
+pub or_left : (a b : Bool) → a ≡ true → (a || b) ≡ true
+or_left true b e = refl
+or_left false b e = absurd cc
+
+pub or_right : (a b : Bool) → b ≡ true → (a || b) ≡ true
+or_right true b e = refl
+or_right false b e = e
+
+pub or_either : (a b : Bool) → (a || b) ≡ true → (a ≡ true) ⊎ (b ≡ true)
+or_either true b e = inl refl
+or_either false b e = inr e
+
+pub same_number : (v w : ℕ) → nat_eq v w ≡ true → v ≡ w
+same_number v w e = grind arith
+
+itself : (v : ℕ) → nat_eq v v ≡ true
+itself v = grind arith
+
+-- membership in lists that are put together
+pub in_left : (v : ℕ) (xs ys : List ℕ) → IsOneOf v xs → IsOneOf v (xs ++ ys)
+in_left v [] ys e = absurd cc
+in_left v (x ∷ xs) ys e = elim (or_either (nat_eq v x) (one_of v xs) e) [ inl p ↦ or_left (nat_eq v x) (one_of v (xs ++ ys)) p | inr p ↦ or_right (nat_eq v x) (one_of v (xs ++ ys)) (in_left v xs ys p) ]
+
+pub in_right : (v : ℕ) (xs ys : List ℕ) → IsOneOf v ys → IsOneOf v (xs ++ ys)
+in_right v [] ys e = e
+in_right v (x ∷ xs) ys e = or_right (nat_eq v x) (one_of v (xs ++ ys)) (in_right v xs ys e)
+
+pub in_either : (v : ℕ) (xs ys : List ℕ) → IsOneOf v (xs ++ ys) → IsOneOf v xs ⊎ IsOneOf v ys
+in_either v [] ys e = inr e
+in_either v (x ∷ xs) ys e =
+    elim (or_either (nat_eq v x) (one_of v (xs ++ ys)) e) [
+      | inl p ↦ inl (or_left (nat_eq v x) (one_of v xs) p)
+      | inr p ↦ elim (in_either v xs ys p) [ inl q ↦ inl (or_right (nat_eq v x) (one_of v xs) q) | inr q ↦ inr q ]
+    ]
+
+pub only_one : (v w : ℕ) → IsOneOf v (w ∷ []) → v ≡ w
+only_one v w e = elim (or_either (nat_eq v w) (one_of v []) e) [ inl p ↦ same_number v w p | inr p ↦ absurd cc ]
+
+pub in_one : (v : ℕ) (xs : List ℕ) → IsOneOf v (v ∷ xs)
+in_one v xs = or_left (nat_eq v v) (one_of v xs) (itself v)
+
+-- a member has a number, and what has a number is a member
+pub member_at : (v : ℕ) (xs : List ℕ) → IsOneOf v xs → (i : ℕ) × (slice_get xs i ≡ Some v)
+member_at v [] e = absurd cc
+member_at v (x ∷ xs) e =
+    elim (or_either (nat_eq v x) (one_of v xs) e) [
+      | inl p ↦ (0, ap Some (sym (same_number v x p)))
+      | inr p ↦ let found = member_at v xs p in (suc found.0, found.1)
+    ]
+
+pub is_member : (v : ℕ) (xs : List ℕ) (i : ℕ) → slice_get xs i ≡ Some v → IsOneOf v xs
+is_member v [] i e = absurd cc
+is_member v (x ∷ xs) zero e = subst (λ (y : ℕ). IsOneOf v (y ∷ xs)) (sym (some_same x v e)) (in_one v xs)
+is_member v (x ∷ xs) (suc i) e = or_right (nat_eq v x) (one_of v xs) (is_member v xs i e)
+
+-- an element below the end is there
+pub there : {A : Type 0} → (xs : List A) (k : ℕ) → k < length xs → (x : A) × (slice_get xs k ≡ Some x)
+there [] k lt = absurd (omega (arith, lt))
+there (x ∷ xs) zero lt = (x, refl)
+there (x ∷ xs) (suc k) lt = there xs k (omega (arith, lt))
+
+pub at_get : (xs : List ℕ) (k : ℕ) → k < length xs → slice_get xs k ≡ Some (get_or xs k 0)
+at_get [] k lt = absurd (omega (arith, lt))
+at_get (x ∷ xs) zero lt = refl
+at_get (x ∷ xs) (suc k) lt = at_get xs k (omega (arith, lt))
 
 pub yes_or_no : (b : Bool) → (b ≡ true) ⊎ (b ≡ true → ⊥)
 yes_or_no true = inl refl
@@ -38,10 +103,17 @@ at_end [] y (suc i) x e = absurd cc
 at_end (z ∷ xs) y zero x e = inl e
 at_end (z ∷ xs) y (suc i) x e = elim (at_end xs y i x e) [ inl p ↦ inl p | inr p ↦ inr (ap suc p.0, p.1) ]
 
-pub at_either_part : {A : Type 0} → (xs ys : List A) (i : ℕ) (x : A) → slice_get (xs ++ ys) i ≡ Some x → (slice_get xs i ≡ Some x) ⊎ ((j : ℕ) × (slice_get ys j ≡ Some x))
-at_either_part [] ys i x e = inr (i, e)
-at_either_part (z ∷ xs) ys zero x e = inl e
-at_either_part (z ∷ xs) ys (suc i) x e = at_either_part xs ys i x e
+-- an element of two lists is one of the first, or behind it one of the second
+pub at_part : {A : Type 0} → (xs ys : List A) (i : ℕ) (x : A) → slice_get (xs ++ ys) i ≡ Some x → (slice_get xs i ≡ Some x) ⊎ ((j : ℕ) × (i ≡ length xs + j) × (slice_get ys j ≡ Some x))
+at_part [] ys i x e = inr (i, omega arith, e)
+at_part (z ∷ xs) ys zero x e = inl e
+at_part (z ∷ xs) ys (suc i) x e = elim (at_part xs ys i x e) [ inl p ↦ inl p | inr p ↦ inr (p.0, omega (arith, p.1), p.2) ]
+
+pub at_either : (xs ys : List ℕ) (i v : ℕ) → slice_get (xs ++ ys) i ≡ Some v → (slice_get xs i ≡ Some v) ⊎ ((length xs ≤ i) × IsOneOf v ys)
+at_either xs ys i v e = elim (at_part xs ys i v e) [ inl p ↦ inl p | inr p ↦ inr (omega (arith, p.1), is_member v ys p.0 p.2) ]
+
+pub at_front : {A : Type 0} → (xs ys : List A) (i : ℕ) (x : A) → slice_get (xs ++ ys) i ≡ Some x → i < length xs → slice_get xs i ≡ Some x
+at_front xs ys i x e lt = elim (at_part xs ys i x e) [ inl p ↦ p | inr p ↦ absurd (omega (arith, p.1, lt)) ]
 
 pub last_there : {A : Type 0} → (xs : List A) (y : A) → slice_get (xs ++ y ∷ []) (length (xs ++ y ∷ []) - 1) ≡ Some y
 last_there xs y =
@@ -109,11 +181,6 @@ none_left (suc k) v [] le e = cc
 none_left zero v (x ∷ xs) le e = absurd (omega (arith, le))
 none_left (suc k) v (x ∷ xs) le e = none_left k v xs (omega (arith, le)) e
 
-pub is_member : (v : ℕ) (xs : List ℕ) (i : ℕ) → slice_get xs i ≡ Some v → IsOneOf v xs
-is_member v [] i e = absurd cc
-is_member v (x ∷ xs) zero e = subst (λ (y : ℕ). IsOneOf v (y ∷ xs)) (sym (some_same x v e)) (in_one v xs)
-is_member v (x ∷ xs) (suc i) e = or_right (nat_eq v x) (one_of v xs) (is_member v xs i e)
-
 pub in_drop : (k q v : ℕ) (xs : List ℕ) → slice_get xs q ≡ Some v → k ≤ q → IsOneOf v (drop k xs)
 in_drop zero q v xs e le = is_member v xs q e
 in_drop (suc k) q v [] e le = absurd cc
@@ -132,10 +199,9 @@ found_later k l v x xs le f = record { place = suc f.place; from = omega (arith,
 pub drop_at : (k v : ℕ) (xs : List ℕ) → IsOneOf v (drop k xs) → Found k v xs
 drop_at zero v [] e = absurd cc
 drop_at (suc k) v [] e = absurd cc
-drop_at zero v (x ∷ xs) e = elim (or_either (nat_eq v x) (one_of v xs) e) [
-  | inl p ↦ record { place = 0; from = omega arith; is = ap Some (sym (same_number v x p)) }
-  | inr p ↦ found_later 0 0 v x xs (omega arith) (drop_at zero v xs p)
-]
+drop_at zero v (x ∷ xs) e =
+    let found = member_at v (x ∷ xs) e in
+    record { place = found.0; from = omega arith; is = found.1 }
 drop_at (suc k) v (x ∷ xs) e = found_later k (suc k) v x xs (omega arith) (drop_at k v xs e)
 
 pub take_at : {A : Type 0} → (k q : ℕ) (v : A) (xs : List A) → slice_get (take k xs) q ≡ Some v → (q < k) × (slice_get xs q ≡ Some v)
@@ -151,11 +217,6 @@ at_take zero q v xs e lt = absurd (omega (arith, lt))
 at_take (suc k) q v [] e lt = absurd cc
 at_take (suc k) zero v (x ∷ xs) e lt = e
 at_take (suc k) (suc q) v (x ∷ xs) e lt = at_take k q v xs e (omega (arith, lt))
-
-pub at_get : (xs : List ℕ) (k : ℕ) → k < length xs → slice_get xs k ≡ Some (get_or xs k 0)
-at_get [] k lt = absurd (omega (arith, lt))
-at_get (x ∷ xs) zero lt = refl
-at_get (x ∷ xs) (suc k) lt = at_get xs k (omega (arith, lt))
 
 below_taken : (n k : ℕ) (xs : List ℕ) → are_below n xs ≡ true → are_below n (take k xs) ≡ true
 below_taken n zero xs h = refl
