@@ -1,6 +1,6 @@
 -- A search finds the words that others lead to.
-use Rattle.std.proofs.Common.{◌≡◌, ◌<◌, ◌≤◌, ◌⊎◌, inl, inr, ℕ, zero, suc, ◌+◌, List, [], ◌∷◌, ◌++◌, length, set, get_or, replicate, Bool, true, false, Some, refl, sym, ap, ◌∙◌, append_assoc, length-append, length-set, subst, arith}
-use Rattle.std.specs.Prelude.{slice_get, nat_eq, ◌||◌, ◌&&◌}
+use Rattle.std.proofs.Common.{◌≡◌, ◌<◌, ◌≤◌, ◌⊎◌, inl, inr, ℕ, zero, suc, ◌+◌, List, [], ◌∷◌, ◌++◌, length, set, replicate, Bool, true, false, Some, refl, sym, ap, ◌∙◌, append_assoc, length-append, length-set, subst, arith}
+use Rattle.std.specs.Prelude.{slice_get}
 use Rattle.std.proofs.lemmas.List.{append-nil, length-replicate}
 use Rattle.fac_check.specs.Verdicts.{one_of}
 use Rattle.fac_check.proofs.NumberLists.{in_left, in_right, in_either, only_one, in_one, member_at, is_member, under, at_either, at_front, set_here, set_same, set_back}

@@ -5,7 +5,7 @@ use Rattle.std.proofs.lemmas.List.{append-nil, length-replicate}
 use Rattle.fac_abs.specs.SeenMarks.{are_below}
 use Rattle.fac_abs.proofs.SeenLemmas.{both, below_is}
 use Rattle.fac_check.specs.inner.UndeclaredRecursion.{IsOneOf, led_from, all_there, DecidesAll}
-use Rattle.fac_check.specs.inner.StrongComponents.{Leads, is_seen, is_done, Explores, IsExplored, last_of, Joins, Opens, Closes, comes_back, all_done, to_open, all_to_open, KeepsSeen, Steps, MayFollow, Follows, IsIdle, SeenBelow, all_finished, IsOver, Visits}
+use Rattle.fac_check.specs.inner.StrongComponents.{Leads, is_seen, is_done, Explores, IsExplored, last_of, Joins, Opens, Closes, comes_back, all_done, to_open, all_to_open, KeepsSeen, Steps, MayFollow, Follows, IsIdle, all_finished, IsOver, Visits}
 use Rattle.fac_check.specs.declared.components.Standing.{Standing}
 use Rattle.fac_check.specs.declared.components.Standing.TheVariants.{Unseen, Open, Done}
 use Rattle.fac_check.specs.declared.components.Component.{Component}
@@ -168,6 +168,10 @@ visiting_ends edges before now w h e = record { idle = record { explored = h.exp
 -- a word that was met
 pub visits_none : (edges : List (List ℕ)) (s : Search) (w : ℕ) (t : Standing) → IsIdle edges s → slice_get s.standings.items w ≡ Some t → is_seen (Some t) ≡ true → Visits edges w s s
 visits_none edges s w t idle at met = record { idle = idle; kept = λ v e. e; seen = ap is_seen at ∙ met }
+
+-- all words were met up to this one
+abbrev pub SeenBelow : ℕ → List Standing → Type 0
+SeenBelow n standings = (v : ℕ) → v < n → is_seen (slice_get standings v) ≡ true
 
 -- words are visited one by one
 pub seen_none : (S : List Standing) → SeenBelow 0 S

@@ -1,4 +1,4 @@
-//! Which words lead back to themselves: the strongly connected components of the words, found along a path.
+//! Which words lead back to themselves: the strongly connected components of the words, found by one search along a path.
 ghost use Rattle.std.specs.Prelude.{◌≡◌, ◌++◌, ◌∷◌, ◌<◌, ◌≤◌, [], true, length, map, IfOk, OnOk, slice_get, Some};
 ghost use Rattle.fac_abs.specs.SeenMarks.{are_below};
 ghost use Rattle.fac_check.specs.Verdicts.{one_of};

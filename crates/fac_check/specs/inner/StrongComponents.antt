@@ -37,7 +37,7 @@ IsSettled standings pending first number v = (done_at standings v ≡ true) ⊎ 
 abbrev pub NoneBetween : List Component → ℕ → ℕ → Type 0
 NoneBetween components q p = (i : ℕ) (c : Component) → slice_get components i ≡ Some c → c.first ≤ p → c.first ≤ q
 
--- The word on the path that leads to a pending one. Its component is the last that had no more words pending when it began.
+-- A word of the path that leads to the pending word of this number. It is in the last component that began with no more words pending.
 pub record Source (edges : List (List ℕ)) (path : List ℕ) (components : List Component) (k v : ℕ) : Type 0 where
   pub at : ℕ
   pub word : ℕ
@@ -46,7 +46,10 @@ pub record Source (edges : List (List ℕ)) (path : List ℕ) (components : List
   pub behind : (i : ℕ) (c : Component) → slice_get components i ≡ Some c → c.pending ≤ k → c.first ≤ at
   pub before : (i : ℕ) (c : Component) → slice_get components i ≡ Some c → k < c.pending → at < c.first
 
--- What a search knows. The path has the open words, and consecutive components, whose words lead to one another and to all behind them.
+-- What a search knows. The path has the open words, each at its place. What words that are done lead to is done, and of these it is known
+-- whether they lead back to themselves. What a word of the path leads to is settled, seen from its component and from each one before it. A
+-- word of the path leads to all behind it, and to those before it in its component. Each pending word has its source. The components begin
+-- one behind the other, the first where the path begins.
 pub record Explores (edges : List (List ℕ)) (standings : List Standing) (path : List ℕ) (components : List Component) (pending : List ℕ) : Type 0 where
   pub counted : length standings ≡ length edges
   pub open_is : (v q : ℕ) → slice_get standings v ≡ Some (Open q) → slice_get path q ≡ Some v
@@ -64,7 +67,7 @@ pub record Explores (edges : List (List ℕ)) (standings : List Standing) (path 
 abbrev pub IsExplored : List (List ℕ) → Search → Type 0
 IsExplored edges s = Explores edges s.standings.items s.path.items s.components.items s.pending.items
 
--- a word that wasn't met stands at the end of the path, as a component of its own, and what it leads to is pending
+-- A word stands at the end of the path, as a component of its own, and what it leads to is pending.
 pub record Opens (edges : List (List ℕ)) (word : ℕ) (before after : Search) : Type 0 where
   pub standings_are : after.standings.items ≡ set before.standings.items word (Open (length before.path.items))
   pub path_is : after.path.items ≡ before.path.items ++ word ∷ []
@@ -75,6 +78,7 @@ pub record Opens (edges : List (List ℕ)) (word : ℕ) (before after : Search) 
 abbrev pub last_of : List Component → Option Component
 last_of components = slice_get components (length components - 1)
 
+-- whether a component, if there is one, begins behind a place
 abbrev pub behind_place : ℕ → Option Component → Bool
 behind_place q None = false
 behind_place q (Some c) = nat_lt q c.first
@@ -91,7 +95,7 @@ abbrev pub itself_named : List (List ℕ) → Option ℕ → Bool
 itself_named edges None = false
 itself_named edges (Some w) = one_of w (led_from edges w)
 
--- whether the words of the path from this place on, a component, lead back to themselves
+-- whether the words of the path from this place on, a component, lead back to themselves: there are several, or the one names itself
 abbrev pub comes_back : List (List ℕ) → List ℕ → ℕ → Bool
 comes_back edges path first = nat_lt 1 (length path - first) || itself_named edges (slice_get path first)
 
@@ -100,7 +104,7 @@ abbrev pub all_done : Bool → List ℕ → List Standing → List Standing
 all_done back [] standings = standings
 all_done back (w ∷ ws) standings = all_done back ws (set standings w (Done back))
 
--- the last component is done
+-- The last component, which begins at this place, is done.
 pub record Closes (edges : List (List ℕ)) (first : ℕ) (before after : Search) : Type 0 where
   pub top : Component
   pub top_is : before.components.items ≡ after.components.items ++ top ∷ []
@@ -136,7 +140,7 @@ pub record MayFollow (edges : List (List ℕ)) (s : Search) (word : ℕ) : Type 
   pub explored : Explores edges s.standings.items s.path.items s.components.items (s.pending.items ++ word ∷ [])
   pub low : (i : ℕ) (c : Component) → slice_get s.components.items i ≡ Some c → c.pending ≤ length s.pending.items
 
--- it was followed
+-- It was followed, and no more steps are left.
 pub record Follows (edges : List (List ℕ)) (before after : Search) : Type 0 where
   pub explored : IsExplored edges after
   pub fewer : steps_left edges after ≤ steps_left edges before
@@ -146,10 +150,6 @@ pub record Follows (edges : List (List ℕ)) (before after : Search) : Type 0 wh
 pub record IsIdle (edges : List (List ℕ)) (s : Search) : Type 0 where
   pub explored : IsExplored edges s
   pub no_component : s.components.items ≡ []
-
--- all words were met up to this one
-abbrev pub SeenBelow : ℕ → List Standing → Type 0
-SeenBelow n standings = (v : ℕ) → v < n → is_seen (slice_get standings v) ≡ true
 
 -- whether all words are done
 abbrev pub all_finished : List Standing → Bool
@@ -161,7 +161,7 @@ pub record IsOver (edges : List (List ℕ)) (s : Search) : Type 0 where
   pub explored : IsExplored edges s
   pub finished : all_finished s.standings.items ≡ true
 
--- a word is searched from, where it wasn't met
+-- a search from a word, if it wasn't met before
 pub record Visits (edges : List (List ℕ)) (word : ℕ) (before after : Search) : Type 0 where
   pub idle : IsIdle edges after
   pub kept : KeepsSeen before.standings.items after.standings.items

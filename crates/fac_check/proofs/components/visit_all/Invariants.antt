@@ -1,4 +1,5 @@
-use Rattle.fac_check.specs.inner.StrongComponents.{IsIdle, SeenBelow}
+use Rattle.fac_check.specs.inner.StrongComponents.{IsIdle}
+use Rattle.fac_check.proofs.SearchSteps.{SeenBelow}
 use Rattle.fac_check.proofs.components.visit_all.Given as goal
 
 abbrev pub invariant-loop-word : goal.invariant-loop-word
