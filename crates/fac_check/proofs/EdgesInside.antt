@@ -15,8 +15,8 @@ use Rattle.fac_abs.specs.SeenMarks.{are_below}
 use Rattle.fac_abs.proofs.EqualMarks.{and_first, and_second}
 use Rattle.fac_abs.proofs.SeenLemmas.{both, is_below, below_is}
 use Rattle.fac_check.specs.Verdicts.{one_of, inline_words, item_words, without}
-use Rattle.fac_check.specs.inner.UndeclaredRecursion.{IsOneOf, IsWithin, inline_phrase, one_if, inline_word, led_from, phrase_edges, inline_edges, sort_edges, edges_from, AreEdges, Searches, all_there}
-use Rattle.fac_check.proofs.LeadingBack.{or_either, same_number}
+use Rattle.fac_check.specs.inner.UndeclaredRecursion.{IsOneOf, inline_phrase, one_if, inline_word, led_from, phrase_edges, inline_edges, sort_edges, edges_from, AreEdges, all_there}
+use Rattle.fac_check.proofs.NumberLists.{or_either, same_number}
 use Rattle.fac_check.proofs.NamedWords.{inline_same}
 use Rattle.fac_check.proofs.UndeclaredWords.{edges_count}
 
@@ -46,23 +46,23 @@ module _ (P : Program) (n : ℕ) (high : P.top ≤ n) where
     item_inside (lit (int z)) h = refl
     item_inside (lit yes) h = refl
     item_inside (lit no) h = refl
-    item_inside (lit (str bs)) h = absurd h
-    item_inside (lit (iota k)) h = absurd h
+    item_inside (lit (str bs)) h = refl
+    item_inside (lit (iota k)) h = refl
     item_inside (lit (wrd w)) h = absurd h
-    item_inside (lit (arr a)) h = absurd h
-    item_inside (lit (tup a)) h = absurd h
-    item_inside (lit_arr a) h = absurd h
-    item_inside (bind x) h = absurd h
-    item_inside (local x) h = absurd h
+    item_inside (lit (arr a)) h = refl
+    item_inside (lit (tup a)) h = refl
+    item_inside (lit_arr a) h = refl
+    item_inside (bind x) h = refl
+    item_inside (local x) h = refl
     item_inside (fry t k) h = absurd h
-    item_inside (hole k) h = absurd h
-    item_inside (call_eff g) h = absurd h
-    item_inside (exec_eff g) h = absurd h
-    item_inside next_method h = absurd h
-    item_inside (made k) h = absurd h
-    item_inside (next_after m) h = absurd h
-    item_inside (held v) h = absurd h
-    item_inside (known m) h = absurd h
+    item_inside (hole k) h = refl
+    item_inside (call_eff g) h = refl
+    item_inside (exec_eff g) h = refl
+    item_inside next_method h = refl
+    item_inside (made k) h = refl
+    item_inside (next_after m) h = refl
+    item_inside (held v) h = refl
+    item_inside (known m) h = refl
 
   without_inside : (w : ℕ) (vs : List ℕ) → are_below n vs ≡ true → are_below n (without P w vs) ≡ true
   without_inside w [] h = refl
@@ -112,7 +112,7 @@ below_at n [] k h l = absurd (omega (arith, l))
 below_at n (x ∷ xs) zero h l = is_below x n (and_first _ _ h)
 below_at n (x ∷ xs) (suc k) h l = below_at n xs k (and_second (nat_lt x n) _ h) (omega (arith, l))
 
-below_each : (n : ℕ) (xs : List ℕ) (v : ℕ) → are_below n xs ≡ true → IsOneOf v xs → v < n
+pub below_each : (n : ℕ) (xs : List ℕ) (v : ℕ) → are_below n xs ≡ true → IsOneOf v xs → v < n
 below_each n [] v h e = absurd cc
 below_each n (x ∷ xs) v h e =
     elim (or_either (nat_eq v x) (one_of v xs) e) [
@@ -125,13 +125,3 @@ pub led_there : (n : ℕ) (edges : List (List ℕ)) (u : ℕ) → list_all (are_
 led_there n [] u h = refl
 led_there n (vs ∷ edges) zero h = and_first _ _ h
 led_there n (vs ∷ edges) (suc u) h = led_there n edges u (and_second (are_below n vs) _ h)
-
--- what is led to from words that are there is there
-within_there : (edges : List (List ℕ)) (starts : List ℕ) (k v : ℕ) → all_there edges ≡ true → are_below (length edges) starts ≡ true → IsWithin edges starts k v → v < length edges
-within_there edges starts zero v h s e = below_each (length edges) starts v s e
-within_there edges starts (suc k) v h s (inl p) = within_there edges starts k v h s p
-within_there edges starts (suc k) v h s (inr p) = below_each (length edges) (led_from edges p.0) v (led_there (length edges) edges p.0 h) p.2
-
--- so what a search has seen is there
-pub seen_there : (edges : List (List ℕ)) (starts seen : List ℕ) (marks : List Bool) (head k v : ℕ) → all_there edges ≡ true → are_below (length edges) starts ≡ true → Searches edges starts head seen marks → slice_get seen k ≡ Some v → v < length edges
-seen_there edges starts seen marks head k v h s found at = within_there edges starts k v h s (found.within k v at)

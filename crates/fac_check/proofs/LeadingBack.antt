@@ -1,119 +1,48 @@
 -- A search finds the words that others lead to.
-use Rattle.std.proofs.Common.{◌≡◌, ◌<◌, ◌≤◌, ◌⊎◌, inl, inr, ℕ, zero, suc, ◌+◌, List, [], ◌∷◌, ◌++◌, length, set, get_or, replicate, Bool, true, false, Option, Some, None, refl, sym, ap, ◌∙◌, append_assoc, length-append, length-set, subst, arith}
-use Rattle.std.specs.Prelude.{slice_get, nat_eq, nat_lt, ◌||◌, ◌&&◌}
+use Rattle.std.proofs.Common.{◌≡◌, ◌<◌, ◌≤◌, ◌⊎◌, inl, inr, ℕ, zero, suc, ◌+◌, List, [], ◌∷◌, ◌++◌, length, set, replicate, Bool, true, false, Some, refl, sym, ap, ◌∙◌, append_assoc, length-append, length-set, subst, arith}
+use Rattle.std.specs.Prelude.{slice_get}
 use Rattle.std.proofs.lemmas.List.{append-nil, length-replicate}
 use Rattle.fac_check.specs.Verdicts.{one_of}
-use Rattle.fac_check.specs.inner.UndeclaredRecursion.{IsOneOf, list_or_none, led_from, IsWithin, StaysInside, Decides, rank_of, same_or_lower, all_lower, leads_lower, all_descend, count_one, trues, Adds, Searches, Finds}
+use Rattle.fac_check.proofs.NumberLists.{in_left, in_right, in_either, only_one, in_one, member_at, is_member, under, at_either, at_front, set_here, set_same, set_back}
+use Rattle.fac_check.specs.inner.UndeclaredRecursion.{IsOneOf, led_from, IsWithin}
 
-pub or_left : (a b : Bool) → a ≡ true → (a || b) ≡ true
-or_left true b e = refl
-or_left false b e = absurd cc
+-- how many are true
+abbrev pub count_one : Bool → ℕ → ℕ
+count_one true n = suc n
+count_one false n = n
 
-pub or_right : (a b : Bool) → b ≡ true → (a || b) ≡ true
-or_right true b e = refl
-or_right false b e = e
+abbrev pub trues : List Bool → ℕ
+trues [] = 0
+trues (b ∷ bs) = count_one b (trues bs)
 
-pub or_either : (a b : Bool) → (a || b) ≡ true → (a ≡ true) ⊎ (b ≡ true)
-or_either true b e = inl refl
-or_either false b e = inr e
+-- these numbers are added to those that were seen, where they aren't marked as seen
+pub record Adds (vs seen : List ℕ) (marks : List Bool) (seen_after : List ℕ) (marks_after : List Bool) : Type 0 where
+  pub more : List ℕ
+  pub seen_is : seen_after ≡ seen ++ more
+  pub only : (v : ℕ) → IsOneOf v more → IsOneOf v vs
+  pub all : (v : ℕ) → IsOneOf v vs → v < length marks → slice_get marks_after v ≡ Some true
+  pub kept : (v : ℕ) → slice_get marks v ≡ Some true → slice_get marks_after v ≡ Some true
+  pub marked : ((v : ℕ) → slice_get marks v ≡ Some true → IsOneOf v seen) → (v : ℕ) → slice_get marks_after v ≡ Some true → IsOneOf v seen_after
+  pub counted : length seen ≡ trues marks → length seen_after ≡ trues marks_after
+  pub same_length : length marks_after ≡ length marks
 
-and_left : (a b : Bool) → (a && b) ≡ true → a ≡ true
-and_left true b e = refl
-and_left false b e = absurd cc
+-- what a search has seen, where it has followed the first so many
+pub record Searches (edges : List (List ℕ)) (starts : List ℕ) (head : ℕ) (seen : List ℕ) (marks : List Bool) : Type 0 where
+  pub begins : (v : ℕ) → IsOneOf v starts → v < length edges → slice_get marks v ≡ Some true
+  pub followed : (i u v : ℕ) → i < head → slice_get seen i ≡ Some u → IsOneOf v (led_from edges u) → v < length edges → slice_get marks v ≡ Some true
+  pub within : (i v : ℕ) → slice_get seen i ≡ Some v → IsWithin edges starts i v
+  pub marked : (v : ℕ) → slice_get marks v ≡ Some true → IsOneOf v seen
+  pub counted : length seen ≡ trues marks
+  pub same_length : length marks ≡ length edges
 
-and_right : (a b : Bool) → (a && b) ≡ true → b ≡ true
-and_right true b e = e
-and_right false b e = absurd cc
-
-both_true : (a b : Bool) → a ≡ true → b ≡ true → (a && b) ≡ true
-both_true true b e f = f
-both_true false b e f = absurd cc
-
-pub same_number : (v w : ℕ) → nat_eq v w ≡ true → v ≡ w
-same_number v w e = grind arith
-
-itself : (v : ℕ) → nat_eq v v ≡ true
-itself v = grind arith
-
--- membership in lists that are put together
-pub in_left : (v : ℕ) (xs ys : List ℕ) → IsOneOf v xs → IsOneOf v (xs ++ ys)
-in_left v [] ys e = absurd cc
-in_left v (x ∷ xs) ys e = elim (or_either (nat_eq v x) (one_of v xs) e) [ inl p ↦ or_left (nat_eq v x) (one_of v (xs ++ ys)) p | inr p ↦ or_right (nat_eq v x) (one_of v (xs ++ ys)) (in_left v xs ys p) ]
-
-pub in_right : (v : ℕ) (xs ys : List ℕ) → IsOneOf v ys → IsOneOf v (xs ++ ys)
-in_right v [] ys e = e
-in_right v (x ∷ xs) ys e = or_right (nat_eq v x) (one_of v (xs ++ ys)) (in_right v xs ys e)
-
-pub in_either : (v : ℕ) (xs ys : List ℕ) → IsOneOf v (xs ++ ys) → IsOneOf v xs ⊎ IsOneOf v ys
-in_either v [] ys e = inr e
-in_either v (x ∷ xs) ys e =
-    elim (or_either (nat_eq v x) (one_of v (xs ++ ys)) e) [
-      | inl p ↦ inl (or_left (nat_eq v x) (one_of v xs) p)
-      | inr p ↦ elim (in_either v xs ys p) [ inl q ↦ inl (or_right (nat_eq v x) (one_of v xs) q) | inr q ↦ inr q ]
-    ]
-
-only_one : (v w : ℕ) → IsOneOf v (w ∷ []) → v ≡ w
-only_one v w e = elim (or_either (nat_eq v w) (one_of v []) e) [ inl p ↦ same_number v w p | inr p ↦ absurd cc ]
-
-pub in_one : (v : ℕ) (xs : List ℕ) → IsOneOf v (v ∷ xs)
-in_one v xs = or_left (nat_eq v v) (one_of v xs) (itself v)
-
--- a member has a number, and what has a number is a member
-member_at : (v : ℕ) (xs : List ℕ) → IsOneOf v xs → (i : ℕ) × (slice_get xs i ≡ Some v)
-member_at v [] e = absurd cc
-member_at v (x ∷ xs) e =
-    elim (or_either (nat_eq v x) (one_of v xs) e) [
-      | inl p ↦ (0, ap Some (sym (same_number v x p)))
-      | inr p ↦ let found = member_at v xs p in (suc found.0, found.1)
-    ]
-
-at_member : (v : ℕ) (xs : List ℕ) (i : ℕ) → slice_get xs i ≡ Some v → IsOneOf v xs
-at_member v [] i e = absurd cc
-at_member v (x ∷ xs) zero e = let same : x ≡ v = cc in or_left (nat_eq v x) (one_of v xs) (rw same (itself v))
-at_member v (x ∷ xs) (suc i) e = or_right (nat_eq v x) (one_of v xs) (at_member v xs i e)
-
-at_below : (xs : List ℕ) (i v : ℕ) → slice_get xs i ≡ Some v → i < length xs
-at_below [] i v e = absurd cc
-at_below (x ∷ xs) zero v e = omega arith
-at_below (x ∷ xs) (suc i) v e =
-    let lt = at_below xs i v e in
-    omega (arith, lt)
-
--- an element of two lists is one of the first, or behind it one of the second
-at_either : (xs ys : List ℕ) (i v : ℕ) → slice_get (xs ++ ys) i ≡ Some v → (slice_get xs i ≡ Some v) ⊎ ((length xs ≤ i) × IsOneOf v ys)
-at_either [] ys i v e = inr (omega arith, at_member v ys i e)
-at_either (x ∷ xs) ys zero v e = inl e
-at_either (x ∷ xs) ys (suc i) v e = elim (at_either xs ys i v e) [ inl p ↦ inl p | inr p ↦ inr (omega (arith, p.0), p.1) ]
-
-at_front : (xs ys : List ℕ) (i v : ℕ) → slice_get (xs ++ ys) i ≡ Some v → i < length xs → slice_get xs i ≡ Some v
-at_front xs ys i v e lt = elim (at_either xs ys i v e) [ inl p ↦ p | inr p ↦ absurd (omega (arith, p.0, lt)) ]
-
--- an element that is there
-pub some_at : (xs : List ℕ) (k x : ℕ) → k < length xs → x ≡ get_or xs k x → slice_get xs k ≡ Some x
-some_at [] k x lt e = absurd (omega (arith, lt))
-some_at (y ∷ xs) zero x lt e = ap Some (sym e)
-some_at (y ∷ xs) (suc k) x lt e = some_at xs k x (omega (arith, lt)) e
+-- A number below the end is marked where it is led to, and then in at most as many steps as there are words.
+pub record Finds (edges : List (List ℕ)) (starts : List ℕ) (marks : List Bool) : Type 0 where
+  pub begins : (v : ℕ) → IsOneOf v starts → v < length edges → slice_get marks v ≡ Some true
+  pub closed : (u v : ℕ) → slice_get marks u ≡ Some true → IsOneOf v (led_from edges u) → v < length edges → slice_get marks v ≡ Some true
+  pub within : (v : ℕ) → slice_get marks v ≡ Some true → IsWithin edges starts (length edges) v
+  pub same_length : length marks ≡ length edges
 
 -- marks
-set_here : (bs : List Bool) (k : ℕ) (b : Bool) → slice_get bs k ≡ Some b → slice_get (set bs k true) k ≡ Some true
-set_here [] k b e = absurd cc
-set_here (c ∷ bs) zero b e = refl
-set_here (c ∷ bs) (suc k) b e = set_here bs k b e
-
-set_keeps : (bs : List Bool) (k v : ℕ) → slice_get bs v ≡ Some true → slice_get (set bs k true) v ≡ Some true
-set_keeps [] k v e = e
-set_keeps (c ∷ bs) zero zero e = refl
-set_keeps (c ∷ bs) zero (suc v) e = e
-set_keeps (c ∷ bs) (suc k) zero e = e
-set_keeps (c ∷ bs) (suc k) (suc v) e = set_keeps bs k v e
-
-set_only : (bs : List Bool) (k v : ℕ) → slice_get (set bs k true) v ≡ Some true → (v ≡ k) ⊎ (slice_get bs v ≡ Some true)
-set_only [] k v e = inr e
-set_only (c ∷ bs) zero zero e = inl refl
-set_only (c ∷ bs) zero (suc v) e = inr e
-set_only (c ∷ bs) (suc k) zero e = inr e
-set_only (c ∷ bs) (suc k) (suc v) e = elim (set_only bs k v e) [ inl p ↦ inl (ap suc p) | inr p ↦ inr p ]
-
 one_more_true : (b : Bool) (n : ℕ) → count_one b (suc n) ≡ suc (count_one b n)
 one_more_true true n = refl
 one_more_true false n = refl
@@ -159,10 +88,10 @@ seen_now w seen after marks e is = record {
   more = w ∷ [];
   seen_is = is;
   only = λ v h. h;
-  all = λ v h lt. ap (slice_get (set marks w true)) (only_one v w h) ∙ set_here marks w false e;
-  kept = λ v h. set_keeps marks w v h;
-  marked = λ h v f. elim (set_only marks w v f) [
-    | inl p ↦ rw is (in_right v seen (w ∷ []) (rw p (in_one w [])))
+  all = λ v h lt. ap (slice_get (set marks w true)) (only_one v w h) ∙ set_here marks w false true e;
+  kept = λ v h. set_same marks w v true h;
+  marked = λ h v f. elim (set_back marks w v true true f) [
+    | inl p ↦ rw is (in_right v seen (w ∷ []) (rw p.0 (in_one w [])))
     | inr p ↦ rw is (in_left v seen (w ∷ []) (h v p))
   ];
   counted = λ h. ap length is ∙ length-append seen (w ∷ []) ∙ (let more : length seen + 1 ≡ suc (trues marks) = omega (arith, h) in more) ∙ sym (set_trues marks w e);
@@ -200,7 +129,7 @@ search_begins edges starts seen none marks n is count a =
     record {
       begins = λ v h lt. a.all v h (rw long lt);
       followed = λ i u v lt. absurd (omega (arith, lt));
-      within = λ i v h. within_more edges starts 0 i v (omega arith) (a.only v (subst (λ (xs : List ℕ). IsOneOf v xs) a.seen_is (at_member v seen i h)));
+      within = λ i v h. within_more edges starts 0 i v (omega arith) (a.only v (subst (λ (xs : List ℕ). IsOneOf v xs) a.seen_is (is_member v seen i h)));
       marked = a.marked (λ v h. absurd (none_true n v (sym (ap (λ (bs : List Bool). slice_get bs v) is) ∙ h)));
       counted = a.counted (sym (ap trues is ∙ no_trues n));
       same_length = a.same_length ∙ long;
@@ -209,20 +138,20 @@ search_begins edges starts seen none marks n is count a =
 step_within : (edges : List (List ℕ)) (starts seen more : List ℕ) (head word i v : ℕ) → ((i v : ℕ) → slice_get seen i ≡ Some v → IsWithin edges starts i v) → ((v : ℕ) → IsOneOf v more → IsOneOf v (led_from edges word)) → slice_get seen head ≡ Some word → slice_get (seen ++ more) i ≡ Some v → IsWithin edges starts i v
 step_within edges starts seen more head word i v so_far only at e = elim (at_either seen more i v e) [
   | inl p ↦ so_far i v p
-  | inr p ↦ within_more edges starts (suc head) i v (omega (arith, p.0, at_below seen head word at)) (inr (word, so_far head word at, only v p.1))
+  | inr p ↦ within_more edges starts (suc head) i v (omega (arith, p.0, under seen head word at)) (inr (word, so_far head word at, only v p.1))
 ]
 
 step_followed : (edges : List (List ℕ)) (starts seen : List ℕ) (marks marks_after : List Bool) (more : List ℕ) (head word i u v : ℕ) → Searches edges starts head seen marks → slice_get seen head ≡ Some word → ((v : ℕ) → IsOneOf v (led_from edges word) → v < length marks → slice_get marks_after v ≡ Some true) → ((v : ℕ) → slice_get marks v ≡ Some true → slice_get marks_after v ≡ Some true) → (i < head) ⊎ (i ≡ head) → slice_get (seen ++ more) i ≡ Some u → IsOneOf v (led_from edges u) → v < length edges → slice_get marks_after v ≡ Some true
 step_followed edges starts seen marks marks_after more head word i u v s at all kept (inl p) e h lt =
-    let below = at_below seen head word at in
+    let below = under seen head word at in
     kept v (s.followed i u v p (at_front seen more i u e (omega (arith, p, below))) h lt)
 step_followed edges starts seen marks marks_after more head word i u v s at all kept (inr p) e h lt =
-    let here : slice_get seen i ≡ Some u = at_front seen more i u e (omega (arith, p, at_below seen head word at)) in
+    let here : slice_get seen i ≡ Some u = at_front seen more i u e (omega (arith, p, under seen head word at)) in
     let there : slice_get seen i ≡ Some word = ap (slice_get seen) p ∙ at in
     let same : u ≡ word = cc in
     all v (subst (λ (x : ℕ). IsOneOf v (led_from edges x)) same h) (rw s.same_length lt)
 
-last_or_before : (i head : ℕ) → i < head + 1 → (i < head) ⊎ (i ≡ head)
+pub last_or_before : (i head : ℕ) → i < head + 1 → (i < head) ⊎ (i ≡ head)
 last_or_before i head lt = grind arith
 
 -- one word further
@@ -244,75 +173,9 @@ seen_below edges starts seen marks head s = omega (arith, s.counted, trues_below
 pub search_ends : (edges : List (List ℕ)) (starts seen : List ℕ) (marks : List Bool) (head : ℕ) → Searches edges starts head seen marks → length seen ≤ head → Finds edges starts marks
 search_ends edges starts seen marks head s le = record {
   begins = s.begins;
-  closed = λ u v h e lt. let found = member_at u seen (s.marked u h) in s.followed found.0 u v (omega (arith, le, at_below seen found.0 u found.1)) found.1 e lt;
-  within = λ v h. let found = member_at v seen (s.marked v h) in within_more edges starts found.0 (length edges) v (omega (arith, at_below seen found.0 v found.1, seen_below edges starts seen marks head s)) (s.within found.0 v found.1);
+  closed = λ u v h e lt. let found = member_at u seen (s.marked u h) in s.followed found.0 u v (omega (arith, le, under seen found.0 u found.1)) found.1 e lt;
+  within = λ v h. let found = member_at v seen (s.marked v h) in within_more edges starts found.0 (length edges) v (omega (arith, under seen found.0 v found.1, seen_below edges starts seen marks head s)) (s.within found.0 v found.1);
   same_length = s.same_length;
-}
-
-abbrev is_marked : Option Bool → Bool
-is_marked None = false
-is_marked (Some b) = b
-
-marked_true : (o : Option Bool) → is_marked o ≡ true → o ≡ Some true
-marked_true None e = absurd cc
-marked_true (Some b) e = ap Some e
-
-unmarked : (edges : List (List ℕ)) (w : ℕ) (marks : List Bool) → Finds edges (led_from edges w) marks → is_marked (slice_get marks w) ≡ false → StaysInside edges w
-unmarked edges w marks f e = record {
-  inside = λ u. is_marked (slice_get marks u);
-  begins = λ v h lt. ap is_marked (f.begins v h lt);
-  closed = λ u v h g lt. ap is_marked (f.closed u v (marked_true (slice_get marks u) h) g lt);
-  apart = e;
-}
-
--- what a search says of the word whose words it started from
-pub search_decides : (edges : List (List ℕ)) (w : ℕ) (marks : List Bool) (b : Bool) → Finds edges (led_from edges w) marks → slice_get marks w ≡ Some b → Decides edges w b
-search_decides edges w marks true f e = f.within w e
-search_decides edges w marks false f e = unmarked edges w marks f (ap is_marked e)
-
-abbrev lower : ℕ → ℕ → Bool
-lower a b = nat_lt 0 a && nat_lt a b
-
-lower_each : (ranks : List ℕ) (w r v : ℕ) (vs : List ℕ) → all_lower ranks w r vs ≡ true → IsOneOf v vs → same_or_lower ranks w r v ≡ true
-lower_each ranks w r v [] h e = absurd cc
-lower_each ranks w r v (x ∷ vs) h e = elim (or_either (nat_eq v x) (one_of v vs) e) [
-  | inl p ↦ ap (same_or_lower ranks w r) (same_number v x p) ∙ and_left (same_or_lower ranks w r x) (all_lower ranks w r vs) h
-  | inr p ↦ lower_each ranks w r v vs (and_right (same_or_lower ranks w r x) (all_lower ranks w r vs) h) p
-]
-
-leads_each : (ranks : List ℕ) (w r v : ℕ) (vs : List ℕ) → leads_lower ranks w r vs ≡ true → 0 < r → IsOneOf v vs → same_or_lower ranks w r v ≡ true
-leads_each ranks w zero v vs h lt e = absurd (omega (arith, lt))
-leads_each ranks w (suc r) v vs h lt e = lower_each ranks w (suc r) v vs h e
-
-descends_each : (ranks : List ℕ) (w k u v : ℕ) (edges : List (List ℕ)) → u ≡ w + k → all_descend ranks w edges ≡ true → 0 < rank_of ranks u → IsOneOf v (list_or_none (slice_get edges k)) → same_or_lower ranks u (rank_of ranks u) v ≡ true
-descends_each ranks w k u v [] is h lt e = absurd cc
-descends_each ranks w zero u v (vs ∷ edges) is h lt e =
-    let here : u ≡ w = omega (arith, is) in
-    leads_each ranks u (rank_of ranks u) v vs (ap (λ (x : ℕ). leads_lower ranks x (rank_of ranks x) vs) here ∙ and_left (leads_lower ranks w (rank_of ranks w) vs) (all_descend ranks (suc w) edges) h) lt e
-descends_each ranks w (suc k) u v (vs ∷ edges) is h lt e = descends_each ranks (suc w) k u v edges (omega (arith, is)) (and_right (leads_lower ranks w (rank_of ranks w) vs) (all_descend ranks (suc w) edges) h) lt e
-
-lower_than : (a b c : ℕ) → lower a b ≡ true → lower b c ≡ true → lower a c ≡ true
-lower_than a b c p q = grind arith
-
-lower_first : (a b : ℕ) → lower a b ≡ true → 0 < a
-lower_first a b p = grind arith
-
-not_lower : (a : ℕ) → lower a a ≡ false
-not_lower a = grind arith
-
--- a word with a rank that doesn't name itself stays among those with lower ranks
-pub ranked_stays : (edges : List (List ℕ)) (ranks : List ℕ) (w : ℕ) → all_descend ranks 0 edges ≡ true → 0 < rank_of ranks w → one_of w (led_from edges w) ≡ false → StaysInside edges w
-ranked_stays edges ranks w h lt alone = record {
-  inside = λ u. lower (rank_of ranks u) (rank_of ranks w);
-  begins = λ v e below. elim (or_either (nat_eq v w) (lower (rank_of ranks v) (rank_of ranks w)) (descends_each ranks 0 w w v edges (omega arith) h lt e)) [
-    | inl p ↦ absurd (let named : one_of w (led_from edges w) ≡ true = subst (λ (x : ℕ). IsOneOf x (led_from edges w)) (same_number v w p) e in let clash : true ≡ false = sym named ∙ alone in cc)
-    | inr q ↦ q
-  ];
-  closed = λ u v p e below. elim (or_either (nat_eq v u) (lower (rank_of ranks v) (rank_of ranks u)) (descends_each ranks 0 u u v edges (omega arith) h (lower_first (rank_of ranks u) (rank_of ranks w) p) e)) [
-    | inl q ↦ ap (λ (x : ℕ). lower (rank_of ranks x) (rank_of ranks w)) (same_number v u q) ∙ p
-    | inr q ↦ lower_than (rank_of ranks v) (rank_of ranks u) (rank_of ranks w) q p
-  ];
-  apart = not_lower (rank_of ranks w);
 }
 
 -- a word that names itself leads back to itself

@@ -33,9 +33,13 @@ pub mod MarkWalks
 pub mod VerdictLemmas
 pub mod NamedWords
 pub mod EdgesOfWords
+pub mod NumberLists
 pub mod LeadingBack
 pub mod UndeclaredWords
 pub mod EdgesInside
+pub mod FoundWords
+pub mod ComponentLemmas
+pub mod SearchSteps
 pub mod JudgeLemmas
 pub mod ExamplesOfRecursion
 pub mod OneProgramLemmas

@@ -11,7 +11,7 @@ use Rattle.fac_check.specs.Verdicts.{one_of, more_of, inline_body, inline_words,
 use Rattle.fac_check.specs.inner.UndeclaredRecursion.{IsOneOf, one_if, inline_phrase, inline_word, list_or_none, led_from, IsWithin, StaysInside, Decides, DecidesAll, phrase_edges, inline_edges, sort_edges, word_edges, edges_from, AreEdges}
 use Rattle.fac_check.specs.Judged.{undeclared_from, AreUndeclared}
 use Rattle.fac_check.proofs.NamedWords.{inline_same, number_below}
-use Rattle.fac_check.proofs.LeadingBack.{or_left, or_right, or_either, same_number, in_either, in_one}
+use Rattle.fac_check.proofs.NumberLists.{or_left, or_right, or_either, same_number, in_either, in_one}
 
 -- adding numbers to a list
 more_keeps_by : (b : Bool) (x : ℕ) (xs ys : List ℕ) (v : ℕ) → ((zs : List ℕ) → IsOneOf v zs → IsOneOf v (more_of xs zs)) → IsOneOf v ys → IsOneOf v (elim b [ true ↦ more_of xs ys | false ↦ more_of xs (x ∷ ys) ])

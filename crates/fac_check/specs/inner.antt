@@ -3,4 +3,5 @@ pub mod Taken
 pub mod ItemWalk
 pub mod Walking
 pub mod UndeclaredRecursion
+pub mod StrongComponents
 pub mod Breaches

@@ -1,5 +1,5 @@
 -- How the rule of undeclared recursion is decided for all words of a program: by the words that each inline word leads to.
-use Rattle.std.specs.Prelude.{◌≡◌, ◌<◌, ◌≤◌, ◌++◌, ◌⊎◌, ℕ, zero, suc, List, [], ◌∷◌, length, Bool, true, false, nat_eq, nat_lt, ◌&&◌, ◌||◌, Option, Some, None, slice_get}
+use Rattle.std.specs.Prelude.{◌≡◌, ◌<◌, ◌≤◌, ◌++◌, ◌⊎◌, ℕ, zero, suc, List, [], ◌∷◌, length, Bool, true, false, nat_eq, Option, Some, None, slice_get}
 use Rattle.std.specs.List.{list_all}
 use Rattle.fac_abs.specs.SeenMarks.{are_below}
 use Rattle.fac_lang.specs.Phrases.{wrd, Literal, Phrase, Item, lit, word, made}
@@ -81,69 +81,6 @@ pub record StaysInside (edges : List (List ℕ)) (w : ℕ) : Type 0 where
 abbrev pub Decides : List (List ℕ) → ℕ → Bool → Type 0
 Decides edges w true = IsWithin edges (led_from edges w) (length edges) w
 Decides edges w false = StaysInside edges w
-
--- a word's rank, which is 0 where it has none
-abbrev pub number_or_zero : Option ℕ → ℕ
-number_or_zero (Some r) = r
-number_or_zero None = 0
-
-abbrev pub rank_of : List ℕ → ℕ → ℕ
-rank_of ranks u = number_or_zero (slice_get ranks u)
-
--- whether word v is word w, or has a rank lower than this one
-abbrev pub same_or_lower : List ℕ → ℕ → ℕ → ℕ → Bool
-same_or_lower ranks w r v = nat_eq v w || (nat_lt 0 (rank_of ranks v) && nat_lt (rank_of ranks v) r)
-
--- whether all these words are word w or have ranks lower than this one
-abbrev pub all_lower : List ℕ → ℕ → ℕ → List ℕ → Bool
-all_lower ranks w r [] = true
-all_lower ranks w r (v ∷ vs) = same_or_lower ranks w r v && all_lower ranks w r vs
-
--- whether word w of this rank leads to itself and to words with lower ones alone; it may have none
-abbrev pub leads_lower : List ℕ → ℕ → ℕ → List ℕ → Bool
-leads_lower ranks w zero vs = true
-leads_lower ranks w (suc r) vs = all_lower ranks w (suc r) vs
-
--- whether each word from word w on with a rank leads to itself and to words with lower ones alone
-abbrev pub all_descend : List ℕ → ℕ → List (List ℕ) → Bool
-all_descend ranks w [] = true
-all_descend ranks w (vs ∷ edges) = leads_lower ranks w (rank_of ranks w) vs && all_descend ranks (suc w) edges
-
--- how many are true
-abbrev pub count_one : Bool → ℕ → ℕ
-count_one true n = suc n
-count_one false n = n
-
-abbrev pub trues : List Bool → ℕ
-trues [] = 0
-trues (b ∷ bs) = count_one b (trues bs)
-
--- these numbers are added to those that were seen, where they aren't marked as seen
-pub record Adds (vs seen : List ℕ) (marks : List Bool) (seen_after : List ℕ) (marks_after : List Bool) : Type 0 where
-  pub more : List ℕ
-  pub seen_is : seen_after ≡ seen ++ more
-  pub only : (v : ℕ) → IsOneOf v more → IsOneOf v vs
-  pub all : (v : ℕ) → IsOneOf v vs → v < length marks → slice_get marks_after v ≡ Some true
-  pub kept : (v : ℕ) → slice_get marks v ≡ Some true → slice_get marks_after v ≡ Some true
-  pub marked : ((v : ℕ) → slice_get marks v ≡ Some true → IsOneOf v seen) → (v : ℕ) → slice_get marks_after v ≡ Some true → IsOneOf v seen_after
-  pub counted : length seen ≡ trues marks → length seen_after ≡ trues marks_after
-  pub same_length : length marks_after ≡ length marks
-
--- what a search has seen, where it has followed the first so many
-pub record Searches (edges : List (List ℕ)) (starts : List ℕ) (head : ℕ) (seen : List ℕ) (marks : List Bool) : Type 0 where
-  pub begins : (v : ℕ) → IsOneOf v starts → v < length edges → slice_get marks v ≡ Some true
-  pub followed : (i u v : ℕ) → i < head → slice_get seen i ≡ Some u → IsOneOf v (led_from edges u) → v < length edges → slice_get marks v ≡ Some true
-  pub within : (i v : ℕ) → slice_get seen i ≡ Some v → IsWithin edges starts i v
-  pub marked : (v : ℕ) → slice_get marks v ≡ Some true → IsOneOf v seen
-  pub counted : length seen ≡ trues marks
-  pub same_length : length marks ≡ length edges
-
--- A number below the end is marked where it is led to, and then in at most as many steps as there are words.
-pub record Finds (edges : List (List ℕ)) (starts : List ℕ) (marks : List Bool) : Type 0 where
-  pub begins : (v : ℕ) → IsOneOf v starts → v < length edges → slice_get marks v ≡ Some true
-  pub closed : (u v : ℕ) → slice_get marks u ≡ Some true → IsOneOf v (led_from edges u) → v < length edges → slice_get marks v ≡ Some true
-  pub within : (v : ℕ) → slice_get marks v ≡ Some true → IsWithin edges starts (length edges) v
-  pub same_length : length marks ≡ length edges
 
 -- for each word, whether it leads back to itself
 pub record DecidesAll (edges : List (List ℕ)) (flags : List Bool) : Type 0 where

@@ -10,7 +10,7 @@ pub returns : goal.returns
 returns c =
     let closed = c.args.closed.now in
     let edges = c.in_ok-edges.edges in
-    if_ok (DecidesAll edges) (AreUndeclared closed.program closed.templates) c.decide_all.result (λ flags decides. flags_are closed.program closed.templates edges flags c.in_ok-edges.ensures decides) c.decide_all.ensures
+    if_ok (DecidesAll edges) (AreUndeclared closed.program closed.templates) c.lead_back.result (λ flags decides. flags_are closed.program closed.templates edges flags c.in_ok-edges.ensures decides) c.lead_back.ensures
 
 pub edges_of-requires : goal.edges_of-requires
 edges_of-requires c =
@@ -18,8 +18,8 @@ edges_of-requires c =
     let stands = c.requires in
     taken_program stands.0 C.program C.templates stands.1 stands.2 stands.3
 
-pub decide_all-requires : goal.decide_all-requires
-decide_all-requires c =
+pub lead_back-requires : goal.lead_back-requires
+lead_back-requires c =
     let C = c.args.closed.now in
     let stands = c.requires in
     edges_there stands.0 C.program C.templates c.in_ok-edges.edges stands.1 stands.2 c.in_ok-edges.ensures
