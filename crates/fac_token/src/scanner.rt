@@ -1,7 +1,7 @@
 //! The scanner: it takes a file's characters one by one.
 ghost use Rattle.std.specs.Prelude.{◌≡◌, ◌++◌, ◌∷◌, ◌+◌, [], List as Items, string_bytes, IfOk, OnOk};
 ghost use Rattle.std.specs.Char.{encode_utf8};
-ghost use Rattle.std.specs.Str.{chars};
+ghost use Rattle.std.specs.Str.{chars, bytes_eq};
 ghost use Rattle.fac_token.specs.Lexemes.{is_white, escaped};
 ghost use Rattle.fac_token.specs.Tokens.{Tokenizes};
 ghost use Rattle.fac_token.specs.inner.TokenSteps.{with_token, hold_plain_end, hold_white, hold_quote, hold_inner, hold_char, hold_end, hold_from, held, Holds, Ends};
@@ -64,6 +64,13 @@ fn take_text(alloc: Global, text: &mut String) -> Result<Text, Memory>
     Ok(taken)
 }
 
+// Whether a plain token is a single `!`, which is no token but begins a comment.
+fn is_exclamation(text: &String) -> bool
+    ensures { result ≡ bytes_eq (string_bytes text.now) (33 ∷ []) }
+{
+    text.as_str() == "!"
+}
+
 // Adds a token.
 fn add_token(tokens: &mut List<Token>, file: u32, kind: TokKind) -> Result<(), Memory>
     ensures { OnOk result (tokens.new ≡ with_token file tokens.old kind) }
@@ -86,7 +93,7 @@ fn take_plain_end(
 ) -> Result<Mode, TokenFault>
     ensures { Holds (hold_plain_end file tokens.old (string_bytes text.old) c) tokens.new (string_bytes text.new) result }
 {
-    if text.as_str() == "!" {
+    if is_exclamation(text) {
         text.clear();
         if c == '\n' {
             return Ok(Mode::Between);
@@ -224,7 +231,7 @@ fn take_end(
     match mode {
         Mode::Between => Ok(tokens),
         Mode::InPlain => {
-            if text.as_str() == "!" {
+            if is_exclamation(&text) {
                 return Ok(tokens);
             }
             add_token(&mut tokens, file, TokKind::Plain(Text::from_string(text)))?;
