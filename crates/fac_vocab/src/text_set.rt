@@ -1,0 +1,88 @@
+//! Sets of texts.
+ghost use Rattle.std.specs.Prelude.{◌≡◌, ◌<◌, [], List, ℕ, length, map, string_bytes, position, IfSome, OnOk, OnErr};
+ghost use Rattle.std.specs.List.{list_any};
+ghost use Rattle.std.specs.Str.{bytes_eq};
+ghost use Rattle.fac_vocab.specs.Scopes.{is_companion_of, with_vocab};
+
+use crate::stems::is_private_after;
+use fac_lang::Memory;
+use indexmap::IndexSet;
+use std::alloc::Global;
+use std::marker::Model;
+
+/// Texts without repeats, in the order in which they were first added.
+#[derive(Drop)]
+pub struct TextSet {
+    texts: IndexSet<String>,
+}
+
+impl Model for TextSet {
+    ghost use Rattle.std.specs.Prelude.{List, ℕ, map, string_bytes};
+
+    ghost Value = { List (List ℕ) };
+
+    ghost view = { λ set. map string_bytes set.texts.keys };
+}
+
+// Whether a text is among those of a set.
+fn is_among(texts: &IndexSet<String>, text: &str) -> bool
+    ensures { result ≡ list_any (bytes_eq text.now) (map string_bytes texts.now.keys) }
+{
+    texts.contains(text)
+}
+
+// Adds a text that may be there.
+fn insert(texts: &mut IndexSet<String>, text: String) -> Result<(), Memory>
+    ensures ok { OnOk result (map string_bytes texts.new.keys ≡ with_vocab (map string_bytes texts.old.keys) (string_bytes text)) }
+    ensures err { OnErr result (map string_bytes texts.new.keys ≡ map string_bytes texts.old.keys) }
+{
+    texts.insert(text)?;
+    Ok(())
+}
+
+// Whether a text is one of these, and then any number of times `.private`.
+fn has_stem(texts: &IndexSet<String>, text: &[u8]) -> bool
+    ensures { result ≡ list_any (λ stem. is_companion_of stem text.now) (map string_bytes texts.now.keys) }
+{
+    for stem in texts {
+        if is_private_after(stem.as_bytes(), text) {
+            return true;
+        }
+    }
+    false
+}
+
+impl TextSet {
+    pub fn new(alloc: Global) -> Self
+        ensures { result ≡ [] }
+    {
+        TextSet {
+            texts: IndexSet::new(alloc),
+        }
+    }
+
+    /// Whether a text is there.
+    pub fn contains(&self, text: &str) -> bool
+        ensures { result ≡ list_any (bytes_eq text.now) self.now }
+    {
+        is_among(&self.texts, text)
+    }
+
+    /// Whether a text is one of these, and then any number of times `.private`.
+    pub fn has_stem_of(&self, text: &str) -> bool
+        ensures { result ≡ list_any (λ stem. is_companion_of stem text.now) self.now }
+    {
+        self.contains(text) || has_stem(&self.texts, text.as_bytes())
+    }
+
+    /// Adds a text, which changes nothing where it is there.
+    pub fn add(&mut self, alloc: Global, text: &str) -> Result<(), Memory>
+        ensures ok { OnOk result (self.new ≡ with_vocab self.old text.now) }
+        ensures err { OnErr result (self.new ≡ self.old) }
+    {
+        if self.contains(text) {
+            return Ok(());
+        }
+        insert(&mut self.texts, String::from_str(alloc, text)?)
+    }
+}
