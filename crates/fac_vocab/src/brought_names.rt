@@ -31,7 +31,10 @@ fn behind_prefix<'a>(name: &'a str, prefix: &str) -> Option<&'a str>
     ensures { option_copied result ≡ (if starts_with nat_eq name.now (prefix.now ++ codes ":") then Some (drop (length prefix.now + 1) name.now) else None) }
 {
     match name.strip_prefix(prefix) {
-        Some(rest) => rest.strip_prefix(':'),
+        Some(rest) => match rest.strip_prefix(":") {
+            Some(behind) => Some(behind),
+            None => None,
+        },
         None => None,
     }
 }

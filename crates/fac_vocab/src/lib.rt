@@ -9,7 +9,6 @@ mod least;
 mod scope;
 mod search;
 mod standing;
-mod stems;
 mod table;
 mod text_set;
 mod vocabularies;

@@ -1,24 +1,40 @@
 //! What a table holds under a name, by the numbers of the entries of that name.
-ghost use Rattle.std.specs.Prelude.{◌≡◌, ◌∷◌, [], Some, slice_get, take};
-ghost use Rattle.std.specs.List.{list_any};
+ghost use Rattle.std.specs.Prelude.{◌≡◌, ◌<◌, ◌+◌, ◌^◌, ◌∷◌, [], Some, length, slice_get, take, IfNone, IfSome};
 ghost use Rattle.std.specs.Str.{bytes_eq};
 ghost use Rattle.fac_lang.specs.Classes.{bytes_before};
 ghost use Rattle.fac_vocab.specs.Scopes.{companion, full_text, same_table as in_one_table, put_in_order};
-ghost use Rattle.fac_vocab.specs.inner.Rows.{entries_at, word_of, in_table, first_in_table, used_among, with_used_entry, kept_numbers};
+ghost use Rattle.fac_vocab.specs.inner.Rows.{entries_at, word_if, word_among, defined_if, defined_among, number_if, first_among, byte_order, least_with, with_used_entry, kept_numbers};
 
 use crate::entry::Entry;
 use crate::least::Least;
 use crate::text_set::TextSet;
 
+// The word of the entry of a number, where it is one of a vocabulary.
+fn word_at(entries: &[Entry], number: u32, vocab: &str) -> Option<u32>
+    ensures { result ≡ word_if vocab.now (slice_get entries.now number) }
+{
+    match entries.get(number as usize) {
+        Some(entry) => {
+            if vocab == entry.vocab.as_str() {
+                Some(entry.word)
+            } else {
+                None
+            }
+        }
+        None => None,
+    }
+}
+
 /// The word of a vocabulary.
 pub fn word_in(entries: &[Entry], numbers: &[u32], vocab: &str) -> Option<u32>
-    ensures { result ≡ word_of vocab.now (entries_at entries.now numbers.now) }
+    ensures { result ≡ word_among entries.now vocab.now numbers.now }
 {
     for number in numbers {
-        if let Some(entry) = entries.get(*number as usize) {
-            if vocab == entry.vocab.as_str() {
-                return Some(entry.word);
+        match word_at(entries, *number, vocab) {
+            Some(word) => {
+                return Some(word);
             }
+            None => {}
         }
     }
     None
@@ -28,8 +44,8 @@ pub fn word_in(entries: &[Entry], numbers: &[u32], vocab: &str) -> Option<u32>
 fn is_companion(text: &str, vocab: &str) -> bool
     ensures { result ≡ bytes_eq text.now (companion vocab.now) }
 {
-    match text.as_bytes().strip_prefix(vocab.as_bytes()) {
-        Some(rest) => rest == b".private".as_slice(),
+    match text.strip_prefix(vocab) {
+        Some(rest) => rest == ".private",
         None => false,
     }
 }
@@ -41,31 +57,54 @@ fn same_table(vocab: &str, other: &str) -> bool
     vocab == other || is_companion(vocab, other) || is_companion(other, vocab)
 }
 
+// Whether the entry of a number defines its name in a table to which a vocabulary belongs.
+fn is_defined_at(entries: &[Entry], number: u32, vocab: &str) -> bool
+    ensures { result ≡ defined_if vocab.now (slice_get entries.now number) }
+{
+    match entries.get(number as usize) {
+        Some(entry) => same_table(vocab, entry.vocab.as_str()) && entry.is_defined,
+        None => false,
+    }
+}
+
 /// Whether a name is defined in a table to which a vocabulary belongs.
 pub fn is_defined_in(entries: &[Entry], numbers: &[u32], vocab: &str) -> bool
-    ensures { result ≡ list_any (λ e. e.is_defined) (in_table vocab.now (entries_at entries.now numbers.now)) }
+    ensures { result ≡ defined_among entries.now vocab.now numbers.now }
 {
     for number in numbers {
-        if let Some(entry) = entries.get(*number as usize) {
-            if same_table(vocab, entry.vocab.as_str()) {
-                if entry.is_defined {
-                    return true;
-                }
-            }
+        if is_defined_at(entries, *number, vocab) {
+            return true;
         }
     }
     false
 }
 
+// A number, where its entry stands in a table to which a vocabulary belongs.
+fn number_at(entries: &[Entry], number: u32, vocab: &str) -> Option<u32>
+    ensures { result ≡ number_if vocab.now number (slice_get entries.now number) }
+{
+    match entries.get(number as usize) {
+        Some(entry) => {
+            if same_table(vocab, entry.vocab.as_str()) {
+                Some(number)
+            } else {
+                None
+            }
+        }
+        None => None,
+    }
+}
+
 /// The number of the first entry in a table to which a vocabulary belongs.
 pub fn first_number(entries: &[Entry], numbers: &[u32], vocab: &str) -> Option<u32>
-    ensures { result ≡ first_in_table entries.now vocab.now numbers.now }
+    ensures { result ≡ first_among entries.now vocab.now numbers.now }
 {
     for number in numbers {
-        if let Some(entry) = entries.get(*number as usize) {
-            if same_table(vocab, entry.vocab.as_str()) {
-                return Some(*number);
+        match number_at(entries, *number, vocab) {
+            Some(first) => {
+                return Some(first);
             }
+            None => {}
         }
     }
     None
@@ -73,7 +112,8 @@ pub fn first_number(entries: &[Entry], numbers: &[u32], vocab: &str) -> Option<u
 
 // The byte of a full name with this index. None where the text is too short.
 fn byte_at(entry: &Entry, index: usize) -> Option<u8>
-    ensures { result ≡ slice_get (full_text entry.now) index }
+    ensures byte { result ≡ slice_get (full_text entry.now) index }
+    ensures room { IfSome result (λ byte. index + 1 < 2 ^ 64) }
 {
     let vocab = entry.vocab.as_bytes();
     if index < vocab.len() {
@@ -86,25 +126,41 @@ fn byte_at(entry: &Entry, index: usize) -> Option<u8>
     entry.name.as_bytes().get(rest - 1).copied()
 }
 
+// The order of the bytes with this index, where it decides between two full names that are alike before it.
+fn order_at(entry: &Entry, other: &Entry, index: usize) -> Option<bool>
+    ensures order { result ≡ byte_order (slice_get (full_text entry.now) index) (slice_get (full_text other.now) index) }
+    ensures within { IfNone result (index < length (full_text entry.now)) }
+    ensures room { IfNone result (index + 1 < 2 ^ 64) }
+{
+    match byte_at(entry, index) {
+        Some(byte) => match byte_at(other, index) {
+            Some(later) => {
+                if byte == later {
+                    None
+                } else {
+                    Some(byte < later)
+                }
+            }
+            None => Some(false),
+        },
+        None => Some(byte_at(other, index).is_some()),
+    }
+}
+
 /// Whether the full name of one entry comes before that of another.
 pub fn comes_before(entry: &Entry, other: &Entry) -> bool
     ensures { result ≡ bytes_before (full_text entry.now) (full_text other.now) }
 {
     let mut index = 0;
-    while let Some(byte) = byte_at(entry, index) {
-        match byte_at(other, index) {
-            Some(later) => {
-                if byte != later {
-                    return byte < later;
-                }
+    loop {
+        match order_at(entry, other, index) {
+            Some(before) => {
+                return before;
             }
-            None => {
-                return false;
-            }
+            None => {}
         }
         index += 1;
     }
-    byte_at(other, index).is_some()
 }
 
 // One entry more behind one that is kept.
@@ -180,7 +236,7 @@ fn with_number(entries: &[Entry], used: &TextSet, least: Least, number: u32) -> 
 
 /// The first two entries of used vocabularies by the byte order of their full names.
 pub fn least_used(entries: &[Entry], numbers: &[u32], used: &TextSet) -> Least
-    ensures { entries_at entries.now (kept_numbers result) ≡ take 2 (used_among used.now (entries_at entries.now numbers.now)) }
+    ensures { entries_at entries.now (kept_numbers result) ≡ least_with used.now entries.now numbers.now [] }
 {
     let mut least = Least::Nothing;
     let mut rest = numbers;

@@ -125,6 +125,7 @@ impl Table {
     pub fn least_used(&self, used: &TextSet, name: &str) -> Least
         ensures { LeastUsed self.now name.now used.now result }
     {
+        used.differ();
         least_used(self.entries(), self.numbers(name), used)
     }
 

@@ -1,10 +1,10 @@
 //! Sets of texts.
-ghost use Rattle.std.specs.Prelude.{◌≡◌, ◌<◌, [], List, ℕ, length, map, string_bytes, position, IfSome, OnOk, OnErr};
+ghost use Rattle.std.specs.Prelude.{◌≡◌, [], map, string_bytes, true, OnOk, OnErr};
 ghost use Rattle.std.specs.List.{list_any};
 ghost use Rattle.std.specs.Str.{bytes_eq};
+ghost use Rattle.fac_lang.specs.Whole.{no_two};
 ghost use Rattle.fac_vocab.specs.Scopes.{is_companion_of, with_vocab};
 
-use crate::stems::is_private_after;
 use fac_lang::Memory;
 use indexmap::IndexSet;
 use std::alloc::Global;
@@ -17,11 +17,15 @@ pub struct TextSet {
 }
 
 impl Model for TextSet {
-    ghost use Rattle.std.specs.Prelude.{List, ℕ, map, string_bytes};
+    ghost use Rattle.std.specs.Prelude.{◌≡◌, List, ℕ, map, string_bytes, true};
+    ghost use Rattle.std.specs.Str.{bytes_eq};
+    ghost use Rattle.fac_lang.specs.Whole.{no_two};
 
     ghost Value = { List (List ℕ) };
 
     ghost view = { λ set. map string_bytes set.texts.keys };
+
+    ghost invariant = { λ set. no_two bytes_eq (map string_bytes set.texts.keys) ≡ true };
 }
 
 // Whether a text is among those of a set.
@@ -40,18 +44,6 @@ fn insert(texts: &mut IndexSet<String>, text: String) -> Result<(), Memory>
     Ok(())
 }
 
-// Whether a text is one of these, and then any number of times `.private`.
-fn has_stem(texts: &IndexSet<String>, text: &[u8]) -> bool
-    ensures { result ≡ list_any (λ stem. is_companion_of stem text.now) (map string_bytes texts.now.keys) }
-{
-    for stem in texts {
-        if is_private_after(stem.as_bytes(), text) {
-            return true;
-        }
-    }
-    false
-}
-
 impl TextSet {
     pub fn new(alloc: Global) -> Self
         ensures { result ≡ [] }
@@ -59,6 +51,13 @@ impl TextSet {
         TextSet {
             texts: IndexSet::new(alloc),
         }
+    }
+
+    /// A law: no text is there twice.
+    pub fn differ(&self)
+        ensures { no_two bytes_eq self.now ≡ true }
+    {
+        let _texts = &self.texts;
     }
 
     /// Whether a text is there.
@@ -72,7 +71,20 @@ impl TextSet {
     pub fn has_stem_of(&self, text: &str) -> bool
         ensures { result ≡ list_any (λ stem. is_companion_of stem text.now) self.now }
     {
-        self.contains(text) || has_stem(&self.texts, text.as_bytes())
+        let mut rest = text;
+        loop {
+            if self.contains(rest) {
+                return true;
+            }
+            match rest.strip_suffix(".private") {
+                Some(stem) => {
+                    rest = stem;
+                }
+                None => {
+                    return false;
+                }
+            }
+        }
     }
 
     /// Adds a text, which changes nothing where it is there.

@@ -1,13 +1,12 @@
 -- How a table is searched: by the numbers of the entries that have a name.
-use Rattle.std.specs.Prelude.{ℕ, zero, suc, ◌≡◌, ◌+◌, ◌<◌, ◌^◌, ◌++◌, List, [], ◌∷◌, Bool, true, false, ◌&&◌, length, take, slice_get, Option, Some, None, Result, Ok, Err, if◌then◌else◌}
-use Rattle.std.specs.List.{list_any, filter, find}
-use Rattle.std.specs.Option.{option_map}
+use Rattle.std.specs.Prelude.{ℕ, zero, suc, ◌≡◌, ◌+◌, ◌<◌, ◌^◌, ◌++◌, List, [], ◌∷◌, Bool, true, false, ◌&&◌, ◌||◌, nat_eq, nat_lt, length, take, slice_get, Option, Some, None, Result, Ok, Err, if◌then◌else◌}
+use Rattle.std.specs.List.{list_any, filter}
 use Rattle.std.specs.Str.{bytes_eq}
 use Rattle.fac_vocab.specs.declared.least.Least.{Least}
 use Rattle.fac_vocab.specs.declared.least.Least.TheVariants.{Nothing, One, Two}
 use Rattle.fac_vocab.specs.declared.answers.Standing.{Standing}
 use Rattle.fac_vocab.specs.declared.answers.Standing.TheVariants.{New, Deferred}
-use Rattle.fac_vocab.specs.Scopes.{Entry, same_table, put_in_order, all_used, holders, now_defined, with_vocab}
+use Rattle.fac_vocab.specs.Scopes.{Entry, or_else, same_table, put_in_order, all_used, holders, now_defined, with_vocab}
 use Rattle.fac_lang.specs.declared.program.Name.{Name as FullName}
 
 -- the numbers of the entries of a name, where the first entry has number k
@@ -28,22 +27,45 @@ entries_at table (n ∷ ns) = with_some (slice_get table n) (entries_at table ns
 abbrev pub entries_named : List Entry → List ℕ → List Entry
 entries_named table name = filter (λ e. bytes_eq name e.name) table
 
--- the word of a vocabulary among entries of one name
-abbrev pub word_of : List ℕ → List Entry → Option ℕ
-word_of vocab rows = option_map (λ e. e.word) (find (λ e. bytes_eq vocab e.vocab) rows)
+-- the word of an entry, where it is one of a vocabulary
+abbrev pub word_if : List ℕ → Option Entry → Option ℕ
+word_if vocab None = None
+word_if vocab (Some e) = (if bytes_eq vocab e.vocab then Some e.word else None)
+
+-- the word of a vocabulary among the entries of these numbers
+abbrev pub word_among : List Entry → List ℕ → List ℕ → Option ℕ
+word_among table vocab [] = None
+word_among table vocab (n ∷ ns) = or_else (word_if vocab (slice_get table n)) (word_among table vocab ns)
+
+-- whether an entry defines its name in a table to which a vocabulary belongs
+abbrev pub defined_if : List ℕ → Option Entry → Bool
+defined_if vocab None = false
+defined_if vocab (Some e) = same_table vocab e.vocab && e.is_defined
+
+abbrev pub defined_among : List Entry → List ℕ → List ℕ → Bool
+defined_among table vocab [] = false
+defined_among table vocab (n ∷ ns) = defined_if vocab (slice_get table n) || defined_among table vocab ns
+
+-- the number of an entry, where it stands in a table to which a vocabulary belongs
+abbrev pub number_if : List ℕ → ℕ → Option Entry → Option ℕ
+number_if vocab n None = None
+number_if vocab n (Some e) = (if same_table vocab e.vocab then Some n else None)
+
+-- the first of these numbers whose entry stands there
+abbrev pub first_among : List Entry → List ℕ → List ℕ → Option ℕ
+first_among table vocab [] = None
+first_among table vocab (n ∷ ns) = or_else (number_if vocab n (slice_get table n)) (first_among table vocab ns)
 
 -- the entries of one name that stand in the tables to which a vocabulary belongs
 abbrev pub in_table : List ℕ → List Entry → List Entry
 in_table vocab rows = filter (λ e. same_table vocab e.vocab) rows
 
-abbrev pub number_if : Option Entry → ℕ → List ℕ → Option ℕ → Option ℕ
-number_if None n vocab rest = rest
-number_if (Some e) n vocab rest = (if same_table vocab e.vocab then Some n else rest)
-
--- the first of these numbers whose entry stands there
-abbrev pub first_in_table : List Entry → List ℕ → List ℕ → Option ℕ
-first_in_table table vocab [] = None
-first_in_table table vocab (n ∷ ns) = number_if (slice_get table n) n vocab (first_in_table table vocab ns)
+-- the order of two bytes of texts that are alike before them, where it decides
+abbrev pub byte_order : Option ℕ → Option ℕ → Option Bool
+byte_order None None = Some false
+byte_order None (Some y) = Some true
+byte_order (Some x) None = Some false
+byte_order (Some x) (Some y) = (if nat_eq x y then None else Some (nat_lt x y))
 
 -- the entries of one name that stand in used vocabularies, by the byte order of their full names
 abbrev pub used_among : List (List ℕ) → List Entry → List Entry
@@ -60,6 +82,11 @@ kept_numbers (Two n m) = n ∷ m ∷ []
 abbrev pub with_used_entry : List (List ℕ) → Option Entry → List Entry → List Entry
 with_used_entry used None least = least
 with_used_entry used (Some e) least = (if list_any (bytes_eq e.vocab) used then take 2 (put_in_order e least) else least)
+
+-- the first two of used vocabularies among the entries of these numbers and some that are kept
+abbrev pub least_with : List (List ℕ) → List Entry → List ℕ → List Entry → List Entry
+least_with used table [] least = least
+least_with used table (n ∷ ns) least = with_used_entry used (slice_get table n) (least_with used table ns least)
 
 abbrev pub deferred_word : Option Entry → Standing
 deferred_word (Some e) = Deferred e.word

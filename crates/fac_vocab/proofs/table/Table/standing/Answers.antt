@@ -1,0 +1,13 @@
+use Rattle.std.proofs.Common.{◌≡◌, ◌∙◌, ap, sym, List, ℕ}
+use Rattle.fac_vocab.specs.Scopes.{Entry}
+use Rattle.fac_vocab.specs.ScopeCalls.{standing_of}
+use Rattle.fac_vocab.specs.inner.Rows.{in_table, entries_at}
+use Rattle.fac_vocab.proofs.RowLemmas.{stands_named}
+use Rattle.fac_vocab.proofs.table.Table.standing.Goals as goal
+
+pub returns : goal.returns
+returns c =
+    stands_named c.args.self.now c.args.name.now.vocab c.args.name.now.name c.standing_in.result
+    (c.standing_in.ensures
+    ∙ ap (λ (t : List Entry). standing_of (in_table c.args.name.now.vocab (entries_at t c.numbers.result.now))) c.entries.ensures.all
+    ∙ ap (λ (ns : List ℕ). standing_of (in_table c.args.name.now.vocab (entries_at c.args.self.now ns))) c.numbers.ensures)
