@@ -147,7 +147,7 @@ two_put e f false false p q h = cc
 
 more_put : (e f x : Entry) (es : List Entry) (b c d : Bool) → before x e ≡ b → before x f ≡ c → before f e ≡ d → before e f ≡ not d → put_in_order e (put_in_order f es) ≡ put_in_order f (put_in_order e es) →
     put_in_order e (put_in_order f (x ∷ es)) ≡ put_in_order f (put_in_order e (x ∷ es))
-more_put e f x es true true d p q r s ih = rw (p, q, p, q) (ap (λ (l : List Entry). x ∷ l) ih)
+more_put e f x es true true d p q r s ih = rw (p, q, p) (ap (λ (l : List Entry). x ∷ l) ih)
 more_put e f x es true false true p q r s ih = rw (p, q, r, p) refl
 more_put e f x es true false false p q r s ih = absurd (true≢false (sym (before_after (full_text x) (full_text f) (full_text e) q p) ∙ r))
 more_put e f x es false true true p q r s ih = absurd (true≢false (sym (before_after (full_text x) (full_text e) (full_text f) p q) ∙ s))

@@ -7,13 +7,13 @@ use Rattle.std.specs.Str.{bytes_eq}
 use Rattle.std.proofs.lemmas.List.{length_push}
 use Rattle.fac_vocab.specs.declared.answers.Standing.{Standing}
 use Rattle.fac_vocab.specs.declared.answers.Standing.TheVariants.{New, Deferred, Defined}
-use Rattle.fac_vocab.specs.Scopes.{Entry, held, word_held, or_else, same_table, holders, now_defined}
+use Rattle.fac_vocab.specs.Scopes.{Entry, held, word_held, or_else, same_table, companion, holders, now_defined}
 use Rattle.fac_vocab.specs.ScopeCalls.{standing_of, standing_with}
 use Rattle.fac_vocab.specs.inner.Rows.{numbers_named, with_some, entries_at, entries_named, word_if, word_among, defined_if, defined_among, number_if, first_among, in_table, deferred_word, deferred_at, first_defined, settled, defined_at}
 use Rattle.fac_vocab.proofs.TextLemmas.{false_by, both_true, or_false}
 
 -- the entry behind some
-entry_behind : (done es : List Entry) (e : Entry) → slice_get (done ++ e ∷ es) (length done) ≡ Some e
+pub entry_behind : (done es : List Entry) (e : Entry) → slice_get (done ++ e ∷ es) (length done) ≡ Some e
 entry_behind [] es e = refl
 entry_behind (x ∷ done) es e = entry_behind done es e
 
@@ -126,3 +126,30 @@ stands_open table vocab ns h = first_at_rows table vocab ns ∙ sym (standing_op
 
 pub stands_named : (table : List Entry) (vocab name : List ℕ) (s : Standing) → s ≡ standing_of (in_table vocab (entries_at table (numbers_named 0 name table))) → standing_of (holders table vocab name) ≡ s
 stands_named table vocab name s h = sym (h ∙ ap (λ (rows : List Entry). standing_of (in_table vocab rows)) (rows_named table name) ∙ ap standing_of (holders_named table vocab name))
+
+-- a new name isn't held
+not_own : (vocab : List ℕ) (e : Entry) → same_table vocab e.vocab ≡ false → bytes_eq vocab e.vocab ≡ false
+not_own vocab e h = (or_false (bytes_eq vocab e.vocab) (bytes_eq vocab (companion e.vocab)) (or_false (bytes_eq vocab e.vocab || bytes_eq vocab (companion e.vocab)) (bytes_eq e.vocab (companion vocab)) h).0).0
+
+no_holders : (table : List Entry) (vocab name : List ℕ) → holders table vocab name ≡ [] → held table vocab name ≡ None
+no_holders [] vocab name h = refl
+no_holders (e ∷ es) vocab name h = one (bytes_eq name e.name) (same_table vocab e.vocab) refl refl h (no_holders es vocab name)
+  where
+    cons_nil : {X : Type 0} {x : X} {xs : List X} → x ∷ xs ≡ [] → ⊥
+    cons_nil g = cc
+
+    one : (b c : Bool) → bytes_eq name e.name ≡ b → same_table vocab e.vocab ≡ c → cond (b && c) (e ∷ holders es vocab name) (holders es vocab name) ≡ [] → (holders es vocab name ≡ [] → held es vocab name ≡ None) → cond (b && bytes_eq vocab e.vocab) (Some e) (held es vocab name) ≡ None
+    one true true p q g ih = absurd (cons_nil g)
+    one true false p q g ih = ap (λ (b : Bool). cond b (Some e) (held es vocab name)) (not_own vocab e q) ∙ ih g
+    one false c p q g ih = ih g
+
+new_none : (rows : List Entry) → standing_of rows ≡ New → rows ≡ []
+new_none [] h = refl
+new_none (e ∷ es) h = one (list_any (λ (f : Entry). f.is_defined) (e ∷ es)) h
+  where
+    one : (b : Bool) → standing_with b e.word ≡ New → e ∷ es ≡ []
+    one true g = cc
+    one false g = cc
+
+pub new_held : (table : List Entry) (vocab name : List ℕ) → standing_of (holders table vocab name) ≡ New → held table vocab name ≡ None
+new_held table vocab name h = no_holders table vocab name (new_none (holders table vocab name) h)

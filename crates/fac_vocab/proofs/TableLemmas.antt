@@ -1,15 +1,16 @@
 -- A table that grows, and one of whose names is defined.
 use Rattle.std.proofs.Common.{◌≡◌, ℕ, zero, suc, ◌+◌, ◌-◌, ◌<◌, ◌≤◌, ◌^◌, Bool, true, false, cond, not, ◌||◌, ◌&&◌, List, [], ◌∷◌, ◌++◌, length, Option, Some, None, refl, sym, ap, ◌∙◌, subst, arith, append_assoc, true≢false}
-use Rattle.std.specs.Prelude.{nat_eq, slice_get, slice_set}
+use Rattle.std.specs.Prelude.{nat_eq, drop, get_or, slice_get, slice_set, if◌then◌else◌}
 use Rattle.std.specs.List.{list_any, filter, find, position_from}
 use Rattle.std.specs.Option.{option_map}
 use Rattle.std.specs.Str.{bytes_eq}
 use Rattle.std.specs.Cmp.{unsigned_Decides}
 use Rattle.std.proofs.lemmas.Bool.{ne_eqb}
-use Rattle.std.proofs.lemmas.List.{length_push}
+use Rattle.std.proofs.lemmas.List.{drop_more, length_push}
 use Rattle.std.proofs.lemmas.Slice.Eq.{bytes_eq-Decides}
 use Rattle.fac_lang.specs.Whole.{no_two, same_name}
-use Rattle.fac_vocab.specs.Scopes.{Entry, held, or_else, same_table, holders, now_defined}
+use Rattle.fac_lang.specs.declared.program.WordDef.{WordDef}
+use Rattle.fac_vocab.specs.Scopes.{Entry, entries_from, held, or_else, same_table, holders, now_defined}
 use Rattle.fac_vocab.specs.ScopeCalls.{name_of, names_differ}
 use Rattle.fac_vocab.specs.inner.Rows.{numbers_named, number_if, first_among, first_defined, defined_at}
 use Rattle.fac_vocab.proofs.TextLemmas.{bytes_eq-swap, false_by, both_true, or_false}
@@ -17,7 +18,7 @@ use Rattle.fac_vocab.proofs.RowLemmas.{entry_behind}
 
 -- An entry more.
 
-pub numbers_push : (k : ℕ) (name : List ℕ) (es : List Entry) (e : Entry) → numbers_named k name (es ++ e ∷ []) ≡ (if bytes_eq e.name name then numbers_named k name es ++ (k + length es) ∷ [] else numbers_named k name es)
+numbers_push : (k : ℕ) (name : List ℕ) (es : List Entry) (e : Entry) → numbers_named k name (es ++ e ∷ []) ≡ (if bytes_eq e.name name then numbers_named k name es ++ (k + length es) ∷ [] else numbers_named k name es)
 numbers_push k name [] e = let none : k + 0 ≡ k = omega arith in rw (none, bytes_eq-swap e.name name) refl
 numbers_push k name (x ∷ es) e = one (bytes_eq name x.name) (bytes_eq e.name name) (numbers_push (k + 1) name es e) (let more : k + 1 + length es ≡ k + suc (length es) = omega arith in more)
   where
@@ -28,6 +29,15 @@ numbers_push k name (x ∷ es) e = one (bytes_eq name x.name) (bytes_eq e.name n
     one false true h m = h ∙ ap (λ (n : ℕ). numbers_named (k + 1) name es ++ n ∷ []) m
     one false false h m = h
 
+pub numbers_after : (es : List Entry) (e : Entry) (n : ℕ) (q text : List ℕ) (before after : List ℕ) → text ≡ e.name → n ≡ length es → before ≡ numbers_named 0 q es → after ≡ (if bytes_eq text q then before ++ n ∷ [] else before) → after ≡ numbers_named 0 q (es ++ e ∷ [])
+numbers_after es e n q text before after named counted before_is after_is =
+    let none : 0 + length es ≡ length es = omega arith in
+    after_is
+    ∙ ap (λ (t : List ℕ). cond (bytes_eq t q) (before ++ n ∷ []) before) named
+    ∙ ap (λ (m : ℕ). cond (bytes_eq e.name q) (before ++ m ∷ []) before) (counted ∙ sym none)
+    ∙ ap (λ (ns : List ℕ). cond (bytes_eq e.name q) (ns ++ (0 + length es) ∷ []) ns) before_is
+    ∙ sym (numbers_push 0 q es e)
+
 not_false : (b : Bool) → not b ≡ true → b ≡ false
 not_false true h = absurd (true≢false (sym h))
 not_false false h = refl
@@ -37,7 +47,7 @@ none_some g = cc
 
 -- what a table doesn't hold is no entry of it
 not_held : (es : List Entry) (vocab name : List ℕ) (x : Entry) → bytes_eq name x.name ≡ true → bytes_eq vocab x.vocab ≡ true → held (x ∷ es) vocab name ≡ None → ⊥
-not_held es vocab name x p q h = none_some (sym h ∙ rw (p, q) refl)
+not_held es vocab name x p q h = let there : held (x ∷ es) vocab name ≡ Some x = rw (p, q) refl in none_some (sym h ∙ there)
 
 held_rest : (es : List Entry) (vocab name : List ℕ) (x : Entry) → held (x ∷ es) vocab name ≡ None → held es vocab name ≡ None
 held_rest es vocab name x h = one (bytes_eq name x.name && bytes_eq vocab x.vocab) h
@@ -62,6 +72,24 @@ names_push [] e h n = refl
 names_push (x ∷ es) e h n =
     let both = both_true (not (list_any (λ f. same_name (name_of x) (name_of f)) es)) (names_differ es) h in
     ap (λ (b : Bool). not b && names_differ (es ++ e ∷ [])) (any_alike x e es (not_false (list_any (λ f. same_name (name_of x) (name_of f)) es) both.0) (new_alike x e es n)) ∙ names_push es e both.1 (held_rest es e.vocab e.name x n)
+
+-- an entry in the middle of a table isn't held before it
+before_alike : (x e : Entry) (es rest : List Entry) → list_any (λ f. same_name (name_of x) (name_of f)) (es ++ e ∷ rest) ≡ false → same_name (name_of x) (name_of e) ≡ false
+before_alike x e [] rest h = (or_false (same_name (name_of x) (name_of e)) (list_any (λ f. same_name (name_of x) (name_of f)) rest) h).0
+before_alike x e (y ∷ es) rest h = before_alike x e es rest (or_false (same_name (name_of x) (name_of y)) (list_any (λ f. same_name (name_of x) (name_of f)) (es ++ e ∷ rest)) h).1
+
+alike_swap : (x e : Entry) → same_name (name_of x) (name_of e) ≡ false → (bytes_eq e.name x.name && bytes_eq e.vocab x.vocab) ≡ false
+alike_swap x e h = false_by (bytes_eq e.name x.name && bytes_eq e.vocab x.vocab) (λ g.
+    let both = both_true (bytes_eq e.name x.name) (bytes_eq e.vocab x.vocab) g in
+    let again : same_name (name_of x) (name_of e) ≡ true = rw (bytes_eq-swap x.vocab e.vocab ∙ both.1, bytes_eq-swap x.name e.name ∙ both.0) refl in
+    true≢false (sym again ∙ h))
+
+pub not_before : (es rest : List Entry) (e : Entry) → names_differ (es ++ e ∷ rest) ≡ true → held es e.vocab e.name ≡ None
+not_before [] rest e h = refl
+not_before (x ∷ es) rest e h =
+    let both = both_true (not (list_any (λ f. same_name (name_of x) (name_of f)) (es ++ e ∷ rest))) (names_differ (es ++ e ∷ rest)) h in
+    let other = alike_swap x e (before_alike x e es rest (not_false (list_any (λ f. same_name (name_of x) (name_of f)) (es ++ e ∷ rest)) both.0)) in
+    ap (λ (b : Bool). cond b (Some x) (held es e.vocab e.name)) other ∙ not_before es rest e both.1
 
 -- An entry that is defined now.
 
@@ -198,3 +226,7 @@ settled_at vocab name table n e =
 
 pub settled_none : (vocab name : List ℕ) (table : List Entry) → None ≡ first_among table vocab (numbers_named 0 name table) → table ≡ first_defined table (holders table vocab name)
 settled_none vocab name table e = by_number vocab name table None e ∙ sym (first_holder vocab name table)
+
+-- the entry of a word, and those behind it
+pub entries_step : (k i : ℕ) (ds : List WordDef) (d : WordDef) → i < length ds → d ≡ get_or ds i d → entries_from k (drop i ds) ≡ record { vocab = d.name.vocab; name = d.name.name; word = k; is_defined = true } ∷ entries_from (k + 1) (drop (i + 1) ds)
+entries_step k i ds d h e = ap (entries_from k) (drop_more ds i d h ∙ ap (λ (x : WordDef). x ∷ drop (i + 1) ds) (sym e))

@@ -1,6 +1,6 @@
 -- What the used vocabularies hold under a name.
 use Rattle.std.proofs.Common.{◌≡◌, ℕ, zero, suc, ◌+◌, Bool, true, false, cond, not, ◌||◌, ◌&&◌, List, [], ◌∷◌, ◌++◌, length, take, Option, Some, None, refl, sym, ap, ◌∙◌, subst, arith, append_assoc, length-append, true≢false}
-use Rattle.std.specs.Prelude.{nat_eq, slice_get}
+use Rattle.std.specs.Prelude.{nat_eq, slice_get, Result, Ok, Err, OnOk, OnErr}
 use Rattle.std.specs.List.{list_any, filter, find}
 use Rattle.std.specs.Str.{bytes_eq}
 use Rattle.std.proofs.lemmas.Slice.Eq.{bytes_eq-Decides}
@@ -215,9 +215,13 @@ differ_push (v ∷ vs) w h e =
     let other = or_false (bytes_eq w v) (list_any (bytes_eq w) vs) e in
     ap (λ (b : Bool). not b && no_two bytes_eq (vs ++ w ∷ [])) (any_push v w vs (not_false (list_any (bytes_eq v) vs) both.0) (bytes_eq-swap v w ∙ other.0)) ∙ differ_push vs w both.1 other.1
 
-pub differ_with : (vs : List (List ℕ)) (w : List ℕ) → no_two bytes_eq vs ≡ true → no_two bytes_eq (with_vocab vs w) ≡ true
+differ_with : (vs : List (List ℕ)) (w : List ℕ) → no_two bytes_eq vs ≡ true → no_two bytes_eq (with_vocab vs w) ≡ true
 differ_with vs w h = one (list_any (bytes_eq w) vs) refl
   where
     one : (b : Bool) → list_any (bytes_eq w) vs ≡ b → no_two bytes_eq (cond b vs (vs ++ w ∷ [])) ≡ true
     one true e = h
     one false e = differ_push vs w h e
+
+pub differ_kept : {E : Type 0} (r : Result Unit E) (old new : List (List ℕ)) (t : List ℕ) → no_two bytes_eq old ≡ true → OnOk r (new ≡ with_vocab old t) → OnErr r (new ≡ old) → no_two bytes_eq new ≡ true
+differ_kept (Ok done) old new t h ok err = ap (no_two bytes_eq) ok ∙ differ_with old t h
+differ_kept (Err e) old new t h ok err = ap (no_two bytes_eq) err ∙ h

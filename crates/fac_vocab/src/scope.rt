@@ -57,10 +57,9 @@ fn table_of(alloc: Global, words: &[WordDef]) -> Result<Table, Memory>
     ensures { IfOk result (λ table. table ≡ entries_from 0 words.now) }
 {
     let mut table = Table::new(alloc);
-    let mut number = 0;
     for word in words {
+        let number = table.len();
         table.add(alloc, &word.name, number, true)?;
-        number += 1;
     }
     Ok(table)
 }

@@ -107,6 +107,13 @@ impl Table {
         self.entries.as_slice()
     }
 
+    /// The number of entries.
+    pub fn len(&self) -> u32
+        ensures { result ≡ length self.now }
+    {
+        self.entries.len() as u32
+    }
+
     /// The numbers of the entries of a name, in their order.
     pub fn numbers(&self, name: &str) -> &[u32]
         ensures { result.now ≡ numbers_named 0 name.now self.now }
@@ -152,12 +159,12 @@ impl Table {
         ensures ok { OnOk result (self.new ≡ self.old ++ record { vocab = name.now.vocab; name = name.now.name; word = word; is_defined = is_defined } ∷ []) }
         ensures err { OnErr result (self.new ≡ self.old) }
     {
-        let number = self.entries.len();
-        if number >= u32::MAX as usize {
+        let number = self.len();
+        if number == u32::MAX {
             return Err(Memory);
         }
         self.entries.push(entry_of(alloc, name, word, is_defined)?)?;
-        match add_number(alloc, &mut self.index, name.name.as_str(), number as u32) {
+        match add_number(alloc, &mut self.index, name.name.as_str(), number) {
             Ok(_) => Ok(()),
             Err(_) => {
                 self.entries.pop();
