@@ -100,4 +100,14 @@ impl BroughtNames {
         self.forms.push(form)?;
         Ok(())
     }
+
+    /// Adds what several forms bring, the latest being the last.
+    pub fn add_all(&mut self, forms: Vec<Brought>) -> Result<(), Memory>
+        ensures ok { OnOk result (self.new ≡ reverse forms.items ++ self.old) }
+        ensures err { OnErr result (self.new ≡ self.old) }
+    {
+        let mut more = forms;
+        self.forms.append(&mut more)?;
+        Ok(())
+    }
 }
