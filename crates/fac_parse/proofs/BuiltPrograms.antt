@@ -28,8 +28,8 @@ use Rattle.fac_lang.specs.declared.tree.Term.{Term}
 use Rattle.fac_lang.specs.declared.tree.Term.TheVariants as term
 use Rattle.fac_lang.specs.declared.tree.WrittenEffect.{WrittenEffect}
 use Rattle.fac_parse.specs.declared.resolver.NameFault.{NameFault}
-use Rattle.fac_parse.specs.Resolution.{words_from, known_words, first_names, held_from, or_else, held_by, current, found, own_name, is_taken, uses, result_map, word_item, item_of, term_place, Following, with_item, with_quotation, opened, closed, following, phrase_of, token_texts, is_star, leaving_of, effect_of, is_inline, is_recursive, defined_word, Contents, after_uses, with_top_item, with_defined, unless_taken, contents_of, top_word, program_of}
-use Rattle.fac_parse.specs.Trees.{token_text, IsEffect, IsWellFormed}
+use Rattle.fac_parse.specs.Resolution.{words_from, known_words, first_names, held_from, or_else, held_by, current, found, own_name, is_taken, uses, result_map, word_item, item_of, term_place, Following, with_item, with_quotation, opened, closed, following, phrase_of, token_texts, is_star, leaving_of, effect_of, is_inline, is_recursive, defined_word, Contents, after_uses, with_top_item, with_defined, unless_taken, Behind, contents_of, first_used, files_contents, top_word, program_of}
+use Rattle.fac_parse.specs.Trees.{token_text, IsEffect, IsWellFormed, AreWellFormed}
 use Rattle.fac_parse.proofs.KnownNameLemmas.{names_counted}
 
 -- What a name finds is known.
@@ -209,24 +209,32 @@ definition_builds bound k false name effect mark (Ok t) (Ok d) fits phrase later
 at_length : (bound : ℕ) (known : List FullName) (x : FullName) (r : Result Contents NameFault) → BuildsWithin bound (length (known ++ x ∷ [])) r → BuildsWithin bound (length known + 1) r
 at_length bound known x r h = subst (λ (k : ℕ). BuildsWithin bound k r) (length_push known x) h
 
-contents_build : (bound : ℕ) (forms : List Form) (known : List FullName) (used : List (List ℕ)) → IsWellFormed forms → BuildsWithin bound (length known) (contents_of known used forms)
-contents_build bound [] known used fits = λ c e few. let same : record { words = []; phrase = end } ≡ c = cc in subst (AreBuilt bound) same (tt, tt)
-contents_build bound (form.Using opens vocabs closes ∷ forms) known used fits =
-    uses_build bound (length known) (uses used vocabs) (λ more. contents_of known more forms) (λ more. contents_build bound forms known more fits.1)
-contents_build bound (form.Define opens name effect items closes mark ∷ forms) known used fits =
+-- where what is behind them is built, forms are
+abbrev BuildsBehind : ℕ → Behind → Type 0
+BuildsBehind bound behind = (known : List FullName) → BuildsWithin bound (length known) (behind known)
+
+contents_build : (bound : ℕ) (forms : List Form) (known : List FullName) (used : List (List ℕ)) (behind : Behind) → IsWellFormed forms → BuildsBehind bound behind → BuildsWithin bound (length known) (contents_of known used forms behind)
+contents_build bound [] known used behind fits later = later known
+contents_build bound (form.Using opens vocabs closes ∷ forms) known used behind fits later =
+    uses_build bound (length known) (uses used vocabs) (λ more. contents_of known more forms behind) (λ more. contents_build bound forms known more behind fits.1 later)
+contents_build bound (form.Define opens name effect items closes mark ∷ forms) known used behind fits later =
     let x = own_name (token_text name.kind) in
     let more = known ++ x ∷ [] in
-    definition_builds bound (length known) (is_taken known (token_text name.kind)) name effect mark (phrase_of more used items) (contents_of more used forms) fits.0.1
+    definition_builds bound (length known) (is_taken known (token_text name.kind)) name effect mark (phrase_of more used items) (contents_of more used forms behind) fits.0.1
     (λ t few h. phrase_built bound more used items t (let pushed = length_push known x in omega (arith, pushed, few)) h)
-    (at_length bound known x (contents_of more used forms) (contents_build bound forms more used fits.1))
-contents_build bound (form.Item item ∷ forms) known used fits =
-    item_builds bound (length known) (item_of known used item) (term_place item) (contents_of known used forms) (λ i few h. item_built bound known used item i few h) (contents_build bound forms known used fits.1)
-contents_build bound (form.Quotation opens items closes ∷ forms) known used fits =
-    item_builds bound (length known) (result_map quot (phrase_of known used items)) opens (contents_of known used forms) (λ i few h. quoted_built bound (phrase_of known used items) i (λ t e. phrase_built bound known used items t few e) h) (contents_build bound forms known used fits.1)
+    (at_length bound known x (contents_of more used forms behind) (contents_build bound forms more used behind fits.1 later))
+contents_build bound (form.Item item ∷ forms) known used behind fits later =
+    item_builds bound (length known) (item_of known used item) (term_place item) (contents_of known used forms behind) (λ i few h. item_built bound known used item i few h) (contents_build bound forms known used behind fits.1 later)
+contents_build bound (form.Quotation opens items closes ∷ forms) known used behind fits later =
+    item_builds bound (length known) (result_map quot (phrase_of known used items)) opens (contents_of known used forms behind) (λ i few h. quoted_built bound (phrase_of known used items) i (λ t e. phrase_built bound known used items t few e) h) (contents_build bound forms known used behind fits.1 later)
 
--- what the forms of a file make, with the number of the top-level phrase as the bound
-pub contents_built : (forms : List Form) (used : List (List ℕ)) (c : Contents) → IsWellFormed forms → contents_of first_names used forms ≡ Ok c → AreOwnWords (length known_words + length c.words) c.words × IsBuiltPhrase (length known_words + length c.words) c.phrase
-contents_built forms used c fits e = contents_build (length known_words + length c.words) forms first_names used fits c e (let counted = names_counted known_words in omega (arith, counted))
+files_build : (bound : ℕ) (files : List (List Form)) → AreWellFormed files → BuildsBehind bound (λ known. files_contents known files)
+files_build bound [] fits = λ known c e few. let same : record { words = []; phrase = end } ≡ c = cc in subst (AreBuilt bound) same (tt, tt)
+files_build bound (forms ∷ files) fits = λ known. contents_build bound forms known first_used (λ more. files_contents more files) fits.0 (files_build bound files fits.1)
+
+-- what the forms of files make, with the number of the top-level phrase as the bound
+pub contents_built : (files : List (List Form)) (c : Contents) → AreWellFormed files → files_contents first_names files ≡ Ok c → AreOwnWords (length known_words + length c.words) c.words × IsBuiltPhrase (length known_words + length c.words) c.phrase
+contents_built files c fits e = files_build (length known_words + length c.words) files fits first_names c e (let counted = names_counted known_words in omega (arith, counted))
 
 -- Words that are known from the start.
 

@@ -16,6 +16,7 @@ use Rattle.fac_lang.specs.declared.tree.Element.{Element}
 use Rattle.fac_lang.specs.declared.tree.Element.TheVariants as element
 use Rattle.fac_lang.specs.declared.tree.Term.{Term}
 use Rattle.fac_lang.specs.declared.tree.Term.TheVariants as term
+use Rattle.fac_lang.specs.declared.tree.Tree.{Tree}
 use Rattle.fac_lang.specs.declared.tree.WrittenEffect.{WrittenEffect}
 use Rattle.fac_parse.specs.declared.resolver.NameFault.{NameFault}
 use Rattle.fac_parse.specs.declared.resolver.NameKind.TheVariants.{Twice}
@@ -24,9 +25,9 @@ use Rattle.fac_parse.specs.declared.resolver.ResolveFault.TheVariants.{Name, Mem
 use Rattle.fac_parse.specs.declared.resolver.OpenQuotation.{OpenQuotation}
 use Rattle.fac_parse.specs.declared.resolver.Nest.{Nest}
 use Rattle.fac_parse.specs.declared.resolver.SoFar.{SoFar}
-use Rattle.fac_parse.specs.Resolution.{known_words, found, own_name, is_taken, name_fault, result_map, word_item, item_of, term_place, Following, with_item, opened, closed, following, phrase_of, defined_word, Contents, with_top_item, with_defined, unless_taken, contents_of, file_contents}
-use Rattle.fac_parse.specs.inner.Resolver.{found_item, term_item, with_new, TakesItem, items_before, enclosed, nested, after_nest, Closes, IsAdded, TakesElement, ReadsPhrase, after_made, contents_after, defining, IsDefined, DefinitionFails, Defines, TakesQuotation, TakesForm, ReadsForms}
-use Rattle.fac_parse.specs.Trees.{token_text, Lead, IsForm, IsWellFormed}
+use Rattle.fac_parse.specs.Resolution.{known_words, found, own_name, is_taken, name_fault, result_map, word_item, item_of, term_place, Following, with_item, opened, closed, following, phrase_of, defined_word, Contents, with_top_item, with_defined, unless_taken, Behind, contents_of, first_names, files_contents}
+use Rattle.fac_parse.specs.inner.Resolver.{found_item, term_item, with_new, TakesItem, items_before, enclosed, nested, after_nest, Closes, IsAdded, TakesElement, ReadsPhrase, after_made, contents_after, defining, IsDefined, DefinitionFails, Defines, TakesQuotation, TakesForm, TakesForms, files_after, TakesFile, all_contents, ReadsFiles}
+use Rattle.fac_parse.specs.Trees.{token_text, Lead, IsForm, IsWellFormed, forms_of, AreWellFormed}
 
 items_before-push : (items : List PlacedItem) (i : PlacedItem) (t : Phrase) → items_before items (then (what_item i.what) i.place t) ≡ items_before (items ++ i ∷ []) t
 items_before-push [] i t = refl
@@ -177,31 +178,31 @@ record SameBut (s s_then : SoFar) : Type 0 where
   used : s_then.used ≡ s.used
   words : s_then.words ≡ s.words
 
-rest_same : (s s_then : SoFar) (rest : List Form) → SameBut s s_then → after_made s.words s_then.items.items (contents_of s.names s.used rest) ≡ contents_after s_then rest
-rest_same s s_then rest same =
-    ap (λ (ws : List WordDef). after_made ws s_then.items.items (contents_of s.names s.used rest)) (sym same.words)
-    ∙ ap (λ (o : List FullName). after_made s_then.words s_then.items.items (contents_of o s.used rest)) (sym same.names)
-    ∙ ap (λ (u : List (List ℕ)). after_made s_then.words s_then.items.items (contents_of s_then.names u rest)) (sym same.used)
+rest_same : (s s_then : SoFar) (rest : List Form) (behind : Behind) → SameBut s s_then → after_made s.words s_then.items.items (contents_of s.names s.used rest behind) ≡ contents_after s_then rest behind
+rest_same s s_then rest behind same =
+    ap (λ (ws : List WordDef). after_made ws s_then.items.items (contents_of s.names s.used rest behind)) (sym same.words)
+    ∙ ap (λ (o : List FullName). after_made s_then.words s_then.items.items (contents_of o s.used rest behind)) (sym same.names)
+    ∙ ap (λ (u : List (List ℕ)). after_made s_then.words s_then.items.items (contents_of s_then.names u rest behind)) (sym same.used)
 
 top_item_taken : (e : Result Unit ResolveFault) (s s_then : SoFar) (item : Term) → TakesItem s.names s.used item s.items.items s_then.items.items e → SameBut s s_then → TakesForm s (form.Item item) s_then e
-top_item_taken (Ok done) s s_then item h same = λ rest.
-    ap (after_made s.words s.items.items) (item_on_top s.names s.used item (contents_of s.names s.used rest))
-    ∙ top_taken (term_item s.names s.used item) s.words s.items.items s_then.items.items (contents_of s.names s.used rest) h
-    ∙ rest_same s s_then rest same
-top_item_taken (Err (Name fault)) s s_then item h same = λ rest.
-    item_on_top s.names s.used item (contents_of s.names s.used rest) ∙ ap (λ (r : Result PlacedItem NameFault). placed_on_top r (contents_of s.names s.used rest)) h
+top_item_taken (Ok done) s s_then item h same = λ rest behind.
+    ap (after_made s.words s.items.items) (item_on_top s.names s.used item (contents_of s.names s.used rest behind))
+    ∙ top_taken (term_item s.names s.used item) s.words s.items.items s_then.items.items (contents_of s.names s.used rest behind) h
+    ∙ rest_same s s_then rest behind same
+top_item_taken (Err (Name fault)) s s_then item h same = λ rest behind.
+    item_on_top s.names s.used item (contents_of s.names s.used rest behind) ∙ ap (λ (r : Result PlacedItem NameFault). placed_on_top r (contents_of s.names s.used rest behind)) h
 top_item_taken (Err Memory) s s_then item h same = tt
 
 pub item_form : (e : Result Unit ResolveFault) (s s_then : SoFar) (f : Form) (item : Term) → f ≡ form.Item item → TakesItem s.names s.used item s.items.items s_then.items.items e → s_then.names ≡ s.names → s_then.used ≡ s.used → s_then.words ≡ s.words → TakesForm s f s_then e
 item_form e s s_then f item is h names used words = subst (λ (g : Form). TakesForm s g s_then e) (sym is) (top_item_taken e s s_then item h (record { names = names; used = used; words = words }))
 
 top_quotation_taken : (e : Result Unit ResolveFault) (s s_then : SoFar) (opens closes : Place) (items : List Element) → TakesQuotation s.names s.used opens items s.items.items s_then.items.items e → SameBut s s_then → TakesForm s (form.Quotation opens items closes) s_then e
-top_quotation_taken (Ok done) s s_then opens closes items h same = λ rest.
+top_quotation_taken (Ok done) s s_then opens closes items h same = λ rest behind.
     let phrase = phrase_of s.names s.used items in
-    ap (after_made s.words s.items.items) (quotation_on_top phrase opens (contents_of s.names s.used rest))
-    ∙ top_taken (result_map (λ (t : Phrase). record { what = Quot t; place = opens }) phrase) s.words s.items.items s_then.items.items (contents_of s.names s.used rest) h
-    ∙ rest_same s s_then rest same
-top_quotation_taken (Err (Name fault)) s s_then opens closes items h same = λ rest. ap (λ (r : Result Phrase NameFault). with_top_item (result_map quot r) opens (contents_of s.names s.used rest)) h
+    ap (after_made s.words s.items.items) (quotation_on_top phrase opens (contents_of s.names s.used rest behind))
+    ∙ top_taken (result_map (λ (t : Phrase). record { what = Quot t; place = opens }) phrase) s.words s.items.items s_then.items.items (contents_of s.names s.used rest behind) h
+    ∙ rest_same s s_then rest behind same
+top_quotation_taken (Err (Name fault)) s s_then opens closes items h same = λ rest behind. ap (λ (r : Result Phrase NameFault). with_top_item (result_map quot r) opens (contents_of s.names s.used rest behind)) h
 top_quotation_taken (Err Memory) s s_then opens closes items h same = tt
 
 pub quotation_form : (e : Result Unit ResolveFault) (s s_then : SoFar) (f : Form) (opens closes : Place) (listed items : List Element) → f ≡ form.Quotation opens items closes → listed ≡ items → TakesQuotation s.names s.used opens listed s.items.items s_then.items.items e → s_then.names ≡ s.names → s_then.used ≡ s.used → s_then.words ≡ s.words → TakesForm s f s_then e
@@ -210,18 +211,18 @@ quotation_form e s s_then f opens closes listed items is same h names used words
 
 -- Definitions.
 
-definition_is : (s : SoFar) (name : Token) (effect : WrittenEffect) (items : List Element) (mark : Option Mark) (opens closes : Place) (rest : List Form) → contents_of s.names s.used (form.Define opens name effect items closes mark ∷ rest) ≡ defining s name effect items mark (contents_of (s.names ++ own_name (token_text name.kind) ∷ []) s.used rest)
-definition_is s name effect items mark opens closes rest = refl
+definition_is : (s : SoFar) (name : Token) (effect : WrittenEffect) (items : List Element) (mark : Option Mark) (opens closes : Place) (rest : List Form) (behind : Behind) → contents_of s.names s.used (form.Define opens name effect items closes mark ∷ rest) behind ≡ defining s name effect items mark (contents_of (s.names ++ own_name (token_text name.kind) ∷ []) s.used rest behind)
+definition_is s name effect items mark opens closes rest behind = refl
 
 definition_taken : (e : Result Unit ResolveFault) (s s_then : SoFar) (name : Token) (effect : WrittenEffect) (items : List Element) (mark : Option Mark) (opens closes : Place) → Defines s name effect items mark s_then e → TakesForm s (form.Define opens name effect items closes mark) s_then e
-definition_taken (Ok done) s s_then name effect items mark opens closes h = λ rest.
+definition_taken (Ok done) s s_then name effect items mark opens closes h = λ rest behind.
     let names = s.names ++ own_name (token_text name.kind) ∷ [] in
-    ap (after_made s.words s.items.items) (definition_is s name effect items mark opens closes rest)
-    ∙ h.made (contents_of names s.used rest)
-    ∙ ap (λ (o : List FullName). after_made s_then.words s_then.items.items (contents_of o s.used rest)) (sym h.names)
-    ∙ ap (λ (u : List (List ℕ)). after_made s_then.words s_then.items.items (contents_of s_then.names u rest)) (sym h.used)
-definition_taken (Err (Name fault)) s s_then name effect items mark opens closes h = λ rest.
-    definition_is s name effect items mark opens closes rest ∙ h (contents_of (s.names ++ own_name (token_text name.kind) ∷ []) s.used rest)
+    ap (after_made s.words s.items.items) (definition_is s name effect items mark opens closes rest behind)
+    ∙ h.made (contents_of names s.used rest behind)
+    ∙ ap (λ (o : List FullName). after_made s_then.words s_then.items.items (contents_of o s.used rest behind)) (sym h.names)
+    ∙ ap (λ (u : List (List ℕ)). after_made s_then.words s_then.items.items (contents_of s_then.names u rest behind)) (sym h.used)
+definition_taken (Err (Name fault)) s s_then name effect items mark opens closes h = λ rest behind.
+    definition_is s name effect items mark opens closes rest behind ∙ h (contents_of (s.names ++ own_name (token_text name.kind) ∷ []) s.used rest behind)
 definition_taken (Err Memory) s s_then name effect items mark opens closes h = tt
 
 pub definition_form : (e : Result Unit ResolveFault) (s s_then : SoFar) (f : Form) (name : Token) (effect : WrittenEffect) (listed items : List Element) (mark : Option Mark) (opens closes : Place) → f ≡ form.Define opens name effect items closes mark → listed ≡ items → Defines s name effect listed mark s_then e → TakesForm s f s_then e
@@ -262,11 +263,7 @@ definition_done s s_then name effect items mark phrase new names h words used sa
       used = used;
     }
 
--- All forms.
-
-only_fault : (words : List WordDef) (items : List PlacedItem) (r : Result Contents NameFault) (fault : NameFault) → after_made words items r ≡ Err fault → r ≡ Err fault
-only_fault words items (Ok c) fault e = cc
-only_fault words items (Err f) fault e = e
+-- All forms of a file.
 
 -- a form of a tree is well-formed
 pub form_at : (forms rest : List Form) (f : Form) (n : ℕ) → IsWellFormed forms → drop n forms ≡ f ∷ rest → IsForm f
@@ -275,14 +272,40 @@ form_at [] rest f (suc n) h e = cc
 form_at (g ∷ forms) rest f zero h e = let same : g ≡ f = cc in subst IsForm same h.0
 form_at (g ∷ forms) rest f (suc n) h e = form_at forms rest f n h.1 e
 
--- a refused form ends the reading
-pub form_fails : (e : ResolveFault) (forms rest : List Form) (f : Form) (s s_then : SoFar) (n : ℕ) → after_made known_words [] (file_contents forms) ≡ contents_after s (drop n forms) → drop n forms ≡ f ∷ rest → TakesForm s f s_then (Err e) → ReadsForms forms (Err e)
-form_fails (Name fault) forms rest f s s_then n so_far next h =
-    only_fault known_words [] (file_contents forms) fault (so_far ∙ ap (contents_after s) next ∙ ap (after_made s.words s.items.items) (h rest))
-form_fails Memory forms rest f s s_then n so_far next h = tt
+only_fault : (words : List WordDef) (items : List PlacedItem) (r : Result Contents NameFault) (fault : NameFault) → after_made words items r ≡ Err fault → r ≡ Err fault
+only_fault words items (Ok c) fault e = cc
+only_fault words items (Err f) fault e = e
 
-pub forms_end : (forms : List Form) (s : SoFar) (n : ℕ) → after_made known_words [] (file_contents forms) ≡ contents_after s (drop n forms) → drop n forms ≡ [] → ReadsForms forms (Ok s)
-forms_end forms s n so_far none =
-    so_far ∙ ap (contents_after s) none
+-- what forms make is what they make from here on
+abbrev pub Continues : SoFar → List Form → SoFar → List Form → Type 0
+Continues s forms s_here rest = (behind : Behind) → contents_after s forms behind ≡ contents_after s_here rest behind
+
+-- a refused form ends the reading
+pub form_fails : (e : ResolveFault) (first s s_then : SoFar) (forms rest : List Form) (f : Form) (n : ℕ) → Continues first forms s (drop n forms) → drop n forms ≡ f ∷ rest → TakesForm s f s_then (Err e) → TakesForms first forms s_then (Err e)
+form_fails (Name fault) first s s_then forms rest f n so_far next h = λ behind.
+    only_fault first.words first.items.items (contents_of first.names first.used forms behind) fault (so_far behind ∙ ap (λ (fs : List Form). contents_after s fs behind) next ∙ ap (after_made s.words s.items.items) (h rest behind))
+form_fails Memory first s s_then forms rest f n so_far next h = tt
+
+pub forms_end : (first s : SoFar) (forms : List Form) (n : ℕ) → Continues first forms s (drop n forms) → drop n forms ≡ [] → TakesForms first forms s (Ok tt)
+forms_end first s forms n so_far none = λ behind. so_far behind ∙ ap (λ (fs : List Form). contents_after s fs behind) none
+
+-- Files.
+
+-- a tree of several is well-formed
+pub file_at : (trees rest : List Tree) (t : Tree) (n : ℕ) → AreWellFormed (forms_of trees) → drop n trees ≡ t ∷ rest → IsWellFormed t.forms
+file_at [] rest t zero h e = cc
+file_at [] rest t (suc n) h e = cc
+file_at (u ∷ trees) rest t zero h e = let same : u ≡ t = cc in subst (λ (x : Tree). IsWellFormed x.forms) same h.0
+file_at (u ∷ trees) rest t (suc n) h e = file_at trees rest t n h.1 e
+
+-- a refused file ends the reading
+pub file_fails : (e : ResolveFault) (trees rest : List Tree) (t : Tree) (s s_then : SoFar) (n : ℕ) → all_contents (forms_of trees) ≡ files_after s (forms_of (drop n trees)) → drop n trees ≡ t ∷ rest → TakesFile s t.forms s_then (Err e) → ReadsFiles (forms_of trees) (Err e)
+file_fails (Name fault) trees rest t s s_then n so_far next h =
+    only_fault known_words [] (files_contents first_names (forms_of trees)) fault (so_far ∙ ap (λ (ts : List Tree). files_after s (forms_of ts)) next ∙ ap (after_made s.words s.items.items) (h (forms_of rest)))
+file_fails Memory trees rest t s s_then n so_far next h = tt
+
+pub files_end : (trees : List Tree) (s : SoFar) (n : ℕ) → all_contents (forms_of trees) ≡ files_after s (forms_of (drop n trees)) → drop n trees ≡ [] → ReadsFiles (forms_of trees) (Ok s)
+files_end trees s n so_far none =
+    so_far ∙ ap (λ (ts : List Tree). files_after s (forms_of ts)) none
     ∙ ap (λ (ws : List WordDef). Ok (record { words = ws; phrase = items_before s.items.items end })) (append-nil s.words)
     ∙ ap (λ (t : Phrase). Ok (record { words = s.words; phrase = t })) (items_before-end s.items.items)

@@ -18,6 +18,7 @@ use Rattle.fac_lang.specs.declared.tree.WrittenEffect.{WrittenEffect}
 use Rattle.fac_parse.specs.declared.spelling.Spelling.TheVariants as spelled
 use Rattle.fac_parse.specs.declared.reader.ParseFault.{ParseFault}
 use Rattle.fac_parse.specs.declared.reader.ParseFault.TheVariants.{Syntax, Memory}
+use Rattle.fac_parse.specs.declared.reader.Why.{Why}
 use Rattle.fac_parse.specs.declared.reader.Why.TheVariants.{Other}
 use Rattle.fac_parse.specs.Spellings.{token_spelling, is_value_name}
 
@@ -124,6 +125,16 @@ abbrev pub IsWellFormed : List Form → Type 0
 IsWellFormed [] = Unit {0}
 IsWellFormed (form ∷ forms) = IsForm form × IsWellFormed forms
 
+-- the forms of each of these trees
+abbrev pub forms_of : List Tree → List (List Form)
+forms_of [] = []
+forms_of (tree ∷ trees) = tree.forms ∷ forms_of trees
+
+-- the forms of several files
+abbrev pub AreWellFormed : List (List Form) → Type 0
+AreWellFormed [] = Unit {0}
+AreWellFormed (forms ∷ files) = IsWellFormed forms × AreWellFormed files
+
 -- these are the tokens of this tree
 pub record Reads (tokens : List Token) (forms : List Form) : Type 0 where
   pub fits : IsWellFormed forms
@@ -134,10 +145,14 @@ abbrev pub file_of : List Token → ℕ
 file_of [] = 0
 file_of (token ∷ tokens) = token.place.file
 
+-- no tree has these tokens, which is told as a place and what is wrong there
+abbrev pub Misses : List Token → ℕ → Why → Type 0
+Misses tokens at why = (at ≡ 0) × (why ≡ Other) × ((forms : List Form) → Reads tokens forms → ⊥)
+
 -- the tree of these tokens, or that no tree has them
 abbrev pub Parses : List Token → Result Tree ParseFault → Type 0
 Parses tokens (Ok tree) = Reads tokens tree.forms × (tree.file ≡ file_of tokens)
-Parses tokens (Err (Syntax at why)) = (at ≡ 0) × (why ≡ Other) × ((forms : List Form) → Reads tokens forms → ⊥)
+Parses tokens (Err (Syntax at why)) = Misses tokens at why
 Parses tokens (Err Memory) = Unit {0}
 
 -- no two trees have the same tokens

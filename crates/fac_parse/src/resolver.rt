@@ -1,11 +1,11 @@
 //! Names to words.
-ghost use Rattle.std.specs.Prelude.{◌≡◌, ◌<◌, ◌-◌, ◌++◌, ◌∷◌, [], codes, length, IfOk, OnOk};
+ghost use Rattle.std.specs.Prelude.{◌≡◌, ◌<◌, ◌-◌, ◌++◌, ◌∷◌, [], length, IfOk, OnOk};
 ghost use Rattle.fac_lang.specs.Forms.{IsBuilt};
 ghost use Rattle.fac_lang.specs.PhraseView.{items_phrase};
 ghost use Rattle.fac_lang.specs.Whole.{IsWhole};
-ghost use Rattle.fac_parse.specs.Resolution.{known_words, first_names, name_fault, defined_word, top_word, Resolves};
-ghost use Rattle.fac_parse.specs.inner.Resolver.{Uses, TakesItem, Closes, IsClosable, TakesElement, AreClosed, ReadsPhrase, TakesQuotation, Defines, TakesForm, IsFirst, TakesForms, ReadsForms, program_with};
-ghost use Rattle.fac_parse.specs.Trees.{AreItems, most_levels, IsForm, IsWellFormed};
+ghost use Rattle.fac_parse.specs.Resolution.{known_words, first_names, first_used, name_fault, defined_word, top_word, Resolves};
+ghost use Rattle.fac_parse.specs.inner.Resolver.{Uses, TakesItem, Closes, IsClosable, TakesElement, AreClosed, ReadsPhrase, TakesQuotation, Defines, TakesForm, TakesForms, TakesFile, IsFirst, TakesFiles, ReadsFiles, program_with};
+ghost use Rattle.fac_parse.specs.Trees.{AreItems, most_levels, IsForm, IsWellFormed, forms_of, AreWellFormed};
 
 use crate::built_words::{defined, first_words, phrase_word};
 use crate::known_names::KnownNames;
@@ -70,14 +70,14 @@ fn refusal(alloc: Global, kind: NameKind, token: &Token) -> Result<NameFault, Me
     })
 }
 
-// What a file has made so far.
+// What the files have made so far.
 #[derive(Drop)]
 struct SoFar {
     // The used vocabularies.
     used: TextSet,
     // The names of the words.
     names: KnownNames,
-    // The words that there are from the start, and those that the file has defined.
+    // The words that there are from the start, and those that the files have defined.
     words: List<WordDef>,
     // The items at the top level.
     items: Vec<Item>,
@@ -323,16 +323,39 @@ fn take_form(alloc: Global, so_far: &mut SoFar, form: &Form) -> Result<(), Resol
     }
 }
 
-// The vocabularies that are used before the first form.
-fn first_used(alloc: Global) -> Result<TextSet, Memory>
-    ensures { IfOk result (λ used. used ≡ codes "syntax" ∷ []) }
+// Takes forms, one behind the other.
+fn take_forms(alloc: Global, so_far: &mut SoFar, forms: &[Form]) -> Result<(), ResolveFault>
+    requires { IsWellFormed forms.now }
+    ensures { TakesForms so_far.old forms.now so_far.new result }
+{
+    for form in forms {
+        match take_form(alloc, so_far, form) {
+            Ok(()) => {}
+            Err(fault) => return Err(fault),
+        }
+    }
+    Ok(())
+}
+
+// The vocabularies that are used where a file begins.
+fn first_vocabs(alloc: Global) -> Result<TextSet, Memory>
+    ensures { IfOk result (λ used. used ≡ first_used) }
 {
     let mut used = TextSet::new(alloc);
     used.add(alloc, "syntax")?;
     Ok(used)
 }
 
-// The words that there are before the first form, and their names.
+// Takes the forms of a file.
+fn take_file(alloc: Global, so_far: &mut SoFar, forms: &[Form]) -> Result<(), ResolveFault>
+    requires { IsWellFormed forms.now }
+    ensures { TakesFile so_far.old forms.now so_far.new result }
+{
+    so_far.used = first_vocabs(alloc)?;
+    take_forms(alloc, so_far, forms)
+}
+
+// The words that there are before the first file, and their names.
 fn first_known(alloc: Global) -> Result<(List<WordDef>, KnownNames), Memory>
     ensures words { IfOk result (λ known. known.0 ≡ known_words) }
     ensures names { IfOk result (λ known. known.1 ≡ first_names) }
@@ -344,30 +367,27 @@ fn first_known(alloc: Global) -> Result<(List<WordDef>, KnownNames), Memory>
     }
 }
 
-// What there is before the first form.
+// What there is before the first file.
 fn first(alloc: Global) -> Result<SoFar, Memory>
     ensures { IfOk result (λ so_far. IsFirst so_far) }
 {
-    let used = first_used(alloc)?;
-    match first_known(alloc) {
-        Ok((words, names)) => Ok(SoFar {
-            used,
-            names,
-            words,
-            items: Vec::new(alloc),
-        }),
-        Err(Memory) => Err(Memory),
-    }
+    let (words, names) = first_known(alloc)?;
+    Ok(SoFar {
+        used: TextSet::new(alloc),
+        names,
+        words,
+        items: Vec::new(alloc),
+    })
 }
 
-// Takes all forms of a file.
-fn take_forms(alloc: Global, so_far: &mut SoFar, forms: &[Form]) -> Result<(), ResolveFault>
-    requires well_formed { IsWellFormed forms.now }
+// Takes all files.
+fn take_files(alloc: Global, so_far: &mut SoFar, trees: &[Tree]) -> Result<(), ResolveFault>
+    requires well_formed { AreWellFormed (forms_of trees.now) }
     requires first { IsFirst so_far.old }
-    ensures { TakesForms forms.now so_far.new result }
+    ensures { TakesFiles (forms_of trees.now) so_far.new result }
 {
-    for form in forms {
-        match take_form(alloc, so_far, form) {
+    for tree in trees {
+        match take_file(alloc, so_far, tree.forms.as_slice()) {
             Ok(()) => {}
             Err(fault) => return Err(fault),
         }
@@ -375,13 +395,13 @@ fn take_forms(alloc: Global, so_far: &mut SoFar, forms: &[Form]) -> Result<(), R
     Ok(())
 }
 
-// What the forms of a file make.
-fn read_forms(alloc: Global, forms: &[Form]) -> Result<SoFar, ResolveFault>
-    requires { IsWellFormed forms.now }
-    ensures { ReadsForms forms.now result }
+// What the files make.
+fn read_files(alloc: Global, trees: &[Tree]) -> Result<SoFar, ResolveFault>
+    requires { AreWellFormed (forms_of trees.now) }
+    ensures { ReadsFiles (forms_of trees.now) result }
 {
     let mut so_far = first(alloc)?;
-    match take_forms(alloc, &mut so_far, forms) {
+    match take_files(alloc, &mut so_far, trees) {
         Ok(()) => Ok(so_far),
         Err(fault) => Err(fault),
     }
@@ -408,7 +428,7 @@ fn with_phrase(alloc: Global, mut words: List<WordDef>, body: Phrase) -> Result<
     })
 }
 
-// The words and the items of what a file made.
+// The words and the items of what the files made.
 fn contents(so_far: SoFar) -> (List<WordDef>, Vec<Item>)
     ensures words { result.0 ≡ so_far.words }
     ensures items { result.1.items ≡ so_far.items.items }
@@ -417,7 +437,7 @@ fn contents(so_far: SoFar) -> (List<WordDef>, Vec<Item>)
     (words, items)
 }
 
-// The program of what a file made.
+// The program of what the files made.
 fn completed(alloc: Global, so_far: SoFar) -> Result<Program, Memory>
     ensures { IfOk result (λ program. program ≡ program_with so_far.words (items_phrase so_far.items.items)) }
 {
@@ -425,26 +445,28 @@ fn completed(alloc: Global, so_far: SoFar) -> Result<Program, Memory>
     with_phrase(alloc, words, Phrase { items })
 }
 
-// The program of a file's forms.
-fn program_of(alloc: Global, forms: &[Form]) -> Result<Program, ResolveFault>
-    requires { IsWellFormed forms.now }
-    ensures { Resolves forms.now result }
+// The program of the forms of files.
+fn program_of(alloc: Global, trees: &[Tree]) -> Result<Program, ResolveFault>
+    requires { AreWellFormed (forms_of trees.now) }
+    ensures { Resolves (forms_of trees.now) result }
 {
-    match read_forms(alloc, forms) {
+    match read_files(alloc, trees) {
         Ok(so_far) => Ok(completed(alloc, so_far)?),
         Err(fault) => Err(fault),
     }
 }
 
-/// The program of a tree: the primitive words that are built, numbered from 0 in the order of their table, then the core words, then the
-/// words that the file defines in its order, and as the last word the top-level phrase.
-/// A vocabulary of a `USING:` must exist. A word is known in its own phrase and behind it, and its name may be defined once in a file.
-/// A name must find a word: among those that the file has defined so far, or else in the first vocabulary used before it that holds the name.
-pub fn resolve(alloc: Global, tree: &Tree) -> Result<Program, ResolveFault>
-    requires { IsWellFormed tree.now.forms }
-    ensures program { Resolves tree.now.forms result }
+/// The program of the trees of files, in order: the primitive words that are built, numbered from 0 in the order of their table, then the
+/// core words, then the words that the files define in their order, and as the last word the top-level phrase, which has the items of all
+/// files in order.
+/// A vocabulary of a `USING:` must exist. A word is known in its own phrase and behind it, and its name may be defined once in all files.
+/// A name must find a word: among those that the files have defined so far, or else in the first vocabulary that its file used before it and
+/// that holds the name.
+pub fn resolve(alloc: Global, trees: &List<Tree>) -> Result<Program, ResolveFault>
+    requires { AreWellFormed (forms_of trees.now) }
+    ensures program { Resolves (forms_of trees.now) result }
     ensures built { IfOk result (λ program. IsBuilt program) }
     ensures whole { IfOk result (λ program. IsWhole program) }
 {
-    program_of(alloc, tree.forms.as_slice())
+    program_of(alloc, trees.as_slice())
 }

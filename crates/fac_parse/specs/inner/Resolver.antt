@@ -23,7 +23,7 @@ use Rattle.fac_parse.specs.declared.resolver.ResolveFault.TheVariants.{Name, Mem
 use Rattle.fac_parse.specs.declared.resolver.OpenQuotation.{OpenQuotation}
 use Rattle.fac_parse.specs.declared.resolver.Nest.{Nest}
 use Rattle.fac_parse.specs.declared.resolver.SoFar.{SoFar}
-use Rattle.fac_parse.specs.Resolution.{known_words, found, own_name, is_taken, name_fault, uses, result_map, Following, with_quotation, following, phrase_of, defined_word, Contents, unless_taken, with_defined, contents_of, file_contents, top_word}
+use Rattle.fac_parse.specs.Resolution.{known_words, found, own_name, is_taken, name_fault, uses, result_map, Following, with_quotation, following, phrase_of, defined_word, Contents, unless_taken, with_defined, Behind, contents_of, first_names, files_contents, top_word}
 use Rattle.fac_parse.specs.Trees.{token_text, depth_behind, AreItems}
 
 -- what using vocabularies answers
@@ -114,9 +114,9 @@ abbrev pub after_made : List WordDef → List Item → Result Contents NameFault
 after_made words items (Ok c) = Ok (record { words = words ++ c.words; phrase = items_before items c.phrase })
 after_made words items (Err fault) = Err fault
 
--- what was made so far, and then what the forms from here on define and do
-abbrev pub contents_after : SoFar → List Form → Result Contents NameFault
-contents_after s forms = after_made s.words s.items.items (contents_of s.names s.used forms)
+-- what was made so far, and then what the forms from here on and what is behind them define and do
+abbrev pub contents_after : SoFar → List Form → Behind → Result Contents NameFault
+contents_after s forms behind = after_made s.words s.items.items (contents_of s.names s.used forms behind)
 
 -- a definition before what follows
 abbrev pub defining : SoFar → Token → WrittenEffect → List Element → Option Mark → Result Contents NameFault → Result Contents NameFault
@@ -147,24 +147,46 @@ TakesQuotation known used place elements items items_then (Err Memory) = Unit {0
 
 -- what taking a form answers, with what was made before and after it
 abbrev pub TakesForm : SoFar → Form → SoFar → Result Unit ResolveFault → Type 0
-TakesForm s form s_then (Ok done) = (rest : List Form) → contents_after s (form ∷ rest) ≡ contents_after s_then rest
-TakesForm s form s_then (Err (Name fault)) = (rest : List Form) → contents_of s.names s.used (form ∷ rest) ≡ Err fault
+TakesForm s form s_then (Ok done) = (rest : List Form) (behind : Behind) → contents_after s (form ∷ rest) behind ≡ contents_after s_then rest behind
+TakesForm s form s_then (Err (Name fault)) = (rest : List Form) (behind : Behind) → contents_of s.names s.used (form ∷ rest) behind ≡ Err fault
 TakesForm s form s_then (Err Memory) = Unit {0}
 
--- before the first form
+-- what taking forms answers, with what was made before and after them
+abbrev pub TakesForms : SoFar → List Form → SoFar → Result Unit ResolveFault → Type 0
+TakesForms s forms s_then (Ok done) = (behind : Behind) → contents_after s forms behind ≡ after_made s_then.words s_then.items.items (behind s_then.names)
+TakesForms s forms s_then (Err (Name fault)) = (behind : Behind) → contents_of s.names s.used forms behind ≡ Err fault
+TakesForms s forms s_then (Err Memory) = Unit {0}
+
+-- Files.
+
+-- what was made so far, and then what the files from here on define and do
+abbrev pub files_after : SoFar → List (List Form) → Result Contents NameFault
+files_after s files = after_made s.words s.items.items (files_contents s.names files)
+
+-- what taking the forms of a file answers, with what was made before and after it
+abbrev pub TakesFile : SoFar → List Form → SoFar → Result Unit ResolveFault → Type 0
+TakesFile s forms s_then (Ok done) = (files : List (List Form)) → files_after s (forms ∷ files) ≡ files_after s_then files
+TakesFile s forms s_then (Err (Name fault)) = (files : List (List Form)) → files_contents s.names (forms ∷ files) ≡ Err fault
+TakesFile s forms s_then (Err Memory) = Unit {0}
+
+-- what all files define and do, behind the words that are known from the start
+abbrev pub all_contents : List (List Form) → Result Contents NameFault
+all_contents files = after_made known_words [] (files_contents first_names files)
+
+-- before the first file
 abbrev pub IsFirst : SoFar → Type 0
-IsFirst s = (forms : List Form) → contents_after s forms ≡ after_made known_words [] (file_contents forms)
+IsFirst s = (files : List (List Form)) → files_after s files ≡ all_contents files
 
--- what reading all forms answers
-abbrev pub ReadsForms : List Form → Result SoFar ResolveFault → Type 0
-ReadsForms forms (Ok s) = after_made known_words [] (file_contents forms) ≡ Ok (record { words = s.words; phrase = items_phrase s.items.items })
-ReadsForms forms (Err (Name fault)) = file_contents forms ≡ Err fault
-ReadsForms forms (Err Memory) = Unit {0}
+-- what reading all files answers
+abbrev pub ReadsFiles : List (List Form) → Result SoFar ResolveFault → Type 0
+ReadsFiles files (Ok s) = all_contents files ≡ Ok (record { words = s.words; phrase = items_phrase s.items.items })
+ReadsFiles files (Err (Name fault)) = files_contents first_names files ≡ Err fault
+ReadsFiles files (Err Memory) = Unit {0}
 
--- what taking all forms answers, with what was made after it
-abbrev pub TakesForms : List Form → SoFar → Result Unit ResolveFault → Type 0
-TakesForms forms s_then (Ok done) = ReadsForms forms (Ok s_then)
-TakesForms forms s_then (Err fault) = ReadsForms forms (Err fault)
+-- what taking all files answers, with what was made after them
+abbrev pub TakesFiles : List (List Form) → SoFar → Result Unit ResolveFault → Type 0
+TakesFiles files s_then (Ok done) = ReadsFiles files (Ok s_then)
+TakesFiles files s_then (Err fault) = ReadsFiles files (Err fault)
 
 -- the program of these words and this top-level phrase
 abbrev pub program_with : List WordDef → Phrase → Program
