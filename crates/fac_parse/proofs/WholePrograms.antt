@@ -4,7 +4,7 @@ use Rattle.std.proofs.lemmas.Bool.Decides.{Decides-ltb}
 use Rattle.std.proofs.lemmas.List.{length_push}
 use Rattle.std.proofs.lemmas.List.Folds.{list_all-append}
 use Rattle.std.proofs.lemmas.Slice.Eq.{bytes_eq-Decides}
-use Rattle.std.specs.Prelude.{IfOk, ◌+◌, ℤ, codes, nat_lt, nat_le, nat_eq}
+use Rattle.std.specs.Prelude.{IfOk, ◌+◌, ℤ, nat_lt, nat_le, nat_eq}
 use Rattle.std.specs.List.{list_all, list_any}
 use Rattle.std.specs.Str.{bytes_eq}
 use Rattle.fac_lang.specs.Forms.{IsBuilt, IsBuiltPhrase, IsBuiltSort, AreBuiltWords, IsPrimitiveWord, IsCoreWord, IsDefinedWord, IsTopPhrase, IsPlainEffect, is_member, numbers_before, primitive_numbers, has_no_repeats}

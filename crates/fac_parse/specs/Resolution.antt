@@ -5,6 +5,7 @@ use Rattle.fac_lang.specs.CoreWords.{built_core_words}
 use Rattle.fac_lang.specs.PrimitiveWords.{PrimitiveWord, written_effect, plain_inputs}
 use Rattle.fac_lang.specs.Primitives.{built_primitive_words}
 use Rattle.fac_lang.specs.Signatures.{Signature, signature, no_inputs, Leaving, never, leaves}
+use Rattle.fac_lang.specs.RunningLaws.{append}
 use Rattle.fac_lang.specs.Whole.{IsWhole}
 use Rattle.fac_lang.specs.Phrases.{Phrase, end, then as placed, Item, lit, int, yes, no, quot, word}
 use Rattle.fac_lang.specs.declared.phrase.Place.{Place}
@@ -16,6 +17,10 @@ use Rattle.fac_lang.specs.declared.program.WordDef.{WordDef}
 use Rattle.fac_lang.specs.declared.token.Token.{Token}
 use Rattle.fac_lang.specs.declared.tree.Form.{Form}
 use Rattle.fac_lang.specs.declared.tree.Form.TheVariants as form
+use Rattle.fac_lang.specs.declared.tree.FormKind.{FormKind}
+use Rattle.fac_lang.specs.declared.tree.FormKind.TheVariants.{Using, Define}
+use Rattle.fac_lang.specs.declared.tree.Part.{Part}
+use Rattle.fac_lang.specs.declared.tree.Part.TheVariants as part
 use Rattle.fac_lang.specs.declared.tree.Term.{Term}
 use Rattle.fac_lang.specs.declared.tree.Term.TheVariants as term
 use Rattle.fac_lang.specs.declared.tree.Element.{Element}
@@ -189,11 +194,6 @@ abbrev pub after_uses : Result (List (List ℕ)) NameFault → (List (List ℕ) 
 after_uses (Ok used) rest = rest used
 after_uses (Err fault) rest = Err fault
 
--- an item at the top level before what follows
-abbrev pub with_top_item : Result Item NameFault → Place → Result Contents NameFault → Result Contents NameFault
-with_top_item (Err fault) place rest = Err fault
-with_top_item (Ok item) place rest = result_map (λ c. record { words = c.words; phrase = placed item place c.phrase }) rest
-
 -- a word before what follows
 abbrev pub with_defined : Result WordDef NameFault → Result Contents NameFault → Result Contents NameFault
 with_defined (Err fault) rest = Err fault
@@ -204,20 +204,49 @@ abbrev pub unless_taken : Bool → Token → Result Contents NameFault → Resul
 unless_taken true name rest = Err (name_fault Twice name)
 unless_taken false name rest = rest
 
+-- items at the top level before what follows
+abbrev pub with_top_items : Result Phrase NameFault → Result Contents NameFault → Result Contents NameFault
+with_top_items (Err fault) rest = Err fault
+with_top_items (Ok phrase) rest = result_map (λ c. record { words = c.words; phrase = append phrase c.phrase }) rest
+
+-- what a row says: that vocabularies are used, or a definition, with its mark if there is one
+pub data Meant : Type 0 where
+  using : List Token → Meant
+  defining : Token → WrittenEffect → List Element → Option Mark → Meant
+  nothing : Meant
+
+abbrev pub mark_of : List Mark → Option Mark
+mark_of [] = None
+mark_of (mark ∷ marks) = Some mark
+
+-- what a row with these parts says; nothing where they don't fill it
+abbrev pub meant : FormKind → List Part → Meant
+meant Using (part.Names vocabs ends ∷ []) = using vocabs
+meant Define (part.Name name ∷ part.Effect effect ∷ part.Items elements ends ∷ part.Marks marks ∷ []) = defining name effect elements (mark_of marks)
+meant _ _ = nothing
+
+-- what stands behind a form, by the names that are known and the vocabularies that are used then
+abbrev pub Rest : Type 0
+Rest = List FullName → List (List ℕ) → Result Contents NameFault
+
+-- What a row does before what follows. A word's own name is known in its phrase.
+abbrev pub row_contents : Meant → List FullName → List (List ℕ) → Rest → Result Contents NameFault
+row_contents (using vocabs) known used rest = after_uses (uses used vocabs) (λ more. rest known more)
+row_contents (defining name effect items mark) known used rest =
+    let more = known ++ own_name (token_text name.kind) ∷ [] in
+    unless_taken (is_taken known (token_text name.kind)) name (with_defined (result_map (defined_word name effect mark) (phrase_of more used items)) (rest more used))
+row_contents nothing known used rest = rest known used
+
 -- what the files behind these forms define and do, by the names that are known then
 abbrev pub Behind : Type 0
 Behind = List FullName → Result Contents NameFault
 
 -- What forms define and do, where these words are known and these vocabularies used, and then what stands behind them; or the first
--- refused name. A word's own name is known in its phrase.
+-- refused name.
 abbrev pub contents_of : List FullName → List (List ℕ) → List Form → Behind → Result Contents NameFault
 contents_of known used [] behind = behind known
-contents_of known used (form.Using opens vocabs closes ∷ forms) behind = after_uses (uses used vocabs) (λ more. contents_of known more forms behind)
-contents_of known used (form.Define opens name effect items closes mark ∷ forms) behind =
-    let more = known ++ own_name (token_text name.kind) ∷ [] in
-    unless_taken (is_taken known (token_text name.kind)) name (with_defined (result_map (defined_word name effect mark) (phrase_of more used items)) (contents_of more used forms behind))
-contents_of known used (form.Item item ∷ forms) behind = with_top_item (item_of known used item) (term_place item) (contents_of known used forms behind)
-contents_of known used (form.Quotation opens items closes ∷ forms) behind = with_top_item (result_map quot (phrase_of known used items)) opens (contents_of known used forms behind)
+contents_of known used (form.Row kind opens parts ∷ forms) behind = row_contents (meant kind parts) known used (λ more vocabs. contents_of more vocabs forms behind)
+contents_of known used (form.Items elements ∷ forms) behind = with_top_items (phrase_of known used elements) (contents_of known used forms behind)
 
 -- a file begins with `syntax` alone used
 abbrev pub first_used : List (List ℕ)

@@ -3,9 +3,12 @@ ghost use Rattle.std.specs.Prelude.{◌≡◌, ◌<◌, ◌-◌, ◌++◌, ◌�
 ghost use Rattle.fac_lang.specs.Forms.{IsBuilt};
 ghost use Rattle.fac_lang.specs.PhraseView.{items_phrase};
 ghost use Rattle.fac_lang.specs.Whole.{IsWhole};
-ghost use Rattle.fac_parse.specs.Resolution.{known_words, first_names, first_used, name_fault, defined_word, top_word, Resolves};
-ghost use Rattle.fac_parse.specs.inner.Resolver.{Uses, TakesItem, Closes, IsClosable, TakesElement, AreClosed, ReadsPhrase, TakesQuotation, Defines, TakesForm, TakesForms, TakesFile, IsFirst, TakesFiles, ReadsFiles, program_with};
-ghost use Rattle.fac_parse.specs.Trees.{AreItems, most_levels, IsForm, IsWellFormed, forms_of, AreWellFormed};
+ghost use Rattle.fac_parse.specs.Resolution.{known_words, first_names, first_used, name_fault, defined_word, top_word, meant, Resolves};
+ghost use Rattle.fac_parse.specs.inner.Resolver.{Uses, TakesItem, Closes, IsClosable, TakesElement, ReadsPhrase, IsBehind, TakesItems, Defines, HasName, HasNames, HasEffect, HasItems, HasMark, TakesRow, TakesForm, TakesForms, TakesFile, IsFirst, TakesFiles, ReadsFiles, program_with};
+ghost use Rattle.fac_lang.specs.declared.tree.FormKind.TheVariants as FormKind;
+ghost use Rattle.fac_parse.specs.declared.rows.Slot.TheVariants as Slot;
+ghost use Rattle.fac_parse.specs.Rows.{slots_of};
+ghost use Rattle.fac_parse.specs.Trees.{AreItems, Fills, FillAll, IsForm, IsWellFormed, forms_of, AreWellFormed};
 
 use crate::built_words::{defined, first_words, phrase_word};
 use crate::known_names::KnownNames;
@@ -13,8 +16,8 @@ use crate::spelling::text;
 use crate::text_set::TextSet;
 use crate::vocabularies::is_vocabulary;
 use fac_lang::{
-    Element, Form, Item, List, Mark, Memory, Phrase, Place, Program, Term, Text, Token, Tree, What,
-    WordDef, WrittenEffect,
+    Element, Form, FormKind, Item, List, Mark, Memory, Part, Phrase, Place, Program, Term, Text,
+    Token, Tree, What, WordDef, WrittenEffect,
 };
 use std::alloc::Global;
 use thiserror::Error;
@@ -213,13 +216,14 @@ fn take_element(
 }
 
 // The phrase of items.
+#[tactic(auto, using(crate::proofs::ResolutionLemmas::begins_closed))]
 fn body_of(
     alloc: Global,
     known: &KnownNames,
     used: &TextSet,
     elements: &[Element],
 ) -> Result<Phrase, ResolveFault>
-    requires { AreClosed elements.now }
+    requires { AreItems elements.now }
     ensures { ReadsPhrase known.now used.now elements.now result }
 {
     let mut nest = Nest {
@@ -260,7 +264,7 @@ fn define(
     items: &[Element],
     mark: Option<Mark>,
 ) -> Result<(), ResolveFault>
-    requires { AreItems most_levels items.now }
+    requires { AreItems items.now }
     ensures { Defines so_far.old name.now effect.now items.now mark so_far.new result }
 {
     if so_far.names.defines(text(&name.kind)) {
@@ -276,24 +280,136 @@ fn define(
     }
 }
 
-// Takes a quotation at the top level.
-fn take_quotation(
+// Adds items behind others.
+fn add_items(items: &mut Vec<Item>, body: Phrase) -> Result<(), Memory>
+    ensures { OnOk result (IsBehind items.old.items body items.new.items) }
+{
+    let Phrase { items: mut run } = body;
+    items.append(&mut run)?;
+    Ok(())
+}
+
+// Takes items at the top level.
+fn take_items(
     alloc: Global,
     known: &KnownNames,
     used: &TextSet,
     items: &mut Vec<Item>,
-    place: Place,
     elements: &[Element],
 ) -> Result<(), ResolveFault>
-    requires { AreItems (most_levels - 1) elements.now }
-    ensures { TakesQuotation known.now used.now place elements.now items.old.items items.new.items result }
+    requires { AreItems elements.now }
+    ensures { TakesItems known.now used.now elements.now items.old.items items.new.items result }
 {
     match body_of(alloc, known, used, elements) {
         Ok(body) => {
-            add_item(items, What::Quot(body), place)?;
+            add_items(items, body)?;
             Ok(())
         }
         Err(fault) => Err(fault),
+    }
+}
+
+// The name that a part is.
+fn name_of(part: &Part) -> &Token
+    requires { Fills Slot.Name part.now }
+    ensures { HasName part.now result.now }
+{
+    match part {
+        Part::Name(name) => name,
+        _ => unreachable!(),
+    }
+}
+
+// The names of a part.
+fn names_of(part: &Part) -> &[Token]
+    requires { Fills Slot.Names part.now }
+    ensures { HasNames part.now result.now }
+{
+    match part {
+        Part::Names { names, .. } => names.as_slice(),
+        _ => unreachable!(),
+    }
+}
+
+// The effect that a part is.
+fn effect_of(part: &Part) -> &WrittenEffect
+    requires { Fills Slot.Effect part.now }
+    ensures { HasEffect part.now result.now }
+{
+    match part {
+        Part::Effect(effect) => effect,
+        _ => unreachable!(),
+    }
+}
+
+// The items of a part.
+fn items_of(part: &Part) -> &[Element]
+    requires { Fills Slot.Items part.now }
+    ensures { HasItems part.now result.now }
+{
+    match part {
+        Part::Items { elements, .. } => elements.as_slice(),
+        _ => unreachable!(),
+    }
+}
+
+// The mark of a part, if it has one.
+fn mark_of(part: &Part) -> Option<Mark>
+    requires { Fills Slot.Marks part.now }
+    ensures { HasMark part.now result }
+{
+    match part {
+        Part::Marks(marks) => match marks.as_slice() {
+            [mark, ..] => Some(*mark),
+            [] => None,
+        },
+        _ => unreachable!(),
+    }
+}
+
+// Takes the parts of a definition.
+fn take_definition(
+    alloc: Global,
+    so_far: &mut SoFar,
+    name: &Part,
+    effect: &Part,
+    items: &Part,
+    marks: &Part,
+) -> Result<(), ResolveFault>
+    requires { FillAll (slots_of FormKind.Define) (name.now ∷ effect.now ∷ items.now ∷ marks.now ∷ []) }
+    ensures { TakesRow so_far.old (meant FormKind.Define (name.now ∷ effect.now ∷ items.now ∷ marks.now ∷ [])) so_far.new result }
+{
+    define(
+        alloc,
+        so_far,
+        name_of(name),
+        effect_of(effect),
+        items_of(items),
+        mark_of(marks),
+    )
+}
+
+// Takes a row.
+fn take_row(
+    alloc: Global,
+    so_far: &mut SoFar,
+    kind: FormKind,
+    parts: &[Part],
+) -> Result<(), ResolveFault>
+    requires { FillAll (slots_of kind) parts.now }
+    ensures { TakesRow so_far.old (meant kind parts.now) so_far.new result }
+{
+    match kind {
+        FormKind::Using => match parts {
+            [vocabs] => use_all(alloc, &mut so_far.used, names_of(vocabs)),
+            _ => unreachable!(),
+        },
+        FormKind::Define => match parts {
+            [name, effect, items, marks] => {
+                take_definition(alloc, so_far, name, effect, items, marks)
+            }
+            _ => unreachable!(),
+        },
     }
 }
 
@@ -303,22 +419,13 @@ fn take_form(alloc: Global, so_far: &mut SoFar, form: &Form) -> Result<(), Resol
     ensures { TakesForm so_far.old form.now so_far.new result }
 {
     match form {
-        Form::Using { vocabs, .. } => use_all(alloc, &mut so_far.used, vocabs.as_slice()),
-        Form::Define {
-            name,
-            effect,
-            items,
-            mark,
-            ..
-        } => define(alloc, so_far, name, effect, items.as_slice(), *mark),
-        Form::Item(item) => take_item(alloc, &so_far.names, &so_far.used, &mut so_far.items, item),
-        Form::Quotation { opens, items, .. } => take_quotation(
+        Form::Row { kind, parts, .. } => take_row(alloc, so_far, *kind, parts.as_slice()),
+        Form::Items(elements) => take_items(
             alloc,
             &so_far.names,
             &so_far.used,
             &mut so_far.items,
-            *opens,
-            items.as_slice(),
+            elements.as_slice(),
         ),
     }
 }
