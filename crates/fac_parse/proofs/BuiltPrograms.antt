@@ -11,7 +11,7 @@ use Rattle.fac_lang.specs.CoreWords.{core_word, built_core_words, is_built_core}
 use Rattle.fac_lang.specs.Primitives.{Primitive, built_primitives, later_primitives, built_primitive_words, prim_numbered, primitive_word, built_count, is_built_primitive}
 use Rattle.fac_lang.specs.Signatures.{never, leaves}
 use Rattle.fac_lang.specs.PrimitiveWords.{PrimitiveWord, plain_inputs}
-use Rattle.fac_lang.specs.Phrases.{Phrase, end, then, Item, quot, word}
+use Rattle.fac_lang.specs.Phrases.{Phrase, end, then, Item, word}
 use Rattle.fac_lang.specs.Whole.{name_count, inputs_name_count, leaving_count}
 use Rattle.fac_lang.specs.declared.phrase.Place.{Place}
 use Rattle.fac_lang.specs.declared.program.Name.{Name as FullName}
@@ -20,6 +20,11 @@ use Rattle.fac_lang.specs.declared.program.WordDef.{WordDef}
 use Rattle.fac_lang.specs.declared.token.Token.{Token}
 use Rattle.fac_lang.specs.declared.tree.Form.{Form}
 use Rattle.fac_lang.specs.declared.tree.Form.TheVariants as form
+use Rattle.fac_lang.specs.declared.tree.FormKind.{FormKind}
+use Rattle.fac_lang.specs.declared.tree.FormKind.TheVariants.{Using, Define}
+use Rattle.fac_lang.specs.declared.tree.Part.{Part}
+use Rattle.fac_lang.specs.declared.tree.Part.TheVariants as part
+use Rattle.fac_lang.specs.RunningLaws.{append}
 use Rattle.fac_lang.specs.declared.tree.Mark.{Mark}
 use Rattle.fac_lang.specs.declared.tree.Mark.TheVariants.{Inline, Recursive}
 use Rattle.fac_lang.specs.declared.tree.Element.{Element}
@@ -28,8 +33,9 @@ use Rattle.fac_lang.specs.declared.tree.Term.{Term}
 use Rattle.fac_lang.specs.declared.tree.Term.TheVariants as term
 use Rattle.fac_lang.specs.declared.tree.WrittenEffect.{WrittenEffect}
 use Rattle.fac_parse.specs.declared.resolver.NameFault.{NameFault}
-use Rattle.fac_parse.specs.Resolution.{words_from, known_words, first_names, held_from, or_else, held_by, current, found, own_name, is_taken, uses, result_map, word_item, item_of, term_place, Following, with_item, with_quotation, opened, closed, following, phrase_of, token_texts, is_star, leaving_of, effect_of, is_inline, is_recursive, defined_word, Contents, after_uses, with_top_item, with_defined, unless_taken, contents_of, top_word, program_of}
-use Rattle.fac_parse.specs.Trees.{token_text, IsEffect, IsWellFormed}
+use Rattle.fac_parse.specs.Resolution.{words_from, known_words, first_names, held_from, or_else, held_by, current, found, own_name, is_taken, uses, result_map, word_item, item_of, term_place, Following, with_item, with_quotation, opened, closed, following, phrase_of, token_texts, is_star, leaving_of, effect_of, is_inline, is_recursive, defined_word, Contents, after_uses, with_top_items, mark_of, meant, row_contents, Rest, with_defined, unless_taken, Behind, contents_of, first_used, files_contents, top_word, program_of}
+use Rattle.fac_parse.specs.Trees.{token_text, IsEffect, FillAll, IsWellFormed, AreWellFormed}
+use Rattle.fac_parse.specs.Rows.{slots_of}
 use Rattle.fac_parse.proofs.KnownNameLemmas.{names_counted}
 
 -- What a name finds is known.
@@ -183,18 +189,17 @@ uses_build : (bound k : ℕ) (r : Result (List (List ℕ)) NameFault) (rest : Li
 uses_build bound k (Ok used) rest later = later used
 uses_build bound k (Err f) rest later = λ c e few. cc
 
-item_builds : (bound k : ℕ) (r : Result Item NameFault) (p : Place) (q : Result Contents NameFault) → ((i : Item) → k ≤ bound → r ≡ Ok i → IsBuiltItem bound i) → BuildsWithin bound k q → BuildsWithin bound k (with_top_item r p q)
-item_builds bound k (Err f) p q item later = λ c e few. cc
-item_builds bound k (Ok i) p (Err f) item later = λ c e few. cc
-item_builds bound k (Ok i) p (Ok d) item later = λ c e few.
-    let same : record { words = d.words; phrase = then i p d.phrase } ≡ c = cc in
-    subst (AreBuilt bound) same (let fits : k + length d.words ≤ bound = subst (λ (x : Contents). k + length x.words ≤ bound) (sym same) few in
-    let rest = later d refl fits in (rest.0, (item i (omega (arith, fits)) refl, rest.1)))
+append_built : (bound : ℕ) (t u : Phrase) → IsBuiltPhrase bound t → IsBuiltPhrase bound u → IsBuiltPhrase bound (append t u)
+append_built bound end u h k = k
+append_built bound (then i p t) u h k = (h.0, append_built bound t u h.1 k)
 
--- a quotation is an item as built as its phrase
-quoted_built : (bound : ℕ) (r : Result Phrase NameFault) (i : Item) → ((t : Phrase) → r ≡ Ok t → IsBuiltPhrase bound t) → result_map quot r ≡ Ok i → IsBuiltItem bound i
-quoted_built bound (Ok t) i phrase e = let same : quot t ≡ i = cc in subst (IsBuiltItem bound) same (phrase t refl)
-quoted_built bound (Err f) i phrase e = cc
+items_build : (bound k : ℕ) (r : Result Phrase NameFault) (q : Result Contents NameFault) → ((t : Phrase) → k ≤ bound → r ≡ Ok t → IsBuiltPhrase bound t) → BuildsWithin bound k q → BuildsWithin bound k (with_top_items r q)
+items_build bound k (Err f) q phrase later = λ c e few. cc
+items_build bound k (Ok t) (Err f) phrase later = λ c e few. cc
+items_build bound k (Ok t) (Ok d) phrase later = λ c e few.
+    let same : record { words = d.words; phrase = append t d.phrase } ≡ c = cc in
+    subst (AreBuilt bound) same (let fits : k + length d.words ≤ bound = subst (λ (x : Contents). k + length x.words ≤ bound) (sym same) few in
+    let rest = later d refl fits in (rest.0, append_built bound t d.phrase (phrase t (omega (arith, fits)) refl) rest.1))
 
 definition_builds : (bound k : ℕ) (b : Bool) (name : Token) (effect : WrittenEffect) (mark : Option Mark) (r : Result Phrase NameFault) (q : Result Contents NameFault) → IsEffect effect → ((t : Phrase) → k + 1 ≤ bound → r ≡ Ok t → IsBuiltPhrase bound t) → BuildsWithin bound (k + 1) q → BuildsWithin bound k (unless_taken b name (with_defined (result_map (defined_word name effect mark) r) q))
 definition_builds bound k true name effect mark r q fits phrase later = λ c e few. cc
@@ -209,24 +214,34 @@ definition_builds bound k false name effect mark (Ok t) (Ok d) fits phrase later
 at_length : (bound : ℕ) (known : List FullName) (x : FullName) (r : Result Contents NameFault) → BuildsWithin bound (length (known ++ x ∷ [])) r → BuildsWithin bound (length known + 1) r
 at_length bound known x r h = subst (λ (k : ℕ). BuildsWithin bound k r) (length_push known x) h
 
-contents_build : (bound : ℕ) (forms : List Form) (known : List FullName) (used : List (List ℕ)) → IsWellFormed forms → BuildsWithin bound (length known) (contents_of known used forms)
-contents_build bound [] known used fits = λ c e few. let same : record { words = []; phrase = end } ≡ c = cc in subst (AreBuilt bound) same (tt, tt)
-contents_build bound (form.Using opens vocabs closes ∷ forms) known used fits =
-    uses_build bound (length known) (uses used vocabs) (λ more. contents_of known more forms) (λ more. contents_build bound forms known more fits.1)
-contents_build bound (form.Define opens name effect items closes mark ∷ forms) known used fits =
+-- where what is behind them is built, forms are
+abbrev BuildsBehind : ℕ → Behind → Type 0
+BuildsBehind bound behind = (known : List FullName) → BuildsWithin bound (length known) (behind known)
+
+row_builds : (bound : ℕ) (kind : FormKind) (parts : List Part) (known : List FullName) (used : List (List ℕ)) (rest : Rest) → FillAll (slots_of kind) parts → ((more : List FullName) (vocabs : List (List ℕ)) → BuildsWithin bound (length more) (rest more vocabs)) → BuildsWithin bound (length known) (row_contents (meant kind parts) known used rest)
+row_builds bound Using (part.Names vocabs ends ∷ []) known used rest fits later = uses_build bound (length known) (uses used vocabs) (λ more. rest known more) (λ more. later known more)
+row_builds bound Define (part.Name name ∷ part.Effect effect ∷ part.Items items ends ∷ part.Marks marks ∷ []) known used rest fits later =
     let x = own_name (token_text name.kind) in
     let more = known ++ x ∷ [] in
-    definition_builds bound (length known) (is_taken known (token_text name.kind)) name effect mark (phrase_of more used items) (contents_of more used forms) fits.0.1
+    definition_builds bound (length known) (is_taken known (token_text name.kind)) name effect (mark_of marks) (phrase_of more used items) (rest more used) fits.1.0
     (λ t few h. phrase_built bound more used items t (let pushed = length_push known x in omega (arith, pushed, few)) h)
-    (at_length bound known x (contents_of more used forms) (contents_build bound forms more used fits.1))
-contents_build bound (form.Item item ∷ forms) known used fits =
-    item_builds bound (length known) (item_of known used item) (term_place item) (contents_of known used forms) (λ i few h. item_built bound known used item i few h) (contents_build bound forms known used fits.1)
-contents_build bound (form.Quotation opens items closes ∷ forms) known used fits =
-    item_builds bound (length known) (result_map quot (phrase_of known used items)) opens (contents_of known used forms) (λ i few h. quoted_built bound (phrase_of known used items) i (λ t e. phrase_built bound known used items t few e) h) (contents_build bound forms known used fits.1)
+    (at_length bound known x (rest more used) (later more used))
+row_builds bound _ _ known used rest fits later = later known used
 
--- what the forms of a file make, with the number of the top-level phrase as the bound
-pub contents_built : (forms : List Form) (used : List (List ℕ)) (c : Contents) → IsWellFormed forms → contents_of first_names used forms ≡ Ok c → AreOwnWords (length known_words + length c.words) c.words × IsBuiltPhrase (length known_words + length c.words) c.phrase
-contents_built forms used c fits e = contents_build (length known_words + length c.words) forms first_names used fits c e (let counted = names_counted known_words in omega (arith, counted))
+contents_build : (bound : ℕ) (forms : List Form) (known : List FullName) (used : List (List ℕ)) (behind : Behind) → IsWellFormed forms → BuildsBehind bound behind → BuildsWithin bound (length known) (contents_of known used forms behind)
+contents_build bound [] known used behind fits later = later known
+contents_build bound (form.Row kind opens parts ∷ forms) known used behind fits later =
+    row_builds bound kind parts known used (λ more vocabs. contents_of more vocabs forms behind) fits.0 (λ more vocabs. contents_build bound forms more vocabs behind fits.2 later)
+contents_build bound (form.Items elements ∷ forms) known used behind fits later =
+    items_build bound (length known) (phrase_of known used elements) (contents_of known used forms behind) (λ t few h. phrase_built bound known used elements t few h) (contents_build bound forms known used behind fits.2 later)
+
+files_build : (bound : ℕ) (files : List (List Form)) → AreWellFormed files → BuildsBehind bound (λ known. files_contents known files)
+files_build bound [] fits = λ known c e few. let same : record { words = []; phrase = end } ≡ c = cc in subst (AreBuilt bound) same (tt, tt)
+files_build bound (forms ∷ files) fits = λ known. contents_build bound forms known first_used (λ more. files_contents more files) fits.0 (files_build bound files fits.1)
+
+-- what the forms of files make, with the number of the top-level phrase as the bound
+pub contents_built : (files : List (List Form)) (c : Contents) → AreWellFormed files → files_contents first_names files ≡ Ok c → AreOwnWords (length known_words + length c.words) c.words × IsBuiltPhrase (length known_words + length c.words) c.phrase
+contents_built files c fits e = files_build (length known_words + length c.words) files fits first_names c e (let counted = names_counted known_words in omega (arith, counted))
 
 -- Words that are known from the start.
 

@@ -1,6 +1,12 @@
 pub mod SpellingLemmas
-pub mod MapLemmas
+pub mod HeldLemmas
+pub mod StateTokens
+pub mod ReaderKeeps
+pub mod ReaderReads
+pub mod ReaderCompletes
+pub mod ExactPlaces
 pub mod ParseLemmas
+pub mod MapLemmas
 pub mod FirstWordLemmas
 pub mod KnownNameLemmas
 pub mod ResolutionLemmas

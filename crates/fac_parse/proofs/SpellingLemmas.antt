@@ -1,65 +1,19 @@
 -- The tokens that forms are made of, and how they are spelled.
-use Rattle.std.proofs.Common.{◌≡◌, ℕ, ℤ, Bool, true, false, cond, List, [], Option, Some, None, refl, ap, sym, subst, ◌∙◌}
-use Rattle.std.specs.Prelude.{codes, is_some}
+use Rattle.std.proofs.Common.{◌≡◌, ℕ, ℤ, Bool, true, false, cond, List, [], Option, Some, None, refl, ap, sym, subst}
+use Rattle.std.specs.Prelude.{is_some, map, ◌∷◌}
 use Rattle.std.specs.Str.{bytes_eq}
 use Rattle.std.proofs.lemmas.Slice.Eq.{bytes_eq-Decides}
 use Rattle.fac_lang.specs.declared.phrase.Place.{Place}
 use Rattle.fac_lang.specs.declared.token.Token.{Token}
 use Rattle.fac_lang.specs.declared.token.TokKind.{TokKind}
 use Rattle.fac_lang.specs.declared.token.TokKind.TheVariants.{Plain, Str}
+use Rattle.fac_lang.specs.declared.tree.FormKind.TheVariants.{Using, Define}
+use Rattle.fac_lang.specs.declared.tree.Key.TheVariants.{Arrow}
 use Rattle.fac_parse.specs.declared.spelling.Spelling.{Spelling}
-use Rattle.fac_parse.specs.declared.spelling.Spelling.TheVariants.{Using, Colon, Semi, Opens, Closes, Dashes, OpensQuotation, ClosesQuotation, True, False, Inline, Recursive, Integer, Name, Other}
+use Rattle.fac_parse.specs.declared.spelling.Spelling.TheVariants.{Begins, Fixed, Semi, Opens, Closes, Dashes, OpensQuotation, ClosesQuotation, True, False, Inline, Recursive, Integer, Name, Other}
 use Rattle.fac_lang.specs.Numbers.{signed_in, integer_in, in_range}
-use Rattle.fac_parse.specs.Spellings.{has_integer_form, is_reserved, sign_spelling, word_spelling, integer_spelling, spelling_of, token_spelling}
+use Rattle.fac_parse.specs.Spellings.{has_integer_form, is_reserved, sign_text, signs, sign_among, with_text, sign_spelling, word_spelling, integer_spelling, spelling_of, token_spelling}
 use Rattle.fac_parse.specs.Trees.{plain_token}
-
-pub using_is_using : spelling_of (codes "USING:") ≡ Using
-unfolding spelling_of has_integer_form word_spelling
-using_is_using = refl
-
-pub colon_is_colon : spelling_of (codes ":") ≡ Colon
-unfolding spelling_of has_integer_form word_spelling
-colon_is_colon = refl
-
-pub semi_is_semi : spelling_of (codes ";") ≡ Semi
-unfolding spelling_of has_integer_form word_spelling
-semi_is_semi = refl
-
-pub opens_is_opens : spelling_of (codes "(") ≡ Opens
-unfolding spelling_of has_integer_form word_spelling
-opens_is_opens = refl
-
-pub closes_is_closes : spelling_of (codes ")") ≡ Closes
-unfolding spelling_of has_integer_form word_spelling
-closes_is_closes = refl
-
-pub dashes_is_dashes : spelling_of (codes "--") ≡ Dashes
-unfolding spelling_of has_integer_form word_spelling
-dashes_is_dashes = refl
-
-pub bracket_is_bracket : spelling_of (codes "[") ≡ OpensQuotation
-unfolding spelling_of has_integer_form word_spelling
-bracket_is_bracket = refl
-
-pub end_is_end : spelling_of (codes "]") ≡ ClosesQuotation
-unfolding spelling_of has_integer_form word_spelling
-end_is_end = refl
-
-pub t_is_true : spelling_of (codes "t") ≡ True
-unfolding spelling_of has_integer_form word_spelling
-t_is_true = refl
-
-pub f_is_false : spelling_of (codes "f") ≡ False
-unfolding spelling_of has_integer_form word_spelling
-f_is_false = refl
-
-pub inline_is_inline : spelling_of (codes "inline") ≡ Inline
-unfolding spelling_of has_integer_form word_spelling
-inline_is_inline = refl
-
-pub recursive_is_recursive : spelling_of (codes "recursive") ≡ Recursive
-unfolding spelling_of has_integer_form word_spelling
-recursive_is_recursive = refl
 
 -- spellings of one text
 abbrev pub IsSign : Spelling → Type 0
@@ -68,44 +22,41 @@ IsSign Name = ⊥
 IsSign Other = ⊥
 IsSign _ = Unit {0}
 
--- that text
-abbrev pub sign_text : Spelling → List ℕ
-sign_text Using = codes "USING:"
-sign_text Colon = codes ":"
-sign_text Semi = codes ";"
-sign_text Opens = codes "("
-sign_text Closes = codes ")"
-sign_text Dashes = codes "--"
-sign_text OpensQuotation = codes "["
-sign_text ClosesQuotation = codes "]"
-sign_text True = codes "t"
-sign_text False = codes "f"
-sign_text Inline = codes "inline"
-sign_text Recursive = codes "recursive"
-sign_text _ = []
+-- a sign is spelled as its text says
+pub sign_is : (s : Spelling) → IsSign s → spelling_of (sign_text s) ≡ s
+unfolding spelling_of has_integer_form word_spelling sign_spelling
+sign_is (Begins Using) h = refl
+sign_is (Begins Define) h = refl
+sign_is (Fixed Arrow) h = refl
+sign_is Semi h = refl
+sign_is Opens h = refl
+sign_is Closes h = refl
+sign_is Dashes h = refl
+sign_is OpensQuotation h = refl
+sign_is ClosesQuotation h = refl
+sign_is True h = refl
+sign_is False h = refl
+sign_is Inline h = refl
+sign_is Recursive h = refl
+sign_is (Integer z) h = absurd h
+sign_is Name h = absurd h
+sign_is Other h = absurd h
 
 abbrev Says : List ℕ → Option Spelling → Type 0
 Says text None = Unit {0}
 Says text (Some s) = text ≡ sign_text s
 
-one_says : (text sign : List ℕ) (s : Spelling) (rest : Option Spelling) (b : Bool) → bytes_eq text sign ≡ b → sign ≡ sign_text s → Says text rest → Says text (cond b (Some s) rest)
-one_says text sign s rest true h e later = (bytes_eq-Decides text sign).0 h ∙ e
-one_says text sign s rest false h e later = later
+one_says : (text : List ℕ) (s : Spelling) (rest : Option Spelling) (b : Bool) → bytes_eq text (sign_text s) ≡ b → Says text rest → Says text (cond b (Some s) rest)
+one_says text s rest true h later = (bytes_eq-Decides text (sign_text s)).0 h
+one_says text s rest false h later = later
+
+among_says : (ss : List Spelling) (text : List ℕ) → Says text (sign_among (map with_text ss) text)
+among_says [] text = tt
+among_says (s ∷ ss) text = one_says text s (sign_among (map with_text ss) text) (bytes_eq text (sign_text s)) refl (among_says ss text)
 
 says : (text : List ℕ) → Says text (sign_spelling text)
-says text =
-    one_says text (codes "USING:") Using _ _ refl refl (
-    one_says text (codes ":") Colon _ _ refl refl (
-    one_says text (codes ";") Semi _ _ refl refl (
-    one_says text (codes "(") Opens _ _ refl refl (
-    one_says text (codes ")") Closes _ _ refl refl (
-    one_says text (codes "--") Dashes _ _ refl refl (
-    one_says text (codes "[") OpensQuotation _ _ refl refl (
-    one_says text (codes "]") ClosesQuotation _ _ refl refl (
-    one_says text (codes "t") True _ _ refl refl (
-    one_says text (codes "f") False _ _ refl refl (
-    one_says text (codes "inline") Inline _ _ refl refl (
-    one_says text (codes "recursive") Recursive None _ refl refl tt)))))))))))
+unfolding sign_spelling
+says text = among_says signs text
 
 sign_picked : (b c : Bool) (o : Option ℤ) (s : Option Spelling) → IsSign (cond b (integer_spelling o) (elim s [ Some s ↦ s | None ↦ cond c Other Name ])) → s ≡ Some (cond b (integer_spelling o) (elim s [ Some s ↦ s | None ↦ cond c Other Name ]))
 sign_picked true c None s h = absurd h
@@ -128,6 +79,7 @@ sign_token t s e h = subst (λ (s : Spelling). t ≡ plain_token t.place (sign_t
 
 -- Integers.
 no_integer_sign : (text : List ℕ) (z : ℤ) → sign_spelling text ≡ Some (Integer z) → ⊥
+unfolding sign_spelling
 no_integer_sign text z e =
     let empty : text ≡ [] = subst (Says text) e (says text) in
     let none : sign_spelling [] ≡ Some (Integer z) = subst (λ (t : List ℕ). sign_spelling t ≡ Some (Integer z)) empty e in

@@ -4,7 +4,7 @@ use Rattle.std.proofs.lemmas.Bool.Decides.{Decides-ltb}
 use Rattle.std.proofs.lemmas.List.{length_push}
 use Rattle.std.proofs.lemmas.List.Folds.{list_all-append}
 use Rattle.std.proofs.lemmas.Slice.Eq.{bytes_eq-Decides}
-use Rattle.std.specs.Prelude.{IfOk, ◌+◌, ℤ, codes, nat_lt, nat_le, nat_eq}
+use Rattle.std.specs.Prelude.{IfOk, ◌+◌, ℤ, nat_lt, nat_le, nat_eq}
 use Rattle.std.specs.List.{list_all, list_any}
 use Rattle.std.specs.Str.{bytes_eq}
 use Rattle.fac_lang.specs.Forms.{IsBuilt, IsBuiltPhrase, IsBuiltSort, AreBuiltWords, IsPrimitiveWord, IsCoreWord, IsDefinedWord, IsTopPhrase, IsPlainEffect, is_member, numbers_before, primitive_numbers, has_no_repeats}
@@ -20,8 +20,8 @@ use Rattle.fac_lang.specs.declared.program.WordDef.{WordDef}
 use Rattle.fac_lang.specs.declared.tree.Form.{Form}
 use Rattle.fac_parse.specs.declared.resolver.NameFault.{NameFault}
 use Rattle.fac_parse.specs.declared.resolver.ResolveFault.{ResolveFault}
-use Rattle.fac_parse.specs.Resolution.{known_words, Contents, file_contents, top_word, program_of, result_map, resolved, Resolves}
-use Rattle.fac_parse.specs.Trees.{IsWellFormed}
+use Rattle.fac_parse.specs.Resolution.{known_words, Contents, first_names, files_contents, top_word, program_of, result_map, resolved, Resolves}
+use Rattle.fac_parse.specs.Trees.{AreWellFormed}
 use Rattle.fac_parse.proofs.BuiltPrograms.{AreOwnWords, contents_built, program_built}
 use Rattle.fac_lang.proofs.FormsLemmas.{word_below, sort_at, top_sort, all_distinct}
 
@@ -288,28 +288,28 @@ all_few bound c own =
     (list_all-append has_few_names known_words c.words ∙ both_are (list_all has_few_names known_words) (list_all has_few_names c.words) known_few (own_few bound c.words own))
     refl
 
-program_built_of : (forms : List Form) (r : Result Contents NameFault) (P : Program) → IsWellFormed forms → file_contents forms ≡ r → result_map program_of r ≡ Ok P → IsBuilt P
-program_built_of forms (Ok c) P fits e is =
+program_built_of : (files : List (List Form)) (r : Result Contents NameFault) (P : Program) → AreWellFormed files → files_contents first_names files ≡ r → result_map program_of r ≡ Ok P → IsBuilt P
+program_built_of files (Ok c) P fits e is =
     let same : program_of c ≡ P = cc in
-    let built = contents_built forms (codes "syntax" ∷ []) c fits e in
+    let built = contents_built files c fits e in
     subst IsBuilt same (program_built c built.0 built.1)
-program_built_of forms (Err f) P fits e is = cc
+program_built_of files (Err f) P fits e is = cc
 
-program_whole_of : (forms : List Form) (r : Result Contents NameFault) (P : Program) → IsWellFormed forms → file_contents forms ≡ r → result_map program_of r ≡ Ok P → IsWhole P
-program_whole_of forms (Ok c) P fits e is =
+program_whole_of : (files : List (List Form)) (r : Result Contents NameFault) (P : Program) → AreWellFormed files → files_contents first_names files ≡ r → result_map program_of r ≡ Ok P → IsWhole P
+program_whole_of files (Ok c) P fits e is =
     let same : program_of c ≡ P = cc in
     let top = length known_words + length c.words in
-    let built = contents_built forms (codes "syntax" ∷ []) c fits e in
+    let built = contents_built files c fits e in
     subst IsWhole same (whole (known_words ++ c.words ++ top_word c.phrase ∷ []) top (program_built c built.0 built.1) (all_few top c built.0))
-program_whole_of forms (Err f) P fits e is = cc
+program_whole_of files (Err f) P fits e is = cc
 
-pub resolved_built : (forms : List Form) (e : Result Program ResolveFault) → IsWellFormed forms → Resolves forms e → IfOk e (λ P. IsBuilt P)
-resolved_built forms (Ok P) fits h = program_built_of forms (file_contents forms) P fits refl h
-resolved_built forms (Err f) fits h = tt
+pub resolved_built : (files : List (List Form)) (e : Result Program ResolveFault) → AreWellFormed files → Resolves files e → IfOk e (λ P. IsBuilt P)
+resolved_built files (Ok P) fits h = program_built_of files (files_contents first_names files) P fits refl h
+resolved_built files (Err f) fits h = tt
 
-pub resolved_are_whole : (forms : List Form) (P : Program) → IsWellFormed forms → resolved forms ≡ Ok P → IsWhole P
-resolved_are_whole forms P fits h = program_whole_of forms (file_contents forms) P fits refl h
+pub resolved_are_whole : (files : List (List Form)) (P : Program) → AreWellFormed files → resolved files ≡ Ok P → IsWhole P
+resolved_are_whole files P fits h = program_whole_of files (files_contents first_names files) P fits refl h
 
-pub resolved_whole : (forms : List Form) (e : Result Program ResolveFault) → IsWellFormed forms → Resolves forms e → IfOk e (λ P. IsWhole P)
-resolved_whole forms (Ok P) fits h = program_whole_of forms (file_contents forms) P fits refl h
-resolved_whole forms (Err f) fits h = tt
+pub resolved_whole : (files : List (List Form)) (e : Result Program ResolveFault) → AreWellFormed files → Resolves files e → IfOk e (λ P. IsWhole P)
+resolved_whole files (Ok P) fits h = program_whole_of files (files_contents first_names files) P fits refl h
+resolved_whole files (Err f) fits h = tt

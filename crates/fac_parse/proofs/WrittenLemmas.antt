@@ -10,7 +10,9 @@ use Rattle.fac_lang.specs.declared.tree.Term.{Term}
 use Rattle.fac_lang.specs.declared.tree.Term.TheVariants as term
 use Rattle.fac_parse.specs.declared.resolver.NameFault.{NameFault}
 use Rattle.fac_parse.specs.Resolution.{found, result_map, word_item, item_of, term_place, Following, with_item, with_quotation, opened, closed, following}
-use Rattle.fac_parse.specs.Trees.{token_text, Lead}
+use Rattle.fac_parse.specs.Trees.{token_text}
+use Rattle.fac_parse.specs.inner.Resolver.{Nests}
+use Rattle.fac_parse.proofs.ResolutionLemmas.{lead_nests}
 use Rattle.fac_parse.specs.Written.{Sign, one, opens, closes, phrase_signs, item_signs, with_sign, elements_signs, PhrasesAreWrittenAsItems}
 
 -- the phrases around, each behind the bracket that ends the one before
@@ -59,12 +61,12 @@ closed_spells : (depth : ℕ) (rest : Result Following NameFault) (q : Result (L
 closed_spells depth (Err fault) q lt h = ap (result_map (λ (signs : List Sign). closes ∷ signs)) h
 closed_spells depth (Ok f) q lt h = (let less = h.0 in omega (arith, less, lt), ap (result_map (λ (signs : List Sign). closes ∷ signs)) h.1)
 
-elements_spell : (known : List FullName) (used : List (List ℕ)) (most depth : ℕ) (items : List Element) → Lead most depth items 0 → Spells depth (following known used items) (elements_signs known used items)
-elements_spell known used most depth [] h = (sym h, refl)
-elements_spell known used most depth (element.Item item ∷ items) h =
-    item_spells depth (item_of known used item) (term_place item) (following known used items) (elements_signs known used items) (λ i e. item_alone known used item i (term_place item) e) (elements_spell known used most depth items h.1)
-elements_spell known used most depth (element.Opens place ∷ items) h = opened_spells depth place (following known used items) (elements_signs known used items) (elements_spell known used most (depth + 1) items h.1)
-elements_spell known used most depth (element.Closes place ∷ items) h = closed_spells depth (following known used items) (elements_signs known used items) h.0 (elements_spell known used most (depth - 1) items h.1)
+elements_spell : (known : List FullName) (used : List (List ℕ)) (depth : ℕ) (items : List Element) → Nests depth items → Spells depth (following known used items) (elements_signs known used items)
+elements_spell known used depth [] h = (sym h, refl)
+elements_spell known used depth (element.Item item ∷ items) h =
+    item_spells depth (item_of known used item) (term_place item) (following known used items) (elements_signs known used items) (λ i e. item_alone known used item i (term_place item) e) (elements_spell known used depth items h.1)
+elements_spell known used depth (element.Opens place ∷ items) h = opened_spells depth place (following known used items) (elements_signs known used items) (elements_spell known used (depth + 1) items h.1)
+elements_spell known used depth (element.Closes place ∷ items) h = closed_spells depth (following known used items) (elements_signs known used items) h.0 (elements_spell known used (depth - 1) items h.1)
 
 none_around : (here : Phrase) (around : List Phrase) → length around ≡ 0 → phrase_signs here ≡ phrase_signs here ++ around_signs around
 none_around here [] e = sym (append-nil (phrase_signs here))
@@ -75,4 +77,4 @@ here_spells (Ok f) q h = ap (λ (signs : List Sign). Ok signs) (none_around f.he
 here_spells (Err fault) q h = sym h
 
 pub phrases_are_written : PhrasesAreWrittenAsItems
-phrases_are_written known used most items h = here_spells (following known used items) (elements_signs known used items) (elements_spell known used most 0 items h)
+phrases_are_written known used items h = here_spells (following known used items) (elements_signs known used items) (elements_spell known used 0 items (lead_nests [] items h))

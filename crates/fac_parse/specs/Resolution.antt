@@ -1,10 +1,11 @@
--- The program of a tree, or its first refused name.
+-- The program of the trees of files, or their first refused name.
 use Rattle.std.specs.Prelude.{◌≡◌, ℕ, ◌+◌, Bool, true, false, ◌&&◌, List, [], ◌∷◌, ◌++◌, length, Option, Some, None, is_some, Result, Ok, Err, codes, if◌then◌else◌}
 use Rattle.std.specs.Str.{bytes_eq}
 use Rattle.fac_lang.specs.CoreWords.{built_core_words}
 use Rattle.fac_lang.specs.PrimitiveWords.{PrimitiveWord, written_effect, plain_inputs}
 use Rattle.fac_lang.specs.Primitives.{built_primitive_words}
 use Rattle.fac_lang.specs.Signatures.{Signature, signature, no_inputs, Leaving, never, leaves}
+use Rattle.fac_lang.specs.RunningLaws.{append}
 use Rattle.fac_lang.specs.Whole.{IsWhole}
 use Rattle.fac_lang.specs.Phrases.{Phrase, end, then as placed, Item, lit, int, yes, no, quot, word}
 use Rattle.fac_lang.specs.declared.phrase.Place.{Place}
@@ -16,6 +17,10 @@ use Rattle.fac_lang.specs.declared.program.WordDef.{WordDef}
 use Rattle.fac_lang.specs.declared.token.Token.{Token}
 use Rattle.fac_lang.specs.declared.tree.Form.{Form}
 use Rattle.fac_lang.specs.declared.tree.Form.TheVariants as form
+use Rattle.fac_lang.specs.declared.tree.FormKind.{FormKind}
+use Rattle.fac_lang.specs.declared.tree.FormKind.TheVariants.{Using, Define}
+use Rattle.fac_lang.specs.declared.tree.Part.{Part}
+use Rattle.fac_lang.specs.declared.tree.Part.TheVariants as part
 use Rattle.fac_lang.specs.declared.tree.Term.{Term}
 use Rattle.fac_lang.specs.declared.tree.Term.TheVariants as term
 use Rattle.fac_lang.specs.declared.tree.Element.{Element}
@@ -28,7 +33,7 @@ use Rattle.fac_parse.specs.declared.resolver.NameKind.{NameKind}
 use Rattle.fac_parse.specs.declared.resolver.NameKind.TheVariants.{Unknown, Twice, NoVocab}
 use Rattle.fac_parse.specs.declared.resolver.ResolveFault.{ResolveFault}
 use Rattle.fac_parse.specs.declared.resolver.ResolveFault.TheVariants.{Name, Memory}
-use Rattle.fac_parse.specs.Trees.{token_text, IsWellFormed}
+use Rattle.fac_parse.specs.Trees.{token_text, AreWellFormed}
 use Rattle.fac_parse.specs.Vocabularies.{is_vocabulary, with_used}
 
 -- where a word stands that no source defines
@@ -180,7 +185,7 @@ abbrev pub defined_word : Token → WrittenEffect → Option Mark → Phrase →
 defined_word name effect mark phrase =
     record { name = own_name (token_text name.kind); sort = Body phrase; effect = effect_of effect; inline = is_inline mark; recursive = is_recursive mark; place = name.place }
 
--- the words that a file defines, and the phrase of its items
+-- the words that files define, and the phrase of their items
 pub record Contents : Type 0 where
   pub words : List WordDef
   pub phrase : Phrase
@@ -188,11 +193,6 @@ pub record Contents : Type 0 where
 abbrev pub after_uses : Result (List (List ℕ)) NameFault → (List (List ℕ) → Result Contents NameFault) → Result Contents NameFault
 after_uses (Ok used) rest = rest used
 after_uses (Err fault) rest = Err fault
-
--- an item at the top level before what follows
-abbrev pub with_top_item : Result Item NameFault → Place → Result Contents NameFault → Result Contents NameFault
-with_top_item (Err fault) place rest = Err fault
-with_top_item (Ok item) place rest = result_map (λ c. record { words = c.words; phrase = placed item place c.phrase }) rest
 
 -- a word before what follows
 abbrev pub with_defined : Result WordDef NameFault → Result Contents NameFault → Result Contents NameFault
@@ -204,42 +204,80 @@ abbrev pub unless_taken : Bool → Token → Result Contents NameFault → Resul
 unless_taken true name rest = Err (name_fault Twice name)
 unless_taken false name rest = rest
 
--- What forms define and do, where these words are known and these vocabularies used, or the first refused name. A word's own name is
--- known in its phrase.
-abbrev pub contents_of : List FullName → List (List ℕ) → List Form → Result Contents NameFault
-contents_of known used [] = Ok (record { words = []; phrase = end })
-contents_of known used (form.Using opens vocabs closes ∷ forms) = after_uses (uses used vocabs) (λ more. contents_of known more forms)
-contents_of known used (form.Define opens name effect items closes mark ∷ forms) =
+-- items at the top level before what follows
+abbrev pub with_top_items : Result Phrase NameFault → Result Contents NameFault → Result Contents NameFault
+with_top_items (Err fault) rest = Err fault
+with_top_items (Ok phrase) rest = result_map (λ c. record { words = c.words; phrase = append phrase c.phrase }) rest
+
+-- what a row says: that vocabularies are used, or a definition, with its mark if there is one
+pub data Meant : Type 0 where
+  using : List Token → Meant
+  defining : Token → WrittenEffect → List Element → Option Mark → Meant
+  nothing : Meant
+
+abbrev pub mark_of : List Mark → Option Mark
+mark_of [] = None
+mark_of (mark ∷ marks) = Some mark
+
+-- what a row with these parts says; nothing where they don't fill it
+abbrev pub meant : FormKind → List Part → Meant
+meant Using (part.Names vocabs ends ∷ []) = using vocabs
+meant Define (part.Name name ∷ part.Effect effect ∷ part.Items elements ends ∷ part.Marks marks ∷ []) = defining name effect elements (mark_of marks)
+meant _ _ = nothing
+
+-- what stands behind a form, by the names that are known and the vocabularies that are used then
+abbrev pub Rest : Type 0
+Rest = List FullName → List (List ℕ) → Result Contents NameFault
+
+-- What a row does before what follows. A word's own name is known in its phrase.
+abbrev pub row_contents : Meant → List FullName → List (List ℕ) → Rest → Result Contents NameFault
+row_contents (using vocabs) known used rest = after_uses (uses used vocabs) (λ more. rest known more)
+row_contents (defining name effect items mark) known used rest =
     let more = known ++ own_name (token_text name.kind) ∷ [] in
-    unless_taken (is_taken known (token_text name.kind)) name (with_defined (result_map (defined_word name effect mark) (phrase_of more used items)) (contents_of more used forms))
-contents_of known used (form.Item item ∷ forms) = with_top_item (item_of known used item) (term_place item) (contents_of known used forms)
-contents_of known used (form.Quotation opens items closes ∷ forms) = with_top_item (result_map quot (phrase_of known used items)) opens (contents_of known used forms)
+    unless_taken (is_taken known (token_text name.kind)) name (with_defined (result_map (defined_word name effect mark) (phrase_of more used items)) (rest more used))
+row_contents nothing known used rest = rest known used
+
+-- what the files behind these forms define and do, by the names that are known then
+abbrev pub Behind : Type 0
+Behind = List FullName → Result Contents NameFault
+
+-- What forms define and do, where these words are known and these vocabularies used, and then what stands behind them; or the first
+-- refused name.
+abbrev pub contents_of : List FullName → List (List ℕ) → List Form → Behind → Result Contents NameFault
+contents_of known used [] behind = behind known
+contents_of known used (form.Row kind opens parts ∷ forms) behind = row_contents (meant kind parts) known used (λ more vocabs. contents_of more vocabs forms behind)
+contents_of known used (form.Items elements ∷ forms) behind = with_top_items (phrase_of known used elements) (contents_of known used forms behind)
+
+-- a file begins with `syntax` alone used
+abbrev pub first_used : List (List ℕ)
+first_used = codes "syntax" ∷ []
+
+-- What files define and do, one behind the other. Each knows the words of those before it.
+abbrev pub files_contents : List FullName → List (List Form) → Result Contents NameFault
+files_contents known [] = Ok (record { words = []; phrase = end })
+files_contents known (forms ∷ files) = contents_of known first_used forms (λ more. files_contents more files)
 
 -- the names that are known before a source is read
 abbrev pub first_names : List FullName
 first_names = names_of known_words
 
--- a file begins with `syntax` alone used
-abbrev pub file_contents : List Form → Result Contents NameFault
-file_contents forms = contents_of first_names (codes "syntax" ∷ []) forms
-
 -- the word of the top-level phrase
 abbrev pub top_word : Phrase → WordDef
 top_word phrase = plain_word [] (codes "top-level") (Body phrase) (signature None no_inputs (leaves None []))
 
--- the words that are known from the start, those of the file in its order, and the top-level phrase
+-- the words that are known from the start, those of the files in their order, and the top-level phrase
 abbrev pub program_of : Contents → Program
 program_of c = record { words = known_words ++ c.words ++ top_word c.phrase ∷ []; arrays = []; classes = []; top = length known_words + length c.words }
 
--- the program of a tree, or the first refused name by place
-abbrev pub resolved : List Form → Result Program NameFault
-resolved forms = result_map program_of (file_contents forms)
+-- the program of the forms of files, in order, or the first refused name by place
+abbrev pub resolved : List (List Form) → Result Program NameFault
+resolved files = result_map program_of (files_contents first_names files)
 
-abbrev pub Resolves : List Form → Result Program ResolveFault → Type 0
-Resolves forms (Ok program) = resolved forms ≡ Ok program
-Resolves forms (Err (Name fault)) = resolved forms ≡ Err fault
-Resolves forms (Err Memory) = Unit {0}
+abbrev pub Resolves : List (List Form) → Result Program ResolveFault → Type 0
+Resolves files (Ok program) = resolved files ≡ Ok program
+Resolves files (Err (Name fault)) = resolved files ≡ Err fault
+Resolves files (Err Memory) = Unit {0}
 
 -- a program that names resolve to is whole
 abbrev pub ResolvedAreWhole : Type 0
-ResolvedAreWhole = (forms : List Form) (program : Program) → IsWellFormed forms → resolved forms ≡ Ok program → IsWhole program
+ResolvedAreWhole = (files : List (List Form)) (program : Program) → AreWellFormed files → resolved files ≡ Ok program → IsWhole program

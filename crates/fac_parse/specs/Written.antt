@@ -42,4 +42,4 @@ elements_signs known used (p ∷ ps) = with_sign (element_sign known used p) (el
 
 -- The phrase of items is written as the items are, and their first refused name is the phrase's.
 abbrev pub PhrasesAreWrittenAsItems : Type 0
-PhrasesAreWrittenAsItems = (known : List FullName) (used : List (List ℕ)) (most : ℕ) (items : List Element) → AreItems most items → result_map phrase_signs (phrase_of known used items) ≡ elements_signs known used items
+PhrasesAreWrittenAsItems = (known : List FullName) (used : List (List ℕ)) (items : List Element) → AreItems items → result_map phrase_signs (phrase_of known used items) ≡ elements_signs known used items

@@ -1,7 +1,7 @@
 //! Laws of the grammar, each on the contract of a function that does nothing.
 ghost use Rattle.fac_parse.specs.Spellings.{LiteralsAreIntegers};
 ghost use Rattle.fac_parse.specs.Resolution.{ResolvedAreWhole};
-ghost use Rattle.fac_parse.specs.Trees.{OneTree, TreeOrNone};
+ghost use Rattle.fac_parse.specs.Trees.{OnePlace, OneTree, SomePlace, TreeOrNone};
 ghost use Rattle.fac_parse.specs.Written.{PhrasesAreWrittenAsItems};
 
 /// No two trees have the same tokens.
@@ -12,6 +12,16 @@ pub fn one_tree()
 /// Tokens are those of a tree, or of none.
 pub fn tree_or_none()
     ensures { TreeOrNone }
+{}
+
+/// Tokens of no tree are refused at one place, and for one reason.
+pub fn one_place()
+    ensures { OnePlace }
+{}
+
+/// Tokens of no tree are refused at some place.
+pub fn some_place()
+    ensures { SomePlace }
 {}
 
 /// A program that names resolve to is whole.

@@ -1,22 +1,27 @@
 //! The tree of a source's tokens.
 ghost use Rattle.std.specs.Prelude.{◌≡◌, ◌++◌, ◌∷◌, [], OnOk, IfOk};
-ghost use Rattle.fac_parse.specs.Trees.{Parses, file_of};
-ghost use Rattle.fac_parse.specs.inner.Reader.{step, top_step, names_step, colon_step, named_step, inputs_step, is_fit, outputs_step, with_element, element_step, body_step, quotation_step, part_step};
-ghost use Rattle.fac_parse.specs.inner.Reader.{mark_of, defined_form, behind_step, unmarked, form_before, next_state, ended_form, last_forms, Answers, AmongInputs, AmongOutputs, AnswersElement, AnswersItems, Takes, Finishes};
-ghost use Rattle.fac_parse.specs.Spellings.{token_spelling};
+ghost use Rattle.fac_parse.specs.Trees.{Parses, behind, opened, quotation_closed, file_of};
+ghost use Rattle.fac_parse.specs.inner.Reader.{in_state, row, begin, begun_at, row_ended, go_on as goes_on, with_part, with_run, begin_row as row_begins, begins, is_semi, element_of, more, written, end_items as items_end};
+ghost use Rattle.fac_parse.specs.inner.Reader.{top_step, name_step, names_step, key_step, fixed_step, effect_step, may_add as may_have, inputs_step, outputs_step, items_step, mark_of, with_mark, marks_step, step, ended, ended_top, start};
+ghost use Rattle.fac_parse.specs.inner.Reader.{state_of, Goes, Passes, Adds, Finishes, IsSyntax, TakesAll, GivesForms};
+ghost use Rattle.fac_lang.specs.declared.tree.Part.TheVariants as part;
 
-use crate::spelling::{Spelling, classify, closes_quotation, is_semicolon, names_a_value};
+use crate::context::{Bracket, Context};
+use crate::rows::{Slot, slot_at};
+use crate::spelling::{Spelling, classify, names_a_value};
 use fac_lang::limits::{MOST_LEVELS, MOST_NAMES};
 use fac_lang::{
-    Duplicate, Element, Form, List, Mark, Memory, Place, Term, Token, Tree, WrittenEffect,
+    Element, Form, FormKind, Key, List, Mark, Memory, Part, Place, Stack, Term, Token, Tree,
+    WrittenEffect,
 };
 use std::alloc::Global;
+use std::mem;
 use thiserror::Error;
 
 /// Why a source gives no tree.
 #[derive(Clone, Copy, Debug, PartialEq, Eq, Error)]
 pub enum ParseFault {
-    /// No tree has these tokens. `at` is 0.
+    /// No tree has these tokens. `at` is the number of the token behind the longest beginning of a tree.
     #[error("the tokens are in no tree")]
     Syntax { at: u32, why: Why },
     #[error("out of memory")]
@@ -26,8 +31,9 @@ pub enum ParseFault {
 /// What is wrong with tokens that are in no tree.
 #[derive(Clone, Copy, Debug, PartialEq, Eq)]
 pub enum Why {
-    /// They end too early.
+    /// All of them begin a tree, and they end too early.
     End,
+    /// No tree begins with the token that is told and those before it.
     Other,
 }
 
@@ -41,575 +47,624 @@ impl From<Memory> for ParseFault {
     }
 }
 
-/// A definition as far as the `(` of its effect.
-#[derive(Drop)]
-pub struct Head {
-    /// The `:`.
-    pub opens: Place,
-    pub name: Token,
-    /// The `(`.
-    pub starts: Place,
-}
-
-/// Items in which quotations may be open.
-#[derive(Drop)]
-pub struct Items {
-    pub elements: List<Element>,
-    /// The number of quotations that are open.
-    pub depth: u32,
-}
-
-/// A form that isn't closed, with what was read of it.
-#[derive(Drop)]
-pub enum Part {
-    /// `USING:` and names.
-    Names {
-        opens: Place,
-        names: List<Token>,
-    },
-    /// The `:` of a definition.
-    Colon {
-        opens: Place,
-    },
-    /// `:` and the name of a definition.
-    Named {
-        opens: Place,
-        name: Token,
-    },
-    /// A definition as far as some inputs of its effect.
-    Inputs {
-        head: Head,
-        ins: List<Token>,
-    },
-    /// A definition as far as some outputs of its effect.
-    Outputs {
-        head: Head,
-        ins: List<Token>,
-        dashes: Place,
-        outs: List<Token>,
-    },
-    /// A definition as far as some of its items.
-    Body {
-        opens: Place,
-        name: Token,
-        effect: WrittenEffect,
-        items: Items,
-    },
-    /// A quotation at the top level as far as some of its items.
-    Quotation {
-        opens: Place,
-        items: Items,
-    },
-}
-
-/// A definition as far as its `;`.
-#[derive(Drop)]
-pub struct Definition {
-    pub opens: Place,
-    pub name: Token,
-    pub effect: WrittenEffect,
-    pub items: List<Element>,
-    pub closes: Place,
-}
-
-/// What stands before a token.
-#[derive(Drop)]
-pub enum State {
-    /// Whole forms.
-    Top,
-    /// A definition that a mark may follow.
-    Behind(Definition),
-    /// A form that isn't closed.
-    Inside(Part),
-}
-
-/// What a token does among the inputs or the outputs of an effect.
+/// The first token of a row.
 #[derive(Clone, Copy)]
-pub enum AmongNames {
-    /// It is one more of them.
-    Adds,
-    /// It ends them.
-    Ends,
-    /// It may not stand there.
-    Refused,
+pub struct Head {
+    pub kind: FormKind,
+    pub opens: Place,
 }
 
-/// What a token does.
+/// Where the next token stands.
+#[derive(Clone, Copy)]
+pub enum At {
+    /// Among items at the top level, or between two rows.
+    Top,
+    /// Where a row has a name.
+    Name(Head),
+    /// Among names.
+    Names(Head),
+    /// Where a row has a fixed token.
+    Fixed(Head, Key),
+    /// Where an effect begins.
+    Effect(Head),
+    /// Among the inputs of an effect, behind its `(`.
+    Inputs(Head, Place),
+    /// Among the outputs of an effect, behind its `(` and its `--`.
+    Outputs(Head, Place, Place),
+    /// Among the items of a row.
+    Items(Head),
+    /// Behind the `;` of a row that may have marks.
+    Marks(Head),
+}
+
+/// What was read so far. What stands in a list counts where the next token stands among what the list has.
 #[derive(Drop)]
-pub enum Taken {
-    /// It begins a form or goes on with one.
-    Goes(Part),
-    /// It ends a form.
-    Ends(Form),
-    /// It is the `;` of a definition.
-    Completes(Definition),
+pub struct Reader {
+    /// The forms that are whole.
+    pub forms: List<Form>,
+    /// The parts of the row that are whole.
+    pub parts: List<Part>,
+    /// Names, or the inputs of an effect.
+    pub names: List<Token>,
+    /// The outputs of an effect.
+    pub outs: List<Token>,
+    /// Items.
+    pub elements: List<Element>,
+    /// The brackets that are open among the items.
+    pub contexts: Stack<Context>,
+    pub marks: List<Mark>,
+    pub at: At,
 }
 
-// The one refusal.
-fn refused() -> ParseFault
-    ensures { result ≡ ParseFault.Syntax 0 Why.Other }
-{
-    ParseFault::Syntax {
-        at: 0,
-        why: Why::Other,
-    }
-}
-
-// Takes a token outside of all forms.
-fn take_at_top(alloc: Global, token: &Token) -> Result<Taken, ParseFault>
-    ensures { Answers (top_step (token_spelling token.now.kind) token.now) result }
-{
-    match classify(&token.kind) {
-        Spelling::Using => Ok(Taken::Goes(Part::Names {
-            opens: token.place,
-            names: List::new(alloc),
-        })),
-        Spelling::Colon => Ok(Taken::Goes(Part::Colon { opens: token.place })),
-        Spelling::OpensQuotation => Ok(Taken::Goes(Part::Quotation {
-            opens: token.place,
-            items: Items {
-                elements: List::new(alloc),
-                depth: 0,
-            },
-        })),
-        Spelling::Integer(value) => Ok(Taken::Ends(Form::Item(Term::Integer(
-            token.copy(alloc)?,
-            value,
-        )))),
-        Spelling::True => Ok(Taken::Ends(Form::Item(Term::True(token.place)))),
-        Spelling::False => Ok(Taken::Ends(Form::Item(Term::False(token.place)))),
-        Spelling::Name => Ok(Taken::Ends(Form::Item(Term::Name(token.copy(alloc)?)))),
-        _ => Err(refused()),
-    }
-}
-
-// Adds a copy of a token.
-fn add_token(alloc: Global, tokens: &mut List<Token>, token: &Token) -> Result<(), Memory>
-    ensures { OnOk result (tokens.new ≡ tokens.old ++ token.now ∷ []) }
-{
-    tokens.push(token.copy(alloc)?)
-}
-
-// Takes a token among the names of a `USING:`.
-fn take_vocab(
-    alloc: Global,
-    opens: Place,
-    mut names: List<Token>,
-    token: &Token,
-) -> Result<Taken, ParseFault>
-    ensures { Answers (names_step opens names (token_spelling token.now.kind) token.now) result }
-{
-    match classify(&token.kind) {
-        Spelling::Name => {
-            add_token(alloc, &mut names, token)?;
-            Ok(Taken::Goes(Part::Names { opens, names }))
-        }
-        Spelling::Semi => Ok(Taken::Ends(Form::Using {
-            opens,
-            vocabs: names,
-            closes: token.place,
-        })),
-        _ => Err(refused()),
-    }
-}
-
-// Takes the token behind the `:` of a definition.
-fn take_defined(alloc: Global, opens: Place, token: &Token) -> Result<Taken, ParseFault>
-    ensures { Answers (colon_step opens (token_spelling token.now.kind) token.now) result }
-{
-    match classify(&token.kind) {
-        Spelling::Name => Ok(Taken::Goes(Part::Named {
-            opens,
-            name: token.copy(alloc)?,
-        })),
-        _ => Err(refused()),
-    }
-}
-
-// Takes the token behind the name of a definition.
-fn take_start(alloc: Global, opens: Place, name: Token, token: &Token) -> Result<Taken, ParseFault>
-    ensures { Answers (named_step opens name (token_spelling token.now.kind) token.now) result }
-{
-    match classify(&token.kind) {
-        Spelling::Opens => Ok(Taken::Goes(Part::Inputs {
-            head: Head {
-                opens,
-                name,
-                starts: token.place,
-            },
-            ins: List::new(alloc),
-        })),
-        _ => Err(refused()),
-    }
-}
-
-// What a token does among the inputs of an effect.
-fn among_inputs(token: &Token) -> AmongNames
-    ensures { AmongInputs (token_spelling token.now.kind) token.now result }
-{
-    match classify(&token.kind) {
-        Spelling::Name => {
-            if names_a_value(token) {
-                AmongNames::Adds
-            } else {
-                AmongNames::Refused
-            }
-        }
-        Spelling::Dashes => AmongNames::Ends,
-        _ => AmongNames::Refused,
-    }
-}
-
-// Takes a token among the inputs of an effect.
-fn take_input(
-    alloc: Global,
-    head: Head,
-    mut ins: List<Token>,
-    token: &Token,
-) -> Result<Taken, ParseFault>
-    ensures { Answers (inputs_step head ins (token_spelling token.now.kind) token.now) result }
-{
-    match among_inputs(token) {
-        AmongNames::Adds => {
-            add_token(alloc, &mut ins, token)?;
-            Ok(Taken::Goes(Part::Inputs { head, ins }))
-        }
-        AmongNames::Ends => Ok(Taken::Goes(Part::Outputs {
-            head,
-            ins,
-            dashes: token.place,
-            outs: List::new(alloc),
-        })),
-        AmongNames::Refused => Err(refused()),
-    }
-}
-
-// Whether these can be the inputs and outputs of an effect.
-fn fits(ins: &List<Token>, outs: &List<Token>) -> bool
-    ensures { result ≡ is_fit ins.now outs.now }
-{
-    ins.len() as u64 + outs.len() as u64 <= MOST_NAMES
-}
-
-// What a token does among the outputs of an effect.
-fn among_outputs(ins: &List<Token>, outs: &List<Token>, token: &Token) -> AmongNames
-    ensures { AmongOutputs ins.now outs.now (token_spelling token.now.kind) token.now result }
-{
-    match classify(&token.kind) {
-        Spelling::Name => {
-            if names_a_value(token) {
-                AmongNames::Adds
-            } else {
-                AmongNames::Refused
-            }
-        }
-        Spelling::Closes => {
-            if fits(ins, outs) {
-                AmongNames::Ends
-            } else {
-                AmongNames::Refused
-            }
-        }
-        _ => AmongNames::Refused,
-    }
-}
-
-// Takes a token among the outputs of an effect.
-fn take_output(
-    alloc: Global,
-    head: Head,
-    ins: List<Token>,
-    dashes: Place,
-    mut outs: List<Token>,
-    token: &Token,
-) -> Result<Taken, ParseFault>
-    ensures { Answers (outputs_step head ins dashes outs (token_spelling token.now.kind) token.now) result }
-{
-    match among_outputs(&ins, &outs, token) {
-        AmongNames::Adds => {
-            add_token(alloc, &mut outs, token)?;
-            Ok(Taken::Goes(Part::Outputs {
-                head,
-                ins,
-                dashes,
-                outs,
-            }))
-        }
-        AmongNames::Ends => {
-            let Head {
-                opens,
-                name,
-                starts,
-            } = head;
-            Ok(Taken::Goes(Part::Body {
-                opens,
-                name,
-                effect: WrittenEffect {
-                    opens: starts,
-                    ins,
-                    dashes,
-                    outs,
-                    closes: token.place,
-                },
-                items: Items {
-                    elements: List::new(alloc),
-                    depth: 0,
-                },
-            }))
-        }
-        AmongNames::Refused => Err(refused()),
-    }
-}
-
-// Items with an element more, behind which so many quotations are open.
-fn with(items: Items, element: Element, depth: u32) -> Result<Items, Memory>
-    ensures { IfOk result (λ more. more ≡ with_element items element depth) }
-{
-    let Items { mut elements, .. } = items;
-    elements.push(element)?;
-    Ok(Items { elements, depth })
-}
-
-// The element that a token of this spelling is among items, where so many quotations may be open, and how many are open behind it.
-fn next_element(
-    alloc: Global,
-    most: u32,
-    items: &Items,
-    spelling: Spelling,
-    token: &Token,
-) -> Result<(Element, u32), ParseFault>
-    ensures { AnswersElement (element_step most items.now spelling token.now) items.now result }
+// The row that a token of this spelling begins.
+fn row_begun(spelling: Spelling) -> Option<FormKind>
+    ensures { result ≡ begins spelling }
 {
     match spelling {
-        Spelling::Integer(value) => {
-            let item = Term::Integer(token.copy(alloc)?, value);
-            Ok((Element::Item(item), items.depth))
-        }
-        Spelling::Name => {
-            let item = Term::Name(token.copy(alloc)?);
-            Ok((Element::Item(item), items.depth))
-        }
-        Spelling::True => Ok((Element::Item(Term::True(token.place)), items.depth)),
-        Spelling::False => Ok((Element::Item(Term::False(token.place)), items.depth)),
-        Spelling::OpensQuotation => {
-            if items.depth < most {
-                Ok((Element::Opens(token.place), items.depth + 1))
-            } else {
-                Err(refused())
-            }
-        }
-        Spelling::ClosesQuotation => {
-            if 0 < items.depth {
-                Ok((Element::Closes(token.place), items.depth - 1))
-            } else {
-                Err(refused())
-            }
-        }
-        _ => Err(refused()),
-    }
-}
-
-// Takes a token of this spelling among items, where so many quotations may be open.
-fn take_element(
-    alloc: Global,
-    most: u32,
-    items: Items,
-    spelling: Spelling,
-    token: &Token,
-) -> Result<Items, ParseFault>
-    ensures { AnswersItems (element_step most items spelling token.now) result }
-{
-    match next_element(alloc, most, &items, spelling, token) {
-        Ok((element, depth)) => Ok(with(items, element, depth)?),
-        Err(fault) => Err(fault),
-    }
-}
-
-// Takes a token among the items of a definition.
-fn take_in_body(
-    alloc: Global,
-    opens: Place,
-    name: Token,
-    effect: WrittenEffect,
-    items: Items,
-    token: &Token,
-) -> Result<Taken, ParseFault>
-    ensures { Answers (body_step opens name effect items (token_spelling token.now.kind) token.now) result }
-{
-    let spelling = classify(&token.kind);
-    if is_semicolon(spelling) && items.depth == 0 {
-        Ok(Taken::Completes(Definition {
-            opens,
-            name,
-            effect,
-            items: items.elements,
-            closes: token.place,
-        }))
-    } else {
-        match take_element(alloc, MOST_LEVELS, items, spelling, token) {
-            Ok(items) => Ok(Taken::Goes(Part::Body {
-                opens,
-                name,
-                effect,
-                items,
-            })),
-            Err(fault) => Err(fault),
-        }
-    }
-}
-
-// Takes a token among the items of a quotation at the top level.
-fn take_in_quotation(
-    alloc: Global,
-    opens: Place,
-    items: Items,
-    token: &Token,
-) -> Result<Taken, ParseFault>
-    ensures { Answers (quotation_step opens items (token_spelling token.now.kind) token.now) result }
-{
-    let spelling = classify(&token.kind);
-    if closes_quotation(spelling) && items.depth == 0 {
-        Ok(Taken::Ends(Form::Quotation {
-            opens,
-            items: items.elements,
-            closes: token.place,
-        }))
-    } else {
-        match take_element(alloc, MOST_LEVELS - 1, items, spelling, token) {
-            Ok(items) => Ok(Taken::Goes(Part::Quotation { opens, items })),
-            Err(fault) => Err(fault),
-        }
-    }
-}
-
-// Takes a token where a form is open.
-fn take_inside(alloc: Global, part: Part, token: &Token) -> Result<Taken, ParseFault>
-    ensures { Answers (part_step part (token_spelling token.now.kind) token.now) result }
-{
-    match part {
-        Part::Names { opens, names } => take_vocab(alloc, opens, names, token),
-        Part::Colon { opens } => take_defined(alloc, opens, token),
-        Part::Named { opens, name } => take_start(alloc, opens, name, token),
-        Part::Inputs { head, ins } => take_input(alloc, head, ins, token),
-        Part::Outputs {
-            head,
-            ins,
-            dashes,
-            outs,
-        } => take_output(alloc, head, ins, dashes, outs, token),
-        Part::Body {
-            opens,
-            name,
-            effect,
-            items,
-        } => take_in_body(alloc, opens, name, effect, items, token),
-        Part::Quotation { opens, items } => take_in_quotation(alloc, opens, items, token),
-    }
-}
-
-// The mark that a token is.
-fn mark(token: &Token) -> Option<Mark>
-    ensures { result ≡ mark_of (token_spelling token.now.kind) token.now.place }
-{
-    match classify(&token.kind) {
-        Spelling::Inline => Some(Mark::Inline(token.place)),
-        Spelling::Recursive => Some(Mark::Recursive(token.place)),
+        Spelling::Begins(kind) => Some(kind),
         _ => None,
     }
 }
 
-// The form of a definition.
-fn defined(definition: Definition, mark: Option<Mark>) -> Form
-    ensures { result ≡ defined_form definition mark }
+// Whether a token is `;`.
+fn is_semicolon(spelling: Spelling) -> bool
+    ensures { result ≡ is_semi spelling }
 {
-    let Definition {
-        opens,
-        name,
-        effect,
-        items,
-        closes,
-    } = definition;
-    Form::Define {
-        opens,
-        name,
-        effect,
-        items,
-        closes,
-        mark,
+    match spelling {
+        Spelling::Semi => true,
+        _ => false,
     }
 }
 
-// Adds the form that a token ends.
-fn add(forms: &mut List<Form>, taken: Taken) -> Result<State, Memory>
-    ensures { IfOk result (λ next. (next_state taken ≡ next) × (forms.new ≡ forms.old ++ ended_form taken)) }
+// The element that a token of this spelling is.
+fn element(spelling: Spelling, token: Token) -> Option<Element>
+    ensures { result ≡ element_of spelling token }
 {
-    match taken {
-        Taken::Goes(part) => Ok(State::Inside(part)),
-        Taken::Ends(form) => {
-            forms.push(form)?;
-            Ok(State::Top)
-        }
-        Taken::Completes(definition) => Ok(State::Behind(definition)),
+    match spelling {
+        Spelling::Integer(value) => Some(Element::Item(Term::Integer(token, value))),
+        Spelling::Name => Some(Element::Item(Term::Name(token))),
+        Spelling::True => Some(Element::Item(Term::True(token.place))),
+        Spelling::False => Some(Element::Item(Term::False(token.place))),
+        Spelling::OpensQuotation => Some(Element::Opens(token.place)),
+        Spelling::ClosesQuotation => Some(Element::Closes(token.place)),
+        _ => None,
     }
 }
 
-// Takes a token outside of all forms, and adds the form that it ends.
-fn take_outside(alloc: Global, forms: &mut List<Form>, token: &Token) -> Result<State, ParseFault>
-    ensures { Takes [] (top_step (token_spelling token.now.kind) token.now) forms.old forms.new result }
+// Opens a bracket. False where too many are open.
+fn open(contexts: &mut Stack<Context>, bracket: Bracket) -> Result<bool, Memory>
+    ensures { Passes (opened bracket contexts.old) contexts.new result }
 {
-    match take_at_top(alloc, token) {
-        Ok(taken) => Ok(add(forms, taken)?),
-        Err(fault) => Err(fault),
+    if contexts.len() < MOST_LEVELS as usize {
+        contexts.push(Context { bracket })?;
+        Ok(true)
+    } else {
+        Ok(false)
     }
 }
 
-// Takes a token behind a definition, and adds the forms that end with it or before it.
-fn take_behind(
-    alloc: Global,
-    forms: &mut List<Form>,
-    definition: Definition,
-    token: &Token,
-) -> Result<State, ParseFault>
-    ensures { Takes (form_before (State.Behind definition) token.now) (step (State.Behind definition) token.now) forms.old forms.new result }
+// Closes the innermost bracket with a `]`. False where it can't.
+fn close_quotation(contexts: &mut Stack<Context>) -> bool
+    ensures { Passes (quotation_closed contexts.old) contexts.new (Ok result) }
 {
-    let mark = mark(token);
-    forms.push(defined(definition, mark))?;
-    match mark {
-        Some(_) => Ok(State::Top),
-        None => take_outside(alloc, forms, token),
-    }
-}
-
-// Takes a token, and adds the forms that end with it or before it.
-fn take_token(
-    alloc: Global,
-    forms: &mut List<Form>,
-    state: State,
-    token: &Token,
-) -> Result<State, ParseFault>
-    ensures { Takes (form_before state token.now) (step state token.now) forms.old forms.new result }
-{
-    match state {
-        State::Top => take_outside(alloc, forms, token),
-        State::Behind(definition) => take_behind(alloc, forms, definition, token),
-        State::Inside(part) => match take_inside(alloc, part, token) {
-            Ok(taken) => Ok(add(forms, taken)?),
-            Err(fault) => Err(fault),
+    match contexts.pop() {
+        Some(context) => match context.bracket {
+            Bracket::Quotation => true,
         },
+        None => false,
     }
 }
 
-// The forms with those that end where the tokens end.
-fn finished(mut forms: List<Form>, state: State) -> Result<List<Form>, ParseFault>
-    ensures { Finishes forms (last_forms state) result }
+// Goes on behind an element with what is then open. False where it may not stand.
+fn pass(contexts: &mut Stack<Context>, element: &Element) -> Result<bool, Memory>
+    ensures { Passes (behind contexts.old element.now) contexts.new result }
 {
-    match state {
-        State::Top => Ok(forms),
-        State::Behind(definition) => {
-            forms.push(defined(definition, None))?;
-            Ok(forms)
+    match element {
+        Element::Item(_) => Ok(true),
+        Element::Opens(_) => open(contexts, Bracket::Quotation),
+        Element::Closes(_) => Ok(close_quotation(contexts)),
+    }
+}
+
+// The mark that a token of this spelling is.
+fn mark(spelling: Spelling, place: Place) -> Option<Mark>
+    ensures { result ≡ mark_of spelling place }
+{
+    match spelling {
+        Spelling::Inline => Some(Mark::Inline(place)),
+        Spelling::Recursive => Some(Mark::Recursive(place)),
+        _ => None,
+    }
+}
+
+// Whether an effect with these names may have this one more.
+fn may_add(ins: &List<Token>, outs: &List<Token>, token: &Token) -> bool
+    ensures { result ≡ may_have ins.now outs.now token.now }
+{
+    names_a_value(token) && ins.len() as u64 + (outs.len() as u64) < MOST_NAMES
+}
+
+// Adds the element that a token of this spelling is. False where it is none, or may not stand.
+fn add_element(
+    elements: &mut List<Element>,
+    contexts: &mut Stack<Context>,
+    spelling: Spelling,
+    token: Token,
+) -> Result<bool, Memory>
+    ensures { Adds (element_of spelling token) elements.old contexts.old elements.new contexts.new result }
+{
+    match element(spelling, token) {
+        Some(element) => push_element(elements, contexts, element),
+        None => Ok(false),
+    }
+}
+
+// Adds an element. False where it may not stand.
+fn push_element(
+    elements: &mut List<Element>,
+    contexts: &mut Stack<Context>,
+    element: Element,
+) -> Result<bool, Memory>
+    ensures { Adds (Some element) elements.old contexts.old elements.new contexts.new result }
+{
+    if pass(contexts, &element)? {
+        elements.push(element)?;
+        Ok(true)
+    } else {
+        Ok(false)
+    }
+}
+
+// A refusal behind so many tokens.
+fn syntax(count: usize, why: Why) -> ParseFault
+    ensures { IsSyntax count why result }
+{
+    match u32::try_from(count) {
+        Ok(count) if count < u32::MAX => ParseFault::Syntax { at: count + 1, why },
+        _ => ParseFault::Memory,
+    }
+}
+
+impl Reader {
+    // Before the first token.
+    fn new(alloc: Global) -> Reader
+        ensures { state_of result ≡ start }
+    {
+        Reader {
+            forms: List::new(alloc),
+            parts: List::new(alloc),
+            names: List::new(alloc),
+            outs: List::new(alloc),
+            elements: List::new(alloc),
+            contexts: Stack::new(alloc),
+            marks: List::new(alloc),
+            at: At::Top,
         }
-        State::Inside(_) => Err(refused()),
+    }
+
+    // Begins a slot of a row.
+    fn begin_slot(&mut self, alloc: Global, head: Head, slot: Slot)
+        ensures { state_of self.new ≡ in_state self.old.forms (row (begun_at head self.old.parts) (begin slot)) }
+    {
+        match slot {
+            Slot::Name => {
+                self.at = At::Name(head);
+            }
+            Slot::Names => {
+                self.names = List::new(alloc);
+                self.at = At::Names(head);
+            }
+            Slot::Fixed(key) => {
+                self.at = At::Fixed(head, key);
+            }
+            Slot::Effect => {
+                self.at = At::Effect(head);
+            }
+            Slot::Items => {
+                self.elements = List::new(alloc);
+                self.contexts = Stack::new(alloc);
+                self.at = At::Items(head);
+            }
+            Slot::Marks => {
+                self.marks = List::new(alloc);
+                self.at = At::Marks(head);
+            }
+        }
+    }
+
+    // Ends a row.
+    fn end_row(&mut self, alloc: Global, head: Head) -> Result<(), Memory>
+        ensures { OnOk result (state_of self.new ≡ row_ended self.old.forms (begun_at head self.old.parts)) }
+    {
+        let parts = mem::replace(&mut self.parts, List::new(alloc));
+        self.elements = List::new(alloc);
+        self.contexts = Stack::new(alloc);
+        self.at = At::Top;
+        self.forms.push(Form::Row {
+            kind: head.kind,
+            opens: head.opens,
+            parts,
+        })
+    }
+
+    // Goes on with a row behind its parts so far.
+    fn go_on(&mut self, alloc: Global, head: Head) -> Result<(), Memory>
+        ensures { OnOk result (state_of self.new ≡ goes_on self.old.forms (begun_at head self.old.parts)) }
+    {
+        match slot_at(head.kind, self.parts.len() as usize) {
+            Some(slot) => {
+                self.begin_slot(alloc, head, slot);
+                Ok(())
+            }
+            None => self.end_row(alloc, head),
+        }
+    }
+
+    // Adds a part to a row, and goes on.
+    fn add_part(&mut self, alloc: Global, head: Head, part: Part) -> Result<(), Memory>
+        ensures { OnOk result (state_of self.new ≡ with_part self.old.forms (begun_at head self.old.parts) part) }
+    {
+        self.parts.push(part)?;
+        self.go_on(alloc, head)
+    }
+
+    // Ends a run of items, if there is one.
+    fn end_run(&mut self, alloc: Global) -> Result<(), Memory>
+        ensures { OnOk result (self.new.forms ≡ with_run self.old.forms self.old.elements) }
+    {
+        if self.elements.len() == 0 {
+            Ok(())
+        } else {
+            let elements = mem::replace(&mut self.elements, List::new(alloc));
+            self.forms.push(Form::Items(elements))
+        }
+    }
+
+    // Begins a row. False where a bracket is open.
+    fn begin_row(&mut self, alloc: Global, kind: FormKind, opens: Place) -> Result<bool, Memory>
+        ensures { Goes (row_begins kind opens self.old.forms self.old.elements self.old.contexts) (state_of self.new) result }
+    {
+        if self.contexts.len() != 0 {
+            return Ok(false);
+        }
+        self.end_run(alloc)?;
+        self.parts = List::new(alloc);
+        self.go_on(alloc, Head { kind, opens })?;
+        Ok(true)
+    }
+
+    // Takes a token at the top level.
+    fn take_at_top(
+        &mut self,
+        alloc: Global,
+        spelling: Spelling,
+        token: Token,
+    ) -> Result<bool, Memory>
+        requires { self.now.at ≡ At.Top }
+        ensures { Goes (top_step self.old.forms self.old.elements self.old.contexts spelling token) (state_of self.new) result }
+    {
+        match row_begun(spelling) {
+            Some(kind) => self.begin_row(alloc, kind, token.place),
+            None => add_element(&mut self.elements, &mut self.contexts, spelling, token),
+        }
+    }
+
+    // Takes a token where a row has a name.
+    fn take_name(
+        &mut self,
+        alloc: Global,
+        head: Head,
+        spelling: Spelling,
+        token: Token,
+    ) -> Result<bool, Memory>
+        ensures { Goes (name_step self.old.forms (begun_at head self.old.parts) spelling token) (state_of self.new) result }
+    {
+        match spelling {
+            Spelling::Name => {
+                self.add_part(alloc, head, Part::Name(token))?;
+                Ok(true)
+            }
+            _ => Ok(false),
+        }
+    }
+
+    // Takes a token among names.
+    fn take_names(
+        &mut self,
+        alloc: Global,
+        head: Head,
+        spelling: Spelling,
+        token: Token,
+    ) -> Result<bool, Memory>
+        requires { self.now.at ≡ At.Names head }
+        ensures { Goes (names_step self.old.forms (begun_at head self.old.parts) self.old.names spelling token) (state_of self.new) result }
+    {
+        match spelling {
+            Spelling::Name => {
+                self.names.push(token)?;
+                Ok(true)
+            }
+            Spelling::Semi => {
+                let names = mem::replace(&mut self.names, List::new(alloc));
+                let part = Part::Names {
+                    names,
+                    ends: token.place,
+                };
+                self.add_part(alloc, head, part)?;
+                Ok(true)
+            }
+            _ => Ok(false),
+        }
+    }
+
+    // Takes a token where a row has a fixed one.
+    fn take_fixed(
+        &mut self,
+        alloc: Global,
+        head: Head,
+        key: Key,
+        spelling: Spelling,
+        token: Token,
+    ) -> Result<bool, Memory>
+        ensures { Goes (fixed_step self.old.forms (begun_at head self.old.parts) key spelling token) (state_of self.new) result }
+    {
+        match spelling {
+            Spelling::Fixed(other) => match key {
+                Key::Arrow => match other {
+                    Key::Arrow => {
+                        self.add_part(alloc, head, Part::Fixed(key, token.place))?;
+                        Ok(true)
+                    }
+                },
+            },
+            _ => Ok(false),
+        }
+    }
+
+    // Takes a token where an effect begins.
+    fn take_effect(
+        &mut self,
+        alloc: Global,
+        head: Head,
+        spelling: Spelling,
+        token: Token,
+    ) -> Result<bool, Memory>
+        ensures { Goes (effect_step self.old.forms (begun_at head self.old.parts) spelling token) (state_of self.new) result }
+    {
+        match spelling {
+            Spelling::Opens => {
+                self.names = List::new(alloc);
+                self.at = At::Inputs(head, token.place);
+                Ok(true)
+            }
+            _ => Ok(false),
+        }
+    }
+
+    // Takes a token among the inputs of an effect.
+    fn take_input(
+        &mut self,
+        alloc: Global,
+        head: Head,
+        opens: Place,
+        spelling: Spelling,
+        token: Token,
+    ) -> Result<bool, Memory>
+        requires { self.now.at ≡ At.Inputs head opens }
+        ensures { Goes (inputs_step self.old.forms (begun_at head self.old.parts) opens self.old.names spelling token) (state_of self.new) result }
+    {
+        match spelling {
+            Spelling::Name => {
+                if may_add(&self.names, &List::new(alloc), &token) {
+                    self.names.push(token)?;
+                    Ok(true)
+                } else {
+                    Ok(false)
+                }
+            }
+            Spelling::Dashes => {
+                self.outs = List::new(alloc);
+                self.at = At::Outputs(head, opens, token.place);
+                Ok(true)
+            }
+            _ => Ok(false),
+        }
+    }
+
+    // Ends an effect with its `)`.
+    fn end_effect(
+        &mut self,
+        alloc: Global,
+        head: Head,
+        opens: Place,
+        dashes: Place,
+        closes: Place,
+    ) -> Result<(), Memory>
+        ensures { OnOk result (state_of self.new ≡ with_part self.old.forms (begun_at head self.old.parts) (part.Effect (written opens self.old.names dashes self.old.outs closes))) }
+    {
+        let ins = mem::replace(&mut self.names, List::new(alloc));
+        let outs = mem::replace(&mut self.outs, List::new(alloc));
+        let effect = WrittenEffect {
+            opens,
+            ins,
+            dashes,
+            outs,
+            closes,
+        };
+        self.add_part(alloc, head, Part::Effect(effect))
+    }
+
+    // Takes a token among the outputs of an effect.
+    fn take_output(
+        &mut self,
+        alloc: Global,
+        head: Head,
+        opens: Place,
+        dashes: Place,
+        spelling: Spelling,
+        token: Token,
+    ) -> Result<bool, Memory>
+        requires { self.now.at ≡ At.Outputs head opens dashes }
+        ensures { Goes (outputs_step self.old.forms (begun_at head self.old.parts) opens self.old.names dashes self.old.outs spelling token) (state_of self.new) result }
+    {
+        match spelling {
+            Spelling::Name => {
+                if may_add(&self.names, &self.outs, &token) {
+                    self.outs.push(token)?;
+                    Ok(true)
+                } else {
+                    Ok(false)
+                }
+            }
+            Spelling::Closes => {
+                self.end_effect(alloc, head, opens, dashes, token.place)?;
+                Ok(true)
+            }
+            _ => Ok(false),
+        }
+    }
+
+    // Ends the items of a row. False where a bracket is open.
+    fn end_items(&mut self, alloc: Global, head: Head, ends: Place) -> Result<bool, Memory>
+        ensures { Goes (items_end self.old.forms (begun_at head self.old.parts) self.old.elements self.old.contexts ends) (state_of self.new) result }
+    {
+        if self.contexts.len() != 0 {
+            return Ok(false);
+        }
+        let elements = mem::replace(&mut self.elements, List::new(alloc));
+        self.add_part(alloc, head, Part::Items { elements, ends })?;
+        Ok(true)
+    }
+
+    // Takes a token among the items of a row.
+    fn take_in_items(
+        &mut self,
+        alloc: Global,
+        head: Head,
+        spelling: Spelling,
+        token: Token,
+    ) -> Result<bool, Memory>
+        requires { self.now.at ≡ At.Items head }
+        ensures { Goes (items_step self.old.forms (begun_at head self.old.parts) self.old.elements self.old.contexts spelling token) (state_of self.new) result }
+    {
+        if is_semicolon(spelling) {
+            self.end_items(alloc, head, token.place)
+        } else {
+            add_element(&mut self.elements, &mut self.contexts, spelling, token)
+        }
+    }
+
+    // Adds a mark to a row. False where it has one.
+    fn add_mark(&mut self, head: Head, mark: Mark) -> Result<bool, Memory>
+        requires { self.now.at ≡ At.Marks head }
+        ensures { Goes (with_mark self.old.forms (begun_at head self.old.parts) self.old.marks mark) (state_of self.new) result }
+    {
+        if self.marks.len() != 0 {
+            return Ok(false);
+        }
+        self.marks.push(mark)?;
+        Ok(true)
+    }
+
+    // Ends a row with its marks.
+    fn end_marks(&mut self, alloc: Global, head: Head) -> Result<(), Memory>
+        ensures { OnOk result (state_of self.new ≡ row_ended self.old.forms (more (begun_at head self.old.parts) (part.Marks self.old.marks))) }
+    {
+        let marks = mem::replace(&mut self.marks, List::new(alloc));
+        self.parts.push(Part::Marks(marks))?;
+        self.end_row(alloc, head)
+    }
+
+    // Takes a token where a row may have marks.
+    fn take_mark(
+        &mut self,
+        alloc: Global,
+        head: Head,
+        spelling: Spelling,
+        token: Token,
+    ) -> Result<bool, Memory>
+        requires { self.now.at ≡ At.Marks head }
+        ensures { Goes (marks_step self.old.forms (begun_at head self.old.parts) self.old.marks spelling token) (state_of self.new) result }
+    {
+        match mark(spelling, token.place) {
+            Some(mark) => self.add_mark(head, mark),
+            None => {
+                self.end_marks(alloc, head)?;
+                self.take_at_top(alloc, spelling, token)
+            }
+        }
+    }
+
+    // Takes a token. False where no tree goes on with it.
+    fn take(&mut self, alloc: Global, token: Token) -> Result<bool, Memory>
+        ensures { Goes (step (state_of self.old) token) (state_of self.new) result }
+    {
+        let spelling = classify(&token.kind);
+        match self.at {
+            At::Top => self.take_at_top(alloc, spelling, token),
+            At::Name(head) => self.take_name(alloc, head, spelling, token),
+            At::Names(head) => self.take_names(alloc, head, spelling, token),
+            At::Fixed(head, key) => self.take_fixed(alloc, head, key, spelling, token),
+            At::Effect(head) => self.take_effect(alloc, head, spelling, token),
+            At::Inputs(head, opens) => self.take_input(alloc, head, opens, spelling, token),
+            At::Outputs(head, opens, dashes) => self.take_output(
+                alloc, head, opens, dashes, spelling, token,
+            ),
+            At::Items(head) => self.take_in_items(alloc, head, spelling, token),
+            At::Marks(head) => self.take_mark(alloc, head, spelling, token),
+        }
+    }
+
+    // Ends a run of items where the tokens end. False where a bracket is open.
+    fn finish_top(&mut self, alloc: Global) -> Result<bool, Memory>
+        ensures { Finishes (ended_top self.old.forms self.old.elements self.old.contexts) self.new.forms result }
+    {
+        if self.contexts.len() != 0 {
+            return Ok(false);
+        }
+        self.end_run(alloc)?;
+        Ok(true)
+    }
+
+    // Ends what may end where the tokens end. False where something is open.
+    fn finish(&mut self, alloc: Global) -> Result<bool, Memory>
+        ensures { Finishes (ended (state_of self.old)) self.new.forms result }
+    {
+        match self.at {
+            At::Top => self.finish_top(alloc),
+            At::Marks(head) => {
+                self.end_marks(alloc, head)?;
+                Ok(true)
+            }
+            _ => Ok(false),
+        }
+    }
+
+    // Takes tokens, one behind the other.
+    fn take_all(&mut self, alloc: Global, tokens: List<Token>) -> Result<(), ParseFault>
+        requires { state_of self.now ≡ start }
+        ensures { TakesAll tokens (state_of self.new) result }
+    {
+        let mut taken = 0;
+        for token in tokens.into_vec() {
+            if !self.take(alloc, token)? {
+                return Err(syntax(taken, Why::Other));
+            }
+            taken += 1;
+        }
+        Ok(())
+    }
+
+    // The forms where so many tokens end.
+    fn into_forms(mut self, alloc: Global, count: usize) -> Result<List<Form>, ParseFault>
+        ensures { GivesForms (ended (state_of self)) count result }
+    {
+        if self.finish(alloc)? {
+            let Reader { forms, .. } = self;
+            Ok(forms)
+        } else {
+            Err(syntax(count, Why::End))
+        }
     }
 }
 
@@ -626,22 +681,15 @@ fn file(tokens: &[Token]) -> u32
 /// The tree of a file's tokens: any number of `USING: name* ;`, of `: name ( name* -- name* ) item* ;` with `inline` or `recursive`
 /// behind it or neither, and of items. An item is a name, an integer, `t`, `f`, or a quotation `[ item* ]`. Quotations nest at most 256
 /// deep. The names of an effect are at most 64, begin with no two dots and end in no colon. No tokens make the empty tree of file 0.
-pub fn parse(alloc: Global, tokens: &List<Token>) -> Result<Tree, ParseFault>
-    ensures { Parses tokens.now result }
+pub fn parse(alloc: Global, tokens: List<Token>) -> Result<Tree, ParseFault>
+    ensures { Parses tokens result }
 {
-    let mut forms = List::new(alloc);
-    let mut state = State::Top;
-    for token in tokens.as_slice() {
-        match take_token(alloc, &mut forms, state, token) {
-            Ok(next) => state = next,
-            Err(fault) => return Err(fault),
-        }
-    }
-    match finished(forms, state) {
-        Ok(forms) => Ok(Tree {
-            file: file(tokens.as_slice()),
-            forms,
-        }),
+    let file = file(tokens.as_slice());
+    let count = tokens.len() as usize;
+    let mut reader = Reader::new(alloc);
+    reader.take_all(alloc, tokens)?;
+    match reader.into_forms(alloc, count) {
+        Ok(forms) => Ok(Tree { file, forms }),
         Err(fault) => Err(fault),
     }
 }

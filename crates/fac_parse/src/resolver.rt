@@ -1,11 +1,14 @@
 //! Names to words.
-ghost use Rattle.std.specs.Prelude.{◌≡◌, ◌<◌, ◌-◌, ◌++◌, ◌∷◌, [], codes, length, IfOk, OnOk};
+ghost use Rattle.std.specs.Prelude.{◌≡◌, ◌<◌, ◌-◌, ◌++◌, ◌∷◌, [], length, IfOk, OnOk};
 ghost use Rattle.fac_lang.specs.Forms.{IsBuilt};
 ghost use Rattle.fac_lang.specs.PhraseView.{items_phrase};
 ghost use Rattle.fac_lang.specs.Whole.{IsWhole};
-ghost use Rattle.fac_parse.specs.Resolution.{known_words, first_names, name_fault, defined_word, top_word, Resolves};
-ghost use Rattle.fac_parse.specs.inner.Resolver.{Uses, TakesItem, Closes, IsClosable, TakesElement, AreClosed, ReadsPhrase, TakesQuotation, Defines, TakesForm, IsFirst, TakesForms, ReadsForms, program_with};
-ghost use Rattle.fac_parse.specs.Trees.{AreItems, most_levels, IsForm, IsWellFormed};
+ghost use Rattle.fac_parse.specs.Resolution.{known_words, first_names, first_used, name_fault, defined_word, top_word, meant, Resolves};
+ghost use Rattle.fac_parse.specs.inner.Resolver.{Uses, TakesItem, Closes, IsClosable, TakesElement, ReadsPhrase, IsBehind, TakesItems, Defines, HasName, HasNames, HasEffect, HasItems, HasMark, TakesRow, TakesForm, TakesForms, TakesFile, IsFirst, TakesFiles, ReadsFiles, program_with};
+ghost use Rattle.fac_lang.specs.declared.tree.FormKind.TheVariants as FormKind;
+ghost use Rattle.fac_parse.specs.declared.rows.Slot.TheVariants as Slot;
+ghost use Rattle.fac_parse.specs.Rows.{slots_of};
+ghost use Rattle.fac_parse.specs.Trees.{AreItems, Fills, FillAll, IsForm, IsWellFormed, forms_of, AreWellFormed};
 
 use crate::built_words::{defined, first_words, phrase_word};
 use crate::known_names::KnownNames;
@@ -13,8 +16,8 @@ use crate::spelling::text;
 use crate::text_set::TextSet;
 use crate::vocabularies::is_vocabulary;
 use fac_lang::{
-    Element, Form, Item, List, Mark, Memory, Phrase, Place, Program, Term, Text, Token, Tree, What,
-    WordDef, WrittenEffect,
+    Element, Form, FormKind, Item, List, Mark, Memory, Part, Phrase, Place, Program, Term, Text,
+    Token, Tree, What, WordDef, WrittenEffect,
 };
 use std::alloc::Global;
 use thiserror::Error;
@@ -70,14 +73,14 @@ fn refusal(alloc: Global, kind: NameKind, token: &Token) -> Result<NameFault, Me
     })
 }
 
-// What a file has made so far.
+// What the files have made so far.
 #[derive(Drop)]
 struct SoFar {
     // The used vocabularies.
     used: TextSet,
     // The names of the words.
     names: KnownNames,
-    // The words that there are from the start, and those that the file has defined.
+    // The words that there are from the start, and those that the files have defined.
     words: List<WordDef>,
     // The items at the top level.
     items: Vec<Item>,
@@ -213,13 +216,14 @@ fn take_element(
 }
 
 // The phrase of items.
+#[tactic(auto, using(crate::proofs::ResolutionLemmas::begins_closed))]
 fn body_of(
     alloc: Global,
     known: &KnownNames,
     used: &TextSet,
     elements: &[Element],
 ) -> Result<Phrase, ResolveFault>
-    requires { AreClosed elements.now }
+    requires { AreItems elements.now }
     ensures { ReadsPhrase known.now used.now elements.now result }
 {
     let mut nest = Nest {
@@ -260,7 +264,7 @@ fn define(
     items: &[Element],
     mark: Option<Mark>,
 ) -> Result<(), ResolveFault>
-    requires { AreItems most_levels items.now }
+    requires { AreItems items.now }
     ensures { Defines so_far.old name.now effect.now items.now mark so_far.new result }
 {
     if so_far.names.defines(text(&name.kind)) {
@@ -276,24 +280,136 @@ fn define(
     }
 }
 
-// Takes a quotation at the top level.
-fn take_quotation(
+// Adds items behind others.
+fn add_items(items: &mut Vec<Item>, body: Phrase) -> Result<(), Memory>
+    ensures { OnOk result (IsBehind items.old.items body items.new.items) }
+{
+    let Phrase { items: mut run } = body;
+    items.append(&mut run)?;
+    Ok(())
+}
+
+// Takes items at the top level.
+fn take_items(
     alloc: Global,
     known: &KnownNames,
     used: &TextSet,
     items: &mut Vec<Item>,
-    place: Place,
     elements: &[Element],
 ) -> Result<(), ResolveFault>
-    requires { AreItems (most_levels - 1) elements.now }
-    ensures { TakesQuotation known.now used.now place elements.now items.old.items items.new.items result }
+    requires { AreItems elements.now }
+    ensures { TakesItems known.now used.now elements.now items.old.items items.new.items result }
 {
     match body_of(alloc, known, used, elements) {
         Ok(body) => {
-            add_item(items, What::Quot(body), place)?;
+            add_items(items, body)?;
             Ok(())
         }
         Err(fault) => Err(fault),
+    }
+}
+
+// The name that a part is.
+fn name_of(part: &Part) -> &Token
+    requires { Fills Slot.Name part.now }
+    ensures { HasName part.now result.now }
+{
+    match part {
+        Part::Name(name) => name,
+        _ => unreachable!(),
+    }
+}
+
+// The names of a part.
+fn names_of(part: &Part) -> &[Token]
+    requires { Fills Slot.Names part.now }
+    ensures { HasNames part.now result.now }
+{
+    match part {
+        Part::Names { names, .. } => names.as_slice(),
+        _ => unreachable!(),
+    }
+}
+
+// The effect that a part is.
+fn effect_of(part: &Part) -> &WrittenEffect
+    requires { Fills Slot.Effect part.now }
+    ensures { HasEffect part.now result.now }
+{
+    match part {
+        Part::Effect(effect) => effect,
+        _ => unreachable!(),
+    }
+}
+
+// The items of a part.
+fn items_of(part: &Part) -> &[Element]
+    requires { Fills Slot.Items part.now }
+    ensures { HasItems part.now result.now }
+{
+    match part {
+        Part::Items { elements, .. } => elements.as_slice(),
+        _ => unreachable!(),
+    }
+}
+
+// The mark of a part, if it has one.
+fn mark_of(part: &Part) -> Option<Mark>
+    requires { Fills Slot.Marks part.now }
+    ensures { HasMark part.now result }
+{
+    match part {
+        Part::Marks(marks) => match marks.as_slice() {
+            [mark, ..] => Some(*mark),
+            [] => None,
+        },
+        _ => unreachable!(),
+    }
+}
+
+// Takes the parts of a definition.
+fn take_definition(
+    alloc: Global,
+    so_far: &mut SoFar,
+    name: &Part,
+    effect: &Part,
+    items: &Part,
+    marks: &Part,
+) -> Result<(), ResolveFault>
+    requires { FillAll (slots_of FormKind.Define) (name.now ∷ effect.now ∷ items.now ∷ marks.now ∷ []) }
+    ensures { TakesRow so_far.old (meant FormKind.Define (name.now ∷ effect.now ∷ items.now ∷ marks.now ∷ [])) so_far.new result }
+{
+    define(
+        alloc,
+        so_far,
+        name_of(name),
+        effect_of(effect),
+        items_of(items),
+        mark_of(marks),
+    )
+}
+
+// Takes a row.
+fn take_row(
+    alloc: Global,
+    so_far: &mut SoFar,
+    kind: FormKind,
+    parts: &[Part],
+) -> Result<(), ResolveFault>
+    requires { FillAll (slots_of kind) parts.now }
+    ensures { TakesRow so_far.old (meant kind parts.now) so_far.new result }
+{
+    match kind {
+        FormKind::Using => match parts {
+            [vocabs] => use_all(alloc, &mut so_far.used, names_of(vocabs)),
+            _ => unreachable!(),
+        },
+        FormKind::Define => match parts {
+            [name, effect, items, marks] => {
+                take_definition(alloc, so_far, name, effect, items, marks)
+            }
+            _ => unreachable!(),
+        },
     }
 }
 
@@ -303,36 +419,50 @@ fn take_form(alloc: Global, so_far: &mut SoFar, form: &Form) -> Result<(), Resol
     ensures { TakesForm so_far.old form.now so_far.new result }
 {
     match form {
-        Form::Using { vocabs, .. } => use_all(alloc, &mut so_far.used, vocabs.as_slice()),
-        Form::Define {
-            name,
-            effect,
-            items,
-            mark,
-            ..
-        } => define(alloc, so_far, name, effect, items.as_slice(), *mark),
-        Form::Item(item) => take_item(alloc, &so_far.names, &so_far.used, &mut so_far.items, item),
-        Form::Quotation { opens, items, .. } => take_quotation(
+        Form::Row { kind, parts, .. } => take_row(alloc, so_far, *kind, parts.as_slice()),
+        Form::Items(elements) => take_items(
             alloc,
             &so_far.names,
             &so_far.used,
             &mut so_far.items,
-            *opens,
-            items.as_slice(),
+            elements.as_slice(),
         ),
     }
 }
 
-// The vocabularies that are used before the first form.
-fn first_used(alloc: Global) -> Result<TextSet, Memory>
-    ensures { IfOk result (λ used. used ≡ codes "syntax" ∷ []) }
+// Takes forms, one behind the other.
+fn take_forms(alloc: Global, so_far: &mut SoFar, forms: &[Form]) -> Result<(), ResolveFault>
+    requires { IsWellFormed forms.now }
+    ensures { TakesForms so_far.old forms.now so_far.new result }
+{
+    for form in forms {
+        match take_form(alloc, so_far, form) {
+            Ok(()) => {}
+            Err(fault) => return Err(fault),
+        }
+    }
+    Ok(())
+}
+
+// The vocabularies that are used where a file begins.
+fn first_vocabs(alloc: Global) -> Result<TextSet, Memory>
+    ensures { IfOk result (λ used. used ≡ first_used) }
 {
     let mut used = TextSet::new(alloc);
     used.add(alloc, "syntax")?;
     Ok(used)
 }
 
-// The words that there are before the first form, and their names.
+// Takes the forms of a file.
+fn take_file(alloc: Global, so_far: &mut SoFar, forms: &[Form]) -> Result<(), ResolveFault>
+    requires { IsWellFormed forms.now }
+    ensures { TakesFile so_far.old forms.now so_far.new result }
+{
+    so_far.used = first_vocabs(alloc)?;
+    take_forms(alloc, so_far, forms)
+}
+
+// The words that there are before the first file, and their names.
 fn first_known(alloc: Global) -> Result<(List<WordDef>, KnownNames), Memory>
     ensures words { IfOk result (λ known. known.0 ≡ known_words) }
     ensures names { IfOk result (λ known. known.1 ≡ first_names) }
@@ -344,30 +474,27 @@ fn first_known(alloc: Global) -> Result<(List<WordDef>, KnownNames), Memory>
     }
 }
 
-// What there is before the first form.
+// What there is before the first file.
 fn first(alloc: Global) -> Result<SoFar, Memory>
     ensures { IfOk result (λ so_far. IsFirst so_far) }
 {
-    let used = first_used(alloc)?;
-    match first_known(alloc) {
-        Ok((words, names)) => Ok(SoFar {
-            used,
-            names,
-            words,
-            items: Vec::new(alloc),
-        }),
-        Err(Memory) => Err(Memory),
-    }
+    let (words, names) = first_known(alloc)?;
+    Ok(SoFar {
+        used: TextSet::new(alloc),
+        names,
+        words,
+        items: Vec::new(alloc),
+    })
 }
 
-// Takes all forms of a file.
-fn take_forms(alloc: Global, so_far: &mut SoFar, forms: &[Form]) -> Result<(), ResolveFault>
-    requires well_formed { IsWellFormed forms.now }
+// Takes all files.
+fn take_files(alloc: Global, so_far: &mut SoFar, trees: &[Tree]) -> Result<(), ResolveFault>
+    requires well_formed { AreWellFormed (forms_of trees.now) }
     requires first { IsFirst so_far.old }
-    ensures { TakesForms forms.now so_far.new result }
+    ensures { TakesFiles (forms_of trees.now) so_far.new result }
 {
-    for form in forms {
-        match take_form(alloc, so_far, form) {
+    for tree in trees {
+        match take_file(alloc, so_far, tree.forms.as_slice()) {
             Ok(()) => {}
             Err(fault) => return Err(fault),
         }
@@ -375,13 +502,13 @@ fn take_forms(alloc: Global, so_far: &mut SoFar, forms: &[Form]) -> Result<(), R
     Ok(())
 }
 
-// What the forms of a file make.
-fn read_forms(alloc: Global, forms: &[Form]) -> Result<SoFar, ResolveFault>
-    requires { IsWellFormed forms.now }
-    ensures { ReadsForms forms.now result }
+// What the files make.
+fn read_files(alloc: Global, trees: &[Tree]) -> Result<SoFar, ResolveFault>
+    requires { AreWellFormed (forms_of trees.now) }
+    ensures { ReadsFiles (forms_of trees.now) result }
 {
     let mut so_far = first(alloc)?;
-    match take_forms(alloc, &mut so_far, forms) {
+    match take_files(alloc, &mut so_far, trees) {
         Ok(()) => Ok(so_far),
         Err(fault) => Err(fault),
     }
@@ -408,7 +535,7 @@ fn with_phrase(alloc: Global, mut words: List<WordDef>, body: Phrase) -> Result<
     })
 }
 
-// The words and the items of what a file made.
+// The words and the items of what the files made.
 fn contents(so_far: SoFar) -> (List<WordDef>, Vec<Item>)
     ensures words { result.0 ≡ so_far.words }
     ensures items { result.1.items ≡ so_far.items.items }
@@ -417,7 +544,7 @@ fn contents(so_far: SoFar) -> (List<WordDef>, Vec<Item>)
     (words, items)
 }
 
-// The program of what a file made.
+// The program of what the files made.
 fn completed(alloc: Global, so_far: SoFar) -> Result<Program, Memory>
     ensures { IfOk result (λ program. program ≡ program_with so_far.words (items_phrase so_far.items.items)) }
 {
@@ -425,26 +552,28 @@ fn completed(alloc: Global, so_far: SoFar) -> Result<Program, Memory>
     with_phrase(alloc, words, Phrase { items })
 }
 
-// The program of a file's forms.
-fn program_of(alloc: Global, forms: &[Form]) -> Result<Program, ResolveFault>
-    requires { IsWellFormed forms.now }
-    ensures { Resolves forms.now result }
+// The program of the forms of files.
+fn program_of(alloc: Global, trees: &[Tree]) -> Result<Program, ResolveFault>
+    requires { AreWellFormed (forms_of trees.now) }
+    ensures { Resolves (forms_of trees.now) result }
 {
-    match read_forms(alloc, forms) {
+    match read_files(alloc, trees) {
         Ok(so_far) => Ok(completed(alloc, so_far)?),
         Err(fault) => Err(fault),
     }
 }
 
-/// The program of a tree: the primitive words that are built, numbered from 0 in the order of their table, then the core words, then the
-/// words that the file defines in its order, and as the last word the top-level phrase.
-/// A vocabulary of a `USING:` must exist. A word is known in its own phrase and behind it, and its name may be defined once in a file.
-/// A name must find a word: among those that the file has defined so far, or else in the first vocabulary used before it that holds the name.
-pub fn resolve(alloc: Global, tree: &Tree) -> Result<Program, ResolveFault>
-    requires { IsWellFormed tree.now.forms }
-    ensures program { Resolves tree.now.forms result }
+/// The program of the trees of files, in order: the primitive words that are built, numbered from 0 in the order of their table, then the
+/// core words, then the words that the files define in their order, and as the last word the top-level phrase, which has the items of all
+/// files in order.
+/// A vocabulary of a `USING:` must exist. A word is known in its own phrase and behind it, and its name may be defined once in all files.
+/// A name must find a word: among those that the files have defined so far, or else in the first vocabulary that its file used before it and
+/// that holds the name.
+pub fn resolve(alloc: Global, trees: &List<Tree>) -> Result<Program, ResolveFault>
+    requires { AreWellFormed (forms_of trees.now) }
+    ensures program { Resolves (forms_of trees.now) result }
     ensures built { IfOk result (λ program. IsBuilt program) }
     ensures whole { IfOk result (λ program. IsWhole program) }
 {
-    program_of(alloc, tree.forms.as_slice())
+    program_of(alloc, trees.as_slice())
 }

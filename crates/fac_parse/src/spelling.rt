@@ -2,19 +2,19 @@
 ghost use Rattle.std.specs.Prelude.{◌≡◌, codes, map};
 ghost use Rattle.std.specs.List.{list_any};
 ghost use Rattle.std.specs.Str.{bytes_eq};
-ghost use Rattle.fac_parse.specs.Spellings.{is_reserved_sign, is_reserved_form, is_reserved_word, is_left_out, is_reserved, word_spelling, spelling_of, token_spelling, is_semi, is_closing, is_row_name, is_described_name, is_value_name};
+ghost use Rattle.fac_parse.specs.Spellings.{is_reserved_sign, is_reserved_form, is_reserved_word, is_left_out, is_reserved, sign_among, sign_spelling, word_spelling, spelling_of, token_spelling, is_row_name, is_described_name, is_value_name};
 ghost use Rattle.fac_parse.specs.Trees.{token_text};
 
-use fac_lang::{TokKind, Token};
+use fac_lang::{FormKind, Key, TokKind, Token};
 use fac_num::{NumFault, read_int};
 
 /// What a token is to the grammar, by how it is spelled.
 #[derive(Clone, Copy, Debug)]
 pub enum Spelling {
-    /// `USING:`
-    Using,
-    /// `:`
-    Colon,
+    /// The first token of a row.
+    Begins(FormKind),
+    /// A token at a fixed place of a row.
+    Fixed(Key),
     /// `;`
     Semi,
     /// `(`
@@ -118,24 +118,50 @@ fn reserved(text: &str) -> bool
     is_sign(text) || is_form(text) || is_mark(text) || is_absent(text)
 }
 
+// The tokens that forms are made of, each with its text.
+#[rattlefmt::skip]
+static FORM_SIGNS: [(&str, Spelling); 13] = [
+    ("USING:", Spelling::Begins(FormKind::Using)),
+    (":", Spelling::Begins(FormKind::Define)),
+    (";", Spelling::Semi),
+    ("(", Spelling::Opens),
+    (")", Spelling::Closes),
+    ("--", Spelling::Dashes),
+    ("[", Spelling::OpensQuotation),
+    ("]", Spelling::ClosesQuotation),
+    ("t", Spelling::True),
+    ("f", Spelling::False),
+    ("inline", Spelling::Inline),
+    ("recursive", Spelling::Recursive),
+    ("=>", Spelling::Fixed(Key::Arrow)),
+];
+
+// The first of these tokens that is of this text.
+fn sign_in(text: &str, table: &[(&str, Spelling)]) -> Option<Spelling>
+    ensures { result ≡ sign_among (map (λ entry. (entry.0.now, entry.1)) table.now) text.now }
+{
+    for (sign, spelling) in table {
+        if text == *sign {
+            return Some(*spelling);
+        }
+    }
+    None
+}
+
+#[tactic(auto, unfolding(crate::specs::Spellings::sign_spelling))]
+fn sign(text: &str) -> Option<Spelling>
+    ensures { result ≡ sign_spelling text.now }
+{
+    sign_in(text, &FORM_SIGNS)
+}
+
 #[tactic(auto, unfolding(crate::specs::Spellings::word_spelling))]
 fn spelled_word(text: &str) -> Spelling
     ensures { result ≡ word_spelling text.now }
 {
-    match text {
-        "USING:" => Spelling::Using,
-        ":" => Spelling::Colon,
-        ";" => Spelling::Semi,
-        "(" => Spelling::Opens,
-        ")" => Spelling::Closes,
-        "--" => Spelling::Dashes,
-        "[" => Spelling::OpensQuotation,
-        "]" => Spelling::ClosesQuotation,
-        "t" => Spelling::True,
-        "f" => Spelling::False,
-        "inline" => Spelling::Inline,
-        "recursive" => Spelling::Recursive,
-        _ => {
+    match sign(text) {
+        Some(spelling) => spelling,
+        None => {
             if reserved(text) {
                 Spelling::Other
             } else {
@@ -163,26 +189,6 @@ pub fn classify(kind: &TokKind) -> Spelling
     match kind {
         TokKind::Plain(text) => spelled(text.as_str()),
         TokKind::Str(_) => Spelling::Other,
-    }
-}
-
-/// Whether a token is `;`.
-pub fn is_semicolon(spelling: Spelling) -> bool
-    ensures { result ≡ is_semi spelling }
-{
-    match spelling {
-        Spelling::Semi => true,
-        _ => false,
-    }
-}
-
-/// Whether a token is `]`.
-pub fn closes_quotation(spelling: Spelling) -> bool
-    ensures { result ≡ is_closing spelling }
-{
-    match spelling {
-        Spelling::ClosesQuotation => true,
-        _ => false,
     }
 }
 
