@@ -172,7 +172,7 @@ impl Case {
             },
             "word" => match action(text) {
                 Some(action) => {
-                    self.words.push(WordRow { action })?;
+                    self.words.push(WordRow { name: 0, action })?;
                     Ok(true)
                 }
                 None => Ok(false),
