@@ -1,11 +1,17 @@
 //! The limits of the language and of the tool, each with its name. Definitions and code cite them here, and `docs/LANGUAGE.md` lists those
 //! that a user can meet. All of them are this profile's own.
 
-/// The most bytes that a source file has.
+/// The most bytes that the files of a program have together.
 pub const MOST_SOURCE_BYTES: u64 = 4_194_304;
 
-/// The ticks that a program may use.
+/// The ticks that a program may use, where the command doesn't say how many.
 pub const TICKS: u64 = 100_000_000;
+
+/// The most ticks that a command may give a program.
+pub const MOST_STEPS: u64 = 1_000_000_000_000;
+
+/// The most digits of the number of ticks that a command gives.
+pub const MOST_STEPS_DIGITS: usize = 13;
 
 /// The most levels of brackets.
 pub const MOST_LEVELS: u32 = 256;

@@ -3,14 +3,14 @@ use Rattle.std.proofs.Common.{◌≡◌, ℕ, List, [], None, Some, refl, sym, s
 use Rattle.std.proofs.lemmas.List.{append-nil}
 use Rattle.std.specs.declared.option.Option.{Option}
 use Rattle.fac_io.specs.Faults.{Rose}
-use Rattle.fac_io.specs.Told.{Grows, SinkTold, Stays-same, GrowsByPrefix-stays}
+use Rattle.fac_io.specs.Told.{Grows, GrowsByPrefix, SinkTold, TookWhole, TookFront, Stays-same, TookNothing-same, GrowsByPrefix-stays}
 use Rattle.fac_lang.specs.declared.program.Program.{Program}
 use Rattle.fac_notes.specs.declared.report.Report.{Report}
 use Rattle.fac_notes.specs.Statuses.{status_of}
 use Rattle.fac_tool.specs.declared.ended.Ended.{Ended}
 use Rattle.fac_tool.specs.Answer.{Answer, refused, meaning}
 use Rattle.fac_tool.specs.SeenObjects.{SinkSeen}
-use Rattle.fac_tool.specs.Ends.{Ending, Told, ending_of, EndsBy, EndsAs, Work, idle, runs, run_output, StopsWithin, CutShort, RunPieces, RunFront, OutputInPieces}
+use Rattle.fac_tool.specs.Ends.{Ending, Told, ending_of, EndsBy, EndsAs, Work, idle, runs, run_output, StopsWithin, CutShort, RunPieces, RunFront, OutputWhole, OutputBefore}
 use Rattle.fac_tool.specs.inner.StepEnds.{bare, reported, still, EndsEarly}
 
 pub grows_nothing : {A : Type 0} (told : Option (List A)) → Grows told told []
@@ -27,21 +27,29 @@ cut_before idle answer told m = (refl, GrowsByPrefix-stays told.taken told.taken
 cut_before (runs P budget) answer told m = not_begun P budget told m
 
 -- nothing was taken of its output
-no_pieces : (work : Work) (told : SinkTold) (m : ℕ) → OutputInPieces work 0 (still told m)
-no_pieces idle told m = Stays-same told.pieces
-no_pieces (runs P budget) told m = record { wrote_in = 0; within = omega arith; taken = grows_nothing told.taken; pieces = grows_nothing told.pieces }
+run_of_none : (P : Program) (told : SinkTold) (m : ℕ) → RunPieces P 0 [] (still told m)
+run_of_none P told m = record { wrote_in = 0; within = omega arith; taken = grows_nothing told.taken; pieces = grows_nothing told.pieces }
+
+none_before : (work : Work) (told : SinkTold) (m : ℕ) → OutputBefore work 0 (still told m)
+none_before idle told m = TookNothing-same told
+none_before (runs P budget) told m = run_of_none P told m
+
+-- which is the whole of an empty output
+none_at_all : (why : Report) (work : Work) (told : SinkTold) (m : ℕ) → OutputWhole work (refused why) 0 (still told m)
+none_at_all why idle told m = grows_nothing told.pieces
+none_at_all why (runs P budget) told m = run_of_none P told m
 
 -- memory was wanted
 pub no_memory : (answer : Answer) (ended : Ended) → ended ≡ bare 12 0 → EndsEarly answer ended
 no_memory answer ended e =
-    subst (λ (x : Ended). EndsEarly answer x) (sym e) (λ work told m. (cut_before work answer told m, record { stack = refl; refusal = refl }, no_pieces work told m))
+    subst (λ (x : Ended). EndsEarly answer x) (sym e) (λ work told m. (cut_before work answer told m, record { stack = refl; refusal = refl }, none_before work told m))
 
 -- a refusal is the answer
 pub is_refused : (why : Report) (ended : Ended) → ending_of (status_of why) ≡ Told → ended ≡ reported 0 why → EndsEarly (refused why) ended
 is_refused why ended told_so e =
     let matches : EndsEarly (refused why) (reported 0 why) =
     λ work told m.
-    let answered : EndsBy Told (refused why) work (still told m) (reported 0 why) = (record { status = refl; ticks = refl; stack = refl; refusal = refl; output = grows_nothing told.taken }, no_pieces work told m) in
+    let answered : EndsBy Told (refused why) work (still told m) (reported 0 why) = (record { status = refl; ticks = refl; stack = refl; refusal = refl; output = grows_nothing told.taken }, none_at_all why work told m) in
     subst (λ (k : Ending). EndsBy k (refused why) work (still told m) (reported 0 why)) (sym told_so) answered in
     subst (λ (x : Ended). EndsEarly (refused why) x) (sym e) matches
 

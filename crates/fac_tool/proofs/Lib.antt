@@ -1,6 +1,9 @@
 mod Causes
 pub mod EarlyEnds
 pub mod EndLemmas
+pub mod LoadLemmas
+pub mod ReadingLemmas
+pub mod CheckedLemmas
 pub mod SourceLemmas
 pub mod StopLemmas
 pub mod StepTicks
@@ -8,3 +11,4 @@ pub mod PieceLemmas
 pub mod NoteLemmas
 pub mod ClosedLemmas
 pub mod Composing
+pub mod CommandLemmas

@@ -1,10 +1,12 @@
--- What a command answers, as a function of what its file comes to.
-use Rattle.std.specs.Prelude.{ℕ, ◌-◌, List, [], length, map, reverse, None, Some, codes, nat_le, Result, Ok, Err, if◌then◌else◌}
+-- What a command answers, as a function of what its files come to.
+use Rattle.std.specs.Prelude.{ℕ, ◌+◌, ◌-◌, Bool, true, false, List, [], ◌∷◌, ◌++◌, length, map, reverse, None, Some, codes, decimal, nat_le, Result, Ok, Err, if◌then◌else◌}
+use Rattle.std.specs.List.{count_by, sum_by}
 use Rattle.std.specs.declared.option.Option.{Option}
 use Rattle.std.specs.Option.{option_map}
 use Rattle.fac_lang.specs.declared.limits.TheConstants.{MOST_SOURCE_BYTES, MOST_SHOWN_BYTES}
 use Rattle.fac_lang.specs.declared.program.Program.{Program}
 use Rattle.fac_lang.specs.declared.tree.Form.{Form}
+use Rattle.fac_lang.specs.declared.tree.Form.TheVariants as form
 use Rattle.fac_lang.specs.Phrases.{Value}
 use Rattle.fac_lang.specs.World.{World, Error}
 use Rattle.fac_lang.specs.Printed.{printed}
@@ -22,18 +24,35 @@ use Rattle.fac_notes.specs.Statuses.{status_of}
 use Rattle.fac_notes.specs.WordNames.{word_name, name_text}
 use Rattle.fac_tool.specs.declared.command.Command.{Command}
 use Rattle.fac_tool.specs.declared.command.Command.TheVariants as command
-use Rattle.fac_tool.specs.Command.{budget_of}
 use Rattle.fac_tool.specs.Refusals.{refusal_of}
 
--- the most bytes that are read
+-- the most bytes that are read, of all files together
 abbrev pub limit : ℕ
 limit = MOST_SOURCE_BYTES
 
--- what the file of a command comes to: a fault of its tokens at a byte, a refusal at a token, or the forms of its tree
+-- what a file comes to: a fault of its tokens at a byte, a refusal at a token, or the forms of its tree
 pub data Source : Type 0 where
   no_tokens : ℕ → ByteFault → Source
   no_tree : ℕ → Why → Source
   tree : List Form → Source
+
+-- what the files of a command come to: a fault of the tokens of the file with a number, at a byte; a refusal of that file, at a token; or the
+-- forms of each file
+pub data Sources : Type 0 where
+  no_tokens_in : ℕ → ℕ → ByteFault → Sources
+  no_tree_in : ℕ → ℕ → Why → Sources
+  trees : List (List Form) → Sources
+
+-- Where these forms were read, and the files from this number on come to these: the first of them without tokens or without a tree decides.
+abbrev pub together : List (List Form) → ℕ → List Source → Sources
+together read file [] = trees read
+together read file (no_tokens at why ∷ sources) = no_tokens_in file at why
+together read file (no_tree at why ∷ sources) = no_tree_in file at why
+together read file (tree forms ∷ sources) = together (read ++ forms ∷ []) (file + 1) sources
+
+-- what files come to that each come to this; they are numbered from 1
+abbrev pub come_to : List Source → Sources
+come_to sources = together [] 1 sources
 
 -- a status with the ticks of the run, the stack's texts from the bottom to the top, the refusal, and the bytes that are written
 pub record Answer : Type 0 where
@@ -72,27 +91,46 @@ of_run P budget Stuck = record { status = 7; ticks = 0; stack = None; refusal = 
 abbrev pub run_answer : Program → ℕ → Answer
 run_answer P budget = of_run P budget (meaning P budget)
 
--- an accepted program
-abbrev pub on_accepted : Command → Program → Answer
-on_accepted (command.Run file) P = run_answer P (budget_of (command.Run file))
+-- whether a form defines a word that has a phrase
+abbrev pub is_definition : Form → Bool
+is_definition (form.Using opens vocabs closes) = false
+is_definition (form.Define opens name effect items closes mark) = true
+is_definition (form.Item item) = false
+is_definition (form.Quotation opens items closes) = false
+
+-- how many definitions files have
+abbrev pub definitions_in : List (List Form) → ℕ
+definitions_in files = sum_by (λ forms. count_by is_definition forms) files
+
+-- the answer of `check`
+abbrev pub checked_line : ℕ → List ℕ
+checked_line count = codes "checked " ++ decimal count ++ codes " definitions\n"
+
+abbrev pub checked_answer : ℕ → Answer
+checked_answer count = record { status = 0; ticks = 0; stack = None; refusal = None; output = checked_line count }
+
+-- an accepted program of files with so many definitions
+abbrev pub on_accepted : Command → ℕ → Program → Answer
+on_accepted (command.Check first end) count P = checked_answer count
+on_accepted (command.Run steps first end) count P = run_answer P steps
 
 -- the first refused word by its number, with its refusal, or an accepted program
-abbrev pub on_verdict : Command → Program → Option (ℕ × Refusal) → Answer
-on_verdict c P (Some first) = refused (report.Check (refusal_of first) (name_text (word_name P first.0)))
-on_verdict c P None = on_accepted c P
+abbrev pub on_verdict : Command → ℕ → Program → Option (ℕ × Refusal) → Answer
+on_verdict c count P (Some first) = refused (report.Check (refusal_of first) (name_text (word_name P first.0)))
+on_verdict c count P None = on_accepted c count P
 
 -- a refused name, or a program, whose top-level phrase starts from no value
-abbrev pub on_resolved : Command → Result Program NameFault → Answer
-on_resolved c (Err fault) = refused (report.Name fault)
-on_resolved c (Ok P) = on_verdict c P (verdict P 0)
+abbrev pub on_resolved : Command → ℕ → Result Program NameFault → Answer
+on_resolved c count (Err fault) = refused (report.Name fault)
+on_resolved c count (Ok P) = on_verdict c count P (verdict P 0)
 
--- by what the file comes to, which has the number 1
-abbrev pub answer_on : Command → Source → Answer
-answer_on c (no_tokens at why) = refused (report.Bytes 1 at why)
-answer_on c (no_tree at why) = refused (report.Syntax 1 at why)
-answer_on c (tree forms) = on_resolved c (resolved forms)
+-- by what the files come to
+abbrev pub answer_on : Command → Sources → Answer
+answer_on c (no_tokens_in file at why) = refused (report.Bytes file at why)
+answer_on c (no_tree_in file at why) = refused (report.Syntax file at why)
+answer_on c (trees files) = on_resolved c (definitions_in files) (resolved files)
 
--- the accepted program of the file, where there is one
+-- the accepted program of the files, where there is one
 abbrev pub if_accepted : Program → Option (ℕ × Refusal) → Option Program
 if_accepted P (Some first) = None
 if_accepted P None = Some P
@@ -101,7 +139,7 @@ abbrev pub accepted_of : Result Program NameFault → Option Program
 accepted_of (Err fault) = None
 accepted_of (Ok P) = if_accepted P (verdict P 0)
 
-abbrev pub accepted : Source → Option Program
-accepted (no_tokens at why) = None
-accepted (no_tree at why) = None
-accepted (tree forms) = accepted_of (resolved forms)
+abbrev pub accepted : Sources → Option Program
+accepted (no_tokens_in file at why) = None
+accepted (no_tree_in file at why) = None
+accepted (trees files) = accepted_of (resolved files)

@@ -1,87 +1,98 @@
 -- The whole call.
-use Rattle.std.specs.Prelude.{◌≡◌, ◌≤◌, ◌<◌, ◌⊎◌, ℕ, List, [], ◌∷◌, length, None, Some, codes, IfSome, IsSomeAnd}
+use Rattle.std.specs.Prelude.{◌≡◌, ◌≤◌, ◌<◌, ◌⊎◌, ◌+◌, ℕ, List, [], ◌∷◌, ◌++◌, length, map, None, Some, codes, IfSome, IsSomeAnd}
+use Rattle.std.specs.List.{concat}
 use Rattle.std.specs.declared.option.Option.{Option}
 use Rattle.fac_io.specs.declared.files.Asked.TheVariants.{Load}
 use Rattle.fac_io.specs.Faults.{Rose}
-use Rattle.fac_io.specs.Told.{Stays, Grows, TookNothing, TookWhole, TookFront}
+use Rattle.fac_io.specs.Told.{Stays, Grows, GrowsByPrefix, TookNothing, TookWhole, TookFront}
 use Rattle.fac_check.specs.Promises.{IsSafe}
 use Rattle.fac_notes.specs.declared.report.Report.TheVariants as report
 use Rattle.fac_tool.specs.declared.command.Command.{Command}
 use Rattle.fac_tool.specs.declared.ended.Ended.{Ended}
-use Rattle.fac_tool.specs.Command.{command_of, name_of}
-use Rattle.fac_tool.specs.Answer.{Source, answer_on, limit, accepted}
-use Rattle.fac_tool.specs.Sources.{IsReadAs}
+use Rattle.fac_tool.specs.Command.{command_of, names_of}
+use Rattle.fac_tool.specs.Answer.{Source, answer_on, come_to, limit, accepted}
+use Rattle.fac_tool.specs.Sources.{AreReadAs}
 use Rattle.fac_tool.specs.ToldNotes.{note_of, memory_note, usage_note}
 use Rattle.fac_tool.specs.SeenObjects.{SinkSeen, FilesSeen}
 use Rattle.fac_tool.specs.Ends.{EndsAs, IsBare, work_of}
 
--- the files are as they were, and nothing was asked
-pub record FilesStay (files : FilesSeen) : Type 0 where
+-- the loads of these names, in this order, gave these texts, which have at most so many bytes together
+pub record LoadsGive (names : List (List ℕ)) (files : FilesSeen) (texts : List (List ℕ)) : Type 0 where
+  pub within : length (concat texts) ≤ limit
+  pub told : IfSome files.held_before (λ held. map held names ≡ map Some texts)
   pub held : Stays files.held_before files.held_now
-  pub asked : Stays files.asked_before files.asked_now
+  pub asked : Grows files.asked_before files.asked_now (map Load names)
+  pub faults : files.faults_now ≡ files.faults_before
 
--- memory was wanted before the file was loaded, and nothing was done
-pub record NotLoaded (files : FilesSeen) (out : SinkSeen) (ended : Ended) : Type 0 where
+-- memory was wanted before all files were loaded: of the loads, in their order, a prefix was asked
+pub record NotLoaded (names : List (List ℕ)) (files : FilesSeen) (ended : Ended) : Type 0 where
   pub status : ended.status ≡ 12
   pub ticks : ended.ticks ≡ 0
   pub bare : IsBare ended
-  pub files_are : FilesStay files
+  pub held : Stays files.held_before files.held_now
+  pub asked : GrowsByPrefix files.asked_before files.asked_now (map Load names)
   pub faults : files.faults_now ≡ files.faults_before
-  pub out_is : TookNothing out.before out.now
 
--- the load ended the call
-pub record LoadEnds (name : List ℕ) (files : FilesSeen) (out : SinkSeen) (ended : Ended) : Type 0 where
+-- the loads came to this name, which was the last that was asked: those of the names before it gave these texts
+pub record LoadsComeTo (names : List (List ℕ)) (name : List ℕ) (files : FilesSeen) (texts : List (List ℕ)) : Type 0 where
+  pub before : List (List ℕ)
+  pub after : List (List ℕ)
+  pub place : names ≡ before ++ (name ∷ after)
+  pub within : length (concat texts) ≤ limit
+  pub told : IfSome files.held_before (λ held. map held before ≡ map Some texts)
+  pub held : Stays files.held_before files.held_now
+  pub asked : Grows files.asked_before files.asked_now (map Load before ++ Load name ∷ [])
+
+-- a load failed
+pub record LoadFails (names : List (List ℕ)) (files : FilesSeen) (ended : Ended) : Type 0 where
+  pub name : List ℕ
+  pub texts : List (List ℕ)
+  pub comes : LoadsComeTo names name files texts
+  pub status : ended.status ≡ 8
   pub ticks : ended.ticks ≡ 0
   pub stack : ended.stack ≡ None
-  pub held : Stays files.held_before files.held_now
-  pub asked : Grows files.asked_before files.asked_now (Load name ∷ [])
-  pub out_is : TookNothing out.before out.now
-
--- the load failed
-pub record LoadFails (name : List ℕ) (files : FilesSeen) (out : SinkSeen) (ended : Ended) : Type 0 where
-  pub status : ended.status ≡ 8
   pub refusal : ended.refusal ≡ Some (report.File name)
   pub rose : Rose files.faults_before files.faults_now
-  pub ends : LoadEnds name files out ended
 
--- the file is too long, which is no fault
-pub record LoadTooLong (name : List ℕ) (files : FilesSeen) (out : SinkSeen) (ended : Ended) : Type 0 where
+-- with a file the bytes are more than are read, which is no fault
+pub record LoadTooLong (names : List (List ℕ)) (files : FilesSeen) (ended : Ended) : Type 0 where
+  pub name : List ℕ
+  pub texts : List (List ℕ)
+  pub comes : LoadsComeTo names name files texts
   pub status : ended.status ≡ 11
+  pub ticks : ended.ticks ≡ 0
+  pub stack : ended.stack ≡ None
   pub refusal : ended.refusal ≡ Some (report.TooLong name limit)
-  pub longer : IfSome files.held_before (λ held. IsSomeAnd (held name) (λ text. limit < length text))
-  pub faults : files.faults_now ≡ files.faults_before
-  pub ends : LoadEnds name files out ended
-
--- the load gave no text, and that ended the call
-abbrev pub NoText : List ℕ → FilesSeen → SinkSeen → Ended → Type 0
-NoText name files out ended = NotLoaded files out ended ⊎ (LoadFails name files out ended ⊎ LoadTooLong name files out ended)
-
--- the load gave this text
-pub record LoadGives (name : List ℕ) (files : FilesSeen) (text : List ℕ) : Type 0 where
-  pub within : length text ≤ limit
-  pub told : IfSome files.held_before (λ held. held name ≡ Some text)
-  pub held : Stays files.held_before files.held_now
-  pub asked : Grows files.asked_before files.asked_now (Load name ∷ [])
+  pub longer : IfSome files.held_before (λ held. IsSomeAnd (held name) (λ text. limit < length (concat texts) + length text))
   pub faults : files.faults_now ≡ files.faults_before
 
--- a text was loaded, and the work on it has the answer of what it comes to, or was cut short; an accepted program is safe
-pub record Loaded (name : List ℕ) (command : Command) (files : FilesSeen) (out : SinkSeen) (ended : Ended) : Type 0 where
-  pub text : List ℕ
-  pub source : Source
-  pub loads : LoadGives name files text
-  pub is_read : IsReadAs 1 text source
-  pub sound : IfSome (accepted source) (λ P. IsSafe P 0)
-  pub ends : EndsAs (answer_on command source) (work_of command (accepted source)) out ended
+-- how the loads end the call
+abbrev pub LoadsEnd : List (List ℕ) → FilesSeen → Ended → Type 0
+LoadsEnd names files ended = NotLoaded names files ended ⊎ (LoadFails names files ended ⊎ LoadTooLong names files ended)
 
--- the work of a command on its file
-abbrev pub ReachesBy : List ℕ → Command → FilesSeen → SinkSeen → Ended → Type 0
-ReachesBy name command files out ended = NoText name files out ended ⊎ Loaded name command files out ended
+-- the loads gave no texts, and that ended the call, with nothing written
+pub record NoTexts (names : List (List ℕ)) (files : FilesSeen) (out : SinkSeen) (ended : Ended) : Type 0 where
+  pub ends : LoadsEnd names files ended
+  pub out_is : TookNothing out.before out.now
+
+-- texts were loaded, and the work on them has the answer of what they come to, or was cut short; an accepted program is safe
+pub record Loaded (names : List (List ℕ)) (command : Command) (files : FilesSeen) (out : SinkSeen) (ended : Ended) : Type 0 where
+  pub texts : List (List ℕ)
+  pub sources : List Source
+  pub loads : LoadsGive names files texts
+  pub are_read : AreReadAs 1 texts sources
+  pub sound : IfSome (accepted (come_to sources)) (λ P. IsSafe P 0)
+  pub ends : EndsAs (answer_on command (come_to sources)) (work_of command (accepted (come_to sources))) out ended
+
+-- the work of a command on its files
+abbrev pub ReachesBy : List (List ℕ) → Command → FilesSeen → SinkSeen → Ended → Type 0
+ReachesBy names command files out ended = NoTexts names files out ended ⊎ Loaded names command files out ended
 
 -- the work of a command: no count falls, and it ends in one of these ways
-pub record Reaches (words : List (List ℕ)) (command : Command) (files : FilesSeen) (out : SinkSeen) (ended : Ended) : Type 0 where
+pub record Reaches (names : List (List ℕ)) (command : Command) (files : FilesSeen) (out : SinkSeen) (ended : Ended) : Type 0 where
   pub files_count : files.faults_before ≤ files.faults_now
   pub out_count : out.faults_before ≤ out.faults_now
-  pub ending : ReachesBy (name_of words command) command files out ended
+  pub ending : ReachesBy names command files out ended
 
 -- the note was written whole, in one write, or it is empty and nothing was
 pub record NoteWhole (note : List ℕ) (reached : Ended) (notes : SinkSeen) (ended : Ended) : Type 0 where
@@ -142,17 +153,17 @@ pub record IsIdle (files : FilesSeen) (out : SinkSeen) : Type 0 where
   pub asked : Stays files.asked_before files.asked_now
   pub out_is : TookNothing out.before out.now
 
--- the names of the files by their numbers
-abbrev pub file_names : List (List ℕ) → Command → List (List ℕ)
-file_names words command = codes "prelude" ∷ name_of words command ∷ []
+-- the names of the files by their numbers: those of a command have the numbers from 1 on
+abbrev pub numbered_names : List (List ℕ) → List (List ℕ)
+numbered_names names = codes "prelude" ∷ names
 
--- the work of a command, and then its note
-abbrev pub Works : Command → List (List ℕ) → FilesSeen → SinkSeen → SinkSeen → Ended → Type 0
-Works command words files out notes ended = (reached : Ended) × Reaches words command files out reached × Tells (file_names words command) reached notes ended
+-- the work of a command on files of these names, and then its note
+abbrev pub Works : List (List ℕ) → Command → FilesSeen → SinkSeen → SinkSeen → Ended → Type 0
+Works names command files out notes ended = (reached : Ended) × Reaches names command files out reached × Tells (numbered_names names) reached notes ended
 
 abbrev pub AnswersBy : Option Command → List (List ℕ) → FilesSeen → SinkSeen → SinkSeen → Ended → Type 0
 AnswersBy None words files out notes ended = IsIdle files out × TellsUsage notes ended
-AnswersBy (Some command) words files out notes ended = Works command words files out notes ended
+AnswersBy (Some command) words files out notes ended = Works (names_of words command) command files out notes ended
 
 -- what the tool does on a command line
 abbrev pub Answers : List (List ℕ) → FilesSeen → SinkSeen → SinkSeen → Ended → Type 0

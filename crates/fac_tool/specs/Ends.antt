@@ -3,7 +3,7 @@ use Rattle.std.specs.Prelude.{◌≡◌, ◌==◌, ◌≤◌, ℕ, zero, suc, No
 use Rattle.std.specs.declared.option.Option.{Option}
 use Rattle.std.specs.List.{concat}
 use Rattle.fac_io.specs.Faults.{Rose}
-use Rattle.fac_io.specs.Told.{Stays, Grows, GrowsByPrefix, one_piece}
+use Rattle.fac_io.specs.Told.{Grows, GrowsByPrefix, one_piece, TookNothing, TookFront}
 use Rattle.fac_lang.specs.declared.program.Program.{Program}
 use Rattle.fac_lang.specs.Phrases.{Item, Value}
 use Rattle.fac_lang.specs.World.{State}
@@ -12,7 +12,6 @@ use Rattle.fac_vm.specs.Runs.{GrowsBeyond}
 use Rattle.fac_tool.specs.declared.command.Command.{Command}
 use Rattle.fac_tool.specs.declared.command.Command.TheVariants as command
 use Rattle.fac_tool.specs.declared.ended.Ended.{Ended}
-use Rattle.fac_tool.specs.Command.{budget_of}
 use Rattle.fac_tool.specs.Answer.{Answer, meaning}
 use Rattle.fac_tool.specs.SeenObjects.{SinkSeen}
 
@@ -28,14 +27,15 @@ pub data Ending : Type 0 where
 abbrev pub ending_of : ℕ → Ending
 ending_of status = (if status == 2 then Usage else if status == 8 then FileFault else if status == 10 then WriteFault else if status == 11 then TooLong else if status == 12 then NoMemory else Told)
 
--- what a command does with the accepted program of its file: nothing, where there is none, or it runs it with this budget
+-- what a command does with the accepted program of its files: it runs it with this budget, or runs nothing
 pub data Work : Type 0 where
   idle : Work
   runs : Program → ℕ → Work
 
 abbrev pub work_of : Command → Option Program → Work
-work_of c None = idle
-work_of (command.Run file) (Some P) = runs P (budget_of (command.Run file))
+work_of (command.Check first end) accepted = idle
+work_of (command.Run steps first end) None = idle
+work_of (command.Run steps first end) (Some P) = runs P steps
 
 -- the call's result and output are the answer's
 pub record Matches (answer : Answer) (out : SinkSeen) (ended : Ended) : Type 0 where
@@ -92,29 +92,34 @@ abbrev pub CutShort : Work → Answer → ℕ → SinkSeen → Type 0
 CutShort idle answer ticks out = (ticks ≡ 0) × GrowsByPrefix out.before.taken out.now.taken answer.output
 CutShort (runs P budget) answer ticks out = StopsWithin P budget ticks out
 
--- in which pieces the output was taken: in none outside a run
-abbrev pub OutputInPieces : Work → ℕ → SinkSeen → Type 0
-OutputInPieces idle ticks out = Stays out.before.pieces out.now.pieces
-OutputInPieces (runs P budget) ticks out = RunPieces P ticks [] out
+-- in which pieces the output was taken: outside a run in one write of the whole
+abbrev pub OutputWhole : Work → Answer → ℕ → SinkSeen → Type 0
+OutputWhole idle answer ticks out = Grows out.before.pieces out.now.pieces (one_piece answer.output)
+OutputWhole (runs P budget) answer ticks out = RunPieces P ticks [] out
 
--- likewise where a write failed
-abbrev pub OutputFront : Work → ℕ → SinkSeen → Type 0
-OutputFront idle ticks out = Stays out.before.pieces out.now.pieces
-OutputFront (runs P budget) ticks out = RunFront P ticks out
+-- likewise where memory was wanted: outside a run nothing was taken before
+abbrev pub OutputBefore : Work → ℕ → SinkSeen → Type 0
+OutputBefore idle ticks out = TookNothing out.before out.now
+OutputBefore (runs P budget) ticks out = RunPieces P ticks [] out
+
+-- likewise where a write failed: outside a run the one that there is, of which a front was taken
+abbrev pub OutputFront : Work → Answer → ℕ → SinkSeen → Type 0
+OutputFront idle answer ticks out = (0 < length answer.output) × TookFront out.before out.now answer.output
+OutputFront (runs P budget) answer ticks out = RunFront P ticks out
 
 -- there is neither a stack nor a refusal: what stood on the stack of a run that was cut short isn't told
 pub record IsBare (ended : Ended) : Type 0 where
   pub stack : ended.stack ≡ None
   pub refusal : ended.refusal ≡ None
 
--- how work on a text ends, by the kind of its status
+-- how work on texts ends, by the kind of its status
 abbrev pub EndsBy : Ending → Answer → Work → SinkSeen → Ended → Type 0
-EndsBy Told answer work out ended = Matches answer out ended × OutputInPieces work ended.ticks out
+EndsBy Told answer work out ended = Matches answer out ended × OutputWhole work answer ended.ticks out
 EndsBy Usage answer work out ended = ⊥
 EndsBy TooLong answer work out ended = ⊥
 EndsBy FileFault answer work out ended = ⊥
-EndsBy WriteFault answer work out ended = Rose out.faults_before out.faults_now × CutShort work answer ended.ticks out × IsBare ended × OutputFront work ended.ticks out
-EndsBy NoMemory answer work out ended = CutShort work answer ended.ticks out × IsBare ended × OutputInPieces work ended.ticks out
+EndsBy WriteFault answer work out ended = Rose out.faults_before out.faults_now × CutShort work answer ended.ticks out × IsBare ended × OutputFront work answer ended.ticks out
+EndsBy NoMemory answer work out ended = CutShort work answer ended.ticks out × IsBare ended × OutputBefore work ended.ticks out
 
 -- the work has this answer, or was cut short
 abbrev pub EndsAs : Answer → Work → SinkSeen → Ended → Type 0

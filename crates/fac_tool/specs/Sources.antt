@@ -1,11 +1,10 @@
--- What the text of a file comes to: its tokens, and the tree of these.
-use Rattle.std.specs.Prelude.{◌≡◌, ℕ, List, Ok, Err}
+-- What the texts of files come to: their tokens, and the trees of these.
+use Rattle.std.specs.Prelude.{◌≡◌, ℕ, ◌+◌, List, [], ◌∷◌, Ok, Err}
 use Rattle.fac_lang.specs.declared.token.Token.{Token}
 use Rattle.fac_token.specs.declared.fault.TokenFault.{TokenFault}
 use Rattle.fac_token.specs.declared.fault.TokenFault.TheVariants as token
 use Rattle.fac_token.specs.Tokens.{Tokenizes}
-use Rattle.fac_parse.specs.declared.reader.ParseFault.TheVariants.{Syntax}
-use Rattle.fac_parse.specs.Trees.{Reads, Parses}
+use Rattle.fac_parse.specs.Trees.{Reads, Misses}
 use Rattle.fac_notes.specs.declared.report.ByteFault.{ByteFault}
 use Rattle.fac_notes.specs.declared.report.ByteFault.TheVariants as byte
 use Rattle.fac_tool.specs.Answer.{Source, no_tokens, no_tree, tree}
@@ -19,7 +18,7 @@ token_fault at byte.StuckQuote = token.StuckQuote at
 -- what these tokens come to
 abbrev pub IsParsedAs : List Token → Source → Type 0
 IsParsedAs tokens (no_tokens at why) = ⊥
-IsParsedAs tokens (no_tree at why) = Parses tokens (Err (Syntax at why))
+IsParsedAs tokens (no_tree at why) = Misses tokens at why
 IsParsedAs tokens (tree forms) = Reads tokens forms
 
 -- what a file of this number with this text comes to
@@ -28,10 +27,17 @@ IsReadAs file text (no_tokens at why) = Tokenizes file text (Err (token_fault at
 IsReadAs file text (no_tree at why) = (tokens : List Token) × Tokenizes file text (Ok tokens) × IsParsedAs tokens (no_tree at why)
 IsReadAs file text (tree forms) = (tokens : List Token) × Tokenizes file text (Ok tokens) × IsParsedAs tokens (tree forms)
 
--- no text comes to two things, so what a command answers is a function of its file's bytes
-abbrev pub OneSource : Type 0
-OneSource = (file : ℕ) (text : List ℕ) (one other : Source) → IsReadAs file text one → IsReadAs file text other → one ≡ other
+-- what files numbered from `file` on come to, each by itself
+abbrev pub AreReadAs : ℕ → List (List ℕ) → List Source → Type 0
+AreReadAs file [] [] = Unit {0}
+AreReadAs file [] (source ∷ sources) = ⊥
+AreReadAs file (text ∷ texts) [] = ⊥
+AreReadAs file (text ∷ texts) (source ∷ sources) = IsReadAs file text source × AreReadAs (file + 1) texts sources
 
--- and each text comes to something
+-- no texts come to two things, so what a command answers is a function of its files' bytes
+abbrev pub OneSource : Type 0
+OneSource = (file : ℕ) (texts : List (List ℕ)) (one other : List Source) → AreReadAs file texts one → AreReadAs file texts other → one ≡ other
+
+-- and each come to something
 abbrev pub EverySource : Type 0
-EverySource = (file : ℕ) (text : List ℕ) → (source : Source) × IsReadAs file text source
+EverySource = (file : ℕ) (texts : List (List ℕ)) → (sources : List Source) × AreReadAs file texts sources

@@ -1,22 +1,23 @@
-//! The steps of every command from the text of its file to an accepted program.
-ghost use Rattle.std.specs.Prelude.{◌≡◌, Some, None, Ok};
+//! The steps of every command from the texts of its files to an accepted program.
+ghost use Rattle.std.specs.Prelude.{◌≡◌, Some, None, Ok, ℕ};
 ghost use Rattle.fac_lang.specs.declared.program.Program.{Program as Source};
 ghost use Rattle.fac_lang.specs.Forms.{IsBuilt};
 ghost use Rattle.fac_lang.specs.Whole.{IsWhole};
 ghost use Rattle.fac_check.specs.Judged.{OfEach, StandsForBuilt, refusal_if, refusal_seen};
 ghost use Rattle.fac_check.specs.Verdicts.{verdict};
 ghost use Rattle.fac_parse.specs.Resolution.{resolved};
-ghost use Rattle.fac_parse.specs.Trees.{IsWellFormed};
+ghost use Rattle.fac_parse.specs.Trees.{AreWellFormed, forms_of};
 ghost use Rattle.fac_tool.specs.declared.command.Command.{Command as CommandSeen};
-ghost use Rattle.fac_tool.specs.Answer.{on_resolved, on_verdict};
+ghost use Rattle.fac_tool.specs.Answer.{definitions_in, on_resolved, on_verdict};
 ghost use Rattle.fac_tool.specs.inner.Stops.{SameNames, StandsFor, StandsForSafe};
 ghost use Rattle.fac_tool.specs.inner.StepEnds.{Accepts, EndsEarly, Steps, StepsOn};
 
 use crate::ended::{bare, reported};
-use crate::reading::read_tree;
+use crate::definitions::definitions;
+use crate::reading::read_trees;
 use crate::{Ended, Report};
 use fac_check::{Checked, Refusal, accept, check_words, first_refusal_is_verdict, first_refused};
-use fac_lang::{Program, Tree};
+use fac_lang::{Bytes, List, Program, Tree};
 use fac_locals::{Closed, close};
 use fac_notes::word_name;
 use fac_parse::{ResolveFault, resolve};
@@ -25,12 +26,19 @@ use std::alloc::Global;
 // The number of values that the top-level phrase starts from.
 const START: u64 = 0;
 
-// The program of a tree, which is given back to memory.
-fn resolve_tree(alloc: Global, tree: Tree) -> Result<Program, Ended>
-    requires { IsWellFormed tree.forms }
-    ensures { Steps (λ program. (resolved tree.forms ≡ Ok program) × IsBuilt program × IsWhole program) (λ command. on_resolved command (resolved tree.forms)) result }
+/// An accepted program, and how many definitions its files have.
+#[derive(Drop)]
+pub struct Accepted {
+    pub checked: Checked,
+    pub definitions: u64,
+}
+
+// The program of trees, which are given back to memory.
+fn resolve_trees(alloc: Global, trees: List<Tree>) -> Result<Program, Ended>
+    requires { AreWellFormed (forms_of trees) }
+    ensures { Steps (λ program. (resolved (forms_of trees) ≡ Ok program) × IsBuilt program × IsWhole program) (λ command. on_resolved command (definitions_in (forms_of trees)) (resolved (forms_of trees))) result }
 {
-    match resolve(alloc, &tree) {
+    match resolve(alloc, &trees) {
         Err(ResolveFault::Memory) => Err(bare(12, 0)),
         Err(ResolveFault::Name(fault)) => Err(reported(0, Report::Name(fault))),
         Ok(program) => Ok(program),
@@ -63,7 +71,7 @@ fn refusal_of(alloc: Global, closed: &Closed) -> Result<Option<Refusal>, Ended>
 
 // The refusal of a program. The name of its word is taken from this program, which has the same names.
 fn refused(alloc: Global, program: &Program, refusal: Refusal) -> Ended
-    ensures { (P : Source) → SameNames P program.now → verdict P 0 ≡ Some (refusal_seen refusal) → (command : CommandSeen) → EndsEarly (on_verdict command P (verdict P 0)) result }
+    ensures { (P : Source) → SameNames P program.now → verdict P 0 ≡ Some (refusal_seen refusal) → (command : CommandSeen) (count : ℕ) → EndsEarly (on_verdict command count P (verdict P 0)) result }
 {
     match word_name(alloc, program, refusal.word) {
         Ok(word) => reported(0, Report::Check { refusal, word }),
@@ -75,7 +83,7 @@ fn refused(alloc: Global, program: &Program, refusal: Refusal) -> Ended
 fn check_closed(alloc: Global, closed: Closed) -> Result<Checked, Ended>
     requires start { closed.start ≡ 0 }
     requires stands { (P : Source) × StandsFor closed P }
-    ensures { (P : Source) → StandsFor closed P → Steps (λ checked. (verdict P 0 ≡ None) × StandsForSafe checked.closed P) (λ command. on_verdict command P (verdict P 0)) result }
+    ensures { (P : Source) → StandsFor closed P → (count : ℕ) → Steps (λ checked. (verdict P 0 ≡ None) × StandsForSafe checked.closed P) (λ command. on_verdict command count P (verdict P 0)) result }
 {
     match refusal_of(alloc, &closed)? {
         Some(refusal) => Err(refused(alloc, &closed.program, refusal)),
@@ -83,12 +91,17 @@ fn check_closed(alloc: Global, closed: Closed) -> Result<Checked, Ended>
     }
 }
 
-/// The accepted program of the text of a command's file.
-pub fn accepted_program(alloc: Global, text: &[u8]) -> Result<Checked, Ended>
-    ensures { Accepts text.now result }
+/// The accepted program of the texts of a command's files.
+pub fn accepted_program(alloc: Global, texts: List<Bytes>) -> Result<Accepted, Ended>
+    ensures { Accepts texts result }
 {
-    let tree = read_tree(alloc, text)?;
-    let program = resolve_tree(alloc, tree)?;
+    let trees = read_trees(alloc, texts)?;
+    let definitions = definitions(&trees);
+    let program = resolve_trees(alloc, trees)?;
     let closed = close_program(alloc, program)?;
-    check_closed(alloc, closed)
+    let checked = check_closed(alloc, closed)?;
+    Ok(Accepted {
+        checked,
+        definitions,
+    })
 }

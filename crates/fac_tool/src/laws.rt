@@ -1,10 +1,10 @@
-//! Laws of what a file comes to, each on the contract of a function that does nothing but call on laws below.
+//! Laws of what files come to, each on the contract of a function that does nothing but call on laws below.
 ghost use Rattle.fac_tool.specs.Sources.{OneSource, EverySource};
 
 use fac_parse::{one_tree, tree_or_none};
 use fac_token::{every_file_has_an_answer, one_answer};
 
-/// No text comes to two things. So what a command answers on a text is a function of its bytes.
+/// No texts come to two things. So what a command answers on files is a function of their bytes.
 pub fn one_source()
     ensures { OneSource }
 {
@@ -12,7 +12,7 @@ pub fn one_source()
     one_tree();
 }
 
-/// Each text comes to something: a fault of its tokens, a refusal of its grammar, or a tree.
+/// Each text comes to something: a fault of its tokens, a refusal of its grammar, or a tree; and so do several.
 pub fn every_text_is_a_source()
     ensures { EverySource }
 {

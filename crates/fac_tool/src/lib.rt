@@ -3,8 +3,10 @@
 
 mod accepting;
 mod command;
+mod definitions;
 mod ended;
 mod laws;
+mod loading;
 mod program_run;
 mod reading;
 mod telling;

@@ -1,11 +1,11 @@
 //! Writing the note of an ending.
-ghost use Rattle.std.specs.Prelude.{◌≡◌, ◌∷◌, ◌<◌, [], codes, length, IfOk, OnOk, OnErr, IsErr};
+ghost use Rattle.std.specs.Prelude.{◌≡◌, ◌∷◌, ◌++◌, ◌<◌, [], length, map, string_bytes, IfOk, OnOk, OnErr, IsErr};
 ghost use Rattle.fac_io.specs.Faults.{HasCause};
 ghost use Rattle.fac_io.specs.Told.{Took, sink_tells};
 ghost use Rattle.fac_notes.specs.Notes.{line_of};
 ghost use Rattle.fac_tool.specs.SeenObjects.{sink_seen};
 ghost use Rattle.fac_tool.specs.ToldNotes.{note_of, note_of_status};
-ghost use Rattle.fac_tool.specs.Answers.{TellsBy, Tells, TellsUsage, TellsNoWords};
+ghost use Rattle.fac_tool.specs.Answers.{numbered_names, TellsBy, Tells, TellsUsage, TellsNoWords};
 
 use crate::ended::bare;
 use crate::{Ended, Report};
@@ -14,13 +14,22 @@ use fac_lang::{List, Memory, Text};
 use fac_notes::{note, notes_are_not_empty};
 use std::alloc::Global;
 
+// Puts a name behind others.
+fn add_name(alloc: Global, names: &mut List<Text>, name: &str) -> Result<(), Memory>
+    ensures { OnOk result (names.new ≡ names.old ++ name.now ∷ []) }
+{
+    names.push(Text::from_str(alloc, name)?)
+}
+
 // The names of a command's files by their numbers.
-fn file_names(alloc: Global, name: &str) -> Result<List<Text>, Memory>
-    ensures { IfOk result (λ names. names ≡ codes "prelude" ∷ name.now ∷ []) }
+fn file_names(alloc: Global, files: &[String]) -> Result<List<Text>, Memory>
+    ensures { IfOk result (λ names. names ≡ numbered_names (map string_bytes files.now)) }
 {
     let mut names = List::new(alloc);
-    names.push(Text::from_str(alloc, "prelude")?)?;
-    names.push(Text::from_str(alloc, name)?)?;
+    add_name(alloc, &mut names, "prelude")?;
+    for file in files {
+        add_name(alloc, &mut names, file.as_str())?;
+    }
     Ok(names)
 }
 
@@ -40,22 +49,22 @@ fn status_note(alloc: Global, status: u8, ticks: u64) -> Result<Text, Memory>
 }
 
 // The note of a report.
-fn report_note(alloc: Global, name: &str, report: &Report) -> Result<Text, Memory>
-    ensures note { IfOk result (λ note. note ≡ line_of (codes "prelude" ∷ name.now ∷ []) report.now) }
-    ensures some { 0 < length (line_of (codes "prelude" ∷ name.now ∷ []) report.now) }
+fn report_note(alloc: Global, files: &[String], report: &Report) -> Result<Text, Memory>
+    ensures note { IfOk result (λ note. note ≡ line_of (numbered_names (map string_bytes files.now)) report.now) }
+    ensures some { 0 < length (line_of (numbered_names (map string_bytes files.now)) report.now) }
 {
     notes_are_not_empty();
-    let names = file_names(alloc, name)?;
+    let names = file_names(alloc, files)?;
     note(alloc, report, &names)
 }
 
-// The note of an ending, where the command's file has this name.
-fn ended_note(alloc: Global, name: &str, ended: &Ended) -> Result<Text, Memory>
-    ensures note { IfOk result (λ note. note ≡ note_of (codes "prelude" ∷ name.now ∷ []) ended.now.status ended.now.ticks ended.now.refusal) }
-    ensures some { OnErr result (0 < length (note_of (codes "prelude" ∷ name.now ∷ []) ended.now.status ended.now.ticks ended.now.refusal)) }
+// The note of an ending, where the command's files have these names.
+fn ended_note(alloc: Global, files: &[String], ended: &Ended) -> Result<Text, Memory>
+    ensures note { IfOk result (λ note. note ≡ note_of (numbered_names (map string_bytes files.now)) ended.now.status ended.now.ticks ended.now.refusal) }
+    ensures some { OnErr result (0 < length (note_of (numbered_names (map string_bytes files.now)) ended.now.status ended.now.ticks ended.now.refusal)) }
 {
     match &ended.refusal {
-        Some(report) => report_note(alloc, name, report),
+        Some(report) => report_note(alloc, files, report),
         None => status_note(alloc, ended.status, ended.ticks),
     }
 }
@@ -85,12 +94,12 @@ fn tell_by<N: Sink>(note: &[u8], reached: Ended, notes: &mut N) -> Ended
     }
 }
 
-/// Tells an ending, where the command's file has this name.
-pub fn tell<N: Sink>(alloc: Global, name: &str, reached: Ended, notes: &mut N) -> Ended
-    ensures { Tells (codes "prelude" ∷ name.now ∷ []) reached (sink_seen N.taken N.pieces N.faults notes.old notes.new) result }
+/// Tells an ending, where the command's files have these names.
+pub fn tell<N: Sink>(alloc: Global, files: &[String], reached: Ended, notes: &mut N) -> Ended
+    ensures { Tells (numbered_names (map string_bytes files.now)) reached (sink_seen N.taken N.pieces N.faults notes.old notes.new) result }
 {
     let ticks = reached.ticks;
-    match ended_note(alloc, name, &reached) {
+    match ended_note(alloc, files, &reached) {
         Ok(note) => tell_by(note.as_bytes(), reached, notes),
         Err(_) => tell_by(b"out of memory\n".as_slice(), bare(12, ticks), notes),
     }

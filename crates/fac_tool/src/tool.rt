@@ -1,9 +1,9 @@
 //! The top call.
-ghost use Rattle.std.specs.Prelude.{◌≡◌, ◌<◌, ◌⊎◌, None, length, map, string_bytes};
+ghost use Rattle.std.specs.Prelude.{◌≡◌, ◌⊎◌, None, map, string_bytes};
 ghost use Rattle.fac_io.specs.Faults.{Rose};
-ghost use Rattle.fac_tool.specs.Command.{command_of, file_of};
+ghost use Rattle.fac_tool.specs.Command.{command_of};
 ghost use Rattle.fac_tool.specs.SeenObjects.{sink_seen, files_seen};
-ghost use Rattle.fac_tool.specs.Answers.{Answers, Reaches, Tells, file_names};
+ghost use Rattle.fac_tool.specs.Answers.{Answers, Works};
 
 use crate::telling::{tell, tell_usage};
 use crate::work::work;
@@ -11,35 +11,23 @@ use crate::{Command, Ended, read_words};
 use fac_io::{Files, Sink};
 use std::alloc::Global;
 
-// Does the work of a command whose file is named among the words.
-fn work_on_words<F: Files, K: Sink>(
+// Does the work of a command on the files of these names, and tells how it ended.
+fn work_and_tell<F: Files, K: Sink, N: Sink>(
     alloc: Global,
     command: Command,
-    words: &[String],
+    names: &[String],
     files: &mut F,
     out: &mut K,
-) -> Ended
-    requires { file_of command < length words.now }
-    ensures { Reaches (map string_bytes words.now) command
-        (files_seen F.held F.asked F.faults files.old files.new)
-        (sink_seen K.taken K.pieces K.faults out.old out.new)
-        result }
-{
-    work(alloc, command, words[command.file()].as_str(), files, out)
-}
-
-// Tells the ending of a command whose file is named among the words.
-fn tell_of_words<N: Sink>(
-    alloc: Global,
-    command: Command,
-    words: &[String],
-    reached: Ended,
     notes: &mut N,
 ) -> Ended
-    requires { file_of command < length words.now }
-    ensures { Tells (file_names (map string_bytes words.now) command) reached (sink_seen N.taken N.pieces N.faults notes.old notes.new) result }
+    ensures { Works (map string_bytes names.now) command
+        (files_seen F.held F.asked F.faults files.old files.new)
+        (sink_seen K.taken K.pieces K.faults out.old out.new)
+        (sink_seen N.taken N.pieces N.faults notes.old notes.new)
+        result }
 {
-    tell(alloc, words[command.file()].as_str(), reached, notes)
+    let reached = work(alloc, command, names, files, out);
+    tell(alloc, names, reached, notes)
 }
 
 // Does what the words of a command line ask for, and tells how it ended.
@@ -58,10 +46,7 @@ fn answer<F: Files, K: Sink, N: Sink>(
 {
     match read_words(words) {
         None => tell_usage(notes),
-        Some(command) => {
-            let reached = work_on_words(alloc, command, words, files, out);
-            tell_of_words(alloc, command, words, reached, notes)
-        }
+        Some(command) => work_and_tell(alloc, command, command.names(words), files, out, notes),
     }
 }
 
@@ -71,10 +56,10 @@ fn answer<F: Files, K: Sink, N: Sink>(
 /// which, run alone, writes exactly the bytes and ends with the stack, named error or spent budget of the source's concatenative meaning; and
 /// no accepted program underflows a stack or changes its height other than its declared effects say.
 ///
-/// The clause `answer` says what is answered, by cases on the command and on what its file comes to: of `run`, whose budget is 100,000,000
-/// ticks, of files of at most 4,194,304 bytes, and of programs that read no input. That a run goes through code isn't in it: `compile` and
-/// `Machine::run` promise that. A source that the grammar refuses is refused without its place. Want of memory may be answered at any
-/// point; a fault only where the object that was handed in counted one.
+/// The clause `answer` says what is answered, by cases on the command and on what its files come to: of `run`, at every budget of at most
+/// 1,000,000,000,000 ticks, and of `check`, on files of at most 4,194,304 bytes together, and of programs that read no input. That a run goes
+/// through code isn't in it: `compile` and `Machine::run` promise that. A source that the grammar refuses is refused without its place. Want
+/// of memory may be answered at any point; a fault only where the object that was handed in counted one.
 pub fn factor_top<F: Files, K: Sink, N: Sink>(
     alloc: Global,
     words: &[String],
@@ -82,7 +67,7 @@ pub fn factor_top<F: Files, K: Sink, N: Sink>(
     out: &mut K,
     notes: &mut N,
 ) -> Ended
-    // The status, the ticks, the stack, the refusal, the output in its pieces and the note, by the command and the bytes of its file.
+    // The status, the ticks, the stack, the refusal, the output in its pieces and the note, by the command and the bytes of its files.
     ensures answer { Answers (map string_bytes words.now)
         (files_seen F.held F.asked F.faults files.old files.new)
         (sink_seen K.taken K.pieces K.faults out.old out.new)

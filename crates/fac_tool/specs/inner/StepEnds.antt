@@ -1,8 +1,10 @@
 -- Inner contracts: how the steps of a command end. Each gives a result for the next one, or an ending of the work.
-use Rattle.std.specs.Prelude.{◌≡◌, ℕ, List, None, Some, Result, Ok, Err}
+use Rattle.std.specs.Prelude.{◌≡◌, ◌≤◌, ◌<◌, ◌+◌, ◌⊎◌, ℕ, List, [], ◌∷◌, ◌++◌, drop, length, map, None, Some, Result, Ok, Err, IfSome, IsSomeAnd}
+use Rattle.std.specs.List.{concat}
 use Rattle.fac_lang.specs.declared.program.Program.{Program}
 use Rattle.fac_lang.specs.declared.tree.Form.{Form}
 use Rattle.fac_lang.specs.declared.tree.Tree.{Tree}
+use Rattle.fac_parse.specs.Trees.{forms_of}
 use Rattle.fac_parse.specs.Resolution.{resolved}
 use Rattle.fac_check.specs.declared.accepted.Checked.{Checked}
 use Rattle.fac_check.specs.Verdicts.{verdict}
@@ -14,13 +16,16 @@ use Rattle.fac_notes.specs.declared.report.Report.TheVariants as report
 use Rattle.fac_notes.specs.Statuses.{status_of}
 use Rattle.fac_tool.specs.declared.command.Command.{Command}
 use Rattle.fac_tool.specs.declared.ended.Ended.{Ended}
-use Rattle.fac_tool.specs.Answer.{Answer, Source, tree, answer_on}
-use Rattle.fac_tool.specs.Sources.{IsReadAs}
-use Rattle.fac_io.specs.Told.{SinkTold}
+use Rattle.fac_tool.specs.declared.accepting.Accepted.{Accepted}
+use Rattle.fac_tool.specs.Answer.{Answer, Source, tree, trees, together, come_to, answer_on, limit, definitions_in}
+use Rattle.fac_tool.specs.Sources.{IsReadAs, AreReadAs}
+use Rattle.fac_io.specs.declared.files.Asked.TheVariants.{Load}
+use Rattle.fac_io.specs.Faults.{Rose}
+use Rattle.fac_io.specs.Told.{SinkTold, Stays, Grows}
 use Rattle.fac_tool.specs.SeenObjects.{SinkSeen, FilesSeen}
 use Rattle.fac_tool.specs.Ends.{Work, EndsAs}
 use Rattle.fac_tool.specs.inner.Stops.{StandsForSafe}
-use Rattle.fac_tool.specs.Answers.{NoText, LoadGives}
+use Rattle.fac_tool.specs.Answers.{LoadsGive, LoadsEnd}
 
 -- an ending with neither a stack nor a refusal
 abbrev pub bare : ℕ → ℕ → Ended
@@ -30,13 +35,13 @@ bare status ticks = record { status = status; ticks = ticks; stack = None; refus
 abbrev pub reported : ℕ → Report → Ended
 reported ticks why = record { status = status_of why; ticks = ticks; stack = None; refusal = Some why }
 
--- the ending by a fault of tokens
-abbrev pub fault_ending : TokenFault → Ended
-fault_ending (token.NotUtf8 at) = reported 0 (report.Bytes 1 at byte.NotUtf8)
-fault_ending (token.OpenString at) = reported 0 (report.Bytes 1 at byte.OpenString)
-fault_ending (token.BadEscape at) = reported 0 (report.Bytes 1 at byte.BadEscape)
-fault_ending (token.StuckQuote at) = reported 0 (report.Bytes 1 at byte.StuckQuote)
-fault_ending token.Memory = bare 12 0
+-- the ending by a fault of the tokens of the file with this number
+abbrev pub fault_ending : ℕ → TokenFault → Ended
+fault_ending file (token.NotUtf8 at) = reported 0 (report.Bytes file at byte.NotUtf8)
+fault_ending file (token.OpenString at) = reported 0 (report.Bytes file at byte.OpenString)
+fault_ending file (token.BadEscape at) = reported 0 (report.Bytes file at byte.BadEscape)
+fault_ending file (token.StuckQuote at) = reported 0 (report.Bytes file at byte.StuckQuote)
+fault_ending file token.Memory = bare 12 0
 
 -- a sink that stays as it was
 abbrev pub still : SinkTold → ℕ → SinkSeen
@@ -66,32 +71,123 @@ abbrev pub ended_by : Result Ended Ended → Ended
 ended_by (Ok ended) = ended
 ended_by (Err ended) = ended
 
--- the step that loads the text, whatever the output is that stays as it was
-abbrev pub Loads : List ℕ → FilesSeen → Result (List ℕ) Ended → Type 0
-Loads name files (Ok text) = LoadGives name files text
-Loads name files (Err ended) = (told : SinkTold) (faults : ℕ) → NoText name files (still told faults) ended
+-- a load gave this text, of at most so many bytes
+pub record LoadGives (name : List ℕ) (room : ℕ) (files : FilesSeen) (text : List ℕ) : Type 0 where
+  pub within : length text ≤ room
+  pub told : IfSome files.held_before (λ held. held name ≡ Some text)
+  pub held : Stays files.held_before files.held_now
+  pub asked : Grows files.asked_before files.asked_now (Load name ∷ [])
+  pub faults : files.faults_now ≡ files.faults_before
 
--- a text comes to this, which has this answer, whatever the command is
-pub record EndsRead (text : List ℕ) (ended : Ended) : Type 0 where
+-- memory was wanted before a load
+pub record NotAsked (files : FilesSeen) (ended : Ended) : Type 0 where
+  pub is : ended ≡ bare 12 0
+  pub held : Stays files.held_before files.held_now
+  pub asked : Stays files.asked_before files.asked_now
+  pub faults : files.faults_now ≡ files.faults_before
+
+-- memory was wanted behind a load
+pub record NotKept (name : List ℕ) (files : FilesSeen) (ended : Ended) : Type 0 where
+  pub is : ended ≡ bare 12 0
+  pub held : Stays files.held_before files.held_now
+  pub asked : Grows files.asked_before files.asked_now (Load name ∷ [])
+  pub faults : files.faults_now ≡ files.faults_before
+
+-- a load failed
+pub record OneFails (name : List ℕ) (files : FilesSeen) (ended : Ended) : Type 0 where
+  pub is : ended ≡ reported 0 (report.File name)
+  pub held : Stays files.held_before files.held_now
+  pub asked : Grows files.asked_before files.asked_now (Load name ∷ [])
+  pub rose : Rose files.faults_before files.faults_now
+
+-- the bytes of a name are more than there was room for
+pub record OneTooLong (name : List ℕ) (room : ℕ) (files : FilesSeen) (ended : Ended) : Type 0 where
+  pub is : ended ≡ reported 0 (report.TooLong name limit)
+  pub longer : IfSome files.held_before (λ held. IsSomeAnd (held name) (λ text. room < length text))
+  pub held : Stays files.held_before files.held_now
+  pub asked : Grows files.asked_before files.asked_now (Load name ∷ [])
+  pub faults : files.faults_now ≡ files.faults_before
+
+-- how a load ends the work
+abbrev pub OneEnds : List ℕ → ℕ → FilesSeen → Ended → Type 0
+OneEnds name room files ended = NotAsked files ended ⊎ (NotKept name files ended ⊎ (OneFails name files ended ⊎ OneTooLong name room files ended))
+
+-- the step that loads a file where there is room for so many bytes
+abbrev pub LoadsOne : List ℕ → ℕ → FilesSeen → Result (List ℕ) Ended → Type 0
+LoadsOne name room files (Ok text) = LoadGives name room files text
+LoadsOne name room files (Err ended) = OneEnds name room files ended
+
+-- a load gave one more text behind others, and so much room is left
+pub record LoadAdds (name : List ℕ) (room : ℕ) (files : FilesSeen) (texts now : List (List ℕ)) (left : ℕ) : Type 0 where
+  pub text : List ℕ
+  pub gives : LoadGives name room files text
+  pub added : now ≡ texts ++ text ∷ []
+  pub rest : left + length text ≡ room
+
+abbrev pub LoadsNext : List ℕ → ℕ → FilesSeen → List (List ℕ) → List (List ℕ) → Result ℕ Ended → Type 0
+LoadsNext name room files texts now (Ok left) = LoadAdds name room files texts now left
+LoadsNext name room files texts now (Err ended) = OneEnds name room files ended
+
+-- the step that loads all files
+abbrev pub LoadsAll : List (List ℕ) → FilesSeen → Result (List (List ℕ)) Ended → Type 0
+LoadsAll names files (Ok texts) = LoadsGive names files texts
+LoadsAll names files (Err ended) = LoadsEnd names files ended
+
+-- a text comes to this, which decides the answer, whatever the command is and whatever the files before and behind it are
+pub record EndsFile (file : ℕ) (text : List ℕ) (ended : Ended) : Type 0 where
   pub source : Source
-  pub is_read : IsReadAs 1 text source
-  pub ends : (command : Command) → EndsEarly (answer_on command source) ended
+  pub is_read : IsReadAs file text source
+  pub ends : (command : Command) (read : List (List Form)) (sources : List Source) → EndsEarly (answer_on command (together read file (source ∷ sources))) ended
 
 -- the steps from a text to its tree
-abbrev pub ReadsTree : List ℕ → Result Tree Ended → Type 0
-ReadsTree text (Ok read) = IsReadAs 1 text (tree read.forms)
-ReadsTree text (Err ended) = EndsRead text ended
+abbrev pub ReadsTree : ℕ → List ℕ → Result Tree Ended → Type 0
+ReadsTree file text (Ok read) = IsReadAs file text (tree read.forms)
+ReadsTree file text (Err ended) = EndsFile file text ended
 
--- a text comes to forms whose program is accepted, and this closed program stands for that one
-pub record IsAcceptedText (text : List ℕ) (checked : Checked) : Type 0 where
+-- one more tree behind others
+pub record TreeAdds (file : ℕ) (text : List ℕ) (read now : List Tree) : Type 0 where
   pub forms : List Form
-  pub P : Program
-  pub is_read : IsReadAs 1 text (tree forms)
-  pub resolves : resolved forms ≡ Ok P
-  pub accepts : verdict P 0 ≡ None
-  pub stands : StandsForSafe checked.closed P
+  pub is_read : IsReadAs file text (tree forms)
+  pub added : forms_of now ≡ forms_of read ++ forms ∷ []
 
--- the steps from a text to its accepted program
-abbrev pub Accepts : List ℕ → Result Checked Ended → Type 0
-Accepts text (Ok checked) = IsAcceptedText text checked
-Accepts text (Err ended) = EndsRead text ended
+abbrev pub ReadsNext : {A : Type 0} → ℕ → List ℕ → List Tree → List Tree → Result A Ended → Type 0
+ReadsNext file text read now (Ok done) = TreeAdds file text read now
+ReadsNext file text read now (Err ended) = EndsFile file text ended
+
+-- Texts come to something that those from this number on decide, which come to these, where the ones before have these forms.
+pub record ReadSoFar (texts : List (List ℕ)) (file : ℕ) (read : List (List Form)) (sources : List Source) : Type 0 where
+  pub whole : List Source
+  pub are_read : AreReadAs 1 texts whole
+  pub same : come_to whole ≡ together read file sources
+
+-- texts come to this, which has this answer, whatever the command is
+pub record EndsRead (texts : List (List ℕ)) (ended : Ended) : Type 0 where
+  pub sources : List Source
+  pub are_read : AreReadAs 1 texts sources
+  pub ends : (command : Command) → EndsEarly (answer_on command (come_to sources)) ended
+
+-- the texts come to the trees of these forms
+pub record AreTrees (texts : List (List ℕ)) (files : List (List Form)) : Type 0 where
+  pub sources : List Source
+  pub are_read : AreReadAs 1 texts sources
+  pub come : come_to sources ≡ trees files
+
+-- the steps from texts to their trees
+abbrev pub ReadsTrees : List (List ℕ) → Result (List Tree) Ended → Type 0
+ReadsTrees texts (Ok read) = AreTrees texts (forms_of read)
+ReadsTrees texts (Err ended) = EndsRead texts ended
+
+-- texts come to trees whose program is accepted, and this closed program stands for that one
+pub record AreAccepted (texts : List (List ℕ)) (accepted : Accepted) : Type 0 where
+  pub files : List (List Form)
+  pub P : Program
+  pub are_trees : AreTrees texts files
+  pub resolves : resolved files ≡ Ok P
+  pub accepts : verdict P 0 ≡ None
+  pub stands : StandsForSafe accepted.checked.closed P
+  pub count : accepted.definitions ≡ definitions_in files
+
+-- the steps from texts to their accepted program
+abbrev pub Accepts : List (List ℕ) → Result Accepted Ended → Type 0
+Accepts texts (Ok accepted) = AreAccepted texts accepted
+Accepts texts (Err ended) = EndsRead texts ended

@@ -1,0 +1,75 @@
+//! The definitions of files, and the line that tells how many there are.
+ghost use Rattle.std.specs.Prelude.{◌≡◌, ◌≤◌, length, IfOk};
+ghost use Rattle.std.specs.List.{count_by};
+ghost use Rattle.fac_io.specs.Faults.{HasCause};
+ghost use Rattle.fac_parse.specs.Trees.{forms_of};
+ghost use Rattle.fac_tool.specs.Answer.{checked_answer, checked_line as line_of_checked, definitions_in, is_definition as is_defined};
+ghost use Rattle.fac_tool.specs.Ends.{EndsAs, idle};
+ghost use Rattle.fac_tool.specs.SeenObjects.{sink_seen};
+
+use crate::Ended;
+use crate::ended::bare;
+use fac_io::Sink;
+use fac_lang::{Form, List, Memory, Text, Tree};
+use std::alloc::Global;
+
+// Whether a form defines a word that has a phrase.
+fn is_definition(form: &Form) -> bool
+    ensures { result ≡ is_defined form.now }
+{
+    match form {
+        Form::Using { .. } => false,
+        Form::Define { .. } => true,
+        Form::Item(_) => false,
+        Form::Quotation { .. } => false,
+    }
+}
+
+// How many of the forms are definitions.
+fn definitions_of(forms: &List<Form>) -> u64
+    ensures count { result ≡ count_by is_defined forms.now }
+    ensures few { result ≤ 4294967295 }
+{
+    let _count = forms.len();
+    let mut count = 0u64;
+    for form in forms.as_slice() {
+        if is_definition(form) {
+            count += 1;
+        }
+    }
+    count
+}
+
+/// How many definitions the files of these trees have.
+pub fn definitions(trees: &List<Tree>) -> u64
+    ensures { result ≡ definitions_in (forms_of trees.now) }
+{
+    let _count = trees.len();
+    let mut count = 0u64;
+    for tree in trees.as_slice() {
+        count += definitions_of(&tree.forms);
+    }
+    count
+}
+
+// The line that tells so many definitions.
+fn checked_line(alloc: Global, definitions: u64) -> Result<Text, Memory>
+    ensures { IfOk result (λ line. line ≡ line_of_checked definitions) }
+{
+    let line = format!(in alloc; "checked {definitions} definitions\n")?;
+    Ok(Text::from_string(line))
+}
+
+/// Tells that files with so many definitions were checked, in one write.
+pub fn tell_checked<K: Sink>(alloc: Global, definitions: u64, out: &mut K) -> Ended
+    ensures ends { EndsAs (checked_answer definitions) idle (sink_seen K.taken K.pieces K.faults out.old out.new) result }
+    ensures counts { K.faults out.old ≤ K.faults out.new }
+{
+    match checked_line(alloc, definitions) {
+        Err(_) => bare(12, 0),
+        Ok(line) => match out.write(line.as_bytes()) {
+            Ok(()) => bare(0, 0),
+            Err(_) => bare(10, 0),
+        },
+    }
+}
