@@ -1,20 +1,20 @@
 -- Plain code, computed: that of a small program, what the machine does with it, and its code as a case of the relation.
 use Rattle.std.proofs.Common.{◌≡◌, ℕ, List, [], ◌∷◌, true, false, refl, Option, Some, None, arith}
-use Rattle.std.specs.Prelude.{pos}
+use Rattle.std.specs.Prelude.{pos, codes}
 use Rattle.fac_lang.specs.Signatures.{signature, no_inputs, never}
 use Rattle.fac_lang.specs.declared.phrase.Template.{Template}
 use Rattle.fac_lang.specs.declared.program.Program.{Program}
 use Rattle.fac_lang.specs.declared.program.WordDef.{WordDef}
 use Rattle.fac_lang.specs.declared.program.Sort.{Sort}
-use Rattle.fac_lang.specs.declared.program.Sort.TheVariants.{Prim as prim, Core as core, Body as body}
-use Rattle.fac_lang.specs.Phrases.{int, Phrase, end, then, Item, lit, quot, word}
+use Rattle.fac_lang.specs.declared.program.Sort.TheVariants.{Prim as prim, Core as core, Body as body, Itself as itself}
+use Rattle.fac_lang.specs.Phrases.{int, str, wrd, Phrase, end, then, Item, lit, quot, word}
 use Rattle.fac_lang.specs.Primitives.{built_count, prim_numbered, prim_fn}
 use Rattle.fac_code.specs.Code.{has_built_code}
 use Rattle.fac_code.specs.References.{refers}
 use Rattle.fac_lang.specs.Meaning.{nowhere, names, core_numbered}
 use Rattle.fac_locals.specs.inner.Numbering.{closed_words, words_templates}
-use Rattle.fac_code.specs.declared.image.Instr.TheVariants.{Halt, Int, Quot, Prim, Callw, Call, Dip, Ret}
-use Rattle.fac_code.specs.declared.image.Action.TheVariants.{Prim as prim_action, Core as core_action, Code as code_action}
+use Rattle.fac_code.specs.declared.image.Instr.TheVariants.{Halt, Int, Text, Word, Quot, Prim, Callw, Call, Dip, Ret}
+use Rattle.fac_code.specs.declared.image.Action.TheVariants.{Prim as prim_action, Core as core_action, Code as code_action, Itself as itself_action}
 use Rattle.fac_code.specs.declared.image.Image.{Image}
 use Rattle.fac_prim.specs.MachineValues.{MValue, m_plain}
 use Rattle.fac_vm.specs.Machine.{End, done, steps, starting}
@@ -104,3 +104,22 @@ phrase_code =
     (c_dip 2 1 refl refl (all_more all_none) refl
     (c_call 1 0 refl refl all_none refl
     (c_end (c_last all_none refl)))))))
+
+-- Strings and words as values, where word 0 is a symbol: `"a" red \ red "a"`. The texts are the names of the two words, and behind them those of the strings, each with its own number.
+abbrev written : Program
+written =
+    record {
+      words = record (named itself) { name = record { vocab = []; name = codes "red" } } ∷ named (body (items (lit (str (codes "a")) ∷ word 0 ∷ lit (wrd 0) ∷ lit (str (codes "a")) ∷ []))) ∷ [];
+      arrays = [];
+      classes = [];
+      top = 1;
+    }
+
+written_code : program_code written [] ≡ Text 2 ∷ Word 0 ∷ Word 0 ∷ Text 3 ∷ Halt ∷ []
+written_code = refl
+
+written_texts : program_texts written [] ≡ codes "red" ∷ [] ∷ codes "a" ∷ codes "a" ∷ []
+written_texts = refl
+
+written_rows : program_words written [] ≡ record { name = 0; action = itself_action } ∷ record { name = 1; action = code_action 0 } ∷ []
+written_rows = refl

@@ -1,12 +1,11 @@
 -- The words of an image of plain code have the names of the program's.
-use Rattle.std.proofs.Common.{◌≡◌, ℕ, zero, suc, ◌+◌, List, [], ◌∷◌, Option, Some, None, refl, ap, sym, ◌∙◌, arith}
-use Rattle.std.specs.Prelude.{length, map, slice_get}
+use Rattle.std.proofs.Common.{◌≡◌, ℕ, suc, ◌+◌, List, [], ◌∷◌, Option, Some, None, refl, ap, sym, ◌∙◌, arith}
+use Rattle.std.specs.Prelude.{length, slice_get}
 use Rattle.std.specs.Option.{option_map}
 use Rattle.std.proofs.lemmas.Option.{slice_get-map}
 use Rattle.fac_lang.specs.declared.phrase.Template.{Template}
 use Rattle.fac_lang.specs.declared.program.Program.{Program}
 use Rattle.fac_lang.specs.declared.program.WordDef.{WordDef}
-use Rattle.fac_lang.specs.Printed.{Names}
 use Rattle.fac_lang.specs.Meaning.{names}
 use Rattle.fac_locals.specs.Closed.{Closes, CloseWords}
 use Rattle.fac_code.specs.declared.image.Image.{Image}
@@ -45,7 +44,7 @@ image_named_so P C templates M closes is_plain =
     let texts = templates_texts first templates in
     let begins : Begins first M.texts = rw is_plain.texts (begins_on first texts (program_texts C templates) (templates_behind first templates) (words_behind texts C.words)) in
     let there : (k : ℕ) (d : WordDef) → slice_get C.words k ≡ Some d → slice_get M.texts (0 + k) ≡ Some d.name.name =
-      λ k d e. let n : 0 + k ≡ k = omega arith in ap (slice_get M.texts) n ∙ front_there first M.texts k d.name.name begins (slice_get-map (λ (d : WordDef). d.name.name) C.words k ∙ ap (option_map (λ (d : WordDef). d.name.name)) e) in
+    λ k d e. let n : 0 + k ≡ k = omega arith in ap (slice_get M.texts) n ∙ front_there first M.texts k d.name.name begins (slice_get-map (λ (d : WordDef). d.name.name) C.words k ∙ ap (option_map (λ (d : WordDef). d.name.name)) e) in
     ap (λ (rs : List WordRow). texts_at M.texts (row_names rs)) is_plain.word_rows_are ∙ rows_named C.words C.top M.texts texts (length (templates_code C.words first templates)) 0 C.words there ∙ same_names P 0 P.words C.words closes.words
 
 pub image_named : (P C : Program) (templates : List Template) (M : Image) → Closes P C templates → IsPlain C templates M → with_names (image_names M) (names P) ≡ names P

@@ -1,5 +1,5 @@
 -- The texts of code: those behind it begin with those before it.
-use Rattle.std.proofs.Common.{◌≡◌, ◌≤◌, ◌+◌, ℕ, List, [], ◌∷◌, ◌++◌, Some, refl, sym, ◌∙◌, append_assoc, length-append, arith}
+use Rattle.std.proofs.Common.{◌≡◌, ◌≤◌, ℕ, List, [], ◌∷◌, ◌++◌, Some, refl, sym, ◌∙◌, append_assoc, length-append, arith}
 use Rattle.std.specs.Prelude.{length, slice_get}
 use Rattle.std.proofs.lemmas.List.{append-nil}
 use Rattle.fac_lang.specs.declared.phrase.Template.{Template}
