@@ -1,4 +1,4 @@
-use Rattle.std.proofs.Common.{◌≡◌, arith}
+use Rattle.std.proofs.Common.{arith}
 use Rattle.std.proofs.lemmas.Grind.{text_groups}
 use Rattle.fac_vocab.proofs.table.add_number.Goals as goal
 

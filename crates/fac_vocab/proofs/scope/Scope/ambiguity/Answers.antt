@@ -1,5 +1,5 @@
-use Rattle.std.proofs.Common.{◌≡◌, ◌∙◌, List, ap, sym, subst, IfOk}
-use Rattle.fac_vocab.specs.Scopes.{Entry, Scope, Found}
+use Rattle.std.proofs.Common.{◌≡◌, ◌∙◌, ap, sym, subst, IfOk}
+use Rattle.fac_vocab.specs.Scopes.{Scope, Found}
 use Rattle.fac_vocab.specs.ScopeCalls.{names_between}
 use Rattle.fac_vocab.specs.inner.Rows.{LeastUsed}
 use Rattle.fac_vocab.proofs.SearchLemmas.{found_near, found_used}

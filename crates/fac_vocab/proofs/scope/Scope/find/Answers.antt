@@ -1,5 +1,5 @@
-use Rattle.std.proofs.Common.{◌≡◌, ◌∙◌, List, ap, subst}
-use Rattle.fac_vocab.specs.Scopes.{Entry, Scope}
+use Rattle.std.proofs.Common.{◌∙◌, ap, subst}
+use Rattle.fac_vocab.specs.Scopes.{Scope}
 use Rattle.fac_vocab.specs.ScopeCalls.{answer_of}
 use Rattle.fac_vocab.specs.inner.Rows.{LeastUsed}
 use Rattle.fac_vocab.proofs.SearchLemmas.{found_near, found_used}

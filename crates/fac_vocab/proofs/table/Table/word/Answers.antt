@@ -1,4 +1,4 @@
-use Rattle.std.proofs.Common.{◌≡◌, ◌∙◌, ap, List, ℕ}
+use Rattle.std.proofs.Common.{◌∙◌, ap, List}
 use Rattle.fac_vocab.specs.Scopes.{Entry}
 use Rattle.fac_vocab.specs.inner.Rows.{word_among}
 use Rattle.fac_vocab.proofs.RowLemmas.{word_of_name}
