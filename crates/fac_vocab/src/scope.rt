@@ -295,7 +295,8 @@ impl Scope {
         if !self.exists(vocab) {
             return Err(ScopeFault::NoVocab);
         }
-        self.brought.add(prefixed_names(alloc, vocab, prefix)?)?;
+        self.brought
+            .add(alloc, prefixed_names(alloc, vocab, prefix)?)?;
         Ok(())
     }
 
@@ -305,7 +306,7 @@ impl Scope {
     {
         match self.table.word(vocab, name) {
             Some(word) => {
-                self.brought.add(named_word(alloc, name, word)?)?;
+                self.brought.add(alloc, named_word(alloc, name, word)?)?;
                 Ok(())
             }
             None => Err(ScopeFault::Unknown),
