@@ -2,7 +2,7 @@
 ghost use Rattle.std.specs.Prelude.{◌≡◌, ◌++◌, ◌∷◌, ◌+◌, [], List, ℕ, None, Some, codes, drop, length, nat_eq, reverse, if◌then◌else◌, OnOk, OnErr};
 ghost use Rattle.std.specs.List.{starts_with};
 ghost use Rattle.std.specs.Option.{option_copied};
-ghost use Rattle.fac_vocab.specs.Scopes.{given_by, latest as latest_word};
+ghost use Rattle.fac_vocab.specs.Scopes.{Brought as Form, given_by, latest as latest_word};
 ghost use Rattle.fac_vocab.specs.inner.Index.{numbers_in};
 ghost use Rattle.fac_vocab.specs.inner.BroughtForms.{gives, word_at, last_giving, later, is_name, is_prefix, AreIndexed, IndexedWhere};
 
@@ -181,22 +181,42 @@ fn note_behind(
     is_indexed: bool,
     names: &mut IndexMap<String, Vec<u32>>,
     prefixes: &mut IndexMap<String, Vec<u32>>,
-    forms: &[Brought],
     form: &Brought,
+    number: usize,
 ) -> bool
-    requires { IndexedWhere is_indexed names.old prefixes.old forms.now }
-    ensures { IndexedWhere result names.new prefixes.new (forms.now ++ form.now ∷ []) }
+    ensures { (fs : List Form) → length fs ≡ number → IndexedWhere is_indexed names.old prefixes.old fs → IndexedWhere result names.new prefixes.new (fs ++ form.now ∷ []) }
 {
     if !is_indexed {
         return false;
     }
-    if forms.len() > u32::MAX as usize {
+    if number > u32::MAX as usize {
         return false;
     }
-    match note(alloc, names, prefixes, form, forms.len() as u32) {
+    match note(alloc, names, prefixes, form, number as u32) {
         Ok(_) => true,
         Err(_) => false,
     }
+}
+
+// Keeps the numbers of several forms behind forms whose numbers are kept, and whether that was done.
+fn note_all(
+    alloc: Global,
+    is_indexed: bool,
+    names: &mut IndexMap<String, Vec<u32>>,
+    prefixes: &mut IndexMap<String, Vec<u32>>,
+    forms: &[Brought],
+    more: &[Brought],
+) -> bool
+    requires { IndexedWhere is_indexed names.old prefixes.old forms.now }
+    ensures { IndexedWhere result names.new prefixes.new (forms.now ++ more.now) }
+{
+    let mut is_noted = is_indexed;
+    let mut number = forms.len();
+    for form in more {
+        is_noted = note_behind(alloc, is_noted, names, prefixes, form, number);
+        number += 1;
+    }
+    is_noted
 }
 
 impl BroughtNames {
@@ -234,8 +254,8 @@ impl BroughtNames {
             self.is_indexed,
             &mut self.names,
             &mut self.prefixes,
-            self.forms.as_slice(),
             &form,
+            self.forms.len(),
         );
         self.is_indexed = false;
         self.forms.push(form)?;
@@ -243,14 +263,23 @@ impl BroughtNames {
         Ok(())
     }
 
-    /// Adds what several forms bring, the latest being the last, all or none of it. From then on forms are gone through one by one.
-    pub fn add_all(&mut self, forms: Vec<Brought>) -> Result<(), Memory>
+    /// Adds what several forms bring, the latest being the last: all or none of it.
+    pub fn add_all(&mut self, alloc: Global, forms: Vec<Brought>) -> Result<(), Memory>
         ensures ok { OnOk result (self.new ≡ reverse forms.items ++ self.old) }
         ensures err { OnErr result (self.new ≡ self.old) }
     {
+        let is_noted = note_all(
+            alloc,
+            self.is_indexed,
+            &mut self.names,
+            &mut self.prefixes,
+            self.forms.as_slice(),
+            forms.as_slice(),
+        );
         self.is_indexed = false;
         let mut more = forms;
         self.forms.append(&mut more)?;
+        self.is_indexed = is_noted;
         Ok(())
     }
 }

@@ -322,7 +322,7 @@ impl Scope {
         }
         match all_words(alloc, &self.table, vocab, names.as_slice()) {
             Ok(forms) => {
-                self.brought.add_all(forms)?;
+                self.brought.add_all(alloc, forms)?;
                 Ok(())
             }
             Err(fault) => Err(fault),

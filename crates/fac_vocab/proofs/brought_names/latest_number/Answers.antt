@@ -5,10 +5,11 @@ use Rattle.fac_vocab.proofs.brought_names.latest_number.Goals as goal
 
 pub loop-before-init : goal.loop-before-init
 loop-before-init c =
-    let last = c.last_number-best.ensures ∙ ap (last_giving c.args.table.now c.args.forms.now c.args.name.now) (c.numbers_of.ensures ∙ c.requires.named c.args.name.now) in
-    (subst (λ (o : Option ℕ). Best c.args.table.now c.args.forms.now c.args.name.now (length c.args.name.now) o) (sym last) (best_named c.args.table.now c.args.forms.now c.args.name.now),
-    ([], sym (append_none c.args.name.now)),
-    search rules)
+    let last = c.last_number-best.ensures ∙ ap (last_giving c.args.table.now c.args.forms.now c.args.name.now) (c.numbers_of.ensures ∙ c.requires.named c.args.name.now) in (
+      subst (λ (o : Option ℕ). Best c.args.table.now c.args.forms.now c.args.name.now (length c.args.name.now) o) (sym last) (best_named c.args.table.now c.args.forms.now c.args.name.now),
+      ([], sym (append_none c.args.name.now)),
+      search rules,
+    )
 
 pub loop-before-preserved : goal.loop-before-preserved
 loop-before-preserved c =
@@ -20,10 +21,11 @@ loop-before-preserved c =
     let tail = c.loop-before.invariant.1.0 in
     let whole : c.args.name.now ≡ front ++ tail = c.loop-before.invariant.1.1 in
     let last = c.last_number-number.ensures ∙ ap (last_giving c.args.table.now c.args.forms.now c.args.name.now) (c.numbers_of-in-Some.ensures ∙ c.requires.prefixed before) in
-    let best = best_prefixed c.args.table.now c.args.forms.now c.args.name.now front before after tail c.loop-before.best whole split (λ i l. h.2.0 i (subst (λ (n : ℕ). n < i) h.6 l)) c.loop-before.invariant.0 in
-    (subst (λ (o : Option ℕ). Best c.args.table.now c.args.forms.now c.args.name.now (length before) o) (sym (c.later_of-best.ensures ∙ ap (later c.loop-before.best) last)) best,
-    (58 ∷ (after ++ tail), whole ∙ ap (λ (xs : List ℕ). xs ++ tail) split ∙ append_assoc before (58 ∷ after) tail),
-    search rules)
+    let best = best_prefixed c.args.table.now c.args.forms.now c.args.name.now front before after tail c.loop-before.best whole split (λ i l. h.2.0 i (subst (λ (n : ℕ). n < i) h.6 l)) c.loop-before.invariant.0 in (
+      subst (λ (o : Option ℕ). Best c.args.table.now c.args.forms.now c.args.name.now (length before) o) (sym (c.later_of-best.ensures ∙ ap (later c.loop-before.best) last)) best,
+      (58 ∷ (after ++ tail), whole ∙ ap (λ (xs : List ℕ). xs ++ tail) split ∙ append_assoc before (58 ∷ after) tail),
+      search rules,
+    )
 
 pub returns : goal.returns
 returns c =
