@@ -1,9 +1,9 @@
 -- What several names of a vocabulary bring.
-use Rattle.std.proofs.Common.{◌≡◌, ℕ, List, [], ◌∷◌, ◌++◌, reverse, Bool, true, Option, Some, None, Result, Ok, Err, refl, sym, ap, ◌∙◌, append_assoc, subst}
+use Rattle.std.proofs.Common.{◌≡◌, ℕ, List, [], ◌∷◌, ◌++◌, reverse, Bool, true, Option, Some, None, Ok, Err, refl, sym, ap, ◌∙◌, append_assoc, subst}
 use Rattle.std.proofs.lemmas.List.{reverse-append}
 use Rattle.fac_vocab.specs.declared.answers.ScopeFault.{ScopeFault}
 use Rattle.fac_vocab.specs.declared.answers.ScopeFault.TheVariants.{Twice, NoVocab, Unknown as Missing, Memory}
-use Rattle.fac_vocab.specs.Scopes.{Entry, exists, Brought, named, Scope, word_held, bringing}
+use Rattle.fac_vocab.specs.Scopes.{exists, Brought, named, Scope, word_held, bringing}
 use Rattle.fac_vocab.specs.ScopeCalls.{bringing_all, Brings, brings_where, Changes}
 use Rattle.fac_vocab.specs.inner.Rows.{behind_word, all_named, AllNamed}
 
@@ -20,6 +20,7 @@ all_brought vocab s (n ∷ ns) = one (word_held s.table vocab n) (λ w. all_brou
     two w None = refl
     two w (Some forms) =
         ap (λ (bs : List Brought). Some (record s { brought = bs })) (sym (append_assoc (reverse forms) (named n w ∷ []) s.brought) ∙ ap (λ (bs : List Brought). bs ++ s.brought) (sym (reverse-append (named n w ∷ []) forms)))
+
     one : (o : Option ℕ) → ((w : ℕ) → bringing_all vocab (bringing (named n w) s) ns ≡ scope_with (bringing (named n w) s) (all_named s.table vocab ns)) →
         elim o [ Some w ↦ bringing_all vocab (bringing (named n w) s) ns | None ↦ None ] ≡ scope_with s (behind_word n o (all_named s.table vocab ns))
     one None ih = refl

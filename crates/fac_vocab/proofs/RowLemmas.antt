@@ -1,16 +1,16 @@
 -- Entries by their numbers.
-use Rattle.std.proofs.Common.{◌≡◌, ℕ, zero, suc, ◌+◌, ◌<◌, Bool, true, false, cond, not, ◌||◌, ◌&&◌, List, [], ◌∷◌, ◌++◌, length, take, Option, Some, None, refl, sym, ap, ◌∙◌, subst, arith, append_assoc, true≢false}
-use Rattle.std.specs.Prelude.{nat_eq, slice_get, slice_set}
-use Rattle.std.specs.List.{list_any, filter, find, position_from}
+use Rattle.std.proofs.Common.{◌≡◌, ℕ, ◌+◌, Bool, true, false, cond, ◌||◌, ◌&&◌, List, [], ◌∷◌, ◌++◌, length, Option, Some, None, refl, sym, ap, ◌∙◌, arith, append_assoc, true≢false}
+use Rattle.std.specs.Prelude.{slice_get}
+use Rattle.std.specs.List.{list_any, filter, find}
 use Rattle.std.specs.Option.{option_map}
 use Rattle.std.specs.Str.{bytes_eq}
 use Rattle.std.proofs.lemmas.List.{length_push}
 use Rattle.fac_vocab.specs.declared.answers.Standing.{Standing}
 use Rattle.fac_vocab.specs.declared.answers.Standing.TheVariants.{New, Deferred, Defined}
-use Rattle.fac_vocab.specs.Scopes.{Entry, held, word_held, or_else, same_table, companion, holders, now_defined}
+use Rattle.fac_vocab.specs.Scopes.{Entry, held, word_held, or_else, same_table, companion, holders}
 use Rattle.fac_vocab.specs.ScopeCalls.{standing_of, standing_with}
-use Rattle.fac_vocab.specs.inner.Rows.{numbers_named, with_some, entries_at, entries_named, word_if, word_among, defined_if, defined_among, number_if, first_among, in_table, deferred_word, deferred_at, first_defined, settled, defined_at}
-use Rattle.fac_vocab.proofs.TextLemmas.{false_by, both_true, or_false}
+use Rattle.fac_vocab.specs.inner.Rows.{numbers_named, with_some, entries_at, entries_named, word_if, word_among, defined_if, defined_among, number_if, first_among, in_table, deferred_word, deferred_at}
+use Rattle.fac_vocab.proofs.TextLemmas.{or_false}
 
 -- the entry behind some
 pub entry_behind : (done es : List Entry) (e : Entry) → slice_get (done ++ e ∷ es) (length done) ≡ Some e

@@ -1,5 +1,5 @@
 -- What a search finds, by its parts.
-use Rattle.std.proofs.Common.{◌≡◌, ℕ, List, [], take, Option, Some, None, refl, sym, ap, ◌∙◌}
+use Rattle.std.proofs.Common.{◌≡◌, ℕ, List, Option, Some, None, sym, ap, ◌∙◌}
 use Rattle.fac_vocab.specs.declared.least.Least.{Least}
 use Rattle.fac_vocab.specs.Scopes.{Entry, Scope, companion, word_held, or_else, latest, all_used, Found, the, only_one, found}
 use Rattle.fac_vocab.specs.inner.Rows.{entries_at, kept_numbers, LeastUsed}

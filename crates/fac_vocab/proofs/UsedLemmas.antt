@@ -1,12 +1,12 @@
 -- What the used vocabularies hold under a name.
-use Rattle.std.proofs.Common.{◌≡◌, ℕ, zero, suc, ◌+◌, Bool, true, false, cond, not, ◌||◌, ◌&&◌, List, [], ◌∷◌, ◌++◌, length, take, Option, Some, None, refl, sym, ap, ◌∙◌, subst, arith, append_assoc, length-append, true≢false}
-use Rattle.std.specs.Prelude.{nat_eq, slice_get, Result, Ok, Err, OnOk, OnErr}
-use Rattle.std.specs.List.{list_any, filter, find}
+use Rattle.std.proofs.Common.{◌≡◌, ℕ, ◌+◌, Bool, true, false, cond, not, ◌||◌, ◌&&◌, List, [], ◌∷◌, ◌++◌, length, take, Option, Some, None, refl, sym, ap, ◌∙◌, subst, arith, length-append, true≢false}
+use Rattle.std.specs.Prelude.{slice_get, Result, Ok, Err, OnOk, OnErr}
+use Rattle.std.specs.List.{list_any, find}
 use Rattle.std.specs.Str.{bytes_eq}
 use Rattle.std.proofs.lemmas.Slice.Eq.{bytes_eq-Decides}
 use Rattle.fac_lang.specs.Whole.{no_two, same_name}
 use Rattle.fac_vocab.specs.declared.least.Least.{Least}
-use Rattle.fac_vocab.specs.Scopes.{Entry, held, with_vocab, put_in_order, full_text, all_used, Found, only_one}
+use Rattle.fac_vocab.specs.Scopes.{Entry, with_vocab, put_in_order, full_text, all_used, only_one}
 use Rattle.fac_vocab.specs.ScopeCalls.{name_of, names_differ}
 use Rattle.fac_vocab.specs.inner.Rows.{numbers_named, with_some, entries_at, entries_named, used_among, kept_numbers, with_used_entry, least_with, LeastUsed}
 use Rattle.fac_vocab.proofs.TextLemmas.{bytes_eq-swap, false_by, both_true, or_false}

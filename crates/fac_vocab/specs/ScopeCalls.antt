@@ -9,7 +9,7 @@ use Rattle.fac_vocab.specs.declared.answers.Found.{Found as Answer}
 use Rattle.fac_vocab.specs.declared.answers.Found.TheVariants.{Word, Unknown, Ambiguous}
 use Rattle.fac_vocab.specs.declared.answers.Standing.{Standing}
 use Rattle.fac_vocab.specs.declared.answers.Standing.TheVariants.{New, Deferred, Defined}
-use Rattle.fac_vocab.specs.Scopes.{Entry, Brought, named, prefixed, Scope, held, word_held, Found, the, unknown, ambiguous, found, exists, using_vocab, bringing, holders, with_entry, now_defined}
+use Rattle.fac_vocab.specs.Scopes.{Entry, named, prefixed, Scope, word_held, Found, the, unknown, ambiguous, found, exists, using_vocab, bringing, holders, with_entry, now_defined}
 
 -- the full name of an entry
 abbrev pub name_of : Entry → FullName

@@ -5,6 +5,7 @@ mod answers;
 mod brought;
 mod brought_names;
 mod entry;
+mod index;
 mod least;
 mod scope;
 mod search;

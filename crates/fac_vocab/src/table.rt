@@ -1,13 +1,12 @@
 //! The table of all names.
-ghost use Rattle.std.specs.Prelude.{◌≡◌, ◌<◌, ◌^◌, ◌++◌, ◌∷◌, [], List as Items, ℕ, None, length, true, if◌then◌else◌, IfOk, OnOk, OnErr};
-ghost use Rattle.std.specs.Str.{bytes_eq};
+ghost use Rattle.std.specs.Prelude.{◌≡◌, ◌<◌, ◌^◌, ◌++◌, ◌∷◌, [], List as Items, ℕ, None, length, true, IfOk, OnOk, OnErr};
 ghost use Rattle.fac_vocab.specs.Scopes.{held, word_held, holders};
 ghost use Rattle.fac_vocab.specs.ScopeCalls.{names_differ, standing_of};
 ghost use Rattle.fac_vocab.specs.inner.Rows.{numbers_named, LeastUsed, settled, defined_at};
-ghost use Rattle.fac_vocab.specs.inner.Index.{numbers_in};
 
 use crate::answers::Standing;
 use crate::entry::Entry;
+use crate::index::{add_number, numbers_of};
 use crate::least::Least;
 use crate::search::{first_number, least_used, word_in};
 use crate::standing::standing_in;
@@ -35,33 +34,6 @@ impl Model for Table {
     ghost view = { λ t. t.entries.items };
 
     ghost invariant = { λ t. IsIndexed t.index t.entries.items };
-}
-
-// The numbers of a name.
-fn numbers_of<'a>(index: &'a IndexMap<String, Vec<u32>>, name: &str) -> &'a [u32]
-    ensures { result.now ≡ numbers_in index.now name.now }
-{
-    match index.get(name) {
-        Some(numbers) => numbers.as_slice(),
-        None => &[],
-    }
-}
-
-// Adds a number of a name.
-fn add_number(
-    alloc: Global,
-    index: &mut IndexMap<String, Vec<u32>>,
-    name: &str,
-    number: u32,
-) -> Result<(), Memory>
-    ensures ok { (q : Items ℕ) → OnOk result (numbers_in index.new q ≡ (if bytes_eq name.now q then numbers_in index.old q ++ number ∷ [] else numbers_in index.old q)) }
-    ensures err { (q : Items ℕ) → OnErr result (numbers_in index.new q ≡ numbers_in index.old q) }
-{
-    index
-        .entry(String::from_str(alloc, name)?)?
-        .or_default()
-        .push(number)?;
-    Ok(())
 }
 
 // An entry.
@@ -121,19 +93,26 @@ impl Table {
         numbers_of(&self.index, name)
     }
 
+    /// The word that a vocabulary holds under a name that has these numbers.
+    pub fn word_among(&self, numbers: &[u32], vocab: &str) -> Option<u32>
+        ensures { (name : Items ℕ) → numbers.now ≡ numbers_named 0 name self.now → result ≡ word_held self.now vocab.now name }
+    {
+        word_in(self.entries(), numbers, vocab)
+    }
+
     /// The word that a vocabulary holds under a name.
     pub fn word(&self, vocab: &str, name: &str) -> Option<u32>
         ensures { result ≡ word_held self.now vocab.now name.now }
     {
-        word_in(self.entries(), self.numbers(name), vocab)
+        self.word_among(self.numbers(name), vocab)
     }
 
-    /// The first two that used vocabularies hold under a name.
-    pub fn least_used(&self, used: &TextSet, name: &str) -> Least
-        ensures { LeastUsed self.now name.now used.now result }
+    /// The first two that used vocabularies hold under a name that has these numbers.
+    pub fn least_among(&self, numbers: &[u32], used: &TextSet) -> Least
+        ensures { (name : Items ℕ) → numbers.now ≡ numbers_named 0 name self.now → LeastUsed self.now name used.now result }
     {
         used.differ();
-        least_used(self.entries(), self.numbers(name), used)
+        least_used(self.entries(), numbers, used)
     }
 
     /// How a full name stands.

@@ -1,5 +1,4 @@
-use Rattle.std.proofs.Common.{◌≡◌, ◌++◌, ◌∷◌, ◌∙◌, List, ℕ, Option, Some, ap, sym}
-use Rattle.std.specs.Prelude.{drop}
+use Rattle.std.proofs.Common.{◌≡◌, ◌++◌, ◌∷◌, ◌∙◌, List, ℕ, ap, sym}
 use Rattle.fac_vocab.proofs.TextLemmas.{behind_colon, no_colon, same_behind}
 use Rattle.fac_vocab.proofs.brought_names.behind_prefix.Goals as goal
 

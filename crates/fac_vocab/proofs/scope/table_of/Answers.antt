@@ -1,4 +1,4 @@
-use Rattle.std.proofs.Common.{◌≡◌, ◌++◌, ◌+◌, ◌∙◌, ap, sym, length, drop, List, true}
+use Rattle.std.proofs.Common.{◌++◌, ◌+◌, ◌∙◌, ap, sym, length, drop, List, true}
 use Rattle.fac_vocab.specs.Scopes.{Entry, entries_from}
 use Rattle.fac_vocab.specs.ScopeCalls.{names_differ}
 use Rattle.fac_vocab.proofs.TableLemmas.{not_before, entries_step}

@@ -1,4 +1,4 @@
-use Rattle.std.proofs.Common.{◌≡◌, ◌∙◌, sym}
+use Rattle.std.proofs.Common.{◌∙◌, sym}
 use Rattle.fac_vocab.specs.Scopes.{full_text}
 use Rattle.fac_vocab.proofs.OrderLemmas.{order_decided, order_open}
 use Rattle.fac_vocab.proofs.search.comes_before.Goals as goal

@@ -1,4 +1,4 @@
-use Rattle.std.proofs.Common.{◌≡◌, ◌++◌, ◌∙◌, List, ℕ, ap, sym}
+use Rattle.std.proofs.Common.{◌++◌, ◌∙◌, List, ℕ, ap, sym}
 use Rattle.fac_vocab.proofs.TextLemmas.{companion_is, companion_not}
 use Rattle.fac_vocab.proofs.search.is_companion.Goals as goal
 

@@ -1,4 +1,4 @@
-use Rattle.std.proofs.Common.{◌≡◌, ◌∙◌, sym, ap, List, ℕ}
+use Rattle.std.proofs.Common.{◌∙◌, sym, ap, List, ℕ}
 use Rattle.fac_vocab.specs.inner.Rows.{entries_at, kept_numbers, least_with}
 use Rattle.fac_vocab.proofs.UsedLemmas.{least_last}
 use Rattle.fac_vocab.proofs.search.least_used.Goals as goal

@@ -1,4 +1,4 @@
-use Rattle.std.proofs.Common.{◌≡◌, ◌∙◌, sym, ap}
+use Rattle.std.proofs.Common.{◌∙◌, sym, ap}
 use Rattle.fac_vocab.specs.inner.Rows.{deferred_at}
 use Rattle.fac_vocab.proofs.RowLemmas.{stands_defined, stands_open}
 use Rattle.fac_vocab.proofs.standing.standing_in.Goals as goal

@@ -1,4 +1,4 @@
-use Rattle.std.proofs.Common.{◌≡◌, length, refl}
+use Rattle.std.proofs.Common.{length, refl}
 use Rattle.std.proofs.lemmas.Option.{slice_get_read, slice_get_past}
 use Rattle.fac_vocab.proofs.TableLemmas.{set_defined, none_defined}
 use Rattle.fac_vocab.proofs.table.define_at.Goals as goal

@@ -1,4 +1,3 @@
-use Rattle.std.proofs.Common.{◌≡◌}
 use Rattle.fac_vocab.proofs.RowLemmas.{new_held}
 use Rattle.fac_vocab.proofs.scope.Scope.defer.Goals as goal
 

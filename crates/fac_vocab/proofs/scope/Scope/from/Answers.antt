@@ -1,5 +1,5 @@
-use Rattle.std.proofs.Common.{◌≡◌, ◌++◌, ◌∙◌, reverse, ap, sym, subst, List, ℕ, Err, true}
-use Rattle.fac_vocab.specs.Scopes.{Entry, Scope, Brought, exists}
+use Rattle.std.proofs.Common.{◌++◌, ◌∙◌, reverse, ap, sym, subst, List, ℕ, Err}
+use Rattle.fac_vocab.specs.Scopes.{Scope, Brought}
 use Rattle.fac_vocab.specs.inner.Rows.{all_named, AllNamed}
 use Rattle.fac_vocab.proofs.BroughtLemmas.{brings_all, brings_refused}
 use Rattle.fac_vocab.proofs.scope.Scope.from.Goals as goal

@@ -1,8 +1,8 @@
-use Rattle.std.proofs.Common.{◌≡◌, ◌++◌, ◌∷◌, [], ◌∙◌, ap, sym, subst, length, List, ℕ, ◌<◌, ◌^◌, arith}
+use Rattle.std.proofs.Common.{◌∙◌, ap, sym, length, List, ℕ, arith}
 use Rattle.std.proofs.lemmas.List.{length_push}
 use Rattle.fac_vocab.specs.Scopes.{Entry, held}
 use Rattle.fac_vocab.specs.ScopeCalls.{names_differ}
-use Rattle.fac_vocab.specs.inner.Index.{IsIndexed, numbers_in}
+use Rattle.fac_vocab.specs.inner.Index.{numbers_in}
 use Rattle.fac_vocab.specs.inner.Rows.{numbers_named}
 use Rattle.fac_vocab.proofs.TableLemmas.{numbers_after, names_push}
 use Rattle.fac_vocab.proofs.table.Table.add.Goals as goal

@@ -1,4 +1,4 @@
-use Rattle.std.proofs.Common.{◌≡◌, ◌∙◌, ap, sym, subst, length, List, ℕ, Option, Some, None, ◌<◌, ◌^◌}
+use Rattle.std.proofs.Common.{◌≡◌, ◌∙◌, ap, sym, subst, length, List, ℕ, Some, None, ◌<◌, ◌^◌}
 use Rattle.fac_vocab.specs.Scopes.{Entry}
 use Rattle.fac_vocab.specs.ScopeCalls.{names_differ}
 use Rattle.fac_vocab.specs.inner.Index.{numbers_in}

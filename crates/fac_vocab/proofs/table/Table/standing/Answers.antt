@@ -1,4 +1,4 @@
-use Rattle.std.proofs.Common.{◌≡◌, ◌∙◌, ap, sym, List, ℕ}
+use Rattle.std.proofs.Common.{◌∙◌, ap, List, ℕ}
 use Rattle.fac_vocab.specs.Scopes.{Entry}
 use Rattle.fac_vocab.specs.ScopeCalls.{standing_of}
 use Rattle.fac_vocab.specs.inner.Rows.{numbers_named, in_table, entries_at}

@@ -1,4 +1,4 @@
-use Rattle.std.proofs.Common.{◌≡◌, map, string_bytes}
+use Rattle.std.proofs.Common.{map, string_bytes}
 use Rattle.fac_vocab.proofs.UsedLemmas.{differ_kept}
 use Rattle.fac_vocab.proofs.text_set.TextSet.add.Goals as goal
 

@@ -1,4 +1,4 @@
-use Rattle.std.proofs.Common.{◌≡◌, ◌++◌, List, ℕ, ap, sym, ◌∙◌, rules}
+use Rattle.std.proofs.Common.{◌++◌, List, ℕ, ap, sym, ◌∙◌, rules}
 use Rattle.std.specs.Prelude.{codes}
 use Rattle.fac_vocab.proofs.TextLemmas.{named_exists, companion_exists, not_exists}
 use Rattle.fac_vocab.proofs.text_set.TextSet.has_stem_of.Goals as goal
