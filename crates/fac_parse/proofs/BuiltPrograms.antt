@@ -76,6 +76,7 @@ literal_built bound i j r h is e = let same : i ≡ j = cc in subst (IsBuiltItem
 item_built : (bound : ℕ) (known : List FullName) (used : List (List ℕ)) (item : Term) (i : Item) → length known ≤ bound → item_of known used item ≡ Ok i → IsBuiltItem bound i
 item_built bound known used (term.Name t) i few e = word_built bound (found known used (token_text t.kind)) t i (λ n h. found_within bound n known used (token_text t.kind) few h) e
 item_built bound known used (term.Integer t z) i few e = literal_built bound _ i _ tt refl e
+item_built bound known used (term.Text t) i few e = literal_built bound _ i _ tt refl e
 item_built bound known used (term.True place) i few e = literal_built bound _ i _ tt refl e
 item_built bound known used (term.False place) i few e = literal_built bound _ i _ tt refl e
 

@@ -16,7 +16,7 @@ use Rattle.fac_lang.specs.declared.tree.Form.{Form}
 use Rattle.fac_parse.specs.declared.context.Context.{Context}
 use Rattle.fac_parse.specs.declared.rows.Slot.{Slot}
 use Rattle.fac_parse.specs.declared.spelling.Spelling.{Spelling}
-use Rattle.fac_parse.specs.declared.spelling.Spelling.TheVariants.{Begins, Fixed, Semi, Opens, Closes, Dashes, OpensQuotation, ClosesQuotation, True, False, Inline, Recursive, Integer, Name}
+use Rattle.fac_parse.specs.declared.spelling.Spelling.TheVariants.{Begins, Fixed, Semi, Opens, Closes, Dashes, OpensQuotation, ClosesQuotation, True, False, Inline, Recursive, Integer, String, Name}
 use Rattle.fac_parse.specs.Rows.{head_of, slots_of}
 use Rattle.fac_parse.specs.Spellings.{token_spelling, is_value_name}
 use Rattle.fac_parse.specs.Trees.{plain_token, token_text, element_tokens, items_tokens, mark_token, part_tokens, parts_tokens, flatten, AreNames, AreValueNames, most_names, IsElement, behind, Lead, Fills, IsWellFormed}
@@ -151,6 +151,7 @@ alone t u e = ap (λ (v : Token). v ∷ []) (sym e)
 
 element_is : (t : Token) (s : Spelling) → token_spelling t.kind ≡ s → IsElementOf t (element_of s t)
 element_is t (Integer z) h = (h, refl)
+element_is t String h = (h, refl)
 element_is t Name h = (h, refl)
 element_is t True h = (tt, alone t _ (sign_token t True h tt))
 element_is t False h = (tt, alone t _ (sign_token t False h tt))

@@ -99,6 +99,7 @@ effect_read forms b opens ins dashes outs closes h =
 abbrev pub term_token : Element → Token
 term_token (element.Item (term.Name t)) = t
 term_token (element.Item (term.Integer t z)) = t
+term_token (element.Item (term.Text t)) = t
 term_token (element.Item (term.True place)) = plain_token place (codes "t")
 term_token (element.Item (term.False place)) = plain_token place (codes "f")
 term_token (element.Opens place) = plain_token place (codes "[")
@@ -107,6 +108,7 @@ term_token (element.Closes place) = plain_token place (codes "]")
 token_alone : (e : Element) → element_tokens e ≡ term_token e ∷ []
 token_alone (element.Item (term.Name t)) = refl
 token_alone (element.Item (term.Integer t z)) = refl
+token_alone (element.Item (term.Text t)) = refl
 token_alone (element.Item (term.True place)) = refl
 token_alone (element.Item (term.False place)) = refl
 token_alone (element.Opens place) = refl
@@ -115,6 +117,7 @@ token_alone (element.Closes place) = refl
 pub element_spelled : (e : Element) → IsElement e → element_of (token_spelling (term_token e).kind) (term_token e) ≡ Some e
 element_spelled (element.Item (term.Name t)) h = ap (λ (s : Spelling). element_of s t) h
 element_spelled (element.Item (term.Integer t z)) h = ap (λ (s : Spelling). element_of s t) h
+element_spelled (element.Item (term.Text t)) h = ap (λ (s : Spelling). element_of s t) h
 element_spelled (element.Item (term.True place)) h = ap (λ (s : Spelling). element_of s (plain_token place (codes "t"))) (sign_is True tt)
 element_spelled (element.Item (term.False place)) h = ap (λ (s : Spelling). element_of s (plain_token place (codes "f"))) (sign_is False tt)
 element_spelled (element.Opens place) h = ap (λ (s : Spelling). element_of s (plain_token place (codes "["))) (sign_is OpensQuotation tt)

@@ -85,6 +85,7 @@ word_first None t rest = refl
 
 item_first : (known : List FullName) (used : List (List ℕ)) (item : Term) (rest : Result Following NameFault) → with_item (item_of known used item) (term_place item) rest ≡ placed_first (term_item known used item) rest
 item_first known used (term.Integer t value) rest = refl
+item_first known used (term.Text t) rest = refl
 item_first known used (term.Name t) rest = word_first (found known used (token_text t.kind)) t rest
 item_first known used (term.True place) rest = refl
 item_first known used (term.False place) rest = refl

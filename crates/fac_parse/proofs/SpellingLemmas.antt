@@ -10,14 +10,15 @@ use Rattle.fac_lang.specs.declared.token.TokKind.TheVariants.{Plain, Str}
 use Rattle.fac_lang.specs.declared.tree.FormKind.TheVariants.{Using, Define}
 use Rattle.fac_lang.specs.declared.tree.Key.TheVariants.{Arrow}
 use Rattle.fac_parse.specs.declared.spelling.Spelling.{Spelling}
-use Rattle.fac_parse.specs.declared.spelling.Spelling.TheVariants.{Begins, Fixed, Semi, Opens, Closes, Dashes, OpensQuotation, ClosesQuotation, True, False, Inline, Recursive, Integer, Name, Other}
+use Rattle.fac_parse.specs.declared.spelling.Spelling.TheVariants.{Begins, Fixed, Semi, Opens, Closes, Dashes, OpensQuotation, ClosesQuotation, True, False, Inline, Recursive, Integer, String, Name, Other}
 use Rattle.fac_lang.specs.Numbers.{signed_in, integer_in, in_range}
-use Rattle.fac_parse.specs.Spellings.{has_integer_form, is_reserved, sign_text, signs, sign_among, with_text, sign_spelling, word_spelling, integer_spelling, spelling_of, token_spelling}
+use Rattle.fac_parse.specs.Spellings.{has_integer_form, is_reserved, sign_text, signs, sign_among, with_text, sign_spelling, word_spelling, integer_spelling, spelling_of, string_spelling, token_spelling}
 use Rattle.fac_parse.specs.Trees.{plain_token}
 
 -- spellings of one text
 abbrev pub IsSign : Spelling → Type 0
 IsSign (Integer z) = ⊥
+IsSign String = ⊥
 IsSign Name = ⊥
 IsSign Other = ⊥
 IsSign _ = Unit {0}
@@ -39,6 +40,7 @@ sign_is False h = refl
 sign_is Inline h = refl
 sign_is Recursive h = refl
 sign_is (Integer z) h = absurd h
+sign_is String h = absurd h
 sign_is Name h = absurd h
 sign_is Other h = absurd h
 
@@ -69,9 +71,17 @@ sign_only : (text : List ℕ) → IsSign (spelling_of text) → sign_spelling te
 unfolding spelling_of word_spelling
 sign_only text h = sign_picked (has_integer_form text) (is_reserved text) (integer_in text) (sign_spelling text) h
 
+no_sign : (b : Bool) → IsSign (cond b String Other) → ⊥
+no_sign true h = h
+no_sign false h = h
+
+no_sign_string : (content : List ℕ) → IsSign (string_spelling content) → ⊥
+unfolding string_spelling
+no_sign_string content h = no_sign _ h
+
 sign_kind : (p : Place) (k : TokKind) → IsSign (token_spelling k) → record { place = p; kind = k } ≡ plain_token p (sign_text (token_spelling k))
 sign_kind p (Plain text) h = ap (plain_token p) (subst (Says text) (sign_only text h) (says text))
-sign_kind p (Str text) h = absurd h
+sign_kind p (Str text) h = absurd (no_sign_string text h)
 
 -- a token that is spelled as a sign is that sign
 pub sign_token : (t : Token) (s : Spelling) → token_spelling t.kind ≡ s → IsSign s → t ≡ plain_token t.place (sign_text s)

@@ -39,6 +39,7 @@ literal_alone i j p r h is e = let same : i ≡ j = cc in ap (λ (k : Item). ite
 item_alone : (known : List FullName) (used : List (List ℕ)) (item : Term) (i : Item) (p : Place) → item_of known used item ≡ Ok i → item_signs i p ≡ one i p ∷ []
 item_alone known used (term.Name t) i p e = word_alone (found known used (token_text t.kind)) t i p e
 item_alone known used (term.Integer t z) i p e = literal_alone _ i p _ refl refl e
+item_alone known used (term.Text t) i p e = literal_alone _ i p _ refl refl e
 item_alone known used (term.True place) i p e = literal_alone _ i p _ refl refl e
 item_alone known used (term.False place) i p e = literal_alone _ i p _ refl refl e
 

@@ -7,7 +7,7 @@ use Rattle.fac_lang.specs.Primitives.{built_primitive_words}
 use Rattle.fac_lang.specs.Signatures.{Signature, signature, no_inputs, Leaving, never, leaves}
 use Rattle.fac_lang.specs.RunningLaws.{append}
 use Rattle.fac_lang.specs.Whole.{IsWhole}
-use Rattle.fac_lang.specs.Phrases.{Phrase, end, then as placed, Item, lit, int, yes, no, quot, word}
+use Rattle.fac_lang.specs.Phrases.{Phrase, end, then as placed, Item, lit, int, yes, no, str, quot, word}
 use Rattle.fac_lang.specs.declared.phrase.Place.{Place}
 use Rattle.fac_lang.specs.declared.program.Name.{Name as FullName}
 use Rattle.fac_lang.specs.declared.program.Program.{Program}
@@ -111,12 +111,14 @@ word_item None t = Err (name_fault Unknown t)
 abbrev pub item_of : List FullName → List (List ℕ) → Term → Result Item NameFault
 item_of known used (term.Name t) = word_item (found known used (token_text t.kind)) t
 item_of known used (term.Integer t value) = Ok (lit (int value))
+item_of known used (term.Text t) = Ok (lit (str (token_text t.kind)))
 item_of known used (term.True place) = Ok (lit yes)
 item_of known used (term.False place) = Ok (lit no)
 
 abbrev pub term_place : Term → Place
 term_place (term.Name t) = t.place
 term_place (term.Integer t value) = t.place
+term_place (term.Text t) = t.place
 term_place (term.True place) = place
 term_place (term.False place) = place
 

@@ -37,6 +37,7 @@ plain_token place text = record { place = place; kind = Plain text }
 abbrev pub term_tokens : Term → List Token
 term_tokens (term.Name token) = token ∷ []
 term_tokens (term.Integer token value) = token ∷ []
+term_tokens (term.Text token) = token ∷ []
 term_tokens (term.True place) = plain_token place (codes "t") ∷ []
 term_tokens (term.False place) = plain_token place (codes "f") ∷ []
 
@@ -92,6 +93,7 @@ AreNames (token ∷ tokens) = (token_spelling token.kind ≡ spelled.Name) × Ar
 abbrev pub IsTerm : Term → Type 0
 IsTerm (term.Name token) = token_spelling token.kind ≡ spelled.Name
 IsTerm (term.Integer token value) = token_spelling token.kind ≡ spelled.Integer value
+IsTerm (term.Text token) = token_spelling token.kind ≡ spelled.String
 IsTerm (term.True place) = Unit {0}
 IsTerm (term.False place) = Unit {0}
 

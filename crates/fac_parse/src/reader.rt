@@ -122,6 +122,7 @@ fn element(spelling: Spelling, token: Token) -> Option<Element>
 {
     match spelling {
         Spelling::Integer(value) => Some(Element::Item(Term::Integer(token, value))),
+        Spelling::String => Some(Element::Item(Term::Text(token))),
         Spelling::Name => Some(Element::Item(Term::Name(token))),
         Spelling::True => Some(Element::Item(Term::True(token.place))),
         Spelling::False => Some(Element::Item(Term::False(token.place))),
@@ -679,7 +680,7 @@ fn file(tokens: &[Token]) -> u32
 }
 
 /// The tree of a file's tokens: any number of `USING: name* ;`, of `: name ( name* -- name* ) item* ;` with `inline` or `recursive`
-/// behind it or neither, and of items. An item is a name, an integer, `t`, `f`, or a quotation `[ item* ]`. Quotations nest at most 256
+/// behind it or neither, and of items. An item is a name, an integer, a string, `t`, `f`, or a quotation `[ item* ]`. Quotations nest at most 256
 /// deep. The names of an effect are at most 64, begin with no two dots and end in no colon. No tokens make the empty tree of file 0.
 pub fn parse(alloc: Global, tokens: List<Token>) -> Result<Tree, ParseFault>
     ensures { Parses tokens result }

@@ -122,6 +122,11 @@ fn take_item(
             add_item(items, What::Int(*value), token.place)?;
             Ok(())
         }
+        Term::Text(token) => {
+            let content = Text::from_str(alloc, text(&token.kind))?;
+            add_item(items, What::Str(content), token.place)?;
+            Ok(())
+        }
         Term::Name(token) => match known.find(used, text(&token.kind)) {
             Some(number) => {
                 add_item(items, What::Word(number), token.place)?;

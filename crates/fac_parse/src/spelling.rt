@@ -1,10 +1,11 @@
 //! What a token is to the grammar.
-ghost use Rattle.std.specs.Prelude.{◌≡◌, codes, map};
+ghost use Rattle.std.specs.Prelude.{◌≡◌, codes, length, map};
 ghost use Rattle.std.specs.List.{list_any};
-ghost use Rattle.std.specs.Str.{bytes_eq};
-ghost use Rattle.fac_parse.specs.Spellings.{is_reserved_sign, is_reserved_form, is_reserved_word, is_left_out, is_reserved, sign_among, sign_spelling, word_spelling, spelling_of, token_spelling, is_row_name, is_described_name, is_value_name};
+ghost use Rattle.std.specs.Str.{bytes_eq, chars};
+ghost use Rattle.fac_parse.specs.Spellings.{is_reserved_sign, is_reserved_form, is_reserved_word, is_left_out, is_reserved, sign_among, sign_spelling, word_spelling, spelling_of, string_spelling, token_spelling, is_row_name, is_described_name, is_value_name};
 ghost use Rattle.fac_parse.specs.Trees.{token_text};
 
+use fac_lang::limits::MOST_ELEMENTS;
 use fac_lang::{FormKind, Key, TokKind, Token};
 use fac_num::{NumFault, read_int};
 
@@ -37,9 +38,11 @@ pub enum Spelling {
     Recursive,
     /// A token in one of the integer forms, in range.
     Integer(i128),
+    /// A string of at most 1,000,000 characters.
+    String,
     /// A plain token that is in no integer form and isn't reserved.
     Name,
-    /// A token that stands nowhere: a string, an integer that is too wide, or a reserved token of a form that isn't read.
+    /// A token that stands nowhere: a longer string, an integer that is too wide, or a reserved token of a form that isn't read.
     Other,
 }
 
@@ -182,13 +185,31 @@ fn spelled(text: &str) -> Spelling
     }
 }
 
+// The number of characters.
+fn characters(content: &str) -> usize
+    ensures { result ≡ length (chars content.now) }
+{
+    content.chars().count()
+}
+
+#[tactic(auto, unfolding(crate::specs::Spellings::string_spelling))]
+fn spelled_string(content: &str) -> Spelling
+    ensures { result ≡ string_spelling content.now }
+{
+    if characters(content) <= MOST_ELEMENTS {
+        Spelling::String
+    } else {
+        Spelling::Other
+    }
+}
+
 /// What a token is.
 pub fn classify(kind: &TokKind) -> Spelling
     ensures { result ≡ token_spelling kind.now }
 {
     match kind {
         TokKind::Plain(text) => spelled(text.as_str()),
-        TokKind::Str(_) => Spelling::Other,
+        TokKind::Str(content) => spelled_string(content.as_str()),
     }
 }
 

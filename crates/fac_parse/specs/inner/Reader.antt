@@ -20,7 +20,7 @@ use Rattle.fac_parse.specs.declared.context.Context.{Context}
 use Rattle.fac_parse.specs.declared.rows.Slot.{Slot}
 use Rattle.fac_parse.specs.declared.rows.Slot.TheVariants as slot
 use Rattle.fac_parse.specs.declared.spelling.Spelling.{Spelling}
-use Rattle.fac_parse.specs.declared.spelling.Spelling.TheVariants.{Begins, Fixed, Semi, Opens, Closes, Dashes, OpensQuotation, ClosesQuotation, True, False, Inline, Recursive, Integer, Name}
+use Rattle.fac_parse.specs.declared.spelling.Spelling.TheVariants.{Begins, Fixed, Semi, Opens, Closes, Dashes, OpensQuotation, ClosesQuotation, True, False, Inline, Recursive, Integer, String, Name}
 use Rattle.fac_parse.specs.declared.reader.Head.{Head}
 use Rattle.fac_parse.specs.declared.reader.At.{At}
 use Rattle.fac_parse.specs.declared.reader.At.TheVariants as at
@@ -113,6 +113,7 @@ begin_row kind opens forms elements (c ∷ contexts) = None
 -- the element that a token is
 abbrev pub element_of : Spelling → Token → Option Element
 element_of (Integer z) t = Some (element.Item (term.Integer t z))
+element_of String t = Some (element.Item (term.Text t))
 element_of Name t = Some (element.Item (term.Name t))
 element_of True t = Some (element.Item (term.True t.place))
 element_of False t = Some (element.Item (term.False t.place))

@@ -3,7 +3,7 @@ use Rattle.std.specs.Prelude.{◌≡◌, ℕ, ◌<◌, ◌+◌, ◌-◌, List, [
 use Rattle.fac_lang.specs.Phrases.{Phrase, then}
 use Rattle.fac_lang.specs.PhraseView.{what_item, items_phrase}
 use Rattle.fac_lang.specs.declared.phrase.Item.{Item}
-use Rattle.fac_lang.specs.declared.phrase.What.TheVariants.{Int, True, False, Quot, Word}
+use Rattle.fac_lang.specs.declared.phrase.What.TheVariants.{Int, True, False, Str, Quot, Word}
 use Rattle.fac_lang.specs.declared.program.Name.{Name as FullName}
 use Rattle.fac_lang.specs.declared.program.Program.{Program}
 use Rattle.fac_lang.specs.declared.program.WordDef.{WordDef}
@@ -42,6 +42,7 @@ found_item None t = Err (name_fault Unknown t)
 -- an item, or that its name is refused
 abbrev pub term_item : List FullName → List (List ℕ) → Term → Result Item NameFault
 term_item known used (term.Integer t value) = Ok (record { what = Int value; place = t.place })
+term_item known used (term.Text t) = Ok (record { what = Str (token_text t.kind); place = t.place })
 term_item known used (term.Name t) = found_item (found known used (token_text t.kind)) t
 term_item known used (term.True place) = Ok (record { what = True; place = place })
 term_item known used (term.False place) = Ok (record { what = False; place = place })
