@@ -966,6 +966,9 @@ def operands(chance):
     return source_of(symbols, *values, *[chance.choice(words) for _ in range(chance.randint(1, 5))], ". .")
 
 
+VOCABULARY_FORMS = "IN: USE: FROM: QUALIFIED-WITH: DEFER: CONSTANT: <PRIVATE PRIVATE> MAIN:".split()
+
+
 def spread(chance):
     """Aims at programs of several files and vocabularies: the forms of another kind's program, each in some vocabulary, of which
     every file uses all. Some words are deferred at the beginning."""
@@ -1225,7 +1228,10 @@ def prefixes(chance):
 
 def cut(chance):
     """Aims at files that end too early, and at names that are missing then: programs of other kinds, cut behind some token."""
-    made = chance.choice([guided, forms, spread, scopes, commented])(chance)
+    sorts = [guided, forms, commented]
+    if is_built(*VOCABULARY_FORMS):
+        sorts += [spread, scopes, scopes]
+    made = chance.choice(sorts)(chance)
     case = made if isinstance(made, Case) else run_of(made)
     name = chance.choice(list(case.files))
     tokens = case.files[name].split(b" ")
@@ -1301,8 +1307,8 @@ KINDS = [
     (recursive, 1, []),
     (long_runs, 1, []),
     (limits, 1, []),
-    (spread, 2, ["IN:", "DEFER:"]),
-    (scopes, 3, ["IN:", "USE:", "FROM:", "QUALIFIED-WITH:", "DEFER:", "CONSTANT:", "MAIN:"]),
+    (spread, 2, VOCABULARY_FORMS),
+    (scopes, 3, VOCABULARY_FORMS),
     (cycles, 1, ["DEFER:"]),
     (command_lines, 1, []),
 ]
