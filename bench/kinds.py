@@ -1003,9 +1003,9 @@ class Scopes:
     `slips` is the share of names that are chosen whatever the guide says.
     """
 
-    NAMES = "u v w x y z u v w x y z dup .".split()
+    NAMES = "w x y z w x y z dup .".split()
     VOCABULARIES = "a b c a b c scratchpad a.private b.private kernel".split()
-    PREFIXES = ["p", "q"]
+    PREFIXES = ["p", "p", "p", "q"]
 
     def __init__(self, chance, slips):
         self.chance = chance
@@ -1058,7 +1058,9 @@ class Scopes:
 
     def some_word(self):
         """A name that finds a word of the program."""
-        names = self.NAMES + [f"{prefix}:{name}" for prefix in self.PREFIXES for name in self.NAMES[:4]]
+        names = [f"{prefix}:{name}" for prefix in self.PREFIXES for name in self.NAMES[:4]]
+        if happens(self.chance, 0.6) or not any(self.finds_word(name) for name in names):
+            names = self.NAMES
         return self.choose(names, self.finds_word, lambda name: len(self.names.find(name)) != 1)
 
     def knows_words(self):
@@ -1075,7 +1077,9 @@ class Scopes:
         return str(self.number) if happens(self.chance, 0.85) else f"[ {self.number} ]"
 
     def phrase(self):
-        """Items that push one value."""
+        """Items that push one value, or rarely two."""
+        if happens(self.chance, self.slips / 3):
+            return f"{self.value()} {self.value()}"
         if not self.knows_words():
             return self.value()
         sorts = [self.value(), self.value(), self.value(), self.some_word(), f"[ {self.some_word()} ]"]
@@ -1089,28 +1093,37 @@ class Scopes:
         """Writes one form."""
         chance = self.chance
         share = chance.random()
-        if share < 0.12:
-            self.write(f"IN: {chance.choice(self.VOCABULARIES)}")
+        if share < 0.12 or all(self.is_defined(name) for name in self.NAMES):
+            self.write(f"IN: {chance.choice(self.VOCABULARIES + ['d', 'e', 'f'])}")
         elif share < 0.17:
             self.write(chance.choice(["<PRIVATE", "<PRIVATE", "PRIVATE>"]))
-        elif share < 0.22:
+        elif share < 0.23:
             self.write(f"USE: {self.vocabulary()}")
-        elif share < 0.26:
+        elif share < 0.27:
             self.write(f"USING: {' '.join(self.vocabulary() for _ in range(chance.randint(0, 3)))} ;")
-        elif share < 0.32:
+        elif share < 0.36:
             self.bring()
-        elif share < 0.38:
-            self.write(f"QUALIFIED-WITH: {self.vocabulary()} {chance.choice(self.PREFIXES)}")
         elif share < 0.43:
+            self.write(f"QUALIFIED-WITH: {self.vocabulary()} {chance.choice(self.PREFIXES)}")
+        elif share < 0.48:
             self.write(f"DEFER: {self.choose(self.NAMES, lambda name: not self.holders(name), self.holders)}")
-        elif share < 0.75 or not self.knows_words():
+        elif share < 0.73 or not self.knows_words():
             self.define()
-        elif share < 0.78:
-            self.write(f"MAIN: {self.some_word()}")
-        elif share < 0.82:
+        elif share < 0.77:
+            self.begin_with()
+        elif share < 0.81:
             self.begin()
         else:
             self.write(f"{self.some_word()} {'.' if self.means('.') else ''}")
+
+    def begin_with(self):
+        """Writes `MAIN:` with a word of the program, or with a new one that prints what one pushes."""
+        name = self.some_word()
+        if self.means(".") and happens(self.chance, 0.8):
+            self.number += 1
+            self.write(f": m{self.number} ( -- ) {name} . ;")
+            name = f"m{self.number}"
+        self.write(f"MAIN: {name}")
 
     def bring(self):
         """Writes `FROM:` with names that the vocabulary has."""
