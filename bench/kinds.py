@@ -1094,7 +1094,7 @@ class Scopes:
         chance = self.chance
         share = chance.random()
         if share < 0.12 or all(self.is_defined(name) for name in self.NAMES):
-            self.write(f"IN: {chance.choice(self.VOCABULARIES + ['d', 'e', 'f'])}")
+            self.write(f"IN: {chance.choice(self.VOCABULARIES + ['d', 'e', 'g'])}")
         elif share < 0.17:
             self.write(chance.choice(["<PRIVATE", "<PRIVATE", "PRIVATE>"]))
         elif share < 0.23:
