@@ -1114,7 +1114,36 @@ class Scopes:
         elif share < 0.81:
             self.begin()
         else:
-            self.write(f"{self.some_word()} {'.' if self.means('.') else ''}")
+            self.write(self.shown())
+
+    def shown(self):
+        """A name that finds a word of the program, whose value is printed where that can be done."""
+        return f"{self.some_word()} {'.' if self.means('.') else ''}"
+
+    def fill(self):
+        """Defines some names in each of three vocabularies, and enters one that has none."""
+        for vocabulary in "abc":
+            self.write(f"IN: {vocabulary}")
+            for name in self.NAMES[:4]:
+                if happens(self.chance, 0.7):
+                    self.write(f"CONSTANT: {name} {self.value()}")
+        self.write(f"IN: {self.chance.choice(['d', 'scratchpad'])}")
+
+    def bringing(self):
+        """Writes a form that brings names, or shows what a name finds."""
+        share = self.chance.random()
+        if share < 0.18:
+            self.bring()
+        elif share < 0.36:
+            self.write(f"QUALIFIED-WITH: {self.chance.choice('abc')} p")
+        elif share < 0.46:
+            self.write(f"USE: {self.chance.choice('abc')}")
+        elif share < 0.54:
+            self.begin()
+        elif share < 0.58:
+            self.write(f"CONSTANT: {self.new_name()} {self.value()}")
+        else:
+            self.write(self.shown())
 
     def begin_with(self):
         """Writes `MAIN:` with a word of the program, or with a new one that prints what one pushes."""
@@ -1159,6 +1188,10 @@ def scopes(chance):
     """Aims at vocabularies: which word a name finds, and the refusals of names."""
     made = Scopes(chance, chance.choice([0, 0, 0.01, 0.03, 0.1]))
     made.begin()
+    if happens(chance, 0.35):
+        made.fill()
+        for _ in range(chance.randint(4, 15)):
+            made.bringing()
     for _ in range(chance.randint(1, 30)):
         made.form()
     made.end()
