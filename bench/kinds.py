@@ -1136,7 +1136,7 @@ class Scopes:
             self.bring()
         elif share < 0.36:
             self.write(f"QUALIFIED-WITH: {self.chance.choice('abc')} p")
-        elif share < 0.46:
+        elif share < 0.46 or not self.knows_words():
             self.write(f"USE: {self.chance.choice('abc')}")
         elif share < 0.54:
             self.begin()
