@@ -3,10 +3,12 @@
 
     python3 bench/speed.py [PROGRAM]
 
-PROGRAM is the built program, by default crates/factorc/out/factorc. The script makes its sources, runs `PROGRAM run FILE` on
-each several times, and prints the shortest time, the longest time and the greatest peak of memory. It ends with status 1 where
-a run answers wrongly or a limit is passed: where a sort of source stands in two sizes, the larger is four times the smaller and
-may take at most five times as long; and each sort has a most of seconds for its larger size.
+PROGRAM is the built program, by default crates/factorc/out/factorc. The script makes its sources, runs `PROGRAM run FILE` or
+`PROGRAM check FILE` on each several times, and prints the shortest time, the longest time and the greatest peak of memory. It ends
+with status 1 where a run answers wrongly or a limit is passed: where a sort of source stands in two sizes, the larger is four times
+the smaller and may take at most five times as long; and each sort has a most of seconds for its larger size. Last, a thousand files
+are checked beside one file with the same text, and may take a tenth longer. What needs forms or commands that aren't built, as
+model.BUILT tells, is left out.
 
 The peak is what the system counts for the process. It is never less than this script's own size, some fourteen megabytes.
 """
@@ -16,10 +18,16 @@ import sys
 import tempfile
 import time
 
+import model
+
 RUNS = 5
 SMALL = 1 << 20
 LARGE = 1 << 22
 MOST_RATIO = 5.0
+
+FILES = 1_000
+BYTES_OF_A_FILE = 4_096
+MOST_RATIO_OF_FILES = 1.1
 
 DEFAULT = os.path.join(os.path.dirname(os.path.abspath(__file__)), "..", "crates", "factorc", "out", "factorc")
 
@@ -132,6 +140,72 @@ def composed_twice(path, count):
     return 0, b"", b""
 
 
+def in_a_cycle(path, count):
+    """So many inline words in one cycle, which is closed by a deferred word, so that the file is refused."""
+    with open(path, "wb") as file:
+        file.write(b"DEFER: w0\n")
+        for number in range(1, count):
+            file.write(b": w%d ( -- ) w%d ; inline\n" % (number, number - 1))
+        file.write(b": w0 ( -- ) w%d ; inline\n" % (count - 1))
+    token = 2 + 8 * (count - 1) + 2
+    return 5, b"", b"check: scratchpad:w0, %s token %d: undeclared-recursion\n" % (os.fsencode(path), token)
+
+
+def led_to_a_cycle(path, count):
+    """So many inline words, each of which names the one before it, and the first of them two words in a cycle."""
+    with open(path, "wb") as file:
+        file.write(b"DEFER: b : a ( -- ) b ; inline : b ( -- ) a ; inline : w0 ( -- ) a b ; inline\n")
+        for number in range(1, count):
+            file.write(b": w%d ( -- ) w%d ; inline\n" % (number, number - 1))
+    return 5, b"", b"check: scratchpad:b, %s token 12: undeclared-recursion\n" % os.fsencode(path)
+
+
+VOCABULARIES = 20
+# How many words stand together in a vocabulary.
+WORDS_IN_A_ROW = 50
+
+
+def many_vocabularies(path, size):
+    """Words in twenty vocabularies, all of which are used, each word of which names words of others. Checks the file."""
+    names = b" ".join(b"vocabulary-%d" % number for number in range(VOCABULARIES))
+    head = b"".join(b"IN: %s\n" % name for name in names.split(b" ")) + b"USING: kernel math " + names + b" ;\n"
+    count = 0
+    with open(path, "wb") as file:
+        file.write(head)
+        while file.tell() < size - 80:
+            if count % WORDS_IN_A_ROW == 0:
+                file.write(b"IN: vocabulary-%d\n" % (count // WORDS_IN_A_ROW % VOCABULARIES))
+            if count > 200:
+                named = (count, count - 1, count - 1 - count % 97, count // 2)
+                file.write(b": word-%d ( x -- x ) dup word-%d 1 + word-%d swap word-%d drop ;\n" % named)
+            else:
+                file.write(b": word-%d ( x -- x ) 1 + ;\n" % count)
+            count += 1
+    return 0, b"checked %d definitions\n" % count, b""
+
+
+def strings(path, size):
+    """Strings of some forty characters, each dropped, in words. No two are the same."""
+    count = 0
+    with open(path, "wb") as file:
+        file.write(b"USING: kernel ;")
+        while file.tell() < size - 100:
+            if count % UNITS_IN_A_WORD == 0:
+                file.write(b"%s: w%d ( -- )\n" % (b" ;\n" if count else b"\n", count // UNITS_IN_A_WORD))
+            file.write(b'"the string with the number %d, \\"%d\\"" drop\n' % (count, count))
+            count += 1
+        file.write(b";\n")
+    return 0, b"", b""
+
+
+def comments(path, size):
+    """Comments of some sixty characters, and an item."""
+    line = b"! what stands here counts for nothing, as [ or a \" would elsewhere\n"
+    with open(path, "wb") as file:
+        file.write(b"1\n" + line * ((size - 2) // len(line)))
+    return 0, b"", b""
+
+
 # A word that calls itself: a call is all that it does, so a hundred million calls are open when the budget is spent.
 RECURSION = b": spin ( -- ) spin ; spin\n"
 
@@ -153,21 +227,27 @@ def words(count):
     return f"{count:,}"
 
 
-# name, what makes the source, its sizes, how a size is told, and the most seconds for the last size
+# name, what makes the source, its sizes, how a size is told, the most seconds for the last size, and what else than `run` it needs.
+# Where it needs `check`, that is the command.
 SORTS = [
-    ("numbers and drops", numbers_and_drops, (SMALL, LARGE), mebibytes, 2.0),
-    ("chains of +", chains_of_sums, (SMALL, LARGE), mebibytes, 2.0),
-    ("small words", small_words, (2_500, 10_000), words, 1.0),
-    ("chain of calls", chain_of_calls, (25_000, 100_000), words, 2.0),
-    ("nested quotations", nested_quotations, (2_500, 10_000), words, 2.0),
-    ("ifs, tall stack", branches_over_a_tall_stack, (25_000, 100_000), words, 2.0),
-    ("inline words", inline_words, (2_500, 10_000), words, 2.0),
-    ("inline recursion", led_to_a_recursive_word, (25_000, 100_000), words, 2.0),
-    ("dup compose", composed_twice, (63,), words, 0.5),
-    ("recursion, if", spending(RECURSION_THROUGH_IF), (20_000_000,), words, 20.0),
-    ("composing", spending(COMPOSING), (25_000_000,), words, 20.0),
-    ("recursion", spending(RECURSION), (100_000_000,), words, 20.0),
-    ("recursion, values", spending(RECURSION_WITH_VALUES), (50_000_000,), words, 20.0),
+    ("numbers and drops", numbers_and_drops, (SMALL, LARGE), mebibytes, 2.0, []),
+    ("chains of +", chains_of_sums, (SMALL, LARGE), mebibytes, 2.0, []),
+    ("small words", small_words, (2_500, 10_000), words, 1.0, []),
+    ("chain of calls", chain_of_calls, (25_000, 100_000), words, 2.0, []),
+    ("nested quotations", nested_quotations, (2_500, 10_000), words, 2.0, []),
+    ("ifs, tall stack", branches_over_a_tall_stack, (25_000, 100_000), words, 2.0, []),
+    ("inline words", inline_words, (2_500, 10_000), words, 2.0, []),
+    ("inline recursion", led_to_a_recursive_word, (25_000, 100_000), words, 2.0, []),
+    ("cycle", in_a_cycle, (25_000, 100_000), words, 1.0, ["DEFER:"]),
+    ("led to a cycle", led_to_a_cycle, (25_000, 100_000), words, 1.0, ["DEFER:"]),
+    ("vocabularies", many_vocabularies, (SMALL, LARGE), mebibytes, 0.8, ["IN:", "check"]),
+    ("strings", strings, (SMALL, LARGE), mebibytes, 0.2, ["string"]),
+    ("comments", comments, (SMALL, LARGE), mebibytes, 0.2, []),
+    ("dup compose", composed_twice, (63,), words, 0.5, []),
+    ("recursion, if", spending(RECURSION_THROUGH_IF), (20_000_000,), words, 20.0, []),
+    ("composing", spending(COMPOSING), (25_000_000,), words, 20.0, []),
+    ("recursion", spending(RECURSION), (100_000_000,), words, 20.0, []),
+    ("recursion, values", spending(RECURSION_WITH_VALUES), (50_000_000,), words, 20.0, []),
 ]
 
 
@@ -202,6 +282,38 @@ def measure(words, make, size, folder):
         times.append(seconds)
         peak = max(peak, memory)
     return os.path.getsize(source), times, peak
+
+
+def thousand_files(program, folder):
+    """The shortest times of a check of a thousand files, and of one with the same text."""
+    names = [os.path.join(folder, f"file-{number}") for number in range(FILES)]
+    one = os.path.join(folder, "one")
+    count = 0
+    with open(one, "wb") as whole:
+        for number, name in enumerate(names):
+            text = b"USING: kernel math ;\n"
+            while len(text) < BYTES_OF_A_FILE - 80:
+                text += b": word-%d-%d ( x -- y ) dup * 3 + dup drop 7 - ;\n" % (number, len(text))
+                count += 1
+            text += b"\n" * (BYTES_OF_A_FILE - len(text))
+            whole.write(text)
+            with open(name, "wb") as file:
+                file.write(text)
+    shortest = []
+    for files in (names, [one]):
+        runs = [run_once([program, "check", *files], folder) for _ in range(RUNS)]
+        if any(run[2:] != (0, b"checked %d definitions\n" % count, b"") for run in runs):
+            sys.exit(f"wrong answer: status {runs[0][2]}, output {runs[0][3][:80]!r}, note {runs[0][4][:80]!r}")
+        shortest.append(min(run[0] for run in runs))
+    return shortest
+
+
+def compare_files(program, folder, failed):
+    """Prints how many times as long a thousand files take as one, and adds a failure where that is too much."""
+    many, one = thousand_files(program, folder)
+    print(f"{'files':<20}{FILES:,} files take {many:.3f} s and one of the same text {one:.3f} s, {many / one:.2f} times as long")
+    if many > MOST_RATIO_OF_FILES * one:
+        failed.append(f"files: {many / one:.2f} times as long, more than {MOST_RATIO_OF_FILES:g}")
 
 
 def built(path):
@@ -240,16 +352,22 @@ def main():
     print(f"{'source':<20}{'size':>14}{'bytes':>10}{'shortest':>12}{'longest':>12}{'peak memory':>14}")
     failed = []
     with tempfile.TemporaryDirectory() as folder:
-        for name, make, sizes, told, most_seconds in SORTS:
+        for name, make, sizes, told, most_seconds, needs in SORTS:
+            if not model.BUILT.issuperset(needs):
+                print(f"{name:<20}{'left out':>14}: it needs {' and '.join(needs)}")
+                continue
+            command = "check" if "check" in needs else "run"
             shortest = []
             for size in sizes:
-                length, times, peak = measure([program, "run"], make, size, folder)
+                length, times, peak = measure([program, command], make, size, folder)
                 shortest.append(min(times))
                 print(f"{name:<20}{told(size):>14}{length:>10}{min(times):>10.3f} s{max(times):>10.3f} s{peak / 1024:>10.1f} MiB")
             if len(sizes) == 2:
                 compare(name, shortest, failed)
             if shortest[-1] >= most_seconds:
                 failed.append(f"{name}: {shortest[-1]:.3f} s, not below {most_seconds:g} s")
+        if model.BUILT.issuperset(["files", "check"]):
+            compare_files(program, folder, failed)
     return finish(failed)
 
 
