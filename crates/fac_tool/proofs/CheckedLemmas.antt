@@ -1,14 +1,20 @@
 -- The answer of `check`, and how many definitions files have.
-use Rattle.std.proofs.Common.{◌≡◌, ◌≤◌, ◌<◌, ◌+◌, ◌*◌, ℕ, List, [], ◌∷◌, ◌++◌, length, take, None, Some, refl, sym, ap, subst, ◌∙◌, arith}
+use Rattle.std.proofs.Common.{◌≡◌, ◌≤◌, ◌<◌, ◌+◌, ◌*◌, ℕ, List, [], ◌∷◌, ◌++◌, length, take, get_or, None, Some, refl, sym, ap, subst, ◌∙◌, arith}
+use Rattle.std.proofs.lemmas.List.{take_more}
+use Rattle.std.proofs.lemmas.List.Sums.{sum_by-append}
 use Rattle.std.specs.List.{count_by, sum_by}
 use Rattle.std.specs.declared.option.Option.{Option}
 use Rattle.fac_io.specs.Faults.{Rose}
 use Rattle.fac_io.specs.Told.{Grows, GrowsByPrefix, TookWhole, TookFront}
 use Rattle.fac_tool.specs.declared.ended.Ended.{Ended}
-use Rattle.fac_tool.specs.Answer.{checked_line, checked_answer}
+use Rattle.fac_lang.specs.declared.tree.Form.{Form}
+use Rattle.fac_lang.specs.declared.tree.Tree.{Tree}
+use Rattle.fac_parse.specs.Trees.{forms_of}
+use Rattle.fac_tool.specs.Answer.{checked_line, checked_answer, definitions_in, is_definition}
 use Rattle.fac_tool.specs.SeenObjects.{SinkSeen}
 use Rattle.fac_tool.specs.Ends.{EndsAs, idle}
 use Rattle.fac_tool.specs.inner.StepEnds.{bare}
+use Rattle.fac_tool.proofs.ReadingLemmas.{forms_of-append}
 
 grows_by_front : {A : Type 0} (old new : Option (List A)) (more : List A) (n : ℕ) → n ≤ length more → Grows old new (take n more) → GrowsByPrefix old new more
 grows_by_front None new more n few h = tt
@@ -29,3 +35,13 @@ checked_in_part count line out ended is e rose took =
     let part : TookFront out.before out.now (checked_line count) = subst (λ (xs : List ℕ). TookFront out.before out.now xs) is took in
     let prefix = grows_by_front out.before.taken out.now.taken (checked_line count) part.count part.most part.front.taken in
     subst (λ (x : Ended). EndsAs (checked_answer count) idle out x) (sym e) (rose, (refl, prefix), record { stack = refl; refusal = refl }, (some_line count, part))
+
+-- the definitions of one file more
+pub one_file_more : (trees : List Tree) (i : ℕ) (t : Tree) → i < length trees → t ≡ get_or trees i t → definitions_in (forms_of (take (i + 1) trees)) ≡ definitions_in (forms_of (take i trees)) + count_by is_definition t.forms
+one_file_more trees i t below is =
+    let counts : List Form → ℕ = λ forms. count_by is_definition forms in
+    let taken : take (i + 1) trees ≡ take i trees ++ t ∷ [] = take_more trees i t below ∙ ap (λ (x : Tree). take i trees ++ x ∷ []) (sym is) in
+    let files : forms_of (take (i + 1) trees) ≡ forms_of (take i trees) ++ t.forms ∷ [] = ap forms_of taken ∙ forms_of-append (take i trees) t in
+    let sum = ap (λ (fs : List (List Form)). sum_by counts fs) files ∙ sum_by-append counts (forms_of (take i trees)) (t.forms ∷ []) in
+    let alone : sum_by counts (t.forms ∷ []) ≡ count_by is_definition t.forms = omega arith in
+    sum ∙ ap (λ (n : ℕ). definitions_in (forms_of (take i trees)) + n) alone

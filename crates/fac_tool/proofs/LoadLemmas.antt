@@ -1,7 +1,7 @@
 -- Loads, one behind the other.
-use Rattle.std.proofs.Common.{◌≡◌, ◌≤◌, ◌<◌, ◌+◌, ℕ, List, [], ◌∷◌, ◌++◌, length, map, take, Some, None, Result, Ok, Err, IfSome, IsSomeAnd, refl, sym, ap, subst, ◌∙◌, ◌⊎◌, inl, inr, arith, append_assoc, length-append}
+use Rattle.std.proofs.Common.{◌≡◌, ◌≤◌, ◌<◌, ◌+◌, ℕ, suc, drop, drop-cons, get_or, List, [], ◌∷◌, ◌++◌, length, map, take, Some, None, Result, Ok, Err, IfSome, IsSomeAnd, refl, sym, ap, subst, ◌∙◌, ◌⊎◌, inl, inr, arith, append_assoc, length-append}
 use Rattle.std.proofs.Math.Seq.{take-append_seam}
-use Rattle.std.proofs.lemmas.List.{map-append, append-nil}
+use Rattle.std.proofs.lemmas.List.{map-append, append-nil, take_more, take-append-drop}
 use Rattle.std.proofs.lemmas.List.Folds.{concat-append}
 use Rattle.std.specs.List.{concat}
 use Rattle.std.specs.declared.option.Option.{Option}
@@ -75,9 +75,9 @@ one_more_text : (texts : List (List ℕ)) (text : List ℕ) → length (concat (
 one_more_text texts text = ap length (concat-append texts (text ∷ [])) ∙ length-append (concat texts) (concat (text ∷ [])) ∙ ap (λ (xs : List ℕ). length (concat texts) + length xs) (append-nil text)
 
 -- so much room there is behind these texts
-pub record LoadedSoFar (names : List (List ℕ)) (files : FilesSeen) (texts : List (List ℕ)) (room : ℕ) : Type 0 where
+pub record LoadedSoFar (names : List (List ℕ)) (files : FilesSeen) (texts : List (List ℕ)) (left : ℕ) : Type 0 where
   pub gives : LoadsGive names files texts
-  pub room : room + length (concat texts) ≡ limit
+  pub room : left + length (concat texts) ≡ limit
 
 pub loads_next :
     (names : List (List ℕ)) (name : List ℕ) (room left : ℕ) (h h' h'' : Option Held) (a a' a'' : Option (List Asked)) (n n' n'' : ℕ) (texts now : List (List ℕ)) →
@@ -178,3 +178,14 @@ loads_end names before after name room h h' h'' a a' a'' n n' n'' texts ended pl
       longer = longer_on h h' name room texts so_far.room gives.held long.longer;
       faults = long.faults ∙ gives.faults;
     }))
+
+-- the names of one load more
+pub one_more_name : {A : Type 0} (f : A → List ℕ) (names : List A) (i : ℕ) (name : A) → i < length names → name ≡ get_or names i name → map f (take (i + 1) names) ≡ map f (take i names) ++ f name ∷ []
+one_more_name f names i name below is =
+    ap (map f) (take_more names i name below) ∙ map-append f (take i names) (get_or names i name ∷ []) ∙ ap (λ (x : _). map f (take i names) ++ f x ∷ []) (sym is)
+
+-- the names before a load, it and those behind
+pub names_around : {A : Type 0} (f : A → List ℕ) (names : List A) (i : ℕ) (name : A) → i < length names → name ≡ get_or names i name → map f names ≡ map f (take i names) ++ (f name ∷ map f (drop (suc i) names))
+names_around f names i name below is =
+    ap (map f) (sym (take-append-drop i names)) ∙ map-append f (take i names) (drop i names) ∙
+    ap (λ (xs : List _). map f (take i names) ++ map f xs) (drop-cons names i name below ∙ ap (λ (x : _). x ∷ drop (suc i) names) (sym is))

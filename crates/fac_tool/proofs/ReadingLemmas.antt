@@ -43,7 +43,7 @@ has_no_tokens law file text token.Memory ended has is = wanted_for_text law file
 pub has_no_tree : (file : ℕ) (text : List ℕ) (tokens : List Token) (at : ℕ) (why : Why) (ended : Ended) → Tokenizes file text (Ok tokens) → Misses tokens at why → ended ≡ reported 0 (report.Syntax file at why) → EndsFile file text ended
 has_no_tree file text tokens at why ended are none e = record { source = no_tree at why; is_read = (tokens, are, none); ends = λ command before sources. is_refused (report.Syntax file at why) ended refl e }
 
-forms_of-append : (before : List Tree) (one : Tree) → forms_of (before ++ one ∷ []) ≡ forms_of before ++ one.forms ∷ []
+pub forms_of-append : (before : List Tree) (one : Tree) → forms_of (before ++ one ∷ []) ≡ forms_of before ++ one.forms ∷ []
 forms_of-append [] one = refl
 forms_of-append (t ∷ ts) one = ap (λ (fs : List (List Form)). t.forms ∷ fs) (forms_of-append ts one)
 
@@ -51,7 +51,7 @@ pub adds_tree : (file : ℕ) (text : List ℕ) (before now : List Tree) (one : T
 adds_tree file text before now one read e = record { forms = one.forms; is_read = read; added = ap forms_of e ∙ forms_of-append before one }
 
 -- what those from this number on come to decides
-pub abbrev Onward : List (List ℕ) → List (List ℕ) → ℕ → List (List Form) → Type 0
+abbrev pub Onward : List (List ℕ) → List (List ℕ) → ℕ → List (List Form) → Type 0
 Onward texts left file before = (sources : List Source) → AreReadAs file left sources → ReadSoFar texts file before sources
 
 pub begins : (texts : List (List ℕ)) → Onward texts texts 1 []

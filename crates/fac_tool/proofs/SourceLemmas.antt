@@ -41,7 +41,7 @@ parsed_by tokens (inl read) = (tree read.0, read.1)
 parsed_by tokens (inr none) = let p = missed tokens none in (no_tree p.0 p.1, p.2)
 
 parsed : TreeOrNone → (tokens : List Token) → (source : Source) × IsParsedAs tokens source
-parsed trees tokens = parsed_by tokens (trees tokens)
+parsed law tokens = parsed_by tokens (law tokens)
 
 of_parse : (file : ℕ) (text : List ℕ) (tokens : List Token) (source : Source) → Tokenizes file text (Ok tokens) → IsParsedAs tokens source → Comes file text
 of_parse file text tokens (no_tokens at why) t h = absurd h
@@ -49,21 +49,21 @@ of_parse file text tokens (no_tree at why) t h = (no_tree at why, (tokens, t, h)
 of_parse file text tokens (tree forms) t h = (tree forms, (tokens, t, h))
 
 of_tokens : TreeOrNone → (file : ℕ) (text : List ℕ) (r : Result (List Token) TokenFault) → IsNotMemory r → Tokenizes file text r → Comes file text
-of_tokens trees file text (Ok tokens) n h = let p = parsed trees tokens in of_parse file text tokens p.0 h p.1
-of_tokens trees file text (Err (token.NotUtf8 at)) n h = (no_tokens at byte.NotUtf8, h)
-of_tokens trees file text (Err (token.OpenString at)) n h = (no_tokens at byte.OpenString, h)
-of_tokens trees file text (Err (token.BadEscape at)) n h = (no_tokens at byte.BadEscape, h)
-of_tokens trees file text (Err (token.StuckQuote at)) n h = (no_tokens at byte.StuckQuote, h)
-of_tokens trees file text (Err token.Memory) n h = absurd n
+of_tokens law file text (Ok tokens) n h = let p = parsed law tokens in of_parse file text tokens p.0 h p.1
+of_tokens law file text (Err (token.NotUtf8 at)) n h = (no_tokens at byte.NotUtf8, h)
+of_tokens law file text (Err (token.OpenString at)) n h = (no_tokens at byte.OpenString, h)
+of_tokens law file text (Err (token.BadEscape at)) n h = (no_tokens at byte.BadEscape, h)
+of_tokens law file text (Err (token.StuckQuote at)) n h = (no_tokens at byte.StuckQuote, h)
+of_tokens law file text (Err token.Memory) n h = absurd n
 
 one_comes : EveryFileAnswers → TreeOrNone → (file : ℕ) (text : List ℕ) → Comes file text
-one_comes law trees file text = let r = law file text in of_tokens trees file text r.0 r.1 r.2
+one_comes law one file text = let r = law file text in of_tokens one file text r.0 r.1 r.2
 
 pub every_source : EveryFileAnswers → TreeOrNone → (file : ℕ) (texts : List (List ℕ)) → (sources : List Source) × AreReadAs file texts sources
-every_source law trees file [] = ([], tt)
-every_source law trees file (text ∷ texts) =
-    let first = one_comes law trees file text in
-    let rest = every_source law trees (file + 1) texts in
+every_source law one file [] = ([], tt)
+every_source law one file (text ∷ texts) =
+    let first = one_comes law one file text in
+    let rest = every_source law one (file + 1) texts in
     (first.0 ∷ rest.0, (first.1, rest.1))
 
 -- a fault of tokens comes back

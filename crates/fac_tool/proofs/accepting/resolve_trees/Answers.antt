@@ -1,7 +1,8 @@
 use Rattle.fac_parse.specs.Resolution.{resolved}
-use Rattle.fac_tool.specs.Answer.{on_resolved}
+use Rattle.fac_parse.specs.Trees.{forms_of}
+use Rattle.fac_tool.specs.Answer.{definitions_in, on_resolved}
 use Rattle.fac_tool.proofs.EarlyEnds.{no_memory}
-use Rattle.fac_tool.proofs.accepting.resolve_tree.Goals as goal
+use Rattle.fac_tool.proofs.accepting.resolve_trees.Goals as goal
 
 pub returns-in-Err-Memory : goal.returns-in-Err-Memory
-returns-in-Err-Memory c = λ command. no_memory (on_resolved command (resolved c.args.tree.forms)) _ c.bare.ensures
+returns-in-Err-Memory c = λ command. let files = forms_of c.args.trees in no_memory (on_resolved command (definitions_in files) (resolved files)) _ c.bare.ensures
