@@ -1,4 +1,5 @@
 -- What is read is a tree's tokens, and nothing else is refused, at the exact place.
+use Rattle.fac_parse.specs.inner.Reader.{literal}
 use Rattle.std.proofs.Common.{ℕ, ◌≡◌, ◌+◌, ◌<◌, ◌≤◌, List, [], ◌∷◌, ◌++◌, Option, Some, None, refl, sym, ◌∙◌, ap, subst, append_assoc, append-nil, arith, take, drop, length}
 use Rattle.std.proofs.lemmas.List.{take-append-drop, take-take, take_all}
 use Rattle.fac_lang.specs.declared.token.Token.{Token}
@@ -34,6 +35,7 @@ open_ended before (row b effect) forms fits g e = cc
 open_ended before (row b (inputs opens ins)) forms fits g e = cc
 open_ended before (row b (outputs opens ins dashes outs)) forms fits g e = cc
 open_ended before (row b (items es contexts)) forms fits g e = cc
+open_ended before (row b (literal es contexts)) forms fits g e = cc
 
 known : (ts : List Token) (s : State) → steps (Some start) ts ≡ Some s → Good s × (state_tokens s ≡ ts)
 known ts s h = subst (λ (o : Option State). Known o ts) h (steps_known (Some start) ts [] (start_good, refl))

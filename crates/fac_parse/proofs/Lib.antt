@@ -6,11 +6,3 @@ pub mod ReaderReads
 pub mod ReaderCompletes
 pub mod ExactPlaces
 pub mod ParseLemmas
-pub mod MapLemmas
-pub mod FirstWordLemmas
-pub mod KnownNameLemmas
-pub mod ResolutionLemmas
-pub mod WrittenLemmas
-pub mod BuiltPrograms
-pub mod WholePrograms
-pub mod PlainEffectLemmas

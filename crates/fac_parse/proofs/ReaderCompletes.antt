@@ -1,4 +1,9 @@
 -- Whatever is open can be closed.
+use Rattle.fac_parse.specs.inner.Reader.{literal, add_literal}
+use Rattle.fac_parse.proofs.ReaderKeeps.{inside_more, inside_ends, never_out}
+use Rattle.fac_parse.proofs.StateTokens.{Inside, in_quotation, GoodLiteral}
+use Rattle.fac_parse.proofs.ReaderReads.{adds_literal}
+use Rattle.fac_lang.specs.declared.tree.Term.TheVariants as term
 use Rattle.std.proofs.Common.{◌≡◌, ◌≤◌, List, [], ◌∷◌, ◌++◌, Option, Some, refl, ap, sym, ◌∙◌, subst, arith}
 use Rattle.std.specs.Prelude.{codes}
 use Rattle.fac_lang.specs.declared.phrase.Place.{Place}
@@ -137,6 +142,43 @@ closes_names forms b ns g = record {
 closes_name : (forms : List Form) (b : Begun) → ClosesPart forms b name
 closes_name forms b = record { tokens = some_name ∷ []; whole = part.Name some_name; fills = is_name; reads = by_spelling forms (row b name) some_name Name is_name }
 
+-- a literal in which something is open
+closes_literal_from : (forms : List Form) (b : Begun) (place : Place) (es : List Element) (c : Context) (contexts : List Context) → Inside in_quotation es (c ∷ contexts) → ClosesPart forms b (literal (element.Opens place ∷ es) (c ∷ contexts))
+closes_literal_from forms b place es c [] h =
+    let e : Element = element.Closes somewhere in
+    record {
+      tokens = plain_token somewhere (codes "]") ∷ [];
+      whole = part.Literal (element.Opens place ∷ (es ++ e ∷ []));
+      fills = inside_ends in_quotation es (c ∷ []) e h tt (closes_one c.bracket []);
+      reads = adds_literal forms b (element.Opens place ∷ es) c [] e [] tt (closes_one c.bracket []);
+    }
+closes_literal_from forms b place es c (d ∷ contexts) h =
+    let e : Element = element.Closes somewhere in
+    let t = plain_token somewhere (codes "]") in
+    let less = closes_literal_from forms b place (es ++ e ∷ []) d contexts (inside_more in_quotation es (c ∷ d ∷ contexts) e d contexts h tt (closes_one c.bracket (d ∷ contexts))) in
+    record {
+      tokens = t ∷ less.tokens;
+      whole = less.whole;
+      fills = less.fills;
+      reads =
+          one (in_state forms (row b (literal (element.Opens place ∷ es) (c ∷ d ∷ contexts)))) (in_state forms (row b (literal (element.Opens place ∷ (es ++ e ∷ [])) (d ∷ contexts)))) t less.tokens _
+          (adds_literal forms b (element.Opens place ∷ es) c (d ∷ contexts) e (d ∷ contexts) tt (closes_one c.bracket (d ∷ contexts))) less.reads;
+    }
+
+closes_literal : (forms : List Form) (b : Begun) (es : List Element) (contexts : List Context) → GoodLiteral es contexts → ClosesPart forms b (literal es contexts)
+closes_literal forms b [] contexts g =
+    let e : Element = element.Item (term.True somewhere) in
+    subst (λ (x : List Context). ClosesPart forms b (literal [] x)) (sym g) (record {
+      tokens = plain_token somewhere (codes "t") ∷ [];
+      whole = part.Literal (e ∷ []);
+      fills = tt;
+      reads = ap (add_literal forms b [] []) (element_spelled e tt);
+    })
+closes_literal forms b (element.Opens place ∷ es) [] g = absurd (never_out in_quotation es g)
+closes_literal forms b (element.Opens place ∷ es) (c ∷ contexts) g = closes_literal_from forms b place es c contexts g
+closes_literal forms b (element.Item item ∷ es) contexts g = absurd g
+closes_literal forms b (element.Closes place ∷ es) contexts g = absurd g
+
 closes_items : (forms : List Form) (b : Begun) (es : List Element) (contexts : List Context) → Lead [] es contexts → ClosesPart forms b (items es contexts)
 closes_items forms b es contexts g =
     let c = closes_all (row_items b) forms (row_holds_items forms b) es contexts g in
@@ -166,6 +208,7 @@ within_completes forms b effect rest g later = part_completes forms b effect lat
 within_completes forms b (inputs opens ins) rest g later = part_completes forms b (inputs opens ins) later (closes_inputs forms b opens ins rest g)
 within_completes forms b (outputs opens ins dashes outs) rest g later = part_completes forms b (outputs opens ins dashes outs) later (closes_outputs forms b opens ins dashes outs rest g)
 within_completes forms b (items es contexts) rest g later = part_completes forms b (items es contexts) later (closes_items forms b es contexts g)
+within_completes forms b (literal es contexts) rest g later = part_completes forms b (literal es contexts) later (closes_literal forms b es contexts g)
 within_completes forms b (marks ms) rest g later = record { tokens = []; to = in_state forms (row b (marks ms)); forms = _; reads = refl; whole = refl }
 
 begun_completes : (forms : List Form) (b : Begun) (s : Slot) → Later forms b s → Completes (in_state forms (row b (begin s)))
@@ -174,6 +217,7 @@ begun_completes forms b slot.Names later = part_completes forms b (names []) lat
 begun_completes forms b (slot.Fixed key) later = part_completes forms b (fixed key) later (closes_fixed forms b key)
 begun_completes forms b slot.Effect later = part_completes forms b effect later (closes_effect forms b)
 begun_completes forms b slot.Items later = part_completes forms b (items [] []) later (closes_items forms b [] [] refl)
+begun_completes forms b slot.Literal later = part_completes forms b (literal [] []) later (closes_literal forms b [] [] refl)
 begun_completes forms b slot.Marks later = record { tokens = []; to = in_state forms (row b (marks [])); forms = _; reads = refl; whole = refl }
 
 slots_complete : (forms : List Form) (b : Begun) (rest : List Slot) → Filled (slots_of b.kind) b.parts rest → Completes (go_on forms b)

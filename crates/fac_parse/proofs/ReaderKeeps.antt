@@ -1,4 +1,6 @@
 -- A token that is taken is behind those before it, and what is known stays known.
+use Rattle.fac_lang.specs.declared.tree.Element.TheVariants as element
+use Rattle.fac_lang.specs.declared.tree.Term.TheVariants as term
 use Rattle.std.proofs.Common.{◌≡◌, ℕ, ◌≤◌, ◌+◌, Bool, true, false, cond, ◌&&◌, List, [], ◌∷◌, ◌++◌, length, Option, Some, None, refl, ap, sym, ◌∙◌, subst, append_assoc, append-nil, arith}
 use Rattle.std.specs.Prelude.{codes, nat_lt}
 use Rattle.std.proofs.lemmas.Bool.Decides.{Decides-ltb}
@@ -19,10 +21,10 @@ use Rattle.fac_parse.specs.declared.spelling.Spelling.{Spelling}
 use Rattle.fac_parse.specs.declared.spelling.Spelling.TheVariants.{Begins, Fixed, Semi, Opens, Closes, Dashes, OpensQuotation, ClosesQuotation, True, False, Inline, Recursive, Integer, String, Name}
 use Rattle.fac_parse.specs.Rows.{head_of, slots_of}
 use Rattle.fac_parse.specs.Spellings.{token_spelling, is_value_name}
-use Rattle.fac_parse.specs.Trees.{plain_token, token_text, element_tokens, items_tokens, mark_token, part_tokens, parts_tokens, flatten, AreNames, AreValueNames, most_names, IsElement, behind, Lead, Fills, IsWellFormed}
-use Rattle.fac_parse.specs.inner.Reader.{Within, name, names, fixed, effect, inputs, outputs, items, marks, Begun, begun, Open, top, row, State, in_state, start, row_form, more, with_part, with_run, begin_row, element_of, with_element, add_element, begins, begin_or_add, top_step, name_step, names_step, key_step, fixed_step, effect_step, may_add, inputs_step, written, outputs_step, row_items, end_items, is_semi, end_or_add, mark_of, with_mark, mark_step, row_step, open_step, step, steps}
+use Rattle.fac_parse.specs.Trees.{plain_token, token_text, element_tokens, items_tokens, mark_token, part_tokens, parts_tokens, flatten, AreNames, AreValueNames, most_names, IsElement, behind, Lead, Encloses, Fills, IsWellFormed}
+use Rattle.fac_parse.specs.inner.Reader.{Within, name, names, fixed, effect, inputs, outputs, items, literal, marks, Begun, begun, Open, top, row, State, in_state, start, row_form, more, with_part, with_run, begin_row, element_of, with_element, add_element, begins, begin_or_add, top_step, name_step, names_step, key_step, fixed_step, effect_step, may_add, inputs_step, written, outputs_step, row_items, end_items, is_semi, end_or_add, goes_into, literal_with, add_literal, mark_of, with_mark, mark_step, row_step, open_step, step, steps}
 use Rattle.fac_parse.proofs.SpellingLemmas.{sign_token}
-use Rattle.fac_parse.proofs.StateTokens.{within_tokens, tokens_of, state_tokens, element_behind, parts-last, Filled, filled_more, slot_of, GoodWithin, GoodRow, NoRunLast, GoodOpen, Good, run_fits, run_tokens, Gone, ended_row_gone, gone_on}
+use Rattle.fac_parse.proofs.StateTokens.{within_tokens, tokens_of, state_tokens, element_behind, parts-last, Filled, filled_more, slot_of, Inside, in_quotation, GoodWithin, GoodRow, NoRunLast, GoodOpen, Good, run_fits, run_tokens, Gone, ended_row_gone, gone_on}
 
 -- a state is good, and has these tokens and this one
 pub record Taken (tokens : List Token) (t : Token) (s : State) : Type 0 where
@@ -220,6 +222,59 @@ items_keeps_by : (forms : List Form) (b : Begun) (es : List Element) (contexts :
 items_keeps_by forms b es contexts true s t e h fits g = end_keeps forms b es contexts t (h ∙ semi_is s e) fits g
 items_keeps_by forms b es contexts false s t e h fits g = element_keeps (row_items b) forms _ (row_holds forms b es contexts fits g) es contexts g.within t (element_of s t) (element_is t s h)
 
+-- Literals.
+
+pub inside_more : (from : List Context) (es : List Element) (to : List Context) (e : Element) (c : Context) (next : List Context) → Inside from es to → IsElement e → behind to e ≡ Some (c ∷ next) → Inside from (es ++ e ∷ []) (c ∷ next)
+inside_more [] es to e c next h is b = absurd h
+inside_more (d ∷ from) [] to e c next h is b = (is, c ∷ next, subst (λ (x : List Context). behind x e ≡ Some (c ∷ next)) (sym h) b, refl)
+inside_more (d ∷ from) (x ∷ es) to e c next h is b = (h.0, h.1, h.2, inside_more h.1 es to e c next h.3 is b)
+
+pub inside_ends : (from : List Context) (es : List Element) (to : List Context) (e : Element) → Inside from es to → IsElement e → behind to e ≡ Some [] → Encloses from (es ++ e ∷ [])
+inside_ends [] es to e h is b = absurd h
+inside_ends (d ∷ from) [] to e h is b = (is, [], subst (λ (x : List Context). behind x e ≡ Some []) (sym h) b, tt)
+inside_ends (d ∷ from) (x ∷ es) to e h is b = (h.0, h.1, h.2, inside_ends h.1 es to e h.3 is b)
+
+literal_goes : (forms : List Form) (b : Begun) (place : Place) (es : List Element) (to : List Context) (t : Token) (e : Element) (next : Option (List Context)) → IsWellFormed forms → GoodRow b (literal (element.Opens place ∷ es) to) → IsElement e → element_tokens e ≡ t ∷ [] → behind to e ≡ next → Keeps (tokens_of forms (row b (literal (element.Opens place ∷ es) to))) t (literal_with forms b (element.Opens place ∷ (es ++ e ∷ [])) next)
+literal_goes forms b place es to t e None fits g is spelled h = tt
+literal_goes forms b place es to t e (Some []) fits g is spelled h =
+    part_taken forms b (literal (element.Opens place ∷ es) to) (part.Literal (element.Opens place ∷ (es ++ e ∷ []))) t fits g (inside_ends in_quotation es to e g.within is h) (element_behind (element.Opens place ∷ es) e t spelled)
+literal_goes forms b place es to t e (Some (c ∷ next)) fits g is spelled h =
+    within_taken forms b (literal (element.Opens place ∷ es) to) (literal (element.Opens place ∷ (es ++ e ∷ [])) (c ∷ next)) t fits g refl (inside_more in_quotation es to e c next g.within is h) (element_behind (element.Opens place ∷ es) e t spelled)
+
+literal_begins : (forms : List Form) (b : Begun) (t : Token) (e : Element) → IsWellFormed forms → GoodRow b (literal [] []) → IsElement e → element_tokens e ≡ t ∷ [] → Keeps (tokens_of forms (row b (literal [] []))) t (cond (goes_into [] e) (literal_with forms b (e ∷ []) (behind [] e)) None)
+literal_begins forms b t (element.Item (term.Name n)) fits g is spelled = tt
+literal_begins forms b t (element.Item (term.Integer n z)) fits g is spelled = part_taken forms b (literal [] []) (part.Literal (element.Item (term.Integer n z) ∷ [])) t fits g is spelled
+literal_begins forms b t (element.Item (term.Text n)) fits g is spelled = part_taken forms b (literal [] []) (part.Literal (element.Item (term.Text n) ∷ [])) t fits g is spelled
+literal_begins forms b t (element.Item (term.True place)) fits g is spelled = part_taken forms b (literal [] []) (part.Literal (element.Item (term.True place) ∷ [])) t fits g is spelled
+literal_begins forms b t (element.Item (term.False place)) fits g is spelled = part_taken forms b (literal [] []) (part.Literal (element.Item (term.False place) ∷ [])) t fits g is spelled
+literal_begins forms b t (element.Opens place) fits g is spelled = within_taken forms b (literal [] []) (literal (element.Opens place ∷ []) in_quotation) t fits g refl refl spelled
+literal_begins forms b t (element.Closes place) fits g is spelled = tt
+
+pub into_open : (c : Context) (contexts : List Context) (e : Element) → goes_into (c ∷ contexts) e ≡ true
+into_open c contexts (element.Item (term.Name n)) = refl
+into_open c contexts (element.Item (term.Integer n z)) = refl
+into_open c contexts (element.Item (term.Text n)) = refl
+into_open c contexts (element.Item (term.True place)) = refl
+into_open c contexts (element.Item (term.False place)) = refl
+into_open c contexts (element.Opens place) = refl
+into_open c contexts (element.Closes place) = refl
+
+pub never_out : (from : List Context) (es : List Element) → Inside from es [] → ⊥
+never_out [] es h = absurd h
+never_out (c ∷ from) [] h = cc
+never_out (c ∷ from) (e ∷ es) h = never_out h.1 es h.3
+
+literal_keeps : (forms : List Form) (b : Begun) (es : List Element) (contexts : List Context) (o : Option Element) (t : Token) → IsElementOf t o → IsWellFormed forms → GoodRow b (literal es contexts) → Keeps (tokens_of forms (row b (literal es contexts))) t (add_literal forms b es contexts o)
+literal_keeps forms b es contexts None t is fits g = tt
+literal_keeps forms b [] [] (Some e) t is fits g = literal_begins forms b t e fits g is.0 is.1
+literal_keeps forms b [] (c ∷ contexts) (Some e) t is fits g = let d = g.within in cc
+literal_keeps forms b (element.Opens place ∷ es) [] (Some e) t is fits g = absurd (never_out in_quotation es g.within)
+literal_keeps forms b (element.Opens place ∷ es) (c ∷ contexts) (Some e) t is fits g =
+    subst (λ (x : Bool). Keeps (tokens_of forms (row b (literal (element.Opens place ∷ es) (c ∷ contexts)))) t (cond x (literal_with forms b (element.Opens place ∷ (es ++ e ∷ [])) (behind (c ∷ contexts) e)) None)) (sym (into_open c contexts e))
+    (literal_goes forms b place es (c ∷ contexts) t e (behind (c ∷ contexts) e) fits g is.0 is.1 refl)
+literal_keeps forms b (element.Item item ∷ es) contexts (Some e) t is fits g = absurd g.within
+literal_keeps forms b (element.Closes place ∷ es) contexts (Some e) t is fits g = absurd g.within
+
 -- Marks.
 
 abbrev IsMarkOf : Token → Option Mark → Type 0
@@ -260,6 +315,7 @@ row_keeps forms b effect s t h fits g = effect_keeps forms b t s h fits g
 row_keeps forms b (inputs opens ins) s t h fits g = inputs_keeps forms b opens ins t s h fits g
 row_keeps forms b (outputs opens ins dashes outs) s t h fits g = outputs_keeps forms b opens ins dashes outs t s h fits g
 row_keeps forms b (items es contexts) s t h fits g = items_keeps_by forms b es contexts (is_semi s) s t refl h fits g
+row_keeps forms b (literal es contexts) s t h fits g = literal_keeps forms b es contexts (element_of s t) t (element_is t s h) fits g
 row_keeps forms b (marks ms) s t h fits g = marks_keeps_by forms b ms (mark_of s t.place) s t (mark_is t s h) h fits g
 
 open_keeps : (forms : List Form) (o : Open) (t : Token) → IsWellFormed forms → GoodOpen forms o → Keeps (tokens_of forms o) t (open_step forms o (token_spelling t.kind) t)

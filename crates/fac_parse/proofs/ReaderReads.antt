@@ -1,4 +1,8 @@
 -- The tokens of a well-formed tree are read, to that tree.
+use Rattle.fac_parse.specs.inner.Reader.{literal, goes_into, literal_with, add_literal}
+use Rattle.fac_parse.specs.Trees.{behind, IsLiteral, Encloses}
+use Rattle.fac_parse.proofs.ReaderKeeps.{into_open}
+use Rattle.fac_parse.proofs.StateTokens.{in_quotation}
 use Rattle.std.proofs.Common.{◌≡◌, ℕ, ◌≤◌, ◌<◌, ◌+◌, Bool, true, false, cond, ◌&&◌, List, [], ◌∷◌, ◌++◌, length, Option, Some, None, refl, ap, sym, ◌∙◌, subst, append_assoc, append-nil, arith}
 use Rattle.std.specs.Prelude.{codes, nat_lt}
 use Rattle.std.proofs.lemmas.Bool.Decides.{Decides-ltb}
@@ -183,6 +187,47 @@ items_part_read forms b es ends h =
     chain (in_state forms (row b (items [] []))) (in_state forms (row b (items es []))) (items_tokens es) (plain_token ends (codes ";") ∷ []) _ (elements_read (row_items b) forms (row_holds_items forms b) [] es [] [] h)
     (by_spelling forms (row b (items es [])) (plain_token ends (codes ";")) Semi (sign_is Semi tt))
 
+-- Literals.
+
+term_read : (forms : List Form) (b : Begun) (e : Element) → IsElement e → cond (goes_into [] e) (literal_with forms b (e ∷ []) (behind [] e)) None ≡ Some (with_part forms b (part.Literal (e ∷ []))) → steps (Some (in_state forms (row b (literal [] [])))) (items_tokens (e ∷ [])) ≡ Some (with_part forms b (part.Literal (e ∷ [])))
+term_read forms b e is goes =
+    ap (λ (ts : List Token). steps (Some (in_state forms (row b (literal [] [])))) (ts ++ [])) (token_alone e)
+    ∙ ap (add_literal forms b [] []) (element_spelled e is) ∙ goes
+
+-- one more element of a literal in which something is open
+pub adds_literal : (forms : List Form) (b : Begun) (es : List Element) (c : Context) (contexts : List Context) (e : Element) (next : List Context) → IsElement e → behind (c ∷ contexts) e ≡ Some next → step (in_state forms (row b (literal es (c ∷ contexts)))) (term_token e) ≡ literal_with forms b (es ++ e ∷ []) (Some next)
+adds_literal forms b es c contexts e next is h =
+    ap (add_literal forms b es (c ∷ contexts)) (element_spelled e is)
+    ∙ ap (λ (x : Bool). cond x (literal_with forms b (es ++ e ∷ []) (behind (c ∷ contexts) e)) None) (into_open c contexts e)
+    ∙ ap (literal_with forms b (es ++ e ∷ [])) h
+
+enclosed_next : (forms : List Form) (b : Begun) (es ms : List Element) (c : Context) (contexts : List Context) (e : Element) (next : List Context) → IsElement e → behind (c ∷ contexts) e ≡ Some next → Encloses next ms → ((d : Context) (less : List Context) → Encloses (d ∷ less) ms → steps (Some (in_state forms (row b (literal (es ++ e ∷ []) (d ∷ less))))) (items_tokens ms) ≡ Some (with_part forms b (part.Literal ((es ++ e ∷ []) ++ ms)))) → steps (Some (in_state forms (row b (literal es (c ∷ contexts))))) (term_token e ∷ items_tokens ms) ≡ Some (with_part forms b (part.Literal ((es ++ e ∷ []) ++ ms)))
+enclosed_next forms b es [] c contexts e [] is h k later =
+    one (in_state forms (row b (literal es (c ∷ contexts)))) (with_part forms b (part.Literal (es ++ e ∷ []))) (term_token e) [] _ (adds_literal forms b es c contexts e [] is h) (ap (λ (x : List Element). Some (with_part forms b (part.Literal x))) (sym (append-nil (es ++ e ∷ []))))
+enclosed_next forms b es (m ∷ ms) c contexts e [] is h k later = absurd k
+enclosed_next forms b es ms c contexts e (d ∷ less) is h k later =
+    one (in_state forms (row b (literal es (c ∷ contexts)))) (in_state forms (row b (literal (es ++ e ∷ []) (d ∷ less)))) (term_token e) (items_tokens ms) _ (adds_literal forms b es c contexts e (d ∷ less) is h) (later d less k)
+
+enclosed_read : (forms : List Form) (b : Begun) (es ms : List Element) (c : Context) (contexts : List Context) → Encloses (c ∷ contexts) ms → steps (Some (in_state forms (row b (literal es (c ∷ contexts))))) (items_tokens ms) ≡ Some (with_part forms b (part.Literal (es ++ ms)))
+enclosed_read forms b es [] c contexts h = absurd h
+enclosed_read forms b es (e ∷ ms) c contexts h =
+    ap (λ (ts : List Token). steps (Some (in_state forms (row b (literal es (c ∷ contexts))))) (ts ++ items_tokens ms)) (token_alone e)
+    ∙ enclosed_next forms b es ms c contexts e h.1 h.0 h.2 h.3 (λ d less k. enclosed_read forms b (es ++ e ∷ []) ms d less k)
+    ∙ ap (λ (x : List Element). Some (with_part forms b (part.Literal x))) (append_assoc es (e ∷ []) ms)
+
+literal_part_read : (forms : List Form) (b : Begun) (es : List Element) → IsLiteral es → steps (Some (in_state forms (row b (literal [] [])))) (items_tokens es) ≡ Some (with_part forms b (part.Literal es))
+literal_part_read forms b [] h = absurd h
+literal_part_read forms b (element.Item (term.Name t) ∷ []) h = absurd h
+literal_part_read forms b (element.Item (term.Integer t z) ∷ []) h = term_read forms b (element.Item (term.Integer t z)) h refl
+literal_part_read forms b (element.Item (term.Text t) ∷ []) h = term_read forms b (element.Item (term.Text t)) h refl
+literal_part_read forms b (element.Item (term.True place) ∷ []) h = term_read forms b (element.Item (term.True place)) h refl
+literal_part_read forms b (element.Item (term.False place) ∷ []) h = term_read forms b (element.Item (term.False place)) h refl
+literal_part_read forms b (element.Item item ∷ e ∷ es) h = absurd h
+literal_part_read forms b (element.Closes place ∷ es) h = absurd h
+literal_part_read forms b (element.Opens place ∷ es) h =
+    one (in_state forms (row b (literal [] []))) (in_state forms (row b (literal (element.Opens place ∷ []) in_quotation))) (plain_token place (codes "[")) (items_tokens es) _
+    (ap (add_literal forms b [] []) (element_spelled (element.Opens place) tt)) (enclosed_read forms b (element.Opens place ∷ []) es _ [] h)
+
 -- Where the tokens may end with these forms, a row may begin, and where none of the forms that follow is a run beside one, a run may.
 
 -- a run of items may begin here: each token that is no mark is taken as one at the top level
@@ -275,6 +320,9 @@ parts_read forms b (slot.Effect ∷ slots) (part.Effect e ∷ ps) rest h l f =
 parts_read forms b (slot.Items ∷ slots) (part.Items es ends ∷ ps) rest h l f =
     let filled = filled_more (slots_of b.kind) b.parts slot.Items slots (part.Items es ends) h f.0 in
     part_then forms b (items [] []) (part.Items es ends) ps rest (items_part_read forms b es ends f.0) (to_slot forms (more b (part.Items es ends)) slots _ _ rest filled (parts_read forms (more b (part.Items es ends)) slots ps rest filled l.1 f.1))
+parts_read forms b (slot.Literal ∷ slots) (part.Literal es ∷ ps) rest h l f =
+    let filled = filled_more (slots_of b.kind) b.parts slot.Literal slots (part.Literal es) h f.0 in
+    part_then forms b (literal [] []) (part.Literal es) ps rest (literal_part_read forms b es f.0) (to_slot forms (more b (part.Literal es)) slots _ _ rest filled (parts_read forms (more b (part.Literal es)) slots ps rest filled l.1 f.1))
 parts_read forms b (slot.Marks ∷ []) (part.Marks ms ∷ p ∷ ps) rest h l f = absurd f.1
 parts_read forms b [] (p ∷ ps) rest h l f = absurd f
 parts_read forms b (s ∷ slots) [] rest h l f = absurd f

@@ -7,7 +7,7 @@ use Rattle.fac_lang.specs.declared.phrase.Place.{Place}
 use Rattle.fac_lang.specs.declared.token.Token.{Token}
 use Rattle.fac_lang.specs.declared.token.TokKind.{TokKind}
 use Rattle.fac_lang.specs.declared.token.TokKind.TheVariants.{Plain, Str}
-use Rattle.fac_lang.specs.declared.tree.FormKind.TheVariants.{Using, Define}
+use Rattle.fac_lang.specs.declared.tree.FormKind.TheVariants.{In, Use, Using, From, QualifiedWith, Defer, Symbol, Constant, Private, Public, Main, Define}
 use Rattle.fac_lang.specs.declared.tree.Key.TheVariants.{Arrow}
 use Rattle.fac_parse.specs.declared.spelling.Spelling.{Spelling}
 use Rattle.fac_parse.specs.declared.spelling.Spelling.TheVariants.{Begins, Fixed, Semi, Opens, Closes, Dashes, OpensQuotation, ClosesQuotation, True, False, Inline, Recursive, Integer, String, Name, Other}
@@ -26,7 +26,17 @@ IsSign _ = Unit {0}
 -- a sign is spelled as its text says
 pub sign_is : (s : Spelling) → IsSign s → spelling_of (sign_text s) ≡ s
 unfolding spelling_of has_integer_form word_spelling sign_spelling
+sign_is (Begins In) h = refl
+sign_is (Begins Use) h = refl
 sign_is (Begins Using) h = refl
+sign_is (Begins From) h = refl
+sign_is (Begins QualifiedWith) h = refl
+sign_is (Begins Defer) h = refl
+sign_is (Begins Symbol) h = refl
+sign_is (Begins Constant) h = refl
+sign_is (Begins Private) h = refl
+sign_is (Begins Public) h = refl
+sign_is (Begins Main) h = refl
 sign_is (Begins Define) h = refl
 sign_is (Fixed Arrow) h = refl
 sign_is Semi h = refl

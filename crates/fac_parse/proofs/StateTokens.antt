@@ -1,11 +1,15 @@
 -- The tokens of what was read so far, and what is known of it.
+use Rattle.fac_parse.specs.Trees.{IsElement, behind}
+use Rattle.fac_parse.specs.declared.context.Context.{Context}
 use Rattle.std.proofs.Common.{◌≡◌, ◌≤◌, ◌+◌, List, [], ◌∷◌, ◌++◌, length, Option, Some, None, refl, ap, sym, ◌∙◌, subst, append_assoc, append-nil}
 use Rattle.std.specs.Prelude.{codes, slice_get}
 use Rattle.fac_lang.specs.declared.phrase.Place.{Place}
 use Rattle.fac_lang.specs.declared.token.Token.{Token}
 use Rattle.fac_lang.specs.declared.tree.Element.{Element}
+use Rattle.fac_lang.specs.declared.tree.Element.TheVariants as element
+use Rattle.fac_parse.specs.declared.context.Bracket.TheVariants.{Quotation}
 use Rattle.fac_lang.specs.declared.tree.FormKind.{FormKind}
-use Rattle.fac_lang.specs.declared.tree.FormKind.TheVariants.{Using, Define}
+use Rattle.fac_lang.specs.declared.tree.FormKind.TheVariants.{In, Use, Using, From, QualifiedWith, Defer, Symbol, Constant, Private, Public, Main, Define}
 use Rattle.fac_lang.specs.declared.tree.Part.{Part}
 use Rattle.fac_lang.specs.declared.tree.Form.{Form}
 use Rattle.fac_lang.specs.declared.tree.Form.TheVariants.{Row, Items}
@@ -13,7 +17,7 @@ use Rattle.fac_parse.specs.declared.rows.Slot.{Slot}
 use Rattle.fac_parse.specs.declared.rows.Slot.TheVariants as slot
 use Rattle.fac_parse.specs.Rows.{head_of, slots_of}
 use Rattle.fac_parse.specs.Trees.{plain_token, element_tokens, items_tokens, marks_tokens, part_tokens, parts_tokens, form_tokens, flatten, AreNames, AreValueNames, most_names, Lead, AreItems, AreMarks, Fills, FillAll, IsForm, MayStandBefore, IsWellFormed}
-use Rattle.fac_parse.specs.inner.Reader.{Within, name, names, fixed, effect, inputs, outputs, items, marks, Begun, Open, top, row, State, begin, row_form, row_ended, at_slot, go_on, with_run}
+use Rattle.fac_parse.specs.inner.Reader.{Within, name, names, fixed, effect, inputs, outputs, items, literal, marks, Begun, Open, top, row, State, begin, row_form, row_ended, at_slot, go_on, with_run}
 
 -- The tokens of what is open.
 
@@ -25,6 +29,7 @@ within_tokens effect = []
 within_tokens (inputs opens ins) = plain_token opens (codes "(") ∷ ins
 within_tokens (outputs opens ins dashes outs) = plain_token opens (codes "(") ∷ ins ++ plain_token dashes (codes "--") ∷ outs
 within_tokens (items elements contexts) = items_tokens elements
+within_tokens (literal elements contexts) = items_tokens elements
 within_tokens (marks ms) = marks_tokens ms
 
 abbrev pub open_tokens : Open → List Token
@@ -102,7 +107,17 @@ filled_last [] (p ∷ ps) rest h l = absurd h
 filled_last (s ∷ slots) (p ∷ ps) rest h l = filled_last slots ps rest h.1 l.1
 
 pub marks_last : (kind : FormKind) → MarksLast (slots_of kind)
+marks_last In = (tt, tt)
+marks_last Use = (tt, tt)
 marks_last Using = (tt, tt)
+marks_last From = (tt, (tt, (tt, tt)))
+marks_last QualifiedWith = (tt, (tt, tt))
+marks_last Defer = (tt, tt)
+marks_last Symbol = (tt, tt)
+marks_last Constant = (tt, (tt, tt))
+marks_last Private = tt
+marks_last Public = tt
+marks_last Main = (tt, tt)
 marks_last Define = (tt, (tt, (tt, (refl, tt))))
 
 -- What is known of what is open.
@@ -116,7 +131,23 @@ slot_of effect = slot.Effect
 slot_of (inputs opens ins) = slot.Effect
 slot_of (outputs opens ins dashes outs) = slot.Effect
 slot_of (items elements contexts) = slot.Items
+slot_of (literal elements contexts) = slot.Literal
 slot_of (marks ms) = slot.Marks
+
+-- elements from where something is open to where something is, before each of which something is open
+abbrev pub Inside : List Context → List Element → List Context → Type 0
+Inside [] es to = ⊥
+Inside (c ∷ from) [] to = c ∷ from ≡ to
+Inside (c ∷ from) (e ∷ es) to = IsElement e × (next : List Context) × (behind (c ∷ from) e ≡ Some next) × Inside next es to
+
+abbrev pub in_quotation : List Context
+in_quotation = record { bracket = Quotation } ∷ []
+
+-- a literal as far as some of its elements
+abbrev pub GoodLiteral : List Element → List Context → Type 0
+GoodLiteral [] contexts = contexts ≡ []
+GoodLiteral (element.Opens place ∷ es) contexts = Inside in_quotation es contexts
+GoodLiteral _ contexts = ⊥
 
 -- what was read of a part, with these slots behind it
 abbrev pub GoodWithin : List Slot → Within → Type 0
@@ -127,6 +158,7 @@ GoodWithin rest effect = Unit {0}
 GoodWithin rest (inputs opens ins) = AreValueNames ins × (length ins ≤ most_names)
 GoodWithin rest (outputs opens ins dashes outs) = AreValueNames ins × AreValueNames outs × (length ins + length outs ≤ most_names)
 GoodWithin rest (items elements contexts) = Lead [] elements contexts
+GoodWithin rest (literal elements contexts) = GoodLiteral elements contexts
 GoodWithin rest (marks ms) = AreMarks ms × (rest ≡ [])
 
 pub record GoodRow (b : Begun) (w : Within) : Type 0 where
@@ -192,6 +224,7 @@ begun_within slot.Names = refl
 begun_within (slot.Fixed key) = refl
 begun_within slot.Effect = refl
 begun_within slot.Items = refl
+begun_within slot.Literal = refl
 begun_within slot.Marks = refl
 
 begun_row : (b : Begun) (s : Slot) (rest : List Slot) → Filled (slots_of b.kind) b.parts (s ∷ rest) → LastMarks s rest → GoodRow b (begin s)
@@ -200,6 +233,7 @@ begun_row b slot.Names rest h l = record { rest = rest; filled = h; within = tt 
 begun_row b (slot.Fixed key) rest h l = record { rest = rest; filled = h; within = tt }
 begun_row b slot.Effect rest h l = record { rest = rest; filled = h; within = tt }
 begun_row b slot.Items rest h l = record { rest = rest; filled = h; within = refl }
+begun_row b slot.Literal rest h l = record { rest = rest; filled = h; within = refl }
 begun_row b slot.Marks rest h l = record { rest = rest; filled = h; within = (tt, l) }
 
 -- a row that ends

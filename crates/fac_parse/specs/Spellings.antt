@@ -6,7 +6,7 @@ use Rattle.fac_lang.specs.declared.limits.TheConstants.{MOST_ELEMENTS}
 use Rattle.fac_lang.specs.Numbers.{signed_in, integer_in}
 use Rattle.fac_lang.specs.declared.token.TokKind.{TokKind}
 use Rattle.fac_lang.specs.declared.token.TokKind.TheVariants.{Plain, Str}
-use Rattle.fac_lang.specs.declared.tree.FormKind.TheVariants.{Using, Define}
+use Rattle.fac_lang.specs.declared.tree.FormKind.TheVariants.{In, Use, Using, From, QualifiedWith, Defer, Symbol, Constant, Private, Public, Main, Define}
 use Rattle.fac_lang.specs.declared.tree.Key.TheVariants.{Arrow}
 use Rattle.fac_parse.specs.Rows.{head_of, key_text}
 use Rattle.fac_parse.specs.declared.spelling.Spelling.{Spelling}
@@ -65,7 +65,8 @@ sign_text _ = []
 -- the tokens that forms are made of
 abbrev pub signs : List Spelling
 signs =
-    Begins Using ∷ Begins Define ∷ Semi ∷ Opens ∷ Closes ∷ Dashes ∷ OpensQuotation ∷ ClosesQuotation ∷ True ∷ False ∷
+    Begins In ∷ Begins Use ∷ Begins Using ∷ Begins From ∷ Begins QualifiedWith ∷ Begins Defer ∷ Begins Symbol ∷ Begins Constant ∷
+    Begins Private ∷ Begins Public ∷ Begins Main ∷ Begins Define ∷ Semi ∷ Opens ∷ Closes ∷ Dashes ∷ OpensQuotation ∷ ClosesQuotation ∷ True ∷ False ∷
     Inline ∷ Recursive ∷ Fixed Arrow ∷ []
 
 -- the first of these that is of this text

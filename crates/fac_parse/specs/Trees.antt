@@ -151,6 +151,22 @@ pub record IsEffect (effect : WrittenEffect) : Type 0 where
   pub outs : AreValueNames effect.outs
   pub few : length effect.ins + length effect.outs ≤ most_names
 
+abbrev pub IsLiteralTerm : Term → Type 0
+IsLiteralTerm (term.Name token) = ⊥
+IsLiteralTerm item = IsTerm item
+
+-- Elements up to the one that closes the outermost of these brackets. Something is open before each of them.
+abbrev pub Encloses : List Context → List Element → Type 0
+Encloses [] [] = Unit {0}
+Encloses (c ∷ contexts) (element ∷ elements) = IsElement element × (next : List Context) × (behind (c ∷ contexts) element ≡ Some next) × Encloses next elements
+Encloses _ _ = ⊥
+
+-- one item that is a literal
+abbrev pub IsLiteral : List Element → Type 0
+IsLiteral (element.Item item ∷ []) = IsLiteralTerm item
+IsLiteral (element.Opens place ∷ elements) = Encloses (record { bracket = Quotation } ∷ []) elements
+IsLiteral _ = ⊥
+
 -- Marks of one definition. Both together would make a row word.
 abbrev pub AreMarks : List Mark → Type 0
 AreMarks [] = Unit {0}
@@ -164,6 +180,7 @@ Fills slot.Names (part.Names names ends) = AreNames names
 Fills (slot.Fixed key) (part.Fixed other place) = key ≡ other
 Fills slot.Effect (part.Effect effect) = IsEffect effect
 Fills slot.Items (part.Items elements ends) = AreItems elements
+Fills slot.Literal (part.Literal elements) = IsLiteral elements
 Fills slot.Marks (part.Marks marks) = AreMarks marks
 Fills _ _ = ⊥
 

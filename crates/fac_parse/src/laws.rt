@@ -1,8 +1,6 @@
 //! Laws of the grammar, each on the contract of a function that does nothing.
 ghost use Rattle.fac_parse.specs.Spellings.{LiteralsAreIntegers};
-ghost use Rattle.fac_parse.specs.Resolution.{ResolvedAreWhole};
 ghost use Rattle.fac_parse.specs.Trees.{OnePlace, OneTree, SomePlace, TreeOrNone};
-ghost use Rattle.fac_parse.specs.Written.{PhrasesAreWrittenAsItems};
 
 /// No two trees have the same tokens.
 pub fn one_tree()
@@ -24,17 +22,7 @@ pub fn some_place()
     ensures { SomePlace }
 {}
 
-/// A program that names resolve to is whole.
-pub fn resolved_programs_are_whole()
-    ensures { ResolvedAreWhole }
-{}
-
 /// A plain token is an integer exactly where the primitives on texts of numbers read its text as one, and has the same value.
 pub fn literals_are_integers()
     ensures { LiteralsAreIntegers }
-{}
-
-/// The phrase of items is written as the items are, with their names resolved, and its first refused name is theirs.
-pub fn phrases_are_written_as_items()
-    ensures { PhrasesAreWrittenAsItems }
 {}

@@ -2,7 +2,7 @@
 ghost use Rattle.std.specs.Prelude.{◌≡◌, ◌++◌, ◌∷◌, [], OnOk, IfOk};
 ghost use Rattle.fac_parse.specs.Trees.{Parses, behind, opened, quotation_closed, file_of};
 ghost use Rattle.fac_parse.specs.inner.Reader.{in_state, row, begin, begun_at, row_ended, go_on as goes_on, with_part, with_run, begin_row as row_begins, begins, is_semi, element_of, more, written, end_items as items_end};
-ghost use Rattle.fac_parse.specs.inner.Reader.{top_step, name_step, names_step, key_step, fixed_step, effect_step, may_add as may_have, inputs_step, outputs_step, items_step, mark_of, with_mark, marks_step, step, ended, ended_top, start};
+ghost use Rattle.fac_parse.specs.inner.Reader.{top_step, name_step, names_step, key_step, fixed_step, effect_step, may_add as may_have, inputs_step, outputs_step, items_step, mark_of, goes_into, add_literal as literal_added, literal_step, with_mark, marks_step, step, ended, ended_top, start};
 ghost use Rattle.fac_parse.specs.inner.Reader.{state_of, Goes, Passes, Adds, Finishes, IsSyntax, TakesAll, GivesForms};
 ghost use Rattle.fac_lang.specs.declared.tree.Part.TheVariants as part;
 
@@ -73,6 +73,8 @@ pub enum At {
     Outputs(Head, Place, Place),
     /// Among the items of a row.
     Items(Head),
+    /// Where a row has a literal, or among its elements.
+    Literal(Head),
     /// Behind the `;` of a row that may have marks.
     Marks(Head),
 }
@@ -164,6 +166,22 @@ fn pass(contexts: &mut Stack<Context>, element: &Element) -> Result<bool, Memory
         Element::Item(_) => Ok(true),
         Element::Opens(_) => open(contexts, Bracket::Quotation),
         Element::Closes(_) => Ok(close_quotation(contexts)),
+    }
+}
+
+// Whether an element goes on with a literal in which this is open. A name doesn't begin one.
+fn goes_on_with(contexts: &Stack<Context>, element: &Element) -> bool
+    ensures { result ≡ goes_into contexts.now element.now }
+{
+    if contexts.len() != 0 {
+        return true;
+    }
+    match element {
+        Element::Item(term) => match term {
+            Term::Name(_) => false,
+            _ => true,
+        },
+        _ => true,
     }
 }
 
@@ -265,6 +283,11 @@ impl Reader {
                 self.elements = List::new(alloc);
                 self.contexts = Stack::new(alloc);
                 self.at = At::Items(head);
+            }
+            Slot::Literal => {
+                self.elements = List::new(alloc);
+                self.contexts = Stack::new(alloc);
+                self.at = At::Literal(head);
             }
             Slot::Marks => {
                 self.marks = List::new(alloc);
@@ -537,6 +560,14 @@ impl Reader {
         Ok(true)
     }
 
+    // Ends a literal.
+    fn end_literal(&mut self, alloc: Global, head: Head) -> Result<(), Memory>
+        ensures { OnOk result (state_of self.new ≡ with_part self.old.forms (begun_at head self.old.parts) (part.Literal self.old.elements)) }
+    {
+        let elements = mem::replace(&mut self.elements, List::new(alloc));
+        self.add_part(alloc, head, Part::Literal(elements))
+    }
+
     // Takes a token among the items of a row.
     fn take_in_items(
         &mut self,
@@ -552,6 +583,46 @@ impl Reader {
             self.end_items(alloc, head, token.place)
         } else {
             add_element(&mut self.elements, &mut self.contexts, spelling, token)
+        }
+    }
+
+    // Adds an element to a literal, which ends where nothing is open then. False where it may not stand.
+    fn add_to_literal(
+        &mut self,
+        alloc: Global,
+        head: Head,
+        element: Element,
+    ) -> Result<bool, Memory>
+        requires { self.now.at ≡ At.Literal head }
+        ensures { Goes (literal_added self.old.forms (begun_at head self.old.parts) self.old.elements self.old.contexts (Some element)) (state_of self.new) result }
+    {
+        if !goes_on_with(&self.contexts, &element) {
+            return Ok(false);
+        }
+        if !pass(&mut self.contexts, &element)? {
+            return Ok(false);
+        }
+        self.elements.push(element)?;
+        if self.contexts.len() == 0 {
+            self.end_literal(alloc, head)?;
+        }
+        Ok(true)
+    }
+
+    // Takes a token of a literal.
+    fn take_in_literal(
+        &mut self,
+        alloc: Global,
+        head: Head,
+        spelling: Spelling,
+        token: Token,
+    ) -> Result<bool, Memory>
+        requires { self.now.at ≡ At.Literal head }
+        ensures { Goes (literal_step self.old.forms (begun_at head self.old.parts) self.old.elements self.old.contexts spelling token) (state_of self.new) result }
+    {
+        match element(spelling, token) {
+            Some(element) => self.add_to_literal(alloc, head, element),
+            None => Ok(false),
         }
     }
 
@@ -612,6 +683,7 @@ impl Reader {
                 alloc, head, opens, dashes, spelling, token,
             ),
             At::Items(head) => self.take_in_items(alloc, head, spelling, token),
+            At::Literal(head) => self.take_in_literal(alloc, head, spelling, token),
             At::Marks(head) => self.take_mark(alloc, head, spelling, token),
         }
     }

@@ -18,6 +18,8 @@ pub enum Slot {
     Effect,
     /// Items, and `;`.
     Items,
+    /// One item that is a literal.
+    Literal,
     /// Marks, or none.
     Marks,
 }
@@ -27,7 +29,17 @@ fn slots(kind: FormKind) -> &'static [Slot]
     ensures { result.now ≡ slots_of kind }
 {
     match kind {
+        FormKind::In => &[Slot::Name],
+        FormKind::Use => &[Slot::Name],
         FormKind::Using => &[Slot::Names],
+        FormKind::From => &[Slot::Name, Slot::Fixed(Key::Arrow), Slot::Names],
+        FormKind::QualifiedWith => &[Slot::Name, Slot::Name],
+        FormKind::Defer => &[Slot::Name],
+        FormKind::Symbol => &[Slot::Name],
+        FormKind::Constant => &[Slot::Name, Slot::Literal],
+        FormKind::Private => &[],
+        FormKind::Public => &[],
+        FormKind::Main => &[Slot::Name],
         FormKind::Define => &[Slot::Name, Slot::Effect, Slot::Items, Slot::Marks],
     }
 }

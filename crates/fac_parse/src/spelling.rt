@@ -123,8 +123,18 @@ fn reserved(text: &str) -> bool
 
 // The tokens that forms are made of, each with its text.
 #[rattlefmt::skip]
-static FORM_SIGNS: [(&str, Spelling); 13] = [
+static FORM_SIGNS: [(&str, Spelling); 23] = [
+    ("IN:", Spelling::Begins(FormKind::In)),
+    ("USE:", Spelling::Begins(FormKind::Use)),
     ("USING:", Spelling::Begins(FormKind::Using)),
+    ("FROM:", Spelling::Begins(FormKind::From)),
+    ("QUALIFIED-WITH:", Spelling::Begins(FormKind::QualifiedWith)),
+    ("DEFER:", Spelling::Begins(FormKind::Defer)),
+    ("SYMBOL:", Spelling::Begins(FormKind::Symbol)),
+    ("CONSTANT:", Spelling::Begins(FormKind::Constant)),
+    ("<PRIVATE", Spelling::Begins(FormKind::Private)),
+    ("PRIVATE>", Spelling::Begins(FormKind::Public)),
+    ("MAIN:", Spelling::Begins(FormKind::Main)),
     (":", Spelling::Begins(FormKind::Define)),
     (";", Spelling::Semi),
     ("(", Spelling::Opens),
@@ -247,11 +257,4 @@ pub fn names_a_value(token: &Token) -> bool
     ensures { result ≡ is_value_name (token_text token.now.kind) }
 {
     counts_a_value(text(&token.kind))
-}
-
-/// Whether a token is `*`.
-pub fn is_asterisk(token: &Token) -> bool
-    ensures { result ≡ bytes_eq (token_text token.now.kind) (codes "*") }
-{
-    text(&token.kind) == "*"
 }

@@ -42,6 +42,7 @@ pub data Within : Type 0 where
   inputs : Place → List Token → Within
   outputs : Place → List Token → Place → List Token → Within
   items : List Element → List Context → Within
+  literal : List Element → List Context → Within
   marks : List Mark → Within
 
 -- a row as far as some of its parts
@@ -74,6 +75,7 @@ begin slot.Names = names []
 begin (slot.Fixed key) = fixed key
 begin slot.Effect = effect
 begin slot.Items = items [] []
+begin slot.Literal = literal [] []
 begin slot.Marks = marks []
 
 abbrev pub row_form : Begun → Form
@@ -200,6 +202,24 @@ end_or_add forms b elements contexts false s t = add_element (row_items b) forms
 abbrev pub items_step : List Form → Begun → List Element → List Context → Spelling → Token → Option State
 items_step forms b elements contexts s t = end_or_add forms b elements contexts (is_semi s) s t
 
+-- whether an element goes on with a literal: a name doesn't begin one
+abbrev pub goes_into : List Context → Element → Bool
+goes_into [] (element.Item (term.Name t)) = false
+goes_into _ e = true
+
+-- a literal with one more element, which is whole where nothing is open then
+abbrev pub literal_with : List Form → Begun → List Element → Option (List Context) → Option State
+literal_with forms b es None = None
+literal_with forms b es (Some []) = Some (with_part forms b (part.Literal es))
+literal_with forms b es (Some (c ∷ contexts)) = Some (in_state forms (row b (literal es (c ∷ contexts))))
+
+abbrev pub add_literal : List Form → Begun → List Element → List Context → Option Element → Option State
+add_literal forms b elements contexts None = None
+add_literal forms b elements contexts (Some e) = (if goes_into contexts e then literal_with forms b (elements ++ e ∷ []) (behind contexts e) else None)
+
+abbrev pub literal_step : List Form → Begun → List Element → List Context → Spelling → Token → Option State
+literal_step forms b elements contexts s t = add_literal forms b elements contexts (element_of s t)
+
 -- the mark that a token is
 abbrev pub mark_of : Spelling → Place → Option Mark
 mark_of Inline place = Some (mark.Inline place)
@@ -226,6 +246,7 @@ row_step forms b effect s t = effect_step forms b s t
 row_step forms b (inputs opens ins) s t = inputs_step forms b opens ins s t
 row_step forms b (outputs opens ins dashes outs) s t = outputs_step forms b opens ins dashes outs s t
 row_step forms b (items elements contexts) s t = items_step forms b elements contexts s t
+row_step forms b (literal elements contexts) s t = literal_step forms b elements contexts s t
 row_step forms b (marks ms) s t = marks_step forms b ms s t
 
 abbrev pub open_step : List Form → Open → Spelling → Token → Option State
@@ -270,6 +291,7 @@ open_of (at.Effect head) r = row (begun_at head r.parts) effect
 open_of (at.Inputs head opens) r = row (begun_at head r.parts) (inputs opens r.names)
 open_of (at.Outputs head opens dashes) r = row (begun_at head r.parts) (outputs opens r.names dashes r.outs)
 open_of (at.Items head) r = row (begun_at head r.parts) (items r.elements r.contexts)
+open_of (at.Literal head) r = row (begun_at head r.parts) (literal r.elements r.contexts)
 open_of (at.Marks head) r = row (begun_at head r.parts) (marks r.marks)
 
 abbrev pub state_of : Reader → State
