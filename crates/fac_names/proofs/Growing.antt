@@ -14,7 +14,9 @@ use Rattle.fac_names.specs.declared.refusal.NameFault.{NameFault}
 use Rattle.fac_names.specs.declared.refusal.NameKind.TheVariants.{Unknown, Twice, NoVocab, TooMany}
 use Rattle.fac_names.specs.Written.{Tok, Node, n_lit, n_array, n_quot, n_ref, n_name, n_locals, n_fry, n_call, n_execute, n_bind, n_hole, n_at, n_next, n_full, n_part, Nodes, nothing, more, f_in, f_use, f_using, f_from, f_qualified, f_private, f_public, f_defer, f_symbol, f_main, f_constant, f_define, f_locals, f_tuple, f_union, f_single, f_maker, f_generic, f_method, f_items}
 use Rattle.fac_names.specs.Readings.{bound, read_items}
-use Rattle.fac_vocab.specs.Scopes.{Entry, Scope, named, prefixed, with_entry, now_defined, holders, home, exists, using_vocab, bringing, entered, word_held}
+use Rattle.fac_vocab.specs.declared.entry.Entry.{Entry}
+use Rattle.fac_vocab.specs.declared.brought.Brought.TheVariants.{Named as named, Prefixed as prefixed}
+use Rattle.fac_vocab.specs.Scopes.{Scope, with_entry, now_defined, holders, home, exists, using_vocab, bringing, entered, word_held}
 use Rattle.fac_names.specs.Items.{fault, fault_if, sooner, search_fault, search_faults, ref, is_cond, item_of, phrase_of, elements_of, items_faults}
 use Rattle.fac_names.specs.Forms.{Late, settled, a_tuple, a_union, a_single, at_place, counted, most_classes, option_list, Draft, Named, Reading, Numbered, changed, added, defining, defined, deferring, with_told, told, own, plainly, refused, scoped, use_one, bringing_one, bring_one, class_words, class_form, making, accessor, with_slot}
 use Rattle.fac_names.specs.Laws.{names_of, Longer, Sooner, Grows, FormsGrow}
@@ -124,8 +126,8 @@ numbered_if n m false g h = h
 defining_grows : (vocab : List ℕ) (t : Tok) (r : Reading) (es : List Entry) → Grows r (defining vocab t r es).reading
 defining_grows vocab t r [] = grows_then (added_grows vocab t r) (scoped_grows (with_entry vocab t.text (length r.words) true) (added vocab t r).reading)
 defining_grows vocab t r (e ∷ es) =
-    numbered_if (added vocab t (refused (fault Twice t ∷ []) r)) (record { word = e.word; reading = record r { scope = record r.scope { table = now_defined e.word r.scope.table }; words = changed (at_place t.place) e.word r.words } }) (list_any (λ f. f.is_defined) (e ∷ es)) (grows_then (refused_grows (fault Twice t ∷ []) r) (added_grows vocab t (refused (fault Twice t ∷ []) r)))
-      (record { words = equal (changed_names (at_place t.place) (λ d. refl) e.word r.words); classes = same r.classes; arrays = same r.arrays; first = unrefused r.first })
+    numbered_if (added vocab t (refused (fault Twice t ∷ []) r)) (record { word = e.word; reading = record r { scope = record r.scope { table = now_defined e.vocab e.name r.scope.table }; words = changed (at_place t.place) e.word r.words } }) (list_any (λ f. f.is_defined) (e ∷ es)) (grows_then (refused_grows (fault Twice t ∷ []) r) (added_grows vocab t (refused (fault Twice t ∷ []) r)))
+    (record { words = equal (changed_names (at_place t.place) (λ d. refl) e.word r.words); classes = same r.classes; arrays = same r.arrays; first = unrefused r.first })
 
 defined_grows : (vocab : List ℕ) (t : Tok) (r : Reading) → Grows r (defined vocab t r).reading
 defined_grows vocab t r = defining_grows vocab t r (holders r.scope.table vocab t.text)
@@ -173,7 +175,7 @@ with_slot_grows : (r : Reading) (t : Tok) → Grows r (with_slot r t)
 with_slot_grows r t =
     grows_then (accessor_grows (record t { text = t.text ++ codes ">>" }) (getter t.text) (codes "object" ∷ []) (codes "value" ∷ []) r) (
     grows_then (accessor_grows (record t { text = codes ">>" ++ t.text }) (setter t.text) (codes "object" ∷ codes "value" ∷ []) (codes "object" ∷ []) _)
-      (accessor_grows (record t { text = t.text ++ codes "<<" }) (putter t.text) (codes "value" ∷ codes "object" ∷ []) [] _))
+    (accessor_grows (record t { text = t.text ++ codes "<<" }) (putter t.text) (codes "value" ∷ codes "object" ∷ []) [] _))
 
 class_words_grows : (t : Tok) (r : Reading) → Grows r (class_words t r).reading
 class_words_grows t r =
@@ -184,8 +186,8 @@ class_words_grows t r =
 class_form_grows : (t : Tok) (searched : List Tok) (names : Scope → Named) (r : Reading) → Grows r (class_form t searched names r)
 class_form_grows t searched names r =
     grows_then (class_words_grows t r) (
-      let n = class_words t r in
-      record { words = same (names_of n.reading.words); classes = by n.reading.classes (record { tok = t; word = n.word; names = names n.reading.scope } ∷ []); arrays = same n.reading.arrays; first = refusals n.reading.first (search_faults n.reading.scope searched) })
+    let n = class_words t r in
+    record { words = same (names_of n.reading.words); classes = by n.reading.classes (record { tok = t; word = n.word; names = names n.reading.scope } ∷ []); arrays = same n.reading.arrays; first = refusals n.reading.first (search_faults n.reading.scope searched) })
 
 -- Forms.
 

@@ -1,2 +1,7 @@
 pub mod Growing
 pub mod Staying
+pub mod FirstLemmas
+pub mod SearchLemmas
+pub mod ItemLemmas
+pub mod PlainItems
+pub mod DraftLemmas

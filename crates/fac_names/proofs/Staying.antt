@@ -12,7 +12,9 @@ use Rattle.fac_lang.specs.declared.program.Sort.{Sort}
 use Rattle.fac_lang.specs.declared.program.Sort.TheVariants.{Itself as itself, Class as class, Isa as isa, Getter as getter, Setter as setter, Putter as putter, Generic as generic}
 use Rattle.fac_names.specs.Written.{Tok, Nodes, Form, f_in, f_use, f_using, f_from, f_qualified, f_private, f_public, f_defer, f_symbol, f_main, f_constant, f_define, f_locals, f_tuple, f_union, f_single, f_maker, f_generic, f_method, f_items}
 use Rattle.std.specs.Option.{option_map}
-use Rattle.fac_vocab.specs.Scopes.{Entry, Scope, begun, named, prefixed, using_vocab, bringing, same_table, now_defined, holders, home, exists, word_held}
+use Rattle.fac_vocab.specs.declared.entry.Entry.{Entry}
+use Rattle.fac_vocab.specs.declared.brought.Brought.TheVariants.{Named as named, Prefixed as prefixed}
+use Rattle.fac_vocab.specs.Scopes.{Scope, begun, using_vocab, bringing, same_table, now_defined, holders, home, exists, word_held}
 use Rattle.fac_names.specs.declared.refusal.NameFault.{NameFault}
 use Rattle.fac_names.specs.declared.refusal.NameKind.TheVariants.{Unknown, Twice, NoVocab, TooMany}
 use Rattle.fac_names.specs.Items.{fault, fault_if, search_faults, ref}
@@ -94,9 +96,9 @@ now_if : (w : ℕ) (b : Bool) (e : Entry) (es fs : List Entry) → all_spare w (
 now_if w true e es fs h k = right (spares w e) (all_spare w es) h
 now_if w false e es fs h k = both (spares w e) (all_spare w fs) (left (spares w e) (all_spare w es) h) k
 
-now_spare : (w k : ℕ) (es : List Entry) → all_spare w es ≡ true → all_spare w (now_defined k es) ≡ true
-now_spare w k [] h = refl
-now_spare w k (e ∷ es) h = now_if w (nat_eq k e.word) e es (now_defined k es) h (now_spare w k es (right (spares w e) (all_spare w es) h))
+now_spare : (w : ℕ) (vocab name : List ℕ) (es : List Entry) → all_spare w es ≡ true → all_spare w (now_defined vocab name es) ≡ true
+now_spare w vocab name [] h = refl
+now_spare w vocab name (e ∷ es) h = now_if w (bytes_eq name e.name && bytes_eq vocab e.vocab) e es (now_defined vocab name es) h (now_spare w vocab name es (right (spares w e) (all_spare w es) h))
 
 -- States.
 
@@ -126,10 +128,10 @@ added_at : {w : ℕ} {d : Draft} (vocab : List ℕ) (t : Tok) (r : Reading) → 
 added_at {w} {d} vocab t r a = record { at = record { is = there_still r.words (draft_of vocab t ∷ []) w d a.is; spared = a.spared }; other = not_length r.words w d a.is }
 
 defining_by : {w : ℕ} {d : Draft} (vocab : List ℕ) (t : Tok) (r : Reading) (e : Entry) (b : Bool) → At w d r → (b ≡ false → nat_eq e.word w ≡ false) →
-    Beside w d (if b then added vocab t (refused (fault Twice t ∷ []) r) else record { word = e.word; reading = record r { scope = record r.scope { table = now_defined e.word r.scope.table }; words = changed (at_place t.place) e.word r.words } })
+    Beside w d (if b then added vocab t (refused (fault Twice t ∷ []) r) else record { word = e.word; reading = record r { scope = record r.scope { table = now_defined e.vocab e.name r.scope.table }; words = changed (at_place t.place) e.word r.words } })
 defining_by vocab t r e true a h = added_at vocab t (refused (fault Twice t ∷ []) r) (alike r (refused (fault Twice t ∷ []) r) refl refl a)
 defining_by {w} {d} vocab t r e false a h =
-    record { at = record { is = elsewhere (at_place t.place) e.word r.words w (h refl) ∙ a.is; spared = now_spare w e.word r.scope.table a.spared }; other = h refl }
+    record { at = record { is = elsewhere (at_place t.place) e.word r.words w (h refl) ∙ a.is; spared = now_spare w e.vocab e.name r.scope.table a.spared }; other = h refl }
 
 defining_at : {w : ℕ} {d : Draft} (vocab : List ℕ) (t : Tok) (r : Reading) (es : List Entry) → all_spare w es ≡ true → At w d r → Beside w d (defining vocab t r es)
 defining_at {w} {d} vocab t r [] h a =
@@ -139,7 +141,7 @@ defining_at {w} {d} vocab t r [] h a =
     }
 defining_at {w} {d} vocab t r (e ∷ es) h a =
     defining_by vocab t r e (list_any (λ f. f.is_defined) (e ∷ es)) a (λ k.
-      not_there e.is_defined (nat_eq e.word w) (left (spares w e) (all_spare w es) h) (first_false e.is_defined (list_any (λ f. f.is_defined) es) k))
+    not_there e.is_defined (nat_eq e.word w) (left (spares w e) (all_spare w es) h) (first_false e.is_defined (list_any (λ f. f.is_defined) es) k))
 
 defined_at : {w : ℕ} {d : Draft} (vocab : List ℕ) (t : Tok) (r : Reading) → At w d r → Beside w d (defined vocab t r)
 defined_at {w} {d} vocab t r a =
@@ -193,7 +195,7 @@ class_words_at {w} {d} t r a =
     let one = plainly (class c) [] (codes "value" ∷ []) (own t r) in
     let two = refused (fault_if (nat_lt 0 t.place.file && nat_le most_classes (counted r.words)) TooMany t) one in
     plainly_at (isa c) (codes "object" ∷ []) (codes "?" ∷ []) (own (record t { text = t.text ++ codes "?" }) two) (
-      own_at (record t { text = t.text ++ codes "?" }) two (alike one two refl refl (plainly_at (class c) [] (codes "value" ∷ []) (own t r) (own_at t r a))))
+    own_at (record t { text = t.text ++ codes "?" }) two (alike one two refl refl (plainly_at (class c) [] (codes "value" ∷ []) (own t r) (own_at t r a))))
 
 class_form_at : {w : ℕ} {d : Draft} (t : Tok) (searched : List Tok) (names : Scope → Named) (r : Reading) → At w d r → At w d (class_form t searched names r)
 class_form_at t searched names r a = alike (class_words t r).reading (class_form t searched names r) refl refl (class_words_at t r a)
@@ -205,10 +207,10 @@ form_at (f_use v) r a = use_one_at r v a
 form_at (f_using vs) r a = at_fold use_one use_one_at vs r a
 form_at (f_from v ns) r a =
     at_if (fold (bring_one v.text) r ns) (refused (fault NoVocab v ∷ []) r) (exists r.scope v.text) (at_fold (bring_one v.text) (λ q t b. bringing_one_at t q (word_held q.scope.table v.text t.text) b) ns r a)
-      (alike r (refused (fault NoVocab v ∷ []) r) refl refl a)
+    (alike r (refused (fault NoVocab v ∷ []) r) refl refl a)
 form_at (f_qualified v p) r a =
     at_if (scoped (bringing (prefixed v.text p.text)) r) (refused (fault NoVocab v ∷ []) r) (exists r.scope v.text) (alike r (scoped (bringing (prefixed v.text p.text)) r) refl refl a)
-      (alike r (refused (fault NoVocab v ∷ []) r) refl refl a)
+    (alike r (refused (fault NoVocab v ∷ []) r) refl refl a)
 form_at f_private r a = alike r (take f_private r) refl refl a
 form_at f_public r a = alike r (take f_public r) refl refl a
 form_at (f_defer n) r a = deferring_at n r (holders r.scope.table (home r.scope) n.text) a
@@ -237,7 +239,7 @@ defined_spare : (w : ℕ) (es : List Entry) → list_all (λ e. e.is_defined) es
 defined_spare w [] h = refl
 defined_spare w (e ∷ es) h =
     both (spares w e) (all_spare w es) (ap (λ b. b || not (nat_eq e.word w)) (left e.is_defined (list_all (λ f. f.is_defined) es) h)) (
-      defined_spare w es (right e.is_defined (list_all (λ f. f.is_defined) es) h))
+    defined_spare w es (right e.is_defined (list_all (λ f. f.is_defined) es) h))
 
 abbrev settled_draft : WordDef → Draft
 settled_draft d = record { word = d; late = settled }

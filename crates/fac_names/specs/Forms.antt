@@ -14,7 +14,9 @@ use Rattle.fac_lang.specs.declared.program.Sort.TheVariants.{Body as body, Itsel
 use Rattle.fac_lang.specs.declared.program.WordDef.{WordDef}
 use Rattle.fac_names.specs.Written.{Tok, Nodes, Declared, given, makes, Form, f_in, f_use, f_using, f_from, f_qualified, f_private, f_public, f_defer, f_symbol, f_main, f_define, f_tuple, f_union, f_single, f_generic, f_method, f_items}
 use Rattle.fac_names.specs.Readings.{read_items, read_forms}
-use Rattle.fac_vocab.specs.Scopes.{Entry, named, prefixed, Scope, exists, word_held, begun, entered, using_vocab, bringing, home, holders, with_entry, now_defined}
+use Rattle.fac_vocab.specs.declared.entry.Entry.{Entry}
+use Rattle.fac_vocab.specs.declared.brought.Brought.TheVariants.{Named as named, Prefixed as prefixed}
+use Rattle.fac_vocab.specs.Scopes.{Scope, exists, word_held, begun, entered, using_vocab, bringing, home, holders, with_entry, now_defined}
 use Rattle.fac_names.specs.declared.refusal.NameFault.{NameFault}
 use Rattle.fac_names.specs.declared.refusal.NameKind.TheVariants.{Unknown, Twice, NoVocab, TooMany}
 use Rattle.fac_names.specs.Items.{fault, fault_if, sooner, Ref, search_fault, search_faults, ref, word_of, is_cond, items_faults, phrase_of}
@@ -95,7 +97,7 @@ abbrev pub defining : List ℕ → Tok → Reading → List Entry → Numbered
 defining vocab t r [] = in_table vocab t true (added vocab t r)
 defining vocab t r (e ∷ es) =
     if list_any (λ f. f.is_defined) (e ∷ es) then added vocab t (refused (fault Twice t ∷ []) r)
-    else record { word = e.word; reading = record r { scope = record r.scope { table = now_defined e.word r.scope.table }; words = changed (at_place t.place) e.word r.words } }
+    else record { word = e.word; reading = record r { scope = record r.scope { table = now_defined e.vocab e.name r.scope.table }; words = changed (at_place t.place) e.word r.words } }
 
 abbrev pub defined : List ℕ → Tok → Reading → Numbered
 defined vocab t r = defining vocab t r (holders r.scope.table vocab t.text)
@@ -158,8 +160,10 @@ abbrev pub class_words : Tok → Reading → Numbered
 class_words t r =
     let c = length r.old_classes + length r.classes in
     let n = own t r in
-    record n { reading = plainly (isa c) (codes "object" ∷ []) (codes "?" ∷ []) (own (record t { text = t.text ++ codes "?" }) (
-        refused (fault_if (nat_lt 0 t.place.file && nat_le most_classes (counted r.words)) TooMany t) (plainly (class c) [] (codes "value" ∷ []) n))) }
+    record n {
+      reading = plainly (isa c) (codes "object" ∷ []) (codes "?" ∷ []) (own (record t { text = t.text ++ codes "?" }) (
+          refused (fault_if (nat_lt 0 t.place.file && nat_le most_classes (counted r.words)) TooMany t) (plainly (class c) [] (codes "value" ∷ []) n)));
+    }
 
 abbrev pub option_list : {A : Type 0} → Option A → List A
 option_list None = []

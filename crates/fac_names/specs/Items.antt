@@ -13,7 +13,8 @@ use Rattle.fac_names.specs.declared.refusal.NameKind.{NameKind}
 use Rattle.fac_names.specs.declared.refusal.NameKind.TheVariants.{Unknown, Ambiguous, Twice, NoVocab, NotClass, NotGeneric, BadParent, Cycle, TooMany, Undefined}
 use Rattle.fac_names.specs.Written.{Tok, Node, n_lit, n_array, n_quot, n_ref, n_name, n_fry, n_call, n_execute, n_bind, n_hole, n_next, n_full, n_part, Nodes, nothing, more}
 use Rattle.fac_names.specs.Readings.{is_among, bound}
-use Rattle.fac_vocab.specs.Scopes.{Entry, Scope, held, word_held, the, unknown, ambiguous, found}
+use Rattle.fac_vocab.specs.declared.entry.Entry.{Entry}
+use Rattle.fac_vocab.specs.Scopes.{Scope, held, word_held, the, unknown, ambiguous, found}
 
 -- the place of each kind of refusal in the order of the table
 abbrev pub rank : NameKind → ℕ

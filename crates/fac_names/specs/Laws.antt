@@ -5,7 +5,8 @@ use Rattle.fac_lang.specs.Whole.{IsWhole, no_two, same_name}
 use Rattle.fac_lang.specs.declared.program.Name.{Name as FullName}
 use Rattle.fac_lang.specs.declared.program.Sort.TheVariants.{Past as past, Method as method}
 use Rattle.fac_lang.specs.declared.program.WordDef.{WordDef}
-use Rattle.fac_vocab.specs.Scopes.{Entry, word_held}
+use Rattle.fac_vocab.specs.declared.entry.Entry.{Entry}
+use Rattle.fac_vocab.specs.Scopes.{word_held}
 use Rattle.fac_names.specs.declared.refusal.NameFault.{NameFault}
 use Rattle.fac_names.specs.Written.{Form}
 use Rattle.fac_names.specs.Items.{sooner}

@@ -3,4 +3,6 @@ pub mod Readings
 pub mod Items
 pub mod Forms
 pub mod Resolved
+pub mod FromFlat
 pub mod Laws
+pub mod inner

@@ -1,6 +1,11 @@
 //! Names: trees to a program, in which each name is replaced by the number of its word.
 #![tactic(auto)]
 
+mod drafts;
+mod items;
 mod refusal;
+mod refusal_kept;
+mod search;
+mod spelling;
 
 pub use refusal::{NameFault, NameKind, ResolveFault};

@@ -1,5 +1,6 @@
 //! Why a name is refused.
 ghost use Rattle.std.specs.Prelude.{◌≡◌};
+
 use fac_lang::{Memory, Name, Place, Text};
 use thiserror::Error;
 

@@ -1,0 +1,56 @@
+-- Trees, which are flat and have all tokens, as they are read for their names.
+use Rattle.std.specs.Prelude.{ℕ, List, [], ◌∷◌, map, None, codes, Bool, true, false, if◌then◌else◌}
+use Rattle.std.specs.Str.{bytes_eq}
+use Rattle.fac_lang.specs.PrimitiveWords.{plain_inputs}
+use Rattle.fac_lang.specs.Signatures.{Signature, signature, Leaving, never, leaves}
+use Rattle.fac_lang.specs.Phrases.{int, yes, no}
+use Rattle.fac_lang.specs.declared.phrase.Place.{Place}
+use Rattle.fac_lang.specs.declared.token.Token.{Token}
+use Rattle.fac_lang.specs.declared.tree.Element.{Element}
+use Rattle.fac_lang.specs.declared.tree.Element.TheVariants as element
+use Rattle.fac_lang.specs.declared.tree.Term.{Term}
+use Rattle.fac_lang.specs.declared.tree.Term.TheVariants as term
+use Rattle.fac_lang.specs.declared.tree.WrittenEffect.{WrittenEffect}
+use Rattle.fac_parse.specs.Trees.{token_text}
+use Rattle.fac_names.specs.Written.{Tok, Node, n_lit, n_name, n_quot, Nodes, nothing, more}
+
+abbrev pub tok : Token → Tok
+tok t = record { text = token_text t.kind; place = t.place }
+
+abbrev pub node : Term → Node
+node (term.Name t) = n_name (tok t) t.place
+node (term.Integer t value) = n_lit (int value) t.place
+node (term.True place) = n_lit yes place
+node (term.False place) = n_lit no place
+
+-- What elements come to: the items up to the bracket that closes the phrase in which they stand, and those of the phrases around it, from the inside out.
+pub record Rests : Type 0 where
+  pub here : Nodes
+  pub around : List Nodes
+
+-- a quotation with these items before those around it; one that nothing closes reaches to the end
+abbrev pub opened : Place → Nodes → List Nodes → Rests
+opened place items [] = record { here = more (n_quot items place) nothing; around = [] }
+opened place items (ns ∷ nss) = record { here = more (n_quot items place) ns; around = nss }
+
+abbrev pub rests : List Element → Rests
+rests [] = record { here = nothing; around = [] }
+rests (element.Item t ∷ es) = let r = rests es in record r { here = more (node t) r.here }
+rests (element.Opens place ∷ es) = let r = rests es in opened place r.here r.around
+rests (element.Closes place ∷ es) = let r = rests es in record { here = nothing; around = r.here ∷ r.around }
+
+-- the items of elements whose brackets match
+abbrev pub nested : List Element → Nodes
+nested es = (rests es).here
+
+abbrev pub spellings : List Token → List (List ℕ)
+spellings ts = map (λ (t : Token). token_text t.kind) ts
+
+-- what is left: nothing where `*` is the only output, since the word never returns
+abbrev pub leaving_of : List (List ℕ) → Leaving
+leaving_of (n ∷ []) = (if bytes_eq n (codes "*") then never else leaves None (n ∷ []))
+leaving_of names = leaves None names
+
+-- the effect that is written
+abbrev pub effect_of : WrittenEffect → Signature
+effect_of e = signature None (plain_inputs (spellings e.ins)) (leaving_of (spellings e.outs))

@@ -1,0 +1,4 @@
+pub mod First
+pub mod Search
+pub mod Following
+pub mod Drafts
