@@ -1,12 +1,16 @@
 -- What a token is to the grammar, by how it is spelled.
 use Rattle.std.specs.List.{list_any}
-use Rattle.std.specs.Prelude.{◌≡◌, ℕ, ℤ, Bool, true, false, not, ◌&&◌, ◌||◌, List, [], ◌∷◌, Option, Some, None, is_some, codes, take, drop, length, ◌-◌, if◌then◌else◌}
-use Rattle.std.specs.Str.{bytes_eq}
+use Rattle.std.specs.Prelude.{◌≡◌, ℕ, ℤ, Bool, true, false, not, ◌&&◌, ◌||◌, List, [], ◌∷◌, Option, Some, None, is_some, nat_le, map, codes, take, drop, length, ◌-◌, if◌then◌else◌}
+use Rattle.std.specs.Str.{bytes_eq, chars}
+use Rattle.fac_lang.specs.declared.limits.TheConstants.{MOST_ELEMENTS}
 use Rattle.fac_lang.specs.Numbers.{signed_in, integer_in}
 use Rattle.fac_lang.specs.declared.token.TokKind.{TokKind}
 use Rattle.fac_lang.specs.declared.token.TokKind.TheVariants.{Plain, Str}
+use Rattle.fac_lang.specs.declared.tree.FormKind.TheVariants.{In, Use, Using, From, QualifiedWith, Defer, Symbol, Constant, Private, Public, Main, Define}
+use Rattle.fac_lang.specs.declared.tree.Key.TheVariants.{Arrow}
+use Rattle.fac_parse.specs.Rows.{head_of, key_text}
 use Rattle.fac_parse.specs.declared.spelling.Spelling.{Spelling}
-use Rattle.fac_parse.specs.declared.spelling.Spelling.TheVariants.{Using, Colon, Semi, Opens, Closes, OpensQuotation, ClosesQuotation, True, False, Inline, Recursive, Integer, Name, Other, Dashes}
+use Rattle.fac_parse.specs.declared.spelling.Spelling.TheVariants.{Begins, Fixed, Semi, Opens, Closes, OpensQuotation, ClosesQuotation, True, False, Inline, Recursive, Integer, String, Name, Other, Dashes}
 
 -- a text in one of the integer forms, in range or not
 unfoldable pub has_integer_form : List ℕ → Bool
@@ -42,22 +46,39 @@ is_left_out text =
 unfoldable pub is_reserved : List ℕ → Bool
 is_reserved text = is_reserved_sign text || is_reserved_form text || is_reserved_word text || is_left_out text
 
+-- a token that is of this text alone
+abbrev pub sign_text : Spelling → List ℕ
+sign_text (Begins kind) = head_of kind
+sign_text (Fixed key) = key_text key
+sign_text Semi = codes ";"
+sign_text Opens = codes "("
+sign_text Closes = codes ")"
+sign_text Dashes = codes "--"
+sign_text OpensQuotation = codes "["
+sign_text ClosesQuotation = codes "]"
+sign_text True = codes "t"
+sign_text False = codes "f"
+sign_text Inline = codes "inline"
+sign_text Recursive = codes "recursive"
+sign_text _ = []
+
 -- the tokens that forms are made of
-abbrev pub sign_spelling : List ℕ → Option Spelling
-sign_spelling text =
-    (if bytes_eq text (codes "USING:") then Some Using
-    else if bytes_eq text (codes ":") then Some Colon
-    else if bytes_eq text (codes ";") then Some Semi
-    else if bytes_eq text (codes "(") then Some Opens
-    else if bytes_eq text (codes ")") then Some Closes
-    else if bytes_eq text (codes "--") then Some Dashes
-    else if bytes_eq text (codes "[") then Some OpensQuotation
-    else if bytes_eq text (codes "]") then Some ClosesQuotation
-    else if bytes_eq text (codes "t") then Some True
-    else if bytes_eq text (codes "f") then Some False
-    else if bytes_eq text (codes "inline") then Some Inline
-    else if bytes_eq text (codes "recursive") then Some Recursive
-    else None)
+abbrev pub signs : List Spelling
+signs =
+    Begins In ∷ Begins Use ∷ Begins Using ∷ Begins From ∷ Begins QualifiedWith ∷ Begins Defer ∷ Begins Symbol ∷ Begins Constant ∷
+    Begins Private ∷ Begins Public ∷ Begins Main ∷ Begins Define ∷ Semi ∷ Opens ∷ Closes ∷ Dashes ∷ OpensQuotation ∷ ClosesQuotation ∷ True ∷ False ∷
+    Inline ∷ Recursive ∷ Fixed Arrow ∷ []
+
+-- the first of these that is of this text
+abbrev pub sign_among : List (List ℕ × Spelling) → List ℕ → Option Spelling
+sign_among [] text = None
+sign_among (s ∷ ss) text = (if bytes_eq text s.0 then Some s.1 else sign_among ss text)
+
+abbrev pub with_text : Spelling → List ℕ × Spelling
+with_text s = (sign_text s, s)
+
+unfoldable pub sign_spelling : List ℕ → Option Spelling
+sign_spelling text = sign_among (map with_text signs) text
 
 -- a token in no integer form
 unfoldable pub word_spelling : List ℕ → Spelling
@@ -77,17 +98,7 @@ LiteralsAreIntegers = (text : List ℕ) (z : ℤ) → (spelling_of text ≡ Inte
 
 abbrev pub token_spelling : TokKind → Spelling
 token_spelling (Plain text) = spelling_of text
-token_spelling (Str text) = Other
-
--- whether a token ends a definition's items
-abbrev pub is_semi : Spelling → Bool
-is_semi Semi = true
-is_semi _ = false
-
--- whether a token ends a quotation
-abbrev pub is_closing : Spelling → Bool
-is_closing ClosesQuotation = true
-is_closing _ = false
+token_spelling (Str text) = (if nat_le (length (chars text)) MOST_ELEMENTS then String else Other)
 
 -- Names in effects. One that begins with two dots is a row variable, and one that ends in a colon is followed by a class or an effect.
 abbrev pub is_row_name : List ℕ → Bool

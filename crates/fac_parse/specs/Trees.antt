@@ -1,5 +1,5 @@
 -- Trees, their tokens, and which trees are well-formed.
-use Rattle.std.specs.Prelude.{◌≡◌, ◌≤◌, ◌<◌, ◌+◌, ◌-◌, ◌⊎◌, ℕ, Option, Some, None, List, [], ◌∷◌, ◌++◌, length, true, codes, Result, Ok, Err}
+use Rattle.std.specs.Prelude.{◌≡◌, ◌≤◌, ◌<◌, ◌+◌, ◌⊎◌, ℕ, nat_lt, Option, Some, None, List, [], ◌∷◌, ◌++◌, length, take, true, codes, Result, Ok, Err, if◌then◌else◌}
 use Rattle.fac_lang.specs.declared.limits.TheConstants.{MOST_LEVELS, MOST_NAMES}
 use Rattle.fac_lang.specs.declared.phrase.Place.{Place}
 use Rattle.fac_lang.specs.declared.token.Token.{Token}
@@ -13,12 +13,21 @@ use Rattle.fac_lang.specs.declared.tree.Element.TheVariants as element
 use Rattle.fac_lang.specs.declared.tree.Mark.{Mark}
 use Rattle.fac_lang.specs.declared.tree.Mark.TheVariants.{Inline, Recursive}
 use Rattle.fac_lang.specs.declared.tree.Form.{Form}
-use Rattle.fac_lang.specs.declared.tree.Form.TheVariants.{Using, Define, Item, Quotation}
+use Rattle.fac_lang.specs.declared.tree.Form.TheVariants.{Row, Items}
+use Rattle.fac_lang.specs.declared.tree.Part.{Part}
+use Rattle.fac_lang.specs.declared.tree.Part.TheVariants as part
 use Rattle.fac_lang.specs.declared.tree.WrittenEffect.{WrittenEffect}
 use Rattle.fac_parse.specs.declared.spelling.Spelling.TheVariants as spelled
 use Rattle.fac_parse.specs.declared.reader.ParseFault.{ParseFault}
 use Rattle.fac_parse.specs.declared.reader.ParseFault.TheVariants.{Syntax, Memory}
-use Rattle.fac_parse.specs.declared.reader.Why.TheVariants.{Other}
+use Rattle.fac_parse.specs.declared.reader.Why.{Why}
+use Rattle.fac_parse.specs.declared.reader.Why.TheVariants.{End, Other}
+use Rattle.fac_parse.specs.declared.context.Bracket.{Bracket}
+use Rattle.fac_parse.specs.declared.context.Bracket.TheVariants.{Quotation}
+use Rattle.fac_parse.specs.declared.context.Context.{Context}
+use Rattle.fac_parse.specs.declared.rows.Slot.{Slot}
+use Rattle.fac_parse.specs.declared.rows.Slot.TheVariants as slot
+use Rattle.fac_parse.specs.Rows.{head_of, slots_of, key_text}
 use Rattle.fac_parse.specs.Spellings.{token_spelling, is_value_name}
 
 -- a plain token at a place
@@ -28,6 +37,7 @@ plain_token place text = record { place = place; kind = Plain text }
 abbrev pub term_tokens : Term → List Token
 term_tokens (term.Name token) = token ∷ []
 term_tokens (term.Integer token value) = token ∷ []
+term_tokens (term.Text token) = token ∷ []
 term_tokens (term.True place) = plain_token place (codes "t") ∷ []
 term_tokens (term.False place) = plain_token place (codes "f") ∷ []
 
@@ -41,19 +51,35 @@ abbrev pub items_tokens : List Element → List Token
 items_tokens [] = []
 items_tokens (element ∷ elements) = element_tokens element ++ items_tokens elements
 
-abbrev pub mark_tokens : Option Mark → List Token
-mark_tokens None = []
-mark_tokens (Some (Inline place)) = plain_token place (codes "inline") ∷ []
-mark_tokens (Some (Recursive place)) = plain_token place (codes "recursive") ∷ []
+abbrev pub mark_token : Mark → Token
+mark_token (Inline place) = plain_token place (codes "inline")
+mark_token (Recursive place) = plain_token place (codes "recursive")
+
+-- the tokens of marks, in order
+abbrev pub marks_tokens : List Mark → List Token
+marks_tokens [] = []
+marks_tokens (mark ∷ marks) = mark_token mark ∷ marks_tokens marks
 
 abbrev pub effect_tokens : WrittenEffect → List Token
 effect_tokens e = plain_token e.opens (codes "(") ∷ e.ins ++ plain_token e.dashes (codes "--") ∷ e.outs ++ plain_token e.closes (codes ")") ∷ []
 
+abbrev pub part_tokens : Part → List Token
+part_tokens (part.Name name) = name ∷ []
+part_tokens (part.Names names ends) = names ++ plain_token ends (codes ";") ∷ []
+part_tokens (part.Fixed key place) = plain_token place (key_text key) ∷ []
+part_tokens (part.Effect effect) = effect_tokens effect
+part_tokens (part.Items elements ends) = items_tokens elements ++ plain_token ends (codes ";") ∷ []
+part_tokens (part.Literal elements) = items_tokens elements
+part_tokens (part.Marks marks) = marks_tokens marks
+
+-- the tokens of parts, in order
+abbrev pub parts_tokens : List Part → List Token
+parts_tokens [] = []
+parts_tokens (p ∷ ps) = part_tokens p ++ parts_tokens ps
+
 abbrev pub form_tokens : Form → List Token
-form_tokens (Using opens vocabs closes) = plain_token opens (codes "USING:") ∷ vocabs ++ plain_token closes (codes ";") ∷ []
-form_tokens (Define opens name effect items closes mark) = plain_token opens (codes ":") ∷ name ∷ effect_tokens effect ++ items_tokens items ++ plain_token closes (codes ";") ∷ mark_tokens mark
-form_tokens (Item item) = term_tokens item
-form_tokens (Quotation opens items closes) = plain_token opens (codes "[") ∷ items_tokens items ++ plain_token closes (codes "]") ∷ []
+form_tokens (Row kind opens parts) = plain_token opens (head_of kind) ∷ parts_tokens parts
+form_tokens (Items elements) = items_tokens elements
 
 -- the tokens of the forms, in order
 abbrev pub flatten : List Form → List Token
@@ -67,33 +93,44 @@ AreNames (token ∷ tokens) = (token_spelling token.kind ≡ spelled.Name) × Ar
 abbrev pub IsTerm : Term → Type 0
 IsTerm (term.Name token) = token_spelling token.kind ≡ spelled.Name
 IsTerm (term.Integer token value) = token_spelling token.kind ≡ spelled.Integer value
+IsTerm (term.Text token) = token_spelling token.kind ≡ spelled.String
 IsTerm (term.True place) = Unit {0}
 IsTerm (term.False place) = Unit {0}
 
--- Quotations nest at most so deep.
+abbrev pub IsElement : Element → Type 0
+IsElement (element.Item item) = IsTerm item
+IsElement _ = Unit {0}
+
+-- Brackets nest at most so deep.
 abbrev pub most_levels : ℕ
 most_levels = MOST_LEVELS
 
--- whether an element may stand where `depth` quotations are open, of which there may be `most`
-abbrev pub MayStand : ℕ → ℕ → Element → Type 0
-MayStand most depth (element.Item item) = IsTerm item
-MayStand most depth (element.Opens place) = depth < most
-MayStand most depth (element.Closes place) = 0 < depth
+-- what is open behind a bracket that opens
+abbrev pub opened : Bracket → List Context → Option (List Context)
+opened bracket contexts = (if nat_lt (length contexts) most_levels then Some (record { bracket = bracket } ∷ contexts) else None)
 
--- the number of open quotations behind an element
-abbrev pub depth_behind : ℕ → Element → ℕ
-depth_behind depth (element.Item item) = depth
-depth_behind depth (element.Opens place) = depth + 1
-depth_behind depth (element.Closes place) = depth - 1
+abbrev pub if_quotation : Bracket → List Context → Option (List Context)
+if_quotation Quotation contexts = Some contexts
 
--- each of these elements may stand where it does, with so many quotations open before them and so many behind
-abbrev pub Lead : ℕ → ℕ → List Element → ℕ → Type 0
-Lead most depth [] last = depth ≡ last
-Lead most depth (element ∷ elements) last = MayStand most depth element × Lead most (depth_behind depth element) elements last
+-- what is open behind a `]`, which closes the innermost pair
+abbrev pub quotation_closed : List Context → Option (List Context)
+quotation_closed [] = None
+quotation_closed (c ∷ contexts) = if_quotation c.bracket contexts
 
--- items whose brackets match, with at most so many quotations in one another
-abbrev pub AreItems : ℕ → List Element → Type 0
-AreItems most elements = Lead most 0 elements 0
+-- What is open behind an element, the innermost first, where this is open before it. None where the element may not stand.
+abbrev pub behind : List Context → Element → Option (List Context)
+behind contexts (element.Item item) = Some contexts
+behind contexts (element.Opens place) = opened Quotation contexts
+behind contexts (element.Closes place) = quotation_closed contexts
+
+-- each of these elements may stand where it does, from where this is open to where that is
+abbrev pub Lead : List Context → List Element → List Context → Type 0
+Lead from [] to = from ≡ to
+Lead from (element ∷ elements) to = IsElement element × (next : List Context) × (behind from element ≡ Some next) × Lead next elements to
+
+-- items whose brackets match
+abbrev pub AreItems : List Element → Type 0
+AreItems elements = Lead [] elements []
 
 -- a token's spelling, or a string's content
 abbrev pub token_text : TokKind → List ℕ
@@ -114,20 +151,99 @@ pub record IsEffect (effect : WrittenEffect) : Type 0 where
   pub outs : AreValueNames effect.outs
   pub few : length effect.ins + length effect.outs ≤ most_names
 
+abbrev pub IsLiteralTerm : Term → Type 0
+IsLiteralTerm (term.Name token) = ⊥
+IsLiteralTerm item = IsTerm item
+
+-- Elements up to the one that closes the outermost of these brackets. Something is open before each of them.
+abbrev pub Encloses : List Context → List Element → Type 0
+Encloses [] [] = Unit {0}
+Encloses (c ∷ contexts) (element ∷ elements) = IsElement element × (next : List Context) × (behind (c ∷ contexts) element ≡ Some next) × Encloses next elements
+Encloses _ _ = ⊥
+
+-- one item that is a literal
+abbrev pub IsLiteral : List Element → Type 0
+IsLiteral (element.Item item ∷ []) = IsLiteralTerm item
+IsLiteral (element.Opens place ∷ elements) = Encloses (record { bracket = Quotation } ∷ []) elements
+IsLiteral _ = ⊥
+
+-- Marks of one definition. Both together would make a row word.
+abbrev pub AreMarks : List Mark → Type 0
+AreMarks [] = Unit {0}
+AreMarks (mark ∷ []) = Unit {0}
+AreMarks _ = ⊥
+
+-- whether a part fills a slot
+abbrev pub Fills : Slot → Part → Type 0
+Fills slot.Name (part.Name name) = token_spelling name.kind ≡ spelled.Name
+Fills slot.Names (part.Names names ends) = AreNames names
+Fills (slot.Fixed key) (part.Fixed other place) = key ≡ other
+Fills slot.Effect (part.Effect effect) = IsEffect effect
+Fills slot.Items (part.Items elements ends) = AreItems elements
+Fills slot.Literal (part.Literal elements) = IsLiteral elements
+Fills slot.Marks (part.Marks marks) = AreMarks marks
+Fills _ _ = ⊥
+
+-- these parts fill these slots, one each
+abbrev pub FillAll : List Slot → List Part → Type 0
+FillAll [] [] = Unit {0}
+FillAll (s ∷ ss) (p ∷ ps) = Fills s p × FillAll ss ps
+FillAll _ _ = ⊥
+
+-- a run of items has at least one
+abbrev pub AreSome : List Element → Type 0
+AreSome [] = ⊥
+AreSome (element ∷ elements) = Unit {0}
+
 abbrev pub IsForm : Form → Type 0
-IsForm (Using opens vocabs closes) = AreNames vocabs
-IsForm (Define opens name effect items closes mark) = (token_spelling name.kind ≡ spelled.Name) × IsEffect effect × AreItems most_levels items
-IsForm (Item item) = IsTerm item
-IsForm (Quotation opens items closes) = AreItems (most_levels - 1) items
+IsForm (Row kind opens parts) = FillAll (slots_of kind) parts
+IsForm (Items elements) = AreSome elements × AreItems elements
+
+-- no two runs of items stand beside one another
+abbrev pub MayStandBefore : Form → List Form → Type 0
+MayStandBefore (Items elements) (Items others ∷ forms) = ⊥
+MayStandBefore _ _ = Unit {0}
 
 abbrev pub IsWellFormed : List Form → Type 0
 IsWellFormed [] = Unit {0}
-IsWellFormed (form ∷ forms) = IsForm form × IsWellFormed forms
+IsWellFormed (form ∷ forms) = IsForm form × MayStandBefore form forms × IsWellFormed forms
+
+-- the forms of each of these trees
+abbrev pub forms_of : List Tree → List (List Form)
+forms_of [] = []
+forms_of (tree ∷ trees) = tree.forms ∷ forms_of trees
+
+-- the forms of several files
+abbrev pub AreWellFormed : List (List Form) → Type 0
+AreWellFormed [] = Unit {0}
+AreWellFormed (forms ∷ files) = IsWellFormed forms × AreWellFormed files
 
 -- these are the tokens of this tree
 pub record Reads (tokens : List Token) (forms : List Form) : Type 0 where
   pub fits : IsWellFormed forms
   pub spelled : flatten forms ≡ tokens
+
+-- some tree begins with these tokens
+pub record Begins (tokens : List Token) : Type 0 where
+  pub forms : List Form
+  pub rest : List Token
+  pub reads : Reads (tokens ++ rest) forms
+
+-- no tree has these tokens, and the first n are the most of them that begin one
+pub record Refused (tokens : List Token) (n : ℕ) : Type 0 where
+  pub no_tree : (forms : List Form) → Reads tokens forms → ⊥
+  pub within : n ≤ length tokens
+  pub begins : Begins (take n tokens)
+  pub longest : (m : ℕ) → n < m → m ≤ length tokens → Begins (take m tokens) → ⊥
+
+-- the tokens end too early where all of them begin a tree
+abbrev pub RefusedFor : List Token → ℕ → Why → Type 0
+RefusedFor tokens n End = Refused tokens n × (n ≡ length tokens)
+RefusedFor tokens n Other = Refused tokens n × (n < length tokens)
+
+-- no tree has these tokens, which is told with the number of the token behind those that begin a tree
+abbrev pub Misses : List Token → ℕ → Why → Type 0
+Misses tokens at why = (n : ℕ) × (at ≡ n + 1) × RefusedFor tokens n why
 
 -- the file of the first token
 abbrev pub file_of : List Token → ℕ
@@ -137,7 +253,7 @@ file_of (token ∷ tokens) = token.place.file
 -- the tree of these tokens, or that no tree has them
 abbrev pub Parses : List Token → Result Tree ParseFault → Type 0
 Parses tokens (Ok tree) = Reads tokens tree.forms × (tree.file ≡ file_of tokens)
-Parses tokens (Err (Syntax at why)) = (at ≡ 0) × (why ≡ Other) × ((forms : List Form) → Reads tokens forms → ⊥)
+Parses tokens (Err (Syntax at why)) = Misses tokens at why
 Parses tokens (Err Memory) = Unit {0}
 
 -- no two trees have the same tokens
@@ -147,3 +263,11 @@ OneTree = (forms others : List Form) → IsWellFormed forms → IsWellFormed oth
 -- tokens are those of a tree, or of none
 abbrev pub TreeOrNone : Type 0
 TreeOrNone = (tokens : List Token) → ((forms : List Form) × Reads tokens forms) ⊎ ((forms : List Form) → Reads tokens forms → ⊥)
+
+-- the place that is told, and what is wrong there, are the tokens' alone
+abbrev pub OnePlace : Type 0
+OnePlace = (tokens : List Token) (at other : ℕ) (why reason : Why) → Misses tokens at why → Misses tokens other reason → (at ≡ other) × (why ≡ reason)
+
+-- tokens of no tree are refused at some place
+abbrev pub SomePlace : Type 0
+SomePlace = (tokens : List Token) → ((forms : List Form) → Reads tokens forms → ⊥) → (at : ℕ) × (why : Why) × Misses tokens at why

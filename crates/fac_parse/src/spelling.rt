@@ -1,20 +1,13 @@
 //! What a token is to the grammar.
-ghost use Rattle.std.specs.Prelude.{◌≡◌, codes, map};
-ghost use Rattle.std.specs.List.{list_any};
-ghost use Rattle.std.specs.Str.{bytes_eq};
-ghost use Rattle.fac_parse.specs.Spellings.{is_reserved_sign, is_reserved_form, is_reserved_word, is_left_out, is_reserved, word_spelling, spelling_of, token_spelling, is_semi, is_closing, is_row_name, is_described_name, is_value_name};
-ghost use Rattle.fac_parse.specs.Trees.{token_text};
-
-use fac_lang::{TokKind, Token};
-use fac_num::{NumFault, read_int};
+use fac_lang::{FormKind, Key};
 
 /// What a token is to the grammar, by how it is spelled.
 #[derive(Clone, Copy, Debug)]
 pub enum Spelling {
-    /// `USING:`
-    Using,
-    /// `:`
-    Colon,
+    /// The first token of a row.
+    Begins(FormKind),
+    /// A token at a fixed place of a row.
+    Fixed(Key),
     /// `;`
     Semi,
     /// `(`
@@ -37,194 +30,11 @@ pub enum Spelling {
     Recursive,
     /// A token in one of the integer forms, in range.
     Integer(i128),
+    /// A string of at most 1,000,000 characters.
+    String,
     /// A plain token that is in no integer form and isn't reserved.
     Name,
-    /// A token that stands nowhere: a string, an integer that is too wide, or a reserved token of a form that isn't read.
+    /// A token that stands nowhere: a longer string, an integer that is too wide, or a reserved token of a form that isn't read.
     Other,
 }
 
-// Signs that are never names.
-#[rattlefmt::skip]
-static SIGNS: [&str; 20] = [
-    ";", "[", "]", "{", "}", "(", ")", "--", "|", "=>",
-    ":", "::", ":>", "\\", "t", "f", "_", "@", "[|", "'[",
-];
-
-// Words that begin forms, and the like.
-#[rattlefmt::skip]
-static FORMS: [&str; 17] = [
-    "IN:", "USE:", "USING:", "FROM:", "QUALIFIED-WITH:", "DEFER:", "SYMBOL:", "MAIN:", "<PRIVATE",
-    "PRIVATE>", "CONSTANT:", "TUPLE:", "UNION:", "SINGLETON:", "C:", "GENERIC:", "M:",
-];
-
-// Words that stand behind definitions, or are followed by an effect.
-#[rattlefmt::skip]
-static MARKS: [&str; 7] = [
-    "inline", "recursive", "call(", "execute(", "call-next-method", "foldable", "flushable",
-];
-
-// What Factor has and this profile leaves out.
-#[rattlefmt::skip]
-static LEFT_OUT: [&str; 26] = [
-    "SYNTAX:", "MACRO:", "MACRO::", "MEMO:", "MEMO::", "PREDICATE:", "MIXIN:", "INSTANCE:", "GENERIC#:",
-    "HOOK:", "MATH:", "ERROR:", "ALIAS:", "SYMBOLS:", "SINGLETONS:", "QUALIFIED:", "EXCLUDE:", "RENAME:",
-    "POSTPONE:", "M::", "[let", "V{", "H{", "T{", "CHAR:", "#!",
-];
-
-// Whether a text is one of these.
-fn is_one_of(text: &str, table: &[&str]) -> bool
-    ensures { result ≡ list_any (bytes_eq text.now) (map (λ entry. entry.now) table.now) }
-{
-    for entry in table {
-        if text == *entry {
-            return true;
-        }
-    }
-    false
-}
-
-#[tactic(auto, unfolding(crate::specs::Spellings::is_reserved_sign))]
-fn is_sign(text: &str) -> bool
-    ensures { result ≡ is_reserved_sign text.now }
-{
-    is_one_of(text, &SIGNS)
-}
-
-#[tactic(auto, unfolding(crate::specs::Spellings::is_reserved_form))]
-fn is_form(text: &str) -> bool
-    ensures { result ≡ is_reserved_form text.now }
-{
-    is_one_of(text, &FORMS)
-}
-
-#[tactic(auto, unfolding(crate::specs::Spellings::is_reserved_word))]
-fn is_mark(text: &str) -> bool
-    ensures { result ≡ is_reserved_word text.now }
-{
-    is_one_of(text, &MARKS)
-}
-
-#[tactic(auto, unfolding(crate::specs::Spellings::is_left_out))]
-fn is_absent(text: &str) -> bool
-    ensures { result ≡ is_left_out text.now }
-{
-    is_one_of(text, &LEFT_OUT)
-}
-
-#[tactic(auto, unfolding(crate::specs::Spellings::is_reserved))]
-fn reserved(text: &str) -> bool
-    ensures { result ≡ is_reserved text.now }
-{
-    is_sign(text) || is_form(text) || is_mark(text) || is_absent(text)
-}
-
-#[tactic(auto, unfolding(crate::specs::Spellings::word_spelling))]
-fn spelled_word(text: &str) -> Spelling
-    ensures { result ≡ word_spelling text.now }
-{
-    match text {
-        "USING:" => Spelling::Using,
-        ":" => Spelling::Colon,
-        ";" => Spelling::Semi,
-        "(" => Spelling::Opens,
-        ")" => Spelling::Closes,
-        "--" => Spelling::Dashes,
-        "[" => Spelling::OpensQuotation,
-        "]" => Spelling::ClosesQuotation,
-        "t" => Spelling::True,
-        "f" => Spelling::False,
-        "inline" => Spelling::Inline,
-        "recursive" => Spelling::Recursive,
-        _ => {
-            if reserved(text) {
-                Spelling::Other
-            } else {
-                Spelling::Name
-            }
-        }
-    }
-}
-
-#[tactic(auto, unfolding(crate::specs::Spellings::spelling_of, crate::specs::Spellings::has_integer_form))]
-fn spelled(text: &str) -> Spelling
-    ensures { result ≡ spelling_of text.now }
-{
-    match read_int(text) {
-        Ok(value) => Spelling::Integer(value),
-        Err(NumFault::TooWide) => Spelling::Other,
-        Err(NumFault::NotNumber) => spelled_word(text),
-    }
-}
-
-/// What a token is.
-pub fn classify(kind: &TokKind) -> Spelling
-    ensures { result ≡ token_spelling kind.now }
-{
-    match kind {
-        TokKind::Plain(text) => spelled(text.as_str()),
-        TokKind::Str(_) => Spelling::Other,
-    }
-}
-
-/// Whether a token is `;`.
-pub fn is_semicolon(spelling: Spelling) -> bool
-    ensures { result ≡ is_semi spelling }
-{
-    match spelling {
-        Spelling::Semi => true,
-        _ => false,
-    }
-}
-
-/// Whether a token is `]`.
-pub fn closes_quotation(spelling: Spelling) -> bool
-    ensures { result ≡ is_closing spelling }
-{
-    match spelling {
-        Spelling::ClosesQuotation => true,
-        _ => false,
-    }
-}
-
-/// A token's spelling, or a string's content.
-pub fn text(kind: &TokKind) -> &str
-    ensures { result.now ≡ token_text kind.now }
-{
-    match kind {
-        TokKind::Plain(text) => text.as_str(),
-        TokKind::Str(text) => text.as_str(),
-    }
-}
-
-fn begins_with_dots(text: &str) -> bool
-    ensures { result ≡ is_row_name text.now }
-{
-    text.as_bytes().starts_with(b"..".as_slice())
-}
-
-fn ends_with_colon(text: &str) -> bool
-    ensures { result ≡ is_described_name text.now }
-{
-    text.as_bytes().ends_with(b":".as_slice())
-}
-
-#[tactic(auto, unfolding(crate::specs::Spellings::is_value_name))]
-fn counts_a_value(text: &str) -> bool
-    ensures { result ≡ is_value_name text.now }
-{
-    !begins_with_dots(text) && !ends_with_colon(text)
-}
-
-/// Whether the name of a token only counts a value in an effect. Others begin with two dots, or end in a colon.
-pub fn names_a_value(token: &Token) -> bool
-    ensures { result ≡ is_value_name (token_text token.now.kind) }
-{
-    counts_a_value(text(&token.kind))
-}
-
-/// Whether a token is `*`.
-pub fn is_asterisk(token: &Token) -> bool
-    ensures { result ≡ bytes_eq (token_text token.now.kind) (codes "*") }
-{
-    text(&token.kind) == "*"
-}

@@ -3,12 +3,12 @@ ghost use Rattle.std.specs.Prelude.{IfOk};
 ghost use Rattle.fac_check.specs.Judged.{StandsForBuilt};
 ghost use Rattle.fac_lang.specs.Forms.{IsBuilt};
 ghost use Rattle.fac_lang.specs.Whole.{IsWhole};
-ghost use Rattle.fac_parse.specs.Trees.{IsWellFormed};
+ghost use Rattle.fac_parse.specs.Trees.{IsWellFormed, forms_of, AreWellFormed};
 
 use fac_check::{CheckFault, Rule, check};
 use fac_code::{Action, Image, Instr};
 use fac_emit::compile;
-use fac_lang::{Duplicate, Program, Tree};
+use fac_lang::{Duplicate, List, Program, Tree};
 use fac_locals::{Closed, close};
 use fac_parse::{parse, resolve};
 use fac_token::tokens;
@@ -23,12 +23,22 @@ fn tree_of(alloc: Global, text: &str) -> Result<Tree, Fail>
     Ok(tree.copy(alloc)?)
 }
 
-// A copy of the program of a tree.
-fn program_of(alloc: Global, tree: &Tree) -> Result<Program, Fail>
-    requires { IsWellFormed tree.now.forms }
+// The trees of one text.
+fn trees_of(alloc: Global, text: &str) -> Result<List<Tree>, Fail>
+    ensures { IfOk result (λ trees. AreWellFormed (forms_of trees)) }
+{
+    let tree = tree_of(alloc, text)?;
+    let mut trees = List::new(alloc);
+    trees.push(tree)?;
+    Ok(trees)
+}
+
+// A copy of the program of trees.
+fn program_of(alloc: Global, trees: &List<Tree>) -> Result<Program, Fail>
+    requires { AreWellFormed (forms_of trees.now) }
     ensures { IfOk result (λ program. IsBuilt program × IsWhole program) }
 {
-    let program = resolve(alloc, tree)?;
+    let program = resolve(alloc, trees)?;
     Ok(program.copy(alloc)?)
 }
 
@@ -36,7 +46,7 @@ fn program_of(alloc: Global, tree: &Tree) -> Result<Program, Fail>
 fn closed_text(alloc: Global, text: &str) -> Result<Closed, Fail>
     ensures { IfOk result (λ closed. StandsForBuilt closed) }
 {
-    let program = program_of(alloc, &tree_of(alloc, text)?)?;
+    let program = program_of(alloc, &trees_of(alloc, text)?)?;
     Ok(close(alloc, program, 0)?)
 }
 

@@ -1,5 +1,0 @@
--- What only the contracts of inner functions cite.
-pub mod Reader
-pub mod KnownNames
-pub mod Resolver
-pub mod PlainEffects

@@ -1,6 +1,0 @@
--- Inputs of an effect that are plain values.
-use Rattle.std.specs.Prelude.{ℕ, List, None}
-use Rattle.fac_lang.specs.declared.effect.Input.{Input}
-
-abbrev pub plain_input : List ℕ → Input
-plain_input name = record { name = name; quot = None }
