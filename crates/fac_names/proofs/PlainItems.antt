@@ -35,6 +35,7 @@ read_open is_cond p items (ns ∷ nss) h k =
 read_item : (is_cond : List ℕ → Bool) (t : Term) (ns : Nodes) → read_items is_cond [] ns ≡ ns → read_items is_cond [] (more (node t) ns) ≡ more (node t) ns
 read_item is_cond (term.Name t) ns h = ap (more (node (term.Name t))) h
 read_item is_cond (term.Integer t value) ns h = ap (more (node (term.Integer t value))) h
+read_item is_cond (term.Text t) ns h = ap (more (node (term.Text t))) h
 read_item is_cond (term.True place) ns h = ap (more (node (term.True place))) h
 read_item is_cond (term.False place) ns h = ap (more (node (term.False place))) h
 
@@ -69,6 +70,7 @@ phrase_alike : (s : Scope) (arrays : List (List Lit)) (holes : ℕ) (es : List E
 phrase_alike s arrays holes [] = record { here = refl; around = refl }
 phrase_alike s arrays holes (element.Item (term.Name t) ∷ es) = let h = phrase_alike s arrays holes es in record { here = ap (λ (m : Made). made m.arrays m.holes (then (what_item (term_what s (term.Name t))) t.place m.phrase)) h.here; around = h.around }
 phrase_alike s arrays holes (element.Item (term.Integer t value) ∷ es) = let h = phrase_alike s arrays holes es in record { here = ap (λ (m : Made). made m.arrays m.holes (then (what_item (term_what s (term.Integer t value))) t.place m.phrase)) h.here; around = h.around }
+phrase_alike s arrays holes (element.Item (term.Text t) ∷ es) = let h = phrase_alike s arrays holes es in record { here = ap (λ (m : Made). made m.arrays m.holes (then (what_item (term_what s (term.Text t))) t.place m.phrase)) h.here; around = h.around }
 phrase_alike s arrays holes (element.Item (term.True place) ∷ es) = let h = phrase_alike s arrays holes es in record { here = ap (λ (m : Made). made m.arrays m.holes (then (what_item (term_what s (term.True place))) place m.phrase)) h.here; around = h.around }
 phrase_alike s arrays holes (element.Item (term.False place) ∷ es) = let h = phrase_alike s arrays holes es in record { here = ap (λ (m : Made). made m.arrays m.holes (then (what_item (term_what s (term.False place))) place m.phrase)) h.here; around = h.around }
 phrase_alike s arrays holes (element.Opens place ∷ es) = let h = phrase_alike s arrays holes es in phrase_open s arrays holes place (rests es).here (following s es).here (rests es).around (following s es).around h.here h.around
@@ -89,6 +91,7 @@ faults_alike : (s : Scope) (es : List Element) → items_faults s [] (rests es).
 faults_alike s [] = refl
 faults_alike s (element.Item (term.Name t) ∷ es) = append_assoc (term_faults s (term.Name t)) (items_faults s [] (rests es).here) (around_faults s (rests es).around) ∙ ap (λ (fs : List NameFault). term_faults s (term.Name t) ++ fs) (faults_alike s es)
 faults_alike s (element.Item (term.Integer t value) ∷ es) = faults_alike s es
+faults_alike s (element.Item (term.Text t) ∷ es) = faults_alike s es
 faults_alike s (element.Item (term.True place) ∷ es) = faults_alike s es
 faults_alike s (element.Item (term.False place) ∷ es) = faults_alike s es
 faults_alike s (element.Opens place ∷ es) = faults_open s place (rests es).here (rests es).around ∙ faults_alike s es

@@ -3,16 +3,24 @@ use Rattle.std.specs.Prelude.{ℕ, List, [], ◌∷◌, map, None, codes, Bool, 
 use Rattle.std.specs.Str.{bytes_eq}
 use Rattle.fac_lang.specs.PrimitiveWords.{plain_inputs}
 use Rattle.fac_lang.specs.Signatures.{Signature, signature, Leaving, never, leaves}
-use Rattle.fac_lang.specs.Phrases.{int, yes, no}
+use Rattle.fac_lang.specs.Phrases.{int, yes, no, str}
 use Rattle.fac_lang.specs.declared.phrase.Place.{Place}
 use Rattle.fac_lang.specs.declared.token.Token.{Token}
 use Rattle.fac_lang.specs.declared.tree.Element.{Element}
 use Rattle.fac_lang.specs.declared.tree.Element.TheVariants as element
+use Rattle.fac_lang.specs.declared.tree.Form.{Form as Flat}
+use Rattle.fac_lang.specs.declared.tree.Form.TheVariants.{Row, Items}
+use Rattle.fac_lang.specs.declared.tree.FormKind.{FormKind}
+use Rattle.fac_lang.specs.declared.tree.FormKind.TheVariants.{In, Use, Using, From, QualifiedWith, Defer, Symbol, Constant, Private, Public, Main, Define}
+use Rattle.fac_lang.specs.declared.tree.Mark.{Mark}
+use Rattle.fac_lang.specs.declared.tree.Mark.TheVariants.{Inline, Recursive}
+use Rattle.fac_lang.specs.declared.tree.Part.{Part}
+use Rattle.fac_lang.specs.declared.tree.Part.TheVariants as part
 use Rattle.fac_lang.specs.declared.tree.Term.{Term}
 use Rattle.fac_lang.specs.declared.tree.Term.TheVariants as term
 use Rattle.fac_lang.specs.declared.tree.WrittenEffect.{WrittenEffect}
 use Rattle.fac_parse.specs.Trees.{token_text}
-use Rattle.fac_names.specs.Written.{Tok, Node, n_lit, n_name, n_quot, Nodes, nothing, more}
+use Rattle.fac_names.specs.Written.{Tok, Node, n_lit, n_name, n_quot, n_part, Nodes, nothing, more, given, Form, f_in, f_use, f_using, f_from, f_qualified, f_private, f_public, f_defer, f_symbol, f_constant, f_main, f_define, f_items}
 
 abbrev pub tok : Token → Tok
 tok t = record { text = token_text t.kind; place = t.place }
@@ -20,6 +28,7 @@ tok t = record { text = token_text t.kind; place = t.place }
 abbrev pub node : Term → Node
 node (term.Name t) = n_name (tok t) t.place
 node (term.Integer t value) = n_lit (int value) t.place
+node (term.Text t) = n_lit (str (token_text t.kind)) t.place
 node (term.True place) = n_lit yes place
 node (term.False place) = n_lit no place
 
@@ -54,3 +63,38 @@ leaving_of names = leaves None names
 -- the effect that is written
 abbrev pub effect_of : WrittenEffect → Signature
 effect_of e = signature None (plain_inputs (spellings e.ins)) (leaving_of (spellings e.outs))
+
+abbrev pub is_inline : List Mark → Bool
+is_inline [] = false
+is_inline (Inline place ∷ marks) = true
+is_inline (Recursive place ∷ marks) = is_inline marks
+
+abbrev pub is_recursive : List Mark → Bool
+is_recursive [] = false
+is_recursive (Inline place ∷ marks) = is_recursive marks
+is_recursive (Recursive place ∷ marks) = true
+
+-- the first of some items
+abbrev pub first_node : Nodes → Node
+first_node nothing = n_part nothing
+first_node (more n ns) = n
+
+-- a row, which comes to nothing where its parts don't fill its slots
+abbrev pub row : FormKind → List Part → Form
+row In (part.Name v ∷ []) = f_in (tok v)
+row Use (part.Name v ∷ []) = f_use (tok v)
+row Using (part.Names vs ends ∷ []) = f_using (map tok vs)
+row From (part.Name v ∷ part.Fixed key place ∷ part.Names ns ends ∷ []) = f_from (tok v) (map tok ns)
+row QualifiedWith (part.Name v ∷ part.Name p ∷ []) = f_qualified (tok v) (tok p)
+row Defer (part.Name n ∷ []) = f_defer (tok n)
+row Symbol (part.Name n ∷ []) = f_symbol (tok n)
+row Constant (part.Name n ∷ part.Literal es ∷ []) = f_constant (tok n) (first_node (nested es))
+row Private [] = f_private
+row Public [] = f_public
+row Main (part.Name n ∷ []) = f_main (tok n)
+row Define (part.Name n ∷ part.Effect e ∷ part.Items es ends ∷ part.Marks ms ∷ []) = f_define (tok n) (given (effect_of e)) (nested es) (is_inline ms) (is_recursive ms)
+row _ _ = f_items nothing
+
+abbrev pub form : Flat → Form
+form (Row kind opens parts) = row kind parts
+form (Items es) = f_items (nested es)

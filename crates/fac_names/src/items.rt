@@ -6,7 +6,8 @@ ghost use Rattle.fac_names.specs.inner.Following.{AreClosing, Closes, IsClosable
 
 use crate::refusal::NameFault;
 use crate::search::word_of;
-use fac_lang::{Element, Item, Memory, Phrase, Place, Term, What};
+use crate::spelling::text;
+use fac_lang::{Element, Item, Memory, Phrase, Place, Term, Text, What};
 use fac_vocab::Scope;
 use std::alloc::Global;
 
@@ -37,6 +38,11 @@ fn take_term(
         Term::Name(token) => {
             let number = word_of(alloc, scope, first, token)?;
             add_item(items, What::Word(number), token.place)?;
+            Ok(())
+        }
+        Term::Text(token) => {
+            let content = Text::from_str(alloc, text(&token.kind))?;
+            add_item(items, What::Str(content), token.place)?;
             Ok(())
         }
         Term::True(place) => {

@@ -6,11 +6,12 @@ use Rattle.fac_lang.specs.declared.memory.Memory.{Memory}
 use Rattle.fac_lang.specs.declared.phrase.Item.{Item as PlacedItem}
 use Rattle.fac_lang.specs.declared.phrase.Place.{Place}
 use Rattle.fac_lang.specs.declared.phrase.What.{What}
-use Rattle.fac_lang.specs.declared.phrase.What.TheVariants.{Int, True, False, Quot, Word}
+use Rattle.fac_lang.specs.declared.phrase.What.TheVariants.{Int, True, False, Str, Quot, Word}
 use Rattle.fac_lang.specs.declared.tree.Element.{Element}
 use Rattle.fac_lang.specs.declared.tree.Element.TheVariants as element
 use Rattle.fac_lang.specs.declared.tree.Term.{Term}
 use Rattle.fac_lang.specs.declared.tree.Term.TheVariants as term
+use Rattle.fac_parse.specs.Trees.{token_text}
 use Rattle.fac_vocab.specs.Scopes.{Scope}
 use Rattle.fac_names.specs.declared.items.OpenQuotation.{OpenQuotation}
 use Rattle.fac_names.specs.declared.items.Nest.{Nest}
@@ -22,12 +23,14 @@ use Rattle.fac_names.specs.Items.{word_of, search_fault, sooner}
 abbrev pub term_what : Scope → Term → What
 term_what s (term.Name t) = Word (word_of s (tok t))
 term_what s (term.Integer t value) = Int value
+term_what s (term.Text t) = Str (token_text t.kind)
 term_what s (term.True place) = True
 term_what s (term.False place) = False
 
 abbrev pub term_place : Term → Place
 term_place (term.Name t) = t.place
 term_place (term.Integer t value) = t.place
+term_place (term.Text t) = t.place
 term_place (term.True place) = place
 term_place (term.False place) = place
 
@@ -57,6 +60,7 @@ elements_phrase s es = (following s es).here
 abbrev pub term_faults : Scope → Term → List NameFault
 term_faults s (term.Name t) = search_fault s (tok t)
 term_faults s (term.Integer t value) = []
+term_faults s (term.Text t) = []
 term_faults s (term.True place) = []
 term_faults s (term.False place) = []
 
