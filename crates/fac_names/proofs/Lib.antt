@@ -5,3 +5,4 @@ pub mod SearchLemmas
 pub mod ItemLemmas
 pub mod PlainItems
 pub mod DraftLemmas
+pub mod NamingLemmas

@@ -2,3 +2,4 @@ pub mod First
 pub mod Search
 pub mod Following
 pub mod Drafts
+pub mod State

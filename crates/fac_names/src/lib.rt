@@ -3,9 +3,11 @@
 
 mod drafts;
 mod items;
+mod naming;
 mod refusal;
 mod refusal_kept;
 mod search;
+mod so_far;
 mod spelling;
 
 pub use refusal::{NameFault, NameKind, ResolveFault};
