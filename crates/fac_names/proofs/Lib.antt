@@ -6,3 +6,5 @@ pub mod ItemLemmas
 pub mod PlainItems
 pub mod DraftLemmas
 pub mod NamingLemmas
+pub mod PlainEffectLemmas
+pub mod ReadingLemmas

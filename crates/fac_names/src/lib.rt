@@ -2,8 +2,11 @@
 #![tactic(auto)]
 
 mod drafts;
+mod effects;
+mod forms;
 mod items;
 mod naming;
+mod parts;
 mod refusal;
 mod refusal_kept;
 mod search;
