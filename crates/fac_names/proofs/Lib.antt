@@ -8,3 +8,6 @@ pub mod DraftLemmas
 pub mod NamingLemmas
 pub mod PlainEffectLemmas
 pub mod ReadingLemmas
+pub mod BracketLemmas
+pub mod FileLemmas
+pub mod KnownWordLemmas

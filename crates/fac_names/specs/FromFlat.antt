@@ -2,7 +2,7 @@
 use Rattle.std.specs.Prelude.{ℕ, List, [], ◌∷◌, map, None, codes, Bool, true, false, if◌then◌else◌}
 use Rattle.std.specs.Str.{bytes_eq}
 use Rattle.fac_lang.specs.PrimitiveWords.{plain_inputs}
-use Rattle.fac_lang.specs.Signatures.{Signature, signature, Leaving, never, leaves}
+use Rattle.fac_lang.specs.Signatures.{Signature, signature, no_inputs, Leaving, never, leaves}
 use Rattle.fac_lang.specs.Phrases.{int, yes, no, str}
 use Rattle.fac_lang.specs.declared.phrase.Place.{Place}
 use Rattle.fac_lang.specs.declared.token.Token.{Token}
@@ -79,22 +79,55 @@ abbrev pub first_node : Nodes → Node
 first_node nothing = n_part nothing
 first_node (more n ns) = n
 
--- a row, which comes to nothing where its parts don't fill its slots
-abbrev pub row : FormKind → List Part → Form
-row In (part.Name v ∷ []) = f_in (tok v)
-row Use (part.Name v ∷ []) = f_use (tok v)
-row Using (part.Names vs ends ∷ []) = f_using (map tok vs)
-row From (part.Name v ∷ part.Fixed key place ∷ part.Names ns ends ∷ []) = f_from (tok v) (map tok ns)
-row QualifiedWith (part.Name v ∷ part.Name p ∷ []) = f_qualified (tok v) (tok p)
-row Defer (part.Name n ∷ []) = f_defer (tok n)
-row Symbol (part.Name n ∷ []) = f_symbol (tok n)
-row Constant (part.Name n ∷ part.Literal es ∷ []) = f_constant (tok n) (first_node (nested es))
-row Private [] = f_private
-row Public [] = f_public
-row Main (part.Name n ∷ []) = f_main (tok n)
-row Define (part.Name n ∷ part.Effect e ∷ part.Items es ends ∷ part.Marks ms ∷ []) = f_define (tok n) (given (effect_of e)) (nested es) (is_inline ms) (is_recursive ms)
-row _ _ = f_items nothing
+-- What the parts of a row have.
 
-abbrev pub form : Flat → Form
-form (Row kind opens parts) = row kind parts
-form (Items es) = f_items (nested es)
+abbrev pub no_name : Tok
+no_name = record { text = []; place = record { file = 0; token = 0 } }
+
+abbrev pub first_name : List Part → Tok
+first_name (part.Name t ∷ parts) = tok t
+first_name _ = no_name
+
+abbrev pub second_name : List Part → Tok
+second_name [] = no_name
+second_name (p ∷ parts) = first_name parts
+
+abbrev pub names_in : List Part → List Tok
+names_in [] = []
+names_in (part.Names ts ends ∷ parts) = map tok ts
+names_in (p ∷ parts) = names_in parts
+
+abbrev pub effect_in : List Part → Signature
+effect_in [] = signature None no_inputs (leaves None [])
+effect_in (part.Effect e ∷ parts) = effect_of e
+effect_in (p ∷ parts) = effect_in parts
+
+abbrev pub elements_in : List Part → List Element
+elements_in [] = []
+elements_in (part.Items es ends ∷ parts) = es
+elements_in (part.Literal es ∷ parts) = es
+elements_in (p ∷ parts) = elements_in parts
+
+abbrev pub marks_in : List Part → List Mark
+marks_in [] = []
+marks_in (part.Marks marks ∷ parts) = marks
+marks_in (p ∷ parts) = marks_in parts
+
+-- a row, where its parts fill its slots
+abbrev pub row : FormKind → List Part → Form
+row In parts = f_in (first_name parts)
+row Use parts = f_use (first_name parts)
+row Using parts = f_using (names_in parts)
+row From parts = f_from (first_name parts) (names_in parts)
+row QualifiedWith parts = f_qualified (first_name parts) (second_name parts)
+row Defer parts = f_defer (first_name parts)
+row Symbol parts = f_symbol (first_name parts)
+row Constant parts = f_constant (first_name parts) (first_node (nested (elements_in parts)))
+row Private parts = f_private
+row Public parts = f_public
+row Main parts = f_main (first_name parts)
+row Define parts = f_define (first_name parts) (given (effect_in parts)) (nested (elements_in parts)) (is_inline (marks_in parts)) (is_recursive (marks_in parts))
+
+abbrev pub form_of : Flat → Form
+form_of (Row kind opens parts) = row kind parts
+form_of (Items es) = f_items (nested es)

@@ -4,5 +4,7 @@ pub mod Items
 pub mod Forms
 pub mod Resolved
 pub mod FromFlat
+pub mod KnownWords
+pub mod Resolution
 pub mod Laws
 pub mod inner

@@ -4,4 +4,6 @@ pub mod Following
 pub mod Drafts
 pub mod PlainEffects
 pub mod State
+pub mod Ending
+pub mod Taking
 pub mod Parts

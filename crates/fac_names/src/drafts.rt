@@ -13,8 +13,8 @@ pub struct Draft {
     pub is_deferred: bool,
 }
 
-// The effect of a word that isn't told yet.
-fn no_effect(alloc: Global) -> Effect
+/// The effect of a word that takes and leaves nothing.
+pub fn no_effect(alloc: Global) -> Effect
     ensures { result ≡ no_effect }
 {
     Effect {

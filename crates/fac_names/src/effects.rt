@@ -10,8 +10,8 @@ use crate::spelling::{is_asterisk, text};
 use fac_lang::{Effect, Input, List, Memory, Outs, Text, Token, WrittenEffect};
 use std::alloc::Global;
 
-// Adds an input that is a plain value.
-fn add_input(alloc: Global, inputs: &mut Vec<Input>, name: &str) -> Result<(), Memory>
+/// Adds an input that is a plain value.
+pub fn add_input(alloc: Global, inputs: &mut Vec<Input>, name: &str) -> Result<(), Memory>
     ensures { OnOk result (inputs.new.items ≡ inputs.old.items ++ plain_input name.now ∷ []) }
 {
     let name = Text::from_str(alloc, name)?;
@@ -19,8 +19,8 @@ fn add_input(alloc: Global, inputs: &mut Vec<Input>, name: &str) -> Result<(), M
     Ok(())
 }
 
-// Adds a copy of a name.
-fn add_text(alloc: Global, texts: &mut List<Text>, name: &str) -> Result<(), Memory>
+/// Adds a copy of a name.
+pub fn add_text(alloc: Global, texts: &mut List<Text>, name: &str) -> Result<(), Memory>
     ensures { OnOk result (texts.new ≡ texts.old ++ name.now ∷ []) }
 {
     texts.push(Text::from_str(alloc, name)?)

@@ -3,8 +3,11 @@
 
 mod drafts;
 mod effects;
+mod ending;
+mod files;
 mod forms;
 mod items;
+mod known_words;
 mod naming;
 mod parts;
 mod refusal;
