@@ -11,3 +11,4 @@ pub mod ReadingLemmas
 pub mod BracketLemmas
 pub mod FileLemmas
 pub mod KnownWordLemmas
+pub mod EndingLemmas

@@ -3,11 +3,12 @@ ghost use Rattle.std.specs.Prelude.{◌≡◌, ◌++◌, ◌∷◌, [], map, fol
 ghost use Rattle.fac_lang.specs.PhraseView.{items_phrase};
 ghost use Rattle.fac_lang.specs.RunningLaws.{append};
 ghost use Rattle.fac_names.specs.Items.{fault, sooner};
-ghost use Rattle.fac_names.specs.inner.Ending.{first_undefined, program_with, top_word, undefined_fault, word_in};
+ghost use Rattle.fac_names.specs.inner.Ending.{Ends, first_undefined, program_with, top_word, undefined_fault, word_in};
 ghost use Rattle.fac_names.specs.inner.State.{reading_of};
 ghost use Rattle.fac_names.specs.declared.refusal.NameKind.TheVariants.{Undefined};
 
 use crate::drafts::{Draft, no_effect};
+use crate::forms::add_items;
 use crate::known_words::full_name;
 use crate::refusal::{NameFault, NameKind, ResolveFault};
 use crate::refusal_kept::keep;
@@ -81,4 +82,45 @@ fn with_phrase(alloc: Global, mut words: List<WordDef>, body: Phrase) -> Result<
         classes: List::new(alloc),
         top,
     })
+}
+
+// What a program is made of: words, items and the first refusal. The item of the last `MAIN:` comes behind all others.
+fn contents(
+    alloc: Global,
+    so_far: SoFar,
+) -> Result<(Vec<Draft>, Vec<Item>, Option<NameFault>), Memory>
+    ensures drafts { IfOk result (λ parts. parts.0.items ≡ so_far.drafts.items) }
+    ensures items { IfOk result (λ parts. items_phrase parts.1.items ≡ append (items_phrase so_far.items.items) (items_phrase so_far.main.items)) }
+    ensures first { IfOk result (λ parts. parts.2 ≡ first_undefined so_far.drafts.items so_far.first) }
+{
+    let SoFar {
+        drafts,
+        mut items,
+        main,
+        mut first,
+        ..
+    } = so_far;
+    add_items(&mut items, main)?;
+    refuse_undefined(alloc, &mut first, &drafts)?;
+    Ok((drafts, items, first))
+}
+
+// The program of words and items.
+fn program(alloc: Global, drafts: Vec<Draft>, items: Vec<Item>) -> Result<Program, Memory>
+    ensures { IfOk result (λ program. program ≡ program_with (map word_in drafts.items) (items_phrase items.items)) }
+{
+    let words = words_of(alloc, drafts)?;
+    with_phrase(alloc, words, Phrase { items })
+}
+
+/// The program of what was read, or its first refusal.
+#[tactic(auto, using(crate::proofs::EndingLemmas::ends_refused, crate::proofs::EndingLemmas::ends_well, crate::proofs::EndingLemmas::program_made))]
+pub fn ended(alloc: Global, so_far: SoFar) -> Result<Program, ResolveFault>
+    ensures { Ends so_far result }
+{
+    let (drafts, items, first) = contents(alloc, so_far)?;
+    match first {
+        Some(fault) => Err(ResolveFault::Name(fault)),
+        None => Ok(program(alloc, drafts, items)?),
+    }
 }

@@ -232,9 +232,9 @@ pub fn define(
     Ok(())
 }
 
-// Adds items behind others.
+/// Adds items behind others.
 #[tactic(auto, using(crate::proofs::ReadingLemmas::items_phrase_append))]
-fn add_items(items: &mut Vec<Item>, mut more: Vec<Item>) -> Result<(), Memory>
+pub fn add_items(items: &mut Vec<Item>, mut more: Vec<Item>) -> Result<(), Memory>
     ensures { OnOk result (items_phrase items.new.items ≡ append (items_phrase items.old.items) (items_phrase more.items)) }
 {
     items.append(&mut more)?;

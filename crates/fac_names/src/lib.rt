@@ -12,8 +12,10 @@ mod naming;
 mod parts;
 mod refusal;
 mod refusal_kept;
+mod resolver;
 mod search;
 mod so_far;
 mod spelling;
 
 pub use refusal::{NameFault, NameKind, ResolveFault};
+pub use resolver::resolve;

@@ -6,10 +6,15 @@ use Rattle.fac_lang.specs.declared.program.Sort.TheVariants.{Body}
 use Rattle.fac_lang.specs.declared.program.WordDef.{WordDef}
 use Rattle.fac_names.specs.declared.drafts.Draft.{Draft}
 use Rattle.fac_names.specs.declared.refusal.NameFault.{NameFault}
+use Rattle.fac_names.specs.declared.refusal.ResolveFault.{ResolveFault}
+use Rattle.fac_names.specs.declared.refusal.ResolveFault.TheVariants.{Name, Memory}
+use Rattle.fac_names.specs.declared.so_far.SoFar.{SoFar}
 use Rattle.fac_names.specs.declared.refusal.NameKind.TheVariants.{Undefined}
 use Rattle.fac_names.specs.Forms.{no_effect, plain_word}
 use Rattle.fac_names.specs.Items.{sooner}
+use Rattle.fac_names.specs.Resolved.{first_fault, program_of}
 use Rattle.fac_names.specs.KnownWords.{nowhere}
+use Rattle.fac_names.specs.inner.State.{reading_of}
 
 abbrev pub undefined_fault : WordDef → NameFault
 undefined_fault d = record { place = d.place; kind = Undefined; name = d.name.name }
@@ -32,3 +37,9 @@ top_word phrase = plain_word [] (codes "top-level") (Body phrase) no_effect nowh
 -- the program of these words and this top-level phrase
 abbrev pub program_with : List WordDef → Phrase → Program
 program_with words phrase = record { words = words ++ top_word phrase ∷ []; arrays = []; classes = []; top = length words }
+
+-- what the end of the files answers
+abbrev pub Ends : SoFar → Result Program ResolveFault → Type 0
+Ends s (Ok program) = (first_fault (reading_of s) ≡ None) × (program ≡ program_of false (reading_of s))
+Ends s (Err (Name fault)) = first_fault (reading_of s) ≡ Some fault
+Ends s (Err Memory) = Unit {0}
