@@ -46,7 +46,7 @@ module _ (P : Program) (n : ℕ) (high : P.top ≤ n) where
     item_inside (lit (int z)) h = refl
     item_inside (lit yes) h = refl
     item_inside (lit no) h = refl
-    item_inside (lit (str bs)) h = absurd h
+    item_inside (lit (str bs)) h = refl
     item_inside (lit (iota k)) h = absurd h
     item_inside (lit (wrd w)) h = absurd h
     item_inside (lit (arr a)) h = absurd h

@@ -52,7 +52,7 @@ module _ (P : Program) (bound count : ℕ) (numbered : (at : Literal) (t : Phras
   taken_item at (lit (int z)) j l c h = rw c refl
   taken_item at (lit yes) j l c h = rw c refl
   taken_item at (lit no) j l c h = rw c refl
-  taken_item at (lit (str bs)) j l c h = absurd h
+  taken_item at (lit (str bs)) j l c h = rw c refl
   taken_item at (lit (iota n)) j l c h = absurd h
   taken_item at (lit (wrd w)) j l c h = absurd h
   taken_item at (lit (arr a)) j l c h = absurd h

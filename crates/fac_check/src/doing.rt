@@ -365,11 +365,10 @@ pub fn item_doing(
     ensures does { IfOk result (λ doing. DoesItem closed.now marks.old marks.new stack (what_item what.now) doing) }
 {
     match what {
-        What::Int(_) | What::True | What::False => unknown(marks, stack),
+        What::Int(_) | What::True | What::False | What::Str(_) => unknown(marks, stack),
         What::Word(number) => word(closed, marks, stack, *number),
         What::Made(template) => quotation(marks, stack, *template),
-        What::Str(_)
-        | What::Arr(_)
+        What::Arr(_)
         | What::Wref(_)
         | What::Quot(_)
         | What::Bind(_)

@@ -1,8 +1,9 @@
 -- Which tables and code are those of an image, computed.
 use Rattle.std.proofs.Common.{◌≡◌, ℕ, [], ◌∷◌, Bool, true, false, refl}
+use Rattle.std.specs.Prelude.{codes}
 use Rattle.fac_lang.specs.Primitives.{built_count}
 use Rattle.fac_code.specs.declared.image.Instr.{Instr}
-use Rattle.fac_code.specs.declared.image.Instr.TheVariants.{Halt, Quot, Prim, Callw, Ret}
+use Rattle.fac_code.specs.declared.image.Instr.TheVariants.{Halt, Text, Quot, Prim, Callw, Ret}
 use Rattle.fac_code.specs.declared.image.Action.{Action}
 use Rattle.fac_code.specs.declared.image.Action.TheVariants.{Prim as prim_action, Core as core_action, Code as code_action}
 use Rattle.fac_code.specs.declared.image.TemplateRow.{TemplateRow}
@@ -18,7 +19,7 @@ does a = record { action = a }
 
 -- with a first instruction, a template's place, a word's action and a start; word 0 is `+`, word 1 is `if`, word 2 is the code at 3
 abbrev with_parts : Instr → ℕ → Action → ℕ → Bool
-with_parts i entry a start = is_image (template 3 0 ∷ template entry 2 ∷ []) (does (prim_action 23) ∷ does (core_action 2) ∷ does (code_action 3) ∷ does a ∷ []) (i ∷ Callw 2 false ∷ Halt ∷ Ret ∷ []) start
+with_parts i entry a start = is_image (template 3 0 ∷ template entry 2 ∷ []) (does (prim_action 25) ∷ does (core_action 2) ∷ does (code_action 3) ∷ does a ∷ []) (codes "a" ∷ []) (i ∷ Callw 2 false ∷ Halt ∷ Ret ∷ []) start
 
 pub an_image : with_parts (Quot 0) 3 (code_action 0) 0 ≡ true
 unfolding built_count
@@ -50,6 +51,15 @@ no_template : with_parts (Quot 2) 3 (code_action 0) 0 ≡ false
 unfolding built_count
 no_template = refl
 
+-- a text is one that is there
+a_text : with_parts (Text 0) 3 (code_action 0) 0 ≡ true
+unfolding built_count
+a_text = refl
+
+no_text : with_parts (Text 1) 3 (code_action 0) 0 ≡ false
+unfolding built_count
+no_text = refl
+
 -- only a word that does code is called
 call_of_a_primitive : with_parts (Callw 0 true) 3 (code_action 0) 0 ≡ false
 unfolding built_count
@@ -64,15 +74,15 @@ unfolding built_count
 call_of_no_word = refl
 
 -- primitives and core words that the machine has
-a_primitive : with_parts (Prim 37) 3 (prim_action 22) 0 ≡ true
+a_primitive : with_parts (Prim 42) 3 (prim_action 22) 0 ≡ true
 unfolding built_count
 a_primitive = refl
 
-word_of_no_primitive : with_parts (Quot 0) 3 (prim_action 38) 0 ≡ false
+word_of_no_primitive : with_parts (Quot 0) 3 (prim_action 43) 0 ≡ false
 unfolding built_count
 word_of_no_primitive = refl
 
-no_primitive : with_parts (Prim 38) 3 (code_action 0) 0 ≡ false
+no_primitive : with_parts (Prim 43) 3 (code_action 0) 0 ≡ false
 unfolding built_count
 no_primitive = refl
 
@@ -81,6 +91,6 @@ unfolding built_count
 word_of_no_core_word = refl
 
 -- no image is without code
-no_code : is_image [] [] [] 0 ≡ false
+no_code : is_image [] [] [] [] 0 ≡ false
 unfolding built_count
 no_code = refl

@@ -1,9 +1,9 @@
-//! Images: the code of a program, with the tables of its templates and words.
+//! Images: the code of a program, with the tables of its templates and words and the list of its texts.
 ghost use Rattle.std.specs.Prelude.{◌≡◌, true};
 ghost use Rattle.fac_code.specs.Code.{has_built_code};
 ghost use Rattle.fac_code.specs.References.{refers as all_refer};
 
-use fac_lang::List;
+use fac_lang::{List, Text};
 
 /// An instruction.
 #[derive(Clone, Copy, Debug, PartialEq, Eq)]
@@ -16,6 +16,8 @@ pub enum Instr {
     True,
     /// Pushes `f`, at a tick.
     False,
+    /// Pushes the text with this number, at a tick.
+    Text(u32),
     /// Pushes a callable of the template with this number, at a tick. It keeps the values that the template names in the frame.
     Quot(u32),
     /// Does the primitive of this number, at a tick.
@@ -80,6 +82,8 @@ pub struct Image {
     pub templates: List<TemplateRow>,
     /// One row for each word of the program, by its number.
     pub words: List<WordRow>,
+    /// The texts that instructions name by their numbers. One text may stand several times.
+    pub texts: List<Text>,
     /// The instructions, at places from 0.
     pub code: List<Instr>,
     /// The place of the first instruction.
@@ -87,5 +91,5 @@ pub struct Image {
     // Each primitive in the code is one that the machine has.
     ghost built: { has_built_code code ≡ true },
     // Each number in the tables and the code names something of its kind.
-    ghost refers: { all_refer templates words code start ≡ true },
+    ghost refers: { all_refer templates words texts code start ≡ true },
 }

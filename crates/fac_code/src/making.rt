@@ -3,18 +3,19 @@ ghost use Rattle.fac_code.specs.Images.{IsImageWhere};
 
 use crate::references::{are_built, refers};
 use crate::{Image, Instr, TemplateRow, WordRow};
-use fac_lang::List;
+use fac_lang::{List, Text};
 
 impl Image {
-    /// The image of these tables and this code, which begins at the place `start`. None exactly where a number in them names nothing of its
+    /// The image of these tables, texts and this code, which begins at the place `start`. None exactly where a number in them names nothing of its
     /// kind, or the machine lacks a primitive.
     pub fn new(
         templates: List<TemplateRow>,
         words: List<WordRow>,
+        texts: List<Text>,
         code: List<Instr>,
         start: u32,
     ) -> Option<Image>
-        ensures { IsImageWhere templates words code start result }
+        ensures { IsImageWhere templates words texts code start result }
     {
         if !are_built(code.as_slice()) {
             return None;
@@ -22,6 +23,7 @@ impl Image {
         if !refers(
             templates.as_slice(),
             words.as_slice(),
+            texts.as_slice(),
             code.as_slice(),
             start,
         ) {
@@ -30,6 +32,7 @@ impl Image {
         Some(Image {
             templates,
             words,
+            texts,
             code,
             start,
         })

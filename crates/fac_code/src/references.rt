@@ -5,7 +5,7 @@ ghost use Rattle.fac_code.specs.Code.{is_built_instr, has_built_code};
 ghost use Rattle.fac_code.specs.References.{is_code as does_code, names_code, names_quotation, instr_refers, action_refers, word_refers, template_refers, refers as all_refer};
 
 use crate::{Action, Instr, TemplateRow, WordRow};
-use fac_lang::{is_core_word, is_primitive};
+use fac_lang::{Text, is_core_word, is_primitive};
 
 // Whether a word does code.
 fn is_code(action: Action) -> bool
@@ -39,12 +39,18 @@ fn is_quotation(templates: &[TemplateRow], template: u32) -> bool
 }
 
 // Whether what an instruction names is there.
-fn refers_instr(templates: &[TemplateRow], words: &[WordRow], instr: Instr) -> bool
-    ensures { result ≡ instr_refers templates.now words.now instr }
+fn refers_instr(
+    templates: &[TemplateRow],
+    words: &[WordRow],
+    texts: &[Text],
+    instr: Instr,
+) -> bool
+    ensures { result ≡ instr_refers templates.now words.now texts.now instr }
 {
     match instr {
         Instr::Callw { word, .. } => is_code_word(words, word),
         Instr::Quot(template) => is_quotation(templates, template),
+        Instr::Text(number) => (number as usize) < texts.len(),
         Instr::Halt
         | Instr::Int(_)
         | Instr::True
@@ -93,11 +99,16 @@ fn templates_refer(size: usize, templates: &[TemplateRow]) -> bool
 }
 
 // Whether what each instruction names is there.
-fn instrs_refer(templates: &[TemplateRow], words: &[WordRow], code: &[Instr]) -> bool
-    ensures { result ≡ list_all (instr_refers templates.now words.now) code.now }
+fn instrs_refer(
+    templates: &[TemplateRow],
+    words: &[WordRow],
+    texts: &[Text],
+    code: &[Instr],
+) -> bool
+    ensures { result ≡ list_all (instr_refers templates.now words.now texts.now) code.now }
 {
     for instr in code {
-        if !refers_instr(templates, words, *instr) {
+        if !refers_instr(templates, words, texts, *instr) {
             return false;
         }
     }
@@ -105,13 +116,19 @@ fn instrs_refer(templates: &[TemplateRow], words: &[WordRow], code: &[Instr]) ->
 }
 
 /// Whether each number in the tables and the code names something of its kind, and the start is a place in the code.
-pub fn refers(templates: &[TemplateRow], words: &[WordRow], code: &[Instr], start: u32) -> bool
-    ensures { result ≡ all_refer templates.now words.now code.now start }
+pub fn refers(
+    templates: &[TemplateRow],
+    words: &[WordRow],
+    texts: &[Text],
+    code: &[Instr],
+    start: u32,
+) -> bool
+    ensures { result ≡ all_refer templates.now words.now texts.now code.now start }
 {
     let size = code.len();
     templates_refer(size, templates)
         && words_refer(size, words)
-        && instrs_refer(templates, words, code)
+        && instrs_refer(templates, words, texts, code)
         && (start as usize) < size
 }
 
@@ -125,6 +142,7 @@ fn is_built(instr: Instr) -> bool
         | Instr::Int(_)
         | Instr::True
         | Instr::False
+        | Instr::Text(_)
         | Instr::Quot(_)
         | Instr::Callw { .. }
         | Instr::Call { .. }

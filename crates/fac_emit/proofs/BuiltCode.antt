@@ -1,19 +1,19 @@
 -- The plain code of a closed program has built primitives alone.
 use Rattle.std.proofs.Common.{◌≡◌, ℕ, zero, suc, List, [], ◌∷◌, ◌++◌, Bool, true, false, ◌&&◌, refl, subst, sym, arith}
-use Rattle.std.specs.Prelude.{nat_eq, slice_get}
+use Rattle.std.specs.Prelude.{length, nat_eq, slice_get}
 use Rattle.fac_lang.specs.declared.phrase.Template.{Template}
 use Rattle.fac_lang.specs.declared.program.Program.{Program}
 use Rattle.fac_lang.specs.declared.program.WordDef.{WordDef}
 use Rattle.fac_lang.specs.declared.program.Sort.{Sort}
 use Rattle.fac_lang.specs.declared.program.Sort.TheVariants.{Prim as prim, Core as core, Body as body, Past as past, Itself as itself, Class as class, Isa as isa, Getter as getter, Setter as setter, Putter as putter, Generic as generic, Method as method}
-use Rattle.fac_lang.specs.Phrases.{int, yes, no, Phrase, end, then, Item, lit, word, made}
+use Rattle.fac_lang.specs.Phrases.{int, yes, no, str, Phrase, end, then, Item, lit, word, made}
 use Rattle.fac_lang.specs.Forms.{IsBuilt, IsBuiltSort, AreBuiltWords}
 use Rattle.fac_lang.specs.Primitives.{is_built_primitive}
 use Rattle.fac_locals.specs.Closed.{Closes, ClosesSort, CloseWords}
 use Rattle.fac_code.specs.declared.image.Instr.{Instr}
 use Rattle.fac_code.specs.declared.image.Instr.TheVariants.{Ret}
 use Rattle.fac_code.specs.Code.{is_built_instr, has_built_code}
-use Rattle.fac_emit.specs.ProgramCode.{core_instr, sort_instr, word_instr, item_instr, phrase_code, templates_code, last_instr, sort_code, code_from, program_code}
+use Rattle.fac_emit.specs.ProgramCode.{core_instr, sort_instr, word_instr, item_instr, with_text, phrase_code, phrase_texts, templates_code, templates_texts, last_instr, sort_code, sort_texts, code_from, program_code}
 
 -- a word that isn't a primitive that isn't built
 abbrev Fits : Sort → Type 0
@@ -85,31 +85,37 @@ word_built (d ∷ ds) w zero h = sort_built w d.sort h.0
 word_built (d ∷ ds) w (suc k) h = word_built ds w k h.1
 
 module _ (words : List WordDef) (fit : AllFit words) where
-  item_built : (i : Item) → is_built_instr (item_instr words i) ≡ true
-  item_built (lit (int z)) = refl
-  item_built (lit yes) = refl
-  item_built (lit no) = refl
-  item_built (word w) = word_built words w w fit
-  item_built (made q) = refl
-  item_built _ = refl
+  item_built : (k : ℕ) (i : Item) → is_built_instr (item_instr words k i) ≡ true
+  item_built k (lit (int z)) = refl
+  item_built k (lit yes) = refl
+  item_built k (lit no) = refl
+  item_built k (lit (str cs)) = refl
+  item_built k (word w) = word_built words w w fit
+  item_built k (made q) = refl
+  item_built k _ = refl
 
-  phrase_built : (last : Instr) (t : Phrase) → is_built_instr last ≡ true → has_built_code (phrase_code words last t) ≡ true
-  phrase_built last end l = and_true (is_built_instr last) true l refl
-  phrase_built last (then i p t) l = and_true (is_built_instr (item_instr words i)) (has_built_code (phrase_code words last t)) (item_built i) (phrase_built last t l)
+  phrase_built : (last : Instr) (texts : List (List ℕ)) (t : Phrase) → is_built_instr last ≡ true → has_built_code (phrase_code words last texts t) ≡ true
+  phrase_built last texts end l = and_true (is_built_instr last) true l refl
+  phrase_built last texts (then i p t) l =
+      and_true (is_built_instr (item_instr words (length texts) i)) (has_built_code (phrase_code words last (with_text texts i) t)) (item_built (length texts) i) (phrase_built last (with_text texts i) t l)
 
-  templates_built : (ts : List Template) → has_built_code (templates_code words ts) ≡ true
-  templates_built [] = refl
-  templates_built (t ∷ ts) = both_built (phrase_code words Ret t.body) (templates_code words ts) (phrase_built Ret t.body refl) (templates_built ts)
+  templates_built : (texts : List (List ℕ)) (ts : List Template) → has_built_code (templates_code words texts ts) ≡ true
+  templates_built texts [] = refl
+  templates_built texts (t ∷ ts) =
+      let next = phrase_texts texts t.body in both_built (phrase_code words Ret texts t.body) (templates_code words next ts) (phrase_built Ret texts t.body refl) (templates_built next ts)
 
-  sort_code_built : (is_top : Bool) (s : Sort) → has_built_code (sort_code words is_top s) ≡ true
-  sort_code_built is_top (body t) = phrase_built (last_instr is_top) t (last_built is_top)
-  sort_code_built is_top _ = refl
+  sort_code_built : (is_top : Bool) (texts : List (List ℕ)) (s : Sort) → has_built_code (sort_code words is_top texts s) ≡ true
+  sort_code_built is_top texts (body t) = phrase_built (last_instr is_top) texts t (last_built is_top)
+  sort_code_built is_top texts _ = refl
 
-  words_built : (top w : ℕ) (ds : List WordDef) → has_built_code (code_from words top w ds) ≡ true
-  words_built top w [] = refl
-  words_built top w (d ∷ ds) = both_built (sort_code words (nat_eq w top) d.sort) (code_from words top (suc w) ds) (sort_code_built (nat_eq w top) d.sort) (words_built top (suc w) ds)
+  words_built : (top : ℕ) (texts : List (List ℕ)) (w : ℕ) (ds : List WordDef) → has_built_code (code_from words top texts w ds) ≡ true
+  words_built top texts w [] = refl
+  words_built top texts w (d ∷ ds) =
+      let next = sort_texts texts d.sort in
+      both_built (sort_code words (nat_eq w top) texts d.sort) (code_from words top next (suc w) ds) (sort_code_built (nat_eq w top) texts d.sort) (words_built top next (suc w) ds)
 
 pub code_built : (P C : Program) (templates : List Template) → IsBuilt P → Closes P C templates → has_built_code (program_code C templates) ≡ true
 code_built P C templates b closes =
     let fit = all_fit P C templates b closes in
-    both_built (templates_code C.words templates) (code_from C.words C.top 0 C.words) (templates_built C.words fit templates) (words_built C.words fit C.top 0 C.words)
+    let texts = templates_texts [] templates in
+    both_built (templates_code C.words [] templates) (code_from C.words C.top texts 0 C.words) (templates_built C.words fit [] templates) (words_built C.words fit C.top texts 0 C.words)

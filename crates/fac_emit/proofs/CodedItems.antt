@@ -18,7 +18,7 @@ use Rattle.fac_locals.proofs.ClosedPrograms.{HasBuiltPhrase, built_phrases}
 use Rattle.fac_locals.proofs.Places.{literal_built}
 use Rattle.fac_locals.proofs.Lookups.{word_closed, word_open, template_closed}
 use Rattle.fac_emit.specs.inner.Coded.{sort_is_coded, word_is_coded, item_is_coded, phrase_is_coded, template_is_coded, body_is_coded, word_body_is_coded}
-use Rattle.fac_emit.proofs.Closings.{Closing, c_end, c_int, c_true, c_false, c_word, c_quot, closing}
+use Rattle.fac_emit.proofs.Closings.{Closing, c_end, c_int, c_true, c_false, c_text, c_word, c_quot, closing}
 use Rattle.fac_emit.proofs.BuiltCode.{and_true}
 use Rattle.fac_emit.proofs.EmitLemmas.{next_element}
 use Rattle.fac_emit.proofs.Emitted.{built_at}
@@ -69,6 +69,7 @@ module _ (P C : Program) (templates : List Template) (b : IsBuilt P) (closes : C
   phrase_coded at t c (c_int z h) = phrase_coded _ _ _ h
   phrase_coded at t c (c_true h) = phrase_coded _ _ _ h
   phrase_coded at t c (c_false h) = phrase_coded _ _ _ h
+  phrase_coded at t c (c_text cs h) = phrase_coded _ _ _ h
   phrase_coded at t c (c_word {c = c'} w lt h) = and_true (word_is_coded (slice_get C.words w)) (phrase_is_coded C.words c') (word_coded w lt) (phrase_coded _ _ _ h)
   phrase_coded at t c (c_quot u q is h) = phrase_coded _ _ _ h
 

@@ -1,5 +1,5 @@
 -- The code of a word and of a template, as it is made, is what they emit.
-use Rattle.std.proofs.Common.{◌≡◌, ◌<◌, ℕ, zero, suc, List, [], ◌∷◌, length, Bool, true, Some, None, refl, ap, sym, subst, ◌∙◌, arith, Result, Ok, Err, IfOk}
+use Rattle.std.proofs.Common.{◌≡◌, ◌<◌, ℕ, zero, suc, List, [], ◌∷◌, ◌++◌, length, Bool, true, Some, None, refl, ap, sym, subst, ◌∙◌, arith, Result, Ok, Err, IfOk}
 use Rattle.std.proofs.lemmas.Bool.{ltb-true}
 use Rattle.std.specs.Prelude.{nat_eq, slice_get}
 use Rattle.fac_lang.specs.declared.memory.Memory.{Memory}
@@ -20,67 +20,74 @@ use Rattle.fac_locals.proofs.Places.{literal_built}
 use Rattle.fac_locals.proofs.Lookups.{word_closed, word_open, template_closed}
 use Rattle.fac_code.specs.declared.image.Instr.{Instr}
 use Rattle.fac_code.specs.declared.image.Instr.TheVariants.{Ret}
-use Rattle.fac_emit.specs.ProgramCode.{core_instr, sort_instr, word_instr, item_instr, phrase_code, last_instr, sort_code, word_code}
-use Rattle.fac_emit.specs.inner.FoundCode.{found_code, found_template}
-use Rattle.fac_emit.specs.Emits.{ItemEmits, e_int, e_true, e_false, e_quot, e_prim, e_word, e_call, e_dip, e_if, PhraseEmits, e_end, e_item, Emits, e_phrase, e_no_phrase, TemplateEmits}
-use Rattle.fac_emit.proofs.Closings.{Closing, c_end, c_int, c_true, c_false, c_word, c_quot, closing}
+use Rattle.fac_emit.specs.ProgramCode.{core_instr, sort_instr, word_instr, item_instr, phrase_code, phrase_texts, last_instr, sort_code, sort_texts, word_code}
+use Rattle.fac_emit.specs.inner.FoundCode.{IsCodeOf, found_code, found_texts, found_template, found_template_texts}
+use Rattle.fac_emit.specs.declared.emitter.Piece.{Piece}
+use Rattle.fac_emit.specs.Emits.{ItemEmits, e_int, e_true, e_false, e_text, e_quot, e_prim, e_word, e_call, e_dip, e_if, PhraseEmits, e_end, e_item, Emits, e_phrase, e_no_phrase, TemplateEmits}
+use Rattle.fac_emit.proofs.Closings.{Closing, c_end, c_int, c_true, c_false, c_text, c_word, c_quot, closing}
+use Rattle.fac_emit.proofs.TextLists.{Begins, begins_same, text_there}
 
 module _ (P C : Program) (templates : List Template) (b : IsBuilt P) (closes : Closes P C templates) where
   -- the instruction of a word
-  core_emits : (at : Literal) (w k : ℕ) → is_built_core k ≡ true → sort_of P w ≡ Some (core_sort k) → ItemEmits P at (word w) (core_instr k)
+  core_emits : (pool : List (List ℕ)) (at : Literal) (w k : ℕ) → is_built_core k ≡ true → sort_of P w ≡ Some (core_sort k) → ItemEmits P pool at (word w) (core_instr k)
   unfolding core_numbered
-  core_emits at w zero h e = e_call w 0 e refl
-  core_emits at w (suc zero) h e = e_dip w 1 e refl
-  core_emits at w (suc (suc zero)) h e = e_if w 2 e refl
-  core_emits at w (suc (suc (suc k))) h e = absurd (let lt : suc (suc (suc k)) < 3 = ltb-true (suc (suc (suc k))) 3 h in omega (arith, lt))
+  core_emits pool at w zero h e = e_call w 0 e refl
+  core_emits pool at w (suc zero) h e = e_dip w 1 e refl
+  core_emits pool at w (suc (suc zero)) h e = e_if w 2 e refl
+  core_emits pool at w (suc (suc (suc k))) h e = absurd (let lt : suc (suc (suc k)) < 3 = ltb-true (suc (suc (suc k))) 3 h in omega (arith, lt))
 
-  instr_is : (w : ℕ) (c : WordDef) (s : Sort) → slice_get C.words w ≡ Some c → c.sort ≡ s → item_instr C.words (word w) ≡ sort_instr w s
-  instr_is w c s at is = ap (word_instr w) at ∙ ap (sort_instr w) is
+  instr_is : (n w : ℕ) (c : WordDef) (s : Sort) → slice_get C.words w ≡ Some c → c.sort ≡ s → item_instr C.words n (word w) ≡ sort_instr w s
+  instr_is n w c s at is = ap (word_instr w) at ∙ ap (sort_instr w) is
 
-  sort_emits : (at : Literal) (w : ℕ) (d c : WordDef) (s : Sort) → slice_get P.words w ≡ Some d → slice_get C.words w ≡ Some c → d.sort ≡ s → ClosesSort P w s c.sort → IsBuiltSort P.top d s → ItemEmits P at (word w) (item_instr C.words (word w))
-  sort_emits at w d c (prim_sort k) there closed is h built = rw (instr_is w c (prim_sort k) closed h) (e_prim w k (sort_at P w d there ∙ ap Some is) built.is_built)
-  sort_emits at w d c (core_sort k) there closed is h built = rw (instr_is w c (core_sort k) closed h) (core_emits at w k built.is_built (sort_at P w d there ∙ ap Some is))
-  sort_emits at w d c (body t) there closed is h built = rw (instr_is w c (body h.0) closed h.1) (e_word w t (sort_at P w d there ∙ ap Some is))
-  sort_emits at w d c _ there closed is h built = absurd built
+  sort_emits : (pool : List (List ℕ)) (at : Literal) (n w : ℕ) (d c : WordDef) (s : Sort) → slice_get P.words w ≡ Some d → slice_get C.words w ≡ Some c → d.sort ≡ s → ClosesSort P w s c.sort → IsBuiltSort P.top d s → ItemEmits P pool at (word w) (item_instr C.words n (word w))
+  sort_emits pool at n w d c (prim_sort k) there closed is h built = rw (instr_is n w c (prim_sort k) closed h) (e_prim w k (sort_at P w d there ∙ ap Some is) built.is_built)
+  sort_emits pool at n w d c (core_sort k) there closed is h built = rw (instr_is n w c (core_sort k) closed h) (core_emits pool at w k built.is_built (sort_at P w d there ∙ ap Some is))
+  sort_emits pool at n w d c (body t) there closed is h built = rw (instr_is n w c (body h.0) closed h.1) (e_word w t (sort_at P w d there ∙ ap Some is))
+  sort_emits pool at n w d c _ there closed is h built = absurd built
 
-  word_emits : (at : Literal) (w : ℕ) → w < P.top → ItemEmits P at (word w) (item_instr C.words (word w))
-  word_emits at w lt =
+  word_emits : (pool : List (List ℕ)) (at : Literal) (n w : ℕ) → w < P.top → ItemEmits P pool at (word w) (item_instr C.words n (word w))
+  word_emits pool at n w lt =
       let found = word_below P b w lt in
       let closed = word_closed P C templates closes w found.def found.at in
-      sort_emits at w found.def closed.closed found.def.sort found.at closed.at refl closed.closes.sort found.built
+      sort_emits pool at n w found.def closed.closed found.def.sort found.at closed.at refl closed.closes.sort found.built
 
-  phrase_emits : (last : Instr) (at : Literal) (t c : Phrase) → Closing P at t c → PhraseEmits P last at t (phrase_code C.words last c)
-  phrase_emits last at t c c_end = e_end
-  phrase_emits last at t c (c_int z h) = e_item (e_int z) (phrase_emits last _ _ _ h)
-  phrase_emits last at t c (c_true h) = e_item e_true (phrase_emits last _ _ _ h)
-  phrase_emits last at t c (c_false h) = e_item e_false (phrase_emits last _ _ _ h)
-  phrase_emits last at t c (c_word w lt h) = e_item (word_emits at w lt) (phrase_emits last _ _ _ h)
-  phrase_emits last at t c (c_quot u q is h) = e_item (e_quot u q is) (phrase_emits last _ _ _ h)
+  phrase_emits : (pool : List (List ℕ)) (last : Instr) (at : Literal) (texts : List (List ℕ)) (t c : Phrase) → Closing P at t c → Begins (phrase_texts texts c) pool → PhraseEmits P pool last at t (phrase_code C.words last texts c)
+  phrase_emits pool last at texts t c c_end b = e_end
+  phrase_emits pool last at texts t c (c_int z h) b = e_item (e_int z) (phrase_emits pool last _ texts _ _ h b)
+  phrase_emits pool last at texts t c (c_true h) b = e_item e_true (phrase_emits pool last _ texts _ _ h b)
+  phrase_emits pool last at texts t c (c_false h) b = e_item e_false (phrase_emits pool last _ texts _ _ h b)
+  phrase_emits pool last at texts t c (c_text {c = c'} cs h) b = e_item (e_text cs (length texts) (text_there texts pool cs c' b)) (phrase_emits pool last _ (texts ++ cs ∷ []) _ c' h b)
+  phrase_emits pool last at texts t c (c_word w lt h) b = e_item (word_emits pool at (length texts) w lt) (phrase_emits pool last _ texts _ _ h b)
+  phrase_emits pool last at texts t c (c_quot u q is h) b = e_item (e_quot u q is) (phrase_emits pool last _ texts _ _ h b)
+
+  -- a phrase by itself, with its own texts
+  alone : (last : Instr) (at : Literal) (t c : Phrase) → Closing P at t c → PhraseEmits P (phrase_texts [] c) last at t (phrase_code C.words last [] c)
+  alone last at t c h = phrase_emits (phrase_texts [] c) last at [] t c h (begins_same (phrase_texts [] c))
 
   pub built_at : (ds : List WordDef) (w : ℕ) (d : WordDef) → HaveBuiltPhrases P.top ds → slice_get ds w ≡ Some d → HasBuiltPhrase P.top d.sort
   built_at [] w d h e = absurd (cc)
   built_at (x ∷ ds) zero d h e = let same : x ≡ d = cc in subst (λ (y : WordDef). HasBuiltPhrase P.top y.sort) same h.0
   built_at (x ∷ ds) (suc w) d h e = built_at ds w d h.1 e
 
-  sort_emitted : (w : ℕ) (s c : Sort) (is_top : Bool) → is_top ≡ nat_eq w P.top → ClosesSort P w s c → HasBuiltPhrase P.top s → Emits P w (Some s) (sort_code C.words is_top c)
+  sort_emitted : (w : ℕ) (s c : Sort) (is_top : Bool) → is_top ≡ nat_eq w P.top → ClosesSort P w s c → HasBuiltPhrase P.top s → Emits P (sort_texts [] c) w (Some s) (sort_code C.words is_top [] c)
   sort_emitted w (body t) c is_top which h built =
-      rw h.1 (e_phrase (subst (λ (q : Bool). PhraseEmits P (last_instr q) (first_of_word w) t (phrase_code C.words (last_instr is_top) h.0)) which (phrase_emits (last_instr is_top) (first_of_word w) t h.0 (closing P (first_of_word w) t h.0 h.2 built))))
+      rw h.1 (e_phrase (subst (λ (q : Bool). PhraseEmits P (phrase_texts [] h.0) (last_instr q) (first_of_word w) t (phrase_code C.words (last_instr is_top) [] h.0)) which (alone (last_instr is_top) (first_of_word w) t h.0 (closing P (first_of_word w) t h.0 h.2 built))))
   sort_emitted w (past t) c is_top which h built = absurd built
   sort_emitted w (method n g t) c is_top which h built = absurd built
   sort_emitted w s c is_top which h built = rw h (e_no_phrase tt)
 
   -- the code of a word that is there
-  word_emitted_at : (w : ℕ) (c : WordDef) → slice_get C.words w ≡ Some c → Emits P w (sort_of P w) (word_code C.words C.top w c)
+  word_emitted_at : (w : ℕ) (c : WordDef) → slice_get C.words w ≡ Some c → Emits P (sort_texts [] c.sort) w (sort_of P w) (word_code C.words C.top [] w c)
   word_emitted_at w c at =
       let found = word_open P C templates closes w c at in
       rw (sort_at P w found.def found.at) (sort_emitted w found.def.sort c.sort (nat_eq w C.top) (ap (nat_eq w) closes.top) found.closes.sort (built_at P.words w found.def (built_phrases P b) found.at))
 
   -- and of a template
-  template_emitted_at : (q : ℕ) (t : Template) → slice_get templates q ≡ Some t → TemplateEmits P q (phrase_code C.words Ret t.body)
+  template_emitted_at : (q : ℕ) (t : Template) → slice_get templates q ≡ Some t → TemplateEmits P (phrase_texts [] t.body) q (phrase_code C.words Ret [] t.body)
   template_emitted_at q t at =
       let l = literal_numbered P q in
       let closed = template_closed P C templates closes q t at in
-      phrase_emits Ret (first_of_literal l.0) l.1 t.body (closing P (first_of_literal l.0) l.1 t.body closed.body (literal_built P b q))
+      alone Ret (first_of_literal l.0) l.1 t.body (closing P (first_of_literal l.0) l.1 t.body closed.body (literal_built P b q))
 
 element_at : {A : Type 0} (xs : List A) (k : ℕ) → k < length xs → (x : A) × (slice_get xs k ≡ Some x)
 element_at [] k lt = absurd (omega (arith, lt))
@@ -92,15 +99,16 @@ pub is_there : {A : Type 0} (xs : List A) (k : ℕ) → k < length xs → slice_
 is_there xs k lt e = let found = element_at xs k lt in let clash : None ≡ Some found.0 = sym e ∙ found.1 in absurd (cc)
 
 pub word_emitted :
-    (C : Program) (templates : List Template) (w : ℕ) (r : Result (List Instr) Memory) → w < length C.words → IfOk r (λ code. code ≡ found_code C w (slice_get C.words w)) →
-    IfOk r (λ code. (P : Program) → Closes P C templates → IsBuilt P → Emits P w (sort_of P w) code)
-word_emitted C templates w (Ok code) lt is =
-    λ P closes b. let found = element_at C.words w lt in rw (is ∙ ap (found_code C w) found.1) (word_emitted_at P C templates b closes w found.0 found.1)
+    (C : Program) (templates : List Template) (w : ℕ) (r : Result Piece Memory) → w < length C.words → IfOk r (IsCodeOf (found_code C w (slice_get C.words w)) (found_texts (slice_get C.words w))) →
+    IfOk r (λ piece. (P : Program) → Closes P C templates → IsBuilt P → Emits P piece.texts w (sort_of P w) piece.code)
+word_emitted C templates w (Ok piece) lt is =
+    λ P closes b. let found = element_at C.words w lt in rw (is.0 ∙ ap (found_code C w) found.1, is.1 ∙ ap found_texts found.1) (word_emitted_at P C templates b closes w found.0 found.1)
 word_emitted C templates w (Err e) lt is = tt
 
 pub template_emitted :
-    (C : Program) (templates : List Template) (q : ℕ) (r : Result (List Instr) Memory) → q < length templates → IfOk r (λ code. code ≡ found_template C (slice_get templates q)) →
-    IfOk r (λ code. (P : Program) → Closes P C templates → IsBuilt P → TemplateEmits P q code)
-template_emitted C templates q (Ok code) lt is =
-    λ P closes b. let found = element_at templates q lt in subst (λ (c : List Instr). TemplateEmits P q c) (sym (is ∙ ap (found_template C) found.1)) (template_emitted_at P C templates b closes q found.0 found.1)
+    (C : Program) (templates : List Template) (q : ℕ) (r : Result Piece Memory) → q < length templates → IfOk r (IsCodeOf (found_template C (slice_get templates q)) (found_template_texts (slice_get templates q))) →
+    IfOk r (λ piece. (P : Program) → Closes P C templates → IsBuilt P → TemplateEmits P piece.texts q piece.code)
+template_emitted C templates q (Ok piece) lt is =
+    λ P closes b. let found = element_at templates q lt in
+      subst (λ (c : List Instr). TemplateEmits P piece.texts q c) (sym (is.0 ∙ ap (found_template C) found.1)) (subst (λ (texts : List (List ℕ)). TemplateEmits P texts q (phrase_code C.words Ret [] found.0.body)) (sym (is.1 ∙ ap found_template_texts found.1)) (template_emitted_at P C templates b closes q found.0 found.1))
 template_emitted C templates q (Err e) lt is = tt

@@ -18,7 +18,7 @@ use Rattle.fac_code.specs.declared.image.Action.TheVariants.{Prim as prim_action
 use Rattle.fac_code.specs.declared.image.Image.{Image}
 use Rattle.fac_prim.specs.MachineValues.{MValue, m_plain}
 use Rattle.fac_vm.specs.Machine.{End, done, steps, starting}
-use Rattle.fac_emit.specs.ProgramCode.{program_code, template_rows, program_words}
+use Rattle.fac_emit.specs.ProgramCode.{program_code, program_texts, template_rows, program_words}
 use Rattle.fac_emit.specs.MachineView.{template_phrases}
 use Rattle.fac_emit.specs.Symbols.{here, off, cells, k_phrase, k_cur, k_com, do_phrase, top_is, needs_none, needs_more, all_none, all_more}
 use Rattle.fac_emit.specs.Expanded.{Code, c_last, c_make, c_end, c_off, c_int, c_prim, c_word, c_call, c_dip}
@@ -36,7 +36,7 @@ named s = record { name = record { vocab = []; name = [] }; sort = s; effect = s
 -- : w [ 2 ] [ [ 3 ] call + ] compose ;   1 w [ 4 ] dip call
 abbrev source : List WordDef
 source =
-    named (prim 23) ∷ named (core 0) ∷ named (core 1) ∷ named (prim 17) ∷ named (body (items (quot (items (number 2 ∷ [])) ∷ quot (items (quot (items (number 3 ∷ [])) ∷ word 1 ∷ word 0 ∷ [])) ∷ word 3 ∷ []))) ∷ named
+    named (prim 25) ∷ named (core 0) ∷ named (core 1) ∷ named (prim 17) ∷ named (body (items (quot (items (number 2 ∷ [])) ∷ quot (items (quot (items (number 3 ∷ [])) ∷ word 1 ∷ word 0 ∷ [])) ∷ word 3 ∷ []))) ∷ named
     (body (items (number 1 ∷ word 4 ∷ quot (items (number 4 ∷ [])) ∷ word 2 ∷ word 1 ∷ []))) ∷ []
 
 abbrev closed : Program
@@ -46,26 +46,26 @@ abbrev templates : List Template
 templates = words_templates 0 source
 
 -- the four quotations, the one inside another behind it, then the word's phrase and the top-level phrase
-pub code_is : program_code closed templates ≡ Int (pos 2) ∷ Ret ∷ Quot 2 ∷ Call false ∷ Prim 23 ∷ Ret ∷ Int (pos 3) ∷ Ret ∷ Int (pos 4) ∷ Ret ∷ Quot 0 ∷ Quot 1 ∷ Prim 17 ∷ Ret ∷ Int (pos 1) ∷ Callw 4 false ∷ Quot 3 ∷ Dip ∷ Call false ∷ Halt ∷ []
+pub code_is : program_code closed templates ≡ Int (pos 2) ∷ Ret ∷ Quot 2 ∷ Call false ∷ Prim 25 ∷ Ret ∷ Int (pos 3) ∷ Ret ∷ Int (pos 4) ∷ Ret ∷ Quot 0 ∷ Quot 1 ∷ Prim 17 ∷ Ret ∷ Int (pos 1) ∷ Callw 4 false ∷ Quot 3 ∷ Dip ∷ Call false ∷ Halt ∷ []
 code_is = refl
 
-pub template_rows_are : template_rows closed.words 0 templates ≡ record { entry = 0; cells = []; holes = 0 } ∷ record { entry = 2; cells = []; holes = 0 } ∷ record { entry = 6; cells = []; holes = 0 } ∷ record { entry = 8; cells = []; holes = 0 } ∷ []
+pub template_rows_are : template_rows closed.words [] 0 templates ≡ record { entry = 0; cells = []; holes = 0 } ∷ record { entry = 2; cells = []; holes = 0 } ∷ record { entry = 6; cells = []; holes = 0 } ∷ record { entry = 8; cells = []; holes = 0 } ∷ []
 template_rows_are = refl
 
 pub word_rows_are :
-    program_words closed templates ≡ record { action = prim_action 23 } ∷ record { action = core_action 0 } ∷ record { action = core_action 1 } ∷ record { action = prim_action 17 } ∷ record { action = code_action 10 } ∷ record { action = code_action 14 } ∷ []
+    program_words closed templates ≡ record { action = prim_action 25 } ∷ record { action = core_action 0 } ∷ record { action = core_action 1 } ∷ record { action = prim_action 17 } ∷ record { action = code_action 10 } ∷ record { action = code_action 14 } ∷ []
 word_rows_are = refl
 
 pub is_built : has_built_code (program_code closed templates) ≡ true
 unfolding built_count
 is_built = refl
 
-pub words_built : refers (template_rows closed.words 0 templates) (program_words closed templates) (program_code closed templates) 14 ≡ true
+pub words_built : refers (template_rows closed.words [] 0 templates) (program_words closed templates) (program_texts closed templates) (program_code closed templates) 14 ≡ true
 unfolding built_count
 words_built = refl
 
 abbrev image : Image
-image = record { templates = template_rows closed.words 0 templates; words = program_words closed templates; code = program_code closed templates; start = 14; built = is_built; refers = words_built }
+image = record { templates = template_rows closed.words [] 0 templates; words = program_words closed templates; texts = program_texts closed templates; code = program_code closed templates; start = 14; built = is_built; refers = words_built }
 
 -- the stack and the ticks left where it is done
 abbrev ended : Option End → Option (List MValue × ℕ)

@@ -6,7 +6,7 @@ use Rattle.fac_lang.specs.declared.program.Sort.{Sort}
 use Rattle.fac_lang.specs.declared.program.Sort.TheVariants.{Prim as prim}
 use Rattle.fac_lang.specs.Forms.{is_member, primitive_numbers, numbers_before, has_no_repeats}
 use Rattle.fac_vm.specs.Machine.{word_of_prim, is_prim_action}
-use Rattle.fac_emit.specs.ProgramCode.{sort_action, word_code, words_from}
+use Rattle.fac_emit.specs.ProgramCode.{sort_action, sort_texts, word_code, words_from}
 
 more_members : (s : Sort) (k : ℕ) (ks : List ℕ) → is_member k ks ≡ true → is_member k (numbers_before s ks) ≡ true
 more_members (prim j) k ks h = rw h (grind arith)
@@ -53,11 +53,11 @@ passed true x y z e same = absurd (cc)
 passed false x y z e same = same
 
 -- the rows stand for the words from number v on
-pub first_with : (words : List WordDef) (top at v : ℕ) (ds : List WordDef) (w j k : ℕ) (d : WordDef) → slice_get ds w ≡ Some d → d.sort ≡ prim k → has_no_repeats (primitive_numbers ds) ≡ true → word_of_prim k j (words_from words top at v ds) ≡ j + w
-first_with words top at v [] w j k d there is distinct = absurd (cc)
-first_with words top at v (x ∷ ds) zero j k d there is distinct =
+pub first_with : (words : List WordDef) (top : ℕ) (texts : List (List ℕ)) (at v : ℕ) (ds : List WordDef) (w j k : ℕ) (d : WordDef) → slice_get ds w ≡ Some d → d.sort ≡ prim k → has_no_repeats (primitive_numbers ds) ≡ true → word_of_prim k j (words_from words top texts at v ds) ≡ j + w
+first_with words top texts at v [] w j k d there is distinct = absurd (cc)
+first_with words top texts at v (x ∷ ds) zero j k d there is distinct =
     let same : x ≡ d = cc in chosen (is_prim_action k (sort_action at x.sort)) j _ (j + zero) (own_action at x.sort k (ap (λ (d : WordDef). d.sort) same ∙ is)) (omega arith)
-first_with words top at v (x ∷ ds) (suc w) j k d there is distinct =
+first_with words top texts at v (x ∷ ds) (suc w) j k d there is distinct =
     let numbers = primitive_numbers ds in
-    let later = first_with words top (at + length (word_code words top v x)) (suc v) ds w (suc j) k d there is (rest_distinct x.sort numbers distinct) in
+    let later = first_with words top (sort_texts texts x.sort) (at + length (word_code words top texts v x)) (suc v) ds w (suc j) k d there is (rest_distinct x.sort numbers distinct) in
     passed (is_prim_action k (sort_action at x.sort)) j _ (j + suc w) (other_action at x.sort k numbers distinct (member_of ds w k d there is)) (omega (arith, later))

@@ -19,3 +19,4 @@ pub mod EmitLemmas
 pub mod Emitted
 pub mod CodedItems
 pub mod ExamplesOfCode
+pub mod TextLists

@@ -23,9 +23,10 @@ use Rattle.fac_code.specs.declared.image.Action.TheVariants.{Code as code_action
 use Rattle.fac_code.specs.declared.image.TemplateRow.{TemplateRow}
 use Rattle.fac_code.specs.declared.image.WordRow.{WordRow}
 use Rattle.fac_code.specs.References.{names_code, names_quotation, instr_refers, action_refers, word_refers, template_refers, refers}
-use Rattle.fac_emit.specs.ProgramCode.{core_instr, sort_instr, word_instr, item_instr, phrase_code, templates_code, template_rows, last_instr, sort_action, sort_code, word_code, code_from, words_from, program_code, program_words}
+use Rattle.fac_emit.specs.ProgramCode.{core_instr, sort_instr, word_instr, item_instr, with_text, phrase_code, phrase_texts, templates_code, templates_texts, template_rows, last_instr, sort_action, sort_code, sort_texts, words_texts, word_code, code_from, words_from, program_code, program_texts, program_words}
 use Rattle.fac_emit.proofs.BuiltCode.{and_true}
-use Rattle.fac_emit.proofs.Closings.{drop_behind, Closing, c_end, c_int, c_true, c_false, c_word, c_quot, closing}
+use Rattle.fac_emit.proofs.Closings.{drop_behind, Closing, c_end, c_int, c_true, c_false, c_text, c_word, c_quot, closing}
+use Rattle.fac_emit.proofs.TextLists.{Begins, begins_same, begins_on, templates_behind, words_behind, text_there}
 use Rattle.fac_emit.proofs.Placed.{Rows, behind_templates, words_placed, literal_of, all_rows, quotation_row}
 
 -- a place from which something stands is in the list
@@ -54,24 +55,24 @@ one_passes test (y ∷ xs) zero x h e = let same : y ≡ x = cc in subst (λ (z 
 one_passes test (y ∷ xs) (suc k) x h e = one_passes test xs k x (first_true (test y) (list_all test xs) h).1 e
 
 -- code of a phrase isn't empty
-phrase_first : (words : List WordDef) (last : Instr) (t : Phrase) → (x : Instr) × (more : List Instr) × (phrase_code words last t ≡ x ∷ more)
-phrase_first words last end = (last, [], refl)
-phrase_first words last (then i p t) = (item_instr words i, phrase_code words last t, refl)
+phrase_first : (words : List WordDef) (last : Instr) (texts : List (List ℕ)) (t : Phrase) → (x : Instr) × (more : List Instr) × (phrase_code words last texts t ≡ x ∷ more)
+phrase_first words last texts end = (last, [], refl)
+phrase_first words last texts (then i p t) = (item_instr words (length texts) i, phrase_code words last (with_text texts i) t, refl)
 
 -- so it begins at a place in the code
-begins_within : (code : List Instr) (words : List WordDef) (last : Instr) (t : Phrase) (at : ℕ) (more : List Instr) → drop at code ≡ phrase_code words last t ++ more → nat_lt at (length code) ≡ true
-begins_within code words last t at more e =
-    let first = phrase_first words last t in lt-ltb at (length code) (within code at first.0 (first.1 ++ more) (e ∙ ap (λ (is : List Instr). is ++ more) first.2))
+begins_within : (code : List Instr) (words : List WordDef) (last : Instr) (texts : List (List ℕ)) (t : Phrase) (at : ℕ) (more : List Instr) → drop at code ≡ phrase_code words last texts t ++ more → nat_lt at (length code) ≡ true
+begins_within code words last texts t at more e =
+    let first = phrase_first words last texts t in lt-ltb at (length code) (within code at first.0 (first.1 ++ more) (e ∙ ap (λ (is : List Instr). is ++ more) first.2))
 
-core_refers : (rows : List TemplateRow) (words : List WordRow) (k : ℕ) → instr_refers rows words (core_instr k) ≡ true
-core_refers rows words zero = refl
-core_refers rows words (suc zero) = refl
-core_refers rows words (suc (suc zero)) = refl
-core_refers rows words (suc (suc (suc k))) = refl
+core_refers : (rows : List TemplateRow) (words : List WordRow) (pool : List (List ℕ)) (k : ℕ) → instr_refers rows words pool (core_instr k) ≡ true
+core_refers rows words pool zero = refl
+core_refers rows words pool (suc zero) = refl
+core_refers rows words pool (suc (suc zero)) = refl
+core_refers rows words pool (suc (suc (suc k))) = refl
 
-last_refers : (rows : List TemplateRow) (words : List WordRow) (is_top : Bool) → instr_refers rows words (last_instr is_top) ≡ true
-last_refers rows words true = refl
-last_refers rows words false = refl
+last_refers : (rows : List TemplateRow) (words : List WordRow) (pool : List (List ℕ)) (is_top : Bool) → instr_refers rows words pool (last_instr is_top) ≡ true
+last_refers rows words pool true = refl
+last_refers rows words pool false = refl
 
 module _ (P : Program) where
   -- what each word of a built program is
@@ -116,54 +117,64 @@ module _ (P C : Program) (templates : List Template) (b : IsBuilt P) (closes : C
   code = program_code C templates
 
   abbrev rows : List TemplateRow
-  rows = template_rows C.words 0 templates
+  rows = template_rows C.words [] 0 templates
 
   abbrev words : List WordRow
   words = program_words C templates
+
+  abbrev pool : List (List ℕ)
+  pool = program_texts C templates
 
   word_is : (w : ℕ) (c : WordDef) → slice_get C.words w ≡ Some c → ClosedAs P w c.sort
   word_is w c e = let found = word_open P C templates closes w c e in closed_as P w found.def.sort c.sort found.closes.sort (word_built P b w found.def found.at) (found_within P.words w found.def found.at)
 
   -- instructions
-  sort_refers : (w : ℕ) (c : WordDef) (s : Sort) → slice_get C.words w ≡ Some c → c.sort ≡ s → instr_refers rows words (sort_instr w s) ≡ true
+  sort_refers : (w : ℕ) (c : WordDef) (s : Sort) → slice_get C.words w ≡ Some c → c.sort ≡ s → instr_refers rows words pool (sort_instr w s) ≡ true
   sort_refers w c (prim_sort k) e is = refl
-  sort_refers w c (core_sort k) e is = core_refers rows words k
+  sort_refers w c (core_sort k) e is = core_refers rows words pool k
   sort_refers w c (body t) e is =
       let put = words_placed C templates w c e in ap names_code (put.row ∙ ap (λ (s : Sort). Some (record { action = sort_action put.at s })) is)
   sort_refers w c _ e is = refl
 
-  word_refers_to : (w : ℕ) (o : Option WordDef) → slice_get C.words w ≡ o → instr_refers rows words (word_instr w o) ≡ true
+  word_refers_to : (w : ℕ) (o : Option WordDef) → slice_get C.words w ≡ o → instr_refers rows words pool (word_instr w o) ≡ true
   word_refers_to w None e = refl
   word_refers_to w (Some c) e = sort_refers w c c.sort e refl
 
   quotation_refers : (q : ℕ) (at : Literal) (u : Phrase) → at.word < length P.words → (let l : Quoted = (at, u) in literal_numbered P q ≡ l) → names_quotation (slice_get rows q) ≡ true
-  quotation_refers q at u lt e = let found = quotation_row P C templates b closes code rows refl refl q (at, u) lt e in rw found.there (rw found.holes refl)
+  quotation_refers q at u lt e = let found = quotation_row P C templates b closes code pool rows refl refl refl q (at, u) lt e in rw found.there (rw found.holes refl)
 
   abbrev Refers : List Instr → Type 0
-  Refers is = list_all (instr_refers rows words) is ≡ true
+  Refers is = list_all (instr_refers rows words pool) is ≡ true
 
-  phrase_refers : (last : Instr) (at : Literal) (t c : Phrase) → instr_refers rows words last ≡ true → Closing P at t c → at.word < length P.words → Refers (phrase_code C.words last c)
-  phrase_refers last at t c l c_end lt = and_true (instr_refers rows words last) true l refl
-  phrase_refers last at t c l (c_int z h) lt = phrase_refers last _ _ _ l h lt
-  phrase_refers last at t c l (c_true h) lt = phrase_refers last _ _ _ l h lt
-  phrase_refers last at t c l (c_false h) lt = phrase_refers last _ _ _ l h lt
-  phrase_refers last at t c l (c_word {c = d} w below h) lt = and_true (instr_refers rows words (word_instr w (slice_get C.words w))) (list_all (instr_refers rows words) (phrase_code C.words last d))
-      (word_refers_to w (slice_get C.words w) refl) (phrase_refers last _ _ _ l h lt)
-  phrase_refers last at t c l (c_quot {c = d} u q is h) lt = and_true (names_quotation (slice_get rows q)) (list_all (instr_refers rows words) (phrase_code C.words last d)) (quotation_refers q at u lt is) (phrase_refers last _ _ _ l h lt)
+  phrase_refers : (last : Instr) (at : Literal) (texts : List (List ℕ)) (t c : Phrase) → instr_refers rows words pool last ≡ true → Closing P at t c → at.word < length P.words → Begins (phrase_texts texts c) pool → Refers (phrase_code C.words last texts c)
+  phrase_refers last at texts t c l c_end lt b = and_true (instr_refers rows words pool last) true l refl
+  phrase_refers last at texts t c l (c_int z h) lt b = phrase_refers last _ texts _ _ l h lt b
+  phrase_refers last at texts t c l (c_true h) lt b = phrase_refers last _ texts _ _ l h lt b
+  phrase_refers last at texts t c l (c_false h) lt b = phrase_refers last _ texts _ _ l h lt b
+  phrase_refers last at texts t c l (c_text {c = d} cs h) lt b =
+      let next = texts ++ cs ∷ [] in
+      let there = lt-ltb (length texts) (length pool) (found_within pool (length texts) cs (text_there texts pool cs d b)) in
+      and_true (nat_lt (length texts) (length pool)) (list_all (instr_refers rows words pool) (phrase_code C.words last next d)) there (phrase_refers last _ next _ d l h lt b)
+  phrase_refers last at texts t c l (c_word {c = d} w below h) lt b = and_true (instr_refers rows words pool (word_instr w (slice_get C.words w))) (list_all (instr_refers rows words pool) (phrase_code C.words last texts d))
+      (word_refers_to w (slice_get C.words w) refl) (phrase_refers last _ texts _ d l h lt b)
+  phrase_refers last at texts t c l (c_quot {c = d} u q is h) lt b =
+      and_true (names_quotation (slice_get rows q)) (list_all (instr_refers rows words pool) (phrase_code C.words last texts d)) (quotation_refers q at u lt is) (phrase_refers last _ texts _ d l h lt b)
 
-  template_refers_to : (q : ℕ) (t : Template) → slice_get templates q ≡ Some t → Refers (phrase_code C.words Ret t.body)
-  template_refers_to q t e =
+  template_refers_to : (q : ℕ) (t : Template) (texts : List (List ℕ)) → slice_get templates q ≡ Some t → Begins (phrase_texts texts t.body) pool → Refers (phrase_code C.words Ret texts t.body)
+  template_refers_to q t texts e begins =
       let l = literal_numbered P q in
       let closed = template_closed P C templates closes q t e in
-      phrase_refers Ret (first_of_literal l.0) l.1 t.body refl (closing P (first_of_literal l.0) l.1 t.body closed.body (literal_built P b q)) (literal_of P C templates b closes q t e)
+      phrase_refers Ret (first_of_literal l.0) texts l.1 t.body refl (closing P (first_of_literal l.0) l.1 t.body closed.body (literal_built P b q)) (literal_of P C templates b closes q t e) begins
 
-  templates_refer : (ts : List Template) → ((k : ℕ) (t : Template) → slice_get ts k ≡ Some t → Refers (phrase_code C.words Ret t.body)) → Refers (templates_code C.words ts)
-  templates_refer [] h = refl
-  templates_refer (t ∷ ts) h = both_pass (instr_refers rows words) (phrase_code C.words Ret t.body) (templates_code C.words ts) (h 0 t refl) (templates_refer ts (λ k u e. h (suc k) u e))
+  templates_refer : (texts : List (List ℕ)) (ts : List Template) → Begins (templates_texts texts ts) pool → ((k : ℕ) (t : Template) (texts : List (List ℕ)) → slice_get ts k ≡ Some t → Begins (phrase_texts texts t.body) pool → Refers (phrase_code C.words Ret texts t.body)) → Refers (templates_code C.words texts ts)
+  templates_refer texts [] begins h = refl
+  templates_refer texts (t ∷ ts) begins h =
+      let next = phrase_texts texts t.body in
+      both_pass (instr_refers rows words pool) (phrase_code C.words Ret texts t.body) (templates_code C.words next ts) (h 0 t texts refl (begins_on next (templates_texts next ts) pool (templates_behind next ts) begins)) (templates_refer next ts begins (λ k u us e. h (suc k) u us e))
 
-  word_code_refers : (w : ℕ) (is_top : Bool) (s : Sort) → ClosedAs P w s → Refers (sort_code C.words is_top s)
-  word_code_refers w is_top (body c) h = phrase_refers (last_instr is_top) (first_of_word w) h.0 c (last_refers rows words is_top) h.1 h.2
-  word_code_refers w is_top _ h = refl
+  word_code_refers : (w : ℕ) (is_top : Bool) (texts : List (List ℕ)) (s : Sort) → ClosedAs P w s → Begins (sort_texts texts s) pool → Refers (sort_code C.words is_top texts s)
+  word_code_refers w is_top texts (body c) h begins = phrase_refers (last_instr is_top) (first_of_word w) texts h.0 c (last_refers rows words pool is_top) h.1 h.2 begins
+  word_code_refers w is_top texts _ h begins = refl
 
   -- words from number w on
   abbrev AreClosed : ℕ → List WordDef → Type 0
@@ -175,43 +186,48 @@ module _ (P C : Program) (templates : List Template) (b : IsBuilt P) (closes : C
   rest_closed : (w : ℕ) (d : WordDef) (ds : List WordDef) → AreClosed w (d ∷ ds) → AreClosed (suc w) ds
   rest_closed w d ds h = λ k c e. let n : w + suc k ≡ suc w + k = omega arith in subst (λ (v : ℕ). ClosedAs P v c.sort) n (h (suc k) c e)
 
-  words_refer : (w : ℕ) (ds : List WordDef) → AreClosed w ds → Refers (code_from C.words C.top w ds)
-  words_refer w [] h = refl
-  words_refer w (d ∷ ds) h = both_pass (instr_refers rows words) (word_code C.words C.top w d) (code_from C.words C.top (suc w) ds) (word_code_refers w (nat_eq w C.top) d.sort (first_closed w d ds h)) (words_refer (suc w) ds (rest_closed w d ds h))
+  words_refer : (texts : List (List ℕ)) (w : ℕ) (ds : List WordDef) → AreClosed w ds → Begins (words_texts texts ds) pool → Refers (code_from C.words C.top texts w ds)
+  words_refer texts w [] h begins = refl
+  words_refer texts w (d ∷ ds) h begins =
+      let next = sort_texts texts d.sort in
+      both_pass (instr_refers rows words pool) (word_code C.words C.top texts w d) (code_from C.words C.top next (suc w) ds)
+      (word_code_refers w (nat_eq w C.top) texts d.sort (first_closed w d ds h) (begins_on next (words_texts next ds) pool (words_behind next ds) begins)) (words_refer next (suc w) ds (rest_closed w d ds h) begins)
 
   -- rows of words
-  action_within : (at w : ℕ) (is_top : Bool) (s : Sort) (more : List Instr) → ClosedAs P w s → drop at code ≡ sort_code C.words is_top s ++ more → action_refers (length code) (sort_action at s) ≡ true
-  action_within at w is_top (prim_sort k) more h e = h
-  action_within at w is_top (core_sort k) more h e = h
-  action_within at w is_top (body c) more h e = begins_within code C.words (last_instr is_top) c at more e
-  action_within at w is_top _ more h e = absurd h
+  action_within : (at w : ℕ) (is_top : Bool) (texts : List (List ℕ)) (s : Sort) (more : List Instr) → ClosedAs P w s → drop at code ≡ sort_code C.words is_top texts s ++ more → action_refers (length code) (sort_action at s) ≡ true
+  action_within at w is_top texts (prim_sort k) more h e = h
+  action_within at w is_top texts (core_sort k) more h e = h
+  action_within at w is_top texts (body c) more h e = begins_within code C.words (last_instr is_top) texts c at more e
+  action_within at w is_top texts _ more h e = absurd h
 
-  words_within : (at w : ℕ) (ds : List WordDef) → AreClosed w ds → drop at code ≡ code_from C.words C.top w ds → list_all (word_refers (length code)) (words_from C.words C.top at w ds) ≡ true
-  words_within at w [] h e = refl
-  words_within at w (d ∷ ds) h e =
-      let own = word_code C.words C.top w d in
-      let others = code_from C.words C.top (suc w) ds in
-      and_true (action_refers (length code) (sort_action at d.sort)) (list_all (word_refers (length code)) (words_from C.words C.top (at + length own) (suc w) ds))
-      (action_within at w (nat_eq w C.top) d.sort others (first_closed w d ds h) e) (words_within (at + length own) (suc w) ds (rest_closed w d ds h) (drop_behind code at own others e))
+  words_within : (texts : List (List ℕ)) (at w : ℕ) (ds : List WordDef) → AreClosed w ds → drop at code ≡ code_from C.words C.top texts w ds → list_all (word_refers (length code)) (words_from C.words C.top texts at w ds) ≡ true
+  words_within texts at w [] h e = refl
+  words_within texts at w (d ∷ ds) h e =
+      let own = word_code C.words C.top texts w d in
+      let next = sort_texts texts d.sort in
+      let others = code_from C.words C.top next (suc w) ds in
+      and_true (action_refers (length code) (sort_action at d.sort)) (list_all (word_refers (length code)) (words_from C.words C.top next (at + length own) (suc w) ds))
+      (action_within at w (nat_eq w C.top) texts d.sort others (first_closed w d ds h) e) (words_within next (at + length own) (suc w) ds (rest_closed w d ds h) (drop_behind code at own others e))
 
   -- rows of templates
-  rows_within : (rs : List TemplateRow) (ts : List Template) → Rows C.words code rs ts → list_all (template_refers (length code)) rs ≡ true
+  rows_within : (rs : List TemplateRow) (ts : List Template) → Rows C.words code pool rs ts → list_all (template_refers (length code)) rs ≡ true
   rows_within [] [] h = refl
   rows_within [] (t ∷ ts) h = absurd h
   rows_within (r ∷ rs) [] h = absurd h
   rows_within (r ∷ rs) (t ∷ ts) h =
-      and_true (template_refers (length code) r) (list_all (template_refers (length code)) rs) (ap (template_refers (length code)) h.0.row ∙ begins_within code C.words Ret t.body h.0.at h.0.more h.0.there) (rows_within rs ts h.1)
+      and_true (template_refers (length code) r) (list_all (template_refers (length code)) rs) (ap (template_refers (length code)) h.0.row ∙ begins_within code C.words Ret h.0.texts t.body h.0.at h.0.more h.0.there) (rows_within rs ts h.1)
 
   all_closed : AreClosed 0 C.words
   all_closed k c e = let n : k ≡ 0 + k = omega arith in subst (λ (v : ℕ). ClosedAs P v c.sort) n (word_is k c e)
 
   -- the plain code, which starts at a word's place
-  pub plain_refers : (start : ℕ) → slice_get words C.top ≡ Some (record { action = code_action start }) → refers rows words code start ≡ true
+  pub plain_refers : (start : ℕ) → slice_get words C.top ≡ Some (record { action = code_action start }) → refers rows words pool code start ≡ true
   plain_refers start e =
-      let first = templates_code C.words templates in
-      let within_words = words_within (length first) 0 C.words all_closed (behind_templates C templates code refl) in
-      let all_refer = both_pass (instr_refers rows words) first (code_from C.words C.top 0 C.words) (templates_refer templates template_refers_to) (words_refer 0 C.words all_closed) in
+      let first = templates_code C.words [] templates in
+      let texts = templates_texts [] templates in
+      let within_words = words_within texts (length first) 0 C.words all_closed (behind_templates C templates code refl) in
+      let all_refer = both_pass (instr_refers rows words pool) first (code_from C.words C.top texts 0 C.words) (templates_refer [] templates (words_behind texts C.words) template_refers_to) (words_refer texts 0 C.words all_closed (begins_same pool)) in
       let started = one_passes (word_refers (length code)) words C.top (record { action = code_action start }) within_words e in
-      and_true (list_all (template_refers (length code)) rows) (list_all (word_refers (length code)) words && (list_all (instr_refers rows words) code && nat_lt start (length code)))
-      (rows_within rows templates (all_rows P C templates b closes code rows refl refl))
-      (and_true (list_all (word_refers (length code)) words) (list_all (instr_refers rows words) code && nat_lt start (length code)) within_words (and_true (list_all (instr_refers rows words) code) (nat_lt start (length code)) all_refer started))
+      and_true (list_all (template_refers (length code)) rows) (list_all (word_refers (length code)) words && (list_all (instr_refers rows words pool) code && nat_lt start (length code)))
+      (rows_within rows templates (all_rows P C templates b closes code pool rows refl refl refl))
+      (and_true (list_all (word_refers (length code)) words) (list_all (instr_refers rows words pool) code && nat_lt start (length code)) within_words (and_true (list_all (instr_refers rows words pool) code) (nat_lt start (length code)) all_refer started))

@@ -6,9 +6,9 @@ use Rattle.fac_lang.specs.declared.program.Program.{Program}
 use Rattle.fac_lang.specs.declared.program.WordDef.{WordDef}
 use Rattle.fac_lang.specs.declared.program.Sort.{Sort}
 use Rattle.fac_lang.specs.declared.program.Sort.TheVariants.{Prim as prim_sort, Core as core_sort, Body as body}
-use Rattle.fac_lang.specs.Phrases.{int, yes, no, Phrase, end, then, Item, lit, word, made}
+use Rattle.fac_lang.specs.Phrases.{int, yes, no, str, Phrase, end, then, Item, lit, word, made}
 use Rattle.fac_code.specs.declared.image.Instr.{Instr}
-use Rattle.fac_code.specs.declared.image.Instr.TheVariants.{Halt, Int, True, False, Quot, Prim, Callw, Call, Dip, If, Ret}
+use Rattle.fac_code.specs.declared.image.Instr.TheVariants.{Halt, Int, True, False, Text, Quot, Prim, Callw, Call, Dip, If, Ret}
 use Rattle.fac_code.specs.declared.image.Action.{Action}
 use Rattle.fac_code.specs.declared.image.Action.TheVariants.{Prim as prim_action, Core as core_action, Code as code_action}
 use Rattle.fac_code.specs.declared.image.TemplateRow.{TemplateRow}
@@ -33,32 +33,49 @@ abbrev pub word_instr : ℕ → Option WordDef → Instr
 word_instr w None = Halt
 word_instr w (Some d) = sort_instr w d.sort
 
--- a quotation is made by its template; the other items aren't built yet
-abbrev pub item_instr : List WordDef → Item → Instr
-item_instr words (lit (int z)) = Int z
-item_instr words (lit yes) = True
-item_instr words (lit no) = False
-item_instr words (word w) = word_instr w (slice_get words w)
-item_instr words (made q) = Quot q
-item_instr words _ = Halt
+-- the texts with that of an item, where it is a string
+abbrev pub with_text : List (List ℕ) → Item → List (List ℕ)
+with_text texts (lit (str cs)) = texts ++ cs ∷ []
+with_text texts _ = texts
 
-abbrev pub phrase_code : List WordDef → Instr → Phrase → List Instr
-phrase_code words last end = last ∷ []
-phrase_code words last (then i place t) = item_instr words i ∷ phrase_code words last t
+-- A string is the text with this number, and a quotation is made by its template; the other items aren't built yet.
+abbrev pub item_instr : List WordDef → ℕ → Item → Instr
+item_instr words k (lit (int z)) = Int z
+item_instr words k (lit yes) = True
+item_instr words k (lit no) = False
+item_instr words k (lit (str cs)) = Text k
+item_instr words k (word w) = word_instr w (slice_get words w)
+item_instr words k (made q) = Quot q
+item_instr words k _ = Halt
+
+-- the code of a phrase, behind code with these texts: each string has the next number
+abbrev pub phrase_code : List WordDef → Instr → List (List ℕ) → Phrase → List Instr
+phrase_code words last texts end = last ∷ []
+phrase_code words last texts (then i place t) = item_instr words (length texts) i ∷ phrase_code words last (with_text texts i) t
+
+-- the texts behind a phrase: these, and behind them its own
+abbrev pub phrase_texts : List (List ℕ) → Phrase → List (List ℕ)
+phrase_texts texts end = texts
+phrase_texts texts (then i place t) = phrase_texts (with_text texts i) t
 
 -- the code of templates, one behind the other
-abbrev pub templates_code : List WordDef → List Template → List Instr
-templates_code words [] = []
-templates_code words (t ∷ ts) = phrase_code words Ret t.body ++ templates_code words ts
+abbrev pub templates_code : List WordDef → List (List ℕ) → List Template → List Instr
+templates_code words texts [] = []
+templates_code words texts (t ∷ ts) = phrase_code words Ret texts t.body ++ templates_code words (phrase_texts texts t.body) ts
+
+-- the texts behind them
+abbrev pub templates_texts : List (List ℕ) → List Template → List (List ℕ)
+templates_texts texts [] = texts
+templates_texts texts (t ∷ ts) = templates_texts (phrase_texts texts t.body) ts
 
 -- the row of a template whose code stands at a place
 abbrev pub row_at : ℕ → Template → TemplateRow
 row_at at t = record { entry = at; cells = t.captures; holes = t.holes }
 
 -- the rows of templates, whose code stands from a place on
-abbrev pub template_rows : List WordDef → ℕ → List Template → List TemplateRow
-template_rows words at [] = []
-template_rows words at (t ∷ ts) = row_at at t ∷ template_rows words (at + length (phrase_code words Ret t.body)) ts
+abbrev pub template_rows : List WordDef → List (List ℕ) → ℕ → List Template → List TemplateRow
+template_rows words texts at [] = []
+template_rows words texts at (t ∷ ts) = row_at at t ∷ template_rows words (phrase_texts texts t.body) (at + length (phrase_code words Ret texts t.body)) ts
 
 -- the top-level phrase ends the run, and each other phrase goes back to where it was called
 abbrev pub last_instr : Bool → Instr
@@ -72,38 +89,53 @@ sort_action at (core_sort k) = core_action k
 sort_action at _ = code_action at
 
 -- the code of a word, where it is defined by a phrase
-abbrev pub sort_code : List WordDef → Bool → Sort → List Instr
-sort_code words is_top (body t) = phrase_code words (last_instr is_top) t
-sort_code words is_top _ = []
+abbrev pub sort_code : List WordDef → Bool → List (List ℕ) → Sort → List Instr
+sort_code words is_top texts (body t) = phrase_code words (last_instr is_top) texts t
+sort_code words is_top texts _ = []
+
+-- and the texts behind it
+abbrev pub sort_texts : List (List ℕ) → Sort → List (List ℕ)
+sort_texts texts (body t) = phrase_texts texts t
+sort_texts texts _ = texts
+
+-- the texts behind words
+abbrev pub words_texts : List (List ℕ) → List WordDef → List (List ℕ)
+words_texts texts [] = texts
+words_texts texts (d ∷ ds) = words_texts (sort_texts texts d.sort) ds
 
 -- for the words of a closed program, whose top-level phrase has this number
 module _ (words : List WordDef) (top : ℕ) where
   -- the code of the word with this number
-  abbrev pub word_code : ℕ → WordDef → List Instr
-  word_code w d = sort_code words (nat_eq w top) d.sort
+  abbrev pub word_code : List (List ℕ) → ℕ → WordDef → List Instr
+  word_code texts w d = sort_code words (nat_eq w top) texts d.sort
 
   -- the code of the words from number w on
-  abbrev pub code_from : ℕ → List WordDef → List Instr
-  code_from w [] = []
-  code_from w (d ∷ ds) = word_code w d ++ code_from (suc w) ds
+  abbrev pub code_from : List (List ℕ) → ℕ → List WordDef → List Instr
+  code_from texts w [] = []
+  code_from texts w (d ∷ ds) = word_code texts w d ++ code_from (sort_texts texts d.sort) (suc w) ds
 
   -- the rows of the words from number w on, whose code stands from a place on
-  abbrev pub words_from : ℕ → ℕ → List WordDef → List WordRow
-  words_from at w [] = []
-  words_from at w (d ∷ ds) = (record { action = sort_action at d.sort }) ∷ words_from (at + length (word_code w d)) (suc w) ds
+  abbrev pub words_from : List (List ℕ) → ℕ → ℕ → List WordDef → List WordRow
+  words_from texts at w [] = []
+  words_from texts at w (d ∷ ds) = (record { action = sort_action at d.sort }) ∷ words_from (sort_texts texts d.sort) (at + length (word_code texts w d)) (suc w) ds
 
 -- all code
 abbrev pub program_code : Program → List Template → List Instr
-program_code C ts = templates_code C.words ts ++ code_from C.words C.top 0 C.words
+program_code C ts = templates_code C.words [] ts ++ code_from C.words C.top (templates_texts [] ts) 0 C.words
+
+-- all texts: those of the strings in the order of their instructions
+abbrev pub program_texts : Program → List Template → List (List ℕ)
+program_texts C ts = words_texts (templates_texts [] ts) C.words
 
 -- the rows of the words, whose code stands behind that of the templates
 abbrev pub program_words : Program → List Template → List WordRow
-program_words C ts = words_from C.words C.top (length (templates_code C.words ts)) 0 C.words
+program_words C ts = words_from C.words C.top (templates_texts [] ts) (length (templates_code C.words [] ts)) 0 C.words
 
--- the image is the plain code of the closed program with these templates, has a row for each template and each word under its number, and starts
+-- the image is the plain code of the closed program with these templates, with its texts, has a row for each template and each word under its number, and starts
 -- at the top-level phrase's place
 pub record IsPlain (C : Program) (templates : List Template) (M : Image) : Type 0 where
   pub code : M.code ≡ program_code C templates
-  pub template_rows_are : M.templates ≡ template_rows C.words 0 templates
+  pub texts : M.texts ≡ program_texts C templates
+  pub template_rows_are : M.templates ≡ template_rows C.words [] 0 templates
   pub word_rows_are : M.words ≡ program_words C templates
   pub begins : slice_get M.words C.top ≡ Some (record { action = code_action M.start })

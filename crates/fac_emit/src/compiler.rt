@@ -12,8 +12,8 @@ ghost use Rattle.fac_emit.specs.inner.Coded.{body_is_coded, word_body_is_coded};
 ghost use Rattle.fac_emit.specs.inner.Parts.{AreParts, PlacesWord, PlacesWords};
 ghost use Rattle.fac_emit.specs.Stands.{PlainCode};
 
-use crate::emitter::{add_templates, add_word};
-use fac_code::{Action, Image, Instr, TemplateRow, WordRow};
+use crate::emitter::{Piece, add_templates, add_word, no_code};
+use fac_code::{Action, Image, TemplateRow, WordRow};
 use fac_lang::{List, Memory, Sort, WordDef};
 use fac_locals::Closed;
 use std::alloc::Global;
@@ -32,13 +32,14 @@ fn action_of(place: u32, sort: &Sort) -> Action
 // The parts of an image.
 #[derive(Drop)]
 struct Parts {
-    code: List<Instr>,
+    piece: Piece,
     templates: List<TemplateRow>,
     words: List<WordRow>,
 }
 
 // Adds the code of a word of this sort, and its row.
 fn place_word(
+    alloc: Global,
     parts: &mut Parts,
     words: &List<WordDef>,
     is_top: bool,
@@ -47,22 +48,27 @@ fn place_word(
     requires { body_is_coded words.now sort.now ≡ true }
     ensures { OnOk result (PlacesWord words.now is_top sort.now parts.old parts.new) }
 {
-    let place = parts.code.len();
+    let place = parts.piece.code.len();
     parts.words.push(WordRow {
         action: action_of(place, sort),
     })?;
-    add_word(&mut parts.code, words, is_top, sort)
+    add_word(alloc, &mut parts.piece, words, is_top, sort)
 }
 
 // Adds the code and the rows of the words.
-fn add_words(parts: &mut Parts, words: &List<WordDef>, top: u32) -> Result<(), Memory>
+fn add_words(
+    alloc: Global,
+    parts: &mut Parts,
+    words: &List<WordDef>,
+    top: u32,
+) -> Result<(), Memory>
     requires { list_all (word_body_is_coded words.now) words.now ≡ true }
     ensures { OnOk result (PlacesWords words.now top parts.old parts.new) }
 {
     let _count = words.len();
     let mut number = 0u32;
     for word in words.as_slice() {
-        place_word(parts, words, number == top, &word.sort)?;
+        place_word(alloc, parts, words, number == top, &word.sort)?;
         number += 1;
     }
     Ok(())
@@ -74,19 +80,19 @@ fn link(alloc: Global, closed: &Closed) -> Result<Parts, Memory>
     ensures { IfOk result (AreParts closed.now.program closed.now.templates) }
 {
     let mut parts = Parts {
-        code: List::new(alloc),
+        piece: no_code(alloc),
         templates: List::new(alloc),
         words: List::new(alloc),
     };
     let words = &closed.program.words;
     add_templates(
         alloc,
-        &mut parts.code,
+        &mut parts.piece,
         &mut parts.templates,
         words,
         &closed.templates,
     )?;
-    add_words(&mut parts, words, closed.program.top)?;
+    add_words(alloc, &mut parts, words, closed.program.top)?;
     Ok(parts)
 }
 
@@ -108,8 +114,8 @@ fn place(rows: &List<WordRow>, word: u32) -> u32
 /// The image of a closed program of the built forms. It carries the program that this one stands for, on every list of as many values as
 /// the closed program starts on whose callables are of the image's templates, with every input and at every budget, where that program is
 /// stuck at none. Its code stands for the
-/// phrases of that program, item by item, and is plain: the code of the templates and behind it that of the words, each in their order, with a row
-/// for each template and each word; it starts at the top-level phrase. Want of memory is the one error.
+/// phrases of that program, item by item, and is plain: the code of the templates and behind it that of the words, each in their order, with the
+/// texts of its strings in the order of their instructions, and a row for each template and each word; it starts at the top-level phrase. Want of memory is the one error.
 pub fn compile(alloc: Global, closed: &Closed) -> Result<Image, Memory>
     requires { (P : Source) × Closes P closed.now.program closed.now.templates × IsBuilt P }
     ensures carries { IfOk result (λ image. (P : Source) (fits : Height → Height → Bool) (callable_height : Callable → Option Height) → Closes P closed.now.program closed.now.templates → IsBuilt P → Carries P fits callable_height closed.now.start image) }
@@ -117,14 +123,16 @@ pub fn compile(alloc: Global, closed: &Closed) -> Result<Image, Memory>
     ensures plain { IfOk result (IsPlain closed.now.program closed.now.templates) }
 {
     let Parts {
-        code,
+        piece,
         templates,
         words,
     } = link(alloc, closed)?;
+    let Piece { code, texts } = piece;
     let start = place(&words, closed.program.top);
     Ok(Image {
         templates,
         words,
+        texts,
         code,
         start,
     })

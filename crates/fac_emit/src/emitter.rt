@@ -7,21 +7,23 @@ ghost use Rattle.fac_lang.specs.Forms.{IsBuilt};
 ghost use Rattle.fac_lang.specs.CoreWords.{is_built_core};
 ghost use Rattle.fac_lang.specs.Meaning.{sort_of};
 ghost use Rattle.fac_locals.specs.Closed.{Closes};
-ghost use Rattle.fac_emit.specs.ProgramCode.{core_instr, sort_instr, item_instr, phrase_code, row_at, templates_code, template_rows, last_instr, sort_code};
+ghost use Rattle.fac_emit.specs.ProgramCode.{core_instr, sort_instr, item_instr, with_text, phrase_code, phrase_texts, row_at, templates_code, templates_texts, template_rows, last_instr, sort_code, sort_texts};
 ghost use Rattle.fac_emit.specs.inner.Coded.{sort_is_coded, item_is_coded, phrase_is_coded, template_is_coded, body_is_coded};
-ghost use Rattle.fac_emit.specs.inner.FoundCode.{found_code, found_template};
+ghost use Rattle.fac_emit.specs.inner.FoundCode.{IsCodeOf, found_code, found_texts, found_template, found_template_texts};
 ghost use Rattle.fac_emit.specs.Emits.{Emits, TemplateEmits};
 
 use fac_code::{Instr, TemplateRow};
-use fac_lang::{Duplicate, List, Memory, Phrase, Sort, Template, What, WordDef};
+use fac_lang::{Duplicate, List, Memory, Phrase, Sort, Template, Text, What, WordDef};
 use fac_locals::Closed;
 use std::alloc::Global;
 
-/// The plain code of a word, before it has its place behind that of the templates and of the words before it.
+/// Plain code, with the texts that it names.
 #[derive(Drop)]
 pub struct Piece {
-    /// The instructions of the word's phrase. A word that isn't defined by a phrase has none.
+    /// The instructions.
     pub code: List<Instr>,
+    /// The texts that they name by their numbers: those of the strings, in the order of their instructions.
+    pub texts: List<Text>,
 }
 
 // The instruction of the core word with this number.
@@ -50,15 +52,16 @@ fn instr_of_sort(word: u32, sort: &Sort) -> Instr
     }
 }
 
-// The instruction of an item.
-fn instr_of(words: &List<WordDef>, what: &What) -> Instr
+// The instruction of an item. A string is the text with this number.
+fn instr_of(words: &List<WordDef>, text: u32, what: &What) -> Instr
     requires { item_is_coded words.now (what_item what.now) ≡ true }
-    ensures { result ≡ item_instr words.now (what_item what.now) }
+    ensures { result ≡ item_instr words.now text (what_item what.now) }
 {
     match what {
         What::Int(value) => Instr::Int(*value),
         What::True => Instr::True,
         What::False => Instr::False,
+        What::Str(_) => Instr::Text(text),
         What::Word(number) => match words.get(*number as usize) {
             Some(word) => instr_of_sort(*number, &word.sort),
             None => unreachable!(),
@@ -68,56 +71,82 @@ fn instr_of(words: &List<WordDef>, what: &What) -> Instr
     }
 }
 
-// Adds the code of a phrase.
+// Adds the text of an item, where it is a string.
+fn add_text(alloc: Global, texts: &mut List<Text>, what: &What) -> Result<(), Memory>
+    ensures { OnOk result (texts.new ≡ with_text texts.old (what_item what.now)) }
+{
+    match what {
+        What::Str(text) => texts.push(text.copy(alloc)?),
+        _ => Ok(()),
+    }
+}
+
+// Adds the code of an item, and its text.
+fn add_item(
+    alloc: Global,
+    piece: &mut Piece,
+    words: &List<WordDef>,
+    what: &What,
+) -> Result<(), Memory>
+    requires { item_is_coded words.now (what_item what.now) ≡ true }
+    ensures { OnOk result ((piece.new.code ≡ piece.old.code ++ item_instr words.now (length piece.old.texts) (what_item what.now) ∷ []) × (piece.new.texts ≡ with_text piece.old.texts (what_item what.now))) }
+{
+    let number = piece.texts.len();
+    piece.code.push(instr_of(words, number, what))?;
+    add_text(alloc, &mut piece.texts, what)
+}
+
+// Adds the code of a phrase, and its texts.
 fn add_phrase(
-    code: &mut List<Instr>,
+    alloc: Global,
+    piece: &mut Piece,
     words: &List<WordDef>,
     phrase: &Phrase,
     last: Instr,
 ) -> Result<(), Memory>
     requires { phrase_is_coded words.now phrase.now ≡ true }
-    ensures { OnOk result (code.new ≡ code.old ++ phrase_code words.now last phrase.now) }
+    ensures { OnOk result ((piece.new.code ≡ piece.old.code ++ phrase_code words.now last piece.old.texts phrase.now) × (piece.new.texts ≡ phrase_texts piece.old.texts phrase.now)) }
 {
     for item in &phrase.items {
-        code.push(instr_of(words, &item.what))?;
+        add_item(alloc, piece, words, &item.what)?;
     }
-    code.push(last)
+    piece.code.push(last)
 }
 
-// Adds a template: its code and its row.
+// Adds a template: its code with its texts, and its row.
 fn add_template(
     alloc: Global,
-    code: &mut List<Instr>,
+    piece: &mut Piece,
     rows: &mut List<TemplateRow>,
     words: &List<WordDef>,
     template: &Template,
 ) -> Result<(), Memory>
     requires { template_is_coded words.now template.now ≡ true }
-    ensures { OnOk result ((code.new ≡ code.old ++ phrase_code words.now Instr.Ret template.now.body) × (rows.new ≡ rows.old ++ row_at (length code.old) template.now ∷ [])) }
+    ensures { OnOk result ((piece.new.code ≡ piece.old.code ++ phrase_code words.now Instr.Ret piece.old.texts template.now.body) × (piece.new.texts ≡ phrase_texts piece.old.texts template.now.body) × (rows.new ≡ rows.old ++ row_at (length piece.old.code) template.now ∷ [])) }
 {
-    let entry = code.len();
+    let entry = piece.code.len();
     let cells = template.captures.copy(alloc)?;
     rows.push(TemplateRow {
         entry,
         cells,
         holes: template.holes,
     })?;
-    add_phrase(code, words, &template.body, Instr::Ret)
+    add_phrase(alloc, piece, words, &template.body, Instr::Ret)
 }
 
-/// Adds the code and the rows of these templates, in their order.
+/// Adds the code of these templates with its texts, and their rows, in their order.
 pub fn add_templates(
     alloc: Global,
-    code: &mut List<Instr>,
+    piece: &mut Piece,
     rows: &mut List<TemplateRow>,
     words: &List<WordDef>,
     templates: &List<Template>,
 ) -> Result<(), Memory>
     requires { list_all (template_is_coded words.now) templates.now ≡ true }
-    ensures { OnOk result ((code.new ≡ code.old ++ templates_code words.now templates.now) × (rows.new ≡ rows.old ++ template_rows words.now (length code.old) templates.now)) }
+    ensures { OnOk result ((piece.new.code ≡ piece.old.code ++ templates_code words.now piece.old.texts templates.now) × (piece.new.texts ≡ templates_texts piece.old.texts templates.now) × (rows.new ≡ rows.old ++ template_rows words.now piece.old.texts (length piece.old.code) templates.now)) }
 {
     for template in templates.as_slice() {
-        add_template(alloc, code, rows, words, template)?;
+        add_template(alloc, piece, rows, words, template)?;
     }
     Ok(())
 }
@@ -129,68 +158,85 @@ fn last(is_top: bool) -> Instr
     if is_top { Instr::Halt } else { Instr::Ret }
 }
 
-/// Adds the code of a word of this sort, where it is defined by a phrase.
+/// Adds the code of a word of this sort with its texts, where it is defined by a phrase.
 pub fn add_word(
-    code: &mut List<Instr>,
+    alloc: Global,
+    piece: &mut Piece,
     words: &List<WordDef>,
     is_top: bool,
     sort: &Sort,
 ) -> Result<(), Memory>
     requires { body_is_coded words.now sort.now ≡ true }
-    ensures { OnOk result (code.new ≡ code.old ++ sort_code words.now is_top sort.now) }
+    ensures { OnOk result ((piece.new.code ≡ piece.old.code ++ sort_code words.now is_top piece.old.texts sort.now) × (piece.new.texts ≡ sort_texts piece.old.texts sort.now)) }
 {
     match sort {
-        Sort::Body(phrase) => add_phrase(code, words, phrase, last(is_top)),
+        Sort::Body(phrase) => add_phrase(alloc, piece, words, phrase, last(is_top)),
         _ => Ok(()),
     }
 }
 
-// The code of the word with this number.
-fn code_of_word(alloc: Global, closed: &Closed, word: u32) -> Result<List<Instr>, Memory>
-    requires { ((P : Source) × Closes P closed.now.program closed.now.templates × IsBuilt P) × (word < length closed.now.program.words) }
-    ensures { IfOk result (λ code. code ≡ found_code closed.now.program word (slice_get closed.now.program.words word)) }
+/// A piece with no code.
+pub fn no_code(alloc: Global) -> Piece
+    ensures { (result.code ≡ []) × (result.texts ≡ []) }
 {
-    let mut code = List::new(alloc);
+    Piece {
+        code: List::new(alloc),
+        texts: List::new(alloc),
+    }
+}
+
+// The code of the word with this number.
+fn code_of_word(alloc: Global, closed: &Closed, word: u32) -> Result<Piece, Memory>
+    requires { ((P : Source) × Closes P closed.now.program closed.now.templates × IsBuilt P) × (word < length closed.now.program.words) }
+    ensures { IfOk result (IsCodeOf (found_code closed.now.program word (slice_get closed.now.program.words word)) (found_texts (slice_get closed.now.program.words word))) }
+{
+    let mut piece = no_code(alloc);
     match closed.program.words.get(word as usize) {
         Some(def) => add_word(
-            &mut code,
+            alloc,
+            &mut piece,
             &closed.program.words,
             word == closed.program.top,
             &def.sort,
         )?,
         None => unreachable!(),
     }
-    Ok(code)
+    Ok(piece)
 }
 
 // The code of the template with this number.
-fn code_of_template(alloc: Global, closed: &Closed, template: u32) -> Result<List<Instr>, Memory>
+fn code_of_template(alloc: Global, closed: &Closed, template: u32) -> Result<Piece, Memory>
     requires { ((P : Source) × Closes P closed.now.program closed.now.templates × IsBuilt P) × (template < length closed.now.templates) }
-    ensures { IfOk result (λ code. code ≡ found_template closed.now.program (slice_get closed.now.templates template)) }
+    ensures { IfOk result (IsCodeOf (found_template closed.now.program (slice_get closed.now.templates template)) (found_template_texts (slice_get closed.now.templates template))) }
 {
-    let mut code = List::new(alloc);
+    let mut piece = no_code(alloc);
     match closed.templates.get(template as usize) {
-        Some(found) => add_phrase(&mut code, &closed.program.words, &found.body, Instr::Ret)?,
+        Some(found) => add_phrase(
+            alloc,
+            &mut piece,
+            &closed.program.words,
+            &found.body,
+            Instr::Ret,
+        )?,
         None => unreachable!(),
     }
-    Ok(code)
+    Ok(piece)
 }
 
 /// The plain code of the word with this number, as a piece: an instruction for each item of its phrase, and behind them a `ret`, or a `halt`
 /// for the top-level phrase. A word that isn't defined by a phrase has none. Want of memory is the one error.
 pub fn emit_word(alloc: Global, closed: &Closed, word: u32) -> Result<Piece, Memory>
     requires { ((P : Source) × Closes P closed.now.program closed.now.templates × IsBuilt P) × (word < length closed.now.program.words) }
-    ensures { IfOk result (λ piece. (P : Source) → Closes P closed.now.program closed.now.templates → IsBuilt P → Emits P word (sort_of P word) piece.code) }
+    ensures { IfOk result (λ piece. (P : Source) → Closes P closed.now.program closed.now.templates → IsBuilt P → Emits P piece.texts word (sort_of P word) piece.code) }
 {
-    let code = code_of_word(alloc, closed, word)?;
-    Ok(Piece { code })
+    code_of_word(alloc, closed, word)
 }
 
-/// The plain code of the template with this number: an instruction for each item of its quotation, and behind them a `ret`. Want of
-/// memory is the one error.
-pub fn emit_template(alloc: Global, closed: &Closed, template: u32) -> Result<List<Instr>, Memory>
+/// The plain code of the template with this number, as a piece: an instruction for each item of its quotation, and behind them a `ret`.
+/// Want of memory is the one error.
+pub fn emit_template(alloc: Global, closed: &Closed, template: u32) -> Result<Piece, Memory>
     requires { ((P : Source) × Closes P closed.now.program closed.now.templates × IsBuilt P) × (template < length closed.now.templates) }
-    ensures { IfOk result (λ code. (P : Source) → Closes P closed.now.program closed.now.templates → IsBuilt P → TemplateEmits P template code) }
+    ensures { IfOk result (λ piece. (P : Source) → Closes P closed.now.program closed.now.templates → IsBuilt P → TemplateEmits P piece.texts template piece.code) }
 {
     code_of_template(alloc, closed, template)
 }

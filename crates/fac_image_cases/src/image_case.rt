@@ -7,13 +7,14 @@
 //!     @word prim NAME         a word that does this primitive, by its name or its number
 //!     @word core N            a word that does this core word
 //!     @word code N            a word with the code at this place
+//!     @text TEXT              a text of the image, with a `|` for each end of a line in it
 //!     @output N M             the write of this number fails after M bytes
 //!     @run N M                runs the code from the place N, with M ticks
 use crate::instructions::{action, instr};
 use crate::told_runs::told;
 use fac_code::{Image, Instr, TemplateRow, WordRow};
 use fac_io::MemSink;
-use fac_lang::{List, Memory, Text};
+use fac_lang::{Duplicate, List, Memory, Text};
 use fac_vm::Machine;
 use std::alloc::Global;
 
@@ -26,6 +27,7 @@ pub struct Case {
     // The numbers of each template: its place, its holes, its cells.
     templates: Vec<Vec<u32>>,
     words: Vec<WordRow>,
+    texts: List<Text>,
     code: Vec<Instr>,
     output: Vec<(u64, u64)>,
 }
@@ -70,6 +72,18 @@ fn templates(alloc: Global, rows: &[Vec<u32>]) -> Result<List<TemplateRow>, Memo
     Ok(templates)
 }
 
+// A text in which a `|` stands for each end of a line.
+fn with_lines(alloc: Global, told: &str) -> Result<Text, Memory> {
+    let mut text = Text::new(alloc);
+    for (number, line) in told.split('|').enumerate() {
+        if number > 0 {
+            text.push_ascii(b'\n')?;
+        }
+        text.push_str(line)?;
+    }
+    Ok(text)
+}
+
 // Copies of words and code.
 fn tables(
     alloc: Global,
@@ -100,7 +114,7 @@ fn run_told(
     budget: u64,
 ) -> Result<Text, Memory> {
     let stop = machine.run(alloc, out, budget);
-    told(alloc, stop, machine.stack(), out.taken())
+    told(alloc, stop, machine.store(), machine.stack(), out.taken())
 }
 
 // Runs an image, and tells how the run ended.
@@ -116,6 +130,7 @@ impl Case {
         Case {
             templates: Vec::new(alloc),
             words: Vec::new(alloc),
+            texts: List::new(alloc),
             code: Vec::new(alloc),
             output: Vec::new(alloc),
         }
@@ -125,10 +140,9 @@ impl Case {
     pub fn take(&mut self, alloc: Global, line: &str) -> Result<Text, Memory> {
         let taken = match line.strip_prefix("@") {
             None => self.add_code(line)?,
-            Some(set) => match set.split_once(' ') {
-                Some(("run", text)) => return self.run(alloc, text),
-                Some((name, text)) => self.set(alloc, name, text)?,
-                None => false,
+            Some(set) => match set.split_once(' ').unwrap_or((set, "")) {
+                ("run", text) => return self.run(alloc, text),
+                (name, text) => self.set(alloc, name, text)?,
             },
         };
         Text::from_str(alloc, if taken { "" } else { "  not taken\n" })
@@ -163,6 +177,10 @@ impl Case {
                 }
                 None => Ok(false),
             },
+            "text" => {
+                self.texts.push(with_lines(alloc, text)?)?;
+                Ok(true)
+            }
             "output" => match pair(text) {
                 Some(pair) => {
                     self.output.push(pair)?;
@@ -178,7 +196,8 @@ impl Case {
     fn image(&self, alloc: Global, start: u32) -> Result<Option<Image>, Memory> {
         let templates = templates(alloc, self.templates.as_slice())?;
         let (words, code) = tables(alloc, self.words.as_slice(), self.code.as_slice())?;
-        Ok(Image::new(templates, words, code, start))
+        let texts = self.texts.copy(alloc)?;
+        Ok(Image::new(templates, words, texts, code, start))
     }
 
     // Runs the image, and tells how the run ended.

@@ -39,6 +39,7 @@ fn plain(name: &str) -> Option<Instr> {
 // The instruction of a word and the number behind it.
 fn with_number(name: &str, number: u32) -> Option<Instr> {
     match name {
+        "text" => Some(Instr::Text(number)),
         "quot" => Some(Instr::Quot(number)),
         "callw" => Some(Instr::Callw {
             word: number,

@@ -38,6 +38,10 @@ pub enum Operation {
     Or,
     /// `?`
     Choose,
+    /// `=`
+    Equal,
+    /// `eq?`
+    Same,
     /// `+`
     Add,
     /// `-`
@@ -66,12 +70,18 @@ pub enum Operation {
     AtMost,
     /// `>=`
     AtLeast,
+    /// `write`
+    Write,
+    /// `print`
+    Print,
+    /// `nl`
+    NewLine,
     /// `.`
     Show,
 }
 
 #[rattlefmt::skip]
-static PRIMITIVES: [PrimitiveRow; 38] = [
+static PRIMITIVES: [PrimitiveRow; 43] = [
     PrimitiveRow { word: WordRow { vocab: "kernel", name: "drop", ins: &["x"], outs: Some(&[]) }, does: Operation::Shuffle { takes: 1, leaves: &[] } },
     PrimitiveRow { word: WordRow { vocab: "kernel", name: "dup", ins: &["x"], outs: Some(&["x", "x"]) }, does: Operation::Shuffle { takes: 1, leaves: &[0, 0] } },
     PrimitiveRow { word: WordRow { vocab: "kernel", name: "swap", ins: &["x", "y"], outs: Some(&["y", "x"]) }, does: Operation::Shuffle { takes: 2, leaves: &[1, 0] } },
@@ -95,6 +105,8 @@ static PRIMITIVES: [PrimitiveRow; 38] = [
     PrimitiveRow { word: WordRow { vocab: "kernel", name: "and", ins: &["x", "y"], outs: Some(&["z"]) }, does: Operation::And },
     PrimitiveRow { word: WordRow { vocab: "kernel", name: "or", ins: &["x", "y"], outs: Some(&["z"]) }, does: Operation::Or },
     PrimitiveRow { word: WordRow { vocab: "kernel", name: "?", ins: &["?", "x", "y"], outs: Some(&["z"]) }, does: Operation::Choose },
+    PrimitiveRow { word: WordRow { vocab: "kernel", name: "=", ins: &["x", "y"], outs: Some(&["?"]) }, does: Operation::Equal },
+    PrimitiveRow { word: WordRow { vocab: "kernel", name: "eq?", ins: &["x", "y"], outs: Some(&["?"]) }, does: Operation::Same },
     PrimitiveRow { word: WordRow { vocab: "math", name: "+", ins: &["x", "y"], outs: Some(&["z"]) }, does: Operation::Add },
     PrimitiveRow { word: WordRow { vocab: "math", name: "-", ins: &["x", "y"], outs: Some(&["z"]) }, does: Operation::Subtract },
     PrimitiveRow { word: WordRow { vocab: "math", name: "*", ins: &["x", "y"], outs: Some(&["z"]) }, does: Operation::Multiply },
@@ -109,6 +121,9 @@ static PRIMITIVES: [PrimitiveRow; 38] = [
     PrimitiveRow { word: WordRow { vocab: "math", name: ">", ins: &["x", "y"], outs: Some(&["?"]) }, does: Operation::Greater },
     PrimitiveRow { word: WordRow { vocab: "math", name: "<=", ins: &["x", "y"], outs: Some(&["?"]) }, does: Operation::AtMost },
     PrimitiveRow { word: WordRow { vocab: "math", name: ">=", ins: &["x", "y"], outs: Some(&["?"]) }, does: Operation::AtLeast },
+    PrimitiveRow { word: WordRow { vocab: "io", name: "write", ins: &["str"], outs: Some(&[]) }, does: Operation::Write },
+    PrimitiveRow { word: WordRow { vocab: "io", name: "print", ins: &["str"], outs: Some(&[]) }, does: Operation::Print },
+    PrimitiveRow { word: WordRow { vocab: "io", name: "nl", ins: &[], outs: Some(&[]) }, does: Operation::NewLine },
     PrimitiveRow { word: WordRow { vocab: "prettyprint", name: ".", ins: &["x"], outs: Some(&[]) }, does: Operation::Show },
 ];
 

@@ -11,10 +11,10 @@ use Rattle.fac_lang.specs.Phrases.{Value}
 use Rattle.fac_lang.specs.World.{World, Error}
 use Rattle.fac_lang.specs.Printed.{Names, printed}
 use Rattle.fac_lang.specs.Eval.{Done, Failed, Spent}
-use Rattle.fac_prim.specs.MachineValues.{MValue, MCallable, machine_values}
-use Rattle.fac_prim.specs.ValueTrees.{value_in, values_in}
+use Rattle.fac_prim.specs.MachineValues.{MValue, machine_values}
+use Rattle.fac_prim.specs.ValueTrees.{Trees, value_in, values_in}
 use Rattle.fac_prim.specs.declared.value.Value.{Value as MachineValue}
-use Rattle.fac_prim.specs.declared.value.Value.TheVariants.{Int, True, False, Callable}
+use Rattle.fac_prim.specs.declared.value.Value.TheVariants.{Int, True, False, Text, Callable}
 use Rattle.fac_vm.specs.declared.machine.RunError.{RunError}
 use Rattle.fac_vm.specs.declared.machine.StopKind.TheVariants as stop
 use Rattle.fac_vm.specs.Machine.{empty_world}
@@ -28,31 +28,33 @@ use Rattle.fac_tool.specs.SeenObjects.{SinkSeen}
 use Rattle.fac_tool.specs.inner.Stops.{StopsAs, SameNames, value_form, value_text, machine_report}
 use Rattle.fac_tool.specs.Ends.{Matches}
 
--- the printed form of a value of the machine, whatever the callables are
-abbrev Prints : MachineValue → List ℕ → Type 0
-Prints v text = (N : Names) (T : List MCallable) (w : World MValue) → text ≡ printed machine_values N w (value_in T v)
+-- the printed form of a value of the machine, whatever is called and done
+abbrev Prints : Trees → MachineValue → List ℕ → Type 0
+Prints T v text = (N : Names) (w : World MValue) → text ≡ printed machine_values N w (value_in T v)
 
 no_names : Names
 no_names = record { word_name = λ w. []; kind_name = λ k. []; kind_slots = λ k. []; word_kind = λ w. 0; tuple_class = λ w. None }
 
-form_is : (v : MachineValue) (text : List ℕ) → Prints v text → text ≡ value_form v
-form_is (Int z) text e = e no_names [] empty_world
-form_is True text e = e no_names [] empty_world
-form_is False text e = e no_names [] empty_world
-form_is (Callable k) text e = e no_names [] empty_world
+form_is : (T : Trees) (v : MachineValue) (text : List ℕ) → Prints T v text → text ≡ value_form T v
+form_is T (Int z) text e = e no_names empty_world
+form_is T True text e = e no_names empty_world
+form_is T False text e = e no_names empty_world
+form_is T (Text k) text e = e no_names empty_world
+form_is T (Callable k) text e = e no_names empty_world
 
-pub if_form : (v : MachineValue) (r : Result (List ℕ) Memory) → IfOk r (λ text. Prints v text) → IfOk r (λ text. text ≡ value_form v)
-if_form v (Ok text) h = form_is v text h
-if_form v (Err e) h = tt
+pub if_form : (T : Trees) (v : MachineValue) (r : Result (List ℕ) Memory) → IfOk r (Prints T v) → IfOk r (λ text. text ≡ value_form T v)
+if_form T v (Ok text) h = form_is T v text h
+if_form T v (Err e) h = tt
 
 -- the text of a value of the machine is that of the value in the meaning
-text_same : (P : Program) (T : List MCallable) (w : World Value) (v : MachineValue) → shown P w (value_view (template_phrases P) (value_in T v)) ≡ value_text v
+text_same : (P : Program) (T : Trees) (w : World Value) (v : MachineValue) → shown P w (value_view (template_phrases P) (value_in T v)) ≡ value_text T v
 text_same P T w (Int z) = refl
 text_same P T w True = refl
 text_same P T w False = refl
+text_same P T w (Text k) = refl
 text_same P T w (Callable k) = refl
 
-texts_same : (P : Program) (T : List MCallable) (w : World Value) (vs : List MachineValue) → map (shown P w) (values_view (template_phrases P) (values_in T vs)) ≡ map value_text vs
+texts_same : (P : Program) (T : Trees) (w : World Value) (vs : List MachineValue) → map (shown P w) (values_view (template_phrases P) (values_in T vs)) ≡ map (value_text T) vs
 texts_same P T w [] = refl
 texts_same P T w (v ∷ vs) = rw (text_same P T w v, texts_same P T w vs) refl
 
@@ -61,8 +63,8 @@ reverse_map f [] = refl
 reverse_map f (x ∷ xs) = rw (reverse-cons, reverse_map f xs, reverse-cons, map-append) refl
 
 stack_texts :
-    (P : Program) (T : List MCallable) (w : World Value) (values : List MachineValue) (stack : List MValue) (meant : List Value) →
-    values_in T (reverse values) ≡ stack → meant ≡ values_view (template_phrases P) stack → map (shown P w) (reverse meant) ≡ map value_text values
+    (P : Program) (T : Trees) (w : World Value) (values : List MachineValue) (stack : List MValue) (meant : List Value) →
+    values_in T (reverse values) ≡ stack → meant ≡ values_view (template_phrases P) stack → map (shown P w) (reverse meant) ≡ map (value_text T) values
 stack_texts P T w values stack meant e m =
     let view = value_view (template_phrases P) in
     let upside : reverse stack ≡ values_in T values = ap reverse (sym e) ∙ reverse_map (value_in T) (reverse values) ∙ ap (map (value_in T)) (reverse-reverse values) in
@@ -78,32 +80,32 @@ abbrev reported_with : ℕ → ℕ → Report → Ended
 reported_with status ticks why = record { status = status; ticks = ticks; stack = None; refusal = Some why }
 
 pub done_matches :
-    (P : Program) (budget : ℕ) (T : List MCallable) (values : List MachineValue) (stack : List MValue) (ticks : ℕ) (out : SinkSeen) (texts : List (List ℕ)) →
-    values_in T (reverse values) ≡ stack → texts ≡ map value_text values → StopsAs P budget T stack ticks out stop.Done → Matches (run_answer P budget) out (done_with ticks texts)
+    (P : Program) (budget : ℕ) (T : Trees) (values : List MachineValue) (stack : List MValue) (ticks : ℕ) (out : SinkSeen) (texts : List (List ℕ)) →
+    values_in T (reverse values) ≡ stack → texts ≡ map (value_text T) values → StopsAs P budget T stack ticks out stop.Done → Matches (run_answer P budget) out (done_with ticks texts)
 done_matches P budget T values stack ticks out texts e t h =
     let answer = ap (of_run P budget) h.2 in
     let matches : Matches (of_run P budget (Done h.0 h.1)) out (done_with ticks texts) =
     record { status = refl; ticks = h.3; stack = ap Some (t ∙ sym (stack_texts P T h.0.world values stack h.0.stack e h.5)); refusal = refl; output = h.4 } in
     subst (λ (a : Answer). Matches a out (done_with ticks texts)) (sym answer) matches
 
-value_same : (P : Program) (T : List MCallable) (w : World Value) (v : Option MachineValue) → option_map (shown P w) (option_view (template_phrases P) (option_map (value_in T) v)) ≡ option_map value_text v
+value_same : (P : Program) (T : Trees) (w : World Value) (v : Option MachineValue) → option_map (shown P w) (option_view (template_phrases P) (option_map (value_in T) v)) ≡ option_map (value_text T) v
 value_same P T w None = refl
 value_same P T w (Some v) = ap Some (text_same P T w v)
 
-report_same : (P C : Program) (T : List MCallable) (w : World Value) (x : Error Value) (e : RunError) → SameNames P C → x ≡ error_view (template_phrases P) (error_of T e) → error_report P w x ≡ machine_report C e
+report_same : (P C : Program) (T : Trees) (w : World Value) (x : Error Value) (e : RunError) → SameNames P C → x ≡ error_view (template_phrases P) (error_of T e) → error_report P w x ≡ machine_report T C e
 report_same P C T w x e named same = rw (same, value_same, named e.word) refl
 
 pub failed_matches :
-    (P C : Program) (budget : ℕ) (T : List MCallable) (e : RunError) (stack : List MValue) (ticks : ℕ) (out : SinkSeen) →
-    SameNames P C → StopsAs P budget T stack ticks out (stop.Failed e) → Matches (run_answer P budget) out (reported_with 1 ticks (machine_report C e))
+    (P C : Program) (budget : ℕ) (T : Trees) (e : RunError) (stack : List MValue) (ticks : ℕ) (out : SinkSeen) →
+    SameNames P C → StopsAs P budget T stack ticks out (stop.Failed e) → Matches (run_answer P budget) out (reported_with 1 ticks (machine_report T C e))
 failed_matches P C budget T e stack ticks out named h =
     let answer = ap (of_run P budget) h.3 in
-    let matches : Matches (of_run P budget (Failed h.0 h.1 h.2)) out (reported_with 1 ticks (machine_report C e)) =
+    let matches : Matches (of_run P budget (Failed h.0 h.1 h.2)) out (reported_with 1 ticks (machine_report T C e)) =
     record { status = refl; ticks = h.4; stack = refl; refusal = ap Some (sym (report_same P C T h.1.world h.0 e named h.6)); output = h.5 } in
-    subst (λ (a : Answer). Matches a out (reported_with 1 ticks (machine_report C e))) (sym answer) matches
+    subst (λ (a : Answer). Matches a out (reported_with 1 ticks (machine_report T C e))) (sym answer) matches
 
 pub spent_matches :
-    (P : Program) (budget : ℕ) (T : List MCallable) (stack : List MValue) (ticks : ℕ) (out : SinkSeen) →
+    (P : Program) (budget : ℕ) (T : Trees) (stack : List MValue) (ticks : ℕ) (out : SinkSeen) →
     StopsAs P budget T stack ticks out stop.Spent → Matches (run_answer P budget) out (reported_with 6 ticks (report.Spent ticks))
 spent_matches P budget T stack ticks out h =
     let answer = ap (of_run P budget) h.2 in

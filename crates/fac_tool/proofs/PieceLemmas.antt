@@ -11,8 +11,7 @@ use Rattle.fac_lang.specs.declared.program.Program.{Program}
 use Rattle.fac_lang.specs.Printed.{Names}
 use Rattle.fac_lang.specs.Meaning.{names}
 use Rattle.fac_code.specs.declared.image.Image.{Image}
-use Rattle.fac_prim.specs.MachineValues.{MCallable}
-use Rattle.fac_prim.specs.ValueTrees.{values_in}
+use Rattle.fac_prim.specs.ValueTrees.{Trees, values_in}
 use Rattle.fac_prim.specs.declared.value.Value.{Value as MachineValue}
 use Rattle.fac_vm.specs.declared.machine.StopKind.{StopKind}
 use Rattle.fac_vm.specs.declared.machine.StopKind.TheVariants as stop
@@ -198,7 +197,7 @@ module _ (law : RunsHaveOneEnd) (P : Program) (M : Image) (carries : Carried P M
 
 -- a run from an empty stack
 pub takes_pieces :
-    RunsHaveOneEnd → (M : Image) (U : List MCallable) (old : List MachineValue) (ticks : ℕ) (out : SinkSeen) (what : StopKind) →
+    RunsHaveOneEnd → (M : Image) (U : Trees) (old : List MachineValue) (ticks : ℕ) (out : SinkSeen) (what : StopKind) →
     old ≡ [] → InMachinePieces M (values_in U old) ticks out.before out.now what → (P : Program) → Carried P M → TakesPieces P ticks out what
 takes_pieces law M U old ticks out what empty h P carries =
     takes_by law P M carries ticks out what (subst (λ (x : List MachineValue). InMachinePieces M (values_in U x) ticks out.before out.now what) empty h)

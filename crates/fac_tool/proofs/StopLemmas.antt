@@ -9,8 +9,8 @@ use Rattle.fac_lang.specs.Eval.{Result, Done, Failed, Spent, Stuck}
 use Rattle.fac_lang.specs.Meaning.{names}
 use Rattle.fac_code.specs.declared.image.Image.{Image}
 use Rattle.fac_code.specs.declared.names.TrapWhy.{TrapWhy}
-use Rattle.fac_prim.specs.MachineValues.{MValue, MCallable}
-use Rattle.fac_prim.specs.ValueTrees.{values_in}
+use Rattle.fac_prim.specs.MachineValues.{MValue}
+use Rattle.fac_prim.specs.ValueTrees.{Trees, values_in}
 use Rattle.fac_prim.specs.declared.value.Value.{Value as MachineValue}
 use Rattle.fac_vm.specs.declared.machine.RunError.{RunError}
 use Rattle.fac_vm.specs.declared.machine.StopKind.{StopKind}
@@ -38,7 +38,7 @@ left_is : (ticks left all : ℕ) → ticks + left ≡ all → ticks ≡ all - le
 left_is ticks left all e = omega (arith, e)
 
 done_is :
-    (P : Program) (budget : ℕ) (T : List MCallable) (r : Result) (s : Machine) (left ticks : ℕ) (new : List MValue) (out : SinkSeen) →
+    (P : Program) (budget : ℕ) (T : Trees) (r : Result) (s : Machine) (left ticks : ℕ) (new : List MValue) (out : SinkSeen) →
     meaning P budget ≡ r → EndsSame P r (done s left) → ticks + left ≡ budget → Grows out.before.taken out.now.taken s.world.output → new ≡ s.stack → StopsAs P budget T new ticks out stop.Done
 done_is P budget T (Done st m) s left ticks new out e same total grows stack =
     let output : s.world.output ≡ st.world.output = ap (λ (st : State Value). st.world.output) same.0 in
@@ -49,7 +49,7 @@ done_is P budget T (Spent st i) s left ticks new out e same total grows stack = 
 done_is P budget T Stuck s left ticks new out e same total grows stack = absurd same
 
 failed_is :
-    (P : Program) (budget : ℕ) (T : List MCallable) (r : Result) (err : RunError) (s : Machine) (left ticks : ℕ) (new : List MValue) (out : SinkSeen) →
+    (P : Program) (budget : ℕ) (T : Trees) (r : Result) (err : RunError) (s : Machine) (left ticks : ℕ) (new : List MValue) (out : SinkSeen) →
     meaning P budget ≡ r → EndsSame P r (failed (error_of T err) s left) → ticks + left ≡ budget → Grows out.before.taken out.now.taken s.world.output → StopsAs P budget T new ticks out (stop.Failed err)
 failed_is P budget T (Done st m) err s left ticks new out e same total grows = absurd same
 failed_is P budget T (Failed x st m) err s left ticks new out e same total grows =
@@ -59,7 +59,7 @@ failed_is P budget T (Spent st i) err s left ticks new out e same total grows = 
 failed_is P budget T Stuck err s left ticks new out e same total grows = absurd same
 
 spent_is :
-    (P : Program) (budget : ℕ) (T : List MCallable) (r : Result) (s : Machine) (ticks : ℕ) (new : List MValue) (out : SinkSeen) →
+    (P : Program) (budget : ℕ) (T : Trees) (r : Result) (s : Machine) (ticks : ℕ) (new : List MValue) (out : SinkSeen) →
     meaning P budget ≡ r → EndsSame P r (spent s) → ticks ≡ budget → Grows out.before.taken out.now.taken s.world.output → StopsAs P budget T new ticks out stop.Spent
 spent_is P budget T (Done st m) s ticks new out e same total grows = absurd same
 spent_is P budget T (Failed x st m) s ticks new out e same total grows = absurd same
@@ -74,7 +74,7 @@ trap_is P (Spent st i) y s left same = same
 trap_is P Stuck y s left same = same
 
 runs_so :
-    RunsHaveOneEnd → (P : Program) (M : Image) (budget : ℕ) (T : List MCallable) (new : List MValue) (ticks : ℕ) (out : SinkSeen) (what : StopKind) →
+    RunsHaveOneEnd → (P : Program) (M : Image) (budget : ℕ) (T : Trees) (new : List MValue) (ticks : ℕ) (out : SinkSeen) (what : StopKind) →
     Carried P M → Runs M T [] new budget ticks out.before.taken out.now.taken what → StopsAs P budget T new ticks out what
 runs_so law P M budget T new ticks out stop.Done c h =
     let there = h.4 (names P) in done_is P budget T (meaning P budget) h.0 h.1 ticks new out refl (same_end law P M budget c (done h.0 h.1) there.0) h.2 h.3 there.1
@@ -90,7 +90,7 @@ runs_so law P M budget T new ticks out stop.Memory c h = tt
 
 -- a run from an empty stack stops as the program's meaning ends
 pub stops :
-    RunsHaveOneEnd → (M : Image) (U T : List MCallable) (old : List MachineValue) (new : List MValue) (budget ticks : ℕ) (out : SinkSeen) (what : StopKind) →
+    RunsHaveOneEnd → (M : Image) (U T : Trees) (old : List MachineValue) (new : List MValue) (budget ticks : ℕ) (out : SinkSeen) (what : StopKind) →
     old ≡ [] → Runs M T (values_in U old) new budget ticks out.before.taken out.now.taken what → (P : Program) → Carried P M → StopsAs P budget T new ticks out what
 stops law M U T old new budget ticks out what empty h P c =
     runs_so law P M budget T new ticks out what c (subst (λ (x : List MachineValue). Runs M T (values_in U x) new budget ticks out.before.taken out.now.taken what) empty h)
@@ -124,7 +124,7 @@ output_is P Stuck (trap y s left) same = absurd same
 
 -- how far a run of the machine came is how far a run of the program came
 pub within :
-    RunsHaveOneEnd → (M : Image) (U : List MCallable) (old : List MachineValue) (budget ticks : ℕ) (out : SinkSeen) →
+    RunsHaveOneEnd → (M : Image) (U : Trees) (old : List MachineValue) (budget ticks : ℕ) (out : SinkSeen) →
     old ≡ [] → ticks ≤ budget → Reaches M (values_in U old) ticks out.before.taken out.now.taken → (P : Program) → Carried P M → StopsWithin P budget ticks out
 within law M U old budget ticks out empty most reaches P carries =
     let before = out.before.taken in

@@ -2,6 +2,7 @@
 ghost use Rattle.std.specs.Prelude.{◌≡◌, ◌≤◌, [], IfOk, map};
 ghost use Rattle.fac_io.specs.Faults.{HasCause};
 ghost use Rattle.fac_lang.specs.declared.program.Program.{Program as Source};
+ghost use Rattle.fac_prim.specs.ValueTrees.{trees_of};
 ghost use Rattle.fac_vm.specs.SeenMachine.{callables_in, stack_in};
 ghost use Rattle.fac_tool.specs.Answer.{run_answer, shown_text};
 ghost use Rattle.fac_tool.specs.Ends.{EndsAs, runs, StopsWithin};
@@ -18,7 +19,7 @@ use fac_io::Sink;
 use fac_lang::limits::MOST_SHOWN_BYTES;
 use fac_lang::{List, Memory, Program, Text};
 use fac_notes::name_of_word;
-use fac_prim::{Value, printed_form};
+use fac_prim::{Store, Value, printed_form};
 use fac_vm::{Machine, RunError, Stop, StopKind, runs_have_one_end};
 use std::alloc::Global;
 
@@ -34,34 +35,39 @@ fn shown(alloc: Global, text: &str) -> Result<Text, Memory>
 }
 
 // The printed form of a value.
-fn form(alloc: Global, value: Value) -> Result<Text, Memory>
-    ensures { IfOk result (λ form. form ≡ value_form value) }
+fn form(alloc: Global, store: &Store, value: Value) -> Result<Text, Memory>
+    ensures { IfOk result (λ form. form ≡ value_form (trees_of store.now) value) }
 {
-    printed_form(alloc, value)
+    printed_form(alloc, store, value)
 }
 
 // The text of a value.
-fn value_text(alloc: Global, value: Value) -> Result<Text, Memory>
-    ensures { IfOk result (λ text. text ≡ text_of_value value) }
+fn value_text(alloc: Global, store: &Store, value: Value) -> Result<Text, Memory>
+    ensures { IfOk result (λ text. text ≡ text_of_value (trees_of store.now) value) }
 {
-    let form = form(alloc, value)?;
+    let form = form(alloc, store, value)?;
     shown(alloc, form.as_str())
 }
 
 // The texts of values.
-fn texts(alloc: Global, values: &[Value]) -> Result<List<Text>, Memory>
-    ensures { IfOk result (λ texts. texts ≡ map text_of_value values.now) }
+fn texts(alloc: Global, store: &Store, values: &[Value]) -> Result<List<Text>, Memory>
+    ensures { IfOk result (λ texts. texts ≡ map (text_of_value (trees_of store.now)) values.now) }
 {
     let mut texts = List::new(alloc);
     for value in values {
-        texts.push(value_text(alloc, *value)?)?;
+        texts.push(value_text(alloc, store, *value)?)?;
     }
     Ok(texts)
 }
 
 // The report of a run error.
-fn error_report(alloc: Global, program: &Program, error: RunError) -> Result<Report, Memory>
-    ensures { IfOk result (λ report. report ≡ machine_report program.now error) }
+fn error_report(
+    alloc: Global,
+    store: &Store,
+    program: &Program,
+    error: RunError,
+) -> Result<Report, Memory>
+    ensures { IfOk result (λ report. report ≡ machine_report (trees_of store.now) program.now error) }
 {
     let word = name_of_word(alloc, program, error.word)?;
     match error.value {
@@ -71,7 +77,7 @@ fn error_report(alloc: Global, program: &Program, error: RunError) -> Result<Rep
             value: None,
         }),
         Some(value) => {
-            let text = value_text(alloc, value)?;
+            let text = value_text(alloc, store, value)?;
             Ok(Report::Error {
                 name: error.name,
                 word,
@@ -109,7 +115,7 @@ fn run_and_answer<K: Sink>(
     let stop = run_machine(alloc, machine, budget, out);
     let ticks = stop.ticks;
     match stop.what {
-        StopKind::Done => match texts(alloc, machine.stack()) {
+        StopKind::Done => match texts(alloc, machine.store(), machine.stack()) {
             Ok(texts) => Ended {
                 status: 0,
                 ticks,
@@ -118,7 +124,7 @@ fn run_and_answer<K: Sink>(
             },
             Err(_) => bare(12, ticks),
         },
-        StopKind::Failed(error) => match error_report(alloc, program, error) {
+        StopKind::Failed(error) => match error_report(alloc, machine.store(), program, error) {
             Ok(report) => reported(ticks, report),
             Err(_) => bare(12, ticks),
         },

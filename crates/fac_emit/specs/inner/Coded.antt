@@ -4,7 +4,7 @@ use Rattle.fac_lang.specs.declared.phrase.Template.{Template}
 use Rattle.fac_lang.specs.declared.program.WordDef.{WordDef}
 use Rattle.fac_lang.specs.declared.program.Sort.{Sort}
 use Rattle.fac_lang.specs.declared.program.Sort.TheVariants.{Prim as prim_sort, Core as core_sort, Body as body}
-use Rattle.fac_lang.specs.Phrases.{int, yes, no, Phrase, end, then, Item, lit, word, made}
+use Rattle.fac_lang.specs.Phrases.{int, yes, no, str, Phrase, end, then, Item, lit, word, made}
 use Rattle.fac_lang.specs.CoreWords.{is_built_core}
 
 -- whether a word of this sort has an instruction
@@ -23,6 +23,7 @@ abbrev pub item_is_coded : List WordDef → Item → Bool
 item_is_coded words (lit (int z)) = true
 item_is_coded words (lit yes) = true
 item_is_coded words (lit no) = true
+item_is_coded words (lit (str cs)) = true
 item_is_coded words (word w) = word_is_coded (slice_get words w)
 item_is_coded words (made q) = true
 item_is_coded words _ = false

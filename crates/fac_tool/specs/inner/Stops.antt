@@ -1,11 +1,12 @@
 -- A run of the machine that carries a program, in terms of the program's meaning.
-use Rattle.std.specs.Prelude.{◌≡◌, ℕ, ◌-◌, List, [], codes}
+use Rattle.std.specs.Prelude.{◌≡◌, ℕ, ◌-◌, List, [], ◌++◌, codes}
 use Rattle.std.specs.declared.option.Option.{Option}
 use Rattle.std.specs.Option.{option_map}
 use Rattle.std.specs.Fmt.{signed_decimal}
 use Rattle.fac_io.specs.Told.{Grows}
 use Rattle.fac_lang.specs.declared.program.Program.{Program}
 use Rattle.fac_lang.specs.Phrases.{Item, Value}
+use Rattle.fac_lang.specs.Printed.{escaped_all}
 use Rattle.fac_lang.specs.World.{State, Error}
 use Rattle.fac_lang.specs.Eval.{Done, Failed, Spent}
 use Rattle.fac_lang.specs.RunningLaws.{IsNotStuck}
@@ -16,9 +17,10 @@ use Rattle.fac_locals.specs.declared.closing.Closed.{Closed}
 use Rattle.fac_check.specs.CallableEffects.{callable_height, fits}
 use Rattle.fac_check.specs.Promises.{IsSafe}
 use Rattle.fac_code.specs.declared.image.Image.{Image}
-use Rattle.fac_prim.specs.MachineValues.{MValue, MCallable}
+use Rattle.fac_prim.specs.MachineValues.{MValue}
+use Rattle.fac_prim.specs.ValueTrees.{Trees, text_at}
 use Rattle.fac_prim.specs.declared.value.Value.{Value as MachineValue}
-use Rattle.fac_prim.specs.declared.value.Value.TheVariants.{Int, True, False, Callable}
+use Rattle.fac_prim.specs.declared.value.Value.TheVariants.{Int, True, False, Text, Callable}
 use Rattle.fac_vm.specs.declared.machine.RunError.{RunError}
 use Rattle.fac_vm.specs.declared.machine.StopKind.{StopKind}
 use Rattle.fac_vm.specs.declared.machine.StopKind.TheVariants as stop
@@ -55,7 +57,7 @@ pub record Carried (P : Program) (M : Image) : Type 0 where
   pub not_stuck : (n : ℕ) → IsNotStuck (meaning P n)
 
 -- how a run with this budget stopped that left this stack, where the machine's callables are these
-abbrev pub StopsAs : Program → ℕ → List MCallable → List MValue → ℕ → SinkSeen → StopKind → Type 0
+abbrev pub StopsAs : Program → ℕ → Trees → List MValue → ℕ → SinkSeen → StopKind → Type 0
 StopsAs P budget T stack ticks out stop.Done = (st : State Value) × (left : ℕ) × (meaning P budget ≡ Done st left) × (ticks ≡ budget - left) × Grows out.before.taken out.now.taken st.world.output × (st.stack ≡ values_view (template_phrases P) stack)
 StopsAs P budget T stack ticks out (stop.Failed e) =
     (x : Error Value) × (st : State Value) × (left : ℕ) × (meaning P budget ≡ Failed x st left) × (ticks ≡ budget - left) × Grows out.before.taken out.now.taken st.world.output × (x ≡ error_view (template_phrases P) (error_of T e))
@@ -73,17 +75,18 @@ TakesPieces P ticks out (stop.Trap pc why) = RunPieces P ticks [] out
 TakesPieces P ticks out stop.WriteFault = RunFront P ticks out
 TakesPieces P ticks out stop.Memory = RunPieces P ticks [] out
 
--- the printed form of a value of the machine
-abbrev pub value_form : MachineValue → List ℕ
-value_form (Int z) = signed_decimal z
-value_form True = codes "t"
-value_form False = codes "f"
-value_form (Callable k) = codes "[ ... ]"
+-- the printed form of a value of the machine, which names these
+abbrev pub value_form : Trees → MachineValue → List ℕ
+value_form T (Int z) = signed_decimal z
+value_form T True = codes "t"
+value_form T False = codes "f"
+value_form T (Text k) = codes "\"" ++ escaped_all (text_at T k) ++ codes "\""
+value_form T (Callable k) = codes "[ ... ]"
 
 -- and as it is told
-abbrev pub value_text : MachineValue → List ℕ
-value_text v = shown_text (value_form v)
+abbrev pub value_text : Trees → MachineValue → List ℕ
+value_text T v = shown_text (value_form T v)
 
 -- the report of a run error of the machine
-abbrev pub machine_report : Program → RunError → Report
-machine_report C e = report.Error e.name (word_name C e.word) (option_map value_text e.value)
+abbrev pub machine_report : Trees → Program → RunError → Report
+machine_report T C e = report.Error e.name (word_name C e.word) (option_map (value_text T) e.value)

@@ -1,6 +1,6 @@
 use Rattle.std.proofs.Common.{arith, ◌∙◌}
 use Rattle.fac_emit.specs.inner.Coded.{word_body_is_coded}
-use Rattle.fac_emit.proofs.EmitLemmas.{word_code_step, word_rows_step}
+use Rattle.fac_emit.proofs.EmitLemmas.{word_code_step, word_texts_step, word_rows_step}
 use Rattle.fac_emit.proofs.CodedItems.{item_passes}
 use Rattle.fac_emit.proofs.compiler.add_words.Goals as goal
 
@@ -11,12 +11,15 @@ loop-word-preserved c =
     let words = c.args.words.now in
     let top = c.args.top in
     let inv = at.invariant in
+    let lt = c.loop-word-test.true in
+    let texts = at.parts.piece.texts in
     let added = c.in_ok-place_word.ensures in
     record {
       count = omega (arith, inv.count);
-      code_is = word_code_step words top at.number at.word-index c.word-item.result items.result.now items.ensures c.loop-word-test.true c.word-item.is _ _ _ inv.code_is added.0;
-      words_are = word_rows_step words top at.number at.word-index c.word-item.result items.result.now items.ensures c.loop-word-test.true c.word-item.is _ _ _ _ _ inv.words_are added.0 added.2;
-      templates_are = added.1 ∙ inv.templates_are;
+      code_is = word_code_step words top at.number at.word-index c.word-item.result items.result.now items.ensures lt c.word-item.is texts _ added.1 _ _ _ inv.code_is added.0;
+      texts_are = word_texts_step words top at.number at.word-index c.word-item.result items.result.now items.ensures lt c.word-item.is texts _ added.1 _ inv.texts_are;
+      words_are = word_rows_step words top at.number at.word-index c.word-item.result items.result.now items.ensures lt c.word-item.is texts _ added.1 _ _ _ _ _ inv.words_are added.0 added.3;
+      templates_are = added.2 ∙ inv.templates_are;
     }
 
 pub place_word-requires : goal.place_word-requires

@@ -1,5 +1,5 @@
 use Rattle.fac_emit.specs.inner.Coded.{template_is_coded}
-use Rattle.fac_emit.proofs.EmitLemmas.{template_code_step, template_rows_step}
+use Rattle.fac_emit.proofs.EmitLemmas.{template_code_step, template_texts_step, template_rows_step}
 use Rattle.fac_emit.proofs.CodedItems.{item_passes}
 use Rattle.fac_emit.proofs.emitter.add_templates.Goals as goal
 
@@ -10,9 +10,11 @@ loop-template-preserved c =
     let added = c.in_ok-add_template.ensures in
     let words = c.args.words.now in
     let ts = c.args.templates.now in
+    let lt = c.loop-template-test.true in
     record {
-      code_is = template_code_step words ts at.template-index c.template-item.result items.result.now items.ensures c.loop-template-test.true c.template-item.is _ _ _ at.invariant.code_is added.0;
-      rows_are = template_rows_step words ts at.template-index c.template-item.result items.result.now items.ensures c.loop-template-test.true c.template-item.is _ _ _ _ _ at.invariant.rows_are added.0 added.1;
+      code_is = template_code_step words ts at.template-index c.template-item.result items.result.now items.ensures lt c.template-item.is at.piece.texts _ added.1 _ _ _ at.invariant.code_is added.0;
+      texts_are = template_texts_step words ts at.template-index c.template-item.result items.result.now items.ensures lt c.template-item.is at.piece.texts _ added.1 _ at.invariant.texts_are;
+      rows_are = template_rows_step words ts at.template-index c.template-item.result items.result.now items.ensures lt c.template-item.is at.piece.texts _ added.1 _ _ _ _ _ at.invariant.rows_are added.0 added.2;
     }
 
 pub add_template-requires : goal.add_template-requires

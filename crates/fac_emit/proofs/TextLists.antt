@@ -1,0 +1,46 @@
+-- The texts of code: those behind it begin with those before it.
+use Rattle.std.proofs.Common.{◌≡◌, ℕ, List, [], ◌∷◌, ◌++◌, Some, refl, sym, ◌∙◌, append_assoc}
+use Rattle.std.specs.Prelude.{length, slice_get}
+use Rattle.std.proofs.lemmas.List.{append-nil}
+use Rattle.fac_lang.specs.declared.phrase.Template.{Template}
+use Rattle.fac_lang.specs.declared.program.WordDef.{WordDef}
+use Rattle.fac_lang.specs.declared.program.Sort.{Sort}
+use Rattle.fac_lang.specs.declared.program.Sort.TheVariants.{Body as body}
+use Rattle.fac_lang.specs.Phrases.{int, yes, no, str, iota, wrd, arr, tup, Phrase, end, then, Item, lit, lit_arr, quot, word, bind, local, fry, hole, call_eff, exec_eff, next_method, made, next_after, held, known}
+use Rattle.fac_prim.proofs.ValueTreeLemmas.{get_behind}
+use Rattle.fac_emit.specs.ProgramCode.{with_text, phrase_texts, templates_texts, sort_texts, words_texts}
+
+-- a list that begins so
+abbrev pub Begins : List (List ℕ) → List (List ℕ) → Type 0
+Begins texts pool = (more : List (List ℕ)) × (pool ≡ texts ++ more)
+
+pub begins_same : (texts : List (List ℕ)) → Begins texts texts
+begins_same texts = ([], sym (append-nil texts))
+
+pub begins_on : (xs ys zs : List (List ℕ)) → Begins xs ys → Begins ys zs → Begins xs zs
+begins_on xs ys zs g h = (g.0 ++ h.0, rw (h.1, g.1) (append_assoc xs g.0 h.0))
+
+item_behind : (texts : List (List ℕ)) (i : Item) → Begins texts (with_text texts i)
+item_behind texts (lit (str cs)) = (cs ∷ [], refl)
+item_behind texts _ = begins_same texts
+
+pub phrase_behind : (texts : List (List ℕ)) (t : Phrase) → Begins texts (phrase_texts texts t)
+phrase_behind texts end = begins_same texts
+phrase_behind texts (then i p t) = begins_on texts (with_text texts i) (phrase_texts (with_text texts i) t) (item_behind texts i) (phrase_behind (with_text texts i) t)
+
+pub templates_behind : (texts : List (List ℕ)) (ts : List Template) → Begins texts (templates_texts texts ts)
+templates_behind texts [] = begins_same texts
+templates_behind texts (t ∷ ts) = let next = phrase_texts texts t.body in begins_on texts next (templates_texts next ts) (phrase_behind texts t.body) (templates_behind next ts)
+
+sort_behind : (texts : List (List ℕ)) (s : Sort) → Begins texts (sort_texts texts s)
+sort_behind texts (body t) = phrase_behind texts t
+sort_behind texts _ = begins_same texts
+
+pub words_behind : (texts : List (List ℕ)) (ds : List WordDef) → Begins texts (words_texts texts ds)
+words_behind texts [] = begins_same texts
+words_behind texts (d ∷ ds) = let next = sort_texts texts d.sort in begins_on texts next (words_texts next ds) (sort_behind texts d.sort) (words_behind next ds)
+
+-- so a string's text is there, with the number of the texts before it
+pub text_there : (texts pool : List (List ℕ)) (cs : List ℕ) (c : Phrase) → Begins (phrase_texts (texts ++ cs ∷ []) c) pool → slice_get pool (length texts) ≡ Some cs
+text_there texts pool cs c h =
+    let all = begins_on (texts ++ cs ∷ []) (phrase_texts (texts ++ cs ∷ []) c) pool (phrase_behind (texts ++ cs ∷ []) c) h in rw (all.1 ∙ append_assoc texts (cs ∷ []) all.0) (get_behind texts cs all.0)
