@@ -12,3 +12,4 @@ pub mod BracketLemmas
 pub mod FileLemmas
 pub mod KnownWordLemmas
 pub mod EndingLemmas
+pub mod BuiltScopes
