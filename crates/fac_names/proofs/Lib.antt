@@ -13,3 +13,4 @@ pub mod FileLemmas
 pub mod KnownWordLemmas
 pub mod EndingLemmas
 pub mod BuiltScopes
+pub mod BuiltReadings
