@@ -52,7 +52,7 @@ term_built n bound s (term.Text t) some few h = tt
 term_built n bound s (term.True place) some few h = tt
 term_built n bound s (term.False place) some few h = tt
 
-following_built : (n bound : ℕ) (s : Scope) (es : List Element) → 0 < n → n ≤ bound → ScopeBelow n s → IsBuiltFollowing bound (following s es)
+pub following_built : (n bound : ℕ) (s : Scope) (es : List Element) → 0 < n → n ≤ bound → ScopeBelow n s → IsBuiltFollowing bound (following s es)
 following_built n bound s [] some few h = (tt, tt)
 following_built n bound s (element.Item t ∷ es) some few h = let rest = following_built n bound s es some few h in ((term_built n bound s t some few h, rest.0), rest.1)
 following_built n bound s (element.Opens place ∷ es) some few h = let rest = following_built n bound s es some few h in quotation_built bound place (following s es).here (following s es).around rest.0 rest.1
@@ -113,7 +113,7 @@ numbers_with : (ds : List Draft) (vocab : List ℕ) (t : Tok) → numbers_in (ds
 numbers_with [] vocab t = refl
 numbers_with (d ∷ ds) vocab t = ap (numbers_before d.word.sort) (numbers_with ds vocab t)
 
-with_word : (r : Reading) (s : Scope) (vocab : List ℕ) (t : Tok) (first : Option NameFault) → ScopeBelow (length r.words + 1) s → Built r → Built (record r { scope = s; words = r.words ++ draft_of vocab t ∷ []; first = first })
+pub with_word : (r : Reading) (s : Scope) (vocab : List ℕ) (t : Tok) (first : Option NameFault) → ScopeBelow (length r.words + 1) s → Built r → Built (record r { scope = s; words = r.words ++ draft_of vocab t ∷ []; first = first })
 with_word r s vocab t first h b =
     let longer = length_push r.words (draft_of vocab t) in
     record {
@@ -128,10 +128,10 @@ with_word r s vocab t first h b =
       no_arrays = b.no_arrays;
     }
 
-wider : (n : ℕ) (s : Scope) → ScopeBelow n s → ScopeBelow (n + 1) s
+pub wider : (n : ℕ) (s : Scope) → ScopeBelow n s → ScopeBelow (n + 1) s
 wider n s h = record { table = entries_more n (n + 1) s.table (omega arith) h.table; brought = brought_more n (n + 1) s.brought (omega arith) h.brought }
 
-entered_word : (n : ℕ) (s : Scope) (vocab name : List ℕ) (b : Bool) → ScopeBelow n s → ScopeBelow (n + 1) (with_entry vocab name n b s)
+pub entered_word : (n : ℕ) (s : Scope) (vocab name : List ℕ) (b : Bool) → ScopeBelow n s → ScopeBelow (n + 1) (with_entry vocab name n b s)
 entered_word n s vocab name b h =
     let more = wider n s h in
     record { table = entries_with (n + 1) s.table (record { vocab = vocab; name = name; word = n; is_defined = b }) more.table (omega arith); brought = more.brought }

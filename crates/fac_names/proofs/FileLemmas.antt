@@ -70,7 +70,7 @@ read_one (Items es) (Row kind opens parts ∷ forms) before =
     ∙ row_behind (nested es) kind parts (read_forms (map form_of forms))
     ∙ sym (ap (λ (fs : List Form). f_items (nested es) ∷ fs) (row_read kind parts (map form_of forms)))
 
-take_one : (r : Reading) (f : Flat) (forms : List Flat) → IsWellFormed (f ∷ forms) → take_all r (map form_of (f ∷ forms)) ≡ take_all (take (read_form (form_of f)) r) (map form_of forms)
+pub take_one : (r : Reading) (f : Flat) (forms : List Flat) → IsWellFormed (f ∷ forms) → take_all r (map form_of (f ∷ forms)) ≡ take_all (take (read_form (form_of f)) r) (map form_of forms)
 take_one r f forms h = ap (fold (λ q form. take form q) r) (read_one f forms h.1)
 
 -- a form more is taken

@@ -14,3 +14,6 @@ pub mod KnownWordLemmas
 pub mod EndingLemmas
 pub mod BuiltScopes
 pub mod BuiltReadings
+pub mod BuiltForms
+pub mod WholePrograms
+pub mod BuiltPrograms

@@ -1,5 +1,7 @@
 //! Trees to a program.
 ghost use Rattle.std.specs.Prelude.{◌≡◌, ◌++◌, [], map, IfOk, OnOk};
+ghost use Rattle.fac_lang.specs.Forms.{IsBuilt};
+ghost use Rattle.fac_lang.specs.Whole.{IsWhole};
 ghost use Rattle.fac_parse.specs.Trees.{AreWellFormed, forms_of};
 ghost use Rattle.fac_names.specs.Resolution.{Resolves, first_reading, settled_draft};
 ghost use Rattle.fac_names.specs.inner.Drafts.{drafts_seen};
@@ -46,15 +48,26 @@ fn first(alloc: Global) -> Result<SoFar, Memory>
     })
 }
 
+// The program of files.
+#[tactic(auto, using(crate::proofs::EndingLemmas::resolves))]
+fn program_of(alloc: Global, trees: &[Tree]) -> Result<Program, ResolveFault>
+    requires { AreWellFormed (forms_of trees.now) }
+    ensures { Resolves (forms_of trees.now) result }
+{
+    let mut so_far = first(alloc)?;
+    take_trees(alloc, &mut so_far, trees)?;
+    ended(alloc, so_far)
+}
+
 /// The program of the trees of files, in order, or the first name by place that is refused; at one token the order of the kinds of refusals
 /// decides. The words that are known come first, then those that forms name, in their order, each file beginning in `scratchpad` with `syntax`
 /// alone used. The last word is the top-level phrase: the items of all files, and behind them the word of the last `MAIN:`.
-#[tactic(auto, using(crate::proofs::EndingLemmas::resolves))]
+#[tactic(auto, using(crate::proofs::BuiltPrograms::resolved_built, crate::proofs::BuiltPrograms::resolved_whole))]
 pub fn resolve(alloc: Global, trees: &List<Tree>) -> Result<Program, ResolveFault>
     requires { AreWellFormed (forms_of trees.now) }
     ensures program { Resolves (forms_of trees.now) result }
+    ensures built { IfOk result (λ program. IsBuilt program) }
+    ensures whole { IfOk result (λ program. IsWhole program) }
 {
-    let mut so_far = first(alloc)?;
-    take_trees(alloc, &mut so_far, trees.as_slice())?;
-    ended(alloc, so_far)
+    program_of(alloc, trees.as_slice())
 }
