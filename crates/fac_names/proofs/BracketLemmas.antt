@@ -1,14 +1,13 @@
 -- Elements whose brackets match.
-use Rattle.std.proofs.Common.{◌≡◌, ◌<◌, ◌-◌, ℕ, zero, suc, nat_lt, List, [], ◌∷◌, length, Option, Some, None, Bool, true, false, cond, refl, ap, sym, ◌∙◌, subst, arith}
+use Rattle.std.proofs.Common.{◌≡◌, ℕ, zero, suc, nat_lt, List, [], ◌∷◌, length, Some, None, Bool, true, false, cond, refl, ap, sym, ◌∙◌, subst, arith}
 use Rattle.fac_lang.specs.declared.phrase.Place.{Place}
 use Rattle.fac_lang.specs.declared.tree.Element.{Element}
 use Rattle.fac_lang.specs.declared.tree.Element.TheVariants as element
-use Rattle.fac_lang.specs.declared.tree.Term.{Term}
 use Rattle.fac_parse.specs.declared.context.Bracket.{Bracket}
 use Rattle.fac_parse.specs.declared.context.Bracket.TheVariants.{Quotation}
 use Rattle.fac_parse.specs.declared.context.Context.{Context}
-use Rattle.fac_parse.specs.Trees.{Lead, AreItems, Encloses, IsLiteral, behind, opened, if_quotation, quotation_closed, most_levels}
-use Rattle.fac_names.specs.Written.{Node, Nodes, nothing, more, n_quot}
+use Rattle.fac_parse.specs.Trees.{Lead, AreItems, Encloses, IsLiteral, behind, if_quotation, most_levels}
+use Rattle.fac_names.specs.Written.{Nodes, nothing, more, n_quot}
 use Rattle.fac_names.specs.FromFlat.{node, rests, nested, first_node, opened as open_before}
 use Rattle.fac_names.specs.inner.Following.{AreClosing, IsClosable, level_behind}
 

@@ -1,10 +1,10 @@
 -- Each form keeps what is read of the forms built.
-use Rattle.std.proofs.Common.{◌≡◌, ◌<◌, ◌≤◌, ◌+◌, ℕ, zero, suc, List, [], ◌∷◌, ◌++◌, map, length, fold, Option, Some, None, Bool, true, false, refl, ap, sym, ◌∙◌, subst, arith}
-use Rattle.std.specs.Prelude.{if◌then◌else◌, ◌&&◌, nat_le, nat_lt, codes}
+use Rattle.std.proofs.Common.{◌≡◌, ◌≤◌, ℕ, List, [], ◌∷◌, length, fold, Option, Some, None, Bool, true, false, refl, ap, sym, ◌∙◌, subst, arith}
+use Rattle.std.specs.Prelude.{if◌then◌else◌, ◌&&◌, nat_le, codes}
 use Rattle.std.specs.List.{list_any}
 use Rattle.std.proofs.lemmas.Bool.Decides.{Decides-ltb}
 use Rattle.fac_lang.specs.Forms.{IsBuiltPhrase, IsPlainEffect}
-use Rattle.fac_lang.specs.Phrases.{Phrase, end, word}
+use Rattle.fac_lang.specs.Phrases.{Phrase}
 use Rattle.fac_lang.specs.RunningLaws.{append}
 use Rattle.fac_lang.specs.Signatures.{Signature}
 use Rattle.fac_lang.specs.Whole.{name_count, plain_effect}
@@ -12,17 +12,16 @@ use Rattle.fac_lang.specs.declared.program.Sort.TheVariants.{Body as body, Itsel
 use Rattle.fac_lang.specs.declared.tree.Element.{Element}
 use Rattle.fac_vocab.specs.declared.brought.Brought.TheVariants.{Named as named, Prefixed as prefixed}
 use Rattle.fac_vocab.specs.declared.entry.Entry.{Entry}
-use Rattle.fac_vocab.specs.Scopes.{Scope, begun, bringing, entered, exists, holders, home, using_vocab, word_held}
+use Rattle.fac_vocab.specs.Scopes.{begun, bringing, entered, exists, holders, home, using_vocab, word_held}
 use Rattle.fac_names.specs.declared.refusal.NameFault.{NameFault}
 use Rattle.fac_names.specs.declared.refusal.NameKind.TheVariants.{Unknown, Twice, NoVocab}
-use Rattle.fac_names.specs.Written.{Tok, Node, n_lit, n_name, Nodes, nothing, more, Declared, given, makes, Form, f_in, f_use, f_using, f_from, f_qualified, f_private, f_public, f_defer, f_symbol, f_main, f_constant, f_define, f_items}
-use Rattle.fac_names.specs.Readings.{read_form}
+use Rattle.fac_names.specs.Written.{Tok, Nodes, given, Form, f_in, f_use, f_using, f_from, f_qualified, f_private, f_public, f_defer, f_symbol, f_main, f_define, f_items}
 use Rattle.fac_names.specs.Items.{fault, search_fault, sooner, word_of}
 use Rattle.fac_names.specs.Forms.{Numbered, Reading, bring_one, bringing_one, defining, deferring, own, read_phrase, refused, scoped, settled, take, told, use_one}
 use Rattle.fac_names.specs.FromFlat.{nested}
-use Rattle.fac_names.specs.inner.Following.{AreClosing, elements_phrase, first_behind, following}
-use Rattle.fac_names.proofs.BuiltScopes.{ScopeBelow, WordBelow, word_below_held, word_of_below}
-use Rattle.fac_names.proofs.BuiltReadings.{Built, IsToldWord, append_built, entered_word, following_built, moved_built, refused_built, scoped_built, told_built, wider, with_word}
+use Rattle.fac_names.specs.inner.Following.{AreClosing, elements_phrase, first_behind}
+use Rattle.fac_names.proofs.BuiltScopes.{WordBelow, word_below_held, word_of_below}
+use Rattle.fac_names.proofs.BuiltReadings.{Built, append_built, entered_word, following_built, moved_built, refused_built, scoped_built, told_built, wider, with_word}
 use Rattle.fac_names.proofs.ReadingLemmas.{read_plainly}
 
 -- The word of a definition.
@@ -35,8 +34,8 @@ defining_built : (vocab : List ℕ) (t : Tok) (r : Reading) (es : List Entry) �
 defining_built vocab t r [] b = with_word r _ vocab t r.first (entered_word (length r.words) r.scope vocab t.text true b.scope) b
 defining_built vocab t r (e ∷ es) b =
     named_if _ _ (list_any (λ (f : Entry). f.is_defined) (e ∷ es))
-      (with_word r r.scope vocab t (fold sooner r.first (fault Twice t ∷ [])) (wider (length r.words) r.scope b.scope) b)
-      (moved_built r e.vocab e.name t.place e.word b)
+    (with_word r r.scope vocab t (fold sooner r.first (fault Twice t ∷ [])) (wider (length r.words) r.scope b.scope) b)
+    (moved_built r e.vocab e.name t.place e.word b)
 
 own_built : (t : Tok) (r : Reading) → Built r → Built (own t r).reading
 own_built t r b = defining_built (home r.scope) t r (holders r.scope.table (home r.scope) t.text) b
@@ -54,8 +53,8 @@ reading_if q s false h k = k
 use_built : (r : Reading) (t : Tok) → Built r → Built (use_one r t)
 use_built r t b =
     reading_if (scoped (using_vocab t.text) r) (refused (fault NoVocab t ∷ []) r) (exists r.scope t.text)
-      (scoped_built r (using_vocab t.text r.scope) (record { table = b.scope.table; brought = b.scope.brought }) b)
-      (refused_built r (fold sooner r.first (fault NoVocab t ∷ [])) b)
+    (scoped_built r (using_vocab t.text r.scope) (record { table = b.scope.table; brought = b.scope.brought }) b)
+    (refused_built r (fold sooner r.first (fault NoVocab t ∷ [])) b)
 
 bringing_built : (t : Tok) (r : Reading) (o : Option ℕ) → WordBelow (length r.words) o → Built r → Built (bringing_one t r o)
 bringing_built t r (Some w) h b = scoped_built r (bringing (named t.text w) r.scope) (record { table = b.scope.table; brought = (h, b.scope.brought) }) b
@@ -108,10 +107,10 @@ define_built t e ns inline recursive r p b =
     let n = own t r in
     let mid = own_built t r b in
     subst Built
-      (sym (ap (λ (ms : Nodes). read_phrase ms (λ u q. told (body u) e inline recursive settled (record { word = n.word; reading = q })) n.reading) p.items
-            ∙ read_plainly (λ u q. told (body u) e inline recursive settled (record { word = n.word; reading = q })) n.reading p.elements p.closing))
-      (body_told n e (elements_phrase n.reading.scope p.elements) inline recursive (first_behind n.reading.scope p.elements n.reading.first)
-        (λ bound within. (following_built (length n.reading.words) bound n.reading.scope p.elements mid.some within mid.scope).0) p.effect p.few p.no_row_word mid)
+    (sym (ap (λ (ms : Nodes). read_phrase ms (λ u q. told (body u) e inline recursive settled (record { word = n.word; reading = q })) n.reading) p.items
+    ∙ read_plainly (λ u q. told (body u) e inline recursive settled (record { word = n.word; reading = q })) n.reading p.elements p.closing))
+    (body_told n e (elements_phrase n.reading.scope p.elements) inline recursive (first_behind n.reading.scope p.elements n.reading.first)
+    (λ bound within. (following_built (length n.reading.words) bound n.reading.scope p.elements mid.some within mid.scope).0) p.effect p.few p.no_row_word mid)
 
 with_top : (r : Reading) (t : Phrase) (first : Option NameFault) → ((bound : ℕ) → length r.words ≤ bound → IsBuiltPhrase bound t) → Built r → Built (record r { top = t; first = first })
 with_top r t first h b = record { some = b.some; scope = b.scope; words = b.words; top = h; main = b.main; distinct = b.distinct; no_old_classes = b.no_old_classes; no_classes = b.no_classes; no_arrays = b.no_arrays }
@@ -122,9 +121,9 @@ with_main r t first h b = record { some = b.some; scope = b.scope; words = b.wor
 items_built : (ns : Nodes) (r : Reading) → ArePlainItems ns → Built r → Built (take (f_items ns) r)
 items_built ns r p b =
     subst Built
-      (sym (ap (λ (ms : Nodes). read_phrase ms (λ u q. record q { top = append q.top u }) r) p.items ∙ read_plainly (λ u q. record q { top = append q.top u }) r p.elements p.closing))
-      (with_top r (append r.top (elements_phrase r.scope p.elements)) (first_behind r.scope p.elements r.first)
-        (λ bound within. append_built bound r.top (elements_phrase r.scope p.elements) (b.top bound within) (following_built (length r.words) bound r.scope p.elements b.some within b.scope).0) b)
+    (sym (ap (λ (ms : Nodes). read_phrase ms (λ u q. record q { top = append q.top u }) r) p.items ∙ read_plainly (λ u q. record q { top = append q.top u }) r p.elements p.closing))
+    (with_top r (append r.top (elements_phrase r.scope p.elements)) (first_behind r.scope p.elements r.first)
+    (λ bound within. append_built bound r.top (elements_phrase r.scope p.elements) (b.top bound within) (following_built (length r.words) bound r.scope p.elements b.some within b.scope).0) b)
 
 main_built : (n : Tok) (r : Reading) → Built r → Built (take (f_main n) r)
 main_built n r b =
@@ -145,8 +144,8 @@ take_built (f_from v ns) r p b =
     reading_if (fold (bring_one v.text) r ns) (refused (fault NoVocab v ∷ []) r) (exists r.scope v.text) (fold_built (bring_one v.text) (bring_built v.text) ns r b) (refused_built r (fold sooner r.first (fault NoVocab v ∷ [])) b)
 take_built (f_qualified v p) r q b =
     reading_if (scoped (bringing (prefixed v.text p.text)) r) (refused (fault NoVocab v ∷ []) r) (exists r.scope v.text)
-      (scoped_built r (bringing (prefixed v.text p.text) r.scope) (record { table = b.scope.table; brought = b.scope.brought }) b)
-      (refused_built r (fold sooner r.first (fault NoVocab v ∷ [])) b)
+    (scoped_built r (bringing (prefixed v.text p.text) r.scope) (record { table = b.scope.table; brought = b.scope.brought }) b)
+    (refused_built r (fold sooner r.first (fault NoVocab v ∷ [])) b)
 take_built f_private r p b = scoped_built r _ (record { table = b.scope.table; brought = b.scope.brought }) b
 take_built f_public r p b = scoped_built r _ (record { table = b.scope.table; brought = b.scope.brought }) b
 take_built (f_defer n) r p b = deferring_built n r (holders r.scope.table (home r.scope) n.text) b

@@ -1,5 +1,5 @@
 -- Every resolved program is of the forms built, and whole.
-use Rattle.std.proofs.Common.{◌≡◌, ◌<◌, ◌≤◌, ◌+◌, ℕ, zero, suc, List, [], ◌∷◌, ◌++◌, map, length, fold, Option, Some, None, Result, Ok, Err, Bool, true, false, cond, refl, ap, sym, ◌∙◌, subst, arith, length-append, append_assoc, zero-add}
+use Rattle.std.proofs.Common.{◌≡◌, ◌≤◌, ◌+◌, ℕ, List, [], ◌∷◌, ◌++◌, map, length, fold, Option, Some, None, Result, Ok, Err, Bool, true, false, cond, refl, ap, sym, ◌∙◌, subst, arith, length-append, append_assoc, zero-add}
 use Rattle.std.specs.Prelude.{IfOk, ◌&&◌, nat_le, nat_lt, slice_get}
 use Rattle.std.specs.List.{list_all}
 use Rattle.std.specs.Option.{option_map}
@@ -8,17 +8,16 @@ use Rattle.std.proofs.lemmas.Bool.Decides.{Decides-ltb}
 use Rattle.std.proofs.lemmas.List.{length_push, length-map}
 use Rattle.std.proofs.lemmas.List.Folds.{list_all-append}
 use Rattle.fac_lang.specs.CoreWords.{core_word, built_core_words, is_built_core}
-use Rattle.fac_lang.specs.Forms.{IsBuilt, IsBuiltPhrase, IsBuiltSort, AreBuiltWords, IsPlainEffect, ArePlainInputs, IsPlainLeaving, primitive_numbers, has_no_repeats, numbers_before}
-use Rattle.fac_lang.specs.Phrases.{Phrase, end}
+use Rattle.fac_lang.specs.Forms.{IsBuilt, IsBuiltPhrase, AreBuiltWords, IsPlainEffect, ArePlainInputs, IsPlainLeaving, primitive_numbers, has_no_repeats}
+use Rattle.fac_lang.specs.Phrases.{Phrase}
 use Rattle.fac_lang.specs.PrimitiveWords.{PrimitiveWord, plain_inputs}
 use Rattle.fac_lang.specs.Primitives.{Primitive, built_primitives, later_primitives, built_primitive_words, prim_numbered, primitive_word, built_count, is_built_primitive}
 use Rattle.fac_lang.specs.RunningLaws.{append}
 use Rattle.fac_lang.specs.Signatures.{Signature, never, leaves}
-use Rattle.fac_lang.specs.Whole.{IsWhole, name_count, inputs_name_count, leaving_count, plain_effect}
+use Rattle.fac_lang.specs.Whole.{IsWhole, name_count, inputs_name_count, leaving_count}
 use Rattle.fac_lang.specs.declared.program.ClassDef.{ClassDef}
 use Rattle.fac_lang.specs.declared.program.Program.{Program}
-use Rattle.fac_lang.specs.declared.program.Sort.{Sort}
-use Rattle.fac_lang.specs.declared.program.Sort.TheVariants.{Prim, Core, Body}
+use Rattle.fac_lang.specs.declared.program.Sort.TheVariants.{Prim, Core}
 use Rattle.fac_lang.specs.declared.program.WordDef.{WordDef}
 use Rattle.fac_lang.specs.declared.token.Token.{Token}
 use Rattle.fac_lang.specs.declared.tree.Form.{Form as Flat}
@@ -33,15 +32,13 @@ use Rattle.fac_lang.specs.declared.tree.WrittenEffect.{WrittenEffect}
 use Rattle.fac_parse.specs.declared.rows.Slot.TheVariants as slot
 use Rattle.fac_parse.specs.Rows.{slots_of}
 use Rattle.fac_parse.specs.Trees.{AreItems, AreMarks, AreWellFormed, Fills, FillAll, IsEffect, IsForm, IsLiteral, IsWellFormed, token_text}
-use Rattle.fac_vocab.specs.Scopes.{begun, entries_from, first_scope}
+use Rattle.fac_vocab.specs.Scopes.{begun, entries_from}
 use Rattle.fac_names.specs.declared.refusal.NameFault.{NameFault}
 use Rattle.fac_names.specs.declared.refusal.ResolveFault.{ResolveFault}
-use Rattle.fac_names.specs.declared.refusal.ResolveFault.TheVariants.{Name, Memory}
-use Rattle.fac_names.specs.Written.{Form}
 use Rattle.fac_names.specs.Readings.{read_form}
 use Rattle.fac_names.specs.Items.{sooner}
 use Rattle.fac_names.specs.Forms.{Draft, Late, settled, deferred, Reading, scoped, take_file}
-use Rattle.fac_names.specs.FromFlat.{effect_in, effect_of, elements_in, first_node, form_of, is_inline, is_recursive, leaving_of, marks_in, nested, row, spellings}
+use Rattle.fac_names.specs.FromFlat.{effect_in, effect_of, elements_in, form_of, is_inline, is_recursive, leaving_of, marks_in, row, spellings}
 use Rattle.fac_names.specs.KnownWords.{known_words, words_from}
 use Rattle.fac_names.specs.Resolved.{answer, class_faults, classes_of, finished, first_fault, last_faults, late_faults, program_of, words_faults}
 use Rattle.fac_names.specs.Resolution.{Resolves, first_reading, program_alone, resolved, settled_draft}
@@ -49,7 +46,7 @@ use Rattle.fac_names.specs.inner.Ending.{program_with, top_word}
 use Rattle.fac_names.specs.inner.Taking.{take_all}
 use Rattle.fac_names.proofs.BracketLemmas.{items_closing, literal_closing, literal_sole}
 use Rattle.fac_names.proofs.BuiltForms.{IsPlainForm, begun_built, take_built}
-use Rattle.fac_names.proofs.BuiltReadings.{Built, DraftsBuilt, IsBuiltLate, IsToldWord, append_built, numbers_in, words_in}
+use Rattle.fac_names.proofs.BuiltReadings.{Built, DraftsBuilt, IsBuiltLate, IsToldWord, append_built, words_in}
 use Rattle.fac_names.proofs.BuiltScopes.{EntriesBelow}
 use Rattle.fac_names.proofs.FileLemmas.{take_one}
 use Rattle.fac_names.proofs.WholePrograms.{whole}
@@ -101,7 +98,6 @@ known_built bound = built_with bound (words_from Prim 0 built_primitive_words) (
 known_distinct : has_no_repeats (primitive_numbers known_words) ≡ true
 unfolding known_words built_primitive_words
 known_distinct = refl
-
 
 -- Effects.
 
@@ -386,18 +382,18 @@ sound r b h =
     let bound = subst (λ (k : ℕ). AreBuiltWords k (words_in r.words)) (sym count) told.built in
     let phrase_is = subst (λ (k : ℕ). IsBuiltPhrase k phrase) (sym count) (append_built n r.top r.main (b.top n (omega arith)) (b.main n (omega arith))) in
     let all : IsBuilt (plain_program r) =
-      record {
-        words = words_in r.words;
-        last_word = top_word phrase;
-        phrase = phrase;
-        words_are = refl;
-        top_is = refl;
-        last_word_is = record { sort_is = refl; phrase_built = phrase_is; effect_is = refl; not_inline = refl; not_recursive = refl };
-        built = bound;
-        distinct = b.distinct;
-        no_arrays = refl;
-        no_classes = refl;
-      } in
+    record {
+      words = words_in r.words;
+      last_word = top_word phrase;
+      phrase = phrase;
+      words_are = refl;
+      top_is = refl;
+      last_word_is = record { sort_is = refl; phrase_built = phrase_is; effect_is = refl; not_inline = refl; not_recursive = refl };
+      built = bound;
+      distinct = b.distinct;
+      no_arrays = refl;
+      no_classes = refl;
+    } in
     record {
       same =
           ap (λ (ws : List WordDef). made ws phrase (classes_of r) n r) told.same
@@ -406,7 +402,7 @@ sound r b h =
           ∙ ap (λ (arrays : List _). record { words = words_in r.words ++ top_word phrase ∷ []; arrays = arrays; classes = []; top = length (words_in r.words) }) b.no_arrays;
       built = all;
       whole = whole (words_in r.words ++ top_word phrase ∷ []) (length (words_in r.words)) all
-        (list_all-append (λ (d : WordDef). nat_le (name_count d.effect) 65) (words_in r.words) (top_word phrase ∷ []) ∙ and_both (list_all (λ (d : WordDef). nat_le (name_count d.effect) 65) (words_in r.words)) true told.few refl);
+          (list_all-append (λ (d : WordDef). nat_le (name_count d.effect) 65) (words_in r.words) (top_word phrase ∷ []) ∙ and_both (list_all (λ (d : WordDef). nat_le (name_count d.effect) 65) (words_in r.words)) true told.few refl);
     }
 
 -- Resolved programs.

@@ -1,15 +1,14 @@
 -- What forms come to is of the forms built.
-use Rattle.std.proofs.Common.{◌≡◌, ◌<◌, ◌≤◌, ◌+◌, ℕ, zero, suc, List, [], ◌∷◌, ◌++◌, map, length, fold, Option, Some, None, Bool, true, false, cond, refl, ap, sym, ◌∙◌, subst, arith, length-append}
-use Rattle.std.specs.Prelude.{if◌then◌else◌, ◌&&◌, ◌||◌, not, nat_eq, nat_le, nat_lt, codes}
-use Rattle.std.specs.List.{list_any}
+use Rattle.std.proofs.Common.{◌≡◌, ◌<◌, ◌≤◌, ◌+◌, ℕ, zero, suc, List, [], ◌∷◌, ◌++◌, map, length, Option, Bool, true, false, refl, ap, sym, ◌∙◌, subst, arith}
+use Rattle.std.specs.Prelude.{◌&&◌, ◌||◌, not, nat_eq, nat_le}
 use Rattle.std.proofs.lemmas.Bool.Decides.{Decides-ltb}
 use Rattle.std.proofs.lemmas.List.{length_push}
-use Rattle.fac_lang.specs.Forms.{IsBuiltItem, IsBuiltPhrase, IsBuiltSort, IsDefinedWord, IsPlainEffect, IsPrimitiveWord, IsCoreWord, IsSymbolWord, has_no_repeats, is_member, numbers_before, primitive_numbers}
-use Rattle.fac_lang.specs.Phrases.{Phrase, end, then as placed, quot, word}
+use Rattle.fac_lang.specs.Forms.{IsBuiltItem, IsBuiltPhrase, IsBuiltSort, has_no_repeats, is_member, numbers_before, primitive_numbers}
+use Rattle.fac_lang.specs.Phrases.{Phrase, end, then as placed}
 use Rattle.fac_lang.specs.PhraseView.{what_item}
 use Rattle.fac_lang.specs.RunningLaws.{append}
 use Rattle.fac_lang.specs.Signatures.{Signature}
-use Rattle.fac_lang.specs.Whole.{name_count, plain_effect}
+use Rattle.fac_lang.specs.Whole.{name_count}
 use Rattle.fac_lang.specs.declared.phrase.Place.{Place}
 use Rattle.fac_lang.specs.declared.program.Sort.{Sort}
 use Rattle.fac_lang.specs.declared.program.Sort.TheVariants.{Body as body, Itself as itself, Prim as prim, Core as core}
@@ -18,19 +17,14 @@ use Rattle.fac_lang.specs.declared.tree.Element.{Element}
 use Rattle.fac_lang.specs.declared.tree.Element.TheVariants as element
 use Rattle.fac_lang.specs.declared.tree.Term.{Term}
 use Rattle.fac_lang.specs.declared.tree.Term.TheVariants as term
-use Rattle.fac_vocab.specs.declared.brought.Brought.TheVariants.{Named as named, Prefixed as prefixed}
-use Rattle.fac_vocab.specs.declared.entry.Entry.{Entry}
-use Rattle.fac_vocab.specs.Scopes.{Scope, begun, bringing, entered, exists, holders, home, now_defined, using_vocab, with_entry, word_held}
+use Rattle.fac_vocab.specs.Scopes.{Scope, now_defined, with_entry}
 use Rattle.fac_names.specs.declared.refusal.NameFault.{NameFault}
-use Rattle.fac_names.specs.declared.refusal.NameKind.TheVariants.{Unknown, Twice, NoVocab}
-use Rattle.fac_names.specs.Written.{Tok, Node, Nodes, nothing, more, Declared, given, makes, Form, f_in, f_use, f_using, f_from, f_qualified, f_private, f_public, f_defer, f_symbol, f_main, f_constant, f_define, f_items}
-use Rattle.fac_names.specs.Readings.{read_form}
-use Rattle.fac_names.specs.Items.{fault, search_fault, word_of}
-use Rattle.fac_names.specs.Forms.{Draft, Late, settled, deferred, Numbered, Reading, added, at_place, bring_one, bringing_one, changed, defining, deferring, draft_of, own, read_phrase, refused, scoped, take, told, use_one, with_told}
-use Rattle.fac_names.specs.FromFlat.{nested, tok}
-use Rattle.fac_names.specs.inner.Following.{AreClosing, Following, elements_phrase, first_behind, following, term_what, with_quotation}
-use Rattle.fac_names.proofs.BuiltScopes.{BroughtBelow, EntriesBelow, ScopeBelow, WordBelow, brought_more, entries_defined, entries_more, entries_with, word_below_held, word_of_below}
-use Rattle.fac_names.proofs.ReadingLemmas.{read_plainly}
+use Rattle.fac_names.specs.Written.{Tok}
+use Rattle.fac_names.specs.Items.{word_of}
+use Rattle.fac_names.specs.Forms.{Draft, Late, settled, deferred, Reading, at_place, changed, draft_of, told, with_told}
+use Rattle.fac_names.specs.FromFlat.{tok}
+use Rattle.fac_names.specs.inner.Following.{Following, following, term_what, with_quotation}
+use Rattle.fac_names.proofs.BuiltScopes.{ScopeBelow, brought_more, entries_defined, entries_more, entries_with, word_of_below}
 
 -- Phrases.
 

@@ -1,5 +1,5 @@
 -- What names find are words that there are.
-use Rattle.std.proofs.Common.{◌≡◌, ◌<◌, ◌≤◌, ◌+◌, ℕ, List, [], ◌∷◌, ◌++◌, length, drop, Option, Some, None, Bool, true, false, cond, refl, ap, sym, ◌∙◌, arith}
+use Rattle.std.proofs.Common.{◌<◌, ◌≤◌, ◌+◌, ℕ, List, [], ◌∷◌, ◌++◌, length, drop, Option, Some, None, Bool, true, false, arith}
 use Rattle.std.specs.Prelude.{nat_eq, if◌then◌else◌, ◌&&◌, codes}
 use Rattle.std.specs.List.{find, starts_with}
 use Rattle.std.specs.Str.{bytes_eq}
@@ -89,8 +89,8 @@ latest_below n table name [] h k = tt
 latest_below n table name (named x w ∷ bs) h k = either_below n (given_by table name (named x w)) (latest table name bs) (word_if n (bytes_eq name x) (Some w) k.0) (latest_below n table name bs h k.1)
 latest_below n table name (prefixed vocab p ∷ bs) h k =
     either_below n (given_by table name (prefixed vocab p)) (latest table name bs)
-      (word_if n (starts_with nat_eq name (p ++ codes ":")) (word_held table vocab (drop (length p + 1) name)) (word_below_held n table vocab (drop (length p + 1) name) h))
-      (latest_below n table name bs h k)
+    (word_if n (starts_with nat_eq name (p ++ codes ":")) (word_held table vocab (drop (length p + 1) name)) (word_below_held n table vocab (drop (length p + 1) name) h))
+    (latest_below n table name bs h k)
 
 ordered_if : (n : ℕ) (b : Bool) (e f : Entry) (es fs : List Entry) → e.word < n → f.word < n → EntriesBelow n es → EntriesBelow n fs → EntriesBelow n (if b then f ∷ es else e ∷ f ∷ fs)
 ordered_if n true e f es fs h k l m = (k, l)
@@ -127,9 +127,9 @@ unfolding found
 found_below n s name h =
     let near = or_else (word_held s.table s.current name) (or_else (word_held s.table (companion s.current) name) (latest s.table name s.brought)) in
     search_below n near (all_used s.table name s.used)
-      (either_below n (word_held s.table s.current name) (or_else (word_held s.table (companion s.current) name) (latest s.table name s.brought)) (word_below_held n s.table s.current name h.table)
-        (either_below n (word_held s.table (companion s.current) name) (latest s.table name s.brought) (word_below_held n s.table (companion s.current) name h.table) (latest_below n s.table name s.brought h.table h.brought)))
-      (used_below n s.table name s.used h.table)
+    (either_below n (word_held s.table s.current name) (or_else (word_held s.table (companion s.current) name) (latest s.table name s.brought)) (word_below_held n s.table s.current name h.table)
+    (either_below n (word_held s.table (companion s.current) name) (latest s.table name s.brought) (word_below_held n s.table (companion s.current) name h.table) (latest_below n s.table name s.brought h.table h.brought)))
+    (used_below n s.table name s.used h.table)
 
 number_below : (n : ℕ) (f : Found) → 0 < n → FoundBelow n f → number (elim f [ the w ↦ Some w | _ ↦ None ]) < n
 number_below n (the w) some h = h

@@ -17,10 +17,10 @@ use Rattle.fac_names.specs.declared.so_far.SoFar.{SoFar}
 use Rattle.fac_names.specs.Forms.{Draft, Reading, take_file}
 use Rattle.fac_names.specs.Items.{sooner}
 use Rattle.fac_names.specs.FromFlat.{form_of}
-use Rattle.fac_names.specs.Resolved.{Known, answer, finished, first_fault, last_faults, late_faults, program_of, read_files, words_faults}
+use Rattle.fac_names.specs.Resolved.{answer, finished, first_fault, late_faults, program_of, words_faults}
 use Rattle.fac_names.specs.Resolution.{Resolves, first_reading, program_alone, resolved}
-use Rattle.fac_names.specs.inner.Drafts.{draft_seen, drafts_seen, late_of}
-use Rattle.fac_names.specs.inner.Ending.{Ends, first_undefined, program_with, top_word, undefined_fault, with_undefined, word_in}
+use Rattle.fac_names.specs.inner.Drafts.{draft_seen, drafts_seen}
+use Rattle.fac_names.specs.inner.Ending.{Ends, first_undefined, program_with, top_word, with_undefined, word_in}
 use Rattle.fac_names.specs.inner.State.{reading_of}
 
 -- Refusals.

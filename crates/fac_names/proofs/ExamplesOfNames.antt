@@ -1,5 +1,5 @@
 -- Sources, and what they resolve to.
-use Rattle.std.specs.Prelude.{ℕ, ◌+◌, pos, negsuc, List, [], ◌∷◌, length, drop, slice_get, Option, Some, None, Result, Ok, Err, Bool, false, codes}
+use Rattle.std.specs.Prelude.{ℕ, ◌+◌, pos, negsuc, List, [], ◌∷◌, length, drop, None, Result, Ok, Err, Bool, false, codes}
 use Rattle.std.proofs.Common.{◌≡◌, refl}
 use Rattle.fac_lang.specs.Phrases.{Plain, int, str, Phrase, end, then as placed, Item, lit, word}
 use Rattle.fac_lang.specs.Primitives.{built_primitive_words}
@@ -7,7 +7,7 @@ use Rattle.fac_lang.specs.Signatures.{Signature, signature, no_inputs, leaves}
 use Rattle.fac_lang.specs.declared.phrase.Place.{Place}
 use Rattle.fac_lang.specs.declared.program.Name.{Name as FullName}
 use Rattle.fac_lang.specs.declared.program.Sort.{Sort}
-use Rattle.fac_lang.specs.declared.program.Sort.TheVariants.{Body as body, Itself as itself}
+use Rattle.fac_lang.specs.declared.program.Sort.TheVariants.{Body as body}
 use Rattle.fac_lang.specs.declared.program.WordDef.{WordDef}
 use Rattle.fac_vocab.specs.Scopes.{entries_from, found, word_held}
 use Rattle.fac_names.specs.declared.refusal.NameFault.{NameFault}

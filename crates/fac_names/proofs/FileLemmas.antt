@@ -1,15 +1,13 @@
 -- The forms of a file, in order.
-use Rattle.std.proofs.Common.{◌≡◌, ℕ, zero, suc, List, [], ◌∷◌, map, fold, drop, Bool, true, false, refl, ap, sym, ◌∙◌, subst}
+use Rattle.std.proofs.Common.{◌≡◌, ℕ, zero, suc, List, [], ◌∷◌, map, fold, drop, false, refl, ap, sym, ◌∙◌, subst}
 use Rattle.fac_lang.specs.declared.tree.Form.{Form as Flat}
 use Rattle.fac_lang.specs.declared.tree.Form.TheVariants.{Row, Items}
 use Rattle.fac_lang.specs.declared.tree.FormKind.{FormKind}
 use Rattle.fac_lang.specs.declared.tree.FormKind.TheVariants.{In, Use, Using, From, QualifiedWith, Defer, Symbol, Constant, Private, Public, Main, Define}
 use Rattle.fac_lang.specs.declared.tree.Part.{Part}
-use Rattle.fac_lang.specs.declared.tree.Part.TheVariants as part
 use Rattle.fac_lang.specs.declared.tree.Tree.{Tree}
-use Rattle.fac_parse.specs.Rows.{slots_of}
-use Rattle.fac_parse.specs.Trees.{AreWellFormed, FillAll, IsForm, IsWellFormed, MayStandBefore, forms_of}
-use Rattle.fac_names.specs.Written.{Nodes, Form, f_in, f_use, f_using, f_from, f_qualified, f_private, f_public, f_defer, f_symbol, f_main, f_constant, f_define, f_locals, f_tuple, f_union, f_single, f_maker, f_generic, f_method, f_items}
+use Rattle.fac_parse.specs.Trees.{AreWellFormed, IsForm, IsWellFormed, MayStandBefore, forms_of}
+use Rattle.fac_names.specs.Written.{Nodes, Form, f_items}
 use Rattle.fac_names.specs.Readings.{read_form, read_forms, with_items}
 use Rattle.fac_names.specs.Forms.{Reading, take, take_file}
 use Rattle.fac_names.specs.FromFlat.{form_of, nested, row}

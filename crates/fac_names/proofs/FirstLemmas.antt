@@ -1,8 +1,8 @@
 -- Which refusal is kept.
-use Rattle.std.proofs.Common.{◌≡◌, Bool, true, false, Option, Some, None, refl, ap, sym}
+use Rattle.std.proofs.Common.{◌≡◌, Bool, true, false, Option, Some, None, refl, ap}
 use Rattle.std.specs.Prelude.{if◌then◌else◌}
 use Rattle.fac_names.specs.declared.refusal.NameFault.{NameFault}
-use Rattle.fac_names.specs.Items.{comes_before, sooner}
+use Rattle.fac_names.specs.Items.{sooner}
 use Rattle.fac_names.specs.inner.First.{is_sooner}
 
 pub kept : (first : Option NameFault) (fault : NameFault) → true ≡ is_sooner first fault → Some fault ≡ sooner first fault

@@ -1,5 +1,5 @@
 -- Taking items, a step at a time.
-use Rattle.std.proofs.Common.{◌≡◌, ℕ, zero, suc, ◌-◌, List, [], ◌∷◌, ◌++◌, length, Result, Ok, Err, drop, refl, ap, sym, ◌∙◌, subst, arith}
+use Rattle.std.proofs.Common.{◌≡◌, ℕ, List, [], ◌∷◌, ◌++◌, length, drop, refl, ap, sym, ◌∙◌, subst, arith}
 use Rattle.std.proofs.lemmas.List.{length_push}
 use Rattle.fac_lang.specs.Phrases.{Phrase, end, then, quot}
 use Rattle.fac_lang.specs.PhraseView.{what_item, items_phrase}
@@ -12,7 +12,7 @@ use Rattle.fac_lang.specs.declared.tree.Term.{Term}
 use Rattle.fac_vocab.specs.Scopes.{Scope}
 use Rattle.fac_names.specs.declared.items.OpenQuotation.{OpenQuotation}
 use Rattle.fac_names.specs.declared.items.Nest.{Nest}
-use Rattle.fac_names.specs.inner.Following.{Following, with_quotation, following, elements_phrase, term_what, term_place, term_item, items_before, enclosed, before_following, after_nest, Closes, IsAdded, level_behind, IsClosable, AreClosing}
+use Rattle.fac_names.specs.inner.Following.{Following, with_quotation, following, elements_phrase, term_item, items_before, enclosed, before_following, after_nest, Closes, IsAdded, AreClosing}
 
 pub items_before-push : (items : List PlacedItem) (i : PlacedItem) (t : Phrase) → items_before items (then (what_item i.what) i.place t) ≡ items_before (items ++ i ∷ []) t
 items_before-push [] i t = refl

@@ -5,7 +5,6 @@ pub mod SearchLemmas
 pub mod ItemLemmas
 pub mod PlainItems
 pub mod DraftLemmas
-pub mod NamingLemmas
 pub mod PlainEffectLemmas
 pub mod ReadingLemmas
 pub mod BracketLemmas

@@ -1,8 +1,8 @@
 -- Effects of plain values as trees.
-use Rattle.std.proofs.Common.{◌≡◌, ℕ, List, [], ◌∷◌, map, None, Bool, true, false, cond, refl, ap, sym}
+use Rattle.std.proofs.Common.{◌≡◌, ℕ, List, [], ◌∷◌, map, None, Bool, true, false, cond, refl, ap}
 use Rattle.fac_lang.specs.EffectView.{inputs_tree}
 use Rattle.fac_lang.specs.PrimitiveWords.{plain_inputs}
-use Rattle.fac_lang.specs.Signatures.{value, Leaving, never, leaves}
+use Rattle.fac_lang.specs.Signatures.{value, never, leaves}
 use Rattle.fac_names.specs.FromFlat.{leaving_of}
 use Rattle.fac_names.specs.inner.PlainEffects.{plain_input, is_star}
 

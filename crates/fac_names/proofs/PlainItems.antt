@@ -1,5 +1,5 @@
 -- Elements by their nested items: readings change nothing in them, and their phrase and refusals are those of the elements in order.
-use Rattle.std.proofs.Common.{◌≡◌, ◌-◌, ℕ, zero, suc, List, [], ◌∷◌, ◌++◌, map, length, fold, refl, ap, sym, ◌∙◌, arith, append_assoc, append-nil, Bool, Option}
+use Rattle.std.proofs.Common.{◌≡◌, ◌-◌, ℕ, suc, List, [], ◌∷◌, ◌++◌, map, length, fold, refl, ap, sym, ◌∙◌, arith, append_assoc, append-nil, Bool, Option}
 use Rattle.std.proofs.lemmas.List.Sums.{fold-append}
 use Rattle.fac_lang.specs.Phrases.{Phrase, end, then, quot}
 use Rattle.fac_lang.specs.PhraseView.{what_item}
@@ -12,12 +12,11 @@ use Rattle.fac_lang.specs.declared.tree.Term.{Term}
 use Rattle.fac_lang.specs.declared.tree.Term.TheVariants as term
 use Rattle.fac_vocab.specs.Scopes.{Scope}
 use Rattle.fac_names.specs.declared.refusal.NameFault.{NameFault}
-use Rattle.fac_names.specs.Written.{Node, n_lit, n_name, n_quot, Nodes, nothing, more}
+use Rattle.fac_names.specs.Written.{n_quot, Nodes, nothing, more}
 use Rattle.fac_names.specs.Readings.{read_items}
 use Rattle.fac_names.specs.Items.{sooner, items_faults, phrase_of, Made}
-use Rattle.fac_names.specs.Forms.{Reading}
 use Rattle.fac_names.specs.FromFlat.{node, Rests, opened, rests, nested}
-use Rattle.fac_names.specs.inner.Following.{Following, with_quotation, following, elements_phrase, term_what, term_faults, element_faults, elements_faults, first_behind, AreClosing, IsClosable, level_behind}
+use Rattle.fac_names.specs.inner.Following.{Following, with_quotation, following, elements_phrase, term_what, term_faults, element_faults, elements_faults, first_behind, AreClosing}
 
 -- Readings.
 

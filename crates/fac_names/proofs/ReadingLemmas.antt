@@ -5,15 +5,13 @@ use Rattle.fac_lang.specs.PhraseView.{what_item, items_phrase}
 use Rattle.fac_lang.specs.RunningLaws.{append}
 use Rattle.fac_lang.specs.Signatures.{Signature}
 use Rattle.fac_lang.specs.declared.phrase.Item.{Item as PlacedItem}
-use Rattle.fac_lang.specs.declared.program.Lit.{Lit}
 use Rattle.fac_lang.specs.declared.program.Sort.TheVariants.{Body as body}
 use Rattle.fac_lang.specs.declared.tree.Element.{Element}
 use Rattle.fac_names.specs.declared.refusal.NameFault.{NameFault}
 use Rattle.fac_names.specs.declared.so_far.SoFar.{SoFar}
 use Rattle.fac_names.specs.Written.{Tok, Nodes, f_define, f_items, given}
-use Rattle.fac_names.specs.Readings.{read_items}
 use Rattle.fac_names.specs.Items.{is_cond, items_faults, phrase_of, sooner, Made}
-use Rattle.fac_names.specs.Forms.{Draft, Reading, Numbered, changed, own, read_phrase, settled, take, told, with_told}
+use Rattle.fac_names.specs.Forms.{Draft, Reading, Numbered, changed, read_phrase, settled, take, told, with_told}
 use Rattle.fac_names.specs.FromFlat.{nested}
 use Rattle.fac_names.specs.inner.Drafts.{drafts_seen}
 use Rattle.fac_names.specs.inner.Following.{AreClosing, elements_phrase, first_behind}
@@ -42,8 +40,8 @@ told_in : (s mid : SoFar) (t : Tok) (number : ℕ) (e : Signature) (es : List El
     record (reading_of mid) { words = changed (with_told (body (elements_phrase mid.scope es)) e inline recursive settled) number (drafts_seen mid.drafts.items); first = first_behind mid.scope es mid.first } ≡ take (f_define t (given e) (nested es) inline recursive) (reading_of s)
 told_in s mid t number e es inline recursive h owned =
     sym (
-      ap (define_in e inline recursive (nested es)) (sym owned)
-      ∙ read_plainly (λ u q. told (body u) e inline recursive settled (record { word = number; reading = q })) (reading_of mid) es h)
+    ap (define_in e inline recursive (nested es)) (sym owned)
+    ∙ read_plainly (λ u q. told (body u) e inline recursive settled (record { word = number; reading = q })) (reading_of mid) es h)
 
 pub define_taken : (s mid : SoFar) (t : Tok) (number : ℕ) (e : Signature) (es : List Element) (inline recursive : Bool) (b : Phrase) (words : List Draft) (first : Option NameFault) →
     AreClosing 0 es → Owns s t number mid → b ≡ elements_phrase mid.scope es → words ≡ changed (with_told (body b) e inline recursive settled) number (drafts_seen mid.drafts.items) → first ≡ first_behind mid.scope es mid.first →

@@ -1,5 +1,5 @@
 -- What the search of a name comes to.
-use Rattle.std.proofs.Common.{◌≡◌, ℕ, List, [], ◌∷◌, Option, Some, None, fold, refl, ap, sym, ◌∙◌, subst}
+use Rattle.std.proofs.Common.{◌≡◌, ℕ, List, [], ◌∷◌, Option, Some, None, fold, refl, ap, sym, ◌∙◌}
 use Rattle.fac_lang.specs.declared.program.Name.{Name as FullName}
 use Rattle.fac_vocab.specs.declared.answers.Found.TheVariants.{Word, Unknown as Nothing, Ambiguous as Several}
 use Rattle.fac_vocab.specs.ScopeCalls.{answer_of, names_between}

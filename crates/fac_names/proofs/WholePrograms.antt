@@ -1,17 +1,16 @@
 -- Every program of the forms built is whole where its effects have few names.
-use Rattle.std.proofs.Common.{◌≡◌, ℕ, suc, ◌<◌, ◌≤◌, Bool, true, false, not, ◌&&◌, ◌||◌, List, [], ◌∷◌, ◌++◌, Option, Some, None, Result, Ok, Err, length, refl, ap, sym, ◌∙◌, subst, arith, append-nil}
+use Rattle.std.proofs.Common.{◌≡◌, ℕ, suc, ◌<◌, ◌≤◌, Bool, true, false, not, ◌&&◌, ◌||◌, List, [], ◌∷◌, ◌++◌, Option, Some, None, length, refl, ap, sym, ◌∙◌, subst, arith, append-nil}
 use Rattle.std.proofs.lemmas.Bool.Decides.{Decides-ltb}
 use Rattle.std.proofs.lemmas.List.{length_push}
-use Rattle.std.proofs.lemmas.List.Folds.{list_all-append}
 use Rattle.std.proofs.lemmas.Slice.Eq.{bytes_eq-Decides}
-use Rattle.std.specs.Prelude.{IfOk, ◌+◌, ℤ, codes, nat_lt, nat_le, nat_eq}
+use Rattle.std.specs.Prelude.{◌+◌, ℤ, nat_lt, nat_le, nat_eq}
 use Rattle.std.specs.List.{list_all, list_any}
 use Rattle.std.specs.Str.{bytes_eq}
 use Rattle.fac_lang.specs.Forms.{IsBuilt, IsBuiltPhrase, IsBuiltSort, AreBuiltWords, IsPrimitiveWord, IsCoreWord, IsDefinedWord, IsSymbolWord, IsTopPhrase, IsPlainEffect, is_member, numbers_before, primitive_numbers, has_no_repeats}
 use Rattle.fac_lang.specs.Meaning.{sort_of, is_past}
 use Rattle.fac_lang.specs.PrimitiveWords.{PrimitiveWord, plain_inputs, plain_leaving, written_effect}
 use Rattle.fac_lang.specs.Phrases.{Phrase, end, then, Item, lit, int, yes, no, str, quot, word}
-use Rattle.fac_lang.specs.Whole.{IsWhole, each_item, each_numbered, locals_bound, holes_within, item_fits, item_spares, is_body, tests_small, word_phrases, sort_fits, has_written_effect, has_generic_effect, marks_fit, effect_eq, inputs_eq, leaving_eq, names_eq, name_count, no_two, same_word, same_method, plain_effect}
+use Rattle.fac_lang.specs.Whole.{IsWhole, each_item, each_numbered, locals_bound, holes_within, item_fits, item_spares, is_body, tests_small, word_phrases, sort_fits, has_written_effect, has_generic_effect, marks_fit, effect_eq, inputs_eq, leaving_eq, names_eq, name_count, no_two, same_word, same_method}
 use Rattle.fac_lang.specs.declared.program.Program.{Program}
 use Rattle.fac_lang.specs.declared.program.Sort.{Sort}
 use Rattle.fac_lang.specs.declared.program.Sort.TheVariants.{Prim as prim, Core as core, Body as body, Past as past, Method as method, Itself as itself}

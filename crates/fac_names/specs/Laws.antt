@@ -1,5 +1,5 @@
 -- What is to be shown of names: statements for laws.
-use Rattle.std.specs.Prelude.{ℕ, ◌≡◌, ◌<◌, nat_eq, List, ◌++◌, map, length, slice_get, fold, Option, Some, Result, Ok, Bool, true, false, ◌&&◌, not, is_some, codes}
+use Rattle.std.specs.Prelude.{ℕ, ◌≡◌, ◌<◌, nat_eq, List, ◌++◌, map, length, slice_get, fold, Option, Some, Ok, Bool, true, false, ◌&&◌, not, is_some, codes}
 use Rattle.std.specs.List.{list_all}
 use Rattle.fac_lang.specs.Whole.{IsWhole, no_two, same_name}
 use Rattle.fac_lang.specs.declared.program.Name.{Name as FullName}

@@ -1,9 +1,11 @@
 -- The program of trees, or their first refused name.
-use Rattle.std.specs.Prelude.{◌≡◌, List, [], map, Option, None, Result, Ok, Err, false}
+use Rattle.std.specs.Prelude.{◌≡◌, List, [], map, None, Result, Ok, Err, false}
 use Rattle.fac_lang.specs.Phrases.{end}
 use Rattle.fac_lang.specs.declared.program.Program.{Program}
 use Rattle.fac_lang.specs.declared.program.WordDef.{WordDef}
 use Rattle.fac_lang.specs.declared.tree.Form.{Form as Flat}
+use Rattle.fac_lang.specs.Whole.{IsWhole}
+use Rattle.fac_parse.specs.Trees.{AreWellFormed}
 use Rattle.fac_vocab.specs.Scopes.{first_scope}
 use Rattle.fac_names.specs.declared.refusal.NameFault.{NameFault}
 use Rattle.fac_names.specs.declared.refusal.ResolveFault.{ResolveFault}
@@ -33,3 +35,7 @@ abbrev pub Resolves : List (List Flat) → Result Program ResolveFault → Type 
 Resolves files (Ok program) = resolved files ≡ Ok program
 Resolves files (Err (Name fault)) = resolved files ≡ Err fault
 Resolves files (Err Memory) = Unit {0}
+
+-- a program that names resolve to is whole
+abbrev pub ResolvedAreWhole : Type 0
+ResolvedAreWhole = (files : List (List Flat)) (program : Program) → AreWellFormed files → resolved files ≡ Ok program → IsWhole program

@@ -16,8 +16,8 @@ use crate::forms::{
     take_items, take_main, use_all, use_vocab,
 };
 use crate::parts::{
-    all_names, brought, constant_parts, definition_parts, marks_inline,
-    marks_recursive, sole_name, two_names,
+    all_names, brought, constant_parts, definition_parts, marks_inline, marks_recursive, sole_name,
+    two_names,
 };
 use crate::so_far::SoFar;
 use fac_lang::{Form, FormKind, Memory, Part, Tree};
@@ -25,11 +25,7 @@ use std::alloc::Global;
 
 // Takes the definition of a word.
 #[tactic(auto, using(crate::proofs::BracketLemmas::items_closing))]
-fn take_definition(
-    alloc: Global,
-    so_far: &mut SoFar,
-    parts: &[Part],
-) -> Result<(), Memory>
+fn take_definition(alloc: Global, so_far: &mut SoFar, parts: &[Part]) -> Result<(), Memory>
     requires { FillAll (slots_of Define) parts.now }
     ensures { OnOk result (reading_of so_far.new ≡ take (row Define parts.now) (reading_of so_far.old)) }
 {
@@ -58,12 +54,7 @@ fn take_constant(alloc: Global, so_far: &mut SoFar, parts: &[Part]) -> Result<()
 }
 
 // Takes a row.
-fn take_row(
-    alloc: Global,
-    so_far: &mut SoFar,
-    kind: FormKind,
-    parts: &[Part],
-) -> Result<(), Memory>
+fn take_row(alloc: Global, so_far: &mut SoFar, kind: FormKind, parts: &[Part]) -> Result<(), Memory>
     requires { FillAll (slots_of kind) parts.now }
     ensures { OnOk result (reading_of so_far.new ≡ take (read_form (row kind parts.now)) (reading_of so_far.old)) }
 {

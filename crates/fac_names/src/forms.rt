@@ -105,12 +105,7 @@ pub fn qualify(
 }
 
 // Takes one name of a `FROM:`.
-fn bring(
-    alloc: Global,
-    so_far: &mut SoFar,
-    vocab: &Token,
-    name: &Token,
-) -> Result<(), Memory>
+fn bring(alloc: Global, so_far: &mut SoFar, vocab: &Token, name: &Token) -> Result<(), Memory>
     ensures { OnOk result (reading_of so_far.new ≡ bring_one (tok vocab.now).text (reading_of so_far.old) (tok name.now)) }
 {
     match so_far
@@ -144,12 +139,7 @@ fn bring_all(
 }
 
 /// Takes a `FROM:`.
-pub fn from(
-    alloc: Global,
-    so_far: &mut SoFar,
-    vocab: &Token,
-    names: &[Token],
-) -> Result<(), Memory>
+pub fn from(alloc: Global, so_far: &mut SoFar, vocab: &Token, names: &[Token]) -> Result<(), Memory>
     ensures { OnOk result (reading_of so_far.new ≡ take (f_from (tok vocab.now) (map tok names.now)) (reading_of so_far.old)) }
 {
     if so_far.scope.exists(text(&vocab.kind)) {

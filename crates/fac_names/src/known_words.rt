@@ -151,4 +151,3 @@ pub fn first_words(alloc: Global) -> Result<List<WordDef>, Memory>
     add_core_words(alloc, &mut words)?;
     Ok(words)
 }
-

@@ -8,6 +8,7 @@ mod files;
 mod forms;
 mod items;
 mod known_words;
+mod laws;
 mod naming;
 mod parts;
 mod refusal;
@@ -17,5 +18,6 @@ mod search;
 mod so_far;
 mod spelling;
 
+pub use laws::resolved_programs_are_whole;
 pub use refusal::{NameFault, NameKind, ResolveFault};
 pub use resolver::resolve;

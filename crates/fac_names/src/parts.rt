@@ -48,9 +48,11 @@ pub fn brought(parts: &[Part]) -> (&Token, &[Token])
     ensures { AreBrought parts.now result.0.now result.1.now }
 {
     match parts {
-        [Part::Name(vocab), Part::Fixed(_, _), Part::Names { names, .. }] => {
-            (vocab, names.as_slice())
-        }
+        [
+            Part::Name(vocab),
+            Part::Fixed(_, _),
+            Part::Names { names, .. },
+        ] => { (vocab, names.as_slice()) }
         _ => unreachable!(),
     }
 }

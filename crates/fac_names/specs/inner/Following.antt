@@ -1,6 +1,6 @@
 -- The phrase of flat elements, and the refusals in them.
 use Rattle.std.specs.Prelude.{◌≡◌, ℕ, suc, ◌<◌, ◌-◌, List, [], ◌∷◌, ◌++◌, length, Option, Result, Ok, Err, fold}
-use Rattle.fac_lang.specs.Phrases.{Phrase, end, then, Item, lit, int, yes, no, quot, word}
+use Rattle.fac_lang.specs.Phrases.{Phrase, end, then, quot}
 use Rattle.fac_lang.specs.PhraseView.{what_item, items_phrase}
 use Rattle.fac_lang.specs.declared.memory.Memory.{Memory}
 use Rattle.fac_lang.specs.declared.phrase.Item.{Item as PlacedItem}

@@ -21,7 +21,7 @@ pub record AreBrought (parts : List Part) (vocab : Token) (names : List Token) :
   pub place : Place
   pub ends : Place
   pub are : parts ≡ part.Name vocab ∷ part.Fixed key place ∷ part.Names names ends ∷ []
-  
+
 -- the name and the literal of a `CONSTANT:`
 pub record IsConstant (parts : List Part) (name : Token) (elements : List Element) : Type 0 where
   pub are : parts ≡ part.Name name ∷ part.Literal elements ∷ []

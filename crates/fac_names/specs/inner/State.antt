@@ -1,5 +1,5 @@
 -- What was read so far, as the definition has it.
-use Rattle.std.specs.Prelude.{◌≡◌, ℕ, List, [], ◌∷◌, Option, Bool, false}
+use Rattle.std.specs.Prelude.{◌≡◌, ℕ, List, [], ◌∷◌, Option, false}
 use Rattle.std.specs.List.{list_any}
 use Rattle.fac_lang.specs.Phrases.{Phrase}
 use Rattle.fac_lang.specs.PhraseView.{items_phrase}
@@ -9,7 +9,7 @@ use Rattle.fac_vocab.specs.Scopes.{Scope, holders, home, now_defined}
 use Rattle.fac_names.specs.declared.refusal.NameFault.{NameFault}
 use Rattle.fac_names.specs.declared.so_far.SoFar.{SoFar}
 use Rattle.fac_names.specs.Written.{Tok}
-use Rattle.fac_names.specs.Forms.{Draft, Reading, Numbered, own}
+use Rattle.fac_names.specs.Forms.{Draft, Reading, own}
 use Rattle.fac_names.specs.inner.Drafts.{drafts_seen}
 
 abbrev pub reading_with : Scope → List Draft → Phrase → Phrase → Option NameFault → Reading

@@ -1,5 +1,4 @@
-use Rattle.std.proofs.Common.{◌≡◌, ap, ◌∙◌}
-use Rattle.fac_lang.specs.Phrases.{Phrase}
+use Rattle.std.proofs.Common.{ap, ◌∙◌}
 use Rattle.fac_lang.specs.PhraseView.{items_phrase}
 use Rattle.fac_lang.specs.RunningLaws.{append}
 use Rattle.fac_names.proofs.ReadingLemmas.{items_taken}
