@@ -1,0 +1,4 @@
+-- What only the contracts of inner functions cite.
+pub mod Rows
+pub mod Index
+pub mod BroughtForms

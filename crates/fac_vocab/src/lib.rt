@@ -1,0 +1,20 @@
+//! Vocabularies: what they hold, what a file uses of them, and what a name finds.
+#![tactic(auto)]
+
+mod answers;
+mod brought;
+mod brought_names;
+mod entry;
+mod index;
+mod least;
+mod scope;
+mod search;
+mod standing;
+mod table;
+mod text_set;
+mod vocabularies;
+
+pub use answers::{Found, ScopeFault, Standing};
+pub use brought::Brought;
+pub use entry::Entry;
+pub use scope::Scope;

@@ -1,0 +1,331 @@
+//! Scopes: what a file's names find.
+ghost use Rattle.std.specs.Prelude.{◌≡◌, ◌++◌, ◌∷◌, [], false, true, IfOk, OnOk, OnErr};
+ghost use Rattle.fac_vocab.specs.Scopes.{or_else, word_held, companion, latest, found, exists as vocab_exists, home as home_of, first_scope, entries_from, begun, entered, with_private, named, prefixed};
+ghost use Rattle.fac_vocab.specs.inner.Rows.{all_named, AllNamed};
+ghost use Rattle.fac_vocab.specs.ScopeCalls.{names_differ, Finds, names_between, Stands, Defines, Defers, Uses, Qualifies, BringsOne, Brings};
+
+use crate::answers::{Found, ScopeFault, Standing};
+use crate::brought::Brought;
+use crate::brought_names::BroughtNames;
+use crate::standing::{found_of, names_of};
+use crate::table::Table;
+use crate::text_set::TextSet;
+use crate::vocabularies::{first_vocabularies, syntax_alone};
+use fac_lang::{List, Memory, Name, Text, WordDef};
+use std::alloc::Global;
+use std::marker::Model;
+
+/// What names find: the names that vocabularies hold, the vocabulary to which definitions go, and what a file uses and brings.
+/// A call that is refused changes nothing.
+#[derive(Drop)]
+pub struct Scope {
+    table: Table,
+    // The vocabularies that were named.
+    vocabs: TextSet,
+    // The current vocabulary.
+    current: Text,
+    // Its companion, which has the names that are private to it.
+    private_home: Text,
+    in_private: bool,
+    used: TextSet,
+    brought: BroughtNames,
+}
+
+impl Model for Scope {
+    ghost use Rattle.std.specs.Prelude.{◌≡◌};
+    ghost use Rattle.fac_vocab.specs.Scopes.{Scope, companion};
+
+    ghost Value = { Scope };
+
+    ghost view = { λ s. record { table = s.table; vocabs = s.vocabs; current = s.current; in_private = s.in_private; used = s.used; brought = s.brought } };
+
+    ghost invariant = { λ s. s.private_home ≡ companion s.current };
+}
+
+// A vocabulary's name and that of its companion.
+fn with_companion(alloc: Global, vocab: &str) -> Result<(Text, Text), Memory>
+    ensures { IfOk result (λ both. (both.0 ≡ vocab.now) × (both.1 ≡ companion vocab.now)) }
+{
+    let current = Text::from_str(alloc, vocab)?;
+    let mut private = Text::from_str(alloc, vocab)?;
+    private.push_str(".private")?;
+    Ok((current, private))
+}
+
+// The table of these words, which are numbered from 0.
+fn table_of(alloc: Global, words: &[WordDef]) -> Result<Table, Memory>
+    requires { names_differ (entries_from 0 words.now) ≡ true }
+    ensures { IfOk result (λ table. table ≡ entries_from 0 words.now) }
+{
+    let mut table = Table::new(alloc);
+    for word in words {
+        let number = table.len();
+        table.add(alloc, &word.name, number, true)?;
+    }
+    Ok(table)
+}
+
+// What a `QUALIFIED-WITH:` brings.
+fn prefixed_names(alloc: Global, vocab: &str, prefix: &str) -> Result<Brought, Memory>
+    ensures { IfOk result (λ form. form ≡ prefixed vocab.now prefix.now) }
+{
+    let vocab = Text::from_str(alloc, vocab)?;
+    let prefix = Text::from_str(alloc, prefix)?;
+    Ok(Brought::Prefixed(vocab, prefix))
+}
+
+// What a `FROM:` brings by one name.
+fn named_word(alloc: Global, name: &str, word: u32) -> Result<Brought, Memory>
+    ensures { IfOk result (λ form. form ≡ named name.now word) }
+{
+    Ok(Brought::Named(Text::from_str(alloc, name)?, word))
+}
+
+// Adds what a `FROM:` brings by one name.
+fn add_named(alloc: Global, forms: &mut Vec<Brought>, name: &str, word: u32) -> Result<(), Memory>
+    ensures { OnOk result (forms.new.items ≡ forms.old.items ++ named name.now word ∷ []) }
+{
+    forms.push(named_word(alloc, name, word)?)?;
+    Ok(())
+}
+
+// What these names of a vocabulary bring.
+fn all_words(
+    alloc: Global,
+    table: &Table,
+    vocab: &str,
+    names: &[Text],
+) -> Result<Vec<Brought>, ScopeFault>
+    ensures { AllNamed (all_named table.now vocab.now names.now) result }
+{
+    let mut forms = Vec::new(alloc);
+    for name in names {
+        match table.word(vocab, name.as_str()) {
+            Some(word) => add_named(alloc, &mut forms, name.as_str(), word)?,
+            None => {
+                return Err(ScopeFault::Unknown);
+            }
+        }
+    }
+    Ok(forms)
+}
+
+impl Scope {
+    /// The scope in which these words are known, and a file has begun.
+    pub fn new(alloc: Global, words: &[WordDef]) -> Result<Scope, Memory>
+        requires { names_differ (entries_from 0 words.now) ≡ true }
+        ensures { IfOk result (λ scope. scope ≡ first_scope words.now) }
+    {
+        let table = table_of(alloc, words)?;
+        let vocabs = first_vocabularies(alloc)?;
+        let (current, private_home) = with_companion(alloc, "scratchpad")?;
+        let used = syntax_alone(alloc)?;
+        Ok(Scope {
+            table,
+            vocabs,
+            current,
+            private_home,
+            in_private: false,
+            used,
+            brought: BroughtNames::new(alloc),
+        })
+    }
+
+    /// A file begins: in `scratchpad`, with `syntax` alone used, and nothing brought. What vocabularies hold stays.
+    pub fn begin(&mut self, alloc: Global) -> Result<(), Memory>
+        ensures ok { OnOk result (self.new ≡ begun self.old) }
+        ensures err { OnErr result (self.new ≡ self.old) }
+    {
+        let (current, private_home) = with_companion(alloc, "scratchpad")?;
+        let used = syntax_alone(alloc)?;
+        self.current = current;
+        self.private_home = private_home;
+        self.in_private = false;
+        self.used = used;
+        self.brought = BroughtNames::new(alloc);
+        Ok(())
+    }
+
+    /// Definitions go to a vocabulary, which exists from now on.
+    pub fn enter(&mut self, alloc: Global, vocab: &str) -> Result<(), Memory>
+        ensures ok { OnOk result (self.new ≡ entered vocab.now self.old) }
+        ensures err { OnErr result (self.new ≡ self.old) }
+    {
+        let (current, private_home) = with_companion(alloc, vocab)?;
+        self.vocabs.add(alloc, vocab)?;
+        self.current = current;
+        self.private_home = private_home;
+        self.in_private = false;
+        Ok(())
+    }
+
+    /// Definitions go to the companion of the current vocabulary.
+    pub fn private(&mut self)
+        ensures { self.new ≡ with_private true self.old }
+    {
+        self.in_private = true;
+    }
+
+    /// Definitions go to the current vocabulary itself.
+    pub fn public(&mut self)
+        ensures { self.new ≡ with_private false self.old }
+    {
+        self.in_private = false;
+    }
+
+    /// The vocabulary to which definitions go.
+    pub fn home(&self) -> &str
+        ensures { result.now ≡ home_of self.now }
+    {
+        if self.in_private {
+            self.private_home.as_str()
+        } else {
+            self.current.as_str()
+        }
+    }
+
+    /// Whether a vocabulary exists: it was named, or it is the companion of one that exists.
+    pub fn exists(&self, vocab: &str) -> bool
+        ensures { result ≡ vocab_exists self.now vocab.now }
+    {
+        self.vocabs.has_stem_of(vocab)
+    }
+
+    /// The word that a vocabulary holds under a name.
+    pub fn word(&self, vocab: &str, name: &str) -> Option<u32>
+        ensures { result ≡ word_held self.now.table vocab.now name.now }
+    {
+        self.table.word(vocab, name)
+    }
+
+    // The word of a name that isn't left to the used vocabularies.
+    fn near(&self, name: &str) -> Option<u32>
+        ensures { result ≡ or_else (word_held self.now.table self.now.current name.now) (or_else (word_held self.now.table (companion self.now.current) name.now) (latest self.now.table name.now self.now.brought)) }
+    {
+        match self.table.word(self.current.as_str(), name) {
+            Some(word) => Some(word),
+            None => match self.table.word(self.private_home.as_str(), name) {
+                Some(word) => Some(word),
+                None => self.brought.latest(&self.table, name),
+            },
+        }
+    }
+
+    /// The word that a name finds: of the current vocabulary or its companion; or else of what was brought, the latest first; or else the one
+    /// word that the used vocabularies have.
+    pub fn find(&self, name: &str) -> Found
+        ensures { Finds self.now name.now result }
+    {
+        match self.near(name) {
+            Some(word) => Found::Word(word),
+            None => found_of(
+                self.table.entries(),
+                self.table.least_used(&self.used, name),
+            ),
+        }
+    }
+
+    /// The full names between which a name is ambiguous, the first two in their byte order. None where it isn't.
+    pub fn ambiguity(&self, alloc: Global, name: &str) -> Result<Option<(Name, Name)>, Memory>
+        ensures { IfOk result (λ names. names ≡ names_between (found self.now name.now)) }
+    {
+        match self.near(name) {
+            Some(_) => Ok(None),
+            None => names_of(
+                alloc,
+                self.table.entries(),
+                self.table.least_used(&self.used, name),
+            ),
+        }
+    }
+
+    /// How a full name stands for a definition.
+    pub fn standing(&self, name: &Name) -> Standing
+        ensures { Stands self.now name.now result }
+    {
+        self.table.standing(name)
+    }
+
+    /// Defines a name: a new one as this word; one that is only deferred keeps its word.
+    pub fn define(&mut self, alloc: Global, name: &Name, word: u32) -> Result<(), ScopeFault>
+        ensures { Defines self.old name.now word self.new result }
+    {
+        match self.table.standing(name) {
+            Standing::New => {
+                self.table.add(alloc, name, word, true)?;
+                Ok(())
+            }
+            Standing::Deferred(_) => {
+                self.table.settle(name);
+                Ok(())
+            }
+            Standing::Defined => Err(ScopeFault::Twice),
+        }
+    }
+
+    /// Defers a new name.
+    pub fn defer(&mut self, alloc: Global, name: &Name, word: u32) -> Result<(), ScopeFault>
+        ensures { Defers self.old name.now word self.new result }
+    {
+        match self.table.standing(name) {
+            Standing::New => {
+                self.table.add(alloc, name, word, false)?;
+                Ok(())
+            }
+            Standing::Deferred(_) => Err(ScopeFault::Twice),
+            Standing::Defined => Err(ScopeFault::Twice),
+        }
+    }
+
+    /// Uses a vocabulary, with the names that it gets later.
+    pub fn use_vocab(&mut self, alloc: Global, vocab: &str) -> Result<(), ScopeFault>
+        ensures { Uses self.old vocab.now self.new result }
+    {
+        if !self.exists(vocab) {
+            return Err(ScopeFault::NoVocab);
+        }
+        self.used.add(alloc, vocab)?;
+        Ok(())
+    }
+
+    /// Brings the names of a vocabulary behind a prefix and a colon, with those that it gets later.
+    pub fn qualified(&mut self, alloc: Global, vocab: &str, prefix: &str) -> Result<(), ScopeFault>
+        ensures { Qualifies self.old vocab.now prefix.now self.new result }
+    {
+        if !self.exists(vocab) {
+            return Err(ScopeFault::NoVocab);
+        }
+        self.brought
+            .add(alloc, prefixed_names(alloc, vocab, prefix)?)?;
+        Ok(())
+    }
+
+    /// Brings one name of a vocabulary, as the word that it has now. Whether the vocabulary exists isn't asked.
+    pub fn bring(&mut self, alloc: Global, vocab: &str, name: &str) -> Result<(), ScopeFault>
+        ensures { BringsOne self.old vocab.now name.now self.new result }
+    {
+        match self.table.word(vocab, name) {
+            Some(word) => {
+                self.brought.add(alloc, named_word(alloc, name, word)?)?;
+                Ok(())
+            }
+            None => Err(ScopeFault::Unknown),
+        }
+    }
+
+    /// Brings names of a vocabulary, as the words that it has now: all of them or none.
+    pub fn from(&mut self, alloc: Global, vocab: &str, names: &List<Text>) -> Result<(), ScopeFault>
+        ensures { Brings self.old vocab.now names.now self.new result }
+    {
+        if !self.exists(vocab) {
+            return Err(ScopeFault::NoVocab);
+        }
+        match all_words(alloc, &self.table, vocab, names.as_slice()) {
+            Ok(forms) => {
+                self.brought.add_all(alloc, forms)?;
+                Ok(())
+            }
+            Err(fault) => Err(fault),
+        }
+    }
+}

@@ -1,0 +1,158 @@
+//! The table of all names.
+ghost use Rattle.std.specs.Prelude.{◌≡◌, ◌<◌, ◌^◌, ◌++◌, ◌∷◌, [], None, length, true, IfOk, OnOk, OnErr};
+ghost use Rattle.fac_vocab.specs.Scopes.{held, word_held, holders};
+ghost use Rattle.fac_vocab.specs.ScopeCalls.{names_differ, standing_of};
+ghost use Rattle.fac_vocab.specs.inner.Rows.{numbers_named, LeastUsed, settled, defined_at};
+
+use crate::answers::Standing;
+use crate::entry::Entry;
+use crate::index::{add_number, numbers_of};
+use crate::least::Least;
+use crate::search::{first_number, least_used, word_in};
+use crate::standing::standing_in;
+use crate::text_set::TextSet;
+use fac_lang::{Duplicate, Memory, Name};
+use indexmap::IndexMap;
+use std::alloc::Global;
+use std::marker::Model;
+
+/// The entries of all vocabularies, in the order in which they were added. No vocabulary has a name twice.
+#[derive(Drop)]
+pub struct Table {
+    entries: Vec<Entry>,
+    // The numbers of the entries of each name.
+    index: IndexMap<String, Vec<u32>>,
+}
+
+impl Model for Table {
+    ghost use Rattle.std.specs.Prelude.{List};
+    ghost use Rattle.fac_vocab.specs.declared.entry.Entry.{Entry};
+    ghost use Rattle.fac_vocab.specs.inner.Index.{IsIndexed};
+
+    ghost Value = { List Entry };
+
+    ghost view = { λ t. t.entries.items };
+
+    ghost invariant = { λ t. IsIndexed t.index t.entries.items };
+}
+
+// An entry.
+fn entry_of(alloc: Global, name: &Name, word: u32, is_defined: bool) -> Result<Entry, Memory>
+    ensures { IfOk result (λ entry. entry ≡ record { vocab = name.now.vocab; name = name.now.name; word = word; is_defined = is_defined }) }
+{
+    let vocab = name.vocab.copy(alloc)?;
+    let text = name.name.copy(alloc)?;
+    Ok(Entry {
+        vocab,
+        name: text,
+        word,
+        is_defined,
+    })
+}
+
+// The entry of this number is defined now.
+fn define_at(entries: &mut Vec<Entry>, number: u32)
+    ensures { entries.new.items ≡ defined_at number entries.old.items }
+{
+    if let Some(entry) = entries.get_mut(number as usize) {
+        entry.is_defined = true;
+    }
+}
+
+impl Table {
+    /// A table without names.
+    pub fn new(alloc: Global) -> Table
+        ensures { result ≡ [] }
+    {
+        Table {
+            entries: Vec::new(alloc),
+            index: IndexMap::new(alloc),
+        }
+    }
+
+    /// All entries.
+    pub fn entries(&self) -> &[Entry]
+        ensures all { result.now ≡ self.now }
+        ensures once { names_differ self.now ≡ true }
+        ensures few { length self.now < 2 ^ 32 }
+    {
+        self.entries.as_slice()
+    }
+
+    /// The number of entries.
+    pub fn len(&self) -> u32
+        ensures { result ≡ length self.now }
+    {
+        self.entries.len() as u32
+    }
+
+    /// The numbers of the entries of a name, in their order.
+    pub fn numbers(&self, name: &str) -> &[u32]
+        ensures { result.now ≡ numbers_named 0 name.now self.now }
+    {
+        numbers_of(&self.index, name)
+    }
+
+    /// The word that a vocabulary holds under a name.
+    pub fn word(&self, vocab: &str, name: &str) -> Option<u32>
+        ensures { result ≡ word_held self.now vocab.now name.now }
+    {
+        word_in(self.entries(), self.numbers(name), vocab)
+    }
+
+    /// The first two that used vocabularies hold under a name.
+    pub fn least_used(&self, used: &TextSet, name: &str) -> Least
+        ensures { LeastUsed self.now name.now used.now result }
+    {
+        used.differ();
+        least_used(self.entries(), self.numbers(name), used)
+    }
+
+    /// How a full name stands.
+    pub fn standing(&self, name: &Name) -> Standing
+        ensures { standing_of (holders self.now name.now.vocab name.now.name) ≡ result }
+    {
+        standing_in(
+            self.entries(),
+            self.numbers(name.name.as_str()),
+            name.vocab.as_str(),
+        )
+    }
+
+    /// Adds a name that no vocabulary of its table holds.
+    pub fn add(
+        &mut self,
+        alloc: Global,
+        name: &Name,
+        word: u32,
+        is_defined: bool,
+    ) -> Result<(), Memory>
+        requires { held self.old name.now.vocab name.now.name ≡ None }
+        ensures ok { OnOk result (self.new ≡ self.old ++ record { vocab = name.now.vocab; name = name.now.name; word = word; is_defined = is_defined } ∷ []) }
+        ensures err { OnErr result (self.new ≡ self.old) }
+    {
+        let number = self.len();
+        if number == u32::MAX {
+            return Err(Memory);
+        }
+        self.entries.push(entry_of(alloc, name, word, is_defined)?)?;
+        match add_number(alloc, &mut self.index, name.name.as_str(), number) {
+            Ok(_) => Ok(()),
+            Err(_) => {
+                self.entries.pop();
+                Err(Memory)
+            }
+        }
+    }
+
+    /// The first holder of a name is defined now.
+    pub fn settle(&mut self, name: &Name)
+        ensures { self.new ≡ settled name.now self.old }
+    {
+        let numbers = numbers_of(&self.index, name.name.as_str());
+        match first_number(self.entries.as_slice(), numbers, name.vocab.as_str()) {
+            Some(number) => define_at(&mut self.entries, number),
+            None => {}
+        }
+    }
+}

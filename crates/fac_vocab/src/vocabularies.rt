@@ -1,0 +1,39 @@
+//! The vocabularies that exist from the start, and those that a file uses first.
+ghost use Rattle.std.specs.Prelude.{◌≡◌, ◌∷◌, [], codes, map, IfOk};
+ghost use Rattle.fac_vocab.specs.Scopes.{first_vocabularies as first_names};
+ghost use Rattle.fac_vocab.specs.inner.Rows.{with_vocabs};
+
+use crate::text_set::TextSet;
+use fac_lang::Memory;
+use std::alloc::Global;
+
+#[rattlefmt::skip]
+static VOCABULARIES: [&str; 15] = [
+    "kernel", "math", "math.parser", "sequences", "arrays", "io", "prettyprint", "combinators",
+    "strings", "words", "syntax", "accessors", "scratchpad", "locals", "fry",
+];
+
+// A set of texts.
+fn set_of(alloc: Global, texts: &[&str]) -> Result<TextSet, Memory>
+    ensures { IfOk result (λ set. set ≡ with_vocabs [] (map (λ text. text.now) texts.now)) }
+{
+    let mut set = TextSet::new(alloc);
+    for text in texts {
+        set.add(alloc, text)?;
+    }
+    Ok(set)
+}
+
+/// The vocabularies that exist from the start, but for their companions.
+pub fn first_vocabularies(alloc: Global) -> Result<TextSet, Memory>
+    ensures { IfOk result (λ set. set ≡ first_names) }
+{
+    set_of(alloc, &VOCABULARIES)
+}
+
+/// What each file uses from its beginning.
+pub fn syntax_alone(alloc: Global) -> Result<TextSet, Memory>
+    ensures { IfOk result (λ set. set ≡ codes "syntax" ∷ []) }
+{
+    set_of(alloc, &["syntax"])
+}
