@@ -54,9 +54,13 @@ fn program_of(alloc: Global, trees: &[Tree]) -> Result<Program, ResolveFault>
     requires { AreWellFormed (forms_of trees.now) }
     ensures { Resolves (forms_of trees.now) result }
 {
-    let mut so_far = first(alloc)?;
-    take_trees(alloc, &mut so_far, trees)?;
-    ended(alloc, so_far)
+    match first(alloc) {
+        Ok(mut so_far) => match take_trees(alloc, &mut so_far, trees) {
+            Ok(()) => ended(alloc, so_far),
+            Err(Memory) => Err(ResolveFault::Memory),
+        },
+        Err(Memory) => Err(ResolveFault::Memory),
+    }
 }
 
 /// The program of the trees of files, in order, or the first name by place that is refused; at one token the order of the kinds of refusals
