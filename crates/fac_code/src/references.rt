@@ -39,12 +39,7 @@ fn is_quotation(templates: &[TemplateRow], template: u32) -> bool
 }
 
 // Whether what an instruction names is there.
-fn refers_instr(
-    templates: &[TemplateRow],
-    words: &[WordRow],
-    texts: &[Text],
-    instr: Instr,
-) -> bool
+fn refers_instr(templates: &[TemplateRow], words: &[WordRow], texts: &[Text], instr: Instr) -> bool
     ensures { result ≡ instr_refers templates.now words.now texts.now instr }
 {
     match instr {

@@ -110,5 +110,5 @@ pub template_emitted :
     IfOk r (λ piece. (P : Program) → Closes P C templates → IsBuilt P → TemplateEmits P piece.texts q piece.code)
 template_emitted C templates q (Ok piece) lt is =
     λ P closes b. let found = element_at templates q lt in
-      subst (λ (c : List Instr). TemplateEmits P piece.texts q c) (sym (is.0 ∙ ap (found_template C) found.1)) (subst (λ (texts : List (List ℕ)). TemplateEmits P texts q (phrase_code C.words Ret [] found.0.body)) (sym (is.1 ∙ ap found_template_texts found.1)) (template_emitted_at P C templates b closes q found.0 found.1))
+    subst (λ (c : List Instr). TemplateEmits P piece.texts q c) (sym (is.0 ∙ ap (found_template C) found.1)) (subst (λ (texts : List (List ℕ)). TemplateEmits P texts q (phrase_code C.words Ret [] found.0.body)) (sym (is.1 ∙ ap found_template_texts found.1)) (template_emitted_at P C templates b closes q found.0 found.1))
 template_emitted C templates q (Err e) lt is = tt

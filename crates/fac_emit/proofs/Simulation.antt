@@ -13,7 +13,7 @@ use Rattle.fac_code.specs.declared.image.Image.{Image}
 use Rattle.fac_code.specs.declared.image.WordRow.{WordRow}
 use Rattle.fac_code.specs.declared.names.TrapWhy.TheVariants.{Kind as t_kind}
 use Rattle.fac_prim.specs.MachineValues.{MValue, m_plain, kept_list}
-use Rattle.fac_vm.specs.Machine.{Machine, Entry, resume, End, done, failed, spent, Step, goes_on, or_trap, code_of, fetched, step, Ends}
+use Rattle.fac_vm.specs.Machine.{Machine, Entry, resume, End, done, failed, spent, goes_on, or_trap, code_of, fetched, Ends}
 use Rattle.fac_vm.proofs.Leading.{ends_after, ends_step}
 use Rattle.fac_emit.specs.MachineView.{Templates, values_view, world_view, state_view}
 use Rattle.fac_emit.specs.Carries.{SameEnd}

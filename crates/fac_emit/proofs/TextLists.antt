@@ -6,7 +6,7 @@ use Rattle.fac_lang.specs.declared.phrase.Template.{Template}
 use Rattle.fac_lang.specs.declared.program.WordDef.{WordDef}
 use Rattle.fac_lang.specs.declared.program.Sort.{Sort}
 use Rattle.fac_lang.specs.declared.program.Sort.TheVariants.{Body as body}
-use Rattle.fac_lang.specs.Phrases.{int, yes, no, str, iota, wrd, arr, tup, Phrase, end, then, Item, lit, lit_arr, quot, word, bind, local, fry, hole, call_eff, exec_eff, next_method, made, next_after, held, known}
+use Rattle.fac_lang.specs.Phrases.{str, Phrase, end, then, Item, lit}
 use Rattle.fac_prim.proofs.ValueTreeLemmas.{get_behind}
 use Rattle.fac_emit.specs.ProgramCode.{with_text, phrase_texts, templates_texts, sort_texts, words_texts}
 

@@ -1,3 +1,4 @@
 pub mod Rows
 pub mod Spellings
 pub mod Trees
+pub mod inner

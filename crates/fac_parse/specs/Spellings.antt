@@ -1,6 +1,6 @@
 -- What a token is to the grammar, by how it is spelled.
 use Rattle.std.specs.List.{list_any}
-use Rattle.std.specs.Prelude.{◌≡◌, ℕ, ℤ, Bool, true, false, not, ◌&&◌, ◌||◌, List, [], ◌∷◌, Option, Some, None, is_some, nat_le, map, codes, take, drop, length, ◌-◌, if◌then◌else◌}
+use Rattle.std.specs.Prelude.{◌≡◌, ℕ, ℤ, Bool, not, ◌&&◌, ◌||◌, List, [], ◌∷◌, Option, Some, None, is_some, nat_le, map, codes, take, drop, length, ◌-◌, if◌then◌else◌}
 use Rattle.std.specs.Str.{bytes_eq, chars}
 use Rattle.fac_lang.specs.declared.limits.TheConstants.{MOST_ELEMENTS}
 use Rattle.fac_lang.specs.Numbers.{signed_in, integer_in}
@@ -96,9 +96,13 @@ spelling_of text = (if has_integer_form text then integer_spelling (integer_in t
 abbrev pub LiteralsAreIntegers : Type 0
 LiteralsAreIntegers = (text : List ℕ) (z : ℤ) → (spelling_of text ≡ Integer z → integer_in text ≡ Some z) × (integer_in text ≡ Some z → spelling_of text ≡ Integer z)
 
+-- a string with this content, which stands nowhere where it is too long
+unfoldable pub string_spelling : List ℕ → Spelling
+string_spelling content = (if nat_le (length (chars content)) MOST_ELEMENTS then String else Other)
+
 abbrev pub token_spelling : TokKind → Spelling
 token_spelling (Plain text) = spelling_of text
-token_spelling (Str text) = (if nat_le (length (chars text)) MOST_ELEMENTS then String else Other)
+token_spelling (Str content) = string_spelling content
 
 -- Names in effects. One that begins with two dots is a row variable, and one that ends in a colon is followed by a class or an effect.
 abbrev pub is_row_name : List ℕ → Bool

@@ -1,9 +1,11 @@
-//! Reading a source: its tokens to a tree, and a tree to a program.
+//! Reading a source: its tokens to a tree.
 #![tactic(auto)]
 
 mod context;
+mod laws;
 mod reader;
 mod rows;
 mod spelling;
 
-pub use reader::{ParseFault, Why};
+pub use laws::{literals_are_integers, one_place, one_tree, some_place, tree_or_none};
+pub use reader::{ParseFault, Why, parse};

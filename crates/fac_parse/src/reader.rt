@@ -1,7 +1,21 @@
 //! The tree of a source's tokens.
-ghost use Rattle.std.specs.Prelude.{◌≡◌};
+ghost use Rattle.std.specs.Prelude.{◌≡◌, ◌++◌, ◌∷◌, [], OnOk, IfOk};
+ghost use Rattle.fac_parse.specs.Trees.{Parses, behind, opened, quotation_closed, file_of};
+ghost use Rattle.fac_parse.specs.inner.Reader.{in_state, row, begin, begun_at, row_ended, go_on as goes_on, with_part, with_run, begin_row as row_begins, begins, is_semi, element_of, more, written, end_items as items_end};
+ghost use Rattle.fac_parse.specs.inner.Reader.{top_step, name_step, names_step, key_step, fixed_step, effect_step, may_add as may_have, inputs_step, outputs_step, items_step, mark_of, goes_into, add_literal as literal_added, literal_step, with_mark, marks_step, step, ended, ended_top, start};
+ghost use Rattle.fac_parse.specs.inner.Reader.{state_of, Goes, Passes, Adds, Finishes, IsSyntax, TakesAll, GivesForms};
+ghost use Rattle.fac_lang.specs.declared.tree.Part.TheVariants as part;
 
-use fac_lang::Memory;
+use crate::context::{Bracket, Context};
+use crate::rows::{Slot, slot_at};
+use crate::spelling::{Spelling, classify, names_a_value};
+use fac_lang::limits::{MOST_LEVELS, MOST_NAMES};
+use fac_lang::{
+    Element, Form, FormKind, Key, List, Mark, Memory, Part, Place, Stack, Term, Token, Tree,
+    WrittenEffect,
+};
+use std::alloc::Global;
+use std::mem;
 use thiserror::Error;
 
 /// Why a source gives no tree.
@@ -33,3 +47,722 @@ impl From<Memory> for ParseFault {
     }
 }
 
+/// The first token of a row.
+#[derive(Clone, Copy)]
+pub struct Head {
+    pub kind: FormKind,
+    pub opens: Place,
+}
+
+/// Where the next token stands.
+#[derive(Clone, Copy)]
+pub enum At {
+    /// Among items at the top level, or between two rows.
+    Top,
+    /// Where a row has a name.
+    Name(Head),
+    /// Among names.
+    Names(Head),
+    /// Where a row has a fixed token.
+    Fixed(Head, Key),
+    /// Where an effect begins.
+    Effect(Head),
+    /// Among the inputs of an effect, behind its `(`.
+    Inputs(Head, Place),
+    /// Among the outputs of an effect, behind its `(` and its `--`.
+    Outputs(Head, Place, Place),
+    /// Among the items of a row.
+    Items(Head),
+    /// Where a row has a literal, or among its elements.
+    Literal(Head),
+    /// Behind the `;` of a row that may have marks.
+    Marks(Head),
+}
+
+/// What was read so far. What stands in a list counts where the next token stands among what the list has.
+#[derive(Drop)]
+pub struct Reader {
+    /// The forms that are whole.
+    pub forms: List<Form>,
+    /// The parts of the row that are whole.
+    pub parts: List<Part>,
+    /// Names, or the inputs of an effect.
+    pub names: List<Token>,
+    /// The outputs of an effect.
+    pub outs: List<Token>,
+    /// Items.
+    pub elements: List<Element>,
+    /// The brackets that are open among the items.
+    pub contexts: Stack<Context>,
+    pub marks: List<Mark>,
+    pub at: At,
+}
+
+// The row that a token of this spelling begins.
+fn row_begun(spelling: Spelling) -> Option<FormKind>
+    ensures { result ≡ begins spelling }
+{
+    match spelling {
+        Spelling::Begins(kind) => Some(kind),
+        _ => None,
+    }
+}
+
+// Whether a token is `;`.
+fn is_semicolon(spelling: Spelling) -> bool
+    ensures { result ≡ is_semi spelling }
+{
+    match spelling {
+        Spelling::Semi => true,
+        _ => false,
+    }
+}
+
+// The element that a token of this spelling is.
+fn element(spelling: Spelling, token: Token) -> Option<Element>
+    ensures { result ≡ element_of spelling token }
+{
+    match spelling {
+        Spelling::Integer(value) => Some(Element::Item(Term::Integer(token, value))),
+        Spelling::String => Some(Element::Item(Term::Text(token))),
+        Spelling::Name => Some(Element::Item(Term::Name(token))),
+        Spelling::True => Some(Element::Item(Term::True(token.place))),
+        Spelling::False => Some(Element::Item(Term::False(token.place))),
+        Spelling::OpensQuotation => Some(Element::Opens(token.place)),
+        Spelling::ClosesQuotation => Some(Element::Closes(token.place)),
+        _ => None,
+    }
+}
+
+// Opens a bracket. False where too many are open.
+fn open(contexts: &mut Stack<Context>, bracket: Bracket) -> Result<bool, Memory>
+    ensures { Passes (opened bracket contexts.old) contexts.new result }
+{
+    if contexts.len() < MOST_LEVELS as usize {
+        contexts.push(Context { bracket })?;
+        Ok(true)
+    } else {
+        Ok(false)
+    }
+}
+
+// Closes the innermost bracket with a `]`. False where it can't.
+fn close_quotation(contexts: &mut Stack<Context>) -> bool
+    ensures { Passes (quotation_closed contexts.old) contexts.new (Ok result) }
+{
+    match contexts.pop() {
+        Some(context) => match context.bracket {
+            Bracket::Quotation => true,
+        },
+        None => false,
+    }
+}
+
+// Goes on behind an element with what is then open. False where it may not stand.
+fn pass(contexts: &mut Stack<Context>, element: &Element) -> Result<bool, Memory>
+    ensures { Passes (behind contexts.old element.now) contexts.new result }
+{
+    match element {
+        Element::Item(_) => Ok(true),
+        Element::Opens(_) => open(contexts, Bracket::Quotation),
+        Element::Closes(_) => Ok(close_quotation(contexts)),
+    }
+}
+
+// Whether an element goes on with a literal in which this is open. A name doesn't begin one.
+fn goes_on_with(contexts: &Stack<Context>, element: &Element) -> bool
+    ensures { result ≡ goes_into contexts.now element.now }
+{
+    if contexts.len() != 0 {
+        return true;
+    }
+    match element {
+        Element::Item(term) => match term {
+            Term::Name(_) => false,
+            _ => true,
+        },
+        _ => true,
+    }
+}
+
+// The mark that a token of this spelling is.
+fn mark(spelling: Spelling, place: Place) -> Option<Mark>
+    ensures { result ≡ mark_of spelling place }
+{
+    match spelling {
+        Spelling::Inline => Some(Mark::Inline(place)),
+        Spelling::Recursive => Some(Mark::Recursive(place)),
+        _ => None,
+    }
+}
+
+// Whether an effect with these names may have this one more.
+fn may_add(ins: &List<Token>, outs: &List<Token>, token: &Token) -> bool
+    ensures { result ≡ may_have ins.now outs.now token.now }
+{
+    names_a_value(token) && ins.len() as u64 + (outs.len() as u64) < MOST_NAMES
+}
+
+// Adds the element that a token of this spelling is. False where it is none, or may not stand.
+fn add_element(
+    elements: &mut List<Element>,
+    contexts: &mut Stack<Context>,
+    spelling: Spelling,
+    token: Token,
+) -> Result<bool, Memory>
+    ensures { Adds (element_of spelling token) elements.old contexts.old elements.new contexts.new result }
+{
+    match element(spelling, token) {
+        Some(element) => push_element(elements, contexts, element),
+        None => Ok(false),
+    }
+}
+
+// Adds an element. False where it may not stand.
+fn push_element(
+    elements: &mut List<Element>,
+    contexts: &mut Stack<Context>,
+    element: Element,
+) -> Result<bool, Memory>
+    ensures { Adds (Some element) elements.old contexts.old elements.new contexts.new result }
+{
+    if pass(contexts, &element)? {
+        elements.push(element)?;
+        Ok(true)
+    } else {
+        Ok(false)
+    }
+}
+
+// A refusal behind so many tokens.
+fn syntax(count: usize, why: Why) -> ParseFault
+    ensures { IsSyntax count why result }
+{
+    match u32::try_from(count) {
+        Ok(count) if count < u32::MAX => ParseFault::Syntax { at: count + 1, why },
+        _ => ParseFault::Memory,
+    }
+}
+
+impl Reader {
+    // Before the first token.
+    fn new(alloc: Global) -> Reader
+        ensures { state_of result ≡ start }
+    {
+        Reader {
+            forms: List::new(alloc),
+            parts: List::new(alloc),
+            names: List::new(alloc),
+            outs: List::new(alloc),
+            elements: List::new(alloc),
+            contexts: Stack::new(alloc),
+            marks: List::new(alloc),
+            at: At::Top,
+        }
+    }
+
+    // Begins a slot of a row.
+    fn begin_slot(&mut self, alloc: Global, head: Head, slot: Slot)
+        ensures { state_of self.new ≡ in_state self.old.forms (row (begun_at head self.old.parts) (begin slot)) }
+    {
+        match slot {
+            Slot::Name => {
+                self.at = At::Name(head);
+            }
+            Slot::Names => {
+                self.names = List::new(alloc);
+                self.at = At::Names(head);
+            }
+            Slot::Fixed(key) => {
+                self.at = At::Fixed(head, key);
+            }
+            Slot::Effect => {
+                self.at = At::Effect(head);
+            }
+            Slot::Items => {
+                self.elements = List::new(alloc);
+                self.contexts = Stack::new(alloc);
+                self.at = At::Items(head);
+            }
+            Slot::Literal => {
+                self.elements = List::new(alloc);
+                self.contexts = Stack::new(alloc);
+                self.at = At::Literal(head);
+            }
+            Slot::Marks => {
+                self.marks = List::new(alloc);
+                self.at = At::Marks(head);
+            }
+        }
+    }
+
+    // Ends a row.
+    fn end_row(&mut self, alloc: Global, head: Head) -> Result<(), Memory>
+        ensures { OnOk result (state_of self.new ≡ row_ended self.old.forms (begun_at head self.old.parts)) }
+    {
+        let parts = mem::replace(&mut self.parts, List::new(alloc));
+        self.elements = List::new(alloc);
+        self.contexts = Stack::new(alloc);
+        self.at = At::Top;
+        self.forms.push(Form::Row {
+            kind: head.kind,
+            opens: head.opens,
+            parts,
+        })
+    }
+
+    // Goes on with a row behind its parts so far.
+    fn go_on(&mut self, alloc: Global, head: Head) -> Result<(), Memory>
+        ensures { OnOk result (state_of self.new ≡ goes_on self.old.forms (begun_at head self.old.parts)) }
+    {
+        match slot_at(head.kind, self.parts.len() as usize) {
+            Some(slot) => {
+                self.begin_slot(alloc, head, slot);
+                Ok(())
+            }
+            None => self.end_row(alloc, head),
+        }
+    }
+
+    // Adds a part to a row, and goes on.
+    fn add_part(&mut self, alloc: Global, head: Head, part: Part) -> Result<(), Memory>
+        ensures { OnOk result (state_of self.new ≡ with_part self.old.forms (begun_at head self.old.parts) part) }
+    {
+        self.parts.push(part)?;
+        self.go_on(alloc, head)
+    }
+
+    // Ends a run of items, if there is one.
+    fn end_run(&mut self, alloc: Global) -> Result<(), Memory>
+        ensures { OnOk result (self.new.forms ≡ with_run self.old.forms self.old.elements) }
+    {
+        if self.elements.len() == 0 {
+            Ok(())
+        } else {
+            let elements = mem::replace(&mut self.elements, List::new(alloc));
+            self.forms.push(Form::Items(elements))
+        }
+    }
+
+    // Begins a row. False where a bracket is open.
+    fn begin_row(&mut self, alloc: Global, kind: FormKind, opens: Place) -> Result<bool, Memory>
+        ensures { Goes (row_begins kind opens self.old.forms self.old.elements self.old.contexts) (state_of self.new) result }
+    {
+        if self.contexts.len() != 0 {
+            return Ok(false);
+        }
+        self.end_run(alloc)?;
+        self.parts = List::new(alloc);
+        self.go_on(alloc, Head { kind, opens })?;
+        Ok(true)
+    }
+
+    // Takes a token at the top level.
+    fn take_at_top(
+        &mut self,
+        alloc: Global,
+        spelling: Spelling,
+        token: Token,
+    ) -> Result<bool, Memory>
+        requires { self.now.at ≡ At.Top }
+        ensures { Goes (top_step self.old.forms self.old.elements self.old.contexts spelling token) (state_of self.new) result }
+    {
+        match row_begun(spelling) {
+            Some(kind) => self.begin_row(alloc, kind, token.place),
+            None => add_element(&mut self.elements, &mut self.contexts, spelling, token),
+        }
+    }
+
+    // Takes a token where a row has a name.
+    fn take_name(
+        &mut self,
+        alloc: Global,
+        head: Head,
+        spelling: Spelling,
+        token: Token,
+    ) -> Result<bool, Memory>
+        ensures { Goes (name_step self.old.forms (begun_at head self.old.parts) spelling token) (state_of self.new) result }
+    {
+        match spelling {
+            Spelling::Name => {
+                self.add_part(alloc, head, Part::Name(token))?;
+                Ok(true)
+            }
+            _ => Ok(false),
+        }
+    }
+
+    // Takes a token among names.
+    fn take_names(
+        &mut self,
+        alloc: Global,
+        head: Head,
+        spelling: Spelling,
+        token: Token,
+    ) -> Result<bool, Memory>
+        requires { self.now.at ≡ At.Names head }
+        ensures { Goes (names_step self.old.forms (begun_at head self.old.parts) self.old.names spelling token) (state_of self.new) result }
+    {
+        match spelling {
+            Spelling::Name => {
+                self.names.push(token)?;
+                Ok(true)
+            }
+            Spelling::Semi => {
+                let names = mem::replace(&mut self.names, List::new(alloc));
+                let part = Part::Names {
+                    names,
+                    ends: token.place,
+                };
+                self.add_part(alloc, head, part)?;
+                Ok(true)
+            }
+            _ => Ok(false),
+        }
+    }
+
+    // Takes a token where a row has a fixed one.
+    fn take_fixed(
+        &mut self,
+        alloc: Global,
+        head: Head,
+        key: Key,
+        spelling: Spelling,
+        token: Token,
+    ) -> Result<bool, Memory>
+        ensures { Goes (fixed_step self.old.forms (begun_at head self.old.parts) key spelling token) (state_of self.new) result }
+    {
+        match spelling {
+            Spelling::Fixed(other) => match key {
+                Key::Arrow => match other {
+                    Key::Arrow => {
+                        self.add_part(alloc, head, Part::Fixed(key, token.place))?;
+                        Ok(true)
+                    }
+                },
+            },
+            _ => Ok(false),
+        }
+    }
+
+    // Takes a token where an effect begins.
+    fn take_effect(
+        &mut self,
+        alloc: Global,
+        head: Head,
+        spelling: Spelling,
+        token: Token,
+    ) -> Result<bool, Memory>
+        ensures { Goes (effect_step self.old.forms (begun_at head self.old.parts) spelling token) (state_of self.new) result }
+    {
+        match spelling {
+            Spelling::Opens => {
+                self.names = List::new(alloc);
+                self.at = At::Inputs(head, token.place);
+                Ok(true)
+            }
+            _ => Ok(false),
+        }
+    }
+
+    // Takes a token among the inputs of an effect.
+    fn take_input(
+        &mut self,
+        alloc: Global,
+        head: Head,
+        opens: Place,
+        spelling: Spelling,
+        token: Token,
+    ) -> Result<bool, Memory>
+        requires { self.now.at ≡ At.Inputs head opens }
+        ensures { Goes (inputs_step self.old.forms (begun_at head self.old.parts) opens self.old.names spelling token) (state_of self.new) result }
+    {
+        match spelling {
+            Spelling::Name => {
+                if may_add(&self.names, &List::new(alloc), &token) {
+                    self.names.push(token)?;
+                    Ok(true)
+                } else {
+                    Ok(false)
+                }
+            }
+            Spelling::Dashes => {
+                self.outs = List::new(alloc);
+                self.at = At::Outputs(head, opens, token.place);
+                Ok(true)
+            }
+            _ => Ok(false),
+        }
+    }
+
+    // Ends an effect with its `)`.
+    fn end_effect(
+        &mut self,
+        alloc: Global,
+        head: Head,
+        opens: Place,
+        dashes: Place,
+        closes: Place,
+    ) -> Result<(), Memory>
+        ensures { OnOk result (state_of self.new ≡ with_part self.old.forms (begun_at head self.old.parts) (part.Effect (written opens self.old.names dashes self.old.outs closes))) }
+    {
+        let ins = mem::replace(&mut self.names, List::new(alloc));
+        let outs = mem::replace(&mut self.outs, List::new(alloc));
+        let effect = WrittenEffect {
+            opens,
+            ins,
+            dashes,
+            outs,
+            closes,
+        };
+        self.add_part(alloc, head, Part::Effect(effect))
+    }
+
+    // Takes a token among the outputs of an effect.
+    fn take_output(
+        &mut self,
+        alloc: Global,
+        head: Head,
+        opens: Place,
+        dashes: Place,
+        spelling: Spelling,
+        token: Token,
+    ) -> Result<bool, Memory>
+        requires { self.now.at ≡ At.Outputs head opens dashes }
+        ensures { Goes (outputs_step self.old.forms (begun_at head self.old.parts) opens self.old.names dashes self.old.outs spelling token) (state_of self.new) result }
+    {
+        match spelling {
+            Spelling::Name => {
+                if may_add(&self.names, &self.outs, &token) {
+                    self.outs.push(token)?;
+                    Ok(true)
+                } else {
+                    Ok(false)
+                }
+            }
+            Spelling::Closes => {
+                self.end_effect(alloc, head, opens, dashes, token.place)?;
+                Ok(true)
+            }
+            _ => Ok(false),
+        }
+    }
+
+    // Ends the items of a row. False where a bracket is open.
+    fn end_items(&mut self, alloc: Global, head: Head, ends: Place) -> Result<bool, Memory>
+        ensures { Goes (items_end self.old.forms (begun_at head self.old.parts) self.old.elements self.old.contexts ends) (state_of self.new) result }
+    {
+        if self.contexts.len() != 0 {
+            return Ok(false);
+        }
+        let elements = mem::replace(&mut self.elements, List::new(alloc));
+        self.add_part(alloc, head, Part::Items { elements, ends })?;
+        Ok(true)
+    }
+
+    // Ends a literal.
+    fn end_literal(&mut self, alloc: Global, head: Head) -> Result<(), Memory>
+        ensures { OnOk result (state_of self.new ≡ with_part self.old.forms (begun_at head self.old.parts) (part.Literal self.old.elements)) }
+    {
+        let elements = mem::replace(&mut self.elements, List::new(alloc));
+        self.add_part(alloc, head, Part::Literal(elements))
+    }
+
+    // Takes a token among the items of a row.
+    fn take_in_items(
+        &mut self,
+        alloc: Global,
+        head: Head,
+        spelling: Spelling,
+        token: Token,
+    ) -> Result<bool, Memory>
+        requires { self.now.at ≡ At.Items head }
+        ensures { Goes (items_step self.old.forms (begun_at head self.old.parts) self.old.elements self.old.contexts spelling token) (state_of self.new) result }
+    {
+        if is_semicolon(spelling) {
+            self.end_items(alloc, head, token.place)
+        } else {
+            add_element(&mut self.elements, &mut self.contexts, spelling, token)
+        }
+    }
+
+    // Adds an element to a literal, which ends where nothing is open then. False where it may not stand.
+    fn add_to_literal(
+        &mut self,
+        alloc: Global,
+        head: Head,
+        element: Element,
+    ) -> Result<bool, Memory>
+        requires { self.now.at ≡ At.Literal head }
+        ensures { Goes (literal_added self.old.forms (begun_at head self.old.parts) self.old.elements self.old.contexts (Some element)) (state_of self.new) result }
+    {
+        if !goes_on_with(&self.contexts, &element) {
+            return Ok(false);
+        }
+        if !pass(&mut self.contexts, &element)? {
+            return Ok(false);
+        }
+        self.elements.push(element)?;
+        if self.contexts.len() == 0 {
+            self.end_literal(alloc, head)?;
+        }
+        Ok(true)
+    }
+
+    // Takes a token of a literal.
+    fn take_in_literal(
+        &mut self,
+        alloc: Global,
+        head: Head,
+        spelling: Spelling,
+        token: Token,
+    ) -> Result<bool, Memory>
+        requires { self.now.at ≡ At.Literal head }
+        ensures { Goes (literal_step self.old.forms (begun_at head self.old.parts) self.old.elements self.old.contexts spelling token) (state_of self.new) result }
+    {
+        match element(spelling, token) {
+            Some(element) => self.add_to_literal(alloc, head, element),
+            None => Ok(false),
+        }
+    }
+
+    // Adds a mark to a row. False where it has one.
+    fn add_mark(&mut self, head: Head, mark: Mark) -> Result<bool, Memory>
+        requires { self.now.at ≡ At.Marks head }
+        ensures { Goes (with_mark self.old.forms (begun_at head self.old.parts) self.old.marks mark) (state_of self.new) result }
+    {
+        if self.marks.len() != 0 {
+            return Ok(false);
+        }
+        self.marks.push(mark)?;
+        Ok(true)
+    }
+
+    // Ends a row with its marks.
+    fn end_marks(&mut self, alloc: Global, head: Head) -> Result<(), Memory>
+        ensures { OnOk result (state_of self.new ≡ row_ended self.old.forms (more (begun_at head self.old.parts) (part.Marks self.old.marks))) }
+    {
+        let marks = mem::replace(&mut self.marks, List::new(alloc));
+        self.parts.push(Part::Marks(marks))?;
+        self.end_row(alloc, head)
+    }
+
+    // Takes a token where a row may have marks.
+    fn take_mark(
+        &mut self,
+        alloc: Global,
+        head: Head,
+        spelling: Spelling,
+        token: Token,
+    ) -> Result<bool, Memory>
+        requires { self.now.at ≡ At.Marks head }
+        ensures { Goes (marks_step self.old.forms (begun_at head self.old.parts) self.old.marks spelling token) (state_of self.new) result }
+    {
+        match mark(spelling, token.place) {
+            Some(mark) => self.add_mark(head, mark),
+            None => {
+                self.end_marks(alloc, head)?;
+                self.take_at_top(alloc, spelling, token)
+            }
+        }
+    }
+
+    // Takes a token. False where no tree goes on with it.
+    fn take(&mut self, alloc: Global, token: Token) -> Result<bool, Memory>
+        ensures { Goes (step (state_of self.old) token) (state_of self.new) result }
+    {
+        let spelling = classify(&token.kind);
+        match self.at {
+            At::Top => self.take_at_top(alloc, spelling, token),
+            At::Name(head) => self.take_name(alloc, head, spelling, token),
+            At::Names(head) => self.take_names(alloc, head, spelling, token),
+            At::Fixed(head, key) => self.take_fixed(alloc, head, key, spelling, token),
+            At::Effect(head) => self.take_effect(alloc, head, spelling, token),
+            At::Inputs(head, opens) => self.take_input(alloc, head, opens, spelling, token),
+            At::Outputs(head, opens, dashes) => self.take_output(
+                alloc, head, opens, dashes, spelling, token,
+            ),
+            At::Items(head) => self.take_in_items(alloc, head, spelling, token),
+            At::Literal(head) => self.take_in_literal(alloc, head, spelling, token),
+            At::Marks(head) => self.take_mark(alloc, head, spelling, token),
+        }
+    }
+
+    // Ends a run of items where the tokens end. False where a bracket is open.
+    fn finish_top(&mut self, alloc: Global) -> Result<bool, Memory>
+        ensures { Finishes (ended_top self.old.forms self.old.elements self.old.contexts) self.new.forms result }
+    {
+        if self.contexts.len() != 0 {
+            return Ok(false);
+        }
+        self.end_run(alloc)?;
+        Ok(true)
+    }
+
+    // Ends what may end where the tokens end. False where something is open.
+    fn finish(&mut self, alloc: Global) -> Result<bool, Memory>
+        ensures { Finishes (ended (state_of self.old)) self.new.forms result }
+    {
+        match self.at {
+            At::Top => self.finish_top(alloc),
+            At::Marks(head) => {
+                self.end_marks(alloc, head)?;
+                Ok(true)
+            }
+            _ => Ok(false),
+        }
+    }
+
+    // Takes tokens, one behind the other.
+    fn take_all(&mut self, alloc: Global, tokens: List<Token>) -> Result<(), ParseFault>
+        requires { state_of self.now ≡ start }
+        ensures { TakesAll tokens (state_of self.new) result }
+    {
+        let mut taken = 0;
+        for token in tokens.into_vec() {
+            if !self.take(alloc, token)? {
+                return Err(syntax(taken, Why::Other));
+            }
+            taken += 1;
+        }
+        Ok(())
+    }
+
+    // The forms where so many tokens end.
+    fn into_forms(mut self, alloc: Global, count: usize) -> Result<List<Form>, ParseFault>
+        ensures { GivesForms (ended (state_of self)) count result }
+    {
+        if self.finish(alloc)? {
+            let Reader { forms, .. } = self;
+            Ok(forms)
+        } else {
+            Err(syntax(count, Why::End))
+        }
+    }
+}
+
+// The number of the file.
+fn file(tokens: &[Token]) -> u32
+    ensures { result ≡ file_of tokens.now }
+{
+    match tokens.first() {
+        Some(token) => token.place.file,
+        None => 0,
+    }
+}
+
+/// The tree of a file's tokens: any number of `USING: name* ;`, of `: name ( name* -- name* ) item* ;` with `inline` or `recursive`
+/// behind it or neither, and of items. An item is a name, an integer, a string, `t`, `f`, or a quotation `[ item* ]`. Quotations nest at most 256
+/// deep. The names of an effect are at most 64, begin with no two dots and end in no colon. No tokens make the empty tree of file 0.
+pub fn parse(alloc: Global, tokens: List<Token>) -> Result<Tree, ParseFault>
+    ensures { Parses tokens result }
+{
+    let file = file(tokens.as_slice());
+    let count = tokens.len() as usize;
+    let mut reader = Reader::new(alloc);
+    reader.take_all(alloc, tokens)?;
+    match reader.into_forms(alloc, count) {
+        Ok(forms) => Ok(Tree { file, forms }),
+        Err(fault) => Err(fault),
+    }
+}

@@ -19,7 +19,7 @@ use std::test::Fail;
 fn tree_of(alloc: Global, text: &str) -> Result<Tree, Fail>
     ensures { IfOk result (λ tree. IsWellFormed tree.forms) }
 {
-    let tree = parse(alloc, &tokens(alloc, 1, text.as_bytes())?)?;
+    let tree = parse(alloc, tokens(alloc, 1, text.as_bytes())?)?;
     Ok(tree.copy(alloc)?)
 }
 

@@ -1,0 +1,109 @@
+-- What is read is a tree's tokens, and nothing else is refused, at the exact place.
+use Rattle.fac_parse.specs.inner.Reader.{literal}
+use Rattle.std.proofs.Common.{ℕ, ◌≡◌, ◌+◌, ◌<◌, ◌≤◌, List, [], ◌∷◌, ◌++◌, Option, Some, None, refl, sym, ◌∙◌, ap, subst, append_assoc, append-nil, arith, take, drop, length}
+use Rattle.std.proofs.lemmas.List.{take-append-drop, take-take, take_all}
+use Rattle.fac_lang.specs.declared.token.Token.{Token}
+use Rattle.fac_lang.specs.declared.tree.Part.TheVariants as part
+use Rattle.fac_lang.specs.declared.tree.Form.{Form}
+use Rattle.fac_parse.specs.Trees.{flatten, IsWellFormed, Reads, Begins, Refused}
+use Rattle.fac_parse.specs.inner.Reader.{name, names, fixed, effect, inputs, outputs, items, marks, Open, top, row, row_form, more, with_run, State, start, steps, ended, ended_open}
+use Rattle.fac_parse.proofs.StateTokens.{state_tokens, tokens_of, run_fits, run_tokens, GoodOpen, Good}
+use Rattle.fac_parse.proofs.ReaderKeeps.{Known, steps_known, start_good, marked_gone, marked_tokens}
+use Rattle.fac_parse.proofs.ReaderReads.{steps-append, tree_read}
+use Rattle.fac_parse.proofs.ReaderCompletes.{completes}
+
+-- what the tokens so far make, where they may end
+record Ended (forms : List Form) (tokens : List Token) : Type 0 where
+  fits : IsWellFormed forms
+  spelled : flatten forms ≡ tokens
+
+is_ended : (fs forms : List Form) (tokens : List Token) → Some fs ≡ Some forms → Ended fs tokens → Ended forms tokens
+is_ended fs forms tokens e h = let same : fs ≡ forms = cc in subst (λ (x : List Form). Ended x tokens) same h
+
+open_ended : (before : List Form) (o : Open) (forms : List Form) → IsWellFormed before → GoodOpen before o → ended_open before o ≡ Some forms → Ended forms (tokens_of before o)
+open_ended before (top es []) forms fits g e = is_ended (with_run before es) forms _ e (record { fits = run_fits before es fits g.1 g.0; spelled = run_tokens before es })
+open_ended before (top es (c ∷ contexts)) forms fits g e = cc
+open_ended before (row b (marks ms)) forms fits g e =
+    is_ended (before ++ row_form (more b (part.Marks ms)) ∷ []) forms _ e (record {
+      fits = (marked_gone before b ms fits g).good.fits;
+      spelled = sym (append-nil (flatten (before ++ row_form (more b (part.Marks ms)) ∷ []))) ∙ marked_tokens before b ms fits g;
+    })
+open_ended before (row b name) forms fits g e = cc
+open_ended before (row b (names ns)) forms fits g e = cc
+open_ended before (row b (fixed key)) forms fits g e = cc
+open_ended before (row b effect) forms fits g e = cc
+open_ended before (row b (inputs opens ins)) forms fits g e = cc
+open_ended before (row b (outputs opens ins dashes outs)) forms fits g e = cc
+open_ended before (row b (items es contexts)) forms fits g e = cc
+open_ended before (row b (literal es contexts)) forms fits g e = cc
+
+known : (ts : List Token) (s : State) → steps (Some start) ts ≡ Some s → Good s × (state_tokens s ≡ ts)
+known ts s h = subst (λ (o : Option State). Known o ts) h (steps_known (Some start) ts [] (start_good, refl))
+
+-- tokens that may end where they do are those of a tree
+pub reads_tree : (ts : List Token) (s : State) (forms : List Form) → steps (Some start) ts ≡ Some s → ended s ≡ Some forms → Reads ts forms
+reads_tree ts s forms h e =
+    let k = known ts s h in
+    let made = open_ended s.forms s.open_part forms k.0.fits k.0.opens e in
+    record { fits = made.fits; spelled = made.spelled ∙ k.1 }
+
+-- no two trees have the same tokens
+pub one_tree : (ts : List Token) (fs gs : List Form) → Reads ts fs → Reads ts gs → fs ≡ gs
+one_tree ts fs gs r q =
+    let a = tree_read ts fs r in
+    let b = tree_read ts gs q in
+    let to : Some a.to ≡ Some b.to = sym a.reads ∙ b.reads in
+    let same : a.to ≡ b.to = cc in
+    let whole : Some fs ≡ Some gs = sym a.whole ∙ ap ended same ∙ b.whole in
+    cc
+
+-- what is read so far begins some tree
+pub begins : (ts : List Token) (s : State) → steps (Some start) ts ≡ Some s → Begins ts
+begins ts s h =
+    let c = completes s (known ts s h).0 in
+    let r : steps (Some start) (ts ++ c.tokens) ≡ Some c.to = steps-append (Some start) ts c.tokens ∙ (ap (λ (x : Option State). steps x c.tokens) h ∙ c.reads) in
+    record { forms = c.forms; rest = c.tokens; reads = reads_tree (ts ++ c.tokens) c.to c.forms r c.whole }
+
+none_goes_on : (o : Option State) (ts : List Token) (s : State) → steps o ts ≡ Some s → o ≡ None → ⊥
+none_goes_on o [] s h e = cc
+none_goes_on o (t ∷ ts) s h e = let d = ap (λ (x : Option State). steps x (t ∷ ts)) e in cc
+
+-- where no token goes on, no tree begins so
+pub begins_not : (ts : List Token) → steps (Some start) ts ≡ None → Begins ts → ⊥
+begins_not ts h b =
+    let r = tree_read (ts ++ b.rest) b.forms b.reads in
+    none_goes_on (steps (Some start) ts) b.rest r.to (sym (steps-append (Some start) ts b.rest) ∙ r.reads) h
+
+begins_shorter : (xs ys : List Token) → Begins (xs ++ ys) → Begins xs
+begins_shorter xs ys b = record { forms = b.forms; rest = ys ++ b.rest; reads = subst (λ (x : List Token). Reads x b.forms) (append_assoc xs ys b.rest) b.reads }
+
+begins_take : (ts : List Token) (n m : ℕ) → n ≤ m → Begins (take m ts) → Begins (take n ts)
+begins_take ts n m h b =
+    let e : take n ts ++ drop n (take m ts) ≡ take m ts = ap (λ (x : List Token). x ++ drop n (take m ts)) (sym (take-take n m ts h)) ∙ take-append-drop n (take m ts) in
+    begins_shorter (take n ts) (drop n (take m ts)) (subst Begins (sym e) b)
+
+-- the tokens before the one that no tree goes on with
+pub refused_at : (ts : List Token) (n : ℕ) (s : State) → n < length ts → steps (Some start) (take n ts) ≡ Some s → steps (Some start) (take (n + 1) ts) ≡ None → Refused ts n
+refused_at ts n s h e none_after = record {
+  no_tree = λ forms r. begins_not (take (n + 1) ts) none_after (record { forms = forms; rest = drop (n + 1) ts; reads = subst (λ (x : List Token). Reads x forms) (sym (take-append-drop (n + 1) ts)) r });
+  within = omega arith;
+  begins = begins (take n ts) s e;
+  longest = λ m p q b. begins_not (take (n + 1) ts) none_after (begins_take ts (n + 1) m (omega arith) b);
+}
+
+not_ended : (ts : List Token) (s : State) (forms : List Form) → steps (Some start) ts ≡ Some s → ended s ≡ None → Reads ts forms → ⊥
+not_ended ts s forms e h r =
+    let a = tree_read ts forms r in
+    let to : Some s ≡ Some a.to = sym e ∙ a.reads in
+    let same : s ≡ a.to = cc in
+    let both : None ≡ Some forms = sym h ∙ ap ended same ∙ a.whole in
+    cc
+
+-- the tokens are all read, and something is open
+pub refused_end : (ts : List Token) (s : State) → steps (Some start) ts ≡ Some s → ended s ≡ None → Refused ts (length ts)
+refused_end ts s e h = record {
+  no_tree = λ forms r. not_ended ts s forms e h r;
+  within = omega arith;
+  begins = subst Begins (sym (take_all (length ts) ts (omega arith))) (begins ts s e);
+  longest = λ m p q b. absurd (omega arith);
+}

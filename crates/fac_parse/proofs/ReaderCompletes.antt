@@ -1,0 +1,238 @@
+-- Whatever is open can be closed.
+use Rattle.fac_parse.specs.inner.Reader.{literal, add_literal}
+use Rattle.fac_parse.proofs.ReaderKeeps.{inside_more, inside_ends, never_out}
+use Rattle.fac_parse.proofs.StateTokens.{Inside, in_quotation, GoodLiteral}
+use Rattle.fac_parse.proofs.ReaderReads.{adds_literal}
+use Rattle.fac_lang.specs.declared.tree.Term.TheVariants as term
+use Rattle.std.proofs.Common.{◌≡◌, ◌≤◌, List, [], ◌∷◌, ◌++◌, Option, Some, refl, ap, sym, ◌∙◌, subst, arith}
+use Rattle.std.specs.Prelude.{codes}
+use Rattle.fac_lang.specs.declared.phrase.Place.{Place}
+use Rattle.fac_lang.specs.declared.token.Token.{Token}
+use Rattle.fac_lang.specs.declared.tree.Element.{Element}
+use Rattle.fac_lang.specs.declared.tree.Element.TheVariants as element
+use Rattle.fac_lang.specs.declared.tree.Key.{Key}
+use Rattle.fac_lang.specs.declared.tree.Key.TheVariants.{Arrow}
+use Rattle.fac_lang.specs.declared.tree.Part.{Part}
+use Rattle.fac_lang.specs.declared.tree.Part.TheVariants as part
+use Rattle.fac_lang.specs.declared.tree.Form.{Form}
+use Rattle.fac_parse.specs.declared.context.Bracket.{Bracket}
+use Rattle.fac_parse.specs.declared.context.Bracket.TheVariants.{Quotation}
+use Rattle.fac_parse.specs.declared.context.Context.{Context}
+use Rattle.fac_parse.specs.declared.rows.Slot.{Slot}
+use Rattle.fac_parse.specs.declared.rows.Slot.TheVariants as slot
+use Rattle.fac_parse.specs.declared.spelling.Spelling.TheVariants.{Fixed, Semi, Opens, Closes, Dashes, Name}
+use Rattle.fac_parse.specs.Rows.{slots_of}
+use Rattle.fac_parse.specs.Spellings.{token_spelling, spelling_of, has_integer_form, word_spelling, sign_spelling, is_reserved, is_reserved_sign, is_reserved_form, is_reserved_word, is_left_out}
+use Rattle.fac_parse.specs.Trees.{plain_token, if_quotation, most_names, Lead, Fills, AreNames}
+use Rattle.fac_parse.specs.inner.Reader.{Within, name, names, fixed, effect, inputs, outputs, items, marks, Begun, Open, top, row, State, in_state, begin, row_form, at_slot, go_on, more, with_part, with_run, with_element, written, row_items, steps, ended}
+use Rattle.fac_parse.proofs.SpellingLemmas.{sign_is}
+use Rattle.fac_parse.proofs.StateTokens.{Filled, filled_more, first_of, next_slot, slot_of, GoodWithin, GoodOpen, Good}
+use Rattle.fac_parse.proofs.ReaderKeeps.{Lead-more}
+use Rattle.fac_parse.proofs.ReaderReads.{chain, one, by_spelling, element_spelled, HoldsItems, top_holds_items, row_holds_items}
+
+-- a place, and a name
+abbrev somewhere : Place
+somewhere = record { file = 0; token = 0 }
+
+abbrev some_name : Token
+some_name = plain_token somewhere (codes "x")
+
+is_name : token_spelling some_name.kind ≡ Name
+unfolding spelling_of has_integer_form word_spelling sign_spelling is_reserved is_reserved_sign is_reserved_form is_reserved_word is_left_out
+is_name = refl
+
+-- tokens that lead to where the tokens may end
+pub record Completes (s : State) : Type 0 where
+  pub tokens : List Token
+  pub to : State
+  pub forms : List Form
+  pub reads : steps (Some s) tokens ≡ Some to
+  pub whole : ended to ≡ Some forms
+
+completes_then : (s m : State) (ts : List Token) → steps (Some s) ts ≡ Some m → Completes m → Completes s
+completes_then s m ts h c = record { tokens = ts ++ c.tokens; to = c.to; forms = c.forms; reads = chain s m ts c.tokens _ h c.reads; whole = c.whole }
+
+-- Items.
+
+record ClosesAll (held : List Element → List Context → Open) (forms : List Form) (es : List Element) (contexts : List Context) : Type 0 where
+  tokens : List Token
+  closed : List Element
+  reads : steps (Some (in_state forms (held es contexts))) tokens ≡ Some (in_state forms (held closed []))
+  lead : Lead [] closed []
+
+closes_one : (k : Bracket) (contexts : List Context) → if_quotation k contexts ≡ Some contexts
+closes_one Quotation contexts = refl
+
+closes_all : (held : List Element → List Context → Open) (forms : List Form) → HoldsItems held forms → (es : List Element) (contexts : List Context) → Lead [] es contexts → ClosesAll held forms es contexts
+closes_all held forms holds es [] h = record { tokens = []; closed = es; reads = refl; lead = h }
+closes_all held forms holds es (c ∷ contexts) h =
+    let e : Element = element.Closes somewhere in
+    let t = plain_token somewhere (codes "]") in
+    let less = closes_all held forms holds (es ++ e ∷ []) contexts (Lead-more [] es (c ∷ contexts) e contexts h tt (closes_one c.bracket contexts)) in
+    record {
+      tokens = t ∷ less.tokens;
+      closed = less.closed;
+      reads =
+          one (in_state forms (held es (c ∷ contexts))) (in_state forms (held (es ++ e ∷ []) contexts)) t less.tokens _
+          (holds.adds_element es (c ∷ contexts) t e (element_spelled e tt) ∙ ap (with_element held forms es e) (closes_one c.bracket contexts)) less.reads;
+      lead = less.lead;
+    }
+
+-- Parts.
+
+-- tokens behind which the part that is read is whole
+record ClosesPart (forms : List Form) (b : Begun) (w : Within) : Type 0 where
+  tokens : List Token
+  whole : Part
+  fills : Fills (slot_of w) whole
+  reads : steps (Some (in_state forms (row b w))) tokens ≡ Some (with_part forms b whole)
+
+closes_outputs : (forms : List Form) (b : Begun) (opens : Place) (ins : List Token) (dashes : Place) (outs : List Token) (rest : List Slot) → GoodWithin rest (outputs opens ins dashes outs) → ClosesPart forms b (outputs opens ins dashes outs)
+closes_outputs forms b opens ins dashes outs rest g = record {
+  tokens = plain_token somewhere (codes ")") ∷ [];
+  whole = part.Effect (written opens ins dashes outs somewhere);
+  fills = record { ins = g.0; outs = g.1; few = g.2 };
+  reads = by_spelling forms (row b (outputs opens ins dashes outs)) (plain_token somewhere (codes ")")) Closes (sign_is Closes tt);
+}
+
+closes_inputs : (forms : List Form) (b : Begun) (opens : Place) (ins : List Token) (rest : List Slot) → GoodWithin rest (inputs opens ins) → ClosesPart forms b (inputs opens ins)
+closes_inputs forms b opens ins rest g =
+    let few = g.1 in
+    let later = closes_outputs forms b opens ins somewhere [] rest (g.0, tt, omega (arith, few)) in
+    record {
+      tokens = plain_token somewhere (codes "--") ∷ later.tokens;
+      whole = later.whole;
+      fills = later.fills;
+      reads =
+          one (in_state forms (row b (inputs opens ins))) (in_state forms (row b (outputs opens ins somewhere []))) (plain_token somewhere (codes "--")) later.tokens _
+          (by_spelling forms (row b (inputs opens ins)) (plain_token somewhere (codes "--")) Dashes (sign_is Dashes tt)) later.reads;
+    }
+
+none_yet : 0 ≤ most_names
+none_yet = omega arith
+
+closes_effect : (forms : List Form) (b : Begun) → ClosesPart forms b effect
+closes_effect forms b =
+    let later = closes_inputs forms b somewhere [] [] (tt, none_yet) in
+    record {
+      tokens = plain_token somewhere (codes "(") ∷ later.tokens;
+      whole = later.whole;
+      fills = later.fills;
+      reads =
+          one (in_state forms (row b effect)) (in_state forms (row b (inputs somewhere []))) (plain_token somewhere (codes "(")) later.tokens _
+          (by_spelling forms (row b effect) (plain_token somewhere (codes "(")) Opens (sign_is Opens tt)) later.reads;
+    }
+
+closes_fixed : (forms : List Form) (b : Begun) (key : Key) → ClosesPart forms b (fixed key)
+closes_fixed forms b Arrow = record {
+  tokens = plain_token somewhere (codes "=>") ∷ [];
+  whole = part.Fixed Arrow somewhere;
+  fills = refl;
+  reads = by_spelling forms (row b (fixed Arrow)) (plain_token somewhere (codes "=>")) (Fixed Arrow) (sign_is (Fixed Arrow) tt);
+}
+
+closes_names : (forms : List Form) (b : Begun) (ns : List Token) → AreNames ns → ClosesPart forms b (names ns)
+closes_names forms b ns g = record {
+  tokens = plain_token somewhere (codes ";") ∷ [];
+  whole = part.Names ns somewhere;
+  fills = g;
+  reads = by_spelling forms (row b (names ns)) (plain_token somewhere (codes ";")) Semi (sign_is Semi tt);
+}
+
+closes_name : (forms : List Form) (b : Begun) → ClosesPart forms b name
+closes_name forms b = record { tokens = some_name ∷ []; whole = part.Name some_name; fills = is_name; reads = by_spelling forms (row b name) some_name Name is_name }
+
+-- a literal in which something is open
+closes_literal_from : (forms : List Form) (b : Begun) (place : Place) (es : List Element) (c : Context) (contexts : List Context) → Inside in_quotation es (c ∷ contexts) → ClosesPart forms b (literal (element.Opens place ∷ es) (c ∷ contexts))
+closes_literal_from forms b place es c [] h =
+    let e : Element = element.Closes somewhere in
+    record {
+      tokens = plain_token somewhere (codes "]") ∷ [];
+      whole = part.Literal (element.Opens place ∷ (es ++ e ∷ []));
+      fills = inside_ends in_quotation es (c ∷ []) e h tt (closes_one c.bracket []);
+      reads = adds_literal forms b (element.Opens place ∷ es) c [] e [] tt (closes_one c.bracket []);
+    }
+closes_literal_from forms b place es c (d ∷ contexts) h =
+    let e : Element = element.Closes somewhere in
+    let t = plain_token somewhere (codes "]") in
+    let less = closes_literal_from forms b place (es ++ e ∷ []) d contexts (inside_more in_quotation es (c ∷ d ∷ contexts) e d contexts h tt (closes_one c.bracket (d ∷ contexts))) in
+    record {
+      tokens = t ∷ less.tokens;
+      whole = less.whole;
+      fills = less.fills;
+      reads =
+          one (in_state forms (row b (literal (element.Opens place ∷ es) (c ∷ d ∷ contexts)))) (in_state forms (row b (literal (element.Opens place ∷ (es ++ e ∷ [])) (d ∷ contexts)))) t less.tokens _
+          (adds_literal forms b (element.Opens place ∷ es) c (d ∷ contexts) e (d ∷ contexts) tt (closes_one c.bracket (d ∷ contexts))) less.reads;
+    }
+
+closes_literal : (forms : List Form) (b : Begun) (es : List Element) (contexts : List Context) → GoodLiteral es contexts → ClosesPart forms b (literal es contexts)
+closes_literal forms b [] contexts g =
+    let e : Element = element.Item (term.True somewhere) in
+    subst (λ (x : List Context). ClosesPart forms b (literal [] x)) (sym g) (record {
+      tokens = plain_token somewhere (codes "t") ∷ [];
+      whole = part.Literal (e ∷ []);
+      fills = tt;
+      reads = ap (add_literal forms b [] []) (element_spelled e tt);
+    })
+closes_literal forms b (element.Opens place ∷ es) [] g = absurd (never_out in_quotation es g)
+closes_literal forms b (element.Opens place ∷ es) (c ∷ contexts) g = closes_literal_from forms b place es c contexts g
+closes_literal forms b (element.Item item ∷ es) contexts g = absurd g
+closes_literal forms b (element.Closes place ∷ es) contexts g = absurd g
+
+closes_items : (forms : List Form) (b : Begun) (es : List Element) (contexts : List Context) → Lead [] es contexts → ClosesPart forms b (items es contexts)
+closes_items forms b es contexts g =
+    let c = closes_all (row_items b) forms (row_holds_items forms b) es contexts g in
+    record {
+      tokens = c.tokens ++ plain_token somewhere (codes ";") ∷ [];
+      whole = part.Items c.closed somewhere;
+      fills = c.lead;
+      reads =
+          chain (in_state forms (row b (items es contexts))) (in_state forms (row b (items c.closed []))) c.tokens (plain_token somewhere (codes ";") ∷ []) _ c.reads
+          (by_spelling forms (row b (items c.closed [])) (plain_token somewhere (codes ";")) Semi (sign_is Semi tt));
+    }
+
+-- Rows.
+
+-- where the row goes on behind the part, so it can be completed from there
+abbrev Later : List Form → Begun → Slot → Type 0
+Later forms b s = (p : Part) → Fills s p → Completes (with_part forms b p)
+
+part_completes : (forms : List Form) (b : Begun) (w : Within) → Later forms b (slot_of w) → ClosesPart forms b w → Completes (in_state forms (row b w))
+part_completes forms b w later c = completes_then (in_state forms (row b w)) (with_part forms b c.whole) c.tokens c.reads (later c.whole c.fills)
+
+within_completes : (forms : List Form) (b : Begun) (w : Within) (rest : List Slot) → GoodWithin rest w → Later forms b (slot_of w) → Completes (in_state forms (row b w))
+within_completes forms b name rest g later = part_completes forms b name later (closes_name forms b)
+within_completes forms b (names ns) rest g later = part_completes forms b (names ns) later (closes_names forms b ns g)
+within_completes forms b (fixed key) rest g later = part_completes forms b (fixed key) later (closes_fixed forms b key)
+within_completes forms b effect rest g later = part_completes forms b effect later (closes_effect forms b)
+within_completes forms b (inputs opens ins) rest g later = part_completes forms b (inputs opens ins) later (closes_inputs forms b opens ins rest g)
+within_completes forms b (outputs opens ins dashes outs) rest g later = part_completes forms b (outputs opens ins dashes outs) later (closes_outputs forms b opens ins dashes outs rest g)
+within_completes forms b (items es contexts) rest g later = part_completes forms b (items es contexts) later (closes_items forms b es contexts g)
+within_completes forms b (literal es contexts) rest g later = part_completes forms b (literal es contexts) later (closes_literal forms b es contexts g)
+within_completes forms b (marks ms) rest g later = record { tokens = []; to = in_state forms (row b (marks ms)); forms = _; reads = refl; whole = refl }
+
+begun_completes : (forms : List Form) (b : Begun) (s : Slot) → Later forms b s → Completes (in_state forms (row b (begin s)))
+begun_completes forms b slot.Name later = part_completes forms b name later (closes_name forms b)
+begun_completes forms b slot.Names later = part_completes forms b (names []) later (closes_names forms b [] tt)
+begun_completes forms b (slot.Fixed key) later = part_completes forms b (fixed key) later (closes_fixed forms b key)
+begun_completes forms b slot.Effect later = part_completes forms b effect later (closes_effect forms b)
+begun_completes forms b slot.Items later = part_completes forms b (items [] []) later (closes_items forms b [] [] refl)
+begun_completes forms b slot.Literal later = part_completes forms b (literal [] []) later (closes_literal forms b [] [] refl)
+begun_completes forms b slot.Marks later = record { tokens = []; to = in_state forms (row b (marks [])); forms = _; reads = refl; whole = refl }
+
+slots_complete : (forms : List Form) (b : Begun) (rest : List Slot) → Filled (slots_of b.kind) b.parts rest → Completes (go_on forms b)
+slots_complete forms b rest h = subst (λ (o : Option Slot). Completes (at_slot forms b o)) (sym (next_slot (slots_of b.kind) b.parts rest h)) (completes_at forms b rest h) where
+  completes_at : (forms : List Form) (b : Begun) (rest : List Slot) → Filled (slots_of b.kind) b.parts rest → Completes (at_slot forms b (first_of rest))
+  completes_at forms b [] h = record { tokens = []; to = in_state (forms ++ row_form b ∷ []) (top [] []); forms = forms ++ row_form b ∷ []; reads = refl; whole = refl }
+  completes_at forms b (s ∷ rest) h =
+      begun_completes forms b s (λ p f.
+      let filled = filled_more (slots_of b.kind) b.parts s rest p h f in
+      subst (λ (o : Option Slot). Completes (at_slot forms (more b p) o)) (sym (next_slot (slots_of b.kind) (more b p).parts rest filled)) (completes_at forms (more b p) rest filled))
+
+open_completes : (forms : List Form) (o : Open) → GoodOpen forms o → Completes (in_state forms o)
+open_completes forms (top es contexts) g =
+    let c = closes_all top forms (top_holds_items forms) es contexts g.0 in record { tokens = c.tokens; to = in_state forms (top c.closed []); forms = with_run forms c.closed; reads = c.reads; whole = refl }
+open_completes forms (row b w) g = within_completes forms b w g.rest g.within (λ p f. slots_complete forms (more b p) g.rest (filled_more (slots_of b.kind) b.parts (slot_of w) g.rest p g.filled f))
+
+pub completes : (s : State) → Good s → Completes s
+completes s g = open_completes s.forms s.open_part g.opens

@@ -1,0 +1,344 @@
+-- A token that is taken is behind those before it, and what is known stays known.
+use Rattle.fac_lang.specs.declared.tree.Element.TheVariants as element
+use Rattle.fac_lang.specs.declared.tree.Term.TheVariants as term
+use Rattle.std.proofs.Common.{◌≡◌, ℕ, ◌≤◌, ◌+◌, Bool, true, false, cond, ◌&&◌, List, [], ◌∷◌, ◌++◌, length, Option, Some, None, refl, ap, sym, ◌∙◌, subst, append_assoc, append-nil, arith}
+use Rattle.std.specs.Prelude.{codes, nat_lt}
+use Rattle.std.proofs.lemmas.Bool.Decides.{Decides-ltb}
+use Rattle.std.proofs.lemmas.List.{length_push}
+use Rattle.fac_lang.specs.declared.phrase.Place.{Place}
+use Rattle.fac_lang.specs.declared.token.Token.{Token}
+use Rattle.fac_lang.specs.declared.tree.Element.{Element}
+use Rattle.fac_lang.specs.declared.tree.Mark.{Mark}
+use Rattle.fac_lang.specs.declared.tree.FormKind.{FormKind}
+use Rattle.fac_lang.specs.declared.tree.Key.{Key}
+use Rattle.fac_lang.specs.declared.tree.Key.TheVariants.{Arrow}
+use Rattle.fac_lang.specs.declared.tree.Part.{Part}
+use Rattle.fac_lang.specs.declared.tree.Part.TheVariants as part
+use Rattle.fac_lang.specs.declared.tree.Form.{Form}
+use Rattle.fac_parse.specs.declared.context.Context.{Context}
+use Rattle.fac_parse.specs.declared.rows.Slot.{Slot}
+use Rattle.fac_parse.specs.declared.spelling.Spelling.{Spelling}
+use Rattle.fac_parse.specs.declared.spelling.Spelling.TheVariants.{Begins, Fixed, Semi, Opens, Closes, Dashes, OpensQuotation, ClosesQuotation, True, False, Inline, Recursive, Integer, String, Name}
+use Rattle.fac_parse.specs.Rows.{head_of, slots_of}
+use Rattle.fac_parse.specs.Spellings.{token_spelling, is_value_name}
+use Rattle.fac_parse.specs.Trees.{plain_token, token_text, element_tokens, items_tokens, mark_token, part_tokens, parts_tokens, flatten, AreNames, AreValueNames, most_names, IsElement, behind, Lead, Encloses, Fills, IsWellFormed}
+use Rattle.fac_parse.specs.inner.Reader.{Within, name, names, fixed, effect, inputs, outputs, items, literal, marks, Begun, begun, Open, top, row, State, in_state, start, row_form, more, with_part, with_run, begin_row, element_of, with_element, add_element, begins, begin_or_add, top_step, name_step, names_step, key_step, fixed_step, effect_step, may_add, inputs_step, written, outputs_step, row_items, end_items, is_semi, end_or_add, goes_into, literal_with, add_literal, mark_of, with_mark, mark_step, row_step, open_step, step, steps}
+use Rattle.fac_parse.proofs.SpellingLemmas.{sign_token}
+use Rattle.fac_parse.proofs.StateTokens.{within_tokens, tokens_of, state_tokens, element_behind, parts-last, Filled, filled_more, slot_of, Inside, in_quotation, GoodWithin, GoodRow, NoRunLast, GoodOpen, Good, run_fits, run_tokens, Gone, ended_row_gone, gone_on}
+
+-- a state is good, and has these tokens and this one
+pub record Taken (tokens : List Token) (t : Token) (s : State) : Type 0 where
+  pub good : Good s
+  pub tokens_are : state_tokens s ≡ tokens ++ t ∷ []
+
+abbrev pub Keeps : List Token → Token → Option State → Type 0
+Keeps tokens t None = Unit {0}
+Keeps tokens t (Some s) = Taken tokens t s
+
+cond_keeps : (b : Bool) (tokens : List Token) (t : Token) (s : State) → (b ≡ true → Taken tokens t s) → Keeps tokens t (cond b (Some s) None)
+cond_keeps true tokens t s h = h refl
+cond_keeps false tokens t s h = tt
+
+both_true : (a b : Bool) → (a && b) ≡ true → (a ≡ true) × (b ≡ true)
+both_true true b h = (refl, h)
+both_true false b h = cc
+
+-- Rows.
+
+front_tokens : (fs : List Token) (head : Token) (ps ws : List Token) (t : Token) → fs ++ (head ∷ (ps ++ (ws ++ t ∷ []))) ≡ (fs ++ (head ∷ (ps ++ ws))) ++ t ∷ []
+front_tokens fs head ps ws t = ap (λ (ts : List Token). fs ++ (head ∷ ts)) (sym (append_assoc ps ws (t ∷ []))) ∙ sym (append_assoc fs (head ∷ (ps ++ ws)) (t ∷ []))
+
+-- a part that is whole
+part_taken : (forms : List Form) (b : Begun) (w : Within) (p : Part) (t : Token) → IsWellFormed forms → GoodRow b w → Fills (slot_of w) p → part_tokens p ≡ within_tokens w ++ t ∷ [] → Taken (tokens_of forms (row b w)) t (with_part forms b p)
+part_taken forms b w p t fits g fills e =
+    let gone = gone_on forms (more b p) g.rest fits (filled_more (slots_of b.kind) b.parts (slot_of w) g.rest p g.filled fills) in
+    let head = plain_token b.opens (head_of b.kind) in
+    record {
+      good = gone.good;
+      tokens_are =
+          gone.tokens
+          ∙ ap (λ (ts : List Token). flatten forms ++ head ∷ ts) (parts-last b.parts p ∙ ap (λ (ts : List Token). parts_tokens b.parts ++ ts) e)
+          ∙ front_tokens (flatten forms) head (parts_tokens b.parts) (within_tokens w) t;
+    }
+
+-- a part that goes on
+within_taken : (forms : List Form) (b : Begun) (w v : Within) (t : Token) → IsWellFormed forms → (g : GoodRow b w) → slot_of w ≡ slot_of v → GoodWithin g.rest v → within_tokens v ≡ within_tokens w ++ t ∷ [] → Taken (tokens_of forms (row b w)) t (in_state forms (row b v))
+within_taken forms b w v t fits g same good e =
+    let head = plain_token b.opens (head_of b.kind) in
+    record {
+      good = record { fits = fits; opens = record { rest = g.rest; filled = subst (λ (s : Slot). Filled (slots_of b.kind) b.parts (s ∷ g.rest)) same g.filled; within = good } };
+      tokens_are =
+          ap (λ (ts : List Token). flatten forms ++ (head ∷ (parts_tokens b.parts ++ ts))) e
+          ∙ front_tokens (flatten forms) head (parts_tokens b.parts) (within_tokens w) t;
+    }
+
+name_keeps : (forms : List Form) (b : Begun) (t : Token) (s : Spelling) → token_spelling t.kind ≡ s → IsWellFormed forms → GoodRow b name → Keeps (tokens_of forms (row b name)) t (name_step forms b s t)
+name_keeps forms b t Name h fits g = part_taken forms b name (part.Name t) t fits g h refl
+name_keeps forms b t _ h fits g = tt
+
+AreNames-more : (ts : List Token) (t : Token) → AreNames ts → token_spelling t.kind ≡ Name → AreNames (ts ++ t ∷ [])
+AreNames-more [] t h e = (e, tt)
+AreNames-more (u ∷ ts) t h e = (h.0, AreNames-more ts t h.1 e)
+
+-- tokens and a sign behind them
+with_sign : (ts : List Token) (t : Token) (u : Token) → t ≡ u → ts ++ u ∷ [] ≡ ts ++ t ∷ []
+with_sign ts t u e = ap (λ (v : Token). ts ++ v ∷ []) (sym e)
+
+names_keeps : (forms : List Form) (b : Begun) (ns : List Token) (t : Token) (s : Spelling) → token_spelling t.kind ≡ s → IsWellFormed forms → GoodRow b (names ns) → Keeps (tokens_of forms (row b (names ns))) t (names_step forms b ns s t)
+names_keeps forms b ns t Name h fits g = within_taken forms b (names ns) (names (ns ++ t ∷ [])) t fits g refl (AreNames-more ns t g.within h) refl
+names_keeps forms b ns t Semi h fits g = part_taken forms b (names ns) (part.Names ns t.place) t fits g g.within (with_sign ns t _ (sign_token t Semi h tt))
+names_keeps forms b ns t _ h fits g = tt
+
+key_keeps : (forms : List Form) (b : Begun) (key other : Key) (t : Token) → token_spelling t.kind ≡ Fixed other → IsWellFormed forms → GoodRow b (fixed key) → Keeps (tokens_of forms (row b (fixed key))) t (key_step forms b key other t.place)
+key_keeps forms b Arrow Arrow t h fits g = part_taken forms b (fixed Arrow) (part.Fixed Arrow t.place) t fits g refl (with_sign [] t _ (sign_token t (Fixed Arrow) h tt))
+
+fixed_keeps : (forms : List Form) (b : Begun) (key : Key) (t : Token) (s : Spelling) → token_spelling t.kind ≡ s → IsWellFormed forms → GoodRow b (fixed key) → Keeps (tokens_of forms (row b (fixed key))) t (fixed_step forms b key s t)
+fixed_keeps forms b key t (Fixed other) h fits g = key_keeps forms b key other t h fits g
+fixed_keeps forms b key t _ h fits g = tt
+
+-- Effects.
+
+none_yet : 0 ≤ most_names
+none_yet = omega arith
+
+effect_keeps : (forms : List Form) (b : Begun) (t : Token) (s : Spelling) → token_spelling t.kind ≡ s → IsWellFormed forms → GoodRow b effect → Keeps (tokens_of forms (row b effect)) t (effect_step forms b s t)
+effect_keeps forms b t Opens h fits g = within_taken forms b effect (inputs t.place []) t fits g refl (tt, none_yet) (with_sign [] t _ (sign_token t Opens h tt))
+effect_keeps forms b t _ h fits g = tt
+
+AreValueNames-more : (ts : List Token) (t : Token) → AreValueNames ts → token_spelling t.kind ≡ Name → is_value_name (token_text t.kind) ≡ true → AreValueNames (ts ++ t ∷ [])
+AreValueNames-more [] t h e v = (e, v, tt)
+AreValueNames-more (u ∷ ts) t h e v = (h.0, h.1, AreValueNames-more ts t h.2 e v)
+
+-- one more name still fits
+few_more : (ts : List Token) (t : Token) (n : ℕ) → nat_lt (length ts + n) most_names ≡ true → length (ts ++ t ∷ []) + n ≤ most_names
+few_more ts t n h = let less = (Decides-ltb (length ts + n) most_names).0 h in let pushed = length_push ts t in omega (arith, less, pushed)
+
+few_outs : (m : ℕ) (ts : List Token) (t : Token) → nat_lt (m + length ts) most_names ≡ true → m + length (ts ++ t ∷ []) ≤ most_names
+few_outs m ts t h = let less = (Decides-ltb (m + length ts) most_names).0 h in let pushed = length_push ts t in omega (arith, less, pushed)
+
+inputs_keeps : (forms : List Form) (b : Begun) (opens : Place) (ins : List Token) (t : Token) (s : Spelling) → token_spelling t.kind ≡ s → IsWellFormed forms → GoodRow b (inputs opens ins) → Keeps (tokens_of forms (row b (inputs opens ins))) t (inputs_step forms b opens ins s t)
+inputs_keeps forms b opens ins t Name h fits g =
+    cond_keeps (may_add ins [] t) _ t (in_state forms (row b (inputs opens (ins ++ t ∷ [])))) (λ v.
+    let both = both_true (is_value_name (token_text t.kind)) (nat_lt (length ins + 0) most_names) v in
+    let few = few_more ins t 0 both.1 in
+    within_taken forms b (inputs opens ins) (inputs opens (ins ++ t ∷ [])) t fits g refl (AreValueNames-more ins t g.within.0 h both.0, omega (arith, few)) refl)
+inputs_keeps forms b opens ins t Dashes h fits g =
+    let few = g.within.1 in
+    within_taken forms b (inputs opens ins) (outputs opens ins t.place []) t fits g refl (g.within.0, tt, omega (arith, few)) (with_sign (plain_token opens (codes "(") ∷ ins) t _ (sign_token t Dashes h tt))
+inputs_keeps forms b opens ins t _ h fits g = tt
+
+outputs_keeps : (forms : List Form) (b : Begun) (opens : Place) (ins : List Token) (dashes : Place) (outs : List Token) (t : Token) (s : Spelling) → token_spelling t.kind ≡ s → IsWellFormed forms → GoodRow b (outputs opens ins dashes outs) → Keeps (tokens_of forms (row b (outputs opens ins dashes outs))) t (outputs_step forms b opens ins dashes outs s t)
+outputs_keeps forms b opens ins dashes outs t Name h fits g =
+    cond_keeps (may_add ins outs t) _ t (in_state forms (row b (outputs opens ins dashes (outs ++ t ∷ [])))) (λ v.
+    let both = both_true (is_value_name (token_text t.kind)) (nat_lt (length ins + length outs) most_names) v in
+    within_taken forms b (outputs opens ins dashes outs) (outputs opens ins dashes (outs ++ t ∷ [])) t fits g refl (g.within.0, AreValueNames-more outs t g.within.1 h both.0, few_outs (length ins) outs t both.1)
+    (sym (append_assoc (plain_token opens (codes "(") ∷ ins) (plain_token dashes (codes "--") ∷ outs) (t ∷ []))))
+outputs_keeps forms b opens ins dashes outs t Closes h fits g =
+    part_taken forms b (outputs opens ins dashes outs) (part.Effect (written opens ins dashes outs t.place)) t fits g (record { ins = g.within.0; outs = g.within.1; few = g.within.2 })
+    (with_sign (plain_token opens (codes "(") ∷ ins ++ plain_token dashes (codes "--") ∷ outs) t _ (sign_token t Closes h tt))
+outputs_keeps forms b opens ins dashes outs t _ h fits g = tt
+
+-- Items.
+
+pub Lead-more : (from : List Context) (es : List Element) (to : List Context) (e : Element) (next : List Context) → Lead from es to → IsElement e → behind to e ≡ Some next → Lead from (es ++ e ∷ []) next
+Lead-more from [] to e next h is b = (is, next, subst (λ (x : List Context). behind x e ≡ Some next) (sym h) b, refl)
+Lead-more from (x ∷ es) to e next h is b = (h.0, h.1, h.2, Lead-more h.1 es to e next h.3 is b)
+
+abbrev pub IsElementOf : Token → Option Element → Type 0
+IsElementOf t None = Unit {0}
+IsElementOf t (Some e) = IsElement e × (element_tokens e ≡ t ∷ [])
+
+alone : (t u : Token) → t ≡ u → u ∷ [] ≡ t ∷ []
+alone t u e = ap (λ (v : Token). v ∷ []) (sym e)
+
+element_is : (t : Token) (s : Spelling) → token_spelling t.kind ≡ s → IsElementOf t (element_of s t)
+element_is t (Integer z) h = (h, refl)
+element_is t String h = (h, refl)
+element_is t Name h = (h, refl)
+element_is t True h = (tt, alone t _ (sign_token t True h tt))
+element_is t False h = (tt, alone t _ (sign_token t False h tt))
+element_is t OpensQuotation h = (tt, alone t _ (sign_token t OpensQuotation h tt))
+element_is t ClosesQuotation h = (tt, alone t _ (sign_token t ClosesQuotation h tt))
+element_is t _ h = tt
+
+-- items that are held somewhere are good there, and stand behind these tokens
+record Holds (held : List Element → List Context → Open) (forms : List Form) (front : List Token) : Type 0 where
+  good : (es : List Element) (contexts : List Context) → Lead [] es contexts → Good (in_state forms (held es contexts))
+  tokens : (es : List Element) (contexts : List Context) → tokens_of forms (held es contexts) ≡ front ++ items_tokens es
+
+element_kept : (held : List Element → List Context → Open) (forms : List Form) (front : List Token) → Holds held forms front → (es : List Element) (contexts : List Context) → Lead [] es contexts → (t : Token) (e : Element) → IsElement e → element_tokens e ≡ t ∷ [] → (next : Option (List Context)) → behind contexts e ≡ next → Keeps (tokens_of forms (held es contexts)) t (with_element held forms es e next)
+element_kept held forms front holds es contexts lead t e is spelled None b = tt
+element_kept held forms front holds es contexts lead t e is spelled (Some next) b = record {
+  good = holds.good (es ++ e ∷ []) next (Lead-more [] es contexts e next lead is b);
+  tokens_are =
+      holds.tokens (es ++ e ∷ []) next
+      ∙ ap (λ (ts : List Token). front ++ ts) (element_behind es e t spelled)
+      ∙ sym (append_assoc front (items_tokens es) (t ∷ []))
+      ∙ ap (λ (ts : List Token). ts ++ t ∷ []) (sym (holds.tokens es contexts));
+}
+
+element_keeps : (held : List Element → List Context → Open) (forms : List Form) (front : List Token) → Holds held forms front → (es : List Element) (contexts : List Context) → Lead [] es contexts → (t : Token) (o : Option Element) → IsElementOf t o → Keeps (tokens_of forms (held es contexts)) t (add_element held forms es contexts o)
+element_keeps held forms front holds es contexts lead t None is = tt
+element_keeps held forms front holds es contexts lead t (Some e) is = element_kept held forms front holds es contexts lead t e is.0 is.1 (behind contexts e) refl
+
+top_holds : (forms : List Form) → IsWellFormed forms → NoRunLast forms → Holds top forms (flatten forms)
+top_holds forms fits last = record { good = λ es contexts lead. record { fits = fits; opens = (lead, last) }; tokens = λ es contexts. refl }
+
+begun_is : (s : Spelling) (kind : FormKind) → begins s ≡ Some kind → s ≡ Begins kind
+begun_is (Begins k) kind h = let same : k ≡ kind = cc in ap Begins same
+begun_is _ kind h = cc
+
+begin_keeps : (forms : List Form) (es : List Element) (contexts : List Context) (kind : FormKind) (t : Token) → token_spelling t.kind ≡ Begins kind → IsWellFormed forms → GoodOpen forms (top es contexts) → Keeps (tokens_of forms (top es contexts)) t (begin_row kind t.place forms es contexts)
+begin_keeps forms es [] kind t h fits g =
+    let gone = gone_on (with_run forms es) (begun kind t.place) (slots_of kind) (run_fits forms es fits g.1 g.0) refl in
+    record {
+      good = gone.good;
+      tokens_are = gone.tokens ∙ with_sign (flatten (with_run forms es)) t _ (sign_token t (Begins kind) h tt) ∙ ap (λ (ts : List Token). ts ++ t ∷ []) (run_tokens forms es);
+    }
+begin_keeps forms es (c ∷ contexts) kind t h fits g = tt
+
+top_keeps_by : (forms : List Form) (es : List Element) (contexts : List Context) (o : Option FormKind) (s : Spelling) (t : Token) → begins s ≡ o → token_spelling t.kind ≡ s → IsWellFormed forms → GoodOpen forms (top es contexts) → Keeps (tokens_of forms (top es contexts)) t (begin_or_add forms es contexts o s t)
+top_keeps_by forms es contexts (Some kind) s t e h fits g = begin_keeps forms es contexts kind t (h ∙ begun_is s kind e) fits g
+top_keeps_by forms es contexts None s t e h fits g = element_keeps top forms (flatten forms) (top_holds forms fits g.1) es contexts g.0 t (element_of s t) (element_is t s h)
+
+top_keeps : (forms : List Form) (es : List Element) (contexts : List Context) (s : Spelling) (t : Token) → token_spelling t.kind ≡ s → IsWellFormed forms → GoodOpen forms (top es contexts) → Keeps (tokens_of forms (top es contexts)) t (top_step forms es contexts s t)
+top_keeps forms es contexts s t h fits g = top_keeps_by forms es contexts (begins s) s t refl h fits g
+
+row_holds : (forms : List Form) (b : Begun) (es : List Element) (contexts : List Context) → IsWellFormed forms → GoodRow b (items es contexts) → Holds (row_items b) forms (flatten forms ++ plain_token b.opens (head_of b.kind) ∷ parts_tokens b.parts)
+row_holds forms b es contexts fits g = record {
+  good = λ es contexts lead. record { fits = fits; opens = record { rest = g.rest; filled = g.filled; within = lead } };
+  tokens = λ es contexts. sym (append_assoc (flatten forms) (plain_token b.opens (head_of b.kind) ∷ parts_tokens b.parts) (items_tokens es));
+}
+
+semi_is : (s : Spelling) → is_semi s ≡ true → s ≡ Semi
+semi_is Semi h = refl
+semi_is _ h = cc
+
+end_keeps : (forms : List Form) (b : Begun) (es : List Element) (contexts : List Context) (t : Token) → token_spelling t.kind ≡ Semi → IsWellFormed forms → GoodRow b (items es contexts) → Keeps (tokens_of forms (row b (items es contexts))) t (end_items forms b es contexts t.place)
+end_keeps forms b es [] t h fits g = part_taken forms b (items es []) (part.Items es t.place) t fits g g.within (with_sign (items_tokens es) t _ (sign_token t Semi h tt))
+end_keeps forms b es (c ∷ contexts) t h fits g = tt
+
+items_keeps_by : (forms : List Form) (b : Begun) (es : List Element) (contexts : List Context) (o : Bool) (s : Spelling) (t : Token) → is_semi s ≡ o → token_spelling t.kind ≡ s → IsWellFormed forms → GoodRow b (items es contexts) → Keeps (tokens_of forms (row b (items es contexts))) t (end_or_add forms b es contexts o s t)
+items_keeps_by forms b es contexts true s t e h fits g = end_keeps forms b es contexts t (h ∙ semi_is s e) fits g
+items_keeps_by forms b es contexts false s t e h fits g = element_keeps (row_items b) forms _ (row_holds forms b es contexts fits g) es contexts g.within t (element_of s t) (element_is t s h)
+
+-- Literals.
+
+pub inside_more : (from : List Context) (es : List Element) (to : List Context) (e : Element) (c : Context) (next : List Context) → Inside from es to → IsElement e → behind to e ≡ Some (c ∷ next) → Inside from (es ++ e ∷ []) (c ∷ next)
+inside_more [] es to e c next h is b = absurd h
+inside_more (d ∷ from) [] to e c next h is b = (is, c ∷ next, subst (λ (x : List Context). behind x e ≡ Some (c ∷ next)) (sym h) b, refl)
+inside_more (d ∷ from) (x ∷ es) to e c next h is b = (h.0, h.1, h.2, inside_more h.1 es to e c next h.3 is b)
+
+pub inside_ends : (from : List Context) (es : List Element) (to : List Context) (e : Element) → Inside from es to → IsElement e → behind to e ≡ Some [] → Encloses from (es ++ e ∷ [])
+inside_ends [] es to e h is b = absurd h
+inside_ends (d ∷ from) [] to e h is b = (is, [], subst (λ (x : List Context). behind x e ≡ Some []) (sym h) b, tt)
+inside_ends (d ∷ from) (x ∷ es) to e h is b = (h.0, h.1, h.2, inside_ends h.1 es to e h.3 is b)
+
+literal_goes : (forms : List Form) (b : Begun) (place : Place) (es : List Element) (to : List Context) (t : Token) (e : Element) (next : Option (List Context)) → IsWellFormed forms → GoodRow b (literal (element.Opens place ∷ es) to) → IsElement e → element_tokens e ≡ t ∷ [] → behind to e ≡ next → Keeps (tokens_of forms (row b (literal (element.Opens place ∷ es) to))) t (literal_with forms b (element.Opens place ∷ (es ++ e ∷ [])) next)
+literal_goes forms b place es to t e None fits g is spelled h = tt
+literal_goes forms b place es to t e (Some []) fits g is spelled h =
+    part_taken forms b (literal (element.Opens place ∷ es) to) (part.Literal (element.Opens place ∷ (es ++ e ∷ []))) t fits g (inside_ends in_quotation es to e g.within is h) (element_behind (element.Opens place ∷ es) e t spelled)
+literal_goes forms b place es to t e (Some (c ∷ next)) fits g is spelled h =
+    within_taken forms b (literal (element.Opens place ∷ es) to) (literal (element.Opens place ∷ (es ++ e ∷ [])) (c ∷ next)) t fits g refl (inside_more in_quotation es to e c next g.within is h) (element_behind (element.Opens place ∷ es) e t spelled)
+
+literal_begins : (forms : List Form) (b : Begun) (t : Token) (e : Element) → IsWellFormed forms → GoodRow b (literal [] []) → IsElement e → element_tokens e ≡ t ∷ [] → Keeps (tokens_of forms (row b (literal [] []))) t (cond (goes_into [] e) (literal_with forms b (e ∷ []) (behind [] e)) None)
+literal_begins forms b t (element.Item (term.Name n)) fits g is spelled = tt
+literal_begins forms b t (element.Item (term.Integer n z)) fits g is spelled = part_taken forms b (literal [] []) (part.Literal (element.Item (term.Integer n z) ∷ [])) t fits g is spelled
+literal_begins forms b t (element.Item (term.Text n)) fits g is spelled = part_taken forms b (literal [] []) (part.Literal (element.Item (term.Text n) ∷ [])) t fits g is spelled
+literal_begins forms b t (element.Item (term.True place)) fits g is spelled = part_taken forms b (literal [] []) (part.Literal (element.Item (term.True place) ∷ [])) t fits g is spelled
+literal_begins forms b t (element.Item (term.False place)) fits g is spelled = part_taken forms b (literal [] []) (part.Literal (element.Item (term.False place) ∷ [])) t fits g is spelled
+literal_begins forms b t (element.Opens place) fits g is spelled = within_taken forms b (literal [] []) (literal (element.Opens place ∷ []) in_quotation) t fits g refl refl spelled
+literal_begins forms b t (element.Closes place) fits g is spelled = tt
+
+pub into_open : (c : Context) (contexts : List Context) (e : Element) → goes_into (c ∷ contexts) e ≡ true
+into_open c contexts (element.Item (term.Name n)) = refl
+into_open c contexts (element.Item (term.Integer n z)) = refl
+into_open c contexts (element.Item (term.Text n)) = refl
+into_open c contexts (element.Item (term.True place)) = refl
+into_open c contexts (element.Item (term.False place)) = refl
+into_open c contexts (element.Opens place) = refl
+into_open c contexts (element.Closes place) = refl
+
+pub never_out : (from : List Context) (es : List Element) → Inside from es [] → ⊥
+never_out [] es h = absurd h
+never_out (c ∷ from) [] h = cc
+never_out (c ∷ from) (e ∷ es) h = never_out h.1 es h.3
+
+literal_keeps : (forms : List Form) (b : Begun) (es : List Element) (contexts : List Context) (o : Option Element) (t : Token) → IsElementOf t o → IsWellFormed forms → GoodRow b (literal es contexts) → Keeps (tokens_of forms (row b (literal es contexts))) t (add_literal forms b es contexts o)
+literal_keeps forms b es contexts None t is fits g = tt
+literal_keeps forms b [] [] (Some e) t is fits g = literal_begins forms b t e fits g is.0 is.1
+literal_keeps forms b [] (c ∷ contexts) (Some e) t is fits g = let d = g.within in cc
+literal_keeps forms b (element.Opens place ∷ es) [] (Some e) t is fits g = absurd (never_out in_quotation es g.within)
+literal_keeps forms b (element.Opens place ∷ es) (c ∷ contexts) (Some e) t is fits g =
+    subst (λ (x : Bool). Keeps (tokens_of forms (row b (literal (element.Opens place ∷ es) (c ∷ contexts)))) t (cond x (literal_with forms b (element.Opens place ∷ (es ++ e ∷ [])) (behind (c ∷ contexts) e)) None)) (sym (into_open c contexts e))
+    (literal_goes forms b place es (c ∷ contexts) t e (behind (c ∷ contexts) e) fits g is.0 is.1 refl)
+literal_keeps forms b (element.Item item ∷ es) contexts (Some e) t is fits g = absurd g.within
+literal_keeps forms b (element.Closes place ∷ es) contexts (Some e) t is fits g = absurd g.within
+
+-- Marks.
+
+abbrev IsMarkOf : Token → Option Mark → Type 0
+IsMarkOf t None = Unit {0}
+IsMarkOf t (Some m) = t ≡ mark_token m
+
+mark_is : (t : Token) (s : Spelling) → token_spelling t.kind ≡ s → IsMarkOf t (mark_of s t.place)
+mark_is t Inline h = sign_token t Inline h tt
+mark_is t Recursive h = sign_token t Recursive h tt
+mark_is t _ h = tt
+
+mark_keeps : (forms : List Form) (b : Begun) (ms : List Mark) (t : Token) (m : Mark) → t ≡ mark_token m → IsWellFormed forms → GoodRow b (marks ms) → Keeps (tokens_of forms (row b (marks ms))) t (with_mark forms b ms m)
+mark_keeps forms b [] t m e fits g = within_taken forms b (marks []) (marks (m ∷ [])) t fits g refl (tt, g.within.1) (alone t (mark_token m) e)
+mark_keeps forms b (k ∷ ms) t m e fits g = tt
+
+-- a row with its marks, which ends
+pub marked_gone : (forms : List Form) (b : Begun) (ms : List Mark) → IsWellFormed forms → GoodRow b (marks ms) → Gone forms (more b (part.Marks ms)) (in_state (forms ++ row_form (more b (part.Marks ms)) ∷ []) (top [] []))
+marked_gone forms b ms fits g =
+    ended_row_gone forms (more b (part.Marks ms)) fits (filled_more (slots_of b.kind) b.parts (slot_of (marks ms)) [] (part.Marks ms) (subst (λ (rest : List Slot). Filled (slots_of b.kind) b.parts (slot_of (marks ms) ∷ rest)) g.within.1 g.filled) g.within.0)
+
+pub marked_tokens : (forms : List Form) (b : Begun) (ms : List Mark) → IsWellFormed forms → GoodRow b (marks ms) → tokens_of (forms ++ row_form (more b (part.Marks ms)) ∷ []) (top [] []) ≡ tokens_of forms (row b (marks ms))
+marked_tokens forms b ms fits g =
+    (marked_gone forms b ms fits g).tokens ∙ ap (λ (ts : List Token). flatten forms ++ plain_token b.opens (head_of b.kind) ∷ ts) (parts-last b.parts (part.Marks ms))
+
+marks_keeps_by : (forms : List Form) (b : Begun) (ms : List Mark) (o : Option Mark) (s : Spelling) (t : Token) → IsMarkOf t o → token_spelling t.kind ≡ s → IsWellFormed forms → GoodRow b (marks ms) → Keeps (tokens_of forms (row b (marks ms))) t (mark_step forms b ms o s t)
+marks_keeps_by forms b ms (Some m) s t is h fits g = mark_keeps forms b ms t m is fits g
+marks_keeps_by forms b ms None s t is h fits g =
+    let ended = (marked_gone forms b ms fits g).good in
+    subst (λ (ts : List Token). Keeps ts t (mark_step forms b ms None s t)) (marked_tokens forms b ms fits g) (top_keeps (forms ++ row_form (more b (part.Marks ms)) ∷ []) [] [] s t h ended.fits ended.opens)
+
+-- All.
+
+row_keeps : (forms : List Form) (b : Begun) (w : Within) (s : Spelling) (t : Token) → token_spelling t.kind ≡ s → IsWellFormed forms → GoodRow b w → Keeps (tokens_of forms (row b w)) t (row_step forms b w s t)
+row_keeps forms b name s t h fits g = name_keeps forms b t s h fits g
+row_keeps forms b (names ns) s t h fits g = names_keeps forms b ns t s h fits g
+row_keeps forms b (fixed key) s t h fits g = fixed_keeps forms b key t s h fits g
+row_keeps forms b effect s t h fits g = effect_keeps forms b t s h fits g
+row_keeps forms b (inputs opens ins) s t h fits g = inputs_keeps forms b opens ins t s h fits g
+row_keeps forms b (outputs opens ins dashes outs) s t h fits g = outputs_keeps forms b opens ins dashes outs t s h fits g
+row_keeps forms b (items es contexts) s t h fits g = items_keeps_by forms b es contexts (is_semi s) s t refl h fits g
+row_keeps forms b (literal es contexts) s t h fits g = literal_keeps forms b es contexts (element_of s t) t (element_is t s h) fits g
+row_keeps forms b (marks ms) s t h fits g = marks_keeps_by forms b ms (mark_of s t.place) s t (mark_is t s h) h fits g
+
+open_keeps : (forms : List Form) (o : Open) (t : Token) → IsWellFormed forms → GoodOpen forms o → Keeps (tokens_of forms o) t (open_step forms o (token_spelling t.kind) t)
+open_keeps forms (top es contexts) t fits g = top_keeps forms es contexts (token_spelling t.kind) t refl fits g
+open_keeps forms (row b w) t fits g = row_keeps forms b w (token_spelling t.kind) t refl fits g
+
+step_keeps : (s : State) (t : Token) → Good s → Keeps (state_tokens s) t (step s t)
+step_keeps s t g = open_keeps s.forms s.open_part t g.fits g.opens
+
+-- a state, if there is one, is good and has these tokens
+abbrev pub Known : Option State → List Token → Type 0
+Known None tokens = Unit {0}
+Known (Some s) tokens = Good s × (state_tokens s ≡ tokens)
+
+known_step : (o : Option State) (before tokens : List Token) (t : Token) → before ≡ tokens → Keeps before t o → Known o (tokens ++ t ∷ [])
+known_step None before tokens t e k = tt
+known_step (Some s) before tokens t e k = (k.good, k.tokens_are ∙ ap (λ (ts : List Token). ts ++ t ∷ []) e)
+
+pub steps_known : (o : Option State) (ts tokens : List Token) → Known o tokens → Known (steps o ts) (tokens ++ ts)
+steps_known o [] tokens k = subst (Known o) (sym (append-nil tokens)) k
+steps_known None (t ∷ ts) tokens k = tt
+steps_known (Some s) (t ∷ ts) tokens k =
+    subst (Known (steps (step s t) ts)) (append_assoc tokens (t ∷ []) ts) (steps_known (step s t) ts (tokens ++ t ∷ []) (known_step (step s t) (state_tokens s) tokens t k.1 (step_keeps s t k.0)))
+
+pub start_good : Good start
+start_good = record { fits = tt; opens = (refl, tt) }

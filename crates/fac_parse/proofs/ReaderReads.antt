@@ -1,0 +1,379 @@
+-- The tokens of a well-formed tree are read, to that tree.
+use Rattle.fac_parse.specs.inner.Reader.{literal, goes_into, literal_with, add_literal}
+use Rattle.fac_parse.specs.Trees.{behind, IsLiteral, Encloses}
+use Rattle.fac_parse.proofs.ReaderKeeps.{into_open}
+use Rattle.fac_parse.proofs.StateTokens.{in_quotation}
+use Rattle.std.proofs.Common.{◌≡◌, ℕ, ◌≤◌, ◌<◌, ◌+◌, Bool, true, false, cond, ◌&&◌, List, [], ◌∷◌, ◌++◌, length, Option, Some, None, refl, ap, sym, ◌∙◌, subst, append_assoc, append-nil, arith}
+use Rattle.std.specs.Prelude.{codes, nat_lt}
+use Rattle.std.proofs.lemmas.Bool.Decides.{Decides-ltb}
+use Rattle.std.proofs.lemmas.List.{length_push}
+use Rattle.fac_lang.specs.declared.phrase.Place.{Place}
+use Rattle.fac_lang.specs.declared.token.Token.{Token}
+use Rattle.fac_lang.specs.declared.tree.Term.TheVariants as term
+use Rattle.fac_lang.specs.declared.tree.Element.{Element}
+use Rattle.fac_lang.specs.declared.tree.Element.TheVariants as element
+use Rattle.fac_lang.specs.declared.tree.Mark.{Mark}
+use Rattle.fac_lang.specs.declared.tree.Mark.TheVariants as mark
+use Rattle.fac_lang.specs.declared.tree.FormKind.{FormKind}
+use Rattle.fac_lang.specs.declared.tree.Key.{Key}
+use Rattle.fac_lang.specs.declared.tree.Key.TheVariants.{Arrow}
+use Rattle.fac_lang.specs.declared.tree.Part.{Part}
+use Rattle.fac_lang.specs.declared.tree.Part.TheVariants as part
+use Rattle.fac_lang.specs.declared.tree.Form.{Form}
+use Rattle.fac_lang.specs.declared.tree.Form.TheVariants.{Row, Items}
+use Rattle.fac_parse.specs.declared.context.Context.{Context}
+use Rattle.fac_parse.specs.declared.rows.Slot.{Slot}
+use Rattle.fac_parse.specs.declared.rows.Slot.TheVariants as slot
+use Rattle.fac_parse.specs.declared.spelling.Spelling.{Spelling}
+use Rattle.fac_parse.specs.declared.spelling.Spelling.TheVariants.{Begins, Fixed, Semi, Opens, Closes, Dashes, OpensQuotation, ClosesQuotation, True, False, Inline, Recursive, Name}
+use Rattle.fac_parse.specs.Rows.{head_of, slots_of}
+use Rattle.fac_parse.specs.Spellings.{token_spelling, is_value_name}
+use Rattle.fac_parse.specs.Trees.{plain_token, token_text, element_tokens, items_tokens, marks_tokens, effect_tokens, part_tokens, parts_tokens, form_tokens, flatten, AreNames, AreValueNames, most_names, IsEffect, IsElement, Lead, AreMarks, FillAll, IsWellFormed, Reads}
+use Rattle.fac_parse.specs.inner.Reader.{Within, name, names, fixed, effect, inputs, outputs, items, marks, Begun, begun, Open, top, row, State, in_state, start, row_form, row_ended, at_slot, go_on, more, with_part, element_of, with_element, add_element, begins, begin_or_add, top_step, may_add, written, row_items, is_semi, end_or_add, mark_of, mark_step, open_step, step, steps, ended}
+use Rattle.fac_parse.proofs.SpellingLemmas.{sign_is}
+use Rattle.fac_parse.proofs.StateTokens.{Filled, filled_more, first_of, next_slot, MarksLast, marks_last}
+
+none_steps : (ts : List Token) → steps None ts ≡ None
+none_steps [] = refl
+none_steps (t ∷ ts) = refl
+
+pub steps-append : (o : Option State) (xs ys : List Token) → steps o (xs ++ ys) ≡ steps (steps o xs) ys
+steps-append o [] ys = refl
+steps-append None (t ∷ xs) ys = sym (none_steps ys)
+steps-append (Some s) (t ∷ xs) ys = steps-append (step s t) xs ys
+
+-- one behind the other
+pub chain : (s m : State) (xs ys : List Token) (o : Option State) → steps (Some s) xs ≡ Some m → steps (Some m) ys ≡ o → steps (Some s) (xs ++ ys) ≡ o
+chain s m xs ys o h k = steps-append (Some s) xs ys ∙ ap (λ (x : Option State). steps x ys) h ∙ k
+
+pub one : (s m : State) (t : Token) (ts : List Token) (o : Option State) → step s t ≡ Some m → steps (Some m) ts ≡ o → steps (Some s) (t ∷ ts) ≡ o
+one s m t ts o h k = ap (λ (x : Option State). steps x ts) h ∙ k
+
+-- a token by its spelling
+pub by_spelling : (forms : List Form) (o : Open) (t : Token) (s : Spelling) → token_spelling t.kind ≡ s → step (in_state forms o) t ≡ open_step forms o s t
+by_spelling forms o t s h = ap (λ (x : Spelling). open_step forms o x t) h
+
+-- Names.
+
+names_read : (forms : List Form) (b : Begun) (ns ms : List Token) → AreNames ms → steps (Some (in_state forms (row b (names ns)))) ms ≡ Some (in_state forms (row b (names (ns ++ ms))))
+names_read forms b ns [] h = ap (λ (x : List Token). Some (in_state forms (row b (names x)))) (sym (append-nil ns))
+names_read forms b ns (t ∷ ms) h =
+    one (in_state forms (row b (names ns))) (in_state forms (row b (names (ns ++ t ∷ [])))) t ms _ (by_spelling forms (row b (names ns)) t Name h.0)
+    (names_read forms b (ns ++ t ∷ []) ms h.1 ∙ ap (λ (x : List Token). Some (in_state forms (row b (names x)))) (append_assoc ns (t ∷ []) ms))
+
+-- Effects.
+
+cond_true : {A : Type 0} (b : Bool) (x y : A) → b ≡ true → cond b x y ≡ x
+cond_true true x y h = refl
+cond_true false x y h = cc
+
+adds : (v : Bool) (n : ℕ) → v ≡ true → n < most_names → (v && nat_lt n most_names) ≡ true
+adds true n h less = (Decides-ltb n most_names).1 less
+adds false n h less = cc
+
+inputs_read : (forms : List Form) (b : Begun) (opens : Place) (ins ms : List Token) → AreValueNames ms → length ins + length ms ≤ most_names → steps (Some (in_state forms (row b (inputs opens ins)))) ms ≡ Some (in_state forms (row b (inputs opens (ins ++ ms))))
+inputs_read forms b opens ins [] h few = ap (λ (x : List Token). Some (in_state forms (row b (inputs opens x)))) (sym (append-nil ins))
+inputs_read forms b opens ins (t ∷ ms) h few =
+    let next = in_state forms (row b (inputs opens (ins ++ t ∷ []))) in
+    let pushed = length_push ins t in
+    one (in_state forms (row b (inputs opens ins))) next t ms _
+    (by_spelling forms (row b (inputs opens ins)) t Name h.0 ∙ cond_true (may_add ins [] t) (Some next) None (adds (is_value_name (token_text t.kind)) (length ins + 0) h.1 (omega (arith, few))))
+    (inputs_read forms b opens (ins ++ t ∷ []) ms h.2 (omega (arith, few, pushed)) ∙ ap (λ (x : List Token). Some (in_state forms (row b (inputs opens x)))) (append_assoc ins (t ∷ []) ms))
+
+outputs_read : (forms : List Form) (b : Begun) (opens : Place) (ins : List Token) (dashes : Place) (outs ms : List Token) → AreValueNames ms → length ins + (length outs + length ms) ≤ most_names → steps (Some (in_state forms (row b (outputs opens ins dashes outs)))) ms ≡ Some (in_state forms (row b (outputs opens ins dashes (outs ++ ms))))
+outputs_read forms b opens ins dashes outs [] h few = ap (λ (x : List Token). Some (in_state forms (row b (outputs opens ins dashes x)))) (sym (append-nil outs))
+outputs_read forms b opens ins dashes outs (t ∷ ms) h few =
+    let next = in_state forms (row b (outputs opens ins dashes (outs ++ t ∷ []))) in
+    let pushed = length_push outs t in
+    one (in_state forms (row b (outputs opens ins dashes outs))) next t ms _
+    (by_spelling forms (row b (outputs opens ins dashes outs)) t Name h.0 ∙ cond_true (may_add ins outs t) (Some next) None (adds (is_value_name (token_text t.kind)) (length ins + length outs) h.1 (omega (arith, few))))
+    (outputs_read forms b opens ins dashes (outs ++ t ∷ []) ms h.2 (omega (arith, few, pushed)) ∙ ap (λ (x : List Token). Some (in_state forms (row b (outputs opens ins dashes x)))) (append_assoc outs (t ∷ []) ms))
+
+effect_read : (forms : List Form) (b : Begun) (opens : Place) (ins : List Token) (dashes : Place) (outs : List Token) (closes : Place) → IsEffect (written opens ins dashes outs closes) → steps (Some (in_state forms (row b effect))) (effect_tokens (written opens ins dashes outs closes)) ≡ Some (with_part forms b (part.Effect (written opens ins dashes outs closes)))
+effect_read forms b opens ins dashes outs closes h =
+    let few = h.few in
+    chain (in_state forms (row b effect)) (in_state forms (row b (outputs opens ins dashes outs))) (plain_token opens (codes "(") ∷ ins ++ plain_token dashes (codes "--") ∷ outs) (plain_token closes (codes ")") ∷ []) _
+    (chain (in_state forms (row b effect)) (in_state forms (row b (inputs opens ins))) (plain_token opens (codes "(") ∷ ins) (plain_token dashes (codes "--") ∷ outs) _
+    (one (in_state forms (row b effect)) (in_state forms (row b (inputs opens []))) (plain_token opens (codes "(")) ins _ (by_spelling forms (row b effect) (plain_token opens (codes "(")) Opens (sign_is Opens tt)) (inputs_read forms b opens [] ins h.ins (omega (arith, few))))
+    (one (in_state forms (row b (inputs opens ins))) (in_state forms (row b (outputs opens ins dashes []))) (plain_token dashes (codes "--")) outs _ (by_spelling forms (row b (inputs opens ins)) (plain_token dashes (codes "--")) Dashes (sign_is Dashes tt)) (outputs_read forms b opens ins dashes [] outs h.outs (omega (arith, few)))))
+    (one (in_state forms (row b (outputs opens ins dashes outs))) (with_part forms b (part.Effect (written opens ins dashes outs closes))) (plain_token closes (codes ")")) [] _ (by_spelling forms (row b (outputs opens ins dashes outs)) (plain_token closes (codes ")")) Closes (sign_is Closes tt)) refl)
+
+-- Items.
+
+abbrev pub term_token : Element → Token
+term_token (element.Item (term.Name t)) = t
+term_token (element.Item (term.Integer t z)) = t
+term_token (element.Item (term.Text t)) = t
+term_token (element.Item (term.True place)) = plain_token place (codes "t")
+term_token (element.Item (term.False place)) = plain_token place (codes "f")
+term_token (element.Opens place) = plain_token place (codes "[")
+term_token (element.Closes place) = plain_token place (codes "]")
+
+token_alone : (e : Element) → element_tokens e ≡ term_token e ∷ []
+token_alone (element.Item (term.Name t)) = refl
+token_alone (element.Item (term.Integer t z)) = refl
+token_alone (element.Item (term.Text t)) = refl
+token_alone (element.Item (term.True place)) = refl
+token_alone (element.Item (term.False place)) = refl
+token_alone (element.Opens place) = refl
+token_alone (element.Closes place) = refl
+
+pub element_spelled : (e : Element) → IsElement e → element_of (token_spelling (term_token e).kind) (term_token e) ≡ Some e
+element_spelled (element.Item (term.Name t)) h = ap (λ (s : Spelling). element_of s t) h
+element_spelled (element.Item (term.Integer t z)) h = ap (λ (s : Spelling). element_of s t) h
+element_spelled (element.Item (term.Text t)) h = ap (λ (s : Spelling). element_of s t) h
+element_spelled (element.Item (term.True place)) h = ap (λ (s : Spelling). element_of s (plain_token place (codes "t"))) (sign_is True tt)
+element_spelled (element.Item (term.False place)) h = ap (λ (s : Spelling). element_of s (plain_token place (codes "f"))) (sign_is False tt)
+element_spelled (element.Opens place) h = ap (λ (s : Spelling). element_of s (plain_token place (codes "["))) (sign_is OpensQuotation tt)
+element_spelled (element.Closes place) h = ap (λ (s : Spelling). element_of s (plain_token place (codes "]"))) (sign_is ClosesQuotation tt)
+
+no_row : (s : Spelling) (t : Token) (e : Element) → element_of s t ≡ Some e → begins s ≡ None
+no_row (Begins kind) t e h = cc
+no_row _ t e h = refl
+
+no_semi : (s : Spelling) (t : Token) (e : Element) → element_of s t ≡ Some e → is_semi s ≡ false
+no_semi Semi t e h = cc
+no_semi _ t e h = refl
+
+no_mark : (s : Spelling) (t : Token) (e : Element) → element_of s t ≡ Some e → mark_of s t.place ≡ None
+no_mark Inline t e h = cc
+no_mark Recursive t e h = cc
+no_mark _ t e h = refl
+
+top_element : (forms : List Form) (es : List Element) (contexts : List Context) (s : Spelling) (t : Token) (e : Element) → element_of s t ≡ Some e → top_step forms es contexts s t ≡ add_element top forms es contexts (Some e)
+top_element forms es contexts s t e h =
+    ap (λ (o : Option FormKind). begin_or_add forms es contexts o s t) (no_row s t e h) ∙ ap (add_element top forms es contexts) h
+
+-- where items are held, a token of an element adds it
+pub record HoldsItems (held : List Element → List Context → Open) (forms : List Form) : Type 0 where
+  pub adds_element : (es : List Element) (contexts : List Context) (t : Token) (e : Element) → element_of (token_spelling t.kind) t ≡ Some e → step (in_state forms (held es contexts)) t ≡ add_element held forms es contexts (Some e)
+
+pub top_holds_items : (forms : List Form) → HoldsItems top forms
+top_holds_items forms = record { adds_element = λ es contexts t e h. top_element forms es contexts (token_spelling t.kind) t e h }
+
+pub row_holds_items : (forms : List Form) (b : Begun) → HoldsItems (row_items b) forms
+row_holds_items forms b = record {
+  adds_element = λ es contexts t e h.
+      ap (λ (o : Bool). end_or_add forms b es contexts o (token_spelling t.kind) t) (no_semi (token_spelling t.kind) t e h) ∙ ap (add_element (row_items b) forms es contexts) h;
+}
+
+pub elements_read : (held : List Element → List Context → Open) (forms : List Form) → HoldsItems held forms → (es ms : List Element) (from to : List Context) → Lead from ms to → steps (Some (in_state forms (held es from))) (items_tokens ms) ≡ Some (in_state forms (held (es ++ ms) to))
+elements_read held forms holds es [] from to h = ap (λ (x : List Element). Some (in_state forms (held x from))) (sym (append-nil es)) ∙ ap (λ (x : List Context). Some (in_state forms (held (es ++ []) x))) h
+elements_read held forms holds es (e ∷ ms) from to h =
+    let next = in_state forms (held (es ++ e ∷ []) h.1) in
+    ap (λ (ts : List Token). steps (Some (in_state forms (held es from))) (ts ++ items_tokens ms)) (token_alone e)
+    ∙ one (in_state forms (held es from)) next (term_token e) (items_tokens ms) _
+    (holds.adds_element es from (term_token e) e (element_spelled e h.0) ∙ ap (with_element held forms es e) h.2)
+    (elements_read held forms holds (es ++ e ∷ []) ms h.1 to h.3 ∙ ap (λ (x : List Element). Some (in_state forms (held x to))) (append_assoc es (e ∷ []) ms))
+
+-- Parts.
+
+marks_read : (forms : List Form) (b : Begun) (ms : List Mark) → AreMarks ms → steps (Some (in_state forms (row b (marks [])))) (marks_tokens ms) ≡ Some (in_state forms (row b (marks ms)))
+marks_read forms b [] h = refl
+marks_read forms b (mark.Inline place ∷ []) h = by_spelling forms (row b (marks [])) (plain_token place (codes "inline")) Inline (sign_is Inline tt)
+marks_read forms b (mark.Recursive place ∷ []) h = by_spelling forms (row b (marks [])) (plain_token place (codes "recursive")) Recursive (sign_is Recursive tt)
+marks_read forms b (m ∷ k ∷ ms) h = absurd h
+
+fixed_read : (forms : List Form) (b : Begun) (key other : Key) (place : Place) → key ≡ other → steps (Some (in_state forms (row b (fixed key)))) (part_tokens (part.Fixed other place)) ≡ Some (with_part forms b (part.Fixed other place))
+fixed_read forms b Arrow Arrow place h = by_spelling forms (row b (fixed Arrow)) (plain_token place (codes "=>")) (Fixed Arrow) (sign_is (Fixed Arrow) tt)
+
+names_part_read : (forms : List Form) (b : Begun) (ns : List Token) (ends : Place) → AreNames ns → steps (Some (in_state forms (row b (names [])))) (part_tokens (part.Names ns ends)) ≡ Some (with_part forms b (part.Names ns ends))
+names_part_read forms b ns ends h =
+    chain (in_state forms (row b (names []))) (in_state forms (row b (names ns))) ns (plain_token ends (codes ";") ∷ []) _ (names_read forms b [] ns h)
+    (by_spelling forms (row b (names ns)) (plain_token ends (codes ";")) Semi (sign_is Semi tt))
+
+items_part_read : (forms : List Form) (b : Begun) (es : List Element) (ends : Place) → Lead [] es [] → steps (Some (in_state forms (row b (items [] [])))) (part_tokens (part.Items es ends)) ≡ Some (with_part forms b (part.Items es ends))
+items_part_read forms b es ends h =
+    chain (in_state forms (row b (items [] []))) (in_state forms (row b (items es []))) (items_tokens es) (plain_token ends (codes ";") ∷ []) _ (elements_read (row_items b) forms (row_holds_items forms b) [] es [] [] h)
+    (by_spelling forms (row b (items es [])) (plain_token ends (codes ";")) Semi (sign_is Semi tt))
+
+-- Literals.
+
+term_read : (forms : List Form) (b : Begun) (e : Element) → IsElement e → cond (goes_into [] e) (literal_with forms b (e ∷ []) (behind [] e)) None ≡ Some (with_part forms b (part.Literal (e ∷ []))) → steps (Some (in_state forms (row b (literal [] [])))) (items_tokens (e ∷ [])) ≡ Some (with_part forms b (part.Literal (e ∷ [])))
+term_read forms b e is goes =
+    ap (λ (ts : List Token). steps (Some (in_state forms (row b (literal [] [])))) (ts ++ [])) (token_alone e)
+    ∙ ap (add_literal forms b [] []) (element_spelled e is) ∙ goes
+
+-- one more element of a literal in which something is open
+pub adds_literal : (forms : List Form) (b : Begun) (es : List Element) (c : Context) (contexts : List Context) (e : Element) (next : List Context) → IsElement e → behind (c ∷ contexts) e ≡ Some next → step (in_state forms (row b (literal es (c ∷ contexts)))) (term_token e) ≡ literal_with forms b (es ++ e ∷ []) (Some next)
+adds_literal forms b es c contexts e next is h =
+    ap (add_literal forms b es (c ∷ contexts)) (element_spelled e is)
+    ∙ ap (λ (x : Bool). cond x (literal_with forms b (es ++ e ∷ []) (behind (c ∷ contexts) e)) None) (into_open c contexts e)
+    ∙ ap (literal_with forms b (es ++ e ∷ [])) h
+
+enclosed_next : (forms : List Form) (b : Begun) (es ms : List Element) (c : Context) (contexts : List Context) (e : Element) (next : List Context) → IsElement e → behind (c ∷ contexts) e ≡ Some next → Encloses next ms → ((d : Context) (less : List Context) → Encloses (d ∷ less) ms → steps (Some (in_state forms (row b (literal (es ++ e ∷ []) (d ∷ less))))) (items_tokens ms) ≡ Some (with_part forms b (part.Literal ((es ++ e ∷ []) ++ ms)))) → steps (Some (in_state forms (row b (literal es (c ∷ contexts))))) (term_token e ∷ items_tokens ms) ≡ Some (with_part forms b (part.Literal ((es ++ e ∷ []) ++ ms)))
+enclosed_next forms b es [] c contexts e [] is h k later =
+    one (in_state forms (row b (literal es (c ∷ contexts)))) (with_part forms b (part.Literal (es ++ e ∷ []))) (term_token e) [] _ (adds_literal forms b es c contexts e [] is h) (ap (λ (x : List Element). Some (with_part forms b (part.Literal x))) (sym (append-nil (es ++ e ∷ []))))
+enclosed_next forms b es (m ∷ ms) c contexts e [] is h k later = absurd k
+enclosed_next forms b es ms c contexts e (d ∷ less) is h k later =
+    one (in_state forms (row b (literal es (c ∷ contexts)))) (in_state forms (row b (literal (es ++ e ∷ []) (d ∷ less)))) (term_token e) (items_tokens ms) _ (adds_literal forms b es c contexts e (d ∷ less) is h) (later d less k)
+
+enclosed_read : (forms : List Form) (b : Begun) (es ms : List Element) (c : Context) (contexts : List Context) → Encloses (c ∷ contexts) ms → steps (Some (in_state forms (row b (literal es (c ∷ contexts))))) (items_tokens ms) ≡ Some (with_part forms b (part.Literal (es ++ ms)))
+enclosed_read forms b es [] c contexts h = absurd h
+enclosed_read forms b es (e ∷ ms) c contexts h =
+    ap (λ (ts : List Token). steps (Some (in_state forms (row b (literal es (c ∷ contexts))))) (ts ++ items_tokens ms)) (token_alone e)
+    ∙ enclosed_next forms b es ms c contexts e h.1 h.0 h.2 h.3 (λ d less k. enclosed_read forms b (es ++ e ∷ []) ms d less k)
+    ∙ ap (λ (x : List Element). Some (with_part forms b (part.Literal x))) (append_assoc es (e ∷ []) ms)
+
+literal_part_read : (forms : List Form) (b : Begun) (es : List Element) → IsLiteral es → steps (Some (in_state forms (row b (literal [] [])))) (items_tokens es) ≡ Some (with_part forms b (part.Literal es))
+literal_part_read forms b [] h = absurd h
+literal_part_read forms b (element.Item (term.Name t) ∷ []) h = absurd h
+literal_part_read forms b (element.Item (term.Integer t z) ∷ []) h = term_read forms b (element.Item (term.Integer t z)) h refl
+literal_part_read forms b (element.Item (term.Text t) ∷ []) h = term_read forms b (element.Item (term.Text t)) h refl
+literal_part_read forms b (element.Item (term.True place) ∷ []) h = term_read forms b (element.Item (term.True place)) h refl
+literal_part_read forms b (element.Item (term.False place) ∷ []) h = term_read forms b (element.Item (term.False place)) h refl
+literal_part_read forms b (element.Item item ∷ e ∷ es) h = absurd h
+literal_part_read forms b (element.Closes place ∷ es) h = absurd h
+literal_part_read forms b (element.Opens place ∷ es) h =
+    one (in_state forms (row b (literal [] []))) (in_state forms (row b (literal (element.Opens place ∷ []) in_quotation))) (plain_token place (codes "[")) (items_tokens es) _
+    (ap (add_literal forms b [] []) (element_spelled (element.Opens place) tt)) (enclosed_read forms b (element.Opens place ∷ []) es _ [] h)
+
+-- Where the tokens may end with these forms, a row may begin, and where none of the forms that follow is a run beside one, a run may.
+
+-- a run of items may begin here: each token that is no mark is taken as one at the top level
+abbrev pub Fresh : State → List Form → Type 0
+Fresh s forms = (t : Token) → mark_of (token_spelling t.kind) t.place ≡ None → step s t ≡ top_step forms [] [] (token_spelling t.kind) t
+
+abbrev pub BeginWithRun : List Form → Type 0
+BeginWithRun (Items es ∷ forms) = Unit {0}
+BeginWithRun _ = ⊥
+
+pub record Ready (s : State) (forms rest : List Form) : Type 0 where
+  pub whole : ended s ≡ Some forms
+  pub rows : (kind : FormKind) (opens : Place) → step s (plain_token opens (head_of kind)) ≡ Some (go_on forms (begun kind opens))
+  pub runs : BeginWithRun rest → Fresh s forms
+
+pub record Reaches (s : State) (ts : List Token) (forms rest : List Form) : Type 0 where
+  pub to : State
+  pub reads : steps (Some s) ts ≡ Some to
+  pub ready : Ready to forms rest
+
+fresh_ready : (s : State) (forms rest : List Form) → ended s ≡ Some forms → Fresh s forms → Ready s forms rest
+fresh_ready s forms rest e h = record {
+  whole = e;
+  rows = λ kind opens.
+      h (plain_token opens (head_of kind)) (ap (λ (x : Spelling). mark_of x opens) (sign_is (Begins kind) tt))
+      ∙ ap (λ (x : Spelling). top_step forms [] [] x (plain_token opens (head_of kind))) (sign_is (Begins kind) tt);
+  runs = λ b. h;
+}
+
+pub start_ready : (rest : List Form) → Ready start [] rest
+start_ready rest = fresh_ready start [] rest refl (λ t h. refl)
+
+-- behind a row
+ended_ready : (forms : List Form) (b : Begun) (rest : List Form) → Ready (row_ended forms b) (forms ++ row_form b ∷ []) rest
+ended_ready forms b rest = fresh_ready (row_ended forms b) (forms ++ row_form b ∷ []) rest refl (λ t h. refl)
+
+marked_ready : (forms : List Form) (b : Begun) (ms : List Mark) (rest : List Form) → Ready (in_state forms (row b (marks ms))) (forms ++ row_form (more b (part.Marks ms)) ∷ []) rest
+marked_ready forms b ms rest =
+    fresh_ready (in_state forms (row b (marks ms))) (forms ++ row_form (more b (part.Marks ms)) ∷ []) rest refl (λ t h.
+    ap (λ (o : Option Mark). mark_step forms b ms o (token_spelling t.kind) t) h)
+
+-- behind a run
+run_ready : (forms : List Form) (e : Element) (es : List Element) (rest : List Form) → (BeginWithRun rest → ⊥) → Ready (in_state forms (top (e ∷ es) [])) (forms ++ Items (e ∷ es) ∷ []) rest
+run_ready forms e es rest none = record {
+  whole = refl;
+  rows = λ kind opens. by_spelling forms (top (e ∷ es) []) (plain_token opens (head_of kind)) (Begins kind) (sign_is (Begins kind) tt);
+  runs = λ b. absurd (none b);
+}
+
+-- Rows.
+
+-- the form of a row with these parts more
+abbrev row_with : Begun → List Part → Form
+row_with b ps = Row b.kind b.opens (b.parts ++ ps)
+
+part_then : (forms : List Form) (b : Begun) (w : Within) (p : Part) (ps : List Part) (rest : List Form) → steps (Some (in_state forms (row b w))) (part_tokens p) ≡ Some (with_part forms b p) → Reaches (with_part forms b p) (parts_tokens ps) (forms ++ row_with (more b p) ps ∷ []) rest → Reaches (in_state forms (row b w)) (part_tokens p ++ parts_tokens ps) (forms ++ row_with b (p ∷ ps) ∷ []) rest
+part_then forms b w p ps rest h later = record {
+  to = later.to;
+  reads = chain (in_state forms (row b w)) (with_part forms b p) (part_tokens p) (parts_tokens ps) _ h later.reads;
+  ready = subst (λ (qs : List Part). Ready later.to (forms ++ Row b.kind b.opens qs ∷ []) rest) (append_assoc b.parts (p ∷ []) ps) later.ready;
+}
+
+to_slot : (forms : List Form) (b : Begun) (slots : List Slot) (ts : List Token) (fs rest : List Form) → Filled (slots_of b.kind) b.parts slots → Reaches (at_slot forms b (first_of slots)) ts fs rest → Reaches (go_on forms b) ts fs rest
+to_slot forms b slots ts fs rest h r = subst (λ (o : Option Slot). Reaches (at_slot forms b o) ts fs rest) (sym (next_slot (slots_of b.kind) b.parts slots h)) r
+
+parts_read : (forms : List Form) (b : Begun) (slots : List Slot) (ps : List Part) (rest : List Form) → Filled (slots_of b.kind) b.parts slots → MarksLast slots → FillAll slots ps → Reaches (at_slot forms b (first_of slots)) (parts_tokens ps) (forms ++ row_with b ps ∷ []) rest
+parts_read forms b [] [] rest h l f = record {
+  to = row_ended forms b;
+  reads = refl;
+  ready = subst (λ (qs : List Part). Ready (row_ended forms b) (forms ++ Row b.kind b.opens qs ∷ []) rest) (sym (append-nil b.parts)) (ended_ready forms b rest);
+}
+parts_read forms b (slot.Marks ∷ []) (part.Marks ms ∷ []) rest h l f = record {
+  to = in_state forms (row b (marks ms));
+  reads = ap (steps (Some (in_state forms (row b (marks []))))) (append-nil (marks_tokens ms)) ∙ marks_read forms b ms f.0;
+  ready = marked_ready forms b ms rest;
+}
+parts_read forms b (slot.Marks ∷ s ∷ slots) (p ∷ ps) rest h l f = let e = l.0 in cc
+parts_read forms b (slot.Name ∷ slots) (part.Name n ∷ ps) rest h l f =
+    let filled = filled_more (slots_of b.kind) b.parts slot.Name slots (part.Name n) h f.0 in
+    part_then forms b name (part.Name n) ps rest (by_spelling forms (row b name) n Name f.0) (to_slot forms (more b (part.Name n)) slots _ _ rest filled (parts_read forms (more b (part.Name n)) slots ps rest filled l.1 f.1))
+parts_read forms b (slot.Names ∷ slots) (part.Names ns ends ∷ ps) rest h l f =
+    let filled = filled_more (slots_of b.kind) b.parts slot.Names slots (part.Names ns ends) h f.0 in
+    part_then forms b (names []) (part.Names ns ends) ps rest (names_part_read forms b ns ends f.0) (to_slot forms (more b (part.Names ns ends)) slots _ _ rest filled (parts_read forms (more b (part.Names ns ends)) slots ps rest filled l.1 f.1))
+parts_read forms b (slot.Fixed key ∷ slots) (part.Fixed other place ∷ ps) rest h l f =
+    let filled = filled_more (slots_of b.kind) b.parts (slot.Fixed key) slots (part.Fixed other place) h f.0 in
+    part_then forms b (fixed key) (part.Fixed other place) ps rest (fixed_read forms b key other place f.0) (to_slot forms (more b (part.Fixed other place)) slots _ _ rest filled (parts_read forms (more b (part.Fixed other place)) slots ps rest filled l.1 f.1))
+parts_read forms b (slot.Effect ∷ slots) (part.Effect e ∷ ps) rest h l f =
+    let filled = filled_more (slots_of b.kind) b.parts slot.Effect slots (part.Effect e) h f.0 in
+    part_then forms b effect (part.Effect e) ps rest (effect_read forms b e.opens e.ins e.dashes e.outs e.closes f.0) (to_slot forms (more b (part.Effect e)) slots _ _ rest filled (parts_read forms (more b (part.Effect e)) slots ps rest filled l.1 f.1))
+parts_read forms b (slot.Items ∷ slots) (part.Items es ends ∷ ps) rest h l f =
+    let filled = filled_more (slots_of b.kind) b.parts slot.Items slots (part.Items es ends) h f.0 in
+    part_then forms b (items [] []) (part.Items es ends) ps rest (items_part_read forms b es ends f.0) (to_slot forms (more b (part.Items es ends)) slots _ _ rest filled (parts_read forms (more b (part.Items es ends)) slots ps rest filled l.1 f.1))
+parts_read forms b (slot.Literal ∷ slots) (part.Literal es ∷ ps) rest h l f =
+    let filled = filled_more (slots_of b.kind) b.parts slot.Literal slots (part.Literal es) h f.0 in
+    part_then forms b (literal [] []) (part.Literal es) ps rest (literal_part_read forms b es f.0) (to_slot forms (more b (part.Literal es)) slots _ _ rest filled (parts_read forms (more b (part.Literal es)) slots ps rest filled l.1 f.1))
+parts_read forms b (slot.Marks ∷ []) (part.Marks ms ∷ p ∷ ps) rest h l f = absurd f.1
+parts_read forms b [] (p ∷ ps) rest h l f = absurd f
+parts_read forms b (s ∷ slots) [] rest h l f = absurd f
+parts_read forms b (s ∷ slots) (p ∷ ps) rest h l f = absurd f.0
+
+-- Forms.
+
+-- a run of items
+run_read : (s : State) (forms : List Form) (e : Element) (es : List Element) (rest : List Form) → Fresh s forms → Lead [] (e ∷ es) [] → (BeginWithRun rest → ⊥) → Reaches s (items_tokens (e ∷ es)) (forms ++ Items (e ∷ es) ∷ []) rest
+run_read s forms e es rest fresh h none =
+    let t = term_token e in
+    let spelled = element_spelled e h.0 in
+    let first = fresh t (no_mark (token_spelling t.kind) t e spelled) ∙ top_element forms [] [] (token_spelling t.kind) t e spelled ∙ ap (with_element top forms [] e) h.2 in
+    record {
+      to = in_state forms (top (e ∷ es) []);
+      reads =
+          ap (λ (ts : List Token). steps (Some s) (ts ++ items_tokens es)) (token_alone e)
+          ∙ one s (in_state forms (top (e ∷ []) h.1)) t (items_tokens es) _ first (elements_read top forms (top_holds_items forms) (e ∷ []) es h.1 [] h.3);
+      ready = run_ready forms e es rest none;
+    }
+
+then_forms : (s : State) (ts us : List Token) (before behind_it forms rest : List Form) → Reaches s ts before behind_it → ((m : State) → Ready m before behind_it → Reaches m us forms rest) → Reaches s (ts ++ us) forms rest
+then_forms s ts us before behind_it forms rest first later =
+    let then_read = later first.to first.ready in
+    record { to = then_read.to; reads = chain s first.to ts us _ first.reads then_read.reads; ready = then_read.ready }
+
+row_read : (s : State) (forms : List Form) (kind : FormKind) (opens : Place) (ps : List Part) (rest : List Form) → Ready s forms (Row kind opens ps ∷ rest) → FillAll (slots_of kind) ps → Reaches s (form_tokens (Row kind opens ps)) (forms ++ Row kind opens ps ∷ []) rest
+row_read s forms kind opens ps rest ready f =
+    let read = to_slot forms (begun kind opens) (slots_of kind) (parts_tokens ps) (forms ++ Row kind opens ps ∷ []) rest refl (parts_read forms (begun kind opens) (slots_of kind) ps rest refl (marks_last kind) f) in
+    record { to = read.to; reads = one s (go_on forms (begun kind opens)) (plain_token opens (head_of kind)) (parts_tokens ps) _ (ready.rows kind opens) read.reads; ready = read.ready }
+
+pub forms_read : (rest : List Form) (s : State) (forms : List Form) → Ready s forms rest → IsWellFormed rest → Reaches s (flatten rest) (forms ++ rest) []
+forms_read [] s forms ready fits = record { to = s; reads = refl; ready = subst (λ (fs : List Form). Ready s fs []) (sym (append-nil forms)) ready }
+forms_read (Row kind opens ps ∷ rest) s forms ready fits =
+    subst (λ (fs : List Form). Reaches s (flatten (Row kind opens ps ∷ rest)) fs []) (append_assoc forms (Row kind opens ps ∷ []) rest)
+    (then_forms s (form_tokens (Row kind opens ps)) (flatten rest) (forms ++ Row kind opens ps ∷ []) rest _ [] (row_read s forms kind opens ps rest ready fits.0) (λ m r. forms_read rest m (forms ++ Row kind opens ps ∷ []) r fits.2))
+forms_read (Items [] ∷ rest) s forms ready fits = absurd fits.0.0
+forms_read (Items (e ∷ es) ∷ []) s forms ready fits =
+    then_forms s (items_tokens (e ∷ es)) [] (forms ++ Items (e ∷ es) ∷ []) [] _ [] (run_read s forms e es [] (ready.runs tt) fits.0.1 (λ b. b)) (λ m r. record { to = m; reads = refl; ready = r })
+forms_read (Items (e ∷ es) ∷ Items xs ∷ rest) s forms ready fits = absurd fits.1
+forms_read (Items (e ∷ es) ∷ Row kind opens ps ∷ rest) s forms ready fits =
+    subst (λ (fs : List Form). Reaches s (flatten (Items (e ∷ es) ∷ Row kind opens ps ∷ rest)) fs []) (append_assoc forms (Items (e ∷ es) ∷ []) (Row kind opens ps ∷ rest))
+    (then_forms s (items_tokens (e ∷ es)) (flatten (Row kind opens ps ∷ rest)) (forms ++ Items (e ∷ es) ∷ []) (Row kind opens ps ∷ rest) _ [] (run_read s forms e es (Row kind opens ps ∷ rest) (ready.runs tt) fits.0.1 (λ b. b)) (λ m r. forms_read (Row kind opens ps ∷ rest) m (forms ++ Items (e ∷ es) ∷ []) r fits.2))
+
+-- a well-formed tree's tokens are read, to where they may end with that tree
+pub record TreeRead (ts : List Token) (forms : List Form) : Type 0 where
+  pub to : State
+  pub reads : steps (Some start) ts ≡ Some to
+  pub whole : ended to ≡ Some forms
+
+pub tree_read : (ts : List Token) (forms : List Form) → Reads ts forms → TreeRead ts forms
+tree_read ts forms r =
+    let read = forms_read forms start [] (start_ready forms) r.fits in
+    record { to = read.to; reads = ap (steps (Some start)) (sym r.spelled) ∙ read.reads; whole = read.ready.whole }

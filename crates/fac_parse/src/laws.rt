@@ -1,0 +1,28 @@
+//! Laws of the grammar, each on the contract of a function that does nothing.
+ghost use Rattle.fac_parse.specs.Spellings.{LiteralsAreIntegers};
+ghost use Rattle.fac_parse.specs.Trees.{OnePlace, OneTree, SomePlace, TreeOrNone};
+
+/// No two trees have the same tokens.
+pub fn one_tree()
+    ensures { OneTree }
+{}
+
+/// Tokens are those of a tree, or of none.
+pub fn tree_or_none()
+    ensures { TreeOrNone }
+{}
+
+/// Tokens of no tree are refused at one place, and for one reason.
+pub fn one_place()
+    ensures { OnePlace }
+{}
+
+/// Tokens of no tree are refused at some place.
+pub fn some_place()
+    ensures { SomePlace }
+{}
+
+/// A plain token is an integer exactly where the primitives on texts of numbers read its text as one, and has the same value.
+pub fn literals_are_integers()
+    ensures { LiteralsAreIntegers }
+{}
