@@ -1,7 +1,7 @@
 //! Scopes: what a file's names find.
 ghost use Rattle.std.specs.Prelude.{◌≡◌, ◌++◌, ◌∷◌, [], false, true, IfOk, OnOk, OnErr};
 ghost use Rattle.fac_vocab.specs.Scopes.{or_else, word_held, companion, latest, found, exists as vocab_exists, home as home_of, first_scope, entries_from, begun, entered, with_private, named, prefixed};
-ghost use Rattle.fac_vocab.specs.inner.Rows.{all_named, AllNamed};
+ghost use Rattle.fac_vocab.specs.inner.Rows.{all_named, AllNamed, numbers_named};
 ghost use Rattle.fac_vocab.specs.ScopeCalls.{names_differ, Finds, names_between, Stands, Defines, Defers, Uses, Qualifies, BringsOne, Brings};
 
 use crate::answers::{Found, ScopeFault, Standing};
@@ -198,13 +198,14 @@ impl Scope {
         self.table.word(vocab, name)
     }
 
-    // The word of a name that isn't left to the used vocabularies.
-    fn near(&self, name: &str) -> Option<u32>
+    // The word of a name that isn't left to the used vocabularies, where these are the numbers of the name.
+    fn near(&self, numbers: &[u32], name: &str) -> Option<u32>
+        requires { numbers.now ≡ numbers_named 0 name.now self.now.table }
         ensures { result ≡ or_else (word_held self.now.table self.now.current name.now) (or_else (word_held self.now.table (companion self.now.current) name.now) (latest self.now.table name.now self.now.brought)) }
     {
-        match self.table.word(self.current.as_str(), name) {
+        match self.table.word_among(numbers, self.current.as_str()) {
             Some(word) => Some(word),
-            None => match self.table.word(self.private_home.as_str(), name) {
+            None => match self.table.word_among(numbers, self.private_home.as_str()) {
                 Some(word) => Some(word),
                 None => self.brought.latest(&self.table, name),
             },
@@ -216,11 +217,12 @@ impl Scope {
     pub fn find(&self, name: &str) -> Found
         ensures { Finds self.now name.now result }
     {
-        match self.near(name) {
+        let numbers = self.table.numbers(name);
+        match self.near(numbers, name) {
             Some(word) => Found::Word(word),
             None => found_of(
                 self.table.entries(),
-                self.table.least_used(&self.used, name),
+                self.table.least_among(numbers, &self.used),
             ),
         }
     }
@@ -229,12 +231,13 @@ impl Scope {
     pub fn ambiguity(&self, alloc: Global, name: &str) -> Result<Option<(Name, Name)>, Memory>
         ensures { IfOk result (λ names. names ≡ names_between (found self.now name.now)) }
     {
-        match self.near(name) {
+        let numbers = self.table.numbers(name);
+        match self.near(numbers, name) {
             Some(_) => Ok(None),
             None => names_of(
                 alloc,
                 self.table.entries(),
-                self.table.least_used(&self.used, name),
+                self.table.least_among(numbers, &self.used),
             ),
         }
     }

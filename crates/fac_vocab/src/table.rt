@@ -1,5 +1,5 @@
 //! The table of all names.
-ghost use Rattle.std.specs.Prelude.{◌≡◌, ◌<◌, ◌^◌, ◌++◌, ◌∷◌, [], None, length, true, IfOk, OnOk, OnErr};
+ghost use Rattle.std.specs.Prelude.{◌≡◌, ◌<◌, ◌^◌, ◌++◌, ◌∷◌, [], List as Items, ℕ, None, length, true, IfOk, OnOk, OnErr};
 ghost use Rattle.fac_vocab.specs.Scopes.{held, word_held, holders};
 ghost use Rattle.fac_vocab.specs.ScopeCalls.{names_differ, standing_of};
 ghost use Rattle.fac_vocab.specs.inner.Rows.{numbers_named, LeastUsed, settled, defined_at};
@@ -93,19 +93,26 @@ impl Table {
         numbers_of(&self.index, name)
     }
 
+    /// The word that a vocabulary holds under a name that has these numbers.
+    pub fn word_among(&self, numbers: &[u32], vocab: &str) -> Option<u32>
+        ensures { (name : Items ℕ) → numbers.now ≡ numbers_named 0 name self.now → result ≡ word_held self.now vocab.now name }
+    {
+        word_in(self.entries(), numbers, vocab)
+    }
+
     /// The word that a vocabulary holds under a name.
     pub fn word(&self, vocab: &str, name: &str) -> Option<u32>
         ensures { result ≡ word_held self.now vocab.now name.now }
     {
-        word_in(self.entries(), self.numbers(name), vocab)
+        self.word_among(self.numbers(name), vocab)
     }
 
-    /// The first two that used vocabularies hold under a name.
-    pub fn least_used(&self, used: &TextSet, name: &str) -> Least
-        ensures { LeastUsed self.now name.now used.now result }
+    /// The first two that used vocabularies hold under a name that has these numbers.
+    pub fn least_among(&self, numbers: &[u32], used: &TextSet) -> Least
+        ensures { (name : Items ℕ) → numbers.now ≡ numbers_named 0 name self.now → LeastUsed self.now name used.now result }
     {
         used.differ();
-        least_used(self.entries(), self.numbers(name), used)
+        least_used(self.entries(), numbers, used)
     }
 
     /// How a full name stands.

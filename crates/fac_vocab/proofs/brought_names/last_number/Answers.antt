@@ -1,4 +1,4 @@
-use Rattle.std.proofs.Common.{◌≡◌, ◌∙◌, ap, sym, Bool, cond, Some, None}
+use Rattle.std.proofs.Common.{◌∙◌, ap, sym, Bool, cond, Some, None}
 use Rattle.fac_vocab.specs.Scopes.{or_else}
 use Rattle.fac_vocab.specs.inner.BroughtForms.{last_giving}
 use Rattle.fac_vocab.proofs.LatestLemmas.{giving_push}

@@ -1,4 +1,4 @@
-use Rattle.std.proofs.Common.{◌≡◌, sym, subst, refl, Bool, length}
+use Rattle.std.proofs.Common.{sym, subst, Bool}
 use Rattle.fac_vocab.specs.inner.Index.{numbers_in}
 use Rattle.fac_vocab.specs.inner.BroughtForms.{is_name, is_prefix, AreIndexed, IndexedWhere}
 use Rattle.fac_vocab.proofs.LatestLemmas.{where_after}

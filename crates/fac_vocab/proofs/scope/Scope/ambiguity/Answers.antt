@@ -10,5 +10,5 @@ returns-in-Some c = ap names_between (sym (found_near c.args.self.now c.args.nam
 
 pub returns-in-None : goal.returns-in-None
 returns-in-None c =
-    let is = found_used c.args.self.now c.args.name.now c.entries.result.now c.least_used.result c.in-None.ensures (c.entries.ensures.all ∙ ap (λ (s : Scope). s.table) c.self.view_is) (subst (λ (s : Scope). LeastUsed s.table c.args.name.now s.used c.least_used.result) c.self.view_is c.least_used.ensures) in
+    let is = found_used c.args.self.now c.args.name.now c.entries.result.now c.least_among.result c.in-None.ensures (c.entries.ensures.all ∙ ap (λ (s : Scope). s.table) c.self.view_is) (subst (λ (s : Scope). LeastUsed s.table c.args.name.now s.used c.least_among.result) c.self.view_is (c.least_among.ensures c.args.name.now c.numbers-numbers.ensures)) in
     subst (λ (f : Found). IfOk c.names_of.result (λ names. names ≡ names_between f)) (sym is) c.names_of.ensures
