@@ -1,0 +1,93 @@
+-- The forms of a file, in order.
+use Rattle.std.proofs.Common.{◌≡◌, ℕ, zero, suc, List, [], ◌∷◌, map, fold, drop, false, refl, ap, sym, ◌∙◌, subst}
+use Rattle.fac_lang.specs.declared.tree.Form.{Form as Flat}
+use Rattle.fac_lang.specs.declared.tree.Form.TheVariants.{Row, Items}
+use Rattle.fac_lang.specs.declared.tree.FormKind.{FormKind}
+use Rattle.fac_lang.specs.declared.tree.FormKind.TheVariants.{In, Use, Using, From, QualifiedWith, Defer, Symbol, Constant, Private, Public, Main, Define}
+use Rattle.fac_lang.specs.declared.tree.Part.{Part}
+use Rattle.fac_lang.specs.declared.tree.Tree.{Tree}
+use Rattle.fac_parse.specs.Trees.{AreWellFormed, IsForm, IsWellFormed, MayStandBefore, forms_of}
+use Rattle.fac_names.specs.Written.{Nodes, Form, f_items}
+use Rattle.fac_names.specs.Readings.{read_form, read_forms, with_items}
+use Rattle.fac_names.specs.Forms.{Reading, take, take_file}
+use Rattle.fac_names.specs.FromFlat.{form_of, nested, row}
+use Rattle.fac_names.specs.inner.Taking.{take_all}
+
+-- a form of a tree is well-formed
+pub form_at : (forms rest : List Flat) (f : Flat) (n : ℕ) → IsWellFormed forms → drop n forms ≡ f ∷ rest → IsForm f
+form_at [] rest f zero h e = cc
+form_at [] rest f (suc n) h e = cc
+form_at (g ∷ forms) rest f zero h e = let same : g ≡ f = cc in subst IsForm same h.0
+form_at (g ∷ forms) rest f (suc n) h e = form_at forms rest f n h.2 e
+
+-- what is left of a tree is well-formed
+pub rest_at : (forms : List Flat) (n : ℕ) → IsWellFormed forms → IsWellFormed (drop n forms)
+rest_at [] zero h = h
+rest_at [] (suc n) h = h
+rest_at (g ∷ forms) zero h = h
+rest_at (g ∷ forms) (suc n) h = rest_at forms n h.2
+
+-- Rows aren't items.
+
+row_read : (kind : FormKind) (ps : List Part) (fs : List Form) → read_forms (row kind ps ∷ fs) ≡ read_form (row kind ps) ∷ read_forms fs
+row_read In ps fs = refl
+row_read Use ps fs = refl
+row_read Using ps fs = refl
+row_read From ps fs = refl
+row_read QualifiedWith ps fs = refl
+row_read Defer ps fs = refl
+row_read Symbol ps fs = refl
+row_read Constant ps fs = refl
+row_read Private ps fs = refl
+row_read Public ps fs = refl
+row_read Main ps fs = refl
+row_read Define ps fs = refl
+
+-- items before a row
+row_behind : (ns : Nodes) (kind : FormKind) (ps : List Part) (fs : List Form) → with_items ns (read_form (row kind ps) ∷ fs) ≡ f_items ns ∷ read_form (row kind ps) ∷ fs
+row_behind ns In ps fs = refl
+row_behind ns Use ps fs = refl
+row_behind ns Using ps fs = refl
+row_behind ns From ps fs = refl
+row_behind ns QualifiedWith ps fs = refl
+row_behind ns Defer ps fs = refl
+row_behind ns Symbol ps fs = refl
+row_behind ns Constant ps fs = refl
+row_behind ns Private ps fs = refl
+row_behind ns Public ps fs = refl
+row_behind ns Main ps fs = refl
+row_behind ns Define ps fs = refl
+
+-- forms are read one by one
+read_one : (f : Flat) (forms : List Flat) → MayStandBefore f forms → read_forms (map form_of (f ∷ forms)) ≡ read_form (form_of f) ∷ read_forms (map form_of forms)
+read_one (Row kind opens parts) forms before = row_read kind parts (map form_of forms)
+read_one (Items es) [] before = refl
+read_one (Items es) (Items others ∷ forms) before = absurd before
+read_one (Items es) (Row kind opens parts ∷ forms) before =
+    ap (with_items (nested es)) (row_read kind parts (map form_of forms))
+    ∙ row_behind (nested es) kind parts (read_forms (map form_of forms))
+    ∙ sym (ap (λ (fs : List Form). f_items (nested es) ∷ fs) (row_read kind parts (map form_of forms)))
+
+pub take_one : (r : Reading) (f : Flat) (forms : List Flat) → IsWellFormed (f ∷ forms) → take_all r (map form_of (f ∷ forms)) ≡ take_all (take (read_form (form_of f)) r) (map form_of forms)
+take_one r f forms h = ap (fold (λ q form. take form q) r) (read_one f forms h.1)
+
+-- a form more is taken
+pub form_taken : (r q : Reading) (forms rest : List Flat) (f : Flat) (n : ℕ) → IsWellFormed forms → drop n forms ≡ f ∷ rest → q ≡ take (read_form (form_of f)) r → take_all r (map form_of (drop n forms)) ≡ take_all q (map form_of rest)
+form_taken r q forms rest f n h next is =
+    ap (λ (fs : List Flat). take_all r (map form_of fs)) next
+    ∙ take_one r f rest (subst IsWellFormed next (rest_at forms n h))
+    ∙ sym (ap (λ (x : Reading). take_all x (map form_of rest)) is)
+
+-- Files.
+
+pub tree_at : (trees rest : List Tree) (t : Tree) (n : ℕ) → AreWellFormed (forms_of trees) → drop n trees ≡ t ∷ rest → IsWellFormed t.forms
+tree_at [] rest t zero h e = cc
+tree_at [] rest t (suc n) h e = cc
+tree_at (g ∷ trees) rest t zero h e = let same : g ≡ t = cc in subst (λ (x : Tree). IsWellFormed x.forms) same h.0
+tree_at (g ∷ trees) rest t (suc n) h e = tree_at trees rest t n h.1 e
+
+pub tree_taken : (r q : Reading) (trees rest : List Tree) (t : Tree) (n : ℕ) → drop n trees ≡ t ∷ rest → q ≡ take_file false r (map form_of t.forms) →
+    fold (take_file false) r (map (map form_of) (forms_of (drop n trees))) ≡ fold (take_file false) q (map (map form_of) (forms_of rest))
+tree_taken r q trees rest t n next is =
+    ap (λ (ts : List Tree). fold (take_file false) r (map (map form_of) (forms_of ts))) next
+    ∙ sym (ap (λ (x : Reading). fold (take_file false) x (map (map form_of) (forms_of rest))) is)

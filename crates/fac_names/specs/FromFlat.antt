@@ -1,0 +1,133 @@
+-- Trees, which are flat and have all tokens, as they are read for their names.
+use Rattle.std.specs.Prelude.{ℕ, List, [], ◌∷◌, map, None, codes, Bool, true, false, if◌then◌else◌}
+use Rattle.std.specs.Str.{bytes_eq}
+use Rattle.fac_lang.specs.PrimitiveWords.{plain_inputs}
+use Rattle.fac_lang.specs.Signatures.{Signature, signature, no_inputs, Leaving, never, leaves}
+use Rattle.fac_lang.specs.Phrases.{int, yes, no, str}
+use Rattle.fac_lang.specs.declared.phrase.Place.{Place}
+use Rattle.fac_lang.specs.declared.token.Token.{Token}
+use Rattle.fac_lang.specs.declared.tree.Element.{Element}
+use Rattle.fac_lang.specs.declared.tree.Element.TheVariants as element
+use Rattle.fac_lang.specs.declared.tree.Form.{Form as Flat}
+use Rattle.fac_lang.specs.declared.tree.Form.TheVariants.{Row, Items}
+use Rattle.fac_lang.specs.declared.tree.FormKind.{FormKind}
+use Rattle.fac_lang.specs.declared.tree.FormKind.TheVariants.{In, Use, Using, From, QualifiedWith, Defer, Symbol, Constant, Private, Public, Main, Define}
+use Rattle.fac_lang.specs.declared.tree.Mark.{Mark}
+use Rattle.fac_lang.specs.declared.tree.Mark.TheVariants.{Inline, Recursive}
+use Rattle.fac_lang.specs.declared.tree.Part.{Part}
+use Rattle.fac_lang.specs.declared.tree.Part.TheVariants as part
+use Rattle.fac_lang.specs.declared.tree.Term.{Term}
+use Rattle.fac_lang.specs.declared.tree.Term.TheVariants as term
+use Rattle.fac_lang.specs.declared.tree.WrittenEffect.{WrittenEffect}
+use Rattle.fac_parse.specs.Trees.{token_text}
+use Rattle.fac_names.specs.Written.{Tok, Node, n_lit, n_name, n_quot, n_part, Nodes, nothing, more, given, Form, f_in, f_use, f_using, f_from, f_qualified, f_private, f_public, f_defer, f_symbol, f_constant, f_main, f_define, f_items}
+
+abbrev pub tok : Token → Tok
+tok t = record { text = token_text t.kind; place = t.place }
+
+abbrev pub node : Term → Node
+node (term.Name t) = n_name (tok t) t.place
+node (term.Integer t value) = n_lit (int value) t.place
+node (term.Text t) = n_lit (str (token_text t.kind)) t.place
+node (term.True place) = n_lit yes place
+node (term.False place) = n_lit no place
+
+-- What elements come to: the items up to the bracket that closes the phrase in which they stand, and those of the phrases around it, from the inside out.
+pub record Rests : Type 0 where
+  pub here : Nodes
+  pub around : List Nodes
+
+-- a quotation with these items before those around it; one that nothing closes reaches to the end
+abbrev pub opened : Place → Nodes → List Nodes → Rests
+opened place items [] = record { here = more (n_quot items place) nothing; around = [] }
+opened place items (ns ∷ nss) = record { here = more (n_quot items place) ns; around = nss }
+
+abbrev pub rests : List Element → Rests
+rests [] = record { here = nothing; around = [] }
+rests (element.Item t ∷ es) = let r = rests es in record r { here = more (node t) r.here }
+rests (element.Opens place ∷ es) = let r = rests es in opened place r.here r.around
+rests (element.Closes place ∷ es) = let r = rests es in record { here = nothing; around = r.here ∷ r.around }
+
+-- the items of elements whose brackets match
+abbrev pub nested : List Element → Nodes
+nested es = (rests es).here
+
+abbrev pub spellings : List Token → List (List ℕ)
+spellings ts = map (λ (t : Token). token_text t.kind) ts
+
+-- what is left: nothing where `*` is the only output, since the word never returns
+abbrev pub leaving_of : List (List ℕ) → Leaving
+leaving_of (n ∷ []) = (if bytes_eq n (codes "*") then never else leaves None (n ∷ []))
+leaving_of names = leaves None names
+
+-- the effect that is written
+abbrev pub effect_of : WrittenEffect → Signature
+effect_of e = signature None (plain_inputs (spellings e.ins)) (leaving_of (spellings e.outs))
+
+abbrev pub is_inline : List Mark → Bool
+is_inline [] = false
+is_inline (Inline place ∷ marks) = true
+is_inline (Recursive place ∷ marks) = is_inline marks
+
+abbrev pub is_recursive : List Mark → Bool
+is_recursive [] = false
+is_recursive (Inline place ∷ marks) = is_recursive marks
+is_recursive (Recursive place ∷ marks) = true
+
+-- the first of some items
+abbrev pub first_node : Nodes → Node
+first_node nothing = n_part nothing
+first_node (more n ns) = n
+
+-- What the parts of a row have.
+
+abbrev pub no_name : Tok
+no_name = record { text = []; place = record { file = 0; token = 0 } }
+
+abbrev pub first_name : List Part → Tok
+first_name (part.Name t ∷ parts) = tok t
+first_name _ = no_name
+
+abbrev pub second_name : List Part → Tok
+second_name [] = no_name
+second_name (p ∷ parts) = first_name parts
+
+abbrev pub names_in : List Part → List Tok
+names_in [] = []
+names_in (part.Names ts ends ∷ parts) = map tok ts
+names_in (p ∷ parts) = names_in parts
+
+abbrev pub effect_in : List Part → Signature
+effect_in [] = signature None no_inputs (leaves None [])
+effect_in (part.Effect e ∷ parts) = effect_of e
+effect_in (p ∷ parts) = effect_in parts
+
+abbrev pub elements_in : List Part → List Element
+elements_in [] = []
+elements_in (part.Items es ends ∷ parts) = es
+elements_in (part.Literal es ∷ parts) = es
+elements_in (p ∷ parts) = elements_in parts
+
+abbrev pub marks_in : List Part → List Mark
+marks_in [] = []
+marks_in (part.Marks marks ∷ parts) = marks
+marks_in (p ∷ parts) = marks_in parts
+
+-- a row, where its parts fill its slots
+abbrev pub row : FormKind → List Part → Form
+row In parts = f_in (first_name parts)
+row Use parts = f_use (first_name parts)
+row Using parts = f_using (names_in parts)
+row From parts = f_from (first_name parts) (names_in parts)
+row QualifiedWith parts = f_qualified (first_name parts) (second_name parts)
+row Defer parts = f_defer (first_name parts)
+row Symbol parts = f_symbol (first_name parts)
+row Constant parts = f_constant (first_name parts) (first_node (nested (elements_in parts)))
+row Private parts = f_private
+row Public parts = f_public
+row Main parts = f_main (first_name parts)
+row Define parts = f_define (first_name parts) (given (effect_in parts)) (nested (elements_in parts)) (is_inline (marks_in parts)) (is_recursive (marks_in parts))
+
+abbrev pub form_of : Flat → Form
+form_of (Row kind opens parts) = row kind parts
+form_of (Items es) = f_items (nested es)

@@ -1,0 +1,10 @@
+pub mod Written
+pub mod Readings
+pub mod Items
+pub mod Forms
+pub mod Resolved
+pub mod FromFlat
+pub mod KnownWords
+pub mod Resolution
+pub mod Laws
+pub mod inner

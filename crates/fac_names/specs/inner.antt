@@ -1,0 +1,9 @@
+pub mod First
+pub mod Search
+pub mod Following
+pub mod Drafts
+pub mod PlainEffects
+pub mod State
+pub mod Ending
+pub mod Taking
+pub mod Parts

@@ -1,0 +1,34 @@
+-- The parts of rows.
+use Rattle.std.specs.Prelude.{◌≡◌, List, [], ◌∷◌}
+use Rattle.fac_lang.specs.declared.phrase.Place.{Place}
+use Rattle.fac_lang.specs.declared.token.Token.{Token}
+use Rattle.fac_lang.specs.declared.tree.Element.{Element}
+use Rattle.fac_lang.specs.declared.tree.Key.{Key}
+use Rattle.fac_lang.specs.declared.tree.Mark.{Mark}
+use Rattle.fac_lang.specs.declared.tree.Part.{Part}
+use Rattle.fac_lang.specs.declared.tree.Part.TheVariants as part
+use Rattle.fac_lang.specs.declared.tree.WrittenEffect.{WrittenEffect}
+use Rattle.fac_parse.specs.Trees.{AreItems, IsLiteral}
+
+-- these names are the one part
+pub record IsNamesPart (parts : List Part) (names : List Token) : Type 0 where
+  pub ends : Place
+  pub are : parts ≡ part.Names names ends ∷ []
+
+-- the vocabulary and the names of a `FROM:`
+pub record AreBrought (parts : List Part) (vocab : Token) (names : List Token) : Type 0 where
+  pub key : Key
+  pub place : Place
+  pub ends : Place
+  pub are : parts ≡ part.Name vocab ∷ part.Fixed key place ∷ part.Names names ends ∷ []
+
+-- the name and the literal of a `CONSTANT:`
+pub record IsConstant (parts : List Part) (name : Token) (elements : List Element) : Type 0 where
+  pub are : parts ≡ part.Name name ∷ part.Literal elements ∷ []
+  pub literal : IsLiteral elements
+
+-- the parts of a definition
+pub record IsDefinition (parts : List Part) (name : Token) (effect : WrittenEffect) (elements : List Element) (marks : List Mark) : Type 0 where
+  pub ends : Place
+  pub are : parts ≡ part.Name name ∷ part.Effect effect ∷ part.Items elements ends ∷ part.Marks marks ∷ []
+  pub items : AreItems elements

@@ -1,0 +1,130 @@
+//! Forms and files, in order.
+ghost use Rattle.std.specs.Prelude.{◌≡◌, fold, map, false, OnOk};
+ghost use Rattle.fac_lang.specs.declared.tree.FormKind.TheVariants.{Constant, Define};
+ghost use Rattle.fac_parse.specs.Rows.{slots_of};
+ghost use Rattle.fac_parse.specs.Trees.{AreItems, AreWellFormed, FillAll, IsForm, IsLiteral, IsWellFormed, forms_of};
+ghost use Rattle.fac_names.specs.Forms.{take, take_file};
+ghost use Rattle.fac_names.specs.FromFlat.{effect_of, first_node, form_of, is_inline, is_recursive, nested, row, tok};
+ghost use Rattle.fac_names.specs.Readings.{read_form};
+ghost use Rattle.fac_names.specs.Written.{f_constant, f_define, given};
+ghost use Rattle.fac_names.specs.inner.State.{reading_of};
+ghost use Rattle.fac_names.specs.inner.Taking.{take_all};
+
+use crate::effects::{value_effect, written};
+use crate::forms::{
+    begin_file, close_private, define, enter, from, open_private, qualify, symbol, take_defer,
+    take_items, take_main, use_all, use_vocab,
+};
+use crate::parts::{
+    all_names, brought, constant_parts, definition_parts, marks_inline, marks_recursive, sole_name,
+    two_names,
+};
+use crate::so_far::SoFar;
+use fac_lang::{Form, FormKind, Memory, Part, Tree};
+use std::alloc::Global;
+
+// Takes the definition of a word.
+#[tactic(auto, using(crate::proofs::BracketLemmas::items_closing))]
+fn take_definition(alloc: Global, so_far: &mut SoFar, parts: &[Part]) -> Result<(), Memory>
+    requires { FillAll (slots_of Define) parts.now }
+    ensures { OnOk result (reading_of so_far.new ≡ take (row Define parts.now) (reading_of so_far.old)) }
+{
+    let definition = definition_parts(parts);
+    let effect = written(alloc, definition.effect)?;
+    define(
+        alloc,
+        so_far,
+        definition.name,
+        effect,
+        definition.elements,
+        marks_inline(definition.marks),
+        marks_recursive(definition.marks),
+    )
+}
+
+// Takes a `CONSTANT:`.
+#[tactic(auto, using(crate::proofs::BracketLemmas::literal_closing, crate::proofs::BracketLemmas::literal_sole))]
+fn take_constant(alloc: Global, so_far: &mut SoFar, parts: &[Part]) -> Result<(), Memory>
+    requires { FillAll (slots_of Constant) parts.now }
+    ensures { OnOk result (reading_of so_far.new ≡ take (read_form (row Constant parts.now)) (reading_of so_far.old)) }
+{
+    let (name, literal) = constant_parts(parts);
+    let effect = value_effect(alloc)?;
+    define(alloc, so_far, name, effect, literal, false, false)
+}
+
+// Takes a row.
+fn take_row(alloc: Global, so_far: &mut SoFar, kind: FormKind, parts: &[Part]) -> Result<(), Memory>
+    requires { FillAll (slots_of kind) parts.now }
+    ensures { OnOk result (reading_of so_far.new ≡ take (read_form (row kind parts.now)) (reading_of so_far.old)) }
+{
+    match kind {
+        FormKind::In => enter(alloc, so_far, sole_name(parts)),
+        FormKind::Use => use_vocab(alloc, so_far, sole_name(parts)),
+        FormKind::Using => use_all(alloc, so_far, all_names(parts)),
+        FormKind::From => {
+            let (vocab, names) = brought(parts);
+            from(alloc, so_far, vocab, names)
+        }
+        FormKind::QualifiedWith => {
+            let (vocab, prefix) = two_names(parts);
+            qualify(alloc, so_far, vocab, prefix)
+        }
+        FormKind::Defer => take_defer(alloc, so_far, sole_name(parts)),
+        FormKind::Symbol => symbol(alloc, so_far, sole_name(parts)),
+        FormKind::Constant => take_constant(alloc, so_far, parts),
+        FormKind::Private => {
+            open_private(so_far);
+            Ok(())
+        }
+        FormKind::Public => {
+            close_private(so_far);
+            Ok(())
+        }
+        FormKind::Main => take_main(alloc, so_far, sole_name(parts)),
+        FormKind::Define => take_definition(alloc, so_far, parts),
+    }
+}
+
+// Takes a form.
+#[tactic(auto, using(crate::proofs::BracketLemmas::items_closing))]
+fn take_form(alloc: Global, so_far: &mut SoFar, form: &Form) -> Result<(), Memory>
+    requires { IsForm form.now }
+    ensures { OnOk result (reading_of so_far.new ≡ take (read_form (form_of form.now)) (reading_of so_far.old)) }
+{
+    match form {
+        Form::Row { kind, parts, .. } => take_row(alloc, so_far, *kind, parts.as_slice()),
+        Form::Items(elements) => take_items(alloc, so_far, elements.as_slice()),
+    }
+}
+
+// Takes the forms of a file.
+fn take_forms(alloc: Global, so_far: &mut SoFar, forms: &[Form]) -> Result<(), Memory>
+    requires { IsWellFormed forms.now }
+    ensures { OnOk result (reading_of so_far.new ≡ take_all (reading_of so_far.old) (map form_of forms.now)) }
+{
+    for form in forms {
+        take_form(alloc, so_far, form)?;
+    }
+    Ok(())
+}
+
+// Takes a file.
+fn take_tree(alloc: Global, so_far: &mut SoFar, tree: &Tree) -> Result<(), Memory>
+    requires { IsWellFormed tree.now.forms }
+    ensures { OnOk result (reading_of so_far.new ≡ take_file false (reading_of so_far.old) (map form_of tree.now.forms)) }
+{
+    begin_file(alloc, so_far)?;
+    take_forms(alloc, so_far, tree.forms.as_slice())
+}
+
+/// Takes files, in order.
+pub fn take_trees(alloc: Global, so_far: &mut SoFar, trees: &[Tree]) -> Result<(), Memory>
+    requires { AreWellFormed (forms_of trees.now) }
+    ensures { OnOk result (reading_of so_far.new ≡ fold (take_file false) (reading_of so_far.old) (map (map form_of) (forms_of trees.now))) }
+{
+    for tree in trees {
+        take_tree(alloc, so_far, tree)?;
+    }
+    Ok(())
+}

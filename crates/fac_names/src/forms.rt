@@ -1,0 +1,242 @@
+//! What forms define and do.
+ghost use Rattle.std.specs.Prelude.{◌≡◌, ◌++◌, ◌∷◌, [], map, codes, true, false, fold, IfOk, OnOk};
+ghost use Rattle.fac_lang.specs.PhraseView.{items_phrase};
+ghost use Rattle.fac_lang.specs.declared.phrase.What.TheVariants.{Word};
+ghost use Rattle.fac_lang.specs.RunningLaws.{append};
+ghost use Rattle.fac_lang.specs.Whole.{plain_effect};
+ghost use Rattle.fac_vocab.specs.Scopes.{begun, exists};
+ghost use Rattle.fac_names.specs.FromFlat.{nested, tok};
+ghost use Rattle.fac_names.specs.Forms.{bring_one, scoped, take, use_one};
+ghost use Rattle.fac_names.specs.Written.{f_define, f_defer, f_from, f_in, f_items, f_main, f_private, f_public, f_qualified, f_symbol, f_use, f_using, given};
+ghost use Rattle.fac_names.specs.inner.Following.{AreClosing};
+ghost use Rattle.fac_names.specs.inner.State.{reading_of};
+
+use crate::drafts::tell;
+use crate::effects::value_effect;
+use crate::items::phrase_of;
+use crate::naming::{defer, own};
+use crate::refusal::NameKind;
+use crate::refusal_kept::refuse;
+use crate::search::word_of;
+use crate::so_far::SoFar;
+use crate::spelling::text;
+use fac_lang::{Effect, Element, Item, Memory, Place, Sort, Token, What};
+use fac_vocab::ScopeFault;
+use std::alloc::Global;
+
+/// A file begins.
+pub fn begin_file(alloc: Global, so_far: &mut SoFar) -> Result<(), Memory>
+    ensures { OnOk result (reading_of so_far.new ≡ scoped begun (reading_of so_far.old)) }
+{
+    so_far.scope.begin(alloc)?;
+    Ok(())
+}
+
+/// Takes an `IN:`.
+pub fn enter(alloc: Global, so_far: &mut SoFar, vocab: &Token) -> Result<(), Memory>
+    ensures { OnOk result (reading_of so_far.new ≡ take (f_in (tok vocab.now)) (reading_of so_far.old)) }
+{
+    so_far.scope.enter(alloc, text(&vocab.kind))?;
+    Ok(())
+}
+
+/// Takes a `<PRIVATE`.
+pub fn open_private(so_far: &mut SoFar)
+    ensures { reading_of so_far.new ≡ take f_private (reading_of so_far.old) }
+{
+    so_far.scope.private();
+}
+
+/// Takes a `PRIVATE>`.
+pub fn close_private(so_far: &mut SoFar)
+    ensures { reading_of so_far.new ≡ take f_public (reading_of so_far.old) }
+{
+    so_far.scope.public();
+}
+
+/// Takes a `USE:`, or one vocabulary of a `USING:`.
+pub fn use_vocab(alloc: Global, so_far: &mut SoFar, vocab: &Token) -> Result<(), Memory>
+    ensures { OnOk result (reading_of so_far.new ≡ use_one (reading_of so_far.old) (tok vocab.now)) }
+{
+    match so_far.scope.use_vocab(alloc, text(&vocab.kind)) {
+        Ok(()) => Ok(()),
+        Err(ScopeFault::NoVocab) => {
+            refuse(alloc, &mut so_far.first, NameKind::NoVocab, vocab)?;
+            Ok(())
+        }
+        Err(ScopeFault::Memory) => Err(Memory),
+        Err(ScopeFault::Twice) => unreachable!(),
+        Err(ScopeFault::Unknown) => unreachable!(),
+    }
+}
+
+/// Takes a `USING:`.
+pub fn use_all(alloc: Global, so_far: &mut SoFar, vocabs: &[Token]) -> Result<(), Memory>
+    ensures { OnOk result (reading_of so_far.new ≡ take (f_using (map tok vocabs.now)) (reading_of so_far.old)) }
+{
+    for vocab in vocabs {
+        use_vocab(alloc, so_far, vocab)?;
+    }
+    Ok(())
+}
+
+/// Takes a `QUALIFIED-WITH:`.
+pub fn qualify(
+    alloc: Global,
+    so_far: &mut SoFar,
+    vocab: &Token,
+    prefix: &Token,
+) -> Result<(), Memory>
+    ensures { OnOk result (reading_of so_far.new ≡ take (f_qualified (tok vocab.now) (tok prefix.now)) (reading_of so_far.old)) }
+{
+    match so_far
+        .scope
+        .qualified(alloc, text(&vocab.kind), text(&prefix.kind))
+    {
+        Ok(()) => Ok(()),
+        Err(ScopeFault::NoVocab) => {
+            refuse(alloc, &mut so_far.first, NameKind::NoVocab, vocab)?;
+            Ok(())
+        }
+        Err(ScopeFault::Memory) => Err(Memory),
+        Err(ScopeFault::Twice) => unreachable!(),
+        Err(ScopeFault::Unknown) => unreachable!(),
+    }
+}
+
+// Takes one name of a `FROM:`.
+fn bring(alloc: Global, so_far: &mut SoFar, vocab: &Token, name: &Token) -> Result<(), Memory>
+    ensures { OnOk result (reading_of so_far.new ≡ bring_one (tok vocab.now).text (reading_of so_far.old) (tok name.now)) }
+{
+    match so_far
+        .scope
+        .bring(alloc, text(&vocab.kind), text(&name.kind))
+    {
+        Ok(()) => Ok(()),
+        Err(ScopeFault::Unknown) => {
+            refuse(alloc, &mut so_far.first, NameKind::Unknown, name)?;
+            Ok(())
+        }
+        Err(ScopeFault::Memory) => Err(Memory),
+        Err(ScopeFault::Twice) => unreachable!(),
+        Err(ScopeFault::NoVocab) => unreachable!(),
+    }
+}
+
+// Takes the names of a `FROM:` whose vocabulary exists.
+fn bring_all(
+    alloc: Global,
+    so_far: &mut SoFar,
+    vocab: &Token,
+    names: &[Token],
+) -> Result<(), Memory>
+    ensures { OnOk result (reading_of so_far.new ≡ fold (bring_one (tok vocab.now).text) (reading_of so_far.old) (map tok names.now)) }
+{
+    for name in names {
+        bring(alloc, so_far, vocab, name)?;
+    }
+    Ok(())
+}
+
+/// Takes a `FROM:`.
+pub fn from(alloc: Global, so_far: &mut SoFar, vocab: &Token, names: &[Token]) -> Result<(), Memory>
+    ensures { OnOk result (reading_of so_far.new ≡ take (f_from (tok vocab.now) (map tok names.now)) (reading_of so_far.old)) }
+{
+    if so_far.scope.exists(text(&vocab.kind)) {
+        bring_all(alloc, so_far, vocab, names)
+    } else {
+        refuse(alloc, &mut so_far.first, NameKind::NoVocab, vocab)?;
+        Ok(())
+    }
+}
+
+/// Takes a `DEFER:`.
+pub fn take_defer(alloc: Global, so_far: &mut SoFar, name: &Token) -> Result<(), Memory>
+    ensures { OnOk result (reading_of so_far.new ≡ take (f_defer (tok name.now)) (reading_of so_far.old)) }
+{
+    defer(alloc, so_far, name)
+}
+
+/// Takes a `SYMBOL:`.
+pub fn symbol(alloc: Global, so_far: &mut SoFar, name: &Token) -> Result<(), Memory>
+    ensures { OnOk result (reading_of so_far.new ≡ take (f_symbol (tok name.now)) (reading_of so_far.old)) }
+{
+    let number = own(alloc, so_far, name)?;
+    let effect = value_effect(alloc)?;
+    tell(
+        &mut so_far.drafts,
+        number,
+        Sort::Itself,
+        effect,
+        false,
+        false,
+    );
+    Ok(())
+}
+
+// The one item that a `MAIN:` adds.
+fn sole_item(alloc: Global, number: u32, place: Place) -> Result<Vec<Item>, Memory>
+    ensures { IfOk result (λ items. items.items ≡ (record { what = Word number; place = place }) ∷ []) }
+{
+    let mut items = Vec::new(alloc);
+    items.push(Item {
+        what: What::Word(number),
+        place,
+    })?;
+    Ok(items)
+}
+
+/// Takes a `MAIN:`.
+pub fn take_main(alloc: Global, so_far: &mut SoFar, name: &Token) -> Result<(), Memory>
+    ensures { OnOk result (reading_of so_far.new ≡ take (f_main (tok name.now)) (reading_of so_far.old)) }
+{
+    let number = word_of(alloc, &so_far.scope, &mut so_far.first, name)?;
+    let main = sole_item(alloc, number, name.place)?;
+    so_far.main = main;
+    Ok(())
+}
+
+/// Takes the definition of a word with this effect.
+pub fn define(
+    alloc: Global,
+    so_far: &mut SoFar,
+    name: &Token,
+    effect: Effect,
+    elements: &[Element],
+    inline: bool,
+    recursive: bool,
+) -> Result<(), Memory>
+    requires { AreClosing 0 elements.now }
+    ensures { OnOk result (reading_of so_far.new ≡ take (f_define (tok name.now) (given effect) (nested elements.now) inline recursive) (reading_of so_far.old)) }
+{
+    let number = own(alloc, so_far, name)?;
+    let body = phrase_of(alloc, &so_far.scope, &mut so_far.first, elements)?;
+    tell(
+        &mut so_far.drafts,
+        number,
+        Sort::Body(body),
+        effect,
+        inline,
+        recursive,
+    );
+    Ok(())
+}
+
+/// Adds items behind others.
+#[tactic(auto, using(crate::proofs::ReadingLemmas::items_phrase_append))]
+pub fn add_items(items: &mut Vec<Item>, mut more: Vec<Item>) -> Result<(), Memory>
+    ensures { OnOk result (items_phrase items.new.items ≡ append (items_phrase items.old.items) (items_phrase more.items)) }
+{
+    items.append(&mut more)?;
+    Ok(())
+}
+
+/// Takes items at the top level.
+pub fn take_items(alloc: Global, so_far: &mut SoFar, elements: &[Element]) -> Result<(), Memory>
+    requires { AreClosing 0 elements.now }
+    ensures { OnOk result (reading_of so_far.new ≡ take (f_items (nested elements.now)) (reading_of so_far.old)) }
+{
+    let phrase = phrase_of(alloc, &so_far.scope, &mut so_far.first, elements)?;
+    add_items(&mut so_far.items, phrase.items)?;
+    Ok(())
+}

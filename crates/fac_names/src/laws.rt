@@ -1,0 +1,7 @@
+//! A law of names, on the contract of a function that does nothing.
+ghost use Rattle.fac_names.specs.Resolution.{ResolvedAreWhole};
+
+/// A program that names resolve to is whole.
+pub fn resolved_programs_are_whole()
+    ensures { ResolvedAreWhole }
+{}
