@@ -2,8 +2,8 @@
 use Rattle.std.specs.Prelude.{ℕ, List, ◌++◌, codes, decimal}
 use Rattle.fac_parse.specs.declared.reader.Why.{Why}
 use Rattle.fac_parse.specs.declared.reader.Why.TheVariants as why
-use Rattle.fac_parse.specs.declared.resolver.NameKind.{NameKind}
-use Rattle.fac_parse.specs.declared.resolver.NameKind.TheVariants as kind
+use Rattle.fac_names.specs.declared.refusal.NameKind.{NameKind}
+use Rattle.fac_names.specs.declared.refusal.NameKind.TheVariants as kind
 use Rattle.fac_abs.specs.declared.rule.Rule.{Rule}
 use Rattle.fac_abs.specs.declared.rule.Rule.TheVariants as rule
 use Rattle.fac_lang.specs.declared.error_name.ErrorName.{ErrorName}
@@ -23,8 +23,15 @@ why_text why.Other = codes "not expected"
 
 abbrev pub kind_text : NameKind → List ℕ
 kind_text kind.Unknown = codes "unknown"
+kind_text (kind.Ambiguous first second) = codes "ambiguous"
 kind_text kind.Twice = codes "twice"
 kind_text kind.NoVocab = codes "no-vocabulary"
+kind_text kind.NotClass = codes "not-a-class"
+kind_text kind.NotGeneric = codes "not-a-generic"
+kind_text kind.BadParent = codes "bad-parent"
+kind_text kind.Cycle = codes "cycle"
+kind_text kind.TooMany = codes "too-many"
+kind_text kind.Undefined = codes "undefined"
 
 -- numbers, each behind a text
 abbrev pub one_number : List ℕ → ℕ → List ℕ

@@ -2,7 +2,9 @@
 use Rattle.std.specs.Prelude.{◌<◌, ℕ, List, length, [], ◌++◌, None, Some, codes, decimal, slice_get}
 use Rattle.std.specs.declared.option.Option.{Option}
 use Rattle.fac_parse.specs.declared.reader.Why.{Why}
-use Rattle.fac_parse.specs.declared.resolver.NameFault.{NameFault}
+use Rattle.fac_names.specs.declared.refusal.NameFault.{NameFault}
+use Rattle.fac_names.specs.declared.refusal.NameKind.{NameKind}
+use Rattle.fac_names.specs.declared.refusal.NameKind.TheVariants.{Ambiguous}
 use Rattle.fac_check.specs.declared.refusal.Refusal.{Refusal}
 use Rattle.fac_lang.specs.declared.error_name.ErrorName.{ErrorName}
 use Rattle.fac_lang.specs.declared.program.Name.{Name}
@@ -34,8 +36,13 @@ bytes_line name at why = codes "syntax: " ++ name ++ codes " byte " ++ decimal a
 abbrev pub syntax_line : List ℕ → ℕ → Why → List ℕ
 syntax_line name at why = codes "syntax: " ++ place_text name at ++ why_text why ++ codes "\n"
 
+-- the two words that an ambiguous name may be
+abbrev pub words_text : NameKind → List ℕ
+words_text (Ambiguous first second) = codes ", " ++ name_text first ++ codes " and " ++ name_text second
+words_text _ = []
+
 abbrev pub name_line : List ℕ → NameFault → List ℕ
-name_line name fault = codes "name: " ++ place_text name fault.place.token ++ kind_text fault.kind ++ codes " " ++ fault.name ++ codes "\n"
+name_line name fault = codes "name: " ++ place_text name fault.place.token ++ kind_text fault.kind ++ codes " " ++ fault.name ++ words_text fault.kind ++ codes "\n"
 
 abbrev pub check_line : List ℕ → Refusal → List ℕ → List ℕ
 check_line name refusal word = codes "check: " ++ word ++ codes ", " ++ place_text name refusal.place.token ++ rule_text refusal.rule ++ codes "\n"

@@ -1,6 +1,6 @@
 //! The note of a report, a line.
 ghost use Rattle.std.specs.Prelude.{◌≡◌, ◌++◌, IfOk, OnOk};
-ghost use Rattle.fac_notes.specs.Notes.{line_of, file_name as name_of_file, place_text, value_text};
+ghost use Rattle.fac_notes.specs.Notes.{line_of, file_name as name_of_file, place_text, value_text, words_text};
 ghost use Rattle.fac_notes.specs.Notes.{bytes_line as bytes_line_of, syntax_line as syntax_line_of, name_line as name_line_of, check_line as check_line_of, error_line as error_line_of, too_long_line as too_long_line_of};
 
 use crate::rows::{byte_fault, error, name_kind, push_number, push_rule, why};
@@ -8,7 +8,8 @@ use crate::word_names::push_name;
 use crate::{ByteFault, Report};
 use fac_check::Refusal;
 use fac_lang::{ErrorName, List, Memory, Name, Text};
-use fac_parse::{NameFault, Why};
+use fac_names::{NameFault, NameKind};
+use fac_parse::Why;
 use std::alloc::Global;
 
 // The name of a file by its number; nothing where no file has it.
@@ -56,15 +57,31 @@ fn syntax_line(alloc: Global, name: &str, at: u32, reason: Why) -> Result<Text, 
     Ok(line)
 }
 
+// Adds the two words that an ambiguous name may be.
+fn push_words(line: &mut Text, kind: &NameKind) -> Result<(), Memory>
+    ensures { OnOk result (line.new ≡ line.old ++ words_text kind.now) }
+{
+    match kind {
+        NameKind::Ambiguous(first, second) => {
+            line.push_str(", ")?;
+            push_name(line, first)?;
+            line.push_str(" and ")?;
+            push_name(line, second)
+        }
+        _ => Ok(()),
+    }
+}
+
 // The line of a refused name.
 fn name_line(alloc: Global, name: &str, fault: &NameFault) -> Result<Text, Memory>
     ensures { IfOk result (λ line. line ≡ name_line_of name.now fault.now) }
 {
     let mut line = Text::from_str(alloc, "name: ")?;
     push_place(&mut line, name, fault.place.token)?;
-    line.push_str(name_kind(fault.kind))?;
+    line.push_str(name_kind(&fault.kind))?;
     line.push_str(" ")?;
     line.push_str(fault.name.as_str())?;
+    push_words(&mut line, &fault.kind)?;
     line.push_str("\n")?;
     Ok(line)
 }

@@ -3,7 +3,7 @@ use Rattle.std.proofs.Common.{◌≡◌, ℕ, List, Some, None, Result, Ok, Err,
 use Rattle.std.specs.Result.{IsErrAnd}
 use Rattle.fac_lang.specs.declared.program.Program.{Program}
 use Rattle.fac_lang.specs.declared.tree.Form.{Form}
-use Rattle.fac_parse.specs.Resolution.{resolved, ResolvedAreWhole}
+use Rattle.fac_names.specs.Resolution.{resolved, ResolvedAreWhole}
 use Rattle.fac_check.specs.Verdicts.{verdict}
 use Rattle.fac_check.specs.Promises.{AcceptedAreSafe}
 use Rattle.fac_io.specs.Told.{SinkTold, TookNothing-same}

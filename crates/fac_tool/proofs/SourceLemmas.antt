@@ -9,11 +9,11 @@ use Rattle.fac_token.specs.declared.fault.TokenFault.{TokenFault}
 use Rattle.fac_token.specs.declared.fault.TokenFault.TheVariants as token
 use Rattle.fac_token.specs.Tokens.{Tokenizes}
 use Rattle.fac_token.specs.ReadingLaws.{IsNotMemory, EveryFileAnswers, OneAnswer}
-use Rattle.fac_parse.specs.declared.reader.Why.TheVariants.{Other}
-use Rattle.fac_parse.specs.declared.resolver.NameFault.{NameFault}
-use Rattle.fac_parse.specs.Trees.{IsWellFormed, AreWellFormed, Reads, Misses, OneTree, TreeOrNone}
+use Rattle.fac_parse.specs.declared.reader.Why.TheVariants.{End, Other}
+use Rattle.fac_names.specs.declared.refusal.NameFault.{NameFault}
+use Rattle.fac_parse.specs.Trees.{IsWellFormed, AreWellFormed, Reads, Misses, OneTree, TreeOrNone, OnePlace, SomePlace}
 use Rattle.fac_parse.specs.declared.reader.Why.{Why}
-use Rattle.fac_parse.specs.Resolution.{resolved, ResolvedAreWhole}
+use Rattle.fac_names.specs.Resolution.{resolved, ResolvedAreWhole}
 use Rattle.fac_check.specs.Verdicts.{Refusal, verdict}
 use Rattle.fac_check.specs.Promises.{IsSafe, AcceptedAreSafe}
 use Rattle.fac_notes.specs.declared.report.ByteFault.{ByteFault}
@@ -25,45 +25,42 @@ use Rattle.fac_tool.specs.inner.StepEnds.{AreTrees}
 abbrev Comes : ℕ → List ℕ → Type 0
 Comes file text = (source : Source) × IsReadAs file text source
 
--- tokens that no tree has miss one at a place; they miss it at one place, and no tree has them
-missed : (tokens : List Token) → ((forms : List Form) → Reads tokens forms → ⊥) → (at : ℕ) × (why : Why) × Misses tokens at why
-missed tokens none = (0, Other, (refl, refl, none))
-
-missed_once : (tokens : List Token) (at at' : ℕ) (why why' : Why) → Misses tokens at why → Misses tokens at' why' → no_tree at why ≡ no_tree at' why'
-missed_once tokens at at' why why' p q = ap (λ (n : ℕ). no_tree n why) (p.0 ∙ sym q.0) ∙ ap (no_tree at') (p.1 ∙ sym q.1)
+missed_once : OnePlace → (tokens : List Token) (at at' : ℕ) (why why' : Why) → Misses tokens at why → Misses tokens at' why' → no_tree at why ≡ no_tree at' why'
+missed_once law tokens at at' why why' p q = let same = law tokens at at' why why' p q in ap (λ (n : ℕ). no_tree n why) same.0 ∙ ap (no_tree at') same.1
 
 has_no_tree : (tokens : List Token) (at : ℕ) (why : Why) → Misses tokens at why → (forms : List Form) → Reads tokens forms → ⊥
-has_no_tree tokens at why p = p.2
+has_no_tree tokens at End p = p.2.0.no_tree
+has_no_tree tokens at Other p = p.2.0.no_tree
 
 -- tokens are those of a tree, or of none
-parsed_by : (tokens : List Token) → ((forms : List Form) × Reads tokens forms) ⊎ ((forms : List Form) → Reads tokens forms → ⊥) → (source : Source) × IsParsedAs tokens source
-parsed_by tokens (inl read) = (tree read.0, read.1)
-parsed_by tokens (inr none) = let p = missed tokens none in (no_tree p.0 p.1, p.2)
+parsed_by : SomePlace → (tokens : List Token) → ((forms : List Form) × Reads tokens forms) ⊎ ((forms : List Form) → Reads tokens forms → ⊥) → (source : Source) × IsParsedAs tokens source
+parsed_by place tokens (inl read) = (tree read.0, read.1)
+parsed_by place tokens (inr none) = let p = place tokens none in (no_tree p.0 p.1, p.2)
 
-parsed : TreeOrNone → (tokens : List Token) → (source : Source) × IsParsedAs tokens source
-parsed law tokens = parsed_by tokens (law tokens)
+parsed : SomePlace → TreeOrNone → (tokens : List Token) → (source : Source) × IsParsedAs tokens source
+parsed place law tokens = parsed_by place tokens (law tokens)
 
 of_parse : (file : ℕ) (text : List ℕ) (tokens : List Token) (source : Source) → Tokenizes file text (Ok tokens) → IsParsedAs tokens source → Comes file text
 of_parse file text tokens (no_tokens at why) t h = absurd h
 of_parse file text tokens (no_tree at why) t h = (no_tree at why, (tokens, t, h))
 of_parse file text tokens (tree forms) t h = (tree forms, (tokens, t, h))
 
-of_tokens : TreeOrNone → (file : ℕ) (text : List ℕ) (r : Result (List Token) TokenFault) → IsNotMemory r → Tokenizes file text r → Comes file text
-of_tokens law file text (Ok tokens) n h = let p = parsed law tokens in of_parse file text tokens p.0 h p.1
-of_tokens law file text (Err (token.NotUtf8 at)) n h = (no_tokens at byte.NotUtf8, h)
-of_tokens law file text (Err (token.OpenString at)) n h = (no_tokens at byte.OpenString, h)
-of_tokens law file text (Err (token.BadEscape at)) n h = (no_tokens at byte.BadEscape, h)
-of_tokens law file text (Err (token.StuckQuote at)) n h = (no_tokens at byte.StuckQuote, h)
-of_tokens law file text (Err token.Memory) n h = absurd n
+of_tokens : SomePlace → TreeOrNone → (file : ℕ) (text : List ℕ) (r : Result (List Token) TokenFault) → IsNotMemory r → Tokenizes file text r → Comes file text
+of_tokens place law file text (Ok tokens) n h = let p = parsed place law tokens in of_parse file text tokens p.0 h p.1
+of_tokens place law file text (Err (token.NotUtf8 at)) n h = (no_tokens at byte.NotUtf8, h)
+of_tokens place law file text (Err (token.OpenString at)) n h = (no_tokens at byte.OpenString, h)
+of_tokens place law file text (Err (token.BadEscape at)) n h = (no_tokens at byte.BadEscape, h)
+of_tokens place law file text (Err (token.StuckQuote at)) n h = (no_tokens at byte.StuckQuote, h)
+of_tokens place law file text (Err token.Memory) n h = absurd n
 
-one_comes : EveryFileAnswers → TreeOrNone → (file : ℕ) (text : List ℕ) → Comes file text
-one_comes law one file text = let r = law file text in of_tokens one file text r.0 r.1 r.2
+one_comes : EveryFileAnswers → SomePlace → TreeOrNone → (file : ℕ) (text : List ℕ) → Comes file text
+one_comes law place one file text = let r = law file text in of_tokens place one file text r.0 r.1 r.2
 
-pub every_source : EveryFileAnswers → TreeOrNone → (file : ℕ) (texts : List (List ℕ)) → (sources : List Source) × AreReadAs file texts sources
-every_source law one file [] = ([], tt)
-every_source law one file (text ∷ texts) =
-    let first = one_comes law one file text in
-    let rest = every_source law one (file + 1) texts in
+pub every_source : EveryFileAnswers → SomePlace → TreeOrNone → (file : ℕ) (texts : List (List ℕ)) → (sources : List Source) × AreReadAs file texts sources
+every_source law place one file [] = ([], tt)
+every_source law place one file (text ∷ texts) =
+    let first = one_comes law place one file text in
+    let rest = every_source law place one (file + 1) texts in
     (first.0 ∷ rest.0, (first.1, rest.1))
 
 -- a fault of tokens comes back
@@ -101,39 +98,39 @@ has_tokens tokens = Ok tokens
 abbrev has_none : ℕ → ByteFault → Result (List Token) TokenFault
 has_none at why = Err (token_fault at why)
 
-one_text : OneAnswer → OneTree → (file : ℕ) (text : List ℕ) (one other : Source) → IsReadAs file text one → IsReadAs file text other → one ≡ other
-one_text answer tree_law file text (no_tokens at why) (no_tokens at' why') h k =
+one_text : OneAnswer → OnePlace → OneTree → (file : ℕ) (text : List ℕ) (one other : Source) → IsReadAs file text one → IsReadAs file text other → one ≡ other
+one_text answer place tree_law file text (no_tokens at why) (no_tokens at' why') h k =
     same_fault at at' why why' (has_none at why) (has_none at' why') refl refl (answer file text (has_none at why) (has_none at' why') (not_memory at why) (not_memory at' why') h k)
-one_text answer tree_law file text (no_tokens at why) (no_tree at' why') h k =
+one_text answer place tree_law file text (no_tokens at why) (no_tree at' why') h k =
     let same = answer file text (has_none at why) (has_tokens k.0) (not_memory at why) tt h k.1 in cc
-one_text answer tree_law file text (no_tokens at why) (tree forms) h k =
+one_text answer place tree_law file text (no_tokens at why) (tree forms) h k =
     let same = answer file text (has_none at why) (has_tokens k.0) (not_memory at why) tt h k.1 in cc
-one_text answer tree_law file text (no_tree at why) (no_tokens at' why') h k =
+one_text answer place tree_law file text (no_tree at why) (no_tokens at' why') h k =
     let same = answer file text (has_tokens h.0) (has_none at' why') tt (not_memory at' why') h.1 k in cc
-one_text answer tree_law file text (no_tree at why) (no_tree at' why') h k =
+one_text answer place tree_law file text (no_tree at why) (no_tree at' why') h k =
     let same : has_tokens h.0 ≡ has_tokens k.0 = answer file text (has_tokens h.0) (has_tokens k.0) tt tt h.1 k.1 in
-    let e : k.0 ≡ h.0 = cc in missed_once h.0 at at' why why' h.2 (subst (λ (ts : List Token). Misses ts at' why') e k.2)
-one_text answer tree_law file text (no_tree at why) (tree forms) h k =
+    let e : k.0 ≡ h.0 = cc in missed_once place h.0 at at' why why' h.2 (subst (λ (ts : List Token). Misses ts at' why') e k.2)
+one_text answer place tree_law file text (no_tree at why) (tree forms) h k =
     let same : has_tokens h.0 ≡ has_tokens k.0 = answer file text (has_tokens h.0) (has_tokens k.0) tt tt h.1 k.1 in
     let e : k.0 ≡ h.0 = cc in absurd (has_no_tree h.0 at why h.2 forms (subst (λ (ts : List Token). Reads ts forms) e k.2))
-one_text answer tree_law file text (tree forms) (no_tokens at why) h k =
+one_text answer place tree_law file text (tree forms) (no_tokens at why) h k =
     let same = answer file text (has_tokens h.0) (has_none at why) tt (not_memory at why) h.1 k in cc
-one_text answer tree_law file text (tree forms) (no_tree at why) h k =
+one_text answer place tree_law file text (tree forms) (no_tree at why) h k =
     let same : has_tokens h.0 ≡ has_tokens k.0 = answer file text (has_tokens h.0) (has_tokens k.0) tt tt h.1 k.1 in
     let e : h.0 ≡ k.0 = cc in absurd (has_no_tree k.0 at why k.2 forms (subst (λ (ts : List Token). Reads ts forms) e h.2))
-one_text answer tree_law file text (tree forms) (tree others) h k =
+one_text answer place tree_law file text (tree forms) (tree others) h k =
     let same : has_tokens h.0 ≡ has_tokens k.0 = answer file text (has_tokens h.0) (has_tokens k.0) tt tt h.1 k.1 in
     let e : h.0 ≡ k.0 = cc in ap tree (tree_law forms others h.2.fits k.2.fits (h.2.spelled ∙ e ∙ sym k.2.spelled))
 
-pub one_source : OneAnswer → OneTree → (file : ℕ) (texts : List (List ℕ)) (one other : List Source) → AreReadAs file texts one → AreReadAs file texts other → one ≡ other
-one_source answer law file [] [] [] h k = refl
-one_source answer law file [] [] (b ∷ bs) h k = absurd k
-one_source answer law file [] (a ∷ as') other h k = absurd h
-one_source answer law file (text ∷ texts) [] other h k = absurd h
-one_source answer law file (text ∷ texts) (a ∷ as') [] h k = absurd k
-one_source answer law file (text ∷ texts) (a ∷ as') (b ∷ bs) h k =
-    let first : a ≡ b = one_text answer law file text a b h.0 k.0 in
-    let rest : as' ≡ bs = one_source answer law (file + 1) texts as' bs h.1 k.1 in
+pub one_source : OneAnswer → OnePlace → OneTree → (file : ℕ) (texts : List (List ℕ)) (one other : List Source) → AreReadAs file texts one → AreReadAs file texts other → one ≡ other
+one_source answer place law file [] [] [] h k = refl
+one_source answer place law file [] [] (b ∷ bs) h k = absurd k
+one_source answer place law file [] (a ∷ as') other h k = absurd h
+one_source answer place law file (text ∷ texts) [] other h k = absurd h
+one_source answer place law file (text ∷ texts) (a ∷ as') [] h k = absurd k
+one_source answer place law file (text ∷ texts) (a ∷ as') (b ∷ bs) h k =
+    let first : a ≡ b = one_text answer place law file text a b h.0 k.0 in
+    let rest : as' ≡ bs = one_source answer place law (file + 1) texts as' bs h.1 k.1 in
     cc
 
 verdict_safe : AcceptedAreSafe → (P : Program) (v : Option (ℕ × Refusal)) → IsWhole P → verdict P 0 ≡ v → IfSome (if_accepted P v) (λ Q. IsSafe Q 0)

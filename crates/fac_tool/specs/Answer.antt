@@ -7,14 +7,16 @@ use Rattle.fac_lang.specs.declared.limits.TheConstants.{MOST_SOURCE_BYTES, MOST_
 use Rattle.fac_lang.specs.declared.program.Program.{Program}
 use Rattle.fac_lang.specs.declared.tree.Form.{Form}
 use Rattle.fac_lang.specs.declared.tree.Form.TheVariants as form
+use Rattle.fac_lang.specs.declared.tree.FormKind.{FormKind}
+use Rattle.fac_lang.specs.declared.tree.FormKind.TheVariants.{Constant, Define}
 use Rattle.fac_lang.specs.Phrases.{Value}
 use Rattle.fac_lang.specs.World.{World, Error}
 use Rattle.fac_lang.specs.Printed.{printed}
 use Rattle.fac_lang.specs.Eval.{Result as Run, Done, Failed, Spent, Stuck}
 use Rattle.fac_lang.specs.Meaning.{meaning_values, names, run, start, word_phrase}
 use Rattle.fac_parse.specs.declared.reader.Why.{Why}
-use Rattle.fac_parse.specs.declared.resolver.NameFault.{NameFault}
-use Rattle.fac_parse.specs.Resolution.{resolved}
+use Rattle.fac_names.specs.declared.refusal.NameFault.{NameFault}
+use Rattle.fac_names.specs.Resolution.{resolved}
 use Rattle.fac_check.specs.CallableEffects.{callable_height, fits}
 use Rattle.fac_check.specs.Verdicts.{Refusal, verdict}
 use Rattle.fac_notes.specs.declared.report.ByteFault.{ByteFault}
@@ -91,12 +93,16 @@ of_run P budget Stuck = record { status = 7; ticks = 0; stack = None; refusal = 
 abbrev pub run_answer : Program → ℕ → Answer
 run_answer P budget = of_run P budget (meaning P budget)
 
+-- whether a row defines a word that has a phrase
+abbrev pub gives_phrase : FormKind → Bool
+gives_phrase Constant = true
+gives_phrase Define = true
+gives_phrase _ = false
+
 -- whether a form defines a word that has a phrase
 abbrev pub is_definition : Form → Bool
-is_definition (form.Using opens vocabs closes) = false
-is_definition (form.Define opens name effect items closes mark) = true
-is_definition (form.Item item) = false
-is_definition (form.Quotation opens items closes) = false
+is_definition (form.Row kind opens parts) = gives_phrase kind
+is_definition (form.Items elements) = false
 
 -- how many definitions files have
 abbrev pub definitions_in : List (List Form) → ℕ

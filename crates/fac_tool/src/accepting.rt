@@ -5,7 +5,7 @@ ghost use Rattle.fac_lang.specs.Forms.{IsBuilt};
 ghost use Rattle.fac_lang.specs.Whole.{IsWhole};
 ghost use Rattle.fac_check.specs.Judged.{OfEach, StandsForBuilt, refusal_if, refusal_seen};
 ghost use Rattle.fac_check.specs.Verdicts.{verdict};
-ghost use Rattle.fac_parse.specs.Resolution.{resolved};
+ghost use Rattle.fac_names.specs.Resolution.{resolved};
 ghost use Rattle.fac_parse.specs.Trees.{AreWellFormed, forms_of};
 ghost use Rattle.fac_tool.specs.declared.command.Command.{Command as CommandSeen};
 ghost use Rattle.fac_tool.specs.Answer.{definitions_in, on_resolved, on_verdict};
@@ -20,7 +20,7 @@ use fac_check::{Checked, Refusal, accept, check_words, first_refusal_is_verdict,
 use fac_lang::{Bytes, List, Program, Tree};
 use fac_locals::{Closed, close};
 use fac_notes::word_name;
-use fac_parse::{ResolveFault, resolve};
+use fac_names::{ResolveFault, resolve};
 use std::alloc::Global;
 
 // The number of values that the top-level phrase starts from.

@@ -3,25 +3,43 @@ ghost use Rattle.std.specs.Prelude.{◌≡◌, ◌≤◌, length, IfOk};
 ghost use Rattle.std.specs.List.{count_by};
 ghost use Rattle.fac_io.specs.Faults.{HasCause};
 ghost use Rattle.fac_parse.specs.Trees.{forms_of};
-ghost use Rattle.fac_tool.specs.Answer.{checked_answer, checked_line as line_of_checked, definitions_in, is_definition as is_defined};
+ghost use Rattle.fac_tool.specs.Answer.{checked_answer, checked_line as line_of_checked, definitions_in, gives_phrase, is_definition as is_defined};
 ghost use Rattle.fac_tool.specs.Ends.{EndsAs, idle};
 ghost use Rattle.fac_tool.specs.SeenObjects.{sink_seen};
 
 use crate::Ended;
 use crate::ended::bare;
 use fac_io::Sink;
-use fac_lang::{Form, List, Memory, Text, Tree};
+use fac_lang::{Form, FormKind, List, Memory, Text, Tree};
 use std::alloc::Global;
+
+// Whether a row defines a word that has a phrase.
+fn has_phrase(kind: FormKind) -> bool
+    ensures { result ≡ gives_phrase kind }
+{
+    match kind {
+        FormKind::In => false,
+        FormKind::Use => false,
+        FormKind::Using => false,
+        FormKind::From => false,
+        FormKind::QualifiedWith => false,
+        FormKind::Defer => false,
+        FormKind::Symbol => false,
+        FormKind::Constant => true,
+        FormKind::Private => false,
+        FormKind::Public => false,
+        FormKind::Main => false,
+        FormKind::Define => true,
+    }
+}
 
 // Whether a form defines a word that has a phrase.
 fn is_definition(form: &Form) -> bool
     ensures { result ≡ is_defined form.now }
 {
     match form {
-        Form::Using { .. } => false,
-        Form::Define { .. } => true,
-        Form::Item(_) => false,
-        Form::Quotation { .. } => false,
+        Form::Row { kind, .. } => has_phrase(*kind),
+        Form::Items(_) => false,
     }
 }
 

@@ -1,7 +1,7 @@
 //! Laws of what files come to, each on the contract of a function that does nothing but call on laws below.
 ghost use Rattle.fac_tool.specs.Sources.{OneSource, EverySource};
 
-use fac_parse::{one_tree, tree_or_none};
+use fac_parse::{one_place, one_tree, some_place, tree_or_none};
 use fac_token::{every_file_has_an_answer, one_answer};
 
 /// No texts come to two things. So what a command answers on files is a function of their bytes.
@@ -10,6 +10,7 @@ pub fn one_source()
 {
     one_answer();
     one_tree();
+    one_place();
 }
 
 /// Each text comes to something: a fault of its tokens, a refusal of its grammar, or a tree; and so do several.
@@ -18,4 +19,5 @@ pub fn every_text_is_a_source()
 {
     every_file_has_an_answer();
     tree_or_none();
+    some_place();
 }

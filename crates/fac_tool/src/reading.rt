@@ -44,7 +44,7 @@ fn read_tree(alloc: Global, file: u32, text: &[u8]) -> Result<Tree, Ended>
     every_text_is_a_source();
     match tokens(alloc, file, text) {
         Err(fault) => Err(no_tokens(file, fault)),
-        Ok(tokens) => match parse(alloc, &tokens) {
+        Ok(tokens) => match parse(alloc, tokens) {
             Err(ParseFault::Memory) => Err(bare(12, 0)),
             Err(ParseFault::Syntax { at, why }) => Err(no_tree(file, at, why)),
             Ok(tree) => Ok(tree),

@@ -15,7 +15,7 @@ use crate::program_run::run_program;
 use crate::{Command, Ended};
 use fac_check::accepted_programs_are_safe;
 use fac_io::{Files, Sink};
-use fac_parse::resolved_programs_are_whole;
+use fac_names::resolved_programs_are_whole;
 use std::alloc::Global;
 
 // Does what the command asks for with an accepted program.

@@ -5,7 +5,7 @@ use Rattle.fac_lang.specs.declared.program.Program.{Program}
 use Rattle.fac_lang.specs.declared.tree.Form.{Form}
 use Rattle.fac_lang.specs.declared.tree.Tree.{Tree}
 use Rattle.fac_parse.specs.Trees.{forms_of}
-use Rattle.fac_parse.specs.Resolution.{resolved}
+use Rattle.fac_names.specs.Resolution.{resolved}
 use Rattle.fac_check.specs.declared.accepted.Checked.{Checked}
 use Rattle.fac_check.specs.Verdicts.{verdict}
 use Rattle.fac_token.specs.declared.fault.TokenFault.{TokenFault}

@@ -1,4 +1,4 @@
-use Rattle.fac_parse.specs.Resolution.{resolved}
+use Rattle.fac_names.specs.Resolution.{resolved}
 use Rattle.fac_parse.specs.Trees.{forms_of}
 use Rattle.fac_tool.specs.Answer.{definitions_in, on_resolved}
 use Rattle.fac_tool.proofs.EarlyEnds.{no_memory}
