@@ -17,3 +17,4 @@ pub mod BuiltForms
 pub mod WholePrograms
 pub mod BuiltPrograms
 pub mod ExamplesOfNames
+pub mod SignLemmas

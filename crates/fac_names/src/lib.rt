@@ -18,6 +18,6 @@ mod search;
 mod so_far;
 mod spelling;
 
-pub use laws::resolved_programs_are_whole;
+pub use laws::{phrases_are_written_as_items, resolved_programs_are_whole};
 pub use refusal::{NameFault, NameKind, ResolveFault};
 pub use resolver::resolve;
