@@ -57,6 +57,7 @@ written_rows xs (Some ys) = written_inputs xs
 pub data BuiltAs (P : Program) (w : ℕ) (d : WordDef) : Type 0 where
   as_primitive : (k : ℕ) → d.sort ≡ prim k → is_built_primitive k ≡ true → d.inline ≡ false → has_rows d.effect ≡ false → BuiltAs P w d
   as_core : (k : ℕ) → d.sort ≡ core k → is_built_core k ≡ true → d.inline ≡ false → has_rows d.effect ≡ false → BuiltAs P w d
+  as_symbol : d.sort ≡ itself → d.inline ≡ false → has_rows d.effect ≡ false → BuiltAs P w d
   as_defined : (t : _) → d.sort ≡ body t → (d.inline && d.recursive) ≡ false → has_rows d.effect ≡ false → BuiltAs P w d
 
 built_so : (P : Program) (w : ℕ) (bound : ℕ) (d : WordDef) (s : Sort) → d.sort ≡ s → IsBuiltSort bound d s → BuiltAs P w d
@@ -64,7 +65,7 @@ built_so P w bound d (prim k) e h = as_primitive k e h.is_built h.not_inline (su
 built_so P w bound d (core k) e h = as_core k e h.is_built h.not_inline (subst (λ x. has_rows x ≡ false) (sym h.effect_is) (written_rows h.row.ins h.row.outs))
 built_so P w bound d (body t) e h = as_defined t e h.no_row_word (plain_effect_rows d.effect h.plain)
 built_so P w bound d (past t) e h = absurd h
-built_so P w bound d itself e h = absurd h
+built_so P w bound d itself e h = as_symbol e h.not_inline (subst (λ x. has_rows x ≡ false) (sym h.effect_is) refl)
 built_so P w bound d (class c) e h = absurd h
 built_so P w bound d (isa c) e h = absurd h
 built_so P w bound d (getter s) e h = absurd h
@@ -76,7 +77,7 @@ built_so P w bound d (method c g t) e h = absurd h
 top_so : (P : Program) (w bound : ℕ) (d : WordDef) (t : _) → IsTopPhrase bound d t → BuiltAs P w d
 top_so P w bound d t h = as_defined t h.sort_is (rw h.not_inline refl) (subst (λ x. has_rows x ≡ false) (sym h.effect_is) refl)
 
--- each word of a built program is a primitive, a core word or is defined by a phrase
+-- each word of a built program is a primitive, a core word, is defined by a phrase or pushes itself
 pub built_as : (P : Program) → IsBuilt P → (w : ℕ) (d : WordDef) → slice_get P.words w ≡ Some d → BuiltAs P w d
 built_as P b w d e = which (at_or_last b.words b.last_word w d (subst (λ ws. slice_get ws w ≡ Some d) b.words_are e))
   where
@@ -99,6 +100,7 @@ built_primitive_word P b w d e k s = which (at_or_last b.words b.last_word w d (
 pub built_rows : (P : Program) (w : ℕ) (d : WordDef) → BuiltAs P w d → has_rows d.effect ≡ false
 built_rows P w d (as_primitive k s b i r) = r
 built_rows P w d (as_core k s b i r) = r
+built_rows P w d (as_symbol s i r) = r
 built_rows P w d (as_defined t s i r) = r
 
 and_false : (a b : Bool) → b ≡ false → (a && b) ≡ false
@@ -127,12 +129,14 @@ no_bad_rows P w d b = bad_rows_by P w d d.sort refl (built_rows P w d b)
 pub no_bad_generic : (P : Program) (w : ℕ) (d : WordDef) → BuiltAs P w d → bad_generic P d.sort d.effect ≡ false
 no_bad_generic P w d (as_primitive k s b i r) = rw s refl
 no_bad_generic P w d (as_core k s b i r) = rw s refl
+no_bad_generic P w d (as_symbol s i r) = rw s refl
 no_bad_generic P w d (as_defined t s i r) = rw s refl
 
 -- an inline word is no row word
 pub no_row_word : (P : Program) (w : ℕ) (d : WordDef) → BuiltAs P w d → d.inline ≡ true → is_row d.recursive d.effect ≡ false
 no_row_word P w d (as_primitive k s b i r) e = absurd (cc)
 no_row_word P w d (as_core k s b i r) e = absurd (cc)
+no_row_word P w d (as_symbol s i r) e = absurd (cc)
 no_row_word P w d (as_defined t s i r) e = row_free d.inline d.recursive (has_rows d.effect) e i r
   where
     row_free : (a b c : Bool) → a ≡ true → (a && b) ≡ false → c ≡ false → (b || c) ≡ false

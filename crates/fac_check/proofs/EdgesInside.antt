@@ -48,7 +48,9 @@ module _ (P : Program) (n : ℕ) (high : P.top ≤ n) where
     item_inside (lit no) h = refl
     item_inside (lit (str bs)) h = refl
     item_inside (lit (iota k)) h = absurd h
-    item_inside (lit (wrd w)) h = absurd h
+    item_inside (lit (wrd w)) h =
+        let low = is_below w P.top h in
+        subst (λ (vs : List ℕ). are_below n vs ≡ true) (inline_same P w (slice_get P.words w)) (word_inside w (slice_get P.words w) (omega (arith, low, high)))
     item_inside (lit (arr a)) h = absurd h
     item_inside (lit (tup a)) h = absurd h
     item_inside (lit_arr a) h = absurd h

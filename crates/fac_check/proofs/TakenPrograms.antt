@@ -54,7 +54,7 @@ module _ (P : Program) (bound count : ℕ) (numbered : (at : Literal) (t : Phras
   taken_item at (lit no) j l c h = rw c refl
   taken_item at (lit (str bs)) j l c h = rw c refl
   taken_item at (lit (iota n)) j l c h = absurd h
-  taken_item at (lit (wrd w)) j l c h = absurd h
+  taken_item at (lit (wrd w)) j l c h = rw c h
   taken_item at (lit (arr a)) j l c h = absurd h
   taken_item at (lit (tup a)) j l c h = absurd h
   taken_item at (quot t) j l c h = rw c.1 (numbered at t c.0 l c.2)
@@ -82,7 +82,7 @@ module _ (P : Program) (bound count : ℕ) (numbered : (at : Literal) (t : Phras
   taken_sort w d (core k) o l c h = rw c h.is_built
   taken_sort w d (body t) o l c h = rw c.1 (taken_phrase (first_of_word w) t c.0 l c.2 h.phrase_built)
   taken_sort w d (past t) o l c h = absurd h
-  taken_sort w d itself o l c h = absurd h
+  taken_sort w d itself o l c h = rw c refl
   taken_sort w d (class k) o l c h = absurd h
   taken_sort w d (isa k) o l c h = absurd h
   taken_sort w d (getter s) o l c h = absurd h
@@ -170,7 +170,10 @@ module _ (C : Program) (templates : List Template) (taken : takes_all C template
       let same : v ≡ w = cc in
       let low = is_below v C.top h in
       omega (arith, same, low, top_below)
-  named_below (lit (wrd v)) w h e = absurd cc
+  named_below (lit (wrd v)) w h e =
+      let same : v ≡ w = cc in
+      let low = is_below v C.top h in
+      omega (arith, same, low, top_below)
   named_below (lit (int z)) w h e = absurd cc
   named_below (lit yes) w h e = absurd cc
   named_below (lit no) w h e = absurd cc

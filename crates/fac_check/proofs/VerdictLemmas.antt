@@ -25,7 +25,7 @@ use Rattle.fac_check.specs.Verdicts.{Refusal, end_of, kept_word, ordinary_verdic
 use Rattle.fac_check.specs.inner.Walking.{Opened, walked_seen, go_at}
 use Rattle.fac_check.specs.Judged.{breach_seen}
 use Rattle.fac_check.proofs.BuiltMarks.{built_unmarked}
-use Rattle.fac_check.proofs.BuiltWords.{BuiltAs, as_primitive, as_core, as_defined, built_as, no_bad_rows, no_bad_generic, no_row_word}
+use Rattle.fac_check.proofs.BuiltWords.{BuiltAs, as_primitive, as_core, as_symbol, as_defined, built_as, no_bad_rows, no_bad_generic, no_row_word}
 
 -- A row for each number. The phrases of built programs are walked on none.
 abbrev pub numbered_row : ℕ → Row
@@ -110,4 +110,5 @@ module _ (P : Program) (built : IsBuilt P) (w : ℕ) (d : WordDef) (at : slice_g
       by_sort : BuiltAs P w d → None ≡ sort_verdict P start w d d.sort
       by_sort (as_primitive k s b i r) = ap (λ q. sort_verdict P start w d q) (sym s)
       by_sort (as_core k s b i r) = ap (λ q. sort_verdict P start w d q) (sym s)
+      by_sort (as_symbol s i r) = ap (λ q. sort_verdict P start w d q) (sym s)
       by_sort (as_defined t s i r) = (let found = subst (λ q. ClosesSort P w q c.sort) s closes.sort in absurd (none found.0 found.1))

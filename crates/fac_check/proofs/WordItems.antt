@@ -1,26 +1,26 @@
 -- What the items of a built program's words do in the checker's walk.
-use Rattle.std.proofs.Common.{◌≡◌, ◌≢◌, ℕ, List, length, Bool, true, false, Option, Some, None, refl, sym, ap, subst, ◌∙◌, Result, Ok, Err}
+use Rattle.std.proofs.Common.{◌≡◌, ◌≢◌, ℕ, List, ◌∷◌, length, Bool, true, false, Option, Some, None, refl, sym, ap, subst, ◌∙◌, Result, Ok, Err}
 use Rattle.std.specs.Prelude.{nat_eq, not, slice_get, IfOk, if◌then◌else◌}
 use Rattle.std.proofs.lemmas.Bool.{eq-eqb, ne_eqb}
 use Rattle.fac_lang.specs.declared.phrase.Height.{Height}
 use Rattle.fac_lang.specs.declared.program.Program.{Program}
 use Rattle.fac_lang.specs.declared.program.WordDef.{WordDef}
 use Rattle.fac_lang.specs.declared.program.Sort.{Sort}
-use Rattle.fac_lang.specs.declared.program.Sort.TheVariants.{Prim as prim, Core as core, Body as body}
-use Rattle.fac_lang.specs.Phrases.{Phrase, Mark}
+use Rattle.fac_lang.specs.declared.program.Sort.TheVariants.{Prim as prim, Core as core, Body as body, Itself as itself}
+use Rattle.fac_lang.specs.Phrases.{Phrase, Mark, wrd_mark}
 use Rattle.fac_lang.specs.Effects.{effect_height}
 use Rattle.fac_lang.specs.PrimitiveWords.{outputs_of, written_effect}
 use Rattle.fac_lang.specs.Primitives.{Primitive, prim_numbered}
 use Rattle.fac_lang.specs.Meaning.{core_numbered, c_call, c_dip, c_if}
 use Rattle.fac_locals.specs.Literals.{first_of_word}
 use Rattle.fac_locals.specs.Closed.{ClosesWord, ClosesSort, ClosesPhrase}
-use Rattle.fac_abs.specs.Marks.{Row}
+use Rattle.fac_abs.specs.Marks.{Row, on}
 use Rattle.fac_abs.specs.declared.rule.Rule.TheVariants.{NotKnown}
 use Rattle.fac_check.specs.Rows.{is_row}
-use Rattle.fac_check.specs.Flow.{Doing, breaks, expands, by_height, callable_or, prim_doing, core_doing, sort_doing, inline_doing, row_or_phrase}
+use Rattle.fac_check.specs.Flow.{Doing, breaks, gives, expands, by_height, callable_or, prim_doing, core_doing, sort_doing, inline_doing, row_or_phrase}
 use Rattle.fac_check.specs.inner.Walking.{body_phrase, phrase_of, sort_phrase}
 use Rattle.fac_check.proofs.PrimitivesKeep.{written_height}
-use Rattle.fac_check.proofs.BuiltWords.{BuiltAs, as_primitive, as_core, as_defined, no_row_word}
+use Rattle.fac_check.proofs.BuiltWords.{BuiltAs, as_primitive, as_core, as_symbol, as_defined, no_row_word}
 
 -- an answer's fact out of another
 pub ok_maps : {A E : Type 0} {Q R : A → Type 0} (r : Result A E) → ((x : A) → Q x → R x) → IfOk r Q → IfOk r R
@@ -46,17 +46,30 @@ module _ (P : Program) (w : ℕ) (d c : WordDef) (closes : ClosesWord P w d c) w
   pub is_prim : BuiltAs P w d → (k : ℕ) → c.sort ≡ prim k → d.sort ≡ prim k
   is_prim (as_primitive j e b i r) k s = (let same : j ≡ k = (let f = sorted (prim j) e in cc) in subst (λ n. d.sort ≡ prim n) same e)
   is_prim (as_core j e b i r) k s = absurd (let f = sorted (core j) e in cc)
+  is_prim (as_symbol e i r) k s = absurd (let f = sorted itself e in cc)
   is_prim (as_defined t e i r) k s = absurd (let f = sorted (body t) e in let g = f.1 in cc)
 
   pub is_core : BuiltAs P w d → (k : ℕ) → c.sort ≡ core k → d.sort ≡ core k
   is_core (as_primitive j e b i r) k s = absurd (let f = sorted (prim j) e in cc)
   is_core (as_core j e b i r) k s = (let same : j ≡ k = (let f = sorted (core j) e in cc) in subst (λ n. d.sort ≡ core n) same e)
+  is_core (as_symbol e i r) k s = absurd (let f = sorted itself e in cc)
   is_core (as_defined t e i r) k s = absurd (let f = sorted (body t) e in let g = f.1 in cc)
 
   pub is_body : BuiltAs P w d → (t : Phrase) → c.sort ≡ body t → (u : Phrase) × (d.sort ≡ body u) × ClosesPhrase P (first_of_word w) u t
   is_body (as_primitive j e b i r) t s = absurd (let f = sorted (prim j) e in cc)
   is_body (as_core j e b i r) t s = absurd (let f = sorted (core j) e in cc)
+  is_body (as_symbol e i r) t s = absurd (let f = sorted itself e in cc)
   is_body (as_defined u e i r) t s = (let f = sorted (body u) e in (u, e, (let same : f.0 ≡ t = (let g = f.1 in cc) in subst (λ x. ClosesPhrase P (first_of_word w) u x) same f.2)))
+
+  pub is_symbol : BuiltAs P w d → c.sort ≡ itself → d.sort ≡ itself
+  is_symbol (as_primitive j e b i r) s = absurd (let f = sorted (prim j) e in cc)
+  is_symbol (as_core j e b i r) s = absurd (let f = sorted (core j) e in cc)
+  is_symbol (as_symbol e i r) s = e
+  is_symbol (as_defined t e i r) s = absurd (let f = sorted (body t) e in let g = f.1 in cc)
+
+  -- a word that pushes itself
+  pub symbol_item : (X : Doing) (b : Option Row) (ms : List Mark) → d.sort ≡ itself → X ≡ gives (on b (wrd_mark w ∷ ms)) → X ≡ sort_doing P None w d d.sort b ms
+  symbol_item X b ms s x = x ∙ ap (λ q. sort_doing P None w d q b ms) (sym s)
 
   -- the height that the code reads off
   height_read : (i : ℕ) (o : Option ℕ) → i ≡ (effect_height c.effect).ins → o ≡ (effect_height c.effect).outs → (let h : Height = record { ins = i; outs = o } in h ≡ effect_height d.effect)

@@ -5,7 +5,7 @@ ghost use Rattle.fac_lang.specs.declared.program.Program.{Program as ProgramSeen
 ghost use Rattle.fac_lang.specs.Effects.{effect_height};
 ghost use Rattle.fac_lang.specs.Meaning.{c_call, c_dip, c_if, core_numbered};
 ghost use Rattle.fac_lang.specs.Primitives.{built_count};
-ghost use Rattle.fac_lang.specs.Phrases.{Phrase as Tree, any, lit_mark};
+ghost use Rattle.fac_lang.specs.Phrases.{Phrase as Tree, any, lit_mark, wrd_mark};
 ghost use Rattle.fac_lang.specs.PhraseView.{what_item};
 ghost use Rattle.fac_abs.specs.Marks.{Row, on, curried_mark, composed_mark};
 ghost use Rattle.fac_abs.specs.SeenMarks.{IsMark, IsStack, Grows, mark_of, stack_of};
@@ -285,6 +285,18 @@ fn defined(marks: &mut Marks, stack: u32, number: u32, word: &WordDef) -> Result
     by_height(marks, stack, height_of(word))
 }
 
+// A word as a value, by its number.
+#[tactic(auto, using(fac_abs::proofs::SeenLemmas::grows_trans))]
+fn reference(marks: &mut Marks, stack: u32, word: u32) -> Result<Doing, Memory>
+    requires { IsStack marks.old stack }
+    ensures grows { Grows marks.old marks.new }
+    ensures there { IfOk result (λ doing. IsDoing marks.new doing) }
+    ensures does { IfOk result (λ doing. DoesAs marks.old marks.new stack doing (λ b ms. gives (on b (wrd_mark word ∷ ms)))) }
+{
+    let mark = marks.wrd(word)?;
+    put(marks, stack, mark)
+}
+
 // The item of a word that isn't the top-level phrase.
 fn word_item(marks: &mut Marks, stack: u32, number: u32, word: &WordDef) -> Result<Doing, Memory>
     requires stack { IsStack marks.old stack }
@@ -299,8 +311,8 @@ fn word_item(marks: &mut Marks, stack: u32, number: u32, word: &WordDef) -> Resu
         }
         Sort::Core(core_number) => Ok(core(marks, stack, *core_number)),
         Sort::Body(_) => defined(marks, stack, number, word),
+        Sort::Itself => reference(marks, stack, number),
         Sort::Past(_)
-        | Sort::Itself
         | Sort::Class(_)
         | Sort::Isa(_)
         | Sort::Getter(_)
@@ -367,9 +379,9 @@ pub fn item_doing(
     match what {
         What::Int(_) | What::True | What::False | What::Str(_) => unknown(marks, stack),
         What::Word(number) => word(closed, marks, stack, *number),
+        What::Wref(number) => reference(marks, stack, *number),
         What::Made(template) => quotation(marks, stack, *template),
         What::Arr(_)
-        | What::Wref(_)
         | What::Quot(_)
         | What::Bind(_)
         | What::Local(_)

@@ -3,9 +3,9 @@ use Rattle.std.proofs.Common.{◌≡◌, ℕ, [], ◌∷◌, Bool, true, false, 
 use Rattle.std.specs.Prelude.{codes}
 use Rattle.fac_lang.specs.Primitives.{built_count}
 use Rattle.fac_code.specs.declared.image.Instr.{Instr}
-use Rattle.fac_code.specs.declared.image.Instr.TheVariants.{Halt, Text, Quot, Prim, Callw, Ret}
+use Rattle.fac_code.specs.declared.image.Instr.TheVariants.{Halt, Text, Word, Quot, Prim, Callw, Ret}
 use Rattle.fac_code.specs.declared.image.Action.{Action}
-use Rattle.fac_code.specs.declared.image.Action.TheVariants.{Prim as prim_action, Core as core_action, Code as code_action}
+use Rattle.fac_code.specs.declared.image.Action.TheVariants.{Prim as prim_action, Core as core_action, Code as code_action, Itself as itself_action}
 use Rattle.fac_code.specs.declared.image.TemplateRow.{TemplateRow}
 use Rattle.fac_code.specs.declared.image.WordRow.{WordRow}
 use Rattle.fac_code.specs.References.{is_image}
@@ -15,7 +15,7 @@ abbrev template : ℕ → ℕ → TemplateRow
 template entry holes = record { entry = entry; cells = 99 ∷ []; holes = holes }
 
 abbrev does : Action → WordRow
-does a = record { action = a }
+does a = record { name = 0; action = a }
 
 -- with a first instruction, a template's place, a word's action and a start; word 0 is `+`, word 1 is `if`, word 2 is the code at 3
 abbrev with_parts : Instr → ℕ → Action → ℕ → Bool
@@ -59,6 +59,20 @@ a_text = refl
 no_text : with_parts (Text 1) 3 (code_action 0) 0 ≡ false
 unfolding built_count
 no_text = refl
+
+-- a word as a value is one that is there, also the one that pushes itself
+a_word : with_parts (Word 3) 3 itself_action 0 ≡ true
+unfolding built_count
+a_word = refl
+
+no_word : with_parts (Word 4) 3 itself_action 0 ≡ false
+unfolding built_count
+no_word = refl
+
+-- a word's name is a text that is there
+no_name : is_image [] (record { name = 0; action = itself_action } ∷ []) [] (Halt ∷ []) 0 ≡ false
+unfolding built_count
+no_name = refl
 
 -- only a word that does code is called
 call_of_a_primitive : with_parts (Callw 0 true) 3 (code_action 0) 0 ≡ false

@@ -1,3 +1,4 @@
 pub mod Code
 pub mod References
 pub mod Images
+pub mod WordNames

@@ -18,6 +18,8 @@ pub enum Instr {
     False,
     /// Pushes the text with this number, at a tick.
     Text(u32),
+    /// Pushes the word with this number as a value, at a tick.
+    Word(u32),
     /// Pushes a callable of the template with this number, at a tick. It keeps the values that the template names in the frame.
     Quot(u32),
     /// Does the primitive of this number, at a tick.
@@ -55,11 +57,15 @@ pub enum Action {
     Core(u32),
     /// The code at this place.
     Code(u32),
+    /// Pushes the word itself.
+    Itself,
 }
 
 /// A word of an image.
 #[derive(Clone, Copy, Debug, PartialEq, Eq)]
 pub struct WordRow {
+    /// The number of the text that is its name, without its vocabulary.
+    pub name: u32,
     /// What it does. Only code can be gone to by a call.
     pub action: Action,
 }

@@ -15,6 +15,7 @@ fn is_code(action: Action) -> bool
         Action::Code(_) => true,
         Action::Prim(_) => false,
         Action::Core(_) => false,
+        Action::Itself => false,
     }
 }
 
@@ -46,6 +47,7 @@ fn refers_instr(templates: &[TemplateRow], words: &[WordRow], texts: &[Text], in
         Instr::Callw { word, .. } => is_code_word(words, word),
         Instr::Quot(template) => is_quotation(templates, template),
         Instr::Text(number) => (number as usize) < texts.len(),
+        Instr::Word(number) => (number as usize) < words.len(),
         Instr::Halt
         | Instr::Int(_)
         | Instr::True
@@ -66,15 +68,23 @@ fn refers_action(size: usize, action: Action) -> bool
         Action::Prim(number) => is_primitive(number),
         Action::Core(number) => is_core_word(number),
         Action::Code(place) => (place as usize) < size,
+        Action::Itself => true,
     }
 }
 
-// Whether what each word does is there.
-fn words_refer(size: usize, words: &[WordRow]) -> bool
-    ensures { result ≡ list_all (word_refers size) words.now }
+// Whether the name of a word is there, among so many texts, and what it does.
+fn refers_word(size: usize, count: usize, row: WordRow) -> bool
+    ensures { result ≡ word_refers size count row }
+{
+    (row.name as usize) < count && refers_action(size, row.action)
+}
+
+// Whether that is so of each word.
+fn words_refer(size: usize, count: usize, words: &[WordRow]) -> bool
+    ensures { result ≡ list_all (word_refers size count) words.now }
 {
     for row in words {
-        if !refers_action(size, row.action) {
+        if !refers_word(size, count, *row) {
             return false;
         }
     }
@@ -122,7 +132,7 @@ pub fn refers(
 {
     let size = code.len();
     templates_refer(size, templates)
-        && words_refer(size, words)
+        && words_refer(size, texts.len(), words)
         && instrs_refer(templates, words, texts, code)
         && (start as usize) < size
 }
@@ -138,6 +148,7 @@ fn is_built(instr: Instr) -> bool
         | Instr::True
         | Instr::False
         | Instr::Text(_)
+        | Instr::Word(_)
         | Instr::Quot(_)
         | Instr::Callw { .. }
         | Instr::Call { .. }

@@ -6,14 +6,14 @@ use Rattle.fac_lang.specs.declared.program.Program.{Program}
 use Rattle.fac_lang.specs.declared.program.WordDef.{WordDef}
 use Rattle.fac_lang.specs.declared.program.Sort.{Sort}
 use Rattle.fac_lang.specs.declared.program.Sort.TheVariants.{Prim as prim, Core as core, Body as body, Past as past, Itself as itself, Class as class, Isa as isa, Getter as getter, Setter as setter, Putter as putter, Generic as generic, Method as method}
-use Rattle.fac_lang.specs.Phrases.{int, yes, no, str, Phrase, end, then, Item, lit, word, made}
+use Rattle.fac_lang.specs.Phrases.{int, yes, no, str, wrd, Phrase, end, then, Item, lit, word, made}
 use Rattle.fac_lang.specs.Forms.{IsBuilt, IsBuiltSort, AreBuiltWords}
 use Rattle.fac_lang.specs.Primitives.{is_built_primitive}
 use Rattle.fac_locals.specs.Closed.{Closes, ClosesSort, CloseWords}
 use Rattle.fac_code.specs.declared.image.Instr.{Instr}
 use Rattle.fac_code.specs.declared.image.Instr.TheVariants.{Ret}
 use Rattle.fac_code.specs.Code.{is_built_instr, has_built_code}
-use Rattle.fac_emit.specs.ProgramCode.{core_instr, sort_instr, word_instr, item_instr, with_text, phrase_code, phrase_texts, templates_code, templates_texts, last_instr, sort_code, sort_texts, code_from, program_code}
+use Rattle.fac_emit.specs.ProgramCode.{core_instr, sort_instr, word_instr, item_instr, with_text, phrase_code, phrase_texts, templates_code, templates_texts, last_instr, sort_code, sort_texts, word_names, code_from, program_code}
 
 -- a word that isn't a primitive that isn't built
 abbrev Fits : Sort → Type 0
@@ -90,6 +90,7 @@ module _ (words : List WordDef) (fit : AllFit words) where
   item_built k (lit yes) = refl
   item_built k (lit no) = refl
   item_built k (lit (str cs)) = refl
+  item_built k (lit (wrd w)) = refl
   item_built k (word w) = word_built words w w fit
   item_built k (made q) = refl
   item_built k _ = refl
@@ -117,5 +118,6 @@ module _ (words : List WordDef) (fit : AllFit words) where
 pub code_built : (P C : Program) (templates : List Template) → IsBuilt P → Closes P C templates → has_built_code (program_code C templates) ≡ true
 code_built P C templates b closes =
     let fit = all_fit P C templates b closes in
-    let texts = templates_texts [] templates in
-    both_built (templates_code C.words [] templates) (code_from C.words C.top texts 0 C.words) (templates_built C.words fit [] templates) (words_built C.words fit C.top texts 0 C.words)
+    let names = word_names C.words in
+    let texts = templates_texts names templates in
+    both_built (templates_code C.words names templates) (code_from C.words C.top texts 0 C.words) (templates_built C.words fit names templates) (words_built C.words fit C.top texts 0 C.words)

@@ -25,6 +25,7 @@ use Rattle.fac_emit.specs.Stands.{Stands, PlainCode}
 use Rattle.fac_emit.proofs.Simulation.{carried}
 use Rattle.fac_emit.proofs.PlainIsCode.{plain_code_is_code}
 use Rattle.fac_emit.proofs.Placed.{coded, top_stands}
+use Rattle.fac_emit.proofs.NamedImages.{image_named}
 
 no_literals : (P : Program) → IsBuilt P → (input : List ℕ) → start P input ≡ record { stack = []; world = record { objects = []; literals = []; input = input; output = [] } }
 no_literals P b input = ap (λ (arrays : List (List Lit)). record { stack = []; world = with_arrays P 0 arrays (record { objects = []; literals = []; input = input; output = [] }) }) b.no_arrays
@@ -43,7 +44,7 @@ place_of (Some r) = elim r.action [ code_action a ↦ a | _ ↦ 0 ]
 pub plain_code : (P C : Program) (templates : List Template) (M : Image) → IsBuilt P → Closes P C templates → IsPlain C templates M → PlainCode P M
 plain_code P C templates M b closes is_plain =
     let top = top_stands P C templates M b closes is_plain in
-    let begins : slice_get M.words P.top ≡ Some (record { action = code_action M.start }) = sym (ap (slice_get M.words) closes.top) ∙ is_plain.begins in
+    let begins : slice_get M.words P.top ≡ Some (record { name = P.top; action = code_action M.start }) = sym (ap (slice_get M.words) closes.top) ∙ is_plain.begins ∙ ap (λ (k : ℕ). Some (record { name = k; action = code_action M.start })) closes.top in
     let there : top.0 ≡ M.start = ap place_of (sym top.1 ∙ begins) in
     record { coded = coded P C templates M b closes is_plain; phrase = subst (λ (a : ℕ). Stands P M (template_phrases P) Halt [] a (word_phrase P P.top)) there top.2 }
 
@@ -62,5 +63,5 @@ carries P C templates M fits callable_height count b closes is_plain = record {
       let begin = begins_so P b T stack input in
       let going = λ (m : ℕ). not_stuck (top_run P fits callable_height (values_view T stack) input m) (never m) in
       subst (λ (st : State Value). (e : End) × Ends M (names P) (machine_before M stack input) n e × SameEnd T (eval (act P fits callable_height) n phrase st n) e) begin
-      (carried (record { program = P; fits = fits; callable_height = callable_height; image = M; texts = T }) code.called M.start phrase code.phrase stack (record empty_world { input = input }) (record { cells = tt; held = tt; values = whole; objects = tt }) (subst (λ (st : State Value). (m : ℕ) → eval (act P fits callable_height) m phrase st m ≢ Stuck) (sym begin) going) n);
+      (carried (record { program = P; fits = fits; callable_height = callable_height; image = M; texts = T; named = image_named P C templates M closes is_plain }) code.called M.start phrase code.phrase stack (record empty_world { input = input }) (record { cells = tt; held = tt; values = whole; objects = tt }) (subst (λ (st : State Value). (m : ℕ) → eval (act P fits callable_height) m phrase st m ≢ Stuck) (sym begin) going) n);
 }

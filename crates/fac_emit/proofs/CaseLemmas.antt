@@ -7,6 +7,7 @@ use Rattle.fac_lang.specs.declared.program.Sort.{Sort}
 use Rattle.fac_lang.specs.declared.program.Sort.TheVariants.{Prim as prim_sort, Core as core_sort, Body as body}
 use Rattle.fac_lang.specs.Phrases.{Phrase, end, then, Item, quot, word, Value, fun, of_phrase}
 use Rattle.fac_lang.specs.World.{World, State, pile, push, push_each}
+use Rattle.fac_lang.specs.Printed.{Names}
 use Rattle.fac_lang.specs.PrimitiveWords.{outputs_of}
 use Rattle.fac_lang.specs.Procedures.{Gives, gives, bad, Fn, fn0, fn1, fn2, fn3}
 use Rattle.fac_lang.specs.Primitives.{Primitive, prim_numbered, prim_fn, seen_no}
@@ -17,8 +18,9 @@ use Rattle.fac_code.specs.declared.image.Instr.{Instr}
 use Rattle.fac_code.specs.declared.image.Instr.TheVariants.{Quot, Prim as prim_instr, Call, Dip, If, Ret}
 use Rattle.fac_code.specs.declared.image.Image.{Image}
 use Rattle.fac_code.specs.declared.image.TemplateRow.{TemplateRow}
+use Rattle.fac_code.specs.WordNames.{image_names}
 use Rattle.fac_code.specs.declared.names.TrapWhy.TheVariants.{Kind as t_kind, Frame as t_frame}
-use Rattle.fac_prim.specs.MachineValues.{MValue, m_plain, m_fun, MCallable, m_lit, m_cur, m_com, kept_list, m_seen, machine_values, cells_at}
+use Rattle.fac_prim.specs.MachineValues.{MValue, m_plain, m_fun, MCallable, m_lit, m_cur, m_com, kept_list, m_seen, machine_values, with_names, cells_at}
 use Rattle.fac_vm.specs.Machine.{Machine, Entry, resume, put_back, enter, spent, Step, goes_on, ends, after, given as machine_given, does as machine_does, word_of_prim, or_trap, branch, entering, fetched, step}
 use Rattle.fac_vm.proofs.Leading.{leads_none, ends_step}
 use Rattle.fac_emit.specs.MachineView.{Templates, value_view, callable_view, values_view, world_view, state_view, gives_view}
@@ -210,9 +212,11 @@ module _ (Y : Setting) where
       steps : (ms : List MValue) → stepping (at F pc ms rs R w) (suc n) ≡ machine_does wd (prim_fn machine_values (names P) q) (at F pc ms rs R w) n (λ s'. goes_on (after s') n)
       steps ms =
           let s = at F pc ms rs R w in
-          let one = ap (λ (v : ℕ). or_trap (prim_numbered k) t_kind s n (λ q. machine_does v (prim_fn machine_values (names P) q) s n (λ s'. goes_on (after s') n))) ew in
-          let two = ap (λ (o : Option Primitive). or_trap o t_kind s n (λ q. machine_does wd (prim_fn machine_values (names P) q) s n (λ s'. goes_on (after s') n))) en in
-          fetch Y s (suc n) (prim_instr k) e ∙ one ∙ two
+          let N = with_names (image_names M) (names P) in
+          let one = ap (λ (v : ℕ). or_trap (prim_numbered k) t_kind s n (λ q. machine_does v (prim_fn machine_values N q) s n (λ s'. goes_on (after s') n))) ew in
+          let two = ap (λ (o : Option Primitive). or_trap o t_kind s n (λ q. machine_does wd (prim_fn machine_values N q) s n (λ s'. goes_on (after s') n))) en in
+          let three = ap (λ (N : Names). machine_does wd (prim_fn machine_values N q) s n (λ s'. goes_on (after s') n)) Y.named in
+          fetch Y s (suc n) (prim_instr k) e ∙ one ∙ two ∙ three
 
   pile_views : (put ms : List MValue) → values_view T (pile put ms) ≡ pile (values_view T put) (values_view T ms)
   pile_views [] ms = refl

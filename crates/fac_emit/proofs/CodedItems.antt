@@ -6,7 +6,7 @@ use Rattle.fac_lang.specs.declared.phrase.Template.{Template}
 use Rattle.fac_lang.specs.declared.program.Program.{Program}
 use Rattle.fac_lang.specs.declared.program.WordDef.{WordDef}
 use Rattle.fac_lang.specs.declared.program.Sort.{Sort}
-use Rattle.fac_lang.specs.declared.program.Sort.TheVariants.{Prim as prim_sort, Core as core_sort, Body as body, Past as past, Method as method}
+use Rattle.fac_lang.specs.declared.program.Sort.TheVariants.{Prim as prim_sort, Core as core_sort, Body as body, Itself as itself, Past as past, Method as method}
 use Rattle.fac_lang.specs.declared.phrase.Item.{Item}
 use Rattle.fac_lang.specs.PhraseView.{what_item, items_phrase}
 use Rattle.fac_lang.specs.Phrases.{Literal, Phrase}
@@ -18,7 +18,7 @@ use Rattle.fac_locals.proofs.ClosedPrograms.{HasBuiltPhrase, built_phrases}
 use Rattle.fac_locals.proofs.Places.{literal_built}
 use Rattle.fac_locals.proofs.Lookups.{word_closed, word_open, template_closed}
 use Rattle.fac_emit.specs.inner.Coded.{sort_is_coded, word_is_coded, item_is_coded, phrase_is_coded, template_is_coded, body_is_coded, word_body_is_coded}
-use Rattle.fac_emit.proofs.Closings.{Closing, c_end, c_int, c_true, c_false, c_text, c_word, c_quot, closing}
+use Rattle.fac_emit.proofs.Closings.{Closing, c_end, c_int, c_true, c_false, c_text, c_ref, c_word, c_quot, closing}
 use Rattle.fac_emit.proofs.BuiltCode.{and_true}
 use Rattle.fac_emit.proofs.EmitLemmas.{next_element}
 use Rattle.fac_emit.proofs.Emitted.{built_at}
@@ -56,6 +56,7 @@ module _ (P C : Program) (templates : List Template) (b : IsBuilt P) (closes : C
   sort_coded w d (prim_sort k) c h built = rw h refl
   sort_coded w d (core_sort k) c h built = rw h built.is_built
   sort_coded w d (body t) c h built = rw h.1 refl
+  sort_coded w d itself c h built = rw h refl
   sort_coded w d _ c h built = absurd built
 
   word_coded : (w : ℕ) → w < P.top → word_is_coded (slice_get C.words w) ≡ true
@@ -70,6 +71,7 @@ module _ (P C : Program) (templates : List Template) (b : IsBuilt P) (closes : C
   phrase_coded at t c (c_true h) = phrase_coded _ _ _ h
   phrase_coded at t c (c_false h) = phrase_coded _ _ _ h
   phrase_coded at t c (c_text cs h) = phrase_coded _ _ _ h
+  phrase_coded at t c (c_ref w lt h) = phrase_coded _ _ _ h
   phrase_coded at t c (c_word {c = c'} w lt h) = and_true (word_is_coded (slice_get C.words w)) (phrase_is_coded C.words c') (word_coded w lt) (phrase_coded _ _ _ h)
   phrase_coded at t c (c_quot u q is h) = phrase_coded _ _ _ h
 

@@ -49,10 +49,10 @@ module _ (words : List WordDef) (top number i : ℕ) (word : WordDef) (items : L
   word_texts_step whole all = rw next_is (all ∙ ap (words_texts texts) next_word)
 
   pub word_rows_step : (code pushed : List Instr) (whole rows pushed_rows : List WordRow) → whole ≡ rows ++ words_from words top texts (length code) number (drop i words) → pushed ≡ code ++ sort_code words (nat_eq number top) texts word.sort →
-      pushed_rows ≡ rows ++ record { action = sort_action (length code) word.sort } ∷ [] → whole ≡ pushed_rows ++ words_from words top next (length pushed) (number + 1) (drop (i + 1) words)
+      pushed_rows ≡ rows ++ record { name = number; action = sort_action (length code) word.sort } ∷ [] → whole ≡ pushed_rows ++ words_from words top next (length pushed) (number + 1) (drop (i + 1) words)
   word_rows_step code pushed whole rows pushed_rows all is_pushed are_pushed =
       let own = word_code words top texts number word in
       let count : length pushed ≡ length code + length own = ap length is_pushed ∙ length-append code own in
-      let row : WordRow = record { action = sort_action (length code) word.sort } in
+      let row : WordRow = record { name = number; action = sort_action (length code) word.sort } in
       let others = words_from words top (sort_texts texts word.sort) (length code + length own) (suc number) (drop (i + 1) words) in
       rw (are_pushed, count, next_is, add-one number) (all ∙ ap (λ (ds : List WordDef). rows ++ words_from words top texts (length code) number ds) next_word ∙ sym (append_assoc rows (row ∷ []) others))

@@ -7,7 +7,7 @@ use Rattle.fac_lang.specs.declared.phrase.Template.{Template}
 use Rattle.fac_lang.specs.declared.program.Program.{Program}
 use Rattle.fac_lang.specs.declared.program.WordDef.{WordDef}
 use Rattle.fac_lang.specs.declared.program.Sort.{Sort}
-use Rattle.fac_lang.specs.declared.program.Sort.TheVariants.{Prim as prim_sort, Core as core_sort, Body as body, Past as past, Method as method}
+use Rattle.fac_lang.specs.declared.program.Sort.TheVariants.{Prim as prim_sort, Core as core_sort, Body as body, Itself as itself, Past as past, Method as method}
 use Rattle.fac_lang.specs.Phrases.{Literal, Phrase, word}
 use Rattle.fac_lang.specs.Forms.{IsBuilt, IsBuiltSort}
 use Rattle.fac_lang.specs.CoreWords.{is_built_core}
@@ -23,8 +23,8 @@ use Rattle.fac_code.specs.declared.image.Instr.TheVariants.{Ret}
 use Rattle.fac_emit.specs.ProgramCode.{core_instr, sort_instr, word_instr, item_instr, phrase_code, phrase_texts, last_instr, sort_code, sort_texts, word_code}
 use Rattle.fac_emit.specs.inner.FoundCode.{IsCodeOf, found_code, found_texts, found_template, found_template_texts}
 use Rattle.fac_emit.specs.declared.emitter.Piece.{Piece}
-use Rattle.fac_emit.specs.Emits.{ItemEmits, e_int, e_true, e_false, e_text, e_quot, e_prim, e_word, e_call, e_dip, e_if, PhraseEmits, e_end, e_item, Emits, e_phrase, e_no_phrase, TemplateEmits}
-use Rattle.fac_emit.proofs.Closings.{Closing, c_end, c_int, c_true, c_false, c_text, c_word, c_quot, closing}
+use Rattle.fac_emit.specs.Emits.{ItemEmits, e_int, e_true, e_false, e_text, e_reference, e_symbol, e_quot, e_prim, e_word, e_call, e_dip, e_if, PhraseEmits, e_end, e_item, Emits, e_phrase, e_no_phrase, TemplateEmits}
+use Rattle.fac_emit.proofs.Closings.{Closing, c_end, c_int, c_true, c_false, c_text, c_ref, c_word, c_quot, closing}
 use Rattle.fac_emit.proofs.TextLists.{Begins, begins_same, text_there}
 
 module _ (P C : Program) (templates : List Template) (b : IsBuilt P) (closes : Closes P C templates) where
@@ -43,6 +43,7 @@ module _ (P C : Program) (templates : List Template) (b : IsBuilt P) (closes : C
   sort_emits pool at n w d c (prim_sort k) there closed is h built = rw (instr_is n w c (prim_sort k) closed h) (e_prim w k (sort_at P w d there ∙ ap Some is) built.is_built)
   sort_emits pool at n w d c (core_sort k) there closed is h built = rw (instr_is n w c (core_sort k) closed h) (core_emits pool at w k built.is_built (sort_at P w d there ∙ ap Some is))
   sort_emits pool at n w d c (body t) there closed is h built = rw (instr_is n w c (body h.0) closed h.1) (e_word w t (sort_at P w d there ∙ ap Some is))
+  sort_emits pool at n w d c itself there closed is h built = rw (instr_is n w c itself closed h) (e_symbol w (sort_at P w d there ∙ ap Some is))
   sort_emits pool at n w d c _ there closed is h built = absurd built
 
   word_emits : (pool : List (List ℕ)) (at : Literal) (n w : ℕ) → w < P.top → ItemEmits P pool at (word w) (item_instr C.words n (word w))
@@ -57,6 +58,7 @@ module _ (P C : Program) (templates : List Template) (b : IsBuilt P) (closes : C
   phrase_emits pool last at texts t c (c_true h) b = e_item e_true (phrase_emits pool last _ texts _ _ h b)
   phrase_emits pool last at texts t c (c_false h) b = e_item e_false (phrase_emits pool last _ texts _ _ h b)
   phrase_emits pool last at texts t c (c_text {c = c'} cs h) b = e_item (e_text cs (length texts) (text_there texts pool cs c' b)) (phrase_emits pool last _ (texts ++ cs ∷ []) _ c' h b)
+  phrase_emits pool last at texts t c (c_ref w lt h) b = e_item (e_reference w) (phrase_emits pool last _ texts _ _ h b)
   phrase_emits pool last at texts t c (c_word w lt h) b = e_item (word_emits pool at (length texts) w lt) (phrase_emits pool last _ texts _ _ h b)
   phrase_emits pool last at texts t c (c_quot u q is h) b = e_item (e_quot u q is) (phrase_emits pool last _ texts _ _ h b)
 

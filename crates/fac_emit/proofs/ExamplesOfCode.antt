@@ -1,24 +1,24 @@
 -- Plain code, computed: that of a small program, what the machine does with it, and its code as a case of the relation.
 use Rattle.std.proofs.Common.{◌≡◌, ℕ, List, [], ◌∷◌, true, false, refl, Option, Some, None, arith}
-use Rattle.std.specs.Prelude.{pos}
+use Rattle.std.specs.Prelude.{pos, codes}
 use Rattle.fac_lang.specs.Signatures.{signature, no_inputs, never}
 use Rattle.fac_lang.specs.declared.phrase.Template.{Template}
 use Rattle.fac_lang.specs.declared.program.Program.{Program}
 use Rattle.fac_lang.specs.declared.program.WordDef.{WordDef}
 use Rattle.fac_lang.specs.declared.program.Sort.{Sort}
-use Rattle.fac_lang.specs.declared.program.Sort.TheVariants.{Prim as prim, Core as core, Body as body}
-use Rattle.fac_lang.specs.Phrases.{int, Phrase, end, then, Item, lit, quot, word}
+use Rattle.fac_lang.specs.declared.program.Sort.TheVariants.{Prim as prim, Core as core, Body as body, Itself as itself}
+use Rattle.fac_lang.specs.Phrases.{int, str, wrd, Phrase, end, then, Item, lit, quot, word}
 use Rattle.fac_lang.specs.Primitives.{built_count, prim_numbered, prim_fn}
 use Rattle.fac_code.specs.Code.{has_built_code}
 use Rattle.fac_code.specs.References.{refers}
 use Rattle.fac_lang.specs.Meaning.{nowhere, names, core_numbered}
 use Rattle.fac_locals.specs.inner.Numbering.{closed_words, words_templates}
-use Rattle.fac_code.specs.declared.image.Instr.TheVariants.{Halt, Int, Quot, Prim, Callw, Call, Dip, Ret}
-use Rattle.fac_code.specs.declared.image.Action.TheVariants.{Prim as prim_action, Core as core_action, Code as code_action}
+use Rattle.fac_code.specs.declared.image.Instr.TheVariants.{Halt, Int, Text, Word, Quot, Prim, Callw, Call, Dip, Ret}
+use Rattle.fac_code.specs.declared.image.Action.TheVariants.{Prim as prim_action, Core as core_action, Code as code_action, Itself as itself_action}
 use Rattle.fac_code.specs.declared.image.Image.{Image}
 use Rattle.fac_prim.specs.MachineValues.{MValue, m_plain}
 use Rattle.fac_vm.specs.Machine.{End, done, steps, starting}
-use Rattle.fac_emit.specs.ProgramCode.{program_code, program_texts, template_rows, program_words}
+use Rattle.fac_emit.specs.ProgramCode.{word_names, program_code, program_texts, template_rows, program_words}
 use Rattle.fac_emit.specs.MachineView.{template_phrases}
 use Rattle.fac_emit.specs.Symbols.{here, off, cells, k_phrase, k_cur, k_com, do_phrase, top_is, needs_none, needs_more, all_none, all_more}
 use Rattle.fac_emit.specs.Expanded.{Code, c_last, c_make, c_end, c_off, c_int, c_prim, c_word, c_call, c_dip}
@@ -49,23 +49,23 @@ templates = words_templates 0 source
 pub code_is : program_code closed templates ≡ Int (pos 2) ∷ Ret ∷ Quot 2 ∷ Call false ∷ Prim 25 ∷ Ret ∷ Int (pos 3) ∷ Ret ∷ Int (pos 4) ∷ Ret ∷ Quot 0 ∷ Quot 1 ∷ Prim 17 ∷ Ret ∷ Int (pos 1) ∷ Callw 4 false ∷ Quot 3 ∷ Dip ∷ Call false ∷ Halt ∷ []
 code_is = refl
 
-pub template_rows_are : template_rows closed.words [] 0 templates ≡ record { entry = 0; cells = []; holes = 0 } ∷ record { entry = 2; cells = []; holes = 0 } ∷ record { entry = 6; cells = []; holes = 0 } ∷ record { entry = 8; cells = []; holes = 0 } ∷ []
+pub template_rows_are : template_rows closed.words (word_names closed.words) 0 templates ≡ record { entry = 0; cells = []; holes = 0 } ∷ record { entry = 2; cells = []; holes = 0 } ∷ record { entry = 6; cells = []; holes = 0 } ∷ record { entry = 8; cells = []; holes = 0 } ∷ []
 template_rows_are = refl
 
 pub word_rows_are :
-    program_words closed templates ≡ record { action = prim_action 25 } ∷ record { action = core_action 0 } ∷ record { action = core_action 1 } ∷ record { action = prim_action 17 } ∷ record { action = code_action 10 } ∷ record { action = code_action 14 } ∷ []
+    program_words closed templates ≡ record { name = 0; action = prim_action 25 } ∷ record { name = 1; action = core_action 0 } ∷ record { name = 2; action = core_action 1 } ∷ record { name = 3; action = prim_action 17 } ∷ record { name = 4; action = code_action 10 } ∷ record { name = 5; action = code_action 14 } ∷ []
 word_rows_are = refl
 
 pub is_built : has_built_code (program_code closed templates) ≡ true
 unfolding built_count
 is_built = refl
 
-pub words_built : refers (template_rows closed.words [] 0 templates) (program_words closed templates) (program_texts closed templates) (program_code closed templates) 14 ≡ true
+pub words_built : refers (template_rows closed.words (word_names closed.words) 0 templates) (program_words closed templates) (program_texts closed templates) (program_code closed templates) 14 ≡ true
 unfolding built_count
 words_built = refl
 
 abbrev image : Image
-image = record { templates = template_rows closed.words [] 0 templates; words = program_words closed templates; texts = program_texts closed templates; code = program_code closed templates; start = 14; built = is_built; refers = words_built }
+image = record { templates = template_rows closed.words (word_names closed.words) 0 templates; words = program_words closed templates; texts = program_texts closed templates; code = program_code closed templates; start = 14; built = is_built; refers = words_built }
 
 -- the stack and the ticks left where it is done
 abbrev ended : Option End → Option (List MValue × ℕ)
@@ -104,3 +104,22 @@ phrase_code =
     (c_dip 2 1 refl refl (all_more all_none) refl
     (c_call 1 0 refl refl all_none refl
     (c_end (c_last all_none refl)))))))
+
+-- Strings and words as values, where word 0 is a symbol: `"a" red \ red "a"`. The texts are the names of the two words, and behind them those of the strings, each with its own number.
+abbrev written : Program
+written =
+    record {
+      words = record (named itself) { name = record { vocab = []; name = codes "red" } } ∷ named (body (items (lit (str (codes "a")) ∷ word 0 ∷ lit (wrd 0) ∷ lit (str (codes "a")) ∷ []))) ∷ [];
+      arrays = [];
+      classes = [];
+      top = 1;
+    }
+
+written_code : program_code written [] ≡ Text 2 ∷ Word 0 ∷ Word 0 ∷ Text 3 ∷ Halt ∷ []
+written_code = refl
+
+written_texts : program_texts written [] ≡ codes "red" ∷ [] ∷ codes "a" ∷ codes "a" ∷ []
+written_texts = refl
+
+written_rows : program_words written [] ≡ record { name = 0; action = itself_action } ∷ record { name = 1; action = code_action 0 } ∷ []
+written_rows = refl

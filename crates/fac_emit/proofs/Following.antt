@@ -17,7 +17,8 @@ use Rattle.fac_code.specs.declared.image.Instr.{Instr}
 use Rattle.fac_code.specs.declared.image.Instr.TheVariants.{Ret}
 use Rattle.fac_code.specs.declared.image.Image.{Image}
 use Rattle.fac_code.specs.declared.image.TemplateRow.{TemplateRow}
-use Rattle.fac_prim.specs.MachineValues.{MValue, Kept, kept_list}
+use Rattle.fac_code.specs.WordNames.{image_names}
+use Rattle.fac_prim.specs.MachineValues.{MValue, Kept, kept_list, with_names}
 use Rattle.fac_vm.specs.Machine.{Machine, Leads, Entry, resume, put_back, enter, failed, spent, Step, goes_on, ends, fetched, step, Ends}
 use Rattle.fac_vm.proofs.Leading.{leads_on, leads_step, ends_after, ends_step}
 use Rattle.fac_emit.specs.MachineView.{Templates, world_view, state_view, error_view}
@@ -33,6 +34,8 @@ pub record Setting : Type 0 where
   pub callable_height : Callable → Option Height
   pub image : Image
   pub texts : Templates
+  -- the image's words have the names of the program's
+  pub named : with_names (image_names image) (names program) ≡ names program
 
 -- d ticks are owed: with fewer than these the meaning is spent already, in the same world
 abbrev pub owing : World Value → ℕ → ℕ → (ℕ → Result) → Result

@@ -20,3 +20,4 @@ pub mod Emitted
 pub mod CodedItems
 pub mod ExamplesOfCode
 pub mod TextLists
+pub mod NamedImages

@@ -6,7 +6,7 @@ use Rattle.fac_lang.specs.declared.phrase.Template.{Template}
 use Rattle.fac_lang.specs.declared.program.Program.{Program}
 use Rattle.fac_lang.specs.declared.program.WordDef.{WordDef}
 use Rattle.fac_lang.specs.declared.program.Sort.{Sort}
-use Rattle.fac_lang.specs.declared.program.Sort.TheVariants.{Prim as prim_sort, Core as core_sort, Body as body}
+use Rattle.fac_lang.specs.declared.program.Sort.TheVariants.{Prim as prim_sort, Core as core_sort, Body as body, Itself as itself}
 use Rattle.fac_lang.specs.Phrases.{Literal, Phrase, quot, word}
 use Rattle.fac_lang.specs.Forms.{IsBuilt, IsBuiltPhrase, IsBuiltSort, has_no_repeats}
 use Rattle.fac_lang.specs.CoreWords.{is_built_core}
@@ -16,7 +16,7 @@ use Rattle.fac_locals.specs.Closed.{Closes, ClosesSort}
 use Rattle.fac_locals.proofs.Places.{literal_built}
 use Rattle.fac_locals.proofs.Lookups.{word_closed, template_closed, template_closed_none, templates_count}
 use Rattle.fac_code.specs.declared.image.Instr.{Instr}
-use Rattle.fac_code.specs.declared.image.Instr.TheVariants.{Halt, Int, True, False, Text, Quot, Ret}
+use Rattle.fac_code.specs.declared.image.Instr.TheVariants.{Halt, Int, True, False, Text, Word, Quot, Ret}
 use Rattle.fac_code.specs.declared.image.Action.TheVariants.{Code as code_action}
 use Rattle.fac_code.specs.declared.image.Image.{Image}
 use Rattle.fac_code.specs.declared.image.TemplateRow.{TemplateRow}
@@ -24,11 +24,11 @@ use Rattle.fac_code.specs.declared.image.WordRow.{WordRow}
 use Rattle.fac_prim.specs.MachineValues.{MValue, kept_list, cells_at}
 use Rattle.fac_vm.specs.Machine.{word_of_prim}
 use Rattle.fac_emit.specs.MachineView.{template_phrases}
-use Rattle.fac_emit.specs.ProgramCode.{core_instr, sort_instr, word_instr, item_instr, phrase_code, phrase_texts, templates_code, templates_texts, row_at, template_rows, last_instr, sort_action, sort_code, sort_texts, words_texts, word_code, code_from, words_from, program_code, program_texts, program_words, IsPlain}
-use Rattle.fac_emit.specs.Stands.{l_word, l_call, l_if, Translates, t_int, t_true, t_false, t_text, t_quot, t_prim, t_dip, t_calling, Stands, s_end, s_item, Coded}
+use Rattle.fac_emit.specs.ProgramCode.{core_instr, sort_instr, word_instr, item_instr, phrase_code, phrase_texts, templates_code, templates_texts, row_at, template_rows, last_instr, sort_action, sort_code, sort_texts, words_texts, word_names, word_code, code_from, words_from, program_code, program_texts, program_words, IsPlain}
+use Rattle.fac_emit.specs.Stands.{l_word, l_call, l_if, Translates, t_int, t_true, t_false, t_text, t_reference, t_symbol, t_quot, t_prim, t_dip, t_calling, Stands, s_end, s_item, Coded}
 use Rattle.fac_emit.proofs.TextLists.{Begins, begins_same, begins_on, templates_behind, words_behind, text_there}
 use Rattle.fac_emit.proofs.LiteralWords.{in_a_word, is_listed}
-use Rattle.fac_emit.proofs.Closings.{drop_behind, get_at, Closing, c_end, c_int, c_true, c_false, c_text, c_word, c_quot, closing, same_primitives}
+use Rattle.fac_emit.proofs.Closings.{drop_behind, get_at, Closing, c_end, c_int, c_true, c_false, c_text, c_ref, c_word, c_quot, closing, same_primitives}
 use Rattle.fac_lang.proofs.FormsLemmas.{word_below, sort_at, top_word, phrase_of_top, all_distinct}
 use Rattle.fac_emit.proofs.FirstWords.{first_with}
 
@@ -99,7 +99,7 @@ module _ (words : List WordDef) (top : ℕ) (code : List Instr) (pool : List (Li
   -- a word's row, and the place of its code
   pub record Placed (rows : List WordRow) (w v : ℕ) (d : WordDef) : Type 0 where
     pub at : ℕ
-    pub row : slice_get rows w ≡ Some (record { action = sort_action at d.sort })
+    pub row : slice_get rows w ≡ Some (record { name = v; action = sort_action at d.sort })
     pub texts : List (List ℕ)
     pub begins : Begins (sort_texts texts d.sort) pool
     pub more : List Instr
@@ -114,7 +114,7 @@ module _ (words : List WordDef) (top : ℕ) (code : List Instr) (pool : List (Li
       let others = code_from words top next (suc v) ds in
       record {
         at = at;
-        row = ap (λ (d : WordDef). Some (record { action = sort_action at d.sort })) same;
+        row = ap (λ (d : WordDef). Some (record { name = v; action = sort_action at d.sort })) same ∙ ap (λ (k : ℕ). Some (record { name = k; action = sort_action at d.sort })) (sym number);
         texts = texts;
         begins = subst (λ (d : WordDef). Begins (sort_texts texts d.sort) pool) same (begins_on next (words_texts next ds) pool (words_behind next ds) b);
         more = others;
@@ -125,19 +125,19 @@ module _ (words : List WordDef) (top : ℕ) (code : List Instr) (pool : List (Li
       let next = sort_texts texts x.sort in
       let later = placed next (at + length own) (suc v) ds w d b (drop_behind code at own (code_from words top next (suc v) ds) e) found in
       let number : suc v + w ≡ v + suc w = omega arith in
-      record { at = later.at; row = later.row; texts = later.texts; begins = later.begins; more = later.more; there = later.there ∙ ap (λ (k : ℕ). word_code words top later.texts k d ++ later.more) number }
+      record { at = later.at; row = later.row ∙ ap (λ (k : ℕ). Some (record { name = k; action = sort_action later.at d.sort })) number; texts = later.texts; begins = later.begins; more = later.more; there = later.there ∙ ap (λ (k : ℕ). word_code words top later.texts k d ++ later.more) number }
 
 -- all words, behind the templates
-pub behind_templates : (C : Program) (templates : List Template) (code : List Instr) → code ≡ program_code C templates → drop (length (templates_code C.words [] templates)) code ≡ code_from C.words C.top (templates_texts [] templates) 0 C.words
+pub behind_templates : (C : Program) (templates : List Template) (code : List Instr) → code ≡ program_code C templates → drop (length (templates_code C.words (word_names C.words) templates)) code ≡ code_from C.words C.top (templates_texts (word_names C.words) templates) 0 C.words
 behind_templates C templates code e =
-    let first = templates_code C.words [] templates in
+    let first = templates_code C.words (word_names C.words) templates in
     let front : 0 + length first ≡ length first = omega arith in
-    ap (λ (k : ℕ). drop k code) (sym front) ∙ drop_behind code 0 first (code_from C.words C.top (templates_texts [] templates) 0 C.words) e
+    ap (λ (k : ℕ). drop k code) (sym front) ∙ drop_behind code 0 first (code_from C.words C.top (templates_texts (word_names C.words) templates) 0 C.words) e
 
 pub words_placed : (C : Program) (templates : List Template) (w : ℕ) (d : WordDef) → slice_get C.words w ≡ Some d → Placed C.words C.top (program_code C templates) (program_texts C templates) (program_words C templates) w (0 + w) d
 words_placed C templates w d found =
-    let texts = templates_texts [] templates in
-    placed C.words C.top (program_code C templates) (program_texts C templates) texts (length (templates_code C.words [] templates)) 0 C.words w d (begins_same (program_texts C templates)) (behind_templates C templates (program_code C templates) refl) found
+    let texts = templates_texts (word_names C.words) templates in
+    placed C.words C.top (program_code C templates) (program_texts C templates) texts (length (templates_code C.words (word_names C.words) templates)) 0 C.words w d (begins_same (program_texts C templates)) (behind_templates C templates (program_code C templates) refl) found
 
 -- The rows of the templates of a closed program that stands for a built one.
 module _ (P C : Program) (templates : List Template) (b : IsBuilt P) (closes : Closes P C templates) where
@@ -145,12 +145,12 @@ module _ (P C : Program) (templates : List Template) (b : IsBuilt P) (closes : C
   pub literal_of : (q : ℕ) (t : Template) → slice_get templates q ≡ Some t → (literal_numbered P q).0.word < length P.words
   literal_of q t e = let found = get_other templates (literals P) q t (templates_count P C templates closes) e in subst (λ (l : Quoted). l.0.word < length P.words) (sym (ap (literal_or P q) found.1)) (in_a_word P q found.0 found.1)
 
-  module _ (code : List Instr) (pool : List (List ℕ)) (rows : List TemplateRow) (code_is : code ≡ program_code C templates) (pool_is : pool ≡ program_texts C templates) (rows_are : rows ≡ template_rows C.words [] 0 templates) where
+  module _ (code : List Instr) (pool : List (List ℕ)) (rows : List TemplateRow) (code_is : code ≡ program_code C templates) (pool_is : pool ≡ program_texts C templates) (rows_are : rows ≡ template_rows C.words (word_names C.words) 0 templates) where
     pub all_rows : Rows C.words code pool rows templates
     all_rows =
-        let texts = templates_texts [] templates in
+        let texts = templates_texts (word_names C.words) templates in
         let begins : Begins texts pool = rw pool_is (words_behind texts C.words) in
-        subst (λ (rs : List TemplateRow). Rows C.words code pool rs templates) (sym rows_are) (rows_placed C.words code pool [] 0 templates (code_from C.words C.top texts 0 C.words) begins code_is)
+        subst (λ (rs : List TemplateRow). Rows C.words code pool rs templates) (sym rows_are) (rows_placed C.words code pool (word_names C.words) 0 templates (code_from C.words C.top texts 0 C.words) begins code_is)
 
     -- the row of the template that makes a quotation
     pub record RowFor (q : ℕ) : Type 0 where
@@ -175,7 +175,7 @@ module _ (P C : Program) (templates : List Template) (M : Image) (b : IsBuilt P)
   first_word : (w k : ℕ) (c : WordDef) → slice_get C.words w ≡ Some c → c.sort ≡ prim_sort k → word_of_prim k 0 M.words ≡ w
   first_word w k c at is =
       let numbers = same_primitives P 0 P.words C.words closes.words in
-      ap (word_of_prim k 0) is_plain.word_rows_are ∙ first_with C.words C.top (templates_texts [] templates) (length (templates_code C.words [] templates)) 0 C.words w 0 k c at is (ap has_no_repeats numbers ∙ all_distinct P b) ∙ (omega arith)
+      ap (word_of_prim k 0) is_plain.word_rows_are ∙ first_with C.words C.top (templates_texts (word_names C.words) templates) (length (templates_code C.words (word_names C.words) templates)) 0 C.words w 0 k c at is (ap has_no_repeats numbers ∙ all_distinct P b) ∙ (omega arith)
 
   instr_is : (n w : ℕ) (c : WordDef) (s : Sort) → slice_get C.words w ≡ Some c → c.sort ≡ s → item_instr C.words n (word w) ≡ sort_instr w s
   instr_is n w c s at is = ap (word_instr w) at ∙ ap (sort_instr w) is
@@ -187,11 +187,21 @@ module _ (P C : Program) (templates : List Template) (M : Image) (b : IsBuilt P)
   core_translates F w (suc (suc zero)) h e = t_calling (l_if w 2 e refl)
   core_translates F w (suc (suc (suc k))) h e = absurd (let lt : suc (suc (suc k)) < 3 = ltb-true (suc (suc (suc k))) 3 h in omega (arith, lt))
 
+  -- the row of a word, whatever it does
+  row_there : (w : ℕ) → w < P.top → (r : WordRow) × (slice_get M.words w ≡ Some r)
+  row_there w lt =
+      let found = word_below P b w lt in
+      let closed = word_closed P C templates closes w found.def found.at in
+      let put = words_placed C templates w closed.closed closed.at in
+      (record { name = 0 + w; action = sort_action put.at closed.closed.sort }, ap (λ (rs : List WordRow). slice_get rs w) is_plain.word_rows_are ∙ put.row)
+
   word_translates : (F : List MValue) (n w : ℕ) (d c : WordDef) (s : Sort) → w < P.top → slice_get P.words w ≡ Some d → slice_get C.words w ≡ Some c → d.sort ≡ s → ClosesSort P w s c.sort → IsBuiltSort P.top d s →
       Translates P M (template_phrases P) F (word w) (item_instr C.words n (word w))
   word_translates F n w d c (prim_sort k) lt at closed is h built = rw (instr_is n w c (prim_sort k) closed h) (t_prim w k (sort_at P w d at ∙ ap Some is) built.is_built (first_word w k c closed h))
   word_translates F n w d c (core_sort k) lt at closed is h built = rw (instr_is n w c (core_sort k) closed h) (core_translates F w k built.is_built (sort_at P w d at ∙ ap Some is))
   word_translates F n w d c (body t) lt at closed is h built = rw (instr_is n w c (body h.0) closed h.1) (t_calling (l_word w t lt (sort_at P w d at ∙ ap Some is)))
+  word_translates F n w d c itself lt at closed is h built =
+      let there = row_there w lt in rw (instr_is n w c itself closed h) (t_symbol w there.0 (sort_at P w d at ∙ ap Some is) there.1)
   word_translates F n w d c _ lt at closed is h built = absurd built
 
   word_item : (F : List MValue) (n w : ℕ) → w < P.top → Translates P M (template_phrases P) F (word w) (item_instr C.words n (word w))
@@ -223,6 +233,9 @@ module _ (P C : Program) (templates : List Template) (M : Image) (b : IsBuilt P)
       let x = Text (length texts) in
       let next = texts ++ cs ∷ [] in
       let found = code_at M.code pc x (phrase_code C.words last next c' ++ more) e in s_item x found.0 (t_text cs (length texts) (text_there texts M.texts cs c' b)) (phrase_stands last F (pc + 1) _ next _ c' more h lt b found.1)
+  phrase_stands last F pc at texts t c more (c_ref {c = c'} w below h) lt b e =
+      let there = row_there w below in
+      let found = code_at M.code pc (Word w) (phrase_code C.words last texts c' ++ more) e in s_item (Word w) found.0 (t_reference w there.0 there.1) (phrase_stands last F (pc + 1) _ texts _ c' more h lt b found.1)
   phrase_stands last F pc at texts t c more (c_word {c = c'} w below h) lt b e =
       let x = item_instr C.words (length texts) (word w) in
       let found = code_at M.code pc x (phrase_code C.words last texts c' ++ more) e in s_item x found.0 (word_item F (length texts) w below) (phrase_stands last F (pc + 1) _ texts _ c' more h lt b found.1)
@@ -231,19 +244,19 @@ module _ (P C : Program) (templates : List Template) (M : Image) (b : IsBuilt P)
 
   -- the code of a word that is defined by a phrase
   body_stands : (w : ℕ) (d : WordDef) (t : Phrase) (is_top : Bool) → nat_eq w C.top ≡ is_top → slice_get P.words w ≡ Some d → d.sort ≡ body t → w < length P.words → IsBuiltPhrase P.top t →
-      (a : ℕ) × (slice_get M.words w ≡ Some (record { action = code_action a })) × Stands P M (template_phrases P) (last_instr is_top) [] a t
+      (a : ℕ) × (slice_get M.words w ≡ Some (record { name = w; action = code_action a })) × Stands P M (template_phrases P) (last_instr is_top) [] a t
   body_stands w d t is_top which at is lt built =
       let closed = word_closed P C templates closes w d at in
       let sort = subst (λ (s : Sort). ClosesSort P w s closed.closed.sort) is closed.closes.sort in
       let begins : Begins (program_texts C templates) M.texts = rw is_plain.texts (begins_same (program_texts C templates)) in
-      let put = placed C.words C.top M.code M.texts (templates_texts [] templates) (length (templates_code C.words [] templates)) 0 C.words w closed.closed begins (behind_templates C templates M.code is_plain.code) closed.at in
+      let put = placed C.words C.top M.code M.texts (templates_texts (word_names C.words) templates) (length (templates_code C.words (word_names C.words) templates)) 0 C.words w closed.closed begins (behind_templates C templates M.code is_plain.code) closed.at in
       let number : 0 + w ≡ w = omega arith in
       let own = phrase_code C.words (last_instr is_top) put.texts sort.0 in
       let code_is : word_code C.words C.top put.texts w closed.closed ≡ own = ap (sort_code C.words (nat_eq w C.top) put.texts) sort.1 ∙ ap (λ (b : Bool). sort_code C.words b put.texts (body sort.0)) which in
       let there : drop put.at M.code ≡ own ++ put.more = put.there ∙ ap (λ (k : ℕ). word_code C.words C.top put.texts k closed.closed ++ put.more) number ∙ ap (λ (c : List Instr). c ++ put.more) code_is in
       let pool : Begins (phrase_texts put.texts sort.0) M.texts = subst (λ (s : Sort). Begins (sort_texts put.texts s) M.texts) sort.1 put.begins in (
         put.at,
-        ap (λ (rs : List WordRow). slice_get rs w) is_plain.word_rows_are ∙ put.row ∙ ap (λ (s : Sort). Some (record { action = sort_action put.at s })) sort.1,
+        ap (λ (rs : List WordRow). slice_get rs w) is_plain.word_rows_are ∙ put.row ∙ ap (λ (s : Sort). Some (record { name = 0 + w; action = sort_action put.at s })) sort.1 ∙ ap (λ (k : ℕ). Some (record { name = k; action = code_action put.at })) number,
         phrase_stands (last_instr is_top) [] put.at (first_of_word w) put.texts t sort.0 put.more (closing P (first_of_word w) t sort.0 sort.2 built) lt pool there,
       )
 
@@ -272,12 +285,12 @@ module _ (P C : Program) (templates : List Template) (M : Image) (b : IsBuilt P)
         let is = sort_is w found.def t found.at e in
         let built = subst (IsBuiltSort P.top found.def) is found.built in
         let stands = body_stands w found.def t false (ne_eqb w C.top (λ same. let top = closes.top in omega (arith, lt, same, top))) found.at is (below_length w lt) built.phrase_built in
-        (record { action = code_action stands.0 }, stands.0, stands.1, refl, stands.2);
+        (record { name = w; action = code_action stands.0 }, stands.0, stands.1, refl, stands.2);
     templates = λ q r k e n whole. template_stands q r (kept_list k) e;
   }
 
   -- the code of the top-level phrase stands at its word's place, and then `halt`
-  pub top_stands : (a : ℕ) × (slice_get M.words P.top ≡ Some (record { action = code_action a })) × Stands P M (template_phrases P) Halt [] a (word_phrase P P.top)
+  pub top_stands : (a : ℕ) × (slice_get M.words P.top ≡ Some (record { name = P.top; action = code_action a })) × Stands P M (template_phrases P) Halt [] a (word_phrase P P.top)
   top_stands =
       let top = closes.top in
       let same : nat_eq P.top C.top ≡ true = grind (arith, top) in
@@ -286,10 +299,11 @@ module _ (P C : Program) (templates : List Template) (M : Image) (b : IsBuilt P)
       (stands.0, stands.1, rw (phrase_of_top P b) stands.2)
 
 -- the row of the top-level phrase, whatever the code is
-pub top_row : (P C : Program) (templates : List Template) → IsBuilt P → Closes P C templates → (rows : List WordRow) → rows ≡ program_words C templates → (a : ℕ) × (slice_get rows C.top ≡ Some (record { action = code_action a }))
+pub top_row : (P C : Program) (templates : List Template) → IsBuilt P → Closes P C templates → (rows : List WordRow) → rows ≡ program_words C templates → (a : ℕ) × (slice_get rows C.top ≡ Some (record { name = C.top; action = code_action a }))
 top_row P C templates b closes rows e =
     let closed = word_closed P C templates closes P.top b.last_word (top_word P b) in
     let sort = subst (λ (s : Sort). ClosesSort P P.top s closed.closed.sort) b.last_word_is.sort_is closed.closes.sort in
     let at : slice_get C.words C.top ≡ Some closed.closed = ap (slice_get C.words) closes.top ∙ closed.at in
     let put = words_placed C templates C.top closed.closed at in
-    (put.at, ap (λ (rs : List WordRow). slice_get rs C.top) e ∙ put.row ∙ ap (λ (s : Sort). Some (record { action = sort_action put.at s })) sort.1)
+    let number : 0 + C.top ≡ C.top = omega arith in
+    (put.at, ap (λ (rs : List WordRow). slice_get rs C.top) e ∙ put.row ∙ ap (λ (s : Sort). Some (record { name = 0 + C.top; action = sort_action put.at s })) sort.1 ∙ ap (λ (k : ℕ). Some (record { name = k; action = code_action put.at })) number)

@@ -1,6 +1,7 @@
 -- Each number in plain code and its tables names something.
-use Rattle.std.proofs.Common.{◌≡◌, ◌<◌, ℕ, zero, suc, ◌+◌, List, [], ◌∷◌, ◌++◌, length, drop, Bool, true, false, ◌&&◌, Option, Some, None, refl, ap, sym, subst, ◌∙◌, arith}
+use Rattle.std.proofs.Common.{◌≡◌, ◌<◌, ◌≤◌, ℕ, zero, suc, ◌+◌, List, [], ◌∷◌, ◌++◌, length, drop, Bool, true, false, ◌&&◌, Option, Some, None, refl, ap, sym, subst, ◌∙◌, arith}
 use Rattle.std.proofs.lemmas.Bool.{lt-ltb}
+use Rattle.std.proofs.lemmas.List.{length-map}
 use Rattle.std.proofs.lemmas.List.Folds.{list_all-append}
 use Rattle.std.specs.Prelude.{nat_eq, nat_lt, slice_get}
 use Rattle.std.specs.List.{list_all}
@@ -8,7 +9,7 @@ use Rattle.fac_lang.specs.declared.phrase.Template.{Template}
 use Rattle.fac_lang.specs.declared.program.Program.{Program}
 use Rattle.fac_lang.specs.declared.program.WordDef.{WordDef}
 use Rattle.fac_lang.specs.declared.program.Sort.{Sort}
-use Rattle.fac_lang.specs.declared.program.Sort.TheVariants.{Prim as prim_sort, Core as core_sort, Body as body}
+use Rattle.fac_lang.specs.declared.program.Sort.TheVariants.{Prim as prim_sort, Core as core_sort, Body as body, Itself as itself}
 use Rattle.fac_lang.specs.Phrases.{Literal, Phrase, end, then}
 use Rattle.fac_lang.specs.Forms.{IsBuilt, IsBuiltSort, IsBuiltPhrase, AreBuiltWords}
 use Rattle.fac_lang.specs.CoreWords.{is_built_core}
@@ -16,17 +17,18 @@ use Rattle.fac_lang.specs.Primitives.{is_built_primitive}
 use Rattle.fac_locals.specs.Literals.{Quoted, first_of_word, first_of_literal, literal_numbered}
 use Rattle.fac_locals.specs.Closed.{Closes, ClosesSort}
 use Rattle.fac_locals.proofs.Places.{literal_built}
-use Rattle.fac_locals.proofs.Lookups.{word_open, template_closed}
+use Rattle.fac_locals.proofs.Lookups.{word_open, word_closed, template_closed}
+use Rattle.fac_lang.proofs.FormsLemmas.{word_below}
 use Rattle.fac_code.specs.declared.image.Instr.{Instr}
 use Rattle.fac_code.specs.declared.image.Instr.TheVariants.{Ret}
 use Rattle.fac_code.specs.declared.image.Action.TheVariants.{Code as code_action}
 use Rattle.fac_code.specs.declared.image.TemplateRow.{TemplateRow}
 use Rattle.fac_code.specs.declared.image.WordRow.{WordRow}
 use Rattle.fac_code.specs.References.{names_code, names_quotation, instr_refers, action_refers, word_refers, template_refers, refers}
-use Rattle.fac_emit.specs.ProgramCode.{core_instr, sort_instr, word_instr, item_instr, with_text, phrase_code, phrase_texts, templates_code, templates_texts, template_rows, last_instr, sort_action, sort_code, sort_texts, words_texts, word_code, code_from, words_from, program_code, program_texts, program_words}
+use Rattle.fac_emit.specs.ProgramCode.{core_instr, sort_instr, word_instr, item_instr, with_text, phrase_code, phrase_texts, templates_code, templates_texts, template_rows, last_instr, sort_action, sort_code, sort_texts, words_texts, word_names, word_code, code_from, words_from, program_code, program_texts, program_words}
 use Rattle.fac_emit.proofs.BuiltCode.{and_true}
-use Rattle.fac_emit.proofs.Closings.{drop_behind, Closing, c_end, c_int, c_true, c_false, c_text, c_word, c_quot, closing}
-use Rattle.fac_emit.proofs.TextLists.{Begins, begins_same, begins_on, templates_behind, words_behind, text_there}
+use Rattle.fac_emit.proofs.Closings.{drop_behind, Closing, c_end, c_int, c_true, c_false, c_text, c_ref, c_word, c_quot, closing}
+use Rattle.fac_emit.proofs.TextLists.{Begins, begins_same, begins_on, begins_length, templates_behind, words_behind, text_there}
 use Rattle.fac_emit.proofs.Placed.{Rows, behind_templates, words_placed, literal_of, all_rows, quotation_row}
 
 -- a place from which something stands is in the list
@@ -80,12 +82,14 @@ module _ (P : Program) where
   HasBuilt (prim_sort k) = is_built_primitive k ≡ true
   HasBuilt (core_sort k) = is_built_core k ≡ true
   HasBuilt (body t) = IsBuiltPhrase P.top t
+  HasBuilt itself = Unit {0}
   HasBuilt _ = ⊥
 
   sort_built : (d : WordDef) (s : Sort) → IsBuiltSort P.top d s → HasBuilt s
   sort_built d (prim_sort k) h = h.is_built
   sort_built d (core_sort k) h = h.is_built
   sort_built d (body t) h = h.phrase_built
+  sort_built d itself h = tt
   sort_built d _ h = absurd h
 
   among : (ds : List WordDef) (d : WordDef) (w : ℕ) (x : WordDef) → AreBuiltWords P.top ds → HasBuilt d.sort → slice_get (ds ++ d ∷ []) w ≡ Some x → HasBuilt x.sort
@@ -104,20 +108,22 @@ module _ (P : Program) where
   ClosedAs w (prim_sort k) = is_built_primitive k ≡ true
   ClosedAs w (core_sort k) = is_built_core k ≡ true
   ClosedAs w (body c) = (t : Phrase) × Closing P (first_of_word w) t c × (w < length P.words)
+  ClosedAs w itself = Unit {0}
   ClosedAs w _ = ⊥
 
   closed_as : (w : ℕ) (s c : Sort) → ClosesSort P w s c → HasBuilt s → w < length P.words → ClosedAs w c
   closed_as w (prim_sort k) c h f lt = rw h f
   closed_as w (core_sort k) c h f lt = rw h f
   closed_as w (body t) c h f lt = rw h.1 (t, closing P (first_of_word w) t h.0 h.2 f, lt)
+  closed_as w itself c h f lt = rw h tt
   closed_as w _ c h f lt = absurd f
 
-module _ (P C : Program) (templates : List Template) (b : IsBuilt P) (closes : Closes P C templates) where
+module _ (P C : Program) (templates : List Template) (built : IsBuilt P) (closes : Closes P C templates) where
   abbrev code : List Instr
   code = program_code C templates
 
   abbrev rows : List TemplateRow
-  rows = template_rows C.words [] 0 templates
+  rows = template_rows C.words (word_names C.words) 0 templates
 
   abbrev words : List WordRow
   words = program_words C templates
@@ -126,14 +132,19 @@ module _ (P C : Program) (templates : List Template) (b : IsBuilt P) (closes : C
   pool = program_texts C templates
 
   word_is : (w : ℕ) (c : WordDef) → slice_get C.words w ≡ Some c → ClosedAs P w c.sort
-  word_is w c e = let found = word_open P C templates closes w c e in closed_as P w found.def.sort c.sort found.closes.sort (word_built P b w found.def found.at) (found_within P.words w found.def found.at)
+  word_is w c e = let found = word_open P C templates closes w c e in closed_as P w found.def.sort c.sort found.closes.sort (word_built P built w found.def found.at) (found_within P.words w found.def found.at)
+
+  -- a word that is there has a row
+  word_there : (w : ℕ) (c : WordDef) → slice_get C.words w ≡ Some c → nat_lt w (length words) ≡ true
+  word_there w c e = let put = words_placed C templates w c e in lt-ltb w (length words) (found_within words w _ put.row)
 
   -- instructions
   sort_refers : (w : ℕ) (c : WordDef) (s : Sort) → slice_get C.words w ≡ Some c → c.sort ≡ s → instr_refers rows words pool (sort_instr w s) ≡ true
   sort_refers w c (prim_sort k) e is = refl
   sort_refers w c (core_sort k) e is = core_refers rows words pool k
   sort_refers w c (body t) e is =
-      let put = words_placed C templates w c e in ap names_code (put.row ∙ ap (λ (s : Sort). Some (record { action = sort_action put.at s })) is)
+      let put = words_placed C templates w c e in ap names_code (put.row ∙ ap (λ (s : Sort). Some (record { name = 0 + w; action = sort_action put.at s })) is)
+  sort_refers w c itself e is = word_there w c e
   sort_refers w c _ e is = refl
 
   word_refers_to : (w : ℕ) (o : Option WordDef) → slice_get C.words w ≡ o → instr_refers rows words pool (word_instr w o) ≡ true
@@ -141,7 +152,7 @@ module _ (P C : Program) (templates : List Template) (b : IsBuilt P) (closes : C
   word_refers_to w (Some c) e = sort_refers w c c.sort e refl
 
   quotation_refers : (q : ℕ) (at : Literal) (u : Phrase) → at.word < length P.words → (let l : Quoted = (at, u) in literal_numbered P q ≡ l) → names_quotation (slice_get rows q) ≡ true
-  quotation_refers q at u lt e = let found = quotation_row P C templates b closes code pool rows refl refl refl q (at, u) lt e in rw found.there (rw found.holes refl)
+  quotation_refers q at u lt e = let found = quotation_row P C templates built closes code pool rows refl refl refl q (at, u) lt e in rw found.there (rw found.holes refl)
 
   abbrev Refers : List Instr → Type 0
   Refers is = list_all (instr_refers rows words pool) is ≡ true
@@ -155,6 +166,10 @@ module _ (P C : Program) (templates : List Template) (b : IsBuilt P) (closes : C
       let next = texts ++ cs ∷ [] in
       let there = lt-ltb (length texts) (length pool) (found_within pool (length texts) cs (text_there texts pool cs d b)) in
       and_true (nat_lt (length texts) (length pool)) (list_all (instr_refers rows words pool) (phrase_code C.words last next d)) there (phrase_refers last _ next _ d l h lt b)
+  phrase_refers last at texts t c l (c_ref {c = d} w below h) lt b =
+      let found = word_below P built w below in
+      let closed = word_closed P C templates closes w found.def found.at in
+      and_true (nat_lt w (length words)) (list_all (instr_refers rows words pool) (phrase_code C.words last texts d)) (word_there w closed.closed closed.at) (phrase_refers last _ texts _ d l h lt b)
   phrase_refers last at texts t c l (c_word {c = d} w below h) lt b = and_true (instr_refers rows words pool (word_instr w (slice_get C.words w))) (list_all (instr_refers rows words pool) (phrase_code C.words last texts d))
       (word_refers_to w (slice_get C.words w) refl) (phrase_refers last _ texts _ d l h lt b)
   phrase_refers last at texts t c l (c_quot {c = d} u q is h) lt b =
@@ -164,7 +179,7 @@ module _ (P C : Program) (templates : List Template) (b : IsBuilt P) (closes : C
   template_refers_to q t texts e begins =
       let l = literal_numbered P q in
       let closed = template_closed P C templates closes q t e in
-      phrase_refers Ret (first_of_literal l.0) texts l.1 t.body refl (closing P (first_of_literal l.0) l.1 t.body closed.body (literal_built P b q)) (literal_of P C templates b closes q t e) begins
+      phrase_refers Ret (first_of_literal l.0) texts l.1 t.body refl (closing P (first_of_literal l.0) l.1 t.body closed.body (literal_built P built q)) (literal_of P C templates built closes q t e) begins
 
   templates_refer : (texts : List (List ℕ)) (ts : List Template) → Begins (templates_texts texts ts) pool → ((k : ℕ) (t : Template) (texts : List (List ℕ)) → slice_get ts k ≡ Some t → Begins (phrase_texts texts t.body) pool → Refers (phrase_code C.words Ret texts t.body)) → Refers (templates_code C.words texts ts)
   templates_refer texts [] begins h = refl
@@ -198,16 +213,19 @@ module _ (P C : Program) (templates : List Template) (b : IsBuilt P) (closes : C
   action_within at w is_top texts (prim_sort k) more h e = h
   action_within at w is_top texts (core_sort k) more h e = h
   action_within at w is_top texts (body c) more h e = begins_within code C.words (last_instr is_top) texts c at more e
+  action_within at w is_top texts itself more h e = refl
   action_within at w is_top texts _ more h e = absurd h
 
-  words_within : (texts : List (List ℕ)) (at w : ℕ) (ds : List WordDef) → AreClosed w ds → drop at code ≡ code_from C.words C.top texts w ds → list_all (word_refers (length code)) (words_from C.words C.top texts at w ds) ≡ true
-  words_within texts at w [] h e = refl
-  words_within texts at w (d ∷ ds) h e =
+  words_within : (texts : List (List ℕ)) (at w : ℕ) (ds : List WordDef) → AreClosed w ds → w + length ds ≤ length pool → drop at code ≡ code_from C.words C.top texts w ds → list_all (word_refers (length code) (length pool)) (words_from C.words C.top texts at w ds) ≡ true
+  words_within texts at w [] h le e = refl
+  words_within texts at w (d ∷ ds) h le e =
       let own = word_code C.words C.top texts w d in
       let next = sort_texts texts d.sort in
       let others = code_from C.words C.top next (suc w) ds in
-      and_true (action_refers (length code) (sort_action at d.sort)) (list_all (word_refers (length code)) (words_from C.words C.top next (at + length own) (suc w) ds))
-      (action_within at w (nat_eq w C.top) texts d.sort others (first_closed w d ds h) e) (words_within next (at + length own) (suc w) ds (rest_closed w d ds h) (drop_behind code at own others e))
+      let named = lt-ltb w (length pool) (omega (arith, le)) in
+      and_true (nat_lt w (length pool) && action_refers (length code) (sort_action at d.sort)) (list_all (word_refers (length code) (length pool)) (words_from C.words C.top next (at + length own) (suc w) ds))
+      (and_true (nat_lt w (length pool)) (action_refers (length code) (sort_action at d.sort)) named (action_within at w (nat_eq w C.top) texts d.sort others (first_closed w d ds h) e))
+      (words_within next (at + length own) (suc w) ds (rest_closed w d ds h) (omega (arith, le)) (drop_behind code at own others e))
 
   -- rows of templates
   rows_within : (rs : List TemplateRow) (ts : List Template) → Rows C.words code pool rs ts → list_all (template_refers (length code)) rs ≡ true
@@ -221,13 +239,17 @@ module _ (P C : Program) (templates : List Template) (b : IsBuilt P) (closes : C
   all_closed k c e = let n : k ≡ 0 + k = omega arith in subst (λ (v : ℕ). ClosedAs P v c.sort) n (word_is k c e)
 
   -- the plain code, which starts at a word's place
-  pub plain_refers : (start : ℕ) → slice_get words C.top ≡ Some (record { action = code_action start }) → refers rows words pool code start ≡ true
+  pub plain_refers : (start : ℕ) → slice_get words C.top ≡ Some (record { name = C.top; action = code_action start }) → refers rows words pool code start ≡ true
   plain_refers start e =
-      let first = templates_code C.words [] templates in
-      let texts = templates_texts [] templates in
-      let within_words = words_within texts (length first) 0 C.words all_closed (behind_templates C templates code refl) in
-      let all_refer = both_pass (instr_refers rows words pool) first (code_from C.words C.top texts 0 C.words) (templates_refer [] templates (words_behind texts C.words) template_refers_to) (words_refer texts 0 C.words all_closed (begins_same pool)) in
-      let started = one_passes (word_refers (length code)) words C.top (record { action = code_action start }) within_words e in
-      and_true (list_all (template_refers (length code)) rows) (list_all (word_refers (length code)) words && (list_all (instr_refers rows words pool) code && nat_lt start (length code)))
-      (rows_within rows templates (all_rows P C templates b closes code pool rows refl refl refl))
-      (and_true (list_all (word_refers (length code)) words) (list_all (instr_refers rows words pool) code && nat_lt start (length code)) within_words (and_true (list_all (instr_refers rows words pool) code) (nat_lt start (length code)) all_refer started))
+      let names = word_names C.words in
+      let first = templates_code C.words names templates in
+      let texts = templates_texts names templates in
+      let all = begins_on names texts pool (templates_behind names templates) (words_behind texts C.words) in
+      let long = begins_length names pool all in
+      let many = length-map C.words (λ (d : WordDef). d.name.name) in
+      let within_words = words_within texts (length first) 0 C.words all_closed (omega (arith, long, many)) (behind_templates C templates code refl) in
+      let all_refer = both_pass (instr_refers rows words pool) first (code_from C.words C.top texts 0 C.words) (templates_refer names templates (words_behind texts C.words) template_refers_to) (words_refer texts 0 C.words all_closed (begins_same pool)) in
+      let started = one_passes (word_refers (length code) (length pool)) words C.top (record { name = C.top; action = code_action start }) within_words e in
+      and_true (list_all (template_refers (length code)) rows) (list_all (word_refers (length code) (length pool)) words && (list_all (instr_refers rows words pool) code && nat_lt start (length code)))
+      (rows_within rows templates (all_rows P C templates built closes code pool rows refl refl refl))
+      (and_true (list_all (word_refers (length code) (length pool)) words) (list_all (instr_refers rows words pool) code && nat_lt start (length code)) within_words (and_true (list_all (instr_refers rows words pool) code) (nat_lt start (length code)) all_refer (first_true (nat_lt C.top (length pool)) (nat_lt start (length code)) started).1))

@@ -2,12 +2,13 @@
 use Rattle.std.proofs.Common.{◌≡◌, ◌≢◌, ℕ, zero, suc, ◌+◌, ◌<◌, List, [], ◌∷◌, false, Option, Some, refl, ap, sym, subst, ◌∙◌, arith}
 use Rattle.std.specs.Prelude.{slice_get}
 use Rattle.fac_lang.specs.declared.program.Program.{Program}
-use Rattle.fac_lang.specs.Phrases.{int, yes, no, str, Phrase, Item, lit, Value}
+use Rattle.fac_lang.specs.declared.program.Sort.{Sort}
+use Rattle.fac_lang.specs.Phrases.{int, yes, no, str, wrd, Phrase, Item, lit, word, Value}
 use Rattle.fac_lang.specs.World.{World, State}
 use Rattle.fac_lang.specs.Eval.{Result, Done, Failed, Spent, Stuck, then_do, Act, Run}
-use Rattle.fac_lang.specs.Meaning.{names, act}
+use Rattle.fac_lang.specs.Meaning.{names, sort_act, act}
 use Rattle.fac_code.specs.declared.image.Instr.{Instr}
-use Rattle.fac_code.specs.declared.image.Instr.TheVariants.{Halt, Int, True, False, Text, Callw, Ret}
+use Rattle.fac_code.specs.declared.image.Instr.TheVariants.{Halt, Int, True, False, Text, Word, Callw, Ret}
 use Rattle.fac_code.specs.declared.image.Action.TheVariants.{Code as code_action}
 use Rattle.fac_code.specs.declared.image.Image.{Image}
 use Rattle.fac_code.specs.declared.image.WordRow.{WordRow}
@@ -19,7 +20,7 @@ use Rattle.fac_emit.specs.MachineView.{Templates, values_view, world_view, state
 use Rattle.fac_emit.specs.Carries.{SameEnd}
 use Rattle.fac_emit.specs.WholeValues as whole
 use Rattle.fac_emit.specs.Symbols.{Sym, here, off, k_phrase, Task, do_phrase, heres, AllHere, outs, Special}
-use Rattle.fac_emit.specs.Expanded.{Code, c_last, c_make, c_trim, c_end, c_off, c_int, c_true, c_false, c_text, c_prim, c_word, c_call, c_dip, c_if, EachCalled}
+use Rattle.fac_emit.specs.Expanded.{Code, c_last, c_make, c_trim, c_end, c_off, c_int, c_true, c_false, c_text, c_reference, c_symbol, c_prim, c_word, c_call, c_dip, c_if, EachCalled}
 use Rattle.fac_emit.proofs.RunLaws.{free}
 use Rattle.fac_emit.proofs.SymbolicStacks.{l_phrase, Lies, lies_none, keeps_none, keeps_phrase, all_here}
 use Rattle.fac_emit.proofs.Following.{Setting, state, at, left, Follows, fetch, Live, LivePhrase, Go, CallsTo, Templated, Valid}
@@ -85,6 +86,9 @@ module _ (Y : Setting) where
   text_goes : (F : List MValue) (pc k : ℕ) (cs : List ℕ) → slice_get M.texts k ≡ Some cs → (ms rs : List MValue) (R : List Entry) (w : World MValue) (n : ℕ) → fetched M (names P) (Some (Text k)) (at F pc ms rs R w) (suc n) ≡ goes_on (at F (pc + 1) (m_plain (str cs) ∷ ms) rs R w) n
   text_goes F pc k cs ek ms rs R w n = ap (λ (o : Option (List ℕ)). or_trap o t_kind (at F pc ms rs R w) n (λ us. goes_on (at F (pc + 1) (m_plain (str us) ∷ ms) rs R w) n)) ek
 
+  push_goes : (F : List MValue) (pc a : ℕ) (r : WordRow) → slice_get M.words a ≡ Some r → (ms rs : List MValue) (R : List Entry) (w : World MValue) (n : ℕ) → fetched M (names P) (Some (Word a)) (at F pc ms rs R w) (suc n) ≡ goes_on (at F (pc + 1) (m_plain (wrd a) ∷ ms) rs R w) n
+  push_goes F pc a r er ms rs R w n = ap (λ (o : Option WordRow). or_trap o t_kind (at F pc ms rs R w) n (λ r. goes_on (at F (pc + 1) (m_plain (wrd a) ∷ ms) rs R w) n)) er
+
   main : (f : ℕ) → Below f → EachCalled P M T → Templated Y f → Main f
   main f below each tpl Γ last F d S K pc (c_last {last = x} a e) v = g_last Y f F x S pc a e
   main f below each tpl Γ last F d S K pc (c_make {d = d1} {S = S1} q r ks e et eh ec c) v = g_make Y f F last d1 S1 K pc q r ks e et eh ec (main f below each tpl Γ last F d1 (here ∷ S1) K (pc + 1) c v)
@@ -98,6 +102,10 @@ module _ (Y : Setting) where
   main f below each tpl Γ last F d S K pc (c_false {p = p} {t = t} {K = K1} e c) v = g_push Y f F last (lit no) p t S K1 pc False (m_plain no) tt e (λ s. refl) (λ ms rs R w n. refl) (λ st. refl)
       (main f below each tpl Γ last F zero (here ∷ S) (do_phrase t ∷ K1) (pc + 1) c v)
   main f below each tpl Γ last F d S K pc (c_text {p = p} {t = t} {K = K1} cs k e ek c) v = g_push Y f F last (lit (str cs)) p t S K1 pc (Text k) (m_plain (str cs)) tt e (λ s. refl) (text_goes F pc k cs ek) (λ st. refl)
+      (main f below each tpl Γ last F zero (here ∷ S) (do_phrase t ∷ K1) (pc + 1) c v)
+  main f below each tpl Γ last F d S K pc (c_reference {p = p} {t = t} {K = K1} wd r e er c) v = g_push Y f F last (lit (wrd wd)) p t S K1 pc (Word wd) (m_plain (wrd wd)) tt e (λ s. refl) (push_goes F pc wd r er) (λ st. refl)
+      (main f below each tpl Γ last F zero (here ∷ S) (do_phrase t ∷ K1) (pc + 1) c v)
+  main f below each tpl Γ last F d S K pc (c_symbol {p = p} {t = t} {K = K1} wd r es e er c) v = g_push Y f F last (word wd) p t S K1 pc (Word wd) (m_plain (wrd wd)) tt e (λ s. refl) (push_goes F pc wd r er) (λ st. ap (λ (o : Option Sort). sort_act P wd o st) es)
       (main f below each tpl Γ last F zero (here ∷ S) (do_phrase t ∷ K1) (pc + 1) c v)
   main f below each tpl Γ last F d S K pc (c_prim {p = p} {t = t} {S1 = S1} {K = K1} wd k q es en ew needs e c) v = g_prim Y f F last wd k q p t S S1 K1 pc es en ew needs e (main f below each tpl Γ last F zero (heres (outs q) S1) (do_phrase t ∷ K1) (pc + 1) c v)
   main f below each tpl Γ last F d S K pc (c_word {p = p} {t = t} {K = K1} wd b lt es a e c) v =

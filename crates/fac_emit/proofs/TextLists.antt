@@ -1,5 +1,5 @@
 -- The texts of code: those behind it begin with those before it.
-use Rattle.std.proofs.Common.{◌≡◌, ℕ, List, [], ◌∷◌, ◌++◌, Some, refl, sym, ◌∙◌, append_assoc}
+use Rattle.std.proofs.Common.{◌≡◌, ◌≤◌, ℕ, List, [], ◌∷◌, ◌++◌, Some, refl, sym, ◌∙◌, append_assoc, length-append, arith}
 use Rattle.std.specs.Prelude.{length, slice_get}
 use Rattle.std.proofs.lemmas.List.{append-nil}
 use Rattle.fac_lang.specs.declared.phrase.Template.{Template}
@@ -8,6 +8,7 @@ use Rattle.fac_lang.specs.declared.program.Sort.{Sort}
 use Rattle.fac_lang.specs.declared.program.Sort.TheVariants.{Body as body}
 use Rattle.fac_lang.specs.Phrases.{str, Phrase, end, then, Item, lit}
 use Rattle.fac_prim.proofs.ValueTreeLemmas.{get_behind}
+use Rattle.fac_vm.proofs.ActLemmas.{get_front}
 use Rattle.fac_emit.specs.ProgramCode.{with_text, phrase_texts, templates_texts, sort_texts, words_texts}
 
 -- a list that begins so
@@ -44,3 +45,10 @@ words_behind texts (d ∷ ds) = let next = sort_texts texts d.sort in begins_on 
 pub text_there : (texts pool : List (List ℕ)) (cs : List ℕ) (c : Phrase) → Begins (phrase_texts (texts ++ cs ∷ []) c) pool → slice_get pool (length texts) ≡ Some cs
 text_there texts pool cs c h =
     let all = begins_on (texts ++ cs ∷ []) (phrase_texts (texts ++ cs ∷ []) c) pool (phrase_behind (texts ++ cs ∷ []) c) h in rw (all.1 ∙ append_assoc texts (cs ∷ []) all.0) (get_behind texts cs all.0)
+
+-- the front of a list that begins so
+pub front_there : (xs pool : List (List ℕ)) (k : ℕ) (cs : List ℕ) → Begins xs pool → slice_get xs k ≡ Some cs → slice_get pool k ≡ Some cs
+front_there xs pool k cs h e = rw h.1 (get_front xs h.0 k cs e)
+
+pub begins_length : (xs pool : List (List ℕ)) → Begins xs pool → length xs ≤ length pool
+begins_length xs pool h = rw (h.1, length-append) (omega arith)

@@ -1,16 +1,16 @@
 -- The plain code of a closed program. That of a phrase is an instruction for each item and one behind them. First stands the code of the templates, by
 -- their numbers, and behind it that of the words, by theirs. So the code of a word ends where that of the next one begins.
-use Rattle.std.specs.Prelude.{◌≡◌, ℕ, zero, suc, ◌+◌, List, [], ◌∷◌, ◌++◌, length, nat_eq, Bool, true, false, Option, Some, None, slice_get}
+use Rattle.std.specs.Prelude.{◌≡◌, ℕ, zero, suc, ◌+◌, List, [], ◌∷◌, ◌++◌, length, map, nat_eq, Bool, true, false, Option, Some, None, slice_get}
 use Rattle.fac_lang.specs.declared.phrase.Template.{Template}
 use Rattle.fac_lang.specs.declared.program.Program.{Program}
 use Rattle.fac_lang.specs.declared.program.WordDef.{WordDef}
 use Rattle.fac_lang.specs.declared.program.Sort.{Sort}
-use Rattle.fac_lang.specs.declared.program.Sort.TheVariants.{Prim as prim_sort, Core as core_sort, Body as body}
-use Rattle.fac_lang.specs.Phrases.{int, yes, no, str, Phrase, end, then, Item, lit, word, made}
+use Rattle.fac_lang.specs.declared.program.Sort.TheVariants.{Prim as prim_sort, Core as core_sort, Body as body, Itself as itself}
+use Rattle.fac_lang.specs.Phrases.{int, yes, no, str, wrd, Phrase, end, then, Item, lit, word, made}
 use Rattle.fac_code.specs.declared.image.Instr.{Instr}
-use Rattle.fac_code.specs.declared.image.Instr.TheVariants.{Halt, Int, True, False, Text, Quot, Prim, Callw, Call, Dip, If, Ret}
+use Rattle.fac_code.specs.declared.image.Instr.TheVariants.{Halt, Int, True, False, Text, Word, Quot, Prim, Callw, Call, Dip, If, Ret}
 use Rattle.fac_code.specs.declared.image.Action.{Action}
-use Rattle.fac_code.specs.declared.image.Action.TheVariants.{Prim as prim_action, Core as core_action, Code as code_action}
+use Rattle.fac_code.specs.declared.image.Action.TheVariants.{Prim as prim_action, Core as core_action, Code as code_action, Itself as itself_action}
 use Rattle.fac_code.specs.declared.image.TemplateRow.{TemplateRow}
 use Rattle.fac_code.specs.declared.image.WordRow.{WordRow}
 use Rattle.fac_code.specs.declared.image.Image.{Image}
@@ -22,11 +22,12 @@ core_instr (suc zero) = Dip
 core_instr (suc (suc zero)) = If false
 core_instr (suc (suc (suc k))) = Halt
 
--- a primitive and a core word are done in place, and a word that is defined by a phrase is called
+-- a primitive and a core word are done in place, a word that is defined by a phrase is called, and a symbol is pushed
 abbrev pub sort_instr : ℕ → Sort → Instr
 sort_instr w (prim_sort k) = Prim k
 sort_instr w (core_sort k) = core_instr k
 sort_instr w (body t) = Callw w false
+sort_instr w itself = Word w
 sort_instr w _ = Halt
 
 abbrev pub word_instr : ℕ → Option WordDef → Instr
@@ -44,6 +45,7 @@ item_instr words k (lit (int z)) = Int z
 item_instr words k (lit yes) = True
 item_instr words k (lit no) = False
 item_instr words k (lit (str cs)) = Text k
+item_instr words k (lit (wrd w)) = Word w
 item_instr words k (word w) = word_instr w (slice_get words w)
 item_instr words k (made q) = Quot q
 item_instr words k _ = Halt
@@ -86,6 +88,7 @@ last_instr false = Ret
 abbrev pub sort_action : ℕ → Sort → Action
 sort_action at (prim_sort k) = prim_action k
 sort_action at (core_sort k) = core_action k
+sort_action at itself = itself_action
 sort_action at _ = code_action at
 
 -- the code of a word, where it is defined by a phrase
@@ -114,28 +117,32 @@ module _ (words : List WordDef) (top : ℕ) where
   code_from texts w [] = []
   code_from texts w (d ∷ ds) = word_code texts w d ++ code_from (sort_texts texts d.sort) (suc w) ds
 
-  -- the rows of the words from number w on, whose code stands from a place on
+  -- the rows of the words from number w on, whose code stands from a place on. A word's name is the text of its number.
   abbrev pub words_from : List (List ℕ) → ℕ → ℕ → List WordDef → List WordRow
   words_from texts at w [] = []
-  words_from texts at w (d ∷ ds) = (record { action = sort_action at d.sort }) ∷ words_from (sort_texts texts d.sort) (at + length (word_code texts w d)) (suc w) ds
+  words_from texts at w (d ∷ ds) = (record { name = w; action = sort_action at d.sort }) ∷ words_from (sort_texts texts d.sort) (at + length (word_code texts w d)) (suc w) ds
+
+-- the names of words
+abbrev pub word_names : List WordDef → List (List ℕ)
+word_names ds = map (λ (d : WordDef). d.name.name) ds
 
 -- all code
 abbrev pub program_code : Program → List Template → List Instr
-program_code C ts = templates_code C.words [] ts ++ code_from C.words C.top (templates_texts [] ts) 0 C.words
+program_code C ts = templates_code C.words (word_names C.words) ts ++ code_from C.words C.top (templates_texts (word_names C.words) ts) 0 C.words
 
--- all texts: those of the strings in the order of their instructions
+-- all texts: the names of the words, and behind them those of the strings in the order of their instructions
 abbrev pub program_texts : Program → List Template → List (List ℕ)
-program_texts C ts = words_texts (templates_texts [] ts) C.words
+program_texts C ts = words_texts (templates_texts (word_names C.words) ts) C.words
 
 -- the rows of the words, whose code stands behind that of the templates
 abbrev pub program_words : Program → List Template → List WordRow
-program_words C ts = words_from C.words C.top (templates_texts [] ts) (length (templates_code C.words [] ts)) 0 C.words
+program_words C ts = words_from C.words C.top (templates_texts (word_names C.words) ts) (length (templates_code C.words (word_names C.words) ts)) 0 C.words
 
 -- the image is the plain code of the closed program with these templates, with its texts, has a row for each template and each word under its number, and starts
 -- at the top-level phrase's place
 pub record IsPlain (C : Program) (templates : List Template) (M : Image) : Type 0 where
   pub code : M.code ≡ program_code C templates
   pub texts : M.texts ≡ program_texts C templates
-  pub template_rows_are : M.templates ≡ template_rows C.words [] 0 templates
+  pub template_rows_are : M.templates ≡ template_rows C.words (word_names C.words) 0 templates
   pub word_rows_are : M.words ≡ program_words C templates
-  pub begins : slice_get M.words C.top ≡ Some (record { action = code_action M.start })
+  pub begins : slice_get M.words C.top ≡ Some (record { name = C.top; action = code_action M.start })

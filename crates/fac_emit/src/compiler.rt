@@ -1,5 +1,5 @@
 //! The compiler: the code of the templates and the words is linked to an image.
-ghost use Rattle.std.specs.Prelude.{◌≡◌, ℕ, true, Some, IfOk, OnOk, slice_get, Bool, Option};
+ghost use Rattle.std.specs.Prelude.{◌≡◌, ◌++◌, [], ℕ, true, Some, IfOk, OnOk, slice_get, Bool, Option};
 ghost use Rattle.std.specs.List.{list_all};
 ghost use Rattle.fac_lang.specs.declared.phrase.Height.{Height};
 ghost use Rattle.fac_lang.specs.declared.program.Program.{Program as Source};
@@ -7,14 +7,14 @@ ghost use Rattle.fac_lang.specs.Forms.{IsBuilt};
 ghost use Rattle.fac_lang.specs.Phrases.{Callable};
 ghost use Rattle.fac_locals.specs.Closed.{Closes};
 ghost use Rattle.fac_emit.specs.Carries.{Carries};
-ghost use Rattle.fac_emit.specs.ProgramCode.{sort_action, IsPlain};
+ghost use Rattle.fac_emit.specs.ProgramCode.{sort_action, word_names, IsPlain};
 ghost use Rattle.fac_emit.specs.inner.Coded.{body_is_coded, word_body_is_coded};
 ghost use Rattle.fac_emit.specs.inner.Parts.{AreParts, PlacesWord, PlacesWords};
 ghost use Rattle.fac_emit.specs.Stands.{PlainCode};
 
 use crate::emitter::{Piece, add_templates, add_word, no_code};
 use fac_code::{Action, Image, TemplateRow, WordRow};
-use fac_lang::{List, Memory, Sort, WordDef};
+use fac_lang::{Duplicate, List, Memory, Sort, Text, WordDef};
 use fac_locals::Closed;
 use std::alloc::Global;
 
@@ -25,6 +25,7 @@ fn action_of(place: u32, sort: &Sort) -> Action
     match sort {
         Sort::Prim(number) => Action::Prim(*number),
         Sort::Core(number) => Action::Core(*number),
+        Sort::Itself => Action::Itself,
         _ => Action::Code(place),
     }
 }
@@ -42,14 +43,16 @@ fn place_word(
     alloc: Global,
     parts: &mut Parts,
     words: &List<WordDef>,
+    word: u32,
     is_top: bool,
     sort: &Sort,
 ) -> Result<(), Memory>
     requires { body_is_coded words.now sort.now ≡ true }
-    ensures { OnOk result (PlacesWord words.now is_top sort.now parts.old parts.new) }
+    ensures { OnOk result (PlacesWord words.now word is_top sort.now parts.old parts.new) }
 {
     let place = parts.piece.code.len();
     parts.words.push(WordRow {
+        name: word,
         action: action_of(place, sort),
     })?;
     add_word(alloc, &mut parts.piece, words, is_top, sort)
@@ -68,10 +71,29 @@ fn add_words(
     let _count = words.len();
     let mut number = 0u32;
     for word in words.as_slice() {
-        place_word(alloc, parts, words, number == top, &word.sort)?;
+        place_word(alloc, parts, words, number, number == top, &word.sort)?;
         number += 1;
     }
     Ok(())
+}
+
+// Adds the names of words.
+fn add_names(alloc: Global, texts: &mut List<Text>, words: &List<WordDef>) -> Result<(), Memory>
+    ensures { OnOk result (texts.new ≡ texts.old ++ word_names words.now) }
+{
+    for word in words.as_slice() {
+        texts.push(word.name.name.copy(alloc)?)?;
+    }
+    Ok(())
+}
+
+// A piece with no code, whose texts are the names of words.
+fn named_piece(alloc: Global, words: &List<WordDef>) -> Result<Piece, Memory>
+    ensures { IfOk result (λ piece. (piece.code ≡ []) × (piece.texts ≡ word_names words.now)) }
+{
+    let mut piece = no_code(alloc);
+    add_names(alloc, &mut piece.texts, words)?;
+    Ok(piece)
 }
 
 // The code of a closed program, that of its templates first and then that of its words, and its tables.
@@ -80,7 +102,7 @@ fn link(alloc: Global, closed: &Closed) -> Result<Parts, Memory>
     ensures { IfOk result (AreParts closed.now.program closed.now.templates) }
 {
     let mut parts = Parts {
-        piece: no_code(alloc),
+        piece: named_piece(alloc, &closed.program.words)?,
         templates: List::new(alloc),
         words: List::new(alloc),
     };
@@ -98,14 +120,15 @@ fn link(alloc: Global, closed: &Closed) -> Result<Parts, Memory>
 
 // The place of a word's code.
 fn place(rows: &List<WordRow>, word: u32) -> u32
-    requires { (a : ℕ) × (slice_get rows.now word ≡ Some (record { action = Action.Code a })) }
-    ensures { slice_get rows.now word ≡ Some (record { action = Action.Code result }) }
+    requires { (a : ℕ) × (slice_get rows.now word ≡ Some (record { name = word; action = Action.Code a })) }
+    ensures { slice_get rows.now word ≡ Some (record { name = word; action = Action.Code result }) }
 {
     match rows.get(word as usize) {
         Some(row) => match row.action {
             Action::Code(place) => place,
             Action::Prim(_) => unreachable!(),
             Action::Core(_) => unreachable!(),
+            Action::Itself => unreachable!(),
         },
         None => unreachable!(),
     }
@@ -115,7 +138,7 @@ fn place(rows: &List<WordRow>, word: u32) -> u32
 /// the closed program starts on whose callables are of the image's templates, with every input and at every budget, where that program is
 /// stuck at none. Its code stands for the
 /// phrases of that program, item by item, and is plain: the code of the templates and behind it that of the words, each in their order, with the
-/// texts of its strings in the order of their instructions, and a row for each template and each word; it starts at the top-level phrase. Want of memory is the one error.
+/// names of the words and the texts of its strings in the order of their instructions, and a row for each template and each word; it starts at the top-level phrase. Want of memory is the one error.
 pub fn compile(alloc: Global, closed: &Closed) -> Result<Image, Memory>
     requires { (P : Source) × Closes P closed.now.program closed.now.templates × IsBuilt P }
     ensures carries { IfOk result (λ image. (P : Source) (fits : Height → Height → Bool) (callable_height : Callable → Option Height) → Closes P closed.now.program closed.now.templates → IsBuilt P → Carries P fits callable_height closed.now.start image) }

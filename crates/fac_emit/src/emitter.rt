@@ -48,6 +48,7 @@ fn instr_of_sort(word: u32, sort: &Sort) -> Instr
         Sort::Prim(number) => Instr::Prim(*number),
         Sort::Core(number) => instr_of_core(*number),
         Sort::Body(_) => Instr::Callw { word, tail: false },
+        Sort::Itself => Instr::Word(word),
         _ => unreachable!(),
     }
 }
@@ -62,6 +63,7 @@ fn instr_of(words: &List<WordDef>, text: u32, what: &What) -> Instr
         What::True => Instr::True,
         What::False => Instr::False,
         What::Str(_) => Instr::Text(text),
+        What::Wref(word) => Instr::Word(*word),
         What::Word(number) => match words.get(*number as usize) {
             Some(word) => instr_of_sort(*number, &word.sort),
             None => unreachable!(),

@@ -7,6 +7,7 @@
 //!     @word prim NAME         a word that does this primitive, by its name or its number
 //!     @word core N            a word that does this core word
 //!     @word code N            a word with the code at this place
+//!     @word symbol NAME       a word that pushes itself. The last part of each of these four lines is the word's name
 //!     @text TEXT              a text of the image, with a `|` for each end of a line in it
 //!     @output N M             the write of this number fails after M bytes
 //!     @run N M                runs the code from the place N, with M ticks
@@ -26,7 +27,9 @@ const ROOM: u64 = 20;
 pub struct Case {
     // The numbers of each template: its place, its holes, its cells.
     templates: Vec<Vec<u32>>,
+    // The words, whose names are numbered by themselves, and their names.
     words: Vec<WordRow>,
+    names: List<Text>,
     texts: List<Text>,
     code: Vec<Instr>,
     output: Vec<(u64, u64)>,
@@ -84,15 +87,25 @@ fn with_lines(alloc: Global, told: &str) -> Result<Text, Memory> {
     Ok(text)
 }
 
-// Copies of words and code.
-fn tables(
-    alloc: Global,
-    words: &[WordRow],
-    code: &[Instr],
-) -> Result<(List<WordRow>, List<Instr>), Memory> {
-    let words = List::from_vec(Vec::from_slice(alloc, words)?)?;
-    let code = List::from_vec(Vec::from_slice(alloc, code)?)?;
-    Ok((words, code))
+// Words whose names stand behind so many other texts.
+fn rows(alloc: Global, words: &[WordRow], first: u32) -> Result<List<WordRow>, Memory> {
+    let mut rows = List::new(alloc);
+    for row in words {
+        rows.push(WordRow {
+            name: first.saturating_add(row.name),
+            action: row.action,
+        })?;
+    }
+    Ok(rows)
+}
+
+// Texts, and behind them names.
+fn texts(alloc: Global, texts: &List<Text>, names: &List<Text>) -> Result<List<Text>, Memory> {
+    let mut all = texts.copy(alloc)?;
+    for name in names.as_slice() {
+        all.push(name.copy(alloc)?)?;
+    }
+    Ok(all)
 }
 
 // The place where a run begins, and its budget.
@@ -130,6 +143,7 @@ impl Case {
         Case {
             templates: Vec::new(alloc),
             words: Vec::new(alloc),
+            names: List::new(alloc),
             texts: List::new(alloc),
             code: Vec::new(alloc),
             output: Vec::new(alloc),
@@ -171,8 +185,13 @@ impl Case {
                 None => Ok(false),
             },
             "word" => match action(text) {
-                Some(action) => {
-                    self.words.push(WordRow { action })?;
+                Some((action, name)) => {
+                    let number = self.names.len();
+                    self.names.push(Text::from_str(alloc, name)?)?;
+                    self.words.push(WordRow {
+                        name: number,
+                        action,
+                    })?;
                     Ok(true)
                 }
                 None => Ok(false),
@@ -195,8 +214,9 @@ impl Case {
     // The image that begins at a place. None where the tables and the code are none.
     fn image(&self, alloc: Global, start: u32) -> Result<Option<Image>, Memory> {
         let templates = templates(alloc, self.templates.as_slice())?;
-        let (words, code) = tables(alloc, self.words.as_slice(), self.code.as_slice())?;
-        let texts = self.texts.copy(alloc)?;
+        let words = rows(alloc, self.words.as_slice(), self.texts.len())?;
+        let texts = texts(alloc, &self.texts, &self.names)?;
+        let code = List::from_vec(Vec::from_slice(alloc, self.code.as_slice())?)?;
         Ok(Image::new(templates, words, texts, code, start))
     }
 

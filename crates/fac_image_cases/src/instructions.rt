@@ -40,6 +40,7 @@ fn plain(name: &str) -> Option<Instr> {
 fn with_number(name: &str, number: u32) -> Option<Instr> {
     match name {
         "text" => Some(Instr::Text(number)),
+        "word" => Some(Instr::Word(number)),
         "quot" => Some(Instr::Quot(number)),
         "callw" => Some(Instr::Callw {
             word: number,
@@ -63,13 +64,19 @@ pub fn instr(text: &str) -> Option<Instr> {
     }
 }
 
-/// What a word does, as a text tells it.
-pub fn action(text: &str) -> Option<Action> {
-    let (name, number) = text.split_once(' ')?;
-    match name {
-        "prim" => Some(Action::Prim(primitive(number)?)),
-        "core" => Some(Action::Core(number.parse::<u32>().ok()?)),
-        "code" => Some(Action::Code(number.parse::<u32>().ok()?)),
+// What a word does that is told so, with this behind it.
+fn does(told: &str, behind: &str) -> Option<Action> {
+    match told {
+        "prim" => Some(Action::Prim(primitive(behind)?)),
+        "core" => Some(Action::Core(behind.parse::<u32>().ok()?)),
+        "code" => Some(Action::Code(behind.parse::<u32>().ok()?)),
+        "symbol" => Some(Action::Itself),
         _ => None,
     }
+}
+
+/// What a word does, as a text tells it, and its name.
+pub fn action(text: &str) -> Option<(Action, &str)> {
+    let (told, behind) = text.split_once(' ')?;
+    Some((does(told, behind)?, behind))
 }

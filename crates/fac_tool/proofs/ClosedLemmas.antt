@@ -18,7 +18,10 @@ use Rattle.fac_check.specs.Judged.{refusal_seen}
 use Rattle.fac_check.specs.declared.refusal.Refusal.{Refusal}
 use Rattle.fac_check.specs.Promises.{IsSafe, SafeAreNotStuck}
 use Rattle.fac_code.specs.declared.image.Image.{Image}
+use Rattle.fac_code.specs.WordNames.{image_names}
 use Rattle.fac_emit.specs.Carries.{Carries}
+use Rattle.fac_emit.specs.ProgramCode.{word_names, IsPlain}
+use Rattle.fac_emit.proofs.NamedImages.{image_named_so}
 use Rattle.fac_notes.specs.WordNames.{name_or}
 use Rattle.fac_tool.specs.Refusals.{refusal_of}
 use Rattle.fac_tool.specs.inner.Stops.{SameNames, Carried, StandsFor, StandsForSafe}
@@ -41,15 +44,17 @@ pub safe_one : (closed : Closed) (P : Program) → IsKept closed → closed.star
 safe_one closed P kept start stands = record { closes = stands.closes; built = stands.built; safe = subst (λ count. IsSafe P count) start (kept P stands.closes stands.built stands.whole); start = start }
 
 -- so its image carries it with the checker's test of effects, and it isn't stuck
-carried_by : SafeAreNotStuck → (P : Program) (M : Image) (count : ℕ) → IsSafe P 0 → count ≡ 0 → Carries P fits (callable_height P) count M → Carried P M
-carried_by never P M count safe none carries = record {
+carried_by : SafeAreNotStuck → (P : Program) (M : Image) (count : ℕ) → IsSafe P 0 → count ≡ 0 → Carries P fits (callable_height P) count M → image_names M ≡ word_names P.words → Carried P M
+carried_by never P M count safe none carries named = record {
   carries = subst (λ k. Carries P fits (callable_height P) k M) none carries;
   not_stuck = λ n. never P 0 safe n (start P []) refl (safe.begins []);
+  named = named;
 }
 
 pub if_carried :
     SafeAreNotStuck → (closed : Closed) (r : Result Image Memory) →
     IfOk r (λ image. (P : Program) (fits : Height → Height → Bool) (callable_height : Callable → Option Height) → Closes P closed.program closed.templates → IsBuilt P → Carries P fits callable_height closed.start image) →
-    IfOk r (λ image. (P : Program) → StandsForSafe closed P → Carried P image)
-if_carried never closed (Ok image) h = λ P stands. carried_by never P image closed.start stands.safe stands.start (h P fits (callable_height P) stands.closes stands.built)
-if_carried never closed (Err e) h = tt
+    IfOk r (IsPlain closed.program closed.templates) → IfOk r (λ image. (P : Program) → StandsForSafe closed P → Carried P image)
+if_carried never closed (Ok image) h plain =
+    λ P stands. carried_by never P image closed.start stands.safe stands.start (h P fits (callable_height P) stands.closes stands.built) (image_named_so P closed.program closed.templates image stands.closes plain)
+if_carried never closed (Err e) h plain = tt

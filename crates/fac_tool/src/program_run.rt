@@ -93,6 +93,7 @@ fn run_machine<K: Sink>(alloc: Global, machine: &mut Machine, budget: u64, out: 
     ensures within { (P : Source) → Carried P machine.old.image → StopsWithin P budget result.ticks (sink_seen K.taken K.pieces K.faults out.old out.new) }
     ensures stops { (P : Source) → Carried P machine.old.image → StopsAs P budget (callables_in machine.new) (stack_in machine.new) result.ticks (sink_seen K.taken K.pieces K.faults out.old out.new) result.what }
     ensures pieces { (P : Source) → Carried P machine.old.image → TakesPieces P result.ticks (sink_seen K.taken K.pieces K.faults out.old out.new) result.what }
+    ensures image { machine.new.image ≡ machine.old.image }
     ensures cause { HasCause (K.faults out.old) (K.faults out.new) (result.what ≡ StopKind.WriteFault) }
 {
     runs_have_one_end();

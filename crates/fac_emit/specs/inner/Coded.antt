@@ -3,8 +3,8 @@ use Rattle.std.specs.Prelude.{List, ◌&&◌, Bool, true, false, Option, Some, N
 use Rattle.fac_lang.specs.declared.phrase.Template.{Template}
 use Rattle.fac_lang.specs.declared.program.WordDef.{WordDef}
 use Rattle.fac_lang.specs.declared.program.Sort.{Sort}
-use Rattle.fac_lang.specs.declared.program.Sort.TheVariants.{Prim as prim_sort, Core as core_sort, Body as body}
-use Rattle.fac_lang.specs.Phrases.{int, yes, no, str, Phrase, end, then, Item, lit, word, made}
+use Rattle.fac_lang.specs.declared.program.Sort.TheVariants.{Prim as prim_sort, Core as core_sort, Body as body, Itself as itself}
+use Rattle.fac_lang.specs.Phrases.{int, yes, no, str, wrd, Phrase, end, then, Item, lit, word, made}
 use Rattle.fac_lang.specs.CoreWords.{is_built_core}
 
 -- whether a word of this sort has an instruction
@@ -12,6 +12,7 @@ abbrev pub sort_is_coded : Sort → Bool
 sort_is_coded (prim_sort k) = true
 sort_is_coded (core_sort k) = is_built_core k
 sort_is_coded (body t) = true
+sort_is_coded itself = true
 sort_is_coded _ = false
 
 abbrev pub word_is_coded : Option WordDef → Bool
@@ -24,6 +25,7 @@ item_is_coded words (lit (int z)) = true
 item_is_coded words (lit yes) = true
 item_is_coded words (lit no) = true
 item_is_coded words (lit (str cs)) = true
+item_is_coded words (lit (wrd w)) = true
 item_is_coded words (word w) = word_is_coded (slice_get words w)
 item_is_coded words (made q) = true
 item_is_coded words _ = false

@@ -5,18 +5,18 @@ use Rattle.fac_lang.specs.declared.program.Program.{Program}
 use Rattle.fac_lang.specs.declared.program.Sort.{Sort}
 use Rattle.fac_lang.specs.declared.program.WordDef.{WordDef}
 use Rattle.fac_emit.specs.declared.compiler.Parts.{Parts}
-use Rattle.fac_emit.specs.ProgramCode.{program_code, program_texts, template_rows, program_words, sort_action, sort_code, sort_texts, words_texts, code_from, words_from}
+use Rattle.fac_emit.specs.ProgramCode.{program_code, program_texts, template_rows, program_words, sort_action, sort_code, sort_texts, words_texts, word_names, code_from, words_from}
 
 pub record AreParts (C : Program) (templates : List Template) (p : Parts) : Type 0 where
   pub code : p.piece.code ≡ program_code C templates
   pub texts : p.piece.texts ≡ program_texts C templates
-  pub template_rows_are : p.templates ≡ template_rows C.words [] 0 templates
+  pub template_rows_are : p.templates ≡ template_rows C.words (word_names C.words) 0 templates
   pub word_rows : p.words ≡ program_words C templates
 
--- the code and the row of a word of this sort were added behind those that stood
-abbrev pub PlacesWord : List WordDef → Bool → Sort → Parts → Parts → Type 0
-PlacesWord words is_top s old new =
-    (new.piece.code ≡ old.piece.code ++ sort_code words is_top old.piece.texts s) × (new.piece.texts ≡ sort_texts old.piece.texts s) × (new.templates ≡ old.templates) × (new.words ≡ old.words ++ record { action = sort_action (length old.piece.code) s } ∷ [])
+-- the code and the row of the word with this number and of this sort were added behind those that stood
+abbrev pub PlacesWord : List WordDef → ℕ → Bool → Sort → Parts → Parts → Type 0
+PlacesWord words w is_top s old new =
+    (new.piece.code ≡ old.piece.code ++ sort_code words is_top old.piece.texts s) × (new.piece.texts ≡ sort_texts old.piece.texts s) × (new.templates ≡ old.templates) × (new.words ≡ old.words ++ record { name = w; action = sort_action (length old.piece.code) s } ∷ [])
 
 -- the code and the rows of all words were added
 abbrev pub PlacesWords : List WordDef → ℕ → Parts → Parts → Type 0

@@ -1,5 +1,5 @@
 -- A run of the machine that carries a program, in terms of the program's meaning.
-use Rattle.std.specs.Prelude.{◌≡◌, ℕ, ◌-◌, List, [], ◌++◌, codes}
+use Rattle.std.specs.Prelude.{◌≡◌, ℕ, ◌-◌, List, [], ◌++◌, slice_get, codes}
 use Rattle.std.specs.declared.option.Option.{Option}
 use Rattle.std.specs.Option.{option_map}
 use Rattle.std.specs.Fmt.{signed_decimal}
@@ -18,14 +18,16 @@ use Rattle.fac_check.specs.CallableEffects.{callable_height, fits}
 use Rattle.fac_check.specs.Promises.{IsSafe}
 use Rattle.fac_code.specs.declared.image.Image.{Image}
 use Rattle.fac_prim.specs.MachineValues.{MValue}
+use Rattle.fac_code.specs.WordNames.{or_empty, image_names}
 use Rattle.fac_prim.specs.ValueTrees.{Trees, text_at}
 use Rattle.fac_prim.specs.declared.value.Value.{Value as MachineValue}
-use Rattle.fac_prim.specs.declared.value.Value.TheVariants.{Int, True, False, Text, Callable}
+use Rattle.fac_prim.specs.declared.value.Value.TheVariants.{Int, True, False, Text, Word, Callable}
 use Rattle.fac_vm.specs.declared.machine.RunError.{RunError}
 use Rattle.fac_vm.specs.declared.machine.StopKind.{StopKind}
 use Rattle.fac_vm.specs.declared.machine.StopKind.TheVariants as stop
 use Rattle.fac_vm.specs.Runs.{error_of}
 use Rattle.fac_emit.specs.Carries.{Carries}
+use Rattle.fac_emit.specs.ProgramCode.{word_names}
 use Rattle.fac_emit.specs.MachineView.{template_phrases, values_view, error_view}
 use Rattle.fac_notes.specs.declared.report.Report.{Report}
 use Rattle.fac_notes.specs.declared.report.Report.TheVariants as report
@@ -51,10 +53,11 @@ pub record StandsForSafe (closed : Closed) (P : Program) : Type 0 where
 abbrev pub SameNames : Program → Program → Type 0
 SameNames P C = (w : ℕ) → word_name C w ≡ word_name P w
 
--- with the checker's test of effects the image carries the program, whose top-level phrase isn't stuck from no value
+-- with the checker's test of effects the image carries the program, whose top-level phrase isn't stuck from no value; its words have the names of the program's
 pub record Carried (P : Program) (M : Image) : Type 0 where
   pub carries : Carries P fits (callable_height P) 0 M
   pub not_stuck : (n : ℕ) → IsNotStuck (meaning P n)
+  pub named : image_names M ≡ word_names P.words
 
 -- how a run with this budget stopped that left this stack, where the machine's callables are these
 abbrev pub StopsAs : Program → ℕ → Trees → List MValue → ℕ → SinkSeen → StopKind → Type 0
@@ -81,6 +84,7 @@ value_form T (Int z) = signed_decimal z
 value_form T True = codes "t"
 value_form T False = codes "f"
 value_form T (Text k) = codes "\"" ++ escaped_all (text_at T k) ++ codes "\""
+value_form T (Word a) = or_empty (slice_get T.names a)
 value_form T (Callable k) = codes "[ ... ]"
 
 -- and as it is told

@@ -5,7 +5,7 @@ use Rattle.fac_check.specs.inner.Walking.{body_phrase, IsThisWord}
 use Rattle.fac_check.proofs.BuiltWords.{built_as, built_primitive_word}
 use Rattle.fac_check.proofs.DoingLemmas.{doing_of}
 use Rattle.fac_check.proofs.TakenPrograms.{core_below, primitive_below}
-use Rattle.fac_check.proofs.WordItems.{ok_maps, is_prim, is_body, prim_item, prim_ins, prim_outs, body_item}
+use Rattle.fac_check.proofs.WordItems.{ok_maps, is_prim, is_body, is_symbol, symbol_item, prim_item, prim_ins, prim_outs, body_item}
 use Rattle.fac_check.proofs.doing.word_item.Goals as goal
 
 pub core-requires-clause-number : goal.core-requires-clause-number
@@ -45,3 +45,15 @@ returns-in-Body-clause-does c =
     let sort = is_body P c.args.number d w closes is_built _ c.in-Body.is in
     body_item P c.args.number d w closes sort.0 _ _ _ b (stack_of N c.args.marks.now c.args.stack) is_built at sort.1 (λ e. omega (arith, low, e)) refl refl (does N (body_phrase P) b))
     c.defined.ensures.does
+
+pub returns-in-Itself-clause-there : goal.returns-in-Itself-clause-there
+returns-in-Itself-clause-there c = ok_maps c.reference.result (λ r there. doing_of _ (IsThisWord c.args.number c.args.word.now) _ r (λ w none. absurd none) there) c.reference.ensures.there
+
+pub returns-in-Itself-clause-does : goal.returns-in-Itself-clause-does
+returns-in-Itself-clause-does c =
+    let w = c.args.word.now in
+    ok_maps c.reference.result
+    (λ r does P d low at built closes N b.
+    let sort = is_symbol P c.args.number d w closes (built_as P built c.args.number d at) c.in-Itself.is in
+    symbol_item P c.args.number d w closes _ b (stack_of N c.args.marks.now c.args.stack) sort (does N (body_phrase P) b))
+    c.reference.ensures.does

@@ -1,4 +1,5 @@
-use Rattle.std.proofs.Common.{[]}
+use Rattle.std.proofs.Common.{[], ap, ◌∙◌}
+use Rattle.fac_code.specs.WordNames.{image_names}
 use Rattle.fac_tool.specs.Answer.{run_answer}
 use Rattle.fac_tool.proofs.EndLemmas.{done_matches, failed_matches, spent_matches}
 use Rattle.fac_tool.proofs.EarlyEnds.{no_memory_in_run, write_fault_in_run}
@@ -8,7 +9,8 @@ pub returns-in-Ok-clause-ends : goal.returns-in-Ok-clause-ends
 returns-in-Ok-clause-ends g c P named carries =
     let stops = rw c.in-Done.is at (c.run_machine-stop.ensures.stops P carries) in
     let pieces = rw c.in-Done.is at (c.run_machine-stop.ensures.pieces P carries) in
-    (done_matches P c.args.budget _ c.stack.result.now _ c.run_machine-stop.result.ticks _ c.in-Ok.texts c.stack.ensures (rw c.store.ensures at c.in-Ok.ensures) stops, pieces)
+    let called = c.store.ensures.names ∙ ap image_names c.run_machine-stop.ensures.image ∙ carries.named in
+    (done_matches P c.args.budget _ c.stack.result.now _ c.run_machine-stop.result.ticks _ c.in-Ok.texts called c.stack.ensures (rw c.store.ensures.trees at c.in-Ok.ensures) stops, pieces)
 
 pub returns-in-Err-clause-ends : goal.returns-in-Err-clause-ends
 returns-in-Err-clause-ends g c P named carries =
@@ -19,7 +21,8 @@ pub returns-in-Ok-error_report-clause-ends : goal.returns-in-Ok-error_report-cla
 returns-in-Ok-error_report-clause-ends g c P named carries =
     let stops = rw c.in-Failed.is at (c.run_machine-stop.ensures.stops P carries) in
     let pieces = rw c.in-Failed.is at (c.run_machine-stop.ensures.pieces P carries) in
-    rw (c.reported.ensures, c.in-Ok-error_report.ensures, c.store-in-Failed.ensures) (failed_matches P c.args.program.now c.args.budget _ c.in-Failed.error [] c.run_machine-stop.result.ticks _ named stops, pieces)
+    let called = c.store-in-Failed.ensures.names ∙ ap image_names c.run_machine-stop.ensures.image ∙ carries.named in
+    rw (c.reported.ensures, c.in-Ok-error_report.ensures, c.store-in-Failed.ensures.trees) (failed_matches P c.args.program.now c.args.budget _ c.in-Failed.error [] c.run_machine-stop.result.ticks _ called named stops, pieces)
 
 pub returns-in-Err-error_report-clause-ends : goal.returns-in-Err-error_report-clause-ends
 returns-in-Err-error_report-clause-ends g c P named carries =
@@ -30,7 +33,7 @@ pub returns-in-Spent-clause-ends : goal.returns-in-Spent-clause-ends
 returns-in-Spent-clause-ends g c P named carries =
     let stops = rw c.in-Spent.is at (c.run_machine-stop.ensures.stops P carries) in
     let pieces = rw c.in-Spent.is at (c.run_machine-stop.ensures.pieces P carries) in
-    rw c.reported-in-Spent.ensures (spent_matches P c.args.budget (record { callables = []; texts = [] }) [] c.run_machine-stop.result.ticks _ stops, pieces)
+    rw c.reported-in-Spent.ensures (spent_matches P c.args.budget (record { callables = []; texts = []; names = [] }) [] c.run_machine-stop.result.ticks _ stops, pieces)
 
 pub unreachable-requires : goal.unreachable-requires
 unreachable-requires g c = rw c.in-Trap.is at (c.run_machine-stop.ensures.stops c.requires.carries.0 c.requires.carries.1)
