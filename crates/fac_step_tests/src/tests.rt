@@ -112,7 +112,7 @@ fn is_coded(image: &Image) -> bool {
         Instr::Ret,
         Instr::True,
         Instr::Callw {
-            word: 41,
+            word: 46,
             tail: false,
         },
         Instr::Quot(4),
