@@ -112,7 +112,7 @@ fn is_coded(image: &Image) -> bool {
         Instr::Ret,
         Instr::True,
         Instr::Callw {
-            word: 46,
+            word: image.words.len().saturating_sub(2),
             tail: false,
         },
         Instr::Quot(4),
