@@ -9,7 +9,7 @@ use Rattle.std.specs.Str.{bytes_eq}
 use Rattle.fac_lang.specs.Forms.{IsBuilt, IsBuiltPhrase, IsBuiltSort, AreBuiltWords, IsPrimitiveWord, IsCoreWord, IsDefinedWord, IsSymbolWord, IsTopPhrase, IsPlainEffect, is_member, numbers_before, primitive_numbers, has_no_repeats}
 use Rattle.fac_lang.specs.Meaning.{sort_of, is_past}
 use Rattle.fac_lang.specs.PrimitiveWords.{PrimitiveWord, plain_inputs, plain_leaving, written_effect}
-use Rattle.fac_lang.specs.Phrases.{Phrase, end, then, Item, lit, int, yes, no, str, quot, word}
+use Rattle.fac_lang.specs.Phrases.{Phrase, end, then, Item, lit, int, yes, no, str, wrd, quot, word}
 use Rattle.fac_lang.specs.Whole.{IsWhole, each_item, each_numbered, locals_bound, holes_within, item_fits, item_spares, is_body, tests_small, word_phrases, sort_fits, has_written_effect, has_generic_effect, marks_fit, effect_eq, inputs_eq, leaving_eq, names_eq, name_count, no_two, same_word, same_method}
 use Rattle.fac_lang.specs.declared.program.Program.{Program}
 use Rattle.fac_lang.specs.declared.program.Sort.{Sort}
@@ -31,6 +31,7 @@ record Passes (bound : ℕ) (f : Item → Bool) : Type 0 where
   truth : f (lit yes) ≡ true
   falsity : f (lit no) ≡ true
   strings : (cs : List ℕ) → f (lit (str cs)) ≡ true
+  references : (w : ℕ) → nat_lt w bound ≡ true → f (lit (wrd w)) ≡ true
   quotations : (t : Phrase) → f (quot t) ≡ true
   words : (w : ℕ) → nat_lt w bound ≡ true → f (word w) ≡ true
 
@@ -40,6 +41,7 @@ items_pass bound f p (then (lit (int z)) place t) h = three_true (f (lit (int z)
 items_pass bound f p (then (lit yes) place t) h = three_true (f (lit yes)) true (each_item f t) p.truth refl (items_pass bound f p t h.1)
 items_pass bound f p (then (lit no) place t) h = three_true (f (lit no)) true (each_item f t) p.falsity refl (items_pass bound f p t h.1)
 items_pass bound f p (then (lit (str cs)) place t) h = three_true (f (lit (str cs))) true (each_item f t) (p.strings cs) refl (items_pass bound f p t h.1)
+items_pass bound f p (then (lit (wrd w)) place t) h = three_true (f (lit (wrd w))) true (each_item f t) (p.references w h.0) refl (items_pass bound f p t h.1)
 items_pass bound f p (then (quot u) place t) h = three_true (f (quot u)) (each_item f u) (each_item f t) (p.quotations u) (items_pass bound f p u h.0) (items_pass bound f p t h.1)
 items_pass bound f p (then (word w) place t) h = three_true (f (word w)) true (each_item f t) (p.words w h.0) refl (items_pass bound f p t h.1)
 items_pass bound f p (then i place t) h = absurd h.0
@@ -50,6 +52,7 @@ phrase_bound bound xs (then (lit (int z)) place t) h = phrase_bound bound xs t h
 phrase_bound bound xs (then (lit yes) place t) h = phrase_bound bound xs t h.1
 phrase_bound bound xs (then (lit no) place t) h = phrase_bound bound xs t h.1
 phrase_bound bound xs (then (lit (str cs)) place t) h = phrase_bound bound xs t h.1
+phrase_bound bound xs (then (lit (wrd w)) place t) h = phrase_bound bound xs t h.1
 phrase_bound bound xs (then (quot u) place t) h = both_are (locals_bound xs u) (locals_bound xs t) (phrase_bound bound xs u h.0) (phrase_bound bound xs t h.1)
 phrase_bound bound xs (then (word w) place t) h = phrase_bound bound xs t h.1
 phrase_bound bound xs (then i place t) h = absurd h.0
@@ -60,6 +63,7 @@ phrase_without_holes bound (then (lit (int z)) place t) h = phrase_without_holes
 phrase_without_holes bound (then (lit yes) place t) h = phrase_without_holes bound t h.1
 phrase_without_holes bound (then (lit no) place t) h = phrase_without_holes bound t h.1
 phrase_without_holes bound (then (lit (str cs)) place t) h = phrase_without_holes bound t h.1
+phrase_without_holes bound (then (lit (wrd w)) place t) h = phrase_without_holes bound t h.1
 phrase_without_holes bound (then (quot u) place t) h = both_are (holes_within 0 u) (holes_within 0 t) (phrase_without_holes bound u h.0) (phrase_without_holes bound t h.1)
 phrase_without_holes bound (then (word w) place t) h = phrase_without_holes bound t h.1
 phrase_without_holes bound (then i place t) h = absurd h.0
@@ -241,7 +245,7 @@ whole words top b few =
     let P : Program = record { words = words; arrays = []; classes = []; top = top } in
     let all = all_built P b in
     record {
-      items_fit = all_items_pass top (item_fits P) (record { ints = λ z. refl; truth = refl; falsity = refl; strings = λ cs. refl; quotations = λ t. refl; words = word_fits P b }) words all;
+      items_fit = all_items_pass top (item_fits P) (record { ints = λ z. refl; truth = refl; falsity = refl; strings = λ cs. refl; references = word_fits P b; quotations = λ t. refl; words = word_fits P b }) words all;
       literals_fit = refl;
       sorts_fit = words_pass top (λ d. sort_fits P d.sort) (sort_passes P top) words all;
       shapes_fit = refl;
@@ -249,7 +253,7 @@ whole words top b few =
       arrays_once = refl;
       top_last = words_counted P b;
       top_phrase = ap is_body (top_sort P b);
-      items_spare = all_items_pass top (item_spares P) (record { ints = λ z. refl; truth = refl; falsity = refl; strings = λ cs. refl; quotations = λ t. refl; words = word_spares P b }) words all;
+      items_spare = all_items_pass top (item_spares P) (record { ints = λ z. refl; truth = refl; falsity = refl; strings = λ cs. refl; references = word_spares P b; quotations = λ t. refl; words = word_spares P b }) words all;
       literals_spare = refl;
       bound = all_phrases_pass top (locals_bound []) (phrase_bound top []) words all;
       holes_in_fries = all_phrases_pass top (holes_within 0) (phrase_without_holes top) words all;
@@ -257,7 +261,7 @@ whole words top b few =
       method_effects = words_pass top (has_generic_effect P) (generic_effect_passes P top) words all;
       marks_of_bodies = all_marks P b;
       few_names = few;
-      small_tests = all_items_pass top tests_small (record { ints = λ z. refl; truth = refl; falsity = refl; strings = λ cs. refl; quotations = λ t. refl; words = λ w k. refl }) words all;
+      small_tests = all_items_pass top tests_small (record { ints = λ z. refl; truth = refl; falsity = refl; strings = λ cs. refl; references = λ w k. refl; quotations = λ t. refl; words = λ w k. refl }) words all;
       slots_differ = refl;
       few_slots = refl;
       class_names_differ = refl;
