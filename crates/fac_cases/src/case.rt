@@ -3,6 +3,7 @@
 //! A line that doesn't begin with `@` is a line of the source, and an empty one ends the case. The others are
 //!
 //!     @about TEXT       what the cases from here on show
+//!     @file NAME        the lines from here on are of the source of the file with this name; those before the first such line are of `a`
 //!     @times N TEXT     the text N times, as a part of the source
 //!     @bytes N N ..     these bytes, as a part of the source
 //!     @words W W ..     the words of the command line, where `''` is an empty one; they are `run a` where no line says otherwise
@@ -11,7 +12,7 @@
 //!     @note N M         the write of this number to the notes fails after M bytes
 //!     @tokens N         no call: the source is a file of this number, and its tokens are told
 //!
-//! The source is what the one file `a` holds.
+//! There are the files of these sources and no others.
 use crate::telling::{tell_bytes, tell_end, tell_loads, tell_stack, tell_tokens};
 use fac_io::{Files, MemFiles, MemSink, Sink};
 use fac_lang::{Bytes, Duplicate, List, Memory, Text};
@@ -26,6 +27,9 @@ const ROOM: u64 = 1000;
 #[derive(Drop)]
 pub struct Case {
     words: Vec<String>,
+    // The files before the one whose lines come, and the name and the source of that one.
+    held: List<(Text, Bytes)>,
+    name: Text,
     source: Bytes,
     loads: List<u64>,
     output: List<(u64, u64)>,
@@ -139,14 +143,6 @@ fn called(
     Ok(told)
 }
 
-// The file `a` with this source.
-fn held(alloc: Global, source: Bytes) -> Result<List<(Text, Bytes)>, Memory> {
-    let name = Text::from_str(alloc, "a")?;
-    let mut held = List::new(alloc);
-    held.push((name, source))?;
-    Ok(held)
-}
-
 // A sink whose listed writes fail.
 fn sink(alloc: Global, fails: &List<(u64, u64)>) -> Result<MemSink, Memory> {
     MemSink::new(alloc, ROOM, fails.copy(alloc)?)
@@ -157,7 +153,9 @@ impl Case {
     pub fn new(alloc: Global) -> Result<Self, Memory> {
         Ok(Case {
             words: split(alloc, "run a")?,
-            source: Bytes::from_slice(alloc, b"".as_slice())?,
+            held: List::new(alloc),
+            name: Text::from_str(alloc, "a")?,
+            source: Bytes::new(alloc),
             loads: List::new(alloc),
             output: List::new(alloc),
             note: List::new(alloc),
@@ -186,6 +184,10 @@ impl Case {
     fn set(&mut self, alloc: Global, name: &str, text: &str) -> Result<bool, Memory> {
         match name {
             "about" => Ok(true),
+            "file" => {
+                self.begin_file(alloc, text)?;
+                Ok(true)
+            }
             "times" => push_times(&mut self.source, text),
             "bytes" => push_bytes(&mut self.source, text),
             "words" => {
@@ -203,7 +205,7 @@ impl Case {
         }
     }
 
-    /// What the case comes to. Its source is taken.
+    /// What the case comes to. Its sources are taken.
     pub fn told(&mut self, alloc: Global) -> Result<Text, Memory> {
         match self.tokens {
             Some(file) => tell_tokens(alloc, file, self.source.as_slice()),
@@ -211,10 +213,18 @@ impl Case {
         }
     }
 
-    // The one file, and the loads that fail.
-    fn files(&mut self, alloc: Global) -> Result<MemFiles, Memory> {
+    // Ends the file whose lines came, and begins one with this name.
+    fn begin_file(&mut self, alloc: Global, name: &str) -> Result<(), Memory> {
+        let next = Text::from_str(alloc, name)?;
+        let name = mem::replace(&mut self.name, next);
         let source = mem::replace(&mut self.source, Bytes::new(alloc));
-        let held = held(alloc, source)?;
+        self.held.push((name, source))
+    }
+
+    // The files, and the loads that fail.
+    fn files(&mut self, alloc: Global) -> Result<MemFiles, Memory> {
+        self.begin_file(alloc, "")?;
+        let held = mem::replace(&mut self.held, List::new(alloc));
         match self.loads.copy(alloc) {
             Ok(loads) => Ok(MemFiles::new(alloc, held, loads)),
             Err(Memory) => Err(Memory),
