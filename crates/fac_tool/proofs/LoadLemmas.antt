@@ -56,6 +56,7 @@ no_loads h a n = record { within = omega arith; told = nothing_told h; held = he
     nothing_told : (h : Option Held) → IfSome h (λ held. map held [] ≡ map Some [])
     nothing_told None = tt
     nothing_told (Some held) = refl
+
     held_same : (h : Option Held) → Stays h h
     held_same None = tt
     held_same (Some held) = refl

@@ -12,15 +12,15 @@ ghost use Rattle.fac_tool.specs.Answer.{definitions_in, on_resolved, on_verdict}
 ghost use Rattle.fac_tool.specs.inner.Stops.{SameNames, StandsFor, StandsForSafe};
 ghost use Rattle.fac_tool.specs.inner.StepEnds.{Accepts, EndsEarly, Steps, StepsOn};
 
-use crate::ended::{bare, reported};
 use crate::definitions::definitions;
+use crate::ended::{bare, reported};
 use crate::reading::read_trees;
 use crate::{Ended, Report};
 use fac_check::{Checked, Refusal, accept, check_words, first_refusal_is_verdict, first_refused};
 use fac_lang::{Bytes, List, Program, Tree};
 use fac_locals::{Closed, close};
-use fac_notes::word_name;
 use fac_names::{ResolveFault, resolve};
+use fac_notes::word_name;
 use std::alloc::Global;
 
 // The number of values that the top-level phrase starts from.

@@ -11,9 +11,16 @@ use fac_lang::limits::{MOST_STEPS, MOST_STEPS_DIGITS, TICKS};
 #[derive(Clone, Copy, Debug, PartialEq, Eq)]
 pub enum Command {
     /// Checks FILES, and tells how many definitions they have.
-    Check { first: usize, end: usize },
+    Check {
+        first: usize,
+        end: usize,
+    },
     /// Compiles FILES and runs them with a budget of so many ticks.
-    Run { steps: u64, first: usize, end: usize },
+    Run {
+        steps: u64,
+        first: usize,
+        end: usize,
+    },
 }
 
 impl Command {
@@ -93,7 +100,10 @@ fn read_check(files: &[String]) -> Option<Command>
     ensures within { IfSome result (λ command. StandAmong (1 + length files.now) command) }
 {
     if are_files(files) {
-        Some(Command::Check { first: 1, end: 1 + files.len() })
+        Some(Command::Check {
+            first: 1,
+            end: 1 + files.len(),
+        })
     } else {
         None
     }
@@ -106,7 +116,11 @@ fn run_files(steps: u64, first: usize, files: &[String]) -> Option<Command>
     ensures within { IfSome result (λ command. StandAmong (first + length files.now) command) }
 {
     if are_files(files) {
-        Some(Command::Run { steps, first, end: first + files.len() })
+        Some(Command::Run {
+            steps,
+            first,
+            end: first + files.len(),
+        })
     } else {
         None
     }
