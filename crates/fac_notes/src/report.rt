@@ -29,7 +29,7 @@ pub enum Report {
         at: u64,
         why: ByteFault,
     },
-    /// A file has no tree. `at` is the number of the first token with which no tree goes on, or of the one that is missing at the end.
+    /// A file has no tree. `at` is 0 where the place isn't told.
     Syntax {
         file: u32,
         at: u32,

@@ -10,7 +10,7 @@ use fac_lang::limits::{MOST_STEPS, MOST_STEPS_DIGITS, TICKS};
 /// words don't have the program's name.
 #[derive(Clone, Copy, Debug, PartialEq, Eq)]
 pub enum Command {
-    /// Checks FILES, and tells how many definitions they have.
+    /// Compiles FILES, and tells how many definitions they have.
     Check {
         first: usize,
         end: usize,
