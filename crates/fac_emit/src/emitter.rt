@@ -7,7 +7,8 @@ ghost use Rattle.fac_lang.specs.Forms.{IsBuilt};
 ghost use Rattle.fac_lang.specs.CoreWords.{is_built_core};
 ghost use Rattle.fac_lang.specs.Meaning.{sort_of};
 ghost use Rattle.fac_locals.specs.Closed.{Closes};
-ghost use Rattle.fac_emit.specs.ProgramCode.{core_instr, sort_instr, item_instr, with_text, phrase_code, phrase_texts, row_at, templates_code, templates_texts, template_rows, last_instr, sort_code, sort_texts};
+ghost use Rattle.fac_emit.specs.ProgramCode.{core_instr, sort_instr, item_instr, with_text, phrase_code, phrase_texts, last_instr, sort_code, sort_texts};
+ghost use Rattle.fac_emit.specs.inner.AddedTemplates.{AddsTemplate, AddsTemplates};
 ghost use Rattle.fac_emit.specs.inner.Coded.{sort_is_coded, item_is_coded, phrase_is_coded, template_is_coded, body_is_coded};
 ghost use Rattle.fac_emit.specs.inner.FoundCode.{IsCodeOf, found_code, found_texts, found_template, found_template_texts};
 ghost use Rattle.fac_emit.specs.Emits.{Emits, TemplateEmits};
@@ -124,7 +125,7 @@ fn add_template(
     template: &Template,
 ) -> Result<(), Memory>
     requires { template_is_coded words.now template.now ≡ true }
-    ensures { OnOk result ((piece.new.code ≡ piece.old.code ++ phrase_code words.now Instr.Ret piece.old.texts template.now.body) × (piece.new.texts ≡ phrase_texts piece.old.texts template.now.body) × (rows.new ≡ rows.old ++ row_at (length piece.old.code) template.now ∷ [])) }
+    ensures { OnOk result (AddsTemplate words.now template.now piece.old piece.new rows.old rows.new) }
 {
     let entry = piece.code.len();
     let cells = template.captures.copy(alloc)?;
@@ -145,7 +146,7 @@ pub fn add_templates(
     templates: &List<Template>,
 ) -> Result<(), Memory>
     requires { list_all (template_is_coded words.now) templates.now ≡ true }
-    ensures { OnOk result ((piece.new.code ≡ piece.old.code ++ templates_code words.now piece.old.texts templates.now) × (piece.new.texts ≡ templates_texts piece.old.texts templates.now) × (rows.new ≡ rows.old ++ template_rows words.now piece.old.texts (length piece.old.code) templates.now)) }
+    ensures { OnOk result (AddsTemplates words.now templates.now piece.old piece.new rows.old rows.new) }
 {
     for template in templates.as_slice() {
         add_template(alloc, piece, rows, words, template)?;
