@@ -1,5 +1,6 @@
 """The kinds of cases that bench/compare.py makes at random. Each makes one case, or the source of a run, from a source of chance."""
 
+import functools
 import random
 import re
 from dataclasses import dataclass
@@ -105,8 +106,16 @@ def written(items):
 
 def effect(inputs, outputs):
     """An effect with so many names on both sides; outputs are None for a word that never returns."""
-    right = "*" if outputs is None else " ".join(["x"] * outputs)
-    return f"( {' '.join(['a'] * inputs)} -- {right} )"
+    return written_effect(model.plain_effect(inputs, outputs))
+
+
+def written_effect(said):
+    """An effect as it is written."""
+    names = ["a" if quotation is None else f"q: {written_effect(quotation)}" for quotation in said.inputs]
+    left = " ".join([said.row_in] * (said.row_in is not None) + names)
+    names = ["*"] if said.outputs is None else ["x"] * said.outputs
+    right = " ".join([said.row_out] * (said.row_out is not None) + names)
+    return f"( {left} -- {right} )"
 
 
 def source_of(*texts):
@@ -124,11 +133,33 @@ def named(word):
     return model.Named(word.name, 0, word)
 
 
+# The names of inputs of the prelude's words that are quotations.
+QUOTATION_NAMES = {"quot", "p", "q", "r", "true", "false"}
+
+
+@functools.cache
+def words_of_prelude():
+    """The words of the prelude that a program finds which uses kernel and math, and those of their inputs that are to be quotations, with
+    the effect of each that has one."""
+    if not is_built("prelude"):
+        return [], {}
+    names = model.names_of([])
+    found = [word for word in names.words if not word.vocabulary.endswith(".private")]
+    tokens = model.PRELUDE.decode().split()
+    quotations = {}
+    for word in found:
+        begin = tokens.index(word.name, tokens.index(":")) + 2
+        inputs = tokens[begin : tokens.index("--", begin)]
+        quotations[word] = [name in QUOTATION_NAMES for name in inputs]
+    return found, quotations
+
+
 class Author:
     """Makes items at random, with the model as its guide: of those that it makes most are accepted by the checker.
 
-    `slips` is the share of items that are taken whatever the checker says. An abstract stack is a list of marks, or None where
-    nothing behind it is reached.
+    `slips` is the share of items that are taken whatever the checker says. An abstract stack is a model.Stack, or None where
+    nothing behind it is reached. `own` is the row word whose text is made, if it is one. `loops` is the share of uses of row words and of
+    the prelude's words among the items.
     """
 
     # A walk that guides is given up after so many items, and a run after so many ticks.
@@ -137,19 +168,22 @@ class Author:
     # An abstract stack that is higher is tall.
     TALL = 12
 
-    def __init__(self, chance, slips):
+    def __init__(self, chance, slips, loops=0.08):
         self.chance = chance
         self.slips = slips
+        self.loops = loops
         self.words = []
         self.operations = operations()
         self.marks = model.Marks()
+        self.prelude, self.quotations = words_of_prelude()
+        self.own = None
 
     def item(self, depth):
         """An item, with quotations at most so deep in it."""
         chance = self.chance
         share = chance.random()
         if share < 0.14:
-            return model.Literal(chance.choice(STRINGS if is_built("string") and happens(chance, 0.35) else NUMBERS))
+            return self.value()
         if share < 0.20:
             return model.Literal(happens(chance, 0.5))
         if share < 0.40 and depth > 0:
@@ -164,12 +198,72 @@ class Author:
             return named(chance.choice(self.words[-6:] if happens(chance, 0.7) else self.words))
         return named(chance.choice(CALLABLE_WORDS))
 
+    def value(self):
+        """An item that pushes an integer or a string."""
+        return model.Literal(self.chance.choice(STRINGS if is_built("string") and happens(self.chance, 0.35) else NUMBERS))
+
+    def group(self, stack, depth):
+        """One item, or the use of a word that takes quotations with the items that push its inputs."""
+        chance = self.chance
+        if stack is not None and depth > 0 and happens(chance, self.loops):
+            words = [word for word in self.words if word.is_row_word()]
+            words = words if words and happens(chance, 0.6) else self.prelude
+            if words:
+                loops, self.loops = self.loops, self.loops / 5
+                items = self.use(chance.choice(words), stack, depth)
+                self.loops = loops
+                return items
+        return [self.item(depth)]
+
+    def use(self, word, stack, depth):
+        """A use of a word with the items that push its inputs, mostly all of them: quotations fit what the word does with them."""
+        chance = self.chance
+        rows = {word.outer_rows()[0]: stack}
+        items = []
+        for number, quotation in enumerate(word.effect.inputs):
+            if quotation is not None:
+                items.append(model.Literal(self.fitting(quotation, rows, depth - 1)))
+            elif self.quotations.get(word, [])[number : number + 1] == [True]:
+                items.append(model.Literal(self.quotation(depth)))
+            elif word.name == "times":
+                items.append(model.Literal(chance.choice([0, 1, 2, 3, 3, -1])))
+            else:
+                items.append(self.value() if happens(chance, 0.7) else model.Literal(happens(chance, 0.5)))
+        pushed = len(items) if happens(chance, 0.75) else chance.randint(0, len(items))
+        return items[len(items) - pushed :] + [named(word)]
+
+    def fitting(self, quotation, rows, depth):
+        """A quotation for an input with this effect, where these rows are bound; it binds the row behind it. Few don't fit."""
+        chance = self.chance
+        start = model.Stack(None, []) if quotation.row_in is None else rows.get(quotation.row_in)
+        if start is None:
+            return self.quotation(depth + 1)
+        start = start.behind(0, *[model.UNKNOWN] * len(quotation.inputs))
+        items, stack = self.phrase(start, chance.choice([0, 1, 1, 2, 3, 4]), depth)
+        if quotation.outputs is None and stack is not None and not happens(chance, 0.1):
+            items += [model.Literal(5), named(model.THROW)]
+            stack = None
+        if stack is not None and quotation.outputs is not None:
+            bound = rows.get(quotation.row_out) or model.Stack(stack.base, [])
+            wanted = len(bound.marks) + quotation.outputs
+            if quotation.row_out is not None and quotation.row_out not in rows:
+                wanted = max(quotation.outputs, len(stack.marks))
+            items += [named(model.DROP)] * (len(stack.marks) - wanted)
+            while len(stack.marks) < wanted:
+                items.append(model.Literal(chance.choice([0, False, True])))
+                stack = stack.behind(0, model.UNKNOWN)
+            if happens(chance, 0.04):
+                items.append(self.item(depth))
+        if quotation.row_out is not None and quotation.row_out not in rows:
+            rows[quotation.row_out] = None if stack is None else stack.behind(quotation.outputs)
+        return model.Quotation(items)
+
     def quotation(self, depth):
         """A quotation, four times in five of items that can be walked together on a few values."""
         chance = self.chance
         size = 0 if happens(chance, 0.15) else chance.randint(0, 6)
         if happens(chance, 0.8):
-            return model.Quotation(self.phrase(self.few_marks(), size, depth - 1)[0])
+            return model.Quotation(self.phrase(model.Stack(None, self.few_marks()), size, depth - 1)[0])
         return model.Quotation([self.item(depth - 1) for _ in range(size)])
 
     def few_marks(self):
@@ -180,76 +274,76 @@ class Author:
         """The mark of an empty quotation in this share of cases, and else that of an unknown value."""
         return self.marks.of_value(model.Quotation([])) if happens(self.chance, known) else model.UNKNOWN
 
-    def walked(self, item, stack):
-        """The abstract stack behind an item. Refused is raised where the checker refuses it."""
-        return model.Walk(self.marks, self.MOST_WALKED).item(item, list(stack), 0)
+    def walked(self, items, stack):
+        """The abstract stack behind some items. Refused is raised where the checker refuses one."""
+        return model.Walk(self.marks, self.own, self.MOST_WALKED).items(items, stack.behind(0), 0)
 
     def keeps(self, behind, share):
         """Whether an item is kept that leads to this abstract stack. In this share of cases one is given up behind which nothing
         is reached, and mostly one that makes the stack tall."""
         if behind is None:
             return not happens(self.chance, share)
-        return len(behind) <= self.TALL or not happens(self.chance, 0.8)
+        return len(behind.marks) <= self.TALL or not happens(self.chance, 0.8)
 
     def phrase(self, stack, count, depth):
         """About so many items from this abstract stack, and the one behind them."""
         items = []
         for _ in range(count * 12):
-            if len(items) == count:
+            if len(items) >= count:
                 break
-            item = self.item(depth)
+            group = self.group(stack, depth)
             if happens(self.chance, self.slips):
-                items.append(item)
-                stack = self.behind_slip(item, stack)
+                items += group
+                stack = self.behind_slip(group, stack)
             elif stack is None:
                 if happens(self.chance, 0.5):
                     break
-                items.append(item)
+                items += group
             else:
                 try:
-                    behind = self.walked(item, stack)
+                    behind = self.walked(group, stack)
                 except model.Refused:
                     continue
                 if self.keeps(behind, 0.7):
                     stack = behind
-                    items.append(item)
+                    items += group
         return items, stack
 
-    def behind_slip(self, item, stack):
-        """The abstract stack behind an item that was taken unseen: any few marks where the checker refuses it."""
+    def behind_slip(self, group, stack):
+        """The abstract stack behind items that were taken unseen: any few marks where the checker refuses one."""
         try:
-            return None if stack is None else self.walked(item, stack)
+            return None if stack is None else self.walked(group, stack)
         except model.Refused:
-            return [model.UNKNOWN] * self.chance.randint(0, 4)
+            return model.Stack(stack.base, [model.UNKNOWN] * self.chance.randint(0, 4))
 
     def running_phrase(self, stack, values, count, depth):
         """As a phrase, but the items run too, from these values, and most that fail or run long are given up. Gives the items,
         the abstract stack and the values behind them. Both are None behind a slip, and the values alone where a run is lost."""
         items = []
         for _ in range(count * 12):
-            if len(items) == count or stack is None:
+            if len(items) >= count or stack is None:
                 break
-            item = self.item(depth)
+            group = self.group(stack, depth)
             if happens(self.chance, self.slips / 2):
-                return items + [item], None, None
+                return items + group, None, None
             try:
-                behind = self.walked(item, stack)
+                behind = self.walked(group, stack)
                 if not self.keeps(behind, 0.9):
                     continue
-                behind_values = None if values is None else self.values_behind(item, values)
+                behind_values = None if values is None else self.values_behind(group, values)
             except (model.Refused, model.RunError, model.Spent):
                 continue
             stack = behind
             values = behind_values
-            items.append(item)
+            items += group
         return items, stack, values
 
-    def values_behind(self, item, values):
-        """The values that an item leaves of these. Where it fails or runs long that is raised, but for a few cases, which are
+    def values_behind(self, group, values):
+        """The values that items leave of these. Where one fails or runs long that is raised, but for a few cases, which are
         kept. Then None is given, and so it is where a word that the checker refuses makes the run stuck."""
         run = model.Run(self.MOST_TICKS, list(values))
         try:
-            run.run([item])
+            run.run(group)
         except model.Stuck:
             return None
         except model.RunError:
@@ -267,23 +361,92 @@ class Author:
         themselves. Gives the word and the text of its definition."""
         chance = self.chance
         if is_built("SYMBOL:") and happens(chance, 0.1):
-            return self.with_no_text(model.Word(chance.choice(names), 0, 0, 1, symbol=True), "SYMBOL:", "")
+            return self.with_no_text(model.Word(chance.choice(names), effect=model.plain_effect(0, 1), symbol=True), "SYMBOL:", "")
         if is_built("CONSTANT:") and happens(chance, 0.1):
             literal = model.Literal(chance.choice(NUMBERS))
-            word = model.Word(chance.choice(names), 0, 0, 1, [literal])
+            word = model.Word(chance.choice(names), effect=model.plain_effect(0, 1), text=[literal])
             return self.with_no_text(word, "CONSTANT:", written([literal]))
-        word = model.Word(chance.choice(names), 0, chance.choice([0, 0, 1, 1, 2, 2, 3, 4]), chance.randint(0, 3))
+        if is_built("rows") and happens(chance, self.loops):
+            return self.row_definition(chance.choice(names))
+        inputs = chance.choice([0, 0, 1, 1, 2, 2, 3, 4])
+        word = model.Word(chance.choice(names), effect=model.plain_effect(inputs, chance.randint(0, 3)))
         inline = happens(chance, 0.45)
         calls_itself = happens(chance, 0.12 if not inline else 0.02)
         if calls_itself:
             self.words.append(word)
-        word.text, behind = self.phrase(self.marks_of_inputs(word.inputs, inline), chance.randint(0, 10), 3)
+        word.text, behind = self.phrase(model.Stack(None, self.marks_of_inputs(inputs, inline)), chance.randint(0, 10), 3)
         if not calls_itself:
             self.words.append(word)
-        word.outputs = self.outputs(word.outputs, behind, calls_itself)
+        word.effect.outputs = self.outputs(word.effect.outputs, behind, calls_itself)
         word.inline = inline
-        mark = "inline" if inline else "recursive" if happens(chance, 0.05) else ""
-        return word, f": {word.name} {effect(word.inputs, word.outputs)} {written(word.text)} ; {mark}"
+        word.recursive = happens(chance, 0.05) and (not inline or is_built("rows"))
+        return word, self.written_definition(word)
+
+    def written_definition(self, word):
+        """The text of a definition, with its marks in any order."""
+        marks = ["inline"] * word.inline + ["recursive"] * word.recursive
+        self.chance.shuffle(marks)
+        return f": {word.name} {written_effect(word.effect)} {written(word.text)} ; {' '.join(marks)}"
+
+    def row_definition(self, name):
+        """A row word of this name, which is added to the words, and the text of its definition. Its text is made with its effect as the
+        guide, and mostly its outer output row and its outputs are those of its text."""
+        chance = self.chance
+        word = model.Word(name, effect=some_row_effect(chance), inline=not happens(chance, 0.02))
+        word.recursive = not word.effect.has_rows() or happens(chance, 0.35)
+        self.words.append(word)
+        if model.breaks_row_declaration(word) or not word.inline:
+            word.text = [self.item(1) for _ in range(chance.randint(0, 3))]
+            return word, self.written_definition(word)
+        self.own = word
+        inputs = [
+            model.UNKNOWN if quotation is None else self.marks.of_input(number) for number, quotation in enumerate(word.effect.inputs, 1)
+        ]
+        items, stack = self.row_phrase(model.Stack(word.outer_rows()[0], inputs), chance.randint(0, 7))
+        while stack is not None and stack.marks and happens(chance, 0.8):
+            extra = len(stack.marks) > (word.effect.outputs or 0)
+            knows = type(stack.marks[-1]) is model.InputMark
+            if not (extra or knows):
+                break
+            group = [named(model.CALL if knows and happens(chance, 0.6) else model.DROP)]
+            stack = self.behind_slip(group, stack)
+            items += group
+        self.own = None
+        word.text = items
+        self.settle(word, stack)
+        return word, self.written_definition(word)
+
+    def row_phrase(self, stack, count):
+        """The items of a row word's text, and the abstract stack behind them: inputs are called in many ways."""
+        items = []
+        for _ in range(count * 6):
+            if len(items) >= count or stack is None:
+                break
+            group = self.chance.choice(ROW_GROUPS)() if happens(self.chance, 0.5) else self.group(stack, 2)
+            if happens(self.chance, 0.15 if self.own.recursive else 0.01):
+                group = [named(self.own)]
+            try:
+                behind = self.walked(group, stack)
+            except model.Refused:
+                if not happens(self.chance, self.slips):
+                    continue
+                behind = self.behind_slip(group, stack)
+            stack = behind
+            items += group
+        return items, stack
+
+    def settle(self, word, stack):
+        """Says in the effect of a row word what its text leaves, mostly."""
+        chance = self.chance
+        if happens(chance, 0.04):
+            return
+        if stack is None:
+            if happens(chance, 0.5):
+                word.effect.outputs, word.effect.row_out = None, None
+            return
+        word.effect.outputs = len(stack.marks) if happens(chance, 0.97) else chance.randint(0, 3)
+        if word.effect.has_rows():
+            word.effect.row_out = stack.base if happens(chance, 0.97) else "..b"
 
     def with_no_text(self, word, head, rest):
         """A word that a form of its name and this rest defines, which is added to the words, and the text of the form."""
@@ -304,7 +467,7 @@ class Author:
             return None if happens(chance, 0.6) else chance.randint(0, 3)
         if happens(chance, 0.02):
             return None
-        outputs = guessed if calls_itself and happens(chance, 0.5) else len(behind)
+        outputs = guessed if calls_itself and happens(chance, 0.5) else len(behind.marks)
         if happens(chance, 0.03):
             return max(0, outputs + chance.choice([-1, 1]))
         return outputs
@@ -318,6 +481,93 @@ class Author:
         return True
 
 
+def group_of(*words):
+    """What makes items of these words anew, where a list is a quotation."""
+
+    def make():
+        return [model.Literal(model.Quotation(group_of(*word)())) if isinstance(word, list) else named(word) for word in words]
+
+    return make
+
+
+SHUFFLE = {word.name: word for word in model.SHUFFLES}
+
+# What texts of row words do with their inputs.
+ROW_GROUPS = [
+    group_of(model.CALL),
+    group_of(model.CALL),
+    group_of(model.DIP),
+    group_of([model.CALL], model.DIP),
+    group_of(SHUFFLE["dup"], model.DIP),
+    group_of(SHUFFLE["swap"], model.DIP),
+    group_of(SHUFFLE["over"], model.DIP),
+    group_of(SHUFFLE["swap"], [model.CALL], model.DIP),
+    group_of(SHUFFLE["dup"], [model.CALL], model.DIP),
+    group_of(SHUFFLE["swap"]),
+    group_of(SHUFFLE["drop"]),
+    group_of(SHUFFLE["rot"]),
+    group_of(SHUFFLE["swap"], [model.CALL], [SHUFFLE["drop"]], model.IF),
+    group_of(model.IF),
+    group_of(model.CURRY),
+    group_of(model.COMPOSE),
+    group_of([], model.COMPOSE),
+    group_of([[], model.CURRY], model.DIP),
+]
+
+ROWS = ["..a", "..b", "..c"]
+
+
+def some_row_effect(chance):
+    """The effect of a row word: mostly one whose rows can be bound from left to right."""
+    if happens(chance, 0.15):
+        inputs = [some_quotation_effect(chance, [], 0) if happens(chance, 0.5) else None for _ in range(chance.randint(0, 3))]
+        return model.Effect(inputs, None if happens(chance, 0.1) else chance.randint(0, 2))
+    bound = ["..a"]
+    inputs = []
+    for _ in range(chance.choice([1, 1, 1, 2, 2, 3])):
+        inputs.append(None if happens(chance, 0.3) else some_quotation_effect(chance, bound, 1))
+    row_out = chance.choice(bound) if happens(chance, 0.6) else bound[-1]
+    said = model.Effect(inputs, chance.choice([0, 0, 0, 1, 1, 2]), "..a", row_out)
+    if happens(chance, 0.06):
+        said.outputs, said.row_out = None, None
+    if happens(chance, 0.07):
+        with_a_wrong_row(chance, said)
+    return said
+
+
+def some_quotation_effect(chance, bound, nests):
+    """The effect of a quotation input where these rows are bound; it may bind one more, and have inputs with effects as deep as this."""
+    inputs = [None] * chance.choice([0, 0, 0, 1, 1, 2])
+    if nests and inputs and happens(chance, 0.15):
+        inputs[0] = some_quotation_effect(chance, list(bound), nests - 1)
+    if not bound or happens(chance, 0.15):
+        return model.Effect(inputs, None if happens(chance, 0.25) else chance.choice([0, 1, 1, 2]))
+    row_in = chance.choice(bound)
+    row_out = chance.choice(bound)
+    if len(bound) < len(ROWS) and happens(chance, 0.35):
+        row_out = ROWS[len(bound)]
+    if nests and row_out not in bound:
+        bound.append(row_out)
+    elif row_out not in bound:
+        row_out = row_in
+    return model.Effect(inputs, chance.choice([0, 0, 0, 1, 1, 2]), row_in, row_out)
+
+
+def with_a_wrong_row(chance, said):
+    """Changes one row of an effect to any other, or to none."""
+    effects = [said] + [quotation for _, quotation in said.quotations()]
+    effects += [nested for quotation in effects[1:] for _, nested in quotation.quotations()]
+    changed = chance.choice(effects)
+    row = chance.choice([None, *ROWS])
+    if happens(chance, 0.5):
+        changed.row_in = row
+    elif happens(chance, 0.8):
+        changed.row_out = row
+        changed.outputs = changed.outputs or 0
+    else:
+        changed.row_out, changed.outputs = None, None
+
+
 # The kinds of programs: each makes one source from a source of chance.
 
 
@@ -327,10 +577,10 @@ def running(chance):
     return source_of(*running_texts(chance))
 
 
-def running_texts(chance):
-    """The forms of such a program."""
-    author = Author(chance, 0.004)
-    texts, stack, values = [], [], []
+def running_texts(chance, loops=0.08):
+    """The forms of such a program, with this share of uses of row words and the prelude's words."""
+    author = Author(chance, 0.004, loops)
+    texts, stack, values = [], model.Stack(None, []), []
     for number in range(chance.randint(0, 8)):
         texts += accepted_definition(author, f"w{number}")
         if happens(chance, 0.3) and stack is not None:
@@ -339,7 +589,12 @@ def running_texts(chance):
     if stack is not None:
         items, stack, values = author.running_phrase(stack, values, chance.randint(5, 40), 4)
         texts.append(written(items))
-    return texts + [". " * len(stack or [])]
+    return texts + [". " * height(stack)]
+
+
+def height(stack):
+    """How many marks there are on an abstract stack."""
+    return 0 if stack is None else len(stack.marks)
 
 
 def accepted_definition(author, name):
@@ -357,11 +612,11 @@ def guided(chance, slips=0.02, names=None):
     return source_of(*guided_texts(chance, slips, names))
 
 
-def guided_texts(chance, slips=0.02, names=None):
-    """The forms of such a program."""
-    author = Author(chance, slips)
+def guided_texts(chance, slips=0.02, names=None, loops=0.08):
+    """The forms of such a program, with this share of uses of row words and the prelude's words."""
+    author = Author(chance, slips, loops)
     names = names or [f"w{number}" for number in range(40)]
-    texts, stack = [], []
+    texts, stack = [], model.Stack(None, [])
     for _ in range(chance.randint(0, 8)):
         taken = {word.name for word in author.words} if happens(chance, 0.99) else set()
         texts.append(author.definition([name for name in names if name not in taken])[1])
@@ -371,13 +626,250 @@ def guided_texts(chance, slips=0.02, names=None):
     if stack is not None:
         items, stack = author.phrase(stack, chance.randint(3, 25), 4)
         texts.append(written(items))
-    return texts + [". " * len(stack or []), "." if happens(chance, 0.05) else ""]
+    return texts + [". " * height(stack), "." if happens(chance, 0.05) else ""]
 
 
 def hiding(chance):
     """Aims at names: words of the file that are named as primitive words are, or nearly as integers and reserved tokens."""
     names = "dup swap call if + . t1 drop dip curry < foo: ..x a:b !x compose not ? 0x - +5 !! 1,, 0X1 \xc3\xa9".split()
+    names += "keep when times loop sq (each-integer) bi".split() if is_built("prelude") else []
     return guided(chance, 0.03, names)
+
+
+def row_words(chance):
+    """Aims at row words: half of the definitions are row words, and half of the items belong to their uses or to those of the prelude's
+    words. Most are accepted, or nearly."""
+    if happens(chance, 0.4):
+        return source_of(*running_texts(chance, 0.5))
+    return source_of(*guided_texts(chance, chance.choice([0, 0.01, 0.05]), None, 0.5))
+
+
+def one_row_word(chance):
+    """Aims at the rules of rows: one or two row words with any effects, and a use of one of them with a token changed here and there."""
+    author = Author(chance, chance.choice([0, 0.02, 0.1]), 0.3)
+    texts = [author.row_definition(f"r{number}")[1] for number in range(chance.choice([1, 1, 2]))]
+    below, stack = author.phrase(model.Stack(None, []), chance.randint(0, 2), 1)
+    use = author.use(author.words[-1], stack or model.Stack(None, []), 3)
+    texts.append(written(below + use + [author.item(1) for _ in range(chance.randint(0, 1))]))
+    if happens(chance, 0.2):
+        text = with_a_row_changed(chance, " ".join(texts))
+        return source_of(text)
+    if happens(chance, 0.1):
+        names = " ".join(f"DEFER: {word.name}" for word in author.words)
+        texts = ["DEFER: u", names, f": u ( -- {chance.choice(['', 'x', '*'])} ) {texts[-1]} ;", *texts[:-1]]
+    return source_of(*texts)
+
+
+def with_a_row_changed(chance, text):
+    """A text in which one token of few sorts is taken away, put in twice or replaced by another that is near it."""
+    tokens = text.split(" ")
+    near = ["..a", "..b", "*", "x", "q:", "call", "dip", "drop", "dup", "swap", "r0", "1", "[", "]", "inline", "recursive", "--"]
+    places = [place for place, token in enumerate(tokens) if token in near]
+    if places:
+        place = chance.choice(places)
+        share = chance.random()
+        if share < 0.3:
+            tokens.pop(place)
+        elif share < 0.5:
+            tokens.insert(place, tokens[place])
+        else:
+            tokens[place] = chance.choice(near)
+    return " ".join(tokens)
+
+
+# Row words of all sorts, with how many callables each takes, and what it takes besides.
+ROW_WORDS = [
+    (": u0 ( ..a p: ( ..a -- ..b ) q: ( ..b -- ..a ) -- ..b ) drop call ; inline", 2, ""),
+    (": u1 ( ..a p: ( ..a -- ..b ) q: ( ..a -- ..b ) -- ..b ) drop call ; inline", 2, ""),
+    (": u2 ( ..a p: ( ..a -- ..b x ) q: ( ..b x -- ..c ) -- ..c ) [ call ] dip call ; inline", 2, ""),
+    (": u3 ( ..a q: ( -- * ) -- ..a ) drop ; inline", 1, ""),
+    (": u4 ( ..a q: ( x -- * ) -- * ) 5 swap call ; inline", 1, ""),
+    (": u5 ( ..a x q: ( x -- y ) -- ..a y ) call ; inline", 1, "1"),
+    (": u6 ( ..a x q: ( x -- y ) p: ( ..a -- ..b ) -- ..b ) 3drop 1 throw ; inline", 2, "1"),
+    (": u7 ( ..a q: ( ..a -- ..b ) -- * ) call 5 throw ; inline", 1, ""),
+    (": u8 ( ..a q: ( ..a p: ( -- x ) -- ..a ) -- ..a ) [ 3 ] swap call ; inline", 1, ""),
+    (": u9 ( q: ( -- x ) -- x ) call ; inline recursive", 1, ""),
+    (": v0 ( ..a n q: ( ..a n -- ..a ) -- ..a ) over 0 > [ 2dup 2dip 1 - swap v0 ] [ 2drop ] if ; inline recursive", 1, "2"),
+    (": v1 ( ..a p: ( ..a -- ..a ? ) q: ( ..a -- ..a ) -- ..a ) over 2dip rot [ dup 2dip v1 ] [ 2drop ] if ; inline recursive", 2, ""),
+    (": v2 ( ..a q: ( ..a -- ..a ) -- ..a q ) ; inline", 1, ""),
+    (": v3 ( ..a q: ( -- ..a ) -- ..a ) drop ; inline", 1, ""),
+    (": v4 ( ..a ? p: ( ..a -- ..b ) q: ( ..a -- ..b ) -- ..b ) if ; inline", 2, "t"),
+]
+
+# Those of the prelude.
+PRELUDE_ROW_WORDS = [("loop", 1, ""), ("while", 2, ""), ("until", 2, ""), ("times", 1, "3")]
+
+BORDER_CALLABLES = apart(
+    """
+    [ ]  [ 1 ]  [ drop ]  [ t ]  [ f ]  [ 1 throw ]  [ dup f ]  [ drop [ 2 ] ]  [ drop l0 ]  l0  l1  [ + ]  [ swap ]  [ nip ]
+    [ drop f ]  [ [ 3 ] f ]  [ dup call ]  [ call ]  [ 2drop ]  [ drop l0 f ]  [ swap f ]  [ over ]  l0 [ ] compose  1 l1 curry
+    [ f ] [ ] compose  1 [ drop f ] curry  [ l0 swap drop ]  [ drop [ ] f ]  [ f t ]  [ t [ 1 ] [ 2 ] if ]  [ 0 > ]  [ throw ]
+    [ dup [ drop l1 ] when f ]  5  s
+    """
+)
+
+BELOW = apart(
+    """
+    1  l0  l0 l1  1 l0  f  l0 1  [ ]  l0 l0  t  l1 [ 5 ]  l0 [ ] compose  1 2 3  s  t l0
+    """
+) + [""] * 4
+
+BEHIND = apart(
+    """
+    call  drop  .  call .  +  drop call  call call  . .  drop drop  [ + ] call  5 loop  swap call  dup call
+    """
+) + [""] * 4
+
+
+def borders(chance):
+    """Aims at what a row is bound to: callables of all sorts for row words of all sorts, with known callables on the row, and something
+    behind that is walked or never reached."""
+    if happens(chance, 0.3):
+        definition = ""
+        name, count, besides = chance.choice(PRELUDE_ROW_WORDS)
+    else:
+        definition, count, besides = chance.choice(ROW_WORDS)
+        name = definition.split(" ")[1]
+    callables = " ".join(chance.choice(BORDER_CALLABLES) for _ in range(count))
+    use = f"{chance.choice(BELOW)} {besides} {callables} {name} {chance.choice(BEHIND)}"
+    if happens(chance, 0.15):
+        other, count, besides = chance.choice(ROW_WORDS[:9])
+        definition = f"{other} {definition}" if other != definition else definition
+        quotations = [chance.choice(BORDER_CALLABLES) for _ in range(count - 1)] + [f"[ {use} ]"]
+        use = f"{chance.choice(BELOW)} {besides} {' '.join(quotations)} {other.split(' ')[1]} {chance.choice(BEHIND)}"
+    if happens(chance, 0.25):
+        use = f": w ( -- {chance.choice(['', 'x', 'x x', '*'])} ) {use} ; w"
+    literals = ": l0 ( -- q ) [ 1 ] ; inline : l1 ( -- q ) [ drop ] ; inline SYMBOL: s"
+    return within(run_of(source_of(literals, definition, use)), 3_000)
+
+
+RECURSIVE_EFFECTS = [
+    "( ..a q: ( ..a -- ..a ) -- ..a )",
+    "( ..a q: ( ..a -- ..a ? ) -- ..a )",
+    "( ..a p: ( ..a -- ..b ? ) q: ( ..b -- ..a ) -- ..b )",
+    "( ..a x q: ( ..a x -- ..a ) -- ..a )",
+    "( ..a x p: ( ..a -- ..a ) y q: ( ..a y -- ..a ) -- ..a x )",
+    "( ..a q: ( -- x ) -- ..a x )",
+    "( ..a q: ( x -- * ) -- * )",
+    "( n -- )",
+    "( n q: ( n -- n ) -- n )",
+    "( ..a q: ( ..a -- ..b ) -- ..b )",
+]
+
+RECURSIVE_PARTS = apart(
+    """
+    call  dip  dup dip  over 2dip  rot  swap  drop  dup  over  [ call ] dip  swap [ call ] dip  1  t  2drop  nip  [ ]  [ ] compose
+    1 [ drop ] curry  -rot  dup 2dip  2dup 2dip  [ r ] [ drop ] if  [ r ] [ 2drop ] if  [ r ] dip  [ r ] call  r  r  r  [ r ] [ ] if
+    [ dup call ] dip  1 -  dup 0 >  5 throw  [ r ] loop  3 swap times  t [ r ] when  [ r ] keep  [ drop ] dip  2dip  pick
+    """
+)
+
+
+def own_calls(chance):
+    """Aims at a row word's own recursive call: a few words with effects and phrases that nearly fit, whose own call is handed this or
+    that."""
+    said = chance.choice(RECURSIVE_EFFECTS)
+    good = {
+        0: ["dup dip r", "dup dip drop", "dup dip dup dip r", "t [ dup dip r ] [ drop ] if", "r", "[ r ] call", "dup [ call ] dip r"],
+        1: ["dup dip swap [ r ] [ drop ] if", "dup dip swap [ call drop ] [ r ] if"],
+        2: ["over 2dip rot [ dup 2dip r ] [ 2drop ] if", "over 2dip rot [ call ] [ 2drop ] if"],
+        3: ["2dup 2dip r", "dupd 2dip r", "over [ call ] dip drop"],
+        4: ["r", "2over 2dip r", "[ drop ] dip"],
+        5: ["dup call swap drop", "dup call drop r", "r"],
+        6: ["5 swap call", "r", "dup 5 swap call r"],
+        7: ["dup 0 > [ 1 - r ] [ drop ] if", "r", "drop"],
+        8: ["dup [ call ] dip r", "t [ r ] [ call ] if", "call"],
+        9: ["call", "dup drop call", "r"],
+    }[RECURSIVE_EFFECTS.index(said)]
+    parts = chance.choice(good).split(" ")
+    if happens(chance, 0.75):
+        for _ in range(chance.choice([1, 1, 2])):
+            place = chance.randrange(len(parts) + 1)
+            if happens(chance, 0.3) and place < len(parts):
+                parts.pop(place)
+            else:
+                parts.insert(place, chance.choice(RECURSIVE_PARTS))
+    uses = ["", "", "[ ] r", "[ f ] r", "1 [ drop ] r", "[ f ] [ ] r", "3 r", "1 [ 5 throw ] r ."]
+    return within(run_of(source_of(f": r {said} {' '.join(parts)} ; inline recursive {chance.choice(uses)}")), 3_000)
+
+
+def effects(chance):
+    """Aims at effects as they are written: entries of all sorts, some in the wrong place, with any marks and a text of a few items."""
+    said = some_written_effect(chance, 2)
+    if happens(chance, 0.2):
+        tokens = said.split(" ")
+        place = chance.randrange(len(tokens))
+        share = chance.random()
+        if share < 0.4:
+            tokens.pop(place)
+        else:
+            tokens.insert(place, chance.choice(EFFECT_TOKENS))
+        said = " ".join(tokens)
+    text = " ".join(chance.choice(["drop", "1", "call", "dup", "w", "2drop", "[ ]"]) for _ in range(chance.choice([0, 0, 1, 1, 2, 3])))
+    mark = chance.choice(["", "inline", "inline", "inline recursive", "recursive inline", "recursive"])
+    source = source_of(f": w {said} {text} ; {mark}", chance.choice(["", "1 w", "[ ] w", "w", "1 [ ] w"]))
+    if happens(chance, 0.1):
+        tokens = source.split(b" ")
+        return b" ".join(tokens[: chance.randint(0, len(tokens))])
+    return source
+
+
+EFFECT_TOKENS = "a x y .. ..a ..b ..: ..a: x: q: *: * ** ( ) -- ; ..b: a: : :: 1 t \"s\" ...".split()
+
+
+def some_written_effect(chance, nests):
+    """An effect of entries at random, with effects in it at most so deep."""
+
+    def side():
+        texts = []
+        if happens(chance, 0.45):
+            texts.append(chance.choice(["..a", "..a", "..b", "..a: c", "..: d", "..", "...", "..a: ( -- )"]))
+        for _ in range(chance.choice([0, 0, 1, 1, 2])):
+            share = chance.random()
+            if share < 0.4 and nests:
+                texts.append(f"q: {some_written_effect(chance, nests - 1)}")
+            elif share < 0.5:
+                texts.append(chance.choice(["x: c", "x: ..a", "x: *", "*: x", "x: t" if happens(chance, 0.2) else "x: w", "a:b", "x"]))
+            elif share < 0.57:
+                texts.append("*")
+            elif share < 0.6:
+                texts.append(chance.choice(["..c", "x:", "..a:", "y: z:"]))
+            else:
+                texts.append("x")
+        return " ".join(texts)
+
+    return f"( {side()} -- {'*' if happens(chance, 0.12) else side()} )"
+
+
+def redefinitions(chance):
+    """Aims at the names of the prelude: they are defined or deferred anew in some vocabulary, brought, qualified and used."""
+    vocabularies = ["scratchpad", "a", "kernel", "math", "kernel.private", "math.private", "sequences"]
+    names = ["keep", "times", "(each-integer)", "while", "sq", "2dip", "when", "odd?", "with", "w"]
+    texts = [HEAD] if happens(chance, 0.8) else ["USE: prettyprint"]
+    for _ in range(chance.randint(1, 6)):
+        name, vocabulary = chance.choice(names), chance.choice(vocabularies)
+        texts.append(
+            chance.choice(
+                [
+                    f": {name} ( -- x ) 7 ; {chance.choice(['', 'inline', 'inline recursive'])}",
+                    f": {name} ( -- x ) 7 ;",
+                    f"IN: {vocabulary}",
+                    "<PRIVATE",
+                    "PRIVATE>",
+                    f"FROM: {vocabulary} => {name} ;",
+                    f"QUALIFIED-WITH: {vocabulary} p",
+                    f"p:{name} .",
+                    f"USE: {vocabulary}",
+                    f"{name} .",
+                    f"[ 7 ] {name}",
+                    f"3 {name} .",
+                    f"1 2 [ {name} ] {chance.choice(names)} . .",
+                    f"DEFER: {name}",
+                    f"SYMBOL: {name}",
+                ]
+            )
+        )
+    return within(run_of(" ".join(texts).encode()), 3_000)
 
 
 def unguided(chance):
@@ -385,11 +877,11 @@ def unguided(chance):
     author = Author(chance, 0.02)
     texts = []
     for number in range(chance.randint(0, 4)):
-        inputs = chance.randint(0, 3)
-        word = model.Word(f"w{number}", 0, inputs, None if happens(chance, 0.15) else chance.randint(0, 3))
+        said = model.plain_effect(chance.randint(0, 3), None if happens(chance, 0.15) else chance.randint(0, 3))
+        word = model.Word(f"w{number}", effect=said)
         word.text = [author.item(2) for _ in range(chance.randint(0, 6))]
         mark = chance.choice(["inline", "recursive"]) if happens(chance, 0.4) else ""
-        texts.append(f": {word.name} {effect(inputs, word.outputs)} {written(word.text)} ; {mark}")
+        texts.append(f": {word.name} {written_effect(said)} {written(word.text)} ; {mark}")
         author.words.append(word)
     return source_of(*texts, written([author.item(3) for _ in range(chance.randint(0, 12))]))
 
@@ -595,6 +1087,8 @@ def nested(chance, text, levels):
             text = f"t [ {text} ] [ 9 throw ] if"
         elif share < 0.8:
             text = f"f [ 9 throw ] [ {text} ] if"
+        elif share < 0.84 and is_built("prelude"):
+            text = chance.choice([f"[ {text} f ] loop", f"1 [ {text} ] times", f"t [ {text} ] when", f"[ f ] [ {text} ] while"])
         elif share < 0.9:
             text = f"[ ] [ {text} ] compose call"
         else:
@@ -673,12 +1167,24 @@ LAST_ITEMS = apart(
     """
 )
 
+# Those with row words.
+LAST_ROW_ITEMS = apart(
+    """
+    [ f ] loop  [ pad-1 f ] loop  [ ] loop  [ 1 f ] loop  3 [ pad-0 ] times  3 [ 1 ] times  [ f ] [ pad-1 ] while  [ f ] [ 1 ] while
+    [ + ] loop  1 loop  loop  5 [ 1 ] keep . .  [ t ] [ ] until  [ [ ] [ ] compose call f ] loop  [ f ] [ pad-0 ] compose [ ] while
+    1 [ f ] curry loop  1 [ drop f ] curry loop  [ 5 throw ] loop  [ 5 throw ] [ + ] while
+    """
+)
+
 
 def large(chance):
     """Aims at the limit of 200,000 walked items: as many stand in front of a text that the limit is met at one of its last items,
     or just behind it, where another rule may be broken too."""
+    if is_built("rows", "prelude") and happens(chance, 0.3):
+        return large_row_word(chance)
     levels = chance.choice([0, 0, 0, 1, chance.randint(1, 40), chance.randint(60, 66)])
-    text = " ".join(chance.choice(LAST_ITEMS) for _ in range(chance.choice([1, 1, 2, 3])))
+    last = LAST_ITEMS + LAST_ROW_ITEMS if is_built("prelude") else LAST_ITEMS
+    text = " ".join(chance.choice(last) for _ in range(chance.choice([1, 1, 2, 3])))
     definitions, text = nested(chance, text, levels)
     count = walked_items(source_of(PADDING, definitions, text))
     left = chance.choice([count, count, max(0, count - 1), count + 1, chance.randint(0, count)])
@@ -693,12 +1199,37 @@ def large(chance):
     return source_of(PADDING, definitions, text)
 
 
+LARGE_EFFECTS = [
+    "( ..a q: ( ..a x -- ..a ) -- ..a )",
+    "( ..a q: ( ..a -- ..a ? ) -- ..a )",
+    "( ..a n q: ( ..a -- ..a ) -- ..a )",
+    "( ..a q: ( -- ) -- ..a )",
+    "( ..a x q: ( ..a x -- ..b ) -- ..b )",
+]
+
+LARGE_ENDS = apart(
+    """
+    call  loop  [ f ] swap while  dup while  1 swap call  r  drop [ ] r  3 swap times  times  [ ] compose call  [ ] compose loop  drop  dip
+    [ f ] loop drop  [ drop ] dip loop  dup dip drop  t swap [ ] if  [ call ] loop  [ 5 throw ] [ ] while  curry call  curry loop  [ + ] loop
+    """
+)
+
+
+def large_row_word(chance):
+    """A row word whose text has nearly as many items as are walked, and then an item that may break another rule too, in nested
+    applications or not. It is a use of a row word, the own recursive call or a call of an input."""
+    levels = chance.choice([0, 0, chance.randint(1, 3), chance.randint(61, 66)])
+    definitions, text = nested(chance, chance.choice(LARGE_ENDS), levels)
+    before = padding(model.MOST_WALKED_ITEMS - 2 * levels - chance.randint(0, 4))
+    return source_of(PADDING, definitions, f": r {chance.choice(LARGE_EFFECTS)} {before} {text} ; inline recursive")
+
+
 def walked_items(source):
     """How many items are walked of the top-level phrase of a source, up to its end or the first rule that it breaks."""
     names = model.names_of([model.Reader(1, model.tokens_of(source)).forms()])
     walk = model.Walk(model.Marks())
     try:
-        walk.items(names.top, [], 0)
+        walk.items(names.top, model.Stack(None, []), 0)
     except model.Refused:
         pass
     return walk.walked
@@ -803,7 +1334,7 @@ def recursive(chance):
     for name, known in [("a", []), ("b", ["a"]), ("c", ["a", "b", "b"]), ("w", ["a", "b", "c"])]:
         itself = [name] if name == "w" or happens(chance, 0.25) else ["1", "1", "1", name]
         outputs = chance.choice([None, 0, 1, 2, 1])
-        mark = chance.choice(["inline", "", "recursive", "inline", ""])
+        mark = chance.choice(["inline", "", "recursive", "inline", "", *["inline recursive"] * 3 * is_built("rows")])
         texts.append(f": {name} {effect(chance.randint(0, 3), outputs)} {recursive_text(chance, itself, known, 3)} ; {mark}")
     uses = ["w", "t w", "f t w", "f f t w .", "t t w . .", "1 w", "[ ] w", "t [ w ] [ ] if"]
     return source_of(*texts, chance.choice(uses))
@@ -908,8 +1439,10 @@ def deep_quotations(chance):
 
 
 def wide_effects(chance):
-    """An effect of nearly as many names as it may have, or more, some of them `*`."""
+    """An effect of nearly as many names as it may have, or more, some of them `*`, or with effects in it and rows."""
     count = chance.choice([62, 63, 64, 65, 66])
+    if is_built("rows") and happens(chance, 0.5):
+        return wide_nested_effects(chance, count)
     inputs = chance.choice([0, count, chance.randint(0, count)])
     outputs = ["x"] * (count - inputs)
     if outputs and happens(chance, 0.2):
@@ -922,6 +1455,32 @@ def wide_effects(chance):
     mark = chance.choice(["", "inline"])
     use = chance.choice(["", "1 " * inputs + "w"])
     return source_of(f": w ( {'a ' * inputs}-- {' '.join(outputs)} ) {text} ; {mark} {use}")
+
+
+def wide_nested_effects(chance, count):
+    """An effect of about so many names, of which some have an effect or a class behind them; a name with a colon may be the last one."""
+    texts, left, ends = [], count, []
+    if happens(chance, 0.3):
+        texts.append("..a")
+        left -= 1
+    while left > 0:
+        share = chance.random()
+        if share < 0.1:
+            texts += ["q:", "("]
+            ends.append("-- )")
+        elif share < 0.15 and ends:
+            texts.append(ends.pop())
+            continue
+        elif share < 0.2:
+            texts += ["x:", "c"]
+            left -= 1
+        elif left == 1 and happens(chance, 0.4):
+            texts += chance.choice([["q:", "( -- )"], ["q:", "c"], ["q:"], ["q:", "( x -- )"], ["q:", "( -- *"]])
+        else:
+            texts.append("a")
+        left -= 1
+    said = " ".join(["(", *texts, *reversed(ends), "--", chance.choice(["", "", "..a", "*", "x"]), ")"])
+    return source_of(f": w {said} {chance.choice(['', 'drop', '1'])} ; {chance.choice(['', 'inline', 'inline recursive'])}")
 
 
 def integers_at_limits(chance):
@@ -996,6 +1555,11 @@ def spread(chance):
     return run_of(*[" ".join(texts).encode("latin-1") for texts in files])
 
 
+def is_of_a_file(word):
+    """Whether a word is defined in a file of the program."""
+    return type(word) is model.Word and word.place[0] > 0
+
+
 class Scopes:
     """Makes forms of vocabularies at random, with the model's names as its guide: of the names that it chooses most aren't refused.
     Each word of a program pushes one value, and most values differ, so the output tells which words the names found.
@@ -1003,14 +1567,15 @@ class Scopes:
     `slips` is the share of names that are chosen whatever the guide says.
     """
 
-    NAMES = "w x y z w x y z dup .".split()
+    NAMES = "w x y z w x y z dup . keep".split()
     VOCABULARIES = "a b c a b c scratchpad a.private b.private kernel".split()
     PREFIXES = ["p", "p", "p", "q"]
 
     def __init__(self, chance, slips):
         self.chance = chance
         self.slips = slips
-        self.names = model.Names()
+        self.names = model.names_of([])
+        self.names.begin()
         self.files = [[]]
         self.number = 0
 
@@ -1053,8 +1618,8 @@ class Scopes:
         return self.choose(self.NAMES, lambda name: not self.is_defined(name), self.is_defined)
 
     def finds_word(self, name):
-        """Whether a name finds a word of the program."""
-        return [type(word) for word in self.names.find(name).values()] == [model.Word]
+        """Whether a name finds a word of the program's files."""
+        return [is_of_a_file(word) for word in self.names.find(name).values()] == [True]
 
     def some_word(self):
         """A name that finds a word of the program."""
@@ -1068,8 +1633,8 @@ class Scopes:
         return any(self.finds_word(name) for name in self.NAMES)
 
     def means(self, name):
-        """Whether a name finds the word that no source defines."""
-        return [type(word) for word in self.names.find(name).values()] not in ([], [model.Word])
+        """Whether a name finds the word that no file of the program defines."""
+        return [is_of_a_file(word) for word in self.names.find(name).values()] == [False]
 
     def value(self):
         """An item that pushes one value: mostly a new number."""
@@ -1217,7 +1782,7 @@ def cycles(chance):
     for name in names:
         known.append(name)
         items = [leading(chance, known) for _ in range(chance.choice([0, 1, 1, 1, 2, 3]))]
-        mark = chance.choice(["inline", "inline", "inline", "", "recursive"])
+        mark = chance.choice(["inline", "inline", "inline", "", "recursive", *["inline recursive"] * 3 * is_built("rows")])
         texts.append(f": {name} ( -- ) {' '.join(items)} ; {mark}")
         if happens(chance, 0.05):
             texts.append(chance.choice(known))
@@ -1336,6 +1901,12 @@ KINDS = [
     (running, 1, []),
     (guided, 1, []),
     (hiding, 1, []),
+    (row_words, 3, ["rows", "prelude"]),
+    (one_row_word, 3, ["rows"]),
+    (borders, 2, ["rows", "prelude", "SYMBOL:"]),
+    (own_calls, 2, ["rows", "prelude"]),
+    (effects, 1, ["rows"]),
+    (redefinitions, 1, ["prelude", "IN:"]),
     (unguided, 1, []),
     (mutated, 1, []),
     (forms, 1, []),

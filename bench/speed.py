@@ -6,11 +6,11 @@
 PROGRAM is the built program, by default crates/factorc/out/factorc. The script makes its sources, runs `PROGRAM run FILE` or
 `PROGRAM check FILE` on each several times, and prints the shortest time, the longest time and the greatest peak of memory. It ends
 with status 1 where a run answers wrongly or a limit is passed: where a sort of source stands in two sizes, the larger is four times
-the smaller and may take at most five times as long; and each sort has a most of seconds for its larger size. Last, a thousand files
-are checked beside one file with the same text, and may take a tenth longer. What needs forms or commands that aren't built, as
-model.BUILT tells, is left out.
+the smaller and may take at most five times as long; and each sort has a most of seconds for its larger size. The first example of
+README is run with little memory too. Last, a thousand files are checked beside one file with the same text, and may take a tenth
+longer. What needs forms or commands that aren't built, as model.BUILT tells, is left out.
 
-The peak is what the system counts for the process. It is never less than this script's own size, some fourteen megabytes.
+The peak is what the system counts for the process. It is never less than this script's own size, some twenty megabytes.
 """
 
 import os
@@ -24,6 +24,9 @@ RUNS = 5
 SMALL = 1 << 20
 LARGE = 1 << 22
 MOST_RATIO = 5.0
+# The most memory that the first example may take, in KiB.
+MOST_OF_FIRST_EXAMPLE = 20 << 10
+WITH_LITTLE_MEMORY = ["/bin/sh", "-c", f'ulimit -v {MOST_OF_FIRST_EXAMPLE}; exec "$@"', "sh"]
 
 FILES = 1_000
 BYTES_OF_A_FILE = 4_096
@@ -206,6 +209,48 @@ def comments(path, size):
     return 0, b"", b""
 
 
+# A word that hands each number to a callable, down to 1.
+EACH_DOWN = b"""USING: kernel math ;
+: each-down ( ..a n quot: ( ..a n -- ..a ) -- ..a ) over 0 > [ 2dup 2dip 1 - swap each-down ] [ 2drop ] if ; inline recursive
+"""
+
+
+def loops(path, count):
+    """So many words, each with a loop of `times`, one of `while` and one of a row word of the file's own. Checks the file."""
+    with open(path, "wb") as file:
+        file.write(EACH_DOWN)
+        for number in range(count):
+            file.write(b": word-%d ( x -- y ) 3 [ %d + ] times [ dup 10 > ] [ 2 - ] while 4 [ + ] each-down ;\n" % (number, number))
+    return 0, b"checked %d definitions\n" % (count + 1), b""
+
+
+# `keep` and `bi` as row words: a use of either is one nested application.
+KEEPING = b"""USING: kernel math prettyprint ;
+: keeping ( ..a x quot: ( ..a x -- ..b ) -- ..b x ) over [ call ] dip ; inline
+: both ( ..a x p: ( ..a x -- ..b ) q: ( ..b x -- ..c ) -- ..c ) [ keeping ] dip call ; inline
+"""
+
+
+def nested_uses(path, count):
+    """A word of so many uses of row words like `keep` and `bi`, each in a callable of the one around it, and one of the prelude's `keep`
+    and `bi`, as deep as these may nest."""
+    text, deep = b"1 +", b"1 +"
+    for number in range(count):
+        text = b"[ %s ] keeping drop" % text if number % 2 else b"[ drop ] [ %s ] both" % text
+    for number in range(24):
+        deep = b"[ %s ] keep drop" % deep if number % 2 else b"[ drop ] [ %s ] bi" % deep
+    with open(path, "wb") as file:
+        file.write(KEEPING + b": w ( x -- y ) %s ; : v ( x -- y ) %s ; 5 w v .\n" % (text, deep))
+    return 0, b"7\n", b""
+
+
+def first_example(path, _):
+    """The first example of README."""
+    with open(path, "wb") as file:
+        file.write(b"USING: kernel math prettyprint ;\n: choose ( ? -- n ) [ 1 2 + ] [ 10 ] if ;   ! a word, and a comment\nt choose .\n")
+    return 0, b"3\n", b""
+
+
 # A word that calls itself: a call is all that it does, so a hundred million calls are open when the budget is spent.
 RECURSION = b": spin ( -- ) spin ; spin\n"
 
@@ -244,6 +289,9 @@ SORTS = [
     ("strings", strings, (SMALL, LARGE), mebibytes, 0.2, ["string"]),
     ("comments", comments, (SMALL, LARGE), mebibytes, 0.2, []),
     ("dup compose", composed_twice, (63,), words, 0.5, []),
+    ("loops", loops, (2_500, 10_000), words, 1.0, ["rows", "prelude", "check"]),
+    ("nested uses", nested_uses, (60,), words, 0.1, ["rows", "prelude"]),
+    ("first example", first_example, (1,), words, 0.004, ["prelude"]),
     ("recursion, if", spending(RECURSION_THROUGH_IF), (20_000_000,), words, 20.0, []),
     ("composing", spending(COMPOSING), (25_000_000,), words, 20.0, []),
     ("recursion", spending(RECURSION), (100_000_000,), words, 20.0, []),
@@ -366,6 +414,7 @@ def main():
                 compare(name, shortest, failed)
             if shortest[-1] >= most_seconds:
                 failed.append(f"{name}: {shortest[-1]:.3f} s, not below {most_seconds:g} s")
+        measure([*WITH_LITTLE_MEMORY, program, "run"], first_example, None, folder)
         if model.BUILT.issuperset(["files", "check"]):
             compare_files(program, folder, failed)
     return finish(failed)
