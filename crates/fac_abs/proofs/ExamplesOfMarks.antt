@@ -4,9 +4,9 @@ use Rattle.fac_lang.specs.Phrases.{end, Literal, Mark, any, lit_mark, cur_mark, 
 use Rattle.fac_abs.specs.declared.stack_nodes.StackNode.{StackNode}
 use Rattle.fac_abs.specs.declared.mark_node.MarkNode.TheVariants.{Any, Lit, Cur, Com}
 use Rattle.fac_abs.specs.InTurn.{under, moved}
-use Rattle.fac_abs.specs.inner.Stacks.{zeros, joined_numbers, cover_numbers}
-use Rattle.fac_abs.specs.Marks.{hidden, named_row, dead, on, mark_eq, curried_mark, composed_mark, cover_marks, joined, covered}
-use Rattle.fac_abs.specs.inner.Stacks.{stacks_of}
+use Rattle.fac_abs.specs.inner.Stacks.{zeros, joined_numbers, cover_numbers, stacks_of}
+use Rattle.fac_lang.specs.RowVariables.{hidden, named_row}
+use Rattle.fac_abs.specs.Marks.{dead, on, mark_eq, curried_mark, composed_mark, cover_marks, joined, covered}
 use Rattle.fac_abs.specs.MarkTrees.{Naming}
 use Rattle.fac_abs.specs.inner.Interning.{depths}
 use Rattle.fac_abs.specs.SeenMarks.{MarksSeen, mark_of, numbers_of, stack_of, is_mark, is_stack}

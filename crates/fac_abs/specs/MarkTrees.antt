@@ -4,7 +4,8 @@ use Rattle.fac_lang.specs.Phrases.{Phrase, Literal, Mark, any, lit_mark, cur_mar
 use Rattle.fac_abs.specs.declared.mark_node.MarkNode.{MarkNode}
 use Rattle.fac_abs.specs.declared.mark_node.MarkNode.TheVariants.{Any, Lit, Cur, Com, Wrd, Par}
 use Rattle.fac_abs.specs.InTurn.{in_turn}
-use Rattle.fac_abs.specs.Marks.{Row, phrase_marks}
+use Rattle.fac_lang.specs.RowVariables.{Row}
+use Rattle.fac_abs.specs.Marks.{phrase_marks}
 
 -- What numbers name: which literal that of a template does, with its phrase, and which row that of a base.
 pub record Naming : Type 0 where

@@ -3,12 +3,8 @@ use Rattle.std.specs.Prelude.{ℕ, zero, suc, max, ℤ, pos, negsuc, List, [], �
 use Rattle.std.specs.Str.{bytes_eq}
 use Rattle.fac_lang.specs.declared.limits.TheConstants.{MOST_MARK_DEPTH}
 use Rattle.fac_lang.specs.Phrases.{Phrase, end, then, Item, quot, fry, known, Mark, any, lit_mark, cur_mark, com_mark, wrd_mark, par_mark}
+use Rattle.fac_lang.specs.RowVariables.{Row, row_eq}
 use Rattle.fac_lang.specs.PhraseCodes.{Token, mark_tokens}
-
--- A row: the one hidden row of an effect that names none, or a row variable.
-pub data Row : Type 0 where
-  hidden : Row
-  named_row : List ℕ → Row
 
 -- A stack as the checker knows it: dead after something that never returns, else a base with marks on it, the top first. The base is a row of the word that is checked; where it is none, nothing is said of what lies below.
 pub data AbstractStack : Type 0 where
@@ -36,13 +32,6 @@ tokens_eq (s ∷ ss) (t ∷ ts) = token_eq s t && tokens_eq ss ts
 -- Equality of marks: two marks are equal where their codes are. So two literals are the same mark only where they are the same literal of the program with the same marks put in.
 unfoldable pub mark_eq : Mark → Mark → Bool
 mark_eq m n = tokens_eq (mark_tokens m []) (mark_tokens n [])
-
--- equality of rows, by the names of row variables
-abbrev pub row_eq : Row → Row → Bool
-row_eq hidden hidden = true
-row_eq hidden (named_row y) = false
-row_eq (named_row x) hidden = false
-row_eq (named_row x) (named_row y) = bytes_eq x y
 
 -- equality of bases
 abbrev pub base_eq : Option Row → Option Row → Bool

@@ -11,4 +11,4 @@ mod table;
 pub use mark_node::MarkNode;
 pub use reached::Reached;
 pub use rule::Rule;
-pub use table::Marks;
+pub use table::{Marks, same_base};

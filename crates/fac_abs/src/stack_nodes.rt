@@ -54,6 +54,14 @@ impl StackNodes {
         self.stack_nodes.clear();
     }
 
+    /// The number of the empty stack.
+    pub fn empty(&self) -> u32
+        ensures { IsStackWith self.now result [] }
+    {
+        let _stack_nodes = &self.stack_nodes;
+        0
+    }
+
     /// The number of marks of a stack.
     pub fn height(&self, stack: u32) -> u32
         requires { stack < length self.now }

@@ -195,6 +195,14 @@ impl Marks {
         self.make(MarkNode::Com(first, second), deep.max(other) + 1)
     }
 
+    /// The empty stack.
+    pub fn empty(&self) -> u32
+        ensures { IsStackOf self.now result (λ N. []) }
+    {
+        let _first = self.nodes.first();
+        self.stack_nodes.empty()
+    }
+
     /// The number of marks of a stack.
     pub fn height(&self, stack: u32) -> u32
         requires { IsStack self.now stack }
@@ -358,8 +366,8 @@ impl Marks {
     }
 }
 
-// Whether two bases are the same.
-fn same_base(a: Option<u32>, b: Option<u32>) -> bool
+/// Whether two bases are the same.
+pub fn same_base(a: Option<u32>, b: Option<u32>) -> bool
     ensures { (N : Naming) → result ≡ base_eq (base_seen N a) (base_seen N b) }
 {
     match a {

@@ -22,11 +22,13 @@ use Rattle.fac_lang.specs.declared.program.Sort.TheVariants.{Prim as prim, Body 
 use Rattle.fac_lang.specs.Meaning.{meaning_values, names, sort_of, word_phrase, with_arrays, literal_value, array_method, start, run, is_top_phrase, one_item}
 use Rattle.fac_lang.specs.Whole.{IsWhole, each_item, each_inner, item_fits, word_phrases, joined, quotations, has_written_effect, effect_written, is_effect, plain_effect, has_generic_effect, effect_of, sort_fits, is_generic, is_class, is_body, each_numbered, marks_fit}
 use Rattle.fac_lang.proofs.WholeLemmas.{same_effect}
-use Rattle.fac_check.specs.Rows.{has_rows, bindable, is_row, outer_in, outer_out, effect_inputs, effect_leaving, leaving_on}
-use Rattle.fac_check.specs.Verdicts.{Refusal, inputs_marks, any_quoted, is_inline_body, inline_verdict, row_verdict, undeclared, bad_rows, bad_generic, no_generic_effect, ordinary_verdict, body_verdict, top_verdict, phrase_verdict, sort_verdict, ruled_verdict, word_verdict, verdict_from, verdict}
+use Rattle.fac_lang.specs.RowVariables.{has_rows, bindable, is_row, outer_in, outer_out, effect_inputs, effect_leaving}
+use Rattle.fac_rows.specs.RowBinding.{leaving_on, inputs_marks}
+use Rattle.fac_check.specs.Verdicts.{Refusal, any_quoted, is_inline_body, inline_verdict, row_verdict, undeclared, bad_rows, bad_generic, no_generic_effect, ordinary_verdict, body_verdict, top_verdict, phrase_verdict, sort_verdict, ruled_verdict, word_verdict, verdict_from, verdict}
 use Rattle.fac_abs.proofs.EqualMarks.{never_true, and_first, and_second}
 use Rattle.fac_check.proofs.StandingLaws.{Unmarked, UnmarkedItem}
-use Rattle.fac_check.specs.CallableEffects.{fits, callable_height}
+use Rattle.fac_lang.specs.HeightArithmetic.{fits}
+use Rattle.fac_check.specs.CallableEffects.{callable_height}
 use Rattle.fac_check.specs.Promises.{Valid}
 use Rattle.fac_check.proofs.ValuesOfMarks.{EndsSo}
 use Rattle.fac_check.proofs.WalksFit.{Context, OnState, StackState}

@@ -1,6 +1,6 @@
 -- What the checker's definitions say of the words of built programs.
-use Rattle.std.proofs.Common.{◌≡◌, ◌⊎◌, ℕ, zero, suc, List, [], ◌∷◌, ◌++◌, length, Bool, true, false, Option, Some, None, refl, sym, ap, subst, ◌∙◌}
-use Rattle.std.specs.Prelude.{◌&&◌, ◌||◌, slice_get}
+use Rattle.std.proofs.Common.{◌≡◌, ◌⊎◌, ℕ, zero, suc, List, [], ◌∷◌, ◌++◌, length, true, false, Option, Some, None, refl, sym, ap, subst, ◌∙◌}
+use Rattle.std.specs.Prelude.{slice_get}
 use mathlib.Core.Logic.{inl, inr}
 use Rattle.fac_lang.specs.declared.program.Program.{Program}
 use Rattle.fac_lang.specs.declared.program.WordDef.{WordDef}
@@ -8,11 +8,11 @@ use Rattle.fac_lang.specs.declared.program.Sort.{Sort}
 use Rattle.fac_lang.specs.declared.program.Sort.TheVariants.{Prim as prim, Core as core, Body as body, Past as past, Itself as itself, Class as class, Isa as isa, Getter as getter, Setter as setter, Putter as putter, Generic as generic, Method as method}
 use Rattle.fac_lang.specs.PrimitiveWords.{plain_inputs, plain_leaving, written_effect}
 use Rattle.fac_lang.specs.Primitives.{Primitive, prim_numbered, is_built_primitive}
-use Rattle.fac_lang.specs.Signatures.{Signature, signature, Inputs, no_inputs, value, quoted, never, leaves}
-use Rattle.fac_lang.specs.Forms.{IsBuilt, IsBuiltSort, AreBuiltWords, IsTopPhrase, IsPrimitiveWord, IsPlainEffect, ArePlainInputs}
+use Rattle.fac_lang.specs.Signatures.{signature}
+use Rattle.fac_lang.specs.Forms.{IsBuilt, IsBuiltSort, AreBuiltWords, IsTopPhrase, IsPrimitiveWord}
 use Rattle.fac_lang.specs.CoreWords.{is_built_core}
-use Rattle.fac_check.specs.Rows.{has_rows, inputs_rows, is_row}
-use Rattle.fac_check.specs.Verdicts.{bad_rows, bad_generic}
+use Rattle.fac_lang.specs.RowVariables.{has_rows, inputs_rows}
+use Rattle.fac_check.specs.Verdicts.{bad_generic}
 use Rattle.fac_check.proofs.PrimitivesKeep.{prim_found}
 
 module _ {A : Type 0} where
@@ -33,18 +33,6 @@ built_there bound [] h k d e = absurd (cc)
 built_there bound (c ∷ ds) h zero d e = (let same : c ≡ d = cc in subst (λ x. IsBuiltSort bound x x.sort) same h.0)
 built_there bound (c ∷ ds) h (suc k) d e = built_there bound ds h.1 k d e
 
-plain_no_rows : (is : Inputs) → ArePlainInputs is → inputs_rows is ≡ false
-plain_no_rows no_inputs h = refl
-plain_no_rows (value x is) h = plain_no_rows is h
-plain_no_rows (quoted x e is) h = absurd h
-
--- an effect of plain values has no row variable
-pub plain_effect_rows : (e : Signature) → IsPlainEffect e → has_rows e ≡ false
-plain_effect_rows (signature None is never) h = plain_no_rows is h.1
-plain_effect_rows (signature None is (leaves None names)) h = plain_no_rows is h.1
-plain_effect_rows (signature None is (leaves (Some r) names)) h = absurd (cc)
-plain_effect_rows (signature (Some r) is l) h = absurd (cc)
-
 written_inputs : (xs : List (List ℕ)) → inputs_rows (plain_inputs xs) ≡ false
 written_inputs [] = refl
 written_inputs (x ∷ xs) = written_inputs xs
@@ -58,12 +46,12 @@ pub data BuiltAs (P : Program) (w : ℕ) (d : WordDef) : Type 0 where
   as_primitive : (k : ℕ) → d.sort ≡ prim k → is_built_primitive k ≡ true → d.inline ≡ false → has_rows d.effect ≡ false → BuiltAs P w d
   as_core : (k : ℕ) → d.sort ≡ core k → is_built_core k ≡ true → d.inline ≡ false → has_rows d.effect ≡ false → BuiltAs P w d
   as_symbol : d.sort ≡ itself → d.inline ≡ false → has_rows d.effect ≡ false → BuiltAs P w d
-  as_defined : (t : _) → d.sort ≡ body t → (d.inline && d.recursive) ≡ false → has_rows d.effect ≡ false → BuiltAs P w d
+  as_defined : (t : _) → d.sort ≡ body t → BuiltAs P w d
 
 built_so : (P : Program) (w : ℕ) (bound : ℕ) (d : WordDef) (s : Sort) → d.sort ≡ s → IsBuiltSort bound d s → BuiltAs P w d
 built_so P w bound d (prim k) e h = as_primitive k e h.is_built h.not_inline (subst (λ x. has_rows x ≡ false) (sym h.effect_is) (written_rows h.row.ins h.row.outs))
 built_so P w bound d (core k) e h = as_core k e h.is_built h.not_inline (subst (λ x. has_rows x ≡ false) (sym h.effect_is) (written_rows h.row.ins h.row.outs))
-built_so P w bound d (body t) e h = as_defined t e h.no_row_word (plain_effect_rows d.effect h.plain)
+built_so P w bound d (body t) e h = as_defined t e
 built_so P w bound d (past t) e h = absurd h
 built_so P w bound d itself e h = as_symbol e h.not_inline (subst (λ x. has_rows x ≡ false) (sym h.effect_is) refl)
 built_so P w bound d (class c) e h = absurd h
@@ -75,7 +63,7 @@ built_so P w bound d generic e h = absurd h
 built_so P w bound d (method c g t) e h = absurd h
 
 top_so : (P : Program) (w bound : ℕ) (d : WordDef) (t : _) → IsTopPhrase bound d t → BuiltAs P w d
-top_so P w bound d t h = as_defined t h.sort_is (rw h.not_inline refl) (subst (λ x. has_rows x ≡ false) (sym h.effect_is) refl)
+top_so P w bound d t h = as_defined t h.sort_is
 
 -- each word of a built program is a primitive, a core word, is defined by a phrase or pushes itself
 pub built_as : (P : Program) → IsBuilt P → (w : ℕ) (d : WordDef) → slice_get P.words w ≡ Some d → BuiltAs P w d
@@ -96,50 +84,9 @@ built_primitive_word P b w d e k s = which (at_or_last b.words b.last_word w d (
     which (inl f) = primitive_so d k (subst (λ x. IsBuiltSort P.top d x) s (built_there P.top b.words b.built w d f))
     which (inr f) = absurd (let is_top_phrase = b.last_word_is in let body_sort : b.last_word.sort ≡ body b.phrase = is_top_phrase.sort_is in let prim_sort : b.last_word.sort ≡ prim k = subst (λ (x : WordDef). x.sort ≡ prim k) (sym f.1) s in cc)
 
--- no word has a row variable
-pub built_rows : (P : Program) (w : ℕ) (d : WordDef) → BuiltAs P w d → has_rows d.effect ≡ false
-built_rows P w d (as_primitive k s b i r) = r
-built_rows P w d (as_core k s b i r) = r
-built_rows P w d (as_symbol s i r) = r
-built_rows P w d (as_defined t s i r) = r
-
-and_false : (a b : Bool) → b ≡ false → (a && b) ≡ false
-and_false true b e = e
-and_false false b e = refl
-
-bad_rows_by : (P : Program) (w : ℕ) (d : WordDef) (s : Sort) → d.sort ≡ s → has_rows d.effect ≡ false → bad_rows P w d ≡ false
-bad_rows_by P w d (prim k) e r = rw (e, r) (and_false _ false refl)
-bad_rows_by P w d (core k) e r = rw (e, r) (and_false _ false refl)
-bad_rows_by P w d (body t) e r = rw (e, r) (and_false _ false refl)
-bad_rows_by P w d (past t) e r = rw e refl
-bad_rows_by P w d itself e r = rw (e, r) (and_false _ false refl)
-bad_rows_by P w d (class c) e r = rw (e, r) (and_false _ false refl)
-bad_rows_by P w d (isa c) e r = rw (e, r) (and_false _ false refl)
-bad_rows_by P w d (getter s) e r = rw (e, r) (and_false _ false refl)
-bad_rows_by P w d (setter s) e r = rw (e, r) (and_false _ false refl)
-bad_rows_by P w d (putter s) e r = rw (e, r) (and_false _ false refl)
-bad_rows_by P w d generic e r = rw (e, r) (and_false _ false refl)
-bad_rows_by P w d (method c g t) e r = rw (e, r) (and_false _ false refl)
-
--- so none breaks `row-declaration`
-pub no_bad_rows : (P : Program) (w : ℕ) (d : WordDef) → BuiltAs P w d → bad_rows P w d ≡ false
-no_bad_rows P w d b = bad_rows_by P w d d.sort refl (built_rows P w d b)
-
--- and none is a generic
+-- none is a generic
 pub no_bad_generic : (P : Program) (w : ℕ) (d : WordDef) → BuiltAs P w d → bad_generic P d.sort d.effect ≡ false
 no_bad_generic P w d (as_primitive k s b i r) = rw s refl
 no_bad_generic P w d (as_core k s b i r) = rw s refl
 no_bad_generic P w d (as_symbol s i r) = rw s refl
-no_bad_generic P w d (as_defined t s i r) = rw s refl
-
--- an inline word is no row word
-pub no_row_word : (P : Program) (w : ℕ) (d : WordDef) → BuiltAs P w d → d.inline ≡ true → is_row d.recursive d.effect ≡ false
-no_row_word P w d (as_primitive k s b i r) e = absurd (cc)
-no_row_word P w d (as_core k s b i r) e = absurd (cc)
-no_row_word P w d (as_symbol s i r) e = absurd (cc)
-no_row_word P w d (as_defined t s i r) e = row_free d.inline d.recursive (has_rows d.effect) e i r
-  where
-    row_free : (a b c : Bool) → a ≡ true → (a && b) ≡ false → c ≡ false → (b || c) ≡ false
-    row_free true true c e i r = absurd (cc)
-    row_free true false c e i r = r
-    row_free false b c e i r = absurd (cc)
+no_bad_generic P w d (as_defined t s) = rw s refl

@@ -10,7 +10,8 @@ use Rattle.fac_lang.specs.declared.program.Program.{Program}
 use Rattle.fac_lang.specs.Eval.{Result, Done, Failed, Spent, Stuck, then_do, run_callable, eval}
 use Rattle.fac_lang.specs.Meaning.{callable_fits}
 use Rattle.fac_lang.proofs.Laws.{Within, within, within_call}
-use Rattle.fac_check.specs.CallableEffects.{limited_if, limited_height, curried_numbers, curried_height, composed_over, composed_numbers, composed_height, callable_height, most_inputs, fits, fits_outs}
+use Rattle.fac_lang.specs.HeightArithmetic.{most_values, limited_if, limited_height, curried_numbers, curried_height, composed_over, composed_numbers, composed_height, fits, fits_outs}
+use Rattle.fac_check.specs.CallableEffects.{callable_height, most_inputs}
 use Rattle.fac_check.specs.Promises.{Valid}
 use Rattle.fac_check.proofs.ValuesOfMarks.{EndsSo}
 use Rattle.fac_abs.proofs.EqualMarks.{never_true, and_first, and_second}
@@ -54,8 +55,8 @@ module _ (P : Program) (f : ℕ) where
   limited_keeps false i o h c e k = absurd (no_height h e)
 
   numbers_keep : (i : ℕ) (o : Option ℕ) (h : Height) (c : Callable) → limited_height i o ≡ Some h → KeepsNumbers i o c → KeepsNumbers h.ins h.outs c
-  numbers_keep i None h c e k = limited_keeps (nat_le i 1000000) i None h c e k
-  numbers_keep i (Some o) h c e k = limited_keeps (nat_le i 1000000 && nat_le o 1000000) i (Some o) h c e k
+  numbers_keep i None h c e k = limited_keeps (nat_le i most_values) i None h c e k
+  numbers_keep i (Some o) h c e k = limited_keeps (nat_le i most_values && nat_le o most_values) i (Some o) h c e k
 
   -- `curry`
   one_under : (o : ℕ) (v : Value) (s : List Value) (r : Result) → EndsSo (Leaves P (Some o) (v ∷ s)) r → EndsSo (Leaves P (Some (suc o)) s) r
@@ -85,7 +86,7 @@ module _ (P : Program) (f : ℕ) where
   curried_keeps : (v : Value) (c : Callable) (i : ℕ) (o : Option ℕ) (h : Height) → curried_numbers i o ≡ Some h → KeepsNumbers i o c → KeepsNumbers h.ins h.outs (cur v c)
   curried_keeps v c zero None h e k = numbers_keep 0 None h (cur v c) e (curried_never v c k)
   curried_keeps v c zero (Some o) h e k = numbers_keep 0 (Some (suc o)) h (cur v c) e (curried_more v c o k)
-  curried_keeps v c (suc i) o h e k = given_height i o h (cur v c) e (curried_less v c i o k)
+  curried_keeps v c (suc i) o h e k = numbers_keep i o h (cur v c) e (curried_less v c i o k)
 
   -- one run and then another
   both_end : (good better : State Value → Type 0) (r : Result) (go : State Value → ℕ → Result) → Within f r → EndsSo good r → ((st : State Value) (m : ℕ) → m ≤ f → good st → EndsSo better (go st m)) → EndsSo better (then_do r go)
@@ -137,7 +138,7 @@ module _ (P : Program) (f : ℕ) where
       (let lt = leb-false j o t in numbers_keep (i + j - o) p h (both c d) e (same_ins (j - o + i) (i + j - o) p (both c d) (omega (arith, lt)) (composed_below c d i o (j - o) p k (same_ins j (j - o + o) p d (omega (arith, lt)) l))))
 
   composed_keeps : (c d : Callable) (i : ℕ) (o : Option ℕ) (j : ℕ) (p : Option ℕ) (h : Height) → composed_numbers i o j p ≡ Some h → KeepsNumbers i o c → KeepsNumbers j p d → KeepsNumbers h.ins h.outs (both c d)
-  composed_keeps c d i None j p h e k l = given_height i None h (both c d) e (composed_keeps_never c d i k)
+  composed_keeps c d i None j p h e k l = numbers_keep i None h (both c d) e (composed_keeps_never c d i k)
   composed_keeps c d i (Some o) j p h e k l = composed_over_keeps c d i o j p h (nat_le j o) refl e k l
 
   -- a callable may be used on more values than it takes

@@ -5,7 +5,8 @@ use Rattle.fac_lang.specs.declared.program.Program.{Program}
 use Rattle.fac_lang.specs.Phrases.{Literal, Plain, Phrase, Item, lit, lit_arr, quot, word, bind, local, fry, hole, call_eff, exec_eff, next_method, made, next_after, held, known, Mark, any, lit_mark}
 use Rattle.fac_locals.specs.Literals.{Quoted, literal_numbered}
 use Rattle.fac_locals.specs.Closed.{ClosesItem, IsMadeBy}
-use Rattle.fac_abs.specs.Marks.{Row, on, limited, phrase_marks, deepest_mark}
+use Rattle.fac_lang.specs.RowVariables.{Row}
+use Rattle.fac_abs.specs.Marks.{on, limited, phrase_marks, deepest_mark}
 use Rattle.fac_abs.specs.MarkTrees.{Naming}
 use Rattle.fac_check.specs.Flow.{gives, doing}
 

@@ -21,7 +21,8 @@ use Rattle.fac_abs.specs.declared.rule.Rule.TheVariants.{Underflow, NotKnown, No
 use Rattle.fac_locals.specs.Literals.{first_of_word}
 use Rattle.fac_check.specs.Flow.{Walked, found, refused, walk, doing, most_nested}
 use Rattle.fac_check.specs.Verdicts.{Refusal, verdict, verdict_from}
-use Rattle.fac_check.specs.CallableEffects.{curried_height, composed_height, least_height, callable_height, fits}
+use Rattle.fac_lang.specs.HeightArithmetic.{curried_height, composed_height, fits}
+use Rattle.fac_check.specs.CallableEffects.{least_height, callable_height}
 
 -- The tokens of a phrase in order, so that each item has its place. A quotation stands at its opening bracket.
 abbrev mutual
@@ -377,6 +378,26 @@ pub row_of_own_call : verdict_of (defined (takes_quotation a a (from_to a a 0 0)
 unfolding prim_numbered core_numbered mark_eq
 row_of_own_call = refl
 
+-- : name ( x -- x ) drop name ; inline recursive: the own recursive call needs its inputs
+pub own_call_lacks : verdict_of (defined (takes 1 1) true true (drop ∷ own 0 ∷ []) ∷ []) ([]) ≡ refuses 0 (Underflow 1 0) 11
+unfolding prim_numbered core_numbered mark_eq
+own_call_lacks = refl
+
+-- without a row variable it stands on the hidden row: : name ( x -- x ) name ; inline recursive
+pub hidden_row : verdict_of (defined (takes 1 1) true true (own 0 ∷ []) ∷ []) ([]) ≡ None
+unfolding prim_numbered core_numbered mark_eq
+hidden_row = refl
+
+-- with one value below: .. dup name drop
+pub hidden_row_below : verdict_of (defined (takes 1 1) true true (dup ∷ own 0 ∷ drop ∷ []) ∷ []) ([]) ≡ refuses 0 (Rows 0 0 1) 11
+unfolding prim_numbered core_numbered mark_eq
+hidden_row_below = refl
+
+-- in the quotation of another row word it stands on no row: : u ( q: ( -- ) -- ) drop ; inline recursive : name ( -- ) [ name ] u ; inline recursive
+pub hidden_row_elsewhere : verdict_of (defined (takes_quotation None None (takes 0 0)) true true (drop ∷ []) ∷ defined (takes 0 0) true true (quotation (own 1 ∷ []) ∷ own 0 ∷ []) ∷ []) ([]) ≡ refuses 1 (Rows 0 0 0) 11
+unfolding prim_numbered core_numbered mark_eq
+hidden_row_elsewhere = refl
+
 -- Rows.
 
 -- 3 [ 1 ] times
@@ -438,6 +459,61 @@ used_so = refl
 pub dead_row : verdict_of (defined (signature a (quoted x (from_to a b 0 0) (quoted x (from_to a a 0 0) no_inputs)) (leaves b [])) true false (swap ∷ quotation (call ∷ []) ∷ dip ∷ call ∷ []) ∷ []) (quotation (number 1 ∷ throw ∷ []) ∷ quotation (number 1 ∷ throw ∷ []) ∷ own 0 ∷ plus ∷ []) ≡ None
 unfolding prim_numbered core_numbered mark_eq
 dead_row = refl
+
+-- times on one value
+pub use_lacks : verdict_of [] (number 3 ∷ times ∷ []) ≡ refuses 0 (Underflow 2 1) 2
+unfolding prim_numbered core_numbered mark_eq
+use_lacks = refl
+
+-- a free row has the named outputs above it: : name ( ..a q: ( ..a -- ..b x x ) -- ..b ) call drop drop ; inline 1 [ ] name
+pub too_few_above : verdict_of (defined (takes_quotation a b (from_to a b 0 2)) true false (call ∷ drop ∷ drop ∷ []) ∷ []) (number 1 ∷ quotation ([]) ∷ own 0 ∷ []) ≡ refuses 1 (Rows 1 2 1) 4
+unfolding prim_numbered core_numbered mark_eq
+too_few_above = refl
+
+-- and is bound to what is below them: 1 [ 2 3 ] name drop
+pub bound_below : verdict_of (defined (takes_quotation a b (from_to a b 0 2)) true false (call ∷ drop ∷ drop ∷ []) ∷ []) (number 1 ∷ quotation (number 2 ∷ number 3 ∷ []) ∷ own 0 ∷ drop ∷ []) ≡ None
+unfolding prim_numbered core_numbered mark_eq
+bound_below = refl
+
+-- a row that is bound to what never returns covers nothing else: : name ( ..a p: ( ..a -- ..b ) q: ( ..a -- ..b ) -- ..b ) drop call ; inline [ 1 throw ] [ ] name
+pub dead_covers : verdict_of (defined (signature a (quoted x (from_to a b 0 0) (quoted x (from_to a b 0 0) no_inputs)) (leaves b [])) true false (drop ∷ call ∷ []) ∷ []) (quotation (number 1 ∷ throw ∷ []) ∷ quotation ([]) ∷ own 0 ∷ []) ≡ refuses 1 (Rows 2 0 0) 7
+unfolding prim_numbered core_numbered mark_eq
+dead_covers = refl
+
+-- the quotations are walked from left to right: [ + ] [ drop ] name
+pub first_quotation : verdict_of (defined (signature a (quoted x (from_to a b 0 0) (quoted x (from_to a b 0 0) no_inputs)) (leaves b [])) true false (drop ∷ call ∷ []) ∷ []) (quotation (plus ∷ []) ∷ quotation (drop ∷ []) ∷ own 0 ∷ []) ≡ refuses 1 (Underflow 2 0) 2
+unfolding prim_numbered core_numbered mark_eq
+first_quotation = refl
+
+-- both have to leave the same: [ 1 ] [ 1 2 ] name
+pub rows_of_both : verdict_of (defined (signature a (quoted x (from_to a b 0 0) (quoted x (from_to a b 0 0) no_inputs)) (leaves b [])) true false (drop ∷ call ∷ []) ∷ []) (quotation (number 1 ∷ []) ∷ quotation (number 1 ∷ number 2 ∷ []) ∷ own 0 ∷ []) ≡ refuses 1 (Rows 2 1 2) 8
+unfolding prim_numbered core_numbered mark_eq
+rows_of_both = refl
+
+-- from a row that never returns nothing is walked: : name ( ..a p: ( ..a -- ..b ) q: ( ..b -- ..b ) -- ..b ) [ call ] dip call ; inline [ 1 throw ] [ + ] name
+pub dead_start : verdict_of (defined (signature a (quoted x (from_to a b 0 0) (quoted x (from_to b b 0 0) no_inputs)) (leaves b [])) true false (quotation (call ∷ []) ∷ dip ∷ call ∷ []) ∷ []) (quotation (number 1 ∷ throw ∷ []) ∷ quotation (plus ∷ []) ∷ own 0 ∷ []) ≡ None
+unfolding prim_numbered core_numbered mark_eq
+dead_start = refl
+
+-- and from one that was bound before its values are there: [ 1 2 ] [ + 3 ] name drop drop
+pub bound_start : verdict_of (defined (signature a (quoted x (from_to a b 0 0) (quoted x (from_to b b 0 0) no_inputs)) (leaves b [])) true false (quotation (call ∷ []) ∷ dip ∷ call ∷ []) ∷ []) (quotation (number 1 ∷ number 2 ∷ []) ∷ quotation (plus ∷ number 3 ∷ []) ∷ own 0 ∷ drop ∷ drop ∷ []) ≡ None
+unfolding prim_numbered core_numbered mark_eq
+bound_start = refl
+
+-- an input without rows takes its inputs on any base: : name ( q: ( x -- y ) -- y ) call ; inline recursive
+pub rowless_input_lacks : verdict_of (defined (signature None (quoted x (takes 1 1) no_inputs) (leaves None (x ∷ []))) true true (call ∷ []) ∷ []) ([]) ≡ refuses 0 (Rows 1 1 0) 10
+unfolding prim_numbered core_numbered mark_eq
+rowless_input_lacks = refl
+
+-- .. 1 2 rot call nip
+pub rowless_input : verdict_of (defined (signature None (quoted x (takes 1 1) no_inputs) (leaves None (x ∷ []))) true true (number 1 ∷ number 2 ∷ rot ∷ call ∷ nip ∷ []) ∷ []) ([]) ≡ None
+unfolding prim_numbered core_numbered mark_eq
+rowless_input = refl
+
+-- one that never returns leaves nothing to walk: : name ( q: ( x -- * ) -- * ) 1 swap call + ; inline recursive [ throw ] name
+pub input_never_returns : verdict_of (defined (signature None (quoted x (stops 1) no_inputs) never) true true (number 1 ∷ swap ∷ call ∷ plus ∷ []) ∷ []) (quotation (throw ∷ []) ∷ own 0 ∷ []) ≡ None
+unfolding prim_numbered core_numbered mark_eq
+input_never_returns = refl
 
 -- Undeclared recursion.
 
@@ -652,6 +728,25 @@ executed_counts = refl
 pub expanded_counts : walk_of (defined (takes 0 0) true false (number 1 ∷ drop ∷ []) ∷ []) 3 (own 0 ∷ []) ≡ found (on None []) 0
 unfolding prim_numbered core_numbered mark_eq
 expanded_counts = refl
+
+-- [ 1 drop ] name, where : name ( ..a q: ( ..a -- ..b ) -- ..b ) call ; inline: the use counts once, and the quotation as it is walked
+pub uses_count : walk_of (defined (takes_quotation a b (from_to a b 0 0)) true false (call ∷ []) ∷ []) 4 (quotation (number 1 ∷ drop ∷ []) ∷ own 0 ∷ []) ≡ found (on None []) 0
+unfolding prim_numbered core_numbered mark_eq
+uses_count = refl
+
+-- with one item less
+pub uses_too_many : walk_of (defined (takes_quotation a b (from_to a b 0 0)) true false (call ∷ []) ∷ []) 3 (quotation (number 1 ∷ drop ∷ []) ∷ own 0 ∷ []) ≡ refused TooLarge (token 3)
+unfolding prim_numbered core_numbered mark_eq
+uses_too_many = refl
+
+-- likewise the walk of a top-level phrase, where no application may be entered any more
+abbrev deepest_walk_of : List WordDef → ℕ → List Item → Walked AbstractStack
+deepest_walk_of words n is = walk None (doing (program_of [] words is) None) (suc n) (first_of_word (82 + length words)) 0 (placed 1 (phrase is)) None [] n
+
+-- [ ] name: the use breaks too-deep by its quotation before it counts
+pub use_rule_first : deepest_walk_of (defined (takes_quotation a b (from_to a b 0 0)) true false (call ∷ []) ∷ []) 1 (quotation ([]) ∷ own 0 ∷ []) ≡ refused TooDeep (token 3)
+unfolding prim_numbered core_numbered mark_eq
+use_rule_first = refl
 
 -- The numbers of literals: the items before them, counted with those of quotations.
 

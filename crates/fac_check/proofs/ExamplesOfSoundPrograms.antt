@@ -14,7 +14,8 @@ use Rattle.fac_lang.proofs.DemoPrelude.{ordinary, expanded}
 use Rattle.fac_lang.proofs.Demo.{program, plain_program}
 use Rattle.fac_lang.proofs.ExamplesOfObjects.{name, >>r, shapes, kept_in_array}
 use Rattle.fac_lang.proofs.ExamplesOfWhole.{sum_whole, shapes_whole, kept_whole}
-use Rattle.fac_abs.specs.Marks.{Row, named_row, row_eq, mark_eq}
+use Rattle.fac_lang.specs.RowVariables.{Row, named_row, row_eq}
+use Rattle.fac_abs.specs.Marks.{mark_eq}
 use Rattle.fac_abs.specs.declared.rule.Rule.TheVariants.{Underflow, Outputs}
 use Rattle.fac_check.specs.Verdicts.{verdict}
 use Rattle.fac_check.specs.Promises.{Lists, Exactly, AnyOf, On, LeftOn, Ends, phrase_run, callable_run, Behaves, OfRow, DoesInput, InputsOn, IsSafe}

@@ -8,9 +8,10 @@ use Rattle.fac_lang.specs.Signatures.{Signature, signature, Inputs, no_inputs, v
 use Rattle.fac_lang.specs.Effects.{inputs_count, leaving_outs}
 use Rattle.fac_lang.specs.declared.program.Program.{Program}
 use Rattle.fac_lang.specs.Eval.{Run, run_callable}
-use Rattle.fac_abs.specs.Marks.{Row, named_row, AbstractStack, dead, on, base_eq, unknowns}
+use Rattle.fac_lang.specs.RowVariables.{Row, named_row, leaving_row, effect_inputs, input_effect}
+use Rattle.fac_abs.specs.Marks.{AbstractStack, dead, on, base_eq, unknowns}
 use Rattle.fac_abs.specs.declared.rule.Rule.TheVariants.{Rows}
-use Rattle.fac_check.specs.Rows.{Binding, bound_to, stack_or_dead, leaving_row, effect_inputs, input_effect, leaving_on, Called, call_breaks, called_if, calls_input}
+use Rattle.fac_rows.specs.RowBinding.{Binding, bound_to, stack_or_dead, leaving_on, Called, call_breaks, called_if, calls_input}
 use Rattle.fac_check.specs.Flow.{Walk, called}
 use Rattle.fac_check.specs.Promises.{Valid}
 use Rattle.fac_check.proofs.ValuesOfMarks.{Stands, StandsOn, StandsStack}

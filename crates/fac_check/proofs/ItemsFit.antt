@@ -19,12 +19,13 @@ use Rattle.fac_lang.specs.Objects.{made_tuple, get_slot, set_slot, put_slot, kin
 use Rattle.fac_lang.specs.Classes.{has_kind, pick, next}
 use Rattle.fac_lang.specs.Eval.{Result, Done, Failed, Spent, Stuck, Act, fails, goes, binds, runs, Run, run_callable}
 use Rattle.fac_lang.specs.Meaning.{meaning_values, names, seen, curry_of, compose_of, taking1, taking2, taking3, taking, with_callable, given, does, does_call, does_dip, does_if, Core, does_execute, does_boa, with_word, error, word_call, makes_tuple, run_phrase, one_item, core_act, prim_act, core_numbered, generic_of, pushes_array, c_call, c_dip, c_if, c_execute, c_boa, either, sort_of, sort_act, callable_fits, tested_call, act, word_phrase, enters, tested_execute, word_execute, word_fits, truth_value}
-use Rattle.fac_abs.specs.Marks.{Row, AbstractStack, dead, on, limited, mark_depth, deepest_mark, is_callable, unknowns, popped, piled, curried_mark, composed_mark}
+use Rattle.fac_lang.specs.RowVariables.{Row, is_row}
+use Rattle.fac_abs.specs.Marks.{AbstractStack, dead, on, limited, mark_depth, deepest_mark, is_callable, unknowns, popped, piled, curried_mark, composed_mark}
 use Rattle.fac_abs.specs.declared.rule.Rule.{Rule}
 use Rattle.fac_abs.specs.declared.rule.Rule.TheVariants.{Underflow, NotKnown}
 use Rattle.fac_check.specs.Flow.{Doing, breaks, gives, expands, walks, forks, again, Walk, needing, by_height, callable_or, mark_at, core_doing, known_word, makes_by, word_doing, sort_doing, procedure_doing, prim_doing, inline_doing, row_or_phrase, generic_doing, next_doing, doing, lit_doing, is_own}
-use Rattle.fac_check.specs.Rows.{is_row}
-use Rattle.fac_check.specs.CallableEffects.{fits, callable_height}
+use Rattle.fac_lang.specs.HeightArithmetic.{fits}
+use Rattle.fac_check.specs.CallableEffects.{callable_height}
 use Rattle.fac_check.specs.Promises.{Valid}
 use Rattle.fac_check.proofs.ValuesOfMarks.{Stands, StandsPhrase, StandsItem, StandsOn, EndsSo}
 use Rattle.fac_lang.proofs.Laws.{Sparing}
@@ -374,7 +375,7 @@ module _ (P : Program) (C : Context) where
       -- no mark stands in a word's phrase
       pub expanded : (w : ℕ) (d : WordDef) (t : Phrase) → slice_get P.words w ≡ Some d → d.sort ≡ body t → StandsPhrase C.inputs t t
       -- a use of a row word, or the own recursive call
-      pub row_words : (w : ℕ) (d : WordDef) (t : Phrase) → slice_get P.words w ≡ Some d → d.sort ≡ body t → not (nat_eq w P.top) ≡ true → d.inline ≡ true → is_row d.recursive d.effect ≡ true → (b : Option Row) (ms : List Mark) (st : State Value) → OnState P C b ms st → D (row_or_phrase P C.word true (is_own P C.word w C.word) w t d.effect b ms) (run_phrase t st)
+      pub row_words : (w : ℕ) (d : WordDef) (t : Phrase) → slice_get P.words w ≡ Some d → d.sort ≡ body t → not (nat_eq w P.top) ≡ true → d.inline ≡ true → is_row d.recursive d.effect ≡ true → (b : Option Row) (ms : List Mark) (st : State Value) → OnState P C b ms st → D (row_or_phrase P C.word true (is_own w C.word) w t d.effect b ms) (run_phrase t st)
       -- a primitive takes and leaves what its word declares
       pub prims : (w : ℕ) (d : WordDef) (k : ℕ) (p : Primitive) → slice_get P.words w ≡ Some d → d.sort ≡ prim k → prim_numbered k ≡ Some p → RegularFn (H d).ins (H d).outs (prim_fn meaning_values (names P) p)
       -- likewise accessors and predicates

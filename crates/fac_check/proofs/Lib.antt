@@ -9,6 +9,7 @@ pub mod RowsFit
 pub mod InsideRowWords
 pub mod RowInputs
 pub mod RowUses
+pub mod OwnCalls
 pub mod ExamplesOfFlow
 pub mod CallablesKeep
 pub mod PrimitivesKeep
@@ -30,6 +31,7 @@ pub mod WordItems
 pub mod ClosedItems
 pub mod WalkLemmas
 pub mod MarkWalks
+pub mod UseWalks
 pub mod VerdictLemmas
 pub mod NamedWords
 pub mod EdgesOfWords

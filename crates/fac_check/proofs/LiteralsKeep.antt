@@ -9,7 +9,8 @@ use Rattle.fac_lang.specs.Eval.{eval}
 use Rattle.fac_abs.specs.Marks.{AbstractStack, dead, on, unknowns}
 use Rattle.fac_locals.specs.Literals.{first_of_word}
 use Rattle.fac_check.specs.Flow.{Walked, found, refused, walked, most_walked, most_steps, most_nested}
-use Rattle.fac_check.specs.CallableEffects.{forgotten, least_height, most_outputs}
+use Rattle.fac_check.specs.CallableEffects.{forgotten, least_height}
+use Rattle.fac_lang.specs.HeightArithmetic.{most_values}
 use Rattle.fac_check.specs.Promises.{Valid}
 use Rattle.fac_check.proofs.ValuesOfMarks.{EndsSo}
 use Rattle.fac_abs.proofs.EqualMarks.{never_true}
@@ -33,13 +34,13 @@ module _ (P : Program) where
       absurd_none z = never_true (sym z)
 
   abbrev tried : Walked AbstractStack → ℕ → Option Height → Option Height
-  tried W i next = elim W [ found B n ↦ elim B [ dead ↦ Some (record { ins = i; outs = None }) | on b ms ↦ elim (nat_le (length ms) most_outputs) [ true ↦ Some (record { ins = i; outs = Some (length ms) }) | false ↦ None ] ] | refused r p ↦ next ]
+  tried W i next = elim W [ found B n ↦ elim B [ dead ↦ Some (record { ins = i; outs = None }) | on b ms ↦ elim (nat_le (length ms) most_values) [ true ↦ Some (record { ins = i; outs = Some (length ms) }) | false ↦ None ] ] | refused r p ↦ next ]
 
   by_walk : (f : ℕ) (t : Phrase) (i : ℕ) (h : Height) (next : Option Height) (W : Walked AbstractStack) → ((s : List Value) (st : State Value) (n : ℕ) → n ≤ f → Over i s st.stack → Valid P st.world → Fits P (on_values P s) W (eval (A P) f t st n)) → tried W i next ≡ Some h → (next ≡ Some h → PhraseKeeps f h t) → PhraseKeeps f h t
   by_walk f t i h next (refused r p) fit e rest = rest e
   by_walk f t i h next (found dead n) fit e rest =
       subst (λ k. PhraseKeeps f k t) (the_height (record { ins = i; outs = None }) h e) (λ s st m le o v. ends_map P (on_values P s) (StackState P (on_values P s) dead) (Leaves P None s) (eval (A P) f t st m) (λ st' q. absurd q.0) (fit s st m le o v))
-  by_walk f t i h next (found (on b ms) n) fit e rest = kept (nat_le (length ms) most_outputs) e
+  by_walk f t i h next (found (on b ms) n) fit e rest = kept (nat_le (length ms) most_values) e
     where
       kept : (q : Bool) → (let o : Option Height = elim q [ true ↦ Some (record { ins = i; outs = Some (length ms) }) | false ↦ None ] in o ≡ Some h) → PhraseKeeps f h t
       kept false z = absurd (no_height h z)

@@ -1,5 +1,5 @@
 -- The walk of a callable by the walks of its parts.
-use Rattle.std.proofs.Common.{◌≡◌, ◌≢◌, ◌-◌, ℕ, zero, suc, List, ◌∷◌, Option, Some, None, Ok, refl, sym, ap, subst, ◌∙◌, arith}
+use Rattle.std.proofs.Common.{◌≡◌, ◌≢◌, ◌-◌, ℕ, zero, suc, List, ◌∷◌, Option, Some, Ok, refl, sym, ap, subst, ◌∙◌, arith}
 use Rattle.std.specs.Prelude.{slice_get}
 use Rattle.fac_lang.specs.declared.phrase.Place.{Place}
 use Rattle.fac_lang.specs.declared.phrase.Template.{Template}
@@ -9,11 +9,13 @@ use Rattle.fac_lang.specs.declared.program.Sort.TheVariants.{Body as body}
 use Rattle.fac_lang.specs.Phrases.{Literal, Phrase, Mark, cur_mark, com_mark}
 use Rattle.fac_locals.specs.Literals.{Quoted, first_of_word, first_of_literal}
 use Rattle.fac_locals.specs.Closed.{Closes, ClosesPhrase}
-use Rattle.fac_locals.specs.declared.closing.Closed.{Closed}
+use Rattle.fac_lang.specs.Signatures.{Signature}
 use Rattle.fac_locals.proofs.Lookups.{word_open, template_closed}
-use Rattle.fac_abs.specs.Marks.{Row, AbstractStack, on}
+use Rattle.fac_lang.specs.RowVariables.{Row}
+use Rattle.fac_abs.specs.Marks.{AbstractStack, on}
 use Rattle.fac_abs.specs.MarkTrees.{Naming}
 use Rattle.fac_abs.specs.SeenMarks.{MarksSeen, Grows, IsMark, IsStack, IsReached, mark_of, stack_of, base_seen, reached_seen}
+use Rattle.fac_check.specs.declared.subject.Subject.{Subject}
 use Rattle.fac_check.specs.declared.walker.Step.{Step}
 use Rattle.fac_check.specs.declared.walker.Walked.{Walked as Ended}
 use Rattle.fac_check.specs.declared.walker.Walked.TheVariants.{Found}
@@ -21,28 +23,29 @@ use Rattle.fac_abs.specs.declared.reached.Reached.{Reached}
 use Rattle.fac_abs.specs.declared.reached.Reached.TheVariants.{Dead, On}
 use Rattle.fac_check.specs.Flow.{Walked, and_then, join, living, inside, Walk, walk_phrase, walk_mark}
 use Rattle.fac_check.specs.inner.Walking.{Opened, walked_seen, Enters, body_phrase, phrase_of, sort_phrase, mark_walk, fork_walk}
+use Rattle.fac_check.specs.inner.OwnEffects.{own_effect}
 use Rattle.fac_check.proofs.BuiltWords.{built_as}
 use Rattle.fac_check.proofs.WordItems.{is_body}
 
-module _ (go : Walk) (p : Place) (nested : ℕ) (b : Option Row) (ms : List Mark) (left rest : ℕ) (counts : left ≡ suc rest) where
+module _ (own : Option Signature) (go : Walk) (p : Place) (nested : ℕ) (b : Option Row) (ms : List Mark) (left rest : ℕ) (counts : left ≡ suc rest) where
   -- what `curry` made
-  pub curried_counts : (m c : Mark) (d : ℕ) → Enters c nested (Ok d) → walk_mark None go (cur_mark m c) p nested b ms left ≡ walk_mark None go c p d b (m ∷ ms) rest
-  curried_counts m c d enters = rw counts (enters p (λ d'. walk_mark None go c p d' b (m ∷ ms) rest))
+  pub curried_counts : (m c : Mark) (d : ℕ) → Enters c nested (Ok d) → walk_mark own go (cur_mark m c) p nested b ms left ≡ walk_mark own go c p d b (m ∷ ms) rest
+  curried_counts m c d enters = rw counts (enters p (λ d'. walk_mark own go c p d' b (m ∷ ms) rest))
 
   -- what `compose` made: its first part, and then its second
-  pub composed_counts : (c e : Mark) (W : Walked AbstractStack) → W ≡ inside c p nested (λ d. walk_mark None go c p d b ms rest) → walk_mark None go (com_mark c e) p nested b ms left ≡ and_then W (λ A k. living A k (λ c ns j. inside e p nested (λ d. walk_mark None go e p d c ns j)))
+  pub composed_counts : (c e : Mark) (W : Walked AbstractStack) → W ≡ inside c p nested (λ d. walk_mark own go c p d b ms rest) → walk_mark own go (com_mark c e) p nested b ms left ≡ and_then W (λ A k. living A k (λ c ns j. inside e p nested (λ d. walk_mark own go e p d c ns j)))
   composed_counts c e W first = rw (counts, first) refl
 
   -- likewise where the walk of the first part came to this
-  pub composed_ends : (N : Naming) (K : MarksSeen) (c e : Mark) (W V : Ended) → W ≡ V → walked_seen N K W ≡ inside c p nested (λ d. walk_mark None go c p d b ms rest) → walk_mark None go (com_mark c e) p nested b ms left ≡ and_then (walked_seen N K V) (λ A k. living A k (λ c ns j. inside e p nested (λ d. walk_mark None go e p d c ns j)))
+  pub composed_ends : (N : Naming) (K : MarksSeen) (c e : Mark) (W V : Ended) → W ≡ V → walked_seen N K W ≡ inside c p nested (λ d. walk_mark own go c p d b ms rest) → walk_mark own go (com_mark c e) p nested b ms left ≡ and_then (walked_seen N K V) (λ A k. living A k (λ c ns j. inside e p nested (λ d. walk_mark own go e p d c ns j)))
   composed_ends N K c e W V is first = composed_counts c e (walked_seen N K V) (ap (walked_seen N K) (sym is) ∙ first)
 
 -- a phrase is one application deeper
-pub phrase_entered : (go : Walk) (at : Literal) (t : Phrase) (p : Place) (nested : ℕ) (b : Option Row) (ms : List Mark) (n : ℕ) → nested ≢ 0 → walk_phrase None go at t p nested b ms n ≡ go at (nested - 1) t b ms n
-phrase_entered go at t p zero b ms n h = absurd (h refl)
-phrase_entered go at t p (suc d) b ms n h = (let e : suc d - 1 ≡ d = omega arith in rw e refl)
+pub phrase_entered : (own : Option Signature) (go : Walk) (at : Literal) (t : Phrase) (p : Place) (nested : ℕ) (b : Option Row) (ms : List Mark) (n : ℕ) → nested ≢ 0 → walk_phrase own go at t p nested b ms n ≡ go at (nested - 1) t b ms n
+phrase_entered own go at t p zero b ms n h = absurd (h refl)
+phrase_entered own go at t p (suc d) b ms n h = (let e : suc d - 1 ≡ d = omega arith in rw e refl)
 
-module _ {C : Program} {templates : List Template} (O : Opened C templates) where
+module _ {C : Program} {templates : List Template} {own : Option ℕ} (O : Opened C templates own) where
   -- the phrase of a literal, for the body of its template
   pub literal_closed : (k : ℕ) (t : Template) → slice_get templates k ≡ Some t → ClosesPhrase O.program (first_of_literal (O.naming.literal k).0) (O.naming.literal k).1 t.body
   literal_closed k t e = subst (λ (l : Quoted). ClosesPhrase O.program (first_of_literal l.0) l.1 t.body) (sym (O.naming_is k)) (template_closed O.program C templates O.closes k t e).body
@@ -55,13 +58,18 @@ module _ {C : Program} {templates : List Template} (O : Opened C templates) wher
       subst (λ (u : Phrase). ClosesPhrase O.program (first_of_word w) u t) (sym (ap phrase_of there.at ∙ ap sort_phrase sort.1)) sort.2
 
 -- a program for which a closed one stands, where the closed one is told by an equal
-abbrev pub carried : {A B : Closed} → B ≡ A → Opened A.program A.templates → Opened B.program B.templates
+abbrev pub carried : {A B : Subject} → B ≡ A → Opened A.closed.now.program A.closed.now.templates A.own → Opened B.closed.now.program B.closed.now.templates B.own
 carried e O = record {
   program = O.program;
-  closes = subst (λ (c : Closed). Closes O.program c.program c.templates) (sym e) O.closes;
+  closes = subst (λ (c : Subject). Closes O.program c.closed.now.program c.closed.now.templates) (sym e) O.closes;
   built = O.built;
   naming = O.naming;
   naming_is = O.naming_is;
+  word = O.word;
+  word_is = O.word_is ∙ ap (λ (c : Subject). c.own) (sym e);
+  effect = O.effect;
+  effect_is = O.effect_is ∙ ap (λ (c : Subject). own_effect c.closed.now.program c.own) (sym e);
+  rows = O.rows;
 }
 
 -- what was reached stays what it is
@@ -70,17 +78,17 @@ reached_stays N M L Dead g h = refl
 reached_stays N M L (On b s) g h = ap (λ ms. on (base_seen N b) ms) (g.same_stack N s h)
 
 -- two callables, and then their join
-module _ {C : Program} {templates : List Template} (O : Opened C templates) (go : Walk) (M L K : MarksSeen) (s : Step) (m n : ℕ) where
+module _ {C : Program} {templates : List Template} {own : Option ℕ} (O : Opened C templates own) (go : Walk) (M L K : MarksSeen) (s : Step) (m n : ℕ) where
   -- Where the walk of the first came to this, the walk of the second is at marks that came later.
   pub forked :
       (W V : Ended) (upper : Reached) (rest : ℕ) (X : Walked AbstractStack) → Grows M L → IsMark M n → IsStack M s.stack → W ≡ Found upper rest →
       walked_seen O.naming L W ≡ mark_walk M s m O go →
-      walked_seen O.naming K V ≡ walk_mark None go (mark_of O.naming L n) s.place s.nested (base_seen O.naming s.base) (stack_of O.naming L s.stack) rest →
+      walked_seen O.naming K V ≡ walk_mark O.effect go (mark_of O.naming L n) s.place s.nested (base_seen O.naming s.base) (stack_of O.naming L s.stack) rest →
       X ≡ and_then (walked_seen O.naming K V) (λ B j. join (reached_seen O.naming L upper) B s.place j) →
       X ≡ fork_walk M s m n O go
   forked W V upper rest X grows there stack is first second joins =
       let N = O.naming in
-      let seconds : ℕ → Walked AbstractStack = λ k. walk_mark None go (mark_of N M n) s.place s.nested (base_seen N s.base) (stack_of N M s.stack) k in
+      let seconds : ℕ → Walked AbstractStack = λ k. walk_mark O.effect go (mark_of N M n) s.place s.nested (base_seen N s.base) (stack_of N M s.stack) k in
       joins
-      ∙ ap (λ w. and_then w (λ B j. join (reached_seen N L upper) B s.place j)) (second ∙ ap (λ q. walk_mark None go q s.place s.nested (base_seen N s.base) (stack_of N L s.stack) rest) (grows.same_mark N n there) ∙ ap (λ ms. walk_mark None go (mark_of N M n) s.place s.nested (base_seen N s.base) ms rest) (grows.same_stack N s.stack stack))
+      ∙ ap (λ w. and_then w (λ B j. join (reached_seen N L upper) B s.place j)) (second ∙ ap (λ q. walk_mark O.effect go q s.place s.nested (base_seen N s.base) (stack_of N L s.stack) rest) (grows.same_mark N n there) ∙ ap (λ ms. walk_mark O.effect go (mark_of N M n) s.place s.nested (base_seen N s.base) ms rest) (grows.same_stack N s.stack stack))
       ∙ ap (λ w. and_then w (λ A k. and_then (seconds k) (λ B j. join A B s.place j))) (ap (walked_seen N L) (sym is) ∙ first)

@@ -6,7 +6,7 @@ use Rattle.fac_lang.specs.Primitives.{Primitive, prim_numbered}
 use Rattle.fac_lang.specs.Operations.{Doing as Does, operation_does, primitive_does, IsOperationOf}
 use Rattle.fac_lang.specs.declared.primitive_table.Operation.{Operation}
 use Rattle.fac_lang.specs.declared.primitive_table.Operation.TheVariants as operation
-use Rattle.fac_abs.specs.Marks.{Row}
+use Rattle.fac_lang.specs.RowVariables.{Row}
 use Rattle.fac_check.specs.Flow.{Doing, by_height, procedure_doing, prim_doing}
 
 -- the operation of a number does what its primitive does

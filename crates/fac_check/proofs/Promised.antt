@@ -7,12 +7,13 @@ use Rattle.fac_lang.specs.World.{World, State}
 use Rattle.fac_lang.specs.Eval.{Result, Done, Failed, Spent, Stuck}
 use Rattle.fac_lang.specs.Meaning.{word_phrase, one_item}
 use Rattle.fac_lang.specs.RunningLaws.{IsNotStuck}
-use Rattle.fac_check.specs.CallableEffects.{callable_height, fits}
-use Rattle.fac_check.specs.Promises.{Valid}
+use Rattle.fac_check.specs.CallableEffects.{callable_height}
+use Rattle.fac_lang.specs.HeightArithmetic.{fits}
+use Rattle.fac_check.specs.Promises.{Valid, AcceptedAreSafe, SafeAreNotStuck, Lists, Exactly, LeftOn, Ends, OfRow}
 use Rattle.fac_check.proofs.ValuesOfMarks.{EndsSo}
-use Rattle.fac_check.specs.Promises.{AcceptedAreSafe, SafeAreNotStuck, Lists, Exactly, LeftOn, Ends, OfRow}
 use Rattle.fac_lang.specs.Effects.{effect_height}
-use Rattle.fac_check.specs.Rows.{effect_leaving, leaving_on, outer_out}
+use Rattle.fac_lang.specs.RowVariables.{effect_leaving, outer_out}
+use Rattle.fac_rows.specs.RowBinding.{leaving_on}
 use Rattle.fac_check.proofs.WalksFit.{StackState}
 use Rattle.fac_check.proofs.ItemsFit.{Over, Leaves}
 use Rattle.fac_check.proofs.CountedValues.{inputs_over, outputs_over}

@@ -4,9 +4,9 @@ use Rattle.fac_lang.specs.Phrases.{Value, Callable, Mark, any, par_mark}
 use Rattle.fac_lang.specs.World.{pile}
 use Rattle.fac_lang.specs.Signatures.{Inputs, no_inputs, value, quoted}
 use Rattle.fac_lang.specs.declared.program.Program.{Program}
-use Rattle.fac_abs.specs.Marks.{Row, is_callable}
-use Rattle.fac_check.specs.Rows.{inputs_known}
-use Rattle.fac_check.specs.Verdicts.{inputs_marks}
+use Rattle.fac_lang.specs.RowVariables.{Row}
+use Rattle.fac_abs.specs.Marks.{is_callable}
+use Rattle.fac_rows.specs.RowBinding.{inputs_known, inputs_marks}
 use Rattle.fac_check.proofs.ValuesOfMarks.{Stands, StandsOn}
 use Rattle.fac_abs.proofs.EqualMarks.{never_true, and_first, and_second}
 use Rattle.fac_check.proofs.StandingLaws.{callable_is}

@@ -11,15 +11,14 @@ use Rattle.fac_lang.specs.Signatures.{Signature, signature, Inputs, no_inputs, v
 use Rattle.fac_lang.specs.Effects.{inputs_count, leaving_outs, effect_height}
 use Rattle.fac_lang.specs.Eval.{Result, Done, Failed, Spent, Stuck, run_callable, eval}
 use Rattle.fac_lang.proofs.Laws.{within, agree_call, same_run}
-use Rattle.fac_abs.specs.Marks.{Row, named_row, base_eq, unknowns}
+use Rattle.fac_lang.specs.RowVariables.{Row, named_row, leaving_row, effect_inputs, effect_leaving, input_effect, outer_in, outer_out}
+use Rattle.fac_abs.specs.Marks.{base_eq, unknowns}
 use Rattle.fac_abs.specs.declared.rule.Rule.TheVariants.{Rows}
 use Rattle.fac_abs.proofs.EqualMarks.{and_first, and_second, length_same, base_same}
-use Rattle.fac_check.specs.Rows.{leaving_row, effect_inputs, effect_leaving, input_effect, leaving_on, Called, call_breaks, called_if, calls_input, outer_in, outer_out}
+use Rattle.fac_rows.specs.RowBinding.{leaving_on, Called, call_breaks, called_if, calls_input, inputs_marks}
 use Rattle.fac_check.specs.Flow.{called}
-use Rattle.fac_check.specs.Verdicts.{inputs_marks}
-use Rattle.fac_check.specs.Promises.{Valid}
+use Rattle.fac_check.specs.Promises.{Valid, Lists, Exactly, LeftOn, Ends, phrase_run, callable_run, OfRow, DoesInput, AreInputs}
 use Rattle.fac_check.proofs.ValuesOfMarks.{StandsOn, EndsSo}
-use Rattle.fac_check.specs.Promises.{Lists, Exactly, LeftOn, Ends, phrase_run, callable_run, OfRow, DoesInput, AreInputs}
 use Rattle.fac_check.proofs.WalksFit.{Context, OnState, StackState, Fits, InputsFit}
 use Rattle.fac_check.proofs.ItemsFit.{Over, over_unknowns}
 use Rattle.fac_check.proofs.SoundWalks.{A}

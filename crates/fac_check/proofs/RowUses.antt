@@ -8,12 +8,13 @@ use Rattle.fac_lang.specs.Signatures.{Signature, Leaving, never, leaves}
 use Rattle.fac_lang.specs.declared.program.Program.{Program}
 use Rattle.fac_lang.specs.declared.program.WordDef.{WordDef}
 use Rattle.fac_lang.specs.Eval.{Result, Run, eval}
-use Rattle.fac_abs.specs.Marks.{Row, AbstractStack, dead, on, base_eq, unknowns}
+use Rattle.fac_lang.specs.RowVariables.{Row, effect_inputs, effect_leaving, outer_in, outer_out}
+use Rattle.fac_abs.specs.Marks.{AbstractStack, dead, on, base_eq, unknowns}
 use Rattle.fac_abs.specs.declared.rule.Rule.TheVariants.{Outputs, MustReturn}
-use Rattle.fac_check.specs.Rows.{Binding, effect_inputs, effect_leaving, outer_in, outer_out, leaving_on}
+use Rattle.fac_rows.specs.RowBinding.{Binding, leaving_on, row_result, inputs_marks}
 use Rattle.fac_locals.specs.Literals.{first_of_word}
-use Rattle.fac_check.specs.Flow.{Walked, found, refused, and_then, Walk, row_result, walked, most_walked, most_steps, most_nested}
-use Rattle.fac_check.specs.Verdicts.{Refusal, refusal, end_of, kept_word, row_verdict, inputs_marks}
+use Rattle.fac_check.specs.Flow.{Walked, found, refused, and_then, Walk, walked, most_walked, most_steps, most_nested}
+use Rattle.fac_check.specs.Verdicts.{Refusal, refusal, end_of, kept_word, row_verdict}
 use Rattle.fac_check.proofs.ValuesOfMarks.{StandsPhrase, StandsOn, EndsSo}
 use Rattle.fac_abs.proofs.EqualMarks.{and_first, and_second, length_same, base_same}
 use Rattle.fac_check.proofs.WalksFit.{Context, OnState, StackState, Fits}

@@ -1,5 +1,5 @@
 -- A use of a row word: what each quotation input does, against the rows that are bound at the end.
-use Rattle.std.proofs.Common.{◌≡◌, ℕ, zero, suc, ◌≤◌, ◌+◌, List, [], ◌∷◌, length, drop, Bool, true, false, refl, sym, ap, ◌∙◌, Option, Some, None, arith}
+use Rattle.std.proofs.Common.{◌≡◌, ℕ, zero, suc, ◌≤◌, ◌+◌, List, [], ◌∷◌, length, drop, Bool, true, false, refl, sym, ap, ◌∙◌, Option, Some, None, arith, length-drop}
 use Rattle.std.specs.Prelude.{nat_eq, nat_lt, ◌&&◌, ◌||◌, not}
 use Rattle.std.specs.Str.{bytes_eq}
 use Rattle.fac_lang.specs.declared.phrase.Place.{Place}
@@ -9,15 +9,15 @@ use Rattle.fac_lang.specs.Signatures.{Signature, signature, Inputs, no_inputs, v
 use Rattle.fac_lang.specs.Effects.{inputs_count, leaving_outs}
 use Rattle.fac_lang.specs.declared.program.Program.{Program}
 use Rattle.fac_lang.specs.Eval.{Run, run_callable}
-use Rattle.fac_abs.specs.Marks.{Row, named_row, AbstractStack, dead, on, row_eq, base_eq, mark_eq, unknowns, cover_marks}
+use Rattle.fac_lang.specs.RowVariables.{Row, named_row, row_eq, row_of, row_name, effect_leaving}
+use Rattle.fac_abs.specs.Marks.{AbstractStack, dead, on, base_eq, mark_eq, unknowns, cover_marks}
 use Rattle.fac_abs.specs.declared.rule.Rule.TheVariants.{Rows}
-use Rattle.fac_check.specs.Rows.{Binding, bound_to, stack_or_dead, row_of, row_name, effect_leaving, Tied, tied, untied, tied_if, tie, tie_row, start_row}
+use Rattle.fac_rows.specs.RowBinding.{Binding, bound_to, stack_or_dead, Tied, tied, untied, tied_if, tie, tie_row, start_row}
 use Rattle.fac_check.specs.Flow.{Walked, found, refused, and_then, Walk, walk_from, walk_inputs, started, tied_on}
 use Rattle.fac_check.specs.Promises.{Valid}
 use Rattle.fac_check.proofs.ValuesOfMarks.{Stands, StandsOn, StandsStack, EndsSo}
 use Rattle.std.proofs.lemmas.Slice.Eq.{bytes_eq-Decides}
 use Rattle.std.proofs.lemmas.Bool.{ltb-false}
-use Rattle.std.proofs.Common.{length-drop}
 use Rattle.fac_lang.proofs.Laws.{Sparing}
 use Rattle.fac_abs.proofs.EqualMarks.{never_true, and_first, and_second, length_same, base_same, mark_same, row_same}
 use Rattle.fac_check.proofs.WalksFit.{Context, StackState, Fits, PhrasesFit, InputsFit, mark_fits}

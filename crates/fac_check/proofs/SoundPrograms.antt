@@ -18,14 +18,15 @@ use Rattle.fac_lang.specs.declared.program.Sort.TheVariants.{Prim as prim, Core 
 use Rattle.fac_lang.specs.Eval.{Result, Done, Failed, Spent, Stuck, then_do, Act, go_on, eval}
 use Rattle.fac_lang.specs.Meaning.{meaning_values, names, sort_of, is_past, is_top_phrase, word_phrase, word_fits, one_item, run_phrase, sort_act, nowhere}
 use Rattle.fac_lang.specs.Effects.{effect_height, inputs_count, word_height}
-use Rattle.fac_abs.specs.Marks.{Row, hidden, named_row, AbstractStack, dead, on, row_eq, base_eq, mark_eq, popped, unknowns}
+use Rattle.fac_lang.specs.RowVariables.{Row, hidden, named_row, row_eq, is_row, bindable, inputs_rows, nested_one_sided, bound_all, bound_rows, outer_in, outer_out, effect_inputs, effect_leaving}
+use Rattle.fac_abs.specs.Marks.{AbstractStack, dead, on, base_eq, mark_eq, popped, unknowns}
 use Rattle.fac_abs.specs.declared.rule.Rule.{Rule}
 use Rattle.fac_abs.specs.declared.rule.Rule.TheVariants.{Underflow, NotKnown, Rows, RecursiveInput}
-use Rattle.fac_check.specs.Rows.{is_row, bindable, inputs_rows, nested_one_sided, bound_all, bound_rows, outer_in, outer_out, effect_inputs, effect_leaving, Binding, stack_or_dead, row_bound, row_binding, inputs_known, other_input, leaving_on}
+use Rattle.fac_rows.specs.RowBinding.{Binding, stack_or_dead, row_bound, row_binding, inputs_known, other_input, leaving_on, row_result, inputs_marks}
 use Rattle.fac_locals.specs.Literals.{first_of_word}
-use Rattle.fac_check.specs.Flow.{Walked, found, refused, and_then, Walk, walk_on, Doing, breaks, gives, uses, by_height, callable_or, walk_inputs, row_result, is_own, own_rest, own_doing, row_doing, row_or_phrase}
-use Rattle.fac_check.specs.CallableEffects.{fits, fits_outs}
-use Rattle.fac_check.specs.Verdicts.{inputs_marks, ordinary_verdict, row_verdict, top_verdict}
+use Rattle.fac_check.specs.Flow.{Walked, found, refused, and_then, Walk, walk_on, Doing, breaks, gives, uses, by_height, callable_or, walk_inputs, is_own, own_doing, row_doing, row_or_phrase}
+use Rattle.fac_lang.specs.HeightArithmetic.{fits, fits_outs}
+use Rattle.fac_check.specs.Verdicts.{ordinary_verdict, row_verdict, top_verdict}
 use Rattle.fac_check.specs.Promises.{Valid}
 use Rattle.fac_check.proofs.ValuesOfMarks.{Stands, StandsOn, StandsStack, EndsSo}
 use Rattle.fac_lang.proofs.Laws.{within}
@@ -40,6 +41,7 @@ use Rattle.fac_check.proofs.RowsFit.{with_base, Extends, Shows, inputs_show}
 use Rattle.fac_check.proofs.InsideRowWords.{Given, callee, callee_fits, callee_leaves}
 use Rattle.fac_check.proofs.RowInputs.{Values, AsMany, plus, inputs_stand}
 use Rattle.fac_check.proofs.RowUses.{accepted_row}
+use Rattle.fac_check.proofs.OwnCalls.{own_rest, own_by_inputs}
 
 -- the height of a word's effect
 abbrev pub height_of : WordDef → Height
@@ -232,7 +234,7 @@ module _ (P : Program) where
               bound false e = absurd (never_true e)
 
         -- a use of a row word
-        row_does : (b : Option Row) (ms : List Mark) (st : State Value) → OnState P C b ms st → D (row_doing P C.word d.effect b ms) (run_phrase t st)
+        row_does : (b : Option Row) (ms : List Mark) (st : State Value) → OnState P C b ms st → D (row_doing d.effect b ms) (run_phrase t st)
         row_does b ms st e =
             popped_takes (inputs_count ins) [] [] b ms st.stack (run_phrase t st) (λ taken rest. elim (bindable d.effect) [ true ↦ callable_or (inputs_known ins taken) NotKnown (uses d.effect taken b rest) | false ↦ gives dead ]) (Underflow (inputs_count ins) (length ms)) refl e.0 (λ taken rest vs r x q z len. use_does taken rest vs r b st (as_many ins taken (omega (arith, len))) x q z e.1)
 
@@ -251,9 +253,10 @@ module _ (P : Program) where
             same false u v = absurd (cc)
 
         -- the own recursive call
-        own_does : C.own ≡ Some d.effect → C.word ≡ Some w → (b : Option Row) (ms : List Mark) (st : State Value) → OnState P C b ms st → D (own_doing P C.word d.effect b ms) (run_phrase t st)
+        own_does : C.own ≡ Some d.effect → C.word ≡ Some w → (b : Option Row) (ms : List Mark) (st : State Value) → OnState P C b ms st → D (own_doing d.effect b ms) (run_phrase t st)
         own_does is_own_effect is_own_word b ms st e =
-            popped_takes (inputs_count ins) [] [] b ms st.stack (run_phrase t st) (λ taken rest. elim (other_input 1 ins taken) [ Some k ↦ breaks (RecursiveInput k) | None ↦ own_rest P C.word d.effect b rest ]) (Underflow (inputs_count ins) (length ms)) refl e.0 (λ taken rest vs r x q z len. same taken rest vs r x q z (as_many ins taken (omega (arith, len))) (other_input 1 ins taken) refl)
+            subst (λ D'. D D' (run_phrase t st)) (sym (own_by_inputs d.effect b ms)) (
+            popped_takes (inputs_count ins) [] [] b ms st.stack (run_phrase t st) (λ taken rest. elim (other_input 1 ins taken) [ Some k ↦ breaks (RecursiveInput k) | None ↦ own_rest d.effect b rest ]) (Underflow (inputs_count ins) (length ms)) refl e.0 (λ taken rest vs r x q z len. same taken rest vs r x q z (as_many ins taken (omega (arith, len))) (other_input 1 ins taken) refl))
           where
             rested : (taken rest : List Mark) (vs r : List Value) → Vs taken vs → StandsOn C.inputs C.row b rest r → st.stack ≡ pile vs r → AsMany P C C ins taken → other_input 1 ins taken ≡ None → (q : Bool) → (base_eq b (outer_in d.effect) && nat_eq (length rest) 0) ≡ q → D (elim q [ true ↦ gives (leaving_on (effect_leaving d.effect) (outer_out d.effect) []) | false ↦ breaks (Rows 0 0 (length rest)) ]) (run_phrase t st)
             rested taken rest vs r x h z many none false u = tt
@@ -261,11 +264,11 @@ module _ (P : Program) where
                 (refl, λ n le. accepted_row P C w d t (accepted.row_accepted w d t is_word sort_is_body not_top is_inline row_word) is_own_effect is_own_word f (known f (le_self f) C good) (self_phrase C.inputs t (accepted.unmarked w d t is_word sort_is_body)) st n le (subst (λ s. StandsOn C.inputs C.row (outer_in d.effect) (inputs_marks 1 ins []) s) (sym z) (own_stand 1 ins taken vs many x none (outer_in d.effect) [] r (subst (λ c. C.row c r) (base_same b (outer_in d.effect) (and_first (base_eq b (outer_in d.effect)) true u)) h)), e.1))
             rested taken (m ∷ rest) vs r x h z many none true u = absurd (omega (arith, length_same (length (m ∷ rest)) 0 (and_second (base_eq b (outer_in d.effect)) (nat_eq (length (m ∷ rest)) 0) u)))
 
-            same : (taken rest : List Mark) (vs r : List Value) → Vs taken vs → StandsOn C.inputs C.row b rest r → st.stack ≡ pile vs r → AsMany P C C ins taken → (o : Option ℕ) → other_input 1 ins taken ≡ o → D (elim o [ Some k ↦ breaks (RecursiveInput k) | None ↦ own_rest P C.word d.effect b rest ]) (run_phrase t st)
+            same : (taken rest : List Mark) (vs r : List Value) → Vs taken vs → StandsOn C.inputs C.row b rest r → st.stack ≡ pile vs r → AsMany P C C ins taken → (o : Option ℕ) → other_input 1 ins taken ≡ o → D (elim o [ Some k ↦ breaks (RecursiveInput k) | None ↦ own_rest d.effect b rest ]) (run_phrase t st)
             same taken rest vs r x h z many (Some k) u = tt
             same taken rest vs r x h z many None u = rested taken rest vs r x h z many u (base_eq b (outer_in d.effect) && nat_eq (length rest) 0) refl
 
-        own_facts : (o : Option Signature) (v : Option ℕ) → OwnWord P o v → is_own P C.word w v ≡ true → (o ≡ Some d.effect) × (v ≡ Some w)
+        own_facts : (o : Option Signature) (v : Option ℕ) → OwnWord P o v → is_own w v ≡ true → (o ≡ Some d.effect) × (v ≡ Some w)
         own_facts None None x e = absurd (never_true e)
         own_facts None (Some v) x e = absurd x
         own_facts (Some q) None x e = absurd x
@@ -273,10 +276,10 @@ module _ (P : Program) where
             (let same : w ≡ v = eqb-true w v e in let at : slice_get P.words v ≡ Some d = subst (λ i. slice_get P.words i ≡ Some d) same is_word in let one : x.0 ≡ d = cc in (ap (λ i. Some i) (sym x.2 ∙ ap (λ i. i.effect) one), ap (λ i. Some i) (sym same)))
 
         -- each use of a row word
-        row_or_own : (b : Option Row) (ms : List Mark) (st : State Value) → OnState P C b ms st → D (row_or_phrase P C.word true (is_own P C.word w C.word) w t d.effect b ms) (run_phrase t st)
-        row_or_own b ms st e = which (is_own P C.word w C.word) refl
+        row_or_own : (b : Option Row) (ms : List Mark) (st : State Value) → OnState P C b ms st → D (row_or_phrase P C.word true (is_own w C.word) w t d.effect b ms) (run_phrase t st)
+        row_or_own b ms st e = which (is_own w C.word) refl
           where
-            which : (q : Bool) → is_own P C.word w C.word ≡ q → D (row_or_phrase P C.word true q w t d.effect b ms) (run_phrase t st)
+            which : (q : Bool) → is_own w C.word ≡ q → D (row_or_phrase P C.word true q w t d.effect b ms) (run_phrase t st)
             which true u = (let z = own_facts C.own C.word good.own_word u in own_does z.0 z.1 b ms st e)
             which false u = row_does b ms st e
 

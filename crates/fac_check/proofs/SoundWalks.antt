@@ -10,13 +10,14 @@ use Rattle.fac_lang.specs.declared.program.Program.{Program}
 use Rattle.fac_lang.specs.declared.program.WordDef.{WordDef}
 use Rattle.fac_lang.specs.Eval.{Result, Done, Failed, Spent, Stuck, Act, Run, eval}
 use Rattle.fac_lang.specs.Meaning.{act, run}
-use Rattle.fac_abs.specs.Marks.{Row, AbstractStack, dead, on, base_eq, unknowns}
+use Rattle.fac_lang.specs.RowVariables.{Row, effect_inputs, effect_leaving}
+use Rattle.fac_abs.specs.Marks.{AbstractStack, dead, on, base_eq, unknowns}
 use Rattle.fac_abs.specs.declared.rule.Rule.{Rule}
 use Rattle.fac_abs.specs.declared.rule.Rule.TheVariants.{Outputs, MustReturn}
-use Rattle.fac_check.specs.Rows.{effect_inputs, effect_leaving}
 use Rattle.fac_locals.specs.Literals.{first_of_word, behind}
 use Rattle.fac_check.specs.Flow.{Walked, found, refused, walk, doing, walked, most_walked, most_steps, most_nested}
-use Rattle.fac_check.specs.CallableEffects.{fits, callable_height}
+use Rattle.fac_lang.specs.HeightArithmetic.{fits}
+use Rattle.fac_check.specs.CallableEffects.{callable_height}
 use Rattle.fac_check.specs.Verdicts.{Refusal, refusal, end_of, kept_word, ordinary_verdict, top_verdict}
 use Rattle.fac_check.specs.Promises.{Valid}
 use Rattle.fac_check.proofs.ValuesOfMarks.{StandsPhrase, StandsOn, EndsSo}

@@ -3,9 +3,11 @@ use Rattle.std.proofs.Common.{◌≡◌, ℕ, zero, suc, List, Option, Some, Non
 use Rattle.fac_lang.specs.declared.phrase.Place.{Place}
 use Rattle.fac_lang.specs.Signatures.{Signature}
 use Rattle.fac_lang.specs.Phrases.{Literal, Phrase, Mark}
-use Rattle.fac_abs.specs.Marks.{AbstractStack}
+use Rattle.fac_lang.specs.RowVariables.{effect_inputs, outer_in}
+use Rattle.fac_abs.specs.Marks.{AbstractStack, on}
 use Rattle.fac_abs.specs.declared.rule.Rule.{Rule}
-use Rattle.fac_check.specs.Flow.{Walked, found, refused, and_then, living, Doing, breaks, gives, names_local, expands, walks, forks, again, uses, Walk, counted, join, marks_back, walk_mark, phrase_rule, first_rule, unless_broken, walk_on}
+use Rattle.fac_rows.specs.RowBinding.{row_binding}
+use Rattle.fac_check.specs.Flow.{Walked, found, refused, and_then, living, Doing, breaks, gives, names_local, expands, walks, forks, again, uses, Walk, counted, join, marks_back, walk_mark, phrase_rule, first_rule, use_rule, unless_broken, walk_on}
 use Rattle.fac_check.specs.inner.ItemWalk.{IsAlone, item_walk}
 
 -- what follows a walk that goes on
@@ -18,7 +20,7 @@ module _ (own : Option Signature) (go : Walk) (d : ℕ) (next : Literal) (t : Ph
   abbrev pub rest : AbstractStack → ℕ → Walked AbstractStack
   rest A k = living A k (λ b ms j. go next d t b ms j)
 
-  broken_first : (o : Option Rule) (p : Place) (W V : Walked AbstractStack) → V ≡ and_then W rest → unless_broken own o p V ≡ and_then (unless_broken own o p W) rest
+  broken_first : (o : Option Rule) (p : Place) (W V : Walked AbstractStack) → V ≡ and_then W rest → unless_broken o p V ≡ and_then (unless_broken o p W) rest
   broken_first None p W V e = e
   broken_first (Some r) p W V e = refl
 
@@ -44,8 +46,8 @@ module _ (own : Option Signature) (go : Walk) (d : ℕ) (next : Literal) (t : Ph
   walk_on_item (gives A) p zero alone = refl
   walk_on_item (gives A) p (suc n) alone = refl
   walk_on_item (names_local x m b ms) p n alone = absurd alone
-  walk_on_item (expands w u b ms) p n alone = broken_first (phrase_rule own d) p _ _ (counted_first p n _ _ (λ k. refl))
+  walk_on_item (expands w u b ms) p n alone = broken_first (phrase_rule d) p _ _ (counted_first p n _ _ (λ k. refl))
   walk_on_item (walks m b ms back) p n alone = broken_first (first_rule own m d b ms) p _ _ (counted_first p n _ _ (λ k. back_first (walk_mark own go m p d b ms k) back))
   walk_on_item (forks l r b ms) p n alone = broken_first (first_rule own l d b ms) p _ _ (counted_first p n _ _ (λ k. joined_first p (walk_mark own go l p d b ms k) (λ j. walk_mark own go r p d b ms j)))
   walk_on_item (again w b ms) p n alone = absurd alone
-  walk_on_item (uses e is b ms) p n alone = absurd alone
+  walk_on_item (uses e is b ms) p n alone = broken_first (use_rule own (row_binding (outer_in e) (on b ms)) (effect_inputs e) is d) p _ _ (counted_first p n _ _ (λ k. refl))

@@ -80,7 +80,7 @@ module _ (P : Program) (bound count : ℕ) (numbered : (at : Literal) (t : Phras
   taken_sort : (w : ℕ) (d : WordDef) (s o : Sort) → w < length P.words → ClosesSort P w s o → IsBuiltSort bound d s → takes_sort bound count o ≡ true
   taken_sort w d (prim k) o l c h = rw c h.is_built
   taken_sort w d (core k) o l c h = rw c h.is_built
-  taken_sort w d (body t) o l c h = rw c.1 (taken_phrase (first_of_word w) t c.0 l c.2 h.phrase_built)
+  taken_sort w d (body t) o l c h = rw c.1 (taken_phrase (first_of_word w) t c.0 l c.2 h)
   taken_sort w d (past t) o l c h = absurd h
   taken_sort w d itself o l c h = rw c refl
   taken_sort w d (class k) o l c h = absurd h

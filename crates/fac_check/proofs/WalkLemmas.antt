@@ -1,36 +1,41 @@
 -- How the walk of a phrase goes on behind an item.
-use Rattle.std.proofs.Common.{◌≡◌, ◌<◌, ◌≤◌, ℕ, zero, suc, List, [], ◌∷◌, Option, None, refl, sym, ap, subst, ◌∙◌, arith}
+use Rattle.std.specs.Prelude.{slice_get}
+use Rattle.std.proofs.Common.{◌≡◌, ◌<◌, ◌≤◌, ℕ, zero, suc, List, [], ◌∷◌, Option, refl, sym, ap, subst, ◌∙◌, arith}
 use Rattle.fac_lang.specs.declared.phrase.Place.{Place}
 use Rattle.fac_lang.specs.declared.phrase.Template.{Template}
 use Rattle.fac_lang.specs.declared.phrase.Item.{Item as PlacedItem}
 use Rattle.fac_lang.specs.declared.program.Program.{Program}
+use Rattle.fac_lang.specs.declared.program.WordDef.{WordDef}
 use Rattle.fac_lang.specs.Phrases.{Literal, Phrase, end, then, Item, Mark}
 use Rattle.fac_lang.specs.PhraseView.{what_item, items_phrase}
 use Rattle.fac_locals.specs.Literals.{behind}
 use Rattle.fac_locals.specs.Closed.{ClosesItem, ClosesPhrase}
-use Rattle.fac_abs.specs.Marks.{Row, dead, on}
+use Rattle.fac_lang.specs.RowVariables.{Row}
+use Rattle.fac_abs.specs.Marks.{dead, on}
 use Rattle.fac_abs.specs.MarkTrees.{Naming}
 use Rattle.fac_abs.specs.SeenMarks.{MarksSeen, stack_of, base_seen}
 use Rattle.fac_check.specs.Flow.{found, refused, and_then, doing}
 use Rattle.fac_check.specs.inner.ItemWalk.{IsAlone, item_walk}
-use Rattle.fac_check.specs.inner.Walking.{Opened, doing_seen, walked_seen, body_phrase, go_at, IsBelow}
+use Rattle.fac_check.specs.inner.Walking.{Opened, doing_seen, walked_seen, go_at, IsBelow}
 use Rattle.fac_abs.specs.declared.reached.Reached.TheVariants.{Dead, On}
 use Rattle.fac_check.specs.declared.doing.Doing.{Doing}
-use Rattle.fac_check.specs.declared.doing.Doing.TheVariants.{Breaks, Ends, Gives, Expands, Walks, Forks}
+use Rattle.fac_check.specs.declared.doing.Doing.TheVariants.{Breaks, Ends, Gives, Leaves, Expands, Walks, Forks, Uses}
 use Rattle.fac_check.specs.declared.walker.Walked.{Walked}
 use Rattle.fac_check.specs.declared.walker.Walked.TheVariants.{Found, Refused}
 use Rattle.fac_check.proofs.StepByStep.{rest, walk_on_item}
 
 -- what the code's items do is done by the item alone
-alone : (N : Naming) (M : MarksSeen) (phrases : ℕ → Phrase) (b : Option Row) (D : Doing) → IsAlone (doing_seen N M phrases b D)
-alone N M phrases b (Breaks r) = tt
-alone N M phrases b Ends = tt
-alone N M phrases b (Gives s) = tt
-alone N M phrases b (Expands w s) = tt
-alone N M phrases b (Walks m s back) = tt
-alone N M phrases b (Forks m n s) = tt
+alone : (N : Naming) (M : MarksSeen) (words : ℕ → Option WordDef) (b : Option Row) (D : Doing) → IsAlone (doing_seen N M words b D)
+alone N M words b (Breaks r) = tt
+alone N M words b Ends = tt
+alone N M words b (Gives s) = tt
+alone N M words b (Leaves c s) = tt
+alone N M words b (Expands w s) = tt
+alone N M words b (Walks m s back) = tt
+alone N M words b (Forks m n s) = tt
+alone N M words b (Uses w s r) = tt
 
-module _ {C : Program} {templates : List Template} (O : Opened C templates) where
+module _ {C : Program} {templates : List Template} {own : Option ℕ} (O : Opened C templates own) where
   -- The walk of a phrase from the start is the walk from here, of what stands for these items.
   pub record Onward (at : Literal) (t : Phrase) (f nested : ℕ) (e : Option Row) (ms : List Mark) (most : ℕ) (M : MarksSeen) (b : Option ℕ) (s : ℕ) (items : List PlacedItem) (n : ℕ) : Type 0 where
     pub here : Literal
@@ -60,19 +65,20 @@ module _ {C : Program} {templates : List Template} (O : Opened C templates) wher
   -- the walk from an item on, by the code's answers
   pub behind_item :
       (at : Literal) (i : Item) (p : Place) (t : Phrase) (f nested n : ℕ) (b : Option Row) (s : ℕ) (M L K : MarksSeen) (D : Doing) (W : Walked) →
-      doing_seen O.naming L (body_phrase O.program) b D ≡ doing O.program None at i b (stack_of O.naming M s) →
-      walked_seen O.naming K W ≡ item_walk None (go_at O f) (doing_seen O.naming L (body_phrase O.program) b D) p nested n →
-      go_at O (suc f) at nested (then i p t) b (stack_of O.naming M s) n ≡ and_then (walked_seen O.naming K W) (rest None (go_at O f) nested (behind at i) t)
+      doing_seen O.naming L (slice_get O.program.words) b D ≡ doing O.program O.word at i b (stack_of O.naming M s) →
+      walked_seen O.naming K W ≡ item_walk O.effect (go_at O f) (doing_seen O.naming L (slice_get O.program.words) b D) p nested n →
+      go_at O (suc f) at nested (then i p t) b (stack_of O.naming M s) n ≡ and_then (walked_seen O.naming K W) (rest O.effect (go_at O f) nested (behind at i) t)
   behind_item at i p t f nested n b s M L K D W does walks =
-      walk_on_item None (go_at O f) nested (behind at i) t (doing O.program None at i b (stack_of O.naming M s)) p n (subst IsAlone does (alone O.naming L (body_phrase O.program) b D))
-      ∙ ap (λ x. and_then (item_walk None (go_at O f) x p nested n) (rest None (go_at O f) nested (behind at i) t)) (sym does)
-      ∙ ap (λ x. and_then x (rest None (go_at O f) nested (behind at i) t)) (sym walks)
+      walk_on_item O.effect (go_at O f) nested (behind at i) t (doing O.program O.word at i b (stack_of O.naming M s)) p n (subst IsAlone does (alone O.naming L (slice_get O.program.words) b D))
+      ∙ ap (λ x. and_then (item_walk O.effect (go_at O f) x p nested n) (rest O.effect (go_at O f) nested (behind at i) t)) (sym does)
+      ∙ ap (λ x. and_then x (rest O.effect (go_at O f) nested (behind at i) t)) (sym walks)
 
 -- What the code's calls for an item say, with a program at hand.
-abbrev pub DoesItem : {C : Program} {templates : List Template} → Opened C templates → MarksSeen → MarksSeen → ℕ → PlacedItem → Doing → Type 0
-DoesItem O M L s i D = (at : Literal) (j : Item) (b : Option Row) → ClosesItem O.program at j (what_item i.what) → doing_seen O.naming L (body_phrase O.program) b D ≡ doing O.program None at j b (stack_of O.naming M s)
+abbrev pub DoesItem : {C : Program} {templates : List Template} {own : Option ℕ} → Opened C templates own → MarksSeen → MarksSeen → Option ℕ → ℕ → PlacedItem → Doing → Type 0
+DoesItem O M L b s i D =
+    (at : Literal) (j : Item) → ClosesItem O.program at j (what_item i.what) → doing_seen O.naming L (slice_get O.program.words) (base_seen O.naming b) D ≡ doing O.program O.word at j (base_seen O.naming b) (stack_of O.naming M s)
 
-module _ {C : Program} {templates : List Template} (O : Opened C templates) where
+module _ {C : Program} {templates : List Template} {own : Option ℕ} (O : Opened C templates own) where
   -- at the start
   pub onward_start : (at : Literal) (t : Phrase) (f nested : ℕ) (most : ℕ) (M : MarksSeen) (b : Option ℕ) (s : ℕ) (items : List PlacedItem) → ClosesPhrase O.program at t (items_phrase items) → most < f → Onward O at t f nested (base_seen O.naming b) (stack_of O.naming M s) most M b s items most
   onward_start at t f nested most M b s items closes enough = record { here = at; phrase = t; steps = f; closes = closes; enough = enough; same = refl }
@@ -86,15 +92,15 @@ module _ {C : Program} {templates : List Template} (O : Opened C templates) wher
   -- goes on behind an item
   pub onward :
       (at : Literal) (t : Phrase) (f nested : ℕ) (e : Option Row) (ms : List Mark) (most : ℕ) (M L K : MarksSeen) (b : Option ℕ) (s n : ℕ) (i : PlacedItem) (items : List PlacedItem) (D : Doing) (W : Walked) →
-      Onward O at t f nested e ms most M b s (i ∷ items) n → DoesItem O M L s i D →
-      ((g : ℕ) → n ≤ g → walked_seen O.naming K W ≡ item_walk None (go_at O g) (doing_seen O.naming L (body_phrase O.program) (base_seen O.naming b) D) i.place nested n) → IsBelow n W →
+      Onward O at t f nested e ms most M b s (i ∷ items) n → DoesItem O M L b s i D →
+      ((g : ℕ) → n ≤ g → walked_seen O.naming K W ≡ item_walk O.effect (go_at O g) (doing_seen O.naming L (slice_get O.program.words) (base_seen O.naming b) D) i.place nested n) → IsBelow n W →
       Behind at t f nested e ms most K items W
   onward at t f nested e ms most M L K b s n i items D W o does walks below = by_steps o.steps o.enough o.same
     where
       first : Begins O o.here o.phrase (what_item i.what) i.place (items_phrase items)
       first = begins O o.here o.phrase (what_item i.what) i.place (items_phrase items) o.closes
 
-      ends : (g : ℕ) → n < suc g → (V : Walked) → IsBelow n V → go_at O f at nested t e ms most ≡ and_then (walked_seen O.naming K V) (rest None (go_at O g) nested (behind o.here first.item) first.more) → Behind at t f nested e ms most K items V
+      ends : (g : ℕ) → n < suc g → (V : Walked) → IsBelow n V → go_at O f at nested t e ms most ≡ and_then (walked_seen O.naming K V) (rest O.effect (go_at O g) nested (behind o.here first.item) first.more) → Behind at t f nested e ms most K items V
       ends g l (Found Dead k) low same = same
       ends g l (Found (On c q) k) low same = record { here = behind o.here first.item; phrase = first.more; steps = g; closes = first.closes_more; enough = omega (arith, low, l); same = same }
       ends g l (Refused r p) low same = same
@@ -103,13 +109,13 @@ module _ {C : Program} {templates : List Template} (O : Opened C templates) wher
       by_steps zero l same = absurd (omega (arith, l))
       by_steps (suc g) l same =
           ends g l W below
-          (same ∙ ap (λ x. go_at O (suc g) o.here nested x (base_seen O.naming b) (stack_of O.naming M s) n) first.is ∙ behind_item O o.here first.item i.place first.more g nested n (base_seen O.naming b) s M L K D W (does o.here first.item (base_seen O.naming b) first.closes_item) (walks g (omega (arith, l))))
+          (same ∙ ap (λ x. go_at O (suc g) o.here nested x (base_seen O.naming b) (stack_of O.naming M s) n) first.is ∙ behind_item O o.here first.item i.place first.more g nested n (base_seen O.naming b) s M L K D W (does o.here first.item first.closes_item) (walks g (omega (arith, l))))
 
   -- likewise from the items that were left before, where the walk of the first came to this
   pub behind_from :
       (at : Literal) (t : Phrase) (f nested : ℕ) (e : Option Row) (ms : List Mark) (most : ℕ) (M L K : MarksSeen) (b : Option ℕ) (s n : ℕ) (i : PlacedItem) (left items : List PlacedItem) (D : Doing) (W V : Walked) →
-      left ≡ i ∷ items → W ≡ V → Onward O at t f nested e ms most M b s left n → DoesItem O M L s i D →
-      ((g : ℕ) → n ≤ g → walked_seen O.naming K W ≡ item_walk None (go_at O g) (doing_seen O.naming L (body_phrase O.program) (base_seen O.naming b) D) i.place nested n) → IsBelow n W →
+      left ≡ i ∷ items → W ≡ V → Onward O at t f nested e ms most M b s left n → DoesItem O M L b s i D →
+      ((g : ℕ) → n ≤ g → walked_seen O.naming K W ≡ item_walk O.effect (go_at O g) (doing_seen O.naming L (slice_get O.program.words) (base_seen O.naming b) D) i.place nested n) → IsBelow n W →
       Behind at t f nested e ms most K items V
   behind_from at t f nested e ms most M L K b s n i left items D W V next is here does walks below =
       subst (Behind at t f nested e ms most K items) is (onward at t f nested e ms most M L K b s n i items D W (subst (λ (q : List PlacedItem). Onward O at t f nested e ms most M b s q n) next here) does walks below)

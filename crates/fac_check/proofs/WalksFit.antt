@@ -10,12 +10,13 @@ use Rattle.fac_lang.specs.Signatures.{Signature}
 use Rattle.fac_lang.specs.declared.program.Program.{Program}
 use Rattle.fac_lang.specs.Eval.{Result, Done, Failed, Spent, Stuck, then_do, Act, wrong, fails, goes, binds, runs, Run, run_callable, go_on}
 use Rattle.fac_lang.specs.Meaning.{one_item, nowhere}
-use Rattle.fac_abs.specs.Marks.{Row, AbstractStack, dead, on, base_eq, mark_eq, join_marks, piled}
+use Rattle.fac_lang.specs.RowVariables.{Row, effect_inputs, outer_in}
+use Rattle.fac_abs.specs.Marks.{AbstractStack, dead, on, base_eq, mark_eq, join_marks, piled}
 use Rattle.fac_abs.specs.declared.rule.Rule.{Rule}
 use Rattle.fac_abs.specs.declared.rule.Rule.TheVariants.{Branches}
-use Rattle.fac_check.specs.Rows.{calls_own}
+use Rattle.fac_rows.specs.RowBinding.{calls_own, row_binding}
 use Rattle.fac_locals.specs.Literals.{first_of_word, first_of_literal}
-use Rattle.fac_check.specs.Flow.{Walked, found, refused, and_then, living, Doing, breaks, gives, names_local, expands, walks, forks, again, uses, Walk, counted, inside, called, join, marks_back, walk_phrase, walk_mark, walk_use, phrase_rule, first_rule, unless_broken, walk_on}
+use Rattle.fac_check.specs.Flow.{Walked, found, refused, and_then, living, Doing, breaks, gives, names_local, expands, walks, forks, again, uses, Walk, counted, inside, called, join, marks_back, walk_phrase, walk_mark, walk_use, phrase_rule, first_rule, use_rule, unless_broken, walk_on}
 use Rattle.fac_check.specs.Promises.{Valid}
 use Rattle.fac_check.proofs.ValuesOfMarks.{Stands, StandsPhrase, StandsOn, StandsStack, EndsSo}
 use Rattle.fac_lang.proofs.Laws.{Within, Sparing, within_call}
@@ -95,7 +96,7 @@ module _ (P : Program) (C : Context) where
   fits_inside (par_mark k) p zero go r f = tt
   fits_inside (par_mark k) p (suc d) go r f = f d
 
-  pub fits_unless : (o : Option Rule) (p : Place) (W : Walked AbstractStack) (r : Result) → Fits W r → Fits (unless_broken C.own o p W) r
+  pub fits_unless : (o : Option Rule) (p : Place) (W : Walked AbstractStack) (r : Result) → Fits W r → Fits (unless_broken o p W) r
   fits_unless None p W r h = h
   fits_unless (Some x) p W r h = tt
 
@@ -224,7 +225,7 @@ module _ (P : Program) (C : Context) where
     does_fits (names_local x m b ms) a p d at left t u n le s h =
         rw h.2 (fits_counted p left (λ k. go at d (put_local x (known m) t) b ms k) (run (put_local x (held h.0) u) h.1 n) (λ k. phrases_fit at d (put_local x (known m) t) (put_local x (held h.0) u) b ms k h.1 n le (put_phrase C.inputs x (known m) (held h.0) (h.0, refl, h.3) t u s) h.4))
     does_fits (expands w t' b ms) a p d at left t u n le s h =
-        rw h.2 (fits_unless (phrase_rule C.own d) p (counted p left (λ k. and_then (walk_phrase C.own go (first_of_word w) t' p d b ms k) after)) (then_do (run h.0 h.1 n) (λ st' m'. run u st' m')) (fits_counted p left (λ k. and_then (walk_phrase C.own go (first_of_word w) t' p d b ms k) after) (then_do (run h.0 h.1 n) (λ st' m'. run u st' m')) (λ k. fits_then f (walk_phrase C.own go (first_of_word w) t' p d b ms k) (run h.0 h.1 n) after (λ st' m'. run u st' m') (sparing f h.0 h.1 n le) (phrase_fits (first_of_word w) t' h.0 h.3 p d b ms k h.1 n le h.4) (λ A k' st' m' le' o'. plain_rest at d t u s A k' st' m' le' o'))))
+        rw h.2 (fits_unless (phrase_rule d) p (counted p left (λ k. and_then (walk_phrase C.own go (first_of_word w) t' p d b ms k) after)) (then_do (run h.0 h.1 n) (λ st' m'. run u st' m')) (fits_counted p left (λ k. and_then (walk_phrase C.own go (first_of_word w) t' p d b ms k) after) (then_do (run h.0 h.1 n) (λ st' m'. run u st' m')) (λ k. fits_then f (walk_phrase C.own go (first_of_word w) t' p d b ms k) (run h.0 h.1 n) after (λ st' m'. run u st' m') (sparing f h.0 h.1 n le) (phrase_fits (first_of_word w) t' h.0 h.3 p d b ms k h.1 n le h.4) (λ A k' st' m' le' o'. plain_rest at d t u s A k' st' m' le' o'))))
       where
         after : AbstractStack → ℕ → Walked AbstractStack
         after A k' = living A k' (λ b' ms' k''. go at d t b' ms' k'')
@@ -253,4 +254,4 @@ module _ (P : Program) (C : Context) where
     does_fits (again w b ms) a p d at left t u n le s h =
         rw h.1 (fits_counted p left (λ k. and_then (go at d (then (word w) p end) b ms k) (λ A k'. living A k' (λ b' ms' k''. go at d t b' ms' k''))) (then_do (run (one_item (word w)) h.0 n) (λ st' m'. run u st' m')) (λ k. fits_then f (go at d (then (word w) p end) b ms k) (run (one_item (word w)) h.0 n) (λ A k'. living A k' (λ b' ms' k''. go at d t b' ms' k'')) (λ st' m'. run u st' m') (sparing f (one_item (word w)) h.0 n le) (phrases_fit at d (then (word w) p end) (one_item (word w)) b ms k h.0 n le (word w, nowhere, end, refl, refl, refl) h.2) (λ A k' st' m' le' o'. plain_rest at d t u s A k' st' m' le' o')))
     does_fits (uses e is b ms) a p d at left t u n le s h =
-        rw h.2 (fits_counted p left (λ k. and_then (walk_use C.own go e is p d b ms k) (λ A k'. living A k' (λ b' ms' k''. go at d t b' ms' k''))) (then_do (run_callable run h.0 h.1 n) (λ st' m'. run u st' m')) (λ k. fits_then f (walk_use C.own go e is p d b ms k) (run_callable run h.0 h.1 n) (λ A k'. living A k' (λ b' ms' k''. go at d t b' ms' k'')) (λ st' m'. run u st' m') (within_call run sparing f h.0 h.1 n le) (h.3 p d k n le) (λ A k' st' m' le' o'. plain_rest at d t u s A k' st' m' le' o')))
+        rw h.2 (fits_unless (use_rule C.own (row_binding (outer_in e) (on b ms)) (effect_inputs e) is d) p (counted p left (λ k. and_then (walk_use C.own go e is p d b ms k) (λ A k'. living A k' (λ b' ms' k''. go at d t b' ms' k'')))) (then_do (run_callable run h.0 h.1 n) (λ st' m'. run u st' m')) (fits_counted p left (λ k. and_then (walk_use C.own go e is p d b ms k) (λ A k'. living A k' (λ b' ms' k''. go at d t b' ms' k''))) (then_do (run_callable run h.0 h.1 n) (λ st' m'. run u st' m')) (λ k. fits_then f (walk_use C.own go e is p d b ms k) (run_callable run h.0 h.1 n) (λ A k'. living A k' (λ b' ms' k''. go at d t b' ms' k'')) (λ st' m'. run u st' m') (within_call run sparing f h.0 h.1 n le) (h.3 p d k n le) (λ A k' st' m' le' o'. plain_rest at d t u s A k' st' m' le' o'))))

@@ -1,26 +1,30 @@
 -- What the items of a built program's words do in the checker's walk.
-use Rattle.std.proofs.Common.{◌≡◌, ◌≢◌, ℕ, List, ◌∷◌, length, Bool, true, false, Option, Some, None, refl, sym, ap, subst, ◌∙◌, Result, Ok, Err}
-use Rattle.std.specs.Prelude.{nat_eq, not, slice_get, IfOk, if◌then◌else◌}
+use Rattle.std.proofs.Common.{◌≡◌, ◌≢◌, ℕ, List, ◌∷◌, length, Bool, true, false, Option, Some, refl, sym, ap, subst, ◌∙◌, Result, Ok, Err}
+use Rattle.std.specs.Prelude.{nat_eq, not, slice_get, IfOk}
 use Rattle.std.proofs.lemmas.Bool.{eq-eqb, ne_eqb}
 use Rattle.fac_lang.specs.declared.phrase.Height.{Height}
 use Rattle.fac_lang.specs.declared.program.Program.{Program}
 use Rattle.fac_lang.specs.declared.program.WordDef.{WordDef}
 use Rattle.fac_lang.specs.declared.program.Sort.{Sort}
 use Rattle.fac_lang.specs.declared.program.Sort.TheVariants.{Prim as prim, Core as core, Body as body, Itself as itself}
+use Rattle.fac_lang.specs.declared.phrase.Template.{Template}
 use Rattle.fac_lang.specs.Phrases.{Phrase, Mark, wrd_mark}
+use Rattle.fac_lang.specs.Signatures.{Signature}
 use Rattle.fac_lang.specs.Effects.{effect_height}
 use Rattle.fac_lang.specs.PrimitiveWords.{outputs_of, written_effect}
 use Rattle.fac_lang.specs.Primitives.{Primitive, prim_numbered}
 use Rattle.fac_lang.specs.Meaning.{core_numbered, c_call, c_dip, c_if}
 use Rattle.fac_locals.specs.Literals.{first_of_word}
 use Rattle.fac_locals.specs.Closed.{ClosesWord, ClosesSort, ClosesPhrase}
-use Rattle.fac_abs.specs.Marks.{Row, on}
+use Rattle.fac_lang.specs.RowVariables.{Row, is_row}
+use Rattle.fac_abs.specs.Marks.{on}
 use Rattle.fac_abs.specs.declared.rule.Rule.TheVariants.{NotKnown}
-use Rattle.fac_check.specs.Rows.{is_row}
-use Rattle.fac_check.specs.Flow.{Doing, breaks, gives, expands, by_height, callable_or, prim_doing, core_doing, sort_doing, inline_doing, row_or_phrase}
-use Rattle.fac_check.specs.inner.Walking.{body_phrase, phrase_of, sort_phrase}
+use Rattle.fac_check.specs.Flow.{Doing, breaks, gives, by_height, callable_or, prim_doing, core_doing, is_own, sort_doing, inline_doing, row_or_phrase}
+use Rattle.fac_check.specs.inner.Walking.{Opened, NamesWhereOwn, body_phrase, phrase_of, sort_phrase}
+use Rattle.fac_check.specs.inner.OwnEffects.{own_effect, effect_where}
+use Rattle.fac_rows.specs.RowNumbers.{NamesOwn}
 use Rattle.fac_check.proofs.PrimitivesKeep.{written_height}
-use Rattle.fac_check.proofs.BuiltWords.{BuiltAs, as_primitive, as_core, as_symbol, as_defined, no_row_word}
+use Rattle.fac_check.proofs.BuiltWords.{BuiltAs, as_primitive, as_core, as_symbol, as_defined}
 
 -- an answer's fact out of another
 pub ok_maps : {A E : Type 0} {Q R : A → Type 0} (r : Result A E) → ((x : A) → Q x → R x) → IfOk r Q → IfOk r R
@@ -39,6 +43,11 @@ pub core_2 : core_numbered 2 ≡ Some c_if
 unfolding core_numbered
 core_2 = refl
 
+-- the rows of the word that is checked
+module _ {C : Program} {templates : List Template} {own : Option ℕ} (O : Opened C templates own) where
+  pub named_own : (w : ℕ) (c : WordDef) → slice_get C.words w ≡ Some c → NamesWhereOwn O.naming own w c.effect
+  named_own w c at e = subst (λ (o : Option WordDef). NamesOwn O.naming (effect_where o)) at (subst (λ (o : Option Signature). NamesOwn O.naming o) (O.effect_is ∙ ap (own_effect C) e) O.rows)
+
 module _ (P : Program) (w : ℕ) (d c : WordDef) (closes : ClosesWord P w d c) where
   sorted : (s : Sort) → d.sort ≡ s → ClosesSort P w s c.sort
   sorted s e = subst (λ x. ClosesSort P w x c.sort) e closes.sort
@@ -47,36 +56,29 @@ module _ (P : Program) (w : ℕ) (d c : WordDef) (closes : ClosesWord P w d c) w
   is_prim (as_primitive j e b i r) k s = (let same : j ≡ k = (let f = sorted (prim j) e in cc) in subst (λ n. d.sort ≡ prim n) same e)
   is_prim (as_core j e b i r) k s = absurd (let f = sorted (core j) e in cc)
   is_prim (as_symbol e i r) k s = absurd (let f = sorted itself e in cc)
-  is_prim (as_defined t e i r) k s = absurd (let f = sorted (body t) e in let g = f.1 in cc)
+  is_prim (as_defined t e) k s = absurd (let f = sorted (body t) e in let g = f.1 in cc)
 
   pub is_core : BuiltAs P w d → (k : ℕ) → c.sort ≡ core k → d.sort ≡ core k
   is_core (as_primitive j e b i r) k s = absurd (let f = sorted (prim j) e in cc)
   is_core (as_core j e b i r) k s = (let same : j ≡ k = (let f = sorted (core j) e in cc) in subst (λ n. d.sort ≡ core n) same e)
   is_core (as_symbol e i r) k s = absurd (let f = sorted itself e in cc)
-  is_core (as_defined t e i r) k s = absurd (let f = sorted (body t) e in let g = f.1 in cc)
+  is_core (as_defined t e) k s = absurd (let f = sorted (body t) e in let g = f.1 in cc)
 
   pub is_body : BuiltAs P w d → (t : Phrase) → c.sort ≡ body t → (u : Phrase) × (d.sort ≡ body u) × ClosesPhrase P (first_of_word w) u t
   is_body (as_primitive j e b i r) t s = absurd (let f = sorted (prim j) e in cc)
   is_body (as_core j e b i r) t s = absurd (let f = sorted (core j) e in cc)
   is_body (as_symbol e i r) t s = absurd (let f = sorted itself e in cc)
-  is_body (as_defined u e i r) t s = (let f = sorted (body u) e in (u, e, (let same : f.0 ≡ t = (let g = f.1 in cc) in subst (λ x. ClosesPhrase P (first_of_word w) u x) same f.2)))
+  is_body (as_defined u e) t s = (let f = sorted (body u) e in (u, e, (let same : f.0 ≡ t = (let g = f.1 in cc) in subst (λ x. ClosesPhrase P (first_of_word w) u x) same f.2)))
 
   pub is_symbol : BuiltAs P w d → c.sort ≡ itself → d.sort ≡ itself
   is_symbol (as_primitive j e b i r) s = absurd (let f = sorted (prim j) e in cc)
   is_symbol (as_core j e b i r) s = absurd (let f = sorted (core j) e in cc)
   is_symbol (as_symbol e i r) s = e
-  is_symbol (as_defined t e i r) s = absurd (let f = sorted (body t) e in let g = f.1 in cc)
-
-  -- a word that pushes itself
-  pub symbol_item : (X : Doing) (b : Option Row) (ms : List Mark) → d.sort ≡ itself → X ≡ gives (on b (wrd_mark w ∷ ms)) → X ≡ sort_doing P None w d d.sort b ms
-  symbol_item X b ms s x = x ∙ ap (λ q. sort_doing P None w d q b ms) (sym s)
+  is_symbol (as_defined t e) s = absurd (let f = sorted (body t) e in let g = f.1 in cc)
 
   -- the height that the code reads off
   height_read : (i : ℕ) (o : Option ℕ) → i ≡ (effect_height c.effect).ins → o ≡ (effect_height c.effect).outs → (let h : Height = record { ins = i; outs = o } in h ≡ effect_height d.effect)
   height_read i o e f = rw (e, f, closes.effect) refl
-
-  pub prim_item : (k : ℕ) (p : Primitive) (X : Doing) (b : Option Row) (ms : List Mark) → d.sort ≡ prim k → prim_numbered k ≡ Some p → X ≡ prim_doing (Some p) b ms → X ≡ sort_doing P None w d d.sort b ms
-  prim_item k p X b ms s e x = x ∙ ap (λ o. prim_doing o b ms) (sym e) ∙ ap (λ q. sort_doing P None w d q b ms) (sym s)
 
   -- a primitive word takes and leaves what is written
   pub prim_ins : (p : Primitive) (i : ℕ) → d.effect ≡ written_effect p.word → i ≡ (effect_height c.effect).ins → i ≡ length p.word.ins
@@ -85,32 +87,38 @@ module _ (P : Program) (w : ℕ) (d c : WordDef) (closes : ClosesWord P w d c) w
   pub prim_outs : (p : Primitive) (o : Option ℕ) → d.effect ≡ written_effect p.word → o ≡ (effect_height c.effect).outs → o ≡ outputs_of p.word
   prim_outs p o e f = ap (λ (h : Height). h.outs) (height_read (effect_height c.effect).ins o refl f ∙ ap effect_height e ∙ written_height p.word)
 
-  pub core_item : (k : ℕ) (X : Doing) (b : Option Row) (ms : List Mark) → d.sort ≡ core k → X ≡ core_doing P (core_numbered k) b ms → X ≡ sort_doing P None w d d.sort b ms
-  core_item k X b ms s x = x ∙ ap (λ q. sort_doing P None w d q b ms) (sym s)
+module _ (P : Program) (own : Option ℕ) (w : ℕ) (d c : WordDef) (closes : ClosesWord P w d c) where
+  -- a word that pushes itself
+  pub symbol_item : (X : Doing) (b : Option Row) (ms : List Mark) → d.sort ≡ itself → X ≡ gives (on b (wrd_mark w ∷ ms)) → X ≡ sort_doing P own w d d.sort b ms
+  symbol_item X b ms s x = x ∙ ap (λ q. sort_doing P own w d q b ms) (sym s)
 
-  pub top_item : (t : Phrase) (c : Option Row) (ms : List Mark) → d.sort ≡ body t → w ≡ P.top → breaks NotKnown ≡ sort_doing P None w d d.sort c ms
-  top_item t c ms s e = top (nat_eq w P.top) (rw e (same_number P.top)) ∙ ap (λ q. sort_doing P None w d q c ms) (sym s)
+  pub prim_item : (k : ℕ) (p : Primitive) (X : Doing) (b : Option Row) (ms : List Mark) → d.sort ≡ prim k → prim_numbered k ≡ Some p → X ≡ prim_doing (Some p) b ms → X ≡ sort_doing P own w d d.sort b ms
+  prim_item k p X b ms s e x = x ∙ ap (λ o. prim_doing o b ms) (sym e) ∙ ap (λ q. sort_doing P own w d q b ms) (sym s)
+
+  pub core_item : (k : ℕ) (X : Doing) (b : Option Row) (ms : List Mark) → d.sort ≡ core k → X ≡ core_doing P (core_numbered k) b ms → X ≡ sort_doing P own w d d.sort b ms
+  core_item k X b ms s x = x ∙ ap (λ q. sort_doing P own w d q b ms) (sym s)
+
+  pub top_item : (t : Phrase) (c : Option Row) (ms : List Mark) → d.sort ≡ body t → w ≡ P.top → breaks NotKnown ≡ sort_doing P own w d d.sort c ms
+  top_item t c ms s e = top (nat_eq w P.top) (rw e (same_number P.top)) ∙ ap (λ q. sort_doing P own w d q c ms) (sym s)
     where
       same_number : (n : ℕ) → nat_eq n n ≡ true
       same_number n = eq-eqb n n refl
 
-      top : (b : Bool) → b ≡ true → breaks NotKnown ≡ callable_or (not b) NotKnown (inline_doing P None d.inline w d t c ms)
+      top : (b : Bool) → b ≡ true → breaks NotKnown ≡ callable_or (not b) NotKnown (inline_doing P own d.inline w d t c ms)
       top true q = refl
       top false q = absurd (cc)
 
-  pub body_item : (t : Phrase) (X : Doing) (i : ℕ) (o : Option ℕ) (e : Option Row) (ms : List Mark) → BuiltAs P w d → slice_get P.words w ≡ Some d → d.sort ≡ body t → w ≢ P.top → i ≡ (effect_height c.effect).ins → o ≡ (effect_height c.effect).outs → X ≡ (if c.inline then expands w (body_phrase P w) e ms else by_height i o e ms) → X ≡ sort_doing P None w d d.sort e ms
-  body_item t X i o e ms b at s n g f x =
-      x ∙ chosen c.inline d.inline closes.inline (no_row_word P w d b) ∙ ap (λ q. callable_or q NotKnown (inline_doing P None d.inline w d t e ms)) (sym (ap not (ne_eqb w P.top n))) ∙ ap (λ q. sort_doing P None w d q e ms) (sym s)
+  pub body_item :
+      (t : Phrase) (X : Doing) (e : Option Row) (ms : List Mark) → slice_get P.words w ≡ Some d → d.sort ≡ body t → w ≢ P.top → X ≡ inline_doing P own c.inline w c (body_phrase P w) e ms → X ≡ sort_doing P own w d d.sort e ms
+  body_item t X e ms at s n x =
+      x
+      ∙ marked c.inline d.inline closes.inline
+      ∙ ap (λ u. inline_doing P own d.inline w d u e ms) (ap phrase_of at ∙ ap sort_phrase s)
+      ∙ ap (λ q. callable_or q NotKnown (inline_doing P own d.inline w d t e ms)) (sym (ap not (ne_eqb w P.top n)))
+      ∙ ap (λ q. sort_doing P own w d q e ms) (sym s)
     where
-      body_is : body_phrase P w ≡ t
-      body_is = ap phrase_of at ∙ ap sort_phrase s
-
-      expanded : (r : Bool) → r ≡ false → expands w t e ms ≡ row_or_phrase P None r false w t d.effect e ms
-      expanded true q = absurd (cc)
-      expanded false q = refl
-
-      chosen : (a a' : Bool) → a ≡ a' → (a' ≡ true → is_row d.recursive d.effect ≡ false) → (if a then expands w (body_phrase P w) e ms else by_height i o e ms) ≡ inline_doing P None a' w d t e ms
-      chosen true true q r = ap (λ u. expands w u e ms) body_is ∙ expanded (is_row d.recursive d.effect) (r refl)
-      chosen true false q r = absurd (cc)
-      chosen false true q r = absurd (cc)
-      chosen false false q r = ap (λ h. by_height h.ins h.outs e ms) (height_read i o g f)
+      marked : (i j : Bool) → i ≡ j → inline_doing P own i w c (body_phrase P w) e ms ≡ inline_doing P own j w d (body_phrase P w) e ms
+      marked true true q = ap (λ r. row_or_phrase P own (is_row r c.effect) (is_own w own) w (body_phrase P w) c.effect e ms) closes.recursive ∙ ap (λ f. row_or_phrase P own (is_row d.recursive f) (is_own w own) w (body_phrase P w) f e ms) closes.effect
+      marked false false q = ap (λ f. by_height (effect_height f).ins (effect_height f).outs e ms) closes.effect
+      marked true false q = absurd (cc)
+      marked false true q = absurd (cc)

@@ -13,11 +13,12 @@ use Rattle.fac_lang.specs.declared.program.WordDef.{WordDef}
 use Rattle.fac_lang.specs.declared.program.Sort.{Sort}
 use Rattle.fac_lang.specs.declared.program.Sort.TheVariants.{Prim as prim, Core as core, Body as body, Past as past, Itself as itself, Class as class, Method as method}
 use Rattle.fac_lang.specs.Meaning.{sort_of, names, Core, c_call, c_dip, c_if, c_execute, c_boa, core_numbered}
-use Rattle.fac_abs.specs.Marks.{Row, AbstractStack, dead, on, base_eq, limited, is_callable, curried_mark, composed_mark, joined, unknowns, popped, piled}
+use Rattle.fac_lang.specs.RowVariables.{Row, effect_inputs, effect_leaving, outer_in, bindable, row_name, is_row}
+use Rattle.fac_abs.specs.Marks.{AbstractStack, dead, on, limited, is_callable, curried_mark, composed_mark, joined, unknowns, popped, piled}
 use Rattle.fac_abs.specs.declared.rule.Rule.{Rule}
-use Rattle.fac_abs.specs.declared.rule.Rule.TheVariants.{Underflow, NotKnown, NotAClass, Branches, RecursiveInput, Rows, MethodEffect, TooDeep, TooLarge}
+use Rattle.fac_abs.specs.declared.rule.Rule.TheVariants.{Underflow, NotKnown, NotAClass, Branches, Rows, MethodEffect, TooDeep, TooLarge}
 use Rattle.fac_locals.specs.Literals.{first_of_word, first_of_literal, behind}
-use Rattle.fac_check.specs.Rows.{effect_inputs, effect_leaving, outer_in, outer_out, bindable, Binding, Tied, tied, untied, tie, start_row, inputs_known, other_input, leaving_on, Called, call_breaks, call_leaves, calls_own, stack_or_dead, row_bound, row_binding, row_name, is_row}
+use Rattle.fac_rows.specs.RowBinding.{row_result, Binding, Tied, tied, untied, tie, start_row, inputs_known, Called, call_breaks, call_leaves, own_call, calls_own, row_binding}
 
 -- How a walk ends: with what it found and the number of items that may still be walked, or at the first broken rule.
 pub data Walked (A : Type 0) : Type 0 where
@@ -103,9 +104,15 @@ abbrev pub started : Option AbstractStack → ℕ → Place → (AbstractStack �
 started None k p go = refused (Rows k 0 0) p
 started (Some A) k p go = go A
 
--- what a row word leaves, where its rows are bound so
-abbrev pub row_result : Signature → Binding → AbstractStack
-row_result e bs = elim (stack_or_dead (row_bound (outer_out e) bs)) [ dead ↦ dead | on b ms ↦ leaving_on (effect_leaving e) b ms ]
+-- what an item breaks by entering a phrase, before it counts
+abbrev pub phrase_rule : ℕ → Option Rule
+phrase_rule zero = Some TooDeep
+phrase_rule (suc d) = None
+
+-- goes on where no rule is broken yet
+abbrev pub unless_broken : Option Rule → Place → Walked AbstractStack → Walked AbstractStack
+unless_broken None p w = w
+unless_broken (Some r) p w = refused r p
 
 -- All this is with the effect of the row word that is checked, where one is.
 module _ (own : Option Signature) where
@@ -141,21 +148,25 @@ module _ (own : Option Signature) where
     abbrev pub walk_use : Signature → List Mark → Place → ℕ → Option Row → List Mark → ℕ → Walked AbstractStack
     walk_use e is p d b ms n = and_then (walk_inputs 1 (effect_inputs e) is p d (row_binding (outer_in e) (on b ms)) n) (λ bs n'. found (row_result e bs) n')
 
-  -- what an item breaks by entering a phrase, before it counts
-  abbrev pub phrase_rule : ℕ → Option Rule
-  phrase_rule zero = Some TooDeep
-  phrase_rule (suc d) = None
-
-  -- likewise by the callable that it walks first
+  -- what an item breaks by the callable that it walks first, before it counts
   abbrev pub first_rule : Mark → ℕ → Option Row → List Mark → Option Rule
   first_rule (lit_mark l t) d b ms = phrase_rule d
   first_rule (par_mark j) d b ms = elim (calls_own j own b ms) [ call_breaks r ↦ Some r | call_leaves A ↦ None ]
   first_rule _ d b ms = None
 
-  -- goes on where no rule is broken yet
-  abbrev pub unless_broken : Option Rule → Place → Walked AbstractStack → Walked AbstractStack
-  unless_broken None p w = w
-  unless_broken (Some r) p w = refused r p
+  -- likewise by one that starts from there, with so many unknown values
+  abbrev pub start_rule : Option AbstractStack → Mark → ℕ → ℕ → Option Rule
+  start_rule None m i d = None
+  start_rule (Some dead) m i d = None
+  start_rule (Some (on b ms)) m i d = first_rule m d b (unknowns i ms)
+
+  -- what a use of a row word breaks so by the first of its quotation inputs
+  abbrev pub use_rule : Binding → Inputs → List Mark → ℕ → Option Rule
+  use_rule bs no_inputs ms d = None
+  use_rule bs (value x is) [] d = None
+  use_rule bs (value x is) (m ∷ ms) d = use_rule bs is ms d
+  use_rule bs (quoted x e is) [] d = None
+  use_rule bs (quoted x e is) (m ∷ ms) d = start_rule (start_row (row_name e) bs) m (inputs_count (effect_inputs e)) d
 
   -- The rest of what an item does, and then the rest of the phrase, whose first item stands at `next`. The item of a word that `execute` finds has no literal in it, so it doesn't matter where it stands.
   abbrev pub walk_on : Walk → Doing → Place → ℕ → Literal → Phrase → ℕ → Walked AbstractStack
@@ -170,7 +181,7 @@ module _ (own : Option Signature) where
       unless_broken (first_rule l d b ms) p (counted p n (λ k. and_then (walk_mark go l p d b ms k) (λ A k'. and_then (walk_mark go r p d b ms k') (λ B k''. and_then (join A B p k'') (λ C j. living C j (λ b' ms' j'. go next d t b' ms' j'))))))
   walk_on go (again w b ms) p d next t n = counted p n (λ k. and_then (go next d (then (word w) p end) b ms k) (λ A k'. living A k' (λ b' ms' k''. go next d t b' ms' k'')))
   walk_on go (uses e is b ms) p d next t n =
-      counted p n (λ k. and_then (walk_use go e is p d b ms k) (λ A k'. living A k' (λ b' ms' k''. go next d t b' ms' k'')))
+      unless_broken (use_rule (row_binding (outer_in e) (on b ms)) (effect_inputs e) is d) p (counted p n (λ k. and_then (walk_use go e is p d b ms k) (λ A k'. living A k' (λ b' ms' k''. go next d t b' ms' k''))))
 
   -- Each item counts once. The first number only makes the definition end: any number that is greater than the items left gives the same walk.
   abbrev pub walk : (Literal → Item → Option Row → List Mark → Doing) → ℕ → Walk
@@ -223,6 +234,25 @@ abbrev pub known_word : Mark → (ℕ → Doing) → Doing
 known_word (wrd_mark w) go = go w
 known_word _ go = breaks NotKnown
 
+-- what a call inside a row word comes to, at once
+abbrev pub at_once : Called → Doing
+at_once (call_breaks r) = breaks r
+at_once (call_leaves A) = gives A
+
+-- the own recursive call
+abbrev pub own_doing : Signature → Option Row → List Mark → Doing
+own_doing e b ms = at_once (own_call e b ms)
+
+-- A use of another row word. Where its rows can't be bound, it is dead once its inputs are there.
+abbrev pub row_doing : Signature → Option Row → List Mark → Doing
+row_doing e b ms =
+    needing (inputs_count (effect_inputs e)) ms (λ taken rest. elim (bindable e) [ true ↦ callable_or (inputs_known (effect_inputs e) taken) NotKnown (uses e taken b rest) | false ↦ gives dead ])
+
+-- whether this is the word that is checked
+abbrev pub is_own : ℕ → Option ℕ → Bool
+is_own w None = false
+is_own w (Some v) = nat_eq w v
+
 module _ (P : Program) where
   -- a tuple class takes a value for each slot; what it needs and has counts the class itself
   abbrev pub makes_by : Option (ℕ × ℕ) → Option Row → List Mark → Doing
@@ -248,24 +278,6 @@ module _ (P : Program) where
 
   -- All this is with the number of the word that is checked, where it is a row word.
   module _ (own : Option ℕ) where
-    -- whether this is the word that is checked
-    abbrev pub is_own : ℕ → Option ℕ → Bool
-    is_own w None = false
-    is_own w (Some v) = nat_eq w v
-
-    -- the row below the own recursive call has to be exactly the input row
-    abbrev pub own_rest : Signature → Option Row → List Mark → Doing
-    own_rest e b rest = elim (base_eq b (outer_in e) && nat_eq (length rest) 0) [ true ↦ gives (leaving_on (effect_leaving e) (outer_out e) []) | false ↦ breaks (Rows 0 0 (length rest)) ]
-
-    -- the own recursive call
-    abbrev pub own_doing : Signature → Option Row → List Mark → Doing
-    own_doing e b ms = needing (inputs_count (effect_inputs e)) ms (λ taken rest. elim (other_input 1 (effect_inputs e) taken) [ Some k ↦ breaks (RecursiveInput k) | None ↦ own_rest e b rest ])
-
-    -- A use of another row word. Where its rows can't be bound, it is dead once its inputs are there.
-    abbrev pub row_doing : Signature → Option Row → List Mark → Doing
-    row_doing e b ms =
-        needing (inputs_count (effect_inputs e)) ms (λ taken rest. elim (bindable e) [ true ↦ callable_or (inputs_known (effect_inputs e) taken) NotKnown (uses e taken b rest) | false ↦ gives dead ])
-
     -- an inline word: whether it is a row word, and whether it is the one that is checked
     abbrev pub row_or_phrase : Bool → Bool → ℕ → Phrase → Signature → Option Row → List Mark → Doing
     row_or_phrase true true w t e b ms = own_doing e b ms

@@ -1,4 +1,3 @@
-pub mod Rows
 pub mod Flow
 pub mod Verdicts
 pub mod CallableEffects

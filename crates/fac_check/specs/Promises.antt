@@ -11,9 +11,9 @@ use Rattle.fac_lang.specs.Eval.{Result, Done, Failed, Spent, Stuck, run_callable
 use Rattle.fac_lang.specs.Meaning.{run, start, word_phrase, one_item, is_top_phrase}
 use Rattle.fac_lang.specs.RunningLaws.{IsNotStuck}
 use Rattle.fac_lang.specs.Whole.{IsWhole}
-use Rattle.fac_abs.specs.Marks.{Row, named_row}
-use Rattle.fac_check.specs.Rows.{leaving_row, effect_inputs, outer_in, outer_out, is_row}
-use Rattle.fac_check.specs.CallableEffects.{callable_height, fits}
+use Rattle.fac_lang.specs.RowVariables.{Row, named_row, leaving_row, effect_inputs, outer_in, outer_out, is_row}
+use Rattle.fac_check.specs.CallableEffects.{callable_height}
+use Rattle.fac_lang.specs.HeightArithmetic.{fits}
 use Rattle.fac_check.specs.Verdicts.{verdict}
 
 -- Of a state soundness needs this alone: each literal array has its address.

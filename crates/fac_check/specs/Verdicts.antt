@@ -1,7 +1,7 @@
 -- The verdict on each word and on the program.
 use Rattle.std.specs.Prelude.{ℕ, zero, suc, List, [], ◌∷◌, ◌++◌, length, Bool, true, false, ◌&&◌, ◌||◌, not, nat_eq, Option, Some, None, slice_get}
 use Rattle.fac_lang.specs.declared.phrase.Place.{Place}
-use Rattle.fac_lang.specs.Phrases.{wrd, Phrase, end, then, Item, lit, quot, word, fry, Mark, any, par_mark}
+use Rattle.fac_lang.specs.Phrases.{wrd, Phrase, end, then, Item, lit, quot, word, fry}
 use Rattle.fac_lang.specs.Signatures.{Signature, Inputs, no_inputs, value, quoted, Leaving, never, leaves}
 use Rattle.fac_lang.specs.Effects.{inputs_count}
 use Rattle.fac_lang.specs.Substitution.{of_method}
@@ -9,10 +9,11 @@ use Rattle.fac_lang.specs.declared.program.Program.{Program}
 use Rattle.fac_lang.specs.declared.program.WordDef.{WordDef}
 use Rattle.fac_lang.specs.declared.program.Sort.{Sort}
 use Rattle.fac_lang.specs.declared.program.Sort.TheVariants.{Body as body, Past as past, Generic as generic, Method as method}
-use Rattle.fac_abs.specs.Marks.{Row, AbstractStack, dead, on, base_eq, unknowns}
+use Rattle.fac_lang.specs.RowVariables.{Row, effect_inputs, effect_leaving, outer_in, outer_out, has_rows, bindable, is_row}
+use Rattle.fac_abs.specs.Marks.{AbstractStack, dead, on, base_eq, unknowns}
 use Rattle.fac_abs.specs.declared.rule.Rule.{Rule}
 use Rattle.fac_abs.specs.declared.rule.Rule.TheVariants.{UndeclaredRecursion, RowDeclaration, MethodEffect, Outputs, MustReturn}
-use Rattle.fac_check.specs.Rows.{effect_inputs, effect_leaving, outer_in, outer_out, has_rows, bindable, is_row}
+use Rattle.fac_rows.specs.RowBinding.{inputs_marks}
 use Rattle.fac_check.specs.Flow.{Walked, found, refused, walked}
 
 -- a broken rule, and where
@@ -33,12 +34,6 @@ one_of x (y ∷ ys) = nat_eq x y || one_of x ys
 abbrev pub more_of : List ℕ → List ℕ → List ℕ
 more_of [] ys = ys
 more_of (x ∷ xs) ys = elim (one_of x ys) [ true ↦ more_of xs ys | false ↦ more_of xs (x ∷ ys) ]
-
--- the marks of a row word's inputs, from input k on, put on others
-abbrev pub inputs_marks : ℕ → Inputs → List Mark → List Mark
-inputs_marks k no_inputs ms = ms
-inputs_marks k (value x is) ms = inputs_marks (suc k) is (any ∷ ms)
-inputs_marks k (quoted x e is) ms = inputs_marks (suc k) is (par_mark k ∷ ms)
 
 module _ (P : Program) where
   -- the number of a word, where it is an inline word with a phrase

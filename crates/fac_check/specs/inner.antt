@@ -1,6 +1,7 @@
 -- What only the contracts of inner functions cite.
 pub mod Taken
 pub mod ItemWalk
+pub mod OwnEffects
 pub mod Walking
 pub mod UndeclaredRecursion
 pub mod StrongComponents

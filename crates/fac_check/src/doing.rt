@@ -1,32 +1,39 @@
 //! What an item does to a stack at once.
 ghost use Rattle.std.specs.declared.option.Option.{Option};
-ghost use Rattle.std.specs.Prelude.{◌≡◌, ◌<◌, ◌∷◌, ℕ, true, length, nat_lt, Some, IfOk};
+ghost use Rattle.std.specs.Prelude.{◌≡◌, ◌<◌, ◌≤◌, ◌∷◌, ℕ, true, length, nat_lt, slice_get, Some, IfOk};
 ghost use Rattle.fac_lang.specs.declared.program.Program.{Program as ProgramSeen};
 ghost use Rattle.fac_lang.specs.Effects.{effect_height};
 ghost use Rattle.fac_lang.specs.Meaning.{c_call, c_dip, c_if, core_numbered};
 ghost use Rattle.fac_lang.specs.Primitives.{built_count};
-ghost use Rattle.fac_lang.specs.Phrases.{Phrase as Tree, any, lit_mark, wrd_mark};
+ghost use Rattle.fac_lang.specs.Phrases.{any, lit_mark, wrd_mark};
 ghost use Rattle.fac_lang.specs.PhraseView.{what_item};
-ghost use Rattle.fac_abs.specs.Marks.{Row, on, curried_mark, composed_mark};
-ghost use Rattle.fac_abs.specs.SeenMarks.{IsMark, IsStack, Grows, mark_of, stack_of};
-ghost use Rattle.fac_abs.specs.MarkTrees.{Naming};
-ghost use Rattle.fac_check.specs.Flow.{by_height as takes_and_leaves, marks_moved, mark_made, core_doing, gives};
+ghost use Rattle.fac_abs.specs.Marks.{on, curried_mark, composed_mark};
+ghost use Rattle.fac_abs.specs.SeenMarks.{IsMark, IsStack, Grows, mark_of};
+ghost use Rattle.fac_check.specs.Flow.{by_height as takes_and_leaves, marks_moved, mark_made, core_doing, is_own, gives};
 ghost use Rattle.fac_check.specs.inner.Taken.{takes_all, takes_item, takes_word};
-ghost use Rattle.fac_check.specs.inner.Walking.{IsDoing, IsDoingOf, IsThisWord, NamesPhrase, has_phrase, DoesAs, doing_seen, PopsTwo, PopsBranches, lacks, DoesItem, DoesWord, DoesWordSo, DoesDefined, DoesPrimitive};
+ghost use Rattle.fac_check.specs.inner.Walking.{IsDoing, IsDoingOf, only, has_phrase, DoesAs, PutsMark, PopsTwo, PopsBranches, lacks};
+ghost use Rattle.fac_check.specs.inner.Walking.{DoesItem, DoesWord, DoesWordSo, DoesDefined, DoesUse, DoesOwnCall, DoesPrimitive};
 
-use fac_abs::{Marks, Rule};
-use fac_lang::{Height, Memory, Operation, Sort, What, WordDef, operation_of};
-use fac_locals::Closed;
+use crate::subject::Subject;
+use fac_abs::{Marks, Reached, Rule};
+use fac_effect::{bindable, is_row_word};
+use fac_lang::{Effect, Height, Memory, Operation, Sort, What, WordDef, operation_of};
+use fac_rows::{Called, known_inputs, own_call as own_call_of, take_inputs};
 
-/// What an item does at once, with marks and stacks by their numbers. A stack stays on its base.
+/// What an item does at once, with marks and stacks by their numbers. A stack stays on its base, but for `Leaves`.
 #[derive(Clone, Copy)]
 pub enum Doing {
     /// It breaks a rule before it counts.
     Breaks(Rule),
-    /// It never returns.
+    /// It never returns. Nothing is walked after it.
     Ends,
     /// It does nothing more, and leaves this stack.
     Gives {
+        stack: u32,
+    },
+    /// It does nothing more, and leaves this stack on another base.
+    Leaves {
+        base: Option<u32>,
         stack: u32,
     },
     /// The phrase of an expanded word is to be walked.
@@ -46,6 +53,12 @@ pub enum Doing {
         second: u32,
         stack: u32,
     },
+    /// The quotation inputs of a row word are to be walked, by the stack of the marks of all its inputs, the deepest on top, and the rest.
+    Uses {
+        word: u32,
+        inputs: u32,
+        rest: u32,
+    },
 }
 
 // An item that needs more values than there are.
@@ -64,7 +77,7 @@ fn put(marks: &mut Marks, stack: u32, mark: u32) -> Result<Doing, Memory>
     requires mark { IsMark marks.old mark }
     ensures grows { Grows marks.old marks.new }
     ensures there { IfOk result (λ doing. IsDoing marks.new doing) }
-    ensures does { IfOk result (λ doing. (N : Naming) (phrases : ℕ → Tree) (b : Option Row) → doing_seen N marks.new phrases b doing ≡ gives (on b (mark_of N marks.old mark ∷ stack_of N marks.old stack))) }
+    ensures does { IfOk result (λ doing. PutsMark marks.old marks.new stack (λ N. mark_of N marks.old mark) doing) }
 {
     Ok(Doing::Gives {
         stack: marks.push(stack, mark)?,
@@ -267,22 +280,92 @@ fn height_of(word: &WordDef) -> Height
     }
 }
 
-// A word that is defined by a phrase: an inline one is expanded, and every other one goes by its effect.
-fn defined(marks: &mut Marks, stack: u32, number: u32, word: &WordDef) -> Result<Doing, Memory>
+// Whether this is the word that is checked.
+fn is_own(own: Option<u32>, number: u32) -> bool
+    ensures { result ≡ is_own number own }
+{
+    match own {
+        Some(checked) => checked == number,
+        None => false,
+    }
+}
+
+// The own recursive call of the row word with this effect.
+fn own_call(
+    marks: &mut Marks,
+    base: Option<u32>,
+    stack: u32,
+    effect: &Effect,
+) -> Result<Doing, Memory>
+    requires few { (effect_height effect.now).ins ≤ 65 }
+    requires stack { IsStack marks.old stack }
+    ensures grows { Grows marks.old marks.new }
+    ensures there { IfOk result (λ doing. IsDoing marks.new doing) }
+    ensures does { IfOk result (λ doing. DoesOwnCall marks.old marks.new base stack effect.now doing) }
+{
+    match own_call_of(marks, effect, base, stack)? {
+        Called::Breaks(rule) => Ok(Doing::Breaks(rule)),
+        Called::Leaves(Reached::Dead) => Ok(Doing::Ends),
+        Called::Leaves(Reached::On { base, stack }) => Ok(Doing::Leaves { base, stack }),
+    }
+}
+
+// A use of a row word that isn't the one that is checked. Where its rows can't be bound, it is dead once its inputs are there.
+fn row_use(marks: &mut Marks, stack: u32, number: u32, word: &WordDef) -> Result<Doing, Memory>
     requires stack { IsStack marks.old stack }
     requires word { (top : ℕ) × (count : ℕ) × (takes_word top count word.now ≡ true) }
     requires phrase { has_phrase word.now.sort ≡ true }
     ensures grows { Grows marks.old marks.new }
-    ensures there { IfOk result (λ doing. IsDoingOf (IsThisWord number word.now) marks.new doing) }
-    ensures does { IfOk result (λ doing. DoesDefined marks.old marks.new stack number word.now doing) }
+    ensures there { IfOk result (λ doing. IsDoingOf (only number word.now) marks.new doing) }
+    ensures does { IfOk result (λ doing. DoesUse marks.old marks.new stack number word.now.effect doing) }
 {
-    if word.inline {
+    match take_inputs(marks, &word.effect, stack)? {
+        None => Ok(underflow(marks, stack, word.effect.inputs() as u32)),
+        Some(taken) => {
+            if !bindable(&word.effect) {
+                return Ok(Doing::Ends);
+            }
+            if !known_inputs(marks, &word.effect, taken.inputs) {
+                return Ok(Doing::Breaks(Rule::NotKnown));
+            }
+            Ok(Doing::Uses {
+                word: number,
+                inputs: taken.inputs,
+                rest: taken.rest,
+            })
+        }
+    }
+}
+
+// A word that is defined by a phrase: an inline one is expanded, unless it is a row word, and every other one goes by its effect.
+fn defined(
+    marks: &mut Marks,
+    own: Option<u32>,
+    base: Option<u32>,
+    stack: u32,
+    number: u32,
+    word: &WordDef,
+) -> Result<Doing, Memory>
+    requires stack { IsStack marks.old stack }
+    requires word { (top : ℕ) × (count : ℕ) × (takes_word top count word.now ≡ true) }
+    requires phrase { has_phrase word.now.sort ≡ true }
+    ensures grows { Grows marks.old marks.new }
+    ensures there { IfOk result (λ doing. IsDoingOf (only number word.now) marks.new doing) }
+    ensures does { IfOk result (λ doing. DoesDefined marks.old marks.new own base stack number word.now doing) }
+{
+    if !word.inline {
+        return by_height(marks, stack, height_of(word));
+    }
+    if !is_row_word(word) {
         return Ok(Doing::Expands {
             word: number,
             stack,
         });
     }
-    by_height(marks, stack, height_of(word))
+    if is_own(own, number) {
+        return own_call(marks, base, stack, &word.effect);
+    }
+    row_use(marks, stack, number, word)
 }
 
 // A word as a value, by its number.
@@ -298,19 +381,26 @@ fn reference(marks: &mut Marks, stack: u32, word: u32) -> Result<Doing, Memory>
 }
 
 // The item of a word that isn't the top-level phrase.
-fn word_item(marks: &mut Marks, stack: u32, number: u32, word: &WordDef) -> Result<Doing, Memory>
+fn word_item(
+    marks: &mut Marks,
+    own: Option<u32>,
+    base: Option<u32>,
+    stack: u32,
+    number: u32,
+    word: &WordDef,
+) -> Result<Doing, Memory>
     requires stack { IsStack marks.old stack }
     requires word { (top : ℕ) × (count : ℕ) × (takes_word top count word.now ≡ true) }
     ensures grows { Grows marks.old marks.new }
-    ensures there { IfOk result (λ doing. IsDoingOf (IsThisWord number word.now) marks.new doing) }
-    ensures does { IfOk result (λ doing. DoesWordSo marks.old marks.new stack number word.now doing) }
+    ensures there { IfOk result (λ doing. IsDoingOf (only number word.now) marks.new doing) }
+    ensures does { IfOk result (λ doing. DoesWordSo marks.old marks.new own base stack number word.now doing) }
 {
     match &word.sort {
         Sort::Prim(primitive_number) => {
             primitive(marks, stack, *primitive_number, height_of(word))
         }
         Sort::Core(core_number) => Ok(core(marks, stack, *core_number)),
-        Sort::Body(_) => defined(marks, stack, number, word),
+        Sort::Body(_) => defined(marks, own, base, stack, number, word),
         Sort::Itself => reference(marks, stack, number),
         Sort::Past(_)
         | Sort::Class(_)
@@ -324,16 +414,22 @@ fn word_item(marks: &mut Marks, stack: u32, number: u32, word: &WordDef) -> Resu
 }
 
 // The item of the word with this number.
-fn word(closed: &Closed, marks: &mut Marks, stack: u32, number: u32) -> Result<Doing, Memory>
+fn word(
+    subject: Subject<'_>,
+    marks: &mut Marks,
+    base: Option<u32>,
+    stack: u32,
+    number: u32,
+) -> Result<Doing, Memory>
     requires stack { IsStack marks.old stack }
-    requires program { takes_all closed.now.program closed.now.templates ≡ true }
-    requires number { nat_lt number closed.now.program.top ≡ true }
+    requires program { takes_all subject.closed.now.program subject.closed.now.templates ≡ true }
+    requires number { nat_lt number subject.closed.now.program.top ≡ true }
     ensures grows { Grows marks.old marks.new }
-    ensures there { IfOk result (λ doing. IsDoingOf (NamesPhrase closed.now.program.words) marks.new doing) }
-    ensures does { IfOk result (λ doing. DoesWord closed.now marks.old marks.new stack number doing) }
+    ensures there { IfOk result (λ doing. IsDoingOf (slice_get subject.entry.closed.now.program.words) marks.new doing) }
+    ensures does { IfOk result (λ doing. DoesWord subject.entry marks.old marks.new base stack number doing) }
 {
-    match closed.program.words.get(number as usize) {
-        Some(word) => word_item(marks, stack, number, word),
+    match subject.closed.program.words.get(number as usize) {
+        Some(word) => word_item(marks, subject.own, base, stack, number, word),
         None => unreachable!(),
     }
 }
@@ -357,30 +453,31 @@ fn quotation(marks: &mut Marks, stack: u32, template: u32) -> Result<Doing, Memo
     requires template { template < marks.old.templates }
     ensures grows { Grows marks.old marks.new }
     ensures there { IfOk result (λ doing. IsDoing marks.new doing) }
-    ensures does { IfOk result (λ doing. (N : Naming) (phrases : ℕ → Tree) (b : Option Row) → doing_seen N marks.new phrases b doing ≡ gives (on b (lit_mark (N.literal template).0 (N.literal template).1 ∷ stack_of N marks.old stack))) }
+    ensures does { IfOk result (λ doing. PutsMark marks.old marks.new stack (λ N. lit_mark (N.literal template).0 (N.literal template).1) doing) }
 {
     let mark = marks.lit(template)?;
     put(marks, stack, mark)
 }
 
-/// What an item of a closed phrase does to a stack.
+/// What an item of a closed phrase does to a stack on a base.
 pub fn item_doing(
-    closed: &Closed,
+    subject: Subject<'_>,
     marks: &mut Marks,
+    base: Option<u32>,
     stack: u32,
     what: &What,
 ) -> Result<Doing, Memory>
     requires stack { IsStack marks.old stack }
-    requires templates { marks.old.templates ≡ length closed.now.templates }
-    requires program { takes_all closed.now.program closed.now.templates ≡ true }
-    requires item { takes_item closed.now.program.top (length closed.now.templates) (what_item what.now) ≡ true }
+    requires templates { marks.old.templates ≡ length subject.closed.now.templates }
+    requires program { takes_all subject.closed.now.program subject.closed.now.templates ≡ true }
+    requires item { takes_item subject.closed.now.program.top (length subject.closed.now.templates) (what_item what.now) ≡ true }
     ensures grows { Grows marks.old marks.new }
-    ensures there { IfOk result (λ doing. IsDoingOf (NamesPhrase closed.now.program.words) marks.new doing) }
-    ensures does { IfOk result (λ doing. DoesItem closed.now marks.old marks.new stack (what_item what.now) doing) }
+    ensures there { IfOk result (λ doing. IsDoingOf (slice_get subject.entry.closed.now.program.words) marks.new doing) }
+    ensures does { IfOk result (λ doing. DoesItem subject.entry marks.old marks.new base stack (what_item what.now) doing) }
 {
     match what {
         What::Int(_) | What::True | What::False | What::Str(_) => unknown(marks, stack),
-        What::Word(number) => word(closed, marks, stack, *number),
+        What::Word(number) => word(subject, marks, base, stack, *number),
         What::Wref(number) => reference(marks, stack, *number),
         What::Made(template) => quotation(marks, stack, *template),
         What::Arr(_)

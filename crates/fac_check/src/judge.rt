@@ -48,8 +48,9 @@ pub fn check_word(
     }
 }
 
-/// The verdicts on all words, in their order. Each word is walked from the inputs that its effect declares, the top-level phrase from as
-/// many unknown values as the closed program says, and an expanded word where it is used.
+/// The verdicts on all words, in their order. An ordinary word is walked from the inputs that its effect declares, the top-level phrase from
+/// as many unknown values as the closed program says, and a row word from its input row, where each quotation input does what its effect
+/// declares. An expanded word is walked where it is used.
 pub fn check_words(alloc: Global, closed: &Closed) -> Result<List<Verdict>, Memory>
     requires { StandsForBuilt closed.now }
     ensures { IfOk result (AreVerdicts closed.now) }
@@ -75,7 +76,9 @@ pub fn first_refused(verdicts: &List<Verdict>) -> Option<Refusal>
     None
 }
 
-/// The closed program as an accepted one, which is safe.
+/// The closed program as an accepted one, which is safe: no item of a run finds too few values, or a value that it can't apply, each ordinary
+/// word leaves what its effect declares, and so does each row word, whatever lists its rows stand for, where what is handed in does as its
+/// effect says.
 pub fn accept(closed: Closed) -> Checked
     requires stands { StandsForBuilt closed }
     requires accepted { IsAccepted closed }
@@ -99,8 +102,8 @@ pub fn gather(closed: Closed, verdicts: &List<Verdict>) -> Result<Checked, Refus
 
 /// Accepts a program, or names its first refused word with the first place and rule that it breaks. An item that takes more values than
 /// are there is refused before anything runs, and so is a word that leaves another number of values than its effect declares, as in the
-/// Factor Handbook's chapter on stack effect checking; the rules of callables, and which word and place is named first, are this
-/// profile's own.
+/// Factor Handbook's chapter on stack effect checking; the rules of callables, how row variables are bound, and which word and place is
+/// named first, are this profile's own. What is accepted is safe, as at `accept`, with row words and without.
 pub fn check(alloc: Global, closed: Closed) -> Result<Checked, CheckFault>
     requires { StandsForBuilt closed }
     ensures { Checks closed result }

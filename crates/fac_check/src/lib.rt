@@ -1,5 +1,5 @@
 //! The stack checker: it refuses every program in which an item could take more values than are there, or a word could leave another
-//! number of values than its effect declares.
+//! number of values than its effect declares, or another row.
 #![tactic(auto)]
 
 mod accepted;
@@ -10,6 +10,7 @@ mod judge;
 mod laws;
 mod recursion;
 mod refusal;
+mod subject;
 mod walker;
 
 pub use accepted::Checked;

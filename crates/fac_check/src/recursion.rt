@@ -32,8 +32,8 @@ fn made_in(what: &What) -> Option<u32>
     }
 }
 
-// Whether a word is an inline word with a phrase.
-fn is_inline(word: &WordDef) -> bool
+/// Whether a word is an inline word with a phrase.
+pub fn is_inline(word: &WordDef) -> bool
     ensures { result ≡ inline_phrase word.now.inline word.now.sort }
 {
     match &word.sort {

@@ -1,30 +1,35 @@
 //! The walk of a phrase.
 ghost use Rattle.std.specs.declared.option.Option.{Option};
-ghost use Rattle.std.specs.Prelude.{◌≡◌, ◌<◌, ◌≤◌, ◌-◌, [], true, suc, Some, None, length, IfOk, MatchResult, MatchOption};
-ghost use Rattle.fac_abs.specs.Marks.{Row};
+ghost use Rattle.std.specs.Prelude.{◌≡◌, ◌<◌, ◌≤◌, ◌-◌, [], true, suc, Some, None, length, slice_get, IfOk, MatchResult, MatchOption};
 ghost use Rattle.fac_abs.specs.MarkPromises.{IsMarkOf, IsStackOf};
-ghost use Rattle.fac_abs.specs.SeenMarks.{IsMark, IsStack, IsReached, Grows, mark_of, stack_of, reached_seen};
+ghost use Rattle.fac_abs.specs.SeenMarks.{IsMark, IsStack, IsReached, Grows, mark_of, reached_seen};
 ghost use Rattle.fac_abs.specs.MarkTrees.{Naming};
 ghost use Rattle.fac_lang.specs.Phrases.{any};
-ghost use Rattle.fac_check.specs.Flow.{first_rule as first_rule_of, phrase_rule as rule_of_phrase, join, marks_on, marks_back};
+ghost use Rattle.fac_check.specs.Flow.{phrase_rule as rule_of_phrase, join, marks_on, marks_back};
 ghost use Rattle.fac_check.specs.inner.Taken.{takes_all, takes_phrase};
-ghost use Rattle.fac_check.specs.inner.Walking.{IsDoingOf, NamesPhrase, IsWalked, IsWithin, IsBelow, AreMarks, Admits, Enters, walked_seen, marks_of_option};
+ghost use Rattle.fac_check.specs.inner.Walking.{IsDoingOf, is_defined, IsWalked, IsWithin, IsBelow, AreMarks, Admits, Enters, walked_seen, marks_of_option};
 ghost use Rattle.fac_check.specs.inner.Walking.{IsWalkOf, IsWalkOfPhrase, IsWalkOfItem, literal_walk, word_walk, curried_walk, part_walk, composed_walk, mark_walk, callable_walk, fork_walk};
+ghost use Rattle.fac_check.specs.inner.Walking.{IsFirstRule, IsInputRule, IsInputsRule, IsUseRule, effect_of, called_walk, use_walk, effect_walk, start_walk, AreWithin, AreBound, AreWalkedInputs, IsWalkedInput, IsWalkedQuotation};
+ghost use Rattle.fac_lang.specs.EffectView.{inputs_tree};
+ghost use Rattle.fac_lang.specs.Effects.{effect_height};
+ghost use Rattle.fac_rows.specs.SeenBindings.{IsBinding};
 
 use crate::doing::{Doing, item_doing};
+use crate::subject::Subject;
 use fac_abs::{MarkNode, Marks, Reached, Rule};
-use fac_lang::{Memory, Phrase, Place, Sort};
-use fac_locals::Closed;
+use fac_lang::{Effect, Input, Memory, Phrase, Place, Sort};
+use fac_rows::{Binding, Called, par, par_rule};
 use std::alloc::Global;
 
 /// A closed program that is walked, and the marks of its values.
 #[derive(Drop)]
 pub struct Walker<'a> {
-    closed: &'a Closed,
+    alloc: Global,
+    subject: Subject<'a>,
     /// The marks and stacks that the walk has come to.
     pub marks: Marks,
-    ghost taken: { takes_all closed.now.program closed.now.templates ≡ true },
-    ghost templates: { marks.templates ≡ length closed.now.templates },
+    ghost taken: { takes_all subject.closed.now.program subject.closed.now.templates ≡ true },
+    ghost templates: { marks.templates ≡ length subject.closed.now.templates },
 }
 
 /// Where a walk stands.
@@ -64,37 +69,23 @@ pub enum Walked {
     Refused(Rule, Place),
 }
 
+/// How the walk of the inputs of a use ends.
+#[derive(Clone, Copy)]
+enum InputsWalked {
+    // With their rows bound, and so many items that may still be walked.
+    Bound(u32),
+    // At the first broken rule.
+    Broken(Rule, Place),
+}
+
 // What an item breaks by entering a phrase, before it counts.
 fn phrase_rule(nested: u32) -> Option<Rule>
-    ensures { result ≡ rule_of_phrase None nested }
+    ensures { result ≡ rule_of_phrase nested }
 {
     if nested == 0 {
         return Some(Rule::TooDeep);
     }
     None
-}
-
-// What an item breaks by the callable that it walks first, before it counts.
-fn first_rule(marks: &Marks, mark: u32, nested: u32, stack: u32) -> Option<Rule>
-    requires mark { IsMark marks.now mark }
-    requires stack { IsStack marks.now stack }
-    ensures { (N : Naming) (b : Option Row) → result ≡ first_rule_of None (mark_of N marks.now mark) nested b (stack_of N marks.now stack) }
-{
-    match marks.node(mark) {
-        MarkNode::Lit(_) => phrase_rule(nested),
-        MarkNode::Par(input) => {
-            let found = marks.height(stack);
-            Some(Rule::Rows {
-                input,
-                expected: 0,
-                found,
-            })
-        }
-        MarkNode::Any => None,
-        MarkNode::Wrd(_) => None,
-        MarkNode::Cur(_, _) => None,
-        MarkNode::Com(_, _) => None,
-    }
 }
 
 // Counts an item: how many may still be walked then.
@@ -202,14 +193,147 @@ fn joined(marks: &mut Marks, first: Reached, second: Reached, step: Step) -> Res
 
 impl<'a> Walker<'a> {
     /// A walker with the empty stack alone.
-    pub fn new(alloc: Global, closed: &'a Closed) -> Result<Walker<'a>, Memory>
-        requires { takes_all closed.now.program closed.now.templates ≡ true }
-        ensures closed { IfOk result (λ walker. walker.closed ≡ closed.entry) }
+    pub fn new(alloc: Global, subject: Subject<'a>) -> Result<Walker<'a>, Memory>
+        requires { takes_all subject.closed.now.program subject.closed.now.templates ≡ true }
+        ensures subject { IfOk result (λ walker. walker.subject ≡ subject.entry) }
         ensures mark { IfOk result (λ walker. IsMarkOf walker.marks 0 (λ N. any)) }
         ensures stack { IfOk result (λ walker. IsStackOf walker.marks 0 (λ N. [])) }
     {
-        let marks = Marks::new(alloc, closed.templates.len())?;
-        Ok(Walker { closed, marks })
+        let marks = Marks::new(alloc, subject.closed.templates.len())?;
+        Ok(Walker {
+            alloc,
+            subject,
+            marks,
+        })
+    }
+
+    // What an item breaks by the callable that it walks first, before it counts.
+    fn first_rule(&self, mark: u32, step: Step) -> Result<Option<Rule>, Memory>
+        requires mark { IsMark self.now.marks mark }
+        requires stack { IsStack self.now.marks step.stack }
+        ensures { IfOk result (λ rule. IsFirstRule self.now.subject self.now.marks mark step rule) }
+    {
+        match self.marks.node(mark) {
+            MarkNode::Lit(_) => Ok(phrase_rule(step.nested)),
+            MarkNode::Par(input) => {
+                let own = self.subject.own_effect();
+                par_rule(&self.marks, own, input, step.base, step.stack)
+            }
+            MarkNode::Any => Ok(None),
+            MarkNode::Wrd(_) => Ok(None),
+            MarkNode::Cur(_, _) => Ok(None),
+            MarkNode::Com(_, _) => Ok(None),
+        }
+    }
+
+    // What a use breaks by the quotation input with this effect and mark, before it counts. The step's stack isn't looked at.
+    fn input_rule(
+        &mut self,
+        effect: &Effect,
+        mark: u32,
+        binding: &Binding<'a>,
+        step: Step,
+    ) -> Result<Option<Rule>, Memory>
+        requires mark { IsMark self.old.marks mark }
+        requires binding { IsBinding self.old.marks binding.now }
+        ensures subject { self.new.subject ≡ self.old.subject }
+        ensures grows { Grows self.old.marks self.new.marks }
+        ensures rule { IfOk result (λ rule. IsInputRule self.old.subject self.old.marks step effect.now mark binding.now rule) }
+    {
+        match binding.start(&mut self.marks, effect)? {
+            None => Ok(None),
+            Some(start) => match start {
+                Reached::Dead => Ok(None),
+                Reached::On { base, stack } => self.first_rule(
+                    mark,
+                    Step {
+                        base,
+                        stack,
+                        ..step
+                    },
+                ),
+            },
+        }
+    }
+
+    // What a use breaks by the first quotation input of these, by the stack of their marks, the deepest on top. The step's stack isn't looked at.
+    fn inputs_rule(
+        &mut self,
+        list: &[Input],
+        inputs: u32,
+        binding: &Binding<'a>,
+        step: Step,
+    ) -> Result<Option<Rule>, Memory>
+        requires inputs { IsStack self.old.marks inputs }
+        requires binding { IsBinding self.old.marks binding.now }
+        ensures subject { self.new.subject ≡ self.old.subject }
+        ensures grows { Grows self.old.marks self.new.marks }
+        ensures rule { IfOk result (λ rule. IsInputsRule self.old.subject self.old.marks step (inputs_tree list.now) inputs binding.now rule) }
+    {
+        let mut below = inputs;
+        for input in list {
+            let Some((mark, rest)) = self.marks.pop(below) else {
+                return Ok(None);
+            };
+            if let Some(effect) = &input.quot {
+                return self.input_rule(effect, mark, binding, step);
+            }
+            below = rest;
+        }
+        Ok(None)
+    }
+
+    // What a use of a row word with this effect breaks by the callable that it walks first, before it counts.
+    fn effect_rule(
+        &mut self,
+        effect: &'a Effect,
+        inputs: u32,
+        step: Step,
+    ) -> Result<Option<Rule>, Memory>
+        requires inputs { IsStack self.old.marks inputs }
+        requires stack { IsStack self.old.marks step.stack }
+        ensures subject { self.new.subject ≡ self.old.subject }
+        ensures grows { Grows self.old.marks self.new.marks }
+        ensures rule { IfOk result (λ rule. IsUseRule self.old.subject self.old.marks step effect.now inputs rule) }
+    {
+        let below = Reached::On {
+            base: step.base,
+            stack: step.stack,
+        };
+        let binding = Binding::new(self.alloc, effect, below)?;
+        self.inputs_rule(&effect.ins, inputs, &binding, step)
+    }
+
+    // What a use of the row word with this number breaks so.
+    fn use_rule(&mut self, word: u32, inputs: u32, step: Step) -> Result<Option<Rule>, Memory>
+        requires named { is_defined (slice_get self.old.subject.closed.now.program.words word) ≡ true }
+        requires inputs { IsStack self.old.marks inputs }
+        requires stack { IsStack self.old.marks step.stack }
+        ensures subject { self.new.subject ≡ self.old.subject }
+        ensures grows { Grows self.old.marks self.new.marks }
+        ensures rule { IfOk result (λ rule. IsUseRule self.old.subject self.old.marks step (effect_of (slice_get self.old.subject.closed.now.program.words word)) inputs rule) }
+    {
+        let closed = self.subject.closed;
+        match closed.program.words.get(word as usize) {
+            Some(found) => self.effect_rule(&found.effect, inputs, step),
+            None => unreachable!(),
+        }
+    }
+
+    // Calls an input of the word that is checked.
+    fn call_input(&mut self, input: u32, step: Step) -> Result<Walked, Memory>
+        requires stack { IsStack self.old.marks step.stack }
+        ensures subject { self.new.subject ≡ self.old.subject }
+        ensures grows { Grows self.old.marks self.new.marks }
+        ensures there { IfOk result (λ walked. IsWalked self.new.marks walked) }
+        ensures within { IfOk result (λ walked. IsWithin step.left walked) }
+        ensures walks { IfOk result (λ walked. IsWalkOf self.old.subject self.new.marks step walked (called_walk self.old.marks step input)) }
+    {
+        let own = self.subject.own_effect();
+        match par(&mut self.marks, own, input, step.base, step.stack)? {
+            Called::Breaks(rule) => Ok(Walked::Refused(rule, step.place)),
+            Called::Leaves(reached) => Ok(Walked::Found(reached, step.left)),
+        }
     }
 
     // Walks the phrase of a literal, which is one nested application.
@@ -217,16 +341,16 @@ impl<'a> Walker<'a> {
     fn walk_literal(&mut self, template: u32, step: Step) -> Result<Walked, Memory>
         requires template { template < self.old.marks.templates }
         requires stack { IsStack self.old.marks step.stack }
-        ensures closed { self.new.closed ≡ self.old.closed }
+        ensures subject { self.new.subject ≡ self.old.subject }
         ensures grows { Grows self.old.marks self.new.marks }
         ensures there { IfOk result (λ walked. IsWalked self.new.marks walked) }
         ensures within { IfOk result (λ walked. IsWithin step.left walked) }
-        ensures walks { IfOk result (λ walked. IsWalkOf self.old.closed.now self.new.marks step walked (literal_walk self.old.marks step template)) }
+        ensures walks { IfOk result (λ walked. IsWalkOf self.old.subject self.new.marks step walked (literal_walk self.old.marks step template)) }
     {
         if step.nested == 0 {
             return Ok(Walked::Refused(Rule::TooDeep, step.place));
         }
-        let closed = self.closed;
+        let closed = self.subject.closed;
         match closed.templates.get(template as usize) {
             Some(found) => self.walk_phrase(&found.body, step.entered()),
             None => unreachable!(),
@@ -236,18 +360,18 @@ impl<'a> Walker<'a> {
     // Walks the phrase of an expanded word, which is one nested application.
     #[cycle(walk)]
     fn walk_word(&mut self, word: u32, step: Step) -> Result<Walked, Memory>
-        requires named { NamesPhrase self.old.closed.now.program.words word }
+        requires named { is_defined (slice_get self.old.subject.closed.now.program.words word) ≡ true }
         requires stack { IsStack self.old.marks step.stack }
-        ensures closed { self.new.closed ≡ self.old.closed }
+        ensures subject { self.new.subject ≡ self.old.subject }
         ensures grows { Grows self.old.marks self.new.marks }
         ensures there { IfOk result (λ walked. IsWalked self.new.marks walked) }
         ensures within { IfOk result (λ walked. IsWithin step.left walked) }
-        ensures walks { IfOk result (λ walked. IsWalkOf self.old.closed.now self.new.marks step walked (word_walk self.old.marks step word)) }
+        ensures walks { IfOk result (λ walked. IsWalkOf self.old.subject self.new.marks step walked (word_walk self.old.marks step word)) }
     {
         if step.nested == 0 {
             return Ok(Walked::Refused(Rule::TooDeep, step.place));
         }
-        let closed = self.closed;
+        let closed = self.subject.closed;
         match closed.program.words.get(word as usize) {
             Some(found) => match &found.sort {
                 Sort::Body(phrase) => self.walk_phrase(phrase, step.entered()),
@@ -270,11 +394,11 @@ impl<'a> Walker<'a> {
         requires callable { IsMark self.old.marks callable }
         requires lower { callable < whole }
         requires stack { IsStack self.old.marks step.stack }
-        ensures closed { self.new.closed ≡ self.old.closed }
+        ensures subject { self.new.subject ≡ self.old.subject }
         ensures grows { Grows self.old.marks self.new.marks }
         ensures there { IfOk result (λ walked. IsWalked self.new.marks walked) }
         ensures within { IfOk result (λ walked. IsWithin step.left walked) }
-        ensures walks { IfOk result (λ walked. IsWalkOf self.old.closed.now self.new.marks step walked (curried_walk self.old.marks step value callable)) }
+        ensures walks { IfOk result (λ walked. IsWalkOf self.old.subject self.new.marks step walked (curried_walk self.old.marks step value callable)) }
     {
         match count(step.left) {
             None => Ok(Walked::Refused(Rule::TooLarge, step.place)),
@@ -300,11 +424,11 @@ impl<'a> Walker<'a> {
         requires part { IsMark self.old.marks part }
         requires lower { part < whole }
         requires stack { IsStack self.old.marks step.stack }
-        ensures closed { self.new.closed ≡ self.old.closed }
+        ensures subject { self.new.subject ≡ self.old.subject }
         ensures grows { Grows self.old.marks self.new.marks }
         ensures there { IfOk result (λ walked. IsWalked self.new.marks walked) }
         ensures within { IfOk result (λ walked. IsWithin step.left walked) }
-        ensures walks { IfOk result (λ walked. IsWalkOf self.old.closed.now self.new.marks step walked (part_walk self.old.marks step part)) }
+        ensures walks { IfOk result (λ walked. IsWalkOf self.old.subject self.new.marks step walked (part_walk self.old.marks step part)) }
     {
         match inside(&self.marks, part, step.nested) {
             Err(rule) => Ok(Walked::Refused(rule, step.place)),
@@ -332,11 +456,11 @@ impl<'a> Walker<'a> {
         requires first_lower { first < whole }
         requires second_lower { second < whole }
         requires stack { IsStack self.old.marks step.stack }
-        ensures closed { self.new.closed ≡ self.old.closed }
+        ensures subject { self.new.subject ≡ self.old.subject }
         ensures grows { Grows self.old.marks self.new.marks }
         ensures there { IfOk result (λ walked. IsWalked self.new.marks walked) }
         ensures within { IfOk result (λ walked. IsWithin step.left walked) }
-        ensures walks { IfOk result (λ walked. IsWalkOf self.old.closed.now self.new.marks step walked (composed_walk self.old.marks step first second)) }
+        ensures walks { IfOk result (λ walked. IsWalkOf self.old.subject self.new.marks step walked (composed_walk self.old.marks step first second)) }
     {
         match count(step.left) {
             None => Ok(Walked::Refused(Rule::TooLarge, step.place)),
@@ -364,25 +488,17 @@ impl<'a> Walker<'a> {
     fn walk_mark(&mut self, mark: u32, step: Step) -> Result<Walked, Memory>
         requires mark { IsMark self.old.marks mark }
         requires stack { IsStack self.old.marks step.stack }
-        ensures closed { self.new.closed ≡ self.old.closed }
+        ensures subject { self.new.subject ≡ self.old.subject }
         ensures grows { Grows self.old.marks self.new.marks }
         ensures there { IfOk result (λ walked. IsWalked self.new.marks walked) }
         ensures within { IfOk result (λ walked. IsWithin step.left walked) }
-        ensures walks { IfOk result (λ walked. IsWalkOf self.old.closed.now self.new.marks step walked (mark_walk self.old.marks step mark)) }
+        ensures walks { IfOk result (λ walked. IsWalkOf self.old.subject self.new.marks step walked (mark_walk self.old.marks step mark)) }
     {
         match self.marks.node(mark) {
             MarkNode::Lit(template) => self.walk_literal(template, step),
             MarkNode::Cur(value, callable) => self.walk_curried(mark, value, callable, step),
             MarkNode::Com(first, second) => self.walk_composed(mark, first, second, step),
-            MarkNode::Par(input) => {
-                let found = self.marks.height(step.stack);
-                let rule = Rule::Rows {
-                    input,
-                    expected: 0,
-                    found,
-                };
-                Ok(Walked::Refused(rule, step.place))
-            }
+            MarkNode::Par(input) => self.call_input(input, step),
             MarkNode::Any => Ok(Walked::Refused(Rule::NotKnown, step.place)),
             MarkNode::Wrd(_) => Ok(Walked::Refused(Rule::NotKnown, step.place)),
         }
@@ -394,11 +510,11 @@ impl<'a> Walker<'a> {
         requires mark { IsMark self.old.marks mark }
         requires back { AreMarks self.old.marks back }
         requires stack { IsStack self.old.marks step.stack }
-        ensures closed { self.new.closed ≡ self.old.closed }
+        ensures subject { self.new.subject ≡ self.old.subject }
         ensures grows { Grows self.old.marks self.new.marks }
         ensures there { IfOk result (λ walked. IsWalked self.new.marks walked) }
         ensures within { IfOk result (λ walked. IsWithin step.left walked) }
-        ensures walks { IfOk result (λ walked. IsWalkOf self.old.closed.now self.new.marks step walked (callable_walk self.old.marks step mark back)) }
+        ensures walks { IfOk result (λ walked. IsWalkOf self.old.subject self.new.marks step walked (callable_walk self.old.marks step mark back)) }
     {
         match self.walk_mark(mark, step)? {
             Walked::Refused(rule, place) => Ok(Walked::Refused(rule, place)),
@@ -414,11 +530,11 @@ impl<'a> Walker<'a> {
         requires first { IsMark self.old.marks first }
         requires second { IsMark self.old.marks second }
         requires stack { IsStack self.old.marks step.stack }
-        ensures closed { self.new.closed ≡ self.old.closed }
+        ensures subject { self.new.subject ≡ self.old.subject }
         ensures grows { Grows self.old.marks self.new.marks }
         ensures there { IfOk result (λ walked. IsWalked self.new.marks walked) }
         ensures within { IfOk result (λ walked. IsWithin step.left walked) }
-        ensures walks { IfOk result (λ walked. IsWalkOf self.old.closed.now self.new.marks step walked (fork_walk self.old.marks step first second)) }
+        ensures walks { IfOk result (λ walked. IsWalkOf self.old.subject self.new.marks step walked (fork_walk self.old.marks step first second)) }
     {
         match self.walk_mark(first, step)? {
             Walked::Refused(rule, place) => Ok(Walked::Refused(rule, place)),
@@ -435,15 +551,185 @@ impl<'a> Walker<'a> {
         }
     }
 
-    // Walks an item, apart from the rest of its phrase, where the step's stack isn't that of what the item does.
+    // Walks a callable from this stack; from a dead one nothing is walked.
+    #[cycle(walk)]
+    fn walk_from(&mut self, mark: u32, start: Reached, step: Step) -> Result<Walked, Memory>
+        requires mark { IsMark self.old.marks mark }
+        requires start { IsReached self.old.marks start }
+        ensures subject { self.new.subject ≡ self.old.subject }
+        ensures grows { Grows self.old.marks self.new.marks }
+        ensures there { IfOk result (λ walked. IsWalked self.new.marks walked) }
+        ensures within { IfOk result (λ walked. IsWithin step.left walked) }
+        ensures walks { IfOk result (λ walked. IsWalkOf self.old.subject self.new.marks step walked (start_walk self.old.marks step mark start)) }
+    {
+        match start {
+            Reached::Dead => Ok(Walked::Found(Reached::Dead, step.left)),
+            Reached::On { base, stack } => self.walk_mark(
+                mark,
+                Step {
+                    base,
+                    stack,
+                    ..step
+                },
+            ),
+        }
+    }
+
+    // Walks the quotation input of this number, effect and mark, and binds its rows. The step's stack isn't looked at.
+    #[cycle(walk)]
+    fn walk_quotation(
+        &mut self,
+        number: u32,
+        effect: &'a Effect,
+        mark: u32,
+        binding: &mut Binding<'a>,
+        step: Step,
+    ) -> Result<InputsWalked, Memory>
+        requires mark { IsMark self.old.marks mark }
+        requires binding { IsBinding self.old.marks binding.old }
+        ensures subject { self.new.subject ≡ self.old.subject }
+        ensures grows { Grows self.old.marks self.new.marks }
+        ensures there { IfOk result (λ walked. AreBound self.new.marks binding.new walked) }
+        ensures within { IfOk result (λ walked. AreWithin step.left walked) }
+        ensures walks { IfOk result (λ walked. IsWalkedQuotation self.old.subject self.old.marks self.new.marks step number effect.now mark binding.old binding.new walked) }
+    {
+        match binding.start(&mut self.marks, effect)? {
+            None => Ok(InputsWalked::Broken(
+                Rule::Rows {
+                    input: number,
+                    expected: 0,
+                    found: 0,
+                },
+                step.place,
+            )),
+            Some(start) => match self.walk_from(mark, start, step)? {
+                Walked::Refused(rule, place) => Ok(InputsWalked::Broken(rule, place)),
+                Walked::Found(reached, left) => {
+                    match binding.bind(&self.marks, number, effect, reached)? {
+                        None => Ok(InputsWalked::Bound(left)),
+                        Some(rule) => Ok(InputsWalked::Broken(rule, step.place)),
+                    }
+                }
+            },
+        }
+    }
+
+    // Walks the input of this number and mark, where it is a quotation input. The step's stack isn't looked at.
+    #[cycle(walk)]
+    fn walk_input(
+        &mut self,
+        number: u32,
+        input: &'a Input,
+        mark: u32,
+        binding: &mut Binding<'a>,
+        step: Step,
+    ) -> Result<InputsWalked, Memory>
+        requires mark { IsMark self.old.marks mark }
+        requires binding { IsBinding self.old.marks binding.old }
+        ensures subject { self.new.subject ≡ self.old.subject }
+        ensures grows { Grows self.old.marks self.new.marks }
+        ensures there { IfOk result (λ walked. AreBound self.new.marks binding.new walked) }
+        ensures within { IfOk result (λ walked. AreWithin step.left walked) }
+        ensures walks { IfOk result (λ walked. IsWalkedInput self.old.subject self.old.marks self.new.marks step number input.now mark binding.old binding.new walked) }
+    {
+        match &input.quot {
+            None => Ok(InputsWalked::Bound(step.left)),
+            Some(effect) => self.walk_quotation(number, effect, mark, binding, step),
+        }
+    }
+
+    // Walks these inputs of a use, from left to right, by the stack of their marks, the deepest on top. The step's stack isn't looked at.
+    #[cycle(walk)]
+    fn walk_inputs(
+        &mut self,
+        list: &'a [Input],
+        inputs: u32,
+        binding: &mut Binding<'a>,
+        step: Step,
+    ) -> Result<InputsWalked, Memory>
+        requires few { length list.now ≤ 65 }
+        requires inputs { IsStack self.old.marks inputs }
+        requires binding { IsBinding self.old.marks binding.old }
+        ensures subject { self.new.subject ≡ self.old.subject }
+        ensures grows { Grows self.old.marks self.new.marks }
+        ensures there { IfOk result (λ walked. AreBound self.new.marks binding.new walked) }
+        ensures within { IfOk result (λ walked. AreWithin step.left walked) }
+        ensures walks { IfOk result (λ walked. AreWalkedInputs self.old.subject self.old.marks self.new.marks step (inputs_tree list.now) inputs binding.old binding.new walked) }
+    {
+        let mut marks = inputs;
+        let mut left = step.left;
+        let mut number = 0;
+        for input in list {
+            let Some((mark, rest)) = self.marks.pop(marks) else {
+                return Ok(InputsWalked::Broken(Rule::NotKnown, step.place));
+            };
+            number += 1;
+            let here = Step { left, ..step };
+            match self.walk_input(number, input, mark, binding, here)? {
+                InputsWalked::Broken(rule, place) => return Ok(InputsWalked::Broken(rule, place)),
+                InputsWalked::Bound(kept) => {
+                    marks = rest;
+                    left = kept;
+                }
+            }
+        }
+        Ok(InputsWalked::Bound(left))
+    }
+
+    // Walks a use of a row word with this effect, by the stack of the marks of its inputs, the deepest on top. The step has the rest.
+    #[cycle(walk)]
+    fn walk_effect(&mut self, effect: &'a Effect, inputs: u32, step: Step) -> Result<Walked, Memory>
+        requires few { (effect_height effect.now).ins ≤ 65 }
+        requires inputs { IsStack self.old.marks inputs }
+        requires stack { IsStack self.old.marks step.stack }
+        ensures subject { self.new.subject ≡ self.old.subject }
+        ensures grows { Grows self.old.marks self.new.marks }
+        ensures there { IfOk result (λ walked. IsWalked self.new.marks walked) }
+        ensures within { IfOk result (λ walked. IsWithin step.left walked) }
+        ensures walks { IfOk result (λ walked. IsWalkOf self.old.subject self.new.marks step walked (effect_walk self.old.marks step effect.now inputs)) }
+    {
+        let below = Reached::On {
+            base: step.base,
+            stack: step.stack,
+        };
+        let mut binding = Binding::new(self.alloc, effect, below)?;
+        match self.walk_inputs(&effect.ins, inputs, &mut binding, step)? {
+            InputsWalked::Broken(rule, place) => Ok(Walked::Refused(rule, place)),
+            InputsWalked::Bound(left) => Ok(Walked::Found(
+                binding.leaves(&mut self.marks, effect)?,
+                left,
+            )),
+        }
+    }
+
+    // Walks a use of the row word with this number, likewise.
+    #[cycle(walk)]
+    fn walk_use(&mut self, word: u32, inputs: u32, step: Step) -> Result<Walked, Memory>
+        requires named { is_defined (slice_get self.old.subject.closed.now.program.words word) ≡ true }
+        requires inputs { IsStack self.old.marks inputs }
+        requires stack { IsStack self.old.marks step.stack }
+        ensures subject { self.new.subject ≡ self.old.subject }
+        ensures grows { Grows self.old.marks self.new.marks }
+        ensures there { IfOk result (λ walked. IsWalked self.new.marks walked) }
+        ensures within { IfOk result (λ walked. IsWithin step.left walked) }
+        ensures walks { IfOk result (λ walked. IsWalkOf self.old.subject self.new.marks step walked (use_walk self.old.marks step word inputs)) }
+    {
+        let closed = self.subject.closed;
+        match closed.program.words.get(word as usize) {
+            Some(found) => self.walk_effect(&found.effect, inputs, step),
+            None => unreachable!(),
+        }
+    }
+
+    // Walks an item, apart from the rest of its phrase. The stack is that of what the item does, not the step's.
     #[cycle(walk)]
     fn walk_item(&mut self, doing: Doing, step: Step) -> Result<Walked, Memory>
-        requires { IsDoingOf (NamesPhrase self.old.closed.now.program.words) self.old.marks doing }
-        ensures closed { self.new.closed ≡ self.old.closed }
+        requires { IsDoingOf (slice_get self.old.subject.closed.now.program.words) self.old.marks doing }
+        ensures subject { self.new.subject ≡ self.old.subject }
         ensures grows { Grows self.old.marks self.new.marks }
         ensures there { IfOk result (λ walked. IsWalked self.new.marks walked) }
         ensures below { IfOk result (λ walked. IsBelow step.left walked) }
-        ensures walks { IfOk result (λ walked. IsWalkOfItem self.old.closed.now self.old.marks self.new.marks doing step walked) }
+        ensures walks { IfOk result (λ walked. IsWalkOfItem self.old.subject self.old.marks self.new.marks doing step walked) }
     {
         match doing {
             Doing::Breaks(rule) => Ok(Walked::Refused(rule, step.place)),
@@ -461,6 +747,10 @@ impl<'a> Walker<'a> {
                 )),
                 Err(rule) => Ok(Walked::Refused(rule, step.place)),
             },
+            Doing::Leaves { base, stack } => match admitted(None, step.left) {
+                Ok(left) => Ok(Walked::Found(Reached::On { base, stack }, left)),
+                Err(rule) => Ok(Walked::Refused(rule, step.place)),
+            },
             Doing::Expands { word, stack } => match admitted(phrase_rule(step.nested), step.left) {
                 Ok(left) => self.walk_word(
                     word,
@@ -473,16 +763,9 @@ impl<'a> Walker<'a> {
                 Err(rule) => Ok(Walked::Refused(rule, step.place)),
             },
             Doing::Walks { mark, stack, back } => {
-                match admitted(first_rule(&self.marks, mark, step.nested, stack), step.left) {
-                    Ok(left) => self.walk_callable(
-                        mark,
-                        back,
-                        Step {
-                            stack,
-                            left,
-                            ..step
-                        },
-                    ),
+                let here = Step { stack, ..step };
+                match admitted(self.first_rule(mark, here)?, step.left) {
+                    Ok(left) => self.walk_callable(mark, back, Step { left, ..here }),
                     Err(rule) => Ok(Walked::Refused(rule, step.place)),
                 }
             }
@@ -490,21 +773,23 @@ impl<'a> Walker<'a> {
                 first,
                 second,
                 stack,
-            } => match admitted(
-                first_rule(&self.marks, first, step.nested, stack),
-                step.left,
-            ) {
-                Ok(left) => self.walk_fork(
-                    first,
-                    second,
-                    Step {
-                        stack,
-                        left,
-                        ..step
-                    },
-                ),
-                Err(rule) => Ok(Walked::Refused(rule, step.place)),
-            },
+            } => {
+                let here = Step { stack, ..step };
+                match admitted(self.first_rule(first, here)?, step.left) {
+                    Ok(left) => self.walk_fork(first, second, Step { left, ..here }),
+                    Err(rule) => Ok(Walked::Refused(rule, step.place)),
+                }
+            }
+            Doing::Uses { word, inputs, rest } => {
+                let here = Step {
+                    stack: rest,
+                    ..step
+                };
+                match admitted(self.use_rule(word, inputs, here)?, step.left) {
+                    Ok(left) => self.walk_use(word, inputs, Step { left, ..here }),
+                    Err(rule) => Ok(Walked::Refused(rule, step.place)),
+                }
+            }
         }
     }
 
@@ -512,19 +797,19 @@ impl<'a> Walker<'a> {
     #[cycle(walk)]
     pub fn walk_phrase(&mut self, phrase: &Phrase, step: Step) -> Result<Walked, Memory>
         requires stack { IsStack self.old.marks step.stack }
-        requires taken { takes_phrase self.old.closed.now.program.top (length self.old.closed.now.templates) phrase.now ≡ true }
-        ensures closed { self.new.closed ≡ self.old.closed }
+        requires taken { takes_phrase self.old.subject.closed.now.program.top (length self.old.subject.closed.now.templates) phrase.now ≡ true }
+        ensures subject { self.new.subject ≡ self.old.subject }
         ensures grows { Grows self.old.marks self.new.marks }
         ensures there { IfOk result (λ walked. IsWalked self.new.marks walked) }
         ensures within { IfOk result (λ walked. IsWithin step.left walked) }
-        ensures walks { IfOk result (λ walked. IsWalkOfPhrase self.old.closed.now self.old.marks self.new.marks phrase.now step walked) }
+        ensures walks { IfOk result (λ walked. IsWalkOfPhrase self.old.subject self.old.marks self.new.marks phrase.now step walked) }
     {
-        let closed = self.closed;
+        let subject = self.subject;
         let mut base = step.base;
         let mut stack = step.stack;
         let mut left = step.left;
         for item in &phrase.items {
-            let doing = item_doing(closed, &mut self.marks, stack, &item.what)?;
+            let doing = item_doing(subject, &mut self.marks, base, stack, &item.what)?;
             let here = Step {
                 place: item.place,
                 nested: step.nested,

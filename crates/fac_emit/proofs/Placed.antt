@@ -284,7 +284,7 @@ module _ (P C : Program) (templates : List Template) (M : Image) (b : IsBuilt P)
         let found = word_below P b w lt in
         let is = sort_is w found.def t found.at e in
         let built = subst (IsBuiltSort P.top found.def) is found.built in
-        let stands = body_stands w found.def t false (ne_eqb w C.top (λ same. let top = closes.top in omega (arith, lt, same, top))) found.at is (below_length w lt) built.phrase_built in
+        let stands = body_stands w found.def t false (ne_eqb w C.top (λ same. let top = closes.top in omega (arith, lt, same, top))) found.at is (below_length w lt) built in
         (record { name = w; action = code_action stands.0 }, stands.0, stands.1, refl, stands.2);
     templates = λ q r k e n whole. template_stands q r (kept_list k) e;
   }

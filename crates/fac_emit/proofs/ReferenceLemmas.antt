@@ -88,7 +88,7 @@ module _ (P : Program) where
   sort_built : (d : WordDef) (s : Sort) → IsBuiltSort P.top d s → HasBuilt s
   sort_built d (prim_sort k) h = h.is_built
   sort_built d (core_sort k) h = h.is_built
-  sort_built d (body t) h = h.phrase_built
+  sort_built d (body t) h = h
   sort_built d itself h = tt
   sort_built d _ h = absurd h
 

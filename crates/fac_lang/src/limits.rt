@@ -1,7 +1,7 @@
 //! The limits of the language and of the tool, each with its name. Definitions and code cite them here, and `docs/LANGUAGE.md` lists those
 //! that a user can meet. All of them are this profile's own.
 
-/// The most bytes that the files of a program have together.
+/// The most bytes that the files of a command have together. Those of the prelude don't count.
 pub const MOST_SOURCE_BYTES: u64 = 4_194_304;
 
 /// The ticks that a program may use, where the command doesn't say how many.
@@ -27,6 +27,12 @@ pub const MOST_ITEMS: u32 = 200_000;
 
 /// The most parts inside one another that the mark of a callable has. Of a deeper one nothing is known.
 pub const MOST_MARK_DEPTH: u32 = 64;
+
+/// The most values that a callable takes or leaves, where it has an effect.
+pub const MOST_CALLABLE_VALUES: u64 = 1_000_000;
+
+/// The most inputs with which a quotation is tried, where its effect is looked for.
+pub const MOST_TRIED_INPUTS: u32 = 1_024;
 
 /// The most elements of an array or a string.
 pub const MOST_ELEMENTS: usize = 1_000_000;

@@ -27,7 +27,7 @@ HaveBuiltPhrases bound [] = Unit {0}
 HaveBuiltPhrases bound (d ∷ ds) = HasBuiltPhrase bound d.sort × HaveBuiltPhrases bound ds
 
 sort_built : (bound : ℕ) (d : WordDef) (s : Sort) → IsBuiltSort bound d s → HasBuiltPhrase bound s
-sort_built bound d (body t) h = h.phrase_built
+sort_built bound d (body t) h = h
 sort_built bound d (prim k) h = tt
 sort_built bound d (core k) h = tt
 sort_built bound d (past t) h = absurd h

@@ -1,9 +1,9 @@
 -- Each form keeps what is read of the forms built.
 use Rattle.std.proofs.Common.{◌≡◌, ◌≤◌, ℕ, List, [], ◌∷◌, length, fold, Option, Some, None, Bool, true, false, refl, ap, sym, ◌∙◌, subst, arith}
-use Rattle.std.specs.Prelude.{if◌then◌else◌, ◌&&◌, nat_le, codes}
+use Rattle.std.specs.Prelude.{if◌then◌else◌, nat_le, codes}
 use Rattle.std.specs.List.{list_any}
 use Rattle.std.proofs.lemmas.Bool.Decides.{Decides-ltb}
-use Rattle.fac_lang.specs.Forms.{IsBuiltPhrase, IsPlainEffect}
+use Rattle.fac_lang.specs.Forms.{IsBuiltPhrase}
 use Rattle.fac_lang.specs.Phrases.{Phrase}
 use Rattle.fac_lang.specs.RunningLaws.{append}
 use Rattle.fac_lang.specs.Signatures.{Signature}
@@ -70,13 +70,11 @@ fold_built f h (x ∷ xs) r b = fold_built f h xs (f r x) (h r x b)
 -- Definitions and items.
 
 -- what a form defines is of the forms built
-pub record IsPlainDefinition (e : Signature) (ns : Nodes) (inline recursive : Bool) : Type 0 where
+pub record IsPlainDefinition (e : Signature) (ns : Nodes) : Type 0 where
   pub elements : List Element
   pub items : ns ≡ nested elements
   pub closing : AreClosing 0 elements
-  pub effect : IsPlainEffect e
   pub few : nat_le (name_count e) 65 ≡ true
-  pub no_row_word : (inline && recursive) ≡ false
 
 pub record ArePlainItems (ns : Nodes) : Type 0 where
   pub elements : List Element
@@ -94,15 +92,15 @@ IsPlainForm f_public = Unit {0}
 IsPlainForm (f_defer n) = Unit {0}
 IsPlainForm (f_symbol n) = Unit {0}
 IsPlainForm (f_main n) = Unit {0}
-IsPlainForm (f_define n (given e) ns inline recursive) = IsPlainDefinition e ns inline recursive
+IsPlainForm (f_define n (given e) ns inline recursive) = IsPlainDefinition e ns
 IsPlainForm (f_items ns) = ArePlainItems ns
 IsPlainForm _ = ⊥
 
-body_told : (n : Numbered) (e : Signature) (t : Phrase) (inline recursive : Bool) (first : Option NameFault) → ((bound : ℕ) → length n.reading.words ≤ bound → IsBuiltPhrase bound t) → IsPlainEffect e → nat_le (name_count e) 65 ≡ true → (inline && recursive) ≡ false → Built n.reading → Built (told (body t) e inline recursive settled (record { word = n.word; reading = record n.reading { first = first } }))
-body_told n e t inline recursive first h plain few marks b =
-    told_built (record n.reading { first = first }) n.word (body t) e inline recursive (λ ks. refl) (λ bound within d. record { built = record { phrase_built = h bound within; plain = plain; no_row_word = marks }; few = few }) (refused_built n.reading first b)
+body_told : (n : Numbered) (e : Signature) (t : Phrase) (inline recursive : Bool) (first : Option NameFault) → ((bound : ℕ) → length n.reading.words ≤ bound → IsBuiltPhrase bound t) → nat_le (name_count e) 65 ≡ true → Built n.reading → Built (told (body t) e inline recursive settled (record { word = n.word; reading = record n.reading { first = first } }))
+body_told n e t inline recursive first h few b =
+    told_built (record n.reading { first = first }) n.word (body t) e inline recursive (λ ks. refl) (λ bound within d. record { built = h bound within; few = few }) (refused_built n.reading first b)
 
-define_built : (t : Tok) (e : Signature) (ns : Nodes) (inline recursive : Bool) (r : Reading) → IsPlainDefinition e ns inline recursive → Built r → Built (take (f_define t (given e) ns inline recursive) r)
+define_built : (t : Tok) (e : Signature) (ns : Nodes) (inline recursive : Bool) (r : Reading) → IsPlainDefinition e ns → Built r → Built (take (f_define t (given e) ns inline recursive) r)
 define_built t e ns inline recursive r p b =
     let n = own t r in
     let mid = own_built t r b in
@@ -110,7 +108,7 @@ define_built t e ns inline recursive r p b =
     (sym (ap (λ (ms : Nodes). read_phrase ms (λ u q. told (body u) e inline recursive settled (record { word = n.word; reading = q })) n.reading) p.items
     ∙ read_plainly (λ u q. told (body u) e inline recursive settled (record { word = n.word; reading = q })) n.reading p.elements p.closing))
     (body_told n e (elements_phrase n.reading.scope p.elements) inline recursive (first_behind n.reading.scope p.elements n.reading.first)
-    (λ bound within. (following_built (length n.reading.words) bound n.reading.scope p.elements mid.some within mid.scope).0) p.effect p.few p.no_row_word mid)
+    (λ bound within. (following_built (length n.reading.words) bound n.reading.scope p.elements mid.some within mid.scope).0) p.few mid)
 
 with_top : (r : Reading) (t : Phrase) (first : Option NameFault) → ((bound : ℕ) → length r.words ≤ bound → IsBuiltPhrase bound t) → Built r → Built (record r { top = t; first = first })
 with_top r t first h b = record { some = b.some; scope = b.scope; words = b.words; top = h; main = b.main; distinct = b.distinct; no_old_classes = b.no_old_classes; no_classes = b.no_classes; no_arrays = b.no_arrays }

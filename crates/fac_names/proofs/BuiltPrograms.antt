@@ -1,5 +1,5 @@
 -- Every resolved program is of the forms built, and whole.
-use Rattle.std.proofs.Common.{◌≡◌, ◌≤◌, ◌+◌, ℕ, List, [], ◌∷◌, ◌++◌, map, length, fold, Option, Some, None, Result, Ok, Err, Bool, true, false, cond, refl, ap, sym, ◌∙◌, subst, arith, length-append, append_assoc, zero-add}
+use Rattle.std.proofs.Common.{◌≡◌, ◌≤◌, ◌+◌, ℕ, suc, List, [], ◌∷◌, ◌++◌, map, length, fold, Option, Some, None, Result, Ok, Err, Bool, true, false, cond, refl, ap, sym, ◌∙◌, subst, arith, length-append, append_assoc}
 use Rattle.std.specs.Prelude.{IfOk, ◌&&◌, nat_le, nat_lt, slice_get}
 use Rattle.std.specs.List.{list_all}
 use Rattle.std.specs.Option.{option_map}
@@ -8,13 +8,13 @@ use Rattle.std.proofs.lemmas.Bool.Decides.{Decides-ltb}
 use Rattle.std.proofs.lemmas.List.{length_push, length-map}
 use Rattle.std.proofs.lemmas.List.Folds.{list_all-append}
 use Rattle.fac_lang.specs.CoreWords.{core_word, built_core_words, is_built_core}
-use Rattle.fac_lang.specs.Forms.{IsBuilt, IsBuiltPhrase, AreBuiltWords, IsPlainEffect, ArePlainInputs, IsPlainLeaving, primitive_numbers, has_no_repeats}
+use Rattle.fac_lang.specs.Forms.{IsBuilt, IsBuiltPhrase, AreBuiltWords, primitive_numbers, has_no_repeats}
 use Rattle.fac_lang.specs.Phrases.{Phrase}
-use Rattle.fac_lang.specs.PrimitiveWords.{PrimitiveWord, plain_inputs}
+use Rattle.fac_lang.specs.PrimitiveWords.{PrimitiveWord}
 use Rattle.fac_lang.specs.Primitives.{Primitive, built_primitives, later_primitives, built_primitive_words, prim_numbered, primitive_word, built_count, is_built_primitive}
 use Rattle.fac_lang.specs.RunningLaws.{append}
-use Rattle.fac_lang.specs.Signatures.{Signature, never, leaves}
-use Rattle.fac_lang.specs.Whole.{IsWhole, name_count, inputs_name_count, leaving_count}
+use Rattle.fac_lang.specs.Signatures.{Signature, Inputs, value, quoted, Leaving, never, leaves}
+use Rattle.fac_lang.specs.Whole.{IsWhole, name_count, inputs_name_count, leaving_count, row_count}
 use Rattle.fac_lang.specs.declared.program.ClassDef.{ClassDef}
 use Rattle.fac_lang.specs.declared.program.Program.{Program}
 use Rattle.fac_lang.specs.declared.program.Sort.TheVariants.{Prim, Core}
@@ -24,21 +24,19 @@ use Rattle.fac_lang.specs.declared.tree.Form.{Form as Flat}
 use Rattle.fac_lang.specs.declared.tree.Form.TheVariants.{Row, Items}
 use Rattle.fac_lang.specs.declared.tree.FormKind.{FormKind}
 use Rattle.fac_lang.specs.declared.tree.FormKind.TheVariants as kind
-use Rattle.fac_lang.specs.declared.tree.Mark.{Mark}
-use Rattle.fac_lang.specs.declared.tree.Mark.TheVariants.{Inline, Recursive}
 use Rattle.fac_lang.specs.declared.tree.Part.{Part}
 use Rattle.fac_lang.specs.declared.tree.Part.TheVariants as part
-use Rattle.fac_lang.specs.declared.tree.WrittenEffect.{WrittenEffect}
 use Rattle.fac_parse.specs.declared.rows.Slot.TheVariants as slot
 use Rattle.fac_parse.specs.Rows.{slots_of}
-use Rattle.fac_parse.specs.Trees.{AreItems, AreMarks, AreWellFormed, Fills, FillAll, IsEffect, IsForm, IsLiteral, IsWellFormed, token_text}
+use Rattle.fac_effect.specs.WrittenEffects.{Written, written, Entries, no_entries, plain, described, detailed, written_names, entries_names, is_row, plain_name, colon_name, row_if, row_in, values_in, output_names, leaving_in, said, side_inputs, inputs_of, IsEffect}
+use Rattle.fac_parse.specs.Trees.{AreItems, AreWellFormed, Fills, FillAll, IsForm, IsLiteral, IsWellFormed}
 use Rattle.fac_vocab.specs.Scopes.{begun, entries_from}
 use Rattle.fac_names.specs.declared.refusal.NameFault.{NameFault}
 use Rattle.fac_names.specs.declared.refusal.ResolveFault.{ResolveFault}
 use Rattle.fac_names.specs.Readings.{read_form}
 use Rattle.fac_names.specs.Items.{sooner}
 use Rattle.fac_names.specs.Forms.{Draft, Late, settled, deferred, Reading, scoped, take_file}
-use Rattle.fac_names.specs.FromFlat.{effect_in, effect_of, elements_in, form_of, is_inline, is_recursive, leaving_of, marks_in, row, spellings}
+use Rattle.fac_names.specs.FromFlat.{effect_in, elements_in, form_of, row}
 use Rattle.fac_names.specs.KnownWords.{known_words, words_from}
 use Rattle.fac_names.specs.Resolved.{answer, class_faults, classes_of, finished, first_fault, last_faults, late_faults, program_of, words_faults}
 use Rattle.fac_names.specs.Resolution.{Resolves, first_reading, program_alone, resolved, settled_draft}
@@ -101,52 +99,75 @@ known_distinct = refl
 
 -- Effects.
 
-are_plain : (names : List (List ℕ)) → ArePlainInputs (plain_inputs names)
-are_plain [] = tt
-are_plain (n ∷ ns) = are_plain ns
-
-inputs_counted : (names : List (List ℕ)) → inputs_name_count (plain_inputs names) ≡ length names
-inputs_counted [] = refl
-inputs_counted (n ∷ ns) = let rest = inputs_counted ns in omega (arith, rest)
-
-spellings_counted : (tokens : List Token) → length (spellings tokens) ≡ length tokens
-spellings_counted ts = length-map ts (λ (t : Token). token_text t.kind)
-
 at_most : (a b : ℕ) → a ≤ b → nat_le a b ≡ true
 at_most a b few = grind arith
 
-star_counted : (b : Bool) (n : List ℕ) → leaving_count (cond b never (leaves None (n ∷ []))) ≡ 1
-star_counted true n = refl
-star_counted false n = refl
+-- a side whose first entry is a row variable, or isn't
+side_counted : (b : Bool) (name : List ℕ) (rest all : Inputs) (k : ℕ) → inputs_name_count rest ≤ k → inputs_name_count all ≤ suc k → row_count (row_if b name) + inputs_name_count (cond b rest all) ≤ suc k
+side_counted true name rest all k h j = omega (arith, h)
+side_counted false name rest all k h j = omega (arith, j)
 
-leaving_counted : (names : List (List ℕ)) → leaving_count (leaving_of names) ≡ length names
-leaving_counted [] = zero-add 0
-leaving_counted (n ∷ []) = star_counted (bytes_eq n _) n
-leaving_counted (n ∷ m ∷ ns) = zero-add (length (n ∷ m ∷ ns))
+outputs_counted : (es : Entries) → length (output_names es) ≤ entries_names es
+outputs_counted no_entries = omega arith
+outputs_counted (plain name es) = let rest = outputs_counted es in omega (arith, rest)
+outputs_counted (described name class es) = let rest = outputs_counted es in omega (arith, rest)
+outputs_counted (detailed name w es) = let rest = outputs_counted es in omega (arith, rest)
 
-few_names : (e : WrittenEffect) → IsEffect e → nat_le (name_count (effect_of e)) 65 ≡ true
-few_names e h =
-    let ins = inputs_counted (spellings e.ins) ∙ spellings_counted e.ins in
-    let outs = leaving_counted (spellings e.outs) ∙ spellings_counted e.outs in
+left_counted : (b : Bool) (name : List ℕ) (rest all : Entries) (k : ℕ) → length (output_names rest) ≤ k → length (output_names all) ≤ suc k → row_count (row_if b name) + length (output_names (cond b rest all)) ≤ suc k
+left_counted true name rest all k h j = omega (arith, h)
+left_counted false name rest all k h j = omega (arith, j)
+
+never_counted : (b : Bool) (l : Leaving) (k : ℕ) → leaving_count l ≤ suc k → leaving_count (cond b never l) ≤ suc k
+never_counted true l k h = omega arith
+never_counted false l k h = h
+
+values_counted : (es : Entries) → row_count (row_in es) + length (output_names (values_in es)) ≤ entries_names es
+values_counted no_entries = omega arith
+values_counted (plain name es) = let rest = outputs_counted es in left_counted (is_row name) (plain_name name) es (plain name es) (entries_names es) rest (omega (arith, rest))
+values_counted (described name class es) = let rest = outputs_counted es in left_counted (is_row name) (colon_name name) es (described name class es) (suc (entries_names es)) (omega (arith, rest)) (omega (arith, rest))
+values_counted (detailed name w es) = let rest = outputs_counted es in left_counted (is_row name) (colon_name name) es (detailed name w es) (written_names w + entries_names es) (omega (arith, rest)) (omega (arith, rest))
+
+leaving_counted : (es : Entries) → leaving_count (leaving_in es) ≤ entries_names es
+leaving_counted no_entries = omega arith
+leaving_counted (plain name no_entries) = never_counted (bytes_eq (plain_name name) _) (leaves (row_in (plain name no_entries)) (output_names (values_in (plain name no_entries)))) 0 (values_counted (plain name no_entries))
+leaving_counted (plain name (plain next es)) = values_counted (plain name (plain next es))
+leaving_counted (plain name (described next class es)) = values_counted (plain name (described next class es))
+leaving_counted (plain name (detailed next w es)) = values_counted (plain name (detailed next w es))
+leaving_counted (described name class es) = values_counted (described name class es)
+leaving_counted (detailed name w es) = values_counted (detailed name w es)
+
+-- what is said has no more names than are written
+mutual
+  said_counted : (w : Written) → name_count (said w) ≤ written_names w
+  said_counted (written opens ins dashes outs closes) = let left = side_inputs_counted ins in let right = leaving_counted outs in omega (arith, left, right)
+
+  side_inputs_counted : (es : Entries) → row_count (row_in es) + inputs_name_count (side_inputs es) ≤ entries_names es
+  side_inputs_counted no_entries = omega arith
+  side_inputs_counted (plain name es) =
+      let rest = inputs_counted es in side_counted (is_row name) (plain_name name) (inputs_of es) (value (plain_name name) (inputs_of es)) (entries_names es) rest (omega (arith, rest))
+  side_inputs_counted (described name class es) =
+      let rest = inputs_counted es in side_counted (is_row name) (colon_name name) (inputs_of es) (value (colon_name name) (inputs_of es)) (suc (entries_names es)) (omega (arith, rest)) (omega (arith, rest))
+  side_inputs_counted (detailed name w es) =
+      let inner = said_counted w in
+      let rest = inputs_counted es in
+      side_counted (is_row name) (colon_name name) (inputs_of es) (quoted (colon_name name) (said w) (inputs_of es)) (written_names w + entries_names es) (omega (arith, rest)) (omega (arith, inner, rest))
+
+  inputs_counted : (es : Entries) → inputs_name_count (inputs_of es) ≤ entries_names es
+  inputs_counted no_entries = omega arith
+  inputs_counted (plain name es) = let rest = inputs_counted es in omega (arith, rest)
+  inputs_counted (described name class es) = let rest = inputs_counted es in omega (arith, rest)
+  inputs_counted (detailed name w es) = let inner = said_counted w in let rest = inputs_counted es in omega (arith, inner, rest)
+
+few_names : (tokens : List Token) (e : Signature) → IsEffect tokens e → nat_le (name_count e) 65 ≡ true
+few_names tokens e h =
+    let counted = said_counted h.tree in
     let few = h.few in
-    at_most (name_count (effect_of e)) 65 (omega (arith, ins, outs, few))
-
-star_plain : (b : Bool) (n : List ℕ) → IsPlainLeaving (cond b never (leaves None (n ∷ [])))
-star_plain true n = tt
-star_plain false n = refl
-
-leaving_plain : (names : List (List ℕ)) → IsPlainLeaving (leaving_of names)
-leaving_plain [] = refl
-leaving_plain (n ∷ []) = star_plain (bytes_eq n _) n
-leaving_plain (n ∷ m ∷ ns) = refl
-
-effect_plain : (e : WrittenEffect) → IsPlainEffect (effect_of e)
-effect_plain e = (refl, are_plain (spellings e.ins), leaving_plain (spellings e.outs))
+    ap (λ (s : Signature). nat_le (name_count s) 65) (sym h.says) ∙ at_most (name_count (said h.tree)) 65 (omega (arith, counted, few))
 
 -- The parts of rows.
 
-behind_name : (p : Part) (ps : List Part) → Fills slot.Name p → (effect_in (p ∷ ps) ≡ effect_in ps) × (elements_in (p ∷ ps) ≡ elements_in ps) × (marks_in (p ∷ ps) ≡ marks_in ps)
-behind_name (part.Name v) ps h = (refl, refl, refl)
+behind_name : (p : Part) (ps : List Part) → Fills slot.Name p → (effect_in (p ∷ ps) ≡ effect_in ps) × (elements_in (p ∷ ps) ≡ elements_in ps)
+behind_name (part.Name v) ps h = (refl, refl)
 behind_name (part.Names vs ends) ps h = absurd h
 behind_name (part.Fixed key place) ps h = absurd h
 behind_name (part.Effect e) ps h = absurd h
@@ -155,26 +176,24 @@ behind_name (part.Literal es) ps h = absurd h
 behind_name (part.Marks ms) ps h = absurd h
 
 record HasEffect (p : Part) (ps : List Part) : Type 0 where
-  plain : IsPlainEffect (effect_in (p ∷ ps))
   few : nat_le (name_count (effect_in (p ∷ ps))) 65 ≡ true
   elements : elements_in (p ∷ ps) ≡ elements_in ps
-  marks : marks_in (p ∷ ps) ≡ marks_in ps
 
 behind_effect : (p : Part) (ps : List Part) → Fills slot.Effect p → HasEffect p ps
 behind_effect (part.Name v) ps h = absurd h
 behind_effect (part.Names vs ends) ps h = absurd h
 behind_effect (part.Fixed key place) ps h = absurd h
-behind_effect (part.Effect e) ps h = record { plain = effect_plain e; few = few_names e h; elements = refl; marks = refl }
+behind_effect (part.Effect e) ps h = record { few = few_names e.tokens e.effect h; elements = refl }
 behind_effect (part.Items es ends) ps h = absurd h
 behind_effect (part.Literal es) ps h = absurd h
 behind_effect (part.Marks ms) ps h = absurd h
 
-behind_items : (p : Part) (ps : List Part) → Fills slot.Items p → AreItems (elements_in (p ∷ ps)) × (marks_in (p ∷ ps) ≡ marks_in ps)
+behind_items : (p : Part) (ps : List Part) → Fills slot.Items p → AreItems (elements_in (p ∷ ps))
 behind_items (part.Name v) ps h = absurd h
 behind_items (part.Names vs ends) ps h = absurd h
 behind_items (part.Fixed key place) ps h = absurd h
 behind_items (part.Effect e) ps h = absurd h
-behind_items (part.Items es ends) ps h = (h, refl)
+behind_items (part.Items es ends) ps h = h
 behind_items (part.Literal es) ps h = absurd h
 behind_items (part.Marks ms) ps h = absurd h
 
@@ -186,24 +205,6 @@ is_literal (part.Effect e) ps h = absurd h
 is_literal (part.Items es ends) ps h = absurd h
 is_literal (part.Literal es) ps h = h
 is_literal (part.Marks ms) ps h = absurd h
-
-one_mark : (ms : List Mark) → AreMarks ms → (is_inline ms && is_recursive ms) ≡ false
-one_mark [] h = refl
-one_mark (Inline place ∷ []) h = refl
-one_mark (Recursive place ∷ []) h = refl
-one_mark (m ∷ n ∷ ms) h = absurd h
-
-few_marks : (p : Part) (ps : List Part) → Fills slot.Marks p → (is_inline (marks_in (p ∷ ps)) && is_recursive (marks_in (p ∷ ps))) ≡ false
-few_marks (part.Name v) ps h = absurd h
-few_marks (part.Names vs ends) ps h = absurd h
-few_marks (part.Fixed key place) ps h = absurd h
-few_marks (part.Effect e) ps h = absurd h
-few_marks (part.Items es ends) ps h = absurd h
-few_marks (part.Literal es) ps h = absurd h
-few_marks (part.Marks ms) ps h = one_mark ms h
-
-abbrev one_of : List Mark → Bool
-one_of ms = is_inline ms && is_recursive ms
 
 definition_plain : (ps : List Part) → FillAll (slots_of kind.Define) ps → IsPlainForm (row kind.Define ps)
 definition_plain [] h = absurd h
@@ -217,10 +218,8 @@ definition_plain (n ∷ e ∷ i ∷ m ∷ []) h =
     record {
       elements = elements_in (n ∷ e ∷ i ∷ m ∷ []);
       items = refl;
-      closing = items_closing (elements_in (n ∷ e ∷ i ∷ m ∷ [])) (subst AreItems (sym (name.1 ∙ effect.elements)) items.0);
-      effect = subst IsPlainEffect (sym name.0) effect.plain;
+      closing = items_closing (elements_in (n ∷ e ∷ i ∷ m ∷ [])) (subst AreItems (sym (name.1 ∙ effect.elements)) items);
       few = ap (λ (s : Signature). nat_le (name_count s) 65) name.0 ∙ effect.few;
-      no_row_word = ap one_of (name.2 ∙ effect.marks ∙ items.1) ∙ few_marks m [] h.1.1.1.0;
     }
 definition_plain (n ∷ e ∷ i ∷ m ∷ p ∷ ps) h = absurd h.1.1.1.1
 
@@ -234,9 +233,7 @@ constant_plain (n ∷ l ∷ []) h =
       elements = elements_in (n ∷ l ∷ []);
       items = sym (literal_sole (elements_in (n ∷ l ∷ [])) literal);
       closing = literal_closing (elements_in (n ∷ l ∷ [])) literal;
-      effect = (refl, tt, refl);
       few = refl;
-      no_row_word = refl;
     }
 constant_plain (n ∷ l ∷ p ∷ ps) h = absurd h.1.1
 

@@ -146,7 +146,7 @@ drafts_changed bound f (suc n) (d ∷ ds) keeps h = (h.0, drafts_changed bound f
 placed_sort : (bound : ℕ) (d : WordDef) (p : Place) (s : Sort) → IsBuiltSort bound d s → IsBuiltSort bound (record d { place = p }) s
 placed_sort bound d p (prim k) h = record { row = h.row; row_is = h.row_is; is_built = h.is_built; effect_is = h.effect_is; not_inline = h.not_inline; not_recursive = h.not_recursive }
 placed_sort bound d p (core k) h = record { row = h.row; row_is = h.row_is; is_built = h.is_built; effect_is = h.effect_is; not_inline = h.not_inline; not_recursive = h.not_recursive }
-placed_sort bound d p (body t) h = record { phrase_built = h.phrase_built; plain = h.plain; no_row_word = h.no_row_word }
+placed_sort bound d p (body t) h = h
 placed_sort bound d p itself h = record { effect_is = h.effect_is; not_inline = h.not_inline; not_recursive = h.not_recursive }
 placed_sort bound d p s h = absurd h
 

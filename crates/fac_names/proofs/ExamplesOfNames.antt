@@ -85,34 +85,34 @@ abbrev top : Phrase → WordDef
 top phrase = word_def [] (codes "top-level") (body phrase) no_effect false false (record { file = 0; token = 0 })
 
 -- IN: a : go ( -- ) ; IN: b : go ( -- ) ; IN: c USING: a b ; go
-row17 : resolves ((f_in (tk (codes "a") 2) ∷ defined (codes "go") 4 [] ∷ f_in (tk (codes "b") 10) ∷ defined (codes "go") 12 [] ∷ f_in (tk (codes "c") 18) ∷ (f_using ((tk (codes "a") 20) ∷ (tk (codes "b") 21) ∷ [])) ∷ run (named (codes "go") 23 ∷ []) ∷ []) ∷ []) ≡ no 23 (Ambiguous (name (codes "a") (codes "go")) (name (codes "b") (codes "go"))) (codes "go")
+two_go : resolves ((f_in (tk (codes "a") 2) ∷ defined (codes "go") 4 [] ∷ f_in (tk (codes "b") 10) ∷ defined (codes "go") 12 [] ∷ f_in (tk (codes "c") 18) ∷ (f_using ((tk (codes "a") 20) ∷ (tk (codes "b") 21) ∷ [])) ∷ run (named (codes "go") 23 ∷ []) ∷ []) ∷ []) ≡ no 23 (Ambiguous (name (codes "a") (codes "go")) (name (codes "b") (codes "go"))) (codes "go")
 unfolding known_words built_primitive_words found
-row17 = refl
+two_go = refl
 
 -- IN: a : go ( -- ) ; IN: b : go ( -- ) ; IN: c USING: a b ; FROM: b => go ; go
-row17_from : resolves ((f_in (tk (codes "a") 2) ∷ defined (codes "go") 4 [] ∷ f_in (tk (codes "b") 10) ∷ defined (codes "go") 12 [] ∷ f_in (tk (codes "c") 18) ∷ (f_using ((tk (codes "a") 20) ∷ (tk (codes "b") 21) ∷ [])) ∷ (f_from (tk (codes "b") 24) ((tk (codes "go") 26) ∷ [])) ∷ run (named (codes "go") 28 ∷ []) ∷ []) ∷ []) ≡ yes (made (codes "a") (codes "go") 4 end ∷ made (codes "b") (codes "go") 12 end ∷ top (items ((word (own 1), 28) ∷ [])) ∷ [])
+go_from_b : resolves ((f_in (tk (codes "a") 2) ∷ defined (codes "go") 4 [] ∷ f_in (tk (codes "b") 10) ∷ defined (codes "go") 12 [] ∷ f_in (tk (codes "c") 18) ∷ (f_using ((tk (codes "a") 20) ∷ (tk (codes "b") 21) ∷ [])) ∷ (f_from (tk (codes "b") 24) ((tk (codes "go") 26) ∷ [])) ∷ run (named (codes "go") 28 ∷ []) ∷ []) ∷ []) ≡ yes (made (codes "a") (codes "go") 4 end ∷ made (codes "b") (codes "go") 12 end ∷ top (items ((word (own 1), 28) ∷ [])) ∷ [])
 unfolding known_words built_primitive_words found
-row17_from = refl
+go_from_b = refl
 
 -- USING: kernel math sequences arrays io prettyprint combinators accessors math.parser ; : spin ( -- ) "x" write spin ; spin
-row18 : resolves (((f_using ((tk (codes "kernel") 2) ∷ (tk (codes "math") 3) ∷ (tk (codes "sequences") 4) ∷ (tk (codes "arrays") 5) ∷ (tk (codes "io") 6) ∷ (tk (codes "prettyprint") 7) ∷ (tk (codes "combinators") 8) ∷ (tk (codes "accessors") 9) ∷ (tk (codes "math.parser") 10) ∷ [])) ∷ (f_define (tk (codes "spin") 13) (given no_effect) (nodes (literal (str (codes "x")) 17 ∷ named (codes "write") 18 ∷ named (codes "spin") 19 ∷ [])) false false) ∷ run (named (codes "spin") 21 ∷ []) ∷ []) ∷ []) ≡ yes (word_def (codes "scratchpad") (codes "spin") (body (items ((lit (str (codes "x")), 17) ∷ (word (known (codes "io") (codes "write")), 18) ∷ (word (own 0), 19) ∷ []))) no_effect false false (at 13) ∷ top (items ((word (own 0), 21) ∷ [])) ∷ [])
+spin_names_itself : resolves (((f_using ((tk (codes "kernel") 2) ∷ (tk (codes "math") 3) ∷ (tk (codes "sequences") 4) ∷ (tk (codes "arrays") 5) ∷ (tk (codes "io") 6) ∷ (tk (codes "prettyprint") 7) ∷ (tk (codes "combinators") 8) ∷ (tk (codes "accessors") 9) ∷ (tk (codes "math.parser") 10) ∷ [])) ∷ (f_define (tk (codes "spin") 13) (given no_effect) (nodes (literal (str (codes "x")) 17 ∷ named (codes "write") 18 ∷ named (codes "spin") 19 ∷ [])) false false) ∷ run (named (codes "spin") 21 ∷ []) ∷ []) ∷ []) ≡ yes (word_def (codes "scratchpad") (codes "spin") (body (items ((lit (str (codes "x")), 17) ∷ (word (known (codes "io") (codes "write")), 18) ∷ (word (own 0), 19) ∷ []))) no_effect false false (at 13) ∷ top (items ((word (own 0), 21) ∷ [])) ∷ [])
 unfolding known_words built_primitive_words found
-row18 = refl
+spin_names_itself = refl
 
 -- 1,000 0xff 0b101 -0o17
-row34 : resolves ((run (literal (int (pos 1000)) 1 ∷ []) ∷ run (literal (int (pos 255)) 2 ∷ []) ∷ run (literal (int (pos 5)) 3 ∷ []) ∷ run (literal (int (negsuc 14)) 4 ∷ []) ∷ []) ∷ []) ≡ yes (top (items ((lit (int (pos 1000)), 1) ∷ (lit (int (pos 255)), 2) ∷ (lit (int (pos 5)), 3) ∷ (lit (int (negsuc 14)), 4) ∷ [])) ∷ [])
+integer_forms : resolves ((run (literal (int (pos 1000)) 1 ∷ []) ∷ run (literal (int (pos 255)) 2 ∷ []) ∷ run (literal (int (pos 5)) 3 ∷ []) ∷ run (literal (int (negsuc 14)) 4 ∷ []) ∷ []) ∷ []) ≡ yes (top (items ((lit (int (pos 1000)), 1) ∷ (lit (int (pos 255)), 2) ∷ (lit (int (pos 5)), 3) ∷ (lit (int (negsuc 14)), 4) ∷ [])) ∷ [])
 unfolding known_words built_primitive_words found
-row34 = refl
+integer_forms = refl
 
 -- QUALIFIED-WITH: math m DEFER: w : w ( -- x ) 1 2 m:+ ; w
-row34_defer : resolves (((f_qualified (tk (codes "math") 2) (tk (codes "m") 3)) ∷ f_defer (tk (codes "w") 5) ∷ (f_define (tk (codes "w") 7) (given (signature None no_inputs (leaves None ((codes "x") ∷ [])))) (nodes (literal (int (pos 1)) 12 ∷ literal (int (pos 2)) 13 ∷ named (codes "m:+") 14 ∷ [])) false false) ∷ run (named (codes "w") 16 ∷ []) ∷ []) ∷ []) ≡ yes (word_def (codes "scratchpad") (codes "w") (body (items ((lit (int (pos 1)), 12) ∷ (lit (int (pos 2)), 13) ∷ (word (known (codes "math") (codes "+")), 14) ∷ []))) (signature None no_inputs (leaves None ((codes "x") ∷ []))) false false (at 7) ∷ top (items ((word (own 0), 16) ∷ [])) ∷ [])
+deferred_and_qualified : resolves (((f_qualified (tk (codes "math") 2) (tk (codes "m") 3)) ∷ f_defer (tk (codes "w") 5) ∷ (f_define (tk (codes "w") 7) (given (signature None no_inputs (leaves None ((codes "x") ∷ [])))) (nodes (literal (int (pos 1)) 12 ∷ literal (int (pos 2)) 13 ∷ named (codes "m:+") 14 ∷ [])) false false) ∷ run (named (codes "w") 16 ∷ []) ∷ []) ∷ []) ≡ yes (word_def (codes "scratchpad") (codes "w") (body (items ((lit (int (pos 1)), 12) ∷ (lit (int (pos 2)), 13) ∷ (word (known (codes "math") (codes "+")), 14) ∷ []))) (signature None no_inputs (leaves None ((codes "x") ∷ []))) false false (at 7) ∷ top (items ((word (own 0), 16) ∷ [])) ∷ [])
 unfolding known_words built_primitive_words found
-row34_defer = refl
+deferred_and_qualified = refl
 
 -- USING: kernel math prettyprint locals fry ; 1 .
-row38 : resolves (((f_using ((tk (codes "kernel") 2) ∷ (tk (codes "math") 3) ∷ (tk (codes "prettyprint") 4) ∷ (tk (codes "locals") 5) ∷ (tk (codes "fry") 6) ∷ [])) ∷ run (literal (int (pos 1)) 8 ∷ []) ∷ run (named (codes ".") 9 ∷ []) ∷ []) ∷ []) ≡ yes (top (items ((lit (int (pos 1)), 8) ∷ (word (known (codes "prettyprint") (codes ".")), 9) ∷ [])) ∷ [])
+empty_vocabularies_used : resolves (((f_using ((tk (codes "kernel") 2) ∷ (tk (codes "math") 3) ∷ (tk (codes "prettyprint") 4) ∷ (tk (codes "locals") 5) ∷ (tk (codes "fry") 6) ∷ [])) ∷ run (literal (int (pos 1)) 8 ∷ []) ∷ run (named (codes ".") 9 ∷ []) ∷ []) ∷ []) ≡ yes (top (items ((lit (int (pos 1)), 8) ∷ (word (known (codes "prettyprint") (codes ".")), 9) ∷ [])) ∷ [])
 unfolding known_words built_primitive_words found
-row38 = refl
+empty_vocabularies_used = refl
 
 -- USING: kernel math ; nosuch
 unknown_item : resolves ((kernel_and_math ∷ run (named (codes "nosuch") 5 ∷ []) ∷ []) ∷ []) ≡ no 5 Unknown (codes "nosuch")

@@ -1,5 +1,5 @@
 -- The forms of a file, in order.
-use Rattle.std.proofs.Common.{◌≡◌, ℕ, zero, suc, List, [], ◌∷◌, map, fold, drop, false, refl, ap, sym, ◌∙◌, subst}
+use Rattle.std.proofs.Common.{◌≡◌, List, [], ◌∷◌, map, fold, false, refl, ap, sym, ◌∙◌, subst}
 use Rattle.fac_lang.specs.declared.tree.Form.{Form as Flat}
 use Rattle.fac_lang.specs.declared.tree.Form.TheVariants.{Row, Items}
 use Rattle.fac_lang.specs.declared.tree.FormKind.{FormKind}
@@ -13,19 +13,9 @@ use Rattle.fac_names.specs.Forms.{Reading, take, take_file}
 use Rattle.fac_names.specs.FromFlat.{form_of, nested, row}
 use Rattle.fac_names.specs.inner.Taking.{take_all}
 
--- a form of a tree is well-formed
-pub form_at : (forms rest : List Flat) (f : Flat) (n : ℕ) → IsWellFormed forms → drop n forms ≡ f ∷ rest → IsForm f
-form_at [] rest f zero h e = cc
-form_at [] rest f (suc n) h e = cc
-form_at (g ∷ forms) rest f zero h e = let same : g ≡ f = cc in subst IsForm same h.0
-form_at (g ∷ forms) rest f (suc n) h e = form_at forms rest f n h.2 e
-
--- what is left of a tree is well-formed
-pub rest_at : (forms : List Flat) (n : ℕ) → IsWellFormed forms → IsWellFormed (drop n forms)
-rest_at [] zero h = h
-rest_at [] (suc n) h = h
-rest_at (g ∷ forms) zero h = h
-rest_at (g ∷ forms) (suc n) h = rest_at forms n h.2
+-- the next form of those that are left
+pub next_form : (left rest : List Flat) (f : Flat) → IsWellFormed left → left ≡ f ∷ rest → IsForm f × IsWellFormed rest
+next_form left rest f h e = let fits = subst IsWellFormed e h in (fits.0, fits.2)
 
 -- Rows aren't items.
 
@@ -72,22 +62,20 @@ pub take_one : (r : Reading) (f : Flat) (forms : List Flat) → IsWellFormed (f 
 take_one r f forms h = ap (fold (λ q form. take form q) r) (read_one f forms h.1)
 
 -- a form more is taken
-pub form_taken : (r q : Reading) (forms rest : List Flat) (f : Flat) (n : ℕ) → IsWellFormed forms → drop n forms ≡ f ∷ rest → q ≡ take (read_form (form_of f)) r → take_all r (map form_of (drop n forms)) ≡ take_all q (map form_of rest)
-form_taken r q forms rest f n h next is =
+pub form_taken : (r q : Reading) (left rest : List Flat) (f : Flat) → IsWellFormed left → left ≡ f ∷ rest → q ≡ take (read_form (form_of f)) r → take_all r (map form_of left) ≡ take_all q (map form_of rest)
+form_taken r q left rest f h next is =
     ap (λ (fs : List Flat). take_all r (map form_of fs)) next
-    ∙ take_one r f rest (subst IsWellFormed next (rest_at forms n h))
+    ∙ take_one r f rest (subst IsWellFormed next h)
     ∙ sym (ap (λ (x : Reading). take_all x (map form_of rest)) is)
 
 -- Files.
 
-pub tree_at : (trees rest : List Tree) (t : Tree) (n : ℕ) → AreWellFormed (forms_of trees) → drop n trees ≡ t ∷ rest → IsWellFormed t.forms
-tree_at [] rest t zero h e = cc
-tree_at [] rest t (suc n) h e = cc
-tree_at (g ∷ trees) rest t zero h e = let same : g ≡ t = cc in subst (λ (x : Tree). IsWellFormed x.forms) same h.0
-tree_at (g ∷ trees) rest t (suc n) h e = tree_at trees rest t n h.1 e
+-- the next file of those that are left
+pub next_tree : (left rest : List Tree) (t : Tree) → AreWellFormed (forms_of left) → left ≡ t ∷ rest → IsWellFormed t.forms × AreWellFormed (forms_of rest)
+next_tree left rest t h e = subst (λ (ts : List Tree). AreWellFormed (forms_of ts)) e h
 
-pub tree_taken : (r q : Reading) (trees rest : List Tree) (t : Tree) (n : ℕ) → drop n trees ≡ t ∷ rest → q ≡ take_file false r (map form_of t.forms) →
-    fold (take_file false) r (map (map form_of) (forms_of (drop n trees))) ≡ fold (take_file false) q (map (map form_of) (forms_of rest))
-tree_taken r q trees rest t n next is =
+pub tree_taken : (r q : Reading) (left rest : List Tree) (t : Tree) → left ≡ t ∷ rest → q ≡ take_file false r (map form_of t.forms) →
+    fold (take_file false) r (map (map form_of) (forms_of left)) ≡ fold (take_file false) q (map (map form_of) (forms_of rest))
+tree_taken r q left rest t next is =
     ap (λ (ts : List Tree). fold (take_file false) r (map (map form_of) (forms_of ts))) next
     ∙ sym (ap (λ (x : Reading). fold (take_file false) x (map (map form_of) (forms_of rest))) is)

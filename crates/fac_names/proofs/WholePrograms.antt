@@ -6,7 +6,7 @@ use Rattle.std.proofs.lemmas.Slice.Eq.{bytes_eq-Decides}
 use Rattle.std.specs.Prelude.{◌+◌, ℤ, nat_lt, nat_le, nat_eq}
 use Rattle.std.specs.List.{list_all, list_any}
 use Rattle.std.specs.Str.{bytes_eq}
-use Rattle.fac_lang.specs.Forms.{IsBuilt, IsBuiltPhrase, IsBuiltSort, AreBuiltWords, IsPrimitiveWord, IsCoreWord, IsDefinedWord, IsSymbolWord, IsTopPhrase, IsPlainEffect, is_member, numbers_before, primitive_numbers, has_no_repeats}
+use Rattle.fac_lang.specs.Forms.{IsBuilt, IsBuiltPhrase, IsBuiltSort, AreBuiltWords, IsPrimitiveWord, IsCoreWord, IsSymbolWord, IsTopPhrase, is_member, numbers_before, primitive_numbers, has_no_repeats}
 use Rattle.fac_lang.specs.Meaning.{sort_of, is_past}
 use Rattle.fac_lang.specs.PrimitiveWords.{PrimitiveWord, plain_inputs, plain_leaving, written_effect}
 use Rattle.fac_lang.specs.Phrases.{Phrase, end, then, Item, lit, int, yes, no, str, wrd, quot, word}
@@ -71,7 +71,7 @@ phrase_without_holes bound (then i place t) h = absurd h.0
 -- Words.
 
 -- what holds of each primitive, each core word, each word that is defined by a phrase and each symbol holds of each built word
-built_sort : (bound : ℕ) (d : WordDef) (M : Sort → Type 0) → ((k : ℕ) → IsPrimitiveWord d k → M (prim k)) → ((k : ℕ) → IsCoreWord d k → M (core k)) → ((t : Phrase) → IsDefinedWord bound d t → M (body t)) → (IsSymbolWord d → M itself) → (s : Sort) → IsBuiltSort bound d s → M s
+built_sort : (bound : ℕ) (d : WordDef) (M : Sort → Type 0) → ((k : ℕ) → IsPrimitiveWord d k → M (prim k)) → ((k : ℕ) → IsCoreWord d k → M (core k)) → ((t : Phrase) → IsBuiltPhrase bound t → M (body t)) → (IsSymbolWord d → M itself) → (s : Sort) → IsBuiltSort bound d s → M s
 built_sort bound d M prims cores bodies symbols (prim k) h = prims k h
 built_sort bound d M prims cores bodies symbols (core k) h = cores k h
 built_sort bound d M prims cores bodies symbols (body t) h = bodies t h
@@ -88,7 +88,7 @@ phrases_pass bound f each [] h = refl
 phrases_pass bound f each (d ∷ ds) h =
     let later = phrases_pass bound f each ds h.1 in
     built_sort bound d (λ s. list_all f (elim s [ body t ↦ t ∷ word_phrases ds | past t ↦ t ∷ word_phrases ds | method c g t ↦ t ∷ word_phrases ds | _ ↦ word_phrases ds ]) ≡ true)
-    (λ k prim_is. later) (λ k core_is. later) (λ u own. both_are (f u) (list_all f (word_phrases ds)) (each u own.phrase_built) later) (λ symbol. later) d.sort h.0
+    (λ k prim_is. later) (λ k core_is. later) (λ u own. both_are (f u) (list_all f (word_phrases ds)) (each u own) later) (λ symbol. later) d.sort h.0
 
 all_phrases_pass : (bound : ℕ) (f : Phrase → Bool) → ((t : Phrase) → IsBuiltPhrase bound t → f t ≡ true) → (ds : List WordDef) → AreBuiltWords bound ds → list_all f (word_phrases ds ++ []) ≡ true
 all_phrases_pass bound f each ds h = ap (list_all f) (append-nil (word_phrases ds)) ∙ phrases_pass bound f each ds h
@@ -101,8 +101,7 @@ all_built : (P : Program) (b : IsBuilt P) → AreBuiltWords P.top P.words
 all_built P b = subst (AreBuiltWords P.top) (sym b.words_are) (phrase_last P.top b.words b.last_word b.phrase b.built b.last_word_is)
   where
     phrase_built : (bound : ℕ) (p : WordDef) (t : Phrase) → IsTopPhrase bound p t → IsBuiltSort bound p p.sort
-    phrase_built bound p t h =
-        subst (IsBuiltSort bound p) (sym h.sort_is) (record { phrase_built = h.phrase_built; plain = subst IsPlainEffect (sym h.effect_is) (refl, tt, refl); no_row_word = rw h.not_inline refl })
+    phrase_built bound p t h = subst (IsBuiltSort bound p) (sym h.sort_is) h.phrase_built
 
     phrase_last : (bound : ℕ) (ds : List WordDef) (p : WordDef) (t : Phrase) → AreBuiltWords bound ds → IsTopPhrase bound p t → AreBuiltWords bound (ds ++ p ∷ [])
     phrase_last bound [] p t h is = (phrase_built bound p t is, tt)

@@ -1,8 +1,6 @@
 -- Trees, which are flat and have all tokens, as they are read for their names.
-use Rattle.std.specs.Prelude.{ℕ, List, [], ◌∷◌, map, None, codes, Bool, true, false, if◌then◌else◌}
-use Rattle.std.specs.Str.{bytes_eq}
-use Rattle.fac_lang.specs.PrimitiveWords.{plain_inputs}
-use Rattle.fac_lang.specs.Signatures.{Signature, signature, no_inputs, Leaving, never, leaves}
+use Rattle.std.specs.Prelude.{List, [], ◌∷◌, map, None, Bool, true, false}
+use Rattle.fac_lang.specs.Signatures.{Signature, signature, no_inputs, leaves}
 use Rattle.fac_lang.specs.Phrases.{int, yes, no, str}
 use Rattle.fac_lang.specs.declared.phrase.Place.{Place}
 use Rattle.fac_lang.specs.declared.token.Token.{Token}
@@ -18,8 +16,7 @@ use Rattle.fac_lang.specs.declared.tree.Part.{Part}
 use Rattle.fac_lang.specs.declared.tree.Part.TheVariants as part
 use Rattle.fac_lang.specs.declared.tree.Term.{Term}
 use Rattle.fac_lang.specs.declared.tree.Term.TheVariants as term
-use Rattle.fac_lang.specs.declared.tree.WrittenEffect.{WrittenEffect}
-use Rattle.fac_parse.specs.Trees.{token_text}
+use Rattle.fac_effect.specs.Spellings.{token_text}
 use Rattle.fac_names.specs.Written.{Tok, Node, n_lit, n_name, n_quot, n_part, Nodes, nothing, more, given, Form, f_in, f_use, f_using, f_from, f_qualified, f_private, f_public, f_defer, f_symbol, f_constant, f_main, f_define, f_items}
 
 abbrev pub tok : Token → Tok
@@ -51,18 +48,6 @@ rests (element.Closes place ∷ es) = let r = rests es in record { here = nothin
 -- the items of elements whose brackets match
 abbrev pub nested : List Element → Nodes
 nested es = (rests es).here
-
-abbrev pub spellings : List Token → List (List ℕ)
-spellings ts = map (λ (t : Token). token_text t.kind) ts
-
--- what is left: nothing where `*` is the only output, since the word never returns
-abbrev pub leaving_of : List (List ℕ) → Leaving
-leaving_of (n ∷ []) = (if bytes_eq n (codes "*") then never else leaves None (n ∷ []))
-leaving_of names = leaves None names
-
--- the effect that is written
-abbrev pub effect_of : WrittenEffect → Signature
-effect_of e = signature None (plain_inputs (spellings e.ins)) (leaving_of (spellings e.outs))
 
 abbrev pub is_inline : List Mark → Bool
 is_inline [] = false
@@ -99,7 +84,7 @@ names_in (p ∷ parts) = names_in parts
 
 abbrev pub effect_in : List Part → Signature
 effect_in [] = signature None no_inputs (leaves None [])
-effect_in (part.Effect e ∷ parts) = effect_of e
+effect_in (part.Effect e ∷ parts) = e.effect
 effect_in (p ∷ parts) = effect_in parts
 
 abbrev pub elements_in : List Part → List Element

@@ -6,7 +6,8 @@ use Rattle.fac_lang.specs.declared.tree.Element.{Element}
 use Rattle.fac_lang.specs.declared.tree.Element.TheVariants as element
 use Rattle.fac_lang.specs.declared.tree.Term.{Term}
 use Rattle.fac_lang.specs.declared.tree.Term.TheVariants as term
-use Rattle.fac_parse.specs.Trees.{AreItems, token_text}
+use Rattle.fac_parse.specs.Trees.{AreItems}
+use Rattle.fac_effect.specs.Spellings.{token_text}
 use Rattle.fac_vocab.specs.Scopes.{Scope}
 use Rattle.fac_names.specs.FromFlat.{nested, tok}
 use Rattle.fac_names.specs.Items.{phrase_of, word_of}

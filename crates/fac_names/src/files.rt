@@ -4,13 +4,13 @@ ghost use Rattle.fac_lang.specs.declared.tree.FormKind.TheVariants.{Constant, De
 ghost use Rattle.fac_parse.specs.Rows.{slots_of};
 ghost use Rattle.fac_parse.specs.Trees.{AreItems, AreWellFormed, FillAll, IsForm, IsLiteral, IsWellFormed, forms_of};
 ghost use Rattle.fac_names.specs.Forms.{take, take_file};
-ghost use Rattle.fac_names.specs.FromFlat.{effect_of, first_node, form_of, is_inline, is_recursive, nested, row, tok};
+ghost use Rattle.fac_names.specs.FromFlat.{first_node, form_of, is_inline, is_recursive, nested, row, tok};
 ghost use Rattle.fac_names.specs.Readings.{read_form};
 ghost use Rattle.fac_names.specs.Written.{f_constant, f_define, given};
 ghost use Rattle.fac_names.specs.inner.State.{reading_of};
 ghost use Rattle.fac_names.specs.inner.Taking.{take_all};
 
-use crate::effects::{value_effect, written};
+use crate::effects::value_effect;
 use crate::forms::{
     begin_file, close_private, define, enter, from, open_private, qualify, symbol, take_defer,
     take_items, take_main, use_all, use_vocab,
@@ -20,7 +20,7 @@ use crate::parts::{
     two_names,
 };
 use crate::so_far::SoFar;
-use fac_lang::{Form, FormKind, Memory, Part, Tree};
+use fac_lang::{Form, FormKind, List, Memory, Part, Tree};
 use std::alloc::Global;
 
 // Takes the definition of a word.
@@ -30,7 +30,7 @@ fn take_definition(alloc: Global, so_far: &mut SoFar, parts: &[Part]) -> Result<
     ensures { OnOk result (reading_of so_far.new ≡ take (row Define parts.now) (reading_of so_far.old)) }
 {
     let definition = definition_parts(parts);
-    let effect = written(alloc, definition.effect)?;
+    let effect = definition.written.effect.copy(alloc)?;
     define(
         alloc,
         so_far,
@@ -98,32 +98,32 @@ fn take_form(alloc: Global, so_far: &mut SoFar, form: &Form) -> Result<(), Memor
     }
 }
 
-// Takes the forms of a file.
-fn take_forms(alloc: Global, so_far: &mut SoFar, forms: &[Form]) -> Result<(), Memory>
-    requires { IsWellFormed forms.now }
-    ensures { OnOk result (reading_of so_far.new ≡ take_all (reading_of so_far.old) (map form_of forms.now)) }
+// Takes the forms of a file. Each is given back to memory when it is taken.
+fn take_forms(alloc: Global, so_far: &mut SoFar, forms: List<Form>) -> Result<(), Memory>
+    requires { IsWellFormed forms }
+    ensures { OnOk result (reading_of so_far.new ≡ take_all (reading_of so_far.old) (map form_of forms)) }
 {
-    for form in forms {
-        take_form(alloc, so_far, form)?;
+    for form in forms.into_vec() {
+        take_form(alloc, so_far, &form)?;
     }
     Ok(())
 }
 
 // Takes a file.
-fn take_tree(alloc: Global, so_far: &mut SoFar, tree: &Tree) -> Result<(), Memory>
-    requires { IsWellFormed tree.now.forms }
-    ensures { OnOk result (reading_of so_far.new ≡ take_file false (reading_of so_far.old) (map form_of tree.now.forms)) }
+fn take_tree(alloc: Global, so_far: &mut SoFar, tree: Tree) -> Result<(), Memory>
+    requires { IsWellFormed tree.forms }
+    ensures { OnOk result (reading_of so_far.new ≡ take_file false (reading_of so_far.old) (map form_of tree.forms)) }
 {
     begin_file(alloc, so_far)?;
-    take_forms(alloc, so_far, tree.forms.as_slice())
+    take_forms(alloc, so_far, tree.forms)
 }
 
-/// Takes files, in order.
-pub fn take_trees(alloc: Global, so_far: &mut SoFar, trees: &[Tree]) -> Result<(), Memory>
-    requires { AreWellFormed (forms_of trees.now) }
-    ensures { OnOk result (reading_of so_far.new ≡ fold (take_file false) (reading_of so_far.old) (map (map form_of) (forms_of trees.now))) }
+/// Takes files, in order. Their trees are given back to memory form by form.
+pub fn take_trees(alloc: Global, so_far: &mut SoFar, trees: List<Tree>) -> Result<(), Memory>
+    requires { AreWellFormed (forms_of trees) }
+    ensures { OnOk result (reading_of so_far.new ≡ fold (take_file false) (reading_of so_far.old) (map (map form_of) (forms_of trees))) }
 {
-    for tree in trees {
+    for tree in trees.into_vec() {
         take_tree(alloc, so_far, tree)?;
     }
     Ok(())

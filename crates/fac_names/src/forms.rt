@@ -19,7 +19,7 @@ use crate::refusal::NameKind;
 use crate::refusal_kept::refuse;
 use crate::search::word_of;
 use crate::so_far::SoFar;
-use crate::spelling::text;
+use fac_effect::text;
 use fac_lang::{Effect, Element, Item, Memory, Place, Sort, Token, What};
 use fac_vocab::ScopeFault;
 use std::alloc::Global;
@@ -53,6 +53,8 @@ pub fn close_private(so_far: &mut SoFar)
 {
     so_far.scope.public();
 }
+
+// Each form that names a vocabulary has a match of its own: its call of the scope says by itself which faults it never answers.
 
 /// Takes a `USE:`, or one vocabulary of a `USING:`.
 pub fn use_vocab(alloc: Global, so_far: &mut SoFar, vocab: &Token) -> Result<(), Memory>

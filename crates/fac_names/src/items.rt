@@ -6,7 +6,7 @@ ghost use Rattle.fac_names.specs.inner.Following.{AreClosing, Closes, IsClosable
 
 use crate::refusal::NameFault;
 use crate::search::word_of;
-use crate::spelling::text;
+use fac_effect::text;
 use fac_lang::{Element, Item, Memory, Phrase, Place, Term, Text, What};
 use fac_vocab::Scope;
 use std::alloc::Global;
@@ -88,19 +88,26 @@ fn open_quotation(alloc: Global, nest: Nest, place: Place) -> Result<Nest, Memor
     })
 }
 
+// The phrase of all its items, in no more memory than they take.
+fn whole_phrase(items: Vec<Item>) -> Phrase
+    ensures { result ≡ items_phrase items.items }
+{
+    let mut items = items;
+    items.shrink_to_fit();
+    Phrase { items }
+}
+
 // Closes the innermost quotation.
 fn close_quotation(nest: Nest) -> Result<Nest, Memory>
     requires { 0 < length nest.outer.items }
     ensures { IfOk result (λ more. Closes nest more) }
 {
-    let Nest {
-        mut outer,
-        items: inner,
-    } = nest;
+    let Nest { mut outer, items } = nest;
+    let inner = whole_phrase(items);
     match outer.pop() {
         Some(OpenQuotation { before, place }) => {
             let mut items = before;
-            add_item(&mut items, What::Quot(Phrase { items: inner }), place)?;
+            add_item(&mut items, What::Quot(inner), place)?;
             Ok(Nest { outer, items })
         }
         None => unreachable!(),
@@ -153,5 +160,5 @@ pub fn phrase_of(
             Err(Memory) => return Err(Memory),
         }
     }
-    Ok(Phrase { items: nest.items })
+    Ok(whole_phrase(nest.items))
 }

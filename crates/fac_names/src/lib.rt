@@ -16,7 +16,6 @@ mod refusal_kept;
 mod resolver;
 mod search;
 mod so_far;
-mod spelling;
 
 pub use laws::{phrases_are_written_as_items, resolved_programs_are_whole};
 pub use refusal::{NameFault, NameKind, ResolveFault};

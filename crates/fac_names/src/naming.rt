@@ -12,7 +12,7 @@ use crate::drafts::{add_draft, count, move_to};
 use crate::refusal::NameKind;
 use crate::refusal_kept::refuse;
 use crate::so_far::SoFar;
-use crate::spelling::text;
+use fac_effect::text;
 use fac_lang::{Memory, Name, Place, Text, Token};
 use fac_vocab::{Scope, ScopeFault, Standing};
 use std::alloc::Global;
@@ -27,6 +27,8 @@ fn own_name(alloc: Global, scope: &Scope, token: &Token) -> Result<Name, Memory>
         Err(Memory) => Err(Memory),
     }
 }
+
+// The next two make one call, by what the name stands for before it: their contracts are its two cases, and no caller has both.
 
 // Defines a new name.
 fn define_new(alloc: Global, scope: &mut Scope, name: &Name, number: u32) -> Result<(), Memory>

@@ -72,7 +72,7 @@ pub fn constant_parts(parts: &[Part]) -> (&Token, &[Element])
 #[derive(Clone, Copy)]
 pub struct Definition<'a> {
     pub name: &'a Token,
-    pub effect: &'a WrittenEffect,
+    pub written: &'a WrittenEffect,
     pub elements: &'a [Element],
     pub marks: &'a [Mark],
 }
@@ -80,17 +80,17 @@ pub struct Definition<'a> {
 /// The parts of a definition.
 pub fn definition_parts(parts: &[Part]) -> Definition<'_>
     requires { FillAll (slot.Name ∷ slot.Effect ∷ slot.Items ∷ slot.Marks ∷ []) parts.now }
-    ensures { IsDefinition parts.now result.name.now result.effect.now result.elements.now result.marks.now }
+    ensures { IsDefinition parts.now result.name.now result.written.now result.elements.now result.marks.now }
 {
     match parts {
         [
             Part::Name(name),
-            Part::Effect(effect),
+            Part::Effect(written),
             Part::Items { elements, .. },
             Part::Marks(marks),
         ] => Definition {
             name,
-            effect,
+            written,
             elements: elements.as_slice(),
             marks: marks.as_slice(),
         },

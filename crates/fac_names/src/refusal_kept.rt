@@ -5,7 +5,7 @@ ghost use Rattle.fac_names.specs.Items.{rank, fault, comes_before, sooner};
 ghost use Rattle.fac_names.specs.inner.First.{is_sooner};
 
 use crate::refusal::{NameFault, NameKind};
-use crate::spelling::text;
+use fac_effect::text;
 use fac_lang::{Memory, Text, Token};
 use std::alloc::Global;
 

@@ -50,9 +50,9 @@ fn first(alloc: Global) -> Result<SoFar, Memory>
 
 // The program of files.
 #[tactic(auto, using(crate::proofs::EndingLemmas::resolves))]
-fn program_of(alloc: Global, trees: &[Tree]) -> Result<Program, ResolveFault>
-    requires { AreWellFormed (forms_of trees.now) }
-    ensures { Resolves (forms_of trees.now) result }
+fn program_of(alloc: Global, trees: List<Tree>) -> Result<Program, ResolveFault>
+    requires { AreWellFormed (forms_of trees) }
+    ensures { Resolves (forms_of trees) result }
 {
     match first(alloc) {
         Ok(mut so_far) => match take_trees(alloc, &mut so_far, trees) {
@@ -65,13 +65,14 @@ fn program_of(alloc: Global, trees: &[Tree]) -> Result<Program, ResolveFault>
 
 /// The program of the trees of files, in order, or the first name by place that is refused; at one token the order of the kinds of refusals
 /// decides. The words that are known come first, then those that forms name, in their order, each file beginning in `scratchpad` with `syntax`
-/// alone used. The last word is the top-level phrase: the items of all files, and behind them the word of the last `MAIN:`.
+/// alone used. The last word is the top-level phrase: the items of all files, and behind them the word of the last `MAIN:`. Each form is given
+/// back to memory when it is taken, so trees and program don't stand side by side.
 #[tactic(auto, using(crate::proofs::BuiltPrograms::resolved_built, crate::proofs::BuiltPrograms::resolved_whole))]
-pub fn resolve(alloc: Global, trees: &List<Tree>) -> Result<Program, ResolveFault>
-    requires { AreWellFormed (forms_of trees.now) }
-    ensures program { Resolves (forms_of trees.now) result }
+pub fn resolve(alloc: Global, trees: List<Tree>) -> Result<Program, ResolveFault>
+    requires { AreWellFormed (forms_of trees) }
+    ensures program { Resolves (forms_of trees) result }
     ensures built { IfOk result (λ program. IsBuilt program) }
     ensures whole { IfOk result (λ program. IsWhole program) }
 {
-    program_of(alloc, trees.as_slice())
+    program_of(alloc, trees)
 }

@@ -1,12 +1,11 @@
 -- What is read is a tree's tokens, and nothing else is refused, at the exact place.
-use Rattle.fac_parse.specs.inner.Reader.{literal}
+use Rattle.fac_parse.specs.inner.Reader.{literal, name, names, fixed, effect, items, marks, Open, top, row, row_form, more, with_run, State, start, steps, ended, ended_open, IsRead}
 use Rattle.std.proofs.Common.{ℕ, ◌≡◌, ◌+◌, ◌<◌, ◌≤◌, List, [], ◌∷◌, ◌++◌, Option, Some, None, refl, sym, ◌∙◌, ap, subst, append_assoc, append-nil, arith, take, drop, length}
 use Rattle.std.proofs.lemmas.List.{take-append-drop, take-take, take_all}
 use Rattle.fac_lang.specs.declared.token.Token.{Token}
 use Rattle.fac_lang.specs.declared.tree.Part.TheVariants as part
 use Rattle.fac_lang.specs.declared.tree.Form.{Form}
 use Rattle.fac_parse.specs.Trees.{flatten, IsWellFormed, Reads, Begins, Refused}
-use Rattle.fac_parse.specs.inner.Reader.{name, names, fixed, effect, inputs, outputs, items, marks, Open, top, row, row_form, more, with_run, State, start, steps, ended, ended_open}
 use Rattle.fac_parse.proofs.StateTokens.{state_tokens, tokens_of, run_fits, run_tokens, GoodOpen, Good}
 use Rattle.fac_parse.proofs.ReaderKeeps.{Known, steps_known, start_good, marked_gone, marked_tokens}
 use Rattle.fac_parse.proofs.ReaderReads.{steps-append, tree_read}
@@ -31,14 +30,26 @@ open_ended before (row b (marks ms)) forms fits g e =
 open_ended before (row b name) forms fits g e = cc
 open_ended before (row b (names ns)) forms fits g e = cc
 open_ended before (row b (fixed key)) forms fits g e = cc
-open_ended before (row b effect) forms fits g e = cc
-open_ended before (row b (inputs opens ins)) forms fits g e = cc
-open_ended before (row b (outputs opens ins dashes outs)) forms fits g e = cc
+open_ended before (row b (effect ts r)) forms fits g e = cc
 open_ended before (row b (items es contexts)) forms fits g e = cc
 open_ended before (row b (literal es contexts)) forms fits g e = cc
 
 known : (ts : List Token) (s : State) → steps (Some start) ts ≡ Some s → Good s × (state_tokens s ≡ ts)
 known ts s h = subst (λ (o : Option State). Known o ts) h (steps_known (Some start) ts [] (start_good, refl))
+
+open_read : (forms : List Form) (o : Open) → GoodOpen forms o → IsRead o
+open_read forms (row b (effect ts r)) g = g.within
+open_read forms (row b name) g = tt
+open_read forms (row b (names ns)) g = tt
+open_read forms (row b (fixed key)) g = tt
+open_read forms (row b (items es contexts)) g = tt
+open_read forms (row b (literal es contexts)) g = tt
+open_read forms (row b (marks ms)) g = tt
+open_read forms (top es contexts) g = tt
+
+-- an effect that is open is read as far as its tokens
+pub is_read : (ts : List Token) (s : State) → steps (Some start) ts ≡ Some s → IsRead s.open_part
+is_read ts s h = open_read s.forms s.open_part (known ts s h).0.opens
 
 -- tokens that may end where they do are those of a tree
 pub reads_tree : (ts : List Token) (s : State) (forms : List Form) → steps (Some start) ts ≡ Some s → ended s ≡ Some forms → Reads ts forms

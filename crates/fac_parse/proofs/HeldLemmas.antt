@@ -9,7 +9,7 @@ use Rattle.fac_parse.specs.declared.reader.At.{At}
 use Rattle.fac_parse.specs.declared.reader.At.TheVariants as at
 use Rattle.fac_parse.specs.declared.reader.Head.{Head}
 use Rattle.fac_parse.specs.declared.reader.Reader.{Reader}
-use Rattle.fac_parse.specs.declared.spelling.Spelling.{Spelling}
+use Rattle.fac_effect.specs.declared.spelling.Spelling.{Spelling}
 use Rattle.fac_parse.specs.inner.Reader.{top, begins, is_semi, element_of, begin_or_add, end_or_add, top_step, items_step, row_items, in_state, begun_at, open_of, state_of, Goes, Adds}
 
 pub added_at_top : (elements : List Element) (contexts : List Context) (r : Reader) (s : Spelling) (t : Token) (answer : Result Bool Memory) → r.at ≡ at.Top → begins s ≡ None → Adds (element_of s t) elements contexts r.elements r.contexts answer → Goes (top_step r.forms elements contexts s t) (state_of r) answer

@@ -1,5 +1,5 @@
-pub mod SpellingLemmas
 pub mod HeldLemmas
+pub mod EffectTaken
 pub mod StateTokens
 pub mod ReaderKeeps
 pub mod ReaderReads

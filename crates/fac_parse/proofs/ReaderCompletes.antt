@@ -1,10 +1,10 @@
 -- Whatever is open can be closed.
-use Rattle.fac_parse.specs.inner.Reader.{literal, add_literal}
-use Rattle.fac_parse.proofs.ReaderKeeps.{inside_more, inside_ends, never_out}
-use Rattle.fac_parse.proofs.StateTokens.{Inside, in_quotation, GoodLiteral}
-use Rattle.fac_parse.proofs.ReaderReads.{adds_literal}
+use Rattle.fac_parse.specs.inner.Reader.{literal, add_literal, Within, name, names, fixed, effect, items, marks, Begun, Open, top, row, State, in_state, begin, row_form, at_slot, go_on, more, with_part, with_run, with_element, written, row_items, steps, ended}
+use Rattle.fac_parse.proofs.ReaderKeeps.{inside_more, inside_ends, never_out, Lead-more}
+use Rattle.fac_parse.proofs.StateTokens.{Inside, in_quotation, GoodLiteral, Filled, filled_more, first_of, next_slot, slot_of, GoodWithin, GoodOpen, Good}
+use Rattle.fac_parse.proofs.ReaderReads.{adds_literal, chain, effect_read, one, by_spelling, element_spelled, HoldsItems, top_holds_items, row_holds_items}
 use Rattle.fac_lang.specs.declared.tree.Term.TheVariants as term
-use Rattle.std.proofs.Common.{◌≡◌, ◌≤◌, List, [], ◌∷◌, ◌++◌, Option, Some, refl, ap, sym, ◌∙◌, subst, arith}
+use Rattle.std.proofs.Common.{◌≡◌, List, [], ◌∷◌, ◌++◌, Option, Some, refl, ap, sym, ◌∙◌, subst}
 use Rattle.std.specs.Prelude.{codes}
 use Rattle.fac_lang.specs.declared.phrase.Place.{Place}
 use Rattle.fac_lang.specs.declared.token.Token.{Token}
@@ -20,15 +20,15 @@ use Rattle.fac_parse.specs.declared.context.Bracket.TheVariants.{Quotation}
 use Rattle.fac_parse.specs.declared.context.Context.{Context}
 use Rattle.fac_parse.specs.declared.rows.Slot.{Slot}
 use Rattle.fac_parse.specs.declared.rows.Slot.TheVariants as slot
-use Rattle.fac_parse.specs.declared.spelling.Spelling.TheVariants.{Fixed, Semi, Opens, Closes, Dashes, Name}
+use Rattle.fac_effect.specs.declared.spelling.Spelling.TheVariants.{Fixed, Semi, Name}
+use Rattle.fac_effect.specs.declared.effect_reader.EffectReader.{EffectReader}
+use Rattle.fac_effect.specs.EffectReading.{Progress, reads as reading, start as no_tokens, run, after}
+use Rattle.fac_effect.proofs.EffectRuns.{run_append}
+use Rattle.fac_effect.proofs.EffectLemmas.{whole_is_effect, effect_is_whole, read_goes_on}
 use Rattle.fac_parse.specs.Rows.{slots_of}
-use Rattle.fac_parse.specs.Spellings.{token_spelling, spelling_of, has_integer_form, word_spelling, sign_spelling, is_reserved, is_reserved_sign, is_reserved_form, is_reserved_word, is_left_out}
-use Rattle.fac_parse.specs.Trees.{plain_token, if_quotation, most_names, Lead, Fills, AreNames}
-use Rattle.fac_parse.specs.inner.Reader.{Within, name, names, fixed, effect, inputs, outputs, items, marks, Begun, Open, top, row, State, in_state, begin, row_form, at_slot, go_on, more, with_part, with_run, with_element, written, row_items, steps, ended}
-use Rattle.fac_parse.proofs.SpellingLemmas.{sign_is}
-use Rattle.fac_parse.proofs.StateTokens.{Filled, filled_more, first_of, next_slot, slot_of, GoodWithin, GoodOpen, Good}
-use Rattle.fac_parse.proofs.ReaderKeeps.{Lead-more}
-use Rattle.fac_parse.proofs.ReaderReads.{chain, one, by_spelling, element_spelled, HoldsItems, top_holds_items, row_holds_items}
+use Rattle.fac_effect.specs.Spellings.{token_spelling, spelling_of, has_integer_form, word_spelling, sign_spelling, is_reserved, is_reserved_sign, is_reserved_form, is_reserved_word, is_left_out, plain_token}
+use Rattle.fac_parse.specs.Trees.{if_quotation, Lead, Fills, AreNames}
+use Rattle.fac_effect.proofs.SpellingLemmas.{sign_is}
 
 -- a place, and a name
 abbrev somewhere : Place
@@ -87,40 +87,16 @@ record ClosesPart (forms : List Form) (b : Begun) (w : Within) : Type 0 where
   fills : Fills (slot_of w) whole
   reads : steps (Some (in_state forms (row b w))) tokens ≡ Some (with_part forms b whole)
 
-closes_outputs : (forms : List Form) (b : Begun) (opens : Place) (ins : List Token) (dashes : Place) (outs : List Token) (rest : List Slot) → GoodWithin rest (outputs opens ins dashes outs) → ClosesPart forms b (outputs opens ins dashes outs)
-closes_outputs forms b opens ins dashes outs rest g = record {
-  tokens = plain_token somewhere (codes ")") ∷ [];
-  whole = part.Effect (written opens ins dashes outs somewhere);
-  fills = record { ins = g.0; outs = g.1; few = g.2 };
-  reads = by_spelling forms (row b (outputs opens ins dashes outs)) (plain_token somewhere (codes ")")) Closes (sign_is Closes tt);
-}
-
-closes_inputs : (forms : List Form) (b : Begun) (opens : Place) (ins : List Token) (rest : List Slot) → GoodWithin rest (inputs opens ins) → ClosesPart forms b (inputs opens ins)
-closes_inputs forms b opens ins rest g =
-    let few = g.1 in
-    let later = closes_outputs forms b opens ins somewhere [] rest (g.0, tt, omega (arith, few)) in
+closes_effect : (forms : List Form) (b : Begun) (ts : List Token) (r : EffectReader) → after ts ≡ reading r → ClosesPart forms b (effect ts r)
+closes_effect forms b ts r g =
+    let c = read_goes_on ts r g in
+    let us = c.next ∷ c.rest in
+    let is = effect_is_whole (ts ++ us) c.effect c.is in
     record {
-      tokens = plain_token somewhere (codes "--") ∷ later.tokens;
-      whole = later.whole;
-      fills = later.fills;
-      reads =
-          one (in_state forms (row b (inputs opens ins))) (in_state forms (row b (outputs opens ins somewhere []))) (plain_token somewhere (codes "--")) later.tokens _
-          (by_spelling forms (row b (inputs opens ins)) (plain_token somewhere (codes "--")) Dashes (sign_is Dashes tt)) later.reads;
-    }
-
-none_yet : 0 ≤ most_names
-none_yet = omega arith
-
-closes_effect : (forms : List Form) (b : Begun) → ClosesPart forms b effect
-closes_effect forms b =
-    let later = closes_inputs forms b somewhere [] [] (tt, none_yet) in
-    record {
-      tokens = plain_token somewhere (codes "(") ∷ later.tokens;
-      whole = later.whole;
-      fills = later.fills;
-      reads =
-          one (in_state forms (row b effect)) (in_state forms (row b (inputs somewhere []))) (plain_token somewhere (codes "(")) later.tokens _
-          (by_spelling forms (row b effect) (plain_token somewhere (codes "(")) Opens (sign_is Opens tt)) later.reads;
+      tokens = us;
+      whole = part.Effect (written (ts ++ us));
+      fills = whole_is_effect (ts ++ us) is.0;
+      reads = effect_read forms b ts us r (ap (λ (p : Progress). run p us) (sym g) ∙ sym (run_append (reading no_tokens) ts us) ∙ is.0);
     }
 
 closes_fixed : (forms : List Form) (b : Begun) (key : Key) → ClosesPart forms b (fixed key)
@@ -204,9 +180,7 @@ within_completes : (forms : List Form) (b : Begun) (w : Within) (rest : List Slo
 within_completes forms b name rest g later = part_completes forms b name later (closes_name forms b)
 within_completes forms b (names ns) rest g later = part_completes forms b (names ns) later (closes_names forms b ns g)
 within_completes forms b (fixed key) rest g later = part_completes forms b (fixed key) later (closes_fixed forms b key)
-within_completes forms b effect rest g later = part_completes forms b effect later (closes_effect forms b)
-within_completes forms b (inputs opens ins) rest g later = part_completes forms b (inputs opens ins) later (closes_inputs forms b opens ins rest g)
-within_completes forms b (outputs opens ins dashes outs) rest g later = part_completes forms b (outputs opens ins dashes outs) later (closes_outputs forms b opens ins dashes outs rest g)
+within_completes forms b (effect ts r) rest g later = part_completes forms b (effect ts r) later (closes_effect forms b ts r g)
 within_completes forms b (items es contexts) rest g later = part_completes forms b (items es contexts) later (closes_items forms b es contexts g)
 within_completes forms b (literal es contexts) rest g later = part_completes forms b (literal es contexts) later (closes_literal forms b es contexts g)
 within_completes forms b (marks ms) rest g later = record { tokens = []; to = in_state forms (row b (marks ms)); forms = _; reads = refl; whole = refl }
@@ -215,7 +189,7 @@ begun_completes : (forms : List Form) (b : Begun) (s : Slot) → Later forms b s
 begun_completes forms b slot.Name later = part_completes forms b name later (closes_name forms b)
 begun_completes forms b slot.Names later = part_completes forms b (names []) later (closes_names forms b [] tt)
 begun_completes forms b (slot.Fixed key) later = part_completes forms b (fixed key) later (closes_fixed forms b key)
-begun_completes forms b slot.Effect later = part_completes forms b effect later (closes_effect forms b)
+begun_completes forms b slot.Effect later = part_completes forms b (effect [] no_tokens) later (closes_effect forms b [] no_tokens refl)
 begun_completes forms b slot.Items later = part_completes forms b (items [] []) later (closes_items forms b [] [] refl)
 begun_completes forms b slot.Literal later = part_completes forms b (literal [] []) later (closes_literal forms b [] [] refl)
 begun_completes forms b slot.Marks later = record { tokens = []; to = in_state forms (row b (marks [])); forms = _; reads = refl; whole = refl }

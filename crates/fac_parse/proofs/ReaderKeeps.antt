@@ -1,14 +1,12 @@
 -- A token that is taken is behind those before it, and what is known stays known.
 use Rattle.fac_lang.specs.declared.tree.Element.TheVariants as element
 use Rattle.fac_lang.specs.declared.tree.Term.TheVariants as term
-use Rattle.std.proofs.Common.{◌≡◌, ℕ, ◌≤◌, ◌+◌, Bool, true, false, cond, ◌&&◌, List, [], ◌∷◌, ◌++◌, length, Option, Some, None, refl, ap, sym, ◌∙◌, subst, append_assoc, append-nil, arith}
-use Rattle.std.specs.Prelude.{codes, nat_lt}
-use Rattle.std.proofs.lemmas.Bool.Decides.{Decides-ltb}
-use Rattle.std.proofs.lemmas.List.{length_push}
+use Rattle.std.proofs.Common.{◌≡◌, Bool, true, false, cond, List, [], ◌∷◌, ◌++◌, Option, Some, None, refl, ap, sym, ◌∙◌, subst, append_assoc, append-nil}
 use Rattle.fac_lang.specs.declared.phrase.Place.{Place}
 use Rattle.fac_lang.specs.declared.token.Token.{Token}
 use Rattle.fac_lang.specs.declared.tree.Element.{Element}
 use Rattle.fac_lang.specs.declared.tree.Mark.{Mark}
+use Rattle.fac_lang.specs.declared.tree.Mark.TheVariants as mark
 use Rattle.fac_lang.specs.declared.tree.FormKind.{FormKind}
 use Rattle.fac_lang.specs.declared.tree.Key.{Key}
 use Rattle.fac_lang.specs.declared.tree.Key.TheVariants.{Arrow}
@@ -17,13 +15,16 @@ use Rattle.fac_lang.specs.declared.tree.Part.TheVariants as part
 use Rattle.fac_lang.specs.declared.tree.Form.{Form}
 use Rattle.fac_parse.specs.declared.context.Context.{Context}
 use Rattle.fac_parse.specs.declared.rows.Slot.{Slot}
-use Rattle.fac_parse.specs.declared.spelling.Spelling.{Spelling}
-use Rattle.fac_parse.specs.declared.spelling.Spelling.TheVariants.{Begins, Fixed, Semi, Opens, Closes, Dashes, OpensQuotation, ClosesQuotation, True, False, Inline, Recursive, Integer, String, Name}
-use Rattle.fac_parse.specs.Rows.{head_of, slots_of}
-use Rattle.fac_parse.specs.Spellings.{token_spelling, is_value_name}
-use Rattle.fac_parse.specs.Trees.{plain_token, token_text, element_tokens, items_tokens, mark_token, part_tokens, parts_tokens, flatten, AreNames, AreValueNames, most_names, IsElement, behind, Lead, Encloses, Fills, IsWellFormed}
-use Rattle.fac_parse.specs.inner.Reader.{Within, name, names, fixed, effect, inputs, outputs, items, literal, marks, Begun, begun, Open, top, row, State, in_state, start, row_form, more, with_part, with_run, begin_row, element_of, with_element, add_element, begins, begin_or_add, top_step, name_step, names_step, key_step, fixed_step, effect_step, may_add, inputs_step, written, outputs_step, row_items, end_items, is_semi, end_or_add, goes_into, literal_with, add_literal, mark_of, with_mark, mark_step, row_step, open_step, step, steps}
-use Rattle.fac_parse.proofs.SpellingLemmas.{sign_token}
+use Rattle.fac_effect.specs.declared.spelling.Spelling.{Spelling}
+use Rattle.fac_effect.specs.declared.spelling.Spelling.TheVariants.{Begins, Fixed, Semi, OpensQuotation, ClosesQuotation, True, False, Inline, Recursive, Integer, String, Name}
+use Rattle.fac_effect.specs.declared.effect_reader.EffectReader.{EffectReader}
+use Rattle.fac_effect.specs.EffectReading.{Progress, reads as reading, whole, refused, step as token_step, go_on, after}
+use Rattle.fac_effect.proofs.EffectLemmas.{whole_is_effect, after_more}
+use Rattle.fac_effect.specs.Spellings.{head_of, token_spelling, plain_token}
+use Rattle.fac_parse.specs.Rows.{slots_of}
+use Rattle.fac_parse.specs.Trees.{element_tokens, items_tokens, mark_token, marks_tokens, part_tokens, parts_tokens, flatten, AreNames, AreMarks, IsElement, behind, Lead, Encloses, Fills, IsWellFormed}
+use Rattle.fac_parse.specs.inner.Reader.{Within, name, names, fixed, effect, items, literal, marks, Begun, begun, Open, top, row, State, in_state, start, row_form, more, with_part, with_run, begin_row, element_of, with_element, add_element, begins, begin_or_add, top_step, name_step, names_step, key_step, fixed_step, written, effect_with, effect_step, row_items, end_items, is_semi, end_or_add, goes_into, literal_with, add_literal, mark_of, may_follow, with_mark, mark_step, row_step, open_step, step, steps}
+use Rattle.fac_effect.proofs.SpellingLemmas.{sign_token}
 use Rattle.fac_parse.proofs.StateTokens.{within_tokens, tokens_of, state_tokens, element_behind, parts-last, Filled, filled_more, slot_of, Inside, in_quotation, GoodWithin, GoodRow, NoRunLast, GoodOpen, Good, run_fits, run_tokens, Gone, ended_row_gone, gone_on}
 
 -- a state is good, and has these tokens and this one
@@ -38,10 +39,6 @@ Keeps tokens t (Some s) = Taken tokens t s
 cond_keeps : (b : Bool) (tokens : List Token) (t : Token) (s : State) → (b ≡ true → Taken tokens t s) → Keeps tokens t (cond b (Some s) None)
 cond_keeps true tokens t s h = h refl
 cond_keeps false tokens t s h = tt
-
-both_true : (a b : Bool) → (a && b) ≡ true → (a ≡ true) × (b ≡ true)
-both_true true b h = (refl, h)
-both_true false b h = cc
 
 -- Rows.
 
@@ -98,45 +95,14 @@ fixed_keeps forms b key t _ h fits g = tt
 
 -- Effects.
 
-none_yet : 0 ≤ most_names
-none_yet = omega arith
+effect_kept : (forms : List Form) (b : Begun) (ts : List Token) (r : EffectReader) (t : Token) (p : Progress) → after (ts ++ t ∷ []) ≡ p → IsWellFormed forms → GoodRow b (effect ts r) → Keeps (tokens_of forms (row b (effect ts r))) t (effect_with forms b (ts ++ t ∷ []) p)
+effect_kept forms b ts r t (reading next) e fits g = within_taken forms b (effect ts r) (effect (ts ++ t ∷ []) next) t fits g refl e refl
+effect_kept forms b ts r t whole e fits g = part_taken forms b (effect ts r) (part.Effect (written (ts ++ t ∷ []))) t fits g (whole_is_effect (ts ++ t ∷ []) e) refl
+effect_kept forms b ts r t (refused why) e fits g = tt
 
-effect_keeps : (forms : List Form) (b : Begun) (t : Token) (s : Spelling) → token_spelling t.kind ≡ s → IsWellFormed forms → GoodRow b effect → Keeps (tokens_of forms (row b effect)) t (effect_step forms b s t)
-effect_keeps forms b t Opens h fits g = within_taken forms b effect (inputs t.place []) t fits g refl (tt, none_yet) (with_sign [] t _ (sign_token t Opens h tt))
-effect_keeps forms b t _ h fits g = tt
-
-AreValueNames-more : (ts : List Token) (t : Token) → AreValueNames ts → token_spelling t.kind ≡ Name → is_value_name (token_text t.kind) ≡ true → AreValueNames (ts ++ t ∷ [])
-AreValueNames-more [] t h e v = (e, v, tt)
-AreValueNames-more (u ∷ ts) t h e v = (h.0, h.1, AreValueNames-more ts t h.2 e v)
-
--- one more name still fits
-few_more : (ts : List Token) (t : Token) (n : ℕ) → nat_lt (length ts + n) most_names ≡ true → length (ts ++ t ∷ []) + n ≤ most_names
-few_more ts t n h = let less = (Decides-ltb (length ts + n) most_names).0 h in let pushed = length_push ts t in omega (arith, less, pushed)
-
-few_outs : (m : ℕ) (ts : List Token) (t : Token) → nat_lt (m + length ts) most_names ≡ true → m + length (ts ++ t ∷ []) ≤ most_names
-few_outs m ts t h = let less = (Decides-ltb (m + length ts) most_names).0 h in let pushed = length_push ts t in omega (arith, less, pushed)
-
-inputs_keeps : (forms : List Form) (b : Begun) (opens : Place) (ins : List Token) (t : Token) (s : Spelling) → token_spelling t.kind ≡ s → IsWellFormed forms → GoodRow b (inputs opens ins) → Keeps (tokens_of forms (row b (inputs opens ins))) t (inputs_step forms b opens ins s t)
-inputs_keeps forms b opens ins t Name h fits g =
-    cond_keeps (may_add ins [] t) _ t (in_state forms (row b (inputs opens (ins ++ t ∷ [])))) (λ v.
-    let both = both_true (is_value_name (token_text t.kind)) (nat_lt (length ins + 0) most_names) v in
-    let few = few_more ins t 0 both.1 in
-    within_taken forms b (inputs opens ins) (inputs opens (ins ++ t ∷ [])) t fits g refl (AreValueNames-more ins t g.within.0 h both.0, omega (arith, few)) refl)
-inputs_keeps forms b opens ins t Dashes h fits g =
-    let few = g.within.1 in
-    within_taken forms b (inputs opens ins) (outputs opens ins t.place []) t fits g refl (g.within.0, tt, omega (arith, few)) (with_sign (plain_token opens (codes "(") ∷ ins) t _ (sign_token t Dashes h tt))
-inputs_keeps forms b opens ins t _ h fits g = tt
-
-outputs_keeps : (forms : List Form) (b : Begun) (opens : Place) (ins : List Token) (dashes : Place) (outs : List Token) (t : Token) (s : Spelling) → token_spelling t.kind ≡ s → IsWellFormed forms → GoodRow b (outputs opens ins dashes outs) → Keeps (tokens_of forms (row b (outputs opens ins dashes outs))) t (outputs_step forms b opens ins dashes outs s t)
-outputs_keeps forms b opens ins dashes outs t Name h fits g =
-    cond_keeps (may_add ins outs t) _ t (in_state forms (row b (outputs opens ins dashes (outs ++ t ∷ [])))) (λ v.
-    let both = both_true (is_value_name (token_text t.kind)) (nat_lt (length ins + length outs) most_names) v in
-    within_taken forms b (outputs opens ins dashes outs) (outputs opens ins dashes (outs ++ t ∷ [])) t fits g refl (g.within.0, AreValueNames-more outs t g.within.1 h both.0, few_outs (length ins) outs t both.1)
-    (sym (append_assoc (plain_token opens (codes "(") ∷ ins) (plain_token dashes (codes "--") ∷ outs) (t ∷ []))))
-outputs_keeps forms b opens ins dashes outs t Closes h fits g =
-    part_taken forms b (outputs opens ins dashes outs) (part.Effect (written opens ins dashes outs t.place)) t fits g (record { ins = g.within.0; outs = g.within.1; few = g.within.2 })
-    (with_sign (plain_token opens (codes "(") ∷ ins ++ plain_token dashes (codes "--") ∷ outs) t _ (sign_token t Closes h tt))
-outputs_keeps forms b opens ins dashes outs t _ h fits g = tt
+effect_keeps : (forms : List Form) (b : Begun) (ts : List Token) (r : EffectReader) (t : Token) (s : Spelling) → token_spelling t.kind ≡ s → IsWellFormed forms → GoodRow b (effect ts r) → Keeps (tokens_of forms (row b (effect ts r))) t (effect_step forms b ts r s t)
+effect_keeps forms b ts r t s h fits g =
+    effect_kept forms b ts r t (token_step r s t) (after_more ts t ∙ ap (λ (p : Progress). go_on p t) g.within ∙ ap (λ (x : Spelling). token_step r x t) h) fits g
 
 -- Items.
 
@@ -286,9 +252,23 @@ mark_is t Inline h = sign_token t Inline h tt
 mark_is t Recursive h = sign_token t Recursive h tt
 mark_is t _ h = tt
 
+AreMarks-more : (ms : List Mark) (m : Mark) → AreMarks ms → may_follow ms m ≡ true → AreMarks (ms ++ m ∷ [])
+AreMarks-more [] m h f = tt
+AreMarks-more (mark.Inline p ∷ []) (mark.Inline q) h f = cc
+AreMarks-more (mark.Inline p ∷ []) (mark.Recursive q) h f = tt
+AreMarks-more (mark.Recursive p ∷ []) (mark.Inline q) h f = tt
+AreMarks-more (mark.Recursive p ∷ []) (mark.Recursive q) h f = cc
+AreMarks-more (mark.Inline p ∷ k ∷ ms) m h f = cc
+AreMarks-more (mark.Recursive p ∷ k ∷ ms) m h f = cc
+
+marks-last : (ms : List Mark) (m : Mark) → marks_tokens (ms ++ m ∷ []) ≡ marks_tokens ms ++ mark_token m ∷ []
+marks-last [] m = refl
+marks-last (k ∷ ms) m = ap (λ (ts : List Token). mark_token k ∷ ts) (marks-last ms m)
+
 mark_keeps : (forms : List Form) (b : Begun) (ms : List Mark) (t : Token) (m : Mark) → t ≡ mark_token m → IsWellFormed forms → GoodRow b (marks ms) → Keeps (tokens_of forms (row b (marks ms))) t (with_mark forms b ms m)
-mark_keeps forms b [] t m e fits g = within_taken forms b (marks []) (marks (m ∷ [])) t fits g refl (tt, g.within.1) (alone t (mark_token m) e)
-mark_keeps forms b (k ∷ ms) t m e fits g = tt
+mark_keeps forms b ms t m e fits g =
+    cond_keeps (may_follow ms m) _ t (in_state forms (row b (marks (ms ++ m ∷ [])))) (λ h.
+    within_taken forms b (marks ms) (marks (ms ++ m ∷ [])) t fits g refl (AreMarks-more ms m g.within.0 h, g.within.1) (marks-last ms m ∙ with_sign (marks_tokens ms) t (mark_token m) e))
 
 -- a row with its marks, which ends
 pub marked_gone : (forms : List Form) (b : Begun) (ms : List Mark) → IsWellFormed forms → GoodRow b (marks ms) → Gone forms (more b (part.Marks ms)) (in_state (forms ++ row_form (more b (part.Marks ms)) ∷ []) (top [] []))
@@ -311,9 +291,7 @@ row_keeps : (forms : List Form) (b : Begun) (w : Within) (s : Spelling) (t : Tok
 row_keeps forms b name s t h fits g = name_keeps forms b t s h fits g
 row_keeps forms b (names ns) s t h fits g = names_keeps forms b ns t s h fits g
 row_keeps forms b (fixed key) s t h fits g = fixed_keeps forms b key t s h fits g
-row_keeps forms b effect s t h fits g = effect_keeps forms b t s h fits g
-row_keeps forms b (inputs opens ins) s t h fits g = inputs_keeps forms b opens ins t s h fits g
-row_keeps forms b (outputs opens ins dashes outs) s t h fits g = outputs_keeps forms b opens ins dashes outs t s h fits g
+row_keeps forms b (effect ts r) s t h fits g = effect_keeps forms b ts r t s h fits g
 row_keeps forms b (items es contexts) s t h fits g = items_keeps_by forms b es contexts (is_semi s) s t refl h fits g
 row_keeps forms b (literal es contexts) s t h fits g = literal_keeps forms b es contexts (element_of s t) t (element_is t s h) fits g
 row_keeps forms b (marks ms) s t h fits g = marks_keeps_by forms b ms (mark_of s t.place) s t (mark_is t s h) h fits g

@@ -1,12 +1,10 @@
 -- The tokens of a well-formed tree are read, to that tree.
-use Rattle.fac_parse.specs.inner.Reader.{literal, goes_into, literal_with, add_literal}
-use Rattle.fac_parse.specs.Trees.{behind, IsLiteral, Encloses}
+use Rattle.fac_parse.specs.inner.Reader.{literal, goes_into, literal_with, add_literal, Within, name, names, fixed, effect, items, marks, Begun, begun, Open, top, row, State, in_state, start, row_form, row_ended, at_slot, go_on, more, with_part, element_of, with_element, add_element, begins, begin_or_add, top_step, written, effect_with, row_items, is_semi, end_or_add, mark_of, mark_step, open_step, step, steps, ended}
+use Rattle.fac_parse.specs.Trees.{behind, IsLiteral, Encloses, element_tokens, items_tokens, marks_tokens, part_tokens, parts_tokens, form_tokens, flatten, AreNames, IsElement, Lead, AreMarks, FillAll, IsWellFormed, Reads}
 use Rattle.fac_parse.proofs.ReaderKeeps.{into_open}
-use Rattle.fac_parse.proofs.StateTokens.{in_quotation}
-use Rattle.std.proofs.Common.{◌≡◌, ℕ, ◌≤◌, ◌<◌, ◌+◌, Bool, true, false, cond, ◌&&◌, List, [], ◌∷◌, ◌++◌, length, Option, Some, None, refl, ap, sym, ◌∙◌, subst, append_assoc, append-nil, arith}
-use Rattle.std.specs.Prelude.{codes, nat_lt}
-use Rattle.std.proofs.lemmas.Bool.Decides.{Decides-ltb}
-use Rattle.std.proofs.lemmas.List.{length_push}
+use Rattle.fac_parse.proofs.StateTokens.{in_quotation, Filled, filled_more, first_of, next_slot, MarksLast, marks_last}
+use Rattle.std.proofs.Common.{◌≡◌, Bool, false, cond, List, [], ◌∷◌, ◌++◌, Option, Some, None, refl, ap, sym, ◌∙◌, subst, append_assoc, append-nil}
+use Rattle.std.specs.Prelude.{codes}
 use Rattle.fac_lang.specs.declared.phrase.Place.{Place}
 use Rattle.fac_lang.specs.declared.token.Token.{Token}
 use Rattle.fac_lang.specs.declared.tree.Term.TheVariants as term
@@ -24,14 +22,19 @@ use Rattle.fac_lang.specs.declared.tree.Form.TheVariants.{Row, Items}
 use Rattle.fac_parse.specs.declared.context.Context.{Context}
 use Rattle.fac_parse.specs.declared.rows.Slot.{Slot}
 use Rattle.fac_parse.specs.declared.rows.Slot.TheVariants as slot
-use Rattle.fac_parse.specs.declared.spelling.Spelling.{Spelling}
-use Rattle.fac_parse.specs.declared.spelling.Spelling.TheVariants.{Begins, Fixed, Semi, Opens, Closes, Dashes, OpensQuotation, ClosesQuotation, True, False, Inline, Recursive, Name}
-use Rattle.fac_parse.specs.Rows.{head_of, slots_of}
-use Rattle.fac_parse.specs.Spellings.{token_spelling, is_value_name}
-use Rattle.fac_parse.specs.Trees.{plain_token, token_text, element_tokens, items_tokens, marks_tokens, effect_tokens, part_tokens, parts_tokens, form_tokens, flatten, AreNames, AreValueNames, most_names, IsEffect, IsElement, Lead, AreMarks, FillAll, IsWellFormed, Reads}
-use Rattle.fac_parse.specs.inner.Reader.{Within, name, names, fixed, effect, inputs, outputs, items, marks, Begun, begun, Open, top, row, State, in_state, start, row_form, row_ended, at_slot, go_on, more, with_part, element_of, with_element, add_element, begins, begin_or_add, top_step, may_add, written, row_items, is_semi, end_or_add, mark_of, mark_step, open_step, step, steps, ended}
-use Rattle.fac_parse.proofs.SpellingLemmas.{sign_is}
-use Rattle.fac_parse.proofs.StateTokens.{Filled, filled_more, first_of, next_slot, MarksLast, marks_last}
+use Rattle.fac_effect.specs.declared.spelling.Spelling.{Spelling}
+use Rattle.fac_effect.specs.declared.spelling.Spelling.TheVariants.{Begins, Fixed, Semi, OpensQuotation, ClosesQuotation, True, False, Inline, Recursive, Name}
+use Rattle.fac_lang.specs.Signatures.{Signature}
+use Rattle.fac_effect.specs.declared.effect_reader.EffectReader.{EffectReader}
+use Rattle.fac_effect.specs.declared.effect_reader.EffectWhy.{EffectWhy}
+use Rattle.fac_effect.specs.declared.effect_reader.EffectWhy.TheVariants.{Form as bad_form}
+use Rattle.fac_effect.specs.EffectReading.{Progress, reads as reading, whole as whole_effect, refused, start as no_tokens, step as token_step, run}
+use Rattle.fac_effect.proofs.EffectRuns.{refused_stays}
+use Rattle.fac_effect.proofs.EffectLemmas.{effect_is_whole}
+use Rattle.fac_effect.specs.WrittenEffects.{IsEffect}
+use Rattle.fac_effect.specs.Spellings.{head_of, token_spelling, plain_token}
+use Rattle.fac_parse.specs.Rows.{slots_of}
+use Rattle.fac_effect.proofs.SpellingLemmas.{sign_is}
 
 none_steps : (ts : List Token) → steps None ts ≡ None
 none_steps [] = refl
@@ -63,40 +66,25 @@ names_read forms b ns (t ∷ ms) h =
 
 -- Effects.
 
-cond_true : {A : Type 0} (b : Bool) (x y : A) → b ≡ true → cond b x y ≡ x
-cond_true true x y h = refl
-cond_true false x y h = cc
+never_whole : (why : EffectWhy) (ts : List Token) → run (refused why) ts ≡ whole_effect → ⊥
+never_whole why ts h = let same = refused_stays why ts in cc
 
-adds : (v : Bool) (n : ℕ) → v ≡ true → n < most_names → (v && nat_lt n most_names) ≡ true
-adds true n h less = (Decides-ltb n most_names).1 less
-adds false n h less = cc
+effect_next : (forms : List Form) (b : Begun) (ts us : List Token) (p : Progress) → run p us ≡ whole_effect → ((r : EffectReader) → run (reading r) us ≡ whole_effect → steps (Some (in_state forms (row b (effect ts r)))) us ≡ Some (with_part forms b (part.Effect (written (ts ++ us))))) → steps (effect_with forms b ts p) us ≡ Some (with_part forms b (part.Effect (written (ts ++ us))))
+effect_next forms b ts us (reading r) h later = later r h
+effect_next forms b ts [] whole_effect h later = ap (λ (x : List Token). Some (with_part forms b (part.Effect (written x)))) (sym (append-nil ts))
+effect_next forms b ts (u ∷ us) whole_effect h later = absurd (never_whole bad_form us h)
+effect_next forms b ts us (refused why) h later = absurd (never_whole why us h)
 
-inputs_read : (forms : List Form) (b : Begun) (opens : Place) (ins ms : List Token) → AreValueNames ms → length ins + length ms ≤ most_names → steps (Some (in_state forms (row b (inputs opens ins)))) ms ≡ Some (in_state forms (row b (inputs opens (ins ++ ms))))
-inputs_read forms b opens ins [] h few = ap (λ (x : List Token). Some (in_state forms (row b (inputs opens x)))) (sym (append-nil ins))
-inputs_read forms b opens ins (t ∷ ms) h few =
-    let next = in_state forms (row b (inputs opens (ins ++ t ∷ []))) in
-    let pushed = length_push ins t in
-    one (in_state forms (row b (inputs opens ins))) next t ms _
-    (by_spelling forms (row b (inputs opens ins)) t Name h.0 ∙ cond_true (may_add ins [] t) (Some next) None (adds (is_value_name (token_text t.kind)) (length ins + 0) h.1 (omega (arith, few))))
-    (inputs_read forms b opens (ins ++ t ∷ []) ms h.2 (omega (arith, few, pushed)) ∙ ap (λ (x : List Token). Some (in_state forms (row b (inputs opens x)))) (append_assoc ins (t ∷ []) ms))
+pub effect_read : (forms : List Form) (b : Begun) (ts us : List Token) (r : EffectReader) → run (reading r) us ≡ whole_effect → steps (Some (in_state forms (row b (effect ts r)))) us ≡ Some (with_part forms b (part.Effect (written (ts ++ us))))
+effect_read forms b ts [] r h = cc
+effect_read forms b ts (u ∷ us) r h =
+    effect_next forms b (ts ++ u ∷ []) us (token_step r (token_spelling u.kind) u) h (λ next k. effect_read forms b (ts ++ u ∷ []) us next k)
+    ∙ ap (λ (x : List Token). Some (with_part forms b (part.Effect (written x)))) (append_assoc ts (u ∷ []) us)
 
-outputs_read : (forms : List Form) (b : Begun) (opens : Place) (ins : List Token) (dashes : Place) (outs ms : List Token) → AreValueNames ms → length ins + (length outs + length ms) ≤ most_names → steps (Some (in_state forms (row b (outputs opens ins dashes outs)))) ms ≡ Some (in_state forms (row b (outputs opens ins dashes (outs ++ ms))))
-outputs_read forms b opens ins dashes outs [] h few = ap (λ (x : List Token). Some (in_state forms (row b (outputs opens ins dashes x)))) (sym (append-nil outs))
-outputs_read forms b opens ins dashes outs (t ∷ ms) h few =
-    let next = in_state forms (row b (outputs opens ins dashes (outs ++ t ∷ []))) in
-    let pushed = length_push outs t in
-    one (in_state forms (row b (outputs opens ins dashes outs))) next t ms _
-    (by_spelling forms (row b (outputs opens ins dashes outs)) t Name h.0 ∙ cond_true (may_add ins outs t) (Some next) None (adds (is_value_name (token_text t.kind)) (length ins + length outs) h.1 (omega (arith, few))))
-    (outputs_read forms b opens ins dashes (outs ++ t ∷ []) ms h.2 (omega (arith, few, pushed)) ∙ ap (λ (x : List Token). Some (in_state forms (row b (outputs opens ins dashes x)))) (append_assoc outs (t ∷ []) ms))
-
-effect_read : (forms : List Form) (b : Begun) (opens : Place) (ins : List Token) (dashes : Place) (outs : List Token) (closes : Place) → IsEffect (written opens ins dashes outs closes) → steps (Some (in_state forms (row b effect))) (effect_tokens (written opens ins dashes outs closes)) ≡ Some (with_part forms b (part.Effect (written opens ins dashes outs closes)))
-effect_read forms b opens ins dashes outs closes h =
-    let few = h.few in
-    chain (in_state forms (row b effect)) (in_state forms (row b (outputs opens ins dashes outs))) (plain_token opens (codes "(") ∷ ins ++ plain_token dashes (codes "--") ∷ outs) (plain_token closes (codes ")") ∷ []) _
-    (chain (in_state forms (row b effect)) (in_state forms (row b (inputs opens ins))) (plain_token opens (codes "(") ∷ ins) (plain_token dashes (codes "--") ∷ outs) _
-    (one (in_state forms (row b effect)) (in_state forms (row b (inputs opens []))) (plain_token opens (codes "(")) ins _ (by_spelling forms (row b effect) (plain_token opens (codes "(")) Opens (sign_is Opens tt)) (inputs_read forms b opens [] ins h.ins (omega (arith, few))))
-    (one (in_state forms (row b (inputs opens ins))) (in_state forms (row b (outputs opens ins dashes []))) (plain_token dashes (codes "--")) outs _ (by_spelling forms (row b (inputs opens ins)) (plain_token dashes (codes "--")) Dashes (sign_is Dashes tt)) (outputs_read forms b opens ins dashes [] outs h.outs (omega (arith, few)))))
-    (one (in_state forms (row b (outputs opens ins dashes outs))) (with_part forms b (part.Effect (written opens ins dashes outs closes))) (plain_token closes (codes ")")) [] _ (by_spelling forms (row b (outputs opens ins dashes outs)) (plain_token closes (codes ")")) Closes (sign_is Closes tt)) refl)
+effect_part_read : (forms : List Form) (b : Begun) (ts : List Token) (e : Signature) → IsEffect ts e → steps (Some (in_state forms (row b (effect [] no_tokens)))) ts ≡ Some (with_part forms b (part.Effect (record { tokens = ts; effect = e })))
+effect_part_read forms b ts e h =
+    let is = effect_is_whole ts e h in
+    effect_read forms b [] ts no_tokens is.0 ∙ ap (λ (x : Signature). Some (with_part forms b (part.Effect (record { tokens = ts; effect = x })))) is.1
 
 -- Items.
 
@@ -172,7 +160,16 @@ marks_read : (forms : List Form) (b : Begun) (ms : List Mark) → AreMarks ms �
 marks_read forms b [] h = refl
 marks_read forms b (mark.Inline place ∷ []) h = by_spelling forms (row b (marks [])) (plain_token place (codes "inline")) Inline (sign_is Inline tt)
 marks_read forms b (mark.Recursive place ∷ []) h = by_spelling forms (row b (marks [])) (plain_token place (codes "recursive")) Recursive (sign_is Recursive tt)
-marks_read forms b (m ∷ k ∷ ms) h = absurd h
+marks_read forms b (mark.Inline place ∷ mark.Recursive other ∷ []) h =
+    one (in_state forms (row b (marks []))) (in_state forms (row b (marks (mark.Inline place ∷ [])))) (plain_token place (codes "inline")) (plain_token other (codes "recursive") ∷ []) _
+    (by_spelling forms (row b (marks [])) (plain_token place (codes "inline")) Inline (sign_is Inline tt)) (by_spelling forms (row b (marks (mark.Inline place ∷ []))) (plain_token other (codes "recursive")) Recursive (sign_is Recursive tt))
+marks_read forms b (mark.Recursive place ∷ mark.Inline other ∷ []) h =
+    one (in_state forms (row b (marks []))) (in_state forms (row b (marks (mark.Recursive place ∷ [])))) (plain_token place (codes "recursive")) (plain_token other (codes "inline") ∷ []) _
+    (by_spelling forms (row b (marks [])) (plain_token place (codes "recursive")) Recursive (sign_is Recursive tt)) (by_spelling forms (row b (marks (mark.Recursive place ∷ []))) (plain_token other (codes "inline")) Inline (sign_is Inline tt))
+marks_read forms b (mark.Inline place ∷ mark.Inline other ∷ ms) h = absurd h
+marks_read forms b (mark.Recursive place ∷ mark.Recursive other ∷ ms) h = absurd h
+marks_read forms b (mark.Inline place ∷ mark.Recursive other ∷ m ∷ ms) h = absurd h
+marks_read forms b (mark.Recursive place ∷ mark.Inline other ∷ m ∷ ms) h = absurd h
 
 fixed_read : (forms : List Form) (b : Begun) (key other : Key) (place : Place) → key ≡ other → steps (Some (in_state forms (row b (fixed key)))) (part_tokens (part.Fixed other place)) ≡ Some (with_part forms b (part.Fixed other place))
 fixed_read forms b Arrow Arrow place h = by_spelling forms (row b (fixed Arrow)) (plain_token place (codes "=>")) (Fixed Arrow) (sign_is (Fixed Arrow) tt)
@@ -316,7 +313,7 @@ parts_read forms b (slot.Fixed key ∷ slots) (part.Fixed other place ∷ ps) re
     part_then forms b (fixed key) (part.Fixed other place) ps rest (fixed_read forms b key other place f.0) (to_slot forms (more b (part.Fixed other place)) slots _ _ rest filled (parts_read forms (more b (part.Fixed other place)) slots ps rest filled l.1 f.1))
 parts_read forms b (slot.Effect ∷ slots) (part.Effect e ∷ ps) rest h l f =
     let filled = filled_more (slots_of b.kind) b.parts slot.Effect slots (part.Effect e) h f.0 in
-    part_then forms b effect (part.Effect e) ps rest (effect_read forms b e.opens e.ins e.dashes e.outs e.closes f.0) (to_slot forms (more b (part.Effect e)) slots _ _ rest filled (parts_read forms (more b (part.Effect e)) slots ps rest filled l.1 f.1))
+    part_then forms b (effect [] no_tokens) (part.Effect e) ps rest (effect_part_read forms b e.tokens e.effect f.0) (to_slot forms (more b (part.Effect e)) slots _ _ rest filled (parts_read forms (more b (part.Effect e)) slots ps rest filled l.1 f.1))
 parts_read forms b (slot.Items ∷ slots) (part.Items es ends ∷ ps) rest h l f =
     let filled = filled_more (slots_of b.kind) b.parts slot.Items slots (part.Items es ends) h f.0 in
     part_then forms b (items [] []) (part.Items es ends) ps rest (items_part_read forms b es ends f.0) (to_slot forms (more b (part.Items es ends)) slots _ _ rest filled (parts_read forms (more b (part.Items es ends)) slots ps rest filled l.1 f.1))

@@ -1,8 +1,8 @@
 -- The tokens of what was read so far, and what is known of it.
-use Rattle.fac_parse.specs.Trees.{IsElement, behind}
+use Rattle.fac_parse.specs.Trees.{IsElement, behind, element_tokens, items_tokens, marks_tokens, part_tokens, parts_tokens, form_tokens, flatten, AreNames, Lead, AreItems, AreMarks, Fills, FillAll, IsForm, MayStandBefore, IsWellFormed}
 use Rattle.fac_parse.specs.declared.context.Context.{Context}
-use Rattle.std.proofs.Common.{◌≡◌, ◌≤◌, ◌+◌, List, [], ◌∷◌, ◌++◌, length, Option, Some, None, refl, ap, sym, ◌∙◌, subst, append_assoc, append-nil}
-use Rattle.std.specs.Prelude.{codes, slice_get}
+use Rattle.std.proofs.Common.{◌≡◌, List, [], ◌∷◌, ◌++◌, length, Option, Some, None, refl, ap, sym, ◌∙◌, subst, append_assoc, append-nil}
+use Rattle.std.specs.Prelude.{slice_get}
 use Rattle.fac_lang.specs.declared.phrase.Place.{Place}
 use Rattle.fac_lang.specs.declared.token.Token.{Token}
 use Rattle.fac_lang.specs.declared.tree.Element.{Element}
@@ -15,9 +15,10 @@ use Rattle.fac_lang.specs.declared.tree.Form.{Form}
 use Rattle.fac_lang.specs.declared.tree.Form.TheVariants.{Row, Items}
 use Rattle.fac_parse.specs.declared.rows.Slot.{Slot}
 use Rattle.fac_parse.specs.declared.rows.Slot.TheVariants as slot
-use Rattle.fac_parse.specs.Rows.{head_of, slots_of}
-use Rattle.fac_parse.specs.Trees.{plain_token, element_tokens, items_tokens, marks_tokens, part_tokens, parts_tokens, form_tokens, flatten, AreNames, AreValueNames, most_names, Lead, AreItems, AreMarks, Fills, FillAll, IsForm, MayStandBefore, IsWellFormed}
-use Rattle.fac_parse.specs.inner.Reader.{Within, name, names, fixed, effect, inputs, outputs, items, literal, marks, Begun, Open, top, row, State, begin, row_form, row_ended, at_slot, go_on, with_run}
+use Rattle.fac_effect.specs.EffectReading.{reads as reading, after}
+use Rattle.fac_effect.specs.Spellings.{head_of, plain_token}
+use Rattle.fac_parse.specs.Rows.{slots_of}
+use Rattle.fac_parse.specs.inner.Reader.{Within, name, names, fixed, effect, items, literal, marks, Begun, Open, top, row, State, begin, row_form, row_ended, at_slot, go_on, with_run}
 
 -- The tokens of what is open.
 
@@ -25,9 +26,7 @@ abbrev pub within_tokens : Within → List Token
 within_tokens name = []
 within_tokens (names ns) = ns
 within_tokens (fixed key) = []
-within_tokens effect = []
-within_tokens (inputs opens ins) = plain_token opens (codes "(") ∷ ins
-within_tokens (outputs opens ins dashes outs) = plain_token opens (codes "(") ∷ ins ++ plain_token dashes (codes "--") ∷ outs
+within_tokens (effect ts r) = ts
 within_tokens (items elements contexts) = items_tokens elements
 within_tokens (literal elements contexts) = items_tokens elements
 within_tokens (marks ms) = marks_tokens ms
@@ -127,9 +126,7 @@ abbrev pub slot_of : Within → Slot
 slot_of name = slot.Name
 slot_of (names ns) = slot.Names
 slot_of (fixed key) = slot.Fixed key
-slot_of effect = slot.Effect
-slot_of (inputs opens ins) = slot.Effect
-slot_of (outputs opens ins dashes outs) = slot.Effect
+slot_of (effect ts r) = slot.Effect
 slot_of (items elements contexts) = slot.Items
 slot_of (literal elements contexts) = slot.Literal
 slot_of (marks ms) = slot.Marks
@@ -154,9 +151,7 @@ abbrev pub GoodWithin : List Slot → Within → Type 0
 GoodWithin rest name = Unit {0}
 GoodWithin rest (names ns) = AreNames ns
 GoodWithin rest (fixed key) = Unit {0}
-GoodWithin rest effect = Unit {0}
-GoodWithin rest (inputs opens ins) = AreValueNames ins × (length ins ≤ most_names)
-GoodWithin rest (outputs opens ins dashes outs) = AreValueNames ins × AreValueNames outs × (length ins + length outs ≤ most_names)
+GoodWithin rest (effect ts r) = after ts ≡ reading r
 GoodWithin rest (items elements contexts) = Lead [] elements contexts
 GoodWithin rest (literal elements contexts) = GoodLiteral elements contexts
 GoodWithin rest (marks ms) = AreMarks ms × (rest ≡ [])
@@ -231,7 +226,7 @@ begun_row : (b : Begun) (s : Slot) (rest : List Slot) → Filled (slots_of b.kin
 begun_row b slot.Name rest h l = record { rest = rest; filled = h; within = tt }
 begun_row b slot.Names rest h l = record { rest = rest; filled = h; within = tt }
 begun_row b (slot.Fixed key) rest h l = record { rest = rest; filled = h; within = tt }
-begun_row b slot.Effect rest h l = record { rest = rest; filled = h; within = tt }
+begun_row b slot.Effect rest h l = record { rest = rest; filled = h; within = refl }
 begun_row b slot.Items rest h l = record { rest = rest; filled = h; within = refl }
 begun_row b slot.Literal rest h l = record { rest = rest; filled = h; within = refl }
 begun_row b slot.Marks rest h l = record { rest = rest; filled = h; within = (tt, l) }

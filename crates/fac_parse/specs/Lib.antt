@@ -1,4 +1,3 @@
 pub mod Rows
-pub mod Spellings
 pub mod Trees
 pub mod inner

@@ -1,10 +1,7 @@
 -- Trees, their tokens, and which trees are well-formed.
-use Rattle.std.specs.Prelude.{◌≡◌, ◌≤◌, ◌<◌, ◌+◌, ◌⊎◌, ℕ, nat_lt, Option, Some, None, List, [], ◌∷◌, ◌++◌, length, take, true, codes, Result, Ok, Err, if◌then◌else◌}
-use Rattle.fac_lang.specs.declared.limits.TheConstants.{MOST_LEVELS, MOST_NAMES}
-use Rattle.fac_lang.specs.declared.phrase.Place.{Place}
+use Rattle.std.specs.Prelude.{◌≡◌, ◌≤◌, ◌<◌, ◌+◌, ◌⊎◌, ℕ, nat_lt, Option, Some, None, List, [], ◌∷◌, ◌++◌, length, take, codes, Result, Ok, Err, if◌then◌else◌}
+use Rattle.fac_lang.specs.declared.limits.TheConstants.{MOST_LEVELS}
 use Rattle.fac_lang.specs.declared.token.Token.{Token}
-use Rattle.fac_lang.specs.declared.token.TokKind.{TokKind}
-use Rattle.fac_lang.specs.declared.token.TokKind.TheVariants.{Plain, Str}
 use Rattle.fac_lang.specs.declared.tree.Tree.{Tree}
 use Rattle.fac_lang.specs.declared.tree.Term.{Term}
 use Rattle.fac_lang.specs.declared.tree.Term.TheVariants as term
@@ -16,8 +13,7 @@ use Rattle.fac_lang.specs.declared.tree.Form.{Form}
 use Rattle.fac_lang.specs.declared.tree.Form.TheVariants.{Row, Items}
 use Rattle.fac_lang.specs.declared.tree.Part.{Part}
 use Rattle.fac_lang.specs.declared.tree.Part.TheVariants as part
-use Rattle.fac_lang.specs.declared.tree.WrittenEffect.{WrittenEffect}
-use Rattle.fac_parse.specs.declared.spelling.Spelling.TheVariants as spelled
+use Rattle.fac_effect.specs.declared.spelling.Spelling.TheVariants as spelled
 use Rattle.fac_parse.specs.declared.reader.ParseFault.{ParseFault}
 use Rattle.fac_parse.specs.declared.reader.ParseFault.TheVariants.{Syntax, Memory}
 use Rattle.fac_parse.specs.declared.reader.Why.{Why}
@@ -27,12 +23,9 @@ use Rattle.fac_parse.specs.declared.context.Bracket.TheVariants.{Quotation}
 use Rattle.fac_parse.specs.declared.context.Context.{Context}
 use Rattle.fac_parse.specs.declared.rows.Slot.{Slot}
 use Rattle.fac_parse.specs.declared.rows.Slot.TheVariants as slot
-use Rattle.fac_parse.specs.Rows.{head_of, slots_of, key_text}
-use Rattle.fac_parse.specs.Spellings.{token_spelling, is_value_name}
-
--- a plain token at a place
-abbrev pub plain_token : Place → List ℕ → Token
-plain_token place text = record { place = place; kind = Plain text }
+use Rattle.fac_effect.specs.Spellings.{head_of, key_text, plain_token, token_spelling}
+use Rattle.fac_effect.specs.WrittenEffects.{IsEffect}
+use Rattle.fac_parse.specs.Rows.{slots_of}
 
 abbrev pub term_tokens : Term → List Token
 term_tokens (term.Name token) = token ∷ []
@@ -60,14 +53,11 @@ abbrev pub marks_tokens : List Mark → List Token
 marks_tokens [] = []
 marks_tokens (mark ∷ marks) = mark_token mark ∷ marks_tokens marks
 
-abbrev pub effect_tokens : WrittenEffect → List Token
-effect_tokens e = plain_token e.opens (codes "(") ∷ e.ins ++ plain_token e.dashes (codes "--") ∷ e.outs ++ plain_token e.closes (codes ")") ∷ []
-
 abbrev pub part_tokens : Part → List Token
 part_tokens (part.Name name) = name ∷ []
 part_tokens (part.Names names ends) = names ++ plain_token ends (codes ";") ∷ []
 part_tokens (part.Fixed key place) = plain_token place (key_text key) ∷ []
-part_tokens (part.Effect effect) = effect_tokens effect
+part_tokens (part.Effect effect) = effect.tokens
 part_tokens (part.Items elements ends) = items_tokens elements ++ plain_token ends (codes ";") ∷ []
 part_tokens (part.Literal elements) = items_tokens elements
 part_tokens (part.Marks marks) = marks_tokens marks
@@ -132,25 +122,6 @@ Lead from (element ∷ elements) to = IsElement element × (next : List Context)
 abbrev pub AreItems : List Element → Type 0
 AreItems elements = Lead [] elements []
 
--- a token's spelling, or a string's content
-abbrev pub token_text : TokKind → List ℕ
-token_text (Plain text) = text
-token_text (Str text) = text
-
--- names that only count values
-abbrev pub AreValueNames : List Token → Type 0
-AreValueNames [] = Unit {0}
-AreValueNames (token ∷ tokens) = (token_spelling token.kind ≡ spelled.Name) × (is_value_name (token_text token.kind) ≡ true) × AreValueNames tokens
-
--- the most names of an effect
-abbrev pub most_names : ℕ
-most_names = MOST_NAMES
-
-pub record IsEffect (effect : WrittenEffect) : Type 0 where
-  pub ins : AreValueNames effect.ins
-  pub outs : AreValueNames effect.outs
-  pub few : length effect.ins + length effect.outs ≤ most_names
-
 abbrev pub IsLiteralTerm : Term → Type 0
 IsLiteralTerm (term.Name token) = ⊥
 IsLiteralTerm item = IsTerm item
@@ -167,10 +138,12 @@ IsLiteral (element.Item item ∷ []) = IsLiteralTerm item
 IsLiteral (element.Opens place ∷ elements) = Encloses (record { bracket = Quotation } ∷ []) elements
 IsLiteral _ = ⊥
 
--- Marks of one definition. Both together would make a row word.
+-- marks of one definition: each of the two at most once, in any order
 abbrev pub AreMarks : List Mark → Type 0
 AreMarks [] = Unit {0}
 AreMarks (mark ∷ []) = Unit {0}
+AreMarks (Inline place ∷ Recursive other ∷ []) = Unit {0}
+AreMarks (Recursive place ∷ Inline other ∷ []) = Unit {0}
 AreMarks _ = ⊥
 
 -- whether a part fills a slot
@@ -178,7 +151,7 @@ abbrev pub Fills : Slot → Part → Type 0
 Fills slot.Name (part.Name name) = token_spelling name.kind ≡ spelled.Name
 Fills slot.Names (part.Names names ends) = AreNames names
 Fills (slot.Fixed key) (part.Fixed other place) = key ≡ other
-Fills slot.Effect (part.Effect effect) = IsEffect effect
+Fills slot.Effect (part.Effect effect) = IsEffect effect.tokens effect.effect
 Fills slot.Items (part.Items elements ends) = AreItems elements
 Fills slot.Literal (part.Literal elements) = IsLiteral elements
 Fills slot.Marks (part.Marks marks) = AreMarks marks

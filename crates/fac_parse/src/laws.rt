@@ -1,5 +1,4 @@
 //! Laws of the grammar, each on the contract of a function that does nothing.
-ghost use Rattle.fac_parse.specs.Spellings.{LiteralsAreIntegers};
 ghost use Rattle.fac_parse.specs.Trees.{OnePlace, OneTree, SomePlace, TreeOrNone};
 
 /// No two trees have the same tokens.
@@ -20,9 +19,4 @@ pub fn one_place()
 /// Tokens of no tree are refused at some place.
 pub fn some_place()
     ensures { SomePlace }
-{}
-
-/// A plain token is an integer exactly where the primitives on texts of numbers read its text as one, and has the same value.
-pub fn literals_are_integers()
-    ensures { LiteralsAreIntegers }
 {}

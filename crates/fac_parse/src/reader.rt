@@ -1,15 +1,20 @@
 //! The tree of a source's tokens.
 ghost use Rattle.std.specs.Prelude.{◌≡◌, ◌++◌, ◌∷◌, [], OnOk, IfOk};
 ghost use Rattle.fac_parse.specs.Trees.{Parses, behind, opened, quotation_closed, file_of};
-ghost use Rattle.fac_parse.specs.inner.Reader.{in_state, row, begin, begun_at, row_ended, go_on as goes_on, with_part, with_run, begin_row as row_begins, begins, is_semi, element_of, more, written, end_items as items_end};
-ghost use Rattle.fac_parse.specs.inner.Reader.{top_step, name_step, names_step, key_step, fixed_step, effect_step, may_add as may_have, inputs_step, outputs_step, items_step, mark_of, goes_into, add_literal as literal_added, literal_step, with_mark, marks_step, step, ended, ended_top, start};
-ghost use Rattle.fac_parse.specs.inner.Reader.{state_of, Goes, Passes, Adds, Finishes, IsSyntax, TakesAll, GivesForms};
+ghost use Rattle.fac_parse.specs.inner.Reader.{in_state, row, begin, begun_at, row_ended, go_on as goes_on, with_part, with_run, more, written};
+ghost use Rattle.fac_parse.specs.inner.Reader.{begin_row as row_begins, begins, is_semi, element_of, end_items as items_end, mark_of, goes_into};
+ghost use Rattle.fac_parse.specs.inner.Reader.{top_step, name_step, names_step, key_step, fixed_step, effect_step, items_step, literal_step};
+ghost use Rattle.fac_parse.specs.inner.Reader.{add_literal as literal_added, may_follow as may_stand, with_mark, marks_step, step, ended, ended_top, start};
+ghost use Rattle.fac_parse.specs.inner.Reader.{open_of, state_of, IsRead, Goes, Passes, Adds, Finishes, IsSyntax, TakesAll, GivesForms};
 ghost use Rattle.fac_lang.specs.declared.tree.Part.TheVariants as part;
+ghost use Rattle.fac_effect.specs.Spellings.{token_spelling};
+ghost use Rattle.fac_effect.specs.EffectReading.{reads as reading, whole, after};
 
 use crate::context::{Bracket, Context};
+use crate::cut::cut;
 use crate::rows::{Slot, slot_at};
-use crate::spelling::{Spelling, classify, names_a_value};
-use fac_lang::limits::{MOST_LEVELS, MOST_NAMES};
+use fac_effect::{EffectReader, Spelling, Taken, classify, effect_from};
+use fac_lang::limits::MOST_LEVELS;
 use fac_lang::{
     Element, Form, FormKind, Key, List, Mark, Memory, Part, Place, Stack, Term, Token, Tree,
     WrittenEffect,
@@ -65,12 +70,8 @@ pub enum At {
     Names(Head),
     /// Where a row has a fixed token.
     Fixed(Head, Key),
-    /// Where an effect begins.
+    /// In an effect, or before it.
     Effect(Head),
-    /// Among the inputs of an effect, behind its `(`.
-    Inputs(Head, Place),
-    /// Among the outputs of an effect, behind its `(` and its `--`.
-    Outputs(Head, Place, Place),
     /// Among the items of a row.
     Items(Head),
     /// Where a row has a literal, or among its elements.
@@ -86,10 +87,10 @@ pub struct Reader {
     pub forms: List<Form>,
     /// The parts of the row that are whole.
     pub parts: List<Part>,
-    /// Names, or the inputs of an effect.
+    /// Names, or the tokens of an effect.
     pub names: List<Token>,
-    /// The outputs of an effect.
-    pub outs: List<Token>,
+    /// How far the effect is read.
+    pub effect: EffectReader,
     /// Items.
     pub elements: List<Element>,
     /// The brackets that are open among the items.
@@ -196,11 +197,24 @@ fn mark(spelling: Spelling, place: Place) -> Option<Mark>
     }
 }
 
-// Whether an effect with these names may have this one more.
-fn may_add(ins: &List<Token>, outs: &List<Token>, token: &Token) -> bool
-    ensures { result ≡ may_have ins.now outs.now token.now }
+// Whether a mark may stand behind these: none stands twice.
+fn may_follow(marks: &List<Mark>, mark: Mark) -> bool
+    ensures { result ≡ may_stand marks.now mark }
 {
-    names_a_value(token) && ins.len() as u64 + (outs.len() as u64) < MOST_NAMES
+    match marks.as_slice() {
+        [] => true,
+        [first] => match first {
+            Mark::Inline(_) => match mark {
+                Mark::Inline(_) => false,
+                Mark::Recursive(_) => true,
+            },
+            Mark::Recursive(_) => match mark {
+                Mark::Inline(_) => true,
+                Mark::Recursive(_) => false,
+            },
+        },
+        _ => false,
+    }
 }
 
 // Adds the element that a token of this spelling is. False where it is none, or may not stand.
@@ -253,7 +267,7 @@ impl Reader {
             forms: List::new(alloc),
             parts: List::new(alloc),
             names: List::new(alloc),
-            outs: List::new(alloc),
+            effect: EffectReader::new(alloc),
             elements: List::new(alloc),
             contexts: Stack::new(alloc),
             marks: List::new(alloc),
@@ -277,6 +291,8 @@ impl Reader {
                 self.at = At::Fixed(head, key);
             }
             Slot::Effect => {
+                self.names = List::new(alloc);
+                self.effect = EffectReader::new(alloc);
                 self.at = At::Effect(head);
             }
             Slot::Items => {
@@ -300,7 +316,7 @@ impl Reader {
     fn end_row(&mut self, alloc: Global, head: Head) -> Result<(), Memory>
         ensures { OnOk result (state_of self.new ≡ row_ended self.old.forms (begun_at head self.old.parts)) }
     {
-        let parts = mem::replace(&mut self.parts, List::new(alloc));
+        let parts = cut(mem::replace(&mut self.parts, List::new(alloc)));
         self.elements = List::new(alloc);
         self.contexts = Stack::new(alloc);
         self.at = At::Top;
@@ -339,7 +355,7 @@ impl Reader {
         if self.elements.len() == 0 {
             Ok(())
         } else {
-            let elements = mem::replace(&mut self.elements, List::new(alloc));
+            let elements = cut(mem::replace(&mut self.elements, List::new(alloc)));
             self.forms.push(Form::Items(elements))
         }
     }
@@ -409,7 +425,7 @@ impl Reader {
                 Ok(true)
             }
             Spelling::Semi => {
-                let names = mem::replace(&mut self.names, List::new(alloc));
+                let names = cut(mem::replace(&mut self.names, List::new(alloc)));
                 let part = Part::Names {
                     names,
                     ends: token.place,
@@ -445,7 +461,17 @@ impl Reader {
         }
     }
 
-    // Takes a token where an effect begins.
+    // Ends an effect, whose tokens are all there.
+    fn end_effect(&mut self, alloc: Global, head: Head) -> Result<(), Memory>
+        requires { after self.now.names ≡ whole }
+        ensures { OnOk result (state_of self.new ≡ with_part self.old.forms (begun_at head self.old.parts) (part.Effect (written self.old.names))) }
+    {
+        let effect = effect_from(alloc, self.names.as_slice())?;
+        let tokens = cut(mem::replace(&mut self.names, List::new(alloc)));
+        self.add_part(alloc, head, Part::Effect(WrittenEffect { tokens, effect }))
+    }
+
+    // Takes a token of an effect.
     fn take_effect(
         &mut self,
         alloc: Global,
@@ -453,98 +479,22 @@ impl Reader {
         spelling: Spelling,
         token: Token,
     ) -> Result<bool, Memory>
-        ensures { Goes (effect_step self.old.forms (begun_at head self.old.parts) spelling token) (state_of self.new) result }
+        requires at { self.now.at ≡ At.Effect head }
+        requires read { after self.now.names ≡ reading self.now.effect }
+        requires spelled { token_spelling token.kind ≡ spelling }
+        ensures { Goes (effect_step self.old.forms (begun_at head self.old.parts) self.old.names self.old.effect spelling token) (state_of self.new) result }
     {
-        match spelling {
-            Spelling::Opens => {
-                self.names = List::new(alloc);
-                self.at = At::Inputs(head, token.place);
+        match self.effect.take(spelling, &token)? {
+            Taken::More => {
+                self.names.push(token)?;
                 Ok(true)
             }
-            _ => Ok(false),
-        }
-    }
-
-    // Takes a token among the inputs of an effect.
-    fn take_input(
-        &mut self,
-        alloc: Global,
-        head: Head,
-        opens: Place,
-        spelling: Spelling,
-        token: Token,
-    ) -> Result<bool, Memory>
-        requires { self.now.at ≡ At.Inputs head opens }
-        ensures { Goes (inputs_step self.old.forms (begun_at head self.old.parts) opens self.old.names spelling token) (state_of self.new) result }
-    {
-        match spelling {
-            Spelling::Name => {
-                if may_add(&self.names, &List::new(alloc), &token) {
-                    self.names.push(token)?;
-                    Ok(true)
-                } else {
-                    Ok(false)
-                }
-            }
-            Spelling::Dashes => {
-                self.outs = List::new(alloc);
-                self.at = At::Outputs(head, opens, token.place);
+            Taken::Whole => {
+                self.names.push(token)?;
+                self.end_effect(alloc, head)?;
                 Ok(true)
             }
-            _ => Ok(false),
-        }
-    }
-
-    // Ends an effect with its `)`.
-    fn end_effect(
-        &mut self,
-        alloc: Global,
-        head: Head,
-        opens: Place,
-        dashes: Place,
-        closes: Place,
-    ) -> Result<(), Memory>
-        ensures { OnOk result (state_of self.new ≡ with_part self.old.forms (begun_at head self.old.parts) (part.Effect (written opens self.old.names dashes self.old.outs closes))) }
-    {
-        let ins = mem::replace(&mut self.names, List::new(alloc));
-        let outs = mem::replace(&mut self.outs, List::new(alloc));
-        let effect = WrittenEffect {
-            opens,
-            ins,
-            dashes,
-            outs,
-            closes,
-        };
-        self.add_part(alloc, head, Part::Effect(effect))
-    }
-
-    // Takes a token among the outputs of an effect.
-    fn take_output(
-        &mut self,
-        alloc: Global,
-        head: Head,
-        opens: Place,
-        dashes: Place,
-        spelling: Spelling,
-        token: Token,
-    ) -> Result<bool, Memory>
-        requires { self.now.at ≡ At.Outputs head opens dashes }
-        ensures { Goes (outputs_step self.old.forms (begun_at head self.old.parts) opens self.old.names dashes self.old.outs spelling token) (state_of self.new) result }
-    {
-        match spelling {
-            Spelling::Name => {
-                if may_add(&self.names, &self.outs, &token) {
-                    self.outs.push(token)?;
-                    Ok(true)
-                } else {
-                    Ok(false)
-                }
-            }
-            Spelling::Closes => {
-                self.end_effect(alloc, head, opens, dashes, token.place)?;
-                Ok(true)
-            }
-            _ => Ok(false),
+            Taken::Refused(_) => Ok(false),
         }
     }
 
@@ -555,7 +505,7 @@ impl Reader {
         if self.contexts.len() != 0 {
             return Ok(false);
         }
-        let elements = mem::replace(&mut self.elements, List::new(alloc));
+        let elements = cut(mem::replace(&mut self.elements, List::new(alloc)));
         self.add_part(alloc, head, Part::Items { elements, ends })?;
         Ok(true)
     }
@@ -564,7 +514,7 @@ impl Reader {
     fn end_literal(&mut self, alloc: Global, head: Head) -> Result<(), Memory>
         ensures { OnOk result (state_of self.new ≡ with_part self.old.forms (begun_at head self.old.parts) (part.Literal self.old.elements)) }
     {
-        let elements = mem::replace(&mut self.elements, List::new(alloc));
+        let elements = cut(mem::replace(&mut self.elements, List::new(alloc)));
         self.add_part(alloc, head, Part::Literal(elements))
     }
 
@@ -626,23 +576,24 @@ impl Reader {
         }
     }
 
-    // Adds a mark to a row. False where it has one.
+    // Adds a mark to a row. False where it may not stand.
     fn add_mark(&mut self, head: Head, mark: Mark) -> Result<bool, Memory>
         requires { self.now.at ≡ At.Marks head }
         ensures { Goes (with_mark self.old.forms (begun_at head self.old.parts) self.old.marks mark) (state_of self.new) result }
     {
-        if self.marks.len() != 0 {
-            return Ok(false);
+        if may_follow(&self.marks, mark) {
+            self.marks.push(mark)?;
+            Ok(true)
+        } else {
+            Ok(false)
         }
-        self.marks.push(mark)?;
-        Ok(true)
     }
 
     // Ends a row with its marks.
     fn end_marks(&mut self, alloc: Global, head: Head) -> Result<(), Memory>
         ensures { OnOk result (state_of self.new ≡ row_ended self.old.forms (more (begun_at head self.old.parts) (part.Marks self.old.marks))) }
     {
-        let marks = mem::replace(&mut self.marks, List::new(alloc));
+        let marks = cut(mem::replace(&mut self.marks, List::new(alloc)));
         self.parts.push(Part::Marks(marks))?;
         self.end_row(alloc, head)
     }
@@ -669,6 +620,7 @@ impl Reader {
 
     // Takes a token. False where no tree goes on with it.
     fn take(&mut self, alloc: Global, token: Token) -> Result<bool, Memory>
+        requires { IsRead (open_of self.now.at self.now) }
         ensures { Goes (step (state_of self.old) token) (state_of self.new) result }
     {
         let spelling = classify(&token.kind);
@@ -678,10 +630,6 @@ impl Reader {
             At::Names(head) => self.take_names(alloc, head, spelling, token),
             At::Fixed(head, key) => self.take_fixed(alloc, head, key, spelling, token),
             At::Effect(head) => self.take_effect(alloc, head, spelling, token),
-            At::Inputs(head, opens) => self.take_input(alloc, head, opens, spelling, token),
-            At::Outputs(head, opens, dashes) => self.take_output(
-                alloc, head, opens, dashes, spelling, token,
-            ),
             At::Items(head) => self.take_in_items(alloc, head, spelling, token),
             At::Literal(head) => self.take_in_literal(alloc, head, spelling, token),
             At::Marks(head) => self.take_mark(alloc, head, spelling, token),
@@ -751,9 +699,21 @@ fn file(tokens: &[Token]) -> u32
     }
 }
 
-/// The tree of a file's tokens: any number of `USING: name* ;`, of `: name ( name* -- name* ) item* ;` with `inline` or `recursive`
-/// behind it or neither, and of items. An item is a name, an integer, a string, `t`, `f`, or a quotation `[ item* ]`. Quotations nest at most 256
-/// deep. The names of an effect are at most 64, begin with no two dots and end in no colon. No tokens make the empty tree of file 0.
+/// The tree of a file's tokens: any number of forms. A form is one of these rows, or a run of items. `n`, `v` and `p` are names, and a star means any
+/// number, none included.
+///
+/// - `IN: v`, `USE: v`, `USING: v* ;`, `FROM: v => n* ;`, `QUALIFIED-WITH: v p`
+/// - `DEFER: n`, `SYMBOL: n`, `MAIN: n`, `<PRIVATE`, `PRIVATE>`
+/// - `CONSTANT: n` with a literal behind it: an integer, a string, `t`, `f` or a quotation
+/// - `: n effect item* ;` with `inline` and `recursive` behind it, each at most once, in any order
+///
+/// An item is a name, an integer, a string, `t`, `f`, or a quotation `[ item* ]`. Quotations nest at most 256 deep.
+///
+/// An effect is `( entry* -- entry* )`. An entry is a name that ends in no colon, or a name that ends in one and what describes it: a name that ends in
+/// no colon, or an effect. A name that begins with two dots is only the first entry of its side. An effect has at most 64 names, with those of the
+/// effects in it.
+///
+/// No tokens make the empty tree of file 0.
 pub fn parse(alloc: Global, tokens: List<Token>) -> Result<Tree, ParseFault>
     ensures { Parses tokens result }
 {

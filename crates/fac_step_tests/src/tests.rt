@@ -7,6 +7,7 @@ ghost use Rattle.fac_parse.specs.Trees.{IsWellFormed, forms_of, AreWellFormed};
 
 use fac_check::{CheckFault, Rule, check};
 use fac_code::{Action, Image, Instr};
+use fac_effect::{EffectFault, parse_effect};
 use fac_emit::compile;
 use fac_lang::{Duplicate, List, Program, Tree};
 use fac_locals::{Closed, close};
@@ -35,8 +36,8 @@ fn trees_of(alloc: Global, text: &str) -> Result<List<Tree>, Fail>
 }
 
 // A copy of the program of trees.
-fn program_of(alloc: Global, trees: &List<Tree>) -> Result<Program, Fail>
-    requires { AreWellFormed (forms_of trees.now) }
+fn program_of(alloc: Global, trees: List<Tree>) -> Result<Program, Fail>
+    requires { AreWellFormed (forms_of trees) }
     ensures { IfOk result (λ program. IsBuilt program × IsWhole program) }
 {
     let program = resolve(alloc, trees)?;
@@ -47,8 +48,46 @@ fn program_of(alloc: Global, trees: &List<Tree>) -> Result<Program, Fail>
 fn closed_text(alloc: Global, text: &str) -> Result<Closed, Fail>
     ensures { IfOk result (λ closed. StandsForBuilt closed) }
 {
-    let program = program_of(alloc, &trees_of(alloc, text)?)?;
+    let program = program_of(alloc, trees_of(alloc, text)?)?;
     Ok(close(alloc, program, 0)?)
+}
+
+// Whether an effect with so many inputs and outputs is read from the token of this number on, and ends before that one.
+fn is_read(
+    alloc: Global,
+    text: &str,
+    at: usize,
+    height: (usize, Option<u32>),
+    end: usize,
+) -> Result<bool, Fail> {
+    let tokens = tokens(alloc, 1, text.as_bytes())?;
+    if at > tokens.len() as usize {
+        return Ok(false);
+    }
+    let (effect, next) = parse_effect(alloc, tokens.as_slice(), at)?;
+    Ok(next == end && (effect.inputs(), effect.outputs()) == height)
+}
+
+// Whether the first effect of a text is refused so.
+fn is_refused(alloc: Global, text: &str, fault: EffectFault) -> Result<bool, Fail> {
+    let tokens = tokens(alloc, 1, text.as_bytes())?;
+    match parse_effect(alloc, tokens.as_slice(), 0) {
+        Ok(_) => Ok(false),
+        Err(found) => Ok(found == fault),
+    }
+}
+
+#[test]
+fn effects_alone(rt: HostRuntime) -> Result<(), Fail> {
+    let alloc = rt.alloc();
+    let loops = "( ..a pred: ( ..a -- ..b ? ) body: ( ..b -- ..a ) -- ..b )";
+    assert!(rt; is_read(alloc, loops, 0, (2, Some(0)), 18)?);
+    assert!(rt; is_read(alloc, "x y ( a b -- c ) z", 2, (2, Some(1)), 8)?);
+    assert!(rt; is_read(alloc, "( x: ..a -- * )", 0, (1, None), 6)?);
+    assert!(rt; is_refused(alloc, "( a ..b -- )", EffectFault::RowPlace(2))?);
+    assert!(rt; is_refused(alloc, "( a: b: -- )", EffectFault::Form(2))?);
+    assert!(rt; is_refused(alloc, "( a -- b", EffectFault::Form(4))?);
+    Ok(())
 }
 
 // Whether the checker's answer to a text is this.

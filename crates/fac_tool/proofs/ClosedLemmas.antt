@@ -12,7 +12,8 @@ use Rattle.fac_lang.specs.Meaning.{start}
 use Rattle.fac_lang.specs.Forms.{IsBuilt}
 use Rattle.fac_locals.specs.Closed.{Closes, CloseWords}
 use Rattle.fac_locals.specs.declared.closing.Closed.{Closed}
-use Rattle.fac_check.specs.CallableEffects.{callable_height, fits}
+use Rattle.fac_check.specs.CallableEffects.{callable_height}
+use Rattle.fac_lang.specs.HeightArithmetic.{fits}
 use Rattle.fac_check.specs.Checks.{IsKept}
 use Rattle.fac_check.specs.Judged.{refusal_seen}
 use Rattle.fac_check.specs.declared.refusal.Refusal.{Refusal}

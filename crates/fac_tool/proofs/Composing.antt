@@ -1,5 +1,5 @@
 -- The steps of a command, one behind the other.
-use Rattle.std.proofs.Common.{◌≡◌, ℕ, List, Some, None, Result, Ok, Err, refl, sym, ap, subst, inl, inr}
+use Rattle.std.proofs.Common.{◌≡◌, ℕ, List, Some, None, Result, Ok, Err, sym, ap, subst, inl, inr}
 use Rattle.std.specs.Result.{IsErrAnd}
 use Rattle.fac_lang.specs.declared.program.Program.{Program}
 use Rattle.fac_lang.specs.declared.tree.Form.{Form}
@@ -10,7 +10,7 @@ use Rattle.fac_io.specs.Told.{SinkTold, TookNothing-same}
 use Rattle.fac_tool.specs.declared.accepting.Accepted.{Accepted}
 use Rattle.fac_tool.specs.declared.command.Command.{Command}
 use Rattle.fac_tool.specs.declared.ended.Ended.{Ended}
-use Rattle.fac_tool.specs.Answer.{Sources, trees, come_to, accepted, answer_on, definitions_in, on_accepted, on_resolved, on_verdict}
+use Rattle.fac_tool.specs.Answer.{Sources, trees, come_to, accepted, answer_on, own_definitions, on_accepted, on_resolved, on_verdict}
 use Rattle.fac_tool.specs.SeenObjects.{SinkSeen, FilesSeen}
 use Rattle.fac_tool.specs.Ends.{EndsAs, work_of}
 use Rattle.fac_tool.specs.inner.Stops.{StandsForSafe}
@@ -19,12 +19,12 @@ use Rattle.fac_tool.specs.inner.StepEnds.{still, EndsEarly, StepsEnd, ended_by, 
 use Rattle.fac_tool.proofs.SourceLemmas.{accepted_safe}
 
 -- names that don't resolve, a refusal and want of memory end the work on the trees of texts
-pub ends_on_trees : (texts : List (List ℕ)) (files : List (List Form)) (ended : Ended) → AreTrees texts files → ((command : Command) → EndsEarly (on_resolved command (definitions_in files) (resolved files)) ended) → EndsRead texts ended
+pub ends_on_trees : (texts : List (List ℕ)) (files : List (List Form)) (ended : Ended) → AreTrees texts files → ((command : Command) → EndsEarly (on_resolved command (own_definitions files) (resolved files)) ended) → EndsRead texts ended
 ends_on_trees texts files ended are ends =
     record { sources = are.sources; are_read = are.are_read; ends = λ command. subst (λ (s : Sources). EndsEarly (answer_on command s) ended) (sym are.come) (ends command) }
 
 pub ends_on_program :
-    (texts : List (List ℕ)) (files : List (List Form)) (P : Program) (ended : Ended) → AreTrees texts files → resolved files ≡ Ok P → ((command : Command) → EndsEarly (on_verdict command (definitions_in files) P (verdict P 0)) ended) → EndsRead texts ended
+    (texts : List (List ℕ)) (files : List (List Form)) (P : Program) (ended : Ended) → AreTrees texts files → resolved files ≡ Ok P → ((command : Command) → EndsEarly (on_verdict command (own_definitions files) P (verdict P 0)) ended) → EndsRead texts ended
 ends_on_program texts files P ended are resolves ends = ends_on_trees texts files ended are (λ command. rw resolves (ends command))
 
 -- what a `?` returns is the ending of its step
@@ -35,13 +35,13 @@ passed_on (Err other) ended h = ap Err h
 -- the last step of reading
 pub accepts_checked :
     (texts : List (List ℕ)) (files : List (List Form)) (P : Program) (accepted : Accepted) →
-    AreTrees texts files → resolved files ≡ Ok P → (verdict P 0 ≡ None) × StandsForSafe accepted.checked.closed P → accepted.definitions ≡ definitions_in files → AreAccepted texts accepted
+    AreTrees texts files → resolved files ≡ Ok P → (verdict P 0 ≡ None) × StandsForSafe accepted.checked.closed P → accepted.definitions ≡ own_definitions files → AreAccepted texts accepted
 accepts_checked texts files P accepted are resolves h count = record { files = files; P = P; are_trees = are; resolves = resolves; accepts = h.0; stands = h.1; count = count }
 
 -- an accepted program has the answer of what is done with it
 accepted_ends :
     (command : Command) (s : Sources) (files : List (List Form)) (P : Program) (out : SinkSeen) (ended : Ended) → s ≡ trees files → resolved files ≡ Ok P → verdict P 0 ≡ None →
-    EndsAs (on_accepted command (definitions_in files) P) (work_of command (Some P)) out ended → EndsAs (answer_on command s) (work_of command (accepted s)) out ended
+    EndsAs (on_accepted command (own_definitions files) P) (work_of command (Some P)) out ended → EndsAs (answer_on command s) (work_of command (accepted s)) out ended
 accepted_ends command s files P out ended come resolves accepts ends = rw (come, resolves, accepts) ends
 
 -- texts were loaded and read, and their work ended early

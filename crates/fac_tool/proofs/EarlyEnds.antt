@@ -3,7 +3,7 @@ use Rattle.std.proofs.Common.{◌≡◌, ℕ, List, [], None, Some, refl, sym, s
 use Rattle.std.proofs.lemmas.List.{append-nil}
 use Rattle.std.specs.declared.option.Option.{Option}
 use Rattle.fac_io.specs.Faults.{Rose}
-use Rattle.fac_io.specs.Told.{Grows, GrowsByPrefix, SinkTold, TookWhole, TookFront, Stays-same, TookNothing-same, GrowsByPrefix-stays}
+use Rattle.fac_io.specs.Told.{Grows, SinkTold, Stays-same, TookNothing-same, GrowsByPrefix-stays}
 use Rattle.fac_lang.specs.declared.program.Program.{Program}
 use Rattle.fac_notes.specs.declared.report.Report.{Report}
 use Rattle.fac_notes.specs.Statuses.{status_of}

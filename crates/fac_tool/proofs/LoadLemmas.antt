@@ -1,5 +1,5 @@
 -- Loads, one behind the other.
-use Rattle.std.proofs.Common.{◌≡◌, ◌≤◌, ◌<◌, ◌+◌, ℕ, suc, drop, drop-cons, get_or, List, [], ◌∷◌, ◌++◌, length, map, take, Some, None, Result, Ok, Err, IfSome, IsSomeAnd, refl, sym, ap, subst, ◌∙◌, ◌⊎◌, inl, inr, arith, append_assoc, length-append}
+use Rattle.std.proofs.Common.{◌≡◌, ◌≤◌, ◌<◌, ◌+◌, ℕ, suc, drop, drop-cons, get_or, List, [], ◌∷◌, ◌++◌, length, map, take, Some, None, IfSome, IsSomeAnd, refl, sym, ap, subst, ◌∙◌, inl, inr, arith, append_assoc, length-append}
 use Rattle.std.proofs.Math.Seq.{take-append_seam}
 use Rattle.std.proofs.lemmas.List.{map-append, append-nil, take_more, take-append-drop}
 use Rattle.std.proofs.lemmas.List.Folds.{concat-append}
@@ -10,12 +10,11 @@ use Rattle.fac_io.specs.declared.files.Asked.TheVariants.{Load}
 use Rattle.fac_io.specs.Faults.{Rose}
 use Rattle.fac_io.specs.Names.{Held}
 use Rattle.fac_io.specs.Told.{Stays, Grows, GrowsByPrefix}
-use Rattle.fac_notes.specs.declared.report.Report.TheVariants as report
 use Rattle.fac_tool.specs.declared.ended.Ended.{Ended}
 use Rattle.fac_tool.specs.Answer.{limit}
 use Rattle.fac_tool.specs.SeenObjects.{FilesSeen}
-use Rattle.fac_tool.specs.Answers.{LoadsGive, LoadsComeTo, LoadsEnd}
-use Rattle.fac_tool.specs.inner.StepEnds.{bare, reported, LoadGives, LoadAdds, OneEnds}
+use Rattle.fac_tool.specs.Answers.{LoadsGive, LoadsEnd}
+use Rattle.fac_tool.specs.inner.StepEnds.{LoadAdds, OneEnds}
 use Rattle.fac_tool.proofs.EarlyEnds.{grows_nothing}
 
 stays_on : {A : Type 0} (one two three : Option A) → Stays one two → Stays two three → Stays one three

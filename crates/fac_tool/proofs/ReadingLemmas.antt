@@ -1,5 +1,5 @@
 -- Texts that are read to their trees, one behind the other.
-use Rattle.std.proofs.Common.{◌≡◌, ◌+◌, ℕ, List, [], ◌∷◌, ◌++◌, Some, None, Result, Ok, Err, refl, sym, ap, subst, ◌∙◌}
+use Rattle.std.proofs.Common.{◌≡◌, ◌+◌, ℕ, List, [], ◌∷◌, ◌++◌, Ok, Err, refl, sym, ap, subst, ◌∙◌}
 use Rattle.fac_lang.specs.declared.token.Token.{Token}
 use Rattle.fac_lang.specs.declared.tree.Form.{Form}
 use Rattle.fac_lang.specs.declared.tree.Tree.{Tree}
@@ -8,12 +8,12 @@ use Rattle.fac_token.specs.declared.fault.TokenFault.TheVariants as token
 use Rattle.fac_token.specs.Tokens.{Tokenizes}
 use Rattle.fac_parse.specs.declared.reader.Why.{Why}
 use Rattle.fac_parse.specs.Trees.{Misses, forms_of}
+use Rattle.fac_prelude.specs.PreludeText.{prelude_text}
 use Rattle.fac_notes.specs.declared.report.ByteFault.{ByteFault}
 use Rattle.fac_notes.specs.declared.report.ByteFault.TheVariants as byte
 use Rattle.fac_notes.specs.declared.report.Report.TheVariants as report
-use Rattle.fac_tool.specs.declared.command.Command.{Command}
 use Rattle.fac_tool.specs.declared.ended.Ended.{Ended}
-use Rattle.fac_tool.specs.Answer.{Source, no_tokens, no_tree, tree, Sources, trees, together, come_to, answer_on}
+use Rattle.fac_tool.specs.Answer.{Source, no_tokens, no_tree, tree, Sources, together, answer_on}
 use Rattle.fac_tool.specs.Sources.{token_fault, IsReadAs, AreReadAs, EverySource}
 use Rattle.fac_tool.specs.inner.StepEnds.{bare, reported, fault_ending, EndsEarly, EndsFile, TreeAdds, ReadSoFar, EndsRead, AreTrees}
 use Rattle.fac_tool.proofs.EarlyEnds.{no_memory, is_refused}
@@ -54,8 +54,21 @@ adds_tree file text before now one read e = record { forms = one.forms; is_read 
 abbrev pub Onward : List (List ℕ) → List (List ℕ) → ℕ → List (List Form) → Type 0
 Onward texts left file before = (sources : List Source) → AreReadAs file left sources → ReadSoFar texts file before sources
 
-pub begins : (texts : List (List ℕ)) → Onward texts texts 1 []
-begins texts sources are = record { whole = sources; are_read = are; same = refl }
+-- those of the command do, once the prelude is read
+pub begins : (texts left : List (List ℕ)) (before now : List Tree) → left ≡ texts → before ≡ [] → TreeAdds 0 prelude_text before now → Onward texts left 1 (forms_of now)
+begins texts left before now e none adds sources are =
+    let added = adds.added ∙ ap (λ (ts : List Tree). forms_of ts ++ adds.forms ∷ []) none in
+    record {
+      whole = tree adds.forms ∷ sources;
+      are_read = (adds.is_read, subst (λ (ts : List (List ℕ)). AreReadAs 1 ts sources) e are);
+      same = ap (λ (fs : List (List Form)). together fs 1 sources) (sym added);
+    }
+
+-- or the prelude ends the work
+pub ends_prelude : EverySource → (texts : List (List ℕ)) (ended : Ended) → EndsFile 0 prelude_text ended → EndsRead texts ended
+ends_prelude law texts ended ends =
+    let behind = law 1 texts in
+    record { sources = ends.source ∷ behind.0; are_read = (ends.is_read, behind.1); ends = λ command. ends.ends command [] behind.0 }
 
 pub goes_on :
     (texts left rest : List (List ℕ)) (file : ℕ) (text : List ℕ) (before now : List Tree) →

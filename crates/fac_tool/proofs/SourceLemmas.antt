@@ -16,10 +16,11 @@ use Rattle.fac_parse.specs.declared.reader.Why.{Why}
 use Rattle.fac_names.specs.Resolution.{resolved, ResolvedAreWhole}
 use Rattle.fac_check.specs.Verdicts.{Refusal, verdict}
 use Rattle.fac_check.specs.Promises.{IsSafe, AcceptedAreSafe}
+use Rattle.fac_prelude.specs.PreludeText.{prelude_text}
 use Rattle.fac_notes.specs.declared.report.ByteFault.{ByteFault}
 use Rattle.fac_notes.specs.declared.report.ByteFault.TheVariants as byte
 use Rattle.fac_tool.specs.Answer.{Source, no_tokens, no_tree, tree, Sources, no_tokens_in, no_tree_in, trees, together, come_to, if_accepted, accepted_of, accepted}
-use Rattle.fac_tool.specs.Sources.{token_fault, IsParsedAs, IsReadAs, AreReadAs}
+use Rattle.fac_tool.specs.Sources.{token_fault, IsParsedAs, IsReadAs, AreReadAs, AreReadWithPrelude}
 use Rattle.fac_tool.specs.inner.StepEnds.{AreTrees}
 
 abbrev Comes : ℕ → List ℕ → Type 0
@@ -158,12 +159,12 @@ fit files before file (text ∷ texts) (no_tree at why ∷ ss) fits are e = absu
 fit files before file (text ∷ texts) (tree forms ∷ ss) fits are e = fit files (before ++ forms ∷ []) (file + 1) texts ss (one_more_fits before forms fits (one_fits file text forms are.0)) are.1 e
 
 pub trees_fit : (texts : List (List ℕ)) (files : List (List Form)) → AreTrees texts files → AreWellFormed files
-trees_fit texts files h = fit files [] 1 texts h.sources tt h.are_read h.come
+trees_fit texts files h = fit files [] 0 (prelude_text ∷ texts) h.sources tt h.are_read h.come
 
 safe_if : AcceptedAreSafe → ResolvedAreWhole → (s : Sources) → ((files : List (List Form)) → s ≡ trees files → AreWellFormed files) → IfSome (accepted s) (λ P. IsSafe P 0)
 safe_if law whole (no_tokens_in file at why) fits = tt
 safe_if law whole (no_tree_in file at why) fits = tt
 safe_if law whole (trees files) fits = resolved_safe law whole files (resolved files) (fits files refl) refl
 
-pub accepted_safe : AcceptedAreSafe → ResolvedAreWhole → (texts : List (List ℕ)) (sources : List Source) → AreReadAs 1 texts sources → IfSome (accepted (come_to sources)) (λ P. IsSafe P 0)
-accepted_safe law whole texts sources are = safe_if law whole (come_to sources) (λ files. fit files [] 1 texts sources tt are)
+pub accepted_safe : AcceptedAreSafe → ResolvedAreWhole → (texts : List (List ℕ)) (sources : List Source) → AreReadWithPrelude texts sources → IfSome (accepted (come_to sources)) (λ P. IsSafe P 0)
+accepted_safe law whole texts sources are = safe_if law whole (come_to sources) (λ files. fit files [] 0 (prelude_text ∷ texts) sources tt are)

@@ -1,5 +1,5 @@
 -- What a command answers, as a function of what its files come to.
-use Rattle.std.specs.Prelude.{ℕ, ◌+◌, ◌-◌, Bool, true, false, List, [], ◌∷◌, ◌++◌, length, map, reverse, None, Some, codes, decimal, nat_le, Result, Ok, Err, if◌then◌else◌}
+use Rattle.std.specs.Prelude.{ℕ, ◌+◌, ◌-◌, Bool, true, false, List, [], ◌∷◌, ◌++◌, drop, length, map, reverse, None, Some, codes, decimal, nat_le, Result, Ok, Err, if◌then◌else◌}
 use Rattle.std.specs.List.{count_by, sum_by}
 use Rattle.std.specs.declared.option.Option.{Option}
 use Rattle.std.specs.Option.{option_map}
@@ -17,7 +17,8 @@ use Rattle.fac_lang.specs.Meaning.{meaning_values, names, run, start, word_phras
 use Rattle.fac_parse.specs.declared.reader.Why.{Why}
 use Rattle.fac_names.specs.declared.refusal.NameFault.{NameFault}
 use Rattle.fac_names.specs.Resolution.{resolved}
-use Rattle.fac_check.specs.CallableEffects.{callable_height, fits}
+use Rattle.fac_check.specs.CallableEffects.{callable_height}
+use Rattle.fac_lang.specs.HeightArithmetic.{fits}
 use Rattle.fac_check.specs.Verdicts.{Refusal, verdict}
 use Rattle.fac_notes.specs.declared.report.ByteFault.{ByteFault}
 use Rattle.fac_notes.specs.declared.report.Report.{Report}
@@ -28,7 +29,7 @@ use Rattle.fac_tool.specs.declared.command.Command.{Command}
 use Rattle.fac_tool.specs.declared.command.Command.TheVariants as command
 use Rattle.fac_tool.specs.Refusals.{refusal_of}
 
--- the most bytes that are read, of all files together
+-- the most bytes of the files of a command together; those of the prelude don't count
 abbrev pub limit : ℕ
 limit = MOST_SOURCE_BYTES
 
@@ -38,8 +39,8 @@ pub data Source : Type 0 where
   no_tree : ℕ → Why → Source
   tree : List Form → Source
 
--- what the files of a command come to: a fault of the tokens of the file with a number, at a byte; a refusal of that file, at a token; or the
--- forms of each file
+-- what the prelude and the files of a command come to: a fault of the tokens of the file with a number, at a byte; a refusal of that file, at a
+-- token; or the forms of each file
 pub data Sources : Type 0 where
   no_tokens_in : ℕ → ℕ → ByteFault → Sources
   no_tree_in : ℕ → ℕ → Why → Sources
@@ -52,9 +53,9 @@ together read file (no_tokens at why ∷ sources) = no_tokens_in file at why
 together read file (no_tree at why ∷ sources) = no_tree_in file at why
 together read file (tree forms ∷ sources) = together (read ++ forms ∷ []) (file + 1) sources
 
--- what files come to that each come to this; they are numbered from 1
+-- what files come to that each come to this; they are numbered from 0, which is the prelude
 abbrev pub come_to : List Source → Sources
-come_to sources = together [] 1 sources
+come_to sources = together [] 0 sources
 
 -- a status with the ticks of the run, the stack's texts from the bottom to the top, the refusal, and the bytes that are written
 pub record Answer : Type 0 where
@@ -108,6 +109,10 @@ is_definition (form.Items elements) = false
 abbrev pub definitions_in : List (List Form) → ℕ
 definitions_in files = sum_by (λ forms. count_by is_definition forms) files
 
+-- those of the files of a command, which stand behind the prelude
+abbrev pub own_definitions : List (List Form) → ℕ
+own_definitions files = definitions_in (drop 1 files)
+
 -- the answer of `check`
 abbrev pub checked_line : ℕ → List ℕ
 checked_line count = codes "checked " ++ decimal count ++ codes " definitions\n"
@@ -134,7 +139,7 @@ on_resolved c count (Ok P) = on_verdict c count P (verdict P 0)
 abbrev pub answer_on : Command → Sources → Answer
 answer_on c (no_tokens_in file at why) = refused (report.Bytes file at why)
 answer_on c (no_tree_in file at why) = refused (report.Syntax file at why)
-answer_on c (trees files) = on_resolved c (definitions_in files) (resolved files)
+answer_on c (trees files) = on_resolved c (own_definitions files) (resolved files)
 
 -- the accepted program of the files, where there is one
 abbrev pub if_accepted : Program → Option (ℕ × Refusal) → Option Program

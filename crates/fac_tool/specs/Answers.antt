@@ -11,7 +11,7 @@ use Rattle.fac_tool.specs.declared.command.Command.{Command}
 use Rattle.fac_tool.specs.declared.ended.Ended.{Ended}
 use Rattle.fac_tool.specs.Command.{command_of, names_of}
 use Rattle.fac_tool.specs.Answer.{Source, answer_on, come_to, limit, accepted}
-use Rattle.fac_tool.specs.Sources.{AreReadAs}
+use Rattle.fac_tool.specs.Sources.{AreReadWithPrelude}
 use Rattle.fac_tool.specs.ToldNotes.{note_of, memory_note, usage_note}
 use Rattle.fac_tool.specs.SeenObjects.{SinkSeen, FilesSeen}
 use Rattle.fac_tool.specs.Ends.{EndsAs, IsBare, work_of}
@@ -75,12 +75,12 @@ pub record NoTexts (names : List (List ℕ)) (files : FilesSeen) (out : SinkSeen
   pub ends : LoadsEnd names files ended
   pub out_is : TookNothing out.before out.now
 
--- texts were loaded, and the work on them has the answer of what they come to, or was cut short; an accepted program is safe
+-- texts were loaded, and the work on them has the answer of what they come to behind the prelude, or was cut short; an accepted program is safe
 pub record Loaded (names : List (List ℕ)) (command : Command) (files : FilesSeen) (out : SinkSeen) (ended : Ended) : Type 0 where
   pub texts : List (List ℕ)
   pub sources : List Source
   pub loads : LoadsGive names files texts
-  pub are_read : AreReadAs 1 texts sources
+  pub are_read : AreReadWithPrelude texts sources
   pub sound : IfSome (accepted (come_to sources)) (λ P. IsSafe P 0)
   pub ends : EndsAs (answer_on command (come_to sources)) (work_of command (accepted (come_to sources))) out ended
 
@@ -153,7 +153,7 @@ pub record IsIdle (files : FilesSeen) (out : SinkSeen) : Type 0 where
   pub asked : Stays files.asked_before files.asked_now
   pub out_is : TookNothing out.before out.now
 
--- the names of the files by their numbers: those of a command have the numbers from 1 on
+-- the names of the files by their numbers: 0 is the prelude, and those of a command have the numbers from 1 on
 abbrev pub numbered_names : List (List ℕ) → List (List ℕ)
 numbered_names names = codes "prelude" ∷ names
 

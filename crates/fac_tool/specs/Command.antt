@@ -1,5 +1,5 @@
 -- The command lines of the tool.
-use Rattle.std.specs.Prelude.{◌==◌, ◌≤◌, ◌+◌, ◌-◌, ◌*◌, ℕ, Bool, true, false, not, ◌&&◌, List, [], ◌∷◌, length, None, Some, codes, if◌then◌else◌, nat_le}
+use Rattle.std.specs.Prelude.{◌==◌, ◌≤◌, ◌+◌, ◌-◌, ◌*◌, ℕ, Bool, false, not, ◌&&◌, List, [], ◌∷◌, length, None, Some, codes, if◌then◌else◌, nat_le}
 use Rattle.std.specs.declared.option.Option.{Option}
 use Rattle.std.specs.List.{list_all, slice_range}
 use Rattle.std.specs.Str.{bytes_eq}

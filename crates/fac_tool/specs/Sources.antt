@@ -5,6 +5,7 @@ use Rattle.fac_token.specs.declared.fault.TokenFault.{TokenFault}
 use Rattle.fac_token.specs.declared.fault.TokenFault.TheVariants as token
 use Rattle.fac_token.specs.Tokens.{Tokenizes}
 use Rattle.fac_parse.specs.Trees.{Reads, Misses}
+use Rattle.fac_prelude.specs.PreludeText.{prelude_text}
 use Rattle.fac_notes.specs.declared.report.ByteFault.{ByteFault}
 use Rattle.fac_notes.specs.declared.report.ByteFault.TheVariants as byte
 use Rattle.fac_tool.specs.Answer.{Source, no_tokens, no_tree, tree}
@@ -33,6 +34,10 @@ AreReadAs file [] [] = Unit {0}
 AreReadAs file [] (source ∷ sources) = ⊥
 AreReadAs file (text ∷ texts) [] = ⊥
 AreReadAs file (text ∷ texts) (source ∷ sources) = IsReadAs file text source × AreReadAs (file + 1) texts sources
+
+-- what the prelude and the files of a command come to, each by itself; the prelude is file 0, and the command's files stand behind it
+abbrev pub AreReadWithPrelude : List (List ℕ) → List Source → Type 0
+AreReadWithPrelude texts sources = AreReadAs 0 (prelude_text ∷ texts) sources
 
 -- no texts come to two things, so what a command answers is a function of its files' bytes
 abbrev pub OneSource : Type 0

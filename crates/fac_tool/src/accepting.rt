@@ -8,7 +8,7 @@ ghost use Rattle.fac_check.specs.Verdicts.{verdict};
 ghost use Rattle.fac_names.specs.Resolution.{resolved};
 ghost use Rattle.fac_parse.specs.Trees.{AreWellFormed, forms_of};
 ghost use Rattle.fac_tool.specs.declared.command.Command.{Command as CommandSeen};
-ghost use Rattle.fac_tool.specs.Answer.{definitions_in, on_resolved, on_verdict};
+ghost use Rattle.fac_tool.specs.Answer.{on_resolved, on_verdict, own_definitions};
 ghost use Rattle.fac_tool.specs.inner.Stops.{SameNames, StandsFor, StandsForSafe};
 ghost use Rattle.fac_tool.specs.inner.StepEnds.{Accepts, EndsEarly, Steps, StepsOn};
 
@@ -26,7 +26,7 @@ use std::alloc::Global;
 // The number of values that the top-level phrase starts from.
 const START: u64 = 0;
 
-/// An accepted program, and how many definitions its files have.
+/// An accepted program, and how many definitions the files of the command have.
 #[derive(Drop)]
 pub struct Accepted {
     pub checked: Checked,
@@ -36,9 +36,9 @@ pub struct Accepted {
 // The program of trees, which are given back to memory.
 fn resolve_trees(alloc: Global, trees: List<Tree>) -> Result<Program, Ended>
     requires { AreWellFormed (forms_of trees) }
-    ensures { Steps (λ program. (resolved (forms_of trees) ≡ Ok program) × IsBuilt program × IsWhole program) (λ command. on_resolved command (definitions_in (forms_of trees)) (resolved (forms_of trees))) result }
+    ensures { Steps (λ program. (resolved (forms_of trees) ≡ Ok program) × IsBuilt program × IsWhole program) (λ command. on_resolved command (own_definitions (forms_of trees)) (resolved (forms_of trees))) result }
 {
-    match resolve(alloc, &trees) {
+    match resolve(alloc, trees) {
         Err(ResolveFault::Memory) => Err(bare(12, 0)),
         Err(ResolveFault::Name(fault)) => Err(reported(0, Report::Name(fault))),
         Ok(program) => Ok(program),
@@ -91,7 +91,7 @@ fn check_closed(alloc: Global, closed: Closed) -> Result<Checked, Ended>
     }
 }
 
-/// The accepted program of the texts of a command's files.
+/// The accepted program of the prelude and the texts of a command's files.
 pub fn accepted_program(alloc: Global, texts: List<Bytes>) -> Result<Accepted, Ended>
     ensures { Accepts texts result }
 {

@@ -1,5 +1,6 @@
 //! The steps of every command from the texts of its files to their trees.
 ghost use Rattle.std.specs.Prelude.{◌≡◌};
+ghost use Rattle.fac_prelude.specs.PreludeText.{prelude_text};
 ghost use Rattle.fac_notes.specs.declared.report.Report.TheVariants.{Bytes as bytes_report, Syntax as syntax_report};
 ghost use Rattle.fac_tool.specs.inner.StepEnds.{ReadsTree, ReadsNext, ReadsTrees, fault_ending, reported as reported_ending};
 
@@ -64,13 +65,24 @@ fn read_next(alloc: Global, file: u32, text: &[u8], trees: &mut List<Tree>) -> R
     }
 }
 
-// The trees of texts.
+// Puts the tree of the prelude behind these trees; it is called where there are none yet.
+fn read_prelude(alloc: Global, trees: &mut List<Tree>) -> Result<(), Ended>
+    ensures { ReadsNext 0 prelude_text trees.old trees.new result }
+{
+    read_next(alloc, 0, fac_prelude::text().as_bytes(), trees)
+}
+
+// The trees of the prelude and of texts.
 fn trees_of(alloc: Global, texts: &List<Bytes>) -> Result<List<Tree>, Ended>
     ensures { ReadsTrees texts.now result }
 {
     every_text_is_a_source();
     let _count = texts.len();
     let mut trees = List::new(alloc);
+    match read_prelude(alloc, &mut trees) {
+        Ok(()) => {}
+        Err(ended) => return Err(ended),
+    }
     let mut file = 0u32;
     for text in texts.as_slice() {
         file += 1;
@@ -82,7 +94,8 @@ fn trees_of(alloc: Global, texts: &List<Bytes>) -> Result<List<Tree>, Ended>
     Ok(trees)
 }
 
-/// The trees of the texts of a command's files, which are numbered from 1. The texts are given back to memory.
+/// The trees of the prelude, which is file 0, and of the texts of a command's files, which are numbered from 1. The texts are given back to
+/// memory.
 pub fn read_trees(alloc: Global, texts: List<Bytes>) -> Result<List<Tree>, Ended>
     ensures { ReadsTrees texts result }
 {

@@ -56,10 +56,10 @@ fn answer<F: Files, K: Sink, N: Sink>(
 /// which, run alone, writes exactly the bytes and ends with the stack, named error or spent budget of the source's concatenative meaning; and
 /// no accepted program underflows a stack or changes its height other than its declared effects say.
 ///
-/// The clause `answer` says what is answered, by cases on the command and on what its files come to: of `run`, at every budget of at most
-/// 1,000,000,000,000 ticks, and of `check`, on files of at most 4,194,304 bytes together, and of programs that read no input. That a run goes
-/// through code isn't in it: `compile` and `Machine::run` promise that. A source that the grammar refuses is refused without its place. Want
-/// of memory may be answered at any point; a fault only where the object that was handed in counted one.
+/// The clause `answer` says what is answered, by cases on the command and on what the prelude and its files come to: of `run`, at every budget
+/// of at most 1,000,000,000,000 ticks, and of `check`, on files of at most 4,194,304 bytes together, and of programs that read no input. That
+/// a run goes through code isn't in it: `compile` and `Machine::run` promise that. Want of memory may be answered at any point; a fault only
+/// where the object that was handed in counted one.
 pub fn factor_top<F: Files, K: Sink, N: Sink>(
     alloc: Global,
     words: &[String],

@@ -1,5 +1,5 @@
 -- What a word breaks, in each built program for which its closed one stands.
-use Rattle.std.specs.Prelude.{◌≡◌, ℕ, Bool, Option, Some, nat_eq, slice_get}
+use Rattle.std.specs.Prelude.{◌≡◌, ℕ, Bool, ◌&&◌, not, Option, Some, nat_eq, slice_get}
 use Rattle.fac_lang.specs.declared.phrase.Place.{Place}
 use Rattle.fac_lang.specs.declared.program.WordDef.{WordDef}
 use Rattle.fac_lang.specs.Phrases.{Phrase}
@@ -7,17 +7,33 @@ use Rattle.fac_locals.specs.Literals.{first_of_word}
 use Rattle.fac_locals.specs.Closed.{ClosesPhrase, ClosesWord}
 use Rattle.fac_locals.specs.declared.closing.Closed.{Closed}
 use Rattle.fac_abs.specs.declared.rule.Rule.{Rule}
-use Rattle.fac_check.specs.Verdicts.{ordinary_verdict, top_verdict, phrase_verdict, word_verdict, undeclared}
+use Rattle.fac_lang.specs.RowVariables.{has_rows, bindable, is_row}
+use Rattle.fac_check.specs.Verdicts.{ordinary_verdict, row_verdict, top_verdict, inline_verdict, phrase_verdict, word_verdict, undeclared}
+use Rattle.fac_check.specs.inner.UndeclaredRecursion.{inline_phrase}
 use Rattle.fac_check.specs.Judged.{OfEach, breach_seen}
+
+-- whether word w, where the top-level word has the first number, breaks `row-declaration`
+abbrev pub bad_rows_so : ℕ → ℕ → WordDef → Bool
+bad_rows_so top w c = not (nat_eq w top) && (has_rows c.effect && not (inline_phrase c.inline c.sort && bindable c.effect))
 
 module _ (closed : Closed) where
   -- an ordinary word with this closed phrase
   abbrev pub IsOrdinaryBreach : WordDef → Phrase → Option (Place × Rule) → Type 0
   IsOrdinaryBreach c phrase breach = OfEach closed (λ P. (w : ℕ) (d : WordDef) (t : Phrase) → ClosesWord P w d c → ClosesPhrase P (first_of_word w) t phrase → breach_seen breach ≡ ordinary_verdict P w t d)
 
+  -- row word w with this closed phrase
+  abbrev pub IsRowBreach : ℕ → WordDef → Phrase → Option (Place × Rule) → Type 0
+  IsRowBreach w c phrase breach =
+      OfEach closed (λ P. (d : WordDef) (t : Phrase) → slice_get P.words w ≡ Some d → ClosesWord P w d c → ClosesPhrase P (first_of_word w) t phrase → breach_seen breach ≡ row_verdict P w t d)
+
   -- the top-level word with this closed phrase
   abbrev pub IsTopBreach : Phrase → Option (Place × Rule) → Type 0
   IsTopBreach phrase breach = OfEach closed (λ P. (w : ℕ) (t : Phrase) → ClosesPhrase P (first_of_word w) t phrase → breach_seen breach ≡ top_verdict P closed.start w t)
+
+  -- inline word w with this closed phrase
+  abbrev pub IsInlineBreach : ℕ → WordDef → Phrase → Option (Place × Rule) → Type 0
+  IsInlineBreach w c phrase breach =
+      OfEach closed (λ P. (d : WordDef) (t : Phrase) → slice_get P.words w ≡ Some d → ClosesWord P w d c → ClosesPhrase P (first_of_word w) t phrase → breach_seen breach ≡ inline_verdict P (is_row d.recursive d.effect) w t d)
 
   -- word w, where it has this closed phrase
   abbrev pub IsPhraseBreach : ℕ → WordDef → Phrase → Option (Place × Rule) → Type 0

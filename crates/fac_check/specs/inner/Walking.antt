@@ -1,5 +1,5 @@
 -- What the walker's numbers stand for.
-use Rattle.std.specs.Prelude.{◌≡◌, ◌<◌, ◌≤◌, ℕ, suc, List, [], ◌∷◌, Bool, true, false, Some, None, slice_get, length, Result, Ok, Err, if◌then◌else◌}
+use Rattle.std.specs.Prelude.{◌≡◌, ◌<◌, ◌≤◌, ℕ, suc, List, [], ◌∷◌, Bool, true, false, Some, None, slice_get, nat_eq, length, Result, Ok, Err}
 use Rattle.std.specs.declared.option.Option.{Option}
 use Rattle.fac_lang.specs.declared.program.Program.{Program}
 use Rattle.fac_lang.specs.declared.program.WordDef.{WordDef}
@@ -9,25 +9,35 @@ use Rattle.fac_lang.specs.declared.phrase.Template.{Template}
 use Rattle.fac_lang.specs.declared.phrase.Place.{Place}
 use Rattle.fac_lang.specs.declared.phrase.Height.{Height}
 use Rattle.fac_lang.specs.Phrases.{Literal, Phrase, end, Item, Mark, cur_mark, com_mark}
-use Rattle.fac_lang.specs.Effects.{effect_height}
+use Rattle.fac_lang.specs.Signatures.{Signature, signature, Inputs, no_inputs, never}
+use Rattle.fac_lang.specs.declared.effect.Input.{Input}
+use Rattle.fac_lang.specs.Effects.{inputs_count}
 use Rattle.fac_lang.specs.PrimitiveWords.{outputs_of}
 use Rattle.fac_lang.specs.Primitives.{Primitive, prim_numbered}
 use Rattle.fac_lang.specs.Forms.{IsBuilt}
 use Rattle.fac_locals.specs.Literals.{literal_numbered, first_of_word, first_of_literal}
 use Rattle.fac_locals.specs.Closed.{Closes, ClosesPhrase, ClosesItem, ClosesWord}
-use Rattle.fac_locals.specs.declared.closing.Closed.{Closed}
-use Rattle.fac_abs.specs.Marks.{Row, AbstractStack, dead, on}
+use Rattle.fac_lang.specs.RowVariables.{Row, row_name, effect_inputs, effect_leaving, outer_in}
+use Rattle.fac_abs.specs.Marks.{AbstractStack, dead, on}
 use Rattle.fac_abs.specs.declared.rule.Rule.{Rule}
 use Rattle.fac_abs.specs.declared.rule.Rule.TheVariants.{Underflow}
 use Rattle.fac_abs.specs.MarkTrees.{Naming}
 use Rattle.fac_abs.specs.SeenMarks.{MarksSeen, mark_of, stack_of, base_seen, reached_seen, IsMark, IsStack, IsReached}
-use Rattle.fac_check.specs.Flow.{Walked as WalkedPhrase, found, refused, Doing as DoingAtOnce, breaks, gives, expands, walks, forks, and_then, unless_broken, counted, inside, join, marks_back, Walk, walk, walk_phrase, walk_mark, by_height, prim_doing, word_doing, doing}
+use Rattle.fac_abs.specs.declared.reached.Reached.{Reached}
+use Rattle.fac_rows.specs.RowBinding.{Binding, tie, start_row, calls_own, row_binding}
+use Rattle.fac_rows.specs.RowNumbers.{NamesRows, NamesOwn}
+use Rattle.fac_rows.specs.SeenBindings.{IsBinding, binding_seen}
+use Rattle.fac_check.specs.Flow.{Walked as WalkedPhrase, found, refused, Doing as DoingAtOnce, breaks, gives, expands, walks, forks, uses, and_then, living, called, started, tied_on, first_rule, start_rule, use_rule, unless_broken, counted, inside, join, marks_back, Walk, walk, walk_phrase, walk_mark, walk_from, walk_inputs, walk_use, prim_doing, own_doing, row_doing, inline_doing, word_doing, doing}
+use Rattle.fac_check.specs.inner.OwnEffects.{own_effect}
 use Rattle.fac_check.specs.inner.ItemWalk.{item_walk}
 use Rattle.fac_check.specs.declared.doing.Doing.{Doing}
-use Rattle.fac_check.specs.declared.doing.Doing.TheVariants.{Breaks, Ends, Gives, Expands, Walks, Forks}
+use Rattle.fac_check.specs.declared.doing.Doing.TheVariants.{Breaks, Ends, Gives, Leaves, Expands, Walks, Forks, Uses}
+use Rattle.fac_check.specs.declared.subject.Subject.{Subject}
 use Rattle.fac_check.specs.declared.walker.Step.{Step}
 use Rattle.fac_check.specs.declared.walker.Walked.{Walked}
 use Rattle.fac_check.specs.declared.walker.Walked.TheVariants.{Found, Refused}
+use Rattle.fac_check.specs.declared.walker.InputsWalked.{InputsWalked}
+use Rattle.fac_check.specs.declared.walker.InputsWalked.TheVariants.{Bound, Broken}
 
 -- the phrase of a word that is defined by one
 abbrev pub sort_phrase : Sort → Phrase
@@ -40,6 +50,11 @@ phrase_of (Some d) = sort_phrase d.sort
 
 abbrev pub body_phrase : Program → ℕ → Phrase
 body_phrase P w = phrase_of (slice_get P.words w)
+
+-- the effect of a word; where there is none, one that takes nothing
+abbrev pub effect_of : Option WordDef → Signature
+effect_of None = signature None no_inputs never
+effect_of (Some d) = d.effect
 
 -- whether a word of this sort is defined by a phrase, and whether there is a word that is
 abbrev pub has_phrase : Sort → Bool
@@ -60,14 +75,21 @@ module _ (N : Naming) (M : MarksSeen) where
   walked_seen (Found A n) = found (reached_seen N M A) n
   walked_seen (Refused r p) = refused r p
 
-  -- with the phrases of words, and the base of the stack, which no item of today looks at
-  abbrev pub doing_seen : (ℕ → Phrase) → Option Row → Doing → DoingAtOnce
-  doing_seen phrases b (Breaks r) = breaks r
-  doing_seen phrases b Ends = gives dead
-  doing_seen phrases b (Gives s) = gives (on b (stack_of N M s))
-  doing_seen phrases b (Expands w s) = expands w (phrases w) b (stack_of N M s)
-  doing_seen phrases b (Walks m s back) = walks (mark_of N M m) b (stack_of N M s) (marks_of_option (mark_of N M) back)
-  doing_seen phrases b (Forks m n s) = forks (mark_of N M m) (mark_of N M n) b (stack_of N M s)
+  -- with the rows that are bound then
+  abbrev pub inputs_seen : List (Row × Reached) → InputsWalked → WalkedPhrase Binding
+  inputs_seen bs (Bound n) = found (binding_seen N M bs) n
+  inputs_seen bs (Broken r p) = refused r p
+
+  -- with the words by their numbers, and the base of the stack
+  abbrev pub doing_seen : (ℕ → Option WordDef) → Option Row → Doing → DoingAtOnce
+  doing_seen words b (Breaks r) = breaks r
+  doing_seen words b Ends = gives dead
+  doing_seen words b (Gives s) = gives (on b (stack_of N M s))
+  doing_seen words b (Leaves c s) = gives (on (base_seen N c) (stack_of N M s))
+  doing_seen words b (Expands w s) = expands w (phrase_of (words w)) b (stack_of N M s)
+  doing_seen words b (Walks m s back) = walks (mark_of N M m) b (stack_of N M s) (marks_of_option (mark_of N M) back)
+  doing_seen words b (Forks m n s) = forks (mark_of N M m) (mark_of N M n) b (stack_of N M s)
+  doing_seen words b (Uses w i r) = uses (effect_of (words w)) (stack_of N M i) b (stack_of N M r)
 
 -- The numbers of an answer are those of marks and stacks that are there.
 abbrev pub IsWalked : MarksSeen → Walked → Type 0
@@ -78,30 +100,32 @@ abbrev pub AreMarks : MarksSeen → Option ℕ → Type 0
 AreMarks M None = Unit {0}
 AreMarks M (Some m) = IsMark M m
 
--- likewise, and where a word is expanded, it is one of these
-abbrev pub IsDoingOf : (ℕ → Type 0) → MarksSeen → Doing → Type 0
-IsDoingOf named M (Breaks r) = Unit {0}
-IsDoingOf named M Ends = Unit {0}
-IsDoingOf named M (Gives s) = IsStack M s
-IsDoingOf named M (Expands w s) = named w × IsStack M s
-IsDoingOf named M (Walks m s back) = IsMark M m × IsStack M s × AreMarks M back
-IsDoingOf named M (Forks m n s) = IsMark M m × IsMark M n × IsStack M s
+-- likewise, and where a word is expanded or used, it is one of these words
+abbrev pub IsDoingOf : (ℕ → Option WordDef) → MarksSeen → Doing → Type 0
+IsDoingOf words M (Breaks r) = Unit {0}
+IsDoingOf words M Ends = Unit {0}
+IsDoingOf words M (Gives s) = IsStack M s
+IsDoingOf words M (Leaves b s) = IsStack M s
+IsDoingOf words M (Expands w s) = (is_defined (words w) ≡ true) × IsStack M s
+IsDoingOf words M (Walks m s back) = IsMark M m × IsStack M s × AreMarks M back
+IsDoingOf words M (Forks m n s) = IsMark M m × IsMark M n × IsStack M s
+IsDoingOf words M (Uses w i r) = (is_defined (words w) ≡ true) × IsStack M i × IsStack M r
 
--- no word is expanded
+-- no word is expanded or used
 abbrev pub IsDoing : MarksSeen → Doing → Type 0
-IsDoing = IsDoingOf (λ w. ⊥)
+IsDoing = IsDoingOf (λ w. None)
 
--- a number is that of this word, which is defined by a phrase
-abbrev pub IsThisWord : ℕ → WordDef → ℕ → Type 0
-IsThisWord w d v = (v ≡ w) × (has_phrase d.sort ≡ true)
-
--- a number is that of a word among these that is defined by a phrase
-abbrev pub NamesPhrase : List WordDef → ℕ → Type 0
-NamesPhrase words w = is_defined (slice_get words w) ≡ true
+-- the word with this number alone
+abbrev pub only : ℕ → WordDef → ℕ → Option WordDef
+only w d v = elim (nat_eq v w) [ true ↦ Some d | false ↦ None ]
 
 -- what an item does to stack s, from the marks that were there to those that are
 abbrev pub DoesAs : MarksSeen → MarksSeen → ℕ → Doing → (Option Row → List Mark → DoingAtOnce) → Type 0
-DoesAs old new s result does = (N : Naming) (phrases : ℕ → Phrase) (b : Option Row) → doing_seen N new phrases b result ≡ does b (stack_of N old s)
+DoesAs old new s result does = (N : Naming) (words : ℕ → Option WordDef) (b : Option Row) → doing_seen N new words b result ≡ does b (stack_of N old s)
+
+-- likewise one that puts a mark on it
+abbrev pub PutsMark : MarksSeen → MarksSeen → ℕ → (Naming → Mark) → Doing → Type 0
+PutsMark old new s mark result = (N : Naming) (words : ℕ → Option WordDef) (b : Option Row) → doing_seen N new words b result ≡ gives (on b (mark N ∷ stack_of N old s))
 
 -- a rule that an item breaks that needs so many values
 abbrev pub lacks : ℕ → Option Row → List Mark → DoingAtOnce
@@ -122,6 +146,15 @@ abbrev pub IsWithin : ℕ → Walked → Type 0
 IsWithin most (Found A n) = n ≤ most
 IsWithin most (Refused r p) = Unit {0}
 
+abbrev pub AreWithin : ℕ → InputsWalked → Type 0
+AreWithin most (Bound n) = n ≤ most
+AreWithin most (Broken r p) = Unit {0}
+
+-- the rows are bound to stacks that are there
+abbrev pub AreBound : MarksSeen → List (Row × Reached) → InputsWalked → Type 0
+AreBound M bs (Bound n) = IsBinding M bs
+AreBound M bs (Broken r p) = Unit {0}
+
 -- fewer items may be walked than before
 abbrev pub IsBelow : ℕ → Walked → Type 0
 IsBelow most (Found A n) = n < most
@@ -129,95 +162,175 @@ IsBelow most (Refused r p) = Unit {0}
 
 -- an item is counted, unless it broke a rule before
 abbrev pub Admits : Option Rule → ℕ → Result ℕ Rule → Type 0
-Admits broken left (Ok k) = (left ≡ suc k) × ((p : Place) (go : ℕ → WalkedPhrase AbstractStack) → unless_broken None broken p (counted p left go) ≡ go k)
-Admits broken left (Err r) = (p : Place) (go : ℕ → WalkedPhrase AbstractStack) → unless_broken None broken p (counted p left go) ≡ refused r p
+Admits broken left (Ok k) = (left ≡ suc k) × ((p : Place) (go : ℕ → WalkedPhrase AbstractStack) → unless_broken broken p (counted p left go) ≡ go k)
+Admits broken left (Err r) = (p : Place) (go : ℕ → WalkedPhrase AbstractStack) → unless_broken broken p (counted p left go) ≡ refused r p
 
 -- a part of what `curry` or `compose` made is entered
 abbrev pub Enters : Mark → ℕ → Result ℕ Rule → Type 0
 Enters m nested (Ok d) = (p : Place) (go : ℕ → WalkedPhrase AbstractStack) → inside m p nested go ≡ go d
 Enters m nested (Err r) = (p : Place) (go : ℕ → WalkedPhrase AbstractStack) → inside m p nested go ≡ refused r p
 
--- A program for which a closed program stands, and which literals its templates make.
-pub record Opened (C : Program) (templates : List Template) : Type 0 where
+-- A program for which a closed program stands, which literals its templates make, and, where a row word is checked, which it is, its effect, and which rows the numbers of bases name.
+pub record Opened (C : Program) (templates : List Template) (own : Option ℕ) : Type 0 where
   pub program : Program
   pub closes : Closes program C templates
   pub built : IsBuilt program
   pub naming : Naming
   pub naming_is : (k : ℕ) → naming.literal k ≡ literal_numbered program k
+  pub word : Option ℕ
+  pub word_is : word ≡ own
+  pub effect : Option Signature
+  pub effect_is : effect ≡ own_effect C own
+  pub rows : NamesOwn naming effect
 
 -- the walk of phrases in this program, with so many steps
-abbrev pub go_at : {C : Program} {templates : List Template} → Opened C templates → ℕ → Walk
-go_at O f = walk None (doing O.program None) f
+abbrev pub go_at : {C : Program} {templates : List Template} {own : Option ℕ} → Opened C templates own → ℕ → Walk
+go_at O f = walk O.effect (doing O.program O.word) f
 
 -- What the walk of something is that stands at a step, with the marks that were there, in a program for which the closed one stands.
-module _ {C : Program} {templates : List Template} (M : MarksSeen) (s : Step) where
+module _ {C : Program} {templates : List Template} {own : Option ℕ} (M : MarksSeen) (s : Step) where
   -- a phrase is one nested application
-  abbrev pub phrase_walk : Literal → Phrase → Opened C templates → Walk → WalkedPhrase AbstractStack
-  phrase_walk at t O go = walk_phrase None go at t s.place s.nested (base_seen O.naming s.base) (stack_of O.naming M s.stack) s.left
+  abbrev pub phrase_walk : Literal → Phrase → Opened C templates own → Walk → WalkedPhrase AbstractStack
+  phrase_walk at t O go = walk_phrase O.effect go at t s.place s.nested (base_seen O.naming s.base) (stack_of O.naming M s.stack) s.left
 
-  abbrev pub literal_walk : ℕ → Opened C templates → Walk → WalkedPhrase AbstractStack
+  abbrev pub literal_walk : ℕ → Opened C templates own → Walk → WalkedPhrase AbstractStack
   literal_walk k O go = phrase_walk (first_of_literal (O.naming.literal k).0) (O.naming.literal k).1 O go
 
-  abbrev pub word_walk : ℕ → Opened C templates → Walk → WalkedPhrase AbstractStack
+  abbrev pub word_walk : ℕ → Opened C templates own → Walk → WalkedPhrase AbstractStack
   word_walk w O go = phrase_walk (first_of_word w) (body_phrase O.program w) O go
 
   -- of a mark, by its number
-  abbrev pub mark_walk : ℕ → Opened C templates → Walk → WalkedPhrase AbstractStack
-  mark_walk m O go = walk_mark None go (mark_of O.naming M m) s.place s.nested (base_seen O.naming s.base) (stack_of O.naming M s.stack) s.left
+  abbrev pub mark_walk : ℕ → Opened C templates own → Walk → WalkedPhrase AbstractStack
+  mark_walk m O go = walk_mark O.effect go (mark_of O.naming M m) s.place s.nested (base_seen O.naming s.base) (stack_of O.naming M s.stack) s.left
 
   -- of what `curry` made of these marks, and of what `compose` made
-  abbrev pub curried_walk : ℕ → ℕ → Opened C templates → Walk → WalkedPhrase AbstractStack
-  curried_walk m c O go = walk_mark None go (cur_mark (mark_of O.naming M m) (mark_of O.naming M c)) s.place s.nested (base_seen O.naming s.base) (stack_of O.naming M s.stack) s.left
+  abbrev pub curried_walk : ℕ → ℕ → Opened C templates own → Walk → WalkedPhrase AbstractStack
+  curried_walk m c O go = walk_mark O.effect go (cur_mark (mark_of O.naming M m) (mark_of O.naming M c)) s.place s.nested (base_seen O.naming s.base) (stack_of O.naming M s.stack) s.left
 
-  abbrev pub composed_walk : ℕ → ℕ → Opened C templates → Walk → WalkedPhrase AbstractStack
-  composed_walk c e O go = walk_mark None go (com_mark (mark_of O.naming M c) (mark_of O.naming M e)) s.place s.nested (base_seen O.naming s.base) (stack_of O.naming M s.stack) s.left
+  abbrev pub composed_walk : ℕ → ℕ → Opened C templates own → Walk → WalkedPhrase AbstractStack
+  composed_walk c e O go = walk_mark O.effect go (com_mark (mark_of O.naming M c) (mark_of O.naming M e)) s.place s.nested (base_seen O.naming s.base) (stack_of O.naming M s.stack) s.left
+
+  -- of a call of an input of the word that is checked
+  abbrev pub called_walk : ℕ → Opened C templates own → Walk → WalkedPhrase AbstractStack
+  called_walk k O go = called (calls_own k O.effect (base_seen O.naming s.base) (stack_of O.naming M s.stack)) s.place s.left
 
   -- of a part of what `compose` made
-  abbrev pub part_walk : ℕ → Opened C templates → Walk → WalkedPhrase AbstractStack
-  part_walk m O go = inside (mark_of O.naming M m) s.place s.nested (λ d. walk_mark None go (mark_of O.naming M m) s.place d (base_seen O.naming s.base) (stack_of O.naming M s.stack) s.left)
+  abbrev pub part_walk : ℕ → Opened C templates own → Walk → WalkedPhrase AbstractStack
+  part_walk m O go = inside (mark_of O.naming M m) s.place s.nested (λ d. walk_mark O.effect go (mark_of O.naming M m) s.place d (base_seen O.naming s.base) (stack_of O.naming M s.stack) s.left)
 
   -- of a callable, and then a mark is put back
-  abbrev pub callable_walk : ℕ → Option ℕ → Opened C templates → Walk → WalkedPhrase AbstractStack
+  abbrev pub callable_walk : ℕ → Option ℕ → Opened C templates own → Walk → WalkedPhrase AbstractStack
   callable_walk m back O go = and_then (mark_walk m O go) (λ A k. found (marks_back (marks_of_option (mark_of O.naming M) back) A) k)
 
   -- of two callables from one stack, and then a join
-  abbrev pub fork_walk : ℕ → ℕ → Opened C templates → Walk → WalkedPhrase AbstractStack
+  abbrev pub fork_walk : ℕ → ℕ → Opened C templates own → Walk → WalkedPhrase AbstractStack
   fork_walk m n O go =
-      and_then (mark_walk m O go) (λ A k. and_then (walk_mark None go (mark_of O.naming M n) s.place s.nested (base_seen O.naming s.base) (stack_of O.naming M s.stack) k) (λ B j. join A B s.place j))
+      and_then (mark_walk m O go) (λ A k. and_then (walk_mark O.effect go (mark_of O.naming M n) s.place s.nested (base_seen O.naming s.base) (stack_of O.naming M s.stack) k) (λ B j. join A B s.place j))
+
+  -- of a use of a word, on the marks of its inputs
+  abbrev pub use_walk : ℕ → ℕ → Opened C templates own → Walk → WalkedPhrase AbstractStack
+  use_walk w i O go = walk_use O.effect go (effect_of (slice_get C.words w)) (stack_of O.naming M i) s.place s.nested (base_seen O.naming s.base) (stack_of O.naming M s.stack) s.left
+
+  -- likewise of one with this effect
+  abbrev pub effect_walk : Signature → ℕ → Opened C templates own → Walk → WalkedPhrase AbstractStack
+  effect_walk e i O go = walk_use O.effect go e (stack_of O.naming M i) s.place s.nested (base_seen O.naming s.base) (stack_of O.naming M s.stack) s.left
+
+  -- of a callable from a stack with its inputs on it, or from a dead one
+  abbrev pub start_walk : ℕ → Reached → Opened C templates own → Walk → WalkedPhrase AbstractStack
+  start_walk m A O go = living (reached_seen O.naming M A) s.left (λ b ms k. walk_mark O.effect go (mark_of O.naming M m) s.place s.nested b ms k)
+
+  -- of the inputs of a use from the first on, with the rows that are bound
+  abbrev pub inputs_walk : Inputs → ℕ → List (Row × Reached) → Opened C templates own → Walk → WalkedPhrase Binding
+  inputs_walk is i bs O go = walk_inputs O.effect go 1 is (stack_of O.naming M i) s.place s.nested (binding_seen O.naming M bs) s.left
+
+  -- of a quotation input with this number, effect and mark, and then of what follows
+  abbrev pub quotation_walk : ℕ → Signature → ℕ → List (Row × Reached) → (Binding → ℕ → WalkedPhrase Binding) → Opened C templates own → Walk → WalkedPhrase Binding
+  quotation_walk k e m bs more O go =
+      started (start_row (row_name e) (binding_seen O.naming M bs)) k s.place
+      (λ A. and_then (walk_from O.effect go (mark_of O.naming M m) s.place s.nested A (inputs_count (effect_inputs e)) s.left) (λ B n. tied_on (tie k (row_name e) (effect_leaving e) B (binding_seen O.naming M bs)) s.place n more))
+
+  -- likewise of any input
+  abbrev pub input_walk : ℕ → Input → ℕ → List (Row × Reached) → (Binding → ℕ → WalkedPhrase Binding) → Opened C templates own → Walk → WalkedPhrase Binding
+  input_walk k i m bs more O go = elim i.quot [ None ↦ more (binding_seen O.naming M bs) s.left | Some e ↦ quotation_walk k e.value m bs more O go ]
+
+-- the rule that a callable breaks where it is walked first, in each program for which the closed one stands
+abbrev pub IsFirstRule : Subject → MarksSeen → ℕ → Step → Option Rule → Type 0
+IsFirstRule subject M m s r =
+    (O : Opened subject.closed.now.program subject.closed.now.templates subject.own) → r ≡ first_rule O.effect (mark_of O.naming M m) s.nested (base_seen O.naming s.base) (stack_of O.naming M s.stack)
+
+-- likewise the one that a use breaks by a quotation input with this effect and mark, where rows are bound so
+abbrev pub IsInputRule : Subject → MarksSeen → Step → Signature → ℕ → List (Row × Reached) → Option Rule → Type 0
+IsInputRule subject M s e m bs r =
+    (O : Opened subject.closed.now.program subject.closed.now.templates subject.own) → r ≡ start_rule O.effect (start_row (row_name e) (binding_seen O.naming M bs)) (mark_of O.naming M m) (inputs_count (effect_inputs e)) s.nested
+
+-- by the first quotation input of these
+abbrev pub IsInputsRule : Subject → MarksSeen → Step → Inputs → ℕ → List (Row × Reached) → Option Rule → Type 0
+IsInputsRule subject M s is i bs r =
+    (O : Opened subject.closed.now.program subject.closed.now.templates subject.own) → r ≡ use_rule O.effect (binding_seen O.naming M bs) is (stack_of O.naming M i) s.nested
+
+-- and by that of the row word with this effect
+abbrev pub IsUseRule : Subject → MarksSeen → Step → Signature → ℕ → Option Rule → Type 0
+IsUseRule subject M s e i r =
+    (O : Opened subject.closed.now.program subject.closed.now.templates subject.own) →
+    r ≡ use_rule O.effect (row_binding (outer_in e) (on (base_seen O.naming s.base) (stack_of O.naming M s.stack))) (effect_inputs e) (stack_of O.naming M i) s.nested
 
 -- An answer is this walk, in each program for which the closed one stands, with more steps than items may be walked.
-abbrev pub IsWalkOf : (closed : Closed) → MarksSeen → Step → Walked → (Opened closed.program closed.templates → Walk → WalkedPhrase AbstractStack) → Type 0
-IsWalkOf closed L s W walk = (O : Opened closed.program closed.templates) (f : ℕ) → s.left < f → walked_seen O.naming L W ≡ walk O (go_at O f)
+abbrev pub IsWalkOf : (subject : Subject) → MarksSeen → Step → Walked → (Opened subject.closed.now.program subject.closed.now.templates subject.own → Walk → WalkedPhrase AbstractStack) → Type 0
+IsWalkOf subject L s W walk = (O : Opened subject.closed.now.program subject.closed.now.templates subject.own) (f : ℕ) → s.left < f → walked_seen O.naming L W ≡ walk O (go_at O f)
+
+-- likewise the walk of all inputs of a use, and that of one of them with what follows
+abbrev pub AreWalkedInputs : (subject : Subject) → MarksSeen → MarksSeen → Step → Inputs → ℕ → List (Row × Reached) → List (Row × Reached) → InputsWalked → Type 0
+AreWalkedInputs subject M L s is i bs cs W = (O : Opened subject.closed.now.program subject.closed.now.templates subject.own) (f : ℕ) → s.left < f → inputs_seen O.naming L cs W ≡ inputs_walk M s is i bs O (go_at O f)
+
+abbrev pub IsWalkedInput : (subject : Subject) → MarksSeen → MarksSeen → Step → ℕ → Input → ℕ → List (Row × Reached) → List (Row × Reached) → InputsWalked → Type 0
+IsWalkedInput subject M L s k i m bs cs W =
+    (O : Opened subject.closed.now.program subject.closed.now.templates subject.own) (f : ℕ) (more : Binding → ℕ → WalkedPhrase Binding) → s.left < f → and_then (inputs_seen O.naming L cs W) more ≡ input_walk M s k i m bs more O (go_at O f)
+
+abbrev pub IsWalkedQuotation : (subject : Subject) → MarksSeen → MarksSeen → Step → ℕ → Signature → ℕ → List (Row × Reached) → List (Row × Reached) → InputsWalked → Type 0
+IsWalkedQuotation subject M L s k e m bs cs W =
+    (O : Opened subject.closed.now.program subject.closed.now.templates subject.own) (f : ℕ) (more : Binding → ℕ → WalkedPhrase Binding) → s.left < f → and_then (inputs_seen O.naming L cs W) more ≡ quotation_walk M s k e m bs more O (go_at O f)
 
 -- likewise the walk of a phrase, for each that this closed one stands for
-abbrev pub IsWalkOfPhrase : Closed → MarksSeen → MarksSeen → Phrase → Step → Walked → Type 0
-IsWalkOfPhrase closed M L c s W =
-    (O : Opened closed.program closed.templates) (at : Literal) (t : Phrase) (f : ℕ) → ClosesPhrase O.program at t c → s.left < f → walked_seen O.naming L W ≡ go_at O f at s.nested t (base_seen O.naming s.base) (stack_of O.naming M s.stack) s.left
+abbrev pub IsWalkOfPhrase : Subject → MarksSeen → MarksSeen → Phrase → Step → Walked → Type 0
+IsWalkOfPhrase subject M L c s W =
+    (O : Opened subject.closed.now.program subject.closed.now.templates subject.own) (at : Literal) (t : Phrase) (f : ℕ) → ClosesPhrase O.program at t c → s.left < f → walked_seen O.naming L W ≡ go_at O f at s.nested t (base_seen O.naming s.base) (stack_of O.naming M s.stack) s.left
 
 -- likewise the walk of what an item does
-abbrev pub IsWalkOfItem : Closed → MarksSeen → MarksSeen → Doing → Step → Walked → Type 0
-IsWalkOfItem closed M L D s W =
-    (O : Opened closed.program closed.templates) (f : ℕ) → s.left ≤ f → walked_seen O.naming L W ≡ item_walk None (go_at O f) (doing_seen O.naming M (body_phrase O.program) (base_seen O.naming s.base) D) s.place s.nested s.left
+abbrev pub IsWalkOfItem : Subject → MarksSeen → MarksSeen → Doing → Step → Walked → Type 0
+IsWalkOfItem subject M L D s W =
+    (O : Opened subject.closed.now.program subject.closed.now.templates subject.own) (f : ℕ) → s.left ≤ f → walked_seen O.naming L W ≡ item_walk O.effect (go_at O f) (doing_seen O.naming M (slice_get O.program.words) (base_seen O.naming s.base) D) s.place s.nested s.left
 
--- what a closed item does to a stack, as each item does that it stands for
-abbrev pub DoesItem : Closed → MarksSeen → MarksSeen → ℕ → Item → Doing → Type 0
-DoesItem closed M L s c D =
-    (O : Opened closed.program closed.templates) (at : Literal) (i : Item) (b : Option Row) → ClosesItem O.program at i c → doing_seen O.naming L (body_phrase O.program) b D ≡ doing O.program None at i b (stack_of O.naming M s)
+-- what a closed item does to a stack on a base, as each item does that it stands for
+abbrev pub DoesItem : Subject → MarksSeen → MarksSeen → Option ℕ → ℕ → Item → Doing → Type 0
+DoesItem subject M L b s c D =
+    (O : Opened subject.closed.now.program subject.closed.now.templates subject.own) (at : Literal) (i : Item) → ClosesItem O.program at i c → doing_seen O.naming L (slice_get O.program.words) (base_seen O.naming b) D ≡ doing O.program O.word at i (base_seen O.naming b) (stack_of O.naming M s)
 
 -- likewise the item of a word, by its number
-abbrev pub DoesWord : Closed → MarksSeen → MarksSeen → ℕ → ℕ → Doing → Type 0
-DoesWord closed M L s w D =
-    (O : Opened closed.program closed.templates) (N : Naming) (b : Option Row) → doing_seen N L (body_phrase O.program) b D ≡ word_doing O.program None w (slice_get O.program.words w) b (stack_of N M s)
+abbrev pub DoesWord : Subject → MarksSeen → MarksSeen → Option ℕ → ℕ → ℕ → Doing → Type 0
+DoesWord subject M L b s w D =
+    (O : Opened subject.closed.now.program subject.closed.now.templates subject.own) → doing_seen O.naming L (slice_get O.program.words) (base_seen O.naming b) D ≡ word_doing O.program O.word w (slice_get O.program.words w) (base_seen O.naming b) (stack_of O.naming M s)
+
+-- where the word with this number and effect is the one that is checked, a naming gives its rows to their numbers
+abbrev pub NamesWhereOwn : Naming → Option ℕ → ℕ → Signature → Type 0
+NamesWhereOwn N own w e = own ≡ Some w → NamesRows N e
 
 -- likewise that of a word that is closed so
-abbrev pub DoesWordSo : MarksSeen → MarksSeen → ℕ → ℕ → WordDef → Doing → Type 0
-DoesWordSo M L s w c D =
-    (P : Program) (d : WordDef) → w < P.top → slice_get P.words w ≡ Some d → IsBuilt P → ClosesWord P w d c → (N : Naming) (b : Option Row) → doing_seen N L (body_phrase P) b D ≡ word_doing P None w (Some d) b (stack_of N M s)
+abbrev pub DoesWordSo : MarksSeen → MarksSeen → Option ℕ → Option ℕ → ℕ → ℕ → WordDef → Doing → Type 0
+DoesWordSo M L own b s w c D =
+    (P : Program) (d : WordDef) → w < P.top → slice_get P.words w ≡ Some d → IsBuilt P → ClosesWord P w d c → (N : Naming) → NamesWhereOwn N own w c.effect → doing_seen N L (slice_get P.words) (base_seen N b) D ≡ word_doing P own w (Some d) (base_seen N b) (stack_of N M s)
 
--- a word that is defined by a phrase: an inline one is expanded, and every other one goes by its effect
-abbrev pub DoesDefined : MarksSeen → MarksSeen → ℕ → ℕ → WordDef → Doing → Type 0
-DoesDefined M L s w c D =
-    (N : Naming) (phrases : ℕ → Phrase) (b : Option Row) → doing_seen N L phrases b D ≡ (if c.inline then expands w (phrases w) b (stack_of N M s) else by_height (effect_height c.effect).ins (effect_height c.effect).outs b (stack_of N M s))
+-- a word that is defined by a phrase: an inline one is expanded, unless it is a row word, and every other one goes by its effect
+abbrev pub DoesDefined : MarksSeen → MarksSeen → Option ℕ → Option ℕ → ℕ → ℕ → WordDef → Doing → Type 0
+DoesDefined M L own b s w c D =
+    (P : Program) (N : Naming) (words : ℕ → Option WordDef) → effect_of (words w) ≡ c.effect → NamesWhereOwn N own w c.effect → doing_seen N L words (base_seen N b) D ≡ inline_doing P own c.inline w c (phrase_of (words w)) (base_seen N b) (stack_of N M s)
+
+-- the own recursive call of the word with this effect
+abbrev pub DoesOwnCall : MarksSeen → MarksSeen → Option ℕ → ℕ → Signature → Doing → Type 0
+DoesOwnCall M L b s e D = (N : Naming) (words : ℕ → Option WordDef) → NamesRows N e → doing_seen N L words (base_seen N b) D ≡ own_doing e (base_seen N b) (stack_of N M s)
+
+-- a use of the row word with this number and effect, where it isn't the one that is checked
+abbrev pub DoesUse : MarksSeen → MarksSeen → ℕ → ℕ → Signature → Doing → Type 0
+DoesUse M L s w e D = (N : Naming) (words : ℕ → Option WordDef) (b : Option Row) → effect_of (words w) ≡ e → doing_seen N L words b D ≡ row_doing e b (stack_of N M s)
 
 -- a primitive, where this is how many values its row takes and leaves
 abbrev pub DoesPrimitive : MarksSeen → MarksSeen → ℕ → ℕ → Height → Doing → Type 0

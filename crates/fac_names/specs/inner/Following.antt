@@ -11,7 +11,7 @@ use Rattle.fac_lang.specs.declared.tree.Element.{Element}
 use Rattle.fac_lang.specs.declared.tree.Element.TheVariants as element
 use Rattle.fac_lang.specs.declared.tree.Term.{Term}
 use Rattle.fac_lang.specs.declared.tree.Term.TheVariants as term
-use Rattle.fac_parse.specs.Trees.{token_text}
+use Rattle.fac_effect.specs.Spellings.{token_text}
 use Rattle.fac_vocab.specs.Scopes.{Scope}
 use Rattle.fac_names.specs.declared.items.OpenQuotation.{OpenQuotation}
 use Rattle.fac_names.specs.declared.items.Nest.{Nest}

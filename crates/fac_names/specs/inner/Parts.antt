@@ -28,7 +28,7 @@ pub record IsConstant (parts : List Part) (name : Token) (elements : List Elemen
   pub literal : IsLiteral elements
 
 -- the parts of a definition
-pub record IsDefinition (parts : List Part) (name : Token) (effect : WrittenEffect) (elements : List Element) (marks : List Mark) : Type 0 where
+pub record IsDefinition (parts : List Part) (name : Token) (written : WrittenEffect) (elements : List Element) (marks : List Mark) : Type 0 where
   pub ends : Place
-  pub are : parts ≡ part.Name name ∷ part.Effect effect ∷ part.Items elements ends ∷ part.Marks marks ∷ []
+  pub are : parts ≡ part.Name name ∷ part.Effect written ∷ part.Items elements ends ∷ part.Marks marks ∷ []
   pub items : AreItems elements

@@ -1,5 +1,5 @@
 -- How the reader goes over its tokens.
-use Rattle.std.specs.Prelude.{◌≡◌, ℕ, nat_lt, ◌+◌, Bool, true, false, ◌&&◌, List, [], ◌∷◌, ◌++◌, length, slice_get, Option, Some, None, Result, Ok, Err, if◌then◌else◌}
+use Rattle.std.specs.Prelude.{◌≡◌, ℕ, ◌+◌, Bool, true, false, List, [], ◌∷◌, ◌++◌, length, slice_get, Option, Some, None, Result, Ok, Err, if◌then◌else◌}
 use Rattle.fac_lang.specs.declared.memory.Memory.{Memory}
 use Rattle.fac_lang.specs.declared.phrase.Place.{Place}
 use Rattle.fac_lang.specs.declared.token.Token.{Token}
@@ -13,14 +13,14 @@ use Rattle.fac_lang.specs.declared.tree.Key.{Key}
 use Rattle.fac_lang.specs.declared.tree.Key.TheVariants.{Arrow}
 use Rattle.fac_lang.specs.declared.tree.Part.{Part}
 use Rattle.fac_lang.specs.declared.tree.Part.TheVariants as part
+use Rattle.fac_lang.specs.declared.tree.WrittenEffect.{WrittenEffect}
 use Rattle.fac_lang.specs.declared.tree.Form.{Form}
 use Rattle.fac_lang.specs.declared.tree.Form.TheVariants.{Row, Items}
-use Rattle.fac_lang.specs.declared.tree.WrittenEffect.{WrittenEffect}
 use Rattle.fac_parse.specs.declared.context.Context.{Context}
 use Rattle.fac_parse.specs.declared.rows.Slot.{Slot}
 use Rattle.fac_parse.specs.declared.rows.Slot.TheVariants as slot
-use Rattle.fac_parse.specs.declared.spelling.Spelling.{Spelling}
-use Rattle.fac_parse.specs.declared.spelling.Spelling.TheVariants.{Begins, Fixed, Semi, Opens, Closes, Dashes, OpensQuotation, ClosesQuotation, True, False, Inline, Recursive, Integer, String, Name}
+use Rattle.fac_effect.specs.declared.spelling.Spelling.{Spelling}
+use Rattle.fac_effect.specs.declared.spelling.Spelling.TheVariants.{Begins, Fixed, Semi, OpensQuotation, ClosesQuotation, True, False, Inline, Recursive, Integer, String, Name}
 use Rattle.fac_parse.specs.declared.reader.Head.{Head}
 use Rattle.fac_parse.specs.declared.reader.At.{At}
 use Rattle.fac_parse.specs.declared.reader.At.TheVariants as at
@@ -30,17 +30,18 @@ use Rattle.fac_parse.specs.declared.reader.ParseFault.TheVariants.{Syntax}
 use Rattle.fac_parse.specs.declared.reader.Why.{Why}
 use Rattle.fac_parse.specs.declared.reader.Why.TheVariants.{End}
 use Rattle.fac_parse.specs.Rows.{slots_of}
-use Rattle.fac_parse.specs.Spellings.{token_spelling, is_value_name}
-use Rattle.fac_parse.specs.Trees.{token_text, most_names, behind, Parses}
+use Rattle.fac_effect.specs.declared.effect_reader.EffectReader.{EffectReader}
+use Rattle.fac_effect.specs.Spellings.{token_spelling}
+use Rattle.fac_effect.specs.EffectReading.{Progress, reads as reading, whole, refused, start as no_tokens, step as token_step, after}
+use Rattle.fac_effect.specs.SaidEffects.{effect_of}
+use Rattle.fac_parse.specs.Trees.{behind, Parses}
 
 -- what is being read of a row
 pub data Within : Type 0 where
   name : Within
   names : List Token → Within
   fixed : Key → Within
-  effect : Within
-  inputs : Place → List Token → Within
-  outputs : Place → List Token → Place → List Token → Within
+  effect : List Token → EffectReader → Within
   items : List Element → List Context → Within
   literal : List Element → List Context → Within
   marks : List Mark → Within
@@ -73,7 +74,7 @@ abbrev pub begin : Slot → Within
 begin slot.Name = name
 begin slot.Names = names []
 begin (slot.Fixed key) = fixed key
-begin slot.Effect = effect
+begin slot.Effect = effect [] no_tokens
 begin slot.Items = items [] []
 begin slot.Literal = literal [] []
 begin slot.Marks = marks []
@@ -162,26 +163,17 @@ abbrev pub fixed_step : List Form → Begun → Key → Spelling → Token → O
 fixed_step forms b key (Fixed other) t = key_step forms b key other t.place
 fixed_step forms b key _ t = None
 
-abbrev pub effect_step : List Form → Begun → Spelling → Token → Option State
-effect_step forms b Opens t = Some (in_state forms (row b (inputs t.place [])))
-effect_step forms b _ t = None
+abbrev pub written : List Token → WrittenEffect
+written ts = record { tokens = ts; effect = effect_of ts }
 
--- whether an effect with these names may have this one more
-abbrev pub may_add : List Token → List Token → Token → Bool
-may_add ins outs t = is_value_name (token_text t.kind) && nat_lt (length ins + length outs) most_names
+-- an effect with these tokens, by how far it is read
+abbrev pub effect_with : List Form → Begun → List Token → Progress → Option State
+effect_with forms b ts (reading r) = Some (in_state forms (row b (effect ts r)))
+effect_with forms b ts whole = Some (with_part forms b (part.Effect (written ts)))
+effect_with forms b ts (refused why) = None
 
-abbrev pub inputs_step : List Form → Begun → Place → List Token → Spelling → Token → Option State
-inputs_step forms b opens ins Name t = (if may_add ins [] t then Some (in_state forms (row b (inputs opens (ins ++ t ∷ [])))) else None)
-inputs_step forms b opens ins Dashes t = Some (in_state forms (row b (outputs opens ins t.place [])))
-inputs_step forms b opens ins _ t = None
-
-abbrev pub written : Place → List Token → Place → List Token → Place → WrittenEffect
-written opens ins dashes outs closes = record { opens = opens; ins = ins; dashes = dashes; outs = outs; closes = closes }
-
-abbrev pub outputs_step : List Form → Begun → Place → List Token → Place → List Token → Spelling → Token → Option State
-outputs_step forms b opens ins dashes outs Name t = (if may_add ins outs t then Some (in_state forms (row b (outputs opens ins dashes (outs ++ t ∷ [])))) else None)
-outputs_step forms b opens ins dashes outs Closes t = Some (with_part forms b (part.Effect (written opens ins dashes outs t.place)))
-outputs_step forms b opens ins dashes outs _ t = None
+abbrev pub effect_step : List Form → Begun → List Token → EffectReader → Spelling → Token → Option State
+effect_step forms b ts r s t = effect_with forms b (ts ++ t ∷ []) (token_step r s t)
 
 abbrev pub row_items : Begun → List Element → List Context → Open
 row_items b elements contexts = row b (items elements contexts)
@@ -226,9 +218,15 @@ mark_of Inline place = Some (mark.Inline place)
 mark_of Recursive place = Some (mark.Recursive place)
 mark_of _ place = None
 
+-- whether a mark may stand behind these: none stands twice
+abbrev pub may_follow : List Mark → Mark → Bool
+may_follow [] m = true
+may_follow (mark.Inline place ∷ []) (mark.Recursive other) = true
+may_follow (mark.Recursive place ∷ []) (mark.Inline other) = true
+may_follow _ _ = false
+
 abbrev pub with_mark : List Form → Begun → List Mark → Mark → Option State
-with_mark forms b [] m = Some (in_state forms (row b (marks (m ∷ []))))
-with_mark forms b (k ∷ ks) m = None
+with_mark forms b ms m = (if may_follow ms m then Some (in_state forms (row b (marks (ms ++ m ∷ [])))) else None)
 
 -- a mark, or the row ended before this token
 abbrev pub mark_step : List Form → Begun → List Mark → Option Mark → Spelling → Token → Option State
@@ -242,9 +240,7 @@ abbrev pub row_step : List Form → Begun → Within → Spelling → Token → 
 row_step forms b name s t = name_step forms b s t
 row_step forms b (names ns) s t = names_step forms b ns s t
 row_step forms b (fixed key) s t = fixed_step forms b key s t
-row_step forms b effect s t = effect_step forms b s t
-row_step forms b (inputs opens ins) s t = inputs_step forms b opens ins s t
-row_step forms b (outputs opens ins dashes outs) s t = outputs_step forms b opens ins dashes outs s t
+row_step forms b (effect ts r) s t = effect_step forms b ts r s t
 row_step forms b (items elements contexts) s t = items_step forms b elements contexts s t
 row_step forms b (literal elements contexts) s t = literal_step forms b elements contexts s t
 row_step forms b (marks ms) s t = marks_step forms b ms s t
@@ -287,15 +283,18 @@ open_of at.Top r = top r.elements r.contexts
 open_of (at.Name head) r = row (begun_at head r.parts) name
 open_of (at.Names head) r = row (begun_at head r.parts) (names r.names)
 open_of (at.Fixed head key) r = row (begun_at head r.parts) (fixed key)
-open_of (at.Effect head) r = row (begun_at head r.parts) effect
-open_of (at.Inputs head opens) r = row (begun_at head r.parts) (inputs opens r.names)
-open_of (at.Outputs head opens dashes) r = row (begun_at head r.parts) (outputs opens r.names dashes r.outs)
+open_of (at.Effect head) r = row (begun_at head r.parts) (effect r.names r.effect)
 open_of (at.Items head) r = row (begun_at head r.parts) (items r.elements r.contexts)
 open_of (at.Literal head) r = row (begun_at head r.parts) (literal r.elements r.contexts)
 open_of (at.Marks head) r = row (begun_at head r.parts) (marks r.marks)
 
 abbrev pub state_of : Reader → State
 state_of r = in_state r.forms (open_of r.at r)
+
+-- an effect that is open is read as far as its tokens
+abbrev pub IsRead : Open → Type 0
+IsRead (row b (effect ts r)) = after ts ≡ reading r
+IsRead _ = Unit {0}
 
 -- what taking a token answers: whether it goes on, and then the state behind it
 abbrev pub Goes : Option State → State → Result Bool Memory → Type 0

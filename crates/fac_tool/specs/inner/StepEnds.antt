@@ -1,12 +1,10 @@
 -- Inner contracts: how the steps of a command end. Each gives a result for the next one, or an ending of the work.
-use Rattle.std.specs.Prelude.{◌≡◌, ◌≤◌, ◌<◌, ◌+◌, ◌⊎◌, ℕ, List, [], ◌∷◌, ◌++◌, drop, length, map, None, Some, Result, Ok, Err, IfSome, IsSomeAnd}
-use Rattle.std.specs.List.{concat}
+use Rattle.std.specs.Prelude.{◌≡◌, ◌≤◌, ◌<◌, ◌+◌, ◌⊎◌, ℕ, List, [], ◌∷◌, ◌++◌, length, None, Some, Result, Ok, Err, IfSome, IsSomeAnd}
 use Rattle.fac_lang.specs.declared.program.Program.{Program}
 use Rattle.fac_lang.specs.declared.tree.Form.{Form}
 use Rattle.fac_lang.specs.declared.tree.Tree.{Tree}
 use Rattle.fac_parse.specs.Trees.{forms_of}
 use Rattle.fac_names.specs.Resolution.{resolved}
-use Rattle.fac_check.specs.declared.accepted.Checked.{Checked}
 use Rattle.fac_check.specs.Verdicts.{verdict}
 use Rattle.fac_token.specs.declared.fault.TokenFault.{TokenFault}
 use Rattle.fac_token.specs.declared.fault.TokenFault.TheVariants as token
@@ -17,8 +15,8 @@ use Rattle.fac_notes.specs.Statuses.{status_of}
 use Rattle.fac_tool.specs.declared.command.Command.{Command}
 use Rattle.fac_tool.specs.declared.ended.Ended.{Ended}
 use Rattle.fac_tool.specs.declared.accepting.Accepted.{Accepted}
-use Rattle.fac_tool.specs.Answer.{Answer, Source, tree, trees, together, come_to, answer_on, limit, definitions_in}
-use Rattle.fac_tool.specs.Sources.{IsReadAs, AreReadAs}
+use Rattle.fac_tool.specs.Answer.{Answer, Source, tree, trees, together, come_to, answer_on, limit, own_definitions}
+use Rattle.fac_tool.specs.Sources.{IsReadAs, AreReadWithPrelude}
 use Rattle.fac_io.specs.declared.files.Asked.TheVariants.{Load}
 use Rattle.fac_io.specs.Faults.{Rose}
 use Rattle.fac_io.specs.Told.{SinkTold, Stays, Grows}
@@ -157,19 +155,19 @@ ReadsNext file text read now (Err ended) = EndsFile file text ended
 -- Texts come to something that those from this number on decide, which come to these, where the ones before have these forms.
 pub record ReadSoFar (texts : List (List ℕ)) (file : ℕ) (read : List (List Form)) (sources : List Source) : Type 0 where
   pub whole : List Source
-  pub are_read : AreReadAs 1 texts whole
+  pub are_read : AreReadWithPrelude texts whole
   pub same : come_to whole ≡ together read file sources
 
 -- texts come to this, which has this answer, whatever the command is
 pub record EndsRead (texts : List (List ℕ)) (ended : Ended) : Type 0 where
   pub sources : List Source
-  pub are_read : AreReadAs 1 texts sources
+  pub are_read : AreReadWithPrelude texts sources
   pub ends : (command : Command) → EndsEarly (answer_on command (come_to sources)) ended
 
 -- the texts come to the trees of these forms
 pub record AreTrees (texts : List (List ℕ)) (files : List (List Form)) : Type 0 where
   pub sources : List Source
-  pub are_read : AreReadAs 1 texts sources
+  pub are_read : AreReadWithPrelude texts sources
   pub come : come_to sources ≡ trees files
 
 -- the steps from texts to their trees
@@ -185,7 +183,7 @@ pub record AreAccepted (texts : List (List ℕ)) (accepted : Accepted) : Type 0 
   pub resolves : resolved files ≡ Ok P
   pub accepts : verdict P 0 ≡ None
   pub stands : StandsForSafe accepted.checked.closed P
-  pub count : accepted.definitions ≡ definitions_in files
+  pub count : accepted.definitions ≡ own_definitions files
 
 -- the steps from texts to their accepted program
 abbrev pub Accepts : List (List ℕ) → Result Accepted Ended → Type 0

@@ -14,7 +14,8 @@ use Rattle.fac_lang.specs.Forms.{IsBuilt}
 use Rattle.fac_lang.specs.Whole.{IsWhole}
 use Rattle.fac_locals.specs.Closed.{Closes}
 use Rattle.fac_locals.specs.declared.closing.Closed.{Closed}
-use Rattle.fac_check.specs.CallableEffects.{callable_height, fits}
+use Rattle.fac_check.specs.CallableEffects.{callable_height}
+use Rattle.fac_lang.specs.HeightArithmetic.{fits}
 use Rattle.fac_check.specs.Promises.{IsSafe}
 use Rattle.fac_code.specs.declared.image.Image.{Image}
 use Rattle.fac_prim.specs.MachineValues.{MValue}

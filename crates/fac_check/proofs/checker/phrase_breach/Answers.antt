@@ -1,7 +1,12 @@
 use Rattle.std.proofs.Common.{◌∙◌, sym}
-use Rattle.fac_check.proofs.VerdictLemmas.{expanded_is}
+use Rattle.fac_check.specs.Judged.{breach_seen}
+use Rattle.fac_check.proofs.WordItems.{ok_maps}
+use Rattle.fac_check.proofs.VerdictLemmas.{inline_is}
 use Rattle.fac_check.proofs.checker.phrase_breach.Goals as goal
 
 pub returns-then-word : goal.returns-then-word
-returns-then-word c = λ P closes built d t at word text.
-    expanded_is P built c.args.number d at c.args.closed.now.start t (λ e. c.if-number-closed.false (e ∙ sym closes.top)) (sym word.inline ∙ c.if-word.true)
+returns-then-word c =
+    ok_maps c.inline_breach.result
+    (λ b breach P closes built d t at word text.
+    inline_is P c.args.number d c.args.closed.now.start t (breach_seen b) (λ e. c.if-number-closed.false (e ∙ sym closes.top)) (sym word.inline ∙ c.if-word.true) (breach P closes built d t at word text))
+    c.inline_breach.ensures

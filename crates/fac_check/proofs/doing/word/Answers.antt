@@ -1,31 +1,30 @@
-use Rattle.std.proofs.Common.{◌≡◌, ◌<◌, ℕ, true, None, length, sym, ◌∙◌, ap, subst}
+use Rattle.std.proofs.Common.{◌<◌, length, Some, sym, ◌∙◌, ap, subst}
 use Rattle.std.specs.Prelude.{slice_get}
-use Rattle.fac_abs.specs.SeenMarks.{stack_of}
+use Rattle.fac_abs.specs.SeenMarks.{stack_of, base_seen}
 use Rattle.fac_abs.proofs.SeenLemmas.{is_below}
 use Rattle.fac_locals.proofs.Lookups.{word_open}
 use Rattle.fac_check.specs.Flow.{word_doing}
-use Rattle.fac_check.specs.inner.Walking.{NamesPhrase, is_defined}
-use Rattle.fac_check.proofs.DoingLemmas.{doing_of}
+use Rattle.fac_check.proofs.DoingLemmas.{doing_of_one}
 use Rattle.fac_check.proofs.TakenPrograms.{word_taken}
-use Rattle.fac_check.proofs.WordItems.{ok_maps}
+use Rattle.fac_check.proofs.WordItems.{ok_maps, named_own}
 use Rattle.fac_check.proofs.doing.word.Goals as goal
 
 pub word_item-requires-clause-word : goal.word_item-requires-clause-word
 word_item-requires-clause-word c =
-    let C = c.args.closed.now in
+    let C = c.args.subject.closed.now in
     (C.program.top, length C.templates, word_taken C.program C.templates c.requires.program c.args.number c.in-Some.word.now (sym c.in-Some.ensures))
 
 pub returns-clause-there : goal.returns-clause-there
-returns-clause-there c =
-    let words = c.args.closed.now.program.words in
-    ok_maps c.word_item.result (λ r there. doing_of _ (NamesPhrase words) _ r (λ w this. subst (λ (v : ℕ). is_defined (slice_get words v) ≡ true) (sym this.0) (ap is_defined (sym c.in-Some.ensures) ∙ this.1)) there) c.word_item.ensures.there
+returns-clause-there c = ok_maps c.word_item.result (λ r there. doing_of_one c.args.number c.in-Some.word.now (slice_get c.args.subject.closed.now.program.words) _ r (sym c.in-Some.ensures) there) c.word_item.ensures.there
 
 pub returns-clause-does : goal.returns-clause-does
 returns-clause-does c =
-    let C = c.args.closed.now in
+    let C = c.args.subject.closed.now in
     ok_maps c.word_item.result
-    (λ r does O N b.
+    (λ r does O.
     let there = word_open O.program C.program C.templates O.closes c.args.number c.in-Some.word.now (sym c.in-Some.ensures) in
     let low = subst (λ n. c.args.number < n) O.closes.top (is_below c.args.number C.program.top c.requires.number) in
-    does O.program there.def low there.at O.built there.closes N b ∙ ap (λ o. word_doing O.program None c.args.number o b (stack_of N c.args.marks.now c.args.stack)) (sym there.at))
+    does O.program there.def low there.at O.built there.closes O.naming (named_own O c.args.number c.in-Some.word.now (sym c.in-Some.ensures))
+    ∙ ap (λ q. word_doing O.program q c.args.number (Some there.def) (base_seen O.naming c.args.base) (stack_of O.naming c.args.marks.now c.args.stack)) (sym O.word_is)
+    ∙ ap (λ o. word_doing O.program O.word c.args.number o (base_seen O.naming c.args.base) (stack_of O.naming c.args.marks.now c.args.stack)) (sym there.at))
     c.word_item.ensures.does

@@ -1,7 +1,8 @@
-use Rattle.std.proofs.Common.{refl, ap, arith}
+use Rattle.std.proofs.Common.{refl, sym, ap, ◌∙◌, arith}
+use Rattle.std.specs.Prelude.{slice_get}
 use Rattle.fac_lang.specs.declared.phrase.Height.{Height}
-use Rattle.fac_abs.specs.SeenMarks.{stack_of}
-use Rattle.fac_check.specs.inner.Walking.{body_phrase, IsThisWord}
+use Rattle.fac_abs.specs.SeenMarks.{stack_of, base_seen}
+use Rattle.fac_check.specs.inner.Walking.{only, effect_of}
 use Rattle.fac_check.proofs.BuiltWords.{built_as, built_primitive_word}
 use Rattle.fac_check.proofs.DoingLemmas.{doing_of}
 use Rattle.fac_check.proofs.TakenPrograms.{core_below, primitive_below}
@@ -18,42 +19,41 @@ pub defined-requires-clause-phrase : goal.defined-requires-clause-phrase
 defined-requires-clause-phrase c = rw c.in-Body.is refl
 
 pub returns-in-Prim-clause-there : goal.returns-in-Prim-clause-there
-returns-in-Prim-clause-there c = ok_maps c.primitive.result (λ r there. doing_of _ (IsThisWord c.args.number c.args.word.now) _ r (λ w none. absurd none) there) c.primitive.ensures.there
+returns-in-Prim-clause-there c = ok_maps c.primitive.result (λ r there. doing_of (only c.args.number c.args.word.now) _ r there) c.primitive.ensures.there
 
 pub returns-in-Core-clause-there : goal.returns-in-Core-clause-there
-returns-in-Core-clause-there c = doing_of _ (IsThisWord c.args.number c.args.word.now) _ c.core.result (λ w none. absurd none) c.core.ensures.there
+returns-in-Core-clause-there c = doing_of (only c.args.number c.args.word.now) _ c.core.result c.core.ensures.there
 
 pub returns-in-Prim-clause-does : goal.returns-in-Prim-clause-does
 returns-in-Prim-clause-does c =
     let k = c.in-Prim.primitive_number in
     let w = c.args.word.now in
     ok_maps c.primitive.result
-    (λ r does P d low at built closes N b.
+    (λ r does P d low at built closes N own.
     let sort = is_prim P c.args.number d w closes (built_as P built c.args.number d at) k c.in-Prim.is in
     let there = built_primitive_word P built c.args.number d at k sort in
     let ins = prim_ins P c.args.number d w closes there.0 _ there.2 (ap (λ (h : Height). h.ins) c.height_of.ensures) in
     let outs = prim_outs P c.args.number d w closes there.0 _ there.2 (ap (λ (h : Height). h.outs) c.height_of.ensures) in
-    prim_item P c.args.number d w closes k there.0 _ b (stack_of N c.args.marks.now c.args.stack) sort there.1 (does there.0 there.1 ins outs N (body_phrase P) b))
+    prim_item P c.args.own c.args.number d w closes k there.0 _ (base_seen N c.args.base) (stack_of N c.args.marks.now c.args.stack) sort there.1 (does there.0 there.1 ins outs N (slice_get P.words) (base_seen N c.args.base)))
     c.primitive.ensures.does
 
 pub returns-in-Body-clause-does : goal.returns-in-Body-clause-does
 returns-in-Body-clause-does c =
     let w = c.args.word.now in
     ok_maps c.defined.result
-    (λ r does P d low at built closes N b.
-    let is_built = built_as P built c.args.number d at in
-    let sort = is_body P c.args.number d w closes is_built _ c.in-Body.is in
-    body_item P c.args.number d w closes sort.0 _ _ _ b (stack_of N c.args.marks.now c.args.stack) is_built at sort.1 (λ e. omega (arith, low, e)) refl refl (does N (body_phrase P) b))
+    (λ r does P d low at built closes N own.
+    let sort = is_body P c.args.number d w closes (built_as P built c.args.number d at) _ c.in-Body.is in
+    body_item P c.args.own c.args.number d w closes sort.0 _ (base_seen N c.args.base) (stack_of N c.args.marks.now c.args.stack) at sort.1 (λ e. omega (arith, low, e)) (does P N (slice_get P.words) (ap effect_of at ∙ sym closes.effect) own))
     c.defined.ensures.does
 
 pub returns-in-Itself-clause-there : goal.returns-in-Itself-clause-there
-returns-in-Itself-clause-there c = ok_maps c.reference.result (λ r there. doing_of _ (IsThisWord c.args.number c.args.word.now) _ r (λ w none. absurd none) there) c.reference.ensures.there
+returns-in-Itself-clause-there c = ok_maps c.reference.result (λ r there. doing_of (only c.args.number c.args.word.now) _ r there) c.reference.ensures.there
 
 pub returns-in-Itself-clause-does : goal.returns-in-Itself-clause-does
 returns-in-Itself-clause-does c =
     let w = c.args.word.now in
     ok_maps c.reference.result
-    (λ r does P d low at built closes N b.
+    (λ r does P d low at built closes N own.
     let sort = is_symbol P c.args.number d w closes (built_as P built c.args.number d at) c.in-Itself.is in
-    symbol_item P c.args.number d w closes _ b (stack_of N c.args.marks.now c.args.stack) sort (does N (body_phrase P) b))
+    symbol_item P c.args.own c.args.number d w closes _ (base_seen N c.args.base) (stack_of N c.args.marks.now c.args.stack) sort (does N (slice_get P.words) (base_seen N c.args.base)))
     c.reference.ensures.does

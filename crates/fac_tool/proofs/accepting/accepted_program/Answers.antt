@@ -3,7 +3,7 @@ use Rattle.fac_parse.specs.Trees.{forms_of}
 use Rattle.fac_tool.specs.declared.accepting.Accepted.{Accepted}
 use Rattle.fac_tool.specs.declared.ended.Ended.{Ended}
 use Rattle.fac_tool.specs.inner.StepEnds.{Accepts}
-use Rattle.fac_tool.proofs.Composing.{passed_on, ends_on_trees, ends_on_program, accepts_checked}
+use Rattle.fac_tool.proofs.Composing.{passed_on, ends_on_trees, accepts_checked}
 use Rattle.fac_tool.proofs.SourceLemmas.{trees_fit}
 use Rattle.fac_tool.proofs.accepting.accepted_program.Goals as goal
 

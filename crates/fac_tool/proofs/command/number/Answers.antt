@@ -1,4 +1,4 @@
-use Rattle.std.proofs.Common.{◌<◌, ◌-◌, ◌*◌, ◌+◌, ◌^◌, ap, subst, sym, ℕ, arith}
+use Rattle.std.proofs.Common.{◌<◌, arith}
 use Rattle.fac_tool.proofs.CommandLemmas.{digits_fit}
 use Rattle.fac_tool.proofs.command.number.Goals as goal
 

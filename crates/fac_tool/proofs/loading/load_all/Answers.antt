@@ -1,4 +1,4 @@
-use Rattle.std.proofs.Common.{◌+◌, suc, List, ℕ, map, take, drop, subst, sym, length}
+use Rattle.std.proofs.Common.{suc, List, ℕ, map, take, drop, subst, sym}
 use Rattle.std.specs.Prelude.{string_bytes}
 use Rattle.fac_tool.specs.SeenObjects.{files_seen}
 use Rattle.fac_tool.proofs.LoadLemmas.{LoadedSoFar, one_more_name, names_around, loads_next, loads_end}

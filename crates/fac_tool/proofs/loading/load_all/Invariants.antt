@@ -1,4 +1,4 @@
-use Rattle.std.proofs.Common.{◌≤◌, take, map}
+use Rattle.std.proofs.Common.{take, map}
 use Rattle.std.specs.Prelude.{string_bytes}
 use Rattle.fac_tool.specs.SeenObjects.{files_seen}
 use Rattle.fac_tool.proofs.LoadLemmas.{LoadedSoFar}

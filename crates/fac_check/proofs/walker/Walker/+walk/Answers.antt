@@ -1,33 +1,43 @@
-use Rattle.std.proofs.Common.{◌≡◌, ◌+◌, ◌-◌, suc, true, None, [], ◌∷◌, List, length, refl, sym, ap, subst, ◌∙◌, arith, drop, drop-cons, add-one, Bor}
+use Rattle.std.proofs.Common.{◌≡◌, ◌≤◌, ◌+◌, ◌-◌, suc, true, [], ◌∷◌, List, length, refl, sym, ap, subst, ◌∙◌, arith, drop, drop-cons, add-one}
+use Rattle.std.specs.Prelude.{slice_get}
 use Rattle.std.proofs.lemmas.Grind.{common_steps}
 use Rattle.fac_lang.specs.declared.phrase.Item.{Item as PlacedItem}
 use Rattle.fac_lang.specs.PhraseView.{items_phrase}
 use Rattle.fac_locals.specs.Literals.{first_of_word, first_of_literal}
 use Rattle.fac_locals.specs.Closed.{ClosesPhrase}
-use Rattle.fac_locals.specs.declared.closing.Closed.{Closed}
+use Rattle.fac_check.specs.declared.subject.Subject.{Subject}
 use Rattle.fac_abs.proofs.SeenLemmas.{grows_refl, grows_trans}
+use Rattle.fac_lang.specs.Signatures.{signature}
+use Rattle.fac_lang.specs.declared.effect.Input.{Input}
+use Rattle.fac_lang.specs.EffectView.{inputs_tree, outs_leaving}
+use Rattle.fac_lang.specs.Effects.{effect_height}
+use Rattle.fac_lang.proofs.EffectLemmas.{inputs_counted}
+use Rattle.fac_rows.specs.SeenBindings.{binding_seen, IsStart, IsTie}
+use Rattle.fac_rows.proofs.BindingLemmas.{binding_later}
+use Rattle.fac_check.proofs.UseWalks.{inputs_next, quotation_refused, quotation_tied, quotation_untied, used_effect, used_rule}
 use Rattle.fac_abs.specs.SeenMarks.{mark_of, stack_of, base_seen, reached_seen}
-use Rattle.fac_check.specs.Flow.{and_then, walk_mark, inside, join}
+use Rattle.fac_check.specs.Flow.{and_then, walk_mark, walk_inputs, walk_use, inside, join, counted, unless_broken}
+use Rattle.fac_check.specs.inner.ItemWalk.{item_walk}
 use Rattle.fac_check.specs.inner.Taken.{takes_phrase}
-use Rattle.fac_check.specs.inner.Walking.{go_at, body_phrase, walked_seen, IsDoingOf, NamesPhrase, IsWithin, IsBelow, IsWalked, IsWalkOfPhrase}
+use Rattle.fac_check.specs.inner.Walking.{go_at, body_phrase, effect_of, is_defined, doing_seen, walked_seen, IsDoingOf, IsWithin, IsBelow, AreBound, AreWithin, IsWalked, IsWalkOfPhrase}
 use Rattle.fac_check.specs.declared.walker.Step.{Step}
 use Rattle.fac_check.specs.declared.walker.Walked.TheVariants.{Found}
 use Rattle.fac_check.proofs.MarkWalks.{carried, curried_counts, composed_ends, phrase_entered, literal_closed, word_phrase_closed, forked, reached_stays}
-use Rattle.fac_check.proofs.TakenPrograms.{template_taken, phrase_taken, first_taken, others_taken}
+use Rattle.fac_check.proofs.TakenPrograms.{word_taken, inputs_below, template_taken, phrase_taken, first_taken, others_taken}
 use Rattle.fac_check.proofs.WalkLemmas.{Onward, onward_start, onward_end, behind_from}
 use Rattle.fac_check.proofs.WordItems.{ok_maps}
 use Rattle.fac_check.proofs.walker.Walker.+walk.Goals as goal
 
 pub walk_literal-walk_phrase-requires : goal.walk_literal-walk_phrase-requires
 walk_literal-walk_phrase-requires t c =
-    let C = c.args.self.now.closed.now in
+    let C = c.args.self.now.subject.closed.now in
     let deeper : c.entered.result.nested ≡ c.args.step.nested - 1 = ap (λ (s : Step). s.nested) c.entered.ensures in
     let same : c.entered.result.stack ≡ c.args.step.stack = ap (λ (s : Step). s.stack) c.entered.ensures in
     (omega (arith, c.decreases, c.if-step-eq0.false, deeper), (rw same c.requires.stack, template_taken C.program C.templates c.args.self.now.taken c.args.template c.in-Some.found.now (sym c.in-Some.ensures)))
 
 pub walk_word-walk_phrase-requires : goal.walk_word-walk_phrase-requires
 walk_word-walk_phrase-requires t c =
-    let C = c.args.self.now.closed.now in
+    let C = c.args.self.now.subject.closed.now in
     let deeper : c.entered.result.nested ≡ c.args.step.nested - 1 = ap (λ (s : Step). s.nested) c.entered.ensures in
     let same : c.entered.result.stack ≡ c.args.step.stack = ap (λ (s : Step). s.stack) c.entered.ensures in
     (omega (arith, c.decreases, c.if-step-eq0.false, deeper), (rw same c.requires.stack, phrase_taken C.program C.templates c.args.self.now.taken c.args.word c.in-Some.found.now _ (sym c.in-Some.ensures) c.in-Body.is))
@@ -37,28 +47,28 @@ walk_literal-returns-clause-walks t c =
     ok_maps c.walk_phrase.result
     (λ r walks O f l.
     let literal = O.naming.literal c.args.template in
-    subst (λ (s : Step). IsWalkOfPhrase c.args.self.now.closed.now c.args.self.now.marks c.walk_phrase.new.self.marks c.in-Some.found.now.body s r) c.entered.ensures walks O (first_of_literal literal.0) literal.1 f (literal_closed O c.args.template c.in-Some.found.now (sym c.in-Some.ensures)) l
-    ∙ sym (phrase_entered (go_at O f) (first_of_literal literal.0) literal.1 c.args.step.place c.args.step.nested (base_seen O.naming c.args.step.base) (stack_of O.naming c.args.self.now.marks c.args.step.stack) c.args.step.left c.if-step-eq0.false))
+    subst (λ (s : Step). IsWalkOfPhrase c.args.self.now.subject c.args.self.now.marks c.walk_phrase.new.self.marks c.in-Some.found.now.body s r) c.entered.ensures walks O (first_of_literal literal.0) literal.1 f (literal_closed O c.args.template c.in-Some.found.now (sym c.in-Some.ensures)) l
+    ∙ sym (phrase_entered O.effect (go_at O f) (first_of_literal literal.0) literal.1 c.args.step.place c.args.step.nested (base_seen O.naming c.args.step.base) (stack_of O.naming c.args.self.now.marks c.args.step.stack) c.args.step.left c.if-step-eq0.false))
     c.walk_phrase.ensures.walks
 
 pub walk_word-returns-clause-walks : goal.walk_word-returns-clause-walks
 walk_word-returns-clause-walks t c =
     ok_maps c.walk_phrase.result
     (λ r walks O f l.
-    subst (λ (s : Step). IsWalkOfPhrase c.args.self.now.closed.now c.args.self.now.marks c.walk_phrase.new.self.marks c.in-Body.phrase s r) c.entered.ensures walks O (first_of_word c.args.word) (body_phrase O.program c.args.word) f (word_phrase_closed O c.args.word c.in-Some.found.now _ (sym c.in-Some.ensures) c.in-Body.is) l
-    ∙ sym (phrase_entered (go_at O f) (first_of_word c.args.word) (body_phrase O.program c.args.word) c.args.step.place c.args.step.nested (base_seen O.naming c.args.step.base) (stack_of O.naming c.args.self.now.marks c.args.step.stack) c.args.step.left c.if-step-eq0.false))
+    subst (λ (s : Step). IsWalkOfPhrase c.args.self.now.subject c.args.self.now.marks c.walk_phrase.new.self.marks c.in-Body.phrase s r) c.entered.ensures walks O (first_of_word c.args.word) (body_phrase O.program c.args.word) f (word_phrase_closed O c.args.word c.in-Some.found.now _ (sym c.in-Some.ensures) c.in-Body.is) l
+    ∙ sym (phrase_entered O.effect (go_at O f) (first_of_word c.args.word) (body_phrase O.program c.args.word) c.args.step.place c.args.step.nested (base_seen O.naming c.args.step.base) (stack_of O.naming c.args.self.now.marks c.args.step.stack) c.args.step.left c.if-step-eq0.false))
     c.walk_phrase.ensures.walks
 
 pub walk_mark-returns-in-Cur-clause-walks : goal.walk_mark-returns-in-Cur-clause-walks
 walk_mark-returns-in-Cur-clause-walks t c =
     ok_maps c.walk_curried.result
-    (λ r walks O f l. walks O f l ∙ ap (λ m. walk_mark None (go_at O f) m c.args.step.place c.args.step.nested (base_seen O.naming c.args.step.base) (stack_of O.naming c.args.self.now.marks c.args.step.stack) c.args.step.left) (sym (c.in-Cur.ensures.is O.naming)))
+    (λ r walks O f l. walks O f l ∙ ap (λ m. walk_mark O.effect (go_at O f) m c.args.step.place c.args.step.nested (base_seen O.naming c.args.step.base) (stack_of O.naming c.args.self.now.marks c.args.step.stack) c.args.step.left) (sym (c.in-Cur.ensures.is O.naming)))
     c.walk_curried.ensures.walks
 
 pub walk_mark-returns-in-Com-clause-walks : goal.walk_mark-returns-in-Com-clause-walks
 walk_mark-returns-in-Com-clause-walks t c =
     ok_maps c.walk_composed.result
-    (λ r walks O f l. walks O f l ∙ ap (λ m. walk_mark None (go_at O f) m c.args.step.place c.args.step.nested (base_seen O.naming c.args.step.base) (stack_of O.naming c.args.self.now.marks c.args.step.stack) c.args.step.left) (sym (c.in-Com.ensures.is O.naming)))
+    (λ r walks O f l. walks O f l ∙ ap (λ m. walk_mark O.effect (go_at O f) m c.args.step.place c.args.step.nested (base_seen O.naming c.args.step.base) (stack_of O.naming c.args.self.now.marks c.args.step.stack) c.args.step.left) (sym (c.in-Com.ensures.is O.naming)))
     c.walk_composed.ensures.walks
 
 pub walk_curried-returns-in_ok-stack-in-Ok-clause-walks : goal.walk_curried-returns-in_ok-stack-in-Ok-clause-walks
@@ -70,22 +80,22 @@ walk_curried-returns-in_ok-stack-in-Ok-clause-walks t c =
     let ms = stack_of N M c.args.step.stack in
     let grows = c.in_ok-stack-in-Ok.ensures.grows in
     walks O f (omega (arith, c.in-Some.ensures, l))
-    ∙ ap (λ m. walk_mark None (go_at O f) m c.args.step.place c.in-Ok.deeper (base_seen O.naming c.args.step.base) (stack_of N c.push.new.self c.in_ok-stack-in-Ok.stack) c.in-Some.rest) (grows.same_mark N c.args.callable c.requires.callable)
-    ∙ ap (λ s. walk_mark None (go_at O f) (mark_of N M c.args.callable) c.args.step.place c.in-Ok.deeper (base_seen O.naming c.args.step.base) s c.in-Some.rest) (c.in_ok-stack-in-Ok.ensures.made.is N)
-    ∙ sym (curried_counts (go_at O f) c.args.step.place c.args.step.nested (base_seen O.naming c.args.step.base) ms c.args.step.left c.in-Some.rest c.in-Some.ensures (mark_of N M c.args.value) (mark_of N M c.args.callable) c.in-Ok.deeper (c.in-Ok.ensures.enters N)))
+    ∙ ap (λ m. walk_mark O.effect (go_at O f) m c.args.step.place c.in-Ok.deeper (base_seen O.naming c.args.step.base) (stack_of N c.push.new.self c.in_ok-stack-in-Ok.stack) c.in-Some.rest) (grows.same_mark N c.args.callable c.requires.callable)
+    ∙ ap (λ s. walk_mark O.effect (go_at O f) (mark_of N M c.args.callable) c.args.step.place c.in-Ok.deeper (base_seen O.naming c.args.step.base) s c.in-Some.rest) (c.in_ok-stack-in-Ok.ensures.made.is N)
+    ∙ sym (curried_counts O.effect (go_at O f) c.args.step.place c.args.step.nested (base_seen O.naming c.args.step.base) ms c.args.step.left c.in-Some.rest c.in-Some.ensures (mark_of N M c.args.value) (mark_of N M c.args.callable) c.in-Ok.deeper (c.in-Ok.ensures.enters N)))
     c.walk_mark.ensures.walks
 
 pub walk_composed-returns-in-Refused-clause-walks : goal.walk_composed-returns-in-Refused-clause-walks
 walk_composed-returns-in-Refused-clause-walks t c = λ O f l.
     let N = O.naming in
     let M = c.args.self.now.marks in
-    sym (composed_ends (go_at O f) c.args.step.place c.args.step.nested (base_seen O.naming c.args.step.base) (stack_of N M c.args.step.stack) c.args.step.left c.in-Some.rest c.in-Some.ensures N c.walk_part.new.self.marks (mark_of N M c.args.first) (mark_of N M c.args.second) _ _ c.in-Refused.is (c.in_ok-rule-in-Some.ensures.walks O f (omega (arith, c.in-Some.ensures, l))))
+    sym (composed_ends O.effect (go_at O f) c.args.step.place c.args.step.nested (base_seen O.naming c.args.step.base) (stack_of N M c.args.step.stack) c.args.step.left c.in-Some.rest c.in-Some.ensures N c.walk_part.new.self.marks (mark_of N M c.args.first) (mark_of N M c.args.second) _ _ c.in-Refused.is (c.in_ok-rule-in-Some.ensures.walks O f (omega (arith, c.in-Some.ensures, l))))
 
 pub walk_composed-returns-in-Found-Dead-default-clause-walks : goal.walk_composed-returns-in-Found-Dead-default-clause-walks
 walk_composed-returns-in-Found-Dead-default-clause-walks t c = λ O f l.
     let N = O.naming in
     let M = c.args.self.now.marks in
-    sym (composed_ends (go_at O f) c.args.step.place c.args.step.nested (base_seen O.naming c.args.step.base) (stack_of N M c.args.step.stack) c.args.step.left c.in-Some.rest c.in-Some.ensures N c.walk_part.new.self.marks (mark_of N M c.args.first) (mark_of N M c.args.second) _ _ (c.in-Found-Dead-default.is ∙ ap (λ A. Found A c.in-Found-Dead-default.rest) c.in-Found-Dead-default.field-0-is) (c.in_ok-rule-in-Some.ensures.walks O f (omega (arith, c.in-Some.ensures, l))))
+    sym (composed_ends O.effect (go_at O f) c.args.step.place c.args.step.nested (base_seen O.naming c.args.step.base) (stack_of N M c.args.step.stack) c.args.step.left c.in-Some.rest c.in-Some.ensures N c.walk_part.new.self.marks (mark_of N M c.args.first) (mark_of N M c.args.second) _ _ (c.in-Found-Dead-default.is ∙ ap (λ A. Found A c.in-Found-Dead-default.rest) c.in-Found-Dead-default.field-0-is) (c.in_ok-rule-in-Some.ensures.walks O f (omega (arith, c.in-Some.ensures, l))))
 
 pub walk_composed-returns-in-Found-On-default-clause-walks : goal.walk_composed-returns-in-Found-On-default-clause-walks
 walk_composed-returns-in-Found-On-default-clause-walks t c =
@@ -95,10 +105,10 @@ walk_composed-returns-in-Found-On-default-clause-walks t c =
     let M = c.args.self.now.marks in
     let ms = stack_of N M c.args.step.stack in
     let is = c.in-Found-On-default.is ∙ ap (λ A. Found A c.in-Found-On-default.rest) c.in-Found-On-default.field-0-is in
-    let same : c.walk_part.new.self.closed.now ≡ c.args.self.now.closed.now = ap (λ (b : Bor Closed). b.now) c.in_ok-rule-in-Some.ensures.closed in
+    let same = c.in_ok-rule-in-Some.ensures.subject in
     walks (carried same O) f (omega (arith, c.in-Some.ensures, l, subst (IsWithin c.in-Some.rest) c.in-Found-On-default.is c.in_ok-rule-in-Some.ensures.within))
-    ∙ ap (λ m. inside m c.args.step.place c.args.step.nested (λ d. walk_mark None (go_at O f) m c.args.step.place d (base_seen N c.in-Found-On-default.base) (stack_of N c.walk_part.new.self.marks c.in-Found-On-default.stack) c.in-Found-On-default.rest)) (c.in_ok-rule-in-Some.ensures.grows.same_mark N c.args.second c.requires.second)
-    ∙ sym (composed_ends (go_at O f) c.args.step.place c.args.step.nested (base_seen O.naming c.args.step.base) ms c.args.step.left c.in-Some.rest c.in-Some.ensures N c.walk_part.new.self.marks (mark_of N M c.args.first) (mark_of N M c.args.second) _ _ is (c.in_ok-rule-in-Some.ensures.walks O f (omega (arith, c.in-Some.ensures, l)))))
+    ∙ ap (λ m. inside m c.args.step.place c.args.step.nested (λ d. walk_mark O.effect (go_at O f) m c.args.step.place d (base_seen N c.in-Found-On-default.base) (stack_of N c.walk_part.new.self.marks c.in-Found-On-default.stack) c.in-Found-On-default.rest)) (c.in_ok-rule-in-Some.ensures.grows.same_mark N c.args.second c.requires.second)
+    ∙ sym (composed_ends O.effect (go_at O f) c.args.step.place c.args.step.nested (base_seen O.naming c.args.step.base) ms c.args.step.left c.in-Some.rest c.in-Some.ensures N c.walk_part.new.self.marks (mark_of N M c.args.first) (mark_of N M c.args.second) _ _ is (c.in_ok-rule-in-Some.ensures.walks O f (omega (arith, c.in-Some.ensures, l)))))
     c.walk_part-in-Found-On-default.ensures.walks
 
 pub walk_phrase-loop-item-init : goal.walk_phrase-loop-item-init
@@ -110,7 +120,7 @@ walk_phrase-loop-item-init t c =
       grows = grows_refl c.args.self.now.marks;
       stack = c.requires.stack;
       within = omega arith;
-      taken = subst (λ x. takes_phrase c.args.self.now.closed.now.program.top (length c.args.self.now.closed.now.templates) x ≡ true) seen c.requires.taken;
+      taken = subst (λ x. takes_phrase c.args.self.now.subject.closed.now.program.top (length c.args.self.now.subject.closed.now.templates) x ≡ true) seen c.requires.taken;
       onward = λ O at u f closes l. onward_start O at u f c.args.step.nested c.args.step.left c.args.self.now.marks c.args.step.base c.args.step.stack items (subst (λ x. ClosesPhrase O.program at u x) seen closes) l;
     }
 
@@ -119,10 +129,10 @@ walk_phrase-item_doing-requires-clause-item t c =
     let items = c.deref-item-items.result.now in
     let i = c.loop-item.item-index in
     let next : drop i items ≡ c.item-item.result ∷ drop (suc i) items = drop-cons items i c.item-item.result c.loop-item-test.true ∙ ap (λ (x : PlacedItem). x ∷ drop (suc i) items) (sym c.item-item.is) in
-    first_taken c.args.self.now.closed.now.program.top (length c.args.self.now.closed.now.templates) c.item-item.result (drop (suc i) items) (subst (λ (q : List PlacedItem). takes_phrase c.args.self.now.closed.now.program.top (length c.args.self.now.closed.now.templates) (items_phrase q) ≡ true) next c.loop-item.invariant.taken)
+    first_taken c.args.self.now.subject.closed.now.program.top (length c.args.self.now.subject.closed.now.templates) c.item-item.result (drop (suc i) items) (subst (λ (q : List PlacedItem). takes_phrase c.args.self.now.subject.closed.now.program.top (length c.args.self.now.subject.closed.now.templates) (items_phrase q) ≡ true) next c.loop-item.invariant.taken)
 
 pub walk_phrase-walk_item-requires : goal.walk_phrase-walk_item-requires
-walk_phrase-walk_item-requires t c = (omega (arith, c.decreases), subst (λ (b : Bor Closed). IsDoingOf (NamesPhrase b.now.program.words) c.item_doing.new.marks c.in_ok-doing.doing) (sym c.loop-item.invariant.same) c.in_ok-doing.ensures.there)
+walk_phrase-walk_item-requires t c = (omega (arith, c.decreases), subst (λ (b : Subject). IsDoingOf (slice_get b.closed.now.program.words) c.item_doing.new.marks c.in_ok-doing.doing) (sym c.loop-item.invariant.same) c.in_ok-doing.ensures.there)
 
 pub walk_phrase-returns-clause-walks : goal.walk_phrase-returns-clause-walks
 walk_phrase-returns-clause-walks t c = λ O at u f closes l.
@@ -136,14 +146,14 @@ walk_phrase-returns-in-Refused-clause-walks t c = λ O at u f closes l.
     let items = c.deref-item-items.result.now in
     let i = c.loop-item.item-index in
     let next : drop i items ≡ c.item-item.result ∷ drop (suc i) items = drop-cons items i c.item-item.result c.loop-item-test.true ∙ ap (λ (x : PlacedItem). x ∷ drop (suc i) items) (sym c.item-item.is) in
-    sym (behind_from O at u f c.args.step.nested (base_seen O.naming c.args.step.base) (stack_of O.naming c.args.self.now.marks c.args.step.stack) c.args.step.left c.loop-item.self.marks c.item_doing.new.marks c.walk_item.new.self.marks c.loop-item.base c.loop-item.stack c.loop-item.left c.item-item.result _ (drop (suc i) items) c.in_ok-doing.doing c.in_ok-rule.field-0 _ next c.in-Refused.is (c.loop-item.invariant.onward O at u f closes l) (c.in_ok-doing.ensures.does O) (λ g. c.in_ok-rule.ensures.walks (carried (ap (λ (b : Bor Closed). b.now) c.loop-item.invariant.same) O) g) c.in_ok-rule.ensures.below)
+    sym (behind_from O at u f c.args.step.nested (base_seen O.naming c.args.step.base) (stack_of O.naming c.args.self.now.marks c.args.step.stack) c.args.step.left c.loop-item.self.marks c.item_doing.new.marks c.walk_item.new.self.marks c.loop-item.base c.loop-item.stack c.loop-item.left c.item-item.result _ (drop (suc i) items) c.in_ok-doing.doing c.in_ok-rule.field-0 _ next c.in-Refused.is (c.loop-item.invariant.onward O at u f closes l) (c.in_ok-doing.ensures.does O) (λ g. c.in_ok-rule.ensures.walks (carried c.loop-item.invariant.same O) g) c.in_ok-rule.ensures.below)
 
 pub walk_phrase-returns-in-Found-Dead-default-clause-walks : goal.walk_phrase-returns-in-Found-Dead-default-clause-walks
 walk_phrase-returns-in-Found-Dead-default-clause-walks t c = λ O at u f closes l.
     let items = c.deref-item-items.result.now in
     let i = c.loop-item.item-index in
     let next : drop i items ≡ c.item-item.result ∷ drop (suc i) items = drop-cons items i c.item-item.result c.loop-item-test.true ∙ ap (λ (x : PlacedItem). x ∷ drop (suc i) items) (sym c.item-item.is) in
-    sym (behind_from O at u f c.args.step.nested (base_seen O.naming c.args.step.base) (stack_of O.naming c.args.self.now.marks c.args.step.stack) c.args.step.left c.loop-item.self.marks c.item_doing.new.marks c.walk_item.new.self.marks c.loop-item.base c.loop-item.stack c.loop-item.left c.item-item.result _ (drop (suc i) items) c.in_ok-doing.doing c.in_ok-rule.field-0 _ next (c.in-Found-Dead-default.is ∙ ap (λ A. Found A c.in-Found-Dead-default.rest) c.in-Found-Dead-default.field-0-is) (c.loop-item.invariant.onward O at u f closes l) (c.in_ok-doing.ensures.does O) (λ g. c.in_ok-rule.ensures.walks (carried (ap (λ (b : Bor Closed). b.now) c.loop-item.invariant.same) O) g) c.in_ok-rule.ensures.below)
+    sym (behind_from O at u f c.args.step.nested (base_seen O.naming c.args.step.base) (stack_of O.naming c.args.self.now.marks c.args.step.stack) c.args.step.left c.loop-item.self.marks c.item_doing.new.marks c.walk_item.new.self.marks c.loop-item.base c.loop-item.stack c.loop-item.left c.item-item.result _ (drop (suc i) items) c.in_ok-doing.doing c.in_ok-rule.field-0 _ next (c.in-Found-Dead-default.is ∙ ap (λ A. Found A c.in-Found-Dead-default.rest) c.in-Found-Dead-default.field-0-is) (c.loop-item.invariant.onward O at u f closes l) (c.in_ok-doing.ensures.does O) (λ g. c.in_ok-rule.ensures.walks (carried c.loop-item.invariant.same O) g) c.in_ok-rule.ensures.below)
 
 pub walk_phrase-loop-item-preserved : goal.walk_phrase-loop-item-preserved
 walk_phrase-loop-item-preserved t c =
@@ -151,23 +161,23 @@ walk_phrase-loop-item-preserved t c =
     let i = c.loop-item.item-index in
     let is = c.in-Found-On-default.is ∙ ap (λ A. Found A c.in-Found-On-default.rest) c.in-Found-On-default.field-0-is in
     record {
-      same = c.in_ok-rule.ensures.closed ∙ c.loop-item.invariant.same;
+      same = c.in_ok-rule.ensures.subject ∙ c.loop-item.invariant.same;
       grows = grows_trans _ _ _ c.loop-item.invariant.grows (grows_trans _ _ _ c.in_ok-doing.ensures.grows c.in_ok-rule.ensures.grows);
       stack = subst (IsWalked c.walk_item.new.self.marks) is c.in_ok-rule.ensures.there;
       within = omega (arith, c.loop-item.invariant.within, subst (IsBelow c.loop-item.left) is c.in_ok-rule.ensures.below);
       taken =
           let next : drop i items ≡ c.item-item.result ∷ drop (i + 1) items = rw add-one (drop-cons items i c.item-item.result c.loop-item-test.true ∙ ap (λ (x : PlacedItem). x ∷ drop (suc i) items) (sym c.item-item.is)) in
-          others_taken c.args.self.now.closed.now.program.top (length c.args.self.now.closed.now.templates) c.item-item.result (drop (i + 1) items) (subst (λ (q : List PlacedItem). takes_phrase c.args.self.now.closed.now.program.top (length c.args.self.now.closed.now.templates) (items_phrase q) ≡ true) next c.loop-item.invariant.taken);
+          others_taken c.args.self.now.subject.closed.now.program.top (length c.args.self.now.subject.closed.now.templates) c.item-item.result (drop (i + 1) items) (subst (λ (q : List PlacedItem). takes_phrase c.args.self.now.subject.closed.now.program.top (length c.args.self.now.subject.closed.now.templates) (items_phrase q) ≡ true) next c.loop-item.invariant.taken);
       onward = λ O at u f closes l.
           let next : drop i items ≡ c.item-item.result ∷ drop (i + 1) items = rw add-one (drop-cons items i c.item-item.result c.loop-item-test.true ∙ ap (λ (x : PlacedItem). x ∷ drop (suc i) items) (sym c.item-item.is)) in
-          behind_from O at u f c.args.step.nested (base_seen O.naming c.args.step.base) (stack_of O.naming c.args.self.now.marks c.args.step.stack) c.args.step.left c.loop-item.self.marks c.item_doing.new.marks c.walk_item.new.self.marks c.loop-item.base c.loop-item.stack c.loop-item.left c.item-item.result _ (drop (i + 1) items) c.in_ok-doing.doing c.in_ok-rule.field-0 _ next is (c.loop-item.invariant.onward O at u f closes l) (c.in_ok-doing.ensures.does O) (λ g. c.in_ok-rule.ensures.walks (carried (ap (λ (b : Bor Closed). b.now) c.loop-item.invariant.same) O) g) c.in_ok-rule.ensures.below;
+          behind_from O at u f c.args.step.nested (base_seen O.naming c.args.step.base) (stack_of O.naming c.args.self.now.marks c.args.step.stack) c.args.step.left c.loop-item.self.marks c.item_doing.new.marks c.walk_item.new.self.marks c.loop-item.base c.loop-item.stack c.loop-item.left c.item-item.result _ (drop (i + 1) items) c.in_ok-doing.doing c.in_ok-rule.field-0 _ next is (c.loop-item.invariant.onward O at u f closes l) (c.in_ok-doing.ensures.does O) (λ g. c.in_ok-rule.ensures.walks (carried c.loop-item.invariant.same O) g) c.in_ok-rule.ensures.below;
     }
 
 pub walk_fork-returns-in-Refused-2-clause-walks : goal.walk_fork-returns-in-Refused-2-clause-walks
 walk_fork-returns-in-Refused-2-clause-walks t c = λ O f l.
     let s = c.args.step in
     let within = subst (IsWithin s.left) c.in-Found.is c.in_ok-rule.ensures.within in
-    let same : c.walk_mark.new.self.closed.now ≡ c.args.self.now.closed.now = ap (λ (b : Bor Closed). b.now) c.in_ok-rule.ensures.closed in
+    let same = c.in_ok-rule.ensures.subject in
     let K = c.walk_mark-in-Found.new.self.marks in
     forked O (go_at O f) c.args.self.now.marks c.walk_mark.new.self.marks K s c.args.first c.args.second _ _ c.in-Found.upper c.in-Found.rest _ c.in_ok-rule.ensures.grows c.requires.second c.requires.stack c.in-Found.is (c.in_ok-rule.ensures.walks O f l) (c.in_ok-rule-in-Found.ensures.walks (carried same O) f (omega (arith, within, l)))
     (ap (λ w. and_then (walked_seen O.naming K w) (λ B j. join (reached_seen O.naming c.walk_mark.new.self.marks c.in-Found.upper) B s.place j)) (sym c.in-Refused-2.is))
@@ -179,9 +189,119 @@ walk_fork-returns-in-Found-2-clause-walks t c =
     let K = c.walk_mark-in-Found.new.self.marks in
     let within = subst (IsWithin s.left) c.in-Found.is c.in_ok-rule.ensures.within in
     let there = subst (IsWalked L) c.in-Found.is c.in_ok-rule.ensures.there in
-    let same : c.walk_mark.new.self.closed.now ≡ c.args.self.now.closed.now = ap (λ (b : Bor Closed). b.now) c.in_ok-rule.ensures.closed in
+    let same = c.in_ok-rule.ensures.subject in
     ok_maps c.joined.result
     (λ r joins O f l.
     forked O (go_at O f) c.args.self.now.marks L K s c.args.first c.args.second _ _ c.in-Found.upper c.in-Found.rest _ c.in_ok-rule.ensures.grows c.requires.second c.requires.stack c.in-Found.is (c.in_ok-rule.ensures.walks O f l) (c.in_ok-rule-in-Found.ensures.walks (carried same O) f (omega (arith, within, l)))
     (joins O.naming ∙ ap (λ A. join A (reached_seen O.naming K c.in-Found-2.lower) s.place c.in-Found-2.rest) (reached_stays O.naming L K c.in-Found.upper c.in_ok-rule-in-Found.ensures.grows there) ∙ ap (λ w. and_then (walked_seen O.naming K w) (λ B j. join (reached_seen O.naming L c.in-Found.upper) B s.place j)) (sym c.in-Found-2.is)))
     c.joined.ensures.joins
+
+pub walk_effect-walk_inputs-requires : goal.walk_effect-walk_inputs-requires
+walk_effect-walk_inputs-requires t c =
+    let items = c.effect.inside.ins.items in
+    let count = inputs_counted items in
+    let seen : c.args.effect.now ≡ signature c.effect.inside.row_in (inputs_tree items) (outs_leaving c.effect.inside.outs) = sym c.effect.view_is in
+    let few = subst (λ e. (effect_height e).ins ≤ 65) seen c.requires.few in
+    (omega (arith, c.decreases), (rw c.deref.ensures.value (omega (arith, few, count)), (c.requires.inputs, c.in_ok-binding.ensures.there c.args.self.now.marks c.requires.stack)))
+
+pub walk_use-walk_effect-requires : goal.walk_use-walk_effect-requires
+walk_use-walk_effect-requires t c =
+    let C = c.args.self.now.subject.closed.now in
+    (omega (arith, c.decreases), (inputs_below C.program.top (length C.templates) c.in-Some.found.now (word_taken C.program C.templates c.args.self.now.taken c.args.word c.in-Some.found.now (sym c.in-Some.ensures)), (c.requires.inputs, c.requires.stack)))
+
+pub walk_quotation-bind-requires-clause-there : goal.walk_quotation-bind-requires-clause-there
+walk_quotation-bind-requires-clause-there t c = binding_later _ _ c.args.binding.now (grows_trans _ _ _ c.in_ok-start.ensures.grows c.in_ok-rule-in-Some.ensures.grows) c.requires.binding
+
+pub walk_quotation-returns-in-Refused-clause-walks : goal.walk_quotation-returns-in-Refused-clause-walks
+walk_quotation-returns-in-Refused-clause-walks t c = λ O f more l.
+    let M = c.args.self.now.marks in
+    let starts = subst (IsStart M c.start.new.marks c.args.binding.now c.args.effect.now) c.in-Some.is c.in_ok-start.ensures.starts in
+    quotation_refused O (go_at O f) M c.start.new.marks c.walk_from.new.self.marks c.args.step c.args.number c.args.effect.now c.args.mark c.args.binding.now more c.in-Some.start c.in_ok-start.ensures.grows c.requires.mark starts _ (c.in_ok-rule-in-Some.ensures.walks O f l) c.in-Refused.rule c.in-Refused.place c.in-Refused.is
+
+pub walk_quotation-returns-in-None-2-clause-walks : goal.walk_quotation-returns-in-None-2-clause-walks
+walk_quotation-returns-in-None-2-clause-walks t c = λ O f more l.
+    let M = c.args.self.now.marks in
+    let K = c.walk_from.new.self.marks in
+    let starts = subst (IsStart M c.start.new.marks c.args.binding.now c.args.effect.now) c.in-Some.is c.in_ok-start.ensures.starts in
+    let ties = subst (IsTie K c.args.number c.args.effect.now c.in-Found.reached c.args.binding.now c.bind.new.self) c.in-None-2.is c.in_ok-bind-in-Found.ensures.ties in
+    quotation_tied O (go_at O f) M c.start.new.marks K c.args.step c.args.number c.args.effect.now c.args.mark c.args.binding.now more c.in-Some.start c.in_ok-start.ensures.grows c.requires.mark starts _ (c.in_ok-rule-in-Some.ensures.walks O f l) c.in-Found.reached c.in-Found.left c.in-Found.is (grows_trans _ _ _ c.in_ok-start.ensures.grows c.in_ok-rule-in-Some.ensures.grows) c.requires.binding c.bind.new.self ties
+
+pub walk_quotation-returns-in-Some-2-clause-walks : goal.walk_quotation-returns-in-Some-2-clause-walks
+walk_quotation-returns-in-Some-2-clause-walks t c = λ O f more l.
+    let M = c.args.self.now.marks in
+    let K = c.walk_from.new.self.marks in
+    let starts = subst (IsStart M c.start.new.marks c.args.binding.now c.args.effect.now) c.in-Some.is c.in_ok-start.ensures.starts in
+    let ties = subst (IsTie K c.args.number c.args.effect.now c.in-Found.reached c.args.binding.now c.bind.new.self) c.in-Some-2.is c.in_ok-bind-in-Found.ensures.ties in
+    quotation_untied O (go_at O f) M c.start.new.marks K c.args.step c.args.number c.args.effect.now c.args.mark c.args.binding.now more c.in-Some.start c.in_ok-start.ensures.grows c.requires.mark starts _ (c.in_ok-rule-in-Some.ensures.walks O f l) c.in-Found.reached c.in-Found.left c.in-Found.is (grows_trans _ _ _ c.in_ok-start.ensures.grows c.in_ok-rule-in-Some.ensures.grows) c.requires.binding c.bind.new.self c.in-Some-2.rule ties
+
+pub walk_inputs-returns-in-Broken-clause-walks : goal.walk_inputs-returns-in-Broken-clause-walks
+walk_inputs-returns-in-Broken-clause-walks t c = λ O f l.
+    let M = c.loop-input.self.marks in
+    let K = c.walk_input.new.self.marks in
+    let list = c.args.list.now in
+    let i = c.loop-input.input-index in
+    let step : Step = record { place = c.args.step.place; nested = c.args.step.nested; base = c.args.step.base; stack = c.args.step.stack; left = c.loop-input.left } in
+    let next : drop i list ≡ c.input-item.result ∷ drop (suc i) list = drop-cons list i c.input-item.result c.loop-input-test.true ∙ ap (λ (x : Input). x ∷ drop (suc i) list) (sym c.input-item.is) in
+    let number : c.loop-input.number + 1 ≡ suc i = omega (arith, c.loop-input.invariant.number) in
+    inputs_next O (go_at O f) M K step (suc i) (c.loop-input.number + 1) c.input-item.result (drop i list) (drop (suc i) list) c.loop-input.marks c.in-Some.mark c.in-Some.rest c.loop-input.binding c.walk_input.new.binding _ _ next c.in-Some.ensures number c.in-Broken.is (λ more. c.in_ok-rule.ensures.walks (carried c.loop-input.invariant.same O) f more (omega (arith, c.loop-input.invariant.within, l)))
+    ∙ sym (c.loop-input.invariant.onward O f l)
+
+pub walk_inputs-loop-input-preserved : goal.walk_inputs-loop-input-preserved
+walk_inputs-loop-input-preserved t c =
+    let top = c.in-Some.ensures in
+    record {
+      same = c.in_ok-rule.ensures.subject ∙ c.loop-input.invariant.same;
+      grows = grows_trans _ _ _ c.loop-input.invariant.grows c.in_ok-rule.ensures.grows;
+      marks = c.in_ok-rule.ensures.grows.stacks c.in-Some.rest top.rest;
+      binding = subst (AreBound c.walk_input.new.self.marks c.walk_input.new.binding) c.in-Bound.is c.in_ok-rule.ensures.there;
+      within = omega (arith, c.loop-input.invariant.within, subst (AreWithin c.loop-input.left) c.in-Bound.is c.in_ok-rule.ensures.within);
+      number = ap (λ n. n + 1) c.loop-input.invariant.number;
+      onward = λ O f l.
+          let M = c.loop-input.self.marks in
+          let K = c.walk_input.new.self.marks in
+          let list = c.args.list.now in
+          let i = c.loop-input.input-index in
+          let step : Step = record { place = c.args.step.place; nested = c.args.step.nested; base = c.args.step.base; stack = c.args.step.stack; left = c.loop-input.left } in
+          let next : drop i list ≡ c.input-item.result ∷ drop (i + 1) list = rw add-one (drop-cons list i c.input-item.result c.loop-input-test.true ∙ ap (λ (x : Input). x ∷ drop (suc i) list) (sym c.input-item.is)) in
+          let one : suc i ≡ i + 1 = omega arith in
+          c.loop-input.invariant.onward O f l
+          ∙ ap (λ k. walk_inputs O.effect (go_at O f) k (inputs_tree (drop i list)) (stack_of O.naming M c.loop-input.marks) c.args.step.place c.args.step.nested (binding_seen O.naming M c.loop-input.binding) c.loop-input.left) one
+          ∙ sym (inputs_next O (go_at O f) M K step (i + 1) (c.loop-input.number + 1) c.input-item.result (drop i list) (drop (i + 1) list) c.loop-input.marks c.in-Some.mark c.in-Some.rest c.loop-input.binding c.walk_input.new.binding _ _ next top (ap (λ n. n + 1) c.loop-input.invariant.number) c.in-Bound.is (λ more. c.in_ok-rule.ensures.walks (carried c.loop-input.invariant.same O) f more (omega (arith, c.loop-input.invariant.within, l))))
+          ∙ ap (λ ms. walk_inputs O.effect (go_at O f) (suc (i + 1)) (inputs_tree (drop (i + 1) list)) ms c.args.step.place c.args.step.nested (binding_seen O.naming K c.walk_input.new.binding) c.in-Bound.kept) (sym (c.in_ok-rule.ensures.grows.same_stack O.naming c.in-Some.rest top.rest));
+    }
+
+pub walk_item-returns-in-Ok-admitted-6-clause-walks : goal.walk_item-returns-in-Ok-admitted-6-clause-walks
+walk_item-returns-in-Ok-admitted-6-clause-walks t c =
+    let M = c.args.self.now.marks in
+    let L = c.use_rule.new.self.marks in
+    let broken = c.in_ok-use_rule-in-Uses.ensures in
+    let there = subst (IsDoingOf (slice_get c.args.self.now.subject.closed.now.program.words) M) c.in-Uses.is c.requires in
+    let defined = subst (λ (b : Subject). is_defined (slice_get b.closed.now.program.words c.in-Uses.word) ≡ true) (sym broken.subject) there.0 in
+    ok_maps c.walk_use.result
+    (λ r walks O f l.
+    let N = O.naming in
+    let s = c.args.step in
+    let w = c.in-Uses.word in
+    let e = effect_of (slice_get O.program.words w) in
+    let is = stack_of N M c.in-Uses.inputs in
+    let rest = stack_of N M c.in-Uses.rest in
+    let left = c.in-Ok-admitted-6.left in
+    walks (carried broken.subject O) f (omega (arith, c.in-Ok-admitted-6.ensures.0, l))
+    ∙ ap (λ x. walk_use O.effect (go_at O f) x (stack_of N L c.in-Uses.inputs) s.place s.nested (base_seen N s.base) (stack_of N L c.in-Uses.rest) left) (sym (used_effect (carried broken.subject O) w defined))
+    ∙ ap (λ ms. walk_use O.effect (go_at O f) e ms s.place s.nested (base_seen N s.base) (stack_of N L c.in-Uses.rest) left) (broken.grows.same_stack N c.in-Uses.inputs there.1)
+    ∙ ap (λ ms. walk_use O.effect (go_at O f) e is s.place s.nested (base_seen N s.base) ms left) (broken.grows.same_stack N c.in-Uses.rest there.2)
+    ∙ sym (c.in-Ok-admitted-6.ensures.1 s.place (λ k. walk_use O.effect (go_at O f) e is s.place s.nested (base_seen N s.base) rest k))
+    ∙ ap (λ x. unless_broken x s.place (counted s.place s.left (λ k. walk_use O.effect (go_at O f) e is s.place s.nested (base_seen N s.base) rest k))) (used_rule O w there.0 M s c.in-Uses.rest c.in-Uses.inputs _ (broken.rule O))
+    ∙ ap (λ D. item_walk O.effect (go_at O f) (doing_seen N M (slice_get O.program.words) (base_seen N s.base) D) s.place s.nested s.left) (sym c.in-Uses.is))
+    c.walk_use.ensures.walks
+
+pub walk_item-returns-in-Err-admitted-6-clause-walks : goal.walk_item-returns-in-Err-admitted-6-clause-walks
+walk_item-returns-in-Err-admitted-6-clause-walks t c = λ O f l.
+    let M = c.args.self.now.marks in
+    let there = subst (IsDoingOf (slice_get c.args.self.now.subject.closed.now.program.words) M) c.in-Uses.is c.requires in
+    let N = O.naming in
+    let s = c.args.step in
+    let w = c.in-Uses.word in
+    sym (c.in-Err-admitted-6.ensures s.place (λ k. walk_use O.effect (go_at O f) (effect_of (slice_get O.program.words w)) (stack_of N M c.in-Uses.inputs) s.place s.nested (base_seen N s.base) (stack_of N M c.in-Uses.rest) k))
+    ∙ ap (λ x. unless_broken x s.place (counted s.place s.left (λ k. walk_use O.effect (go_at O f) (effect_of (slice_get O.program.words w)) (stack_of N M c.in-Uses.inputs) s.place s.nested (base_seen N s.base) (stack_of N M c.in-Uses.rest) k))) (used_rule O w there.0 M s c.in-Uses.rest c.in-Uses.inputs _ (c.in_ok-use_rule-in-Uses.ensures.rule O))
+    ∙ ap (λ D. item_walk O.effect (go_at O f) (doing_seen N M (slice_get O.program.words) (base_seen N s.base) D) s.place s.nested s.left) (sym c.in-Uses.is)

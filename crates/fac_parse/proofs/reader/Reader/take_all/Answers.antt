@@ -2,8 +2,12 @@ use Rattle.std.proofs.Common.{◌∙◌, ap, length}
 use Rattle.std.proofs.lemmas.Iterator.Adapters.{YieldsList-from_vec}
 use Rattle.std.proofs.lemmas.Iterator.Consumers.{YieldsList-so_far, YieldsList-turn}
 use Rattle.fac_parse.specs.inner.Reader.{state_of}
+use Rattle.fac_parse.proofs.ExactPlaces.{is_read}
 use Rattle.fac_parse.proofs.ParseLemmas.{goes_on, counts_on, stops}
 use Rattle.fac_parse.proofs.reader.Reader.take_all.Goals as goal
+
+pub take-requires : goal.take-requires
+take-requires c = is_read c.loop-token.yielded (state_of c.loop-token.self) c.loop-token.invariant.so_far
 
 pub returns-then-not-branch : goal.returns-then-not-branch
 returns-then-not-branch c =

@@ -1,0 +1,30 @@
+//! What is walked.
+ghost use Rattle.std.specs.Prelude.{◌≡◌, option_copied};
+ghost use Rattle.fac_check.specs.inner.OwnEffects.{own_effect};
+
+use fac_lang::Effect;
+use fac_locals::Closed;
+
+/// A closed program, and which of its words is checked.
+#[derive(Clone, Copy)]
+pub struct Subject<'a> {
+    /// The closed program.
+    pub closed: &'a Closed,
+    /// The number of the word that is checked, where it is a row word.
+    pub own: Option<u32>,
+}
+
+impl<'a> Subject<'a> {
+    /// The effect of the word that is checked, where it is a row word.
+    pub fn own_effect(self) -> Option<&'a Effect>
+        ensures { option_copied result ≡ own_effect self.entry.closed.now.program self.entry.own }
+    {
+        let Some(number) = self.own else {
+            return None;
+        };
+        match self.closed.program.words.get(number as usize) {
+            Some(word) => Some(&word.effect),
+            None => None,
+        }
+    }
+}

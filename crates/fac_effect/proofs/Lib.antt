@@ -1,0 +1,9 @@
+pub mod BoundRowLemmas
+pub mod SpellingLemmas
+pub mod EffectRuns
+pub mod EffectsReadBack
+pub mod WholeEffects
+pub mod EffectLemmas
+pub mod PartLemmas
+pub mod EffectEndLemmas
+pub mod ExamplesOfEffects

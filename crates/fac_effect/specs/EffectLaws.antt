@@ -1,0 +1,28 @@
+-- Laws of reading effects. Each is the contract of a function that does nothing.
+use Rattle.std.specs.Prelude.{◌≡◌, List, ◌++◌}
+use Rattle.fac_lang.specs.declared.token.Token.{Token}
+use Rattle.fac_lang.specs.Signatures.{Signature}
+use Rattle.fac_effect.specs.declared.effect_reader.EffectReader.{EffectReader}
+use Rattle.fac_effect.specs.declared.effect_reader.EffectWhy.{EffectWhy}
+use Rattle.fac_effect.specs.WrittenEffects.{IsEffect, BeginsEffect, IsUnfinished}
+use Rattle.fac_effect.specs.EffectReading.{reads, whole, refused, after}
+use Rattle.fac_effect.specs.SaidEffects.{effect_of}
+
+-- Tokens are whole exactly where they are those of an effect, and then they say one thing.
+abbrev pub WholeIsEffect : Type 0
+WholeIsEffect = (tokens : List Token) → after tokens ≡ whole → IsEffect tokens (effect_of tokens)
+
+abbrev pub EffectIsWhole : Type 0
+EffectIsWhole = (tokens : List Token) (effect : Signature) → IsEffect tokens effect → (after tokens ≡ whole) × (effect_of tokens ≡ effect)
+
+-- No effect's tokens begin those of another.
+abbrev pub EffectsEnd : Type 0
+EffectsEnd = (xs ys r s : List Token) (e g : Signature) → IsEffect xs e → IsEffect ys g → xs ++ r ≡ ys ++ s → (xs ≡ ys) × (e ≡ g)
+
+-- Tokens that are read and not whole go on to an effect.
+abbrev pub ReadGoesOn : Type 0
+ReadGoesOn = (tokens : List Token) (r : EffectReader) → after tokens ≡ reads r → IsUnfinished tokens
+
+-- No effect begins with tokens that are refused.
+abbrev pub RefusedIsNone : Type 0
+RefusedIsNone = (tokens : List Token) (why : EffectWhy) → after tokens ≡ refused why → BeginsEffect tokens → ⊥

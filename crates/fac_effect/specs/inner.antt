@@ -1,0 +1,4 @@
+-- What only the contracts of inner functions cite.
+pub mod BoundRows
+pub mod EffectParts
+pub mod EffectEnds

@@ -1,0 +1,21 @@
+//! What a token is to the grammar, and stack effects: how they are read, which row variables can be bound, and the arithmetic of heights.
+#![tactic(auto)]
+
+mod effect_parser;
+mod effect_parts;
+mod effect_reader;
+mod heights;
+mod laws;
+mod row_variables;
+mod spelling;
+
+pub use effect_parser::{EffectFault, parse_effect};
+pub use effect_parts::effect_from;
+pub use effect_reader::{EffectReader, EffectWhy, Side, Spot, Taken};
+pub use heights::{curried, fits, then};
+pub use laws::{
+    effect_is_whole, effects_end, literals_are_integers, read_goes_on, refused_is_none,
+    whole_is_effect,
+};
+pub use row_variables::{bindable, has_rows, is_row_word};
+pub use spelling::{Spelling, classify, text};

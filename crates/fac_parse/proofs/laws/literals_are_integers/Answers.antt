@@ -1,5 +1,0 @@
-use Rattle.fac_parse.proofs.SpellingLemmas as lemma
-use Rattle.fac_parse.proofs.laws.literals_are_integers.Goals as goal
-
-pub returns : goal.returns
-returns c = lemma.literals_are_integers

@@ -1,0 +1,5 @@
+pub mod BindingLemmas
+mod CallLemmas
+mod TakingLemmas
+mod ExamplesOfBinding
+pub mod NamingRows

@@ -1,0 +1,4 @@
+pub mod RowBinding
+pub mod RowNumbers
+pub mod SeenBindings
+pub mod inner
