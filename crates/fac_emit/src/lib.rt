@@ -1,7 +1,6 @@
 //! Compilation of closed programs to images.
 #![tactic(auto)]
 
-mod arrays;
 mod compiler;
 mod emitter;
 mod laws;

@@ -2,6 +2,5 @@
 #![tactic(auto)]
 
 mod closing;
-mod counting;
 
 pub use closing::{Closed, close};

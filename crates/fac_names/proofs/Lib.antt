@@ -4,8 +4,6 @@ pub mod FirstLemmas
 pub mod SearchLemmas
 pub mod ItemLemmas
 pub mod PlainItems
-pub mod ArrayNumbers
-pub mod ArrayReadings
 pub mod DraftLemmas
 pub mod PlainEffectLemmas
 pub mod ReadingLemmas

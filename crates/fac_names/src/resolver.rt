@@ -42,7 +42,6 @@ fn first(alloc: Global) -> Result<SoFar, Memory>
     Ok(SoFar {
         scope,
         drafts,
-        arrays: List::new(alloc),
         items: Vec::new(alloc),
         main: Vec::new(alloc),
         first: None,

@@ -6,4 +6,3 @@ pub mod ReaderReads
 pub mod ReaderCompletes
 pub mod ExactPlaces
 pub mod ParseLemmas
-pub mod ExamplesOfArrays

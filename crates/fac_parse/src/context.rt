@@ -1,10 +1,14 @@
 //! What is open where an element of items stands.
 
-/// What a pair of brackets that is open encloses so far.
+/// A kind of brackets.
 #[derive(Clone, Copy, Debug)]
-pub enum Context {
-    /// A quotation.
+pub enum Bracket {
+    /// `[` and `]`
     Quotation,
-    /// An array, which has so many elements.
-    Array(u32),
+}
+
+/// What is open: a pair of brackets of this kind.
+#[derive(Clone, Copy, Debug)]
+pub struct Context {
+    pub bracket: Bracket,
 }

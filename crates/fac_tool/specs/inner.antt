@@ -1,4 +1,3 @@
 -- What only the contracts of inner functions cite.
 pub mod Stops
 pub mod StepEnds
-pub mod ListedStacks
