@@ -19,6 +19,11 @@ def ends(token):
     return f"syntax: a token {token}: end of the file\n"
 
 
+def doubled(levels):
+    """The printed form of an array of two arrays, which are of two arrays again, and so on for more levels than these."""
+    return "..." if levels == 0 else f"{{ {doubled(levels - 1)} {doubled(levels - 1)} }}"
+
+
 USAGE = "usage: factorc check, run, build, exec, list, listen or gen\n"
 ONE = "USING: prettyprint ; 1 ."
 TWO = "USING: prettyprint ; 2 ."
@@ -72,6 +77,14 @@ EXAMPLES = [
         "",
     ),
     (f"{H} 3 4 [ sq ] bi@ + .", 0, 18, "25\n", ""),
+    (f"{H} 0 10 <iota> [ + ] each .", 0, 344, "45\n", ""),
+    (
+        f'{H} {{ 1 2 }} {{ 1 2 }} = . {{ 3 4 5 }} [ 3 > ] filter . "ab" reverse .',
+        0,
+        None,
+        't\n{ 4 5 }\n"ba"\n',
+        "",
+    ),
     ("USING: kernel math prettyprint ; 0 5 [ 2 + ] times .", 0, 179, "10\n", ""),
     ("USING: kernel ; : wrong ( -- ) drop ; inline 1", 0, 1, "", ""),
     (": more ( -- ) 1 2 ; inline more", 0, 3, "", ""),
@@ -225,7 +238,34 @@ EXAMPLES = [
     (": w ( " + "x: c " * 33 + "-- ) ;", 3, 0, "", not_expected(68)),
     (": w ( " + "x: ( " * 65, 3, 0, "", not_expected(132)),
     (": w : v ( -- ) ; ( -- ) ;", 3, 0, "", not_expected(3)),
-    ("{ 1 }", 3, 0, "", not_expected(1)),
+    # brackets of arrays
+    ("}", 3, 0, "", not_expected(1)),
+    ("{ 1 ]", 3, 0, "", not_expected(3)),
+    ("[ 1 }", 3, 0, "", not_expected(3)),
+    ("{ [ } ]", 3, 0, "", not_expected(3)),
+    ("[ { ] }", 3, 0, "", not_expected(3)),
+    ("{ } }", 3, 0, "", not_expected(3)),
+    ("{ 1", 3, 0, "", ends(3)),
+    ("{ [ ]", 3, 0, "", ends(4)),
+    ("{ { }", 3, 0, "", ends(4)),
+    (": w ( -- x ) { 1 ;", 3, 0, "", not_expected(9)),
+    ("{ : w ( -- ) ; }", 3, 0, "", not_expected(2)),
+    ("{ 1 USE: math }", 3, 0, "", not_expected(3)),
+    ("{ inline }", 3, 0, "", not_expected(2)),
+    ("{ \\ dup }", 3, 0, "", not_expected(2)),
+    ("{ \"a\" ( -- ) }", 3, 0, "", not_expected(3)),
+    ("{ 1 170141183460469231731687303715884105728 }", 3, 0, "", not_expected(3)),
+    ("CONSTANT: c {", 3, 0, "", ends(4)),
+    ("CONSTANT: c { 1 } 2 }", 3, 0, "", not_expected(7)),
+    ("USING: kernel ; " + "{ " * 256 + "} " * 256 + "drop", 0, 2, "", ""),
+    ("USING: kernel ; " + "[ { " * 128 + "} ] " * 128 + "drop", 0, 2, "", ""),
+    ("{ " * 257 + "} " * 257, 3, 0, "", not_expected(257)),
+    ("{ [ " * 128 + "{", 3, 0, "", not_expected(257)),
+    ("[ { " * 128 + "[", 3, 0, "", not_expected(257)),
+    ("[ " * 255 + "{ [", 3, 0, "", not_expected(257)),
+    ("[ " * 255 + "{", 3, 0, "", ends(257)),
+    ("USING: sequences prettyprint ; { " + "1 " * 1_000_000 + "} length .", 0, 3, "1000000\n", ""),
+    ("{ " + "1 " * 1_000_001 + "}", 3, 0, "", not_expected(1_000_002)),
     ("1 \\ dup", 3, 0, "", not_expected(2)),
     (":: w ( -- ) ;", 3, 0, "", not_expected(1)),
     ("[ " * 257, 3, 0, "", not_expected(257)),
@@ -305,7 +345,23 @@ EXAMPLES = [
     (": w ( -- ) w v ; : v ( -- ) ;", 4, 0, "", "name: a token 7: unknown v\n"),
     ("w : w ( -- ) ;", 4, 0, "", "name: a token 1: unknown w\n"),
     ('nothing [ "\\n\\t\\r\\\\\\"" ]', 4, 0, "", "name: a token 1: unknown nothing\n"),
-    (f'{H} 10 <iota>', 4, 0, "", "name: a token 13: unknown <iota>\n"),
+    # names in arrays, and those of sequences
+    ("10 <iota>", 4, 0, "", "name: a token 2: unknown <iota>\n"),
+    ("{ 1 foo }", 4, 0, "", "name: a token 3: unknown foo\n"),
+    ("{ { [ { foo } ] } }", 4, 0, "", "name: a token 5: unknown foo\n"),
+    ("{ dup }", 4, 0, "", "name: a token 2: unknown dup\n"),
+    ("IN: a : go ( -- ) ; IN: b : go ( -- ) ; IN: c USING: a b ; { go }", 4, 0, "", "name: a token 24: ambiguous go, a:go and b:go\n"),
+    ("DEFER: w { w }", 4, 0, "", "name: a token 2: undefined w\n"),
+    ("{ w } : w ( -- ) ;", 4, 0, "", "name: a token 2: unknown w\n"),
+    ("USING: prettyprint ; : w ( -- x ) { w . } ; w .", 0, 3, "{ w . }\n", ""),
+    ("USING: sequences ; { t } { 1 } (select)", 4, 0, "", "name: a token 10: unknown (select)\n"),
+    ("USING: arrays ; 1 1array length", 4, 0, "", "name: a token 6: unknown length\n"),
+    ("USING: math ; 5 number>string", 4, 0, "", "name: a token 5: unknown number>string\n"),
+    ("IN: sequences : sum ( -- ) ;", 4, 0, "", "name: a token 4: twice sum\n"),
+    ("IN: sequences SYMBOL: (select)", 4, 0, "", "name: a token 4: twice (select)\n"),
+    ("IN: sequences { t } { 1 } (select) first", 0, 7, "", ""),
+    ("IN: math.parser DEFER: number>string", 4, 0, "", "name: a token 4: twice number>string\n"),
+    ("IN: a : first ( -- ) ; IN: b USING: sequences a ; first", 4, 0, "", "name: a token 15: ambiguous first, a:first and sequences:first\n"),
     (
         "IN: a : go ( -- ) ; IN: b : go ( -- ) ; IN: c USING: a b ; go",
         4,
@@ -341,6 +397,19 @@ EXAMPLES = [
     ("nothing DEFER: w", 4, 0, "", "name: a token 1: unknown nothing\n"),
     ("MAIN: w : w ( -- ) ;", 4, 0, "", "name: a token 2: unknown w\n"),
     ("CONSTANT: c [ c d ]", 4, 0, "", "name: a token 5: unknown d\n"),
+    # the checker and arrays: nothing is known of what stands in one
+    ("USING: kernel ; { [ ] } call", 5, 0, "", "check: top-level, a token 8: not-known\n"),
+    ("USING: kernel sequences ; { [ ] } first call", 5, 0, "", "check: top-level, a token 10: not-known\n"),
+    ("USING: kernel ; : w ( -- x ) { w [ w + ] } ; inline w drop", 4, 0, "", "name: a token 14: unknown +\n"),
+    ("USING: kernel ; : w ( -- x ) { w [ w drop drop ] } ; inline w drop", 0, 3, "", ""),
+    ("USING: kernel ; { 1 } { 2 } [ ] if", 5, 0, "", "check: top-level, a token 12: not-known\n"),
+    ("USING: kernel ; : w ( -- ) " + "{ } drop " * 100_000 + "{ } ;", 5, 0, "", "check: scratchpad:w, a token 300009: too-large\n"),
+    ("USING: sequences ; 5 map", 5, 0, "", "check: top-level, a token 5: underflow, needs 2, has 1\n"),
+    ("USING: sequences ; 5 5 each", 5, 0, "", "check: top-level, a token 6: not-known\n"),
+    ("USING: kernel sequences ; 10 <iota> [ ] each", 5, 0, "", "check: top-level, a token 9: rows, input 2, expected 0, found 1\n"),
+    ("USING: kernel sequences ; { 1 } [ drop ] map", 5, 0, "", "check: top-level, a token 11: rows, input 2, expected 1, found 0\n"),
+    ("USING: kernel sequences ; { 1 } [ dup ] filter", 5, 0, "", "check: top-level, a token 11: rows, input 2, expected 1, found 2\n"),
+    ("USING: kernel sequences ; { 1 } 0 [ drop drop ] reduce", 5, 0, "", "check: top-level, a token 13: rows, input 3, expected 1, found 0\n"),
     # the checker
     ("USING: math ; 1 +", 5, 0, "", "check: top-level, a token 5: underflow, needs 2, has 1\n"),
     ("USING: kernel math ; 1 dup * drop drop over", 5, 0, "", "check: top-level, a token 9: underflow, needs 1, has 0\n"),
@@ -719,6 +788,196 @@ EXAMPLES_OF_ROWS = [
     ),
 ]
 
+# Characters of one to four bytes.
+WIDE = "a\u00e9\u20ac\U0001f600"
+
+# Texts behind the line that uses all vocabularies and defines the symbol `s`, with what they print, or with the error that they end with,
+# behind what they print before.
+EXAMPLES_OF_OBJECTS = [
+    # numbers and texts
+    ("5 number>string . -0x10 number>string .", '"5"\n"-16"\n'),
+    (f"{LEAST} number>string print", LEAST + "\n"),
+    ("t number>string", "not-integer in math.parser:number>string: t"),
+    ('"5" number>string', 'not-integer in math.parser:number>string: "5"'),
+    ("{ 5 } number>string", "not-integer in math.parser:number>string: { 5 }"),
+    ("3 <iota> number>string", "not-integer in math.parser:number>string: <iota 3>"),
+    ("[ ] number>string", "not-integer in math.parser:number>string: [ ... ]"),
+    ("s number>string", "not-integer in math.parser:number>string: s"),
+    ('"12" string>number . "-0x1F" string>number . "1,000" string>number . "-0" string>number .', "12\n-31\n1000\n0\n"),
+    ('"0b" string>number . "" string>number . " 1" string>number . "1\\n" string>number . "1," string>number .', "f\nf\nf\nf\nf\n"),
+    ('"+1" string>number . "1.5" string>number . "\u0663" string>number . "a1" string>number . "t" string>number .', "f\nf\nf\nf\nf\n"),
+    (f'"{GREATEST}" string>number . "{LEAST}" string>number .', f"{GREATEST}\n{LEAST}\n"),
+    ('"170141183460469231731687303715884105728" string>number . "-0x80000000000000000000000000000001" string>number .', "f\nf\n"),
+    (f'"{"0" * 1000}7" string>number . "0x{"0" * 1000}7" string>number .', "7\n7\n"),
+    ("5 string>number", "bad-text in math.parser:string>number: 5"),
+    ("f string>number", "bad-text in math.parser:string>number: f"),
+    ("{ } string>number", "bad-text in math.parser:string>number: { }"),
+    ("0 <iota> string>number", "bad-text in math.parser:string>number: <iota 0>"),
+    ("s string>number", "bad-text in math.parser:string>number: s"),
+    # length
+    (f'"" length . "{WIDE}" length . {{ }} length . {{ 1 {{ 2 3 }} "ab" }} length . 0 <iota> length .', "0\n4\n0\n3\n0\n"),
+    (f"{GREATEST} <iota> length .", GREATEST + "\n"),
+    ("5 length", "not-sequence in sequences:length: 5"),
+    ("t length", "not-sequence in sequences:length: t"),
+    ("[ 1 ] length", "not-sequence in sequences:length: [ ... ]"),
+    ("s length", "not-sequence in sequences:length: s"),
+    # nth
+    (f'0 "{WIDE}" nth . 1 "{WIDE}" nth . 2 "{WIDE}" nth . 3 "{WIDE}" nth .', "97\n233\n8364\n128512\n"),
+    (f'4 "{WIDE}" nth', "bounds in sequences:nth"),
+    (f'-1 "{WIDE}" nth', "bounds in sequences:nth"),
+    ('0 "" nth', "bounds in sequences:nth"),
+    ('1 { 1 "b" } nth . 0 { { } } nth . 5 10 <iota> nth .', '"b"\n{ }\n5\n'),
+    ("10 10 <iota> nth", "bounds in sequences:nth"),
+    (f"{2**127 - 2} {GREATEST} <iota> nth . {GREATEST} {GREATEST} <iota> nth .", f"{2**127 - 2}\nbounds in sequences:nth"),
+    ("2 { 1 2 } nth", "bounds in sequences:nth"),
+    ("t { 1 } nth", "not-integer in sequences:nth: t"),
+    ("t 5 nth", "not-integer in sequences:nth: t"),
+    ("0 5 nth", "not-sequence in sequences:nth: 5"),
+    ("-1 s nth", "not-sequence in sequences:nth: s"),
+    ("{ 0 } { 0 } nth", "not-integer in sequences:nth: { 0 }"),
+    # set-nth
+    ("7 0 { 1 2 } [ set-nth ] keep . t 1 { 1 2 } [ set-nth ] keep .", "{ 7 2 }\n{ 1 t }\n"),
+    ("7 t { 1 } set-nth", "not-integer in sequences:set-nth: t"),
+    ('7 t "a" set-nth', "not-integer in sequences:set-nth: t"),
+    ('7 0 "ab" set-nth', 'not-sequence in sequences:set-nth: "ab"'),
+    ("7 0 3 <iota> set-nth", "not-sequence in sequences:set-nth: <iota 3>"),
+    ("7 9 5 set-nth", "not-sequence in sequences:set-nth: 5"),
+    ("7 1 { 1 } set-nth", "bounds in sequences:set-nth"),
+    ("7 -1 { 1 } set-nth", "bounds in sequences:set-nth"),
+    ("7 0 { } set-nth", "bounds in sequences:set-nth"),
+    # <iota>
+    (f"0 <iota> . 3 <iota> . {GREATEST} <iota> .", f"<iota 0>\n<iota 3>\n<iota {GREATEST}>\n"),
+    ("-1 <iota>", "length in sequences:<iota>"),
+    ('"3" <iota>', 'not-integer in sequences:<iota>: "3"'),
+    ("{ 3 } <iota>", "not-integer in sequences:<iota>: { 3 }"),
+    # append
+    ('"a\u00e9" "\u20ac\U0001f600" append .', f'"{WIDE}"\n'),
+    ('"a\u00e9" { 1 } append . { 1 } "a" append . "" { } append . { } "" append . "" "" append .', '{ 97 233 1 }\n{ 1 97 }\n{ }\n{ }\n""\n'),
+    ("2 <iota> 3 <iota> append . { t } 1 <iota> append . { } { } append .", "{ 0 1 0 1 2 }\n{ t 0 }\n{ }\n"),
+    ("{ 1 } { } over append eq? .", "f\n"),
+    ("5 t append", "not-sequence in sequences:append: 5"),
+    ("{ } t append", "not-sequence in sequences:append: t"),
+    ("[ ] { } append", "not-sequence in sequences:append: [ ... ]"),
+    ("1000000 <iota> 0 <iota> append length .", "1000000\n"),
+    ("1000000 <iota> 1 <iota> append", "length in sequences:append"),
+    (f"{GREATEST} <iota> dup append", "length in sequences:append"),
+    (f'"{"a" * 500_000}" "{"b" * 500_000}" append length .', "1000000\n"),
+    (f'"{"a" * 500_001}" "{"b" * 500_000}" append', "length in sequences:append"),
+    # suffix
+    ('{ 1 } 2 suffix . "a" 98 suffix . 3 <iota> t suffix . "" "" suffix . { } { } suffix .', '{ 1 2 }\n{ 97 98 }\n{ 0 1 2 t }\n{ "" }\n{ { } }\n'),
+    ("5 1 suffix", "not-sequence in sequences:suffix: 5"),
+    ("s 1 suffix", "not-sequence in sequences:suffix: s"),
+    ("999999 <iota> 1 suffix length .", "1000000\n"),
+    ("1000000 <iota> 1 suffix", "length in sequences:suffix"),
+    # subseq
+    (f'1 3 "{WIDE}" subseq . 0 0 "{WIDE}" subseq . 4 4 "{WIDE}" subseq . 3 4 "{WIDE}" subseq .', '"\u00e9\u20ac"\n""\n""\n"\U0001f600"\n'),
+    ("1 2 { 1 2 3 } subseq . 0 3 { 1 2 3 } subseq . 3 3 { 1 2 3 } subseq . 2 5 10 <iota> subseq .", "{ 2 }\n{ 1 2 3 }\n{ }\n{ 2 3 4 }\n"),
+    ("2 1 { 1 2 3 } subseq", "bounds in sequences:subseq"),
+    ("-1 1 { 1 2 3 } subseq", "bounds in sequences:subseq"),
+    ("0 4 { 1 2 3 } subseq", "bounds in sequences:subseq"),
+    ("4 4 { 1 2 3 } subseq", "bounds in sequences:subseq"),
+    ("t 5 5 subseq", "not-integer in sequences:subseq: t"),
+    ("0 t 5 subseq", "not-integer in sequences:subseq: t"),
+    ("f t 5 subseq", "not-integer in sequences:subseq: f"),
+    ("1 0 5 subseq", "not-sequence in sequences:subseq: 5"),
+    ("1 1000001 2000000 <iota> subseq length .", "1000000\n"),
+    ("0 1000001 2000000 <iota> subseq", "length in sequences:subseq"),
+    ("0 2000001 2000000 <iota> subseq", "bounds in sequences:subseq"),
+    # reverse
+    (f'"{WIDE}" reverse . "" reverse . {{ 1 {{ 2 3 }} }} reverse . 3 <iota> reverse .', '"\U0001f600\u20ac\u00e9a"\n""\n{ { 2 3 } 1 }\n{ 2 1 0 }\n'),
+    ("1000000 <iota> reverse first .", "999999\n"),
+    ("1000001 <iota> reverse", "length in sequences:reverse"),
+    ("5 reverse", "not-sequence in sequences:reverse: 5"),
+    ("{ 1 } dup reverse eq? .", "f\n"),
+    # (select)
+    ('USE: sequences.private { t f 1 } { 1 2 3 } (select) . { t f } "ab" (select) . { f f } 2 <iota> (select) .', "{ 1 3 }\n{ 97 }\n{ }\n"),
+    ('USE: sequences.private "ab" { 1 2 } (select) . 2 <iota> "ab" (select) . "" "" (select) .', "{ 1 2 }\n{ 97 98 }\n{ }\n"),
+    ("USE: sequences.private { t } { 1 2 } (select)", "length in sequences.private:(select)"),
+    ("USE: sequences.private { t } 0 <iota> (select)", "length in sequences.private:(select)"),
+    ("USE: sequences.private 5 6 (select)", "not-sequence in sequences.private:(select): 5"),
+    ("USE: sequences.private { } 6 (select)", "not-sequence in sequences.private:(select): 6"),
+    ("USE: sequences.private 1000000 <iota> dup (select) length .", "1000000\n"),
+    ("USE: sequences.private 1000001 <iota> dup (select)", "length in sequences.private:(select)"),
+    # arrays
+    ("3 t <array> . 0 1 <array> . 1000000 0 <array> length .", "{ t t t }\n{ }\n1000000\n"),
+    ("-1 0 <array>", "length in arrays:<array>"),
+    ("1000001 0 <array>", "length in arrays:<array>"),
+    ("t 0 <array>", "not-integer in arrays:<array>: t"),
+    ("2 { 0 } <array> dup first 7 0 rot set-nth .", "{ { 7 } { 7 } }\n"),
+    ('5 1array . { } 1array . 1 "a" 2array . [ ] s 2array .', '{ 5 }\n{ { } }\n{ 1 "a" }\n{ [ ... ] s }\n'),
+    (f'"{WIDE}" >array . {{ 1 {{ 2 }} }} >array . 3 <iota> >array . "" >array .', "{ 97 233 8364 128512 }\n{ 1 { 2 } }\n{ 0 1 2 }\n{ }\n"),
+    ("{ 1 } dup >array eq? .", "f\n"),
+    ("1000000 <iota> >array length .", "1000000\n"),
+    ("1000001 <iota> >array", "length in arrays:>array"),
+    ("t >array", "not-sequence in arrays:>array: t"),
+    ("[ ] >array", "not-sequence in arrays:>array: [ ... ]"),
+    # words of the prelude
+    ('{ 5 6 } first . { 5 6 } second . { 5 6 } last . "ab" last . 3 <iota> second . "" empty? . { 1 } empty? .', "5\n6\n6\n98\n1\nt\nf\n"),
+    ("{ } first", "bounds in sequences:nth"),
+    ("{ 1 } second", "bounds in sequences:nth"),
+    ("{ } last", "bounds in sequences:nth"),
+    ("5 first", "not-sequence in sequences:nth: 5"),
+    ("5 last", "not-sequence in sequences:length: 5"),
+    ("5 empty?", "not-sequence in sequences:length: 5"),
+    ('"a\u00e9" [ . ] each { 1 "b" } [ . ] each 2 <iota> [ . ] each { } [ . ] each', '97\n233\n1\n"b"\n0\n1\n'),
+    ("5 [ . ] each", "not-sequence in sequences:length: 5"),
+    ('"ab" [ 1 + ] map . 3 <iota> [ sq ] map . { } [ ] map . { 1 2 } [ 1array ] map .', "{ 98 99 }\n{ 0 1 4 }\n{ }\n{ { 1 } { 2 } }\n"),
+    ("{ 1 } dup [ ] map eq? .", "f\n"),
+    ("1000001 <iota> [ ] map", "length in arrays:<array>"),
+    ("t [ ] map", "not-sequence in sequences:length: t"),
+    ('{ 3 4 5 } [ 3 > ] filter . "ab" [ 97 = ] filter . 5 <iota> [ odd? ] filter .', "{ 4 5 }\n{ 97 }\n{ 1 3 }\n"),
+    ("{ 1 2 3 } 10 [ + ] reduce . { } 10 [ + ] reduce . { 1 2 } { } [ suffix ] reduce .", "16\n10\n{ 1 2 }\n"),
+    ('{ 1 2 3 } sum . { } sum . 101 <iota> sum . "ab" sum .', "6\n0\n5050\n195\n"),
+    ("{ 1 t } sum", "not-integer in math:+: t"),
+    # equality
+    ("{ 1 } { 1 } = . { 1 } { 1 } eq? . { 1 } dup = . { 1 } dup eq? . { } { } = . { } { } eq? .", "t\nf\nt\nt\nt\nf\n"),
+    ('{ 1 } { 1 2 } = . "ab" { 97 98 } = . 2 <iota> { 0 1 } = . { 1 { 2 "a" } } { 1 { 2 "a" } } = . { 1 } 1 = .', "f\nf\nf\nt\nf\n"),
+    ("2 <iota> 2 <iota> = . 2 <iota> 2 <iota> eq? . 2 <iota> 3 <iota> = . 2 <iota> 2 = .", "t\nt\nf\nf\n"),
+    ("{ dup } { dup } = . { dup s } { dup s } = . { dup } { drop } = . { dup } first { dup } first eq? . { 0 } { f } = .", "t\nt\nf\nt\nf\n"),
+    ('"ab" "a" "b" append eq? . "ab" "ba" reverse = .', "t\nt\n"),
+    ("{ [ ] } dup = . { [ ] } { 1 } = . { [ ] } { [ ] 1 } = . { 1 [ ] } { 2 [ ] } = . [ ] { [ ] } = .", "t\nf\nf\nf\nf\n"),
+    ("{ [ ] } { [ ] } =", "no-compare in kernel:="),
+    ("{ [ ] 1 } { [ ] 2 } =", "no-compare in kernel:="),
+    ("{ [ ] } { [ ] } eq? . [ ] dup eq?", "f\nno-compare in kernel:eq?"),
+    ("{ 0 } dup dup 0 swap set-nth dup = . { 0 } dup 0 over set-nth { 0 } dup 0 over set-nth eq? .", "t\nf\n"),
+    ("{ 0 } dup 0 over set-nth { 0 } dup 0 over set-nth =", "compare-too-large in kernel:="),
+    ("0 16 [ dup 2array ] times 0 16 [ dup 2array ] times = .", "t\n"),
+    ("0 20 [ dup 2array ] times 0 20 [ dup 2array ] times =", "compare-too-large in kernel:="),
+    ("0 30 [ dup 2array ] times dup = .", "t\n"),
+    ("0 30 [ dup 2array ] times 1 30 [ dup 2array ] times = .", "f\n"),
+    ("999999 0 <array> 999999 0 <array> = .", "t\n"),
+    ("999999 0 <array> [ ] suffix 1000000 0 <array> =", "compare-too-large in kernel:="),
+    # printed forms
+    ('{ } . { 1 "a\\"\u20ac" t f { } [ 1 ] dup s } . { 3 } first <iota> 1array .', '{ }\n{ 1 "a\\"\u20ac" t f { } [ ... ] dup s }\n{ <iota 3> }\n'),
+    ("{ " * 16 + "} " * 16 + ".", ("{ " * 16 + "} " * 16).strip() + "\n"),
+    ("{ " * 17 + "} " * 17 + ".", "{ " * 16 + "..." + " }" * 16 + "\n"),
+    ("{ " * 16 + "5 { } [ ] 6 " + "} " * 16 + ".", "{ " * 16 + "5 ... [ ... ] 6" + " }" * 16 + "\n"),
+    ("{ 0 } dup 0 over set-nth .", "{ " * 16 + "..." + " }" * 16 + "\n"),
+    ("{ 1 0 2 } dup 1 over set-nth .", "{ 1 " * 16 + "..." + " 2 }" * 16 + "\n"),
+    ("499997 0 <array> 10 suffix .", "{ " + "0 " * 499_997 + "10 }\n"),
+    ("1 . 499997 0 <array> 100 suffix .", "1\ntext-too-long in prettyprint:."),
+    ("499998 0 <array> .", "{ " + "0 " * 499_998 + "}\n"),
+    ("499999 0 <array> .", "text-too-long in prettyprint:."),
+    ("0 30 [ dup 2array ] times .", doubled(16) + "\n"),
+    ("1000 1000 1 <array> <array> .", "text-too-long in prettyprint:."),
+    (f'"{"a" * 999_994}" 1array .', '{ "' + "a" * 999_994 + '" }\n'),
+    (f'"{"a" * 999_995}" 1array .', "text-too-long in prettyprint:."),
+    ("498 0 <array> throw", "thrown in kernel:throw: { " + "0 " * 498 + "}"),
+    ("499 0 <array> throw", "thrown in kernel:throw: ..."),
+    ("{ 1 { 2 } } print", "bad-text in io:print: { 1 { 2 } }"),
+    ("3 <iota> write", "bad-text in io:write: <iota 3>"),
+    ("{ dup } first 1 +", "not-integer in math:+: dup"),
+    ("1 { 1 } curry", "wrong-values in kernel:curry: { 1 }"),
+    # one array for all runs of its place
+    (": w ( -- x ) { 0 } ; w w eq? . w first . 7 0 w set-nth w first . w .", "t\n0\n7\n{ 7 }\n"),
+    (": w ( -- x ) { 0 } ; inline w w eq? . [ { 0 } ] dup call swap call eq? . { 0 } { 0 } eq? .", "t\nt\nf\n"),
+    ("CONSTANT: c { { 0 } 1 } c c eq? . 7 0 c first set-nth c .", "t\n{ { 7 } 1 }\n"),
+    (": w ( -- x ) { { 0 } { 0 } } ; w first w first eq? . w first w second eq? .", "t\nf\n"),
+    (": bump ( -- ) { 0 } dup first 1 + 0 pick set-nth . ; bump bump", "{ 1 }\n{ 2 }\n"),
+    ("3 [ { 0 5 } dup first 1 + 0 pick set-nth . ] times { 0 5 } .", "{ 1 5 }\n{ 2 5 }\n{ 3 5 }\n{ 0 5 }\n"),
+    ("{ } 3 [ { 0 } suffix ] times dup . 5 0 pick first set-nth .", "{ { 0 } { 0 } { 0 } }\n{ { 5 } { 5 } { 5 } }\n"),
+]
+
 # Files that aren't UTF-8, by the byte that is told.
 EXAMPLES_OF_BYTES = [
     (b"\xff", 0),
@@ -747,6 +1006,24 @@ EXAMPLES_OF_COMMANDS = [
     ("run --steps 10 a", {"a": f'{H} : spin ( -- ) "x" write spin ; spin'}, 6, 10, "xxx", "spent: 10 ticks\n"),
     ("run --steps 9 a", {"a": f'{H} : spin ( -- ) "x" write spin ; spin'}, 6, 9, "xxx", "spent: 9 ticks\n"),
     ("run --steps 8 a", {"a": f'{H} : spin ( -- ) "x" write spin ; spin'}, 6, 8, "xx", "spent: 8 ticks\n"),
+    # the stack that is written in the end
+    ("run --stack a", {"a": f"{H} 1 2 [ dup ] bi@"}, 0, 12, "1\n1\n2\n2\n", ""),
+    ("run --stack a", {"a": ""}, 0, 0, "", ""),
+    ("run --stack a", {"a": ONE + " 5"}, 0, 3, "1\n5\n", ""),
+    ("run --stack a", {"a": f'{H} SYMBOL: s t f -5 "a\\n" s {{ dup {{ }} }} 3 <iota> [ ] 1 [ ] curry'}, 0, 12, 't\nf\n-5\n"a\\n"\ns\n{ dup { } }\n<iota 3>\n[ ... ]\n[ ... ]\n', ""),
+    ("run --stack a", {"a": f"{H} 498 0 <array> 499 0 <array> 7"}, 0, 7, "{ " + "0 " * 498 + "}\n...\n7\n", ""),
+    ("run --stack a", {"a": '"' + "\u00e9" * 499 + '" "' + "a" * 999 + '"'}, 0, 2, '"' + "\u00e9" * 499 + '"\n...\n', ""),
+    ("run --stack a", {"a": f"{H} 1 2 throw"}, 1, 3, "", "error: thrown in kernel:throw: 2\n"),
+    ("run --stack a", {"a": "1 ]"}, 3, 0, "", "syntax: a token 2: not expected\n"),
+    ("run --stack a b", {"a": ONE, "b": "2 3"}, 0, 4, "1\n2\n3\n", ""),
+    ("run --stack", {"a": ONE}, 2, 0, "", USAGE),
+    ("run --stack missing", {"a": ONE}, 8, 0, "", "file: missing\n"),
+    ("run a --stack", {"a": ONE}, 2, 0, "", USAGE),
+    ("run --stack --steps 5 a", {"a": ONE}, 2, 0, "", USAGE),
+    ("run --steps 5 --stack a", {"a": ONE}, 2, 0, "", USAGE),
+    ("run --stack --stack a", {"a": ONE}, 2, 0, "", USAGE),
+    ("check --stack a", {"a": ONE}, 2, 0, "", USAGE),
+    ("run --Stack a", {"a": ONE}, 2, 0, "", USAGE),
     # several files
     ("run a b", {"a": ONE, "b": TWO}, 0, 4, "1\n2\n", ""),
     ("run b a", {"a": ONE, "b": TWO}, 0, 4, "2\n1\n", ""),
@@ -803,7 +1080,8 @@ EXAMPLES_OF_COMMANDS = [
 
 
 def all_examples():
-    """Every example: words, files by their names, and the status, ticks, output and note that are wanted."""
+    """Every example: words, files by their names, and the status, ticks, output and note that are wanted. Of few the ticks aren't told,
+    which are None."""
     for source, *wanted in EXAMPLES:
         yield ["run", "a"], {"a": source.encode()}, wanted
     for text, ticks, output in EXAMPLES_OF_PRELUDE:
@@ -815,6 +1093,10 @@ def all_examples():
         checked = f"checked {text.split().count(':')} definitions\n"
         wanted = [model.CHECKER, 0, "", f"check: {told}\n"] if told else [model.DONE, 0, checked, ""]
         yield ["check", "a"], {"a": f"USING: kernel math io ; {text}".encode()}, wanted
+    for text, told in EXAMPLES_OF_OBJECTS:
+        output, _, error = told.rpartition("\n")
+        wanted = [model.ERROR, None, output and output + "\n", f"error: {error}\n"] if error else [model.DONE, None, told, ""]
+        yield ["run", "a"], {"a": f"{H} SYMBOL: s {text}".encode()}, wanted
     for source, byte in EXAMPLES_OF_BYTES:
         yield ["run", "a"], {"a": source}, [model.SYNTAX, 0, "", f"syntax: a byte {byte}: not UTF-8\n"]
     for words, files, *wanted in EXAMPLES_OF_COMMANDS:
@@ -828,7 +1110,7 @@ def wrong_examples():
     wrong = []
     for words, files, wanted in all_examples():
         answer = model.answer(words, files)
-        got = [answer.status, answer.ticks, answer.output, answer.note]
+        got = [answer.status, None if wanted[1] is None else answer.ticks, answer.output, answer.note]
         if got != wanted:
             told = [(field[:80] if isinstance(field, str) else field) for field in got]
             texts = {name: text[:100] for name, text in files.items()}

@@ -31,7 +31,7 @@ def is_built(*names):
 
 # What programs are made of
 
-HEAD = "USING: kernel math io prettyprint ;"
+HEAD = "USING: kernel math io prettyprint sequences arrays math.parser ;"
 
 NUMBERS = [0, 1, 2, 3, -1, 5, 7, 10**9, 2**64, model.GREATEST_INTEGER, model.LEAST_INTEGER]
 
@@ -41,6 +41,7 @@ STRINGS = ["", "a", "b", "a b", "\n", 'a"\\', "\t\r", "\u00e9", "\u20ac!", "t", 
 def operations():
     """What computes or writes, as far as it is built, and `.` twice, so that more of it is seen."""
     words = model.ARITHMETIC + model.LOGIC + model.EQUALITY * 2 + model.TEXT + [model.DOT] * 3
+    words += model.SEQUENCES + model.ARRAYS + model.NUMBERS_AND_TEXTS
     return [word for word in words if is_built(word.name)]
 
 
@@ -99,6 +100,8 @@ def written(items):
             texts.append(item.name)
         elif isinstance(item.value, model.Quotation):
             texts.append(f"[ {written(item.value.items)} ]")
+        elif isinstance(item.value, model.LiteralArray):
+            texts.append(f"{{ {written(item.value.elements)} }}")
         else:
             texts.append(model.printed(item.value).encode().decode("latin-1"))
     return " ".join(texts)
@@ -145,7 +148,7 @@ def words_of_prelude():
         return [], {}
     names = model.names_of([])
     found = [word for word in names.words if not word.vocabulary.endswith(".private")]
-    tokens = model.PRELUDE.decode().split()
+    tokens = model.prelude().decode().split()
     quotations = {}
     for word in found:
         begin = tokens.index(word.name, tokens.index(":")) + 2
@@ -199,8 +202,32 @@ class Author:
         return named(chance.choice(CALLABLE_WORDS))
 
     def value(self):
-        """An item that pushes an integer or a string."""
+        """An item that pushes an integer, a string or an array."""
+        if is_built("{") and happens(self.chance, 0.2):
+            return model.Literal(self.array(2))
         return model.Literal(self.chance.choice(STRINGS if is_built("string") and happens(self.chance, 0.35) else NUMBERS))
+
+    def array(self, depth):
+        """An array of a few literals and words, with arrays and quotations at most so deep in it."""
+        elements = []
+        for _ in range(self.chance.choice([0, 1, 1, 2, 2, 3])):
+            share = self.chance.random()
+            if share < 0.2 and depth:
+                elements.append(model.Literal(self.array(depth - 1)))
+            elif share < 0.3 and depth:
+                elements.append(model.Literal(model.Quotation([self.item(0)])))
+            elif share < 0.45:
+                elements.append(named(self.chance.choice(self.operations + model.SHUFFLES + self.words)))
+            else:
+                elements.append(model.Literal(self.chance.choice(NUMBERS + STRINGS + [True, False])))
+        return model.LiteralArray(elements)
+
+    def sequence(self):
+        """Items that push a sequence."""
+        share = self.chance.random()
+        if share < 0.3:
+            return [model.Literal(self.chance.choice([0, 1, 2, 3, 5])), named(IOTA)]
+        return [model.Literal(self.chance.choice(STRINGS) if share < 0.5 else self.array(1))]
 
     def group(self, stack, depth):
         """One item, or the use of a word that takes quotations with the items that push its inputs."""
@@ -225,6 +252,8 @@ class Author:
                 items.append(model.Literal(self.fitting(quotation, rows, depth - 1)))
             elif self.quotations.get(word, [])[number : number + 1] == [True]:
                 items.append(model.Literal(self.quotation(depth)))
+            elif word.vocabulary == "sequences" and number == 0 and not happens(chance, 0.1):
+                items += self.sequence()
             elif word.name == "times":
                 items.append(model.Literal(chance.choice([0, 1, 2, 3, 3, -1])))
             else:
@@ -479,6 +508,10 @@ class Author:
         except model.Refused:
             return False
         return True
+
+
+# The word `<iota>`.
+IOTA = next(word for word in model.SEQUENCES if word.name == "<iota>")
 
 
 def group_of(*words):
@@ -1519,6 +1552,7 @@ def operands(chance):
     kinds = ["t", "f", "1", "[ ]", "[ 1 ] [ ] compose", "1 [ ] curry", "-5", "2", "0", "-1", str(model.GREATEST_INTEGER)]
     kinds += ['"a"', '"a"', '""', '"\\n"'] if is_built("string") else []
     kinds += ["s", "s", "v"] if is_built("SYMBOL:") else []
+    kinds += ["{ 1 2 }", "{ }", "{ [ ] }", "3 <iota>"] if is_built("{") else []
     words = [word.name for word in operations()] + "curry compose throw swap rot dup over .".split()
     values = [chance.choice(kinds) for _ in range(3)]
     symbols = "SYMBOL: s SYMBOL: v" if is_built("SYMBOL:") else ""
@@ -1533,7 +1567,7 @@ def spread(chance):
     every file uses all. Some words are deferred at the beginning."""
     texts = (running_texts if happens(chance, 0.7) else guided_texts)(chance)
     vocabularies = ["v0", "v1", "a.b", "scratchpad"][: chance.randint(1, 4)]
-    uses = f"USING: kernel math io prettyprint {' '.join(vocabularies)} ;"
+    uses = f"{HEAD[:-2]} {' '.join(vocabularies)} ;"
     begins = [f"IN: {vocabulary}" for vocabulary in vocabularies]
     files = [[]]
     for text in texts:
@@ -1889,11 +1923,335 @@ def command_lines(chance):
     words = [chance.choice(FIRST_WORDS)]
     if happens(chance, 0.35):
         words += ["--steps", chance.choice(NUMBERS_OF_STEPS)]
+    elif happens(chance, 0.1):
+        words.append("--stack")
     names = [FILE, "b", "c", "\u00e9 d"] if happens(chance, 0.8) else FILE_NAMES
     words += chance.sample(names, chance.choice([0, 1, 1, 1, 1, 2, 2, 2, 3, 4]))
     if happens(chance, 0.05):
         words.insert(chance.randrange(len(words) + 1), chance.choice(FILE_NAMES + NUMBERS_OF_STEPS))
     return Case(words if happens(chance, 0.98) else [], files)
+
+
+# Objects
+
+
+def in_bytes(text):
+    """A text as characters of one byte each, as the other texts of sources are."""
+    return text.encode().decode("latin-1")
+
+
+WIDE_STRINGS = [in_bytes(text) for text in ["a", "\u00e9", "\u20ac", "\U0001f600", "a\u00e9\u20ac\U0001f600", "b a", "", "\\n", "\\\""]]
+ELEMENTS = apart("0  1  -1  7  0x1F  1,000  t  f  dup  +  if  s  length  w  map  keep  (each-integer)  each  while") + ['"a"', '""']
+
+
+def some_string(chance):
+    """A string with characters of one to four bytes."""
+    return '"' + "".join(chance.choice(WIDE_STRINGS) for _ in range(chance.choice([0, 1, 1, 2, 3]))) + '"'
+
+
+def some_element(chance, depth):
+    """An element of a literal array, with brackets at most so deep in it."""
+    share = chance.random()
+    if depth and share < 0.3:
+        return some_array(chance, depth - 1)
+    if depth and share < 0.4:
+        inside = [some_element(chance, depth - 1) for _ in range(chance.choice([0, 1, 1, 2]))]
+        return " ".join(["[", *inside, "]"])
+    if share < 0.55:
+        return some_string(chance)
+    return chance.choice(ELEMENTS[:13])
+
+
+def some_array(chance, depth, count=None):
+    """A literal array, with brackets at most so deep in it."""
+    count = chance.choice([0, 1, 1, 2, 2, 3, 5]) if count is None else count
+    return " ".join(["{", *[some_element(chance, depth) for _ in range(count)], "}"])
+
+
+def array_literals(chance):
+    """Aims at the brackets of arrays and quotations, and at names in them: nested literals, of which some have a bracket, a name or
+    another token too many, too few or in a wrong place. Few are nearly 256 deep."""
+    text = some_array(chance, chance.choice([1, 2, 3, 4]))
+    if happens(chance, 0.1):
+        text = deep_brackets(chance)
+    if happens(chance, 0.4):
+        tokens = text.split(" ")
+        place = chance.randrange(len(tokens))
+        share = chance.random()
+        wrong = chance.choice(["{", "}", "[", "]"] * 4 + ["(each-integer)", "foo", "while", ";", ":", "inline", "\\", "t", "(", *ODD_TOKENS[:20]])
+        if share < 0.3:
+            tokens.pop(place)
+        elif share < 0.6:
+            tokens.insert(place, wrong)
+        elif share < 0.9:
+            tokens[place] = wrong
+        else:
+            tokens = tokens[:place]
+        text = " ".join(tokens)
+    use = chance.choice([".", ".", "dup . length .", "[ . ] each", "first .", "drop", "call", "dup = .", "reverse .", "[ dup . ] map ."])
+    pattern = chance.choice(["TEXT USE", "TEXT USE", ": v ( -- x ) TEXT ; v USE", "CONSTANT: c TEXT c USE", "[ TEXT ] call USE", ": v ( -- x ) TEXT ; inline v v eq? . v USE"])
+    return source_of("SYMBOL: s : w ( -- ) ;", pattern.replace("TEXT", text).replace("USE", use))
+
+
+def deep_brackets(chance):
+    """Brackets of both sorts that nest nearly as deep as they may, or deeper."""
+    opened = [chance.choice("{[") for _ in range(chance.choice([254, 255, 256, 256, 257, 258]))]
+    closed = ["}" if bracket == "{" else "]" for bracket in reversed(opened)]
+    return " ".join(opened + closed)
+
+
+PLACES = apart("0  0  1  1  2  3  4  -1  7  1000001  170141183460469231731687303715884105727  -170141183460469231731687303715884105728")
+OTHER_VALUES = apart("5  t  f  [ ]  s  { dup } first  1 [ ] curry  -1") + ['"5"']
+
+
+def some_sequence(chance):
+    """A sequence of any sort. Few are long."""
+    share = chance.random()
+    if share < 0.35:
+        return some_string(chance)
+    if share < 0.7:
+        return some_array(chance, 1)
+    if share < 0.95:
+        return f"{chance.choice([0, 1, 2, 3, 4, 7])} <iota>"
+    return chance.choice(["1000000 <iota>", "1000001 <iota>", "999999 <iota>", "170141183460469231731687303715884105727 <iota>", "1000 f <array>"])
+
+
+def operand(chance, sort):
+    """A value for an input of this sort, by the names of model.SORTS; few are of another one."""
+    if happens(chance, 0.12) or sort == "any":
+        return chance.choice([some_sequence(chance), chance.choice(OTHER_VALUES), chance.choice(PLACES)])
+    if sort == "integer":
+        return chance.choice(PLACES)
+    if sort == "array":
+        return some_array(chance, 1, chance.choice([1, 2, 3, 4]))
+    return some_string(chance) if sort == "text" else some_sequence(chance)
+
+
+# The words of sequences and their like, each with the sorts of its inputs.
+SORTED_WORDS = [
+    ("length", "sequence"),
+    ("nth", "integer sequence"),
+    ("nth", "integer sequence"),
+    ("set-nth", "any integer array"),
+    ("<iota>", "integer"),
+    ("append", "sequence sequence"),
+    ("append", "text text"),
+    ("suffix", "sequence any"),
+    ("subseq", "integer integer sequence"),
+    ("subseq", "integer integer sequence"),
+    ("reverse", "sequence"),
+    ("(select)", "sequence sequence"),
+    ("<array>", "integer any"),
+    ("1array", "any"),
+    ("2array", "any any"),
+    (">array", "sequence"),
+    ("number>string", "integer"),
+    ("string>number", "text"),
+    ("first", "sequence"),
+    ("second", "sequence"),
+    ("last", "sequence"),
+    ("empty?", "sequence"),
+    ("sum", "sequence"),
+    ("=", "any any"),
+    ("eq?", "any any"),
+    ("print", "text"),
+    ("+", "integer any"),
+]
+
+
+def sequence_words(chance):
+    """Aims at each word of sequences, arrays and math.parser: on values of all kinds with places of all sorts, printed shortly."""
+    texts = []
+    for _ in range(chance.choice([1, 1, 2, 3])):
+        name, sorts = chance.choice(SORTED_WORDS)
+        values = [operand(chance, sort) for sort in sorts.split()]
+        if name == "set-nth":
+            texts += [*values, "[ set-nth ] keep ."] if happens(chance, 0.8) else [*values, name]
+        elif name == "<array>" or "1000" in " ".join(values):
+            texts += [*values, name, chance.choice(["throw", "length .", "drop", "dup = .", "empty? ."])]
+        else:
+            texts += [*values, name] + ["."] * (name != "print")
+    return source_of("USE: sequences.private SYMBOL: s", *texts)
+
+
+# What quotations do with an element, by what they leave in its place: a value, or nothing; and what they make of a value and an element.
+KEEPING = apart(
+    """
+    1 +  sq  1array  dup 2array  odd?  2 >  not  drop f  drop { 7 }  reverse  neg  [ 1 + ] call  number>string  first  dup .  { 0 } swap suffix
+    { 0 } dup first 1 + 0 pick set-nth first +  dup drop  { dup } suffix  5 throw  0 =  dup =
+    """
+) + [""]
+TAKING = apart(".  drop  1 + .  dup 2array .  { 0 } 0 swap over set-nth .  { 0 } [ 0 swap set-nth ] keep .  [ . ] call  throw")
+JOINING = apart("+  -  drop  nip  max  suffix  append  2array  swap  =  swap -  [ + ] call  *  over . +")
+
+
+def sequence_loops(chance):
+    """Aims at `each`, `map`, `filter` and `reduce`: with quotations of all sorts over sequences of all sorts, in one another. Few
+    quotations don't leave what they have to."""
+    texts = []
+    for _ in range(chance.choice([1, 1, 2])):
+        sequence = chance.choice([some_sequence(chance), "{ 1 2 3 }", "4 <iota>", "{ { 1 } { 2 3 } }"])
+        if len(sequence) > 60 or "00" in sequence or "99" in sequence:
+            sequence = "{ 3 1 2 }"
+        keeping = " ".join(chance.choice(KEEPING) for _ in range(chance.choice([1, 1, 1, 2])))
+        taking, joining = chance.choice(TAKING), chance.choice(JOINING)
+        if happens(chance, 0.08):
+            keeping, taking, joining = joining, keeping, taking
+        texts.append(
+            chance.choice(
+                [
+                    f"{sequence} [ {keeping} ] map .",
+                    f"{sequence} [ {keeping} ] map .",
+                    f"{sequence} [ {keeping} ] map sum .",
+                    f"{sequence} [ {keeping} ] filter .",
+                    f"{sequence} [ {taking} ] each",
+                    f"0 {sequence} [ {joining} ] each .",
+                    f"{sequence} {chance.choice(['0', '{ }', '5'])} [ {joining} ] reduce .",
+                    f"{sequence} [ drop 3 <iota> [ {keeping} ] map ] map .",
+                    f"{sequence} [ [ {keeping} ] map ] map .",
+                    f"{sequence} dup [ {keeping} ] map = .",
+                    f"{sequence} [ [ {keeping} ] keep 2array ] map .",
+                    f"10 {sequence} [ {joining} ] with map .",
+                    f"{sequence} 3 [ {joining} ] curry map .",
+                ]
+            )
+        )
+    text = " ".join(texts)
+    if happens(chance, 0.2):
+        text = f": v ( -- ) {text} ; v v"
+    return within(run_of(source_of("SYMBOL: s : w ( -- ) ;", text)), 20_000)
+
+
+def sharing(chance):
+    """Aims at which arrays are the same one: literal arrays in words, constants and loops are changed and seen again."""
+    words, texts = [], []
+    for number in range(chance.choice([1, 1, 2, 3])):
+        array = some_array(chance, chance.choice([0, 1, 2]), chance.choice([1, 2, 2, 3]))
+        definition = chance.choice(["CONSTANT: NAME TEXT", ": NAME ( -- x ) TEXT ;", ": NAME ( -- x ) TEXT ; inline", ": NAME ( -- x ) [ TEXT ] call ;"])
+        definition = chance.choice([definition, ": NAME ( -- x ) t [ TEXT ] [ { 9 } ] if ;", ": NAME ( -- x ) TEXT 1array first ;"])
+        texts.append(definition.replace("NAME", f"a{number}").replace("TEXT", array))
+        words.append(f"a{number}")
+    for _ in range(chance.choice([2, 3, 4, 6, 8])):
+        one, other = chance.choice(words), chance.choice(words)
+        place = chance.choice(["0", "0", "0", "1", "1", "2"])
+        texts.append(
+            chance.choice(
+                [
+                    f"{one} .",
+                    f"7 {place} {one} set-nth {one} .",
+                    f"{other} {place} {one} set-nth {one} .",
+                    f"{one} {other} eq? .",
+                    f"{one} dup {other} = . .",
+                    f"{place} {one} nth {place} {other} nth eq? .",
+                    f"3 [ {one} dup 5 {place} rot set-nth . ] times",
+                    f"{one} dup >array dup 8 0 rot set-nth . .",
+                    f"{one} [ 1array ] map dup . drop",
+                    f"3 [ {{ 0 }} dup first 1 + 0 pick set-nth . ] times",
+                    f"2 {one} <array> dup first 6 0 rot set-nth . {one} .",
+                    f"{one} {other} append dup 4 0 rot set-nth . {one} .",
+                    f"{one} [ drop 3 {place} {other} set-nth ] each {other} .",
+                    f"{one} [ {other} swap suffix ] map .",
+                ]
+            )
+        )
+    return source_of("SYMBOL: s : w ( -- ) ;", *texts)
+
+
+NESTS = apart("1array  5 swap 2array  dup 2array  1array 5 suffix  { } swap suffix  [ 7 ] 2array  3 swap <array>")
+
+
+def nested_values(chance, levels):
+    """Items that make an array that is nested so deep."""
+    nest = chance.choice(NESTS)
+    if nest in ("dup 2array", "3 swap <array>"):
+        levels = min(levels, chance.choice([6, 8, 10]))
+    base = chance.choice(["0", "{ }", '"a"', "f", "[ ]", "3 <iota>", "{ 1 2 }"])
+    return f"{base} {levels} [ {nest} ] times"
+
+
+def printing(chance):
+    """Aims at printed forms: arrays that are deep, wide or in themselves, near the limits of levels and bytes."""
+    share = chance.random()
+    if share < 0.35:
+        made = nested_values(chance, chance.choice([1, 5, 14, 15, 15, 16, 16, 17, 18, 40]))
+    elif share < 0.55:
+        count = chance.choice([496, 497, 498, 499, 500])
+        made = f"{count} {chance.choice(['0', 't', '10', some_string(chance)])} <array> {chance.choice(['', '', '1 suffix', '100 suffix', '1array', 'reverse'])}"
+    elif share < 0.75:
+        count = chance.choice([1, 2, 3])
+        changes = " ".join(f"dup {chance.randrange(count)} over set-nth" for _ in range(chance.choice([1, 1, 2])))
+        made = f"{some_array(chance, 1, count)} {changes}"
+    elif share < 0.8:
+        count = chance.choice([499_996, 499_997, 499_998, 499_999])
+        made = f"{count} 0 <array> {chance.choice(['', '1 suffix', '10 suffix', '100 suffix', '1array'])}"
+    elif share < 0.85:
+        made = f"0 {chance.choice([15, 17, 30, 60])} [ dup 2array ] times"
+        return source_of(made, chance.choice(["throw", "dup eq? .", "length .", "first first length ."]))
+    else:
+        made = some_array(chance, 4)
+    end = chance.choice([".", ".", ".", "throw", "1 +", "print", ". 5 throw", "1 swap curry", "dup . throw"])
+    if is_built("--stack") and happens(chance, 0.3):
+        return Case(["run", "--stack", FILE], {FILE: source_of("SYMBOL: s : w ( -- ) ;", made, chance.choice(["", "dup", "5", ". 1"]))})
+    return source_of("SYMBOL: s : w ( -- ) ;", made, end)
+
+
+def equality(chance):
+    """Aims at `=` and `eq?`: arrays that are alike or nearly, shared, deep, or in themselves, with callables here and there."""
+    share = chance.random()
+    compared = chance.choice(["=", "=", "=", "eq?"])
+    if share < 0.5:
+        one = some_array(chance, chance.choice([1, 2, 3]))
+        tokens = one.split(" ")
+        if happens(chance, 0.5):
+            place = chance.randrange(len(tokens))
+            if tokens[place] not in ("{", "}", "[", "]"):
+                tokens[place] = chance.choice(["0", "[ ]", "t", "{ }", '""', "dup", "2 3"])
+        other = " ".join(tokens) if happens(chance, 0.85) else chance.choice(["{ 1 } first", "3 <iota>", some_string(chance), "[ ]"])
+        return source_of("SYMBOL: s : w ( -- ) ;", one, other, compared, ".")
+    if share < 0.8:
+        levels = chance.choice([1, 3, 10, 100, 1000])
+        one = nested_values(chance, levels)
+        other = chance.choice([one, one, one, nested_values(chance, levels), one.replace("0 ", "1 ", 1), "dup", "dup >array"])
+        return source_of(one, other, compared, ".")
+    if share < 0.97:
+        count = chance.choice([1, 2, 10, 1000, 20_000])
+        end = chance.choice(["", "1 suffix", "[ ] suffix", "{ } suffix", "reverse", ">array"])
+        return source_of(f"{count} 0 <array> {end} {count} {chance.choice('001')} <array> {chance.choice([end, end, ''])} {compared} .")
+    return source_of("{ 0 } dup 0 over set-nth", chance.choice(["{ 0 } dup 0 over set-nth", "dup 1array", "dup >array", "dup", "{ { 5 } }"]), compared, ".")
+
+
+def numbers_and_texts(chance):
+    """Aims at `number>string` and `string>number`: integers of any width in any form, some with a character changed."""
+    texts = []
+    for _ in range(chance.randint(1, 4)):
+        value = near_a_limit(chance) if happens(chance, 0.4) else some_integer(chance)
+        text = written_integer(chance, value)
+        if happens(chance, 0.15):
+            text = chance.choice(["", "-", " 1", "1 ", "t", "\\n1", "1\\n", "0x", "+1", "--1", in_bytes("\u0663"), in_bytes("1\u00a0")])
+        if happens(chance, 0.25):
+            at = chance.randrange(len(text) + 1)
+            text = text[:at] + chance.choice(",-0189afgAFxXobB+._ ") + text[at + chance.randint(0, 1) :]
+        if happens(chance, 0.7):
+            texts.append(f'"{text}" string>number {chance.choice([".", ".", "dup . number>string print", "number>string string>number ."])}')
+        else:
+            texts.append(f"{some_integer(chance)} number>string {chance.choice(['.', 'print', 'length .', 'string>number .', 'dup append .'])}")
+    return source_of(*texts)
+
+
+def stacks(chance):
+    """Aims at `run --stack`: programs of other kinds, and what they leave; here and there with words that are none of a command."""
+    made = chance.choice([running, running, guided, sequence_words, sharing, printing, array_literals])(chance)
+    case = made if isinstance(made, Case) else run_of(made)
+    files = list(case.files)
+    name = files[-1]
+    source = case.files[name].decode("latin-1")
+    while happens(chance, 0.7) and source.rstrip().endswith("."):
+        source = source.rstrip()[:-1].rstrip()
+    case.files[name] = source.encode("latin-1")
+    words = ["run", "--stack", *files]
+    if happens(chance, 0.05):
+        words.insert(chance.randrange(len(words) + 1), chance.choice(["--stack", "--steps", "5", FILE]))
+    return Case(words, case.files)
 
 
 # Each kind, how many shares of the time it has, and what it needs. A large program takes the model longer than another.
@@ -1928,4 +2286,12 @@ KINDS = [
     (scopes, 3, VOCABULARY_FORMS),
     (cycles, 1, ["DEFER:"]),
     (command_lines, 1, []),
+    (array_literals, 2, ["{", "sequence-words"]),
+    (sequence_words, 3, ["{", "sequence-words"]),
+    (sequence_loops, 2, ["{", "sequence-words"]),
+    (sharing, 2, ["{", "sequence-words"]),
+    (printing, 2, ["{", "sequence-words"]),
+    (equality, 2, ["{", "sequence-words"]),
+    (numbers_and_texts, 1, ["{", "sequence-words"]),
+    (stacks, 2, ["--stack", "{", "sequence-words"]),
 ]

@@ -1,11 +1,17 @@
 #!/usr/bin/env python3
-"""Measures programs that loop and call all the time, and the same work in gforth and in Lua where these are installed.
+"""Measures programs that loop, call and change arrays all the time, and the same work in gforth and Lua, where these are installed, and in
+CPython.
 
     python3 bench/programs.py [PROGRAM]
 
 PROGRAM is the built program, by default crates/factorc/out/factorc. `times` runs an empty quotation five million times; in gforth it is an
 empty word that is executed, and in Lua an empty function. The recursive Fibonacci tests for its least numbers at each call, and calls
 itself twice for all others.
+
+`sum` adds up an array of 500,000 by `each`; `map, filter` makes an array of three times each of its elements, and one of those that are
+odd; `append` makes a string longer by a character 10,000 times, of which each is a new string; and `set-nth` marks every third, seventh
+and eleventh element of an array of 1,000,000, and counts the marks by `filter`. In Lua and CPython the loops are functions of the same
+names, which are handed functions, and each string is a new one too.
 
 The script prints the shortest of several times and, of factorc, the ticks per second in it. It ends with status 1 where a program
 answers wrongly, also where it takes other ticks than are told here.
@@ -19,6 +25,10 @@ import speed
 
 TURNS = 5_000_000
 NUMBER = 32
+ELEMENTS = 500_000
+STRINGS = 10_000
+PLACES = 1_000_000
+STEPS = (3, 7, 11)
 
 
 def fibonacci(number):
@@ -36,6 +46,26 @@ TIMES_TICKS = 5 + 7 + 30 * TURNS + 7
 # Each call takes a tick and six for its test, and one that isn't the last takes seven besides its two calls; a number begins and `.` ends.
 FIBONACCI_TICKS = 7 * (2 * fibonacci(NUMBER + 1) - 1) + 7 * (fibonacci(NUMBER + 1) - 1) + 2
 
+# Eight items at the top level, eleven in `each` before the first turn, 32 in each turn and seven for the last test and `3drop`.
+SUM_TICKS = 8 + 11 + 32 * ELEMENTS + 7
+
+# What `map` takes with an empty quotation besides its own items, and then `filter` with what the flags take.
+MAP_TICKS = 28 + 40 * ELEMENTS + 7
+FILTER_TICKS = 4 + 28 + 40 * ELEMENTS + 7 + 1
+
+# `odd?` takes seven ticks, and `3 *` two.
+MAP_AND_FILTER_TICKS = 9 + MAP_TICKS + 2 * ELEMENTS + FILTER_TICKS + 7 * ELEMENTS
+
+# As `times`, with two items in each turn.
+APPEND_TICKS = 6 + 7 + 32 * STRINGS + 7
+
+# How often each step marks an element, and how many have a mark in the end.
+MARKS = sum(len(range(0, PLACES, step)) for step in STEPS)
+MARKED = sum(any(place % step == 0 for step in STEPS) for place in range(PLACES))
+
+# Each turn of `while` takes thirteen for its test and fifteen for the mark. The flags of `filter` are the elements.
+SET_NTH_TICKS = 3 + 23 * len(STEPS) + 28 * MARKS + 2 + 4 + 28 + 40 * PLACES + 7 + 1 + 2
+
 TIMES = {
     "factorc": f"USING: math prettyprint ; 7 {TURNS:,} [ ] times .",
     "gforth": f": times swap 0 ?do dup >r execute r> loop drop ; : nothing ; 7 {TURNS} ' nothing times 0 .r cr bye",
@@ -48,10 +78,122 @@ FIBONACCI = {
     "lua5.4": f"local function fib(n) if n < 2 then return n end return fib(n - 1) + fib(n - 2) end print(fib({NUMBER}))",
 }
 
+SUM = {
+    "factorc": f"USING: kernel math sequences arrays prettyprint ; {ELEMENTS:,} <iota> >array 0 swap [ + ] each .",
+    "lua5.4": f"""
+local function each(a, f) for i = 1, #a do f(a[i]) end end
+local a = {{}}
+for i = 1, {ELEMENTS} do a[i] = i - 1 end
+local s = 0
+each(a, function(x) s = s + x end)
+print(s)
+""",
+    "python3": f"""
+def each(a, f):
+    for x in a:
+        f(x)
+
+def main():
+    s = 0
+    def add(x):
+        nonlocal s
+        s = s + x
+    each(list(range({ELEMENTS})), add)
+    print(s)
+
+main()
+""",
+}
+
+MAP_AND_FILTER = {
+    "factorc": f"USING: math sequences arrays prettyprint ; {ELEMENTS:,} <iota> >array [ 3 * ] map [ odd? ] filter length .",
+    "lua5.4": f"""
+local function map(a, f) local b = {{}} for i = 1, #a do b[i] = f(a[i]) end return b end
+local function filter(a, f) local b = {{}} for i = 1, #a do if f(a[i]) then b[#b + 1] = a[i] end end return b end
+local a = {{}}
+for i = 1, {ELEMENTS} do a[i] = i - 1 end
+print(#filter(map(a, function(x) return 3 * x end), function(x) return x % 2 == 1 end))
+""",
+    "python3": f"""
+def map_(a, f):
+    return [f(x) for x in a]
+
+def filter_(a, f):
+    return [x for x in a if f(x)]
+
+print(len(filter_(map_(list(range({ELEMENTS})), lambda x: 3 * x), lambda x: x % 2 == 1)))
+""",
+}
+
+# CPython makes a string longer in its place where no other name holds it.
+APPEND = {
+    "factorc": f'USING: math sequences prettyprint ; "" {STRINGS:,} [ "a" append ] times length .',
+    "lua5.4": f"""
+local function times(n, f) for i = 1, n do f() end end
+local s = ""
+times({STRINGS}, function() s = s .. "a" end)
+print(#s)
+""",
+    "python3": f"""
+def times(n, f):
+    for _ in range(n):
+        f()
+
+def main():
+    s = held = ""
+    def append():
+        nonlocal s, held
+        held = s
+        s = held + "a"
+    times({STRINGS}, append)
+    print(len(s))
+
+main()
+""",
+}
+
+SET_NTH = {
+    "factorc": f"""
+USING: kernel math sequences arrays prettyprint ;
+: mark ( array step -- array )
+    swap 0 swap [ 2dup length < ] [ 2dup t -rot set-nth [ over + ] dip ] while 2nip ;
+{PLACES:,} f <array> {" ".join(f"{step} mark" for step in STEPS)} [ ] filter length .
+""",
+    "lua5.4": f"""
+local function mark(a, step) local i = 0 while i < #a do a[i + 1] = true i = i + step end end
+local function filter(a, f) local b = {{}} for i = 1, #a do if f(a[i]) then b[#b + 1] = a[i] end end return b end
+local a = {{}}
+for i = 1, {PLACES} do a[i] = false end
+{" ".join(f"mark(a, {step})" for step in STEPS)}
+print(#filter(a, function(x) return x end))
+""",
+    "python3": f"""
+def mark(a, step):
+    i = 0
+    while i < len(a):
+        a[i] = True
+        i = i + step
+
+def filter_(a, f):
+    return [x for x in a if f(x)]
+
+a = [False] * {PLACES}
+{"; ".join(f"mark(a, {step})" for step in STEPS)}
+print(len(filter_(a, lambda x: x)))
+""",
+}
+
+# The programs that run the same work, and where they are.
+OTHERS = {"gforth": shutil.which("gforth"), "lua5.4": shutil.which("lua5.4"), "python3": sys.executable}
+
 # name, what it prints, its ticks, and its text for each program that runs it
 PROGRAMS = [
     ("times", 7, TIMES_TICKS, TIMES),
     ("fibonacci", fibonacci(NUMBER), FIBONACCI_TICKS, FIBONACCI),
+    ("sum", ELEMENTS * (ELEMENTS - 1) // 2, SUM_TICKS, SUM),
+    ("map, filter", ELEMENTS // 2, MAP_AND_FILTER_TICKS, MAP_AND_FILTER),
+    ("append", STRINGS, APPEND_TICKS, APPEND),
+    ("set-nth", MARKED, SET_NTH_TICKS, SET_NTH),
 ]
 
 
@@ -91,8 +233,9 @@ def main():
             seconds = shortest([program, "run", "--steps", str(ticks)], printing(text, answer), folder)
             shortest([program, "run", "--steps", str(ticks - 1)], spent_one_before(text, ticks), folder)
             print(f"{name:<12}{'factorc':<10}{seconds:>10.3f} s{ticks:>14,}{ticks / seconds:>20,.0f}")
-            for other in ("gforth", "lua5.4"):
-                path = shutil.which(other)
+            for other, path in OTHERS.items():
+                if other not in texts:
+                    continue
                 if path:
                     print(f"{name:<12}{other:<10}{shortest([path], printing(texts[other], answer), folder):>10.3f} s")
                 else:

@@ -17,7 +17,7 @@ rows_apart j k e = cc
 -- template k is literal k of word 0, and empty; row k is named by one character
 abbrev sample : Naming
 sample = record {
-  literal = λ k. (record { word = 0; index = k }, end);
+  literal = λ k. (record { word = 0; around = []; index = k }, end);
   apart = λ j k e. ap (λ (l : Literal). l.index) e;
   unmarked = λ k. refl;
   row = λ k. named_row (k ∷ []);
@@ -25,7 +25,7 @@ sample = record {
 }
 
 abbrev five : Mark
-five = lit_mark (record { word = 0; index = 5 }) end
+five = lit_mark (record { word = 0; around = []; index = 5 }) end
 
 -- nothing known, a literal, what `curry` makes of these two, and what `compose` makes of that twice; and four stack nodes
 abbrev stack_nodes : List StackNode

@@ -1,10 +1,12 @@
 -- Which item stands for which, where the closed one is known.
-use Rattle.std.proofs.Common.{◌≡◌, ℕ, Option, None, refl, sym, ap, subst, ◌∙◌, List, ◌∷◌}
+use Rattle.std.proofs.Common.{◌≡◌, ℕ, suc, Option, None, refl, sym, ap, subst, ◌∙◌, List, [], ◌∷◌, length}
 use Rattle.std.specs.Prelude.{nat_le, true, false}
+use Rattle.fac_lang.specs.declared.phrase.Template.{Template}
+use Rattle.fac_lang.specs.declared.program.Lit.{Lit}
 use Rattle.fac_lang.specs.declared.program.Program.{Program}
 use Rattle.fac_lang.specs.Phrases.{Literal, Plain, Phrase, Item, lit, lit_arr, quot, word, bind, local, fry, hole, call_eff, exec_eff, next_method, made, next_after, held, known, Mark, any, lit_mark}
 use Rattle.fac_locals.specs.Literals.{Quoted, literal_numbered}
-use Rattle.fac_locals.specs.Closed.{ClosesItem, IsMadeBy}
+use Rattle.fac_locals.specs.Closed.{Closes, CloseArrays, ClosesItem, IsMadeBy}
 use Rattle.fac_lang.specs.RowVariables.{Row}
 use Rattle.fac_abs.specs.Marks.{on, limited, phrase_marks, deepest_mark}
 use Rattle.fac_abs.specs.MarkTrees.{Naming}
@@ -61,6 +63,31 @@ module _ (P : Program) (at : Literal) where
   closes_made (next_after m) k h = absurd (cc)
   closes_made (held v) k h = absurd h
   closes_made (known m) k h = absurd h
+
+  pub closes_array : (i : Item) (a : ℕ) → ClosesItem P at i (lit_arr a) → i ≡ lit_arr a
+  closes_array (lit q) a h = absurd (cc)
+  closes_array (quot t) a h = absurd (let e = h.1 in cc)
+  closes_array (lit_arr c) a h = sym h
+  closes_array (word v) a h = absurd (cc)
+  closes_array (bind x) a h = absurd h
+  closes_array (local x) a h = absurd h
+  closes_array (fry t n) a h = absurd h
+  closes_array (hole k) a h = absurd h
+  closes_array (call_eff g) a h = absurd (cc)
+  closes_array (exec_eff g) a h = absurd (cc)
+  closes_array next_method a h = absurd (cc)
+  closes_array (made k) a h = absurd h
+  closes_array (next_after m) a h = absurd (cc)
+  closes_array (held v) a h = absurd h
+  closes_array (known m) a h = absurd h
+
+as_many_arrays : (P : Program) (a : ℕ) (lss css : List (List Lit)) → CloseArrays P a lss css → length css ≡ length lss
+as_many_arrays P a [] css h = ap length h
+as_many_arrays P a (ls ∷ lss) css h = ap length h.3 ∙ ap suc (as_many_arrays P (suc a) lss h.2 h.5)
+
+-- a closed program has as many literal arrays as the program
+pub arrays_closed_count : (P C : Program) (ts : List Template) → Closes P C ts → length C.arrays ≡ length P.arrays
+arrays_closed_count P C ts h = as_many_arrays P 0 P.arrays C.arrays h.arrays
 
 -- a mark of a phrase without marks isn't too deep
 pub not_limited : (l : Literal) (t : Phrase) → phrase_marks t ≡ 0 → limited (lit_mark l t) ≡ lit_mark l t

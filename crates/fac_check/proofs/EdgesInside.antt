@@ -10,7 +10,7 @@ use Rattle.fac_lang.specs.declared.program.Sort.TheVariants.{Prim as prim, Core 
 use Rattle.fac_lang.specs.Phrases.{int, yes, no, str, iota, wrd, arr, tup, Phrase, end, then, Item, lit, lit_arr, quot, word, bind, local, fry, hole, call_eff, exec_eff, next_method, made, next_after, held, known}
 use Rattle.fac_lang.specs.Forms.{IsBuilt, IsBuiltPhrase, IsBuiltItem}
 use Rattle.fac_locals.specs.Closed.{Closes}
-use Rattle.fac_locals.proofs.ClosedPrograms.{HasBuiltPhrase, HaveBuiltPhrases, built_phrases}
+use Rattle.fac_locals.proofs.LiteralArrays.{HasBuiltPhrase, HaveBuiltPhrases, built_phrases}
 use Rattle.fac_abs.specs.SeenMarks.{are_below}
 use Rattle.fac_abs.proofs.EqualMarks.{and_first, and_second}
 use Rattle.fac_abs.proofs.SeenLemmas.{both, is_below, below_is}

@@ -3,17 +3,19 @@ use Rattle.std.proofs.Common.{◌≡◌, ℕ, zero, suc, ◌+◌, List, [], ◌�
 use Rattle.std.specs.Prelude.{codes, map, pos}
 use Rattle.fac_lang.specs.declared.phrase.Height.{Height}
 use Rattle.fac_lang.specs.declared.phrase.Place.{Place}
+use Rattle.fac_lang.specs.declared.program.Lit.{Lit}
+use Rattle.fac_lang.specs.declared.program.Lit.TheVariants.{Wref as l_word, Quot as l_quot}
 use Rattle.fac_lang.specs.declared.program.Program.{Program}
 use Rattle.fac_lang.specs.declared.program.WordDef.{WordDef}
 use Rattle.fac_lang.specs.declared.program.ClassDef.{ClassDef}
 use Rattle.fac_lang.specs.declared.program.Sort.TheVariants.{Body as body, Past as past, Method as method, Generic as generic}
 use Rattle.fac_lang.specs.Signatures.{Signature, signature, Inputs, no_inputs, value, quoted, never, leaves}
 use Rattle.fac_lang.specs.PrimitiveWords.{x}
-use Rattle.fac_lang.specs.Phrases.{int, wrd, Phrase, end, then, Item, lit, quot, bind, local, fry, hole, next_method, held, known, Value, plain, Callable, of_phrase, cur, both, Mark, any, lit_mark}
+use Rattle.fac_lang.specs.Phrases.{int, wrd, Phrase, end, then, Item, lit, lit_arr, quot, bind, local, fry, hole, next_method, held, known, Value, plain, Callable, of_phrase, cur, both, Mark, any, lit_mark}
 use Rattle.fac_lang.specs.Primitives.{prim_numbered}
 use Rattle.fac_lang.specs.Meaning.{core_numbered}
 use Rattle.fac_lang.proofs.DemoPrelude.{word_of, shared_words, built_in_classes}
-use Rattle.fac_lang.proofs.DemoWords.{phrase, number, quotation, fried, itself, tested-call, own, t as yes, drop, dup, swap, over, pick, rot, -rot, nip, dupd, swapd, 2drop, 2dup, 3drop, 3dup, 2over, 2nip, choose, + as plus, /i, <, curry, compose, throw, call, dip, if, execute, boa, cond, sq, times}
+use Rattle.fac_lang.proofs.DemoWords.{phrase, number, quotation, fried, itself, tested-call, own, t as yes, drop, dup, swap, over, pick, rot, -rot, nip, dupd, swapd, 2drop, 2dup, 3drop, 3dup, 2over, 2nip, choose, + as plus, /i, <, nth, curry, compose, throw, call, dip, if, execute, boa, cond, sq, times}
 use Rattle.fac_lang.proofs.Demo.{program, tuple_words, tuple_of}
 use Rattle.fac_abs.specs.Marks.{AbstractStack, dead, on, mark_eq}
 use Rattle.fac_abs.specs.declared.rule.Rule.{Rule}
@@ -101,6 +103,10 @@ verdict_on start classes words is = verdict_from (program_of classes words is) s
 
 abbrev verdict_of : List WordDef → List Item → Option (ℕ × Refusal)
 verdict_of words is = verdict_on 0 [] words is
+
+-- with these literal arrays, each of which counts as one token
+abbrev array_verdict : List (List Lit) → List WordDef → List Item → Option (ℕ × Refusal)
+array_verdict arrays words is = verdict_from (record (program_of [] words is) { arrays = arrays }) 0 82 (words ++ top_level is ∷ [])
 
 -- word number k of its own breaks a rule at a token; the top-level phrase is the one behind them
 abbrev refuses : ℕ → Rule → ℕ → Option (ℕ × Refusal)
@@ -748,11 +754,33 @@ pub use_rule_first : deepest_walk_of (defined (takes_quotation a b (from_to a b 
 unfolding prim_numbered core_numbered mark_eq
 use_rule_first = refl
 
+-- Literal arrays.
+
+-- what stands in an array isn't walked: here a quotation that takes a value
+pub array_not_walked : array_verdict ((l_quot (phrase (drop ∷ [])) ∷ []) ∷ []) [] (lit_arr 0 ∷ drop ∷ []) ≡ None
+unfolding prim_numbered core_numbered mark_eq
+array_not_walked = refl
+
+-- a quotation out of an array isn't known
+pub element_called : array_verdict ((l_quot (phrase []) ∷ []) ∷ []) [] (number 0 ∷ lit_arr 0 ∷ nth ∷ call ∷ []) ≡ refuses 0 NotKnown 4
+unfolding prim_numbered core_numbered mark_eq
+element_called = refl
+
+-- and an array itself is no callable
+pub array_called : array_verdict ([] ∷ []) [] (lit_arr 0 ∷ call ∷ []) ≡ refuses 0 NotKnown 2
+unfolding prim_numbered core_numbered mark_eq
+array_called = refl
+
+-- in an array an inline word may be named by a quotation and by itself, which leads nowhere
+pub names_in_array : array_verdict ((l_quot (phrase (own 0 ∷ [])) ∷ l_word 82 ∷ []) ∷ []) (defined (takes 0 0) true false (lit_arr 0 ∷ drop ∷ []) ∷ []) ([]) ≡ None
+unfolding prim_numbered core_numbered mark_eq
+names_in_array = refl
+
 -- The numbers of literals: the items before them, counted with those of quotations.
 
 -- literal number k of the top-level phrase of a program with no words of its own, and of word number 82
 abbrev literal_mark : ℕ → List Item → Mark
-literal_mark k is = lit_mark (record { word = 82; index = k }) (phrase is)
+literal_mark k is = lit_mark (record { word = 82; around = []; index = k }) (phrase is)
 
 -- the marks that a walk finds
 abbrev marks_of : Walked AbstractStack → List Mark

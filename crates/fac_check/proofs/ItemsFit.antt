@@ -23,7 +23,7 @@ use Rattle.fac_lang.specs.RowVariables.{Row, is_row}
 use Rattle.fac_abs.specs.Marks.{AbstractStack, dead, on, limited, mark_depth, deepest_mark, is_callable, unknowns, popped, piled, curried_mark, composed_mark}
 use Rattle.fac_abs.specs.declared.rule.Rule.{Rule}
 use Rattle.fac_abs.specs.declared.rule.Rule.TheVariants.{Underflow, NotKnown}
-use Rattle.fac_check.specs.Flow.{Doing, breaks, gives, expands, walks, forks, again, Walk, needing, by_height, callable_or, mark_at, core_doing, known_word, makes_by, word_doing, sort_doing, procedure_doing, prim_doing, inline_doing, row_or_phrase, generic_doing, next_doing, doing, lit_doing, is_own}
+use Rattle.fac_check.specs.Flow.{Doing, breaks, gives, expands, walks, forks, again, Walk, needing, by_height, callable_or, mark_at, core_doing, known_word, makes_by, array_doing, word_doing, sort_doing, procedure_doing, prim_doing, inline_doing, row_or_phrase, generic_doing, next_doing, doing, lit_doing, is_own}
 use Rattle.fac_lang.specs.HeightArithmetic.{fits}
 use Rattle.fac_check.specs.CallableEffects.{callable_height}
 use Rattle.fac_check.specs.Promises.{Valid}
@@ -480,10 +480,10 @@ module _ (P : Program) (C : Context) where
       lit_does (wrd w) b ms st e = ((plain (wrd w), st.stack, refl, refl, e.0), e.1)
       lit_does v b ms st e = ((plain v, st.stack, refl, tt, e.0), e.1)
 
-      array_does : (a : ℕ) (b : Option Row) (ms : List Mark) (st : State Value) → OnState P C b ms st → D (elim (nat_lt a (length P.arrays)) [ true ↦ gives (on b (any ∷ ms)) | false ↦ breaks NotKnown ]) (pushes_array P fits (callable_height P) (slice_get st.world.literals a) st)
+      array_does : (a : ℕ) (b : Option Row) (ms : List Mark) (st : State Value) → OnState P C b ms st → D (array_doing (nat_lt a (length P.arrays)) b ms) (pushes_array P fits (callable_height P) (slice_get st.world.literals a) st)
       array_does a b ms st e = there (nat_lt a (length P.arrays)) refl
         where
-          there : (q : Bool) → nat_lt a (length P.arrays) ≡ q → D (elim q [ true ↦ gives (on b (any ∷ ms)) | false ↦ breaks NotKnown ]) (pushes_array P fits (callable_height P) (slice_get st.world.literals a) st)
+          there : (q : Bool) → nat_lt a (length P.arrays) ≡ q → D (array_doing q b ms) (pushes_array P fits (callable_height P) (slice_get st.world.literals a) st)
           there true q = rw (e.1 a q).1 ((plain (arr (e.1 a q).0), st.stack, refl, tt, e.0), e.1)
           there false q = tt
 

@@ -4,6 +4,7 @@ pub mod WalksFit
 pub mod ItemsFit
 pub mod SoundWalks
 pub mod SoundPrograms
+pub mod LaterDoings
 pub mod LiteralsKeep
 pub mod RowsFit
 pub mod InsideRowWords

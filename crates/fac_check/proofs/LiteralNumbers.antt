@@ -8,7 +8,8 @@ use Rattle.fac_lang.specs.declared.program.Program.{Program}
 use Rattle.fac_lang.specs.declared.program.WordDef.{WordDef}
 use Rattle.fac_lang.specs.declared.program.Sort.{Sort}
 use Rattle.fac_lang.specs.declared.program.Sort.TheVariants.{Prim as prim, Core as core, Body as body, Past as past, Itself as itself, Class as class, Isa as isa, Getter as getter, Setter as setter, Putter as putter, Generic as generic, Method as method}
-use Rattle.fac_locals.specs.Literals.{Quoted, first_of_word, first_of_literal, behind, literals_in, literals_at, sort_literals, word_literals, literals, literal_or, literal_numbered}
+use Rattle.fac_locals.specs.Literals.{Quoted, first_of_word, first_of_literal, first_in_array, behind, array_phrase, array_literals, literals_in, literals_at, sort_literals, word_literals, literals, literal_or, literal_numbered}
+use Rattle.fac_lang.specs.Meaning.{nowhere}
 use Rattle.fac_locals.specs.Closed.{Closes, IsMadeBy}
 use Rattle.fac_locals.proofs.Lookups.{templates_count}
 use Rattle.fac_abs.proofs.SeenLemmas.{below_is}
@@ -24,45 +25,55 @@ both_of_words n [] ms h k = k
 both_of_words n (l ∷ ls) ms h k = (h.0, both_of_words n ls ms h.1 k)
 
 module _ (n : ℕ) where
-  mutual
-    phrase_of_words : (at : Literal) (t : Phrase) → at.word < n → AreOfWords n (literals_in at t)
-    phrase_of_words at end l = tt
-    phrase_of_words at (then i p t) l = both_of_words n (literals_at at i) (literals_in (behind at i) t) (item_of_words at i l) (phrase_of_words (behind at i) t l)
+  -- where the literals of an array that stands in one of the first words are of these words
+  module _ (arrays : ℕ → Literal → List Quoted) (arrays_of_words : (a : ℕ) (at : Literal) → at.word < n → AreOfWords n (arrays a at)) where
+    mutual
+      phrase_of_words : (at : Literal) (t : Phrase) → at.word < n → AreOfWords n (literals_in arrays at t)
+      phrase_of_words at end l = tt
+      phrase_of_words at (then i p t) l = both_of_words n (literals_at arrays at i) (literals_in arrays (behind at i) t) (item_of_words at i l) (phrase_of_words (behind at i) t l)
 
-    item_of_words : (at : Literal) (i : Item) → at.word < n → AreOfWords n (literals_at at i)
-    item_of_words at (quot t) l = (l, phrase_of_words (first_of_literal at) t l)
-    item_of_words at (fry t k) l = (l, phrase_of_words (first_of_literal at) t l)
-    item_of_words at (lit q) l = tt
-    item_of_words at (word w) l = tt
-    item_of_words at (lit_arr a) l = tt
-    item_of_words at (bind x) l = tt
-    item_of_words at (local x) l = tt
-    item_of_words at (hole k) l = tt
-    item_of_words at (call_eff f) l = tt
-    item_of_words at (exec_eff f) l = tt
-    item_of_words at next_method l = tt
-    item_of_words at (made k) l = tt
-    item_of_words at (next_after m) l = tt
-    item_of_words at (held v) l = tt
-    item_of_words at (known m) l = tt
+      item_of_words : (at : Literal) (i : Item) → at.word < n → AreOfWords n (literals_at arrays at i)
+      item_of_words at (quot t) l = (l, phrase_of_words (first_of_literal at) t l)
+      item_of_words at (fry t k) l = (l, phrase_of_words (first_of_literal at) t l)
+      item_of_words at (lit_arr a) l = arrays_of_words a at l
+      item_of_words at (lit q) l = tt
+      item_of_words at (word w) l = tt
+      item_of_words at (bind x) l = tt
+      item_of_words at (local x) l = tt
+      item_of_words at (hole k) l = tt
+      item_of_words at (call_eff f) l = tt
+      item_of_words at (exec_eff f) l = tt
+      item_of_words at next_method l = tt
+      item_of_words at (made k) l = tt
+      item_of_words at (next_after m) l = tt
+      item_of_words at (held v) l = tt
+      item_of_words at (known m) l = tt
 
-  sort_of_words : (w : ℕ) (s : Sort) → w < n → AreOfWords n (sort_literals w s)
-  sort_of_words w (body t) l = phrase_of_words (first_of_word w) t l
-  sort_of_words w (past t) l = phrase_of_words (first_of_word w) t l
-  sort_of_words w (method c g t) l = phrase_of_words (first_of_word w) (of_method w t) l
-  sort_of_words w (prim k) l = tt
-  sort_of_words w (core k) l = tt
-  sort_of_words w itself l = tt
-  sort_of_words w (class k) l = tt
-  sort_of_words w (isa k) l = tt
-  sort_of_words w (getter x) l = tt
-  sort_of_words w (setter x) l = tt
-  sort_of_words w (putter x) l = tt
-  sort_of_words w generic l = tt
+  module _ (P : Program) where
+    array_of_words : (k a : ℕ) (at : Literal) → at.word < n → AreOfWords n (array_literals P k a at)
+    array_of_words zero a at l = tt
+    array_of_words (suc k) a at l = phrase_of_words (array_literals P k) (array_of_words k) (first_in_array at) (array_phrase P a nowhere) l
 
-  words_of_words : (w : ℕ) (ds : List WordDef) → w + length ds ≤ n → AreOfWords n (word_literals w ds)
-  words_of_words w [] l = tt
-  words_of_words w (d ∷ ds) l = both_of_words n (sort_literals w d.sort) (word_literals (suc w) ds) (sort_of_words w d.sort (omega (arith, l))) (words_of_words (suc w) ds (omega (arith, l)))
+    own_phrase : (at : Literal) (t : Phrase) → at.word < n → AreOfWords n (literals_in (array_literals P (length P.arrays)) at t)
+    own_phrase = phrase_of_words (array_literals P (length P.arrays)) (array_of_words (length P.arrays))
+
+    sort_of_words : (w : ℕ) (s : Sort) → w < n → AreOfWords n (sort_literals P w s)
+    sort_of_words w (body t) l = own_phrase (first_of_word w) t l
+    sort_of_words w (past t) l = own_phrase (first_of_word w) t l
+    sort_of_words w (method c g t) l = own_phrase (first_of_word w) (of_method w t) l
+    sort_of_words w (prim k) l = tt
+    sort_of_words w (core k) l = tt
+    sort_of_words w itself l = tt
+    sort_of_words w (class k) l = tt
+    sort_of_words w (isa k) l = tt
+    sort_of_words w (getter x) l = tt
+    sort_of_words w (setter x) l = tt
+    sort_of_words w (putter x) l = tt
+    sort_of_words w generic l = tt
+
+    words_of_words : (w : ℕ) (ds : List WordDef) → w + length ds ≤ n → AreOfWords n (word_literals P w ds)
+    words_of_words w [] l = tt
+    words_of_words w (d ∷ ds) l = both_of_words n (sort_literals P w d.sort) (word_literals P (suc w) ds) (sort_of_words w d.sort (omega (arith, l))) (words_of_words (suc w) ds (omega (arith, l)))
 
   at_of_words : (ls : List Quoted) (k : ℕ) (l : Quoted) → AreOfWords n ls → slice_get ls k ≡ Some l → l.0.word < n
   at_of_words [] k l h e = absurd cc
@@ -81,7 +92,7 @@ module _ (P C : Program) (templates : List Template) (closes : Closes P C templa
       let low = number_below templates k t e in
       let many = templates_count P C templates closes in
       let there = some_below (literals P) k (omega (arith, low, many)) in
-      let found = at_of_words (length P.words) (literals P) k there.0 (words_of_words (length P.words) 0 P.words (omega arith)) there.1 in
+      let found = at_of_words (length P.words) (literals P) k there.0 (words_of_words (length P.words) P 0 P.words (omega arith)) there.1 in
       rw there.1 found
 
   -- a quotation in such a phrase is made by a template that is there

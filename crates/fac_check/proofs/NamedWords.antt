@@ -1,5 +1,5 @@
 -- The words that a phrase names are those that its closed form names.
-use Rattle.std.proofs.Common.{◌≡◌, ◌<◌, ◌≤◌, ℕ, zero, suc, ◌+◌, List, [], ◌∷◌, ◌++◌, length, Bool, true, false, Option, Some, None, refl, sym, ap, ◌∙◌, append_assoc, subst, inr, arith}
+use Rattle.std.proofs.Common.{◌≡◌, ◌<◌, ◌≤◌, ℕ, zero, suc, ◌+◌, List, [], ◌∷◌, ◌++◌, length, Bool, true, false, Option, Some, None, refl, sym, ap, ◌∙◌, append_assoc, subst, arith}
 use Rattle.std.specs.Prelude.{slice_get, Result, Ok, Err, OnOk}
 use Rattle.std.proofs.lemmas.List.{append-nil}
 use Rattle.fac_lang.specs.Phrases.{Plain, int, yes, no, str, iota, wrd, arr, tup, Literal, Phrase, end, then, Item, lit, lit_arr, quot, word, bind, local, fry, hole, call_eff, exec_eff, next_method, made, next_after, held, known}
@@ -11,7 +11,7 @@ use Rattle.fac_lang.specs.declared.program.Sort.{Sort}
 use Rattle.fac_lang.specs.declared.program.Sort.TheVariants.{Prim as prim, Core as core, Body as body, Past as past, Itself as itself, Class as class, Isa as isa, Getter as getter, Setter as setter, Putter as putter, Generic as generic, Method as method}
 use Rattle.fac_locals.specs.Literals.{Quoted, behind, first_of_literal, literal_numbered}
 use Rattle.fac_locals.specs.Closed.{Closes, ClosesSort, ClosesPhrase, ClosesItem}
-use Rattle.fac_locals.proofs.Places.{not_before, literal_behind}
+use Rattle.fac_locals.proofs.Places.{not_before, same_place, none_at, literal_behind}
 use Rattle.fac_locals.proofs.Lookups.{word_closed, word_closed_none, template_closed}
 use Rattle.fac_check.specs.Verdicts.{inline_body, inline_words, item_words}
 use Rattle.fac_check.specs.inner.UndeclaredRecursion.{named_word, made_template, inline_phrase, one_if, inline_word, NumbersFrom, NamesLeft, AddsNames, AddsItemNames, AddsMadeNames}
@@ -160,7 +160,7 @@ adds_none C ts from j before is made_is = λ P h at i closes numbers. sym (ap (�
 -- a template has no lower number than those of the phrase around it
 pub adds_earlier : (C : Program) (ts : List Template) (from k : ℕ) (before after : List ℕ) → k < from → AddsMadeNames C ts from k before after
 adds_earlier C ts from k before after lt =
-    λ P h at is numbers. let le : from ≤ k = numbers k (inr (ap (λ (l : Literal). l.word) is, omega (arith, ap (λ (l : Literal). l.index) is))) in absurd (omega (arith, le, lt))
+    λ P h at is numbers. let le : from ≤ k = numbers k (same_place at (literal_numbered P k).0 is) in absurd (omega (arith, le, lt))
 
 -- the phrase of a template adds its names
 pub adds_template : (C : Program) (ts : List Template) (from k : ℕ) (t : Template) (before after : List ℕ) → slice_get ts k ≡ Some t → AddsNames C ts (k + 1) t.body before after → AddsMadeNames C ts from k before after
@@ -181,7 +181,7 @@ step_phrase P C ts h from at (then i q t) j p s whole before after closes number
       at = behind at i;
       phrase = t;
       closes = subst (λ (x : Phrase). ClosesPhrase P (behind at i) t x) same_phrase closes.4;
-      numbers = λ k e. numbers k (not_before at (behind at i) (literal_numbered P k).0 (inr (refl, omega arith)) e);
+      numbers = λ k e. numbers k (not_before at (behind at i) (literal_numbered P k).0 (none_at at i) e);
       so_far = so_far ∙ sym (append_assoc before (item_words P i) (inline_words P t)) ∙ ap (λ (vs : List ℕ). vs ++ inline_words P t) (sym (adds P h at i item_closes numbers));
     }
 
@@ -210,3 +210,9 @@ number_below (y ∷ xs) zero x e = omega arith
 number_below (y ∷ xs) (suc k) x e =
     let lt = number_below xs k x e in
     omega (arith, lt)
+
+-- each number below the length has an element
+pub some_below : {A : Type 0} (xs : List A) (k : ℕ) → k < length xs → slice_get xs k ≡ None → ⊥
+some_below [] k lt e = omega (arith, lt)
+some_below (y ∷ xs) zero lt e = cc
+some_below (y ∷ xs) (suc k) lt e = some_below xs k (omega (arith, lt)) e

@@ -59,7 +59,7 @@ module _ (P : Program) (bound count : ℕ) (numbered : (at : Literal) (t : Phras
   taken_item at (lit (tup a)) j l c h = absurd h
   taken_item at (quot t) j l c h = rw c.1 (numbered at t c.0 l c.2)
   taken_item at (word w) j l c h = rw c h
-  taken_item at (lit_arr a) j l c h = absurd h
+  taken_item at (lit_arr a) j l c h = rw c refl
   taken_item at (bind x) j l c h = absurd h
   taken_item at (local x) j l c h = absurd h
   taken_item at (fry t n) j l c h = absurd h

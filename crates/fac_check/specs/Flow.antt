@@ -229,6 +229,11 @@ abbrev pub prim_doing : Option Primitive → Option Row → List Mark → Doing
 prim_doing None b ms = breaks NotKnown
 prim_doing (Some p) b ms = procedure_doing (length p.word.ins) p.does b ms
 
+-- a literal array, of which nothing is known; the first argument tells whether it is there
+abbrev pub array_doing : Bool → Option Row → List Mark → Doing
+array_doing true b ms = gives (on b (any ∷ ms))
+array_doing false b ms = breaks NotKnown
+
 -- goes on with a known word
 abbrev pub known_word : Mark → (ℕ → Doing) → Doing
 known_word (wrd_mark w) go = go w
@@ -327,7 +332,7 @@ module _ (P : Program) where
     -- An item that stands here. One that no whole program has, as a local that is not bound, breaks `not_known`.
     abbrev pub doing : Literal → Item → Option Row → List Mark → Doing
     doing at (lit v) b ms = lit_doing v b ms
-    doing at (lit_arr a) b ms = elim (nat_lt a (length P.arrays)) [ true ↦ gives (on b (any ∷ ms)) | false ↦ breaks NotKnown ]
+    doing at (lit_arr a) b ms = array_doing (nat_lt a (length P.arrays)) b ms
     doing at (quot t) b ms = gives (on b (limited (lit_mark at t) ∷ ms))
     doing at (word w) b ms = word_doing w (slice_get P.words w) b ms
     doing at (bind x) b [] = breaks (Underflow 1 0)

@@ -11,7 +11,7 @@ ghost use Rattle.fac_abs.specs.Marks.{on, curried_mark, composed_mark};
 ghost use Rattle.fac_abs.specs.SeenMarks.{IsMark, IsStack, Grows, mark_of};
 ghost use Rattle.fac_check.specs.Flow.{by_height as takes_and_leaves, marks_moved, mark_made, core_doing, is_own, gives};
 ghost use Rattle.fac_check.specs.inner.Taken.{takes_all, takes_item, takes_word};
-ghost use Rattle.fac_check.specs.inner.Walking.{IsDoing, IsDoingOf, only, has_phrase, DoesAs, PutsMark, PopsTwo, PopsBranches, lacks};
+ghost use Rattle.fac_check.specs.inner.Walking.{IsDoing, IsDoingOf, only, has_phrase, DoesAs, PutsMark, DoesArray, PopsTwo, PopsBranches, lacks};
 ghost use Rattle.fac_check.specs.inner.Walking.{DoesItem, DoesWord, DoesWordSo, DoesDefined, DoesUse, DoesOwnCall, DoesPrimitive};
 
 use crate::subject::Subject;
@@ -446,6 +446,19 @@ fn unknown(marks: &mut Marks, stack: u32) -> Result<Doing, Memory>
     })
 }
 
+// A literal array, by its number.
+fn array(subject: Subject<'_>, marks: &mut Marks, stack: u32, number: u32) -> Result<Doing, Memory>
+    requires { IsStack marks.old stack }
+    ensures grows { Grows marks.old marks.new }
+    ensures there { IfOk result (λ doing. IsDoing marks.new doing) }
+    ensures does { IfOk result (λ doing. DoesArray subject.entry marks.old marks.new stack number doing) }
+{
+    if number < subject.closed.program.arrays.len() {
+        return unknown(marks, stack);
+    }
+    Ok(Doing::Breaks(Rule::NotKnown))
+}
+
 // A quotation, by its template.
 #[tactic(auto, using(fac_abs::proofs::SeenLemmas::grows_trans))]
 fn quotation(marks: &mut Marks, stack: u32, template: u32) -> Result<Doing, Memory>
@@ -480,8 +493,8 @@ pub fn item_doing(
         What::Word(number) => word(subject, marks, base, stack, *number),
         What::Wref(number) => reference(marks, stack, *number),
         What::Made(template) => quotation(marks, stack, *template),
-        What::Arr(_)
-        | What::Quot(_)
+        What::Arr(number) => array(subject, marks, stack, *number),
+        What::Quot(_)
         | What::Bind(_)
         | What::Local(_)
         | What::Fry(_, _)

@@ -7,7 +7,7 @@ ghost use Rattle.fac_abs.specs.MarkTrees.{Naming};
 ghost use Rattle.fac_lang.specs.Phrases.{any};
 ghost use Rattle.fac_check.specs.Flow.{phrase_rule as rule_of_phrase, join, marks_on, marks_back};
 ghost use Rattle.fac_check.specs.inner.Taken.{takes_all, takes_phrase};
-ghost use Rattle.fac_check.specs.inner.Walking.{IsDoingOf, is_defined, IsWalked, IsWithin, IsBelow, AreMarks, Admits, Enters, walked_seen, marks_of_option};
+ghost use Rattle.fac_check.specs.inner.Walking.{IsDoingOf, is_defined, IsWalked, IsWithin, IsBelow, AreMarks, Admits, Enters, IsItemRule, IsWalkOfCounted, walked_seen, marks_of_option};
 ghost use Rattle.fac_check.specs.inner.Walking.{IsWalkOf, IsWalkOfPhrase, IsWalkOfItem, literal_walk, word_walk, curried_walk, part_walk, composed_walk, mark_walk, callable_walk, fork_walk};
 ghost use Rattle.fac_check.specs.inner.Walking.{IsFirstRule, IsInputRule, IsInputsRule, IsUseRule, effect_of, called_walk, use_walk, effect_walk, start_walk, AreWithin, AreBound, AreWalkedInputs, IsWalkedInput, IsWalkedQuotation};
 ghost use Rattle.fac_lang.specs.EffectView.{inputs_tree};
@@ -721,6 +721,83 @@ impl<'a> Walker<'a> {
         }
     }
 
+    // What an item breaks before it counts. The stack is that of what the item does, not the step's.
+    fn item_rule(&mut self, doing: Doing, step: Step) -> Result<Option<Rule>, Memory>
+        requires { IsDoingOf (slice_get self.old.subject.closed.now.program.words) self.old.marks doing }
+        ensures subject { self.new.subject ≡ self.old.subject }
+        ensures grows { Grows self.old.marks self.new.marks }
+        ensures rule { IfOk result (λ rule. IsItemRule self.old.subject self.old.marks doing step rule) }
+    {
+        match doing {
+            Doing::Breaks(rule) => Ok(Some(rule)),
+            Doing::Ends => Ok(None),
+            Doing::Gives { stack: _ } => Ok(None),
+            Doing::Leaves { base: _, stack: _ } => Ok(None),
+            Doing::Expands { word: _, stack: _ } => Ok(phrase_rule(step.nested)),
+            Doing::Walks {
+                mark,
+                stack,
+                back: _,
+            } => self.first_rule(mark, Step { stack, ..step }),
+            Doing::Forks {
+                first,
+                second: _,
+                stack,
+            } => self.first_rule(first, Step { stack, ..step }),
+            Doing::Uses { word, inputs, rest } => self.use_rule(
+                word,
+                inputs,
+                Step {
+                    stack: rest,
+                    ..step
+                },
+            ),
+        }
+    }
+
+    // Walks an item that is counted. The stack is that of what the item does, not the step's.
+    #[cycle(walk)]
+    fn walk_counted(&mut self, doing: Doing, step: Step) -> Result<Walked, Memory>
+        requires { IsDoingOf (slice_get self.old.subject.closed.now.program.words) self.old.marks doing }
+        ensures subject { self.new.subject ≡ self.old.subject }
+        ensures grows { Grows self.old.marks self.new.marks }
+        ensures there { IfOk result (λ walked. IsWalked self.new.marks walked) }
+        ensures within { IfOk result (λ walked. IsWithin step.left walked) }
+        ensures walks { IfOk result (λ walked. IsWalkOfCounted self.old.subject self.old.marks self.new.marks doing step walked) }
+    {
+        match doing {
+            Doing::Breaks(rule) => Ok(Walked::Refused(rule, step.place)),
+            Doing::Ends => Ok(Walked::Found(Reached::Dead, step.left)),
+            Doing::Gives { stack } => Ok(Walked::Found(
+                Reached::On {
+                    base: step.base,
+                    stack,
+                },
+                step.left,
+            )),
+            Doing::Leaves { base, stack } => {
+                Ok(Walked::Found(Reached::On { base, stack }, step.left))
+            }
+            Doing::Expands { word, stack } => self.walk_word(word, Step { stack, ..step }),
+            Doing::Walks { mark, stack, back } => {
+                self.walk_callable(mark, back, Step { stack, ..step })
+            }
+            Doing::Forks {
+                first,
+                second,
+                stack,
+            } => self.walk_fork(first, second, Step { stack, ..step }),
+            Doing::Uses { word, inputs, rest } => self.walk_use(
+                word,
+                inputs,
+                Step {
+                    stack: rest,
+                    ..step
+                },
+            ),
+        }
+    }
+
     // Walks an item, apart from the rest of its phrase. The stack is that of what the item does, not the step's.
     #[cycle(walk)]
     fn walk_item(&mut self, doing: Doing, step: Step) -> Result<Walked, Memory>
@@ -731,65 +808,9 @@ impl<'a> Walker<'a> {
         ensures below { IfOk result (λ walked. IsBelow step.left walked) }
         ensures walks { IfOk result (λ walked. IsWalkOfItem self.old.subject self.old.marks self.new.marks doing step walked) }
     {
-        match doing {
-            Doing::Breaks(rule) => Ok(Walked::Refused(rule, step.place)),
-            Doing::Ends => match admitted(None, step.left) {
-                Ok(left) => Ok(Walked::Found(Reached::Dead, left)),
-                Err(rule) => Ok(Walked::Refused(rule, step.place)),
-            },
-            Doing::Gives { stack } => match admitted(None, step.left) {
-                Ok(left) => Ok(Walked::Found(
-                    Reached::On {
-                        base: step.base,
-                        stack,
-                    },
-                    left,
-                )),
-                Err(rule) => Ok(Walked::Refused(rule, step.place)),
-            },
-            Doing::Leaves { base, stack } => match admitted(None, step.left) {
-                Ok(left) => Ok(Walked::Found(Reached::On { base, stack }, left)),
-                Err(rule) => Ok(Walked::Refused(rule, step.place)),
-            },
-            Doing::Expands { word, stack } => match admitted(phrase_rule(step.nested), step.left) {
-                Ok(left) => self.walk_word(
-                    word,
-                    Step {
-                        stack,
-                        left,
-                        ..step
-                    },
-                ),
-                Err(rule) => Ok(Walked::Refused(rule, step.place)),
-            },
-            Doing::Walks { mark, stack, back } => {
-                let here = Step { stack, ..step };
-                match admitted(self.first_rule(mark, here)?, step.left) {
-                    Ok(left) => self.walk_callable(mark, back, Step { left, ..here }),
-                    Err(rule) => Ok(Walked::Refused(rule, step.place)),
-                }
-            }
-            Doing::Forks {
-                first,
-                second,
-                stack,
-            } => {
-                let here = Step { stack, ..step };
-                match admitted(self.first_rule(first, here)?, step.left) {
-                    Ok(left) => self.walk_fork(first, second, Step { left, ..here }),
-                    Err(rule) => Ok(Walked::Refused(rule, step.place)),
-                }
-            }
-            Doing::Uses { word, inputs, rest } => {
-                let here = Step {
-                    stack: rest,
-                    ..step
-                };
-                match admitted(self.use_rule(word, inputs, here)?, step.left) {
-                    Ok(left) => self.walk_use(word, inputs, Step { left, ..here }),
-                    Err(rule) => Ok(Walked::Refused(rule, step.place)),
-                }
-            }
+        match admitted(self.item_rule(doing, step)?, step.left) {
+            Ok(left) => self.walk_counted(doing, Step { left, ..step }),
+            Err(rule) => Ok(Walked::Refused(rule, step.place)),
         }
     }
 

@@ -1,9 +1,11 @@
 -- Which tables and code are those of an image, computed.
-use Rattle.std.proofs.Common.{◌≡◌, ℕ, [], ◌∷◌, Bool, true, false, refl}
+use Rattle.std.proofs.Common.{◌≡◌, ℕ, List, [], ◌∷◌, Bool, true, false, refl}
 use Rattle.std.specs.Prelude.{codes}
 use Rattle.fac_lang.specs.Primitives.{built_count}
 use Rattle.fac_code.specs.declared.image.Instr.{Instr}
-use Rattle.fac_code.specs.declared.image.Instr.TheVariants.{Halt, Text, Word, Quot, Prim, Callw, Ret}
+use Rattle.fac_code.specs.declared.image.Instr.TheVariants.{Halt, Text, Array, Word, Quot, Prim, Callw, Ret}
+use Rattle.fac_code.specs.declared.image.Elem.{Elem}
+use Rattle.fac_code.specs.declared.image.Elem.TheVariants as elem
 use Rattle.fac_code.specs.declared.image.Action.{Action}
 use Rattle.fac_code.specs.declared.image.Action.TheVariants.{Prim as prim_action, Core as core_action, Code as code_action, Itself as itself_action}
 use Rattle.fac_code.specs.declared.image.TemplateRow.{TemplateRow}
@@ -19,7 +21,7 @@ does a = record { name = 0; action = a }
 
 -- with a first instruction, a template's place, a word's action and a start; word 0 is `+`, word 1 is `if`, word 2 is the code at 3
 abbrev with_parts : Instr → ℕ → Action → ℕ → Bool
-with_parts i entry a start = is_image (template 3 0 ∷ template entry 2 ∷ []) (does (prim_action 25) ∷ does (core_action 2) ∷ does (code_action 3) ∷ does a ∷ []) (codes "a" ∷ []) (i ∷ Callw 2 false ∷ Halt ∷ Ret ∷ []) start
+with_parts i entry a start = is_image [] (template 3 0 ∷ template entry 2 ∷ []) (does (prim_action 25) ∷ does (core_action 2) ∷ does (code_action 3) ∷ does a ∷ []) (codes "a" ∷ []) (i ∷ Callw 2 false ∷ Halt ∷ Ret ∷ []) start
 
 pub an_image : with_parts (Quot 0) 3 (code_action 0) 0 ≡ true
 unfolding built_count
@@ -70,7 +72,7 @@ unfolding built_count
 no_word = refl
 
 -- a word's name is a text that is there
-no_name : is_image [] (record { name = 0; action = itself_action } ∷ []) [] (Halt ∷ []) 0 ≡ false
+no_name : is_image [] [] (record { name = 0; action = itself_action } ∷ []) [] (Halt ∷ []) 0 ≡ false
 unfolding built_count
 no_name = refl
 
@@ -88,15 +90,15 @@ unfolding built_count
 call_of_no_word = refl
 
 -- primitives and core words that the machine has
-a_primitive : with_parts (Prim 42) 3 (prim_action 22) 0 ≡ true
+a_primitive : with_parts (Prim 57) 3 (prim_action 22) 0 ≡ true
 unfolding built_count
 a_primitive = refl
 
-word_of_no_primitive : with_parts (Quot 0) 3 (prim_action 43) 0 ≡ false
+word_of_no_primitive : with_parts (Quot 0) 3 (prim_action 58) 0 ≡ false
 unfolding built_count
 word_of_no_primitive = refl
 
-no_primitive : with_parts (Prim 43) 3 (code_action 0) 0 ≡ false
+no_primitive : with_parts (Prim 58) 3 (code_action 0) 0 ≡ false
 unfolding built_count
 no_primitive = refl
 
@@ -105,6 +107,28 @@ unfolding built_count
 word_of_no_core_word = refl
 
 -- no image is without code
-no_code : is_image [] [] [] [] 0 ≡ false
+no_code : is_image [] [] [] [] [] 0 ≡ false
 unfolding built_count
 no_code = refl
+
+-- with these literal arrays, of which the code names one; template 0 keeps a value and template 1 keeps none
+abbrev with_arrays : List (List Elem) → ℕ → Bool
+with_arrays arrays k = is_image arrays (template 0 0 ∷ record { entry = 0; cells = []; holes = 0 } ∷ []) (does itself_action ∷ []) (codes "a" ∷ []) (Array k ∷ Halt ∷ []) 0
+
+-- all that an element can be
+pub with_elements : with_arrays ([] ∷ (elem.Text 0 ∷ elem.Array 0 ∷ elem.Word 0 ∷ elem.Template 1 ∷ elem.True ∷ []) ∷ []) 1 ≡ true
+unfolding built_count
+with_elements = refl
+
+no_array : with_arrays ([] ∷ []) 1 ≡ false
+unfolding built_count
+no_array = refl
+
+-- an element is an array only where that stands before
+array_in_itself : with_arrays ([] ∷ (elem.Array 1 ∷ []) ∷ []) 0 ≡ false
+unfolding built_count
+array_in_itself = refl
+
+element_that_keeps : with_arrays ((elem.Template 0 ∷ []) ∷ []) 0 ≡ false
+unfolding built_count
+element_that_keeps = refl

@@ -18,6 +18,8 @@ pub enum Instr {
     False,
     /// Pushes the text with this number, at a tick.
     Text(u32),
+    /// Pushes the literal array with this number, at a tick.
+    Array(u32),
     /// Pushes the word with this number as a value, at a tick.
     Word(u32),
     /// Pushes a callable of the template with this number, at a tick. It keeps the values that the template names in the frame.
@@ -81,9 +83,30 @@ pub struct TemplateRow {
     pub holes: u32,
 }
 
+/// An element of a literal array.
+#[derive(Clone, Copy, Debug, PartialEq, Eq)]
+pub enum Elem {
+    /// An integer.
+    Int(i128),
+    /// `t`.
+    True,
+    /// `f`.
+    False,
+    /// The text with this number.
+    Text(u32),
+    /// The literal array with this number, which stands before the one that it is an element of.
+    Array(u32),
+    /// The word with this number as a value.
+    Word(u32),
+    /// A callable of the template with this number, which keeps and takes no values.
+    Template(u32),
+}
+
 /// The code of a program. Its words have the numbers of the program's words.
 #[derive(Drop)]
 pub struct Image {
+    /// The literal arrays, by their numbers. A machine makes them in this order, before its first run.
+    pub arrays: List<List<Elem>>,
     /// One row for each template, by its number.
     pub templates: List<TemplateRow>,
     /// One row for each word of the program, by its number.
@@ -97,5 +120,5 @@ pub struct Image {
     // Each primitive in the code is one that the machine has.
     ghost built: { has_built_code code ≡ true },
     // Each number in the tables and the code names something of its kind.
-    ghost refers: { all_refer templates words texts code start ≡ true },
+    ghost refers: { all_refer arrays templates words texts code start ≡ true },
 }

@@ -6,5 +6,5 @@ mod making;
 mod names;
 mod references;
 
-pub use image::{Action, Image, Instr, TemplateRow, WordRow};
+pub use image::{Action, Elem, Image, Instr, TemplateRow, WordRow};
 pub use names::TrapWhy;

@@ -2,10 +2,10 @@
 ghost use Rattle.std.specs.Prelude.{◌≡◌, length, slice_get};
 ghost use Rattle.std.specs.List.{list_all};
 ghost use Rattle.fac_code.specs.Code.{is_built_instr, has_built_code};
-ghost use Rattle.fac_code.specs.References.{is_code as does_code, names_code, names_quotation, instr_refers, action_refers, word_refers, template_refers, refers as all_refer};
+ghost use Rattle.fac_code.specs.References.{is_code as does_code, names_code, names_quotation, names_constant, instr_refers, elem_refers, arrays_refer, action_refers, word_refers, template_refers, refers as all_refer};
 
-use crate::{Action, Instr, TemplateRow, WordRow};
-use fac_lang::{Text, is_core_word, is_primitive};
+use crate::{Action, Elem, Instr, TemplateRow, WordRow};
+use fac_lang::{List, Text, is_core_word, is_primitive};
 
 // Whether a word does code.
 fn is_code(action: Action) -> bool
@@ -39,14 +39,87 @@ fn is_quotation(templates: &[TemplateRow], template: u32) -> bool
     }
 }
 
-// Whether what an instruction names is there.
-fn refers_instr(templates: &[TemplateRow], words: &[WordRow], texts: &[Text], instr: Instr) -> bool
-    ensures { result ≡ instr_refers templates.now words.now texts.now instr }
+// Whether a number names a template that keeps and takes no values.
+fn is_constant(templates: &[TemplateRow], template: u32) -> bool
+    ensures { result ≡ names_constant (slice_get templates.now template) }
+{
+    match templates.get(template as usize) {
+        Some(row) => row.cells.len() == 0 && row.holes == 0,
+        None => false,
+    }
+}
+
+// Whether what an element of the literal array with this number names is there.
+fn refers_elem(
+    templates: &[TemplateRow],
+    words: &[WordRow],
+    texts: &[Text],
+    array: usize,
+    element: Elem,
+) -> bool
+    ensures { result ≡ elem_refers templates.now words.now texts.now array element }
+{
+    match element {
+        Elem::Text(number) => (number as usize) < texts.len(),
+        Elem::Array(number) => (number as usize) < array,
+        Elem::Word(number) => (number as usize) < words.len(),
+        Elem::Template(template) => is_constant(templates, template),
+        Elem::Int(_) | Elem::True | Elem::False => true,
+    }
+}
+
+// Whether that is so of each element.
+fn elements_refer(
+    templates: &[TemplateRow],
+    words: &[WordRow],
+    texts: &[Text],
+    array: usize,
+    elements: &[Elem],
+) -> bool
+    ensures { result ≡ list_all (elem_refers templates.now words.now texts.now array) elements.now }
+{
+    for element in elements {
+        if !refers_elem(templates, words, texts, array, *element) {
+            return false;
+        }
+    }
+    true
+}
+
+// Whether that is so of each literal array.
+fn all_arrays_refer(
+    templates: &[TemplateRow],
+    words: &[WordRow],
+    texts: &[Text],
+    arrays: &[List<Elem>],
+) -> bool
+    ensures { result ≡ arrays_refer templates.now words.now texts.now 0 arrays.now }
+{
+    let mut number = 0;
+    for elements in arrays {
+        if !elements_refer(templates, words, texts, number, elements.as_slice()) {
+            return false;
+        }
+        number += 1;
+    }
+    true
+}
+
+// Whether what an instruction names is there, among so many literal arrays.
+fn refers_instr(
+    arrays: usize,
+    templates: &[TemplateRow],
+    words: &[WordRow],
+    texts: &[Text],
+    instr: Instr,
+) -> bool
+    ensures { result ≡ instr_refers arrays templates.now words.now texts.now instr }
 {
     match instr {
         Instr::Callw { word, .. } => is_code_word(words, word),
         Instr::Quot(template) => is_quotation(templates, template),
         Instr::Text(number) => (number as usize) < texts.len(),
+        Instr::Array(number) => (number as usize) < arrays,
         Instr::Word(number) => (number as usize) < words.len(),
         Instr::Halt
         | Instr::Int(_)
@@ -105,15 +178,16 @@ fn templates_refer(size: usize, templates: &[TemplateRow]) -> bool
 
 // Whether what each instruction names is there.
 fn instrs_refer(
+    arrays: usize,
     templates: &[TemplateRow],
     words: &[WordRow],
     texts: &[Text],
     code: &[Instr],
 ) -> bool
-    ensures { result ≡ list_all (instr_refers templates.now words.now texts.now) code.now }
+    ensures { result ≡ list_all (instr_refers arrays templates.now words.now texts.now) code.now }
 {
     for instr in code {
-        if !refers_instr(templates, words, texts, *instr) {
+        if !refers_instr(arrays, templates, words, texts, *instr) {
             return false;
         }
     }
@@ -122,18 +196,20 @@ fn instrs_refer(
 
 /// Whether each number in the tables and the code names something of its kind, and the start is a place in the code.
 pub fn refers(
+    arrays: &[List<Elem>],
     templates: &[TemplateRow],
     words: &[WordRow],
     texts: &[Text],
     code: &[Instr],
     start: u32,
 ) -> bool
-    ensures { result ≡ all_refer templates.now words.now texts.now code.now start }
+    ensures { result ≡ all_refer arrays.now templates.now words.now texts.now code.now start }
 {
     let size = code.len();
-    templates_refer(size, templates)
+    all_arrays_refer(templates, words, texts, arrays)
+        && templates_refer(size, templates)
         && words_refer(size, texts.len(), words)
-        && instrs_refer(templates, words, texts, code)
+        && instrs_refer(arrays.len(), templates, words, texts, code)
         && (start as usize) < size
 }
 
@@ -148,6 +224,7 @@ fn is_built(instr: Instr) -> bool
         | Instr::True
         | Instr::False
         | Instr::Text(_)
+        | Instr::Array(_)
         | Instr::Word(_)
         | Instr::Quot(_)
         | Instr::Callw { .. }

@@ -8,9 +8,10 @@ use Rattle.fac_lang.specs.declared.token.Token.{Token}
 use Rattle.fac_lang.specs.declared.token.TokKind.{TokKind}
 use Rattle.fac_lang.specs.declared.token.TokKind.TheVariants.{Plain, Str}
 use Rattle.fac_lang.specs.declared.tree.FormKind.TheVariants.{In, Use, Using, From, QualifiedWith, Defer, Symbol, Constant, Private, Public, Main, Define}
+use Rattle.fac_lang.specs.declared.tree.Bracket.TheVariants.{Quotation, Array}
 use Rattle.fac_lang.specs.declared.tree.Key.TheVariants.{Arrow}
 use Rattle.fac_effect.specs.declared.spelling.Spelling.{Spelling}
-use Rattle.fac_effect.specs.declared.spelling.Spelling.TheVariants.{Begins, Fixed, Semi, Opens, Closes, Dashes, OpensQuotation, ClosesQuotation, True, False, Inline, Recursive, Integer, String, Name, Other}
+use Rattle.fac_effect.specs.declared.spelling.Spelling.TheVariants.{Begins, Fixed, Semi, Opens, Closes, Dashes, OpensBracket, ClosesBracket, True, False, Inline, Recursive, Integer, String, Name, Other}
 use Rattle.fac_lang.specs.Numbers.{signed_in, integer_in, in_range}
 use Rattle.fac_effect.specs.Spellings.{has_integer_form, is_reserved, sign_text, signs, sign_among, with_text, sign_spelling, word_spelling, integer_spelling, spelling_of, string_spelling, token_spelling, plain_token}
 
@@ -42,8 +43,10 @@ sign_is Semi h = refl
 sign_is Opens h = refl
 sign_is Closes h = refl
 sign_is Dashes h = refl
-sign_is OpensQuotation h = refl
-sign_is ClosesQuotation h = refl
+sign_is (OpensBracket Quotation) h = refl
+sign_is (OpensBracket Array) h = refl
+sign_is (ClosesBracket Quotation) h = refl
+sign_is (ClosesBracket Array) h = refl
 sign_is True h = refl
 sign_is False h = refl
 sign_is Inline h = refl

@@ -10,10 +10,12 @@ use Rattle.fac_lang.specs.declared.phrase.Place.{Place}
 use Rattle.fac_lang.specs.declared.token.Token.{Token}
 use Rattle.fac_lang.specs.declared.tree.FormKind.{FormKind}
 use Rattle.fac_lang.specs.declared.tree.FormKind.TheVariants.{In, Use, Using, From, QualifiedWith, Defer, Symbol, Constant, Private, Public, Main, Define}
+use Rattle.fac_lang.specs.declared.tree.Bracket.{Bracket}
+use Rattle.fac_lang.specs.declared.tree.Bracket.TheVariants.{Quotation, Array}
 use Rattle.fac_lang.specs.declared.tree.Key.{Key}
 use Rattle.fac_lang.specs.declared.tree.Key.TheVariants.{Arrow}
 use Rattle.fac_effect.specs.declared.spelling.Spelling.{Spelling}
-use Rattle.fac_effect.specs.declared.spelling.Spelling.TheVariants.{Begins, Fixed, Semi, Opens, Closes, OpensQuotation, ClosesQuotation, True, False, Inline, Recursive, Integer, String, Name, Other, Dashes}
+use Rattle.fac_effect.specs.declared.spelling.Spelling.TheVariants.{Begins, Fixed, Semi, Opens, Closes, OpensBracket, ClosesBracket, True, False, Inline, Recursive, Integer, String, Name, Other, Dashes}
 
 -- a plain token at a place
 abbrev pub plain_token : Place → List ℕ → Token
@@ -42,6 +44,15 @@ head_of Define = codes ":"
 -- a token at a fixed place of a row
 abbrev pub key_text : Key → List ℕ
 key_text Arrow = codes "=>"
+
+-- the tokens in which a quotation or an array stands
+abbrev pub opening_text : Bracket → List ℕ
+opening_text Quotation = codes "["
+opening_text Array = codes "{"
+
+abbrev pub closing_text : Bracket → List ℕ
+closing_text Quotation = codes "]"
+closing_text Array = codes "}"
 
 -- a text in one of the integer forms, in range or not
 unfoldable pub has_integer_form : List ℕ → Bool
@@ -85,8 +96,8 @@ sign_text Semi = codes ";"
 sign_text Opens = codes "("
 sign_text Closes = codes ")"
 sign_text Dashes = codes "--"
-sign_text OpensQuotation = codes "["
-sign_text ClosesQuotation = codes "]"
+sign_text (OpensBracket bracket) = opening_text bracket
+sign_text (ClosesBracket bracket) = closing_text bracket
 sign_text True = codes "t"
 sign_text False = codes "f"
 sign_text Inline = codes "inline"
@@ -97,8 +108,8 @@ sign_text _ = []
 abbrev pub signs : List Spelling
 signs =
     Begins In ∷ Begins Use ∷ Begins Using ∷ Begins From ∷ Begins QualifiedWith ∷ Begins Defer ∷ Begins Symbol ∷ Begins Constant ∷
-    Begins Private ∷ Begins Public ∷ Begins Main ∷ Begins Define ∷ Semi ∷ Opens ∷ Closes ∷ Dashes ∷ OpensQuotation ∷ ClosesQuotation ∷ True ∷ False ∷
-    Inline ∷ Recursive ∷ Fixed Arrow ∷ []
+    Begins Private ∷ Begins Public ∷ Begins Main ∷ Begins Define ∷ Semi ∷ Opens ∷ Closes ∷ Dashes ∷
+    OpensBracket Quotation ∷ ClosesBracket Quotation ∷ OpensBracket Array ∷ ClosesBracket Array ∷ True ∷ False ∷ Inline ∷ Recursive ∷ Fixed Arrow ∷ []
 
 -- the first of these that is of this text
 abbrev pub sign_among : List (List ℕ × Spelling) → List ℕ → Option Spelling

@@ -6,7 +6,7 @@ ghost use Rattle.fac_effect.specs.Spellings.{is_reserved_sign, is_reserved_form,
 ghost use Rattle.fac_effect.specs.Spellings.{word_spelling, spelling_of, string_spelling, token_spelling, is_row_name, is_described_name, token_text};
 
 use fac_lang::limits::MOST_ELEMENTS;
-use fac_lang::{FormKind, Key, TokKind};
+use fac_lang::{Bracket, FormKind, Key, TokKind};
 use fac_num::{NumFault, read_int};
 
 /// What a token is to the grammar, by how it is spelled.
@@ -24,10 +24,10 @@ pub enum Spelling {
     Closes,
     /// `--`
     Dashes,
-    /// `[`
-    OpensQuotation,
-    /// `]`
-    ClosesQuotation,
+    /// The token that opens a bracket: `[` or `{`.
+    OpensBracket(Bracket),
+    /// The token that closes a bracket: `]` or `}`.
+    ClosesBracket(Bracket),
     /// `t`
     True,
     /// `f`
@@ -123,7 +123,7 @@ fn reserved(text: &str) -> bool
 
 // The tokens that forms are made of, each with its text.
 #[rattlefmt::skip]
-static FORM_SIGNS: [(&str, Spelling); 23] = [
+static FORM_SIGNS: [(&str, Spelling); 25] = [
     ("IN:", Spelling::Begins(FormKind::In)),
     ("USE:", Spelling::Begins(FormKind::Use)),
     ("USING:", Spelling::Begins(FormKind::Using)),
@@ -140,8 +140,10 @@ static FORM_SIGNS: [(&str, Spelling); 23] = [
     ("(", Spelling::Opens),
     (")", Spelling::Closes),
     ("--", Spelling::Dashes),
-    ("[", Spelling::OpensQuotation),
-    ("]", Spelling::ClosesQuotation),
+    ("[", Spelling::OpensBracket(Bracket::Quotation)),
+    ("]", Spelling::ClosesBracket(Bracket::Quotation)),
+    ("{", Spelling::OpensBracket(Bracket::Array)),
+    ("}", Spelling::ClosesBracket(Bracket::Array)),
     ("t", Spelling::True),
     ("f", Spelling::False),
     ("inline", Spelling::Inline),

@@ -4,31 +4,25 @@ use Rattle.std.specs.Prelude.{slice_get}
 use Rattle.fac_lang.specs.declared.phrase.Height.{Height}
 use Rattle.fac_lang.specs.declared.phrase.Template.{Template}
 use Rattle.fac_lang.specs.declared.program.Program.{Program}
-use Rattle.fac_lang.specs.declared.program.Lit.{Lit}
 use Rattle.fac_lang.specs.Phrases.{Value, Callable}
-use Rattle.fac_lang.specs.World.{State}
 use Rattle.fac_lang.specs.Forms.{IsBuilt}
-use Rattle.fac_lang.specs.Eval.{Result, Done, Failed, Spent, Stuck, eval}
-use Rattle.fac_lang.specs.Meaning.{names, act, start, word_phrase, with_arrays}
+use Rattle.fac_lang.specs.Eval.{Result, Done, Failed, Spent, Stuck}
+use Rattle.fac_lang.specs.Meaning.{word_phrase}
 use Rattle.fac_lang.specs.RunningLaws.{IsNotStuck}
 use Rattle.fac_locals.specs.Closed.{Closes}
 use Rattle.fac_code.specs.declared.image.Instr.TheVariants.{Halt}
 use Rattle.fac_code.specs.declared.image.Image.{Image}
 use Rattle.fac_code.specs.declared.image.Action.TheVariants.{Code as code_action}
 use Rattle.fac_code.specs.declared.image.WordRow.{WordRow}
-use Rattle.fac_prim.specs.MachineValues.{MValue}
-use Rattle.fac_vm.specs.Machine.{End, Ends, empty_world}
-use Rattle.fac_emit.specs.MachineView.{Templates, template_phrases, values_view, state_view}
-use Rattle.fac_emit.specs.Carries.{SameEnd, Carries, state_before, machine_before, top_run}
+use Rattle.fac_emit.specs.MachineView.{Templates, template_phrases, values_view, world_view}
+use Rattle.fac_emit.specs.Carries.{Carries, top_run}
 use Rattle.fac_emit.specs.ProgramCode.{IsPlain}
 use Rattle.fac_emit.specs.Stands.{Stands, PlainCode}
 use Rattle.fac_emit.proofs.Simulation.{carried}
 use Rattle.fac_emit.proofs.PlainIsCode.{plain_code_is_code}
 use Rattle.fac_emit.proofs.Placed.{coded, top_stands}
 use Rattle.fac_emit.proofs.NamedImages.{image_named}
-
-no_literals : (P : Program) → IsBuilt P → (input : List ℕ) → start P input ≡ record { stack = []; world = record { objects = []; literals = []; input = input; output = [] } }
-no_literals P b input = ap (λ (arrays : List (List Lit)). record { stack = []; world = with_arrays P 0 arrays (record { objects = []; literals = []; input = input; output = [] }) }) b.no_arrays
+use Rattle.fac_emit.proofs.MadeArrays.{arrays_made}
 
 not_stuck : (r : Result) → IsNotStuck r → r ≢ Stuck
 not_stuck (Done st m) h e = cc
@@ -48,20 +42,18 @@ plain_code P C templates M b closes is_plain =
     let there : top.0 ≡ M.start = ap place_of (sym top.1 ∙ begins) in
     record { coded = coded P C templates M b closes is_plain; phrase = subst (λ (a : ℕ). Stands P M (template_phrases P) Halt [] a (word_phrase P P.top)) there top.2 }
 
--- The machine's state before its first instruction stands for the meaning's, since no array is made.
-begins_so : (P : Program) → IsBuilt P → (T : Templates) (stack : List MValue) (input : List ℕ) → state_view T stack (record empty_world { input = input }) ≡ state_before P (values_view T stack) input
-begins_so P b T stack input = ap (λ (st : State Value). record { stack = values_view T stack; world = st.world }) (sym (no_literals P b input))
-
 pub carries :
     (P C : Program) (templates : List Template) (M : Image) (fits : Height → Height → Bool) (callable_height : Callable → Option Height) (count : ℕ) →
     IsBuilt P → Closes P C templates → IsPlain C templates M → Carries P fits callable_height count M
-carries P C templates M fits callable_height count b closes is_plain = record {
-  same_end = λ stack input many whole never n.
-      let phrase = word_phrase P P.top in
-      let T = template_phrases P in
-      let code = plain_code_is_code P M (plain_code P C templates M b closes is_plain) in
-      let begin = begins_so P b T stack input in
-      let going = λ (m : ℕ). not_stuck (top_run P fits callable_height (values_view T stack) input m) (never m) in
-      subst (λ (st : State Value). (e : End) × Ends M (names P) (machine_before M stack input) n e × SameEnd T (eval (act P fits callable_height) n phrase st n) e) begin
-      (carried (record { program = P; fits = fits; callable_height = callable_height; image = M; texts = T; named = image_named P C templates M closes is_plain }) code.called M.start phrase code.phrase stack (record empty_world { input = input }) (record { cells = tt; held = tt; values = whole; objects = tt }) (subst (λ (st : State Value). (m : ℕ) → eval (act P fits callable_height) m phrase st m ≢ Stuck) (sym begin) going) n);
-}
+carries P C templates M fits callable_height count b closes is_plain =
+    let made = arrays_made P C templates M b closes is_plain in
+    record {
+      same_end = λ stack w many values objects never n.
+          let phrase = word_phrase P P.top in
+          let T = template_phrases P in
+          let code = plain_code_is_code P M (plain_code P C templates M b closes is_plain) in
+          let going = λ (m : ℕ). not_stuck (top_run P fits callable_height (values_view T stack) (world_view T w) m) (never m) in
+          carried (record { program = P; fits = fits; callable_height = callable_height; image = M; texts = T; named = image_named P C templates M closes is_plain }) code.called M.start phrase code.phrase stack w (record { cells = tt; held = tt; values = values; objects = objects }) going n;
+      same_first = λ input. (made input).same;
+      first_whole = λ input. (made input).whole;
+    }

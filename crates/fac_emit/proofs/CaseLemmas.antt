@@ -5,22 +5,22 @@ use Rattle.fac_lang.specs.declared.phrase.Place.{Place}
 use Rattle.fac_lang.specs.declared.program.Program.{Program}
 use Rattle.fac_lang.specs.declared.program.Sort.{Sort}
 use Rattle.fac_lang.specs.declared.program.Sort.TheVariants.{Prim as prim_sort, Core as core_sort, Body as body}
-use Rattle.fac_lang.specs.Phrases.{Phrase, end, then, Item, quot, word, Value, fun, of_phrase}
+use Rattle.fac_lang.specs.Phrases.{arr, Phrase, end, then, Item, lit_arr, quot, word, Value, fun, of_phrase}
 use Rattle.fac_lang.specs.World.{World, State, pile, push, push_each}
 use Rattle.fac_lang.specs.Printed.{Names}
 use Rattle.fac_lang.specs.PrimitiveWords.{outputs_of}
 use Rattle.fac_lang.specs.Procedures.{Gives, gives, bad, Fn, fn0, fn1, fn2, fn3}
 use Rattle.fac_lang.specs.Primitives.{Primitive, prim_numbered, prim_fn, seen_no}
 use Rattle.fac_lang.specs.Eval.{Result, Stuck, then_do, Act, wrong, goes, runs, Run, run_callable, go_on}
-use Rattle.fac_lang.specs.Meaning.{meaning_values, names, sort_of, Core, core_numbered, c_call as w_call, c_dip as w_dip, c_if as w_if, does, given, prim_act, core_act, sort_act, act}
+use Rattle.fac_lang.specs.Meaning.{meaning_values, names, sort_of, Core, core_numbered, c_call as w_call, c_dip as w_dip, c_if as w_if, does, given, prim_act, core_act, sort_act, pushes_array, act}
 use Rattle.fac_lang.proofs.Laws.{Within, within_call}
 use Rattle.fac_code.specs.declared.image.Instr.{Instr}
-use Rattle.fac_code.specs.declared.image.Instr.TheVariants.{Quot, Prim as prim_instr, Call, Dip, If, Ret}
+use Rattle.fac_code.specs.declared.image.Instr.TheVariants.{Array, Quot, Prim as prim_instr, Call, Dip, If, Ret}
 use Rattle.fac_code.specs.declared.image.Image.{Image}
 use Rattle.fac_code.specs.declared.image.TemplateRow.{TemplateRow}
 use Rattle.fac_code.specs.WordNames.{image_names}
 use Rattle.fac_code.specs.declared.names.TrapWhy.TheVariants.{Kind as t_kind, Frame as t_frame}
-use Rattle.fac_prim.specs.MachineValues.{MValue, m_plain, m_fun, MCallable, m_lit, m_cur, m_com, kept_list, m_seen, machine_values, with_names, cells_at}
+use Rattle.fac_store.specs.MachineValues.{MValue, m_plain, m_fun, MCallable, m_lit, m_cur, m_com, kept_list, m_seen, machine_values, with_names, cells_at}
 use Rattle.fac_vm.specs.Machine.{Machine, Entry, resume, put_back, enter, spent, Step, goes_on, ends, after, given as machine_given, does as machine_does, word_of_prim, or_trap, branch, entering, fetched, step}
 use Rattle.fac_vm.proofs.Leading.{leads_none, ends_step}
 use Rattle.fac_emit.specs.MachineView.{Templates, value_view, callable_view, values_view, world_view, state_view, gives_view}
@@ -117,6 +117,31 @@ module _ (Y : Setting) where
       let ok1 : Fine F rs (m ∷ ms) w = record { cells = ok.cells; held = ok.held; values = (hm, ok.values); objects = ok.objects } in
       rw (first_goes Y i p t L1 st st' n (acts st)) (step_before Y last R base s (at F (pc + 1) (m ∷ ms) rs R w) (suc n) n _ (fetch Y s (suc n) x e ∙ some ms rs R w n)
       (go R base (m ∷ ms) rs (value_view T m ∷ vs) (l_phrase t ∷ L1) w n (omega (arith, le)) ok1 (live_goes Y i p t L1 st st' (acts st) lv) (lies_more r_here l) (keeps_phrase h)))
+
+  -- a literal array, whose address is the world's
+  array_is : (a : ℕ) (st : State Value) (o : Option ℕ) → slice_get st.world.literals a ≡ o → A (lit_arr a) st ≡ pushes_array P Y.fits Y.callable_height o st
+  array_is a st o e = ap (λ (o : Option ℕ). pushes_array P Y.fits Y.callable_height o st) e
+
+  array_goes : (F : List MValue) (pc a : ℕ) (o : Option ℕ) (ms rs : List MValue) (R : List Entry) (w : World MValue) (n : ℕ) → slice_get w.literals a ≡ o →
+      fetched M (names P) (Some (Array a)) (at F pc ms rs R w) (suc n) ≡ or_trap o t_kind (at F pc ms rs R w) n (λ k. goes_on (at F (pc + 1) (m_plain (arr k) ∷ ms) rs R w) n)
+  array_goes F pc a o ms rs R w n e = ap (λ (o : Option ℕ). or_trap o t_kind (at F pc ms rs R w) n (λ k. goes_on (at F (pc + 1) (m_plain (arr k) ∷ ms) rs R w) n)) e
+
+  pub g_array : (f : ℕ) (F : List MValue) (last : Option Instr) (a : ℕ) (p : Place) (t : Phrase) (S : List Sym) (K : List Task) (pc : ℕ) → slice_get M.code pc ≡ Some (Array a) → Go Y f F last zero (here ∷ S) (do_phrase t ∷ K) (pc + 1) →
+      Go Y f F last zero S (do_phrase (then (lit_arr a) p t) ∷ K) pc
+  g_array f F last a p t S K pc e go R base ms rs vs L w zero le ok lv l (keeps_phrase h) = spent_here Y last R base (at F pc ms rs R w) (state vs (V w)) (Some (lit_arr a)) (Array a) e refl refl
+  g_array f F last a p t S K pc e go R base ms rs vs L w (suc n) le ok lv l (keeps_phrase {L = L1} h) = one (slice_get w.literals a) refl
+    where
+      one : (o : Option ℕ) → slice_get w.literals a ≡ o → Follows Y last R base (at F pc ms rs R w) (suc n) (owing (V w) zero (suc n) (left Y (l_phrase (then (lit_arr a) p t) ∷ L1) (state vs (V w))))
+      one None is = wrong_here Y (lit_arr a) p t L1 (state vs (V w)) (array_is a (state vs (V w)) None is) lv
+      one (Some k) is =
+          let s = at F pc ms rs R w in
+          let st = state vs (V w) in
+          let m = m_plain (arr k) in
+          let st' = state (value_view T m ∷ vs) (V w) in
+          let acts = array_is a st (Some k) is in
+          let ok1 : Fine F rs (m ∷ ms) w = record { cells = ok.cells; held = ok.held; values = (tt, ok.values); objects = ok.objects } in
+          rw (first_goes Y (lit_arr a) p t L1 st st' n acts) (step_before Y last R base s (at F (pc + 1) (m ∷ ms) rs R w) (suc n) n _ (fetch Y s (suc n) (Array a) e ∙ array_goes F pc a (Some k) ms rs R w n is)
+          (go R base (m ∷ ms) rs (value_view T m ∷ vs) (l_phrase t ∷ L1) w n (omega (arith, le)) ok1 (live_goes Y (lit_arr a) p t L1 st st' acts lv) (lies_more r_here l) (keeps_phrase h)))
 
   -- what a primitive gives
   gave : (f : ℕ) (F : List MValue) (last : Option Instr) (o : Option ℕ) (t : Phrase) (S1 : List Sym) (K : List Task) (pc : ℕ) → Go Y f F last zero (heres (count o) S1) (do_phrase t ∷ K) (pc + 1) →

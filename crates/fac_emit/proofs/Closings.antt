@@ -7,7 +7,7 @@ use Rattle.fac_lang.specs.declared.program.Program.{Program}
 use Rattle.fac_lang.specs.declared.program.WordDef.{WordDef}
 use Rattle.fac_lang.specs.declared.program.Sort.{Sort}
 use Rattle.fac_lang.specs.declared.program.Sort.TheVariants.{Prim as prim, Core as core, Body as body, Past as past, Itself as itself, Class as class, Isa as isa, Getter as getter, Setter as setter, Putter as putter, Generic as generic, Method as method}
-use Rattle.fac_lang.specs.Phrases.{int, yes, no, str, wrd, Literal, Phrase, end, then, lit, quot, word, made}
+use Rattle.fac_lang.specs.Phrases.{int, yes, no, str, wrd, Literal, Phrase, end, then, lit, lit_arr, quot, word, made}
 use Rattle.fac_lang.specs.Forms.{IsBuiltPhrase, primitive_numbers, numbers_before}
 use Rattle.fac_locals.specs.Literals.{Quoted, behind, literal_numbered}
 use Rattle.fac_locals.specs.Closed.{ClosesPhrase, ClosesSort, CloseWords}
@@ -41,6 +41,7 @@ module _ (P : Program) where
     c_true : {at : Literal} {p : Place} {t c : Phrase} → Closing (behind at (lit yes)) t c → Closing at (then (lit yes) p t) (then (lit yes) p c)
     c_false : {at : Literal} {p : Place} {t c : Phrase} → Closing (behind at (lit no)) t c → Closing at (then (lit no) p t) (then (lit no) p c)
     c_text : {at : Literal} {p : Place} {t c : Phrase} (cs : List ℕ) → Closing (behind at (lit (str cs))) t c → Closing at (then (lit (str cs)) p t) (then (lit (str cs)) p c)
+    c_array : {at : Literal} {p : Place} {t c : Phrase} (a : ℕ) → Closing (behind at (lit_arr a)) t c → Closing at (then (lit_arr a) p t) (then (lit_arr a) p c)
     c_ref : {at : Literal} {p : Place} {t c : Phrase} (w : ℕ) → w < P.top → Closing (behind at (lit (wrd w))) t c → Closing at (then (lit (wrd w)) p t) (then (lit (wrd w)) p c)
     c_word : {at : Literal} {p : Place} {t c : Phrase} (w : ℕ) → w < P.top → Closing (behind at (word w)) t c → Closing at (then (word w) p t) (then (word w) p c)
     c_quot : {at : Literal} {p : Place} {t c : Phrase} (u : Phrase) (k : ℕ) → (let l : Quoted = (at, u) in literal_numbered P k ≡ l) → Closing (behind at (quot u)) t c → Closing at (then (quot u) p t) (then (made k) p c)
@@ -51,6 +52,7 @@ module _ (P : Program) where
   closing at (then (lit yes) p t) c h b = rw (h.2, h.3) (c_true (closing (behind at (lit yes)) t h.1 h.4 b.1))
   closing at (then (lit no) p t) c h b = rw (h.2, h.3) (c_false (closing (behind at (lit no)) t h.1 h.4 b.1))
   closing at (then (lit (str cs)) p t) c h b = rw (h.2, h.3) (c_text cs (closing (behind at (lit (str cs))) t h.1 h.4 b.1))
+  closing at (then (lit_arr a) p t) c h b = rw (h.2, h.3) (c_array a (closing (behind at (lit_arr a)) t h.1 h.4 b.1))
   closing at (then (lit (wrd w)) p t) c h b = rw (h.2, h.3) (c_ref w (ltb-true w P.top b.0) (closing (behind at (lit (wrd w))) t h.1 h.4 b.1))
   closing at (then (word w) p t) c h b = rw (h.2, h.3) (c_word w (ltb-true w P.top b.0) (closing (behind at (word w)) t h.1 h.4 b.1))
   closing at (then (quot u) p t) c h b = rw (h.2, h.3.1) (c_quot u h.3.0 h.3.2 (closing (behind at (quot u)) t h.1 h.4 b.1))

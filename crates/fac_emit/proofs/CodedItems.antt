@@ -1,8 +1,10 @@
 -- Each item of a closed program that stands for a built one has an instruction.
-use Rattle.std.proofs.Common.{◌≡◌, ◌<◌, ℕ, zero, suc, ◌+◌, List, [], ◌∷◌, length, drop, get_or, Bool, true, false, Some, refl, subst}
+use Rattle.std.proofs.Common.{◌≡◌, ◌<◌, ℕ, zero, suc, ◌+◌, List, [], ◌∷◌, length, drop, get_or, Bool, true, false, Option, Some, refl, subst}
 use Rattle.std.specs.Prelude.{◌&&◌, slice_get}
 use Rattle.std.specs.List.{list_all}
 use Rattle.fac_lang.specs.declared.phrase.Template.{Template}
+use Rattle.fac_lang.specs.declared.program.Lit.{Lit}
+use Rattle.fac_lang.specs.declared.program.Lit.TheVariants.{Int as l_int, True as l_yes, False as l_no, Str as l_str, Arr as l_arr, Wref as l_word, Quot as l_quot, Made as l_made}
 use Rattle.fac_lang.specs.declared.program.Program.{Program}
 use Rattle.fac_lang.specs.declared.program.WordDef.{WordDef}
 use Rattle.fac_lang.specs.declared.program.Sort.{Sort}
@@ -11,14 +13,15 @@ use Rattle.fac_lang.specs.declared.phrase.Item.{Item}
 use Rattle.fac_lang.specs.PhraseView.{what_item, items_phrase}
 use Rattle.fac_lang.specs.Phrases.{Literal, Phrase}
 use Rattle.fac_lang.specs.Forms.{IsBuilt, IsBuiltSort}
+use Rattle.fac_lang.specs.Meaning.{array_method}
 use Rattle.fac_lang.proofs.FormsLemmas.{word_below}
-use Rattle.fac_locals.specs.Literals.{first_of_word, first_of_literal, literal_numbered}
-use Rattle.fac_locals.specs.Closed.{Closes, ClosesSort}
-use Rattle.fac_locals.proofs.ClosedPrograms.{HasBuiltPhrase, built_phrases}
+use Rattle.fac_locals.specs.Literals.{behind, first_of_word, first_of_literal, first_in_array, element_item, literal_numbered}
+use Rattle.fac_locals.specs.Closed.{Closes, ClosesSort, ClosesElement, CloseElements, CloseArrays}
+use Rattle.fac_locals.proofs.LiteralArrays.{HasBuiltPhrase, built_phrases}
 use Rattle.fac_locals.proofs.Places.{literal_built}
 use Rattle.fac_locals.proofs.Lookups.{word_closed, word_open, template_closed}
-use Rattle.fac_emit.specs.inner.Coded.{sort_is_coded, word_is_coded, item_is_coded, phrase_is_coded, template_is_coded, body_is_coded, word_body_is_coded}
-use Rattle.fac_emit.proofs.Closings.{Closing, c_end, c_int, c_true, c_false, c_text, c_ref, c_word, c_quot, closing}
+use Rattle.fac_emit.specs.inner.Coded.{sort_is_coded, word_is_coded, item_is_coded, phrase_is_coded, template_is_coded, body_is_coded, word_body_is_coded, element_is_coded, array_is_coded}
+use Rattle.fac_emit.proofs.Closings.{Closing, c_end, c_int, c_true, c_false, c_text, c_array, c_ref, c_word, c_quot, closing}
 use Rattle.fac_emit.proofs.BuiltCode.{and_true}
 use Rattle.fac_emit.proofs.EmitLemmas.{next_element}
 use Rattle.fac_emit.proofs.Emitted.{built_at}
@@ -71,6 +74,7 @@ module _ (P C : Program) (templates : List Template) (b : IsBuilt P) (closes : C
   phrase_coded at t c (c_true h) = phrase_coded _ _ _ h
   phrase_coded at t c (c_false h) = phrase_coded _ _ _ h
   phrase_coded at t c (c_text cs h) = phrase_coded _ _ _ h
+  phrase_coded at t c (c_array a h) = phrase_coded _ _ _ h
   phrase_coded at t c (c_ref w lt h) = phrase_coded _ _ _ h
   phrase_coded at t c (c_word {c = c'} w lt h) = and_true (word_is_coded (slice_get C.words w)) (phrase_is_coded C.words c') (word_coded w lt) (phrase_coded _ _ _ h)
   phrase_coded at t c (c_quot u q is h) = phrase_coded _ _ _ h
@@ -97,3 +101,25 @@ module _ (P C : Program) (templates : List Template) (b : IsBuilt P) (closes : C
 
   pub words_coded : list_all (word_body_is_coded C.words) C.words ≡ true
   words_coded = each_passes (word_body_is_coded C.words) C.words word_body_coded
+
+-- each element of a closed program's literal arrays has an element of an image
+element_coded : (P : Program) (m : Option ℕ) (at : Literal) (l c : Lit) → ClosesElement P m at l c → element_is_coded c ≡ true
+element_coded P m at (l_quot t) c h = rw h.1 refl
+element_coded P m at (l_made k) c h = absurd h
+element_coded P m at (l_int z) c h = rw h refl
+element_coded P m at l_yes c h = rw h refl
+element_coded P m at l_no c h = rw h refl
+element_coded P m at (l_str bs) c h = rw h refl
+element_coded P m at (l_arr a) c h = rw h refl
+element_coded P m at (l_word w) c h = rw h refl
+
+elements_coded : (P : Program) (m : Option ℕ) (at : Literal) (ls cs : List Lit) → CloseElements P m at ls cs → array_is_coded cs ≡ true
+elements_coded P m at [] cs h = rw h refl
+elements_coded P m at (l ∷ ls) cs h = rw h.2 (and_true (element_is_coded h.0) (list_all element_is_coded h.1) (element_coded P m at l h.0 h.3) (elements_coded P m (behind at (element_item m l)) ls h.1 h.4))
+
+all_coded : (P : Program) (a : ℕ) (lss css : List (List Lit)) → CloseArrays P a lss css → list_all array_is_coded css ≡ true
+all_coded P a [] css h = rw h refl
+all_coded P a (ls ∷ lss) css h = rw h.3 (and_true (array_is_coded h.1) (list_all array_is_coded h.2) (elements_coded P (array_method P (length P.arrays) a) (first_in_array h.0) ls h.1 h.4) (all_coded P (suc a) lss h.2 h.5))
+
+pub arrays_coded : (P C : Program) (templates : List Template) → Closes P C templates → list_all array_is_coded C.arrays ≡ true
+arrays_coded P C templates closes = all_coded P 0 P.arrays C.arrays closes.arrays

@@ -15,7 +15,7 @@ use Rattle.fac_lang.specs.Meaning.{sort_of, core_numbered}
 use Rattle.fac_lang.proofs.FormsLemmas.{word_below, sort_at}
 use Rattle.fac_locals.specs.Literals.{first_of_word, first_of_literal, literal_numbered}
 use Rattle.fac_locals.specs.Closed.{Closes, ClosesSort}
-use Rattle.fac_locals.proofs.ClosedPrograms.{HasBuiltPhrase, HaveBuiltPhrases, built_phrases}
+use Rattle.fac_locals.proofs.LiteralArrays.{HasBuiltPhrase, HaveBuiltPhrases, built_phrases}
 use Rattle.fac_locals.proofs.Places.{literal_built}
 use Rattle.fac_locals.proofs.Lookups.{word_closed, word_open, template_closed}
 use Rattle.fac_code.specs.declared.image.Instr.{Instr}
@@ -23,8 +23,8 @@ use Rattle.fac_code.specs.declared.image.Instr.TheVariants.{Ret}
 use Rattle.fac_emit.specs.ProgramCode.{core_instr, sort_instr, word_instr, item_instr, phrase_code, phrase_texts, last_instr, sort_code, sort_texts, word_code}
 use Rattle.fac_emit.specs.inner.FoundCode.{IsCodeOf, found_code, found_texts, found_template, found_template_texts}
 use Rattle.fac_emit.specs.declared.emitter.Piece.{Piece}
-use Rattle.fac_emit.specs.Emits.{ItemEmits, e_int, e_true, e_false, e_text, e_reference, e_symbol, e_quot, e_prim, e_word, e_call, e_dip, e_if, PhraseEmits, e_end, e_item, Emits, e_phrase, e_no_phrase, TemplateEmits}
-use Rattle.fac_emit.proofs.Closings.{Closing, c_end, c_int, c_true, c_false, c_text, c_ref, c_word, c_quot, closing}
+use Rattle.fac_emit.specs.Emits.{ItemEmits, e_int, e_true, e_false, e_text, e_array, e_reference, e_symbol, e_quot, e_prim, e_word, e_call, e_dip, e_if, PhraseEmits, e_end, e_item, Emits, e_phrase, e_no_phrase, TemplateEmits}
+use Rattle.fac_emit.proofs.Closings.{Closing, c_end, c_int, c_true, c_false, c_text, c_array, c_ref, c_word, c_quot, closing}
 use Rattle.fac_emit.proofs.TextLists.{Begins, begins_same, text_there}
 
 module _ (P C : Program) (templates : List Template) (b : IsBuilt P) (closes : Closes P C templates) where
@@ -58,6 +58,7 @@ module _ (P C : Program) (templates : List Template) (b : IsBuilt P) (closes : C
   phrase_emits pool last at texts t c (c_true h) b = e_item e_true (phrase_emits pool last _ texts _ _ h b)
   phrase_emits pool last at texts t c (c_false h) b = e_item e_false (phrase_emits pool last _ texts _ _ h b)
   phrase_emits pool last at texts t c (c_text {c = c'} cs h) b = e_item (e_text cs (length texts) (text_there texts pool cs c' b)) (phrase_emits pool last _ (texts ++ cs ∷ []) _ c' h b)
+  phrase_emits pool last at texts t c (c_array a h) b = e_item (e_array a) (phrase_emits pool last _ texts _ _ h b)
   phrase_emits pool last at texts t c (c_ref w lt h) b = e_item (e_reference w) (phrase_emits pool last _ texts _ _ h b)
   phrase_emits pool last at texts t c (c_word w lt h) b = e_item (word_emits pool at (length texts) w lt) (phrase_emits pool last _ texts _ _ h b)
   phrase_emits pool last at texts t c (c_quot u q is h) b = e_item (e_quot u q is) (phrase_emits pool last _ texts _ _ h b)

@@ -3,22 +3,24 @@ use Rattle.std.proofs.Common.{◌≡◌, ℕ, List, [], ◌∷◌, true, false, 
 use Rattle.std.specs.Prelude.{pos, codes}
 use Rattle.fac_lang.specs.Signatures.{signature, no_inputs, never}
 use Rattle.fac_lang.specs.declared.phrase.Template.{Template}
+use Rattle.fac_lang.specs.declared.program.Lit.TheVariants.{Int as l_int, True as l_yes, Str as l_str, Arr as l_arr, Wref as l_word, Made as l_made}
 use Rattle.fac_lang.specs.declared.program.Program.{Program}
 use Rattle.fac_lang.specs.declared.program.WordDef.{WordDef}
 use Rattle.fac_lang.specs.declared.program.Sort.{Sort}
 use Rattle.fac_lang.specs.declared.program.Sort.TheVariants.{Prim as prim, Core as core, Body as body, Itself as itself}
-use Rattle.fac_lang.specs.Phrases.{int, str, wrd, Phrase, end, then, Item, lit, quot, word}
+use Rattle.fac_lang.specs.Phrases.{int, str, wrd, Phrase, end, then, Item, lit, lit_arr, quot, word}
 use Rattle.fac_lang.specs.Primitives.{built_count, prim_numbered, prim_fn}
 use Rattle.fac_code.specs.Code.{has_built_code}
 use Rattle.fac_code.specs.References.{refers}
 use Rattle.fac_lang.specs.Meaning.{nowhere, names, core_numbered}
-use Rattle.fac_locals.specs.inner.Numbering.{closed_words, words_templates}
-use Rattle.fac_code.specs.declared.image.Instr.TheVariants.{Halt, Int, Text, Word, Quot, Prim, Callw, Call, Dip, Ret}
+use Rattle.fac_locals.proofs.ClosedForms.{made_words, made_templates}
+use Rattle.fac_code.specs.declared.image.Instr.TheVariants.{Halt, Int, Text, Array, Word, Quot, Prim, Callw, Call, Dip, Ret}
+use Rattle.fac_code.specs.declared.image.Elem.TheVariants as elem
 use Rattle.fac_code.specs.declared.image.Action.TheVariants.{Prim as prim_action, Core as core_action, Code as code_action, Itself as itself_action}
 use Rattle.fac_code.specs.declared.image.Image.{Image}
-use Rattle.fac_prim.specs.MachineValues.{MValue, m_plain}
-use Rattle.fac_vm.specs.Machine.{End, done, steps, starting}
-use Rattle.fac_emit.specs.ProgramCode.{word_names, program_code, program_texts, template_rows, program_words}
+use Rattle.fac_store.specs.MachineValues.{MValue, m_plain}
+use Rattle.fac_vm.specs.Machine.{End, done, steps, first_world, starting}
+use Rattle.fac_emit.specs.ProgramCode.{word_names, program_code, program_texts, template_rows, program_words, arrays_of, arrays_texts}
 use Rattle.fac_emit.specs.MachineView.{template_phrases}
 use Rattle.fac_emit.specs.Symbols.{here, off, cells, k_phrase, k_cur, k_com, do_phrase, top_is, needs_none, needs_more, all_none, all_more}
 use Rattle.fac_emit.specs.Expanded.{Code, c_last, c_make, c_end, c_off, c_int, c_prim, c_word, c_call, c_dip}
@@ -40,10 +42,10 @@ source =
     (body (items (number 1 ∷ word 4 ∷ quot (items (number 4 ∷ [])) ∷ word 2 ∷ word 1 ∷ []))) ∷ []
 
 abbrev closed : Program
-closed = record { words = closed_words 0 source; arrays = []; classes = []; top = 5 }
+closed = record { words = made_words source []; arrays = []; classes = []; top = 5 }
 
 abbrev templates : List Template
-templates = words_templates 0 source
+templates = made_templates source []
 
 -- the four quotations, the one inside another behind it, then the word's phrase and the top-level phrase
 pub code_is : program_code closed templates ≡ Int (pos 2) ∷ Ret ∷ Quot 2 ∷ Call false ∷ Prim 25 ∷ Ret ∷ Int (pos 3) ∷ Ret ∷ Int (pos 4) ∷ Ret ∷ Quot 0 ∷ Quot 1 ∷ Prim 17 ∷ Ret ∷ Int (pos 1) ∷ Callw 4 false ∷ Quot 3 ∷ Dip ∷ Call false ∷ Halt ∷ []
@@ -60,12 +62,12 @@ pub is_built : has_built_code (program_code closed templates) ≡ true
 unfolding built_count
 is_built = refl
 
-pub words_built : refers (template_rows closed.words (word_names closed.words) 0 templates) (program_words closed templates) (program_texts closed templates) (program_code closed templates) 14 ≡ true
+pub words_built : refers [] (template_rows closed.words (word_names closed.words) 0 templates) (program_words closed templates) (program_texts closed templates) (program_code closed templates) 14 ≡ true
 unfolding built_count
 words_built = refl
 
 abbrev image : Image
-image = record { templates = template_rows closed.words (word_names closed.words) 0 templates; words = program_words closed templates; texts = program_texts closed templates; code = program_code closed templates; start = 14; built = is_built; refers = words_built }
+image = record { arrays = []; templates = template_rows closed.words (word_names closed.words) 0 templates; words = program_words closed templates; texts = program_texts closed templates; code = program_code closed templates; start = 14; built = is_built; refers = words_built }
 
 -- the stack and the ticks left where it is done
 abbrev ended : Option End → Option (List MValue × ℕ)
@@ -73,7 +75,7 @@ ended (Some (done s n)) = Some (s.stack, n)
 ended _ = None
 
 -- 1 4 [ 2 [ 3 ] call + ] call, with the ticks of `w`, `dip` and what `compose` made
-pub ends_so : ended (steps image (names closed) 40 (starting image []) 20) ≡ Some (m_plain (int (pos 5)) ∷ m_plain (int (pos 4)) ∷ m_plain (int (pos 1)) ∷ [], 5)
+pub ends_so : ended (steps image (names closed) 40 (starting image [] (first_world image [])) 20) ≡ Some (m_plain (int (pos 5)) ∷ m_plain (int (pos 4)) ∷ m_plain (int (pos 1)) ∷ [], 5)
 unfolding prim_fn prim_numbered
 ends_so = refl
 
@@ -123,3 +125,22 @@ written_texts = refl
 
 written_rows : program_words written [] ≡ record { name = 0; action = itself_action } ∷ record { name = 1; action = code_action 0 } ∷ []
 written_rows = refl
+
+-- A literal array, closed: `{ { t } 1 "b" [ .. ] red }`, whose quotation is template 0. Its string is a text behind those of the code.
+abbrev boxed : Program
+boxed =
+    record {
+      words = record (named itself) { name = record { vocab = []; name = codes "red" } } ∷ named (body (items (lit (str (codes "a")) ∷ lit_arr 1 ∷ []))) ∷ [];
+      arrays = (l_yes ∷ []) ∷ (l_arr 0 ∷ l_int (pos 1) ∷ l_str (codes "b") ∷ l_made 0 ∷ l_word 0 ∷ []) ∷ [];
+      classes = [];
+      top = 1;
+    }
+
+boxed_code : program_code boxed [] ≡ Text 2 ∷ Array 1 ∷ Halt ∷ []
+boxed_code = refl
+
+boxed_arrays : arrays_of (program_texts boxed []) boxed.arrays ≡ (elem.True ∷ []) ∷ (elem.Array 0 ∷ elem.Int (pos 1) ∷ elem.Text 3 ∷ elem.Template 0 ∷ elem.Word 0 ∷ []) ∷ []
+boxed_arrays = refl
+
+boxed_texts : arrays_texts (program_texts boxed []) boxed.arrays ≡ codes "red" ∷ [] ∷ codes "a" ∷ codes "b" ∷ []
+boxed_texts = refl

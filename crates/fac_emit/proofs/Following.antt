@@ -18,7 +18,7 @@ use Rattle.fac_code.specs.declared.image.Instr.TheVariants.{Ret}
 use Rattle.fac_code.specs.declared.image.Image.{Image}
 use Rattle.fac_code.specs.declared.image.TemplateRow.{TemplateRow}
 use Rattle.fac_code.specs.WordNames.{image_names}
-use Rattle.fac_prim.specs.MachineValues.{MValue, Kept, kept_list, with_names}
+use Rattle.fac_store.specs.MachineValues.{MValue, Kept, kept_list, with_names}
 use Rattle.fac_vm.specs.Machine.{Machine, Leads, Entry, resume, put_back, enter, failed, spent, Step, goes_on, ends, fetched, step, Ends}
 use Rattle.fac_vm.proofs.Leading.{leads_on, leads_step, ends_after, ends_step}
 use Rattle.fac_emit.specs.MachineView.{Templates, world_view, state_view, error_view}

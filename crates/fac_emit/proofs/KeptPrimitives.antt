@@ -9,7 +9,7 @@ use Rattle.fac_lang.specs.Printed.{Names, printed}
 use Rattle.fac_lang.specs.Procedures.{Procedure, leaves, answers, answers_array, answers_tuple, curries, composes, fails, looks, adds, opens, puts, compares, prints, asks, writes, reads, Gives, line_in, behind_line, places_from, picked, repeated, value_at, array_in, opened, opened_places, with_element, made_or, followed, by_inputs}
 use Rattle.fac_lang.specs.Primitives.{Primitive, prim_fn}
 use Rattle.fac_code.specs.declared.image.Image.{Image}
-use Rattle.fac_prim.specs.MachineValues.{MValue, m_plain, m_fun, m_seen, m_curry, m_compose, machine_values}
+use Rattle.fac_store.specs.MachineValues.{MValue, m_plain, m_fun, m_seen, m_curry, m_compose, machine_values}
 use Rattle.fac_emit.specs.WholeValues.{Whole, AllWhole, WholeObject, WholeObjects, WholeGives, Keeps}
 
 module _ (M : Image) where
@@ -45,7 +45,7 @@ module _ (M : Image) where
   set_whole (x ∷ vs) (suc k) v h g = (h.0, set_whole vs k v h.1 g)
 
   -- objects
-  object_added : (os : List (Object MValue)) (o : Object MValue) → WholeObjects M os → WholeObject M o → WholeObjects M (os ++ o ∷ [])
+  pub object_added : (os : List (Object MValue)) (o : Object MValue) → WholeObjects M os → WholeObject M o → WholeObjects M (os ++ o ∷ [])
   object_added [] o h g = (g, tt)
   object_added (x ∷ os) o h g = (h.0, object_added os o h.1 g)
 

@@ -10,10 +10,11 @@ use Rattle.fac_lang.specs.Meaning.{names}
 use Rattle.fac_locals.specs.Closed.{Closes, CloseWords}
 use Rattle.fac_code.specs.declared.image.Image.{Image}
 use Rattle.fac_code.specs.declared.image.WordRow.{WordRow}
-use Rattle.fac_code.specs.WordNames.{or_empty, texts_at, row_names, image_names}
-use Rattle.fac_prim.specs.MachineValues.{with_names}
-use Rattle.fac_emit.specs.ProgramCode.{sort_texts, templates_code, templates_texts, program_texts, word_names, word_code, words_from, IsPlain}
-use Rattle.fac_emit.proofs.TextLists.{Begins, begins_on, templates_behind, words_behind, front_there}
+use Rattle.fac_lang.specs.Printed.{or_empty}
+use Rattle.fac_code.specs.WordNames.{texts_at, row_names, image_names}
+use Rattle.fac_store.specs.MachineValues.{with_names}
+use Rattle.fac_emit.specs.ProgramCode.{sort_texts, templates_code, templates_texts, program_texts, word_names, word_code, words_from, arrays_texts, IsPlain}
+use Rattle.fac_emit.proofs.TextLists.{Begins, begins_on, templates_behind, words_behind, arrays_behind, front_there}
 
 -- rows that are named by the numbers of their words
 rows_named : (words : List WordDef) (top : ℕ) (pool texts : List (List ℕ)) (at w : ℕ) (ds : List WordDef) → ((k : ℕ) (d : WordDef) → slice_get ds k ≡ Some d → slice_get pool (w + k) ≡ Some d.name.name) → texts_at pool (row_names (words_from words top texts at w ds)) ≡ word_names ds
@@ -42,7 +43,7 @@ pub image_named_so : (P C : Program) (templates : List Template) (M : Image) →
 image_named_so P C templates M closes is_plain =
     let first = word_names C.words in
     let texts = templates_texts first templates in
-    let begins : Begins first M.texts = rw is_plain.texts (begins_on first texts (program_texts C templates) (templates_behind first templates) (words_behind texts C.words)) in
+    let begins : Begins first M.texts = rw is_plain.texts (begins_on first (program_texts C templates) (arrays_texts (program_texts C templates) C.arrays) (begins_on first texts (program_texts C templates) (templates_behind first templates) (words_behind texts C.words)) (arrays_behind (program_texts C templates) C.arrays)) in
     let there : (k : ℕ) (d : WordDef) → slice_get C.words k ≡ Some d → slice_get M.texts (0 + k) ≡ Some d.name.name =
     λ k d e. let n : 0 + k ≡ k = omega arith in ap (slice_get M.texts) n ∙ front_there first M.texts k d.name.name begins (slice_get-map (λ (d : WordDef). d.name.name) C.words k ∙ ap (option_map (λ (d : WordDef). d.name.name)) e) in
     ap (λ (rs : List WordRow). texts_at M.texts (row_names rs)) is_plain.word_rows_are ∙ rows_named C.words C.top M.texts texts (length (templates_code C.words first templates)) 0 C.words there ∙ same_names P 0 P.words C.words closes.words

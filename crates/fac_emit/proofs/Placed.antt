@@ -16,19 +16,19 @@ use Rattle.fac_locals.specs.Closed.{Closes, ClosesSort}
 use Rattle.fac_locals.proofs.Places.{literal_built}
 use Rattle.fac_locals.proofs.Lookups.{word_closed, template_closed, template_closed_none, templates_count}
 use Rattle.fac_code.specs.declared.image.Instr.{Instr}
-use Rattle.fac_code.specs.declared.image.Instr.TheVariants.{Halt, Int, True, False, Text, Word, Quot, Ret}
+use Rattle.fac_code.specs.declared.image.Instr.TheVariants.{Halt, Int, True, False, Text, Array, Word, Quot, Ret}
 use Rattle.fac_code.specs.declared.image.Action.TheVariants.{Code as code_action}
 use Rattle.fac_code.specs.declared.image.Image.{Image}
 use Rattle.fac_code.specs.declared.image.TemplateRow.{TemplateRow}
 use Rattle.fac_code.specs.declared.image.WordRow.{WordRow}
-use Rattle.fac_prim.specs.MachineValues.{MValue, kept_list, cells_at}
+use Rattle.fac_store.specs.MachineValues.{MValue, kept_list, cells_at}
 use Rattle.fac_vm.specs.Machine.{word_of_prim}
 use Rattle.fac_emit.specs.MachineView.{template_phrases}
 use Rattle.fac_emit.specs.ProgramCode.{core_instr, sort_instr, word_instr, item_instr, phrase_code, phrase_texts, templates_code, templates_texts, row_at, template_rows, last_instr, sort_action, sort_code, sort_texts, words_texts, word_names, word_code, code_from, words_from, program_code, program_texts, program_words, IsPlain}
-use Rattle.fac_emit.specs.Stands.{l_word, l_call, l_if, Translates, t_int, t_true, t_false, t_text, t_reference, t_symbol, t_quot, t_prim, t_dip, t_calling, Stands, s_end, s_item, Coded}
-use Rattle.fac_emit.proofs.TextLists.{Begins, begins_same, begins_on, templates_behind, words_behind, text_there}
+use Rattle.fac_emit.specs.Stands.{l_word, l_call, l_if, Translates, t_int, t_true, t_false, t_text, t_array, t_reference, t_symbol, t_quot, t_prim, t_dip, t_calling, Stands, s_end, s_item, Coded}
+use Rattle.fac_emit.proofs.TextLists.{Begins, begins_same, begins_on, templates_behind, words_behind, arrays_behind, text_there}
 use Rattle.fac_emit.proofs.LiteralWords.{in_a_word, is_listed}
-use Rattle.fac_emit.proofs.Closings.{drop_behind, get_at, Closing, c_end, c_int, c_true, c_false, c_text, c_ref, c_word, c_quot, closing, same_primitives}
+use Rattle.fac_emit.proofs.Closings.{drop_behind, get_at, Closing, c_end, c_int, c_true, c_false, c_text, c_array, c_ref, c_word, c_quot, closing, same_primitives}
 use Rattle.fac_lang.proofs.FormsLemmas.{word_below, sort_at, top_word, phrase_of_top, all_distinct}
 use Rattle.fac_emit.proofs.FirstWords.{first_with}
 
@@ -145,11 +145,11 @@ module _ (P C : Program) (templates : List Template) (b : IsBuilt P) (closes : C
   pub literal_of : (q : ℕ) (t : Template) → slice_get templates q ≡ Some t → (literal_numbered P q).0.word < length P.words
   literal_of q t e = let found = get_other templates (literals P) q t (templates_count P C templates closes) e in subst (λ (l : Quoted). l.0.word < length P.words) (sym (ap (literal_or P q) found.1)) (in_a_word P q found.0 found.1)
 
-  module _ (code : List Instr) (pool : List (List ℕ)) (rows : List TemplateRow) (code_is : code ≡ program_code C templates) (pool_is : pool ≡ program_texts C templates) (rows_are : rows ≡ template_rows C.words (word_names C.words) 0 templates) where
+  module _ (code : List Instr) (pool : List (List ℕ)) (rows : List TemplateRow) (code_is : code ≡ program_code C templates) (pool_begins : Begins (program_texts C templates) pool) (rows_are : rows ≡ template_rows C.words (word_names C.words) 0 templates) where
     pub all_rows : Rows C.words code pool rows templates
     all_rows =
         let texts = templates_texts (word_names C.words) templates in
-        let begins : Begins texts pool = rw pool_is (words_behind texts C.words) in
+        let begins : Begins texts pool = begins_on texts (program_texts C templates) pool (words_behind texts C.words) pool_begins in
         subst (λ (rs : List TemplateRow). Rows C.words code pool rs templates) (sym rows_are) (rows_placed C.words code pool (word_names C.words) 0 templates (code_from C.words C.top texts 0 C.words) begins code_is)
 
     -- the row of the template that makes a quotation
@@ -166,11 +166,18 @@ module _ (P C : Program) (templates : List Template) (b : IsBuilt P) (closes : C
         let closed = template_closed P C templates closes q t e in
         record { row = found.row; there = found.there; cells = ap (λ (r : TemplateRow). r.cells) found.of.row ∙ closed.captures; holes = ap (λ (r : TemplateRow). r.holes) found.of.row ∙ closed.holes }
 
+    -- and of each quotation that is listed
+    pub listed_row : (q : ℕ) (l : Quoted) → slice_get (literals P) q ≡ Some l → RowFor q
+    listed_row q l listed = row_or q l (slice_get templates q) listed refl
+
     pub quotation_row : (q : ℕ) (l : Quoted) → l.0.word < length P.words → literal_numbered P q ≡ l → RowFor q
     quotation_row q l lt e = row_or q l (slice_get templates q) (is_listed P q l lt e) refl
 
 -- A plain image of a closed program that stands for a built one.
 module _ (P C : Program) (templates : List Template) (M : Image) (b : IsBuilt P) (closes : Closes P C templates) (is_plain : IsPlain C templates M) where
+  pub texts_begin : Begins (program_texts C templates) M.texts
+  texts_begin = rw is_plain.texts (arrays_behind (program_texts C templates) C.arrays)
+
   -- the item of a word
   first_word : (w k : ℕ) (c : WordDef) → slice_get C.words w ≡ Some c → c.sort ≡ prim_sort k → word_of_prim k 0 M.words ≡ w
   first_word w k c at is =
@@ -213,7 +220,7 @@ module _ (P C : Program) (templates : List Template) (M : Image) (b : IsBuilt P)
   quotation_translates : (F : List MValue) (q : ℕ) (at : Literal) (u : Phrase) → at.word < length P.words → (let l : Quoted = (at, u) in literal_numbered P q ≡ l) → Translates P M (template_phrases P) F (quot u) (Quot q)
   unfolding template_phrases
   quotation_translates F q at u lt e =
-      let found = quotation_row P C templates b closes M.code M.texts M.templates is_plain.code is_plain.texts is_plain.template_rows_are q (at, u) lt e in
+      let found = quotation_row P C templates b closes M.code M.texts M.templates is_plain.code texts_begin is_plain.template_rows_are q (at, u) lt e in
       let none : cells_at found.row.cells F ≡ Some [] = ap (λ (ks : List ℕ). cells_at ks F) found.cells in
       subst (λ (t : Phrase). Translates P M (template_phrases P) F (quot t) (Quot q)) (ap (λ (l : Quoted). l.1) e) (t_quot q found.row [] found.there found.holes none)
 
@@ -233,6 +240,8 @@ module _ (P C : Program) (templates : List Template) (M : Image) (b : IsBuilt P)
       let x = Text (length texts) in
       let next = texts ++ cs ∷ [] in
       let found = code_at M.code pc x (phrase_code C.words last next c' ++ more) e in s_item x found.0 (t_text cs (length texts) (text_there texts M.texts cs c' b)) (phrase_stands last F (pc + 1) _ next _ c' more h lt b found.1)
+  phrase_stands last F pc at texts t c more (c_array {c = c'} a h) lt b e =
+      let found = code_at M.code pc (Array a) (phrase_code C.words last texts c' ++ more) e in s_item (Array a) found.0 (t_array a) (phrase_stands last F (pc + 1) _ texts _ c' more h lt b found.1)
   phrase_stands last F pc at texts t c more (c_ref {c = c'} w below h) lt b e =
       let there = row_there w below in
       let found = code_at M.code pc (Word w) (phrase_code C.words last texts c' ++ more) e in s_item (Word w) found.0 (t_reference w there.0 there.1) (phrase_stands last F (pc + 1) _ texts _ c' more h lt b found.1)
@@ -248,7 +257,7 @@ module _ (P C : Program) (templates : List Template) (M : Image) (b : IsBuilt P)
   body_stands w d t is_top which at is lt built =
       let closed = word_closed P C templates closes w d at in
       let sort = subst (λ (s : Sort). ClosesSort P w s closed.closed.sort) is closed.closes.sort in
-      let begins : Begins (program_texts C templates) M.texts = rw is_plain.texts (begins_same (program_texts C templates)) in
+      let begins = texts_begin in
       let put = placed C.words C.top M.code M.texts (templates_texts (word_names C.words) templates) (length (templates_code C.words (word_names C.words) templates)) 0 C.words w closed.closed begins (behind_templates C templates M.code is_plain.code) closed.at in
       let number : 0 + w ≡ w = omega arith in
       let own = phrase_code C.words (last_instr is_top) put.texts sort.0 in
@@ -264,7 +273,7 @@ module _ (P C : Program) (templates : List Template) (M : Image) (b : IsBuilt P)
   template_stands : (q : ℕ) (r : TemplateRow) (F : List MValue) → slice_get M.templates q ≡ Some r → Stands P M (template_phrases P) Ret F r.entry (template_phrases P q)
   unfolding template_phrases
   template_stands q r F e =
-      let found = template_at C.words M.code M.texts M.templates templates q r (all_rows P C templates b closes M.code M.texts M.templates is_plain.code is_plain.texts is_plain.template_rows_are) e in
+      let found = template_at C.words M.code M.texts M.templates templates q r (all_rows P C templates b closes M.code M.texts M.templates is_plain.code texts_begin is_plain.template_rows_are) e in
       let l = literal_numbered P q in
       let closed = template_closed P C templates closes q found.template found.there in
       let entry : found.of.at ≡ r.entry = sym (ap (λ (r : TemplateRow). r.entry) found.of.row) in

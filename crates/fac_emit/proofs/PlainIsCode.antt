@@ -9,11 +9,11 @@ use Rattle.fac_lang.specs.Primitives.{Primitive, prim_numbered, is_built_primiti
 use Rattle.fac_code.specs.declared.image.Instr.{Instr}
 use Rattle.fac_code.specs.declared.image.Instr.TheVariants.{Ret}
 use Rattle.fac_code.specs.declared.image.Image.{Image}
-use Rattle.fac_prim.specs.MachineValues.{MValue}
+use Rattle.fac_store.specs.MachineValues.{MValue}
 use Rattle.fac_emit.specs.MachineView.{Templates, template_phrases}
 use Rattle.fac_emit.specs.Symbols.{Sym, here, Task, do_phrase, top_none, Needs, needs_none, needs_more, heres, AllHere, all_none, all_more, ins, outs, Special}
-use Rattle.fac_emit.specs.Expanded.{Code, c_last, c_make, c_trim, c_end, c_off, c_int, c_true, c_false, c_text, c_reference, c_symbol, c_prim, c_word, c_call, c_dip, c_if, EachCalled, ExpandedCode}
-use Rattle.fac_emit.specs.Stands.{Calling, l_word, l_call, l_if, Translates, t_int, t_true, t_false, t_text, t_reference, t_symbol, t_quot, t_prim, t_dip, t_calling, Stands, s_end, s_item, Coded, PlainCode}
+use Rattle.fac_emit.specs.Expanded.{Code, c_last, c_make, c_trim, c_end, c_off, c_int, c_true, c_false, c_text, c_array, c_reference, c_symbol, c_prim, c_word, c_call, c_dip, c_if, EachCalled, ExpandedCode}
+use Rattle.fac_emit.specs.Stands.{Calling, l_word, l_call, l_if, Translates, t_int, t_true, t_false, t_text, t_array, t_reference, t_symbol, t_quot, t_prim, t_dip, t_calling, Stands, s_end, s_item, Coded, PlainCode}
 
 needs_any : (n : ℕ) → Needs n [] []
 needs_any zero = needs_none
@@ -47,6 +47,7 @@ module _ (P : Program) (M : Image) (T : Templates) where
   item_code Γ last F i x p t K pc e t_true rest = c_true e (rest (here ∷ []) (all_more all_none))
   item_code Γ last F i x p t K pc e t_false rest = c_false e (rest (here ∷ []) (all_more all_none))
   item_code Γ last F i x p t K pc e (t_text cs k ek) rest = c_text cs k e ek (rest (here ∷ []) (all_more all_none))
+  item_code Γ last F i x p t K pc e (t_array a) rest = c_array a e (rest (here ∷ []) (all_more all_none))
   item_code Γ last F i x p t K pc e (t_reference w r ew) rest = c_reference w r e ew (rest (here ∷ []) (all_more all_none))
   item_code Γ last F i x p t K pc e (t_symbol w r es ew) rest = c_symbol w r es e ew (rest (here ∷ []) (all_more all_none))
   item_code Γ last F i x p t K pc e (t_quot q r vs et eh ec) rest = c_off (c_make q r vs e et eh ec (rest (here ∷ []) (all_more all_none)))

@@ -12,7 +12,7 @@ use Rattle.fac_lang.specs.Printed.{Names, shown_object, shown, printed}
 use Rattle.fac_lang.specs.Procedures.{Procedure, leaves, answers, answers_array, answers_tuple, curries, composes, fails, looks, adds, opens, puts, compares, prints, asks, writes, reads, Gives, gives, bad, Fn, fn0, fn1, fn2, fn3, line_in, behind_line, places_from, or_else, picked, repeated, value_at, value_if, array_in, opened, opened_places, with_element, made_or, followed, by_inputs}
 use Rattle.fac_lang.specs.Primitives.{Primitive, prim_fn}
 use Rattle.fac_lang.specs.Meaning.{meaning_values, seen, curry_of, compose_of}
-use Rattle.fac_prim.specs.MachineValues.{MValue, m_plain, m_fun, m_seen, m_curry, m_compose, machine_values}
+use Rattle.fac_store.specs.MachineValues.{MValue, m_plain, m_fun, m_seen, m_curry, m_compose, machine_values}
 use Rattle.fac_prim.proofs.ShuffleLemmas.{map_or, map_picked}
 use Rattle.fac_emit.specs.MachineView.{Templates, value_view, values_view, object_view, world_view, option_view, gives_view}
 

@@ -13,18 +13,18 @@ use Rattle.fac_code.specs.declared.image.Action.TheVariants.{Code as code_action
 use Rattle.fac_code.specs.declared.image.Image.{Image}
 use Rattle.fac_code.specs.declared.image.WordRow.{WordRow}
 use Rattle.fac_code.specs.declared.names.TrapWhy.TheVariants.{Kind as t_kind}
-use Rattle.fac_prim.specs.MachineValues.{MValue, m_plain, kept_list}
+use Rattle.fac_store.specs.MachineValues.{MValue, m_plain, kept_list}
 use Rattle.fac_vm.specs.Machine.{Machine, Entry, resume, End, done, failed, spent, goes_on, or_trap, code_of, fetched, Ends}
 use Rattle.fac_vm.proofs.Leading.{ends_after, ends_step}
 use Rattle.fac_emit.specs.MachineView.{Templates, values_view, world_view, state_view}
 use Rattle.fac_emit.specs.Carries.{SameEnd}
 use Rattle.fac_emit.specs.WholeValues as whole
 use Rattle.fac_emit.specs.Symbols.{Sym, here, off, k_phrase, Task, do_phrase, heres, AllHere, outs, Special}
-use Rattle.fac_emit.specs.Expanded.{Code, c_last, c_make, c_trim, c_end, c_off, c_int, c_true, c_false, c_text, c_reference, c_symbol, c_prim, c_word, c_call, c_dip, c_if, EachCalled}
+use Rattle.fac_emit.specs.Expanded.{Code, c_last, c_make, c_trim, c_end, c_off, c_int, c_true, c_false, c_text, c_array, c_reference, c_symbol, c_prim, c_word, c_call, c_dip, c_if, EachCalled}
 use Rattle.fac_emit.proofs.RunLaws.{free}
 use Rattle.fac_emit.proofs.SymbolicStacks.{l_phrase, Lies, lies_none, keeps_none, keeps_phrase, all_here}
 use Rattle.fac_emit.proofs.Following.{Setting, state, at, left, Follows, fetch, Live, LivePhrase, Go, CallsTo, Templated, Valid}
-use Rattle.fac_emit.proofs.CaseLemmas.{g_call, g_called, g_dip, g_end, g_if, g_last, g_make, g_off, g_prim, g_push, g_trim}
+use Rattle.fac_emit.proofs.CaseLemmas.{g_array, g_call, g_called, g_dip, g_end, g_if, g_last, g_make, g_off, g_prim, g_push, g_trim}
 
 module _ (Y : Setting) where
   -- short names of what a setting has, as in Following: names under a module's argument aren't handed on without it
@@ -103,6 +103,7 @@ module _ (Y : Setting) where
       (main f below each tpl Γ last F zero (here ∷ S) (do_phrase t ∷ K1) (pc + 1) c v)
   main f below each tpl Γ last F d S K pc (c_text {p = p} {t = t} {K = K1} cs k e ek c) v = g_push Y f F last (lit (str cs)) p t S K1 pc (Text k) (m_plain (str cs)) tt e (λ s. refl) (text_goes F pc k cs ek) (λ st. refl)
       (main f below each tpl Γ last F zero (here ∷ S) (do_phrase t ∷ K1) (pc + 1) c v)
+  main f below each tpl Γ last F d S K pc (c_array {p = p} {t = t} {K = K1} a e c) v = g_array Y f F last a p t S K1 pc e (main f below each tpl Γ last F zero (here ∷ S) (do_phrase t ∷ K1) (pc + 1) c v)
   main f below each tpl Γ last F d S K pc (c_reference {p = p} {t = t} {K = K1} wd r e er c) v = g_push Y f F last (lit (wrd wd)) p t S K1 pc (Word wd) (m_plain (wrd wd)) tt e (λ s. refl) (push_goes F pc wd r er) (λ st. refl)
       (main f below each tpl Γ last F zero (here ∷ S) (do_phrase t ∷ K1) (pc + 1) c v)
   main f below each tpl Γ last F d S K pc (c_symbol {p = p} {t = t} {K = K1} wd r es e er c) v = g_push Y f F last (word wd) p t S K1 pc (Word wd) (m_plain (wrd wd)) tt e (λ s. refl) (push_goes F pc wd r er) (λ st. ap (λ (o : Option Sort). sort_act P wd o st) es)

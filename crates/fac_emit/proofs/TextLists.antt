@@ -3,13 +3,15 @@ use Rattle.std.proofs.Common.{◌≡◌, ◌≤◌, ℕ, List, [], ◌∷◌, �
 use Rattle.std.specs.Prelude.{length, slice_get}
 use Rattle.std.proofs.lemmas.List.{append-nil}
 use Rattle.fac_lang.specs.declared.phrase.Template.{Template}
+use Rattle.fac_lang.specs.declared.program.Lit.{Lit}
+use Rattle.fac_lang.specs.declared.program.Lit.TheVariants.{Str as l_str}
 use Rattle.fac_lang.specs.declared.program.WordDef.{WordDef}
 use Rattle.fac_lang.specs.declared.program.Sort.{Sort}
 use Rattle.fac_lang.specs.declared.program.Sort.TheVariants.{Body as body}
 use Rattle.fac_lang.specs.Phrases.{str, Phrase, end, then, Item, lit}
-use Rattle.fac_prim.proofs.ValueTreeLemmas.{get_behind}
+use Rattle.fac_store.proofs.ValueTreeLemmas.{get_behind}
 use Rattle.fac_vm.proofs.ActLemmas.{get_front}
-use Rattle.fac_emit.specs.ProgramCode.{with_text, phrase_texts, templates_texts, sort_texts, words_texts}
+use Rattle.fac_emit.specs.ProgramCode.{with_text, phrase_texts, templates_texts, sort_texts, words_texts, with_element_text, elements_texts, arrays_texts}
 
 -- a list that begins so
 abbrev pub Begins : List (List ℕ) → List (List ℕ) → Type 0
@@ -41,6 +43,18 @@ pub words_behind : (texts : List (List ℕ)) (ds : List WordDef) → Begins text
 words_behind texts [] = begins_same texts
 words_behind texts (d ∷ ds) = let next = sort_texts texts d.sort in begins_on texts next (words_texts next ds) (sort_behind texts d.sort) (words_behind next ds)
 
+element_behind : (texts : List (List ℕ)) (l : Lit) → Begins texts (with_element_text texts l)
+element_behind texts (l_str bs) = (bs ∷ [], refl)
+element_behind texts _ = begins_same texts
+
+pub elements_behind : (texts : List (List ℕ)) (ls : List Lit) → Begins texts (elements_texts texts ls)
+elements_behind texts [] = begins_same texts
+elements_behind texts (l ∷ ls) = let next = with_element_text texts l in begins_on texts next (elements_texts next ls) (element_behind texts l) (elements_behind next ls)
+
+pub arrays_behind : (texts : List (List ℕ)) (lss : List (List Lit)) → Begins texts (arrays_texts texts lss)
+arrays_behind texts [] = begins_same texts
+arrays_behind texts (ls ∷ lss) = let next = elements_texts texts ls in begins_on texts next (arrays_texts next lss) (elements_behind texts ls) (arrays_behind next lss)
+
 -- so a string's text is there, with the number of the texts before it
 pub text_there : (texts pool : List (List ℕ)) (cs : List ℕ) (c : Phrase) → Begins (phrase_texts (texts ++ cs ∷ []) c) pool → slice_get pool (length texts) ≡ Some cs
 text_there texts pool cs c h =
@@ -52,3 +66,8 @@ front_there xs pool k cs h e = rw h.1 (get_front xs h.0 k cs e)
 
 pub begins_length : (xs pool : List (List ℕ)) → Begins xs pool → length xs ≤ length pool
 begins_length xs pool h = rw (h.1, length-append) (omega arith)
+
+-- and that of a string in an array
+pub element_there : (texts pool : List (List ℕ)) (cs : List ℕ) (ls : List Lit) → Begins (elements_texts (texts ++ cs ∷ []) ls) pool → slice_get pool (length texts) ≡ Some cs
+element_there texts pool cs ls h =
+    let all = begins_on (texts ++ cs ∷ []) (elements_texts (texts ++ cs ∷ []) ls) pool (elements_behind (texts ++ cs ∷ []) ls) h in rw (all.1 ∙ append_assoc texts (cs ∷ []) all.0) (get_behind texts cs all.0)

@@ -4,7 +4,7 @@ use Rattle.std.specs.Prelude.{slice_get}
 use Rattle.fac_lang.specs.World.{pile}
 use Rattle.fac_code.specs.declared.image.Image.{Image}
 use Rattle.fac_code.specs.declared.image.TemplateRow.{TemplateRow}
-use Rattle.fac_prim.specs.MachineValues.{MValue, m_fun, MCallable, m_lit, Kept, none_kept, kept, kept_list, keep_list, cells_at, with_first}
+use Rattle.fac_store.specs.MachineValues.{MValue, m_fun, MCallable, m_lit, Kept, none_kept, kept, kept_list, keep_list, cells_at, with_first}
 use Rattle.fac_vm.specs.Machine.{branch}
 use Rattle.fac_emit.specs.WholeValues as whole
 

@@ -3,15 +3,15 @@ use Rattle.std.specs.Prelude.{◌≡◌, ℕ, List, length, Option, Bool}
 use Rattle.fac_lang.specs.declared.phrase.Height.{Height}
 use Rattle.fac_lang.specs.declared.program.Program.{Program}
 use Rattle.fac_lang.specs.Phrases.{Value, Callable}
-use Rattle.fac_lang.specs.World.{State}
+use Rattle.fac_lang.specs.World.{World}
 use Rattle.fac_lang.specs.Eval.{Result, Done, Failed, Spent}
 use Rattle.fac_lang.specs.Meaning.{run, start, word_phrase, names}
 use Rattle.fac_lang.specs.RunningLaws.{IsNotStuck}
 use Rattle.fac_code.specs.declared.image.Image.{Image}
-use Rattle.fac_prim.specs.MachineValues.{MValue}
-use Rattle.fac_vm.specs.Machine.{Machine, End, done, failed, spent, Ends, starting, empty_world}
+use Rattle.fac_store.specs.MachineValues.{MValue}
+use Rattle.fac_vm.specs.Machine.{Machine, End, done, failed, spent, Ends, starting, first_world}
 use Rattle.fac_emit.specs.MachineView.{Templates, template_phrases, values_view, state_view, world_view, error_view}
-use Rattle.fac_emit.specs.WholeValues.{AllWhole}
+use Rattle.fac_emit.specs.WholeValues.{AllWhole, WholeObjects}
 
 -- The same end, where T has the phrases of the templates. A stuck run and a trap are the same as nothing.
 abbrev pub SameEnd : Templates → Result → End → Type 0
@@ -20,26 +20,21 @@ SameEnd T (Failed e st m) (failed x s left) = (error_view T x ≡ e) × (world_v
 SameEnd T (Spent st i) (spent s) = world_view T s.world ≡ st.world
 SameEnd T _ _ = ⊥
 
--- the state before the first item, from these values and with this input
-abbrev pub state_before : Program → List Value → List ℕ → State Value
-state_before P values input = record { stack = values; world = (start P input).world }
-
--- the machine before its first instruction, likewise
-abbrev pub machine_before : Image → List MValue → List ℕ → Machine
-machine_before M stack input = record (starting M stack) { world = record empty_world { input = input } }
-
--- what the top-level phrase comes to with n ticks
-abbrev pub top_run : Program → (Height → Height → Bool) → (Callable → Option Height) → List Value → List ℕ → ℕ → Result
-top_run P fits callable_height values input n = run P fits callable_height n (word_phrase P P.top) (state_before P values input)
+-- what the top-level phrase comes to with n ticks, from these values in this world
+abbrev pub top_run : Program → (Height → Height → Bool) → (Callable → Option Height) → List Value → World Value → ℕ → Result
+top_run P fits callable_height values w n = run P fits callable_height n (word_phrase P P.top) (record { stack = values; world = w })
 
 -- a run that is stuck at no budget
 abbrev pub IsNeverStuck : (ℕ → Result) → Type 0
 IsNeverStuck go = (m : ℕ) → IsNotStuck (go m)
 
--- With this test of effects, from every list of so many values whose callables are of the image's templates, with every input and at every
--- budget, where the top-level phrase is stuck at no budget from the values for which these stand: the machine ends as that phrase does. Done:
--- with the same stack and ticks. Failed: with the same error and ticks. Spent too: with the same objects, output and input left.
 pub record Carries (P : Program) (fits : Height → Height → Bool) (callable_height : Callable → Option Height) (count : ℕ) (M : Image) : Type 0 where
+  -- With this test of effects, from every list of so many values and in every world, whose callables are of the image's templates, and at every
+  -- budget, where the top-level phrase is stuck at no budget from the values and in the world for which these stand: the machine ends as that phrase does. Done:
+  -- with the same stack and ticks. Failed: with the same error and ticks. Spent too: with the same objects, output and input left.
   pub same_end :
-      (stack : List MValue) (input : List ℕ) → length stack ≡ count → AllWhole M stack → IsNeverStuck (top_run P fits callable_height (values_view (template_phrases P) stack) input) →
-      (n : ℕ) → (e : End) × Ends M (names P) (machine_before M stack input) n e × SameEnd (template_phrases P) (top_run P fits callable_height (values_view (template_phrases P) stack) input n) e
+      (stack : List MValue) (w : World MValue) → length stack ≡ count → AllWhole M stack → WholeObjects M w.objects → IsNeverStuck (top_run P fits callable_height (values_view (template_phrases P) stack) (world_view (template_phrases P) w)) →
+      (n : ℕ) → (e : End) × Ends M (names P) (starting M stack w) n e × SameEnd (template_phrases P) (top_run P fits callable_height (values_view (template_phrases P) stack) (world_view (template_phrases P) w) n) e
+  -- The image's literal arrays, as they are made, stand for those of the program before its first item, and their callables are of the image's templates.
+  pub same_first : (input : List ℕ) → world_view (template_phrases P) (first_world M input) ≡ (start P input).world
+  pub first_whole : (input : List ℕ) → WholeObjects M (first_world M input).objects

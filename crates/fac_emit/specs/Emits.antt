@@ -4,13 +4,13 @@ use Rattle.fac_lang.specs.declared.phrase.Place.{Place}
 use Rattle.fac_lang.specs.declared.program.Program.{Program}
 use Rattle.fac_lang.specs.declared.program.Sort.{Sort}
 use Rattle.fac_lang.specs.declared.program.Sort.TheVariants.{Prim as prim_sort, Core as core_sort, Body as body, Itself as itself, Past as past, Method as method}
-use Rattle.fac_lang.specs.Phrases.{int, yes, no, str, wrd, Literal, Phrase, end, then, Item, lit, quot, word}
+use Rattle.fac_lang.specs.Phrases.{int, yes, no, str, wrd, Literal, Phrase, end, then, Item, lit, lit_arr, quot, word}
 use Rattle.fac_lang.specs.Primitives.{is_built_primitive}
 use Rattle.fac_lang.specs.Meaning.{sort_of, core_numbered, c_call, c_dip, c_if}
 use Rattle.fac_locals.specs.Literals.{first_of_word, first_of_literal, behind, literal_numbered}
 use Rattle.fac_locals.specs.Closed.{IsMadeBy}
 use Rattle.fac_code.specs.declared.image.Instr.{Instr}
-use Rattle.fac_code.specs.declared.image.Instr.TheVariants.{Int, True, False, Text, Word, Quot, Prim, Callw, Call, Dip, If, Ret}
+use Rattle.fac_code.specs.declared.image.Instr.TheVariants.{Int, True, False, Text, Array, Word, Quot, Prim, Callw, Call, Dip, If, Ret}
 use Rattle.fac_emit.specs.ProgramCode.{last_instr}
 
 -- a word of this sort isn't defined by a phrase
@@ -21,12 +21,13 @@ HasNoPhrase (method c g t) = ⊥
 HasNoPhrase _ = Unit {0}
 
 module _ (P : Program) (texts : List (List ℕ)) where
-  -- The instruction of an item that stands here, among these texts. A string is one of them; a quotation is made by the template of its literal; a primitive and a core word are done in place, a word that is defined by a phrase is called, and a word as a value and a symbol are pushed.
+  -- The instruction of an item that stands here, among these texts. A string is one of them; a literal array has the number of the program's; a quotation is made by the template of its literal; a primitive and a core word are done in place, a word that is defined by a phrase is called, and a word as a value and a symbol are pushed.
   pub data ItemEmits (at : Literal) : Item → Instr → Type 0 where
     e_int : (z : ℤ) → ItemEmits at (lit (int z)) (Int z)
     e_true : ItemEmits at (lit yes) True
     e_false : ItemEmits at (lit no) False
     e_text : (cs : List ℕ) (k : ℕ) → slice_get texts k ≡ Some cs → ItemEmits at (lit (str cs)) (Text k)
+    e_array : (a : ℕ) → ItemEmits at (lit_arr a) (Array a)
     e_reference : (w : ℕ) → ItemEmits at (lit (wrd w)) (Word w)
     e_symbol : (w : ℕ) → sort_of P w ≡ Some itself → ItemEmits at (word w) (Word w)
     e_quot : (t : Phrase) (q : ℕ) → IsMadeBy P at t q → ItemEmits at (quot t) (Quot q)

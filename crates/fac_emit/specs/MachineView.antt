@@ -5,7 +5,7 @@ use Rattle.fac_lang.specs.Phrases.{Phrase, Value, plain, fun, Callable, of_phras
 use Rattle.fac_lang.specs.World.{Object, array, tuple, World, State, Error}
 use Rattle.fac_lang.specs.Procedures.{Gives, gives, bad}
 use Rattle.fac_locals.specs.Literals.{literal_numbered}
-use Rattle.fac_prim.specs.MachineValues.{MValue, m_plain, m_fun, MCallable, m_lit, m_cur, m_com}
+use Rattle.fac_store.specs.MachineValues.{MValue, m_plain, m_fun, MCallable, m_lit, m_cur, m_com}
 
 -- the phrase of each template
 abbrev pub Templates : Type 0

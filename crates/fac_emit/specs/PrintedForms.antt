@@ -3,7 +3,7 @@ use Rattle.std.specs.Prelude.{◌≡◌, List, map}
 use Rattle.fac_lang.specs.World.{World}
 use Rattle.fac_lang.specs.Printed.{Names, printed}
 use Rattle.fac_lang.specs.Meaning.{meaning_values}
-use Rattle.fac_prim.specs.MachineValues.{MValue, machine_values}
+use Rattle.fac_store.specs.MachineValues.{MValue, machine_values}
 use Rattle.fac_emit.specs.MachineView.{Templates, values_view, world_view}
 
 -- Whatever words and kinds are called and templates have as their phrases: values print as what they stand for.

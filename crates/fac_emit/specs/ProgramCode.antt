@@ -2,13 +2,17 @@
 -- their numbers, and behind it that of the words, by theirs. So the code of a word ends where that of the next one begins.
 use Rattle.std.specs.Prelude.{◌≡◌, ℕ, zero, suc, ◌+◌, List, [], ◌∷◌, ◌++◌, length, map, nat_eq, Bool, true, false, Option, Some, None, slice_get}
 use Rattle.fac_lang.specs.declared.phrase.Template.{Template}
+use Rattle.fac_lang.specs.declared.program.Lit.{Lit}
+use Rattle.fac_lang.specs.declared.program.Lit.TheVariants.{Int as l_int, True as l_yes, False as l_no, Str as l_str, Arr as l_arr, Wref as l_word, Quot as l_quot, Made as l_made}
 use Rattle.fac_lang.specs.declared.program.Program.{Program}
 use Rattle.fac_lang.specs.declared.program.WordDef.{WordDef}
 use Rattle.fac_lang.specs.declared.program.Sort.{Sort}
 use Rattle.fac_lang.specs.declared.program.Sort.TheVariants.{Prim as prim_sort, Core as core_sort, Body as body, Itself as itself}
-use Rattle.fac_lang.specs.Phrases.{int, yes, no, str, wrd, Phrase, end, then, Item, lit, word, made}
+use Rattle.fac_lang.specs.Phrases.{int, yes, no, str, wrd, Phrase, end, then, Item, lit, lit_arr, word, made}
+use Rattle.fac_code.specs.declared.image.Elem.{Elem}
+use Rattle.fac_code.specs.declared.image.Elem.TheVariants as elem
 use Rattle.fac_code.specs.declared.image.Instr.{Instr}
-use Rattle.fac_code.specs.declared.image.Instr.TheVariants.{Halt, Int, True, False, Text, Word, Quot, Prim, Callw, Call, Dip, If, Ret}
+use Rattle.fac_code.specs.declared.image.Instr.TheVariants.{Halt, Int, True, False, Text, Array, Word, Quot, Prim, Callw, Call, Dip, If, Ret}
 use Rattle.fac_code.specs.declared.image.Action.{Action}
 use Rattle.fac_code.specs.declared.image.Action.TheVariants.{Prim as prim_action, Core as core_action, Code as code_action, Itself as itself_action}
 use Rattle.fac_code.specs.declared.image.TemplateRow.{TemplateRow}
@@ -46,6 +50,7 @@ item_instr words k (lit yes) = True
 item_instr words k (lit no) = False
 item_instr words k (lit (str cs)) = Text k
 item_instr words k (lit (wrd w)) = Word w
+item_instr words k (lit_arr a) = Array a
 item_instr words k (word w) = word_instr w (slice_get words w)
 item_instr words k (made q) = Quot q
 item_instr words k _ = Halt
@@ -130,7 +135,7 @@ word_names ds = map (λ (d : WordDef). d.name.name) ds
 abbrev pub program_code : Program → List Template → List Instr
 program_code C ts = templates_code C.words (word_names C.words) ts ++ code_from C.words C.top (templates_texts (word_names C.words) ts) 0 C.words
 
--- all texts: the names of the words, and behind them those of the strings in the order of their instructions
+-- the texts of all code: the names of the words, and behind them those of the strings in the order of their instructions
 abbrev pub program_texts : Program → List Template → List (List ℕ)
 program_texts C ts = words_texts (templates_texts (word_names C.words) ts) C.words
 
@@ -138,11 +143,48 @@ program_texts C ts = words_texts (templates_texts (word_names C.words) ts) C.wor
 abbrev pub program_words : Program → List Template → List WordRow
 program_words C ts = words_from C.words C.top (templates_texts (word_names C.words) ts) (length (templates_code C.words (word_names C.words) ts)) 0 C.words
 
--- the image is the plain code of the closed program with these templates, with its texts, has a row for each template and each word under its number, and starts
+-- Literal arrays. Their strings are texts too, behind those of the code, in the order of the arrays and their elements.
+
+-- an element of a closed program's literal array in the image, where a string is the text with this number
+abbrev pub elem_of : ℕ → Lit → Elem
+elem_of k (l_int z) = elem.Int z
+elem_of k l_yes = elem.True
+elem_of k l_no = elem.False
+elem_of k (l_str bs) = elem.Text k
+elem_of k (l_arr a) = elem.Array a
+elem_of k (l_word w) = elem.Word w
+elem_of k (l_made q) = elem.Template q
+elem_of k (l_quot t) = elem.False
+
+-- the texts with that of an element, where it is a string
+abbrev pub with_element_text : List (List ℕ) → Lit → List (List ℕ)
+with_element_text texts (l_str bs) = texts ++ bs ∷ []
+with_element_text texts _ = texts
+
+-- the elements of an array behind these texts, and the texts behind them
+abbrev pub elems_of : List (List ℕ) → List Lit → List Elem
+elems_of texts [] = []
+elems_of texts (l ∷ ls) = elem_of (length texts) l ∷ elems_of (with_element_text texts l) ls
+
+abbrev pub elements_texts : List (List ℕ) → List Lit → List (List ℕ)
+elements_texts texts [] = texts
+elements_texts texts (l ∷ ls) = elements_texts (with_element_text texts l) ls
+
+-- arrays, and the texts behind them
+abbrev pub arrays_of : List (List ℕ) → List (List Lit) → List (List Elem)
+arrays_of texts [] = []
+arrays_of texts (ls ∷ lss) = elems_of texts ls ∷ arrays_of (elements_texts texts ls) lss
+
+abbrev pub arrays_texts : List (List ℕ) → List (List Lit) → List (List ℕ)
+arrays_texts texts [] = texts
+arrays_texts texts (ls ∷ lss) = arrays_texts (elements_texts texts ls) lss
+
+-- the image is the plain code of the closed program with these templates, with its literal arrays and texts, has a row for each template and each word under its number, and starts
 -- at the top-level phrase's place
 pub record IsPlain (C : Program) (templates : List Template) (M : Image) : Type 0 where
   pub code : M.code ≡ program_code C templates
-  pub texts : M.texts ≡ program_texts C templates
+  pub arrays : M.arrays ≡ arrays_of (program_texts C templates) C.arrays
+  pub texts : M.texts ≡ arrays_texts (program_texts C templates) C.arrays
   pub template_rows_are : M.templates ≡ template_rows C.words (word_names C.words) 0 templates
   pub word_rows_are : M.words ≡ program_words C templates
   pub begins : slice_get M.words C.top ≡ Some (record { name = C.top; action = code_action M.start })

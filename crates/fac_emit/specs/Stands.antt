@@ -4,16 +4,16 @@ use Rattle.std.specs.Prelude.{◌≡◌, ◌<◌, ◌+◌, ℕ, ℤ, List, [], l
 use Rattle.fac_lang.specs.declared.phrase.Place.{Place}
 use Rattle.fac_lang.specs.declared.program.Program.{Program}
 use Rattle.fac_lang.specs.declared.program.Sort.TheVariants.{Prim as prim_sort, Core as core_sort, Body as body, Itself as itself}
-use Rattle.fac_lang.specs.Phrases.{int, yes, no, str, wrd, Phrase, end, then, Item, lit, quot, word}
+use Rattle.fac_lang.specs.Phrases.{int, yes, no, str, wrd, Phrase, end, then, Item, lit, lit_arr, quot, word}
 use Rattle.fac_lang.specs.Primitives.{is_built_primitive}
 use Rattle.fac_lang.specs.Meaning.{sort_of, word_phrase, core_numbered, c_call, c_dip, c_if}
 use Rattle.fac_code.specs.declared.image.Instr.{Instr}
-use Rattle.fac_code.specs.declared.image.Instr.TheVariants.{Halt, Int, True, False, Text, Word, Quot, Prim, Callw, Call, Dip, If, Ret}
+use Rattle.fac_code.specs.declared.image.Instr.TheVariants.{Halt, Int, True, False, Text, Array, Word, Quot, Prim, Callw, Call, Dip, If, Ret}
 use Rattle.fac_code.specs.declared.image.Action.TheVariants.{Code as code_action}
 use Rattle.fac_code.specs.declared.image.Image.{Image}
 use Rattle.fac_code.specs.declared.image.TemplateRow.{TemplateRow}
 use Rattle.fac_code.specs.declared.image.WordRow.{WordRow}
-use Rattle.fac_prim.specs.MachineValues.{MValue, Kept, kept_list, cells_at}
+use Rattle.fac_store.specs.MachineValues.{MValue, Kept, kept_list, cells_at}
 use Rattle.fac_vm.specs.Machine.{word_of_prim}
 use Rattle.fac_emit.specs.MachineView.{Templates, template_phrases}
 use Rattle.fac_emit.specs.WholeValues.{WholeKept}
@@ -32,6 +32,7 @@ module _ (P : Program) (M : Image) (T : Templates) where
     t_true : Translates F (lit yes) True
     t_false : Translates F (lit no) False
     t_text : (cs : List ℕ) (k : ℕ) → slice_get M.texts k ≡ Some cs → Translates F (lit (str cs)) (Text k)
+    t_array : (a : ℕ) → Translates F (lit_arr a) (Array a)
     t_reference : (w : ℕ) (r : WordRow) → slice_get M.words w ≡ Some r → Translates F (lit (wrd w)) (Word w)
     t_symbol : (w : ℕ) (r : WordRow) → sort_of P w ≡ Some itself → slice_get M.words w ≡ Some r → Translates F (word w) (Word w)
     t_quot : (q : ℕ) (r : TemplateRow) (vs : List MValue) → slice_get M.templates q ≡ Some r → r.holes ≡ 0 → cells_at r.cells F ≡ Some vs → Translates F (quot (T q)) (Quot q)

@@ -4,7 +4,7 @@ use Rattle.fac_lang.specs.World.{Object, array, tuple, World}
 use Rattle.fac_lang.specs.Procedures.{Gives, gives, bad, Fn, fn0, fn1, fn2, fn3}
 use Rattle.fac_code.specs.declared.image.TemplateRow.{TemplateRow}
 use Rattle.fac_code.specs.declared.image.Image.{Image}
-use Rattle.fac_prim.specs.MachineValues.{MValue, m_plain, m_fun, MCallable, m_lit, m_cur, m_com, Kept, none_kept, kept, kept_list}
+use Rattle.fac_store.specs.MachineValues.{MValue, m_plain, m_fun, MCallable, m_lit, m_cur, m_com, Kept, none_kept, kept, kept_list}
 
 module _ (M : Image) where
   -- each literal callable in it is of a template, and keeps as many values as that captures and takes

@@ -4,6 +4,7 @@ ghost use Rattle.std.specs.List.{list_all};
 ghost use Rattle.fac_lang.specs.declared.phrase.Height.{Height};
 ghost use Rattle.fac_lang.specs.declared.program.Program.{Program as Source};
 ghost use Rattle.fac_lang.specs.Forms.{IsBuilt};
+ghost use Rattle.fac_lang.specs.Whole.{IsWhole};
 ghost use Rattle.fac_lang.specs.Phrases.{Callable};
 ghost use Rattle.fac_locals.specs.Closed.{Closes};
 ghost use Rattle.fac_emit.specs.Carries.{Carries};
@@ -12,8 +13,9 @@ ghost use Rattle.fac_emit.specs.inner.Coded.{body_is_coded, word_body_is_coded};
 ghost use Rattle.fac_emit.specs.inner.Parts.{AreParts, PlacesWord, PlacesWords};
 ghost use Rattle.fac_emit.specs.Stands.{PlainCode};
 
+use crate::arrays::add_arrays;
 use crate::emitter::{Piece, add_templates, add_word, no_code};
-use fac_code::{Action, Image, TemplateRow, WordRow};
+use fac_code::{Action, Elem, Image, TemplateRow, WordRow};
 use fac_lang::{Duplicate, List, Memory, Sort, Text, WordDef};
 use fac_locals::Closed;
 use std::alloc::Global;
@@ -33,6 +35,7 @@ fn action_of(place: u32, sort: &Sort) -> Action
 // The parts of an image.
 #[derive(Drop)]
 struct Parts {
+    arrays: List<List<Elem>>,
     piece: Piece,
     templates: List<TemplateRow>,
     words: List<WordRow>,
@@ -96,12 +99,13 @@ fn named_piece(alloc: Global, words: &List<WordDef>) -> Result<Piece, Memory>
     Ok(piece)
 }
 
-// The code of a closed program, that of its templates first and then that of its words, and its tables.
+// The code of a closed program, that of its templates first and then that of its words, its literal arrays and its tables.
 fn link(alloc: Global, closed: &Closed) -> Result<Parts, Memory>
-    requires { (P : Source) × Closes P closed.now.program closed.now.templates × IsBuilt P }
+    requires { (P : Source) × Closes P closed.now.program closed.now.templates × IsBuilt P × IsWhole P }
     ensures { IfOk result (AreParts closed.now.program closed.now.templates) }
 {
     let mut parts = Parts {
+        arrays: List::new(alloc),
         piece: named_piece(alloc, &closed.program.words)?,
         templates: List::new(alloc),
         words: List::new(alloc),
@@ -115,6 +119,12 @@ fn link(alloc: Global, closed: &Closed) -> Result<Parts, Memory>
         &closed.templates,
     )?;
     add_words(alloc, &mut parts, words, closed.program.top)?;
+    add_arrays(
+        alloc,
+        &mut parts.arrays,
+        &mut parts.piece.texts,
+        &closed.program.arrays,
+    )?;
     Ok(parts)
 }
 
@@ -135,17 +145,18 @@ fn place(rows: &List<WordRow>, word: u32) -> u32
 }
 
 /// The image of a closed program of the built forms. It carries the program that this one stands for, on every list of as many values as
-/// the closed program starts on whose callables are of the image's templates, with every input and at every budget, where that program is
-/// stuck at none. Its code stands for the
+/// the closed program starts on and in every world, whose callables are of the image's templates, and at every budget, where that program is
+/// stuck at none; and its literal arrays, as a machine makes them, are those of that program before its first item. Its code stands for the
 /// phrases of that program, item by item, and is plain: the code of the templates and behind it that of the words, each in their order, with the
-/// names of the words and the texts of its strings in the order of their instructions, and a row for each template and each word; it starts at the top-level phrase. Want of memory is the one error.
+/// names of the words, the texts of its strings in the order of their instructions and behind them those of its literal arrays, and a row for each template and each word; it starts at the top-level phrase. Want of memory is the one error.
 pub fn compile(alloc: Global, closed: &Closed) -> Result<Image, Memory>
-    requires { (P : Source) × Closes P closed.now.program closed.now.templates × IsBuilt P }
+    requires { (P : Source) × Closes P closed.now.program closed.now.templates × IsBuilt P × IsWhole P }
     ensures carries { IfOk result (λ image. (P : Source) (fits : Height → Height → Bool) (callable_height : Callable → Option Height) → Closes P closed.now.program closed.now.templates → IsBuilt P → Carries P fits callable_height closed.now.start image) }
     ensures stands { IfOk result (λ image. (P : Source) → Closes P closed.now.program closed.now.templates → IsBuilt P → PlainCode P image) }
     ensures plain { IfOk result (IsPlain closed.now.program closed.now.templates) }
 {
     let Parts {
+        arrays,
         piece,
         templates,
         words,
@@ -153,6 +164,7 @@ pub fn compile(alloc: Global, closed: &Closed) -> Result<Image, Memory>
     let Piece { code, texts } = piece;
     let start = place(&words, closed.program.top);
     Ok(Image {
+        arrays,
         templates,
         words,
         texts,

@@ -64,6 +64,7 @@ fn instr_of(words: &List<WordDef>, text: u32, what: &What) -> Instr
         What::True => Instr::True,
         What::False => Instr::False,
         What::Str(_) => Instr::Text(text),
+        What::Arr(array) => Instr::Array(*array),
         What::Wref(word) => Instr::Word(*word),
         What::Word(number) => match words.get(*number as usize) {
             Some(word) => instr_of_sort(*number, &word.sort),

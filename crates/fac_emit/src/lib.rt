@@ -1,6 +1,7 @@
 //! Compilation of closed programs to images.
 #![tactic(auto)]
 
+mod arrays;
 mod compiler;
 mod emitter;
 mod laws;

@@ -3,6 +3,7 @@
 //! A line that doesn't begin with `@` has instructions of the code, with a comma between two, and an empty one ends the case. The others are
 //!
 //!     @about TEXT             what the cases from here on show
+//!     @array E, E ..          a literal array of these elements: an integer, a truth value, or a text, an array, a word or a template
 //!     @template N M K ..      a template whose code begins at the place N, with M holes and these cells
 //!     @word prim NAME         a word that does this primitive, by its name or its number
 //!     @word core N            a word that does this core word
@@ -11,9 +12,10 @@
 //!     @text TEXT              a text of the image, with a `|` for each end of a line in it
 //!     @output N M             the write of this number fails after M bytes
 //!     @run N M                runs the code from the place N, with M ticks
-use crate::instructions::{action, instr};
+//!     @twice N M              runs it so two times on one machine
+use crate::instructions::{action, elem, instr};
 use crate::told_runs::told;
-use fac_code::{Image, Instr, TemplateRow, WordRow};
+use fac_code::{Elem, Image, Instr, TemplateRow, WordRow};
 use fac_io::MemSink;
 use fac_lang::{Duplicate, List, Memory, Text};
 use fac_vm::Machine;
@@ -25,6 +27,7 @@ const ROOM: u64 = 20;
 /// An image and the writes that fail.
 #[derive(Drop)]
 pub struct Case {
+    arrays: Vec<Vec<Elem>>,
     // The numbers of each template: its place, its holes, its cells.
     templates: Vec<Vec<u32>>,
     // The words, whose names are numbered by themselves, and their names.
@@ -64,6 +67,30 @@ fn template(alloc: Global, numbers: &[u32]) -> Result<TemplateRow, Memory> {
         cells,
         holes: numbers.get(1).copied().unwrap_or(0),
     })
+}
+
+// The elements of a literal array, with a comma between two.
+fn elems(alloc: Global, text: &str) -> Result<Option<Vec<Elem>>, Memory> {
+    let mut elems = Vec::new(alloc);
+    if text.is_empty() {
+        return Ok(Some(elems));
+    }
+    for told in text.split(", ") {
+        let Some(next) = elem(told) else {
+            return Ok(None);
+        };
+        elems.push(next)?;
+    }
+    Ok(Some(elems))
+}
+
+// Literal arrays of these elements.
+fn arrays(alloc: Global, rows: &[Vec<Elem>]) -> Result<List<List<Elem>>, Memory> {
+    let mut arrays = List::new(alloc);
+    for elems in rows {
+        arrays.push(List::from_vec(Vec::from_slice(alloc, elems.as_slice())?)?)?;
+    }
+    Ok(arrays)
 }
 
 // The templates that numbers tell.
@@ -127,20 +154,31 @@ fn run_told(
     budget: u64,
 ) -> Result<Text, Memory> {
     let stop = machine.run(alloc, out, budget);
-    told(alloc, stop, machine.store(), machine.stack(), out.taken())
+    told(alloc, stop, machine, out.taken())
 }
 
-// Runs an image, and tells how the run ended.
-fn run(alloc: Global, image: Image, fails: &[(u64, u64)], budget: u64) -> Result<Text, Memory> {
+// Runs an image, once or twice, and tells how each run ended.
+fn run(
+    alloc: Global,
+    image: Image,
+    fails: &[(u64, u64)],
+    budget: u64,
+    again: bool,
+) -> Result<Text, Memory> {
     let mut machine = Machine::new(alloc, image)?;
     let mut out = sink(alloc, fails)?;
-    run_told(alloc, &mut machine, &mut out, budget)
+    let mut ends = run_told(alloc, &mut machine, &mut out, budget)?;
+    if again {
+        ends.push_str(run_told(alloc, &mut machine, &mut out, budget)?.as_str())?;
+    }
+    Ok(ends)
 }
 
 impl Case {
     /// No templates, words or code.
     pub fn new(alloc: Global) -> Self {
         Case {
+            arrays: Vec::new(alloc),
             templates: Vec::new(alloc),
             words: Vec::new(alloc),
             names: List::new(alloc),
@@ -155,7 +193,8 @@ impl Case {
         let taken = match line.strip_prefix("@") {
             None => self.add_code(line)?,
             Some(set) => match set.split_once(' ').unwrap_or((set, "")) {
-                ("run", text) => return self.run(alloc, text),
+                ("run", text) => return self.run(alloc, text, false),
+                ("twice", text) => return self.run(alloc, text, true),
                 (name, text) => self.set(alloc, name, text)?,
             },
         };
@@ -177,6 +216,13 @@ impl Case {
     fn set(&mut self, alloc: Global, name: &str, text: &str) -> Result<bool, Memory> {
         match name {
             "about" => Ok(true),
+            "array" => match elems(alloc, text)? {
+                Some(elems) => {
+                    self.arrays.push(elems)?;
+                    Ok(true)
+                }
+                None => Ok(false),
+            },
             "template" => match numbers(alloc, text)? {
                 Some(numbers) => {
                     self.templates.push(numbers)?;
@@ -213,20 +259,21 @@ impl Case {
 
     // The image that begins at a place. None where the tables and the code are none.
     fn image(&self, alloc: Global, start: u32) -> Result<Option<Image>, Memory> {
+        let arrays = arrays(alloc, self.arrays.as_slice())?;
         let templates = templates(alloc, self.templates.as_slice())?;
         let words = rows(alloc, self.words.as_slice(), self.texts.len())?;
         let texts = texts(alloc, &self.texts, &self.names)?;
         let code = List::from_vec(Vec::from_slice(alloc, self.code.as_slice())?)?;
-        Ok(Image::new(templates, words, texts, code, start))
+        Ok(Image::new(arrays, templates, words, texts, code, start))
     }
 
-    // Runs the image, and tells how the run ended.
-    fn run(&self, alloc: Global, text: &str) -> Result<Text, Memory> {
+    // Runs the image, once or twice, and tells how each run ended.
+    fn run(&self, alloc: Global, text: &str, again: bool) -> Result<Text, Memory> {
         let Some((start, budget)) = start_and_budget(text) else {
             return Text::from_str(alloc, "  not taken\n");
         };
         match self.image(alloc, start)? {
-            Some(image) => run(alloc, image, self.output.as_slice(), budget),
+            Some(image) => run(alloc, image, self.output.as_slice(), budget, again),
             None => Text::from_str(alloc, "  no image\n"),
         }
     }

@@ -1,5 +1,5 @@
-//! Instructions and what words do, as texts tell them.
-use fac_code::{Action, Instr};
+//! Instructions, elements of literal arrays and what words do, as texts tell them.
+use fac_code::{Action, Elem, Instr};
 use fac_lang::primitives;
 
 // The number of the primitive with this name.
@@ -40,6 +40,7 @@ fn plain(name: &str) -> Option<Instr> {
 fn with_number(name: &str, number: u32) -> Option<Instr> {
     match name {
         "text" => Some(Instr::Text(number)),
+        "array" => Some(Instr::Array(number)),
         "word" => Some(Instr::Word(number)),
         "quot" => Some(Instr::Quot(number)),
         "callw" => Some(Instr::Callw {
@@ -61,6 +62,30 @@ pub fn instr(text: &str) -> Option<Instr> {
         Some(("int", number)) => Some(Instr::Int(number.parse::<i128>().ok()?)),
         Some(("prim", name)) => Some(Instr::Prim(primitive(name)?)),
         Some((name, number)) => with_number(name, number.parse::<u32>().ok()?),
+    }
+}
+
+// The element of a word and the number behind it.
+fn numbered_elem(name: &str, number: u32) -> Option<Elem> {
+    match name {
+        "text" => Some(Elem::Text(number)),
+        "array" => Some(Elem::Array(number)),
+        "word" => Some(Elem::Word(number)),
+        "template" => Some(Elem::Template(number)),
+        _ => None,
+    }
+}
+
+/// The element of a literal array that a text tells.
+pub fn elem(text: &str) -> Option<Elem> {
+    match text.split_once(' ') {
+        None => match text {
+            "true" => Some(Elem::True),
+            "false" => Some(Elem::False),
+            _ => None,
+        },
+        Some(("int", number)) => Some(Elem::Int(number.parse::<i128>().ok()?)),
+        Some((name, number)) => numbered_elem(name, number.parse::<u32>().ok()?),
     }
 }
 

@@ -1,6 +1,6 @@
 -- A code for phrases, by which a proof tells two of them apart. A phrase is written as a list of tokens, each part before what it is a part of,
 -- and read back with a stack for each of the five types.
-use Rattle.std.specs.Prelude.{ℕ, ◌+◌, ℤ, pos, List, [], ◌∷◌, Bool, true, false, nat_eq, nat_lt, ◌-◌, Option, Some, None, slice_index, ◌≡◌}
+use Rattle.std.specs.Prelude.{ℕ, ◌+◌, ℤ, pos, List, [], ◌∷◌, drop, Bool, true, false, nat_eq, nat_lt, ◌-◌, Option, Some, None, slice_index, ◌≡◌}
 use Rattle.std.proofs.Common.{refl, ◌∙◌, ap}
 use Rattle.std.specs.Coded.{Coded, code_by, coded×, coded_ℕ, coded_ℤ, coded_list}
 use Rattle.fac_lang.specs.declared.phrase.Height.{Height}
@@ -69,7 +69,7 @@ abbrev mutual
 
   pub mark_tokens : Mark → List Token → List Token
   mark_tokens any rest = tok 40 [] ∷ rest
-  mark_tokens (lit_mark l t) rest = phrase_tokens t (tok 41 (l.word ∷ l.index ∷ []) ∷ rest)
+  mark_tokens (lit_mark l t) rest = phrase_tokens t (tok 41 (l.word ∷ l.index ∷ l.around) ∷ rest)
   mark_tokens (cur_mark m c) rest = mark_tokens m (mark_tokens c (tok 42 [] ∷ rest))
   mark_tokens (com_mark c d) rest = mark_tokens c (mark_tokens d (tok 43 [] ∷ rest))
   mark_tokens (wrd_mark w) rest = tok 44 (w ∷ []) ∷ rest
@@ -153,7 +153,7 @@ read_known (m ∷ ms) s = record s { marks = ms; items = known m ∷ s.items }
 
 abbrev pub read_lit_mark : List ℕ → List Phrase → Stacks → Stacks
 read_lit_mark ns [] s = s
-read_lit_mark ns (t ∷ ts) s = record s { phrases = ts; marks = lit_mark (record { word = slice_index ns 0; index = slice_index ns 1 }) t ∷ s.marks }
+read_lit_mark ns (t ∷ ts) s = record s { phrases = ts; marks = lit_mark (record { word = slice_index ns 0; around = drop 2 ns; index = slice_index ns 1 }) t ∷ s.marks }
 
 abbrev pub read_cur_mark : List Mark → Stacks → Stacks
 read_cur_mark [] s = s
@@ -262,7 +262,7 @@ mutual
 
   pub mark_back : (m : Mark) (rest : List Token) (s : Stacks) → read (mark_tokens m rest) s ≡ read rest (more_mark m s)
   mark_back any rest s = refl
-  mark_back (lit_mark l t) rest s = phrase_back t (tok 41 (l.word ∷ l.index ∷ []) ∷ rest) s
+  mark_back (lit_mark l t) rest s = phrase_back t (tok 41 (l.word ∷ l.index ∷ l.around) ∷ rest) s
   mark_back (cur_mark m c) rest s = mark_back m (mark_tokens c (tok 42 [] ∷ rest)) s ∙ mark_back c (tok 42 [] ∷ rest) (more_mark m s)
   mark_back (com_mark c d) rest s = mark_back c (mark_tokens d (tok 43 [] ∷ rest)) s ∙ mark_back d (tok 43 [] ∷ rest) (more_mark c s)
   mark_back (wrd_mark w) rest s = refl

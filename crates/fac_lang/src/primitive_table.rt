@@ -70,6 +70,36 @@ pub enum Operation {
     AtMost,
     /// `>=`
     AtLeast,
+    /// `number>string`
+    NumberToString,
+    /// `string>number`
+    StringToNumber,
+    /// `length`
+    Length,
+    /// `nth`
+    Nth,
+    /// `set-nth`
+    SetNth,
+    /// `<iota>`
+    MakeIota,
+    /// `append`
+    Append,
+    /// `suffix`
+    Suffix,
+    /// `subseq`
+    Subsequence,
+    /// `reverse`
+    Reverse,
+    /// `(select)`
+    Select,
+    /// `<array>`
+    MakeArray,
+    /// `1array`
+    OneArray,
+    /// `2array`
+    TwoArray,
+    /// `>array`
+    ToArray,
     /// `write`
     Write,
     /// `print`
@@ -81,7 +111,7 @@ pub enum Operation {
 }
 
 #[rattlefmt::skip]
-static PRIMITIVES: [PrimitiveRow; 43] = [
+static PRIMITIVES: [PrimitiveRow; 58] = [
     PrimitiveRow { word: WordRow { vocab: "kernel", name: "drop", ins: &["x"], outs: Some(&[]) }, does: Operation::Shuffle { takes: 1, leaves: &[] } },
     PrimitiveRow { word: WordRow { vocab: "kernel", name: "dup", ins: &["x"], outs: Some(&["x", "x"]) }, does: Operation::Shuffle { takes: 1, leaves: &[0, 0] } },
     PrimitiveRow { word: WordRow { vocab: "kernel", name: "swap", ins: &["x", "y"], outs: Some(&["y", "x"]) }, does: Operation::Shuffle { takes: 2, leaves: &[1, 0] } },
@@ -121,6 +151,21 @@ static PRIMITIVES: [PrimitiveRow; 43] = [
     PrimitiveRow { word: WordRow { vocab: "math", name: ">", ins: &["x", "y"], outs: Some(&["?"]) }, does: Operation::Greater },
     PrimitiveRow { word: WordRow { vocab: "math", name: "<=", ins: &["x", "y"], outs: Some(&["?"]) }, does: Operation::AtMost },
     PrimitiveRow { word: WordRow { vocab: "math", name: ">=", ins: &["x", "y"], outs: Some(&["?"]) }, does: Operation::AtLeast },
+    PrimitiveRow { word: WordRow { vocab: "math.parser", name: "number>string", ins: &["n"], outs: Some(&["str"]) }, does: Operation::NumberToString },
+    PrimitiveRow { word: WordRow { vocab: "math.parser", name: "string>number", ins: &["str"], outs: Some(&["n/f"]) }, does: Operation::StringToNumber },
+    PrimitiveRow { word: WordRow { vocab: "sequences", name: "length", ins: &["seq"], outs: Some(&["n"]) }, does: Operation::Length },
+    PrimitiveRow { word: WordRow { vocab: "sequences", name: "nth", ins: &["n", "seq"], outs: Some(&["elt"]) }, does: Operation::Nth },
+    PrimitiveRow { word: WordRow { vocab: "sequences", name: "set-nth", ins: &["elt", "n", "seq"], outs: Some(&[]) }, does: Operation::SetNth },
+    PrimitiveRow { word: WordRow { vocab: "sequences", name: "<iota>", ins: &["n"], outs: Some(&["iota"]) }, does: Operation::MakeIota },
+    PrimitiveRow { word: WordRow { vocab: "sequences", name: "append", ins: &["a", "b"], outs: Some(&["c"]) }, does: Operation::Append },
+    PrimitiveRow { word: WordRow { vocab: "sequences", name: "suffix", ins: &["seq", "elt"], outs: Some(&["newseq"]) }, does: Operation::Suffix },
+    PrimitiveRow { word: WordRow { vocab: "sequences", name: "subseq", ins: &["from", "to", "seq"], outs: Some(&["newseq"]) }, does: Operation::Subsequence },
+    PrimitiveRow { word: WordRow { vocab: "sequences", name: "reverse", ins: &["seq"], outs: Some(&["newseq"]) }, does: Operation::Reverse },
+    PrimitiveRow { word: WordRow { vocab: "sequences.private", name: "(select)", ins: &["flags", "seq"], outs: Some(&["newseq"]) }, does: Operation::Select },
+    PrimitiveRow { word: WordRow { vocab: "arrays", name: "<array>", ins: &["n", "elt"], outs: Some(&["array"]) }, does: Operation::MakeArray },
+    PrimitiveRow { word: WordRow { vocab: "arrays", name: "1array", ins: &["x"], outs: Some(&["array"]) }, does: Operation::OneArray },
+    PrimitiveRow { word: WordRow { vocab: "arrays", name: "2array", ins: &["x", "y"], outs: Some(&["array"]) }, does: Operation::TwoArray },
+    PrimitiveRow { word: WordRow { vocab: "arrays", name: ">array", ins: &["seq"], outs: Some(&["array"]) }, does: Operation::ToArray },
     PrimitiveRow { word: WordRow { vocab: "io", name: "write", ins: &["str"], outs: Some(&[]) }, does: Operation::Write },
     PrimitiveRow { word: WordRow { vocab: "io", name: "print", ins: &["str"], outs: Some(&[]) }, does: Operation::Print },
     PrimitiveRow { word: WordRow { vocab: "io", name: "nl", ins: &[], outs: Some(&[]) }, does: Operation::NewLine },

@@ -1,254 +1,481 @@
 -- What closing makes stands for the program.
-use Rattle.std.proofs.Common.{◌≡◌, ℕ, zero, suc, List, [], ◌∷◌, ◌++◌, length, Some, refl, sym, ap, ◌∙◌, append_assoc, length-append, arith}
+use Rattle.std.proofs.Common.{◌≡◌, ◌<◌, ◌≤◌, ◌⊎◌, inl, inr, ℕ, zero, suc, ◌+◌, List, [], ◌∷◌, ◌++◌, length, set, get_or, Option, Some, None, refl, sym, ap, ◌∙◌, subst, append_assoc, length-append, length-set, arith}
 use Rattle.std.specs.Prelude.{map, slice_get}
-use Rattle.std.proofs.lemmas.List.{append-nil, map-append}
+use Rattle.std.proofs.lemmas.Bool.{cases_eq, cases_lt}
+use Rattle.std.proofs.lemmas.Option.{get_or_from_slice_get, slice_get_within}
 use Rattle.fac_lang.specs.Phrases.{Literal, Phrase, end, then, Item, lit, lit_arr, quot, word, bind, local, fry, hole, call_eff, exec_eff, next_method, made, next_after, held, known}
+use Rattle.fac_lang.specs.Meaning.{nowhere}
 use Rattle.fac_lang.specs.declared.phrase.Place.{Place}
 use Rattle.fac_lang.specs.declared.phrase.Template.{Template}
+use Rattle.fac_lang.specs.declared.program.Lit.{Lit}
+use Rattle.fac_lang.specs.declared.program.Lit.TheVariants.{Int as l_int, True as l_yes, False as l_no, Str as l_str, Arr as l_arr, Wref as l_word, Quot as l_quot, Made as l_made}
 use Rattle.fac_lang.specs.declared.program.Program.{Program}
 use Rattle.fac_lang.specs.declared.program.WordDef.{WordDef}
 use Rattle.fac_lang.specs.declared.program.Sort.{Sort}
 use Rattle.fac_lang.specs.declared.program.Sort.TheVariants.{Prim as prim, Core as core, Body as body, Past as past, Itself as itself, Class as class, Isa as isa, Getter as getter, Setter as setter, Putter as putter, Generic as generic, Method as method}
-use Rattle.fac_lang.specs.Forms.{IsBuilt, IsBuiltPhrase, IsBuiltItem, IsBuiltSort, AreBuiltWords}
-use Rattle.fac_locals.specs.Literals.{Quoted, first_of_word, first_of_literal, behind, literals_in, literals_at, sort_literals, word_literals, literals, places_in, places_at, sort_places, word_places, literal_or}
-use Rattle.fac_locals.specs.Closed.{Closes, CloseWords, ClosesSort, ClosesPhrase, ClosesItem, CloseLiterals}
-use Rattle.fac_locals.specs.inner.Numbering.{phrase_behind, item_behind, closed_item, closed_phrase, template_of, phrase_templates, item_templates, closed_sort, sort_behind, sort_templates, closed_word, closed_words, words_templates, WordsClose}
+use Rattle.fac_lang.specs.Forms.{IsBuilt}
+use Rattle.fac_lang.specs.Whole.{IsWhole, times_in, arrays_named, arrays_in, joined, word_phrases, all_arrays_named}
+use Rattle.fac_locals.specs.declared.closing.ArrayStart.{ArrayStart}
+use Rattle.fac_locals.specs.Literals.{Quoted, first_of_word, first_of_literal, first_in_array, behind, literal_or, literal_numbered}
+use Rattle.fac_locals.specs.Closed.{Closes, CloseWords, ClosesSort, ClosesPhrase, ClosesItem, ClosesLiteral, CloseLiterals, ClosesElement, CloseElements, CloseArrays}
+use Rattle.fac_locals.specs.inner.Numbering.{put_all, template_of, start_of, plain_item, plain_phrase, body_of, phrase_behind, item_behind, closed_item, closed_phrase, phrase_templates, item_templates, phrase_starts, item_starts, closed_element, closed_elements, closed_sort, closed_word, closed_words, words_behind, words_templates, words_starts, counts_from, Stage, start_at, elements_at, array_closed, arrays_closed, PartsClosed}
+use Rattle.fac_locals.proofs.LiteralArrays.{HasBuiltPhrase, HaveBuiltPhrases, built_phrases, array_in_no_method, IsClosable, IsClosableItem, AreClosable, program_closable, array_closable, closable_more}
+use Rattle.fac_locals.proofs.PlacedLiterals.{Placed, quoted_of, place_at, placed_in, placed_at, placed_words, array_placed, program_placed, placed_literals, placed_places, phrase_counted, item_counted, words_counted, array_unfolds, array_counted, found}
+use Rattle.fac_locals.proofs.Puts.{keys, AllOf, Has, all_both, set_here, set_other, put_keeps, put_there, put_elsewhere, named_put, entry_named, put_once, times_both}
+use Rattle.fac_locals.proofs.ArrayNames.{Covered, by_side, reserved_by, phrase_covers, words_cover, phrase_names_noted, phrase_noted_below, words_noted_below, words_names_noted, elements_names, names_below, names_all, names_step, names_fewer, not_named_below, below_once}
+use Rattle.fac_locals.proofs.ArraySteps.{as_many_put}
 
--- the phrase of a word, where it has one, is of the built forms
-abbrev pub HasBuiltPhrase : ℕ → Sort → Type 0
-HasBuiltPhrase bound (body t) = IsBuiltPhrase bound t
-HasBuiltPhrase bound (past t) = ⊥
-HasBuiltPhrase bound (method c g t) = ⊥
-HasBuiltPhrase bound _ = Unit {0}
-
--- likewise the phrases of words
-abbrev pub HaveBuiltPhrases : ℕ → List WordDef → Type 0
-HaveBuiltPhrases bound [] = Unit {0}
-HaveBuiltPhrases bound (d ∷ ds) = HasBuiltPhrase bound d.sort × HaveBuiltPhrases bound ds
-
-sort_built : (bound : ℕ) (d : WordDef) (s : Sort) → IsBuiltSort bound d s → HasBuiltPhrase bound s
-sort_built bound d (body t) h = h
-sort_built bound d (prim k) h = tt
-sort_built bound d (core k) h = tt
-sort_built bound d (past t) h = absurd h
-sort_built bound d itself h = tt
-sort_built bound d (class k) h = tt
-sort_built bound d (isa k) h = tt
-sort_built bound d (getter x) h = tt
-sort_built bound d (setter x) h = tt
-sort_built bound d (putter x) h = tt
-sort_built bound d generic h = tt
-sort_built bound d (method c g t) h = absurd h
-
-phrases_built : (bound : ℕ) (ds : List WordDef) (d : WordDef) → AreBuiltWords bound ds → HasBuiltPhrase bound d.sort → HaveBuiltPhrases bound (ds ++ d ∷ [])
-phrases_built bound [] d hs h = (h, tt)
-phrases_built bound (x ∷ ds) d hs h = (sort_built bound x x.sort hs.0, phrases_built bound ds d hs.1 h)
-
--- each phrase of a program of the built forms is of the built forms
-pub built_phrases : (P : Program) → IsBuilt P → HaveBuiltPhrases P.top P.words
-built_phrases P b = rw b.words_are (phrases_built P.top b.words b.last_word b.built (rw b.last_word_is.sort_is b.last_word_is.phrase_built))
-
-no_more : {A : Type 0} (xs : List A) (n : ℕ) → length xs ≡ n → length (xs ++ []) ≡ n
-no_more xs n e = rw (append-nil xs) e
-
-one_more : {A : Type 0} (xs : List A) (x : A) (n : ℕ) → length xs ≡ n → length (xs ++ x ∷ []) ≡ suc n
-one_more xs x n e = rw (length-append xs (x ∷ [])) (omega arith)
-
--- a phrase's literals are as many as its quotations
-mutual
-  pub literals_counted : (bound n : ℕ) (ls : List Quoted) (at : Literal) (t : Phrase) → IsBuiltPhrase bound t → length ls ≡ n → length (ls ++ literals_in at t) ≡ phrase_behind n t
-  literals_counted bound n ls at end h e = no_more ls n e
-  literals_counted bound n ls at (then i p t) h e =
-      ap length (sym (append_assoc ls (literals_at at i) (literals_in (behind at i) t))) ∙ literals_counted bound (item_behind n i) (ls ++ literals_at at i) (behind at i) t h.1 (item_literals_counted bound n ls at i h.0 e)
-
-  item_literals_counted : (bound n : ℕ) (ls : List Quoted) (at : Literal) (i : Item) → IsBuiltItem bound i → length ls ≡ n → length (ls ++ literals_at at i) ≡ item_behind n i
-  item_literals_counted bound n ls at (quot t) h e =
-      let x : Quoted = (at, t) in
-      ap length (sym (append_assoc ls (x ∷ []) (literals_in (first_of_literal at) t))) ∙ literals_counted bound (suc n) (ls ++ x ∷ []) (first_of_literal at) t h (one_more ls x n e)
-  item_literals_counted bound n ls at (lit q) h e = no_more ls n e
-  item_literals_counted bound n ls at (word w) h e = no_more ls n e
-  item_literals_counted bound n ls at (lit_arr a) h e = absurd h
-  item_literals_counted bound n ls at (bind x) h e = absurd h
-  item_literals_counted bound n ls at (local x) h e = absurd h
-  item_literals_counted bound n ls at (fry t k) h e = absurd h
-  item_literals_counted bound n ls at (hole k) h e = absurd h
-  item_literals_counted bound n ls at (call_eff f) h e = absurd h
-  item_literals_counted bound n ls at (exec_eff f) h e = absurd h
-  item_literals_counted bound n ls at next_method h e = absurd h
-  item_literals_counted bound n ls at (made k) h e = absurd h
-  item_literals_counted bound n ls at (next_after m) h e = absurd h
-  item_literals_counted bound n ls at (held v) h e = absurd h
-  item_literals_counted bound n ls at (known m) h e = absurd h
-
-sort_literals_counted : (bound n : ℕ) (ls : List Quoted) (w : ℕ) (s : Sort) → HasBuiltPhrase bound s → length ls ≡ n → length (ls ++ sort_literals w s) ≡ sort_behind n s
-sort_literals_counted bound n ls w (body t) h e = literals_counted bound n ls (first_of_word w) t h e
-sort_literals_counted bound n ls w (prim k) h e = no_more ls n e
-sort_literals_counted bound n ls w (core k) h e = no_more ls n e
-sort_literals_counted bound n ls w (past t) h e = absurd h
-sort_literals_counted bound n ls w itself h e = no_more ls n e
-sort_literals_counted bound n ls w (class k) h e = no_more ls n e
-sort_literals_counted bound n ls w (isa k) h e = no_more ls n e
-sort_literals_counted bound n ls w (getter x) h e = no_more ls n e
-sort_literals_counted bound n ls w (setter x) h e = no_more ls n e
-sort_literals_counted bound n ls w (putter x) h e = no_more ls n e
-sort_literals_counted bound n ls w generic h e = no_more ls n e
-sort_literals_counted bound n ls w (method c g t) h e = absurd h
-
-element_at : {A : Type 0} (xs : List A) (x : A) (ys : List A) (n : ℕ) → length xs ≡ n → slice_get (xs ++ x ∷ ys) n ≡ Some x
+pub element_at : {A : Type 0} (xs : List A) (x : A) (ys : List A) (n : ℕ) → length xs ≡ n → slice_get (xs ++ x ∷ ys) n ≡ Some x
 element_at [] x ys zero e = refl
 element_at [] x ys (suc n) e = absurd (omega (arith, e))
 element_at (z ∷ xs) x ys zero e = absurd (omega (arith, e))
 element_at (z ∷ xs) x ys (suc n) e = element_at xs x ys n (omega (arith, e))
 
-literals_append : (P : Program) (ls ms : List Quoted) (ts us : List Template) → CloseLiterals P ls ts → CloseLiterals P ms us → CloseLiterals P (ls ++ ms) (ts ++ us)
-literals_append P [] ms ts us h k = rw h k
-literals_append P (l ∷ ls) ms ts us h k = (h.0, h.1 ++ us, rw h.2 refl, h.3, literals_append P ls ms h.1 us h.4 k)
+one_more : {A : Type 0} (xs : List A) (x : A) (n : ℕ) → length xs ≡ n → length (xs ++ x ∷ []) ≡ suc n
+one_more xs x n e = rw (length-append xs (x ∷ [])) (omega (arith, e))
 
-module _ (P : Program) (bound : ℕ) where
-  -- Where the program's literals are those before a phrase, those of the phrase and those behind it, the phrase is closed with numbers from there on.
+-- a literal array is closed where it stands, in no method
+abbrev pub IsClosedArray : Program → List Lit → List Lit → Type 0
+IsClosedArray P ls c = (at : Literal) × CloseElements P None (first_in_array at) ls c
+
+some_same : {A : Type 0} (x y : A) → Some x ≡ Some y → x ≡ y
+some_same x y e = cc
+
+both_places : (t : Template) (j : Placed) (ps qs : List Place) → t.place ≡ j.1 → ps ≡ qs → t.place ∷ ps ≡ j.1 ∷ qs
+both_places t j ps qs e f = rw (e, f) refl
+
+-- The literals of the program with their places are all of these. Where they are those before a phrase, those of the phrase and those behind it, the phrase is closed with numbers from there on.
+module _ (P : Program) (counts : List ℕ) (X : ℕ → Literal → Place → List Placed) (all : List Placed) (count : (b : ℕ) (at : Literal) (p : Place) → b < length P.arrays → length (X b at p) ≡ get_or counts b 0) (numbers : (k : ℕ) (l : Placed) → slice_get all k ≡ Some l → literal_numbered P k ≡ l.0) where
+  -- the template of this number is that of its literal
+  abbrev Fills : ℕ → Template → Type 0
+  Fills k t = (l : Placed) × (slice_get all k ≡ Some l) × ClosesLiteral P l.0 t × (t.place ≡ l.1)
+
+  -- a literal array stands where it is noted
+  record Stands (b : ℕ) (m : ArrayStart) : Type 0 where
+    pub at : Literal
+    pub before : List Placed
+    pub after : List Placed
+    pub is : all ≡ before ++ (X b at m.place ++ after)
+    pub number_is : length before ≡ m.number
+
+  first_part : (before xs ys after : List Placed) → all ≡ before ++ ((xs ++ ys) ++ after) → all ≡ before ++ (xs ++ (ys ++ after))
+  first_part before xs ys after is = is ∙ ap (λ (ls : List Placed). before ++ ls) (append_assoc xs ys after)
+
+  second_part : (before xs ys after : List Placed) → all ≡ before ++ ((xs ++ ys) ++ after) → all ≡ (before ++ xs) ++ (ys ++ after)
+  second_part before xs ys after is = first_part before xs ys after is ∙ sym (append_assoc before xs (ys ++ after))
+
   mutual
-    phrase_closes : (n : ℕ) (before after : List Quoted) (at : Literal) (t : Phrase) → IsBuiltPhrase bound t → length before ≡ n → literals P ≡ before ++ (literals_in at t ++ after) → ClosesPhrase P at t (closed_phrase n t)
+    phrase_closes : (n : ℕ) (before after : List Placed) (at : Literal) (t : Phrase) → IsClosable (length P.arrays) t → length before ≡ n → all ≡ before ++ (placed_in X at t ++ after) → ClosesPhrase P at t (closed_phrase counts n t)
     phrase_closes n before after at end h e is = refl
     phrase_closes n before after at (then i p t) h e is =
-        let rest = literals_in (behind at i) t in
-        (closed_item n i, closed_phrase (item_behind n i) t, refl, item_closes n before (rest ++ after) at i h.0 e (is ∙ ap (λ (ls : List Quoted). before ++ ls) (append_assoc (literals_at at i) rest after)), phrase_closes (item_behind n i) (before ++ literals_at at i) after (behind at i) t h.1 (item_literals_counted bound n before at i h.0 e) (is ∙ ap (λ (ls : List Quoted). before ++ ls) (append_assoc (literals_at at i) rest after) ∙ sym (append_assoc before (literals_at at i) (rest ++ after))))
+        let here = placed_at X at p i in
+        let rest = placed_in X (behind at i) t in
+        (closed_item counts n i, closed_phrase counts (item_behind counts n i) t, refl, item_closes n before (rest ++ after) at p i h.0 e (first_part before here rest after is), phrase_closes (item_behind counts n i) (before ++ here) after (behind at i) t h.1 (item_counted X counts (length P.arrays) count n before at p i h.0 e) (second_part before here rest after is))
 
-    item_closes : (n : ℕ) (before after : List Quoted) (at : Literal) (i : Item) → IsBuiltItem bound i → length before ≡ n → literals P ≡ before ++ (literals_at at i ++ after) → ClosesItem P at i (closed_item n i)
-    item_closes n before after at (quot t) h e is =
-        let x : Quoted = (at, t) in
-        (n, refl, ap (literal_or P n) (ap (λ (ls : List Quoted). slice_get ls n) is ∙ element_at before x (literals_in (first_of_literal at) t ++ after) n e))
-    item_closes n before after at (lit q) h e is = refl
-    item_closes n before after at (word w) h e is = refl
-    item_closes n before after at (lit_arr a) h e is = absurd h
-    item_closes n before after at (bind x) h e is = absurd h
-    item_closes n before after at (local x) h e is = absurd h
-    item_closes n before after at (fry t k) h e is = absurd h
-    item_closes n before after at (hole k) h e is = absurd h
-    item_closes n before after at (call_eff f) h e is = absurd h
-    item_closes n before after at (exec_eff f) h e is = absurd h
-    item_closes n before after at next_method h e is = absurd h
-    item_closes n before after at (made k) h e is = absurd h
-    item_closes n before after at (next_after m) h e is = absurd h
-    item_closes n before after at (held v) h e is = absurd h
-    item_closes n before after at (known m) h e is = absurd h
+    item_closes : (n : ℕ) (before after : List Placed) (at : Literal) (p : Place) (i : Item) → IsClosableItem (length P.arrays) i → length before ≡ n → all ≡ before ++ (placed_at X at p i ++ after) → ClosesItem P at i (closed_item counts n i)
+    item_closes n before after at p (quot t) h e is =
+        let x : Placed = ((at, t), p) in
+        (n, refl, numbers n x (ap (λ (ls : List Placed). slice_get ls n) is ∙ element_at before x (placed_in X (first_of_literal at) t ++ after) n e))
+    item_closes n before after at p (lit q) h e is = refl
+    item_closes n before after at p (word w) h e is = refl
+    item_closes n before after at p (lit_arr a) h e is = refl
+    item_closes n before after at p (bind x) h e is = absurd h
+    item_closes n before after at p (local x) h e is = absurd h
+    item_closes n before after at p (fry t k) h e is = absurd h
+    item_closes n before after at p (hole k) h e is = absurd h
+    item_closes n before after at p (call_eff f) h e is = absurd h
+    item_closes n before after at p (exec_eff f) h e is = absurd h
+    item_closes n before after at p next_method h e is = absurd h
+    item_closes n before after at p (made k) h e is = absurd h
+    item_closes n before after at p (next_after m) h e is = absurd h
+    item_closes n before after at p (held v) h e is = absurd h
+    item_closes n before after at p (known m) h e is = absurd h
 
-  -- likewise the templates of the phrase's quotations
+  -- the templates of a phrase
   mutual
-    templates_close : (n : ℕ) (before after : List Quoted) (at : Literal) (t : Phrase) → IsBuiltPhrase bound t → length before ≡ n → literals P ≡ before ++ (literals_in at t ++ after) → CloseLiterals P (literals_in at t) (phrase_templates n t)
-    templates_close n before after at end h e is = refl
-    templates_close n before after at (then i p t) h e is =
-        let rest = literals_in (behind at i) t in
-        literals_append P (literals_at at i) rest (item_templates n p i) (phrase_templates (item_behind n i) t) (item_templates_close n before (rest ++ after) at p i h.0 e (is ∙ ap (λ (ls : List Quoted). before ++ ls) (append_assoc (literals_at at i) rest after))) (templates_close (item_behind n i) (before ++ literals_at at i) after (behind at i) t h.1 (item_literals_counted bound n before at i h.0 e) (is ∙ ap (λ (ls : List Quoted). before ++ ls) (append_assoc (literals_at at i) rest after) ∙ sym (append_assoc before (literals_at at i) (rest ++ after))))
+    templates_fill : (n : ℕ) (before after : List Placed) (at : Literal) (t : Phrase) → IsClosable (length P.arrays) t → length before ≡ n → all ≡ before ++ (placed_in X at t ++ after) → AllOf Fills (phrase_templates counts n t)
+    templates_fill n before after at end h e is = tt
+    templates_fill n before after at (then i p t) h e is =
+        let here = placed_at X at p i in
+        let rest = placed_in X (behind at i) t in
+        all_both Fills (item_templates counts n p i) (phrase_templates counts (item_behind counts n i) t) (item_fills n before (rest ++ after) at p i h.0 e (first_part before here rest after is)) (templates_fill (item_behind counts n i) (before ++ here) after (behind at i) t h.1 (item_counted X counts (length P.arrays) count n before at p i h.0 e) (second_part before here rest after is))
 
-    item_templates_close : (n : ℕ) (before after : List Quoted) (at : Literal) (p : Place) (i : Item) → IsBuiltItem bound i → length before ≡ n → literals P ≡ before ++ (literals_at at i ++ after) → CloseLiterals P (literals_at at i) (item_templates n p i)
-    item_templates_close n before after at p (quot t) h e is =
-        let x : Quoted = (at, t) in
-        let count : length (before ++ x ∷ []) ≡ suc n = one_more before x n e in
-        let inside : literals P ≡ (before ++ x ∷ []) ++ (literals_in (first_of_literal at) t ++ after) = is ∙ sym (append_assoc before (x ∷ []) (literals_in (first_of_literal at) t ++ after)) in
-        let closed = closed_phrase (suc n) t in
-        (template_of p closed, phrase_templates (suc n) t, refl, record { body = phrase_closes (suc n) (before ++ x ∷ []) after (first_of_literal at) t h count inside; captures = refl; holes = refl }, templates_close (suc n) (before ++ x ∷ []) after (first_of_literal at) t h count inside)
-    item_templates_close n before after at p (lit q) h e is = refl
-    item_templates_close n before after at p (word w) h e is = refl
-    item_templates_close n before after at p (lit_arr a) h e is = absurd h
-    item_templates_close n before after at p (bind x) h e is = absurd h
-    item_templates_close n before after at p (local x) h e is = absurd h
-    item_templates_close n before after at p (fry t k) h e is = absurd h
-    item_templates_close n before after at p (hole k) h e is = absurd h
-    item_templates_close n before after at p (call_eff f) h e is = absurd h
-    item_templates_close n before after at p (exec_eff f) h e is = absurd h
-    item_templates_close n before after at p next_method h e is = absurd h
-    item_templates_close n before after at p (made k) h e is = absurd h
-    item_templates_close n before after at p (next_after m) h e is = absurd h
-    item_templates_close n before after at p (held v) h e is = absurd h
-    item_templates_close n before after at p (known m) h e is = absurd h
+    item_fills : (n : ℕ) (before after : List Placed) (at : Literal) (p : Place) (i : Item) → IsClosableItem (length P.arrays) i → length before ≡ n → all ≡ before ++ (placed_at X at p i ++ after) → AllOf Fills (item_templates counts n p i)
+    item_fills n before after at p (quot t) h e is =
+        let x : Placed = ((at, t), p) in
+        let inner = placed_in X (first_of_literal at) t in
+        let long = one_more before x n e in
+        let split = second_part before (x ∷ []) inner after is in
+        let closed = closed_phrase counts (suc n) t in
+        all_both Fills (phrase_templates counts (suc n) t) ((n, template_of p closed) ∷ []) (templates_fill (suc n) (before ++ x ∷ []) after (first_of_literal at) t h long split) ((x, ap (λ (ls : List Placed). slice_get ls n) is ∙ element_at before x (inner ++ after) n e, record { body = phrase_closes (suc n) (before ++ x ∷ []) after (first_of_literal at) t h long split; captures = refl; holes = refl }, refl), tt)
+    item_fills n before after at p (lit q) h e is = tt
+    item_fills n before after at p (word w) h e is = tt
+    item_fills n before after at p (lit_arr a) h e is = tt
+    item_fills n before after at p (bind x) h e is = absurd h
+    item_fills n before after at p (local x) h e is = absurd h
+    item_fills n before after at p (fry t k) h e is = absurd h
+    item_fills n before after at p (hole k) h e is = absurd h
+    item_fills n before after at p (call_eff f) h e is = absurd h
+    item_fills n before after at p (exec_eff f) h e is = absurd h
+    item_fills n before after at p next_method h e is = absurd h
+    item_fills n before after at p (made k) h e is = absurd h
+    item_fills n before after at p (next_after m) h e is = absurd h
+    item_fills n before after at p (held v) h e is = absurd h
+    item_fills n before after at p (known m) h e is = absurd h
 
-  sort_closes : (n w : ℕ) (before after : List Quoted) (s : Sort) → HasBuiltPhrase bound s → length before ≡ n → literals P ≡ before ++ (sort_literals w s ++ after) → ClosesSort P w s (closed_sort n s)
-  sort_closes n w before after (body t) h e is = (closed_phrase n t, refl, phrase_closes n before after (first_of_word w) t h e is)
-  sort_closes n w before after (prim k) h e is = refl
-  sort_closes n w before after (core k) h e is = refl
-  sort_closes n w before after (past t) h e is = absurd h
-  sort_closes n w before after itself h e is = refl
-  sort_closes n w before after (class k) h e is = refl
-  sort_closes n w before after (isa k) h e is = refl
-  sort_closes n w before after (getter x) h e is = refl
-  sort_closes n w before after (setter x) h e is = refl
-  sort_closes n w before after (putter x) h e is = refl
-  sort_closes n w before after generic h e is = refl
-  sort_closes n w before after (method c g t) h e is = absurd h
+  -- the arrays that a phrase names
+  mutual
+    starts_stand : (n : ℕ) (before after : List Placed) (at : Literal) (t : Phrase) → IsClosable (length P.arrays) t → length before ≡ n → all ≡ before ++ (placed_in X at t ++ after) → AllOf Stands (phrase_starts counts n t)
+    starts_stand n before after at end h e is = tt
+    starts_stand n before after at (then i p t) h e is =
+        let here = placed_at X at p i in
+        let rest = placed_in X (behind at i) t in
+        all_both Stands (item_starts counts n p i) (phrase_starts counts (item_behind counts n i) t) (item_stands n before (rest ++ after) at p i h.0 e (first_part before here rest after is)) (starts_stand (item_behind counts n i) (before ++ here) after (behind at i) t h.1 (item_counted X counts (length P.arrays) count n before at p i h.0 e) (second_part before here rest after is))
 
-  sort_templates_close : (n w : ℕ) (before after : List Quoted) (s : Sort) → HasBuiltPhrase bound s → length before ≡ n → literals P ≡ before ++ (sort_literals w s ++ after) → CloseLiterals P (sort_literals w s) (sort_templates n s)
-  sort_templates_close n w before after (body t) h e is = templates_close n before after (first_of_word w) t h e is
-  sort_templates_close n w before after (prim k) h e is = refl
-  sort_templates_close n w before after (core k) h e is = refl
-  sort_templates_close n w before after (past t) h e is = absurd h
-  sort_templates_close n w before after itself h e is = refl
-  sort_templates_close n w before after (class k) h e is = refl
-  sort_templates_close n w before after (isa k) h e is = refl
-  sort_templates_close n w before after (getter x) h e is = refl
-  sort_templates_close n w before after (setter x) h e is = refl
-  sort_templates_close n w before after (putter x) h e is = refl
-  sort_templates_close n w before after generic h e is = refl
-  sort_templates_close n w before after (method c g t) h e is = absurd h
+    item_stands : (n : ℕ) (before after : List Placed) (at : Literal) (p : Place) (i : Item) → IsClosableItem (length P.arrays) i → length before ≡ n → all ≡ before ++ (placed_at X at p i ++ after) → AllOf Stands (item_starts counts n p i)
+    item_stands n before after at p (quot t) h e is =
+        let x : Placed = ((at, t), p) in
+        starts_stand (suc n) (before ++ x ∷ []) after (first_of_literal at) t h (one_more before x n e) (second_part before (x ∷ []) (placed_in X (first_of_literal at) t) after is)
+    item_stands n before after at p (lit_arr a) h e is = (record { at = at; before = before; after = after; is = is; number_is = e }, tt)
+    item_stands n before after at p (lit q) h e is = tt
+    item_stands n before after at p (word w) h e is = tt
+    item_stands n before after at p (bind x) h e is = absurd h
+    item_stands n before after at p (local x) h e is = absurd h
+    item_stands n before after at p (fry t k) h e is = absurd h
+    item_stands n before after at p (hole k) h e is = absurd h
+    item_stands n before after at p (call_eff f) h e is = absurd h
+    item_stands n before after at p (exec_eff f) h e is = absurd h
+    item_stands n before after at p next_method h e is = absurd h
+    item_stands n before after at p (made k) h e is = absurd h
+    item_stands n before after at p (next_after m) h e is = absurd h
+    item_stands n before after at p (held v) h e is = absurd h
+    item_stands n before after at p (known m) h e is = absurd h
 
-  -- words from word w on, whose literals are the last ones
-  words_close : (n w : ℕ) (before : List Quoted) (ds : List WordDef) → HaveBuiltPhrases bound ds → length before ≡ n → literals P ≡ before ++ word_literals w ds → CloseWords P w ds (closed_words n ds)
-  words_close n w before [] h e is = refl
-  words_close n w before (d ∷ ds) h e is =
-      (closed_word n d, closed_words (sort_behind n d.sort) ds, refl, record { name = refl; sort = sort_closes n w before (word_literals (suc w) ds) d.sort h.0 e is; effect = refl; inline = refl; recursive = refl; place = refl }, words_close (sort_behind n d.sort) (suc w) (before ++ sort_literals w d.sort) ds h.1 (sort_literals_counted bound n before w d.sort h.0 e) (is ∙ sym (append_assoc before (sort_literals w d.sort) (word_literals (suc w) ds))))
+  -- the elements of an array that stands in no method
+  element_closes : (n : ℕ) (before after : List Placed) (at : Literal) (p : Place) (l : Lit) → IsClosableItem (length P.arrays) (plain_item l) → length before ≡ n → all ≡ before ++ (placed_at X at p (plain_item l) ++ after) → ClosesElement P None at l (closed_element counts n l)
+  element_closes n before after at p (l_quot t) h e is =
+      let x : Placed = ((at, t), p) in
+      (n, refl, numbers n x (ap (λ (ls : List Placed). slice_get ls n) is ∙ element_at before x (placed_in X (first_of_literal at) t ++ after) n e))
+  element_closes n before after at p (l_int z) h e is = refl
+  element_closes n before after at p l_yes h e is = refl
+  element_closes n before after at p l_no h e is = refl
+  element_closes n before after at p (l_str s) h e is = refl
+  element_closes n before after at p (l_arr a) h e is = refl
+  element_closes n before after at p (l_word w) h e is = refl
+  element_closes n before after at p (l_made k) h e is = absurd h
 
-  words_templates_close : (n w : ℕ) (before : List Quoted) (ds : List WordDef) → HaveBuiltPhrases bound ds → length before ≡ n → literals P ≡ before ++ word_literals w ds → CloseLiterals P (word_literals w ds) (words_templates n ds)
-  words_templates_close n w before [] h e is = refl
-  words_templates_close n w before (d ∷ ds) h e is =
-      literals_append P (sort_literals w d.sort) (word_literals (suc w) ds) (sort_templates n d.sort) (words_templates (sort_behind n d.sort) ds) (sort_templates_close n w before (word_literals (suc w) ds) d.sort h.0 e is) (words_templates_close (sort_behind n d.sort) (suc w) (before ++ sort_literals w d.sort) ds h.1 (sort_literals_counted bound n before w d.sort h.0 e) (is ∙ sym (append_assoc before (sort_literals w d.sort) (word_literals (suc w) ds))))
+  elements_close : (n : ℕ) (before after : List Placed) (at : Literal) (p : Place) (ls : List Lit) → IsClosable (length P.arrays) (plain_phrase p ls) → length before ≡ n → all ≡ before ++ (placed_in X at (plain_phrase p ls) ++ after) → CloseElements P None at ls (closed_elements counts n ls)
+  elements_close n before after at p [] h e is = refl
+  elements_close n before after at p (l ∷ ls) h e is =
+      let i = plain_item l in
+      let here = placed_at X at p i in
+      let rest = placed_in X (behind at i) (plain_phrase p ls) in
+      (closed_element counts n l, closed_elements counts (item_behind counts n i) ls, refl, element_closes n before (rest ++ after) at p l h.0 e (first_part before here rest after is), elements_close (item_behind counts n i) (before ++ here) after (behind at i) p ls h.1 (item_counted X counts (length P.arrays) count n before at p i h.0 e) (second_part before here rest after is))
+
+  -- Words from word w on, whose literals are the last ones.
+  sort_closes : (top n w : ℕ) (before after : List Placed) (s : Sort) → HasBuiltPhrase top s → IsClosable (length P.arrays) (body_of s) → length before ≡ n → all ≡ before ++ (placed_in X (first_of_word w) (body_of s) ++ after) → ClosesSort P w s (closed_sort counts n s)
+  sort_closes top n w before after (body t) b h e is = (closed_phrase counts n t, refl, phrase_closes n before after (first_of_word w) t h e is)
+  sort_closes top n w before after (prim k) b h e is = refl
+  sort_closes top n w before after (core k) b h e is = refl
+  sort_closes top n w before after (past t) b h e is = absurd b
+  sort_closes top n w before after itself b h e is = refl
+  sort_closes top n w before after (class k) b h e is = refl
+  sort_closes top n w before after (isa k) b h e is = refl
+  sort_closes top n w before after (getter x) b h e is = refl
+  sort_closes top n w before after (setter x) b h e is = refl
+  sort_closes top n w before after (putter x) b h e is = refl
+  sort_closes top n w before after generic b h e is = refl
+  sort_closes top n w before after (method c g t) b h e is = absurd b
+
+  words_close : (top n w : ℕ) (before : List Placed) (ds : List WordDef) → HaveBuiltPhrases top ds → AreClosable (length P.arrays) ds → length before ≡ n → all ≡ before ++ placed_words X w ds → CloseWords P w ds (closed_words counts n ds)
+  words_close top n w before [] b h e is = refl
+  words_close top n w before (d ∷ ds) b h e is =
+      let t = body_of d.sort in
+      let here = placed_in X (first_of_word w) t in
+      let rest = placed_words X (suc w) ds in
+      let m = phrase_behind counts n t in
+      (closed_word counts n d, closed_words counts m ds, refl, record { name = refl; sort = sort_closes top n w before rest d.sort b.0 h.0 e is; effect = refl; inline = refl; recursive = refl; place = refl }, words_close top m (suc w) (before ++ here) ds b.1 h.1 (phrase_counted X counts (length P.arrays) count n before (first_of_word w) t h.0 e) (is ∙ sym (append_assoc before here rest)))
+
+  words_fill : (n w : ℕ) (before : List Placed) (ds : List WordDef) → AreClosable (length P.arrays) ds → length before ≡ n → all ≡ before ++ placed_words X w ds → AllOf Fills (words_templates counts n ds)
+  words_fill n w before [] h e is = tt
+  words_fill n w before (d ∷ ds) h e is =
+      let t = body_of d.sort in
+      let here = placed_in X (first_of_word w) t in
+      let rest = placed_words X (suc w) ds in
+      let m = phrase_behind counts n t in
+      all_both Fills (phrase_templates counts n t) (words_templates counts m ds) (templates_fill n before rest (first_of_word w) t h.0 e is) (words_fill m (suc w) (before ++ here) ds h.1 (phrase_counted X counts (length P.arrays) count n before (first_of_word w) t h.0 e) (is ∙ sym (append_assoc before here rest)))
+
+  words_stand : (n w : ℕ) (before : List Placed) (ds : List WordDef) → AreClosable (length P.arrays) ds → length before ≡ n → all ≡ before ++ placed_words X w ds → AllOf Stands (words_starts counts n ds)
+  words_stand n w before [] h e is = tt
+  words_stand n w before (d ∷ ds) h e is =
+      let t = body_of d.sort in
+      let here = placed_in X (first_of_word w) t in
+      let rest = placed_words X (suc w) ds in
+      let m = phrase_behind counts n t in
+      all_both Stands (phrase_starts counts n t) (words_starts counts m ds) (starts_stand n before rest (first_of_word w) t h.0 e is) (words_stand m (suc w) (before ++ here) ds h.1 (phrase_counted X counts (length P.arrays) count n before (first_of_word w) t h.0 e) (is ∙ sym (append_assoc before here rest)))
+
+  -- a stage at which this array is closed, where it starts here and has these elements
+  abbrev closed_with : ℕ → Stage → ArrayStart → List Lit → Stage
+  closed_with a s m ls = record { arrays = set s.arrays a (closed_elements counts m.number ls); templates = put_all s.templates (phrase_templates counts m.number (plain_phrase m.place ls)); starts = put_all s.starts (phrase_starts counts m.number (plain_phrase m.place ls)) }
+
+  -- This number is reserved for an array that is still to be closed, and that none of those which are still to be closed names.
+  record Pending (a : ℕ) (s : Stage) (k : ℕ) : Type 0 where
+    pub number : ℕ
+    pub start : ArrayStart
+    pub to_come : number < a
+    pub unnamed : times_in number (names_below a P.arrays) ≡ 0
+    pub noted : slice_get s.starts number ≡ Some start
+    pub behind_start : start.number ≤ k
+    pub before_end : k < start.number + get_or counts number 0
+
+  -- The arrays from number a on are closed.
+  record ClosedFrom (a : ℕ) (s : Stage) : Type 0 where
+    pub many_templates : length s.templates ≡ length all
+    pub many_starts : length s.starts ≡ length P.arrays
+    pub many_arrays : length s.arrays ≡ length P.arrays
+    pub stand : (b : ℕ) → b < length P.arrays → times_in b (names_below a P.arrays) ≡ 0 → Has Stands s.starts b
+    pub fill : (k : ℕ) → k < length all → Has Fills s.templates k ⊎ Pending a s k
+    pub not_yet : (b : ℕ) → b < a → slice_get s.arrays b ≡ slice_get P.arrays b
+    pub done : (b : ℕ) (ls : List Lit) → a ≤ b → slice_get P.arrays b ≡ Some ls → (c : List Lit) × (slice_get s.arrays b ≡ Some c) × IsClosedArray P ls c
+
+  module _ (once : (b : ℕ) → b < length P.arrays → times_in b (joined (map arrays_named (word_phrases P.words))) + times_in b (joined (map arrays_in P.arrays)) ≡ 1) where
+    -- One array more is closed.
+    module _ (a : ℕ) (s : Stage) (ls : List Lit) (m : ArrayStart) (is : slice_get P.arrays a ≡ Some ls) (within : a < length P.arrays) (closable : IsClosable a (plain_phrase m.place ls)) (stands_at : Stands a m) (unfolds : X a stands_at.at m.place ≡ placed_in X (first_in_array stands_at.at) (plain_phrase m.place ls)) (noted : slice_get s.starts a ≡ Some m) (h : ClosedFrom (suc a) s) where
+      abbrev t : Phrase
+      t = plain_phrase m.place ls
+
+      abbrev at : Literal
+      at = first_in_array stands_at.at
+
+      abbrev ts : List (ℕ × Template)
+      ts = phrase_templates counts m.number t
+
+      abbrev ss : List (ℕ × ArrayStart)
+      ss = phrase_starts counts m.number t
+
+      abbrev u : Stage
+      u = closed_with a s m ls
+
+      wide : IsClosable (length P.arrays) t
+      wide = closable_more a (length P.arrays) t (omega (arith, within)) closable
+
+      split : all ≡ stands_at.before ++ (placed_in X at t ++ stands_at.after)
+      split = stands_at.is ∙ ap (λ (xs : List Placed). stands_at.before ++ (xs ++ stands_at.after)) unfolds
+
+      fills : AllOf Fills ts
+      fills = templates_fill m.number stands_at.before stands_at.after at t wide stands_at.number_is split
+
+      stands : AllOf Stands ss
+      stands = starts_stand m.number stands_at.before stands_at.after at t wide stands_at.number_is split
+
+      names : keys ss ≡ arrays_in ls
+      names = phrase_names_noted counts a m.number t closable ∙ elements_names m.place ls
+
+      ends : phrase_behind counts m.number t ≡ m.number + get_or counts a 0
+      ends =
+          let long = phrase_counted X counts (length P.arrays) count m.number stands_at.before at t wide stands_at.number_is in
+          let sum = length-append stands_at.before (placed_in X at t) in
+          let own = ap length (sym unfolds) ∙ count a stands_at.at m.place within in
+          omega (arith, long, sum, own, stands_at.number_is)
+
+      named : (b : ℕ) → times_in b (names_below (suc a) P.arrays) ≡ times_in b (names_below a P.arrays) + times_in b (keys ss)
+      named b = names_step b a P.arrays ls is ∙ sym (ap (λ (ks : List ℕ). times_in b (names_below a P.arrays) + times_in b ks) names)
+
+      fewer : (b : ℕ) → b < length P.arrays → times_in b (names_below a P.arrays) + times_in b (keys ss) ≤ 1
+      fewer b lt =
+          let some = named b in
+          let more = names_fewer b (suc a) P.arrays in
+          let one = once b lt in
+          omega (arith, some, more, one)
+
+      stand_now : (b : ℕ) → b < length P.arrays → times_in b (names_below a P.arrays) ≡ 0 → Has Stands u.starts b
+      stand_now b lt none = by_side (Has Stands u.starts b) (times_in b (keys ss)) 0 (λ (some : 0 < times_in b (keys ss)). put_there Stands s.starts ss b stands (named_put ss b some) (omega (arith, lt, h.many_starts))) (λ (no : times_in b (keys ss) ≤ 0). put_keeps Stands s.starts ss b stands (h.stand b lt (omega (arith, none, no, named b)))) (cases_lt 0 (times_in b (keys ss)))
+
+      covered : (k : ℕ) → k < length all → Covered counts k ts ss → Has Fills u.templates k ⊎ Pending a u k
+      covered k lt (inl put) = inl (put_there Fills s.templates ts k fills put (omega (arith, lt, h.many_templates)))
+      covered k lt (inr reserved) =
+          let r = reserved_by counts k ss reserved in
+          let less = phrase_noted_below counts a m.number t closable r.0 r.1 r.2 in
+          let few = fewer r.0 (omega (arith, less, within)) in
+          let some = entry_named ss r.0 r.1 r.2 in
+          inr (record { number = r.0; start = r.1; to_come = less; unnamed = omega (arith, few, some); noted = put_once s.starts ss r.0 r.1 r.2 (omega (arith, few)) (omega (arith, less, within, h.many_starts)); behind_start = r.3; before_end = r.4 })
+
+      still_pending : (k : ℕ) (p : Pending (suc a) s k) → (p.number ≡ a → ⊥) → Pending a u k
+      still_pending k p other =
+          let some = named p.number in
+          record { number = p.number; start = p.start; to_come = by_side (p.number < a) a p.number (λ (lt : p.number < a). lt) (λ (le : a ≤ p.number). absurd (other (omega (arith, le, p.to_come)))) (cases_lt p.number a); unnamed = omega (arith, some, p.unnamed); noted = put_elsewhere s.starts ss p.number (omega (arith, some, p.unnamed)) ∙ p.noted; behind_start = p.behind_start; before_end = p.before_end }
+
+      same_start : (x y : ArrayStart) (b : ℕ) → b ≡ a → slice_get s.starts b ≡ Some x → slice_get s.starts a ≡ Some y → x ≡ y
+      same_start x y b e f g = let both : Some x ≡ Some y = sym f ∙ ap (slice_get s.starts) e ∙ g in cc
+
+      fill_pending : (k : ℕ) → k < length all → (p : Pending (suc a) s k) → (p.number ≡ a) ⊎ (p.number ≡ a → ⊥) → Has Fills u.templates k ⊎ Pending a u k
+      fill_pending k lt p (inl e) =
+          let same = ap (λ (x : ArrayStart). x.number) (same_start p.start m p.number e p.noted noted) in
+          let count_is = ap (λ (b : ℕ). get_or counts b 0) e in
+          covered k lt (phrase_covers counts k m.number t (omega (arith, p.behind_start, same)) (omega (arith, p.before_end, same, count_is, ends)))
+      fill_pending k lt p (inr other) = inr (still_pending k p other)
+
+      fill_either : (k : ℕ) → k < length all → Has Fills s.templates k ⊎ Pending (suc a) s k → Has Fills u.templates k ⊎ Pending a u k
+      fill_either k lt (inl has) = inl (put_keeps Fills s.templates ts k fills has)
+      fill_either k lt (inr p) = fill_pending k lt p (cases_eq p.number a)
+
+      not_itself : (b : ℕ) → b < a → b ≡ a → ⊥
+      not_itself b lt e = omega (arith, lt, e)
+
+      done_now : (b : ℕ) (xs : List Lit) → a ≤ b → slice_get P.arrays b ≡ Some xs → (b ≡ a) ⊎ (b ≡ a → ⊥) → (c : List Lit) × (slice_get u.arrays b ≡ Some c) × IsClosedArray P xs c
+      done_now b xs le is_b (inl e) =
+          let both : Some xs ≡ Some ls = sym is_b ∙ ap (slice_get P.arrays) e ∙ is in
+          let same : xs ≡ ls = cc in
+          let closed = closed_elements counts m.number ls in
+          let here = set_here s.arrays a closed (omega (arith, within, h.many_arrays)) in
+          (closed, ap (slice_get u.arrays) e ∙ here, (stands_at.at, subst (λ (ys : List Lit). CloseElements P None at ys closed) (sym same) (elements_close m.number stands_at.before stands_at.after at m.place ls wide stands_at.number_is split)))
+      done_now b xs le is_b (inr other) =
+          let before = h.done b xs (by_side (suc a ≤ b) (suc a) b (λ (lt : b < suc a). absurd (other (omega (arith, lt, le)))) (λ (more : suc a ≤ b). more) (cases_lt b (suc a))) is_b in
+          (before.0, set_other s.arrays a b (closed_elements counts m.number ls) other ∙ before.1, before.2)
+
+      one_closed : ClosedFrom a u
+      one_closed = record {
+        many_templates = as_many_put s.templates ts ∙ h.many_templates;
+        many_starts = as_many_put s.starts ss ∙ h.many_starts;
+        many_arrays = length-set s.arrays a (closed_elements counts m.number ls) ∙ h.many_arrays;
+        stand = stand_now;
+        fill = λ (k : ℕ) (lt : k < length all). fill_either k lt (h.fill k lt);
+        not_yet = λ (b : ℕ) (lt : b < a). set_other s.arrays a b (closed_elements counts m.number ls) (not_itself b lt) ∙ h.not_yet b (omega (arith, lt));
+        done = λ (b : ℕ) (xs : List Lit) (le : a ≤ b) (is_b : slice_get P.arrays b ≡ Some xs). done_now b xs le is_b (cases_eq b a);
+      }
+
+    module _ (built : IsBuilt P) (whole : IsWhole P) (unfolds : (a : ℕ) (at : Literal) (p : Place) (ls : List Lit) → slice_get P.arrays a ≡ Some ls → a < length P.arrays → X a at p ≡ placed_in X (first_in_array at) (plain_phrase p ls)) where
+      step : (a : ℕ) (s : Stage) → a < length P.arrays → ClosedFrom (suc a) s → ClosedFrom a (array_closed counts a s)
+      step a s within h =
+          let here = found P.arrays a within in
+          let ls = here.0 in
+          let start = h.stand a within (not_named_below a 0 (suc a) P.arrays whole.arrays_earlier (omega arith)) in
+          let m = start.0 in
+          let one = one_closed a s ls m here.1 within (array_closable P built whole a m.place ls here.1) start.2 (unfolds a start.2.at m.place ls here.1 within) start.1 h in
+          let start_is : start_at s a ≡ m = get_or_from_slice_get s.starts a m (start_of 0 nowhere) start.1 in
+          let elements_are : elements_at s a ≡ ls = get_or_from_slice_get s.arrays a ls [] (h.not_yet a (omega arith) ∙ here.1) in
+          subst (ClosedFrom a) (sym (ap (λ (x : ArrayStart). closed_with a s x (elements_at s a)) start_is ∙ ap (closed_with a s m) elements_are)) one
+
+      all_closed : (a : ℕ) (s : Stage) → a ≤ length P.arrays → ClosedFrom a s → ClosedFrom 0 (arrays_closed counts a s)
+      all_closed zero s le h = h
+      all_closed (suc a) s le h = all_closed a (array_closed counts a s) (omega (arith, le)) (step a s (omega (arith, le)) h)
+
+      -- Words are closed, and no array yet.
+      module _ (all_is : all ≡ placed_words X 0 P.words) (unfilled : List Template) (unmet : List ArrayStart) (many_unfilled : length unfilled ≡ words_behind counts 0 P.words) (many_unmet : length unmet ≡ length P.arrays) where
+        abbrev word_templates : List (ℕ × Template)
+        word_templates = words_templates counts 0 P.words
+
+        abbrev word_starts : List (ℕ × ArrayStart)
+        word_starts = words_starts counts 0 P.words
+
+        abbrev begun : Stage
+        begun = record { arrays = P.arrays; templates = put_all unfilled word_templates; starts = put_all unmet word_starts }
+
+        closable_words : AreClosable (length P.arrays) P.words
+        closable_words = program_closable P built whole
+
+        words_end : words_behind counts 0 P.words ≡ length all
+        words_end = sym (words_counted X counts (length P.arrays) count 0 0 [] P.words closable_words refl) ∙ sym (ap length all_is)
+
+        words_filled : AllOf Fills word_templates
+        words_filled = words_fill 0 0 [] P.words closable_words refl all_is
+
+        words_standing : AllOf Stands word_starts
+        words_standing = words_stand 0 0 [] P.words closable_words refl all_is
+
+        names_of_words : (b : ℕ) → times_in b (keys word_starts) ≡ times_in b (joined (map arrays_named (word_phrases P.words)))
+        names_of_words b = ap (times_in b) (words_names_noted counts (length P.arrays) P.top 0 P.words (built_phrases P built) closable_words)
+
+        names_of_arrays : (b : ℕ) → times_in b (names_below (length P.arrays) P.arrays) ≡ times_in b (joined (map arrays_in P.arrays))
+        names_of_arrays b = ap (times_in b) (names_all P.arrays)
+
+        begun_covered : (k : ℕ) → k < length all → Covered counts k word_templates word_starts → Has Fills begun.templates k ⊎ Pending (length P.arrays) begun k
+        begun_covered k lt (inl put) = inl (put_there Fills unfilled word_templates k words_filled put (omega (arith, lt, many_unfilled, words_end)))
+        begun_covered k lt (inr reserved) =
+            let r = reserved_by counts k word_starts reserved in
+            let less = words_noted_below counts (length P.arrays) 0 P.words closable_words r.0 r.1 r.2 in
+            let some = entry_named word_starts r.0 r.1 r.2 in
+            let one = once r.0 less in
+            let by_words = names_of_words r.0 in
+            let by_arrays = names_of_arrays r.0 in
+            inr (record { number = r.0; start = r.1; to_come = less; unnamed = omega (arith, some, one, by_words, by_arrays); noted = put_once unmet word_starts r.0 r.1 r.2 (omega (arith, one, by_words)) (omega (arith, less, many_unmet)); behind_start = r.3; before_end = r.4 })
+
+        begin : ClosedFrom (length P.arrays) begun
+        begin = record {
+          many_templates = as_many_put unfilled word_templates ∙ many_unfilled ∙ words_end;
+          many_starts = as_many_put unmet word_starts ∙ many_unmet;
+          many_arrays = refl;
+          stand = λ (b : ℕ) (lt : b < length P.arrays) (none : times_in b (names_below (length P.arrays) P.arrays) ≡ 0). put_there Stands unmet word_starts b words_standing (named_put word_starts b (omega (arith, none, once b lt, names_of_words b, names_of_arrays b))) (omega (arith, lt, many_unmet));
+          fill = λ (k : ℕ) (lt : k < length all). begun_covered k lt (words_cover counts k 0 P.words (omega arith) (omega (arith, lt, words_end)));
+          not_yet = λ (b : ℕ) (lt : b < length P.arrays). refl;
+          done = λ (b : ℕ) (ls : List Lit) (le : length P.arrays ≤ b) (is : slice_get P.arrays b ≡ Some ls). absurd (omega (arith, le, slice_get_within P.arrays b ls is));
+        }
+
+        everything_closed : ClosedFrom 0 (arrays_closed counts (length P.arrays) begun)
+        everything_closed = all_closed (length P.arrays) begun (omega arith) begin
+
+  filled : (s : Stage) (k : ℕ) → Has Fills s.templates k ⊎ Pending 0 s k → Has Fills s.templates k
+  filled s k (inl has) = has
+  filled s k (inr p) = absurd (omega (arith, p.to_come))
+
+  all_filled : (s : Stage) → ClosedFrom 0 s → (k : ℕ) → k < length all → Has Fills s.templates k
+  all_filled s h k lt = filled s k (h.fill k lt)
 
 abbrev place_of : Template → Place
 place_of t = t.place
 
-both_placed : (ts us : List Template) (ps qs : List Place) → map place_of ts ≡ ps → map place_of us ≡ qs → map place_of (ts ++ us) ≡ ps ++ qs
-both_placed ts us ps qs e f = map-append place_of ts us ∙ rw (e, f) refl
+-- as many templates as literals, each that of its literal
+literals_close : (P : Program) (js : List Placed) (ts : List Template) → length ts ≡ length js → ((k : ℕ) → k < length js → (t : Template) × (slice_get ts k ≡ Some t) × ((l : Placed) × (slice_get js k ≡ Some l) × ClosesLiteral P l.0 t × (t.place ≡ l.1))) → CloseLiterals P (map quoted_of js) ts × (map place_of ts ≡ map place_at js)
+literals_close P [] [] many each = (refl, refl)
+literals_close P [] (t ∷ ts) many each = absurd (omega (arith, many))
+literals_close P (j ∷ js) [] many each = absurd (omega (arith, many))
+literals_close P (j ∷ js) (t ∷ ts) many each =
+    let here = each 0 (omega arith) in
+    let template : t ≡ here.0 = some_same t here.0 here.1 in
+    let literal : j ≡ here.2.0 = some_same j here.2.0 here.2.1 in
+    let rest = literals_close P js ts (omega (arith, many)) (λ (k : ℕ) (lt : k < length js). each (suc k) (omega (arith, lt))) in
+    ((t, ts, refl, subst (λ (u : Template). ClosesLiteral P j.0 u) (sym template) (subst (λ (l : Placed). ClosesLiteral P l.0 here.0) (sym literal) here.2.2), rest.0), both_places t j (map place_of ts) (map place_at js) (ap place_of template ∙ here.2.3 ∙ sym (ap place_at literal)) rest.1)
 
--- a phrase's templates stand at the places of its quotations
-mutual
-  phrase_placed : (bound n : ℕ) (t : Phrase) → IsBuiltPhrase bound t → map place_of (phrase_templates n t) ≡ places_in t
-  phrase_placed bound n end h = refl
-  phrase_placed bound n (then i p t) h = both_placed (item_templates n p i) (phrase_templates (item_behind n i) t) (places_at p i) (places_in t) (item_placed bound n p i h.0) (phrase_placed bound (item_behind n i) t h.1)
+arrays_close : (P : Program) → IsBuilt P → (k : ℕ) (lss cs : List (List Lit)) → length cs ≡ length lss → ((j : ℕ) (ls : List Lit) → slice_get lss j ≡ Some ls → (c : List Lit) × (slice_get cs j ≡ Some c) × IsClosedArray P ls c) → CloseArrays P k lss cs
+arrays_close P b k [] [] many each = refl
+arrays_close P b k [] (c ∷ cs) many each = absurd (omega (arith, many))
+arrays_close P b k (ls ∷ lss) [] many each = absurd (omega (arith, many))
+arrays_close P b k (ls ∷ lss) (c ∷ cs) many each =
+    let here = each 0 ls refl in
+    let same : c ≡ here.0 = some_same c here.0 here.1 in
+    let closed = subst (λ (xs : List Lit). CloseElements P None (first_in_array here.2.0) ls xs) (sym same) here.2.1 in
+    (here.2.0, c, cs, refl, subst (λ (m : Option ℕ). CloseElements P m (first_in_array here.2.0) ls c) (sym (array_in_no_method P b (length P.arrays) k)) closed, arrays_close P b (suc k) lss cs (omega (arith, many)) (λ (j : ℕ) (xs : List Lit) (e : slice_get lss j ≡ Some xs). each (suc j) xs e))
 
-  item_placed : (bound n : ℕ) (p : Place) (i : Item) → IsBuiltItem bound i → map place_of (item_templates n p i) ≡ places_at p i
-  item_placed bound n p (quot t) h = ap (λ (ps : List Place). p ∷ ps) (phrase_placed bound (suc n) t h)
-  item_placed bound n p (lit q) h = refl
-  item_placed bound n p (word w) h = refl
-  item_placed bound n p (lit_arr a) h = absurd h
-  item_placed bound n p (bind x) h = absurd h
-  item_placed bound n p (local x) h = absurd h
-  item_placed bound n p (fry t k) h = absurd h
-  item_placed bound n p (hole k) h = absurd h
-  item_placed bound n p (call_eff f) h = absurd h
-  item_placed bound n p (exec_eff f) h = absurd h
-  item_placed bound n p next_method h = absurd h
-  item_placed bound n p (made k) h = absurd h
-  item_placed bound n p (next_after m) h = absurd h
-  item_placed bound n p (held v) h = absurd h
-  item_placed bound n p (known m) h = absurd h
+mapped_at : {A B : Type 0} (f : A → B) (xs : List A) (k : ℕ) (x : A) → slice_get xs k ≡ Some x → slice_get (map f xs) k ≡ Some (f x)
+mapped_at f [] k x e = absurd cc
+mapped_at f (y ∷ xs) zero x e = ap (λ z. Some (f z)) (some_same y x e)
+mapped_at f (y ∷ xs) (suc k) x e = mapped_at f xs k x e
 
-sort_placed : (bound n w : ℕ) (s : Sort) → HasBuiltPhrase bound s → map place_of (sort_templates n s) ≡ sort_places w s
-sort_placed bound n w (body t) h = phrase_placed bound n t h
-sort_placed bound n w (prim k) h = refl
-sort_placed bound n w (core k) h = refl
-sort_placed bound n w (past t) h = absurd h
-sort_placed bound n w itself h = refl
-sort_placed bound n w (class k) h = refl
-sort_placed bound n w (isa k) h = refl
-sort_placed bound n w (getter x) h = refl
-sort_placed bound n w (setter x) h = refl
-sort_placed bound n w (putter x) h = refl
-sort_placed bound n w generic h = refl
-sort_placed bound n w (method c g t) h = absurd h
+module _ (P : Program) (b : IsBuilt P) (w : IsWhole P) where
+  numbered : (k : ℕ) (l : Placed) → slice_get (program_placed P) k ≡ Some l → literal_numbered P k ≡ l.0
+  numbered k l is = ap (literal_or P k) (ap (λ (ls : List Quoted). slice_get ls k) (sym (placed_literals P b)) ∙ mapped_at quoted_of (program_placed P) k l is)
 
-words_placed : (bound n w : ℕ) (ds : List WordDef) → HaveBuiltPhrases bound ds → map place_of (words_templates n ds) ≡ word_places w ds
-words_placed bound n w [] h = refl
-words_placed bound n w (d ∷ ds) h = both_placed (sort_templates n d.sort) (words_templates (sort_behind n d.sort) ds) (sort_places w d.sort) (word_places (suc w) ds) (sort_placed bound n w d.sort h.0) (words_placed bound (sort_behind n d.sort) (suc w) ds h.1)
+  named_once : (a : ℕ) → a < length P.arrays → times_in a (joined (map arrays_named (word_phrases P.words))) + times_in a (joined (map arrays_in P.arrays)) ≡ 1
+  named_once a lt = sym (times_both a (joined (map arrays_named (word_phrases P.words))) (joined (map arrays_in P.arrays))) ∙ below_once (λ (k : ℕ). times_in k (all_arrays_named P)) (length P.arrays) a w.arrays_once lt
 
--- words and templates that closing makes of a program's words
-pub closes_program : (P : Program) → IsBuilt P → (words : List WordDef) (templates : List Template) → WordsClose P.words words templates → Closes P (record { words = words; arrays = P.arrays; classes = P.classes; top = P.top }) templates
-closes_program P b words templates made_of =
-    let built = built_phrases P b in record { words = rw made_of.words_are (words_close P P.top 0 0 [] P.words built refl refl); templates_are = rw made_of.templates_are (words_templates_close P P.top 0 0 [] P.words built refl refl); places = rw made_of.templates_are (words_placed P.top 0 0 P.words built); arrays = refl; classes = refl; top = refl }
+  closes_stage : (counts : List ℕ) → counts ≡ counts_from [] P.arrays → (unfilled : List Template) (unmet : List ArrayStart) → length unfilled ≡ words_behind counts 0 P.words → length unmet ≡ length P.arrays → (s : Stage) → s ≡ arrays_closed counts (length P.arrays) (record { arrays = P.arrays; templates = put_all unfilled (words_templates counts 0 P.words); starts = put_all unmet (words_starts counts 0 P.words) }) → Closes P (record { words = closed_words counts 0 P.words; arrays = s.arrays; classes = P.classes; top = P.top }) s.templates
+  closes_stage counts counts_are unfilled unmet many_unfilled many_unmet s s_is =
+      let X = array_placed P (length P.arrays) in
+      let every = program_placed P in
+      let count = λ (a : ℕ) (at : Literal) (p : Place) (lt : a < length P.arrays). array_counted P b w a at p lt ∙ sym (ap (λ (cs : List ℕ). get_or cs a 0) counts_are) in
+      let h = subst (ClosedFrom P counts X every count numbered 0) (sym s_is) (everything_closed P counts X every count numbered named_once b w (array_unfolds P b w) refl unfilled unmet many_unfilled many_unmet) in
+      let both = literals_close P every s.templates h.many_templates (all_filled P counts X every count numbered s h) in
+      record {
+        words = words_close P counts X every count numbered P.top 0 0 [] P.words (built_phrases P b) (program_closable P b w) refl refl;
+        templates_are = subst (λ (ls : List Quoted). CloseLiterals P ls s.templates) (placed_literals P b) both.0;
+        places = both.1 ∙ placed_places P b;
+        arrays = arrays_close P b 0 P.arrays s.arrays h.many_arrays (λ (j : ℕ) (ls : List Lit) (e : slice_get P.arrays j ≡ Some ls). h.done j ls (omega arith) e);
+        classes = refl;
+        top = refl;
+      }
+
+  -- words, arrays and templates that closing makes of a program's words and arrays
+  pub closes_program : (words : List WordDef) (arrays : List (List Lit)) (templates : List Template) → PartsClosed P.words P.arrays words arrays templates → Closes P (record { words = words; arrays = arrays; classes = P.classes; top = P.top }) templates
+  closes_program words arrays templates made_of =
+      let closed = closes_stage made_of.counts made_of.counts_are made_of.unfilled made_of.unmet made_of.unfilled_count made_of.unmet_count made_of.last (made_of.last_is ∙ ap (arrays_closed made_of.counts (length P.arrays)) made_of.after_words_is) in
+      rw (made_of.words_are, made_of.arrays_are, made_of.templates_are) closed

@@ -1,5 +1,11 @@
+pub mod Puts
 pub mod TemplateNumbers
+pub mod ArraySteps
+pub mod LiteralArrays
+pub mod PlacedLiterals
+pub mod ArrayNames
 pub mod ClosedPrograms
 pub mod Places
 pub mod Lookups
+pub mod ClosedForms
 pub mod ExamplesOfLiterals

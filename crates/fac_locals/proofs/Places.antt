@@ -1,27 +1,72 @@
 -- Each literal of a program has a place of its own: in reading order places grow.
-use Rattle.std.proofs.Common.{◌≡◌, ◌<◌, ◌≤◌, inl, inr, ℕ, zero, suc, ◌+◌, List, [], ◌∷◌, ◌++◌, length, Option, Some, None, refl, sym, ap, ◌∙◌, arith}
+use Rattle.std.proofs.Common.{◌≡◌, ◌<◌, ◌≤◌, ◌⊎◌, inl, inr, ℕ, zero, suc, ◌+◌, List, [], ◌∷◌, ◌++◌, length, Option, Some, None, refl, sym, ap, ◌∙◌, subst, arith}
+use Rattle.std.proofs.lemmas.Bool.{cases_lt}
 use Rattle.std.specs.Prelude.{slice_get}
 use Rattle.fac_lang.specs.Phrases.{Literal, Phrase, end, then, Item, lit, lit_arr, quot, word, bind, local, fry, hole, call_eff, exec_eff, next_method, made, next_after, held, known}
 use Rattle.fac_lang.specs.Substitution.{of_method}
+use Rattle.fac_lang.specs.Meaning.{nowhere}
+use Rattle.fac_lang.specs.declared.phrase.Place.{Place}
+use Rattle.fac_lang.specs.declared.program.Lit.{Lit}
+use Rattle.fac_lang.specs.declared.program.Lit.TheVariants.{Int as l_int, True as l_yes, False as l_no, Str as l_str, Arr as l_arr, Wref as l_word, Quot as l_quot, Made as l_made}
 use Rattle.fac_lang.specs.declared.program.Program.{Program}
 use Rattle.fac_lang.specs.declared.program.WordDef.{WordDef}
 use Rattle.fac_lang.specs.declared.program.Sort.{Sort}
 use Rattle.fac_lang.specs.declared.program.Sort.TheVariants.{Prim as prim, Core as core, Body as body, Past as past, Itself as itself, Class as class, Isa as isa, Getter as getter, Setter as setter, Putter as putter, Generic as generic, Method as method}
-use Rattle.fac_lang.specs.Forms.{IsBuilt, IsBuiltPhrase, IsBuiltItem}
-use Rattle.fac_locals.specs.Literals.{NotBefore, Quoted, items_in, first_of_word, first_of_literal, behind, literals_in, literals_at, sort_literals, word_literals, literals, literal_or, literal_numbered}
-use Rattle.fac_locals.proofs.ClosedPrograms.{HasBuiltPhrase, HaveBuiltPhrases, built_phrases}
+use Rattle.fac_lang.specs.Forms.{IsBuilt, IsBuiltPhrase, IsBuiltItem, AreBuiltElements, AreBuiltArrays}
+use Rattle.fac_locals.specs.Literals.{NotBehind, NotBefore, Quoted, path, items_in, items_inside, first_of_word, first_of_literal, first_in_array, behind, array_or_none, array_phrase, array_literals, literals_in, literals_at, sort_literals, word_literals, literals, literal_or, literal_numbered}
+use Rattle.fac_locals.specs.inner.Numbering.{plain_phrase}
+use Rattle.fac_locals.proofs.LiteralArrays.{HasBuiltPhrase, HaveBuiltPhrases, built_phrases, array_in_no_method}
 
 -- places of literals grow from one place on, and all stand before another
 abbrev pub Between : Literal → Literal → List Quoted → Type 0
 Between a b [] = NotBefore a b
 Between a b (l ∷ ls) = NotBefore a l.0 × Between (first_of_literal l.0) b ls
 
+-- Paths are ordered by their first numbers that differ, and what leads on comes later.
+not_behind : (is js ks : List ℕ) → NotBehind is js → NotBehind js ks → NotBehind is ks
+not_behind [] js ks p q = tt
+not_behind (i ∷ is) [] ks p q = absurd p
+not_behind (i ∷ is) (j ∷ js) [] p q = absurd q
+not_behind (i ∷ is) (j ∷ js) (k ∷ ks) (inl p) (inl q) = inl (omega (arith, p, q))
+not_behind (i ∷ is) (j ∷ js) (k ∷ ks) (inl p) (inr q) = inl (omega (arith, p, q.0))
+not_behind (i ∷ is) (j ∷ js) (k ∷ ks) (inr p) (inl q) = inl (omega (arith, p.0, q))
+not_behind (i ∷ is) (j ∷ js) (k ∷ ks) (inr p) (inr q) = inr (p.0 ∙ q.0, not_behind is js ks p.1 q.1)
+
+leads_on : (is js : List ℕ) → NotBehind is (is ++ js)
+leads_on [] js = tt
+leads_on (i ∷ is) js = inr (refl, leads_on is js)
+
+same_front : (xs is js : List ℕ) → NotBehind is js → NotBehind (xs ++ is) (xs ++ js)
+same_front [] is js h = h
+same_front (x ∷ xs) is js h = inr (refl, same_front xs is js h)
+
+one_number : (i j : ℕ) → i ≤ j → (i < j) ⊎ (j ≤ i) → NotBehind (i ∷ []) (j ∷ [])
+one_number i j le (inl lt) = inl lt
+one_number i j le (inr ge) = inr (omega (arith, le, ge), tt)
+
+no_return : (xs : List ℕ) (i : ℕ) → NotBehind (xs ++ suc i ∷ []) (xs ++ i ∷ []) → ⊥
+no_return [] i (inl p) = omega (arith, p)
+no_return [] i (inr p) = omega (arith, p.0)
+no_return (x ∷ xs) i (inl p) = omega (arith, p)
+no_return (x ∷ xs) i (inr p) = no_return xs i p.1
+
+not_at_start : (xs : List ℕ) (i : ℕ) → NotBehind (xs ++ suc i ∷ []) (0 ∷ []) → ⊥
+not_at_start [] i (inl p) = omega (arith, p)
+not_at_start [] i (inr p) = omega (arith, p.0)
+not_at_start (x ∷ xs) i (inl p) = omega (arith, p)
+not_at_start (x ∷ []) i (inr p) = p.1
+not_at_start (x ∷ y ∷ xs) i (inr p) = p.1
+
+behind_inside : (xs ys : List ℕ) (i j : ℕ) → i < j → NotBehind ((xs ++ i ∷ []) ++ ys) (xs ++ j ∷ [])
+behind_inside [] ys i j lt = inl lt
+behind_inside (x ∷ xs) ys i j lt = inr (refl, behind_inside xs ys i j lt)
+
 -- the order of places is transitive
 pub not_before : (a b c : Literal) → NotBefore a b → NotBefore b c → NotBefore a c
-not_before a b c (inl p) (inl q) = inl (omega arith)
-not_before a b c (inl p) (inr q) = inl (omega (arith, q.0))
-not_before a b c (inr p) (inl q) = inl (omega (arith, p.0))
-not_before a b c (inr p) (inr q) = inr (p.0 ∙ q.0, omega (arith, p.1, q.1))
+not_before a b c (inl p) (inl q) = inl (omega (arith, p, q))
+not_before a b c (inl p) (inr q) = inl (omega (arith, p, q.0))
+not_before a b c (inr p) (inl q) = inl (omega (arith, p.0, q))
+not_before a b c (inr p) (inr q) = inr (p.0 ∙ q.0, not_behind (path a) (path b) (path c) p.1 q.1)
 
 later : (a b c : Literal) (ls : List Quoted) → NotBefore a b → Between b c ls → Between a c ls
 later a b c [] p h = not_before a b c p h
@@ -31,88 +76,124 @@ join : (a b c : Literal) (ls ms : List Quoted) → Between a b ls → Between b 
 join a b c [] ms h k = later a b c ms h k
 join a b c (l ∷ ls) ms h k = (h.0, join (first_of_literal l.0) b c ls ms h.1 k)
 
+-- the place that is so many items behind another
+abbrev moved : Literal → ℕ → Literal
+moved at n = record { word = at.word; around = at.around; index = n }
+
 -- the place behind a phrase whose first item stands here
 abbrev behind_phrase : Literal → Phrase → Literal
-behind_phrase at t = record { word = at.word; index = at.index + items_in t }
+behind_phrase at t = moved at (at.index + items_in t)
 
-same_word : (w : ℕ) (i j : ℕ) → i ≤ j → NotBefore (record { word = w; index = i }) (record { word = w; index = j })
-same_word w i j h = inr (refl, h)
+on : (at : Literal) (i j : ℕ) → i ≤ j → NotBefore (moved at i) (moved at j)
+on at i j le = inr (refl, same_front at.around (i ∷ []) (j ∷ []) (one_number i j le (cases_lt i j)))
 
 upto : (a b c : Literal) (ls : List Quoted) → Between a b ls → NotBefore b c → Between a c ls
 upto a b c [] h p = not_before a b c h p
 upto a b c (l ∷ ls) h p = (h.0, upto (first_of_literal l.0) b c ls h.1 p)
 
-none_at : (at : Literal) (i : Item) → NotBefore at (behind at i)
-none_at at i = inr (refl, omega arith)
+-- a place is at or behind itself, and the next item's behind it
+pub same_place : (a b : Literal) → a ≡ b → NotBefore a b
+same_place a b e = subst (λ (x : Literal). NotBefore a x) e (on a a.index a.index (omega arith))
 
-mutual
-  phrase_between : (at : Literal) (t : Phrase) → Between at (behind_phrase at t) (literals_in at t)
-  phrase_between at end = inr (refl, omega arith)
-  phrase_between at (then i p t) =
-      upto at (behind_phrase (behind at i) t) (behind_phrase at (then i p t)) (literals_at at i ++ literals_in (behind at i) t) (join at (behind at i) (behind_phrase (behind at i) t) (literals_at at i) (literals_in (behind at i) t) (item_between at i) (phrase_between (behind at i) t)) (inr (refl, omega arith))
+pub none_at : (at : Literal) (i : Item) → NotBefore at (behind at i)
+none_at at i = on at at.index (suc (at.index + items_inside i)) (omega arith)
 
-  item_between : (at : Literal) (i : Item) → Between at (behind at i) (literals_at at i)
-  item_between at (quot t) = (inr (refl, omega arith), upto (first_of_literal at) (behind_phrase (first_of_literal at) t) (behind at (quot t)) (literals_in (first_of_literal at) t) (phrase_between (first_of_literal at) t) (inr (refl, omega arith)))
-  item_between at (fry t n) = (inr (refl, omega arith), upto (first_of_literal at) (behind_phrase (first_of_literal at) t) (behind at (fry t n)) (literals_in (first_of_literal at) t) (phrase_between (first_of_literal at) t) (inr (refl, omega arith)))
-  item_between at (lit q) = none_at at (lit q)
-  item_between at (word w) = none_at at (word w)
-  item_between at (lit_arr a) = none_at at (lit_arr a)
-  item_between at (bind x) = none_at at (bind x)
-  item_between at (local x) = none_at at (local x)
-  item_between at (hole k) = none_at at (hole k)
-  item_between at (call_eff f) = none_at at (call_eff f)
-  item_between at (exec_eff f) = none_at at (exec_eff f)
-  item_between at next_method = none_at at next_method
-  item_between at (made k) = none_at at (made k)
-  item_between at (next_after m) = none_at at (next_after m)
-  item_between at (held v) = none_at at (held v)
-  item_between at (known m) = none_at at (known m)
+into_literal : (at : Literal) → NotBefore at (first_of_literal at)
+into_literal at = on at at.index (suc at.index) (omega arith)
 
-next_word : (w : ℕ) (t : Phrase) → Between (first_of_word w) (first_of_word (suc w)) (literals_in (first_of_word w) t)
-next_word w t = upto (first_of_word w) (behind_phrase (first_of_word w) t) (first_of_word (suc w)) (literals_in (first_of_word w) t) (phrase_between (first_of_word w) t) (inl (omega arith))
+-- places behind a literal array, and in it
+into_array : (at : Literal) → NotBefore at (first_in_array at)
+into_array at = inr (refl, leads_on (path at) (0 ∷ []))
+
+out_of_array : (at : Literal) (n : ℕ) (i : Item) → NotBefore (moved (first_in_array at) n) (behind at i)
+out_of_array at n i = inr (refl, behind_inside at.around (n ∷ []) at.index (suc (at.index + items_inside i)) (omega arith))
+
+module _ (arrays : ℕ → Literal → List Quoted) (array_between : (a : ℕ) (at : Literal) → Between at (behind at (lit_arr a)) (arrays a at)) where
+  mutual
+    phrase_between : (at : Literal) (t : Phrase) → Between at (behind_phrase at t) (literals_in arrays at t)
+    phrase_between at end = on at at.index (at.index + 0) (omega arith)
+    phrase_between at (then i p t) =
+        upto at (behind_phrase (behind at i) t) (behind_phrase at (then i p t)) (literals_at arrays at i ++ literals_in arrays (behind at i) t) (join at (behind at i) (behind_phrase (behind at i) t) (literals_at arrays at i) (literals_in arrays (behind at i) t) (item_between at i) (phrase_between (behind at i) t)) (on at (suc (at.index + items_inside i) + items_in t) (at.index + suc (items_inside i + items_in t)) (omega arith))
+
+    item_between : (at : Literal) (i : Item) → Between at (behind at i) (literals_at arrays at i)
+    item_between at (quot t) = (on at at.index at.index (omega arith), upto (first_of_literal at) (behind_phrase (first_of_literal at) t) (behind at (quot t)) (literals_in arrays (first_of_literal at) t) (phrase_between (first_of_literal at) t) (on at (suc at.index + items_in t) (suc (at.index + items_in t)) (omega arith)))
+    item_between at (fry t n) = (on at at.index at.index (omega arith), upto (first_of_literal at) (behind_phrase (first_of_literal at) t) (behind at (fry t n)) (literals_in arrays (first_of_literal at) t) (phrase_between (first_of_literal at) t) (on at (suc at.index + items_in t) (suc (at.index + items_in t)) (omega arith)))
+    item_between at (lit_arr a) = array_between a at
+    item_between at (lit q) = none_at at (lit q)
+    item_between at (word w) = none_at at (word w)
+    item_between at (bind x) = none_at at (bind x)
+    item_between at (local x) = none_at at (local x)
+    item_between at (hole k) = none_at at (hole k)
+    item_between at (call_eff f) = none_at at (call_eff f)
+    item_between at (exec_eff f) = none_at at (exec_eff f)
+    item_between at next_method = none_at at next_method
+    item_between at (made k) = none_at at (made k)
+    item_between at (next_after m) = none_at at (next_after m)
+    item_between at (held v) = none_at at (held v)
+    item_between at (known m) = none_at at (known m)
+
+array_between : (P : Program) (n a : ℕ) (at : Literal) → Between at (behind at (lit_arr a)) (array_literals P n a at)
+array_between P zero a at = none_at at (lit_arr a)
+array_between P (suc n) a at =
+    let t = array_phrase P a nowhere in
+    let inner = first_in_array at in
+    let ls = literals_in (array_literals P n) inner t in
+    upto at (behind_phrase inner t) (behind at (lit_arr a)) ls (later at inner (behind_phrase inner t) ls (into_array at) (phrase_between (array_literals P n) (array_between P n) inner t)) (out_of_array at (0 + items_in t) (lit_arr a))
+
+abbrev arrays_of : Program → ℕ → Literal → List Quoted
+arrays_of P = array_literals P (length P.arrays)
+
+next_word : (P : Program) (w : ℕ) (t : Phrase) → Between (first_of_word w) (first_of_word (suc w)) (literals_in (arrays_of P) (first_of_word w) t)
+next_word P w t = upto (first_of_word w) (behind_phrase (first_of_word w) t) (first_of_word (suc w)) (literals_in (arrays_of P) (first_of_word w) t) (phrase_between (arrays_of P) (array_between P (length P.arrays)) (first_of_word w) t) (inl (omega arith))
 
 no_phrase : (w : ℕ) → NotBefore (first_of_word w) (first_of_word (suc w))
 no_phrase w = inl (omega arith)
 
-sort_between : (w : ℕ) (s : Sort) → Between (first_of_word w) (first_of_word (suc w)) (sort_literals w s)
-sort_between w (body t) = next_word w t
-sort_between w (past t) = next_word w t
-sort_between w (method c g t) = next_word w (of_method w t)
-sort_between w (prim k) = no_phrase w
-sort_between w (core k) = no_phrase w
-sort_between w itself = no_phrase w
-sort_between w (class k) = no_phrase w
-sort_between w (isa k) = no_phrase w
-sort_between w (getter x) = no_phrase w
-sort_between w (setter x) = no_phrase w
-sort_between w (putter x) = no_phrase w
-sort_between w generic = no_phrase w
+sort_between : (P : Program) (w : ℕ) (s : Sort) → Between (first_of_word w) (first_of_word (suc w)) (sort_literals P w s)
+sort_between P w (body t) = next_word P w t
+sort_between P w (past t) = next_word P w t
+sort_between P w (method c g t) = next_word P w (of_method w t)
+sort_between P w (prim k) = no_phrase w
+sort_between P w (core k) = no_phrase w
+sort_between P w itself = no_phrase w
+sort_between P w (class k) = no_phrase w
+sort_between P w (isa k) = no_phrase w
+sort_between P w (getter x) = no_phrase w
+sort_between P w (setter x) = no_phrase w
+sort_between P w (putter x) = no_phrase w
+sort_between P w generic = no_phrase w
 
-words_between : (w v : ℕ) (ds : List WordDef) → w + length ds ≡ v → Between (first_of_word w) (first_of_word v) (word_literals w ds)
-words_between w v [] e = inr (omega (arith, e), omega arith)
-words_between w v (d ∷ ds) e = join (first_of_word w) (first_of_word (suc w)) (first_of_word v) (sort_literals w d.sort) (word_literals (suc w) ds) (sort_between w d.sort) (words_between (suc w) v ds (omega (arith, e)))
+words_end : (w v : ℕ) → w ≡ v → NotBefore (first_of_word w) (first_of_word v)
+words_end w v e = inr (e, inr (refl, tt))
+
+words_between : (P : Program) (w v : ℕ) (ds : List WordDef) → w + length ds ≡ v → Between (first_of_word w) (first_of_word v) (word_literals P w ds)
+words_between P w v [] e = words_end w v (omega (arith, e))
+words_between P w v (d ∷ ds) e = join (first_of_word w) (first_of_word (suc w)) (first_of_word v) (sort_literals P w d.sort) (word_literals P (suc w) ds) (sort_between P w d.sort) (words_between P (suc w) v ds (omega (arith, e)))
 
 program_between : (P : Program) → Between (first_of_word 0) (first_of_word (length P.words)) (literals P)
-program_between P = words_between 0 (length P.words) P.words (omega arith)
+program_between P = words_between P 0 (length P.words) P.words (omega arith)
 
 -- a literal among these stands before their end and not before their beginning
 not_earlier : (a b : Literal) (ls : List Quoted) (k : ℕ) (l : Quoted) → Between a b ls → slice_get ls k ≡ Some l → NotBefore a l.0
 not_earlier a b [] k l h e = absurd cc
 not_earlier a b (m ∷ ls) zero l h e = let same : m ≡ l = cc in rw (← same) h.0
-not_earlier a b (m ∷ ls) (suc k) l h e = not_before a (first_of_literal m.0) l.0 (not_before a m.0 (first_of_literal m.0) h.0 (inr (refl, omega arith))) (not_earlier (first_of_literal m.0) b ls k l h.1 e)
+not_earlier a b (m ∷ ls) (suc k) l h e = not_before a (first_of_literal m.0) l.0 (not_before a m.0 (first_of_literal m.0) h.0 (into_literal m.0)) (not_earlier (first_of_literal m.0) b ls k l h.1 e)
 
 ends_before : (a b : Literal) (ls : List Quoted) → Between a b ls → NotBefore a b
 ends_before a b [] h = h
-ends_before a b (m ∷ ls) h = not_before a m.0 b h.0 (not_before m.0 (first_of_literal m.0) b (inr (refl, omega arith)) (ends_before (first_of_literal m.0) b ls h.1))
+ends_before a b (m ∷ ls) h = not_before a m.0 b h.0 (not_before m.0 (first_of_literal m.0) b (into_literal m.0) (ends_before (first_of_literal m.0) b ls h.1))
 
 earlier : (a b : Literal) (ls : List Quoted) (k : ℕ) (l : Quoted) → Between a b ls → slice_get ls k ≡ Some l → NotBefore (first_of_literal l.0) b
 earlier a b [] k l h e = absurd cc
 earlier a b (m ∷ ls) zero l h e = let same : m ≡ l = cc in rw (← same) (ends_before (first_of_literal m.0) b ls h.1)
 earlier a b (m ∷ ls) (suc k) l h e = earlier (first_of_literal m.0) b ls k l h.1 e
 
+never_behind : (a : Literal) → NotBefore (first_of_literal a) a → ⊥
+never_behind a (inl p) = omega (arith, p)
+never_behind a (inr p) = no_return a.around a.index p.1
+
 not_behind_itself : (a b : Literal) → NotBefore (first_of_literal a) b → a ≡ b → ⊥
-not_behind_itself a b (inl p) e = omega (arith, ap (λ (l : Literal). l.word) e)
-not_behind_itself a b (inr p) e = omega (arith, p.1, ap (λ (l : Literal). l.index) e)
+not_behind_itself a b p e = never_behind a (subst (λ (c : Literal). NotBefore (first_of_literal a) c) (sym e) p)
 
 apart : (a b : Literal) (ls : List Quoted) (j k : ℕ) (l m : Quoted) → Between a b ls → slice_get ls j ≡ Some l → slice_get ls k ≡ Some m → l.0 ≡ m.0 → j ≡ k
 apart a b [] j k l m h p q e = absurd cc
@@ -125,9 +206,9 @@ apart a b (x ∷ ls) (suc j) zero l m h p q e =
     absurd (not_behind_itself x.0 l.0 (not_earlier (first_of_literal x.0) b ls j l h.1 p) (ap (λ (y : Quoted). y.0) same ∙ sym e))
 apart a b (x ∷ ls) (suc j) (suc k) l m h p q e = ap suc (apart (first_of_literal x.0) b ls j k l m h.1 p q e)
 
-outside : (n k : ℕ) (l : Literal) → NotBefore (first_of_literal l) (first_of_word n) → l ≡ record { word = n; index = k } → ⊥
-outside n k l (inl p) e = omega (arith, ap (λ (l : Literal). l.word) e)
-outside n k l (inr p) e = omega (arith, p.1)
+outside : (n k : ℕ) (l : Literal) → NotBefore (first_of_literal l) (first_of_word n) → l ≡ record { word = n; around = []; index = k } → ⊥
+outside n k l (inl p) e = omega (arith, p, ap (λ (l : Literal). l.word) e)
+outside n k l (inr p) e = not_at_start l.around l.index p.1
 
 apart_or : (P : Program) (j k : ℕ) (o p : Option Quoted) → slice_get (literals P) j ≡ o → slice_get (literals P) k ≡ p → (literal_or P j o).0 ≡ (literal_or P k p).0 → j ≡ k
 apart_or P j k (Some l) (Some m) o p e = apart (first_of_word 0) (first_of_word (length P.words)) (literals P) j k l m (program_between P) o p e
@@ -147,7 +228,7 @@ grows a b (x ∷ ls) zero zero l m h p q e =
 grows a b (x ∷ ls) zero (suc k) l m h p q e =
     let same : x ≡ m = cc in
     let behind_x = not_earlier (first_of_literal x.0) b ls k l h.1 p in
-    let behind_l : NotBefore l.0 m.0 = not_before l.0 (first_of_literal l.0) m.0 (inr (refl, omega arith)) e in
+    let behind_l : NotBefore l.0 m.0 = not_before l.0 (first_of_literal l.0) m.0 (into_literal l.0) e in
     absurd (not_behind_itself x.0 m.0 (not_before (first_of_literal x.0) l.0 m.0 behind_x behind_l) (ap (λ (y : Quoted). y.0) same))
 grows a b (x ∷ ls) (suc j) zero l m h p q e = omega arith
 grows a b (x ∷ ls) (suc j) (suc k) l m h p q e =
@@ -162,14 +243,18 @@ some_before_none (y ∷ xs) (suc j) (suc k) x p q =
     let more = some_before_none xs j k x p q in
     omega (arith, more)
 
-beyond : (n k : ℕ) (m : Literal) → NotBefore (first_of_literal m) (first_of_word n) → NotBefore (first_of_literal (record { word = n; index = k })) m → ⊥
+beyond : (n k : ℕ) (m : Literal) → NotBefore (first_of_literal m) (first_of_word n) → NotBefore (first_of_literal (record { word = n; around = []; index = k })) m → ⊥
 beyond n k m (inl p) (inl q) = omega (arith, p, q)
 beyond n k m (inl p) (inr q) = omega (arith, p, q.0)
-beyond n k m (inr p) q = omega (arith, p.1)
+beyond n k m (inr p) q = not_at_start m.around m.index p.1
 
-last_numbers : (n j k : ℕ) → NotBefore (first_of_literal (record { word = n; index = k })) (record { word = n; index = j }) → k < j
+last_index : (j k : ℕ) → NotBehind (suc k ∷ []) (j ∷ []) → k < j
+last_index j k (inl p) = omega (arith, p)
+last_index j k (inr p) = omega (arith, p.0)
+
+last_numbers : (n j k : ℕ) → NotBefore (first_of_literal (record { word = n; around = []; index = k })) (record { word = n; around = []; index = j }) → k < j
 last_numbers n j k (inl p) = absurd (omega (arith, p))
-last_numbers n j k (inr p) = omega (arith, p.1)
+last_numbers n j k (inr p) = last_index j k p.1
 
 grows_or : (P : Program) (j k : ℕ) (o p : Option Quoted) → slice_get (literals P) k ≡ o → slice_get (literals P) j ≡ p → NotBefore (first_of_literal (literal_or P k o).0) (literal_or P j p).0 → k < j
 grows_or P j k (Some l) (Some m) o p e = grows (first_of_word 0) (first_of_word (length P.words)) (literals P) j k l m (program_between P) o p e
@@ -190,45 +275,71 @@ both_built : (bound : ℕ) (ls ms : List Quoted) → AreBuiltLiterals bound ls �
 both_built bound [] ms h k = k
 both_built bound (l ∷ ls) ms h k = (h.0, both_built bound ls ms h.1 k)
 
-mutual
-  phrase_literals_built : (bound : ℕ) (at : Literal) (t : Phrase) → IsBuiltPhrase bound t → AreBuiltLiterals bound (literals_in at t)
-  phrase_literals_built bound at end h = tt
-  phrase_literals_built bound at (then i p t) h = both_built bound (literals_at at i) (literals_in (behind at i) t) (item_literals_built bound at i h.0) (phrase_literals_built bound (behind at i) t h.1)
+module _ (bound : ℕ) (arrays : ℕ → Literal → List Quoted) (arrays_built : (a : ℕ) (at : Literal) → AreBuiltLiterals bound (arrays a at)) where
+  mutual
+    phrase_literals_built : (at : Literal) (t : Phrase) → IsBuiltPhrase bound t → AreBuiltLiterals bound (literals_in arrays at t)
+    phrase_literals_built at end h = tt
+    phrase_literals_built at (then i p t) h = both_built bound (literals_at arrays at i) (literals_in arrays (behind at i) t) (item_literals_built at i h.0) (phrase_literals_built (behind at i) t h.1)
 
-  item_literals_built : (bound : ℕ) (at : Literal) (i : Item) → IsBuiltItem bound i → AreBuiltLiterals bound (literals_at at i)
-  item_literals_built bound at (quot t) h = (h, phrase_literals_built bound (first_of_literal at) t h)
-  item_literals_built bound at (fry t n) h = absurd h
-  item_literals_built bound at (lit q) h = tt
-  item_literals_built bound at (word w) h = tt
-  item_literals_built bound at (lit_arr a) h = tt
-  item_literals_built bound at (bind x) h = tt
-  item_literals_built bound at (local x) h = tt
-  item_literals_built bound at (hole k) h = tt
-  item_literals_built bound at (call_eff f) h = tt
-  item_literals_built bound at (exec_eff f) h = tt
-  item_literals_built bound at next_method h = tt
-  item_literals_built bound at (made k) h = tt
-  item_literals_built bound at (next_after m) h = tt
-  item_literals_built bound at (held v) h = tt
-  item_literals_built bound at (known m) h = tt
+    item_literals_built : (at : Literal) (i : Item) → IsBuiltItem bound i → AreBuiltLiterals bound (literals_at arrays at i)
+    item_literals_built at (quot t) h = (h, phrase_literals_built (first_of_literal at) t h)
+    item_literals_built at (fry t n) h = absurd h
+    item_literals_built at (lit_arr a) h = arrays_built a at
+    item_literals_built at (lit q) h = tt
+    item_literals_built at (word w) h = tt
+    item_literals_built at (bind x) h = tt
+    item_literals_built at (local x) h = tt
+    item_literals_built at (hole k) h = tt
+    item_literals_built at (call_eff f) h = tt
+    item_literals_built at (exec_eff f) h = tt
+    item_literals_built at next_method h = tt
+    item_literals_built at (made k) h = tt
+    item_literals_built at (next_after m) h = tt
+    item_literals_built at (held v) h = tt
+    item_literals_built at (known m) h = tt
 
-sort_literals_built : (bound w : ℕ) (s : Sort) → HasBuiltPhrase bound s → AreBuiltLiterals bound (sort_literals w s)
-sort_literals_built bound w (body t) h = phrase_literals_built bound (first_of_word w) t h
-sort_literals_built bound w (past t) h = absurd h
-sort_literals_built bound w (method c g t) h = absurd h
-sort_literals_built bound w (prim k) h = tt
-sort_literals_built bound w (core k) h = tt
-sort_literals_built bound w itself h = tt
-sort_literals_built bound w (class k) h = tt
-sort_literals_built bound w (isa k) h = tt
-sort_literals_built bound w (getter x) h = tt
-sort_literals_built bound w (setter x) h = tt
-sort_literals_built bound w (putter x) h = tt
-sort_literals_built bound w generic h = tt
+-- the items of a literal array
+elements_built : (bound : ℕ) (p : Place) (ls : List Lit) → AreBuiltElements bound ls → IsBuiltPhrase bound (plain_phrase p ls)
+elements_built bound p [] h = tt
+elements_built bound p (l_int z ∷ ls) h = (tt, elements_built bound p ls h.1)
+elements_built bound p (l_yes ∷ ls) h = (tt, elements_built bound p ls h.1)
+elements_built bound p (l_no ∷ ls) h = (tt, elements_built bound p ls h.1)
+elements_built bound p (l_str s ∷ ls) h = (tt, elements_built bound p ls h.1)
+elements_built bound p (l_arr a ∷ ls) h = (tt, elements_built bound p ls h.1)
+elements_built bound p (l_word w ∷ ls) h = (h.0, elements_built bound p ls h.1)
+elements_built bound p (l_quot t ∷ ls) h = (h.0, elements_built bound p ls h.1)
+elements_built bound p (l_made k ∷ ls) h = absurd h.0
 
-word_literals_built : (bound w : ℕ) (ds : List WordDef) → HaveBuiltPhrases bound ds → AreBuiltLiterals bound (word_literals w ds)
-word_literals_built bound w [] h = tt
-word_literals_built bound w (d ∷ ds) h = both_built bound (sort_literals w d.sort) (word_literals (suc w) ds) (sort_literals_built bound w d.sort h.0) (word_literals_built bound (suc w) ds h.1)
+array_built : (bound a : ℕ) (lss : List (List Lit)) → AreBuiltArrays bound lss → AreBuiltElements bound (array_or_none (slice_get lss a))
+array_built bound a [] h = tt
+array_built bound zero (ls ∷ lss) h = h.0
+array_built bound (suc a) (ls ∷ lss) h = array_built bound a lss h.1
+
+-- the phrase of a literal array of a built program is of the built forms
+pub array_phrase_built : (P : Program) → IsBuilt P → (a : ℕ) (p : Place) → IsBuiltPhrase P.top (array_phrase P a p)
+array_phrase_built P b a p = rw (array_in_no_method P b (length P.arrays) a) (elements_built P.top p (array_or_none (slice_get P.arrays a)) (array_built P.top a P.arrays b.arrays_built))
+
+array_literals_built : (P : Program) → IsBuilt P → (n a : ℕ) (at : Literal) → AreBuiltLiterals P.top (array_literals P n a at)
+array_literals_built P b zero a at = tt
+array_literals_built P b (suc n) a at = phrase_literals_built P.top (array_literals P n) (array_literals_built P b n) (first_in_array at) (array_phrase P a nowhere) (array_phrase_built P b a nowhere)
+
+sort_literals_built : (P : Program) → IsBuilt P → (w : ℕ) (s : Sort) → HasBuiltPhrase P.top s → AreBuiltLiterals P.top (sort_literals P w s)
+sort_literals_built P b w (body t) h = phrase_literals_built P.top (arrays_of P) (array_literals_built P b (length P.arrays)) (first_of_word w) t h
+sort_literals_built P b w (past t) h = absurd h
+sort_literals_built P b w (method c g t) h = absurd h
+sort_literals_built P b w (prim k) h = tt
+sort_literals_built P b w (core k) h = tt
+sort_literals_built P b w itself h = tt
+sort_literals_built P b w (class k) h = tt
+sort_literals_built P b w (isa k) h = tt
+sort_literals_built P b w (getter x) h = tt
+sort_literals_built P b w (setter x) h = tt
+sort_literals_built P b w (putter x) h = tt
+sort_literals_built P b w generic h = tt
+
+word_literals_built : (P : Program) → IsBuilt P → (w : ℕ) (ds : List WordDef) → HaveBuiltPhrases P.top ds → AreBuiltLiterals P.top (word_literals P w ds)
+word_literals_built P b w [] h = tt
+word_literals_built P b w (d ∷ ds) h = both_built P.top (sort_literals P w d.sort) (word_literals P (suc w) ds) (sort_literals_built P b w d.sort h.0) (word_literals_built P b (suc w) ds h.1)
 
 built_literal : (P : Program) (bound n k : ℕ) (ls : List Quoted) → AreBuiltLiterals bound ls → IsBuiltPhrase bound (literal_or P n (slice_get ls k)).1
 built_literal P bound n k [] h = tt
@@ -237,4 +348,4 @@ built_literal P bound n (suc k) (l ∷ ls) h = built_literal P bound n k ls h.1
 
 -- the phrase of each literal is of the built forms, so no mark stands in it
 pub literal_built : (P : Program) → IsBuilt P → (k : ℕ) → IsBuiltPhrase P.top (literal_numbered P k).1
-literal_built P b k = built_literal P P.top k k (literals P) (word_literals_built P.top 0 P.words (built_phrases P b))
+literal_built P b k = built_literal P P.top k k (literals P) (word_literals_built P b 0 P.words (built_phrases P b))

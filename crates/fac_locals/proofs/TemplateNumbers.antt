@@ -1,129 +1,137 @@
 -- The numbers that templates get, and one step of closing.
-use Rattle.std.proofs.Common.{◌≡◌, ℕ, suc, List, [], ◌∷◌, ◌++◌, length, set, refl, sym, ap, ◌∙◌, append_assoc, length-append, arith}
-use Rattle.std.proofs.lemmas.List.{append-nil, set_at}
-use Rattle.fac_lang.specs.Phrases.{Phrase, end, then, Item, lit, lit_arr, quot, word, bind, local, fry, hole, call_eff, exec_eff, next_method, made, next_after, held, known}
+use Rattle.std.proofs.Common.{◌≡◌, ℕ, suc, List, [], ◌∷◌, ◌++◌, length, set, refl, sym, ap, ◌∙◌, subst, append_assoc, arith}
+use Rattle.std.proofs.lemmas.List.{append-nil}
+use Rattle.fac_lang.specs.Phrases.{Phrase, end, then, Item, quot}
 use Rattle.fac_lang.specs.declared.phrase.Place.{Place}
 use Rattle.fac_lang.specs.declared.phrase.Item.{Item as PlacedItem}
 use Rattle.fac_lang.specs.declared.phrase.What.{What}
 use Rattle.fac_lang.specs.declared.phrase.What.TheVariants.{Int, True, False, Str, Arr, Wref, Quot, Word, Bind, Local, Fry, Hole, CallEff, ExecEff, NextMethod, Made}
 use Rattle.fac_lang.specs.declared.phrase.Template.{Template}
+use Rattle.fac_lang.specs.declared.program.Lit.{Lit}
+use Rattle.fac_lang.specs.declared.program.Lit.TheVariants.{Quot as l_quot, Made as l_made}
 use Rattle.fac_lang.specs.declared.program.WordDef.{WordDef}
-use Rattle.fac_lang.specs.declared.program.Sort.{Sort}
-use Rattle.fac_lang.specs.declared.program.Sort.TheVariants.{Prim as prim, Core as core, Body as body, Past as past, Itself as itself, Class as class, Isa as isa, Getter as getter, Setter as setter, Putter as putter, Generic as generic, Method as method}
 use Rattle.fac_lang.specs.PhraseView.{what_item, items_phrase}
-use Rattle.fac_locals.specs.inner.Numbering.{phrase_behind, item_behind, closed_item, closed_phrase, template_of, placeholder, phrase_templates, item_templates, closed_what, closed_items, sort_behind, sort_templates, closed_words, words_templates, PhraseCloses, ItemCloses, WordCloses}
+use Rattle.fac_locals.specs.declared.closing.ArrayStart.{ArrayStart}
+use Rattle.fac_locals.specs.declared.closing.Closing.{Closing}
+use Rattle.fac_locals.specs.inner.Numbering.{put_all, phrase_behind, item_behind, closed_item, closed_phrase, template_of, phrase_templates, item_templates, phrase_starts, item_starts, closed_what, closed_items, closed_element, closed_elements, plain_item, body_of, words_behind, closed_word, closed_words, words_templates, words_starts, ItemPassed, PhrasePassed, Passing, WordsPassing, NumberTaken}
 
-no_more : {A : Type 0} (xs : List A) (n : ℕ) → length xs ≡ n → length (xs ++ []) ≡ n
-no_more xs n e = rw (append-nil xs) e
+-- elements are put one after the other
+pub put_both : {A : Type 0} → (xs : List A) (vs ws : List (ℕ × A)) → put_all xs (vs ++ ws) ≡ put_all (put_all xs vs) ws
+put_both xs [] ws = refl
+put_both xs (v ∷ vs) ws = put_both (set xs v.0 v.1) vs ws
 
-one_more : {A : Type 0} (xs : List A) (x : A) (n : ℕ) → length xs ≡ n → length (xs ++ x ∷ []) ≡ suc n
-one_more xs x n e = rw (length-append xs (x ∷ [])) (omega arith)
+module _ (counts : List ℕ) where
+  what_closed : (n : ℕ) (w : What) → what_item (closed_what counts n w) ≡ closed_item counts n (what_item w)
+  what_closed n (Int z) = refl
+  what_closed n True = refl
+  what_closed n False = refl
+  what_closed n (Str s) = refl
+  what_closed n (Arr a) = refl
+  what_closed n (Wref w) = refl
+  what_closed n (Quot t) = refl
+  what_closed n (Word w) = refl
+  what_closed n (Bind x) = refl
+  what_closed n (Local x) = refl
+  what_closed n (Fry t k) = refl
+  what_closed n (Hole k) = refl
+  what_closed n (CallEff h) = refl
+  what_closed n (ExecEff h) = refl
+  what_closed n NextMethod = refl
+  what_closed n (Made k) = refl
 
--- a phrase's templates are as many as its quotations
-mutual
-  pub phrase_counted : (n : ℕ) (ts : List Template) (t : Phrase) → length ts ≡ n → length (ts ++ phrase_templates n t) ≡ phrase_behind n t
-  phrase_counted n ts end e = no_more ts n e
-  phrase_counted n ts (then i p t) e =
-      ap length (sym (append_assoc ts (item_templates n p i) (phrase_templates (item_behind n i) t))) ∙ phrase_counted (item_behind n i) (ts ++ item_templates n p i) t (item_counted n ts p i e)
+  -- the items of a phrase are closed as the phrase is
+  pub items_closed : (n : ℕ) (is : List PlacedItem) → items_phrase (closed_items counts n is) ≡ closed_phrase counts n (items_phrase is)
+  items_closed n [] = refl
+  items_closed n (i ∷ is) = rw (what_closed n i.what, items_closed (item_behind counts n (what_item i.what)) is) refl
 
-  pub item_counted : (n : ℕ) (ts : List Template) (p : Place) (i : Item) → length ts ≡ n → length (ts ++ item_templates n p i) ≡ item_behind n i
-  item_counted n ts p (quot t) e =
-      let x = template_of p (closed_phrase (suc n) t) in
-      ap length (sym (append_assoc ts (x ∷ []) (phrase_templates (suc n) t))) ∙ phrase_counted (suc n) (ts ++ x ∷ []) t (one_more ts x n e)
-  item_counted n ts p (lit q) e = no_more ts n e
-  item_counted n ts p (lit_arr a) e = no_more ts n e
-  item_counted n ts p (word w) e = no_more ts n e
-  item_counted n ts p (bind x) e = no_more ts n e
-  item_counted n ts p (local x) e = no_more ts n e
-  item_counted n ts p (fry t k) e = no_more ts n e
-  item_counted n ts p (hole k) e = no_more ts n e
-  item_counted n ts p (call_eff h) e = no_more ts n e
-  item_counted n ts p (exec_eff h) e = no_more ts n e
-  item_counted n ts p next_method e = no_more ts n e
-  item_counted n ts p (made k) e = no_more ts n e
-  item_counted n ts p (next_after m) e = no_more ts n e
-  item_counted n ts p (held v) e = no_more ts n e
-  item_counted n ts p (known m) e = no_more ts n e
+  -- one item more
+  pub pass_on : (start : Closing) (t : Phrase) (before : Closing) (left : Phrase) (behind : Closing) (i : Item) (p : Place) (rest : Phrase) → Passing counts start t before left → left ≡ then i p rest → ItemPassed counts before p i behind → Passing counts start t behind rest
+  pass_on start t before left behind i p rest so_far is_next passed = record {
+    next_is = so_far.next_is ∙ ap (phrase_behind counts before.next) is_next ∙ sym (ap (λ (n : ℕ). phrase_behind counts n rest) passed.next_is);
+    templates_are =
+        so_far.templates_are
+        ∙ ap (λ (u : Phrase). put_all before.templates.items (phrase_templates counts before.next u)) is_next
+        ∙ put_both before.templates.items (item_templates counts before.next p i) (phrase_templates counts (item_behind counts before.next i) rest)
+        ∙ sym (ap (λ (ts : List Template). put_all ts (phrase_templates counts (item_behind counts before.next i) rest)) passed.templates_are)
+        ∙ sym (ap (λ (n : ℕ). put_all behind.templates.items (phrase_templates counts n rest)) passed.next_is);
+    starts_are =
+        so_far.starts_are
+        ∙ ap (λ (u : Phrase). put_all before.starts.items (phrase_starts counts before.next u)) is_next
+        ∙ put_both before.starts.items (item_starts counts before.next p i) (phrase_starts counts (item_behind counts before.next i) rest)
+        ∙ sym (ap (λ (ts : List ArrayStart). put_all ts (phrase_starts counts (item_behind counts before.next i) rest)) passed.starts_are)
+        ∙ sym (ap (λ (n : ℕ). put_all behind.starts.items (phrase_starts counts n rest)) passed.next_is);
+  }
 
-what_closed : (n : ℕ) (w : What) → what_item (closed_what n w) ≡ closed_item n (what_item w)
-what_closed n (Int z) = refl
-what_closed n True = refl
-what_closed n False = refl
-what_closed n (Str s) = refl
-what_closed n (Arr a) = refl
-what_closed n (Wref w) = refl
-what_closed n (Quot t) = refl
-what_closed n (Word w) = refl
-what_closed n (Bind x) = refl
-what_closed n (Local x) = refl
-what_closed n (Fry t k) = refl
-what_closed n (Hole k) = refl
-what_closed n (CallEff h) = refl
-what_closed n (ExecEff h) = refl
-what_closed n NextMethod = refl
-what_closed n (Made k) = refl
+  -- nothing is left
+  pub all_passed : (start : Closing) (whole t : Phrase) (behind : Closing) (left : Phrase) → Passing counts start t behind left → t ≡ whole → left ≡ end → PhrasePassed counts start whole behind
+  all_passed start whole t behind left so_far same none = record {
+    next_is = sym (ap (phrase_behind counts start.next) (sym same) ∙ so_far.next_is ∙ ap (phrase_behind counts behind.next) none);
+    templates_are = sym (ap (λ (u : Phrase). put_all start.templates.items (phrase_templates counts start.next u)) (sym same) ∙ so_far.templates_are ∙ ap (λ (u : Phrase). put_all behind.templates.items (phrase_templates counts behind.next u)) none);
+    starts_are = sym (ap (λ (u : Phrase). put_all start.starts.items (phrase_starts counts start.next u)) (sym same) ∙ so_far.starts_are ∙ ap (λ (u : Phrase). put_all behind.starts.items (phrase_starts counts behind.next u)) none);
+  }
 
--- the items of a phrase are closed as the phrase is
-pub items_closed : (n : ℕ) (is : List PlacedItem) → items_phrase (closed_items n is) ≡ closed_phrase n (items_phrase is)
-items_closed n [] = refl
-items_closed n (i ∷ is) = rw (what_closed n i.what, items_closed (item_behind n (what_item i.what)) is) refl
+  -- one item is closed: with what was made so far and what is left, the closed items are the same
+  pub step_items : (whole items pushed rest left : List PlacedItem) (before behind : Closing) (i : PlacedItem) (w : What) → whole ≡ items ++ closed_items counts before.next rest → rest ≡ i ∷ left → w ≡ closed_what counts before.next i.what → ItemPassed counts before i.place (what_item i.what) behind → pushed ≡ items ++ record { what = w; place = i.place } ∷ [] → whole ≡ pushed ++ closed_items counts behind.next left
+  step_items whole items pushed rest left before behind i w so_far is_next w_is passed is_pushed =
+      rw (is_pushed, passed.next_is, w_is, append_assoc items) (so_far ∙ ap (λ (r : List PlacedItem). items ++ closed_items counts before.next r) is_next)
 
--- one item is closed: with what was made so far and what is left, the closed items are the same
-pub step_items : (whole items pushed rest left : List PlacedItem) (before behind : List Template) (i : PlacedItem) (w : What) → whole ≡ items ++ closed_items (length before) rest → rest ≡ i ∷ left → ItemCloses before i.place i.what w behind → pushed ≡ items ++ record { what = w; place = i.place } ∷ [] → whole ≡ pushed ++ closed_items (length behind) left
-step_items whole items pushed rest left before behind i w so_far is_next closes is_pushed =
-    let count : length behind ≡ item_behind (length before) (what_item i.what) = ap length closes.templates_are ∙ item_counted (length before) before i.place (what_item i.what) refl in
-    rw (is_pushed, count, closes.item_is, append_assoc items) (so_far ∙ ap (λ (r : List PlacedItem). items ++ closed_items (length before) r) is_next)
+  pub none_left : (is : List PlacedItem) → length is ≡ 0 → is ≡ []
+  none_left [] e = refl
+  none_left (i ∷ is) e = absurd (omega (arith, e))
 
--- likewise the templates
-pub step_templates : (whole before behind : List Template) (rest left : List PlacedItem) (i : PlacedItem) (w : What) → whole ≡ before ++ phrase_templates (length before) (items_phrase rest) → rest ≡ i ∷ left → ItemCloses before i.place i.what w behind → whole ≡ behind ++ phrase_templates (length behind) (items_phrase left)
-step_templates whole before behind rest left i w so_far is_next closes =
-    let count : length behind ≡ item_behind (length before) (what_item i.what) = ap length closes.templates_are ∙ item_counted (length before) before i.place (what_item i.what) refl in
-    rw (count, closes.templates_are, append_assoc before) (so_far ∙ ap (λ (r : List PlacedItem). before ++ phrase_templates (length before) (items_phrase r)) is_next)
+  -- a phrase whose items are all closed
+  pub all_closed : (t : Phrase) (is items rest : List PlacedItem) (start behind : Closing) → items_phrase is ≡ t → length rest ≡ 0 → closed_items counts start.next is ≡ items ++ closed_items counts behind.next rest → Passing counts start (items_phrase is) behind (items_phrase rest) → (items_phrase items ≡ closed_phrase counts start.next t) × PhrasePassed counts start t behind
+  all_closed t is items rest start behind same none items_are passing =
+      let over = none_left rest none in
+      let all : closed_items counts start.next is ≡ items = items_are ∙ ap (λ (r : List PlacedItem). items ++ closed_items counts behind.next r) over ∙ append-nil items in
+      (ap items_phrase (sym all) ∙ items_closed start.next is ∙ ap (closed_phrase counts start.next) same, all_passed start t (items_phrase is) behind (items_phrase rest) passing same (ap items_phrase over))
 
--- a phrase whose items are all closed
-pub all_closed : (t : Phrase) (is items rest : List PlacedItem) (before behind : List Template) → items_phrase is ≡ t → length rest ≡ 0 → closed_items (length before) is ≡ items ++ closed_items (length behind) rest → before ++ phrase_templates (length before) (items_phrase is) ≡ behind ++ phrase_templates (length behind) (items_phrase rest) → PhraseCloses before t (items_phrase items) behind
-all_closed t is items [] before behind same none items_are templates_are = record {
-  closed_phrase_is = ap items_phrase (sym (append-nil items) ∙ sym items_are) ∙ items_closed (length before) is ∙ ap (closed_phrase (length before)) same;
-  templates_are = sym (append-nil behind) ∙ sym templates_are ∙ ap (λ (u : Phrase). before ++ phrase_templates (length before) u) same;
-}
-all_closed t is items (i ∷ rest) before behind same none items_are templates_are = absurd (omega arith)
+  -- likewise for the elements of an array
+  pub step_elements : (whole closed pushed rest left : List Lit) (before behind : Closing) (p : Place) (l c : Lit) → whole ≡ closed ++ closed_elements counts before.next rest → rest ≡ l ∷ left → c ≡ closed_element counts before.next l → ItemPassed counts before p (plain_item l) behind → pushed ≡ closed ++ c ∷ [] → whole ≡ pushed ++ closed_elements counts behind.next left
+  step_elements whole closed pushed rest left before behind p l c so_far is_next c_is passed is_pushed =
+      rw (is_pushed, passed.next_is, c_is, append_assoc closed) (so_far ∙ ap (λ (r : List Lit). closed ++ closed_elements counts before.next r) is_next)
 
--- a quotation, whose template was reserved before its phrase was closed
-pub quotation_closed : (before reserved inside behind : List Template) (p : Place) (w : What) (t closed : Phrase) (number : ℕ) → w ≡ Quot t → number ≡ length before → reserved ≡ before ++ placeholder p ∷ [] → PhraseCloses reserved t closed inside → behind ≡ set inside number (template_of p closed) → ItemCloses before p w (Made number) behind
-quotation_closed before reserved inside behind p w t closed number is_quotation is_number is_reserved closes is_filled =
-    let count : length reserved ≡ suc (length before) = ap length is_reserved ∙ one_more before (placeholder p) (length before) refl in
-    let more = phrase_templates (suc (length before)) t in
-    let inside_is : inside ≡ before ++ placeholder p ∷ more =
-    closes.templates_are ∙ ap (λ (n : ℕ). reserved ++ phrase_templates n t) count ∙ ap (λ (r : List Template). r ++ more) is_reserved ∙ append_assoc before (placeholder p ∷ []) more in
-    let closed_is : closed ≡ closed_phrase (suc (length before)) t = closes.closed_phrase_is ∙ ap (λ (n : ℕ). closed_phrase n t) count in
-    record {
-      item_is = ap Made is_number ∙ sym (ap (closed_what (length before)) is_quotation);
-      templates_are = is_filled ∙ ap (λ (ts : List Template). set ts number (template_of p closed)) inside_is ∙ set_at before (placeholder p) more (template_of p closed) number (sym is_number) ∙ ap (λ (u : Phrase). before ++ template_of p u ∷ more) closed_is ∙ sym (ap (λ (v : What). before ++ item_templates (length before) p (what_item v)) is_quotation);
-    }
+  -- likewise for words
+  pub step_words : (whole closed pushed rest left : List WordDef) (before behind : Closing) (d c : WordDef) → whole ≡ closed ++ closed_words counts before.next rest → rest ≡ d ∷ left → c ≡ closed_word counts before.next d → PhrasePassed counts before (body_of d.sort) behind → pushed ≡ closed ++ c ∷ [] → whole ≡ pushed ++ closed_words counts behind.next left
+  step_words whole closed pushed rest left before behind d c so_far is_next c_is passed is_pushed =
+      rw (is_pushed, passed.next_is, c_is, append_assoc closed) (so_far ∙ ap (λ (r : List WordDef). closed ++ closed_words counts before.next r) is_next)
 
--- a word's templates are as many as the quotations of its phrase
-sort_counted : (n : ℕ) (ts : List Template) (s : Sort) → length ts ≡ n → length (ts ++ sort_templates n s) ≡ sort_behind n s
-sort_counted n ts (body t) e = phrase_counted n ts t e
-sort_counted n ts (prim k) e = no_more ts n e
-sort_counted n ts (core k) e = no_more ts n e
-sort_counted n ts (past t) e = no_more ts n e
-sort_counted n ts itself e = no_more ts n e
-sort_counted n ts (class k) e = no_more ts n e
-sort_counted n ts (isa k) e = no_more ts n e
-sort_counted n ts (getter x) e = no_more ts n e
-sort_counted n ts (setter x) e = no_more ts n e
-sort_counted n ts (putter x) e = no_more ts n e
-sort_counted n ts generic e = no_more ts n e
-sort_counted n ts (method k g t) e = no_more ts n e
+  pub pass_word : (start : Closing) (ds : List WordDef) (before : Closing) (left : List WordDef) (behind : Closing) (d : WordDef) (rest : List WordDef) → WordsPassing counts start ds before left → left ≡ d ∷ rest → PhrasePassed counts before (body_of d.sort) behind → WordsPassing counts start ds behind rest
+  pass_word start ds before left behind d rest so_far is_next passed =
+      let m = phrase_behind counts before.next (body_of d.sort) in
+      record {
+        next_is = so_far.next_is ∙ ap (words_behind counts before.next) is_next ∙ sym (ap (λ (n : ℕ). words_behind counts n rest) passed.next_is);
+        templates_are =
+            so_far.templates_are
+            ∙ ap (λ (u : List WordDef). put_all before.templates.items (words_templates counts before.next u)) is_next
+            ∙ put_both before.templates.items (phrase_templates counts before.next (body_of d.sort)) (words_templates counts m rest)
+            ∙ sym (ap (λ (ts : List Template). put_all ts (words_templates counts m rest)) passed.templates_are)
+            ∙ sym (ap (λ (n : ℕ). put_all behind.templates.items (words_templates counts n rest)) passed.next_is);
+        starts_are =
+            so_far.starts_are
+            ∙ ap (λ (u : List WordDef). put_all before.starts.items (words_starts counts before.next u)) is_next
+            ∙ put_both before.starts.items (phrase_starts counts before.next (body_of d.sort)) (words_starts counts m rest)
+            ∙ sym (ap (λ (ts : List ArrayStart). put_all ts (words_starts counts m rest)) passed.starts_are)
+            ∙ sym (ap (λ (n : ℕ). put_all behind.starts.items (words_starts counts n rest)) passed.next_is);
+      }
 
--- one word is closed: with what was made so far and what is left, the closed words are the same
-pub step_words : (whole closed pushed rest left : List WordDef) (before behind : List Template) (d c : WordDef) → whole ≡ closed ++ closed_words (length before) rest → rest ≡ d ∷ left → WordCloses before d c behind → pushed ≡ closed ++ c ∷ [] → whole ≡ pushed ++ closed_words (length behind) left
-step_words whole closed pushed rest left before behind d c so_far is_next closes is_pushed =
-    let count : length behind ≡ sort_behind (length before) d.sort = ap length closes.templates_are ∙ sort_counted (length before) before d.sort refl in
-    rw (is_pushed, count, closes.word_is, append_assoc closed) (so_far ∙ ap (λ (r : List WordDef). closed ++ closed_words (length before) r) is_next)
+  quotation_templates : (before inside behind : List Template) (n m number : ℕ) (p : Place) (t closed : Phrase) → number ≡ n → m ≡ suc n → closed ≡ closed_phrase counts m t → inside ≡ put_all before (phrase_templates counts m t) → behind ≡ set inside number (template_of p closed) → behind ≡ put_all before (item_templates counts n p (quot t))
+  quotation_templates before inside behind n m number p t closed is_number is_next is_closed is_inside is_put =
+      rw (is_put, is_inside, is_closed, is_next, is_number) (sym (put_both before (phrase_templates counts (suc n) t) ((n, template_of p (closed_phrase counts (suc n) t)) ∷ [])))
 
--- likewise the templates
-pub step_word_templates : (whole before behind : List Template) (rest left : List WordDef) (d c : WordDef) → whole ≡ before ++ words_templates (length before) rest → rest ≡ d ∷ left → WordCloses before d c behind → whole ≡ behind ++ words_templates (length behind) left
-step_word_templates whole before behind rest left d c so_far is_next closes =
-    let count : length behind ≡ sort_behind (length before) d.sort = ap length closes.templates_are ∙ sort_counted (length before) before d.sort refl in
-    rw (count, closes.templates_are, append_assoc before) (so_far ∙ ap (λ (r : List WordDef). before ++ words_templates (length before) r) is_next)
+  -- a quotation, which got its number before its phrase was closed
+  pub quotation_passed : (before taken inside behind : Closing) (p : Place) (t closed : Phrase) (number : ℕ) → NumberTaken before number taken → closed ≡ closed_phrase counts taken.next t → PhrasePassed counts taken t inside → behind.next ≡ inside.next → behind.templates.items ≡ set inside.templates.items number (template_of p closed) → behind.starts.items ≡ inside.starts.items → ItemPassed counts before p (quot t) behind
+  quotation_passed before taken inside behind p t closed number takes is_closed passed next_is templates_are starts_are = record {
+    next_is = next_is ∙ passed.next_is ∙ ap (λ (n : ℕ). phrase_behind counts n t) takes.next_is;
+    templates_are = quotation_templates before.templates.items inside.templates.items behind.templates.items before.next taken.next number p t closed takes.number_is takes.next_is is_closed (passed.templates_are ∙ ap (λ (ts : List Template). put_all ts (phrase_templates counts taken.next t)) takes.templates_stay) templates_are;
+    starts_are = starts_are ∙ passed.starts_are ∙ ap (λ (ts : List ArrayStart). put_all ts (phrase_starts counts taken.next t)) takes.starts_stay ∙ ap (λ (n : ℕ). put_all before.starts.items (phrase_starts counts n t)) takes.next_is;
+  }
+
+  pub quotation_what : (before taken inside behind : Closing) (p : Place) (w : What) (t closed : Phrase) (number : ℕ) → w ≡ Quot t → NumberTaken before number taken → (closed ≡ closed_phrase counts taken.next t) × PhrasePassed counts taken t inside → behind.next ≡ inside.next → behind.templates.items ≡ set inside.templates.items number (template_of p closed) → behind.starts.items ≡ inside.starts.items → (Made number ≡ closed_what counts before.next w) × ItemPassed counts before p (what_item w) behind
+  quotation_what before taken inside behind p w t closed number is_quotation takes closes next_is templates_are starts_are =
+      (ap Made takes.number_is ∙ sym (ap (closed_what counts before.next) is_quotation), subst (λ (v : What). ItemPassed counts before p (what_item v) behind) (sym is_quotation) (quotation_passed before taken inside behind p t closed number takes closes.0 closes.1 next_is templates_are starts_are))
+
+  -- likewise one that is an element of an array
+  pub quotation_element : (before taken inside behind : Closing) (p : Place) (l : Lit) (t closed : Phrase) (number : ℕ) → l ≡ l_quot t → NumberTaken before number taken → (closed ≡ closed_phrase counts taken.next t) × PhrasePassed counts taken t inside → behind.next ≡ inside.next → behind.templates.items ≡ set inside.templates.items number (template_of p closed) → behind.starts.items ≡ inside.starts.items → (l_made number ≡ closed_element counts before.next l) × ItemPassed counts before p (plain_item l) behind
+  quotation_element before taken inside behind p l t closed number is_quotation takes closes next_is templates_are starts_are =
+      (ap l_made takes.number_is ∙ sym (ap (closed_element counts before.next) is_quotation), subst (λ (m : Lit). ItemPassed counts before p (plain_item m) behind) (sym is_quotation) (quotation_passed before taken inside behind p t closed number takes closes.0 closes.1 next_is templates_are starts_are))

@@ -1,13 +1,16 @@
--- When a closed program stands for a program: each quotation in a phrase is made by the template of its literal, and a template's phrase is closed likewise.
-use Rattle.std.specs.Prelude.{◌≡◌, ℕ, suc, List, [], ◌∷◌, map}
+-- When a closed program stands for a program: each quotation in a phrase or in a literal array is made by the template of its literal, and a template's phrase is closed likewise.
+use Rattle.std.specs.Prelude.{◌≡◌, ℕ, suc, Option, List, [], ◌∷◌, length, map}
 use Rattle.fac_lang.specs.Phrases.{Literal, Phrase, end, then, Item, lit, lit_arr, quot, word, bind, local, fry, hole, call_eff, exec_eff, next_method, made, next_after, held, known}
 use Rattle.fac_lang.specs.Substitution.{of_method}
+use Rattle.fac_lang.specs.Meaning.{of_method_if, array_method}
+use Rattle.fac_lang.specs.declared.program.Lit.{Lit}
+use Rattle.fac_lang.specs.declared.program.Lit.TheVariants.{Quot as l_quot, Made as l_made}
 use Rattle.fac_lang.specs.declared.phrase.Template.{Template}
 use Rattle.fac_lang.specs.declared.program.Program.{Program}
 use Rattle.fac_lang.specs.declared.program.WordDef.{WordDef}
 use Rattle.fac_lang.specs.declared.program.Sort.{Sort}
 use Rattle.fac_lang.specs.declared.program.Sort.TheVariants.{Body as body, Past as past, Method as method}
-use Rattle.fac_locals.specs.Literals.{Quoted, behind, first_of_word, first_of_literal, literals, literal_places, literal_numbered}
+use Rattle.fac_locals.specs.Literals.{Quoted, behind, first_of_word, first_of_literal, first_in_array, element_item, literals, literal_places, literal_numbered}
 
 module _ (P : Program) where
   -- the template with this number makes the quotation that stands here with this phrase
@@ -64,6 +67,22 @@ module _ (P : Program) where
     pub captures : t.captures ≡ []
     pub holes : t.holes ≡ 0
 
+  -- An element of a literal array that stands in the phrase of this method or in none, where the element stands here: a quotation is made by the template of its literal, and each other element is as it was.
+  abbrev pub ClosesElement : Option ℕ → Literal → Lit → Lit → Type 0
+  ClosesElement m at (l_quot t) c = (k : ℕ) × (c ≡ l_made k) × IsMadeBy at (of_method_if m t) k
+  ClosesElement m at (l_made k) c = ⊥
+  ClosesElement m at l c = c ≡ l
+
+  -- elements for those of an array whose first one stands here
+  abbrev pub CloseElements : Option ℕ → Literal → List Lit → List Lit → Type 0
+  CloseElements m at [] cs = cs ≡ []
+  CloseElements m at (l ∷ ls) cs = (c : Lit) × (r : List Lit) × (cs ≡ c ∷ r) × ClosesElement m at l c × CloseElements m (behind at (element_item m l)) ls r
+
+  -- arrays for those of the program, from number a on: each stands somewhere
+  abbrev pub CloseArrays : ℕ → List (List Lit) → List (List Lit) → Type 0
+  CloseArrays a [] cs = cs ≡ []
+  CloseArrays a (ls ∷ lss) cs = (at : Literal) × (c : List Lit) × (r : List (List Lit)) × (cs ≡ c ∷ r) × CloseElements (array_method P (length P.arrays) a) (first_in_array at) ls c × CloseArrays (suc a) lss r
+
   -- templates for literals, one by one
   abbrev pub CloseLiterals : List Quoted → List Template → Type 0
   CloseLiterals [] ts = ts ≡ []
@@ -74,6 +93,6 @@ pub record Closes (P C : Program) (templates : List Template) : Type 0 where
   pub words : CloseWords P 0 P.words C.words
   pub templates_are : CloseLiterals P (literals P) templates
   pub places : map (λ (t : Template). t.place) templates ≡ literal_places P
-  pub arrays : C.arrays ≡ P.arrays
+  pub arrays : CloseArrays P 0 P.arrays C.arrays
   pub classes : C.classes ≡ P.classes
   pub top : C.top ≡ P.top

@@ -1,14 +1,17 @@
 -- The literal quotations of a program: which literal each is, and the phrases that they have.
-use Rattle.std.specs.Prelude.{◌≡◌, ◌<◌, ◌≤◌, ◌⊎◌, ℕ, suc, ◌+◌, List, [], ◌∷◌, ◌++◌, length, Option, Some, None, slice_get}
-use Rattle.fac_lang.specs.Phrases.{Literal, Phrase, end, then, Item, quot, fry}
+use Rattle.std.specs.Prelude.{◌≡◌, ◌<◌, ◌⊎◌, ℕ, zero, suc, ◌+◌, List, [], ◌∷◌, ◌++◌, length, Option, Some, None, slice_get}
+use Rattle.fac_lang.specs.Phrases.{int, yes, no, str, wrd, Literal, Phrase, end, then, Item, lit, lit_arr, quot, fry, made}
 use Rattle.fac_lang.specs.Substitution.{of_method}
+use Rattle.fac_lang.specs.Meaning.{of_method_if, array_method, nowhere}
 use Rattle.fac_lang.specs.declared.phrase.Place.{Place}
+use Rattle.fac_lang.specs.declared.program.Lit.{Lit}
+use Rattle.fac_lang.specs.declared.program.Lit.TheVariants.{Int as l_int, True as l_yes, False as l_no, Str as l_str, Arr as l_arr, Wref as l_word, Quot as l_quot, Made as l_made}
 use Rattle.fac_lang.specs.declared.program.Program.{Program}
 use Rattle.fac_lang.specs.declared.program.WordDef.{WordDef}
 use Rattle.fac_lang.specs.declared.program.Sort.{Sort}
 use Rattle.fac_lang.specs.declared.program.Sort.TheVariants.{Body as body, Past as past, Method as method}
 
--- How many items stand in a phrase, with those of its quotations and fry bodies. A mark or a value that was put for a local or a hole is one item, as that was.
+-- How many items stand in a phrase, with those of its quotations and fry bodies. A literal array is one item, and so is a mark or a value that was put for a local or a hole, as that was.
 abbrev mutual
   pub items_in : Phrase → ℕ
   items_in end = 0
@@ -19,86 +22,146 @@ abbrev mutual
   items_inside (fry t n) = items_in t
   items_inside _ = 0
 
--- Where an item stands is said as for a literal: by the word in whose phrase it is and the number of items before it. So a quotation that stands there is that literal.
+-- Where an item stands is said as for a literal: by the word in whose phrase it is, the literal arrays around it, and the number of items before it. So a quotation that stands there is that literal.
 
 -- the first item of a word's phrase
 abbrev pub first_of_word : ℕ → Literal
-first_of_word w = record { word = w; index = 0 }
+first_of_word w = record { word = w; around = []; index = 0 }
 
 -- the first item of a literal's phrase
 abbrev pub first_of_literal : Literal → Literal
-first_of_literal l = record { word = l.word; index = suc l.index }
+first_of_literal l = record { word = l.word; around = l.around; index = suc l.index }
 
 -- the item behind one that stands here
 abbrev pub behind : Literal → Item → Literal
-behind l i = record { word = l.word; index = suc (l.index + items_inside i) }
+behind l i = record { word = l.word; around = l.around; index = suc (l.index + items_inside i) }
+
+-- the first element of the literal array that stands here
+abbrev pub first_in_array : Literal → Literal
+first_in_array l = record { word = l.word; around = l.around ++ l.index ∷ []; index = 0 }
+
+-- The numbers that lead to a place: those of the literal arrays around it, and its own.
+abbrev pub path : Literal → List ℕ
+path l = l.around ++ l.index ∷ []
+
+-- numbers that lead to the same place as others, or before it; what stands in an array is behind the array's item
+abbrev pub NotBehind : List ℕ → List ℕ → Type 0
+NotBehind [] js = Unit {0}
+NotBehind (i ∷ is) [] = ⊥
+NotBehind (i ∷ is) (j ∷ js) = (i < j) ⊎ ((i ≡ j) × NotBehind is js)
 
 -- a place is at another one or behind it
 abbrev pub NotBefore : Literal → Literal → Type 0
-NotBefore a b = (a.word < b.word) ⊎ ((a.word ≡ b.word) × (a.index ≤ b.index))
+NotBefore a b = (a.word < b.word) ⊎ ((a.word ≡ b.word) × NotBehind (path a) (path b))
 
 -- A literal of a program, and its phrase.
 abbrev pub Quoted : Type 0
 Quoted = Literal × Phrase
 
--- The quotations of a phrase in reading order, an outer one before those in it, where the first item stands here.
-abbrev mutual
-  pub literals_in : Literal → Phrase → List Quoted
-  literals_in at end = []
-  literals_in at (then i p t) = literals_at at i ++ literals_in (behind at i) t
+-- An element of a literal array as an item, where the array stands in the phrase of this method, or in none.
+abbrev pub element_item : Option ℕ → Lit → Item
+element_item m (l_int z) = lit (int z)
+element_item m l_yes = lit yes
+element_item m l_no = lit no
+element_item m (l_str bs) = lit (str bs)
+element_item m (l_arr a) = lit_arr a
+element_item m (l_word w) = lit (wrd w)
+element_item m (l_quot t) = quot (of_method_if m t)
+element_item m (l_made k) = made k
 
-  pub literals_at : Literal → Item → List Quoted
-  literals_at at (quot t) = (at, t) ∷ literals_in (first_of_literal at) t
-  literals_at at (fry t n) = (at, t) ∷ literals_in (first_of_literal at) t
-  literals_at at _ = []
+-- The elements of an array as the items of a phrase. All stand at the place of the array's item.
+abbrev pub elements_phrase : Option ℕ → Place → List Lit → Phrase
+elements_phrase m p [] = end
+elements_phrase m p (l ∷ ls) = then (element_item m l) p (elements_phrase m p ls)
 
--- those of a word's phrase, where it has one; in that of a method, `call-next-method` is the item "next after this method"
-abbrev pub sort_literals : ℕ → Sort → List Quoted
-sort_literals w (body t) = literals_in (first_of_word w) t
-sort_literals w (past t) = literals_in (first_of_word w) t
-sort_literals w (method c g t) = literals_in (first_of_word w) (of_method w t)
-sort_literals w _ = []
+-- those of the array with this number
+abbrev pub array_or_none : Option (List Lit) → List Lit
+array_or_none None = []
+array_or_none (Some ls) = ls
 
--- those of words, from word w on
-abbrev pub word_literals : ℕ → List WordDef → List Quoted
-word_literals w [] = []
-word_literals w (d ∷ ds) = sort_literals w d.sort ++ word_literals (suc w) ds
+abbrev pub array_phrase : Program → ℕ → Place → Phrase
+array_phrase P a p = elements_phrase (array_method P (length P.arrays) a) p (array_or_none (slice_get P.arrays a))
 
--- The literals of a program, word by word. A literal's number in this list is that of its template.
-abbrev pub literals : Program → List Quoted
-literals P = word_literals 0 P.words
+-- The quotations of a phrase in reading order, an outer one before those in it, where the first item stands here, and `arrays` has those of a literal array that stands at a place.
+module _ (arrays : ℕ → Literal → List Quoted) where
+  abbrev mutual
+    pub literals_in : Literal → Phrase → List Quoted
+    literals_in at end = []
+    literals_in at (then i p t) = literals_at at i ++ literals_in (behind at i) t
 
--- The places of a phrase's quotations, in the order of its literals: a quotation is at the place of its item.
-abbrev mutual
-  pub places_in : Phrase → List Place
-  places_in end = []
-  places_in (then i p t) = places_at p i ++ places_in t
+    pub literals_at : Literal → Item → List Quoted
+    literals_at at (quot t) = (at, t) ∷ literals_in (first_of_literal at) t
+    literals_at at (fry t n) = (at, t) ∷ literals_in (first_of_literal at) t
+    literals_at at (lit_arr a) = arrays a at
+    literals_at at _ = []
 
-  pub places_at : Place → Item → List Place
-  places_at p (quot t) = p ∷ places_in t
-  places_at p (fry t n) = p ∷ places_in t
-  places_at p _ = []
+-- Those of the literal array with this number that stands here, where at most n arrays nest. Each array names only earlier ones, so as many as there are is enough.
+abbrev pub array_literals : Program → ℕ → ℕ → Literal → List Quoted
+array_literals P zero a at = []
+array_literals P (suc n) a at = literals_in (array_literals P n) (first_in_array at) (array_phrase P a nowhere)
 
--- those of a word's phrase, where it has one
-abbrev pub sort_places : ℕ → Sort → List Place
-sort_places w (body t) = places_in t
-sort_places w (past t) = places_in t
-sort_places w (method c g t) = places_in (of_method w t)
-sort_places w _ = []
+-- The places of a phrase's quotations, in the order of its literals: a quotation is at the place of its item, and one that is an element of an array at that of the array.
+module _ (arrays : ℕ → Place → List Place) where
+  abbrev mutual
+    pub places_in : Phrase → List Place
+    places_in end = []
+    places_in (then i p t) = places_at p i ++ places_in t
 
--- those of words, from word w on
-abbrev pub word_places : ℕ → List WordDef → List Place
-word_places w [] = []
-word_places w (d ∷ ds) = sort_places w d.sort ++ word_places (suc w) ds
+    pub places_at : Place → Item → List Place
+    places_at p (quot t) = p ∷ places_in t
+    places_at p (fry t n) = p ∷ places_in t
+    places_at p (lit_arr a) = arrays a p
+    places_at p _ = []
 
--- The places of a program's literals, by the same numbers.
-abbrev pub literal_places : Program → List Place
-literal_places P = word_places 0 P.words
+-- those of the literal array with this number that stands at a place
+abbrev pub array_places : Program → ℕ → ℕ → Place → List Place
+array_places P zero a p = []
+array_places P (suc n) a p = places_in (array_places P n) (array_phrase P a p)
+
+-- for a program
+module _ (P : Program) where
+  abbrev arrays : ℕ → Literal → List Quoted
+  arrays = array_literals P (length P.arrays)
+
+  abbrev places : ℕ → Place → List Place
+  places = array_places P (length P.arrays)
+
+  -- the quotations of a word's phrase, where it has one; in that of a method, `call-next-method` is the item "next after this method"
+  abbrev pub sort_literals : ℕ → Sort → List Quoted
+  sort_literals w (body t) = literals_in arrays (first_of_word w) t
+  sort_literals w (past t) = literals_in arrays (first_of_word w) t
+  sort_literals w (method c g t) = literals_in arrays (first_of_word w) (of_method w t)
+  sort_literals w _ = []
+
+  -- those of words, from word w on
+  abbrev pub word_literals : ℕ → List WordDef → List Quoted
+  word_literals w [] = []
+  word_literals w (d ∷ ds) = sort_literals w d.sort ++ word_literals (suc w) ds
+
+  -- The literals of a program, word by word. A literal's number in this list is that of its template.
+  abbrev pub literals : List Quoted
+  literals = word_literals 0 P.words
+
+  -- the places of a word's quotations
+  abbrev pub sort_places : ℕ → Sort → List Place
+  sort_places w (body t) = places_in places t
+  sort_places w (past t) = places_in places t
+  sort_places w (method c g t) = places_in places (of_method w t)
+  sort_places w _ = []
+
+  -- those of words, from word w on
+  abbrev pub word_places : ℕ → List WordDef → List Place
+  word_places w [] = []
+  word_places w (d ∷ ds) = sort_places w d.sort ++ word_places (suc w) ds
+
+  -- The places of a program's literals, by the same numbers.
+  abbrev pub literal_places : List Place
+  literal_places = word_places 0 P.words
 
 -- The literal of this number. A number behind the last one names a literal with no items of a word that isn't there, so that no two numbers name the same literal.
 abbrev pub literal_or : Program → ℕ → Option Quoted → Quoted
 literal_or P k (Some l) = l
-literal_or P k None = (record { word = length P.words; index = k }, end)
+literal_or P k None = (record { word = length P.words; around = []; index = k }, end)
 
 abbrev pub literal_numbered : Program → ℕ → Quoted
 literal_numbered P k = literal_or P k (slice_get (literals P) k)

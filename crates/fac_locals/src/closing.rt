@@ -1,11 +1,17 @@
 //! Programs whose quotations are numbered templates.
-ghost use Rattle.std.specs.Prelude.{◌≡◌, ◌++◌, ◌∷◌, ◌<◌, [], length, set, IfOk};
+ghost use Rattle.std.specs.Prelude.{◌≡◌, ◌+◌, ◌<◌, [], length, set, suc, IfOk};
 ghost use Rattle.fac_lang.specs.Forms.{IsBuilt};
+ghost use Rattle.fac_lang.specs.Whole.{IsWhole};
+ghost use Rattle.fac_lang.specs.PhraseView.{what_item};
+ghost use Rattle.fac_lang.specs.Phrases.{lit_arr};
 ghost use Rattle.fac_locals.specs.Closed.{Closes};
-ghost use Rattle.fac_locals.specs.inner.Numbering.{PhraseCloses, ItemCloses, SortCloses, WordCloses, WordsClose, template_of, placeholder};
+ghost use Rattle.fac_locals.specs.inner.Numbering.{ItemPassed, PhrasePassed, WordsPassed, NumberTaken, PartsClosed, closed_what, closed_phrase, closed_element, closed_elements, closed_sort, closed_word, closed_words};
+ghost use Rattle.fac_locals.specs.inner.Numbering.{body_of, plain_item, plain_phrase, template_of, array_closed, arrays_closed, stage_of};
 
-use fac_lang::{Item, List, Memory, Phrase, Place, Program, Sort, Template, What, WordDef};
+use crate::counting::{behind_array, count_arrays, count_words, one_more};
+use fac_lang::{Item, List, Lit, Memory, Phrase, Place, Program, Sort, Template, What, WordDef};
 use std::alloc::Global;
+use std::mem;
 
 /// A program whose quotations are numbered templates.
 #[derive(Drop)]
@@ -16,6 +22,24 @@ pub struct Closed {
     pub templates: List<Template>,
     /// How many values the top-level phrase starts on.
     pub start: u64,
+}
+
+// Where a literal array stands, and the number that its first quotation gets.
+#[derive(Clone, Copy)]
+struct ArrayStart {
+    number: u32,
+    place: Place,
+}
+
+// What closing has made so far.
+#[derive(Drop)]
+struct Closing {
+    // The number of the next quotation.
+    next: u32,
+    // The templates by their numbers, of which some are still to be put.
+    templates: Vec<Template>,
+    // For each literal array that was met, where it starts.
+    starts: Vec<ArrayStart>,
 }
 
 // The template of a quotation that stands here, with this closed phrase.
@@ -30,26 +54,55 @@ fn template(alloc: Global, place: Place, body: Phrase) -> Template
     }
 }
 
-// Makes place for the template of a quotation, and gives its number.
-fn reserve(alloc: Global, templates: &mut Vec<Template>, place: Place) -> Result<u32, Memory>
-    ensures { IfOk result (λ number. (number ≡ length templates.old.items) × (templates.new.items ≡ templates.old.items ++ placeholder place ∷ [])) }
+// So many templates, whose phrases are still to be put.
+fn unfilled(alloc: Global, count: u32) -> Result<Vec<Template>, Memory>
+    ensures { IfOk result (λ templates. length templates.items ≡ count) }
 {
-    let Ok(number) = u32::try_from(templates.len()) else {
-        return Err(Memory);
-    };
-    let nothing = Phrase {
-        items: Vec::new(alloc),
-    };
-    templates.push(template(alloc, place, nothing))?;
+    let mut templates = Vec::new(alloc);
+    for _ in 0..count {
+        let nothing = Phrase {
+            items: Vec::new(alloc),
+        };
+        let place = Place { file: 0, token: 0 };
+        templates.push(template(alloc, place, nothing))?;
+    }
+    Ok(templates)
+}
+
+// The starts of so many arrays, none of which was met yet.
+fn unmet(alloc: Global, count: usize) -> Result<Vec<ArrayStart>, Memory>
+    ensures { IfOk result (λ starts. length starts.items ≡ count) }
+{
+    let place = Place { file: 0, token: 0 };
+    Ok(vec![in alloc; ArrayStart { number: 0, place }; count]?)
+}
+
+// Puts an element at its number, where the list has that number.
+fn put<T: Drop>(list: &mut Vec<T>, number: u32, value: T)
+    ensures { list.new.items ≡ set list.old.items number value }
+{
+    if (number as usize) < list.len() {
+        list[number as usize] = value;
+    }
+}
+
+// Gives the next number to a quotation.
+fn take_number(closing: &mut Closing) -> Result<u32, Memory>
+    ensures { IfOk result (λ number. NumberTaken closing.old number closing.new) }
+{
+    let number = closing.next;
+    closing.next = one_more(number)?;
     Ok(number)
 }
 
-// Puts a closed phrase into the template of this number.
-fn fill(alloc: Global, templates: &mut Vec<Template>, number: u32, place: Place, body: Phrase)
-    requires { number < length templates.old.items }
-    ensures { templates.new.items ≡ set templates.old.items number (template_of place body) }
+// Notes where a literal array starts, and goes behind its quotations.
+fn pass_array(closing: &mut Closing, counts: &[u32], array: u32, place: Place) -> Result<(), Memory>
+    ensures { IfOk result (λ done. ItemPassed counts.now closing.old place (lit_arr array) closing.new) }
 {
-    templates[number as usize] = template(alloc, place, body);
+    let number = closing.next;
+    closing.next = behind_array(array, counts, number)?;
+    put(&mut closing.starts, array, ArrayStart { number, place });
+    Ok(())
 }
 
 // An item with a template in place of its quotation.
@@ -57,17 +110,22 @@ fn fill(alloc: Global, templates: &mut Vec<Template>, number: u32, place: Place,
 fn close_what(
     what: What,
     alloc: Global,
-    templates: &mut Vec<Template>,
+    closing: &mut Closing,
+    counts: &[u32],
     place: Place,
 ) -> Result<What, Memory>
-    ensures { IfOk result (λ closed. ItemCloses templates.old.items place what closed templates.new.items) }
+    ensures { IfOk result (λ closed. (closed ≡ closed_what counts.now closing.old.next what) × ItemPassed counts.now closing.old place (what_item what) closing.new) }
 {
     match what {
         What::Quot(inner) => {
-            let number = reserve(alloc, templates, place)?;
-            let body = close_phrase(inner, alloc, templates)?;
-            fill(alloc, templates, number, place, body);
+            let number = take_number(closing)?;
+            let body = close_phrase(inner, alloc, closing, counts)?;
+            put(&mut closing.templates, number, template(alloc, place, body));
             Ok(What::Made(number))
+        }
+        What::Arr(array) => {
+            pass_array(closing, counts, array, place)?;
+            Ok(What::Arr(array))
         }
         other => Ok(other),
     }
@@ -78,25 +136,31 @@ fn close_what(
 fn close_phrase(
     phrase: Phrase,
     alloc: Global,
-    templates: &mut Vec<Template>,
+    closing: &mut Closing,
+    counts: &[u32],
 ) -> Result<Phrase, Memory>
-    ensures { IfOk result (λ closed. PhraseCloses templates.old.items phrase closed templates.new.items) }
+    ensures { IfOk result (λ closed. (closed ≡ closed_phrase counts.now closing.old.next phrase) × PhrasePassed counts.now closing.old phrase closing.new) }
 {
     let mut items = Vec::new(alloc);
     for item in phrase.items {
         let Item { what, place } = item;
-        let what = close_what(what, alloc, templates, place)?;
+        let what = close_what(what, alloc, closing, counts, place)?;
         items.push(Item { what, place })?;
     }
     Ok(Phrase { items })
 }
 
 // What a word is, with its phrase closed.
-fn close_sort(alloc: Global, templates: &mut Vec<Template>, sort: Sort) -> Result<Sort, Memory>
-    ensures { IfOk result (λ closed. SortCloses templates.old.items sort closed templates.new.items) }
+fn close_sort(
+    alloc: Global,
+    closing: &mut Closing,
+    counts: &[u32],
+    sort: Sort,
+) -> Result<Sort, Memory>
+    ensures { IfOk result (λ closed. (closed ≡ closed_sort counts.now closing.old.next sort) × PhrasePassed counts.now closing.old (body_of sort) closing.new) }
 {
     match sort {
-        Sort::Body(phrase) => Ok(Sort::Body(close_phrase(phrase, alloc, templates)?)),
+        Sort::Body(phrase) => Ok(Sort::Body(close_phrase(phrase, alloc, closing, counts)?)),
         other => Ok(other),
     }
 }
@@ -104,10 +168,11 @@ fn close_sort(alloc: Global, templates: &mut Vec<Template>, sort: Sort) -> Resul
 // A word with its phrase closed.
 fn close_word(
     alloc: Global,
-    templates: &mut Vec<Template>,
+    closing: &mut Closing,
+    counts: &[u32],
     word: WordDef,
 ) -> Result<WordDef, Memory>
-    ensures { IfOk result (λ closed. WordCloses templates.old.items word closed templates.new.items) }
+    ensures { IfOk result (λ closed. (closed ≡ closed_word counts.now closing.old.next word) × PhrasePassed counts.now closing.old (body_of word.sort) closing.new) }
 {
     let WordDef {
         name,
@@ -117,7 +182,7 @@ fn close_word(
         recursive,
         place,
     } = word;
-    let sort = close_sort(alloc, templates, sort)?;
+    let sort = close_sort(alloc, closing, counts, sort)?;
     Ok(WordDef {
         name,
         sort,
@@ -128,25 +193,128 @@ fn close_word(
     })
 }
 
-// The words of a program with their phrases closed, and the templates.
+// The words of a program with their phrases closed.
 fn close_words(
     alloc: Global,
+    closing: &mut Closing,
+    counts: &[u32],
     words: Vec<WordDef>,
-) -> Result<(List<WordDef>, List<Template>), Memory>
-    ensures { IfOk result (λ parts. WordsClose words.items parts.0 parts.1) }
+) -> Result<List<WordDef>, Memory>
+    ensures { IfOk result (λ closed. (closed ≡ closed_words counts.now closing.old.next words.items) × WordsPassed counts.now closing.old words.items closing.new) }
 {
-    let mut templates = Vec::new(alloc);
     let mut closed = List::new(alloc);
     for word in words {
-        closed.push(close_word(alloc, &mut templates, word)?)?;
+        closed.push(close_word(alloc, closing, counts, word)?)?;
     }
+    Ok(closed)
+}
+
+// An element of a literal array that stands here, with a template in place of its quotation.
+fn close_element(
+    element: Lit,
+    alloc: Global,
+    closing: &mut Closing,
+    counts: &[u32],
+    place: Place,
+) -> Result<Lit, Memory>
+    ensures { IfOk result (λ closed. (closed ≡ closed_element counts.now closing.old.next element) × ItemPassed counts.now closing.old place (plain_item element) closing.new) }
+{
+    match element {
+        Lit::Quot(inner) => {
+            let number = take_number(closing)?;
+            let body = close_phrase(inner, alloc, closing, counts)?;
+            put(&mut closing.templates, number, template(alloc, place, body));
+            Ok(Lit::Made(number))
+        }
+        Lit::Arr(array) => {
+            pass_array(closing, counts, array, place)?;
+            Ok(Lit::Arr(array))
+        }
+        other => Ok(other),
+    }
+}
+
+// The elements of a literal array that stands here, with templates in place of their quotations.
+fn close_elements(
+    elements: Vec<Lit>,
+    alloc: Global,
+    closing: &mut Closing,
+    counts: &[u32],
+    place: Place,
+) -> Result<List<Lit>, Memory>
+    ensures { IfOk result (λ closed. (closed ≡ closed_elements counts.now closing.old.next elements.items) × PhrasePassed counts.now closing.old (plain_phrase place elements.items) closing.new) }
+{
+    let mut closed = List::new(alloc);
+    for element in elements {
+        closed.push(close_element(element, alloc, closing, counts, place)?)?;
+    }
+    Ok(closed)
+}
+
+// Closes the literal array of this number where it was met.
+fn close_array(
+    arrays: &mut Vec<List<Lit>>,
+    alloc: Global,
+    closing: &mut Closing,
+    counts: &[u32],
+    array: usize,
+) -> Result<(), Memory>
+    requires in_arrays { array < length arrays.old.items }
+    requires in_starts { array < length closing.old.starts.items }
+    ensures { IfOk result (λ done. stage_of arrays.new.items closing.new ≡ array_closed counts.now array (stage_of arrays.old.items closing.old)) }
+{
+    let start = closing.starts[array];
+    closing.next = start.number;
+    let elements = mem::replace(&mut arrays[array], List::new(alloc));
+    let closed = close_elements(elements.into_vec(), alloc, closing, counts, start.place)?;
+    arrays[array] = closed;
+    Ok(())
+}
+
+// Closes all literal arrays, the last one first.
+fn close_arrays(
+    arrays: &mut Vec<List<Lit>>,
+    alloc: Global,
+    closing: &mut Closing,
+    counts: &[u32],
+) -> Result<(), Memory>
+    requires { length closing.old.starts.items ≡ length arrays.old.items }
+    ensures { IfOk result (λ done. stage_of arrays.new.items closing.new ≡ arrays_closed counts.now (length arrays.old.items) (stage_of arrays.old.items closing.old)) }
+{
+    let mut left = arrays.len();
+    while left > 0 {
+        left -= 1;
+        close_array(arrays, alloc, closing, counts, left)?;
+    }
+    Ok(())
+}
+
+// The words and literal arrays of a program, closed, and the templates.
+fn close_parts(
+    alloc: Global,
+    words: Vec<WordDef>,
+    arrays: &mut Vec<List<Lit>>,
+) -> Result<(List<WordDef>, List<Template>), Memory>
+    ensures { IfOk result (λ parts. PartsClosed words.items arrays.old.items parts.0 arrays.new.items parts.1) }
+{
+    let counts = count_arrays(alloc, arrays.as_slice())?;
+    let count = count_words(words.as_slice(), counts.as_slice())?;
+    let mut closing = Closing {
+        next: 0,
+        templates: unfilled(alloc, count)?,
+        starts: unmet(alloc, arrays.len())?,
+    };
+    let closed = close_words(alloc, &mut closing, counts.as_slice(), words)?;
+    close_arrays(arrays, alloc, &mut closing, counts.as_slice())?;
+    let Closing { templates, .. } = closing;
     Ok((closed, List::from_vec(templates)?))
 }
 
 /// The program with each quotation replaced by the number of its template. Templates are numbered from 0, word by word, an outer
-/// quotation before those in it. Want of memory is the one error.
+/// quotation before those in it, and those of a literal array where the array stands. Want of memory is the one error.
 pub fn close(alloc: Global, program: Program, start: u64) -> Result<Closed, Memory>
-    requires { IsBuilt program }
+    requires built { IsBuilt program }
+    requires whole { IsWhole program }
     ensures { IfOk result (λ closed. Closes program closed.program closed.templates × (closed.start ≡ start)) }
 {
     let Program {
@@ -155,11 +323,12 @@ pub fn close(alloc: Global, program: Program, start: u64) -> Result<Closed, Memo
         classes,
         top,
     } = program;
-    let (words, templates) = close_words(alloc, words.into_vec())?;
+    let mut arrays = arrays.into_vec();
+    let (words, templates) = close_parts(alloc, words.into_vec(), &mut arrays)?;
     Ok(Closed {
         program: Program {
             words,
-            arrays,
+            arrays: List::from_vec(arrays)?,
             classes,
             top,
         },

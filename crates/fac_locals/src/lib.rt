@@ -2,5 +2,6 @@
 #![tactic(auto)]
 
 mod closing;
+mod counting;
 
 pub use closing::{Closed, close};

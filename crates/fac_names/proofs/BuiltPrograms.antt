@@ -1,5 +1,5 @@
 -- Every resolved program is of the forms built, and whole.
-use Rattle.std.proofs.Common.{◌≡◌, ◌≤◌, ◌+◌, ℕ, suc, List, [], ◌∷◌, ◌++◌, map, length, fold, Option, Some, None, Result, Ok, Err, Bool, true, false, cond, refl, ap, sym, ◌∙◌, subst, arith, length-append, append_assoc}
+use Rattle.std.proofs.Common.{◌≡◌, ◌≤◌, ◌+◌, ℕ, suc, List, [], ◌∷◌, ◌++◌, map, length, fold, Option, Some, None, Result, Ok, Err, Bool, true, false, cond, refl, ap, sym, ◌∙◌, subst, arith, length-append, append_assoc, append-nil}
 use Rattle.std.specs.Prelude.{IfOk, ◌&&◌, nat_le, nat_lt, slice_get}
 use Rattle.std.specs.List.{list_all}
 use Rattle.std.specs.Option.{option_map}
@@ -8,16 +8,17 @@ use Rattle.std.proofs.lemmas.Bool.Decides.{Decides-ltb}
 use Rattle.std.proofs.lemmas.List.{length_push, length-map}
 use Rattle.std.proofs.lemmas.List.Folds.{list_all-append}
 use Rattle.fac_lang.specs.CoreWords.{core_word, built_core_words, is_built_core}
-use Rattle.fac_lang.specs.Forms.{IsBuilt, IsBuiltPhrase, AreBuiltWords, primitive_numbers, has_no_repeats}
+use Rattle.fac_lang.specs.Forms.{IsBuilt, IsBuiltPhrase, AreBuiltArrays, AreBuiltWords, primitive_numbers, has_no_repeats}
 use Rattle.fac_lang.specs.Phrases.{Phrase}
 use Rattle.fac_lang.specs.PrimitiveWords.{PrimitiveWord}
 use Rattle.fac_lang.specs.Primitives.{Primitive, built_primitives, later_primitives, built_primitive_words, prim_numbered, primitive_word, built_count, is_built_primitive}
 use Rattle.fac_lang.specs.RunningLaws.{append}
 use Rattle.fac_lang.specs.Signatures.{Signature, Inputs, value, quoted, Leaving, never, leaves}
-use Rattle.fac_lang.specs.Whole.{IsWhole, name_count, inputs_name_count, leaving_count, row_count}
+use Rattle.fac_lang.specs.Whole.{IsWhole, all_arrays_named, arrays_in, arrays_named, joined, times_in, word_phrases, name_count, inputs_name_count, leaving_count, row_count}
 use Rattle.fac_lang.specs.declared.program.ClassDef.{ClassDef}
 use Rattle.fac_lang.specs.declared.program.Program.{Program}
-use Rattle.fac_lang.specs.declared.program.Sort.TheVariants.{Prim, Core}
+use Rattle.fac_lang.specs.declared.program.Sort.{Sort}
+use Rattle.fac_lang.specs.declared.program.Sort.TheVariants.{Prim, Core, Body as body, Past as past, Method as method}
 use Rattle.fac_lang.specs.declared.program.WordDef.{WordDef}
 use Rattle.fac_lang.specs.declared.token.Token.{Token}
 use Rattle.fac_lang.specs.declared.tree.Form.{Form as Flat}
@@ -42,6 +43,8 @@ use Rattle.fac_names.specs.Resolved.{answer, class_faults, classes_of, finished,
 use Rattle.fac_names.specs.Resolution.{Resolves, first_reading, program_alone, resolved, settled_draft}
 use Rattle.fac_names.specs.inner.Ending.{program_with, top_word}
 use Rattle.fac_names.specs.inner.Taking.{take_all}
+use Rattle.fac_names.proofs.ArrayNumbers.{below, times_both}
+use Rattle.fac_names.proofs.ArrayReadings.{Counted, known_ascending, known_spared, named_append, named_in, names_by}
 use Rattle.fac_names.proofs.BracketLemmas.{items_closing, literal_closing, literal_sole}
 use Rattle.fac_names.proofs.BuiltForms.{IsPlainForm, begun_built, take_built}
 use Rattle.fac_names.proofs.BuiltReadings.{Built, DraftsBuilt, IsBuiltLate, IsToldWord, append_built, words_in}
@@ -294,6 +297,23 @@ settled_words : (ds : List WordDef) → words_in (map settled_draft ds) ≡ ds
 settled_words [] = refl
 settled_words (d ∷ ds) = ap (λ (es : List WordDef). d ∷ es) (settled_words ds)
 
+no_names : (sort : ℕ → Sort) → ((n : ℕ) → names_by (sort n) ≡ []) → (n : ℕ) (rows : List PrimitiveWord) (ds : List Draft) → named_in (map settled_draft (words_from sort n rows) ++ ds) ≡ named_in ds
+no_names sort none n [] ds = refl
+no_names sort none n (row ∷ rows) ds = ap (λ (xs : List ℕ). xs ++ named_in (map settled_draft (words_from sort (n + 1) rows) ++ ds)) (none n) ∙ no_names sort none (n + 1) rows ds
+
+settled_both : (ds es : List WordDef) → map settled_draft (ds ++ es) ≡ map settled_draft ds ++ map settled_draft es
+settled_both [] es = refl
+settled_both (d ∷ ds) es = ap (λ (xs : List Draft). settled_draft d ∷ xs) (settled_both ds es)
+
+-- words that are known name no array
+first_names : named_in (map settled_draft known_words) ≡ []
+unfolding known_words
+first_names =
+    ap named_in (settled_both (words_from Prim 0 built_primitive_words) (words_from Core 0 built_core_words))
+    ∙ no_names Prim (λ n. refl) 0 built_primitive_words (map settled_draft (words_from Core 0 built_core_words))
+    ∙ ap named_in (sym (append-nil (map settled_draft (words_from Core 0 built_core_words))))
+    ∙ no_names Core (λ n. refl) 0 built_core_words []
+
 first_built : Built first_reading
 first_built =
     let count = length-map known_words settled_draft in
@@ -307,7 +327,14 @@ first_built =
       distinct = ap (λ (ds : List WordDef). has_no_repeats (primitive_numbers ds)) (settled_words known_words) ∙ known_distinct;
       no_old_classes = refl;
       no_classes = refl;
-      no_arrays = refl;
+      arrays = λ bound few. tt;
+      counted = record {
+        ascending = known_ascending 0 known_words;
+        spared = known_spared 0 (map settled_draft known_words) known_words;
+        once = λ a. ap (λ (xs : List ℕ). times_in a xs + 0 + 0) first_names;
+        earlier = refl;
+        main_none = refl;
+      };
     }
 
 -- The end.
@@ -357,12 +384,52 @@ all_told ds cs earlier bound (x ∷ xs) h e =
     }
 
 abbrev plain_program : Reading → Program
-plain_program r = program_with (words_in r.words) (append r.top r.main)
+plain_program r = program_with (words_in r.words) r.arrays (append r.top r.main)
 
 record IsSound (r : Reading) : Type 0 where
   same : program_of false r ≡ plain_program r
   built : IsBuilt (plain_program r)
   whole : IsWhole (plain_program r)
+
+-- The arrays that words name.
+
+named_words : (ds : List Draft) → joined (map arrays_named (word_phrases (words_in ds))) ≡ named_in ds
+named_words [] = refl
+named_words (d ∷ ds) = one d.word.sort ∙ ap (λ (xs : List ℕ). names_by d.word.sort ++ xs) (named_words ds)
+  where
+    one : (s : Sort) → joined (map arrays_named (elim s [ body t ↦ t ∷ word_phrases (words_in ds) | past t ↦ t ∷ word_phrases (words_in ds) | method c g t ↦ t ∷ word_phrases (words_in ds) | _ ↦ word_phrases (words_in ds) ])) ≡ names_by s ++ joined (map arrays_named (word_phrases (words_in ds)))
+    one (body t) = refl
+    one (past t) = refl
+    one (method c g t) = refl
+    one s = refl
+
+named_last : (ds : List WordDef) (t : Phrase) (a : ℕ) → times_in a (joined (map arrays_named (word_phrases (ds ++ top_word t ∷ [])))) ≡ times_in a (joined (map arrays_named (word_phrases ds))) + times_in a (arrays_named t)
+named_last [] t a = let both = times_both a (arrays_named t) [] in omega (arith, both)
+named_last (d ∷ ds) t a = one d.sort (named_last ds t a)
+  where
+    with_phrase : (u : Phrase) → times_in a (joined (map arrays_named (word_phrases (ds ++ top_word t ∷ [])))) ≡ times_in a (joined (map arrays_named (word_phrases ds))) + times_in a (arrays_named t) → times_in a (arrays_named u ++ joined (map arrays_named (word_phrases (ds ++ top_word t ∷ [])))) ≡ times_in a (arrays_named u ++ joined (map arrays_named (word_phrases ds))) + times_in a (arrays_named t)
+    with_phrase u rest =
+        let front = times_both a (arrays_named u) (joined (map arrays_named (word_phrases (ds ++ top_word t ∷ [])))) in
+        let alone = times_both a (arrays_named u) (joined (map arrays_named (word_phrases ds))) in
+        omega (arith, rest, front, alone)
+
+    one : (s : Sort) → times_in a (joined (map arrays_named (word_phrases (ds ++ top_word t ∷ [])))) ≡ times_in a (joined (map arrays_named (word_phrases ds))) + times_in a (arrays_named t) → times_in a (joined (map arrays_named (elim s [ body u ↦ u ∷ word_phrases (ds ++ top_word t ∷ []) | past u ↦ u ∷ word_phrases (ds ++ top_word t ∷ []) | method c g u ↦ u ∷ word_phrases (ds ++ top_word t ∷ []) | _ ↦ word_phrases (ds ++ top_word t ∷ []) ]))) ≡
+        times_in a (joined (map arrays_named (elim s [ body u ↦ u ∷ word_phrases ds | past u ↦ u ∷ word_phrases ds | method c g u ↦ u ∷ word_phrases ds | _ ↦ word_phrases ds ]))) + times_in a (arrays_named t)
+    one (body u) rest = with_phrase u rest
+    one (past u) rest = with_phrase u rest
+    one (method c g u) rest = with_phrase u rest
+    one s rest = rest
+
+named_once : (r : Reading) → Counted r → (a : ℕ) → times_in a (all_arrays_named (plain_program r)) ≡ below (length r.arrays) a
+named_once r c a =
+    let phrase = append r.top r.main in
+    let all = times_both a (joined (map arrays_named (word_phrases (words_in r.words ++ top_word phrase ∷ [])))) (joined (map arrays_in r.arrays)) in
+    let last = named_last (words_in r.words) phrase a in
+    let words = ap (times_in a) (named_words r.words) in
+    let tops = named_append r.top r.main a in
+    let main = ap (times_in a) c.main_none in
+    let once = c.once a in
+    omega (arith, all, last, words, tops, main, once)
 
 abbrev made : List WordDef → Phrase → List ClassDef → ℕ → Reading → Program
 made words phrase cs top r = record { words = words ++ top_word phrase ∷ []; arrays = r.arrays; classes = cs; top = top }
@@ -388,18 +455,17 @@ sound r b h =
       last_word_is = record { sort_is = refl; phrase_built = phrase_is; effect_is = refl; not_inline = refl; not_recursive = refl };
       built = bound;
       distinct = b.distinct;
-      no_arrays = refl;
+      arrays_built = subst (λ (k : ℕ). AreBuiltArrays k r.arrays) (sym count) (b.arrays n (omega arith));
       no_classes = refl;
     } in
     record {
       same =
           ap (λ (ws : List WordDef). made ws phrase (classes_of r) n r) told.same
           ∙ ap (λ (cs : List ClassDef). made (words_in r.words) phrase cs n r) no_classes
-          ∙ ap (λ (k : ℕ). made (words_in r.words) phrase [] k r) (sym count)
-          ∙ ap (λ (arrays : List _). record { words = words_in r.words ++ top_word phrase ∷ []; arrays = arrays; classes = []; top = length (words_in r.words) }) b.no_arrays;
+          ∙ ap (λ (k : ℕ). made (words_in r.words) phrase [] k r) (sym count);
       built = all;
-      whole = whole (words_in r.words ++ top_word phrase ∷ []) (length (words_in r.words)) all
-          (list_all-append (λ (d : WordDef). nat_le (name_count d.effect) 65) (words_in r.words) (top_word phrase ∷ []) ∙ and_both (list_all (λ (d : WordDef). nat_le (name_count d.effect) 65) (words_in r.words)) true told.few refl);
+      whole = whole (words_in r.words ++ top_word phrase ∷ []) r.arrays (length (words_in r.words)) all
+          (list_all-append (λ (d : WordDef). nat_le (name_count d.effect) 65) (words_in r.words) (top_word phrase ∷ []) ∙ and_both (list_all (λ (d : WordDef). nat_le (name_count d.effect) 65) (words_in r.words)) true told.few refl) (named_once r b.counted) b.counted.earlier;
     }
 
 -- Resolved programs.

@@ -1,56 +1,79 @@
 -- What forms come to is of the forms built.
 use Rattle.std.proofs.Common.{◌≡◌, ◌<◌, ◌≤◌, ◌+◌, ℕ, zero, suc, List, [], ◌∷◌, ◌++◌, map, length, Option, Bool, true, false, refl, ap, sym, ◌∙◌, subst, arith}
-use Rattle.std.specs.Prelude.{◌&&◌, ◌||◌, not, nat_eq, nat_le}
+use Rattle.std.specs.Prelude.{◌&&◌, ◌||◌, not, nat_eq, nat_le, nat_lt}
 use Rattle.std.proofs.lemmas.Bool.Decides.{Decides-ltb}
 use Rattle.std.proofs.lemmas.List.{length_push}
-use Rattle.fac_lang.specs.Forms.{IsBuiltItem, IsBuiltPhrase, IsBuiltSort, has_no_repeats, is_member, numbers_before, primitive_numbers}
-use Rattle.fac_lang.specs.Phrases.{Phrase, end, then as placed}
-use Rattle.fac_lang.specs.PhraseView.{what_item}
+use Rattle.fac_lang.specs.Forms.{AreBuiltArrays, AreBuiltElements, IsBuiltPhrase, IsBuiltSort, has_no_repeats, is_member, numbers_before, primitive_numbers}
+use Rattle.fac_lang.specs.Phrases.{int, yes, no, str, Phrase, end, then as placed}
 use Rattle.fac_lang.specs.RunningLaws.{append}
 use Rattle.fac_lang.specs.Signatures.{Signature}
 use Rattle.fac_lang.specs.Whole.{name_count}
 use Rattle.fac_lang.specs.declared.phrase.Place.{Place}
+use Rattle.fac_lang.specs.declared.program.Lit.{Lit}
 use Rattle.fac_lang.specs.declared.program.Sort.{Sort}
 use Rattle.fac_lang.specs.declared.program.Sort.TheVariants.{Body as body, Itself as itself, Prim as prim, Core as core}
 use Rattle.fac_lang.specs.declared.program.WordDef.{WordDef}
-use Rattle.fac_lang.specs.declared.tree.Element.{Element}
-use Rattle.fac_lang.specs.declared.tree.Element.TheVariants as element
-use Rattle.fac_lang.specs.declared.tree.Term.{Term}
-use Rattle.fac_lang.specs.declared.tree.Term.TheVariants as term
 use Rattle.fac_vocab.specs.Scopes.{Scope, now_defined, with_entry}
 use Rattle.fac_names.specs.declared.refusal.NameFault.{NameFault}
-use Rattle.fac_names.specs.Written.{Tok}
-use Rattle.fac_names.specs.Items.{word_of}
-use Rattle.fac_names.specs.Forms.{Draft, Late, settled, deferred, Reading, at_place, changed, draft_of, told, with_told}
-use Rattle.fac_names.specs.FromFlat.{tok}
-use Rattle.fac_names.specs.inner.Following.{Following, following, term_what, with_quotation}
+use Rattle.fac_names.specs.Written.{Tok, n_lit, n_name, n_quot, n_array, Nodes, nothing, more}
+use Rattle.fac_names.specs.Items.{elements_of, phrase_of, word_of}
+use Rattle.fac_names.specs.Forms.{Draft, Late, settled, deferred, Numbered, Reading, at_place, changed, draft_of, told, with_told}
+use Rattle.fac_names.proofs.ArrayNumbers.{Adds}
+use Rattle.fac_names.proofs.ArrayReadings.{Begins, Counted, names_by, refused_counted, scoped_counted, told_counted}
+use Rattle.fac_names.proofs.PlainItems.{ArePlain}
 use Rattle.fac_names.proofs.BuiltScopes.{ScopeBelow, brought_more, entries_defined, entries_more, entries_with, word_of_below}
 
--- Phrases.
+-- Phrases and arrays.
 
-abbrev AreBuiltPhrases : ℕ → List Phrase → Type 0
-AreBuiltPhrases bound [] = Unit {0}
-AreBuiltPhrases bound (t ∷ ts) = IsBuiltPhrase bound t × AreBuiltPhrases bound ts
+arrays_with : (bound : ℕ) (arrays : List (List Lit)) (ls : List Lit) → AreBuiltArrays bound arrays → AreBuiltElements bound ls → AreBuiltArrays bound (arrays ++ ls ∷ [])
+arrays_with bound [] ls h k = (k, tt)
+arrays_with bound (xs ∷ arrays) ls h k = (h.0, arrays_with bound arrays ls h.1 k)
 
-abbrev IsBuiltFollowing : ℕ → Following → Type 0
-IsBuiltFollowing bound f = IsBuiltPhrase bound f.here × AreBuiltPhrases bound f.around
+found_below : (n bound : ℕ) (s : Scope) (t : Tok) → 0 < n → n ≤ bound → ScopeBelow n s → nat_lt (word_of s t) bound ≡ true
+found_below n bound s t some few h = let below = word_of_below n s t some h in (Decides-ltb (word_of s t) bound).1 (omega (arith, below, few))
 
-quotation_built : (bound : ℕ) (place : Place) (t : Phrase) (ts : List Phrase) → IsBuiltPhrase bound t → AreBuiltPhrases bound ts → IsBuiltFollowing bound (with_quotation place t ts)
-quotation_built bound place t [] h k = ((h, tt), tt)
-quotation_built bound place t (u ∷ us) h k = ((h, k.0), k.1)
+mutual
+  pub phrase_built : (n bound : ℕ) (s : Scope) (ns : Nodes) (arrays : List (List Lit)) (holes : ℕ) → 0 < n → n ≤ bound → ScopeBelow n s → ArePlain ns → AreBuiltArrays bound arrays →
+      IsBuiltPhrase bound (phrase_of s [] ns arrays holes).phrase × AreBuiltArrays bound (phrase_of s [] ns arrays holes).arrays
+  phrase_built n bound s nothing arrays holes some few h plain k = (tt, k)
+  phrase_built n bound s (more (n_lit (int z) p) ns) arrays holes some few h plain k = let rest = phrase_built n bound s ns arrays holes some few h plain.1 k in ((tt, rest.0), rest.1)
+  phrase_built n bound s (more (n_lit yes p) ns) arrays holes some few h plain k = let rest = phrase_built n bound s ns arrays holes some few h plain.1 k in ((tt, rest.0), rest.1)
+  phrase_built n bound s (more (n_lit no p) ns) arrays holes some few h plain k = let rest = phrase_built n bound s ns arrays holes some few h plain.1 k in ((tt, rest.0), rest.1)
+  phrase_built n bound s (more (n_lit (str bs) p) ns) arrays holes some few h plain k = let rest = phrase_built n bound s ns arrays holes some few h plain.1 k in ((tt, rest.0), rest.1)
+  phrase_built n bound s (more (n_lit l p) ns) arrays holes some few h plain k = absurd plain.0
+  phrase_built n bound s (more (n_name t p) ns) arrays holes some few h plain k = let rest = phrase_built n bound s ns arrays holes some few h plain.1 k in ((found_below n bound s t some few h, rest.0), rest.1)
+  phrase_built n bound s (more (n_quot ms p) ns) arrays holes some few h plain k =
+      let m = phrase_of s [] ms arrays holes in
+      let inner = phrase_built n bound s ms arrays holes some few h plain.0 k in
+      let rest = phrase_built n bound s ns m.arrays m.holes some few h plain.1 inner.1 in
+      ((inner.0, rest.0), rest.1)
+  phrase_built n bound s (more (n_array ms p) ns) arrays holes some few h plain k =
+      let m = elements_of s ms arrays in
+      let inner = elements_built n bound s ms arrays some few h plain.0 k in
+      let rest = phrase_built n bound s ns (m.arrays ++ m.elements ∷ []) holes some few h plain.1 (arrays_with bound m.arrays m.elements inner.1 inner.0) in
+      ((tt, rest.0), rest.1)
+  phrase_built n bound s (more x ns) arrays holes some few h plain k = absurd plain.0
 
-term_built : (n bound : ℕ) (s : Scope) (t : Term) → 0 < n → n ≤ bound → ScopeBelow n s → IsBuiltItem bound (what_item (term_what s t))
-term_built n bound s (term.Name t) some few h = let below = word_of_below n s (tok t) some h in (Decides-ltb (word_of s (tok t)) bound).1 (omega (arith, below, few))
-term_built n bound s (term.Integer t z) some few h = tt
-term_built n bound s (term.Text t) some few h = tt
-term_built n bound s (term.True place) some few h = tt
-term_built n bound s (term.False place) some few h = tt
-
-pub following_built : (n bound : ℕ) (s : Scope) (es : List Element) → 0 < n → n ≤ bound → ScopeBelow n s → IsBuiltFollowing bound (following s es)
-following_built n bound s [] some few h = (tt, tt)
-following_built n bound s (element.Item t ∷ es) some few h = let rest = following_built n bound s es some few h in ((term_built n bound s t some few h, rest.0), rest.1)
-following_built n bound s (element.Opens place ∷ es) some few h = let rest = following_built n bound s es some few h in quotation_built bound place (following s es).here (following s es).around rest.0 rest.1
-following_built n bound s (element.Closes place ∷ es) some few h = let rest = following_built n bound s es some few h in (tt, rest)
+  pub elements_built : (n bound : ℕ) (s : Scope) (ns : Nodes) (arrays : List (List Lit)) → 0 < n → n ≤ bound → ScopeBelow n s → ArePlain ns → AreBuiltArrays bound arrays →
+      AreBuiltElements bound (elements_of s ns arrays).elements × AreBuiltArrays bound (elements_of s ns arrays).arrays
+  elements_built n bound s nothing arrays some few h plain k = (tt, k)
+  elements_built n bound s (more (n_lit (int z) p) ns) arrays some few h plain k = let rest = elements_built n bound s ns arrays some few h plain.1 k in ((tt, rest.0), rest.1)
+  elements_built n bound s (more (n_lit yes p) ns) arrays some few h plain k = let rest = elements_built n bound s ns arrays some few h plain.1 k in ((tt, rest.0), rest.1)
+  elements_built n bound s (more (n_lit no p) ns) arrays some few h plain k = let rest = elements_built n bound s ns arrays some few h plain.1 k in ((tt, rest.0), rest.1)
+  elements_built n bound s (more (n_lit (str bs) p) ns) arrays some few h plain k = let rest = elements_built n bound s ns arrays some few h plain.1 k in ((tt, rest.0), rest.1)
+  elements_built n bound s (more (n_lit l p) ns) arrays some few h plain k = absurd plain.0
+  elements_built n bound s (more (n_name t p) ns) arrays some few h plain k = let rest = elements_built n bound s ns arrays some few h plain.1 k in ((found_below n bound s t some few h, rest.0), rest.1)
+  elements_built n bound s (more (n_quot ms p) ns) arrays some few h plain k =
+      let m = phrase_of s [] ms arrays 0 in
+      let inner = phrase_built n bound s ms arrays 0 some few h plain.0 k in
+      let rest = elements_built n bound s ns m.arrays some few h plain.1 inner.1 in
+      ((inner.0, rest.0), rest.1)
+  elements_built n bound s (more (n_array ms p) ns) arrays some few h plain k =
+      let m = elements_of s ms arrays in
+      let inner = elements_built n bound s ms arrays some few h plain.0 k in
+      let rest = elements_built n bound s ns (m.arrays ++ m.elements ∷ []) some few h plain.1 (arrays_with bound m.arrays m.elements inner.1 inner.0) in
+      ((tt, rest.0), rest.1)
+  elements_built n bound s (more x ns) arrays some few h plain k = absurd plain.0
 
 pub append_built : (bound : ℕ) (t u : Phrase) → IsBuiltPhrase bound t → IsBuiltPhrase bound u → IsBuiltPhrase bound (append t u)
 append_built bound end u h k = k
@@ -87,15 +110,16 @@ pub record Built (r : Reading) : Type 0 where
   pub distinct : has_no_repeats (numbers_in r.words) ≡ true
   pub no_old_classes : r.old_classes ≡ []
   pub no_classes : r.classes ≡ []
-  pub no_arrays : r.arrays ≡ []
+  pub arrays : (bound : ℕ) → length r.words ≤ bound → AreBuiltArrays bound r.arrays
+  pub counted : Counted r
 
 -- the same but for the first refusal
 pub refused_built : (r : Reading) (first : Option NameFault) → Built r → Built (record r { first = first })
-refused_built r first b = record { some = b.some; scope = b.scope; words = b.words; top = b.top; main = b.main; distinct = b.distinct; no_old_classes = b.no_old_classes; no_classes = b.no_classes; no_arrays = b.no_arrays }
+refused_built r first b = record { some = b.some; scope = b.scope; words = b.words; top = b.top; main = b.main; distinct = b.distinct; no_old_classes = b.no_old_classes; no_classes = b.no_classes; arrays = b.arrays; counted = refused_counted r first b.counted }
 
--- another scope with words that there are
-pub scoped_built : (r : Reading) (s : Scope) → ScopeBelow (length r.words) s → Built r → Built (record r { scope = s })
-scoped_built r s h b = record { some = b.some; scope = h; words = b.words; top = b.top; main = b.main; distinct = b.distinct; no_old_classes = b.no_old_classes; no_classes = b.no_classes; no_arrays = b.no_arrays }
+-- another scope with words that there are, and the same table
+pub scoped_built : (r : Reading) (s : Scope) → ScopeBelow (length r.words) s → s.table ≡ r.scope.table → Built r → Built (record r { scope = s })
+scoped_built r s h same b = record { some = b.some; scope = h; words = b.words; top = b.top; main = b.main; distinct = b.distinct; no_old_classes = b.no_old_classes; no_classes = b.no_classes; arrays = b.arrays; counted = scoped_counted r s same b.counted }
 
 -- A word more.
 
@@ -107,8 +131,8 @@ numbers_with : (ds : List Draft) (vocab : List ℕ) (t : Tok) → numbers_in (ds
 numbers_with [] vocab t = refl
 numbers_with (d ∷ ds) vocab t = ap (numbers_before d.word.sort) (numbers_with ds vocab t)
 
-pub with_word : (r : Reading) (s : Scope) (vocab : List ℕ) (t : Tok) (first : Option NameFault) → ScopeBelow (length r.words + 1) s → Built r → Built (record r { scope = s; words = r.words ++ draft_of vocab t ∷ []; first = first })
-with_word r s vocab t first h b =
+pub with_word : (r : Reading) (s : Scope) (vocab : List ℕ) (t : Tok) (first : Option NameFault) → ScopeBelow (length r.words + 1) s → Counted (record r { scope = s; words = r.words ++ draft_of vocab t ∷ []; first = first }) → Built r → Built (record r { scope = s; words = r.words ++ draft_of vocab t ∷ []; first = first })
+with_word r s vocab t first h counted b =
     let longer = length_push r.words (draft_of vocab t) in
     record {
       some = omega (arith, longer);
@@ -119,7 +143,8 @@ with_word r s vocab t first h b =
       distinct = ap has_no_repeats (numbers_with r.words vocab t) ∙ b.distinct;
       no_old_classes = b.no_old_classes;
       no_classes = b.no_classes;
-      no_arrays = b.no_arrays;
+      arrays = λ bound few. b.arrays bound (omega (arith, longer, few));
+      counted = counted;
     }
 
 pub wider : (n : ℕ) (s : Scope) → ScopeBelow n s → ScopeBelow (n + 1) s
@@ -160,8 +185,8 @@ numbers_placed p n [] = refl
 numbers_placed p zero (d ∷ ds) = refl
 numbers_placed p (suc n) (d ∷ ds) = ap (numbers_before d.word.sort) (numbers_placed p n ds)
 
-pub moved_built : (r : Reading) (vocab name : List ℕ) (p : Place) (n : ℕ) → Built r → Built (record r { scope = record r.scope { table = now_defined vocab name r.scope.table }; words = changed (at_place p) n r.words })
-moved_built r vocab name p n b =
+pub moved_built : (r : Reading) (vocab name : List ℕ) (p : Place) (n : ℕ) → Counted (record r { scope = record r.scope { table = now_defined vocab name r.scope.table }; words = changed (at_place p) n r.words }) → Built r → Built (record r { scope = record r.scope { table = now_defined vocab name r.scope.table }; words = changed (at_place p) n r.words })
+moved_built r vocab name p n counted b =
     let same = length_changed (at_place p) n r.words in
     let below = b.some in
     record {
@@ -173,7 +198,8 @@ moved_built r vocab name p n b =
       distinct = ap has_no_repeats (numbers_placed p n r.words) ∙ b.distinct;
       no_old_classes = b.no_old_classes;
       no_classes = b.no_classes;
-      no_arrays = b.no_arrays;
+      arrays = λ bound few. b.arrays bound (omega (arith, same, few));
+      counted = counted;
     }
 
 -- Numbers of primitives stay distinct where a word is told that is none.
@@ -238,19 +264,23 @@ told_distinct f (suc n) (d ∷ ds) none h = distinct_before d.word.sort (numbers
 abbrev IsTold : ℕ → Sort → Signature → Bool → Bool → Type 0
 IsTold bound s e inline recursive = (d : WordDef) → IsToldWord bound (record d { sort = s; effect = e; inline = inline; recursive = recursive })
 
-pub told_built : (r : Reading) (w : ℕ) (s : Sort) (e : Signature) (inline recursive : Bool) → IsNoPrimitive s → ((bound : ℕ) → length r.words ≤ bound → IsTold bound s e inline recursive) → Built r → Built (told s e inline recursive settled (record { word = w; reading = r }))
-told_built r w s e inline recursive none h b =
+pub told_built : (n : Numbered) (s : Sort) (e : Signature) (inline recursive : Bool) (arrays : List (List Lit)) (first : Option NameFault) → IsNoPrimitive s → ((bound : ℕ) → length n.reading.words ≤ bound → IsTold bound s e inline recursive) →
+    ((bound : ℕ) → length n.reading.words ≤ bound → AreBuiltArrays bound arrays) → Adds n.reading.arrays arrays (names_by s) → Begins n → Built n.reading → Built (told s e inline recursive settled (record { word = n.word; reading = record n.reading { arrays = arrays; first = first } }))
+told_built n s e inline recursive arrays first none h k adds begins b =
+    let r = n.reading in
+    let w = n.word in
     let f = with_told s e inline recursive settled in
     let same = length_changed f w r.words in
     let below = b.some in
     record {
       some = omega (arith, same, below);
-      scope = subst (λ (k : ℕ). ScopeBelow k r.scope) (sym same) b.scope;
-      words = λ bound few. drafts_changed bound f w r.words (λ d k. h bound (omega (arith, same, few)) d.word) (b.words bound (omega (arith, same, few)));
+      scope = subst (λ (m : ℕ). ScopeBelow m r.scope) (sym same) b.scope;
+      words = λ bound few. drafts_changed bound f w r.words (λ d is. h bound (omega (arith, same, few)) d.word) (b.words bound (omega (arith, same, few)));
       top = λ bound few. b.top bound (omega (arith, same, few));
       main = λ bound few. b.main bound (omega (arith, same, few));
       distinct = told_distinct f w r.words (λ d. none) b.distinct;
       no_old_classes = b.no_old_classes;
       no_classes = b.no_classes;
-      no_arrays = b.no_arrays;
+      arrays = λ bound few. k bound (omega (arith, same, few));
+      counted = told_counted n s e inline recursive arrays first adds begins;
     }

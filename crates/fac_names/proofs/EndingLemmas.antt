@@ -6,6 +6,7 @@ use Rattle.fac_lang.specs.Phrases.{Phrase}
 use Rattle.fac_lang.specs.PhraseView.{items_phrase}
 use Rattle.fac_lang.specs.RunningLaws.{append}
 use Rattle.fac_lang.specs.declared.program.ClassDef.{ClassDef}
+use Rattle.fac_lang.specs.declared.program.Lit.{Lit}
 use Rattle.fac_lang.specs.declared.program.Program.{Program}
 use Rattle.fac_lang.specs.declared.program.WordDef.{WordDef}
 use Rattle.fac_lang.specs.declared.tree.Form.{Form as Flat}
@@ -51,15 +52,15 @@ drafts_finished : (ds : List Draft) (cs : List ClassDef) (xs : List Kept) → ma
 drafts_finished ds cs [] = refl
 drafts_finished ds cs (x ∷ xs) = ap (λ (w : WordDef). w ∷ map (finished ds cs) (drafts_seen xs)) (draft_finished ds cs x.word x.is_deferred) ∙ ap (λ (ws : List WordDef). x.word ∷ ws) (drafts_finished ds cs xs)
 
-abbrev made : List WordDef → Phrase → ℕ → Program
-made words phrase top = record { words = words ++ top_word phrase ∷ []; arrays = []; classes = []; top = top }
+abbrev made : List (List Lit) → List WordDef → Phrase → ℕ → Program
+made arrays words phrase top = record { words = words ++ top_word phrase ∷ []; arrays = arrays; classes = []; top = top }
 
-pub program_made : (s : SoFar) → program_with (map word_in s.drafts.items) (append (items_phrase s.items.items) (items_phrase s.main.items)) ≡ program_of false (reading_of s)
+pub program_made : (s : SoFar) → program_with (map word_in s.drafts.items) s.arrays (append (items_phrase s.items.items) (items_phrase s.main.items)) ≡ program_of false (reading_of s)
 program_made s =
     let phrase = append (items_phrase s.items.items) (items_phrase s.main.items) in
     let ds = drafts_seen s.drafts.items in
-    ap (made (map word_in s.drafts.items) phrase) (length-map s.drafts.items word_in ∙ sym (length-map s.drafts.items draft_seen))
-    ∙ sym (ap (λ (ws : List WordDef). made ws phrase (length ds)) (drafts_finished ds [] s.drafts.items))
+    ap (made s.arrays (map word_in s.drafts.items) phrase) (length-map s.drafts.items word_in ∙ sym (length-map s.drafts.items draft_seen))
+    ∙ sym (ap (λ (ws : List WordDef). made s.arrays ws phrase (length ds)) (drafts_finished ds [] s.drafts.items))
 
 pub ends_refused : (s : SoFar) (fault : NameFault) → Some fault ≡ first_undefined s.drafts.items s.first → first_fault (reading_of s) ≡ Some fault
 ends_refused s fault h = last_first s ∙ sym h

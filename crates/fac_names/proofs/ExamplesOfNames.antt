@@ -1,20 +1,26 @@
 -- Sources, and what they resolve to.
 use Rattle.std.specs.Prelude.{ℕ, ◌+◌, pos, negsuc, List, [], ◌∷◌, length, drop, None, Result, Ok, Err, Bool, false, codes}
 use Rattle.std.proofs.Common.{◌≡◌, refl}
-use Rattle.fac_lang.specs.Phrases.{Plain, int, str, Phrase, end, then as placed, Item, lit, word}
+use Rattle.fac_lang.specs.Phrases.{Plain, int, str, yes as yes_value, no as no_value, Phrase, end, then as placed, Item, lit, lit_arr, word}
 use Rattle.fac_lang.specs.Primitives.{built_primitive_words}
 use Rattle.fac_lang.specs.Signatures.{Signature, signature, no_inputs, leaves}
 use Rattle.fac_lang.specs.declared.phrase.Place.{Place}
+use Rattle.fac_lang.specs.declared.program.Lit.{Lit}
+use Rattle.fac_lang.specs.declared.program.Lit.TheVariants.{Int as l_int, True as l_yes, Str as l_str, Arr as l_arr, Wref as l_word, Quot as l_quot}
 use Rattle.fac_lang.specs.declared.program.Name.{Name as FullName}
 use Rattle.fac_lang.specs.declared.program.Sort.{Sort}
 use Rattle.fac_lang.specs.declared.program.Sort.TheVariants.{Body as body}
 use Rattle.fac_lang.specs.declared.program.WordDef.{WordDef}
+use Rattle.fac_lang.specs.declared.tree.Bracket.TheVariants.{Quotation, Array}
+use Rattle.fac_lang.specs.declared.tree.Element.TheVariants as element
+use Rattle.fac_lang.specs.declared.tree.Term.TheVariants as term
 use Rattle.fac_vocab.specs.Scopes.{entries_from, found, word_held}
 use Rattle.fac_names.specs.declared.refusal.NameFault.{NameFault}
 use Rattle.fac_names.specs.declared.refusal.NameKind.{NameKind}
 use Rattle.fac_names.specs.declared.refusal.NameKind.TheVariants.{Unknown, Ambiguous, Twice, NoVocab, Undefined}
-use Rattle.fac_names.specs.Written.{Tok, Node, n_lit, n_name, Nodes, nothing, more, given, Form, f_in, f_use, f_using, f_from, f_qualified, f_private, f_public, f_defer, f_symbol, f_main, f_define, f_items}
+use Rattle.fac_names.specs.Written.{Tok, Node, n_lit, n_array, n_name, n_quot, Nodes, nothing, more, given, Form, f_constant, f_in, f_use, f_using, f_from, f_qualified, f_private, f_public, f_defer, f_symbol, f_main, f_define, f_items}
 use Rattle.fac_names.specs.Items.{number}
+use Rattle.fac_names.specs.FromFlat.{nested}
 use Rattle.fac_names.specs.Forms.{no_effect}
 use Rattle.fac_names.specs.KnownWords.{known_words}
 use Rattle.fac_names.specs.Resolved.{Known, read_files}
@@ -357,3 +363,71 @@ main_of_first : resolves ((f_in (tk (codes "a") 2) ∷ defined (codes "go") 4 []
     yes (made (codes "a") (codes "go") 4 end ∷ top (items ((lit (int (pos 1)), 11) ∷ (lit (int (pos 2)), 1) ∷ (word (own 0), 4) ∷ (word (own 0), 10) ∷ [])) ∷ [])
 unfolding known_words built_primitive_words found
 main_of_first = refl
+
+-- Literal arrays.
+
+abbrev array : List Node → ℕ → Node
+array ns t = n_array (nodes ns) (at t)
+
+abbrev quotation : List Node → ℕ → Node
+quotation ns t = n_quot (nodes ns) (at t)
+
+-- the literal arrays of a program that isn't refused
+abbrev arrays_seen : Result Known NameFault → List (List Lit)
+arrays_seen (Err f) = []
+arrays_seen (Ok k) = k.program.arrays
+
+abbrev arrays_of : List (List Form) → List (List Lit)
+arrays_of files = arrays_seen (read_files first_reading files false)
+
+-- { 1 { 2 t } "x" }
+inner_first : List (List Form)
+inner_first = (run (array (literal (int (pos 1)) 2 ∷ array (literal (int (pos 2)) 4 ∷ literal yes_value 5 ∷ []) 3 ∷ literal (str (codes "x")) 7 ∷ []) 1 ∷ []) ∷ []) ∷ []
+
+array_in_array : resolves inner_first ≡ yes (top (items ((lit_arr 1, 1) ∷ [])) ∷ [])
+unfolding inner_first known_words built_primitive_words found
+array_in_array = refl
+
+inner_is_earlier : arrays_of inner_first ≡ (l_int (pos 2) ∷ l_yes ∷ []) ∷ (l_int (pos 1) ∷ l_arr 0 ∷ l_str (codes "x") ∷ []) ∷ []
+unfolding inner_first known_words built_primitive_words found
+inner_is_earlier = refl
+
+-- USING: kernel math ; { [ { } dup ] dup { } }
+in_quotation : List (List Form)
+in_quotation = (kernel_and_math ∷ run (array (quotation (array [] 7 ∷ named (codes "dup") 9 ∷ []) 6 ∷ named (codes "dup") 11 ∷ array [] 12 ∷ []) 5 ∷ []) ∷ []) ∷ []
+
+-- in a quotation a name is an item, and in an array the word itself
+arrays_around : arrays_of in_quotation ≡ [] ∷ [] ∷ (l_quot (items ((lit_arr 0, 7) ∷ (word (known (codes "kernel") (codes "dup")), 9) ∷ [])) ∷ l_word (known (codes "kernel") (codes "dup")) ∷ l_arr 1 ∷ []) ∷ []
+unfolding in_quotation known_words built_primitive_words found
+arrays_around = refl
+
+-- USING: kernel math ; { 1 { nosuch } }
+unknown_in_array : resolves ((kernel_and_math ∷ run (array (literal (int (pos 1)) 6 ∷ array (named (codes "nosuch") 8 ∷ []) 7 ∷ []) 5 ∷ []) ∷ []) ∷ []) ≡ no 8 Unknown (codes "nosuch")
+unfolding known_words built_primitive_words found
+unknown_in_array = refl
+
+-- IN: a : go ( -- ) ; IN: b : go ( -- ) ; IN: c USING: a b ; { [ go ] }
+ambiguous_in_array : resolves ((f_in (tk (codes "a") 2) ∷ defined (codes "go") 4 [] ∷ f_in (tk (codes "b") 10) ∷ defined (codes "go") 12 [] ∷ f_in (tk (codes "c") 18) ∷ (f_using ((tk (codes "a") 20) ∷ (tk (codes "b") 21) ∷ [])) ∷ run (array (quotation (named (codes "go") 25 ∷ []) 24 ∷ []) 23 ∷ []) ∷ []) ∷ []) ≡ no 25 (Ambiguous (name (codes "a") (codes "go")) (name (codes "b") (codes "go"))) (codes "go")
+unfolding known_words built_primitive_words found
+ambiguous_in_array = refl
+
+-- CONSTANT: c { 1 } { 2 } c
+constant_array : List (List Form)
+constant_array = (f_constant (tk (codes "c") 2) (array (literal (int (pos 1)) 4 ∷ []) 3) ∷ run (array (literal (int (pos 2)) 7 ∷ []) 6 ∷ named (codes "c") 9 ∷ []) ∷ []) ∷ []
+
+constant_is_array : resolves constant_array ≡ yes (word_def (codes "scratchpad") (codes "c") (body (items ((lit_arr 0, 3) ∷ []))) (signature None no_inputs (leaves None (codes "value" ∷ []))) false false (at 2) ∷ top (items ((lit_arr 1, 6) ∷ (word (own 0), 9) ∷ [])) ∷ [])
+unfolding constant_array known_words built_primitive_words found
+constant_is_array = refl
+
+constant_first : arrays_of constant_array ≡ (l_int (pos 1) ∷ []) ∷ (l_int (pos 2) ∷ []) ∷ []
+unfolding constant_array known_words built_primitive_words found
+constant_first = refl
+
+-- IN: combinators : cond ( -- ) ; { [ ] } cond
+own_cond : resolves ((f_in (tk (codes "combinators") 2) ∷ defined (codes "cond") 4 [] ∷ run (array (quotation [] 10 ∷ []) 9 ∷ named (codes "cond") 13 ∷ []) ∷ []) ∷ []) ≡ yes (made (codes "combinators") (codes "cond") 4 end ∷ top (items ((lit_arr 0, 9) ∷ (word (own 0), 13) ∷ [])) ∷ [])
+unfolding known_words built_primitive_words found
+own_cond = refl
+
+-- { [ ] t } f, as its elements
+elements_nested : nested (element.Opens Array (at 1) ∷ element.Opens Quotation (at 2) ∷ element.Closes Quotation (at 3) ∷ element.Item (term.True (at 4)) ∷ element.Closes Array (at 5) ∷ element.Item (term.False (at 6)) ∷ []) ≡ nodes (array (quotation [] 2 ∷ literal yes_value 4 ∷ []) 1 ∷ literal no_value 6 ∷ [])
+elements_nested = refl

@@ -23,13 +23,13 @@ use Rattle.fac_names.specs.Laws.{names_of, Longer, Sooner, Grows, FormsGrow}
 
 -- Lists.
 
-same : {A : Type 0} (xs : List A) → Longer xs xs
+pub same : {A : Type 0} (xs : List A) → Longer xs xs
 same xs = record { rest = []; is = sym (append-nil xs) }
 
 by : {A : Type 0} (xs ys : List A) → Longer xs (xs ++ ys)
 by xs ys = record { rest = ys; is = refl }
 
-and_then : {A : Type 0} {xs ys zs : List A} → Longer xs ys → Longer ys zs → Longer xs zs
+pub and_then : {A : Type 0} {xs ys zs : List A} → Longer xs ys → Longer ys zs → Longer xs zs
 and_then {A} {xs} {ys} {zs} p q = record { rest = p.rest ++ q.rest; is = q.is ∙ ap (λ ws. ws ++ q.rest) p.is ∙ append_assoc xs p.rest q.rest }
 
 unrefused : (a : Option NameFault) → Sooner a a
@@ -47,7 +47,7 @@ equal {A} {xs} {ys} e = record { rest = []; is = e ∙ sym (append-nil xs) }
 -- Phrases add arrays at the end.
 
 mutual
-  phrase_longer : (s : Scope) (locals : List (List ℕ)) (ns : Nodes) (arrays : List (List Lit)) (holes : ℕ) → Longer arrays (phrase_of s locals ns arrays holes).arrays
+  pub phrase_longer : (s : Scope) (locals : List (List ℕ)) (ns : Nodes) (arrays : List (List Lit)) (holes : ℕ) → Longer arrays (phrase_of s locals ns arrays holes).arrays
   phrase_longer s locals nothing arrays holes = same arrays
   phrase_longer s locals (more n ns) arrays holes =
       and_then (item_longer s locals n arrays holes) (phrase_longer s (bound n locals) ns (item_of s locals n arrays holes).arrays (item_of s locals n arrays holes).holes)
@@ -69,7 +69,7 @@ mutual
   item_longer s locals (n_full vocab name p) arrays holes = same arrays
   item_longer s locals (n_part ns) arrays holes = phrase_longer s locals ns arrays holes
 
-  elements_longer : (s : Scope) (ns : Nodes) (arrays : List (List Lit)) → Longer arrays (elements_of s ns arrays).arrays
+  pub elements_longer : (s : Scope) (ns : Nodes) (arrays : List (List Lit)) → Longer arrays (elements_of s ns arrays).arrays
   elements_longer s nothing arrays = same arrays
   elements_longer s (more (n_array es p) ns) arrays =
       and_then (elements_longer s es arrays) (and_then (by (elements_of s es arrays).arrays ((elements_of s es arrays).elements ∷ [])) (

@@ -4,6 +4,8 @@ pub mod FirstLemmas
 pub mod SearchLemmas
 pub mod ItemLemmas
 pub mod PlainItems
+pub mod ArrayNumbers
+pub mod ArrayReadings
 pub mod DraftLemmas
 pub mod PlainEffectLemmas
 pub mod ReadingLemmas

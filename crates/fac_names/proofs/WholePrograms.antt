@@ -1,20 +1,24 @@
 -- Every program of the forms built is whole where its effects have few names.
-use Rattle.std.proofs.Common.{◌≡◌, ℕ, suc, ◌<◌, ◌≤◌, Bool, true, false, not, ◌&&◌, ◌||◌, List, [], ◌∷◌, ◌++◌, Option, Some, None, length, refl, ap, sym, ◌∙◌, subst, arith, append-nil}
+use Rattle.std.proofs.Common.{◌≡◌, ℕ, suc, ◌<◌, ◌≤◌, Bool, true, false, not, ◌&&◌, ◌||◌, List, [], ◌∷◌, ◌++◌, Option, Some, None, length, refl, ap, sym, ◌∙◌, subst, arith, map}
 use Rattle.std.proofs.lemmas.Bool.Decides.{Decides-ltb}
 use Rattle.std.proofs.lemmas.List.{length_push}
+use Rattle.std.proofs.lemmas.List.Folds.{list_all-append}
 use Rattle.std.proofs.lemmas.Slice.Eq.{bytes_eq-Decides}
 use Rattle.std.specs.Prelude.{◌+◌, ℤ, nat_lt, nat_le, nat_eq}
 use Rattle.std.specs.List.{list_all, list_any}
 use Rattle.std.specs.Str.{bytes_eq}
-use Rattle.fac_lang.specs.Forms.{IsBuilt, IsBuiltPhrase, IsBuiltSort, AreBuiltWords, IsPrimitiveWord, IsCoreWord, IsSymbolWord, IsTopPhrase, is_member, numbers_before, primitive_numbers, has_no_repeats}
+use Rattle.fac_lang.specs.Forms.{IsBuilt, IsBuiltPhrase, IsBuiltSort, AreBuiltArrays, AreBuiltElements, AreBuiltWords, IsPrimitiveWord, IsCoreWord, IsSymbolWord, IsTopPhrase, is_member, numbers_before, primitive_numbers, has_no_repeats}
 use Rattle.fac_lang.specs.Meaning.{sort_of, is_past}
 use Rattle.fac_lang.specs.PrimitiveWords.{PrimitiveWord, plain_inputs, plain_leaving, written_effect}
-use Rattle.fac_lang.specs.Phrases.{Phrase, end, then, Item, lit, int, yes, no, str, wrd, quot, word}
-use Rattle.fac_lang.specs.Whole.{IsWhole, each_item, each_numbered, locals_bound, holes_within, item_fits, item_spares, is_body, tests_small, word_phrases, sort_fits, has_written_effect, has_generic_effect, marks_fit, effect_eq, inputs_eq, leaving_eq, names_eq, name_count, no_two, same_word, same_method}
+use Rattle.fac_lang.specs.Phrases.{Phrase, end, then, Item, lit, int, yes, no, str, wrd, lit_arr, quot, word}
+use Rattle.fac_lang.specs.Whole.{IsWhole, all_arrays_named, all_phrases, arrays_in, arrays_named, joined, literal_fits, literal_spares, names_earlier, quotations, times_in, each_item, each_numbered, locals_bound, holes_within, item_fits, item_spares, is_body, tests_small, word_phrases, sort_fits, has_written_effect, has_generic_effect, marks_fit, effect_eq, inputs_eq, leaving_eq, names_eq, name_count, no_two, same_word, same_method}
+use Rattle.fac_lang.specs.declared.program.Lit.{Lit}
+use Rattle.fac_lang.specs.declared.program.Lit.TheVariants.{Int as l_int, True as l_yes, False as l_no, Str as l_str, Arr as l_arr, Wref as l_word, Quot as l_quot, Made as l_made}
 use Rattle.fac_lang.specs.declared.program.Program.{Program}
 use Rattle.fac_lang.specs.declared.program.Sort.{Sort}
 use Rattle.fac_lang.specs.declared.program.Sort.TheVariants.{Prim as prim, Core as core, Body as body, Past as past, Method as method, Itself as itself}
 use Rattle.fac_lang.specs.declared.program.WordDef.{WordDef}
+use Rattle.fac_names.proofs.ArrayNumbers.{all_below, all_named_below, all_once, below}
 use Rattle.fac_lang.proofs.FormsLemmas.{word_below, sort_at, top_sort, all_distinct}
 
 -- Phrases.
@@ -25,26 +29,37 @@ three_true a b c h k l = rw (h, k, l) refl
 both_are : (a b : Bool) → a ≡ true → b ≡ true → (a && b) ≡ true
 both_are a b h k = rw (h, k) refl
 
--- a test that each item of a built phrase passes
-record Passes (bound : ℕ) (f : Item → Bool) : Type 0 where
+both_true : (a b : Bool) → (a && b) ≡ true → (a ≡ true) × (b ≡ true)
+both_true true b h = (refl, h)
+both_true false b h = cc
+
+-- a test that each item of a built phrase passes, where there are so many arrays
+record Passes (bound count : ℕ) (f : Item → Bool) : Type 0 where
   ints : (z : ℤ) → f (lit (int z)) ≡ true
   truth : f (lit yes) ≡ true
   falsity : f (lit no) ≡ true
   strings : (cs : List ℕ) → f (lit (str cs)) ≡ true
   references : (w : ℕ) → nat_lt w bound ≡ true → f (lit (wrd w)) ≡ true
+  arrays : (a : ℕ) → nat_lt a count ≡ true → f (lit_arr a) ≡ true
   quotations : (t : Phrase) → f (quot t) ≡ true
   words : (w : ℕ) → nat_lt w bound ≡ true → f (word w) ≡ true
 
-items_pass : (bound : ℕ) (f : Item → Bool) → Passes bound f → (t : Phrase) → IsBuiltPhrase bound t → each_item f t ≡ true
-items_pass bound f p end h = refl
-items_pass bound f p (then (lit (int z)) place t) h = three_true (f (lit (int z))) true (each_item f t) (p.ints z) refl (items_pass bound f p t h.1)
-items_pass bound f p (then (lit yes) place t) h = three_true (f (lit yes)) true (each_item f t) p.truth refl (items_pass bound f p t h.1)
-items_pass bound f p (then (lit no) place t) h = three_true (f (lit no)) true (each_item f t) p.falsity refl (items_pass bound f p t h.1)
-items_pass bound f p (then (lit (str cs)) place t) h = three_true (f (lit (str cs))) true (each_item f t) (p.strings cs) refl (items_pass bound f p t h.1)
-items_pass bound f p (then (lit (wrd w)) place t) h = three_true (f (lit (wrd w))) true (each_item f t) (p.references w h.0) refl (items_pass bound f p t h.1)
-items_pass bound f p (then (quot u) place t) h = three_true (f (quot u)) (each_item f u) (each_item f t) (p.quotations u) (items_pass bound f p u h.0) (items_pass bound f p t h.1)
-items_pass bound f p (then (word w) place t) h = three_true (f (word w)) true (each_item f t) (p.words w h.0) refl (items_pass bound f p t h.1)
-items_pass bound f p (then i place t) h = absurd h.0
+split_below : (n : ℕ) (xs ys : List ℕ) → all_below n (xs ++ ys) ≡ true → (all_below n xs ≡ true) × (all_below n ys ≡ true)
+split_below n xs ys h = both_true (all_below n xs) (all_below n ys) (sym (list_all-append (λ (b : ℕ). nat_lt b n) xs ys) ∙ h)
+
+items_pass : (bound count : ℕ) (f : Item → Bool) → Passes bound count f → (t : Phrase) → IsBuiltPhrase bound t → all_below count (arrays_named t) ≡ true → each_item f t ≡ true
+items_pass bound count f p end h k = refl
+items_pass bound count f p (then (lit (int z)) place t) h k = three_true (f (lit (int z))) true (each_item f t) (p.ints z) refl (items_pass bound count f p t h.1 k)
+items_pass bound count f p (then (lit yes) place t) h k = three_true (f (lit yes)) true (each_item f t) p.truth refl (items_pass bound count f p t h.1 k)
+items_pass bound count f p (then (lit no) place t) h k = three_true (f (lit no)) true (each_item f t) p.falsity refl (items_pass bound count f p t h.1 k)
+items_pass bound count f p (then (lit (str cs)) place t) h k = three_true (f (lit (str cs))) true (each_item f t) (p.strings cs) refl (items_pass bound count f p t h.1 k)
+items_pass bound count f p (then (lit (wrd w)) place t) h k = three_true (f (lit (wrd w))) true (each_item f t) (p.references w h.0) refl (items_pass bound count f p t h.1 k)
+items_pass bound count f p (then (lit_arr a) place t) h k =
+    let inside = both_true (nat_lt a count) (all_below count (arrays_named t)) k in three_true (f (lit_arr a)) true (each_item f t) (p.arrays a inside.0) refl (items_pass bound count f p t h.1 inside.1)
+items_pass bound count f p (then (quot u) place t) h k =
+    let inside = split_below count (arrays_named u) (arrays_named t) k in three_true (f (quot u)) (each_item f u) (each_item f t) (p.quotations u) (items_pass bound count f p u h.0 inside.0) (items_pass bound count f p t h.1 inside.1)
+items_pass bound count f p (then (word w) place t) h k = three_true (f (word w)) true (each_item f t) (p.words w h.0) refl (items_pass bound count f p t h.1 k)
+items_pass bound count f p (then i place t) h k = absurd h.0
 
 phrase_bound : (bound : ℕ) (xs : List ℕ) (t : Phrase) → IsBuiltPhrase bound t → locals_bound xs t ≡ true
 phrase_bound bound xs end h = refl
@@ -53,6 +68,7 @@ phrase_bound bound xs (then (lit yes) place t) h = phrase_bound bound xs t h.1
 phrase_bound bound xs (then (lit no) place t) h = phrase_bound bound xs t h.1
 phrase_bound bound xs (then (lit (str cs)) place t) h = phrase_bound bound xs t h.1
 phrase_bound bound xs (then (lit (wrd w)) place t) h = phrase_bound bound xs t h.1
+phrase_bound bound xs (then (lit_arr a) place t) h = phrase_bound bound xs t h.1
 phrase_bound bound xs (then (quot u) place t) h = both_are (locals_bound xs u) (locals_bound xs t) (phrase_bound bound xs u h.0) (phrase_bound bound xs t h.1)
 phrase_bound bound xs (then (word w) place t) h = phrase_bound bound xs t h.1
 phrase_bound bound xs (then i place t) h = absurd h.0
@@ -64,6 +80,7 @@ phrase_without_holes bound (then (lit yes) place t) h = phrase_without_holes bou
 phrase_without_holes bound (then (lit no) place t) h = phrase_without_holes bound t h.1
 phrase_without_holes bound (then (lit (str cs)) place t) h = phrase_without_holes bound t h.1
 phrase_without_holes bound (then (lit (wrd w)) place t) h = phrase_without_holes bound t h.1
+phrase_without_holes bound (then (lit_arr a) place t) h = phrase_without_holes bound t h.1
 phrase_without_holes bound (then (quot u) place t) h = both_are (holes_within 0 u) (holes_within 0 t) (phrase_without_holes bound u h.0) (phrase_without_holes bound t h.1)
 phrase_without_holes bound (then (word w) place t) h = phrase_without_holes bound t h.1
 phrase_without_holes bound (then i place t) h = absurd h.0
@@ -82,19 +99,77 @@ words_pass : (bound : ℕ) (f : WordDef → Bool) → ((d : WordDef) → IsBuilt
 words_pass bound f each [] h = refl
 words_pass bound f each (d ∷ ds) h = both_are (f d) (list_all f ds) (each d h.0) (words_pass bound f each ds h.1)
 
+-- built phrases that name arrays below a number alone
+abbrev GoodPhrases : ℕ → ℕ → List Phrase → Type 0
+GoodPhrases bound count [] = Unit {0}
+GoodPhrases bound count (t ∷ ts) = IsBuiltPhrase bound t × (all_below count (arrays_named t) ≡ true) × GoodPhrases bound count ts
+
+good_both : (bound count : ℕ) (ts us : List Phrase) → GoodPhrases bound count ts → GoodPhrases bound count us → GoodPhrases bound count (ts ++ us)
+good_both bound count [] us h k = k
+good_both bound count (t ∷ ts) us h k = (h.0, h.1, good_both bound count ts us h.2 k)
+
 -- the phrases of words
-phrases_pass : (bound : ℕ) (f : Phrase → Bool) → ((t : Phrase) → IsBuiltPhrase bound t → f t ≡ true) → (ds : List WordDef) → AreBuiltWords bound ds → list_all f (word_phrases ds) ≡ true
-phrases_pass bound f each [] h = refl
-phrases_pass bound f each (d ∷ ds) h =
-    let later = phrases_pass bound f each ds h.1 in
-    built_sort bound d (λ s. list_all f (elim s [ body t ↦ t ∷ word_phrases ds | past t ↦ t ∷ word_phrases ds | method c g t ↦ t ∷ word_phrases ds | _ ↦ word_phrases ds ]) ≡ true)
-    (λ k prim_is. later) (λ k core_is. later) (λ u own. both_are (f u) (list_all f (word_phrases ds)) (each u own) later) (λ symbol. later) d.sort h.0
+good_words : (bound count : ℕ) (ds : List WordDef) → AreBuiltWords bound ds → all_below count (joined (map arrays_named (word_phrases ds))) ≡ true → GoodPhrases bound count (word_phrases ds)
+good_words bound count [] h k = tt
+good_words bound count (d ∷ ds) h k =
+    built_sort bound d (λ s. all_below count (joined (map arrays_named (elim s [ body t ↦ t ∷ word_phrases ds | past t ↦ t ∷ word_phrases ds | method c g t ↦ t ∷ word_phrases ds | _ ↦ word_phrases ds ]))) ≡ true →
+    GoodPhrases bound count (elim s [ body t ↦ t ∷ word_phrases ds | past t ↦ t ∷ word_phrases ds | method c g t ↦ t ∷ word_phrases ds | _ ↦ word_phrases ds ]))
+    (λ n is inside. good_words bound count ds h.1 inside) (λ n is inside. good_words bound count ds h.1 inside)
+    (λ u own inside. let both = split_below count (arrays_named u) (joined (map arrays_named (word_phrases ds))) inside in (own, both.0, good_words bound count ds h.1 both.1))
+    (λ is inside. good_words bound count ds h.1 inside) d.sort h.0 k
 
-all_phrases_pass : (bound : ℕ) (f : Phrase → Bool) → ((t : Phrase) → IsBuiltPhrase bound t → f t ≡ true) → (ds : List WordDef) → AreBuiltWords bound ds → list_all f (word_phrases ds ++ []) ≡ true
-all_phrases_pass bound f each ds h = ap (list_all f) (append-nil (word_phrases ds)) ∙ phrases_pass bound f each ds h
+-- the quotations in arrays
+good_elements : (bound count : ℕ) (ls : List Lit) → AreBuiltElements bound ls → all_below count (arrays_in ls) ≡ true → GoodPhrases bound count (quotations ls)
+good_elements bound count [] h k = tt
+good_elements bound count (l_int z ∷ ls) h k = good_elements bound count ls h.1 k
+good_elements bound count (l_yes ∷ ls) h k = good_elements bound count ls h.1 k
+good_elements bound count (l_no ∷ ls) h k = good_elements bound count ls h.1 k
+good_elements bound count (l_str cs ∷ ls) h k = good_elements bound count ls h.1 k
+good_elements bound count (l_arr a ∷ ls) h k = good_elements bound count ls h.1 (both_true (nat_lt a count) (all_below count (arrays_in ls)) k).1
+good_elements bound count (l_word w ∷ ls) h k = good_elements bound count ls h.1 k
+good_elements bound count (l_quot t ∷ ls) h k = let both = split_below count (arrays_named t) (arrays_in ls) k in (h.0, both.0, good_elements bound count ls h.1 both.1)
+good_elements bound count (l_made n ∷ ls) h k = absurd h.0
 
-all_items_pass : (bound : ℕ) (f : Item → Bool) → Passes bound f → (ds : List WordDef) → AreBuiltWords bound ds → list_all (each_item f) (word_phrases ds ++ []) ≡ true
-all_items_pass bound f p ds h = all_phrases_pass bound (each_item f) (λ t built. items_pass bound f p t built) ds h
+good_arrays : (bound count : ℕ) (lss : List (List Lit)) → AreBuiltArrays bound lss → all_below count (joined (map arrays_in lss)) ≡ true → GoodPhrases bound count (joined (map quotations lss))
+good_arrays bound count [] h k = tt
+good_arrays bound count (ls ∷ lss) h k =
+    let both = split_below count (arrays_in ls) (joined (map arrays_in lss)) k in
+    good_both bound count (quotations ls) (joined (map quotations lss)) (good_elements bound count ls h.0 both.0) (good_arrays bound count lss h.1 both.1)
+
+phrases_pass : (bound count : ℕ) (f : Phrase → Bool) → ((t : Phrase) → IsBuiltPhrase bound t → all_below count (arrays_named t) ≡ true → f t ≡ true) → (ts : List Phrase) → GoodPhrases bound count ts → list_all f ts ≡ true
+phrases_pass bound count f each [] h = refl
+phrases_pass bound count f each (t ∷ ts) h = both_are (f t) (list_all f ts) (each t h.0 h.1) (phrases_pass bound count f each ts h.2)
+
+all_items_pass : (bound count : ℕ) (f : Item → Bool) → Passes bound count f → (ts : List Phrase) → GoodPhrases bound count ts → list_all (each_item f) ts ≡ true
+all_items_pass bound count f p ts h = phrases_pass bound count (each_item f) (λ t built inside. items_pass bound count f p t built inside) ts h
+
+-- a test that each element of built arrays passes
+record PassesElements (bound count : ℕ) (f : Lit → Bool) : Type 0 where
+  ints : (z : ℤ) → f (l_int z) ≡ true
+  truth : f l_yes ≡ true
+  falsity : f l_no ≡ true
+  strings : (cs : List ℕ) → f (l_str cs) ≡ true
+  arrays : (a : ℕ) → nat_lt a count ≡ true → f (l_arr a) ≡ true
+  words : (w : ℕ) → nat_lt w bound ≡ true → f (l_word w) ≡ true
+  quotations : (t : Phrase) → f (l_quot t) ≡ true
+
+elements_pass : (bound count : ℕ) (f : Lit → Bool) → PassesElements bound count f → (ls : List Lit) → AreBuiltElements bound ls → all_below count (arrays_in ls) ≡ true → list_all f ls ≡ true
+elements_pass bound count f p [] h k = refl
+elements_pass bound count f p (l_int z ∷ ls) h k = both_are (f (l_int z)) (list_all f ls) (p.ints z) (elements_pass bound count f p ls h.1 k)
+elements_pass bound count f p (l_yes ∷ ls) h k = both_are (f l_yes) (list_all f ls) p.truth (elements_pass bound count f p ls h.1 k)
+elements_pass bound count f p (l_no ∷ ls) h k = both_are (f l_no) (list_all f ls) p.falsity (elements_pass bound count f p ls h.1 k)
+elements_pass bound count f p (l_str cs ∷ ls) h k = both_are (f (l_str cs)) (list_all f ls) (p.strings cs) (elements_pass bound count f p ls h.1 k)
+elements_pass bound count f p (l_arr a ∷ ls) h k =
+    let both = both_true (nat_lt a count) (all_below count (arrays_in ls)) k in both_are (f (l_arr a)) (list_all f ls) (p.arrays a both.0) (elements_pass bound count f p ls h.1 both.1)
+elements_pass bound count f p (l_word w ∷ ls) h k = both_are (f (l_word w)) (list_all f ls) (p.words w h.0) (elements_pass bound count f p ls h.1 k)
+elements_pass bound count f p (l_quot t ∷ ls) h k = both_are (f (l_quot t)) (list_all f ls) (p.quotations t) (elements_pass bound count f p ls h.1 (split_below count (arrays_named t) (arrays_in ls) k).1)
+elements_pass bound count f p (l_made n ∷ ls) h k = absurd h.0
+
+arrays_pass : (bound count : ℕ) (f : Lit → Bool) → PassesElements bound count f → (lss : List (List Lit)) → AreBuiltArrays bound lss → all_below count (joined (map arrays_in lss)) ≡ true → list_all f (joined lss) ≡ true
+arrays_pass bound count f p [] h k = refl
+arrays_pass bound count f p (ls ∷ lss) h k =
+    let both = split_below count (arrays_in ls) (joined (map arrays_in lss)) k in
+    list_all-append f ls (joined lss) ∙ both_are (list_all f ls) (list_all f (joined lss)) (elements_pass bound count f p ls h.0 both.0) (arrays_pass bound count f p lss h.1 both.1)
 
 -- the words with the top-level phrase
 all_built : (P : Program) (b : IsBuilt P) → AreBuiltWords P.top P.words
@@ -215,10 +290,6 @@ alike bound c j (d ∷ ds) is h =
     (λ p there. either (same_word c d) (list_any (same_word c) ds) false (is_member j (primitive_numbers ds)) (not_symbol c d j is there) later)
     d.sort h.0 refl
 
-both_true : (a b : Bool) → (a && b) ≡ true → (a ≡ true) × (b ≡ true)
-both_true true b h = (refl, h)
-both_true false b h = cc
-
 first_alone : (bound : ℕ) (d : WordDef) (ds : List WordDef) → AreBuiltWords bound ds → (s : Sort) → IsBuiltSort bound d s → d.sort ≡ s → has_no_repeats (numbers_before s (primitive_numbers ds)) ≡ true → (not (list_any (same_word d) ds) ≡ true) × (has_no_repeats (primitive_numbers ds) ≡ true)
 first_alone bound d ds h s built =
     built_sort bound d (λ s. d.sort ≡ s → has_no_repeats (numbers_before s (primitive_numbers ds)) ≡ true → (not (list_any (same_word d) ds) ≡ true) × (has_no_repeats (primitive_numbers ds) ≡ true))
@@ -239,28 +310,38 @@ no_methods bound (d ∷ ds) h =
     let other : (e : WordDef) → same_method d e ≡ false = built_sort bound d (λ s. d.sort ≡ s → (e : WordDef) → same_method d e ≡ false) (λ k p is e. rw is refl) (λ k p is e. rw is refl) (λ t p is e. rw is refl) (λ p is e. rw is refl) d.sort h.0 refl in
     both_are (not (list_any (same_method d) ds)) (no_two same_method ds) (ap not (none_passes (same_method d) other ds)) (no_methods bound ds h.1)
 
-pub whole : (words : List WordDef) (top : ℕ) → IsBuilt (record { words = words; arrays = []; classes = []; top = top }) → list_all (λ (d : WordDef). nat_le (name_count d.effect) 65) words ≡ true → IsWhole (record { words = words; arrays = []; classes = []; top = top })
-whole words top b few =
-    let P : Program = record { words = words; arrays = []; classes = []; top = top } in
+abbrev of_arrays : List WordDef → List (List Lit) → ℕ → Program
+of_arrays words arrays top = record { words = words; arrays = arrays; classes = []; top = top }
+
+literal_word_spares : (P : Program) → IsBuilt P → (w : ℕ) → nat_lt w P.top ≡ true → literal_spares P (l_word w) ≡ true
+literal_word_spares P b w h = word_spares P b w h
+
+pub whole : (words : List WordDef) (arrays : List (List Lit)) (top : ℕ) → IsBuilt (of_arrays words arrays top) → list_all (λ (d : WordDef). nat_le (name_count d.effect) 65) words ≡ true →
+    ((a : ℕ) → times_in a (all_arrays_named (of_arrays words arrays top)) ≡ below (length arrays) a) → each_numbered names_earlier 0 arrays ≡ true → IsWhole (of_arrays words arrays top)
+whole words arrays top b few once earlier =
+    let P = of_arrays words arrays top in
+    let n = length arrays in
     let all = all_built P b in
+    let named = split_below n (joined (map arrays_named (word_phrases words))) (joined (map arrays_in arrays)) (all_named_below n (all_arrays_named P) (all_arrays_named P) once (λ a. omega arith)) in
+    let good = good_both top n (word_phrases words) (joined (map quotations arrays)) (good_words top n words all named.0) (good_arrays top n arrays b.arrays_built named.1) in
     record {
-      items_fit = all_items_pass top (item_fits P) (record { ints = λ z. refl; truth = refl; falsity = refl; strings = λ cs. refl; references = word_fits P b; quotations = λ t. refl; words = word_fits P b }) words all;
-      literals_fit = refl;
+      items_fit = all_items_pass top n (item_fits P) (record { ints = λ z. refl; truth = refl; falsity = refl; strings = λ cs. refl; references = word_fits P b; arrays = λ a k. k; quotations = λ t. refl; words = word_fits P b }) (all_phrases P) good;
+      literals_fit = arrays_pass top n (literal_fits P) (record { ints = λ z. refl; truth = refl; falsity = refl; strings = λ cs. refl; arrays = λ a k. k; words = word_fits P b; quotations = λ t. refl }) arrays b.arrays_built named.1;
       sorts_fit = words_pass top (λ d. sort_fits P d.sort) (sort_passes P top) words all;
       shapes_fit = refl;
-      arrays_earlier = refl;
-      arrays_once = refl;
+      arrays_earlier = earlier;
+      arrays_once = all_once n (all_arrays_named P) once;
       top_last = words_counted P b;
       top_phrase = ap is_body (top_sort P b);
-      items_spare = all_items_pass top (item_spares P) (record { ints = λ z. refl; truth = refl; falsity = refl; strings = λ cs. refl; references = word_spares P b; quotations = λ t. refl; words = word_spares P b }) words all;
-      literals_spare = refl;
-      bound = all_phrases_pass top (locals_bound []) (phrase_bound top []) words all;
-      holes_in_fries = all_phrases_pass top (holes_within 0) (phrase_without_holes top) words all;
+      items_spare = all_items_pass top n (item_spares P) (record { ints = λ z. refl; truth = refl; falsity = refl; strings = λ cs. refl; references = word_spares P b; arrays = λ a k. refl; quotations = λ t. refl; words = word_spares P b }) (all_phrases P) good;
+      literals_spare = arrays_pass top n (literal_spares P) (record { ints = λ z. refl; truth = refl; falsity = refl; strings = λ cs. refl; arrays = λ a k. refl; words = literal_word_spares P b; quotations = λ t. refl }) arrays b.arrays_built named.1;
+      bound = phrases_pass top n (locals_bound []) (λ t built inside. phrase_bound top [] t built) (all_phrases P) good;
+      holes_in_fries = phrases_pass top n (holes_within 0) (λ t built inside. phrase_without_holes top t built) (all_phrases P) good;
       written_effects = words_pass top has_written_effect (effect_passes top) words all;
       method_effects = words_pass top (has_generic_effect P) (generic_effect_passes P top) words all;
       marks_of_bodies = all_marks P b;
       few_names = few;
-      small_tests = all_items_pass top tests_small (record { ints = λ z. refl; truth = refl; falsity = refl; strings = λ cs. refl; references = λ w k. refl; quotations = λ t. refl; words = λ w k. refl }) words all;
+      small_tests = all_items_pass top n tests_small (record { ints = λ z. refl; truth = refl; falsity = refl; strings = λ cs. refl; references = λ w k. refl; arrays = λ a k. refl; quotations = λ t. refl; words = λ w k. refl }) (all_phrases P) good;
       slots_differ = refl;
       few_slots = refl;
       class_names_differ = refl;

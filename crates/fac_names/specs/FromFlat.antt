@@ -4,6 +4,8 @@ use Rattle.fac_lang.specs.Signatures.{Signature, signature, no_inputs, leaves}
 use Rattle.fac_lang.specs.Phrases.{int, yes, no, str}
 use Rattle.fac_lang.specs.declared.phrase.Place.{Place}
 use Rattle.fac_lang.specs.declared.token.Token.{Token}
+use Rattle.fac_lang.specs.declared.tree.Bracket.{Bracket}
+use Rattle.fac_lang.specs.declared.tree.Bracket.TheVariants.{Quotation, Array}
 use Rattle.fac_lang.specs.declared.tree.Element.{Element}
 use Rattle.fac_lang.specs.declared.tree.Element.TheVariants as element
 use Rattle.fac_lang.specs.declared.tree.Form.{Form as Flat}
@@ -17,7 +19,7 @@ use Rattle.fac_lang.specs.declared.tree.Part.TheVariants as part
 use Rattle.fac_lang.specs.declared.tree.Term.{Term}
 use Rattle.fac_lang.specs.declared.tree.Term.TheVariants as term
 use Rattle.fac_effect.specs.Spellings.{token_text}
-use Rattle.fac_names.specs.Written.{Tok, Node, n_lit, n_name, n_quot, n_part, Nodes, nothing, more, given, Form, f_in, f_use, f_using, f_from, f_qualified, f_private, f_public, f_defer, f_symbol, f_constant, f_main, f_define, f_items}
+use Rattle.fac_names.specs.Written.{Tok, Node, n_lit, n_array, n_name, n_quot, n_part, Nodes, nothing, more, given, Form, f_in, f_use, f_using, f_from, f_qualified, f_private, f_public, f_defer, f_symbol, f_constant, f_main, f_define, f_items}
 
 abbrev pub tok : Token → Tok
 tok t = record { text = token_text t.kind; place = t.place }
@@ -29,21 +31,26 @@ node (term.Text t) = n_lit (str (token_text t.kind)) t.place
 node (term.True place) = n_lit yes place
 node (term.False place) = n_lit no place
 
--- What elements come to: the items up to the bracket that closes the phrase in which they stand, and those of the phrases around it, from the inside out.
+-- What elements come to: those up to the bracket that closes the quotation or array in which they stand, and those of what is around it, from the inside out.
 pub record Rests : Type 0 where
   pub here : Nodes
   pub around : List Nodes
 
--- a quotation with these items before those around it; one that nothing closes reaches to the end
-abbrev pub opened : Place → Nodes → List Nodes → Rests
-opened place items [] = record { here = more (n_quot items place) nothing; around = [] }
-opened place items (ns ∷ nss) = record { here = more (n_quot items place) ns; around = nss }
+-- a quotation or an array
+abbrev pub bracketed : Bracket → Nodes → Place → Node
+bracketed Quotation items place = n_quot items place
+bracketed Array elements place = n_array elements place
+
+-- one with these in it before what is around it; one that nothing closes reaches to the end
+abbrev pub opened : Bracket → Place → Nodes → List Nodes → Rests
+opened bracket place inner [] = record { here = more (bracketed bracket inner place) nothing; around = [] }
+opened bracket place inner (ns ∷ nss) = record { here = more (bracketed bracket inner place) ns; around = nss }
 
 abbrev pub rests : List Element → Rests
 rests [] = record { here = nothing; around = [] }
 rests (element.Item t ∷ es) = let r = rests es in record r { here = more (node t) r.here }
-rests (element.Opens place ∷ es) = let r = rests es in opened place r.here r.around
-rests (element.Closes place ∷ es) = let r = rests es in record { here = nothing; around = r.here ∷ r.around }
+rests (element.Opens bracket place ∷ es) = let r = rests es in opened bracket place r.here r.around
+rests (element.Closes bracket place ∷ es) = let r = rests es in record { here = nothing; around = r.here ∷ r.around }
 
 -- the items of elements whose brackets match
 abbrev pub nested : List Element → Nodes

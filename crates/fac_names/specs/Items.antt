@@ -1,6 +1,9 @@
 -- The names that items search, and the phrases that they come to.
-use Rattle.std.specs.Prelude.{ℕ, suc, nat_eq, nat_lt, List, [], ◌∷◌, ◌++◌, map, length, Option, Some, None, Bool, true, false, ◌&&◌, ◌||◌, codes, if◌then◌else◌}
+use Rattle.std.specs.Prelude.{ℕ, suc, nat_eq, nat_lt, List, [], ◌∷◌, ◌++◌, map, length, slice_get, Option, Some, None, Bool, true, false, ◌&&◌, ◌||◌, codes, if◌then◌else◌}
 use Rattle.std.specs.Str.{bytes_eq}
+use Rattle.fac_lang.specs.CoreWords.{built_core_words}
+use Rattle.fac_lang.specs.PrimitiveWords.{PrimitiveWord}
+use Rattle.fac_lang.specs.Primitives.{built_primitive_words}
 use Rattle.fac_lang.specs.RunningLaws.{append}
 use Rattle.fac_lang.specs.Phrases.{Phrase, end, then as placed, Item, lit, lit_arr, quot, word, bind, local, fry, hole, call_eff, exec_eff, next_method, Plain, int, yes, str, wrd}
 use Rattle.fac_lang.specs.Whole.{joined as all_of}
@@ -14,7 +17,7 @@ use Rattle.fac_names.specs.declared.refusal.NameKind.TheVariants.{Unknown, Ambig
 use Rattle.fac_names.specs.Written.{Tok, Node, n_lit, n_array, n_quot, n_ref, n_name, n_fry, n_call, n_execute, n_bind, n_hole, n_next, n_full, n_part, Nodes, nothing, more}
 use Rattle.fac_names.specs.Readings.{is_among, bound}
 use Rattle.fac_vocab.specs.declared.entry.Entry.{Entry}
-use Rattle.fac_vocab.specs.Scopes.{Scope, held, word_held, the, unknown, ambiguous, found}
+use Rattle.fac_vocab.specs.Scopes.{Scope, word_held, the, unknown, ambiguous, found}
 
 -- the place of each kind of refusal in the order of the table
 abbrev pub rank : NameKind → ℕ
@@ -73,9 +76,17 @@ number None = 0
 abbrev pub word_of : Scope → Tok → ℕ
 word_of s t = number (ref s t).word
 
+-- whether this is the row of the word `cond`
+abbrev pub is_cond_row : PrimitiveWord → Bool
+is_cond_row row = bytes_eq row.vocab (codes "combinators") && bytes_eq row.name (codes "cond")
+
+-- whether the word with this number is `cond`, where it is one of the words that there are before a source is read; these come first
+abbrev pub is_cond_word : ℕ → Bool
+is_cond_word w = elim (slice_get (built_primitive_words ++ built_core_words) w) [ Some row ↦ is_cond_row row | None ↦ false ]
+
 -- whether the search takes a name to the word `cond`
 abbrev pub is_cond : Scope → List ℕ → Bool
-is_cond s name = elim (found s name) [ the w ↦ elim (held s.table (codes "combinators") (codes "cond")) [ Some e ↦ nat_eq w e.word | None ↦ false ] | _ ↦ false ]
+is_cond s name = elim (found s name) [ the w ↦ is_cond_word w | _ ↦ false ]
 
 -- the refusals in items and in elements of arrays
 abbrev mutual

@@ -1,7 +1,11 @@
 -- Phrases as they are written: a resolved phrase, printed again, is the elements that it was made of.
-use Rattle.std.specs.Prelude.{◌≡◌, List, [], ◌∷◌, ◌++◌, map}
-use Rattle.fac_lang.specs.Phrases.{Phrase, end, then as placed, Item, lit, int, yes, no, str, quot, word}
+use Rattle.std.specs.Prelude.{◌≡◌, ℕ, suc, nat_eq, List, [], ◌∷◌, ◌++◌, Option, Some, None, if◌then◌else◌}
+use Rattle.fac_lang.specs.Phrases.{Phrase, end, then as placed, Item, lit, lit_arr, int, yes, no, str, quot, word}
 use Rattle.fac_lang.specs.declared.phrase.Place.{Place}
+use Rattle.fac_lang.specs.declared.program.Lit.{Lit}
+use Rattle.fac_lang.specs.declared.program.Lit.TheVariants as literal
+use Rattle.fac_lang.specs.declared.tree.Bracket.{Bracket}
+use Rattle.fac_lang.specs.declared.tree.Bracket.TheVariants.{Quotation, Array}
 use Rattle.fac_lang.specs.declared.tree.Element.{Element}
 use Rattle.fac_lang.specs.declared.tree.Element.TheVariants as element
 use Rattle.fac_lang.specs.declared.tree.Term.{Term}
@@ -12,35 +16,87 @@ use Rattle.fac_vocab.specs.Scopes.{Scope}
 use Rattle.fac_names.specs.FromFlat.{nested, tok}
 use Rattle.fac_names.specs.Items.{phrase_of, word_of}
 
--- what is written: an item at its place, or a bracket of a quotation
+-- What is written: an item at its place, a value directly in an array, or a bracket. What stands directly in an array has no place.
 pub data Sign : Type 0 where
   one : Item → Place → Sign
-  opens : Place → Sign
-  closes : Sign
+  value : Lit → Sign
+  opens : Bracket → Option Place → Sign
+  closes : Bracket → Sign
 
--- a phrase as it is written
+-- Phrases and arrays, where the function has what is written in the array of each number.
+
+abbrev pub within : Bracket → Option Place → List Sign → List Sign
+within bracket place signs = opens bracket place ∷ signs ++ closes bracket ∷ []
+
 abbrev mutual
-  pub phrase_signs : Phrase → List Sign
-  phrase_signs end = []
-  phrase_signs (placed i p t) = item_signs i p ++ phrase_signs t
+  pub phrase_signs : (ℕ → List Sign) → Phrase → List Sign
+  phrase_signs inner end = []
+  phrase_signs inner (placed i p t) = item_signs inner i p ++ phrase_signs inner t
 
-  pub item_signs : Item → Place → List Sign
-  item_signs (quot t) p = opens p ∷ phrase_signs t ++ closes ∷ []
-  item_signs i p = one i p ∷ []
+  pub item_signs : (ℕ → List Sign) → Item → Place → List Sign
+  item_signs inner (quot t) p = within Quotation (Some p) (phrase_signs inner t)
+  item_signs inner (lit_arr a) p = within Array (Some p) (inner a)
+  item_signs inner i p = one i p ∷ []
+
+abbrev pub literal_signs : (ℕ → List Sign) → Lit → List Sign
+literal_signs inner (literal.Quot t) = within Quotation None (phrase_signs inner t)
+literal_signs inner (literal.Arr a) = within Array None (inner a)
+literal_signs inner l = value l ∷ []
+
+abbrev pub elements_signs : (ℕ → List Sign) → List Lit → List Sign
+elements_signs inner [] = []
+elements_signs inner (l ∷ ls) = literal_signs inner l ++ elements_signs inner ls
+
+-- with one array more, which has number k
+abbrev pub with_array_signs : (ℕ → List Sign) → ℕ → List Lit → ℕ → List Sign
+with_array_signs inner k ls a = (if nat_eq a k then elements_signs inner ls else inner a)
+
+-- with arrays from number k on, each of which may name those before it
+abbrev pub with_arrays_signs : (ℕ → List Sign) → ℕ → List (List Lit) → ℕ → List Sign
+with_arrays_signs inner k [] = inner
+with_arrays_signs inner k (ls ∷ lss) = with_arrays_signs (with_array_signs inner k ls) (suc k) lss
+
+-- what is written in the array of each number
+abbrev pub array_signs : List (List Lit) → ℕ → List Sign
+array_signs arrays = with_arrays_signs (λ a. []) 0 arrays
+
+-- Elements.
+
+-- the innermost of some brackets; what stands in none stands as in a quotation
+abbrev pub innermost : List Bracket → Bracket
+innermost [] = Quotation
+innermost (b ∷ bs) = b
+
+abbrev pub place_in : Bracket → Place → Option Place
+place_in Quotation place = Some place
+place_in Array place = None
 
 -- an item of one token, by the word that its name finds
-abbrev pub term_sign : Scope → Term → Sign
-term_sign s (term.Name t) = one (word (word_of s (tok t))) t.place
-term_sign s (term.Integer t value) = one (lit (int value)) t.place
-term_sign s (term.Text t) = one (lit (str (token_text t.kind))) t.place
-term_sign s (term.True place) = one (lit yes) place
-term_sign s (term.False place) = one (lit no) place
+abbrev pub term_sign : Scope → Bracket → Term → Sign
+term_sign s Quotation (term.Name t) = one (word (word_of s (tok t))) t.place
+term_sign s Quotation (term.Integer t z) = one (lit (int z)) t.place
+term_sign s Quotation (term.Text t) = one (lit (str (token_text t.kind))) t.place
+term_sign s Quotation (term.True place) = one (lit yes) place
+term_sign s Quotation (term.False place) = one (lit no) place
+term_sign s Array (term.Name t) = value (literal.Wref (word_of s (tok t)))
+term_sign s Array (term.Integer t z) = value (literal.Int z)
+term_sign s Array (term.Text t) = value (literal.Str (token_text t.kind))
+term_sign s Array (term.True place) = value literal.True
+term_sign s Array (term.False place) = value literal.False
 
-abbrev pub element_sign : Scope → Element → Sign
-element_sign s (element.Item t) = term_sign s t
-element_sign s (element.Opens place) = opens place
-element_sign s (element.Closes place) = closes
+abbrev pub rest_of : List Bracket → List Bracket
+rest_of [] = []
+rest_of (b ∷ bs) = bs
 
--- the phrase of items is written as the items are
+-- elements as they stand, where these brackets are open, the innermost first
+abbrev pub element_signs : Scope → List Bracket → List Element → List Sign
+element_signs s brackets [] = []
+element_signs s brackets (element.Item t ∷ es) = term_sign s (innermost brackets) t ∷ element_signs s brackets es
+element_signs s brackets (element.Opens bracket place ∷ es) = opens bracket (place_in (innermost brackets) place) ∷ element_signs s (bracket ∷ brackets) es
+element_signs s brackets (element.Closes bracket place ∷ es) = closes bracket ∷ element_signs s (rest_of brackets) es
+
+-- the phrase of items is written as the items are, behind any arrays
 abbrev pub PhrasesAreWrittenAsItems : Type 0
-PhrasesAreWrittenAsItems = (s : Scope) (items : List Element) → AreItems items → phrase_signs (phrase_of s [] (nested items) [] 0).phrase ≡ map (element_sign s) items
+PhrasesAreWrittenAsItems =
+    (s : Scope) (arrays : List (List Lit)) (items : List Element) → AreItems items →
+    (let m = phrase_of s [] (nested items) arrays 0 in phrase_signs (array_signs m.arrays) m.phrase) ≡ element_signs s [] items

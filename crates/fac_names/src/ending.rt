@@ -13,7 +13,7 @@ use crate::known_words::full_name;
 use crate::refusal::{NameFault, NameKind, ResolveFault};
 use crate::refusal_kept::keep;
 use crate::so_far::SoFar;
-use fac_lang::{Duplicate, Item, List, Memory, Phrase, Place, Program, Sort, WordDef};
+use fac_lang::{Duplicate, Item, List, Lit, Memory, Phrase, Place, Program, Sort, WordDef};
 use std::alloc::Global;
 
 // The refusal of a word that is never defined.
@@ -70,31 +70,58 @@ fn phrase_word(alloc: Global, body: Phrase) -> Result<WordDef, Memory>
     })
 }
 
-// The program of words and a top-level phrase.
-fn with_phrase(alloc: Global, mut words: List<WordDef>, body: Phrase) -> Result<Program, Memory>
-    ensures { IfOk result (λ program. program ≡ program_with words body) }
+// The program of words, literal arrays and a top-level phrase.
+fn with_phrase(
+    alloc: Global,
+    mut words: List<WordDef>,
+    arrays: List<List<Lit>>,
+    body: Phrase,
+) -> Result<Program, Memory>
+    ensures { IfOk result (λ program. program ≡ program_with words arrays body) }
 {
     let top = words.len();
     words.push(phrase_word(alloc, body)?)?;
     Ok(Program {
         words,
-        arrays: List::new(alloc),
+        arrays,
         classes: List::new(alloc),
         top,
     })
 }
 
-// What a program is made of: words, items and the first refusal. The item of the last `MAIN:` comes behind all others.
-fn contents(
-    alloc: Global,
-    so_far: SoFar,
-) -> Result<(Vec<Draft>, Vec<Item>, Option<NameFault>), Memory>
-    ensures drafts { IfOk result (λ parts. parts.0.items ≡ so_far.drafts.items) }
-    ensures items { IfOk result (λ parts. items_phrase parts.1.items ≡ append (items_phrase so_far.items.items) (items_phrase so_far.main.items)) }
-    ensures first { IfOk result (λ parts. parts.2 ≡ first_undefined so_far.drafts.items so_far.first) }
+// The literal arrays, in no more memory than they take.
+fn whole_arrays(arrays: List<List<Lit>>) -> List<List<Lit>>
+    ensures { result ≡ arrays }
+{
+    // The count shows that the list is short enough to be one again.
+    let _count = arrays.len();
+    let mut items = arrays.into_vec();
+    items.shrink_to_fit();
+    match List::from_vec(items) {
+        Ok(arrays) => arrays,
+        Err(_) => unreachable!(),
+    }
+}
+
+// What a program is made of.
+#[derive(Drop)]
+struct Parts {
+    drafts: Vec<Draft>,
+    arrays: List<List<Lit>>,
+    items: Vec<Item>,
+    first: Option<NameFault>,
+}
+
+// Words, literal arrays, items and the first refusal. The item of the last `MAIN:` comes behind all others.
+fn contents(alloc: Global, so_far: SoFar) -> Result<Parts, Memory>
+    ensures drafts { IfOk result (λ parts. parts.drafts.items ≡ so_far.drafts.items) }
+    ensures arrays { IfOk result (λ parts. parts.arrays ≡ so_far.arrays) }
+    ensures items { IfOk result (λ parts. items_phrase parts.items.items ≡ append (items_phrase so_far.items.items) (items_phrase so_far.main.items)) }
+    ensures first { IfOk result (λ parts. parts.first ≡ first_undefined so_far.drafts.items so_far.first) }
 {
     let SoFar {
         drafts,
+        arrays,
         mut items,
         main,
         mut first,
@@ -102,15 +129,27 @@ fn contents(
     } = so_far;
     add_items(&mut items, main)?;
     refuse_undefined(alloc, &mut first, &drafts)?;
-    Ok((drafts, items, first))
+    Ok(Parts {
+        drafts,
+        arrays: whole_arrays(arrays),
+        items,
+        first,
+    })
 }
 
-// The program of words and items.
-fn program(alloc: Global, drafts: Vec<Draft>, items: Vec<Item>) -> Result<Program, Memory>
-    ensures { IfOk result (λ program. program ≡ program_with (map word_in drafts.items) (items_phrase items.items)) }
+// The program of words, literal arrays and items.
+fn program(
+    alloc: Global,
+    drafts: Vec<Draft>,
+    arrays: List<List<Lit>>,
+    items: Vec<Item>,
+) -> Result<Program, Memory>
+    ensures { IfOk result (λ program. program ≡ program_with (map word_in drafts.items) arrays (items_phrase items.items)) }
 {
-    let words = words_of(alloc, drafts)?;
-    with_phrase(alloc, words, Phrase { items })
+    match words_of(alloc, drafts) {
+        Ok(words) => with_phrase(alloc, words, arrays, Phrase { items }),
+        Err(Memory) => Err(Memory),
+    }
 }
 
 /// The program of what was read, or its first refusal.
@@ -118,9 +157,14 @@ fn program(alloc: Global, drafts: Vec<Draft>, items: Vec<Item>) -> Result<Progra
 pub fn ended(alloc: Global, so_far: SoFar) -> Result<Program, ResolveFault>
     ensures { Ends so_far result }
 {
-    let (drafts, items, first) = contents(alloc, so_far)?;
+    let Parts {
+        drafts,
+        arrays,
+        items,
+        first,
+    } = contents(alloc, so_far)?;
     match first {
         Some(fault) => Err(ResolveFault::Name(fault)),
-        None => Ok(program(alloc, drafts, items)?),
+        None => Ok(program(alloc, drafts, arrays, items)?),
     }
 }

@@ -212,7 +212,13 @@ pub fn define(
     ensures { OnOk result (reading_of so_far.new ≡ take (f_define (tok name.now) (given effect) (nested elements.now) inline recursive) (reading_of so_far.old)) }
 {
     let number = own(alloc, so_far, name)?;
-    let body = phrase_of(alloc, &so_far.scope, &mut so_far.first, elements)?;
+    let body = phrase_of(
+        alloc,
+        &so_far.scope,
+        &mut so_far.first,
+        &mut so_far.arrays,
+        elements,
+    )?;
     tell(
         &mut so_far.drafts,
         number,
@@ -238,7 +244,13 @@ pub fn take_items(alloc: Global, so_far: &mut SoFar, elements: &[Element]) -> Re
     requires { AreClosing 0 elements.now }
     ensures { OnOk result (reading_of so_far.new ≡ take (f_items (nested elements.now)) (reading_of so_far.old)) }
 {
-    let phrase = phrase_of(alloc, &so_far.scope, &mut so_far.first, elements)?;
+    let phrase = phrase_of(
+        alloc,
+        &so_far.scope,
+        &mut so_far.first,
+        &mut so_far.arrays,
+        elements,
+    )?;
     add_items(&mut so_far.items, phrase.items)?;
     Ok(())
 }

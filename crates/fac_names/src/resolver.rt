@@ -42,6 +42,7 @@ fn first(alloc: Global) -> Result<SoFar, Memory>
     Ok(SoFar {
         scope,
         drafts,
+        arrays: List::new(alloc),
         items: Vec::new(alloc),
         main: Vec::new(alloc),
         first: None,

@@ -6,3 +6,4 @@ pub mod ReaderReads
 pub mod ReaderCompletes
 pub mod ExactPlaces
 pub mod ParseLemmas
+pub mod ExamplesOfArrays

@@ -1,7 +1,7 @@
 -- Whatever is open can be closed.
 use Rattle.fac_parse.specs.inner.Reader.{literal, add_literal, Within, name, names, fixed, effect, items, marks, Begun, Open, top, row, State, in_state, begin, row_form, at_slot, go_on, more, with_part, with_run, with_element, written, row_items, steps, ended}
 use Rattle.fac_parse.proofs.ReaderKeeps.{inside_more, inside_ends, never_out, Lead-more}
-use Rattle.fac_parse.proofs.StateTokens.{Inside, in_quotation, GoodLiteral, Filled, filled_more, first_of, next_slot, slot_of, GoodWithin, GoodOpen, Good}
+use Rattle.fac_parse.proofs.StateTokens.{Inside, open_inside, GoodLiteral, Filled, filled_more, first_of, next_slot, slot_of, GoodWithin, GoodOpen, Good}
 use Rattle.fac_parse.proofs.ReaderReads.{adds_literal, chain, effect_read, one, by_spelling, element_spelled, HoldsItems, top_holds_items, row_holds_items}
 use Rattle.fac_lang.specs.declared.tree.Term.TheVariants as term
 use Rattle.std.proofs.Common.{◌≡◌, List, [], ◌∷◌, ◌++◌, Option, Some, refl, ap, sym, ◌∙◌, subst}
@@ -10,14 +10,15 @@ use Rattle.fac_lang.specs.declared.phrase.Place.{Place}
 use Rattle.fac_lang.specs.declared.token.Token.{Token}
 use Rattle.fac_lang.specs.declared.tree.Element.{Element}
 use Rattle.fac_lang.specs.declared.tree.Element.TheVariants as element
+use Rattle.fac_lang.specs.declared.tree.Bracket.{Bracket}
+use Rattle.fac_lang.specs.declared.tree.Bracket.TheVariants.{Quotation, Array}
 use Rattle.fac_lang.specs.declared.tree.Key.{Key}
 use Rattle.fac_lang.specs.declared.tree.Key.TheVariants.{Arrow}
 use Rattle.fac_lang.specs.declared.tree.Part.{Part}
 use Rattle.fac_lang.specs.declared.tree.Part.TheVariants as part
 use Rattle.fac_lang.specs.declared.tree.Form.{Form}
-use Rattle.fac_parse.specs.declared.context.Bracket.{Bracket}
-use Rattle.fac_parse.specs.declared.context.Bracket.TheVariants.{Quotation}
 use Rattle.fac_parse.specs.declared.context.Context.{Context}
+use Rattle.fac_parse.specs.declared.context.Context.TheVariants as context
 use Rattle.fac_parse.specs.declared.rows.Slot.{Slot}
 use Rattle.fac_parse.specs.declared.rows.Slot.TheVariants as slot
 use Rattle.fac_effect.specs.declared.spelling.Spelling.TheVariants.{Fixed, Semi, Name}
@@ -26,8 +27,8 @@ use Rattle.fac_effect.specs.EffectReading.{Progress, reads as reading, start as 
 use Rattle.fac_effect.proofs.EffectRuns.{run_append}
 use Rattle.fac_effect.proofs.EffectLemmas.{whole_is_effect, effect_is_whole, read_goes_on}
 use Rattle.fac_parse.specs.Rows.{slots_of}
-use Rattle.fac_effect.specs.Spellings.{token_spelling, spelling_of, has_integer_form, word_spelling, sign_spelling, is_reserved, is_reserved_sign, is_reserved_form, is_reserved_word, is_left_out, plain_token}
-use Rattle.fac_parse.specs.Trees.{if_quotation, Lead, Fills, AreNames}
+use Rattle.fac_effect.specs.Spellings.{token_spelling, spelling_of, has_integer_form, word_spelling, sign_spelling, is_reserved, is_reserved_sign, is_reserved_form, is_reserved_word, is_left_out, closing_text, plain_token}
+use Rattle.fac_parse.specs.Trees.{closed, Lead, Fills, AreNames}
 use Rattle.fac_effect.proofs.SpellingLemmas.{sign_is}
 
 -- a place, and a name
@@ -60,21 +61,31 @@ record ClosesAll (held : List Element → List Context → Open) (forms : List F
   reads : steps (Some (in_state forms (held es contexts))) tokens ≡ Some (in_state forms (held closed []))
   lead : Lead [] closed []
 
-closes_one : (k : Bracket) (contexts : List Context) → if_quotation k contexts ≡ Some contexts
-closes_one Quotation contexts = refl
+-- the kind of brackets that encloses this
+abbrev bracket_of : Context → Bracket
+bracket_of context.Quotation = Quotation
+bracket_of (context.Array n) = Array
+
+closes_one : (c : Context) (contexts : List Context) → closed (c ∷ contexts) (bracket_of c) ≡ Some contexts
+closes_one context.Quotation contexts = refl
+closes_one (context.Array n) contexts = refl
+
+-- the bracket that closes this
+abbrev closing : Context → Element
+closing c = element.Closes (bracket_of c) somewhere
 
 closes_all : (held : List Element → List Context → Open) (forms : List Form) → HoldsItems held forms → (es : List Element) (contexts : List Context) → Lead [] es contexts → ClosesAll held forms es contexts
 closes_all held forms holds es [] h = record { tokens = []; closed = es; reads = refl; lead = h }
 closes_all held forms holds es (c ∷ contexts) h =
-    let e : Element = element.Closes somewhere in
-    let t = plain_token somewhere (codes "]") in
-    let less = closes_all held forms holds (es ++ e ∷ []) contexts (Lead-more [] es (c ∷ contexts) e contexts h tt (closes_one c.bracket contexts)) in
+    let e : Element = closing c in
+    let t = plain_token somewhere (closing_text (bracket_of c)) in
+    let less = closes_all held forms holds (es ++ e ∷ []) contexts (Lead-more [] es (c ∷ contexts) e contexts h tt (closes_one c contexts)) in
     record {
       tokens = t ∷ less.tokens;
       closed = less.closed;
       reads =
           one (in_state forms (held es (c ∷ contexts))) (in_state forms (held (es ++ e ∷ []) contexts)) t less.tokens _
-          (holds.adds_element es (c ∷ contexts) t e (element_spelled e tt) ∙ ap (with_element held forms es e) (closes_one c.bracket contexts)) less.reads;
+          (holds.adds_element es (c ∷ contexts) t e (element_spelled e tt) ∙ ap (with_element held forms es e) (closes_one c contexts)) less.reads;
       lead = less.lead;
     }
 
@@ -119,26 +130,26 @@ closes_name : (forms : List Form) (b : Begun) → ClosesPart forms b name
 closes_name forms b = record { tokens = some_name ∷ []; whole = part.Name some_name; fills = is_name; reads = by_spelling forms (row b name) some_name Name is_name }
 
 -- a literal in which something is open
-closes_literal_from : (forms : List Form) (b : Begun) (place : Place) (es : List Element) (c : Context) (contexts : List Context) → Inside in_quotation es (c ∷ contexts) → ClosesPart forms b (literal (element.Opens place ∷ es) (c ∷ contexts))
-closes_literal_from forms b place es c [] h =
-    let e : Element = element.Closes somewhere in
+closes_literal_from : (forms : List Form) (b : Begun) (bracket : Bracket) (place : Place) (es : List Element) (c : Context) (contexts : List Context) → Inside (open_inside bracket) es (c ∷ contexts) → ClosesPart forms b (literal (element.Opens bracket place ∷ es) (c ∷ contexts))
+closes_literal_from forms b bracket place es c [] h =
+    let e : Element = closing c in
     record {
-      tokens = plain_token somewhere (codes "]") ∷ [];
-      whole = part.Literal (element.Opens place ∷ (es ++ e ∷ []));
-      fills = inside_ends in_quotation es (c ∷ []) e h tt (closes_one c.bracket []);
-      reads = adds_literal forms b (element.Opens place ∷ es) c [] e [] tt (closes_one c.bracket []);
+      tokens = plain_token somewhere (closing_text (bracket_of c)) ∷ [];
+      whole = part.Literal (element.Opens bracket place ∷ (es ++ e ∷ []));
+      fills = inside_ends (open_inside bracket) es (c ∷ []) e h tt (closes_one c []);
+      reads = adds_literal forms b (element.Opens bracket place ∷ es) c [] e [] tt (closes_one c []);
     }
-closes_literal_from forms b place es c (d ∷ contexts) h =
-    let e : Element = element.Closes somewhere in
-    let t = plain_token somewhere (codes "]") in
-    let less = closes_literal_from forms b place (es ++ e ∷ []) d contexts (inside_more in_quotation es (c ∷ d ∷ contexts) e d contexts h tt (closes_one c.bracket (d ∷ contexts))) in
+closes_literal_from forms b bracket place es c (d ∷ contexts) h =
+    let e : Element = closing c in
+    let t = plain_token somewhere (closing_text (bracket_of c)) in
+    let less = closes_literal_from forms b bracket place (es ++ e ∷ []) d contexts (inside_more (open_inside bracket) es (c ∷ d ∷ contexts) e d contexts h tt (closes_one c (d ∷ contexts))) in
     record {
       tokens = t ∷ less.tokens;
       whole = less.whole;
       fills = less.fills;
       reads =
-          one (in_state forms (row b (literal (element.Opens place ∷ es) (c ∷ d ∷ contexts)))) (in_state forms (row b (literal (element.Opens place ∷ (es ++ e ∷ [])) (d ∷ contexts)))) t less.tokens _
-          (adds_literal forms b (element.Opens place ∷ es) c (d ∷ contexts) e (d ∷ contexts) tt (closes_one c.bracket (d ∷ contexts))) less.reads;
+          one (in_state forms (row b (literal (element.Opens bracket place ∷ es) (c ∷ d ∷ contexts)))) (in_state forms (row b (literal (element.Opens bracket place ∷ (es ++ e ∷ [])) (d ∷ contexts)))) t less.tokens _
+          (adds_literal forms b (element.Opens bracket place ∷ es) c (d ∷ contexts) e (d ∷ contexts) tt (closes_one c (d ∷ contexts))) less.reads;
     }
 
 closes_literal : (forms : List Form) (b : Begun) (es : List Element) (contexts : List Context) → GoodLiteral es contexts → ClosesPart forms b (literal es contexts)
@@ -150,10 +161,10 @@ closes_literal forms b [] contexts g =
       fills = tt;
       reads = ap (add_literal forms b [] []) (element_spelled e tt);
     })
-closes_literal forms b (element.Opens place ∷ es) [] g = absurd (never_out in_quotation es g)
-closes_literal forms b (element.Opens place ∷ es) (c ∷ contexts) g = closes_literal_from forms b place es c contexts g
+closes_literal forms b (element.Opens bracket place ∷ es) [] g = absurd (never_out (open_inside bracket) es g)
+closes_literal forms b (element.Opens bracket place ∷ es) (c ∷ contexts) g = closes_literal_from forms b bracket place es c contexts g
 closes_literal forms b (element.Item item ∷ es) contexts g = absurd g
-closes_literal forms b (element.Closes place ∷ es) contexts g = absurd g
+closes_literal forms b (element.Closes bracket place ∷ es) contexts g = absurd g
 
 closes_items : (forms : List Form) (b : Begun) (es : List Element) (contexts : List Context) → Lead [] es contexts → ClosesPart forms b (items es contexts)
 closes_items forms b es contexts g =

@@ -5,6 +5,7 @@ use Rattle.std.proofs.Common.{◌≡◌, Bool, true, false, cond, List, [], ◌�
 use Rattle.fac_lang.specs.declared.phrase.Place.{Place}
 use Rattle.fac_lang.specs.declared.token.Token.{Token}
 use Rattle.fac_lang.specs.declared.tree.Element.{Element}
+use Rattle.fac_lang.specs.declared.tree.Bracket.{Bracket}
 use Rattle.fac_lang.specs.declared.tree.Mark.{Mark}
 use Rattle.fac_lang.specs.declared.tree.Mark.TheVariants as mark
 use Rattle.fac_lang.specs.declared.tree.FormKind.{FormKind}
@@ -16,7 +17,7 @@ use Rattle.fac_lang.specs.declared.tree.Form.{Form}
 use Rattle.fac_parse.specs.declared.context.Context.{Context}
 use Rattle.fac_parse.specs.declared.rows.Slot.{Slot}
 use Rattle.fac_effect.specs.declared.spelling.Spelling.{Spelling}
-use Rattle.fac_effect.specs.declared.spelling.Spelling.TheVariants.{Begins, Fixed, Semi, OpensQuotation, ClosesQuotation, True, False, Inline, Recursive, Integer, String, Name}
+use Rattle.fac_effect.specs.declared.spelling.Spelling.TheVariants.{Begins, Fixed, Semi, OpensBracket, ClosesBracket, True, False, Inline, Recursive, Integer, String, Name}
 use Rattle.fac_effect.specs.declared.effect_reader.EffectReader.{EffectReader}
 use Rattle.fac_effect.specs.EffectReading.{Progress, reads as reading, whole, refused, step as token_step, go_on, after}
 use Rattle.fac_effect.proofs.EffectLemmas.{whole_is_effect, after_more}
@@ -25,7 +26,7 @@ use Rattle.fac_parse.specs.Rows.{slots_of}
 use Rattle.fac_parse.specs.Trees.{element_tokens, items_tokens, mark_token, marks_tokens, part_tokens, parts_tokens, flatten, AreNames, AreMarks, IsElement, behind, Lead, Encloses, Fills, IsWellFormed}
 use Rattle.fac_parse.specs.inner.Reader.{Within, name, names, fixed, effect, items, literal, marks, Begun, begun, Open, top, row, State, in_state, start, row_form, more, with_part, with_run, begin_row, element_of, with_element, add_element, begins, begin_or_add, top_step, name_step, names_step, key_step, fixed_step, written, effect_with, effect_step, row_items, end_items, is_semi, end_or_add, goes_into, literal_with, add_literal, mark_of, may_follow, with_mark, mark_step, row_step, open_step, step, steps}
 use Rattle.fac_effect.proofs.SpellingLemmas.{sign_token}
-use Rattle.fac_parse.proofs.StateTokens.{within_tokens, tokens_of, state_tokens, element_behind, parts-last, Filled, filled_more, slot_of, Inside, in_quotation, GoodWithin, GoodRow, NoRunLast, GoodOpen, Good, run_fits, run_tokens, Gone, ended_row_gone, gone_on}
+use Rattle.fac_parse.proofs.StateTokens.{within_tokens, tokens_of, state_tokens, element_behind, parts-last, Filled, filled_more, slot_of, Inside, open_inside, GoodWithin, GoodRow, NoRunLast, GoodOpen, Good, run_fits, run_tokens, Gone, ended_row_gone, gone_on}
 
 -- a state is good, and has these tokens and this one
 pub record Taken (tokens : List Token) (t : Token) (s : State) : Type 0 where
@@ -123,8 +124,8 @@ element_is t String h = (h, refl)
 element_is t Name h = (h, refl)
 element_is t True h = (tt, alone t _ (sign_token t True h tt))
 element_is t False h = (tt, alone t _ (sign_token t False h tt))
-element_is t OpensQuotation h = (tt, alone t _ (sign_token t OpensQuotation h tt))
-element_is t ClosesQuotation h = (tt, alone t _ (sign_token t ClosesQuotation h tt))
+element_is t (OpensBracket bracket) h = (tt, alone t _ (sign_token t (OpensBracket bracket) h tt))
+element_is t (ClosesBracket bracket) h = (tt, alone t _ (sign_token t (ClosesBracket bracket) h tt))
 element_is t _ h = tt
 
 -- items that are held somewhere are good there, and stand behind these tokens
@@ -200,12 +201,12 @@ inside_ends [] es to e h is b = absurd h
 inside_ends (d ∷ from) [] to e h is b = (is, [], subst (λ (x : List Context). behind x e ≡ Some []) (sym h) b, tt)
 inside_ends (d ∷ from) (x ∷ es) to e h is b = (h.0, h.1, h.2, inside_ends h.1 es to e h.3 is b)
 
-literal_goes : (forms : List Form) (b : Begun) (place : Place) (es : List Element) (to : List Context) (t : Token) (e : Element) (next : Option (List Context)) → IsWellFormed forms → GoodRow b (literal (element.Opens place ∷ es) to) → IsElement e → element_tokens e ≡ t ∷ [] → behind to e ≡ next → Keeps (tokens_of forms (row b (literal (element.Opens place ∷ es) to))) t (literal_with forms b (element.Opens place ∷ (es ++ e ∷ [])) next)
-literal_goes forms b place es to t e None fits g is spelled h = tt
-literal_goes forms b place es to t e (Some []) fits g is spelled h =
-    part_taken forms b (literal (element.Opens place ∷ es) to) (part.Literal (element.Opens place ∷ (es ++ e ∷ []))) t fits g (inside_ends in_quotation es to e g.within is h) (element_behind (element.Opens place ∷ es) e t spelled)
-literal_goes forms b place es to t e (Some (c ∷ next)) fits g is spelled h =
-    within_taken forms b (literal (element.Opens place ∷ es) to) (literal (element.Opens place ∷ (es ++ e ∷ [])) (c ∷ next)) t fits g refl (inside_more in_quotation es to e c next g.within is h) (element_behind (element.Opens place ∷ es) e t spelled)
+literal_goes : (forms : List Form) (b : Begun) (bracket : Bracket) (place : Place) (es : List Element) (to : List Context) (t : Token) (e : Element) (next : Option (List Context)) → IsWellFormed forms → GoodRow b (literal (element.Opens bracket place ∷ es) to) → IsElement e → element_tokens e ≡ t ∷ [] → behind to e ≡ next → Keeps (tokens_of forms (row b (literal (element.Opens bracket place ∷ es) to))) t (literal_with forms b (element.Opens bracket place ∷ (es ++ e ∷ [])) next)
+literal_goes forms b bracket place es to t e None fits g is spelled h = tt
+literal_goes forms b bracket place es to t e (Some []) fits g is spelled h =
+    part_taken forms b (literal (element.Opens bracket place ∷ es) to) (part.Literal (element.Opens bracket place ∷ (es ++ e ∷ []))) t fits g (inside_ends (open_inside bracket) es to e g.within is h) (element_behind (element.Opens bracket place ∷ es) e t spelled)
+literal_goes forms b bracket place es to t e (Some (c ∷ next)) fits g is spelled h =
+    within_taken forms b (literal (element.Opens bracket place ∷ es) to) (literal (element.Opens bracket place ∷ (es ++ e ∷ [])) (c ∷ next)) t fits g refl (inside_more (open_inside bracket) es to e c next g.within is h) (element_behind (element.Opens bracket place ∷ es) e t spelled)
 
 literal_begins : (forms : List Form) (b : Begun) (t : Token) (e : Element) → IsWellFormed forms → GoodRow b (literal [] []) → IsElement e → element_tokens e ≡ t ∷ [] → Keeps (tokens_of forms (row b (literal [] []))) t (cond (goes_into [] e) (literal_with forms b (e ∷ []) (behind [] e)) None)
 literal_begins forms b t (element.Item (term.Name n)) fits g is spelled = tt
@@ -213,8 +214,8 @@ literal_begins forms b t (element.Item (term.Integer n z)) fits g is spelled = p
 literal_begins forms b t (element.Item (term.Text n)) fits g is spelled = part_taken forms b (literal [] []) (part.Literal (element.Item (term.Text n) ∷ [])) t fits g is spelled
 literal_begins forms b t (element.Item (term.True place)) fits g is spelled = part_taken forms b (literal [] []) (part.Literal (element.Item (term.True place) ∷ [])) t fits g is spelled
 literal_begins forms b t (element.Item (term.False place)) fits g is spelled = part_taken forms b (literal [] []) (part.Literal (element.Item (term.False place) ∷ [])) t fits g is spelled
-literal_begins forms b t (element.Opens place) fits g is spelled = within_taken forms b (literal [] []) (literal (element.Opens place ∷ []) in_quotation) t fits g refl refl spelled
-literal_begins forms b t (element.Closes place) fits g is spelled = tt
+literal_begins forms b t (element.Opens bracket place) fits g is spelled = within_taken forms b (literal [] []) (literal (element.Opens bracket place ∷ []) (open_inside bracket)) t fits g refl refl spelled
+literal_begins forms b t (element.Closes bracket place) fits g is spelled = tt
 
 pub into_open : (c : Context) (contexts : List Context) (e : Element) → goes_into (c ∷ contexts) e ≡ true
 into_open c contexts (element.Item (term.Name n)) = refl
@@ -222,8 +223,8 @@ into_open c contexts (element.Item (term.Integer n z)) = refl
 into_open c contexts (element.Item (term.Text n)) = refl
 into_open c contexts (element.Item (term.True place)) = refl
 into_open c contexts (element.Item (term.False place)) = refl
-into_open c contexts (element.Opens place) = refl
-into_open c contexts (element.Closes place) = refl
+into_open c contexts (element.Opens bracket place) = refl
+into_open c contexts (element.Closes bracket place) = refl
 
 pub never_out : (from : List Context) (es : List Element) → Inside from es [] → ⊥
 never_out [] es h = absurd h
@@ -234,12 +235,12 @@ literal_keeps : (forms : List Form) (b : Begun) (es : List Element) (contexts : 
 literal_keeps forms b es contexts None t is fits g = tt
 literal_keeps forms b [] [] (Some e) t is fits g = literal_begins forms b t e fits g is.0 is.1
 literal_keeps forms b [] (c ∷ contexts) (Some e) t is fits g = let d = g.within in cc
-literal_keeps forms b (element.Opens place ∷ es) [] (Some e) t is fits g = absurd (never_out in_quotation es g.within)
-literal_keeps forms b (element.Opens place ∷ es) (c ∷ contexts) (Some e) t is fits g =
-    subst (λ (x : Bool). Keeps (tokens_of forms (row b (literal (element.Opens place ∷ es) (c ∷ contexts)))) t (cond x (literal_with forms b (element.Opens place ∷ (es ++ e ∷ [])) (behind (c ∷ contexts) e)) None)) (sym (into_open c contexts e))
-    (literal_goes forms b place es (c ∷ contexts) t e (behind (c ∷ contexts) e) fits g is.0 is.1 refl)
+literal_keeps forms b (element.Opens bracket place ∷ es) [] (Some e) t is fits g = absurd (never_out (open_inside bracket) es g.within)
+literal_keeps forms b (element.Opens bracket place ∷ es) (c ∷ contexts) (Some e) t is fits g =
+    subst (λ (x : Bool). Keeps (tokens_of forms (row b (literal (element.Opens bracket place ∷ es) (c ∷ contexts)))) t (cond x (literal_with forms b (element.Opens bracket place ∷ (es ++ e ∷ [])) (behind (c ∷ contexts) e)) None)) (sym (into_open c contexts e))
+    (literal_goes forms b bracket place es (c ∷ contexts) t e (behind (c ∷ contexts) e) fits g is.0 is.1 refl)
 literal_keeps forms b (element.Item item ∷ es) contexts (Some e) t is fits g = absurd g.within
-literal_keeps forms b (element.Closes place ∷ es) contexts (Some e) t is fits g = absurd g.within
+literal_keeps forms b (element.Closes bracket place ∷ es) contexts (Some e) t is fits g = absurd g.within
 
 -- Marks.
 

@@ -2,7 +2,7 @@
 use Rattle.fac_parse.specs.inner.Reader.{literal, goes_into, literal_with, add_literal, Within, name, names, fixed, effect, items, marks, Begun, begun, Open, top, row, State, in_state, start, row_form, row_ended, at_slot, go_on, more, with_part, element_of, with_element, add_element, begins, begin_or_add, top_step, written, effect_with, row_items, is_semi, end_or_add, mark_of, mark_step, open_step, step, steps, ended}
 use Rattle.fac_parse.specs.Trees.{behind, IsLiteral, Encloses, element_tokens, items_tokens, marks_tokens, part_tokens, parts_tokens, form_tokens, flatten, AreNames, IsElement, Lead, AreMarks, FillAll, IsWellFormed, Reads}
 use Rattle.fac_parse.proofs.ReaderKeeps.{into_open}
-use Rattle.fac_parse.proofs.StateTokens.{in_quotation, Filled, filled_more, first_of, next_slot, MarksLast, marks_last}
+use Rattle.fac_parse.proofs.StateTokens.{open_inside, Filled, filled_more, first_of, next_slot, MarksLast, marks_last}
 use Rattle.std.proofs.Common.{◌≡◌, Bool, false, cond, List, [], ◌∷◌, ◌++◌, Option, Some, None, refl, ap, sym, ◌∙◌, subst, append_assoc, append-nil}
 use Rattle.std.specs.Prelude.{codes}
 use Rattle.fac_lang.specs.declared.phrase.Place.{Place}
@@ -23,7 +23,7 @@ use Rattle.fac_parse.specs.declared.context.Context.{Context}
 use Rattle.fac_parse.specs.declared.rows.Slot.{Slot}
 use Rattle.fac_parse.specs.declared.rows.Slot.TheVariants as slot
 use Rattle.fac_effect.specs.declared.spelling.Spelling.{Spelling}
-use Rattle.fac_effect.specs.declared.spelling.Spelling.TheVariants.{Begins, Fixed, Semi, OpensQuotation, ClosesQuotation, True, False, Inline, Recursive, Name}
+use Rattle.fac_effect.specs.declared.spelling.Spelling.TheVariants.{Begins, Fixed, Semi, OpensBracket, ClosesBracket, True, False, Inline, Recursive, Name}
 use Rattle.fac_lang.specs.Signatures.{Signature}
 use Rattle.fac_effect.specs.declared.effect_reader.EffectReader.{EffectReader}
 use Rattle.fac_effect.specs.declared.effect_reader.EffectWhy.{EffectWhy}
@@ -32,7 +32,7 @@ use Rattle.fac_effect.specs.EffectReading.{Progress, reads as reading, whole as 
 use Rattle.fac_effect.proofs.EffectRuns.{refused_stays}
 use Rattle.fac_effect.proofs.EffectLemmas.{effect_is_whole}
 use Rattle.fac_effect.specs.WrittenEffects.{IsEffect}
-use Rattle.fac_effect.specs.Spellings.{head_of, token_spelling, plain_token}
+use Rattle.fac_effect.specs.Spellings.{head_of, opening_text, closing_text, token_spelling, plain_token}
 use Rattle.fac_parse.specs.Rows.{slots_of}
 use Rattle.fac_effect.proofs.SpellingLemmas.{sign_is}
 
@@ -94,8 +94,8 @@ term_token (element.Item (term.Integer t z)) = t
 term_token (element.Item (term.Text t)) = t
 term_token (element.Item (term.True place)) = plain_token place (codes "t")
 term_token (element.Item (term.False place)) = plain_token place (codes "f")
-term_token (element.Opens place) = plain_token place (codes "[")
-term_token (element.Closes place) = plain_token place (codes "]")
+term_token (element.Opens bracket place) = plain_token place (opening_text bracket)
+term_token (element.Closes bracket place) = plain_token place (closing_text bracket)
 
 token_alone : (e : Element) → element_tokens e ≡ term_token e ∷ []
 token_alone (element.Item (term.Name t)) = refl
@@ -103,8 +103,8 @@ token_alone (element.Item (term.Integer t z)) = refl
 token_alone (element.Item (term.Text t)) = refl
 token_alone (element.Item (term.True place)) = refl
 token_alone (element.Item (term.False place)) = refl
-token_alone (element.Opens place) = refl
-token_alone (element.Closes place) = refl
+token_alone (element.Opens bracket place) = refl
+token_alone (element.Closes bracket place) = refl
 
 pub element_spelled : (e : Element) → IsElement e → element_of (token_spelling (term_token e).kind) (term_token e) ≡ Some e
 element_spelled (element.Item (term.Name t)) h = ap (λ (s : Spelling). element_of s t) h
@@ -112,8 +112,8 @@ element_spelled (element.Item (term.Integer t z)) h = ap (λ (s : Spelling). ele
 element_spelled (element.Item (term.Text t)) h = ap (λ (s : Spelling). element_of s t) h
 element_spelled (element.Item (term.True place)) h = ap (λ (s : Spelling). element_of s (plain_token place (codes "t"))) (sign_is True tt)
 element_spelled (element.Item (term.False place)) h = ap (λ (s : Spelling). element_of s (plain_token place (codes "f"))) (sign_is False tt)
-element_spelled (element.Opens place) h = ap (λ (s : Spelling). element_of s (plain_token place (codes "["))) (sign_is OpensQuotation tt)
-element_spelled (element.Closes place) h = ap (λ (s : Spelling). element_of s (plain_token place (codes "]"))) (sign_is ClosesQuotation tt)
+element_spelled (element.Opens bracket place) h = ap (λ (s : Spelling). element_of s (plain_token place (opening_text bracket))) (sign_is (OpensBracket bracket) tt)
+element_spelled (element.Closes bracket place) h = ap (λ (s : Spelling). element_of s (plain_token place (closing_text bracket))) (sign_is (ClosesBracket bracket) tt)
 
 no_row : (s : Spelling) (t : Token) (e : Element) → element_of s t ≡ Some e → begins s ≡ None
 no_row (Begins kind) t e h = cc
@@ -220,10 +220,10 @@ literal_part_read forms b (element.Item (term.Text t) ∷ []) h = term_read form
 literal_part_read forms b (element.Item (term.True place) ∷ []) h = term_read forms b (element.Item (term.True place)) h refl
 literal_part_read forms b (element.Item (term.False place) ∷ []) h = term_read forms b (element.Item (term.False place)) h refl
 literal_part_read forms b (element.Item item ∷ e ∷ es) h = absurd h
-literal_part_read forms b (element.Closes place ∷ es) h = absurd h
-literal_part_read forms b (element.Opens place ∷ es) h =
-    one (in_state forms (row b (literal [] []))) (in_state forms (row b (literal (element.Opens place ∷ []) in_quotation))) (plain_token place (codes "[")) (items_tokens es) _
-    (ap (add_literal forms b [] []) (element_spelled (element.Opens place) tt)) (enclosed_read forms b (element.Opens place ∷ []) es _ [] h)
+literal_part_read forms b (element.Closes bracket place ∷ es) h = absurd h
+literal_part_read forms b (element.Opens bracket place ∷ es) h =
+    one (in_state forms (row b (literal [] []))) (in_state forms (row b (literal (element.Opens bracket place ∷ []) (open_inside bracket)))) (plain_token place (opening_text bracket)) (items_tokens es) _
+    (ap (add_literal forms b [] []) (element_spelled (element.Opens bracket place) tt)) (enclosed_read forms b (element.Opens bracket place ∷ []) es _ [] h)
 
 -- Where the tokens may end with these forms, a row may begin, and where none of the forms that follow is a run beside one, a run may.
 

@@ -1,5 +1,5 @@
 -- The tokens of what was read so far, and what is known of it.
-use Rattle.fac_parse.specs.Trees.{IsElement, behind, element_tokens, items_tokens, marks_tokens, part_tokens, parts_tokens, form_tokens, flatten, AreNames, Lead, AreItems, AreMarks, Fills, FillAll, IsForm, MayStandBefore, IsWellFormed}
+use Rattle.fac_parse.specs.Trees.{IsElement, context_of, behind, element_tokens, items_tokens, marks_tokens, part_tokens, parts_tokens, form_tokens, flatten, AreNames, Lead, AreItems, AreMarks, Fills, FillAll, IsForm, MayStandBefore, IsWellFormed}
 use Rattle.fac_parse.specs.declared.context.Context.{Context}
 use Rattle.std.proofs.Common.{◌≡◌, List, [], ◌∷◌, ◌++◌, length, Option, Some, None, refl, ap, sym, ◌∙◌, subst, append_assoc, append-nil}
 use Rattle.std.specs.Prelude.{slice_get}
@@ -7,7 +7,7 @@ use Rattle.fac_lang.specs.declared.phrase.Place.{Place}
 use Rattle.fac_lang.specs.declared.token.Token.{Token}
 use Rattle.fac_lang.specs.declared.tree.Element.{Element}
 use Rattle.fac_lang.specs.declared.tree.Element.TheVariants as element
-use Rattle.fac_parse.specs.declared.context.Bracket.TheVariants.{Quotation}
+use Rattle.fac_lang.specs.declared.tree.Bracket.{Bracket}
 use Rattle.fac_lang.specs.declared.tree.FormKind.{FormKind}
 use Rattle.fac_lang.specs.declared.tree.FormKind.TheVariants.{In, Use, Using, From, QualifiedWith, Defer, Symbol, Constant, Private, Public, Main, Define}
 use Rattle.fac_lang.specs.declared.tree.Part.{Part}
@@ -137,13 +137,14 @@ Inside [] es to = ⊥
 Inside (c ∷ from) [] to = c ∷ from ≡ to
 Inside (c ∷ from) (e ∷ es) to = IsElement e × (next : List Context) × (behind (c ∷ from) e ≡ Some next) × Inside next es to
 
-abbrev pub in_quotation : List Context
-in_quotation = record { bracket = Quotation } ∷ []
+-- behind the first bracket of a literal
+abbrev pub open_inside : Bracket → List Context
+open_inside bracket = context_of bracket ∷ []
 
 -- a literal as far as some of its elements
 abbrev pub GoodLiteral : List Element → List Context → Type 0
 GoodLiteral [] contexts = contexts ≡ []
-GoodLiteral (element.Opens place ∷ es) contexts = Inside in_quotation es contexts
+GoodLiteral (element.Opens bracket place ∷ es) contexts = Inside (open_inside bracket) es contexts
 GoodLiteral _ contexts = ⊥
 
 -- what was read of a part, with these slots behind it

@@ -1,12 +1,14 @@
 -- Trees, their tokens, and which trees are well-formed.
 use Rattle.std.specs.Prelude.{◌≡◌, ◌≤◌, ◌<◌, ◌+◌, ◌⊎◌, ℕ, nat_lt, Option, Some, None, List, [], ◌∷◌, ◌++◌, length, take, codes, Result, Ok, Err, if◌then◌else◌}
-use Rattle.fac_lang.specs.declared.limits.TheConstants.{MOST_LEVELS}
+use Rattle.fac_lang.specs.declared.limits.TheConstants.{MOST_LEVELS, MOST_ELEMENTS}
 use Rattle.fac_lang.specs.declared.token.Token.{Token}
 use Rattle.fac_lang.specs.declared.tree.Tree.{Tree}
 use Rattle.fac_lang.specs.declared.tree.Term.{Term}
 use Rattle.fac_lang.specs.declared.tree.Term.TheVariants as term
 use Rattle.fac_lang.specs.declared.tree.Element.{Element}
 use Rattle.fac_lang.specs.declared.tree.Element.TheVariants as element
+use Rattle.fac_lang.specs.declared.tree.Bracket.{Bracket}
+use Rattle.fac_lang.specs.declared.tree.Bracket.TheVariants.{Quotation, Array}
 use Rattle.fac_lang.specs.declared.tree.Mark.{Mark}
 use Rattle.fac_lang.specs.declared.tree.Mark.TheVariants.{Inline, Recursive}
 use Rattle.fac_lang.specs.declared.tree.Form.{Form}
@@ -18,12 +20,11 @@ use Rattle.fac_parse.specs.declared.reader.ParseFault.{ParseFault}
 use Rattle.fac_parse.specs.declared.reader.ParseFault.TheVariants.{Syntax, Memory}
 use Rattle.fac_parse.specs.declared.reader.Why.{Why}
 use Rattle.fac_parse.specs.declared.reader.Why.TheVariants.{End, Other}
-use Rattle.fac_parse.specs.declared.context.Bracket.{Bracket}
-use Rattle.fac_parse.specs.declared.context.Bracket.TheVariants.{Quotation}
 use Rattle.fac_parse.specs.declared.context.Context.{Context}
+use Rattle.fac_parse.specs.declared.context.Context.TheVariants as context
 use Rattle.fac_parse.specs.declared.rows.Slot.{Slot}
 use Rattle.fac_parse.specs.declared.rows.Slot.TheVariants as slot
-use Rattle.fac_effect.specs.Spellings.{head_of, key_text, plain_token, token_spelling}
+use Rattle.fac_effect.specs.Spellings.{head_of, key_text, opening_text, closing_text, plain_token, token_spelling}
 use Rattle.fac_effect.specs.WrittenEffects.{IsEffect}
 use Rattle.fac_parse.specs.Rows.{slots_of}
 
@@ -36,8 +37,8 @@ term_tokens (term.False place) = plain_token place (codes "f") ∷ []
 
 abbrev pub element_tokens : Element → List Token
 element_tokens (element.Item item) = term_tokens item
-element_tokens (element.Opens place) = plain_token place (codes "[") ∷ []
-element_tokens (element.Closes place) = plain_token place (codes "]") ∷ []
+element_tokens (element.Opens bracket place) = plain_token place (opening_text bracket) ∷ []
+element_tokens (element.Closes bracket place) = plain_token place (closing_text bracket) ∷ []
 
 -- the tokens of items, in order
 abbrev pub items_tokens : List Element → List Token
@@ -95,23 +96,43 @@ IsElement _ = Unit {0}
 abbrev pub most_levels : ℕ
 most_levels = MOST_LEVELS
 
+-- A literal array has at most so many elements.
+abbrev pub most_elements : ℕ
+most_elements = MOST_ELEMENTS
+
+-- a quotation or an array before its first element
+abbrev pub context_of : Bracket → Context
+context_of Quotation = context.Quotation
+context_of Array = context.Array 0
+
+-- What is open where one more element stands here. Where the innermost pair is an array, it has one element more.
+abbrev pub counted : List Context → Option (List Context)
+counted [] = Some []
+counted (context.Quotation ∷ contexts) = Some (context.Quotation ∷ contexts)
+counted (context.Array n ∷ contexts) = (if nat_lt n most_elements then Some (context.Array (n + 1) ∷ contexts) else None)
+
 -- what is open behind a bracket that opens
-abbrev pub opened : Bracket → List Context → Option (List Context)
-opened bracket contexts = (if nat_lt (length contexts) most_levels then Some (record { bracket = bracket } ∷ contexts) else None)
+abbrev pub opened : List Context → Bracket → Option (List Context)
+opened contexts bracket = (if nat_lt (length contexts) most_levels then Some (context_of bracket ∷ contexts) else None)
 
-abbrev pub if_quotation : Bracket → List Context → Option (List Context)
-if_quotation Quotation contexts = Some contexts
+-- what is open behind a quotation or an array that begins here, as one element of what is around it
+abbrev pub counted_opened : Option (List Context) → Bracket → Option (List Context)
+counted_opened None bracket = None
+counted_opened (Some contexts) bracket = opened contexts bracket
 
--- what is open behind a `]`, which closes the innermost pair
-abbrev pub quotation_closed : List Context → Option (List Context)
-quotation_closed [] = None
-quotation_closed (c ∷ contexts) = if_quotation c.bracket contexts
+-- what is open behind a bracket that closes the innermost pair, which is of its kind
+abbrev pub closed : List Context → Bracket → Option (List Context)
+closed [] bracket = None
+closed (context.Quotation ∷ contexts) Quotation = Some contexts
+closed (context.Quotation ∷ contexts) Array = None
+closed (context.Array n ∷ contexts) Quotation = None
+closed (context.Array n ∷ contexts) Array = Some contexts
 
 -- What is open behind an element, the innermost first, where this is open before it. None where the element may not stand.
 abbrev pub behind : List Context → Element → Option (List Context)
-behind contexts (element.Item item) = Some contexts
-behind contexts (element.Opens place) = opened Quotation contexts
-behind contexts (element.Closes place) = quotation_closed contexts
+behind contexts (element.Item item) = counted contexts
+behind contexts (element.Opens bracket place) = counted_opened (counted contexts) bracket
+behind contexts (element.Closes bracket place) = closed contexts bracket
 
 -- each of these elements may stand where it does, from where this is open to where that is
 abbrev pub Lead : List Context → List Element → List Context → Type 0
@@ -135,7 +156,7 @@ Encloses _ _ = ⊥
 -- one item that is a literal
 abbrev pub IsLiteral : List Element → Type 0
 IsLiteral (element.Item item ∷ []) = IsLiteralTerm item
-IsLiteral (element.Opens place ∷ elements) = Encloses (record { bracket = Quotation } ∷ []) elements
+IsLiteral (element.Opens bracket place ∷ elements) = Encloses (context_of bracket ∷ []) elements
 IsLiteral _ = ⊥
 
 -- marks of one definition: each of the two at most once, in any order

@@ -1,14 +1,10 @@
 //! What is open where an element of items stands.
 
-/// A kind of brackets.
+/// What a pair of brackets that is open encloses so far.
 #[derive(Clone, Copy, Debug)]
-pub enum Bracket {
-    /// `[` and `]`
+pub enum Context {
+    /// A quotation.
     Quotation,
-}
-
-/// What is open: a pair of brackets of this kind.
-#[derive(Clone, Copy, Debug)]
-pub struct Context {
-    pub bracket: Bracket,
+    /// An array, which has so many elements.
+    Array(u32),
 }

@@ -1,6 +1,6 @@
 //! The tree of a source's tokens.
 ghost use Rattle.std.specs.Prelude.{◌≡◌, ◌++◌, ◌∷◌, [], OnOk, IfOk};
-ghost use Rattle.fac_parse.specs.Trees.{Parses, behind, opened, quotation_closed, file_of};
+ghost use Rattle.fac_parse.specs.Trees.{Parses, behind, context_of as starting, counted, opened, counted_opened, closed, file_of};
 ghost use Rattle.fac_parse.specs.inner.Reader.{in_state, row, begin, begun_at, row_ended, go_on as goes_on, with_part, with_run, more, written};
 ghost use Rattle.fac_parse.specs.inner.Reader.{begin_row as row_begins, begins, is_semi, element_of, end_items as items_end, mark_of, goes_into};
 ghost use Rattle.fac_parse.specs.inner.Reader.{top_step, name_step, names_step, key_step, fixed_step, effect_step, items_step, literal_step};
@@ -10,14 +10,14 @@ ghost use Rattle.fac_lang.specs.declared.tree.Part.TheVariants as part;
 ghost use Rattle.fac_effect.specs.Spellings.{token_spelling};
 ghost use Rattle.fac_effect.specs.EffectReading.{reads as reading, whole, after};
 
-use crate::context::{Bracket, Context};
+use crate::context::Context;
 use crate::cut::cut;
 use crate::rows::{Slot, slot_at};
 use fac_effect::{EffectReader, Spelling, Taken, classify, effect_from};
-use fac_lang::limits::MOST_LEVELS;
+use fac_lang::limits::{MOST_ELEMENTS, MOST_LEVELS};
 use fac_lang::{
-    Element, Form, FormKind, Key, List, Mark, Memory, Part, Place, Stack, Term, Token, Tree,
-    WrittenEffect,
+    Bracket, Element, Form, FormKind, Key, List, Mark, Memory, Part, Place, Stack, Term, Token,
+    Tree, WrittenEffect,
 };
 use std::alloc::Global;
 use std::mem;
@@ -129,33 +129,84 @@ fn element(spelling: Spelling, token: Token) -> Option<Element>
         Spelling::Name => Some(Element::Item(Term::Name(token))),
         Spelling::True => Some(Element::Item(Term::True(token.place))),
         Spelling::False => Some(Element::Item(Term::False(token.place))),
-        Spelling::OpensQuotation => Some(Element::Opens(token.place)),
-        Spelling::ClosesQuotation => Some(Element::Closes(token.place)),
+        Spelling::OpensBracket(bracket) => Some(Element::Opens(bracket, token.place)),
+        Spelling::ClosesBracket(bracket) => Some(Element::Closes(bracket, token.place)),
         _ => None,
+    }
+}
+
+// A quotation or an array before its first element.
+fn context_of(bracket: Bracket) -> Context
+    ensures { result ≡ starting bracket }
+{
+    match bracket {
+        Bracket::Quotation => Context::Quotation,
+        Bracket::Array => Context::Array(0),
+    }
+}
+
+// Counts one more element. False where the innermost pair is an array that is full.
+fn count(contexts: &mut Stack<Context>) -> Result<bool, Memory>
+    ensures { Passes (counted contexts.old) contexts.new result }
+{
+    match contexts.pop() {
+        None => Ok(true),
+        Some(context) => match context {
+            Context::Quotation => {
+                contexts.push(context)?;
+                Ok(true)
+            }
+            Context::Array(elements) => {
+                if (elements as usize) < MOST_ELEMENTS {
+                    contexts.push(Context::Array(elements + 1))?;
+                    Ok(true)
+                } else {
+                    Ok(false)
+                }
+            }
+        },
     }
 }
 
 // Opens a bracket. False where too many are open.
 fn open(contexts: &mut Stack<Context>, bracket: Bracket) -> Result<bool, Memory>
-    ensures { Passes (opened bracket contexts.old) contexts.new result }
+    ensures { Passes (opened contexts.old bracket) contexts.new result }
 {
     if contexts.len() < MOST_LEVELS as usize {
-        contexts.push(Context { bracket })?;
+        contexts.push(context_of(bracket))?;
         Ok(true)
     } else {
         Ok(false)
     }
 }
 
-// Closes the innermost bracket with a `]`. False where it can't.
-fn close_quotation(contexts: &mut Stack<Context>) -> bool
-    ensures { Passes (quotation_closed contexts.old) contexts.new (Ok result) }
+// Counts a quotation or an array as one element, and opens it. False where it may not begin.
+fn begin_bracket(contexts: &mut Stack<Context>, bracket: Bracket) -> Result<bool, Memory>
+    ensures { Passes (counted_opened (counted contexts.old) bracket) contexts.new result }
+{
+    if count(contexts)? {
+        open(contexts, bracket)
+    } else {
+        Ok(false)
+    }
+}
+
+// Closes the innermost pair. False where there is none, or it is of the other kind.
+fn close(contexts: &mut Stack<Context>, bracket: Bracket) -> bool
+    ensures { Passes (closed contexts.old bracket) contexts.new (Ok result) }
 {
     match contexts.pop() {
-        Some(context) => match context.bracket {
-            Bracket::Quotation => true,
-        },
         None => false,
+        Some(context) => match context {
+            Context::Quotation => match bracket {
+                Bracket::Quotation => true,
+                Bracket::Array => false,
+            },
+            Context::Array(_) => match bracket {
+                Bracket::Quotation => false,
+                Bracket::Array => true,
+            },
+        },
     }
 }
 
@@ -164,9 +215,9 @@ fn pass(contexts: &mut Stack<Context>, element: &Element) -> Result<bool, Memory
     ensures { Passes (behind contexts.old element.now) contexts.new result }
 {
     match element {
-        Element::Item(_) => Ok(true),
-        Element::Opens(_) => open(contexts, Bracket::Quotation),
-        Element::Closes(_) => Ok(close_quotation(contexts)),
+        Element::Item(_) => count(contexts),
+        Element::Opens(bracket, _) => begin_bracket(contexts, *bracket),
+        Element::Closes(bracket, _) => Ok(close(contexts, *bracket)),
     }
 }
 
@@ -704,10 +755,11 @@ fn file(tokens: &[Token]) -> u32
 ///
 /// - `IN: v`, `USE: v`, `USING: v* ;`, `FROM: v => n* ;`, `QUALIFIED-WITH: v p`
 /// - `DEFER: n`, `SYMBOL: n`, `MAIN: n`, `<PRIVATE`, `PRIVATE>`
-/// - `CONSTANT: n` with a literal behind it: an integer, a string, `t`, `f` or a quotation
+/// - `CONSTANT: n` with a literal behind it: an integer, a string, `t`, `f`, a quotation or an array
 /// - `: n effect item* ;` with `inline` and `recursive` behind it, each at most once, in any order
 ///
-/// An item is a name, an integer, a string, `t`, `f`, or a quotation `[ item* ]`. Quotations nest at most 256 deep.
+/// An item is a name, an integer, a string, `t`, `f`, a quotation `[ item* ]`, or an array `{ element* }`, whose elements are literals and names. Quotations and arrays nest at most 256 deep,
+/// counted together. An array has at most 1,000,000 elements: those that stand directly in it.
 ///
 /// An effect is `( entry* -- entry* )`. An entry is a name that ends in no colon, or a name that ends in one and what describes it: a name that ends in
 /// no colon, or an effect. A name that begins with two dots is only the first entry of its side. An effect has at most 64 names, with those of the

@@ -44,6 +44,25 @@ prelude_lines =
     codes "PRIVATE>" ∷
     codes ": times ( ..a n quot: ( ..a -- ..a ) -- ..a )" ∷
     codes "    [ drop ] prepose 0 -rot (each-integer) ; inline" ∷
+    codes "" ∷
+    codes "IN: sequences" ∷
+    codes "USING: math math.private arrays ;" ∷
+    codes ": first ( seq -- elt ) 0 swap nth ;" ∷
+    codes ": second ( seq -- elt ) 1 swap nth ;" ∷
+    codes ": last ( seq -- elt ) dup length 1 - swap nth ;" ∷
+    codes ": empty? ( seq -- ? ) length 0 = ;" ∷
+    codes ": each ( ..a seq quot: ( ..a x -- ..a ) -- ..a )" ∷
+    codes "    [ dup length swap [ nth ] curry ] dip compose 0 -rot (each-integer) ; inline" ∷
+    codes ": map ( ..a seq quot: ( ..a x -- ..a y ) -- ..a newseq )" ∷
+    codes "    over length f <array> [" ∷
+    codes "        [ [ dup length swap [ nth ] curry ] dip compose [ keep ] curry ] dip" ∷
+    codes "        [ set-nth ] curry compose 0 -rot (each-integer)" ∷
+    codes "    ] keep ; inline" ∷
+    codes ": filter ( ..a seq quot: ( ..a x -- ..a ? ) -- ..a newseq )" ∷
+    codes "    over [ map ] dip (select) ; inline" ∷
+    codes ": reduce ( ..a seq id quot: ( ..a prev x -- ..a next ) -- ..a result )" ∷
+    codes "    swapd each ; inline" ∷
+    codes ": sum ( seq -- n ) 0 [ + ] reduce ;" ∷
     []
 
 -- the text of the prelude, in which a newline ends each line

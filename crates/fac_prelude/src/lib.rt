@@ -48,5 +48,24 @@ USING: kernel ;
 PRIVATE>
 : times ( ..a n quot: ( ..a -- ..a ) -- ..a )
     [ drop ] prepose 0 -rot (each-integer) ; inline
+
+IN: sequences
+USING: math math.private arrays ;
+: first ( seq -- elt ) 0 swap nth ;
+: second ( seq -- elt ) 1 swap nth ;
+: last ( seq -- elt ) dup length 1 - swap nth ;
+: empty? ( seq -- ? ) length 0 = ;
+: each ( ..a seq quot: ( ..a x -- ..a ) -- ..a )
+    [ dup length swap [ nth ] curry ] dip compose 0 -rot (each-integer) ; inline
+: map ( ..a seq quot: ( ..a x -- ..a y ) -- ..a newseq )
+    over length f <array> [
+        [ [ dup length swap [ nth ] curry ] dip compose [ keep ] curry ] dip
+        [ set-nth ] curry compose 0 -rot (each-integer)
+    ] keep ; inline
+: filter ( ..a seq quot: ( ..a x -- ..a ? ) -- ..a newseq )
+    over [ map ] dip (select) ; inline
+: reduce ( ..a seq id quot: ( ..a prev x -- ..a next ) -- ..a result )
+    swapd each ; inline
+: sum ( seq -- n ) 0 [ + ] reduce ;
 "
 }

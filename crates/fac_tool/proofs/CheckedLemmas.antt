@@ -1,11 +1,10 @@
 -- The answer of `check`, and how many definitions files have.
-use Rattle.std.proofs.Common.{◌≡◌, ◌≤◌, ◌<◌, ◌+◌, ℕ, List, [], ◌∷◌, ◌++◌, length, take, get_or, None, Some, refl, sym, ap, subst, ◌∙◌, arith}
+use Rattle.std.proofs.Common.{◌≡◌, ◌<◌, ◌+◌, ℕ, List, [], ◌∷◌, ◌++◌, length, take, get_or, refl, sym, ap, subst, ◌∙◌, arith}
 use Rattle.std.proofs.lemmas.List.{take_more}
 use Rattle.std.proofs.lemmas.List.Sums.{sum_by-append}
 use Rattle.std.specs.List.{count_by, sum_by}
-use Rattle.std.specs.declared.option.Option.{Option}
 use Rattle.fac_io.specs.Faults.{Rose}
-use Rattle.fac_io.specs.Told.{Grows, GrowsByPrefix, TookWhole, TookFront}
+use Rattle.fac_io.specs.Told.{TookWhole, TookFront}
 use Rattle.fac_tool.specs.declared.ended.Ended.{Ended}
 use Rattle.fac_lang.specs.declared.tree.Form.{Form}
 use Rattle.fac_lang.specs.declared.tree.Tree.{Tree}
@@ -15,11 +14,6 @@ use Rattle.fac_tool.specs.SeenObjects.{SinkSeen}
 use Rattle.fac_tool.specs.Ends.{EndsAs, idle}
 use Rattle.fac_tool.specs.inner.StepEnds.{bare}
 use Rattle.fac_tool.proofs.ReadingLemmas.{forms_of-append}
-
-grows_by_front : {A : Type 0} (old new : Option (List A)) (more : List A) (n : ℕ) → n ≤ length more → Grows old new (take n more) → GrowsByPrefix old new more
-grows_by_front None new more n few h = tt
-grows_by_front (Some x) None more n few h = absurd h
-grows_by_front (Some x) (Some y) more n few h = (n, few, h)
 
 some_line : (count : ℕ) → 0 < length (checked_line count)
 some_line count = omega arith
@@ -33,8 +27,7 @@ pub checked_in_part :
     (count : ℕ) (line : List ℕ) (out : SinkSeen) (ended : Ended) → line ≡ checked_line count → ended ≡ bare 10 0 → Rose out.faults_before out.faults_now → TookFront out.before out.now line → EndsAs (checked_answer count) idle out ended
 checked_in_part count line out ended is e rose took =
     let part : TookFront out.before out.now (checked_line count) = subst (λ (xs : List ℕ). TookFront out.before out.now xs) is took in
-    let prefix = grows_by_front out.before.taken out.now.taken (checked_line count) part.count part.most part.front.taken in
-    subst (λ (x : Ended). EndsAs (checked_answer count) idle out x) (sym e) (rose, (refl, prefix), record { stack = refl; refusal = refl }, (some_line count, part))
+    subst (λ (x : Ended). EndsAs (checked_answer count) idle out x) (sym e) (rose, record { stack = refl; refusal = refl }, (refl, some_line count, part))
 
 -- the definitions of one file more
 pub one_file_more : (trees : List Tree) (i : ℕ) (t : Tree) → i < length trees → t ≡ get_or trees i t → definitions_in (forms_of (take (i + 1) trees)) ≡ definitions_in (forms_of (take i trees)) + count_by is_definition t.forms

@@ -8,7 +8,7 @@ use Rattle.fac_lang.specs.declared.phrase.Template.{Template}
 use Rattle.fac_lang.specs.declared.program.Program.{Program}
 use Rattle.fac_lang.specs.declared.program.WordDef.{WordDef}
 use Rattle.fac_lang.specs.Phrases.{Callable}
-use Rattle.fac_lang.specs.Meaning.{start}
+use Rattle.fac_lang.specs.Meaning.{names, start}
 use Rattle.fac_lang.specs.Forms.{IsBuilt}
 use Rattle.fac_locals.specs.Closed.{Closes, CloseWords}
 use Rattle.fac_locals.specs.declared.closing.Closed.{Closed}
@@ -20,9 +20,10 @@ use Rattle.fac_check.specs.declared.refusal.Refusal.{Refusal}
 use Rattle.fac_check.specs.Promises.{IsSafe, SafeAreNotStuck}
 use Rattle.fac_code.specs.declared.image.Image.{Image}
 use Rattle.fac_code.specs.WordNames.{image_names}
+use Rattle.fac_store.specs.MachineValues.{with_names}
 use Rattle.fac_emit.specs.Carries.{Carries}
-use Rattle.fac_emit.specs.ProgramCode.{word_names, IsPlain}
-use Rattle.fac_emit.proofs.NamedImages.{image_named_so}
+use Rattle.fac_emit.specs.ProgramCode.{IsPlain}
+use Rattle.fac_emit.proofs.NamedImages.{image_named}
 use Rattle.fac_notes.specs.WordNames.{name_or}
 use Rattle.fac_tool.specs.Refusals.{refusal_of}
 use Rattle.fac_tool.specs.inner.Stops.{SameNames, Carried, StandsFor, StandsForSafe}
@@ -42,10 +43,10 @@ refusal_back r = refl
 
 -- an accepted program is safe
 pub safe_one : (closed : Closed) (P : Program) → IsKept closed → closed.start ≡ 0 → StandsFor closed P → StandsForSafe closed P
-safe_one closed P kept start stands = record { closes = stands.closes; built = stands.built; safe = subst (λ count. IsSafe P count) start (kept P stands.closes stands.built stands.whole); start = start }
+safe_one closed P kept start stands = record { closes = stands.closes; built = stands.built; whole = stands.whole; safe = subst (λ count. IsSafe P count) start (kept P stands.closes stands.built stands.whole); start = start }
 
 -- so its image carries it with the checker's test of effects, and it isn't stuck
-carried_by : SafeAreNotStuck → (P : Program) (M : Image) (count : ℕ) → IsSafe P 0 → count ≡ 0 → Carries P fits (callable_height P) count M → image_names M ≡ word_names P.words → Carried P M
+carried_by : SafeAreNotStuck → (P : Program) (M : Image) (count : ℕ) → IsSafe P 0 → count ≡ 0 → Carries P fits (callable_height P) count M → with_names (image_names M) (names P) ≡ names P → Carried P M
 carried_by never P M count safe none carries named = record {
   carries = subst (λ k. Carries P fits (callable_height P) k M) none carries;
   not_stuck = λ n. never P 0 safe n (start P []) refl (safe.begins []);
@@ -57,5 +58,5 @@ pub if_carried :
     IfOk r (λ image. (P : Program) (fits : Height → Height → Bool) (callable_height : Callable → Option Height) → Closes P closed.program closed.templates → IsBuilt P → Carries P fits callable_height closed.start image) →
     IfOk r (IsPlain closed.program closed.templates) → IfOk r (λ image. (P : Program) → StandsForSafe closed P → Carried P image)
 if_carried never closed (Ok image) h plain =
-    λ P stands. carried_by never P image closed.start stands.safe stands.start (h P fits (callable_height P) stands.closes stands.built) (image_named_so P closed.program closed.templates image stands.closes plain)
+    λ P stands. carried_by never P image closed.start stands.safe stands.start (h P fits (callable_height P) stands.closes stands.built) (image_named P closed.program closed.templates image stands.closes plain)
 if_carried never closed (Err e) h plain = tt

@@ -10,7 +10,7 @@ use Rattle.fac_notes.specs.Statuses.{status_of}
 use Rattle.fac_tool.specs.declared.ended.Ended.{Ended}
 use Rattle.fac_tool.specs.Answer.{Answer, refused, meaning}
 use Rattle.fac_tool.specs.SeenObjects.{SinkSeen}
-use Rattle.fac_tool.specs.Ends.{Ending, Told, ending_of, EndsBy, EndsAs, Work, idle, runs, run_output, StopsWithin, CutShort, RunPieces, RunFront, OutputWhole, OutputBefore}
+use Rattle.fac_tool.specs.Ends.{Ending, Told, ending_of, EndsBy, EndsAs, Work, idle, runs, runs_and_lists, run_output, StopsWithin, RunPieces, RunFront, MemoryInRun, OutputWhole, OutputBefore}
 use Rattle.fac_tool.specs.inner.StepEnds.{bare, reported, still, EndsEarly}
 
 pub grows_nothing : {A : Type 0} (told : Option (List A)) → Grows told told []
@@ -22,27 +22,28 @@ not_begun : (P : Program) (budget : ℕ) (told : SinkTold) (m : ℕ) → StopsWi
 not_begun P budget told m =
     record { within = omega arith; spent_before = λ some. absurd (omega (arith, some)); at_most = GrowsByPrefix-stays told.taken told.taken (run_output (meaning P 0)) (Stays-same told.taken) }
 
-cut_before : (work : Work) (answer : Answer) (told : SinkTold) (m : ℕ) → CutShort work answer 0 (still told m)
-cut_before idle answer told m = (refl, GrowsByPrefix-stays told.taken told.taken answer.output (Stays-same told.taken))
-cut_before (runs P budget) answer told m = not_begun P budget told m
-
 -- nothing was taken of its output
 run_of_none : (P : Program) (told : SinkTold) (m : ℕ) → RunPieces P 0 [] (still told m)
 run_of_none P told m = record { wrote_in = 0; within = omega arith; taken = grows_nothing told.taken; pieces = grows_nothing told.pieces }
 
+memory_before : (P : Program) (budget : ℕ) (told : SinkTold) (m : ℕ) → MemoryInRun P budget 0 (still told m)
+memory_before P budget told m = record { stops = not_begun P budget told m; pieces = run_of_none P told m }
+
 none_before : (work : Work) (told : SinkTold) (m : ℕ) → OutputBefore work 0 (still told m)
-none_before idle told m = TookNothing-same told
-none_before (runs P budget) told m = run_of_none P told m
+none_before idle told m = (refl, TookNothing-same told)
+none_before (runs P budget) told m = memory_before P budget told m
+none_before (runs_and_lists P budget) told m = memory_before P budget told m
 
 -- which is the whole of an empty output
 none_at_all : (why : Report) (work : Work) (told : SinkTold) (m : ℕ) → OutputWhole work (refused why) 0 (still told m)
 none_at_all why idle told m = grows_nothing told.pieces
 none_at_all why (runs P budget) told m = run_of_none P told m
+none_at_all why (runs_and_lists P budget) told m = run_of_none P told m
 
 -- memory was wanted
 pub no_memory : (answer : Answer) (ended : Ended) → ended ≡ bare 12 0 → EndsEarly answer ended
 no_memory answer ended e =
-    subst (λ (x : Ended). EndsEarly answer x) (sym e) (λ work told m. (cut_before work answer told m, record { stack = refl; refusal = refl }, none_before work told m))
+    subst (λ (x : Ended). EndsEarly answer x) (sym e) (λ work told m. (record { stack = refl; refusal = refl }, none_before work told m))
 
 -- a refusal is the answer
 pub is_refused : (why : Report) (ended : Ended) → ending_of (status_of why) ≡ Told → ended ≡ reported 0 why → EndsEarly (refused why) ended
@@ -58,11 +59,11 @@ pub no_memory_in_run :
     (P : Program) (budget : ℕ) (answer : Answer) (out : SinkSeen) (ticks : ℕ) (ended : Ended) →
     ended ≡ bare 12 ticks → StopsWithin P budget ticks out → RunPieces P ticks [] out → EndsAs answer (runs P budget) out ended
 no_memory_in_run P budget answer out ticks ended e within pieces =
-    subst (λ (x : Ended). EndsAs answer (runs P budget) out x) (sym e) (within, record { stack = refl; refusal = refl }, pieces)
+    subst (λ (x : Ended). EndsAs answer (runs P budget) out x) (sym e) (record { stack = refl; refusal = refl }, record { stops = within; pieces = pieces })
 
 -- likewise when a write failed
 pub write_fault_in_run :
     (P : Program) (budget : ℕ) (answer : Answer) (out : SinkSeen) (ticks : ℕ) (ended : Ended) →
     ended ≡ bare 10 ticks → Rose out.faults_before out.faults_now → StopsWithin P budget ticks out → RunFront P ticks out → EndsAs answer (runs P budget) out ended
 write_fault_in_run P budget answer out ticks ended e rose within pieces =
-    subst (λ (x : Ended). EndsAs answer (runs P budget) out x) (sym e) (rose, within, record { stack = refl; refusal = refl }, pieces)
+    subst (λ (x : Ended). EndsAs answer (runs P budget) out x) (sym e) (rose, record { stack = refl; refusal = refl }, record { stops = within; front = pieces })

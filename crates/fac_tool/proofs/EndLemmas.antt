@@ -1,92 +1,124 @@
 -- Endings of runs.
-use Rattle.std.proofs.Common.{◌≡◌, ℕ, List, [], ◌∷◌, Some, None, Result, Ok, Err, IfOk, refl, ap, sym, subst, ◌∙◌}
-use Rattle.std.specs.Prelude.{map, reverse, slice_get}
-use Rattle.std.proofs.lemmas.Option.{slice_get-map}
-use Rattle.std.proofs.lemmas.List.{map-append, reverse-reverse}
+use Rattle.std.proofs.Common.{◌≡◌, ◌≤◌, ◌<◌, ℕ, List, [], ◌∷◌, Bool, Some, None, Result, Ok, Err, IfOk, inl, inr, refl, ap, sym, subst, ◌∙◌, arith}
+use Rattle.std.specs.Prelude.{◌+◌, ◌++◌, take, get_or, map, reverse, length, codes, if◌then◌else◌}
+use Rattle.std.proofs.lemmas.Bool.{le-leb}
+use Rattle.std.proofs.lemmas.Bool.Decides.{leb_tells}
+use Rattle.std.proofs.lemmas.List.{map-append, reverse-reverse, take_more}
 use mathlib.Core.List.{reverse-cons}
 use Rattle.std.specs.Option.{option_map}
 use Rattle.std.specs.declared.option.Option.{Option}
+use Rattle.fac_lang.specs.declared.limits.TheConstants.{MOST_SHOWN_BYTES}
 use Rattle.fac_lang.specs.declared.memory.Memory.{Memory}
+use Rattle.fac_lang.specs.declared.program.Name.{Name}
 use Rattle.fac_lang.specs.declared.program.Program.{Program}
-use Rattle.fac_lang.specs.declared.program.WordDef.{WordDef}
-use Rattle.fac_code.specs.WordNames.{or_empty}
-use Rattle.fac_emit.specs.ProgramCode.{word_names}
 use Rattle.fac_lang.specs.Phrases.{Value}
-use Rattle.fac_lang.specs.World.{World, Error}
+use Rattle.fac_lang.specs.World.{World, State, Error}
 use Rattle.fac_lang.specs.Printed.{Names, printed}
+use Rattle.fac_lang.specs.Meaning.{meaning_values, names}
 use Rattle.fac_lang.specs.Eval.{Done, Failed, Spent}
-use Rattle.fac_prim.specs.MachineValues.{MValue, machine_values, with_names}
-use Rattle.fac_prim.specs.ValueTrees.{Trees, value_in, values_in}
-use Rattle.fac_prim.specs.declared.value.Value.{Value as MachineValue}
-use Rattle.fac_prim.specs.declared.value.Value.TheVariants.{Int, True, False, Text, Word, Callable}
+use Rattle.fac_code.specs.declared.image.Image.{Image}
+use Rattle.fac_code.specs.WordNames.{image_names}
+use Rattle.fac_show.specs.declared.show_fault.ShowFault.{ShowFault}
+use Rattle.fac_show.specs.declared.show_fault.ShowFault.TheVariants.{TooLong as too_long}
+use Rattle.fac_show.specs.Shown.{IsShown}
+use Rattle.fac_store.specs.MachineValues.{MValue, machine_values, with_names}
+use Rattle.fac_store.specs.ValueTrees.{Trees, StoreSeen, objects_of, trees_of, value_in, values_in}
+use Rattle.fac_store.specs.declared.value.Value.{Value as MachineValue}
 use Rattle.fac_vm.specs.declared.machine.RunError.{RunError}
 use Rattle.fac_vm.specs.declared.machine.StopKind.TheVariants as stop
-use Rattle.fac_vm.specs.Machine.{empty_world}
-use Rattle.fac_vm.specs.Runs.{error_of}
-use Rattle.fac_emit.specs.MachineView.{template_phrases, value_view, values_view, error_view, option_view}
+use Rattle.fac_vm.specs.SeenMachine.{MachineSeen, stack_in, held_in}
+use Rattle.fac_vm.specs.Runs.{Held, error_of}
+use Rattle.fac_emit.specs.MachineView.{template_phrases, value_view, values_view, world_view, error_view, option_view}
+use Rattle.fac_emit.specs.PrintedForms.{PrintedFormsAreEqual}
 use Rattle.fac_notes.specs.declared.report.Report.{Report}
 use Rattle.fac_notes.specs.declared.report.Report.TheVariants as report
+use Rattle.fac_notes.specs.WordNames.{word_name}
 use Rattle.fac_tool.specs.declared.ended.Ended.{Ended}
 use Rattle.fac_tool.specs.Answer.{Answer, of_run, run_answer, shown, shown_text, error_report}
 use Rattle.fac_tool.specs.SeenObjects.{SinkSeen}
-use Rattle.fac_tool.specs.inner.Stops.{StopsAs, SameNames, value_form, value_text, machine_report}
-use Rattle.fac_tool.specs.Ends.{Matches}
+use Rattle.fac_tool.specs.inner.Stops.{StopsAs, SameNames, machine_text, IsTextOf, AreTextsOf, AreStackTexts, IsReportOf}
+use Rattle.fac_tool.specs.Ends.{Matches, EndsAs, runs, RunPieces}
+use Rattle.fac_tool.specs.inner.StepEnds.{reported}
 
--- the printed form of a value of the machine, whatever is called and done
-abbrev Prints : Trees → MachineValue → List ℕ → Type 0
-Prints T v text = (N : Names) (w : World MValue) → text ≡ printed machine_values (with_names T.names N) w (value_in T v)
+-- a printed form as it is told
+pub shown_whole : (text form : List ℕ) → text ≡ form → length form ≤ MOST_SHOWN_BYTES → text ≡ shown_text form
+shown_whole text form e few = e ∙ sym (ap (λ (b : Bool). (if b then form else codes "...")) (le-leb (length form) MOST_SHOWN_BYTES few))
 
-no_names : Names
-no_names = record { word_name = λ w. []; kind_name = λ k. []; kind_slots = λ k. []; word_kind = λ w. 0; tuple_class = λ w. None }
+shown_dots : (text form : List ℕ) → text ≡ codes "..." → MOST_SHOWN_BYTES < length form → text ≡ shown_text form
+shown_dots text form e many =
+    elim (leb_tells (length form) MOST_SHOWN_BYTES) [ inl fits ↦ absurd (omega (arith, fits.1, many)) | inr longer ↦ e ∙ sym (ap (λ (b : Bool). (if b then form else codes "...")) longer.0) ]
 
-form_is : (T : Trees) (v : MachineValue) (text : List ℕ) → Prints T v text → text ≡ value_form T v
-form_is T (Int z) text e = e no_names empty_world
-form_is T True text e = e no_names empty_world
-form_is T False text e = e no_names empty_world
-form_is T (Text k) text e = e no_names empty_world
-form_is T (Word a) text e = e no_names empty_world
-form_is T (Callable k) text e = e no_names empty_world
-
-pub if_form : (T : Trees) (v : MachineValue) (r : Result (List ℕ) Memory) → IfOk r (Prints T v) → IfOk r (λ text. text ≡ value_form T v)
-if_form T v (Ok text) h = form_is T v text h
-if_form T v (Err e) h = tt
-
--- the words have the names of the program's
-abbrev pub AreNamed : Program → Trees → Type 0
-AreNamed P T = T.names ≡ word_names P.words
-
-name_of : (o : Option WordDef) → elim o [ Some d ↦ d.name.name | None ↦ [] ] ≡ or_empty (option_map (λ (d : WordDef). d.name.name) o)
-name_of None = refl
-name_of (Some d) = refl
-
-word_same : (P : Program) (T : Trees) (a : ℕ) → AreNamed P T → elim (slice_get P.words a) [ Some d ↦ d.name.name | None ↦ [] ] ≡ or_empty (slice_get T.names a)
-word_same P T a named = name_of (slice_get P.words a) ∙ ap or_empty (sym (slice_get-map (λ (d : WordDef). d.name.name) P.words a)) ∙ ap (λ (ns : List (List ℕ)). or_empty (slice_get ns a)) (sym named)
-
--- the text of a value of the machine is that of the value in the meaning
-text_same : (P : Program) (T : Trees) (w : World Value) (v : MachineValue) → AreNamed P T → shown P w (value_view (template_phrases P) (value_in T v)) ≡ value_text T v
-text_same P T w (Int z) h = refl
-text_same P T w True h = refl
-text_same P T w False h = refl
-text_same P T w (Text k) h = refl
-text_same P T w (Word a) h = ap shown_text (word_same P T a h)
-text_same P T w (Callable k) h = refl
-
-texts_same : (P : Program) (T : Trees) (w : World Value) (vs : List MachineValue) → AreNamed P T → map (shown P w) (values_view (template_phrases P) (values_in T vs)) ≡ map (value_text T) vs
-texts_same P T w [] h = refl
-texts_same P T w (v ∷ vs) h = rw (text_same P T w v h, texts_same P T w vs h) refl
+-- the text of a value whose printed form is too long
+pub dots_told :
+    (M : Image) (store : StoreSeen) (v : MachineValue) (fault : ShowFault) (r : Result (List ℕ) Memory) → fault ≡ too_long →
+    ((N : Names) (w : World MValue) → w.objects ≡ objects_of store → IsShown MOST_SHOWN_BYTES (printed machine_values (with_names (image_names M) N) w (value_in (trees_of store) v)) (Err fault)) →
+    IfOk r (λ text. text ≡ codes "...") → IfOk r (IsTextOf M store v)
+dots_told M store v fault (Ok text) is long e = λ N w same.
+    let form = printed machine_values (with_names (image_names M) N) w (value_in (trees_of store) v) in
+    shown_dots text form e (subst (λ (f : ShowFault). IsShown MOST_SHOWN_BYTES form (Err f)) is (long N w same))
+dots_told M store v fault (Err none) is long e = tt
 
 reverse_map : {A B : Type 0} (f : A → B) (xs : List A) → reverse (map f xs) ≡ map f (reverse xs)
 reverse_map f [] = refl
 reverse_map f (x ∷ xs) = rw (reverse-cons, reverse_map f xs, reverse-cons, map-append) refl
 
-stack_texts :
-    (P : Program) (T : Trees) (w : World Value) (values : List MachineValue) (stack : List MValue) (meant : List Value) → AreNamed P T →
-    values_in T (reverse values) ≡ stack → meant ≡ values_view (template_phrases P) stack → map (shown P w) (reverse meant) ≡ map (value_text T) values
-stack_texts P T w values stack meant h e m =
-    let view = value_view (template_phrases P) in
-    let upside : reverse stack ≡ values_in T values = ap reverse (sym e) ∙ reverse_map (value_in T) (reverse values) ∙ ap (map (value_in T)) (reverse-reverse values) in
-    let reversed : reverse meant ≡ map view (values_in T values) = ap reverse m ∙ reverse_map view stack ∙ ap (map view) upside in
-    ap (map (shown P w)) reversed ∙ texts_same P T w values h
+-- the values of a stack, from the bottom to the top
+upside : (T : Trees) (values : List MachineValue) (stack : List MValue) → values_in T (reverse values) ≡ stack → values_in T values ≡ reverse stack
+upside T values stack e = sym (ap reverse (sym e) ∙ reverse_map (value_in T) (reverse values) ∙ ap (map (value_in T)) (reverse-reverse values))
+
+-- the text of one value more
+pub one_text_more :
+    (f : MachineValue → List ℕ) (vs : List MachineValue) (i : ℕ) (v : MachineValue) (texts now : List (List ℕ)) (text : List ℕ) →
+    i < length vs → texts ≡ map f (take i vs) → text ≡ f (get_or vs i v) → now ≡ texts ++ text ∷ [] → now ≡ map f (take (i + 1) vs)
+one_text_more f vs i v texts now text below before told added = rw (added, before, told, take_more vs i v below) (sym (map-append f (take i vs) (get_or vs i v ∷ [])))
+
+one_by_one : (f : MValue → List ℕ) (T : Trees) (vs : List MachineValue) → map (λ v. f (value_in T v)) vs ≡ map f (values_in T vs)
+one_by_one f T [] = refl
+one_by_one f T (v ∷ vs) = ap (λ (ts : List (List ℕ)). f (value_in T v) ∷ ts) (one_by_one f T vs)
+
+-- the texts of a machine's stack, out of those of its values
+pub stack_told :
+    (machine : MachineSeen) (values : List MachineValue) (r : Result (List (List ℕ)) Memory) → values_in (trees_of machine.store) (reverse values) ≡ stack_in machine → IfOk r (AreTextsOf machine.image machine.store values) → IfOk r (AreStackTexts machine)
+stack_told machine values (Ok texts) e are = λ N w same. are N w same ∙ one_by_one (machine_text (with_names (image_names machine.image) N) w) (trees_of machine.store) values ∙ ap (map (machine_text (with_names (image_names machine.image) N) w)) (upside (trees_of machine.store) values (stack_in machine) e)
+stack_told machine values (Err fault) e are = tt
+
+-- the report of an error with a value, out of the value's text
+pub report_told :
+    (machine : MachineSeen) (C : Program) (e : RunError) (word : Name) (v : MachineValue) (text : List ℕ) (M : Image) (store : StoreSeen) →
+    M ≡ machine.image → store ≡ machine.store → word ≡ word_name C e.word → e.value ≡ Some v → IsTextOf M store v text → IsReportOf machine C e (report.Error e.name word (Some text))
+report_told machine C e word v text M store image stored named some is =
+    let told : IsTextOf machine.image machine.store v text = subst (λ (N : Image). IsTextOf N machine.store v text) image (subst (λ (s : StoreSeen). IsTextOf M s v text) stored is) in
+    λ N w same. rw (named, some) (ap (λ (t : List ℕ). report.Error e.name (word_name C e.word) (Some t)) (told N w same))
+
+-- the names of the words are the program's
+abbrev pub AreNamed : Program → Image → Type 0
+AreNamed P M = with_names (image_names M) (names P) ≡ names P
+
+shown_one : {A : Type 0} (f : A → List ℕ) (B : Type 0) (g : B → List ℕ) (h : A → B) (xs : List A) → map f xs ≡ map g (map h xs) → map (λ x. shown_text (f x)) xs ≡ map (λ y. shown_text (g y)) (map h xs)
+shown_one f B g h [] e = refl
+shown_one f B g h (x ∷ xs) e =
+    let first : f x ≡ g (h x) = cc in
+    let rest : map f xs ≡ map g (map h xs) = cc in
+    rw (first, shown_one f B g h xs rest) refl
+
+module _ (law : PrintedFormsAreEqual) (P : Program) (M : Image) (named : AreNamed P M) (w : World MValue) where
+  -- the texts of values of the machine are those of the values in the meaning
+  texts_same : (vs : List MValue) → map (machine_text (with_names (image_names M) (names P)) w) vs ≡ map (shown P (world_view (template_phrases P) w)) (values_view (template_phrases P) vs)
+  texts_same vs =
+      let forms = ap (λ (N : Names). map (printed machine_values N w) vs) named ∙ sym (law (names P) (template_phrases P) w vs) in
+      shown_one (printed machine_values (with_names (image_names M) (names P)) w) Value (printed meaning_values (names P) (world_view (template_phrases P) w)) (value_view (template_phrases P)) vs forms
+
+  text_same : (v : MValue) → machine_text (with_names (image_names M) (names P)) w v ≡ shown P (world_view (template_phrases P) w) (value_view (template_phrases P) v)
+  text_same v = let listed = texts_same (v ∷ []) in cc
+
+  stack_same :
+      (stack : List MValue) → map (machine_text (with_names (image_names M) (names P)) w) (reverse stack) ≡ map (shown P (world_view (template_phrases P) w)) (reverse (values_view (template_phrases P) stack))
+  stack_same stack = texts_same (reverse stack) ∙ ap (map (shown P (world_view (template_phrases P) w))) (sym (reverse_map (value_view (template_phrases P)) stack))
+
+  value_same :
+      (T : Trees) (v : Option MachineValue) → option_map (λ v. machine_text (with_names (image_names M) (names P)) w (value_in T v)) v ≡ option_map (shown P (world_view (template_phrases P) w)) (option_view (template_phrases P) (option_map (value_in T) v))
+  value_same T None = refl
+  value_same T (Some v) = ap Some (text_same (value_in T v))
 
 -- how a run ends that is done, with the texts of its stack
 abbrev done_with : ℕ → List (List ℕ) → Ended
@@ -97,34 +129,38 @@ abbrev reported_with : ℕ → ℕ → Report → Ended
 reported_with status ticks why = record { status = status; ticks = ticks; stack = None; refusal = Some why }
 
 pub done_matches :
-    (P : Program) (budget : ℕ) (T : Trees) (values : List MachineValue) (stack : List MValue) (ticks : ℕ) (out : SinkSeen) (texts : List (List ℕ)) → AreNamed P T →
-    values_in T (reverse values) ≡ stack → texts ≡ map (value_text T) values → StopsAs P budget T stack ticks out stop.Done → Matches (run_answer P budget) out (done_with ticks texts)
-done_matches P budget T values stack ticks out texts named e t h =
+    PrintedFormsAreEqual → (P : Program) (M : Image) (budget : ℕ) (machine : MachineSeen) (ticks : ℕ) (out : SinkSeen) (texts : List (List ℕ)) → AreNamed P M → machine.image ≡ M →
+    AreStackTexts machine texts → StopsAs P budget (trees_of machine.store) (held_in machine) ticks out stop.Done → Matches (run_answer P budget) out (done_with ticks texts)
+done_matches law P M budget machine ticks out texts named image are h =
     let answer = ap (of_run P budget) h.2 in
+    let told = subst (λ (N : Image). texts ≡ map (machine_text (with_names (image_names N) (names P)) h.5) (reverse (stack_in machine))) image (are (names P) h.5 h.6) in
+    let state = ap (λ (st : State Value). map (shown P st.world) (reverse st.stack)) h.7 in
     let matches : Matches (of_run P budget (Done h.0 h.1)) out (done_with ticks texts) =
-    record { status = refl; ticks = h.3; stack = ap Some (t ∙ sym (stack_texts P T h.0.world values stack h.0.stack named e h.5)); refusal = refl; output = h.4 } in
+    record { status = refl; ticks = h.3; stack = ap Some (told ∙ stack_same law P M named h.5 (stack_in machine) ∙ sym state); refusal = refl; output = h.4 } in
     subst (λ (a : Answer). Matches a out (done_with ticks texts)) (sym answer) matches
 
-value_same : (P : Program) (T : Trees) (w : World Value) (v : Option MachineValue) → AreNamed P T → option_map (shown P w) (option_view (template_phrases P) (option_map (value_in T) v)) ≡ option_map (value_text T) v
-value_same P T w None h = refl
-value_same P T w (Some v) h = ap Some (text_same P T w v h)
-
-report_same : (P C : Program) (T : Trees) (w : World Value) (x : Error Value) (e : RunError) → AreNamed P T → SameNames P C → x ≡ error_view (template_phrases P) (error_of T e) → error_report P w x ≡ machine_report T C e
-report_same P C T w x e h named same = rw (same, value_same P T w e.value h, named e.word) refl
-
-pub failed_matches :
-    (P C : Program) (budget : ℕ) (T : Trees) (e : RunError) (stack : List MValue) (ticks : ℕ) (out : SinkSeen) →
-    AreNamed P T → SameNames P C → StopsAs P budget T stack ticks out (stop.Failed e) → Matches (run_answer P budget) out (reported_with 1 ticks (machine_report T C e))
-failed_matches P C budget T e stack ticks out called named h =
+pub failed_ends :
+    PrintedFormsAreEqual → (P C : Program) (M : Image) (budget : ℕ) (machine : MachineSeen) (e : RunError) (ticks : ℕ) (out : SinkSeen) (why : Report) → AreNamed P M → machine.image ≡ M → SameNames P C →
+    IsReportOf machine C e why → StopsAs P budget (trees_of machine.store) (held_in machine) ticks out (stop.Failed e) → RunPieces P ticks [] out → EndsAs (run_answer P budget) (runs P budget) out (reported ticks why)
+failed_ends law P C M budget machine e ticks out why called image named is h pieces =
     let answer = ap (of_run P budget) h.3 in
-    let matches : Matches (of_run P budget (Failed h.0 h.1 h.2)) out (reported_with 1 ticks (machine_report T C e)) =
-    record { status = refl; ticks = h.4; stack = refl; refusal = ap Some (sym (report_same P C T h.1.world h.0 e called named h.6)); output = h.5 } in
-    subst (λ (a : Answer). Matches a out (reported_with 1 ticks (machine_report T C e))) (sym answer) matches
+    let T = trees_of machine.store in
+    let value = value_same law P M called h.6 T e.value in
+    let told : why ≡ report.Error e.name (word_name C e.word) (option_map (λ v. machine_text (with_names (image_names M) (names P)) h.6 (value_in T v)) e.value) =
+    subst (λ (N : Image). why ≡ report.Error e.name (word_name C e.word) (option_map (λ v. machine_text (with_names (image_names N) (names P)) h.6 (value_in T v)) e.value)) image (is (names P) h.6 h.7) in
+    let meant : error_report P h.1.world h.0 ≡ error_report P (world_view (template_phrases P) h.6) (error_view (template_phrases P) (error_of T e)) = ap (λ (x : World Value). error_report P x h.0) h.8 ∙ ap (error_report P (world_view (template_phrases P) h.6)) h.9 in
+    let same : report.Error e.name (word_name C e.word) (option_map (λ v. machine_text (with_names (image_names M) (names P)) h.6 (value_in T v)) e.value) ≡ error_report P h.1.world h.0 =
+    ap (λ (n : Name). report.Error e.name n (option_map (λ v. machine_text (with_names (image_names M) (names P)) h.6 (value_in T v)) e.value)) (named e.word) ∙ ap (report.Error e.name (word_name P e.word)) value ∙ sym meant in
+    let matches : Matches (of_run P budget (Failed h.0 h.1 h.2)) out (reported ticks (error_report P h.1.world h.0)) =
+    record { status = refl; ticks = h.4; stack = refl; refusal = refl; output = h.5 } in
+    let ends : EndsAs (run_answer P budget) (runs P budget) out (reported ticks (error_report P h.1.world h.0)) =
+    (subst (λ (a : Answer). Matches a out (reported ticks (error_report P h.1.world h.0))) (sym answer) matches, pieces) in
+    subst (λ (r : Report). EndsAs (run_answer P budget) (runs P budget) out (reported ticks r)) (sym (told ∙ same)) ends
 
 pub spent_matches :
-    (P : Program) (budget : ℕ) (T : Trees) (stack : List MValue) (ticks : ℕ) (out : SinkSeen) →
-    StopsAs P budget T stack ticks out stop.Spent → Matches (run_answer P budget) out (reported_with 6 ticks (report.Spent ticks))
-spent_matches P budget T stack ticks out h =
+    (P : Program) (budget : ℕ) (T : Trees) (held : Held) (ticks : ℕ) (out : SinkSeen) →
+    StopsAs P budget T held ticks out stop.Spent → Matches (run_answer P budget) out (reported_with 6 ticks (report.Spent ticks))
+spent_matches P budget T held ticks out h =
     let answer = ap (of_run P budget) h.2 in
     let matches : Matches (of_run P budget (Spent h.0 h.1)) out (reported_with 6 ticks (report.Spent ticks)) =
     record { status = refl; ticks = h.3; stack = refl; refusal = ap (λ (k : ℕ). Some (report.Spent k)) h.3; output = h.4 } in

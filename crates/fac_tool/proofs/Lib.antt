@@ -10,5 +10,6 @@ pub mod StepTicks
 pub mod PieceLemmas
 pub mod NoteLemmas
 pub mod ClosedLemmas
+pub mod ListedLemmas
 pub mod Composing
 pub mod CommandLemmas

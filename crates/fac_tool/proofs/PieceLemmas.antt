@@ -11,19 +11,17 @@ use Rattle.fac_lang.specs.declared.program.Program.{Program}
 use Rattle.fac_lang.specs.Printed.{Names}
 use Rattle.fac_lang.specs.Meaning.{names}
 use Rattle.fac_code.specs.declared.image.Image.{Image}
-use Rattle.fac_prim.specs.ValueTrees.{Trees, values_in}
-use Rattle.fac_prim.specs.declared.value.Value.{Value as MachineValue}
 use Rattle.fac_vm.specs.declared.machine.StopKind.{StopKind}
 use Rattle.fac_vm.specs.declared.machine.StopKind.TheVariants as stop
 use Rattle.fac_vm.specs.MachineLaws.{RunsHaveOneEnd}
-use Rattle.fac_vm.specs.Machine.{Machine, End, spent, Step, goes_on, ends, step, stepped, steps, Leads, Ends, Writes, w_none, w_silent, w_piece, starting}
-use Rattle.fac_vm.specs.Runs.{InPieces as InMachinePieces, end_world}
+use Rattle.fac_vm.specs.Machine.{Machine, End, spent, Step, goes_on, ends, step, stepped, steps, Leads, Ends, Writes, w_none, w_silent, w_piece}
+use Rattle.fac_vm.specs.Runs.{Held, begun, InPieces as InMachinePieces, end_world}
 use Rattle.fac_tool.specs.Answer.{meaning}
 use Rattle.fac_tool.specs.SeenObjects.{SinkSeen}
 use Rattle.fac_tool.specs.Ends.{run_output, tick_output, pieces_in, RunPieces}
-use Rattle.fac_tool.specs.inner.Stops.{Carried, TakesPieces}
+use Rattle.fac_tool.specs.inner.Stops.{Carried, TakesPieces, first_state}
 use Rattle.fac_tool.proofs.StepTicks.{StepsAt, GoesAt, step_at}
-use Rattle.fac_tool.proofs.StopLemmas.{same_end, output_is}
+use Rattle.fac_tool.proofs.StopLemmas.{carried_end, same_end, output_is}
 
 concat_one : (piece : List ℕ) → concat (one_piece piece) ≡ piece
 concat_one [] = refl
@@ -69,24 +67,24 @@ module _ (M : Image) (N : Names) where
 
 -- the machine of a program's image comes from its start to a state in so many ticks, whatever more ticks there are
 abbrev Comes : Program → Image → ℕ → Machine → Type 0
-Comes P M u t = (k : ℕ) → Leads M (names P) (starting M []) (u + k) t k
+Comes P M u t = (k : ℕ) → Leads M (names P) (first_state M) (u + k) t k
 
 module _ (law : RunsHaveOneEnd) (P : Program) (M : Image) (carries : Carried P M) where
   -- and what the program wrote in these is the output there
   wrote_at : (u : ℕ) (t : Machine) → Comes P M u t → run_output (meaning P u) ≡ t.world.output
   wrote_at u t comes =
-      let last = carries.carries.same_end [] [] refl tt carries.not_stuck u in
+      let last = carried_end P M u carries in
       let way = (comes 0).by last.1.count in
       let all : u + 0 ≡ u = omega arith in
-      let there : steps M (names P) way.0 (starting M []) u ≡ Some last.0 = later M (names P) last.0 last.1.count way.0 way.1 (starting M []) u last.1.there in
-      let here : steps M (names P) last.1.count t 0 ≡ Some last.0 = sym way.2 ∙ ap (steps M (names P) way.0 (starting M [])) all ∙ there in
+      let there : steps M (names P) way.0 (first_state M) u ≡ Some last.0 = later M (names P) last.0 last.1.count way.0 way.1 (first_state M) u last.1.there in
+      let here : steps M (names P) last.1.count t 0 ≡ Some last.0 = sym way.2 ∙ ap (steps M (names P) way.0 (first_state M)) all ∙ there in
       sym (output_is P (meaning P u) last.0 last.2) ∙ without_ticks M (names P) last.1.count t last.0 here
 
   -- likewise with a few more, in which it is spent there
   wrote_between : (u j : ℕ) (t stood : Machine) → Comes P M u t → step M (names P) t j ≡ ends (spent stood) → stood.world.output ≡ t.world.output → run_output (meaning P (u + j)) ≡ t.world.output
   wrote_between u j t stood comes is same =
       let way = (comes j).by 1 in
-      let over : Ends M (names P) (starting M []) (u + j) (spent stood) = record { count = way.0; there = way.2 ∙ ap (stepped M (names P) (steps M (names P) 0)) is } in
+      let over : Ends M (names P) (first_state M) (u + j) (spent stood) = record { count = way.0; there = way.2 ∙ ap (stepped M (names P) (steps M (names P) 0)) is } in
       sym (output_is P (meaning P (u + j)) (spent stood) (same_end law P M (u + j) carries (spent stood) over)) ∙ same
 
   -- ticks in which nothing is written have no piece
@@ -151,53 +149,54 @@ module _ (law : RunsHaveOneEnd) (P : Program) (M : Image) (carries : Carried P M
   goes_at : (t t' : Machine) (m m' : ℕ) → step M (names P) t m ≡ goes_on t' m' → GoesAt ⊤ (step M (names P) t) t.world.output m t' m'
   goes_at t t' m m' is = subst (λ (x : Step). StepsAt ⊤ (step M (names P) t) t.world.output m x) is (step_at M (names P) t m)
 
-  walked : (b : ℕ) (pieces : List (List ℕ)) (t : Machine) (m : ℕ) → Writes M (names P) (starting M []) b pieces t m → Walked b pieces t m
+  walked : (b : ℕ) (pieces : List (List ℕ)) (t : Machine) (m : ℕ) → Writes M (names P) (first_state M) b pieces t m → Walked b pieces t m
   walked b pieces t m w_none = record { used = 0; sum = omega arith; comes = λ k. let all : 0 + k ≡ k = omega arith in rw all (record { by = λ c. (c, omega arith, refl) }); are = refl }
   walked b pieces t m (w_silent {ps} u u' k k' before is same) =
       let on = walked_on b ps u u' k k' [] (walked b ps u k before) (goes_at u u' k k' is) (same ∙ sym (append-nil u.world.output)) in
       subst (λ (qs : List (List ℕ)). Walked b qs u' k') (append-nil ps) on
   walked b pieces t m (w_piece {ps} u u' k k' piece before is more) = walked_on b ps u u' k k' piece (walked b ps u k before) (goes_at u u' k k' is) more
 
-  -- what a run wrote in so many ticks, whatever more there were
-  are_pieces : (used : ℕ) (pieces : List (List ℕ)) (stood : Machine) → ((N : Names) (more : ℕ) → Writes M N (starting M []) (used + more) pieces stood more) → pieces ≡ pieces_in P used
-  are_pieces used pieces stood writes =
-      let w = walked (used + 0) pieces stood 0 (writes (names P) 0) in
-      let same : w.used ≡ used = omega (arith, w.sum) in
-      w.are ∙ ap (pieces_in P) same
+  module _ (old : Held) (begin : begun M old ≡ first_state M) where
+    -- what a run wrote in so many ticks, whatever more there were
+    are_pieces : (used : ℕ) (pieces : List (List ℕ)) (stood : Machine) → ((N : Names) (more : ℕ) → Writes M N (begun M old) (used + more) pieces stood more) → pieces ≡ pieces_in P used
+    are_pieces used pieces stood writes =
+        let w = walked (used + 0) pieces stood 0 (subst (λ (s : Machine). Writes M (names P) s (used + 0) pieces stood 0) begin (writes (names P) 0)) in
+        let same : w.used ≡ used = omega (arith, w.sum) in
+        w.are ∙ ap (pieces_in P) same
 
-  run_pieces :
-      (ticks : ℕ) (out : SinkSeen) (what : StopKind) (last : List ℕ) (h : InMachinePieces M [] ticks out.before out.now what) → h.last ≡ last → RunPieces P ticks last out
-  run_pieces ticks out what last h is =
-      let are = are_pieces h.used h.pieces h.stood h.writes in
-      let output : h.stood.world.output ≡ concat (pieces_in P h.used) = all_pieces M (names P) (starting M []) (h.used + 0) refl h.pieces h.stood 0 (h.writes (names P) 0) ∙ ap concat are in
-      record {
-        wrote_in = h.used;
-        within = h.within;
-        taken = rw (← output, ← is) h.taken;
-        pieces = rw (← are, ← is) h.in_pieces;
-      }
+    run_pieces :
+        (ticks : ℕ) (out : SinkSeen) (what : StopKind) (last : List ℕ) (h : InMachinePieces M old ticks out.before out.now what) → h.last ≡ last → RunPieces P ticks last out
+    run_pieces ticks out what last h is =
+        let are = are_pieces h.used h.pieces h.stood h.writes in
+        let output : h.stood.world.output ≡ concat (pieces_in P h.used) = all_pieces M (names P) (begun M old) (h.used + 0) refl h.pieces h.stood 0 (h.writes (names P) 0) ∙ ap concat are in
+        record {
+          wrote_in = h.used;
+          within = h.within;
+          taken = rw (← output, ← is) h.taken;
+          pieces = rw (← are, ← is) h.in_pieces;
+        }
 
-  takes_by : (ticks : ℕ) (out : SinkSeen) (what : StopKind) → InMachinePieces M [] ticks out.before out.now what → TakesPieces P ticks out what
-  unfolding run_pieces
-  takes_by ticks out stop.Done h = run_pieces ticks out stop.Done [] h h.only_at_fault
-  takes_by ticks out (stop.Failed e) h = run_pieces ticks out (stop.Failed e) [] h h.only_at_fault
-  takes_by ticks out stop.Spent h = run_pieces ticks out stop.Spent [] h h.only_at_fault
-  takes_by ticks out (stop.Trap pc y) h = run_pieces ticks out (stop.Trap pc y) [] h h.only_at_fault
-  takes_by ticks out stop.WriteFault h =
-      let fault = h.only_at_fault in
-      record {
-        last = h.last;
-        taken = run_pieces ticks out stop.WriteFault h.last h refl;
-        piece = fault.piece;
-        next = sym (are_pieces ticks (h.pieces ++ one_piece fault.piece) fault.behind fault.writes) ∙ ap (λ (ps : List (List ℕ)). ps ++ one_piece fault.piece) (are_pieces h.used h.pieces h.stood h.writes);
-        count = fault.count;
-        front = fault.front;
-      }
-  takes_by ticks out stop.Memory h = run_pieces ticks out stop.Memory [] h h.only_at_fault
+    takes_by : (ticks : ℕ) (out : SinkSeen) (what : StopKind) → InMachinePieces M old ticks out.before out.now what → TakesPieces P ticks out what
+    unfolding run_pieces
+    takes_by ticks out stop.Done h = run_pieces ticks out stop.Done [] h h.only_at_fault
+    takes_by ticks out (stop.Failed e) h = run_pieces ticks out (stop.Failed e) [] h h.only_at_fault
+    takes_by ticks out stop.Spent h = run_pieces ticks out stop.Spent [] h h.only_at_fault
+    takes_by ticks out (stop.Trap pc y) h = run_pieces ticks out (stop.Trap pc y) [] h h.only_at_fault
+    takes_by ticks out stop.WriteFault h =
+        let fault = h.only_at_fault in
+        record {
+          last = h.last;
+          taken = run_pieces ticks out stop.WriteFault h.last h refl;
+          piece = fault.piece;
+          some = fault.some;
+          next = sym (are_pieces ticks (h.pieces ++ one_piece fault.piece) fault.behind fault.writes) ∙ ap (λ (ps : List (List ℕ)). ps ++ one_piece fault.piece) (are_pieces h.used h.pieces h.stood h.writes);
+          count = fault.count;
+          front = fault.front;
+        }
+    takes_by ticks out stop.Memory h = run_pieces ticks out stop.Memory [] h h.only_at_fault
 
--- a run from an empty stack
+-- the run of a fresh machine
 pub takes_pieces :
-    RunsHaveOneEnd → (M : Image) (U : Trees) (old : List MachineValue) (ticks : ℕ) (out : SinkSeen) (what : StopKind) →
-    old ≡ [] → InMachinePieces M (values_in U old) ticks out.before out.now what → (P : Program) → Carried P M → TakesPieces P ticks out what
-takes_pieces law M U old ticks out what empty h P carries =
-    takes_by law P M carries ticks out what (subst (λ (x : List MachineValue). InMachinePieces M (values_in U x) ticks out.before out.now what) empty h)
+    RunsHaveOneEnd → (P : Program) (M : Image) (old : Held) (ticks : ℕ) (out : SinkSeen) (what : StopKind) →
+    Carried P M → begun M old ≡ first_state M → InMachinePieces M old ticks out.before out.now what → TakesPieces P ticks out what
+takes_pieces law P M old ticks out what carries begin h = takes_by law P M carries old begin ticks out what h

@@ -2,7 +2,7 @@
 use Rattle.std.proofs.Common.{◌≡◌, ◌<◌, ℕ, zero, suc, ◌+◌, List, [], ◌∷◌, Bool, true, false, Some, None, refl, ◌∙◌, arith}
 use Rattle.std.specs.Prelude.{slice_get, ⊤}
 use Rattle.std.specs.declared.option.Option.{Option}
-use Rattle.fac_lang.specs.Phrases.{str, wrd}
+use Rattle.fac_lang.specs.Phrases.{str, wrd, arr}
 use Rattle.fac_lang.specs.Printed.{Names}
 use Rattle.fac_lang.specs.Procedures.{Gives, gives, bad, Fn, fn0, fn1, fn2, fn3}
 use Rattle.fac_lang.specs.Primitives.{Primitive, prim_numbered, prim_fn, seen_no}
@@ -10,10 +10,10 @@ use Rattle.fac_code.specs.declared.image.Image.{Image}
 use Rattle.fac_code.specs.declared.image.Instr.{Instr}
 use Rattle.fac_code.specs.declared.image.WordRow.{WordRow}
 use Rattle.fac_code.specs.declared.image.TemplateRow.{TemplateRow}
-use Rattle.fac_code.specs.declared.image.Instr.TheVariants.{Halt, Int, True, False, Text, Word, Quot, Prim as prim, Callw, Call, Dip, If, Ret}
+use Rattle.fac_code.specs.declared.image.Instr.TheVariants.{Halt, Int, True, False, Text, Array, Word, Quot, Prim as prim, Callw, Call, Dip, If, Ret}
 use Rattle.fac_code.specs.WordNames.{image_names}
 use Rattle.fac_code.specs.declared.names.TrapWhy.TheVariants.{Kind as t_kind, Frame as t_frame}
-use Rattle.fac_prim.specs.MachineValues.{MValue, m_plain, m_fun, MCallable, m_lit, m_cur, m_com, Kept, kept_list, keep_list, m_seen, machine_values, with_names, cells_at}
+use Rattle.fac_store.specs.MachineValues.{MValue, m_plain, m_fun, MCallable, m_lit, m_cur, m_com, Kept, kept_list, keep_list, m_seen, machine_values, with_names, cells_at}
 use Rattle.fac_vm.specs.Machine.{Entry, resume, put_back, enter, Machine, spent, Step, goes_on, ends, after, push, waiting, paying, popping1, popping2, popping3}
 use Rattle.fac_vm.specs.Machine.{given, does, word_of_prim, or_trap, code_of, leaving, going, want_callable, branch, entering, returning, makes, does_instr, fetched, step}
 use Rattle.fac_vm.specs.Runs.{end_world}
@@ -145,6 +145,10 @@ module _ (M : Image) (N : Names) where
   text_at None s out n = λ c none. absurd c
   text_at (Some cs) s out n = goes ⊥ _ (after (push (m_plain (str cs)) s)) out (λ n. refl) (λ c. absurd c) n
 
+  array_at : (o : Option ℕ) (s : Machine) (out : List ℕ) (n : ℕ) → Ticks ⊥ (λ n. or_trap o t_kind s n (λ k. goes_on (after (push (m_plain (arr k)) s)) n)) out n
+  array_at None s out n = λ c none. absurd c
+  array_at (Some k) s out n = goes ⊥ _ (after (push (m_plain (arr k)) s)) out (λ n. refl) (λ c. absurd c) n
+
   value_at : (v : MValue) (o : Option WordRow) (s : Machine) (out : List ℕ) (n : ℕ) → Ticks ⊥ (λ n. or_trap o t_kind s n (λ r. goes_on (after (push v s)) n)) out n
   value_at v None s out n = λ c none. absurd c
   value_at v (Some r) s out n = goes ⊥ _ (after (push v s)) out (λ n. refl) (λ c. absurd c) n
@@ -170,6 +174,7 @@ module _ (M : Image) (N : Names) where
   fetched_at (Some True) s n = paid_at ⊥ (does_instr M N True s) s (goes ⊥ _ _ s.world.output (λ n. refl) (λ c. absurd c)) n
   fetched_at (Some False) s n = paid_at ⊥ (does_instr M N False s) s (goes ⊥ _ _ s.world.output (λ n. refl) (λ c. absurd c)) n
   fetched_at (Some (Text k)) s n = paid_at ⊥ (does_instr M N (Text k) s) s (text_at (slice_get M.texts k) s s.world.output) n
+  fetched_at (Some (Array a)) s n = paid_at ⊥ (does_instr M N (Array a) s) s (array_at (slice_get s.world.literals a) s s.world.output) n
   fetched_at (Some (Word a)) s n = paid_at ⊥ (does_instr M N (Word a) s) s (value_at (m_plain (wrd a)) (slice_get M.words a) s s.world.output) n
   fetched_at (Some (Quot q)) s n = paid_at ⊥ (does_instr M N (Quot q) s) s (quot_at q (slice_get M.templates q) s s.world.output) n
   fetched_at (Some (prim p)) s n = paid_at ⊥ (does_instr M N (prim p) s) s (prim_at (word_of_prim p 0 M.words) (prim_numbered p) s s.world.output) n

@@ -1,6 +1,6 @@
 -- What a command answers, as a function of what its files come to.
 use Rattle.std.specs.Prelude.{ℕ, ◌+◌, ◌-◌, Bool, true, false, List, [], ◌∷◌, ◌++◌, drop, length, map, reverse, None, Some, codes, decimal, nat_le, Result, Ok, Err, if◌then◌else◌}
-use Rattle.std.specs.List.{count_by, sum_by}
+use Rattle.std.specs.List.{concat, count_by, sum_by}
 use Rattle.std.specs.declared.option.Option.{Option}
 use Rattle.std.specs.Option.{option_map}
 use Rattle.fac_lang.specs.declared.limits.TheConstants.{MOST_SOURCE_BYTES, MOST_SHOWN_BYTES}
@@ -94,6 +94,23 @@ of_run P budget Stuck = record { status = 7; ticks = 0; stack = None; refusal = 
 abbrev pub run_answer : Program → ℕ → Answer
 run_answer P budget = of_run P budget (meaning P budget)
 
+-- texts as lines, one behind the other
+abbrev pub stack_lines : List (List ℕ) → List ℕ
+stack_lines texts = concat (map (λ text. text ++ codes "\n") texts)
+
+-- those of the stack that an answer has
+abbrev pub lines_if : Option (List (List ℕ)) → List ℕ
+lines_if None = []
+lines_if (Some texts) = stack_lines texts
+
+-- the answer of a run that then writes its stack, from the bottom to the top, where it is done
+abbrev pub with_lines : Answer → Answer
+with_lines answer = record { status = answer.status; ticks = answer.ticks; stack = answer.stack; refusal = answer.refusal; output = answer.output ++ lines_if answer.stack }
+
+-- that of a program's run with this budget
+abbrev pub stack_answer : Program → ℕ → Answer
+stack_answer P budget = with_lines (run_answer P budget)
+
 -- whether a row defines a word that has a phrase
 abbrev pub gives_phrase : FormKind → Bool
 gives_phrase Constant = true
@@ -124,6 +141,7 @@ checked_answer count = record { status = 0; ticks = 0; stack = None; refusal = N
 abbrev pub on_accepted : Command → ℕ → Program → Answer
 on_accepted (command.Check first end) count P = checked_answer count
 on_accepted (command.Run steps first end) count P = run_answer P steps
+on_accepted (command.RunStack steps first end) count P = stack_answer P steps
 
 -- the first refused word by its number, with its refusal, or an accepted program
 abbrev pub on_verdict : Command → ℕ → Program → Option (ℕ × Refusal) → Answer

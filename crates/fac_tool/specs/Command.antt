@@ -5,7 +5,7 @@ use Rattle.std.specs.List.{list_all, slice_range}
 use Rattle.std.specs.Str.{bytes_eq}
 use Rattle.fac_lang.specs.declared.limits.TheConstants.{TICKS, MOST_STEPS, MOST_STEPS_DIGITS}
 use Rattle.fac_tool.specs.declared.command.Command.{Command}
-use Rattle.fac_tool.specs.declared.command.Command.TheVariants.{Check, Run}
+use Rattle.fac_tool.specs.declared.command.Command.TheVariants.{Check, Run, RunStack}
 
 -- a file name: a word that isn't empty and doesn't begin with `-`
 abbrev pub is_file_name : List ℕ → Bool
@@ -41,10 +41,15 @@ run_by None files = None
 run_by (Some steps) files = on_files (λ first end. Run steps first end) 3 files
 
 -- `run FILES` or `run --steps N FILES`, by what stands behind the first word
+abbrev pub plain_run_of : List (List ℕ) → Option Command
+plain_run_of [] = None
+plain_run_of (file ∷ []) = on_files (λ first end. Run TICKS first end) 1 (file ∷ [])
+plain_run_of (word ∷ next ∷ words) = (if bytes_eq word (codes "--steps") then run_by (steps_of next) words else on_files (λ first end. Run TICKS first end) 1 (word ∷ next ∷ words))
+
+-- `run --stack FILES`, or one of these
 abbrev pub run_of : List (List ℕ) → Option Command
 run_of [] = None
-run_of (file ∷ []) = on_files (λ first end. Run TICKS first end) 1 (file ∷ [])
-run_of (word ∷ next ∷ words) = (if bytes_eq word (codes "--steps") then run_by (steps_of next) words else on_files (λ first end. Run TICKS first end) 1 (word ∷ next ∷ words))
+run_of (word ∷ words) = (if bytes_eq word (codes "--stack") then on_files (λ first end. RunStack TICKS first end) 2 words else plain_run_of (word ∷ words))
 
 -- `check FILES`, by what stands behind the first word
 abbrev pub check_of : List (List ℕ) → Option Command
@@ -59,10 +64,12 @@ command_of (word ∷ words) = (if bytes_eq word (codes "check") then check_of wo
 abbrev pub first_of : Command → ℕ
 first_of (Check first end) = first
 first_of (Run steps first end) = first
+first_of (RunStack steps first end) = first
 
 abbrev pub end_of : Command → ℕ
 end_of (Check first end) = end
 end_of (Run steps first end) = end
+end_of (RunStack steps first end) = end
 
 -- the names of the files of a command
 abbrev pub names_of : List (List ℕ) → Command → List (List ℕ)

@@ -1,5 +1,5 @@
 -- How the work of a command ends, before its note is written.
-use Rattle.std.specs.Prelude.{◌≡◌, ◌==◌, ◌≤◌, ℕ, zero, suc, None, Some, if◌then◌else◌, List, [], ◌++◌, drop, take, length, ◌<◌, ◌-◌}
+use Rattle.std.specs.Prelude.{◌≡◌, ◌==◌, ◌≤◌, ℕ, zero, suc, None, Some, if◌then◌else◌, List, [], ◌++◌, drop, take, length, map, reverse, ◌<◌, ◌-◌, ◌⊎◌}
 use Rattle.std.specs.declared.option.Option.{Option}
 use Rattle.std.specs.List.{concat}
 use Rattle.fac_io.specs.Faults.{Rose}
@@ -12,7 +12,7 @@ use Rattle.fac_vm.specs.Runs.{GrowsBeyond}
 use Rattle.fac_tool.specs.declared.command.Command.{Command}
 use Rattle.fac_tool.specs.declared.command.Command.TheVariants as command
 use Rattle.fac_tool.specs.declared.ended.Ended.{Ended}
-use Rattle.fac_tool.specs.Answer.{Answer, meaning}
+use Rattle.fac_tool.specs.Answer.{Answer, meaning, shown, stack_lines, lines_if}
 use Rattle.fac_tool.specs.SeenObjects.{SinkSeen}
 
 -- the kinds of statuses: an answer of the definition, or one that the outside or want of memory brings
@@ -27,15 +27,18 @@ pub data Ending : Type 0 where
 abbrev pub ending_of : ℕ → Ending
 ending_of status = (if status == 2 then Usage else if status == 8 then FileFault else if status == 10 then WriteFault else if status == 11 then TooLong else if status == 12 then NoMemory else Told)
 
--- what a command does with the accepted program of its files: it runs it with this budget, or runs nothing
+-- What a command does with the accepted program of its files: it runs nothing, or runs it with this budget, or runs it and then writes the lines of its stack.
 pub data Work : Type 0 where
   idle : Work
   runs : Program → ℕ → Work
+  runs_and_lists : Program → ℕ → Work
 
 abbrev pub work_of : Command → Option Program → Work
 work_of (command.Check first end) accepted = idle
 work_of (command.Run steps first end) None = idle
 work_of (command.Run steps first end) (Some P) = runs P steps
+work_of (command.RunStack steps first end) None = idle
+work_of (command.RunStack steps first end) (Some P) = runs_and_lists P steps
 
 -- the call's result and output are the answer's
 pub record Matches (answer : Answer) (out : SinkSeen) (ended : Ended) : Type 0 where
@@ -71,11 +74,12 @@ pub record RunPieces (P : Program) (ticks : ℕ) (last : List ℕ) (out : SinkSe
   pub pieces : Grows out.before.pieces out.now.pieces (pieces_in P wrote_in ++ one_piece last)
 
 -- Likewise where the last write failed: behind the pieces that were taken whole comes a front of the next one, that of the last item that writes in
--- these ticks.
+-- these ticks, which isn't empty.
 pub record RunFront (P : Program) (ticks : ℕ) (out : SinkSeen) : Type 0 where
   pub last : List ℕ
   pub taken : RunPieces P ticks last out
   pub piece : List ℕ
+  pub some : 0 < length piece
   pub next : pieces_in P ticks ≡ pieces_in P taken.wrote_in ++ one_piece piece
   pub count : ℕ
   pub front : last ≡ take count piece
@@ -87,25 +91,48 @@ pub record StopsWithin (P : Program) (budget : ℕ) (ticks : ℕ) (out : SinkSee
   pub spent_before : 0 < ticks → (st : State Value) × (i : Option Item) × (meaning P (ticks - 1) ≡ Spent st i) × GrowsBeyond out.before.taken out.now.taken st.world.output
   pub at_most : GrowsByPrefix out.before.taken out.now.taken (run_output (meaning P ticks))
 
--- what the output had taken when the call was cut short: outside a run a prefix of the answer's, with no tick used
-abbrev pub CutShort : Work → Answer → ℕ → SinkSeen → Type 0
-CutShort idle answer ticks out = (ticks ≡ 0) × GrowsByPrefix out.before.taken out.now.taken answer.output
-CutShort (runs P budget) answer ticks out = StopsWithin P budget ticks out
-
--- in which pieces the output was taken: outside a run in one write of the whole
+-- in which pieces the output was taken: outside a run in one write of the whole, and behind a run the lines in one write
 abbrev pub OutputWhole : Work → Answer → ℕ → SinkSeen → Type 0
 OutputWhole idle answer ticks out = Grows out.before.pieces out.now.pieces (one_piece answer.output)
 OutputWhole (runs P budget) answer ticks out = RunPieces P ticks [] out
+OutputWhole (runs_and_lists P budget) answer ticks out = RunPieces P ticks (lines_if answer.stack) out
 
--- likewise where memory was wanted: outside a run nothing was taken before
+-- The ticks of a run in which memory was wanted, or behind which it was, and what the output had taken: that of the run alone.
+pub record MemoryInRun (P : Program) (budget : ℕ) (ticks : ℕ) (out : SinkSeen) : Type 0 where
+  pub stops : StopsWithin P budget ticks out
+  pub pieces : RunPieces P ticks [] out
+
+-- likewise for all work: outside a run nothing was taken, and no tick was used
 abbrev pub OutputBefore : Work → ℕ → SinkSeen → Type 0
-OutputBefore idle ticks out = TookNothing out.before out.now
-OutputBefore (runs P budget) ticks out = RunPieces P ticks [] out
+OutputBefore idle ticks out = (ticks ≡ 0) × TookNothing out.before out.now
+OutputBefore (runs P budget) ticks out = MemoryInRun P budget ticks out
+OutputBefore (runs_and_lists P budget) ticks out = MemoryInRun P budget ticks out
 
--- likewise where a write failed: outside a run the one that there is, of which a front was taken
+-- likewise where a write of a run failed: of the piece of the last item a front was taken
+pub record FaultInRun (P : Program) (budget : ℕ) (ticks : ℕ) (out : SinkSeen) : Type 0 where
+  pub stops : StopsWithin P budget ticks out
+  pub front : RunFront P ticks out
+
+-- A write failed behind a run that is done with these ticks, that of the lines of its stack, which aren't empty: behind all of the run's output a
+-- front of them was taken.
+pub record FaultBehindRun (P : Program) (budget : ℕ) (ticks : ℕ) (out : SinkSeen) : Type 0 where
+  pub state : State Value
+  pub left : ℕ
+  pub done : meaning P budget ≡ Done state left
+  pub used : ticks ≡ budget - left
+  pub lines : List ℕ
+  pub lines_are : lines ≡ stack_lines (map (shown P state.world) (reverse state.stack))
+  pub some : 0 < length lines
+  pub count : ℕ
+  pub most : count ≤ length lines
+  pub taken : Grows out.before.taken out.now.taken (state.world.output ++ take count lines)
+  pub pieces : RunPieces P ticks (take count lines) out
+
+-- what was taken where a write failed: outside a run the one that there is
 abbrev pub OutputFront : Work → Answer → ℕ → SinkSeen → Type 0
-OutputFront idle answer ticks out = (0 < length answer.output) × TookFront out.before out.now answer.output
-OutputFront (runs P budget) answer ticks out = RunFront P ticks out
+OutputFront idle answer ticks out = (ticks ≡ 0) × (0 < length answer.output) × TookFront out.before out.now answer.output
+OutputFront (runs P budget) answer ticks out = FaultInRun P budget ticks out
+OutputFront (runs_and_lists P budget) answer ticks out = FaultInRun P budget ticks out ⊎ FaultBehindRun P budget ticks out
 
 -- there is neither a stack nor a refusal: what stood on the stack of a run that was cut short isn't told
 pub record IsBare (ended : Ended) : Type 0 where
@@ -118,8 +145,8 @@ EndsBy Told answer work out ended = Matches answer out ended × OutputWhole work
 EndsBy Usage answer work out ended = ⊥
 EndsBy TooLong answer work out ended = ⊥
 EndsBy FileFault answer work out ended = ⊥
-EndsBy WriteFault answer work out ended = Rose out.faults_before out.faults_now × CutShort work answer ended.ticks out × IsBare ended × OutputFront work answer ended.ticks out
-EndsBy NoMemory answer work out ended = CutShort work answer ended.ticks out × IsBare ended × OutputBefore work ended.ticks out
+EndsBy WriteFault answer work out ended = Rose out.faults_before out.faults_now × IsBare ended × OutputFront work answer ended.ticks out
+EndsBy NoMemory answer work out ended = IsBare ended × OutputBefore work ended.ticks out
 
 -- the work has this answer, or was cut short
 abbrev pub EndsAs : Answer → Work → SinkSeen → Ended → Type 0

@@ -1,3 +1,4 @@
 -- What only the contracts of inner functions cite.
 pub mod Stops
 pub mod StepEnds
+pub mod ListedStacks

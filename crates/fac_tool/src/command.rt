@@ -1,7 +1,7 @@
 //! The command line.
 ghost use Rattle.std.specs.Prelude.{◌≡◌, ◌≤◌, ◌+◌, ◌∷◌, IfSome, length, map, string_bytes};
-ghost use Rattle.fac_tool.specs.Command.{StandAmong, check_of, command_of, names_of, number_behind, on_files, run_by, run_of, steps_of};
-ghost use Rattle.fac_tool.specs.declared.command.Command.TheVariants.{Run};
+ghost use Rattle.fac_tool.specs.Command.{StandAmong, check_of, command_of, names_of, number_behind, on_files, plain_run_of, run_by, run_of, steps_of};
+ghost use Rattle.fac_tool.specs.declared.command.Command.TheVariants.{Run, RunStack};
 ghost use Rattle.fac_tool.specs.Command.{is_file_name as is_name, are_files as are_names};
 
 use fac_lang::limits::{MOST_STEPS, MOST_STEPS_DIGITS, TICKS};
@@ -21,6 +21,12 @@ pub enum Command {
         first: usize,
         end: usize,
     },
+    /// The same, and where the run is done it then writes each value of the stack on a line, from the bottom to the top.
+    RunStack {
+        steps: u64,
+        first: usize,
+        end: usize,
+    },
 }
 
 impl Command {
@@ -32,6 +38,7 @@ impl Command {
         match self {
             Command::Check { first, end } => &words[first..end],
             Command::Run { first, end, .. } => &words[first..end],
+            Command::RunStack { first, end, .. } => &words[first..end],
         }
     }
 }
@@ -126,6 +133,22 @@ fn run_files(steps: u64, first: usize, files: &[String]) -> Option<Command>
     }
 }
 
+// The command that runs files with the budget of every run and then writes the stack.
+fn run_stack(files: &[String]) -> Option<Command>
+    ensures command { result ≡ on_files (λ first end. RunStack TICKS first end) 2 (map string_bytes files.now) }
+    ensures within { IfSome result (λ command. StandAmong (2 + length files.now) command) }
+{
+    if are_files(files) {
+        Some(Command::RunStack {
+            steps: TICKS,
+            first: 2,
+            end: 2 + files.len(),
+        })
+    } else {
+        None
+    }
+}
+
 // The command of what stands behind `run --steps`.
 fn read_run_steps(number: &str, files: &[String]) -> Option<Command>
     ensures command { result ≡ run_by (steps_of number.now) (map string_bytes files.now) }
@@ -137,9 +160,9 @@ fn read_run_steps(number: &str, files: &[String]) -> Option<Command>
     }
 }
 
-// The command of what stands behind `run`.
-fn read_run(words: &[String]) -> Option<Command>
-    ensures command { result ≡ run_of (map string_bytes words.now) }
+// The command of what stands behind `run`, where that isn't `--stack`.
+fn read_plain_run(words: &[String]) -> Option<Command>
+    ensures command { result ≡ plain_run_of (map string_bytes words.now) }
     ensures within { IfSome result (λ command. StandAmong (1 + length words.now) command) }
 {
     match words {
@@ -147,6 +170,17 @@ fn read_run(words: &[String]) -> Option<Command>
             read_run_steps(number.as_str(), files)
         }
         _ => run_files(TICKS, 1, words),
+    }
+}
+
+// The command of what stands behind `run`.
+fn read_run(words: &[String]) -> Option<Command>
+    ensures command { result ≡ run_of (map string_bytes words.now) }
+    ensures within { IfSome result (λ command. StandAmong (1 + length words.now) command) }
+{
+    match words {
+        [option, files @ ..] if option.as_str() == "--stack" => run_stack(files),
+        _ => read_plain_run(words),
     }
 }
 

@@ -6,6 +6,7 @@ mod command;
 mod definitions;
 mod ended;
 mod laws;
+mod listing;
 mod loading;
 mod program_run;
 mod reading;

@@ -1,5 +1,5 @@
 //! Writing the note of an ending.
-ghost use Rattle.std.specs.Prelude.{◌≡◌, ◌∷◌, ◌++◌, ◌<◌, [], length, map, string_bytes, IfOk, OnOk, OnErr, IsErr};
+ghost use Rattle.std.specs.Prelude.{◌≡◌, ◌∷◌, ◌++◌, ◌<◌, ◌≤◌, [], length, map, string_bytes, IfOk, OnOk, OnErr, IsErr};
 ghost use Rattle.fac_io.specs.Faults.{HasCause};
 ghost use Rattle.fac_io.specs.Told.{Took, sink_tells};
 ghost use Rattle.fac_notes.specs.Notes.{line_of};
@@ -83,9 +83,10 @@ fn write_note<N: Sink>(notes: &mut N, note: &[u8]) -> Result<(), Failed>
     notes.write(note)
 }
 
-// Tells an ending by this note.
-fn tell_by<N: Sink>(note: &[u8], reached: Ended, notes: &mut N) -> Ended
-    ensures { TellsBy note.now reached (sink_seen N.taken N.pieces N.faults notes.old notes.new) result }
+/// Tells an ending by this note, in one write, or by none where it is empty.
+pub fn tell_by<N: Sink>(note: &[u8], reached: Ended, notes: &mut N) -> Ended
+    ensures told { TellsBy note.now reached (sink_seen N.taken N.pieces N.faults notes.old notes.new) result }
+    ensures counts { N.faults notes.old ≤ N.faults notes.new }
 {
     let ticks = reached.ticks;
     match write_note(notes, note) {

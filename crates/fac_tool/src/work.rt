@@ -11,7 +11,7 @@ ghost use Rattle.fac_tool.specs.Answers.{Reaches, ReachesBy};
 use crate::accepting::{Accepted, accepted_program};
 use crate::definitions::tell_checked;
 use crate::loading::load_all;
-use crate::program_run::run_program;
+use crate::program_run::{run_and_list, run_program};
 use crate::{Command, Ended};
 use fac_check::accepted_programs_are_safe;
 use fac_io::{Files, Sink};
@@ -32,6 +32,7 @@ fn carry_out<K: Sink>(
     match command {
         Command::Check { .. } => Ok(tell_checked(alloc, accepted.definitions, out)),
         Command::Run { steps, .. } => run_program(alloc, &accepted.checked, steps, out),
+        Command::RunStack { steps, .. } => run_and_list(alloc, &accepted.checked, steps, out),
     }
 }
 

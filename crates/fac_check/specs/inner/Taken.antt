@@ -1,4 +1,4 @@
--- Which closed programs the walk takes: numbers, truth values, strings, words as values, quotations and words in phrases, and words that are built primitives or core words, defined by phrases, or symbols.
+-- Which closed programs the walk takes: numbers, truth values, strings, words as values, literal arrays, quotations and words in phrases, and words that are built primitives or core words, defined by phrases, or symbols.
 use Rattle.std.specs.Prelude.{ℕ, List, Bool, true, false, ◌&&◌, nat_lt, nat_le, length}
 use Rattle.std.specs.List.{list_all}
 use Rattle.fac_lang.specs.declared.phrase.Template.{Template}
@@ -7,7 +7,7 @@ use Rattle.fac_lang.specs.declared.program.WordDef.{WordDef}
 use Rattle.fac_lang.specs.declared.program.Sort.{Sort}
 use Rattle.fac_lang.specs.declared.program.Sort.TheVariants.{Prim as prim, Core as core, Body as body, Itself as itself}
 use Rattle.fac_lang.specs.Primitives.{is_built_primitive}
-use Rattle.fac_lang.specs.Phrases.{int, yes, no, str, wrd, Phrase, end, then, Item, lit, word, made}
+use Rattle.fac_lang.specs.Phrases.{int, yes, no, str, wrd, Phrase, end, then, Item, lit, lit_arr, word, made}
 use Rattle.fac_lang.specs.Effects.{effect_height}
 
 -- whether the walk takes an item, where words that phrases may name have numbers below the first number, and templates below the second
@@ -17,6 +17,7 @@ takes_item top count (lit yes) = true
 takes_item top count (lit no) = true
 takes_item top count (lit (str cs)) = true
 takes_item top count (lit (wrd w)) = nat_lt w top
+takes_item top count (lit_arr a) = true
 takes_item top count (word w) = nat_lt w top
 takes_item top count (made k) = nat_lt k count
 takes_item top count _ = false

@@ -1,5 +1,5 @@
 -- What the walker's numbers stand for.
-use Rattle.std.specs.Prelude.{◌≡◌, ◌<◌, ◌≤◌, ℕ, suc, List, [], ◌∷◌, Bool, true, false, Some, None, slice_get, nat_eq, length, Result, Ok, Err}
+use Rattle.std.specs.Prelude.{◌≡◌, ◌<◌, ◌≤◌, ℕ, suc, List, [], ◌∷◌, Bool, true, false, Some, None, slice_get, nat_eq, nat_lt, length, Result, Ok, Err}
 use Rattle.std.specs.declared.option.Option.{Option}
 use Rattle.fac_lang.specs.declared.program.Program.{Program}
 use Rattle.fac_lang.specs.declared.program.WordDef.{WordDef}
@@ -27,9 +27,9 @@ use Rattle.fac_abs.specs.declared.reached.Reached.{Reached}
 use Rattle.fac_rows.specs.RowBinding.{Binding, tie, start_row, calls_own, row_binding}
 use Rattle.fac_rows.specs.RowNumbers.{NamesRows, NamesOwn}
 use Rattle.fac_rows.specs.SeenBindings.{IsBinding, binding_seen}
-use Rattle.fac_check.specs.Flow.{Walked as WalkedPhrase, found, refused, Doing as DoingAtOnce, breaks, gives, expands, walks, forks, uses, and_then, living, called, started, tied_on, first_rule, start_rule, use_rule, unless_broken, counted, inside, join, marks_back, Walk, walk, walk_phrase, walk_mark, walk_from, walk_inputs, walk_use, prim_doing, own_doing, row_doing, inline_doing, word_doing, doing}
+use Rattle.fac_check.specs.Flow.{Walked as WalkedPhrase, found, refused, Doing as DoingAtOnce, breaks, gives, expands, walks, forks, uses, and_then, living, called, started, tied_on, first_rule, start_rule, use_rule, unless_broken, counted, inside, join, marks_back, Walk, walk, walk_phrase, walk_mark, walk_from, walk_inputs, walk_use, prim_doing, own_doing, row_doing, inline_doing, array_doing, word_doing, doing}
 use Rattle.fac_check.specs.inner.OwnEffects.{own_effect}
-use Rattle.fac_check.specs.inner.ItemWalk.{item_walk}
+use Rattle.fac_check.specs.inner.ItemWalk.{item_rule, counted_item, item_walk}
 use Rattle.fac_check.specs.declared.doing.Doing.{Doing}
 use Rattle.fac_check.specs.declared.doing.Doing.TheVariants.{Breaks, Ends, Gives, Leaves, Expands, Walks, Forks, Uses}
 use Rattle.fac_check.specs.declared.subject.Subject.{Subject}
@@ -300,10 +300,23 @@ abbrev pub IsWalkOfItem : Subject → MarksSeen → MarksSeen → Doing → Step
 IsWalkOfItem subject M L D s W =
     (O : Opened subject.closed.now.program subject.closed.now.templates subject.own) (f : ℕ) → s.left ≤ f → walked_seen O.naming L W ≡ item_walk O.effect (go_at O f) (doing_seen O.naming M (slice_get O.program.words) (base_seen O.naming s.base) D) s.place s.nested s.left
 
+-- likewise the rule that it breaks before it counts, and the walk of one that is counted
+abbrev pub IsItemRule : Subject → MarksSeen → Doing → Step → Option Rule → Type 0
+IsItemRule subject M D s r =
+    (O : Opened subject.closed.now.program subject.closed.now.templates subject.own) → r ≡ item_rule O.effect (doing_seen O.naming M (slice_get O.program.words) (base_seen O.naming s.base) D) s.nested
+
+abbrev pub IsWalkOfCounted : Subject → MarksSeen → MarksSeen → Doing → Step → Walked → Type 0
+IsWalkOfCounted subject M L D s W =
+    (O : Opened subject.closed.now.program subject.closed.now.templates subject.own) (f : ℕ) → s.left < f → walked_seen O.naming L W ≡ counted_item O.effect (go_at O f) (doing_seen O.naming M (slice_get O.program.words) (base_seen O.naming s.base) D) s.place s.nested s.left
+
 -- what a closed item does to a stack on a base, as each item does that it stands for
 abbrev pub DoesItem : Subject → MarksSeen → MarksSeen → Option ℕ → ℕ → Item → Doing → Type 0
 DoesItem subject M L b s c D =
     (O : Opened subject.closed.now.program subject.closed.now.templates subject.own) (at : Literal) (i : Item) → ClosesItem O.program at i c → doing_seen O.naming L (slice_get O.program.words) (base_seen O.naming b) D ≡ doing O.program O.word at i (base_seen O.naming b) (stack_of O.naming M s)
+
+-- likewise a literal array, by its number
+abbrev pub DoesArray : Subject → MarksSeen → MarksSeen → ℕ → ℕ → Doing → Type 0
+DoesArray subject M L s a D = DoesAs M L s D (array_doing (nat_lt a (length subject.closed.now.program.arrays)))
 
 -- likewise the item of a word, by its number
 abbrev pub DoesWord : Subject → MarksSeen → MarksSeen → Option ℕ → ℕ → ℕ → Doing → Type 0

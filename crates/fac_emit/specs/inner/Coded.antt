@@ -1,10 +1,13 @@
 -- Which items and words have an instruction, as inner functions ask for it.
+use Rattle.std.specs.List.{list_all}
 use Rattle.std.specs.Prelude.{List, ◌&&◌, Bool, true, false, Option, Some, None, slice_get}
 use Rattle.fac_lang.specs.declared.phrase.Template.{Template}
+use Rattle.fac_lang.specs.declared.program.Lit.{Lit}
+use Rattle.fac_lang.specs.declared.program.Lit.TheVariants.{Quot as l_quot}
 use Rattle.fac_lang.specs.declared.program.WordDef.{WordDef}
 use Rattle.fac_lang.specs.declared.program.Sort.{Sort}
 use Rattle.fac_lang.specs.declared.program.Sort.TheVariants.{Prim as prim_sort, Core as core_sort, Body as body, Itself as itself}
-use Rattle.fac_lang.specs.Phrases.{int, yes, no, str, wrd, Phrase, end, then, Item, lit, word, made}
+use Rattle.fac_lang.specs.Phrases.{int, yes, no, str, wrd, Phrase, end, then, Item, lit, lit_arr, word, made}
 use Rattle.fac_lang.specs.CoreWords.{is_built_core}
 
 -- whether a word of this sort has an instruction
@@ -26,6 +29,7 @@ item_is_coded words (lit yes) = true
 item_is_coded words (lit no) = true
 item_is_coded words (lit (str cs)) = true
 item_is_coded words (lit (wrd w)) = true
+item_is_coded words (lit_arr a) = true
 item_is_coded words (word w) = word_is_coded (slice_get words w)
 item_is_coded words (made q) = true
 item_is_coded words _ = false
@@ -46,3 +50,11 @@ body_is_coded words _ = true
 
 abbrev pub word_body_is_coded : List WordDef → WordDef → Bool
 word_body_is_coded words d = body_is_coded words d.sort
+
+-- whether an element of a literal array has an element of an image: each but a quotation that isn't closed
+abbrev pub element_is_coded : Lit → Bool
+element_is_coded (l_quot t) = false
+element_is_coded _ = true
+
+abbrev pub array_is_coded : List Lit → Bool
+array_is_coded ls = list_all element_is_coded ls

@@ -5,20 +5,21 @@ use Rattle.fac_lang.specs.declared.program.Program.{Program}
 use Rattle.fac_lang.specs.declared.program.Sort.{Sort}
 use Rattle.fac_lang.specs.declared.program.WordDef.{WordDef}
 use Rattle.fac_emit.specs.declared.compiler.Parts.{Parts}
-use Rattle.fac_emit.specs.ProgramCode.{program_code, program_texts, template_rows, program_words, sort_action, sort_code, sort_texts, words_texts, word_names, code_from, words_from}
+use Rattle.fac_emit.specs.ProgramCode.{program_code, program_texts, template_rows, program_words, sort_action, sort_code, sort_texts, words_texts, word_names, code_from, words_from, arrays_of, arrays_texts}
 
 pub record AreParts (C : Program) (templates : List Template) (p : Parts) : Type 0 where
+  pub arrays : p.arrays ≡ arrays_of (program_texts C templates) C.arrays
   pub code : p.piece.code ≡ program_code C templates
-  pub texts : p.piece.texts ≡ program_texts C templates
+  pub texts : p.piece.texts ≡ arrays_texts (program_texts C templates) C.arrays
   pub template_rows_are : p.templates ≡ template_rows C.words (word_names C.words) 0 templates
   pub word_rows : p.words ≡ program_words C templates
 
 -- the code and the row of the word with this number and of this sort were added behind those that stood
 abbrev pub PlacesWord : List WordDef → ℕ → Bool → Sort → Parts → Parts → Type 0
 PlacesWord words w is_top s old new =
-    (new.piece.code ≡ old.piece.code ++ sort_code words is_top old.piece.texts s) × (new.piece.texts ≡ sort_texts old.piece.texts s) × (new.templates ≡ old.templates) × (new.words ≡ old.words ++ record { name = w; action = sort_action (length old.piece.code) s } ∷ [])
+    (new.piece.code ≡ old.piece.code ++ sort_code words is_top old.piece.texts s) × (new.piece.texts ≡ sort_texts old.piece.texts s) × (new.templates ≡ old.templates) × (new.arrays ≡ old.arrays) × (new.words ≡ old.words ++ record { name = w; action = sort_action (length old.piece.code) s } ∷ [])
 
 -- the code and the rows of all words were added
 abbrev pub PlacesWords : List WordDef → ℕ → Parts → Parts → Type 0
 PlacesWords words top old new =
-    (new.piece.code ≡ old.piece.code ++ code_from words top old.piece.texts 0 words) × (new.piece.texts ≡ words_texts old.piece.texts words) × (new.words ≡ old.words ++ words_from words top old.piece.texts (length old.piece.code) 0 words) × (new.templates ≡ old.templates)
+    (new.piece.code ≡ old.piece.code ++ code_from words top old.piece.texts 0 words) × (new.piece.texts ≡ words_texts old.piece.texts words) × (new.words ≡ old.words ++ words_from words top old.piece.texts (length old.piece.code) 0 words) × (new.templates ≡ old.templates) × (new.arrays ≡ old.arrays)

@@ -1,6 +1,7 @@
--- How closing goes through a program: the numbers that its templates get, word by word and an outer quotation before those in it.
-use Rattle.std.specs.Prelude.{◌≡◌, ℕ, suc, List, [], ◌∷◌, ◌++◌, length}
-use Rattle.fac_lang.specs.Phrases.{Phrase, end, then, Item, quot, made}
+-- How closing goes through a program: the numbers that its templates get, word by word, an outer quotation before those in it and those of a literal array where the array stands. The words come first, and then the arrays from the last one to the first: what names an array comes before it.
+use Rattle.std.specs.Prelude.{◌≡◌, ℕ, zero, suc, ◌+◌, List, [], ◌∷◌, ◌++◌, length, set, slice_index_or, None}
+use Rattle.fac_lang.specs.Phrases.{Phrase, end, then, Item, lit_arr, quot, made}
+use Rattle.fac_lang.specs.Meaning.{nowhere}
 use Rattle.fac_lang.specs.declared.phrase.Place.{Place}
 use Rattle.fac_lang.specs.declared.phrase.Item.{Item as PlacedItem}
 use Rattle.fac_lang.specs.declared.phrase.What.{What}
@@ -9,101 +10,213 @@ use Rattle.fac_lang.specs.declared.phrase.Template.{Template}
 use Rattle.fac_lang.specs.declared.program.WordDef.{WordDef}
 use Rattle.fac_lang.specs.declared.program.Sort.{Sort}
 use Rattle.fac_lang.specs.declared.program.Sort.TheVariants.{Body as body}
+use Rattle.fac_lang.specs.declared.program.Lit.{Lit}
+use Rattle.fac_lang.specs.declared.program.Lit.TheVariants.{Quot as l_quot, Made as l_made}
 use Rattle.fac_lang.specs.PhraseView.{what_item}
+use Rattle.fac_locals.specs.Literals.{element_item, elements_phrase}
+use Rattle.fac_locals.specs.declared.closing.ArrayStart.{ArrayStart}
+use Rattle.fac_locals.specs.declared.closing.Closing.{Closing}
 
--- The number behind those of a phrase's quotations, where the first of them gets this number.
-abbrev mutual
-  pub phrase_behind : ℕ → Phrase → ℕ
-  phrase_behind n end = n
-  phrase_behind n (then i p t) = phrase_behind (item_behind n i) t
-
-  pub item_behind : ℕ → Item → ℕ
-  item_behind n (quot t) = phrase_behind (suc n) t
-  item_behind n _ = n
-
--- an item, where a quotation gets this number
-abbrev pub closed_item : ℕ → Item → Item
-closed_item n (quot t) = made n
-closed_item n i = i
-
--- a phrase, where its first quotation gets this number
-abbrev pub closed_phrase : ℕ → Phrase → Phrase
-closed_phrase n end = end
-closed_phrase n (then i p t) = then (closed_item n i) p (closed_phrase (item_behind n i) t)
+-- a list after these elements were put at their numbers, one after the other
+abbrev pub put_all : {A : Type 0} → List A → List (ℕ × A) → List A
+put_all xs [] = xs
+put_all xs (w ∷ ws) = put_all (set xs w.0 w.1) ws
 
 -- the template of a quotation that stands here, with this closed phrase
 abbrev pub template_of : Place → Phrase → Template
 template_of p t = record { body = t; captures = []; holes = 0; place = p }
 
--- what stands in place of such a template until its phrase is closed
-abbrev pub placeholder : Place → Template
-placeholder p = template_of p end
+-- a literal array that stands here, whose first quotation gets this number
+abbrev pub start_of : ℕ → Place → ArrayStart
+start_of n p = record { number = n; place = p }
 
--- the templates of a phrase's quotations, where the first of them gets this number
-abbrev mutual
-  pub phrase_templates : ℕ → Phrase → List Template
-  phrase_templates n end = []
-  phrase_templates n (then i p t) = item_templates n p i ++ phrase_templates (item_behind n i) t
+-- an element of an array as an item, and those of an array as a phrase, where the array stands in no method
+abbrev pub plain_item : Lit → Item
+plain_item l = element_item None l
 
-  pub item_templates : ℕ → Place → Item → List Template
-  item_templates n p (quot t) = template_of p (closed_phrase (suc n) t) ∷ phrase_templates (suc n) t
-  item_templates n p _ = []
+abbrev pub plain_phrase : Place → List Lit → Phrase
+plain_phrase p ls = elements_phrase None p ls
 
--- the same item in a list of items
-abbrev pub closed_what : ℕ → What → What
-closed_what n (Quot t) = Made n
-closed_what n w = w
+-- the phrase of a word that is defined by one
+abbrev pub body_of : Sort → Phrase
+body_of (body t) = t
+body_of _ = end
 
-abbrev pub closed_items : ℕ → List PlacedItem → List PlacedItem
-closed_items n [] = []
-closed_items n (i ∷ is) = record { what = closed_what n i.what; place = i.place } ∷ closed_items (item_behind n (what_item i.what)) is
+-- Arrays have so many quotations, those of the arrays in them included.
+module _ (counts : List ℕ) where
+  -- The number behind those of a phrase's quotations, where the first of them gets this number.
+  abbrev mutual
+    pub phrase_behind : ℕ → Phrase → ℕ
+    phrase_behind n end = n
+    phrase_behind n (then i p t) = phrase_behind (item_behind n i) t
 
--- what a word is, where the first quotation of its phrase gets this number
-abbrev pub closed_sort : ℕ → Sort → Sort
-closed_sort n (body t) = body (closed_phrase n t)
-closed_sort n s = s
+    pub item_behind : ℕ → Item → ℕ
+    item_behind n (quot t) = phrase_behind (suc n) t
+    item_behind n (lit_arr a) = n + slice_index_or counts a 0
+    item_behind n _ = n
 
-abbrev pub sort_behind : ℕ → Sort → ℕ
-sort_behind n (body t) = phrase_behind n t
-sort_behind n _ = n
+  -- an item, where a quotation gets this number
+  abbrev pub closed_item : ℕ → Item → Item
+  closed_item n (quot t) = made n
+  closed_item n i = i
 
-abbrev pub sort_templates : ℕ → Sort → List Template
-sort_templates n (body t) = phrase_templates n t
-sort_templates n _ = []
+  -- a phrase, where its first quotation gets this number
+  abbrev pub closed_phrase : ℕ → Phrase → Phrase
+  closed_phrase n end = end
+  closed_phrase n (then i p t) = then (closed_item n i) p (closed_phrase (item_behind n i) t)
 
--- the words of a program, where the first quotation in them gets this number
-abbrev pub closed_word : ℕ → WordDef → WordDef
-closed_word n d = record { name = d.name; sort = closed_sort n d.sort; effect = d.effect; inline = d.inline; recursive = d.recursive; place = d.place }
+  -- the templates of a phrase's quotations with their numbers, where the first quotation gets this number, in the order in which they are closed
+  abbrev mutual
+    pub phrase_templates : ℕ → Phrase → List (ℕ × Template)
+    phrase_templates n end = []
+    phrase_templates n (then i p t) = item_templates n p i ++ phrase_templates (item_behind n i) t
 
-abbrev pub closed_words : ℕ → List WordDef → List WordDef
-closed_words n [] = []
-closed_words n (d ∷ ds) = closed_word n d ∷ closed_words (sort_behind n d.sort) ds
+    pub item_templates : ℕ → Place → Item → List (ℕ × Template)
+    item_templates n p (quot t) = phrase_templates (suc n) t ++ (n, template_of p (closed_phrase (suc n) t)) ∷ []
+    item_templates n p _ = []
 
-abbrev pub words_templates : ℕ → List WordDef → List Template
-words_templates n [] = []
-words_templates n (d ∷ ds) = sort_templates n d.sort ++ words_templates (sort_behind n d.sort) ds
+  -- the literal arrays that a phrase names, each with where its quotations start
+  abbrev mutual
+    pub phrase_starts : ℕ → Phrase → List (ℕ × ArrayStart)
+    phrase_starts n end = []
+    phrase_starts n (then i p t) = item_starts n p i ++ phrase_starts (item_behind n i) t
 
--- A phrase is closed with these templates before it and those behind it.
-pub record PhraseCloses (before : List Template) (t closed : Phrase) (behind : List Template) : Type 0 where
-  pub closed_phrase_is : closed ≡ closed_phrase (length before) t
-  pub templates_are : behind ≡ before ++ phrase_templates (length before) t
+    pub item_starts : ℕ → Place → Item → List (ℕ × ArrayStart)
+    item_starts n p (quot t) = phrase_starts (suc n) t
+    item_starts n p (lit_arr a) = (a, start_of n p) ∷ []
+    item_starts n p _ = []
 
--- likewise an item that stands here
-pub record ItemCloses (before : List Template) (p : Place) (w closed : What) (behind : List Template) : Type 0 where
-  pub item_is : closed ≡ closed_what (length before) w
-  pub templates_are : behind ≡ before ++ item_templates (length before) p (what_item w)
+  -- the same item in a list of items
+  abbrev pub closed_what : ℕ → What → What
+  closed_what n (Quot t) = Made n
+  closed_what n w = w
 
--- likewise what a word is
-pub record SortCloses (before : List Template) (s closed : Sort) (behind : List Template) : Type 0 where
-  pub sort_is : closed ≡ closed_sort (length before) s
-  pub templates_are : behind ≡ before ++ sort_templates (length before) s
+  abbrev pub closed_items : ℕ → List PlacedItem → List PlacedItem
+  closed_items n [] = []
+  closed_items n (i ∷ is) = record { what = closed_what n i.what; place = i.place } ∷ closed_items (item_behind n (what_item i.what)) is
 
--- likewise a word
-pub record WordCloses (before : List Template) (d closed : WordDef) (behind : List Template) : Type 0 where
-  pub word_is : closed ≡ closed_word (length before) d
-  pub templates_are : behind ≡ before ++ sort_templates (length before) d.sort
+  -- an element of a literal array, where a quotation gets this number
+  abbrev pub closed_element : ℕ → Lit → Lit
+  closed_element n (l_quot t) = l_made n
+  closed_element n l = l
 
--- The words of a program are closed with these templates.
-pub record WordsClose (ds closed : List WordDef) (templates : List Template) : Type 0 where
-  pub words_are : closed ≡ closed_words 0 ds
-  pub templates_are : templates ≡ words_templates 0 ds
+  abbrev pub closed_elements : ℕ → List Lit → List Lit
+  closed_elements n [] = []
+  closed_elements n (l ∷ ls) = closed_element n l ∷ closed_elements (item_behind n (plain_item l)) ls
+
+  -- what a word is, where the first quotation of its phrase gets this number
+  abbrev pub closed_sort : ℕ → Sort → Sort
+  closed_sort n (body t) = body (closed_phrase n t)
+  closed_sort n s = s
+
+  -- the words of a program, where the first quotation in them gets this number
+  abbrev pub closed_word : ℕ → WordDef → WordDef
+  closed_word n d = record { name = d.name; sort = closed_sort n d.sort; effect = d.effect; inline = d.inline; recursive = d.recursive; place = d.place }
+
+  abbrev pub words_behind : ℕ → List WordDef → ℕ
+  words_behind n [] = n
+  words_behind n (d ∷ ds) = words_behind (phrase_behind n (body_of d.sort)) ds
+
+  abbrev pub closed_words : ℕ → List WordDef → List WordDef
+  closed_words n [] = []
+  closed_words n (d ∷ ds) = closed_word n d ∷ closed_words (phrase_behind n (body_of d.sort)) ds
+
+  abbrev pub words_templates : ℕ → List WordDef → List (ℕ × Template)
+  words_templates n [] = []
+  words_templates n (d ∷ ds) = phrase_templates n (body_of d.sort) ++ words_templates (phrase_behind n (body_of d.sort)) ds
+
+  abbrev pub words_starts : ℕ → List WordDef → List (ℕ × ArrayStart)
+  words_starts n [] = []
+  words_starts n (d ∷ ds) = phrase_starts n (body_of d.sort) ++ words_starts (phrase_behind n (body_of d.sort)) ds
+
+-- how many quotations the elements of an array have
+abbrev pub elements_count : List ℕ → List Lit → ℕ
+elements_count counts ls = phrase_behind counts 0 (plain_phrase nowhere ls)
+
+-- how many each of these arrays has, behind those that were counted before
+abbrev pub counts_from : List ℕ → List (List Lit) → List ℕ
+counts_from counts [] = counts
+counts_from counts (ls ∷ lss) = counts_from (counts ++ elements_count counts ls ∷ []) lss
+
+-- The arrays of a program, of which those from some number on are closed, and what was made so far.
+pub record Stage : Type 0 where
+  pub arrays : List (List Lit)
+  pub templates : List Template
+  pub starts : List ArrayStart
+
+-- the number and the place that are noted for an array, and its elements
+abbrev pub start_at : Stage → ℕ → ArrayStart
+start_at s a = slice_index_or s.starts a (start_of 0 nowhere)
+
+abbrev pub elements_at : Stage → ℕ → List Lit
+elements_at s a = slice_index_or s.arrays a []
+
+-- after this array is closed
+abbrev pub array_closed : List ℕ → ℕ → Stage → Stage
+array_closed counts a s =
+    record {
+      arrays = set s.arrays a (closed_elements counts (start_at s a).number (elements_at s a));
+      templates = put_all s.templates (phrase_templates counts (start_at s a).number (plain_phrase (start_at s a).place (elements_at s a)));
+      starts = put_all s.starts (phrase_starts counts (start_at s a).number (plain_phrase (start_at s a).place (elements_at s a)));
+    }
+
+-- after those with numbers below this one are closed, the last of them first
+abbrev pub arrays_closed : List ℕ → ℕ → Stage → Stage
+arrays_closed counts zero s = s
+arrays_closed counts (suc a) s = arrays_closed counts a (array_closed counts a s)
+
+-- What closing has made before an item that stands here, and behind it.
+pub record ItemPassed (counts : List ℕ) (before : Closing) (p : Place) (i : Item) (behind : Closing) : Type 0 where
+  pub next_is : behind.next ≡ item_behind counts before.next i
+  pub templates_are : behind.templates.items ≡ put_all before.templates.items (item_templates counts before.next p i)
+  pub starts_are : behind.starts.items ≡ put_all before.starts.items (item_starts counts before.next p i)
+
+-- likewise a phrase
+pub record PhrasePassed (counts : List ℕ) (before : Closing) (t : Phrase) (behind : Closing) : Type 0 where
+  pub next_is : behind.next ≡ phrase_behind counts before.next t
+  pub templates_are : behind.templates.items ≡ put_all before.templates.items (phrase_templates counts before.next t)
+  pub starts_are : behind.starts.items ≡ put_all before.starts.items (phrase_starts counts before.next t)
+
+-- likewise words
+pub record WordsPassed (counts : List ℕ) (before : Closing) (ds : List WordDef) (behind : Closing) : Type 0 where
+  pub next_is : behind.next ≡ words_behind counts before.next ds
+  pub templates_are : behind.templates.items ≡ put_all before.templates.items (words_templates counts before.next ds)
+  pub starts_are : behind.starts.items ≡ put_all before.starts.items (words_starts counts before.next ds)
+
+-- A loop over the items of a phrase: what comes of the whole phrase from the start comes of what is left of it now.
+pub record Passing (counts : List ℕ) (start : Closing) (t : Phrase) (now : Closing) (left : Phrase) : Type 0 where
+  pub next_is : phrase_behind counts start.next t ≡ phrase_behind counts now.next left
+  pub templates_are : put_all start.templates.items (phrase_templates counts start.next t) ≡ put_all now.templates.items (phrase_templates counts now.next left)
+  pub starts_are : put_all start.starts.items (phrase_starts counts start.next t) ≡ put_all now.starts.items (phrase_starts counts now.next left)
+
+-- likewise over words
+pub record WordsPassing (counts : List ℕ) (start : Closing) (ds : List WordDef) (now : Closing) (left : List WordDef) : Type 0 where
+  pub next_is : words_behind counts start.next ds ≡ words_behind counts now.next left
+  pub templates_are : put_all start.templates.items (words_templates counts start.next ds) ≡ put_all now.templates.items (words_templates counts now.next left)
+  pub starts_are : put_all start.starts.items (words_starts counts start.next ds) ≡ put_all now.starts.items (words_starts counts now.next left)
+
+-- a quotation got this number
+pub record NumberTaken (before : Closing) (number : ℕ) (behind : Closing) : Type 0 where
+  pub number_is : number ≡ before.next
+  pub next_is : behind.next ≡ suc before.next
+  pub templates_stay : behind.templates.items ≡ before.templates.items
+  pub starts_stay : behind.starts.items ≡ before.starts.items
+
+abbrev pub stage_of : List (List Lit) → Closing → Stage
+stage_of arrays c = record { arrays = arrays; templates = c.templates.items; starts = c.starts.items }
+
+-- The words and arrays of a program are closed with these templates. Before, there are as many templates as quotations and as many starts as arrays, of which nothing else is known.
+pub record PartsClosed (words : List WordDef) (arrays : List (List Lit)) (words_closed : List WordDef) (arrays_now : List (List Lit)) (templates : List Template) : Type 0 where
+  pub counts : List ℕ
+  pub counts_are : counts ≡ counts_from [] arrays
+  pub unfilled : List Template
+  pub unfilled_count : length unfilled ≡ words_behind counts 0 words
+  pub unmet : List ArrayStart
+  pub unmet_count : length unmet ≡ length arrays
+  pub words_are : words_closed ≡ closed_words counts 0 words
+  pub after_words : Stage
+  pub after_words_is : after_words ≡ record { arrays = arrays; templates = put_all unfilled (words_templates counts 0 words); starts = put_all unmet (words_starts counts 0 words) }
+  pub last : Stage
+  pub last_is : last ≡ arrays_closed counts (length arrays) after_words
+  pub arrays_are : arrays_now ≡ last.arrays
+  pub templates_are : templates ≡ last.templates

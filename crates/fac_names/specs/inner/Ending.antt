@@ -1,6 +1,7 @@
 -- The end of the files.
 use Rattle.std.specs.Prelude.{◌≡◌, List, [], ◌∷◌, ◌++◌, length, Option, Some, None, Result, Ok, Err, Bool, true, false, codes}
 use Rattle.fac_lang.specs.Phrases.{Phrase}
+use Rattle.fac_lang.specs.declared.program.Lit.{Lit}
 use Rattle.fac_lang.specs.declared.program.Program.{Program}
 use Rattle.fac_lang.specs.declared.program.Sort.TheVariants.{Body}
 use Rattle.fac_lang.specs.declared.program.WordDef.{WordDef}
@@ -34,9 +35,9 @@ word_in d = d.word
 abbrev pub top_word : Phrase → WordDef
 top_word phrase = plain_word [] (codes "top-level") (Body phrase) no_effect nowhere
 
--- the program of these words and this top-level phrase
-abbrev pub program_with : List WordDef → Phrase → Program
-program_with words phrase = record { words = words ++ top_word phrase ∷ []; arrays = []; classes = []; top = length words }
+-- the program of these words, these literal arrays and this top-level phrase
+abbrev pub program_with : List WordDef → List (List Lit) → Phrase → Program
+program_with words arrays phrase = record { words = words ++ top_word phrase ∷ []; arrays = arrays; classes = []; top = length words }
 
 -- what the end of the files answers
 abbrev pub Ends : SoFar → Result Program ResolveFault → Type 0

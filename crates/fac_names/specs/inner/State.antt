@@ -3,6 +3,7 @@ use Rattle.std.specs.Prelude.{◌≡◌, ℕ, List, [], ◌∷◌, Option, false
 use Rattle.std.specs.List.{list_any}
 use Rattle.fac_lang.specs.Phrases.{Phrase}
 use Rattle.fac_lang.specs.PhraseView.{items_phrase}
+use Rattle.fac_lang.specs.declared.program.Lit.{Lit}
 use Rattle.fac_lang.specs.declared.program.Name.{Name as FullName}
 use Rattle.fac_vocab.specs.declared.entry.Entry.{Entry}
 use Rattle.fac_vocab.specs.Scopes.{Scope, holders, home, now_defined}
@@ -12,11 +13,11 @@ use Rattle.fac_names.specs.Written.{Tok}
 use Rattle.fac_names.specs.Forms.{Draft, Reading, own}
 use Rattle.fac_names.specs.inner.Drafts.{drafts_seen}
 
-abbrev pub reading_with : Scope → List Draft → Phrase → Phrase → Option NameFault → Reading
-reading_with scope words top main first = record { scope = scope; words = words; old_classes = []; classes = []; arrays = []; top = top; main = main; first = first }
+abbrev pub reading_with : Scope → List Draft → List (List Lit) → Phrase → Phrase → Option NameFault → Reading
+reading_with scope words arrays top main first = record { scope = scope; words = words; old_classes = []; classes = []; arrays = arrays; top = top; main = main; first = first }
 
 abbrev pub reading_of : SoFar → Reading
-reading_of s = reading_with s.scope (drafts_seen s.drafts.items) (items_phrase s.items.items) (items_phrase s.main.items) s.first
+reading_of s = reading_with s.scope (drafts_seen s.drafts.items) s.arrays (items_phrase s.items.items) (items_phrase s.main.items) s.first
 
 -- the full name of a word that is defined now
 abbrev pub own_name : Scope → Tok → FullName

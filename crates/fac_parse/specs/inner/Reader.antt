@@ -20,7 +20,7 @@ use Rattle.fac_parse.specs.declared.context.Context.{Context}
 use Rattle.fac_parse.specs.declared.rows.Slot.{Slot}
 use Rattle.fac_parse.specs.declared.rows.Slot.TheVariants as slot
 use Rattle.fac_effect.specs.declared.spelling.Spelling.{Spelling}
-use Rattle.fac_effect.specs.declared.spelling.Spelling.TheVariants.{Begins, Fixed, Semi, OpensQuotation, ClosesQuotation, True, False, Inline, Recursive, Integer, String, Name}
+use Rattle.fac_effect.specs.declared.spelling.Spelling.TheVariants.{Begins, Fixed, Semi, OpensBracket, ClosesBracket, True, False, Inline, Recursive, Integer, String, Name}
 use Rattle.fac_parse.specs.declared.reader.Head.{Head}
 use Rattle.fac_parse.specs.declared.reader.At.{At}
 use Rattle.fac_parse.specs.declared.reader.At.TheVariants as at
@@ -120,8 +120,8 @@ element_of String t = Some (element.Item (term.Text t))
 element_of Name t = Some (element.Item (term.Name t))
 element_of True t = Some (element.Item (term.True t.place))
 element_of False t = Some (element.Item (term.False t.place))
-element_of OpensQuotation t = Some (element.Opens t.place)
-element_of ClosesQuotation t = Some (element.Closes t.place)
+element_of (OpensBracket bracket) t = Some (element.Opens bracket t.place)
+element_of (ClosesBracket bracket) t = Some (element.Closes bracket t.place)
 element_of _ t = None
 
 -- one more element, where this is then open

@@ -1,14 +1,14 @@
 -- A run of the machine that carries a program, in terms of the program's meaning.
-use Rattle.std.specs.Prelude.{◌≡◌, ℕ, ◌-◌, List, [], ◌++◌, slice_get, codes}
+use Rattle.std.specs.Prelude.{◌≡◌, ℕ, ◌-◌, List, [], map, reverse}
 use Rattle.std.specs.declared.option.Option.{Option}
 use Rattle.std.specs.Option.{option_map}
-use Rattle.std.specs.Fmt.{signed_decimal}
 use Rattle.fac_io.specs.Told.{Grows}
 use Rattle.fac_lang.specs.declared.program.Program.{Program}
 use Rattle.fac_lang.specs.Phrases.{Item, Value}
-use Rattle.fac_lang.specs.Printed.{escaped_all}
-use Rattle.fac_lang.specs.World.{State, Error}
+use Rattle.fac_lang.specs.Printed.{Names, printed}
+use Rattle.fac_lang.specs.World.{World, State, Error}
 use Rattle.fac_lang.specs.Eval.{Done, Failed, Spent}
+use Rattle.fac_lang.specs.Meaning.{names}
 use Rattle.fac_lang.specs.RunningLaws.{IsNotStuck}
 use Rattle.fac_lang.specs.Forms.{IsBuilt}
 use Rattle.fac_lang.specs.Whole.{IsWhole}
@@ -18,18 +18,18 @@ use Rattle.fac_check.specs.CallableEffects.{callable_height}
 use Rattle.fac_lang.specs.HeightArithmetic.{fits}
 use Rattle.fac_check.specs.Promises.{IsSafe}
 use Rattle.fac_code.specs.declared.image.Image.{Image}
-use Rattle.fac_prim.specs.MachineValues.{MValue}
-use Rattle.fac_code.specs.WordNames.{or_empty, image_names}
-use Rattle.fac_prim.specs.ValueTrees.{Trees, text_at}
-use Rattle.fac_prim.specs.declared.value.Value.{Value as MachineValue}
-use Rattle.fac_prim.specs.declared.value.Value.TheVariants.{Int, True, False, Text, Word, Callable}
+use Rattle.fac_code.specs.WordNames.{image_names}
+use Rattle.fac_store.specs.MachineValues.{MValue, machine_values, with_names}
+use Rattle.fac_store.specs.ValueTrees.{Trees, StoreSeen, objects_of, trees_of, value_in}
+use Rattle.fac_store.specs.declared.value.Value.{Value as MachineValue}
 use Rattle.fac_vm.specs.declared.machine.RunError.{RunError}
 use Rattle.fac_vm.specs.declared.machine.StopKind.{StopKind}
 use Rattle.fac_vm.specs.declared.machine.StopKind.TheVariants as stop
-use Rattle.fac_vm.specs.Runs.{error_of}
+use Rattle.fac_vm.specs.Machine.{Machine, starting, first_world}
+use Rattle.fac_vm.specs.SeenMachine.{MachineSeen, stack_in}
+use Rattle.fac_vm.specs.Runs.{Held, error_of}
 use Rattle.fac_emit.specs.Carries.{Carries}
-use Rattle.fac_emit.specs.ProgramCode.{word_names}
-use Rattle.fac_emit.specs.MachineView.{template_phrases, values_view, error_view}
+use Rattle.fac_emit.specs.MachineView.{template_phrases, state_view, world_view, error_view}
 use Rattle.fac_notes.specs.declared.report.Report.{Report}
 use Rattle.fac_notes.specs.declared.report.Report.TheVariants as report
 use Rattle.fac_notes.specs.WordNames.{word_name}
@@ -47,6 +47,7 @@ pub record StandsFor (closed : Closed) (P : Program) : Type 0 where
 pub record StandsForSafe (closed : Closed) (P : Program) : Type 0 where
   pub closes : Closes P closed.program closed.templates
   pub built : IsBuilt P
+  pub whole : IsWhole P
   pub safe : IsSafe P 0
   pub start : closed.start ≡ 0
 
@@ -58,17 +59,31 @@ SameNames P C = (w : ℕ) → word_name C w ≡ word_name P w
 pub record Carried (P : Program) (M : Image) : Type 0 where
   pub carries : Carries P fits (callable_height P) 0 M
   pub not_stuck : (n : ℕ) → IsNotStuck (meaning P n)
-  pub named : image_names M ≡ word_names P.words
+  pub named : with_names (image_names M) (names P) ≡ names P
 
--- how a run with this budget stopped that left this stack, where the machine's callables are these
-abbrev pub StopsAs : Program → ℕ → Trees → List MValue → ℕ → SinkSeen → StopKind → Type 0
-StopsAs P budget T stack ticks out stop.Done = (st : State Value) × (left : ℕ) × (meaning P budget ≡ Done st left) × (ticks ≡ budget - left) × Grows out.before.taken out.now.taken st.world.output × (st.stack ≡ values_view (template_phrases P) stack)
-StopsAs P budget T stack ticks out (stop.Failed e) =
-    (x : Error Value) × (st : State Value) × (left : ℕ) × (meaning P budget ≡ Failed x st left) × (ticks ≡ budget - left) × Grows out.before.taken out.now.taken st.world.output × (x ≡ error_view (template_phrases P) (error_of T e))
-StopsAs P budget T stack ticks out stop.Spent = (st : State Value) × (i : Option Item) × (meaning P budget ≡ Spent st i) × (ticks ≡ budget) × Grows out.before.taken out.now.taken st.world.output
-StopsAs P budget T stack ticks out (stop.Trap pc why) = ⊥
-StopsAs P budget T stack ticks out stop.WriteFault = Unit {0}
-StopsAs P budget T stack ticks out stop.Memory = Unit {0}
+-- a machine that holds no value, and no objects but the literal arrays of its image as they were made
+pub record IsFresh (machine : MachineSeen) : Type 0 where
+  pub values : machine.values ≡ []
+  pub objects : objects_of machine.store ≡ (first_world machine.image []).objects
+  pub literals : machine.literals ≡ (first_world machine.image []).literals
+
+-- where its run begins
+abbrev pub first_state : Image → Machine
+first_state M = starting M [] (first_world M [])
+
+-- How a run with this budget stopped that left this, where the machine's callables are these. The world of the meaning is that of the machine, which has
+-- the objects that are held.
+abbrev pub StopsAs : Program → ℕ → Trees → Held → ℕ → SinkSeen → StopKind → Type 0
+StopsAs P budget T held ticks out stop.Done =
+    (st : State Value) × (left : ℕ) × (meaning P budget ≡ Done st left) × (ticks ≡ budget - left) × Grows out.before.taken out.now.taken st.world.output ×
+    (w : World MValue) × (w.objects ≡ held.objects) × (st ≡ state_view (template_phrases P) held.stack w)
+StopsAs P budget T held ticks out (stop.Failed e) =
+    (x : Error Value) × (st : State Value) × (left : ℕ) × (meaning P budget ≡ Failed x st left) × (ticks ≡ budget - left) × Grows out.before.taken out.now.taken st.world.output ×
+    (w : World MValue) × (w.objects ≡ held.objects) × (st.world ≡ world_view (template_phrases P) w) × (x ≡ error_view (template_phrases P) (error_of T e))
+StopsAs P budget T held ticks out stop.Spent = (st : State Value) × (i : Option Item) × (meaning P budget ≡ Spent st i) × (ticks ≡ budget) × Grows out.before.taken out.now.taken st.world.output
+StopsAs P budget T held ticks out (stop.Trap pc why) = ⊥
+StopsAs P budget T held ticks out stop.WriteFault = Unit {0}
+StopsAs P budget T held ticks out stop.Memory = Unit {0}
 
 -- in which pieces its output was taken: those of the items that wrote, and at a write fault a front of the next one
 abbrev pub TakesPieces : Program → ℕ → SinkSeen → StopKind → Type 0
@@ -79,19 +94,26 @@ TakesPieces P ticks out (stop.Trap pc why) = RunPieces P ticks [] out
 TakesPieces P ticks out stop.WriteFault = RunFront P ticks out
 TakesPieces P ticks out stop.Memory = RunPieces P ticks [] out
 
--- the printed form of a value of the machine, which names these
-abbrev pub value_form : Trees → MachineValue → List ℕ
-value_form T (Int z) = signed_decimal z
-value_form T True = codes "t"
-value_form T False = codes "f"
-value_form T (Text k) = codes "\"" ++ escaped_all (text_at T k) ++ codes "\""
-value_form T (Word a) = or_empty (slice_get T.names a)
-value_form T (Callable k) = codes "[ ... ]"
+-- The text of a value of the machine as it is told, where words and kinds are called so and this is the world.
+abbrev pub machine_text : Names → World MValue → MValue → List ℕ
+machine_text N w v = shown_text (printed machine_values N w v)
 
--- and as it is told
-abbrev pub value_text : Trees → MachineValue → List ℕ
-value_text T v = shown_text (value_form T v)
+-- What holds in each world with the objects of a store, where words are called as in an image, whatever kinds are called.
+abbrev pub InStore : Image → StoreSeen → (Names → World MValue → Type 0) → Type 0
+InStore M store Holds = (N : Names) (w : World MValue) → w.objects ≡ objects_of store → Holds (with_names (image_names M) N) w
 
--- the report of a run error of the machine
-abbrev pub machine_report : Trees → Program → RunError → Report
-machine_report T C e = report.Error e.name (word_name C e.word) (option_map (value_text T) e.value)
+-- this is the text of a value
+abbrev pub IsTextOf : Image → StoreSeen → MachineValue → List ℕ → Type 0
+IsTextOf M store v text = InStore M store (λ N w. text ≡ machine_text N w (value_in (trees_of store) v))
+
+-- these are the texts of values
+abbrev pub AreTextsOf : Image → StoreSeen → List MachineValue → List (List ℕ) → Type 0
+AreTextsOf M store vs texts = InStore M store (λ N w. texts ≡ map (λ v. machine_text N w (value_in (trees_of store) v)) vs)
+
+-- these are the texts of a machine's stack, from the bottom to the top
+abbrev pub AreStackTexts : MachineSeen → List (List ℕ) → Type 0
+AreStackTexts machine texts = InStore machine.image machine.store (λ N w. texts ≡ map (machine_text N w) (reverse (stack_in machine)))
+
+-- this is the report of a run error of a machine, where the words have the names of this program
+abbrev pub IsReportOf : MachineSeen → Program → RunError → Report → Type 0
+IsReportOf machine C e why = InStore machine.image machine.store (λ N w. why ≡ report.Error e.name (word_name C e.word) (option_map (λ v. machine_text N w (value_in (trees_of machine.store) v)) e.value))

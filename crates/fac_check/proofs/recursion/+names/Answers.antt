@@ -6,7 +6,8 @@ use Rattle.fac_check.proofs.TakenPrograms.{template_taken, first_taken, others_t
 use Rattle.fac_lang.specs.Phrases.{then}
 use Rattle.fac_lang.specs.declared.phrase.Item.{Item as PlacedItem}
 use Rattle.fac_lang.specs.PhraseView.{what_item, items_phrase}
-use Rattle.fac_check.proofs.NamedWords.{adds_made, adds_named, adds_template, names_begin, names_step, names_end, on_ok, number_below}
+use Rattle.fac_check.proofs.NamedWords.{adds_made, adds_named, adds_earlier, adds_template, names_begin, names_step, names_end, on_ok, number_below, some_below}
+use Rattle.std.specs.Option.{option_copied}
 use Rattle.fac_check.proofs.recursion.+names.Goals as goal
 
 pub add_item-add_template-requires : goal.add_item-add_template-requires
@@ -35,6 +36,12 @@ add_template-add_phrase-requires t c =
     let lt = number_below c.args.closed.now.templates c.args.number c.in-Some.template.now (sym c.in-Some.ensures) in
     let C = c.args.closed.now in
     (omega (arith, lt, c.decreases, c.if-number-from.false), (c.requires.program, template_taken C.program C.templates c.requires.program c.args.number c.in-Some.template.now (sym c.in-Some.ensures)))
+
+pub add_template-returns-then-number-from : goal.add_template-returns-then-number-from
+add_template-returns-then-number-from t c = adds_earlier c.args.closed.now.program c.args.closed.now.templates c.args.from c.args.number c.args.named.now c.args.named.now c.if-number-from.true
+
+pub add_template-unreachable-requires : goal.add_template-unreachable-requires
+add_template-unreachable-requires t c = some_below c.args.closed.now.templates c.args.number c.requires.number (sym c.get.ensures ∙ ap option_copied c.in-None.is)
 
 pub add_template-returns : goal.add_template-returns
 add_template-returns t c = on_ok c.add_phrase.result (adds_template _ _ _ c.args.number c.in-Some.template.now _ _ (sym c.in-Some.ensures)) c.add_phrase.ensures

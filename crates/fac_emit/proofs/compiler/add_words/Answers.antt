@@ -18,8 +18,9 @@ loop-word-preserved c =
       count = omega (arith, inv.count);
       code_is = word_code_step words top at.number at.word-index c.word-item.result items.result.now items.ensures lt c.word-item.is texts _ added.1 _ _ _ inv.code_is added.0;
       texts_are = word_texts_step words top at.number at.word-index c.word-item.result items.result.now items.ensures lt c.word-item.is texts _ added.1 _ inv.texts_are;
-      words_are = word_rows_step words top at.number at.word-index c.word-item.result items.result.now items.ensures lt c.word-item.is texts _ added.1 _ _ _ _ _ inv.words_are added.0 added.3;
+      words_are = word_rows_step words top at.number at.word-index c.word-item.result items.result.now items.ensures lt c.word-item.is texts _ added.1 _ _ _ _ _ inv.words_are added.0 added.4;
       templates_are = added.2 ∙ inv.templates_are;
+      arrays_are = added.3 ∙ inv.arrays_are;
     }
 
 pub place_word-requires : goal.place_word-requires

@@ -9,4 +9,5 @@ invariant-loop-word l = record {
   texts_are : words_texts l.initial.parts.piece.texts l.words ≡ words_texts l.parts.piece.texts (drop l.word-index l.words);
   words_are : l.initial.parts.words ++ words_from l.words l.top l.initial.parts.piece.texts (length l.initial.parts.piece.code) 0 l.words ≡ l.parts.words ++ words_from l.words l.top l.parts.piece.texts (length l.parts.piece.code) l.number (drop l.word-index l.words);
   templates_are : l.parts.templates ≡ l.initial.parts.templates;
+  arrays_are : l.parts.arrays ≡ l.initial.parts.arrays;
 }

@@ -1,10 +1,11 @@
-use Rattle.std.proofs.Common.{refl, List, subst}
-use Rattle.fac_lang.specs.declared.program.WordDef.{WordDef}
-use Rattle.fac_locals.specs.inner.Numbering.{WordsClose}
+use Rattle.std.proofs.Common.{refl}
+use Rattle.fac_locals.proofs.ArraySteps.{same_parts}
 use Rattle.fac_locals.proofs.ClosedPrograms.{closes_program}
 use Rattle.fac_locals.proofs.closing.close.Goals as goal
 
 pub returns : goal.returns
 returns c =
+    let P = c.args.program in
     let parts = c.in_ok-words in
-    (closes_program c.args.program c.requires parts.words parts.templates (subst (λ (ds : List WordDef). WordsClose ds parts.words parts.templates) c.into_vec.ensures parts.ensures), refl)
+    let made = same_parts c.into_vec.result.items P.words parts.words c.into_vec-arrays.result.items P.arrays c.close_parts.new.arrays.items c.in_ok-from_vec.field-0 parts.templates c.into_vec.ensures c.into_vec-arrays.ensures c.in_ok-from_vec.ensures.ok parts.ensures in
+    (closes_program P c.requires.built c.requires.whole parts.words c.in_ok-from_vec.field-0 parts.templates made, refl)

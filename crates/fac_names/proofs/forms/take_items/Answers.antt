@@ -8,4 +8,4 @@ pub returns : goal.returns
 returns c =
     let s = c.args.so_far.now in
     let r = c.in_ok-phrase in
-    items_taken s c.args.elements.now (items_phrase c.add_items.new.items.items) c.phrase_of.new.first c.requires (c.in_ok-add_items.ensures ∙ ap (append (items_phrase s.items.items)) (c.phrase.view_is ∙ r.ensures.phrase)) r.ensures.first
+    items_taken s c.args.elements.now (items_phrase c.add_items.new.items.items) c.phrase_of.new.arrays c.phrase_of.new.first c.requires (c.in_ok-add_items.ensures ∙ ap (append (items_phrase s.items.items)) (c.phrase.view_is ∙ r.ensures.phrase)) r.ensures.arrays r.ensures.first

@@ -5,4 +5,4 @@ use Rattle.fac_tool.proofs.telling.tell.Goals as goal
 
 pub returns-in-Err : goal.returns-in-Err
 returns-in-Err g c =
-    no_memory_for_note _ c.args.reached _ _ c.in-Err.ensures.some (told_so _ memory_note _ (unnoted c.args.reached) _ _ c.as_slice.ensures c.bare.ensures c.tell_by-in-Err.ensures)
+    no_memory_for_note _ c.args.reached _ _ c.in-Err.ensures.some (told_so _ memory_note _ (unnoted c.args.reached) _ _ c.as_slice.ensures c.bare.ensures c.tell_by-in-Err.ensures.told)

@@ -14,18 +14,19 @@ use Rattle.fac_lang.specs.Effects.{effect_height}
 use Rattle.fac_lang.proofs.EffectLemmas.{inputs_counted}
 use Rattle.fac_rows.specs.SeenBindings.{binding_seen, IsStart, IsTie}
 use Rattle.fac_rows.proofs.BindingLemmas.{binding_later}
-use Rattle.fac_check.proofs.UseWalks.{inputs_next, quotation_refused, quotation_tied, quotation_untied, used_effect, used_rule}
+use Rattle.fac_check.proofs.UseWalks.{inputs_next, quotation_refused, quotation_tied, quotation_untied, used_effect}
 use Rattle.fac_abs.specs.SeenMarks.{mark_of, stack_of, base_seen, reached_seen}
 use Rattle.fac_check.specs.Flow.{and_then, walk_mark, walk_inputs, walk_use, inside, join, counted, unless_broken}
-use Rattle.fac_check.specs.inner.ItemWalk.{item_walk}
+use Rattle.fac_check.specs.inner.ItemWalk.{counted_item}
 use Rattle.fac_check.specs.inner.Taken.{takes_phrase}
-use Rattle.fac_check.specs.inner.Walking.{go_at, body_phrase, effect_of, is_defined, doing_seen, walked_seen, IsDoingOf, IsWithin, IsBelow, AreBound, AreWithin, IsWalked, IsWalkOfPhrase}
+use Rattle.fac_check.specs.inner.Walking.{go_at, body_phrase, doing_seen, walked_seen, IsDoingOf, IsWithin, IsBelow, AreBound, AreWithin, IsWalked, IsWalkOfPhrase}
 use Rattle.fac_check.specs.declared.walker.Step.{Step}
 use Rattle.fac_check.specs.declared.walker.Walked.TheVariants.{Found}
 use Rattle.fac_check.proofs.MarkWalks.{carried, curried_counts, composed_ends, phrase_entered, literal_closed, word_phrase_closed, forked, reached_stays}
 use Rattle.fac_check.proofs.TakenPrograms.{word_taken, inputs_below, template_taken, phrase_taken, first_taken, others_taken}
 use Rattle.fac_check.proofs.WalkLemmas.{Onward, onward_start, onward_end, behind_from}
 use Rattle.fac_check.proofs.WordItems.{ok_maps}
+use Rattle.fac_check.proofs.LaterDoings.{doing_later, doing_stays}
 use Rattle.fac_check.proofs.walker.Walker.+walk.Goals as goal
 
 pub walk_literal-walk_phrase-requires : goal.walk_literal-walk_phrase-requires
@@ -270,38 +271,47 @@ walk_inputs-loop-input-preserved t c =
           ∙ ap (λ ms. walk_inputs O.effect (go_at O f) (suc (i + 1)) (inputs_tree (drop (i + 1) list)) ms c.args.step.place c.args.step.nested (binding_seen O.naming K c.walk_input.new.binding) c.in-Bound.kept) (sym (c.in_ok-rule.ensures.grows.same_stack O.naming c.in-Some.rest top.rest));
     }
 
-pub walk_item-returns-in-Ok-admitted-6-clause-walks : goal.walk_item-returns-in-Ok-admitted-6-clause-walks
-walk_item-returns-in-Ok-admitted-6-clause-walks t c =
+pub walk_counted-returns-in-Uses-clause-walks : goal.walk_counted-returns-in-Uses-clause-walks
+walk_counted-returns-in-Uses-clause-walks t c =
     let M = c.args.self.now.marks in
-    let L = c.use_rule.new.self.marks in
-    let broken = c.in_ok-use_rule-in-Uses.ensures in
     let there = subst (IsDoingOf (slice_get c.args.self.now.subject.closed.now.program.words) M) c.in-Uses.is c.requires in
-    let defined = subst (λ (b : Subject). is_defined (slice_get b.closed.now.program.words c.in-Uses.word) ≡ true) (sym broken.subject) there.0 in
     ok_maps c.walk_use.result
     (λ r walks O f l.
     let N = O.naming in
     let s = c.args.step in
-    let w = c.in-Uses.word in
-    let e = effect_of (slice_get O.program.words w) in
-    let is = stack_of N M c.in-Uses.inputs in
-    let rest = stack_of N M c.in-Uses.rest in
-    let left = c.in-Ok-admitted-6.left in
-    walks (carried broken.subject O) f (omega (arith, c.in-Ok-admitted-6.ensures.0, l))
-    ∙ ap (λ x. walk_use O.effect (go_at O f) x (stack_of N L c.in-Uses.inputs) s.place s.nested (base_seen N s.base) (stack_of N L c.in-Uses.rest) left) (sym (used_effect (carried broken.subject O) w defined))
-    ∙ ap (λ ms. walk_use O.effect (go_at O f) e ms s.place s.nested (base_seen N s.base) (stack_of N L c.in-Uses.rest) left) (broken.grows.same_stack N c.in-Uses.inputs there.1)
-    ∙ ap (λ ms. walk_use O.effect (go_at O f) e is s.place s.nested (base_seen N s.base) ms left) (broken.grows.same_stack N c.in-Uses.rest there.2)
-    ∙ sym (c.in-Ok-admitted-6.ensures.1 s.place (λ k. walk_use O.effect (go_at O f) e is s.place s.nested (base_seen N s.base) rest k))
-    ∙ ap (λ x. unless_broken x s.place (counted s.place s.left (λ k. walk_use O.effect (go_at O f) e is s.place s.nested (base_seen N s.base) rest k))) (used_rule O w there.0 M s c.in-Uses.rest c.in-Uses.inputs _ (broken.rule O))
-    ∙ ap (λ D. item_walk O.effect (go_at O f) (doing_seen N M (slice_get O.program.words) (base_seen N s.base) D) s.place s.nested s.left) (sym c.in-Uses.is))
+    walks O f l
+    ∙ ap (λ x. walk_use O.effect (go_at O f) x (stack_of N M c.in-Uses.inputs) s.place s.nested (base_seen N s.base) (stack_of N M c.in-Uses.rest) s.left) (sym (used_effect O c.in-Uses.word there.0))
+    ∙ ap (λ D. counted_item O.effect (go_at O f) (doing_seen N M (slice_get O.program.words) (base_seen N s.base) D) s.place s.nested s.left) (sym c.in-Uses.is))
     c.walk_use.ensures.walks
 
-pub walk_item-returns-in-Err-admitted-6-clause-walks : goal.walk_item-returns-in-Err-admitted-6-clause-walks
-walk_item-returns-in-Err-admitted-6-clause-walks t c = λ O f l.
+pub walk_item-walk_counted-requires : goal.walk_item-walk_counted-requires
+walk_item-walk_counted-requires t c =
+    let rule = c.in_ok-item_rule.ensures in
+    (omega (arith, c.decreases), subst (λ (b : Subject). IsDoingOf (slice_get b.closed.now.program.words) c.item_rule.new.self.marks c.args.doing) (sym rule.subject) (doing_later (slice_get c.args.self.now.subject.closed.now.program.words) c.args.self.now.marks c.item_rule.new.self.marks c.args.doing rule.grows c.requires))
+
+pub walk_item-returns-in-Ok-clause-walks : goal.walk_item-returns-in-Ok-clause-walks
+walk_item-returns-in-Ok-clause-walks t c =
     let M = c.args.self.now.marks in
-    let there = subst (IsDoingOf (slice_get c.args.self.now.subject.closed.now.program.words) M) c.in-Uses.is c.requires in
+    let L = c.item_rule.new.self.marks in
+    let rule = c.in_ok-item_rule.ensures in
+    ok_maps c.walk_counted.result
+    (λ r walks O f l.
     let N = O.naming in
     let s = c.args.step in
-    let w = c.in-Uses.word in
-    sym (c.in-Err-admitted-6.ensures s.place (λ k. walk_use O.effect (go_at O f) (effect_of (slice_get O.program.words w)) (stack_of N M c.in-Uses.inputs) s.place s.nested (base_seen N s.base) (stack_of N M c.in-Uses.rest) k))
-    ∙ ap (λ x. unless_broken x s.place (counted s.place s.left (λ k. walk_use O.effect (go_at O f) (effect_of (slice_get O.program.words w)) (stack_of N M c.in-Uses.inputs) s.place s.nested (base_seen N s.base) (stack_of N M c.in-Uses.rest) k))) (used_rule O w there.0 M s c.in-Uses.rest c.in-Uses.inputs _ (c.in_ok-use_rule-in-Uses.ensures.rule O))
-    ∙ ap (λ D. item_walk O.effect (go_at O f) (doing_seen N M (slice_get O.program.words) (base_seen N s.base) D) s.place s.nested s.left) (sym c.in-Uses.is)
+    let b = base_seen N s.base in
+    let words = slice_get O.program.words in
+    let D = doing_seen N M words b c.args.doing in
+    let left = c.in-Ok.left in
+    walks (carried rule.subject O) f (omega (arith, c.in-Ok.ensures.0, l))
+    ∙ ap (λ x. counted_item O.effect (go_at O f) x s.place s.nested left) (doing_stays N words b M L _ c.args.doing rule.grows c.requires)
+    ∙ sym (c.in-Ok.ensures.1 s.place (λ k. counted_item O.effect (go_at O f) D s.place s.nested k))
+    ∙ ap (λ x. unless_broken x s.place (counted s.place s.left (λ k. counted_item O.effect (go_at O f) D s.place s.nested k))) (rule.rule O))
+    c.walk_counted.ensures.walks
+
+pub walk_item-returns-in-Err-clause-walks : goal.walk_item-returns-in-Err-clause-walks
+walk_item-returns-in-Err-clause-walks t c = λ O f l.
+    let N = O.naming in
+    let s = c.args.step in
+    let D = doing_seen N c.args.self.now.marks (slice_get O.program.words) (base_seen N s.base) c.args.doing in
+    sym (c.in-Err.ensures s.place (λ k. counted_item O.effect (go_at O f) D s.place s.nested k))
+    ∙ ap (λ x. unless_broken x s.place (counted s.place s.left (λ k. counted_item O.effect (go_at O f) D s.place s.nested k))) (c.in_ok-item_rule.ensures.rule O)

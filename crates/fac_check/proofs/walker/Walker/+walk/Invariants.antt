@@ -13,10 +13,13 @@ use Rattle.fac_check.proofs.walker.Walker.+walk.Given as goal
 
 -- A phrase takes more than its items, these more than the callables that they walk, and those more than their parts; and all of it more than a phrase that is one application deeper.
 abbrev pub decreases-walk_phrase : goal.decreases-walk_phrase
-decreases-walk_phrase l = l.step.nested * 12884901910 + 12884901902
+decreases-walk_phrase l = l.step.nested * 12884901910 + 12884901903
 
 abbrev pub decreases-walk_item : goal.decreases-walk_item
-decreases-walk_item l = l.step.nested * 12884901910 + 12884901901
+decreases-walk_item l = l.step.nested * 12884901910 + 12884901902
+
+abbrev pub decreases-walk_counted : goal.decreases-walk_counted
+decreases-walk_counted l = l.step.nested * 12884901910 + 12884901901
 
 abbrev pub decreases-walk_callable : goal.decreases-walk_callable
 decreases-walk_callable l = l.step.nested * 12884901910 + 12884901900

@@ -1,4 +1,3 @@
-use Rattle.std.proofs.Common.{◌≡◌}
 use Rattle.std.proofs.lemmas.Str.{IsUtf8-append}
 use Rattle.fac_lang.proofs.text.Text.push_str.Goals as goal
 

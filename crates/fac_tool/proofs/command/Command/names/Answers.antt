@@ -8,3 +8,6 @@ returns-in-Check c = rw c.in-Check.is (map_range string_bytes (c.in-Check.end - 
 
 pub returns-in-Run : goal.returns-in-Run
 returns-in-Run c = rw c.in-Run.is (map_range string_bytes (c.in-Run.end - c.in-Run.first) c.in-Run.first c.args.words.now)
+
+pub returns-in-RunStack : goal.returns-in-RunStack
+returns-in-RunStack c = rw c.in-RunStack.is (map_range string_bytes (c.in-RunStack.end - c.in-RunStack.first) c.in-RunStack.first c.args.words.now)

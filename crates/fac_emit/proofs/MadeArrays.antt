@@ -1,0 +1,118 @@
+-- The literal arrays of an image of plain code are made as those of its program.
+use Rattle.std.proofs.Common.{◌≡◌, ℕ, zero, suc, ◌+◌, List, [], ◌∷◌, ◌++◌, length, Option, Some, None, refl, ap, sym, subst, ◌∙◌, arith}
+use Rattle.std.proofs.lemmas.List.{length-map}
+use Rattle.std.specs.Prelude.{map, slice_get}
+use Rattle.fac_lang.specs.declared.phrase.Template.{Template}
+use Rattle.fac_lang.specs.declared.program.Program.{Program}
+use Rattle.fac_lang.specs.declared.program.Lit.{Lit}
+use Rattle.fac_lang.specs.declared.program.Lit.TheVariants.{Int as l_int, True as l_yes, False as l_no, Str as l_str, Arr as l_arr, Wref as l_word, Quot as l_quot, Made as l_made}
+use Rattle.fac_lang.specs.Phrases.{str, Literal, Phrase, Value, plain, fun, of_phrase}
+use Rattle.fac_lang.specs.World.{Object, array, World}
+use Rattle.fac_lang.specs.Printed.{or_empty}
+use Rattle.fac_lang.specs.Forms.{IsBuilt}
+use Rattle.fac_lang.specs.Meaning.{array_method, of_method_if, literal_value, with_arrays as meaning_arrays, start}
+use Rattle.fac_locals.specs.Literals.{Quoted, behind, first_in_array, element_item, literal_numbered}
+use Rattle.fac_locals.specs.Closed.{Closes, ClosesElement, CloseElements, CloseArrays}
+use Rattle.fac_code.specs.declared.image.Elem.{Elem}
+use Rattle.fac_code.specs.declared.image.Image.{Image}
+use Rattle.fac_store.specs.MachineValues.{MValue, m_plain, m_fun, m_lit, none_kept}
+use Rattle.fac_vm.specs.Machine.{element_value, with_arrays, first_world}
+use Rattle.fac_emit.specs.MachineView.{Templates, template_phrases, value_view, values_view, object_view, world_view}
+use Rattle.fac_emit.specs.WholeValues.{Whole, AllWhole, WholeObjects}
+use Rattle.fac_emit.specs.ProgramCode.{program_texts, elem_of, with_element_text, elems_of, elements_texts, arrays_of, arrays_texts, IsPlain}
+use Rattle.fac_emit.proofs.KeptPrimitives.{object_added}
+use Rattle.fac_emit.proofs.LiteralWords.{is_listed_in_array}
+use Rattle.fac_emit.proofs.Placed.{RowFor, listed_row, texts_begin}
+use Rattle.fac_emit.proofs.ReferenceLemmas.{has_first}
+use Rattle.fac_emit.proofs.SamePrimitives.{map_more}
+use Rattle.fac_emit.proofs.TextLists.{Begins, begins_same, begins_on, elements_behind, arrays_behind, element_there}
+
+module _ (P C : Program) (templates : List Template) (M : Image) (b : IsBuilt P) (closes : Closes P C templates) (is_plain : IsPlain C templates M) where
+  abbrev T : Templates
+  T = template_phrases P
+
+  phrase_made : (m : Option ℕ) (q : ℕ) (at : Literal) (t : Phrase) → (let l : Quoted = (at, of_method_if m t) in literal_numbered P q ≡ l) → T q ≡ of_method_if m t
+  unfolding template_phrases
+  phrase_made m q at t e = ap (λ (l : Quoted). l.1) e
+
+  element_made : (m : Option ℕ) (addresses : List ℕ) (at : Literal) (texts : List (List ℕ)) (l c : Lit) (ls : List Lit) → ClosesElement P m at l c → Begins (elements_texts (with_element_text texts c) ls) M.texts →
+      value_view T (element_value M addresses (elem_of (length texts) c)) ≡ literal_value P addresses m l
+  element_made m addresses at texts (l_int z) c ls h begins = rw h refl
+  element_made m addresses at texts l_yes c ls h begins = rw h refl
+  element_made m addresses at texts l_no c ls h begins = rw h refl
+  element_made m addresses at texts (l_str bs) c ls h begins =
+      let is : Begins (elements_texts (texts ++ bs ∷ []) ls) M.texts = subst (λ (l : Lit). Begins (elements_texts (with_element_text texts l) ls) M.texts) h begins in
+      rw h (ap (λ (o : Option (List ℕ)). plain (str (or_empty o))) (element_there texts M.texts bs ls is))
+  element_made m addresses at texts (l_arr a) c ls h begins = rw h refl
+  element_made m addresses at texts (l_word w) c ls h begins = rw h refl
+  element_made m addresses at texts (l_quot t) c ls h begins = rw h.1 (ap (λ (u : Phrase). fun (of_phrase u)) (phrase_made m h.0 at t h.2))
+  element_made m addresses at texts (l_made k) c ls h begins = absurd h
+
+  elements_made : (m : Option ℕ) (addresses : List ℕ) (at : Literal) (texts : List (List ℕ)) (ls cs : List Lit) → CloseElements P m at ls cs → Begins (elements_texts texts cs) M.texts →
+      values_view T (map (element_value M addresses) (elems_of texts cs)) ≡ map (literal_value P addresses m) ls
+  elements_made m addresses at texts [] cs h begins = rw h refl
+  elements_made m addresses at texts (l ∷ ls) cs h begins =
+      let is : Begins (elements_texts (with_element_text texts h.0) h.1) M.texts = subst (λ (xs : List Lit). Begins (elements_texts texts xs) M.texts) h.2 begins in
+      rw h.2 (rw (element_made m addresses at texts l h.0 h.1 h.3 is, elements_made m addresses (behind at (element_item m l)) (with_element_text texts h.0) ls h.1 h.4 is) refl)
+
+  same_made : (a : ℕ) (texts : List (List ℕ)) (lss css : List (List Lit)) → CloseArrays P a lss css → Begins (arrays_texts texts css) M.texts → (w : World MValue) → world_view T (with_arrays M (arrays_of texts css) w) ≡ meaning_arrays P a lss (world_view T w)
+  same_made a texts [] css h begins w = rw h refl
+  same_made a texts (ls ∷ lss) css h begins w =
+      let m = array_method P (length P.arrays) a in
+      let next = elements_texts texts h.1 in
+      let is : Begins (arrays_texts next h.2) M.texts = subst (λ (xss : List (List Lit)). Begins (arrays_texts texts xss) M.texts) h.3 begins in
+      let own = elements_made m w.literals (first_in_array h.0) texts ls h.1 h.4 (begins_on next (arrays_texts next h.2) M.texts (arrays_behind next h.2) is) in
+      let made : Object MValue = array (map (element_value M w.literals) (elems_of texts h.1)) in
+      let w' : World MValue = record { objects = w.objects ++ made ∷ []; literals = w.literals ++ length w.objects ∷ []; input = w.input; output = w.output } in
+      let objects : map (object_view T) (w.objects ++ made ∷ []) ≡ map (object_view T) w.objects ++ array (map (literal_value P w.literals m) ls) ∷ [] = map_more (object_view T) w.objects (made ∷ []) ∙ ap (λ (vs : List Value). map (object_view T) w.objects ++ array vs ∷ []) own in
+      let count : length w.objects ≡ length (map (object_view T) w.objects) = sym (length-map w.objects (object_view T)) in
+      let view : world_view T w' ≡ record { objects = map (object_view T) w.objects ++ array (map (literal_value P w.literals m) ls) ∷ []; literals = w.literals ++ length (map (object_view T) w.objects) ∷ []; input = w.input; output = w.output } =
+      ap (λ (os : List (Object Value)). record { objects = os; literals = w.literals ++ length w.objects ∷ []; input = w.input; output = w.output }) objects
+      ∙ ap (λ (n : ℕ). record { objects = map (object_view T) w.objects ++ array (map (literal_value P w.literals m) ls) ∷ []; literals = w.literals ++ n ∷ []; input = w.input; output = w.output }) count in
+      rw h.3 (same_made (suc a) next lss h.2 h.5 is w' ∙ ap (meaning_arrays P (suc a) lss) view)
+
+  -- callables in arrays are of the image's templates
+  template_whole : (i : ℕ) (is : List ℕ) (at : Literal) (u : Phrase) (q : ℕ) → at.around ≡ i ∷ is → (let l : Quoted = (at, u) in literal_numbered P q ≡ l) → Whole M (m_fun (m_lit q none_kept))
+  template_whole i is at u q around e =
+      let row = listed_row P C templates b closes M.code M.texts M.templates is_plain.code (texts_begin P C templates M b closes is_plain) is_plain.template_rows_are q (at, u) (is_listed_in_array P q (at, u) i is around e) in
+      let cells = ap length row.cells in
+      (row.row, row.there, omega (arith, cells, row.holes), tt)
+
+  element_whole : (m : Option ℕ) (addresses : List ℕ) (i : ℕ) (is : List ℕ) (at : Literal) (n : ℕ) (l c : Lit) → at.around ≡ i ∷ is → ClosesElement P m at l c → Whole M (element_value M addresses (elem_of n c))
+  element_whole m addresses i is at n (l_int z) c around h = rw h tt
+  element_whole m addresses i is at n l_yes c around h = rw h tt
+  element_whole m addresses i is at n l_no c around h = rw h tt
+  element_whole m addresses i is at n (l_str bs) c around h = rw h tt
+  element_whole m addresses i is at n (l_arr a) c around h = rw h tt
+  element_whole m addresses i is at n (l_word w) c around h = rw h tt
+  element_whole m addresses i is at n (l_quot t) c around h = rw h.1 (template_whole i is at _ h.0 around h.2)
+  element_whole m addresses i is at n (l_made k) c around h = absurd h
+
+  elements_whole : (m : Option ℕ) (addresses : List ℕ) (i : ℕ) (is : List ℕ) (at : Literal) (texts : List (List ℕ)) (ls cs : List Lit) → at.around ≡ i ∷ is → CloseElements P m at ls cs → AllWhole M (map (element_value M addresses) (elems_of texts cs))
+  elements_whole m addresses i is at texts [] cs around h = rw h tt
+  elements_whole m addresses i is at texts (l ∷ ls) cs around h =
+      rw h.2 (element_whole m addresses i is at (length texts) l h.0 around h.3, elements_whole m addresses i is (behind at (element_item m l)) (with_element_text texts h.0) ls h.1 around h.4)
+
+  all_whole : (a : ℕ) (texts : List (List ℕ)) (lss css : List (List Lit)) → CloseArrays P a lss css → (w : World MValue) → WholeObjects M w.objects → WholeObjects M (with_arrays M (arrays_of texts css) w).objects
+  all_whole a texts [] css h w os = rw h os
+  all_whole a texts (ls ∷ lss) css h w os =
+      let m = array_method P (length P.arrays) a in
+      let first = has_first h.0.around h.0.index in
+      let own = elements_whole m w.literals first.0 first.1 (first_in_array h.0) texts ls h.1 first.2 h.4 in
+      let made : Object MValue = array (map (element_value M w.literals) (elems_of texts h.1)) in
+      rw h.3 (all_whole (suc a) (elements_texts texts h.1) lss h.2 h.5 (record { objects = w.objects ++ made ∷ []; literals = w.literals ++ length w.objects ∷ []; input = w.input; output = w.output }) (object_added M w.objects made os own))
+
+  -- The world before the first item.
+  pub record FirstWorld (input : List ℕ) : Type 0 where
+    pub same : world_view T (first_world M input) ≡ (start P input).world
+    pub whole : WholeObjects M (first_world M input).objects
+
+  pub arrays_made : (input : List ℕ) → FirstWorld input
+  arrays_made input =
+      let texts = program_texts C templates in
+      let begins : Begins (arrays_texts texts C.arrays) M.texts = rw is_plain.texts (begins_same (arrays_texts texts C.arrays)) in
+      let empty : World MValue = record { objects = []; literals = []; input = input; output = [] } in
+      record {
+        same = ap (λ (ess : List (List Elem)). world_view T (with_arrays M ess empty)) is_plain.arrays ∙ same_made 0 texts P.arrays C.arrays closes.arrays begins empty;
+        whole = subst (λ (ess : List (List Elem)). WholeObjects M (with_arrays M ess empty).objects) (sym is_plain.arrays) (all_whole 0 texts P.arrays C.arrays closes.arrays empty tt);
+      }

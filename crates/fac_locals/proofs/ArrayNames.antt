@@ -1,0 +1,256 @@
+-- Which numbers of templates a phrase covers, and which arrays are named where.
+use Rattle.std.proofs.Common.{◌≡◌, ◌<◌, ◌≤◌, ◌⊎◌, inl, inr, ℕ, zero, suc, ◌+◌, List, [], ◌∷◌, ◌++◌, length, get_or, Some, Bool, true, false, refl, ap, ◌∙◌, arith}
+use Rattle.std.specs.Prelude.{map, slice_get, nat_eq, nat_lt}
+use Rattle.std.specs.List.{list_all}
+use Rattle.std.proofs.lemmas.Bool.{cases_lt, cases_eq, eqb-true, ltb-true, and_parts}
+use Rattle.fac_lang.specs.Phrases.{Phrase, end, then, Item, lit, lit_arr, quot, word, bind, local, fry, hole, call_eff, exec_eff, next_method, made, next_after, held, known}
+use Rattle.fac_lang.specs.declared.phrase.Place.{Place}
+use Rattle.fac_lang.specs.declared.phrase.Template.{Template}
+use Rattle.fac_lang.specs.declared.program.Lit.{Lit}
+use Rattle.fac_lang.specs.declared.program.Lit.TheVariants.{Int as l_int, True as l_yes, False as l_no, Str as l_str, Arr as l_arr, Wref as l_word, Quot as l_quot, Made as l_made}
+use Rattle.fac_lang.specs.declared.program.WordDef.{WordDef}
+use Rattle.fac_lang.specs.declared.program.Sort.{Sort}
+use Rattle.fac_lang.specs.declared.program.Sort.TheVariants.{Prim as prim, Core as core, Body as body, Past as past, Itself as itself, Class as class, Isa as isa, Getter as getter, Setter as setter, Putter as putter, Generic as generic, Method as method}
+use Rattle.fac_lang.specs.Whole.{times_in, each_below, each_numbered, names_earlier, arrays_named, arrays_named_by, arrays_in, joined, word_phrases}
+use Rattle.fac_locals.specs.declared.closing.ArrayStart.{ArrayStart}
+use Rattle.fac_locals.specs.inner.Numbering.{template_of, plain_phrase, body_of, phrase_behind, item_behind, closed_phrase, phrase_templates, item_templates, phrase_starts, item_starts, words_behind, words_templates, words_starts}
+use Rattle.fac_locals.proofs.LiteralArrays.{HasBuiltPhrase, HaveBuiltPhrases, IsClosable, IsClosableItem, AreClosable}
+use Rattle.fac_locals.proofs.Puts.{counted, keys, IsPut, IsEntry, put_left, put_right, times_both, keys_both}
+
+-- this number lies among those of an array that starts here
+abbrev pub IsReserved : List ℕ → ℕ → List (ℕ × ArrayStart) → Type 0
+IsReserved counts k [] = ⊥
+IsReserved counts k (w ∷ ws) = ((w.1.number ≤ k) × (k < w.1.number + get_or counts w.0 0)) ⊎ IsReserved counts k ws
+
+reserved_left : (counts : List ℕ) (k : ℕ) (vs ws : List (ℕ × ArrayStart)) → IsReserved counts k vs → IsReserved counts k (vs ++ ws)
+reserved_left counts k [] ws h = absurd h
+reserved_left counts k (v ∷ vs) ws (inl e) = inl e
+reserved_left counts k (v ∷ vs) ws (inr h) = inr (reserved_left counts k vs ws h)
+
+reserved_right : (counts : List ℕ) (k : ℕ) (vs ws : List (ℕ × ArrayStart)) → IsReserved counts k ws → IsReserved counts k (vs ++ ws)
+reserved_right counts k [] ws h = h
+reserved_right counts k (v ∷ vs) ws h = inr (reserved_right counts k vs ws h)
+
+pub reserved_by : (counts : List ℕ) (k : ℕ) (ws : List (ℕ × ArrayStart)) → IsReserved counts k ws → (b : ℕ) × (m : ArrayStart) × IsEntry b m ws × (m.number ≤ k) × (k < m.number + get_or counts b 0)
+reserved_by counts k [] h = absurd h
+reserved_by counts k (w ∷ ws) (inl e) = (w.0, w.1, inl (refl, refl), e.0, e.1)
+reserved_by counts k (w ∷ ws) (inr h) = let more = reserved_by counts k ws h in (more.0, more.1, inr more.2, more.3, more.4)
+
+-- Each number of a phrase gets its template, or it is reserved for an array that the phrase names.
+abbrev pub Covered : List ℕ → ℕ → List (ℕ × Template) → List (ℕ × ArrayStart) → Type 0
+Covered counts k ts ss = IsPut k ts ⊎ IsReserved counts k ss
+
+covered_left : (counts : List ℕ) (k : ℕ) (ts us : List (ℕ × Template)) (ss rs : List (ℕ × ArrayStart)) → Covered counts k ts ss → Covered counts k (ts ++ us) (ss ++ rs)
+covered_left counts k ts us ss rs (inl h) = inl (put_left k ts us h)
+covered_left counts k ts us ss rs (inr h) = inr (reserved_left counts k ss rs h)
+
+covered_right : (counts : List ℕ) (k : ℕ) (ts us : List (ℕ × Template)) (ss rs : List (ℕ × ArrayStart)) → Covered counts k us rs → Covered counts k (ts ++ us) (ss ++ rs)
+covered_right counts k ts us ss rs (inl h) = inl (put_right k ts us h)
+covered_right counts k ts us ss rs (inr h) = inr (reserved_right counts k ss rs h)
+
+outside : (A : Type 0) (n k : ℕ) → n ≤ k → k < n → A
+outside A n k le lt = absurd (omega (arith, le, lt))
+
+pub by_side : (C : Type 0) (m k : ℕ) → (k < m → C) → (m ≤ k → C) → (k < m) ⊎ (m ≤ k) → C
+by_side C m k f g (inl h) = f h
+by_side C m k f g (inr h) = g h
+
+either_below : (C : Type 0) (b : ℕ) (m : ArrayStart) (vs ws : List (ℕ × ArrayStart)) → (IsEntry b m vs → C) → (IsEntry b m ws → C) → IsEntry b m (vs ++ ws) → C
+either_below C b m [] ws f g e = g e
+either_below C b m (v ∷ vs) ws f g (inl e) = f (inl e)
+either_below C b m (v ∷ vs) ws f g (inr e) = either_below C b m vs ws (λ (h : IsEntry b m vs). f (inr h)) g e
+
+first_covered : (counts : List ℕ) (k : ℕ) (ts : List (ℕ × Template)) (own : ℕ × Template) (rs : List (ℕ × ArrayStart)) → Covered counts k ts rs → Covered counts k (ts ++ own ∷ []) rs
+first_covered counts k ts own rs (inl h) = inl (put_left k ts (own ∷ []) h)
+first_covered counts k ts own rs (inr h) = inr h
+
+module _ (counts : List ℕ) (k : ℕ) where
+  mutual
+    pub phrase_covers : (n : ℕ) (t : Phrase) → n ≤ k → k < phrase_behind counts n t → Covered counts k (phrase_templates counts n t) (phrase_starts counts n t)
+    phrase_covers n end le lt = outside _ n k le lt
+    phrase_covers n (then i p t) le lt =
+        let m = item_behind counts n i in
+        let ts = item_templates counts n p i in
+        let us = phrase_templates counts m t in
+        let ss = item_starts counts n p i in
+        let rs = phrase_starts counts m t in
+        by_side (Covered counts k (ts ++ us) (ss ++ rs)) m k (λ (h : k < m). covered_left counts k ts us ss rs (item_covers n p i le h)) (λ (h : m ≤ k). covered_right counts k ts us ss rs (phrase_covers m t h lt)) (cases_lt k m)
+
+    item_covers : (n : ℕ) (p : Place) (i : Item) → n ≤ k → k < item_behind counts n i → Covered counts k (item_templates counts n p i) (item_starts counts n p i)
+    item_covers n p (quot t) le lt =
+        let own : ℕ × Template = (n, template_of p (closed_phrase counts (suc n) t)) in
+        let ts = phrase_templates counts (suc n) t in
+        let rs = phrase_starts counts (suc n) t in
+        by_side (Covered counts k (ts ++ own ∷ []) rs) (suc n) k (λ (h : k < suc n). inl (put_right k ts (own ∷ []) (inl (omega (arith, h, le))))) (λ (h : suc n ≤ k). first_covered counts k ts own rs (phrase_covers (suc n) t h lt)) (cases_lt k (suc n))
+    item_covers n p (lit_arr a) le lt = inr (inl (le, lt))
+    item_covers n p (lit q) le lt = outside _ n k le lt
+    item_covers n p (word w) le lt = outside _ n k le lt
+    item_covers n p (bind x) le lt = outside _ n k le lt
+    item_covers n p (local x) le lt = outside _ n k le lt
+    item_covers n p (fry t m) le lt = outside _ n k le lt
+    item_covers n p (hole m) le lt = outside _ n k le lt
+    item_covers n p (call_eff f) le lt = outside _ n k le lt
+    item_covers n p (exec_eff f) le lt = outside _ n k le lt
+    item_covers n p next_method le lt = outside _ n k le lt
+    item_covers n p (made m) le lt = outside _ n k le lt
+    item_covers n p (next_after m) le lt = outside _ n k le lt
+    item_covers n p (held v) le lt = outside _ n k le lt
+    item_covers n p (known m) le lt = outside _ n k le lt
+
+  pub words_cover : (n : ℕ) (ds : List WordDef) → n ≤ k → k < words_behind counts n ds → Covered counts k (words_templates counts n ds) (words_starts counts n ds)
+  words_cover n [] le lt = outside _ n k le lt
+  words_cover n (d ∷ ds) le lt =
+      let t = body_of d.sort in
+      let m = phrase_behind counts n t in
+      let ts = phrase_templates counts n t in
+      let us = words_templates counts m ds in
+      let ss = phrase_starts counts n t in
+      let rs = words_starts counts m ds in
+      by_side (Covered counts k (ts ++ us) (ss ++ rs)) m k (λ (h : k < m). covered_left counts k ts us ss rs (phrase_covers n t le h)) (λ (h : m ≤ k). covered_right counts k ts us ss rs (words_cover m ds h lt)) (cases_lt k m)
+
+-- a word's phrase before others
+abbrev with_phrase : Sort → List Phrase → List Phrase
+with_phrase s ts = elim s [ body t ↦ t ∷ ts | past t ↦ t ∷ ts | method c g t ↦ t ∷ ts | _ ↦ ts ]
+
+-- The arrays that are noted are those that the phrase names.
+module _ (counts : List ℕ) (bound : ℕ) where
+  mutual
+    pub phrase_names_noted : (n : ℕ) (t : Phrase) → IsClosable bound t → keys (phrase_starts counts n t) ≡ arrays_named t
+    phrase_names_noted n end h = refl
+    phrase_names_noted n (then i p t) h = keys_both (item_starts counts n p i) (phrase_starts counts (item_behind counts n i) t) ∙ rw (item_names_noted n p i h.0, phrase_names_noted (item_behind counts n i) t h.1) refl
+
+    item_names_noted : (n : ℕ) (p : Place) (i : Item) → IsClosableItem bound i → keys (item_starts counts n p i) ≡ arrays_named_by i
+    item_names_noted n p (quot t) h = phrase_names_noted (suc n) t h
+    item_names_noted n p (lit_arr a) h = refl
+    item_names_noted n p (lit q) h = refl
+    item_names_noted n p (word w) h = refl
+    item_names_noted n p (bind x) h = absurd h
+    item_names_noted n p (local x) h = absurd h
+    item_names_noted n p (fry t m) h = absurd h
+    item_names_noted n p (hole m) h = absurd h
+    item_names_noted n p (call_eff f) h = absurd h
+    item_names_noted n p (exec_eff f) h = absurd h
+    item_names_noted n p next_method h = absurd h
+    item_names_noted n p (made m) h = absurd h
+    item_names_noted n p (next_after m) h = absurd h
+    item_names_noted n p (held v) h = absurd h
+    item_names_noted n p (known m) h = absurd h
+
+  -- what is noted is below the bound
+  mutual
+    pub phrase_noted_below : (n : ℕ) (t : Phrase) → IsClosable bound t → (b : ℕ) (m : ArrayStart) → IsEntry b m (phrase_starts counts n t) → b < bound
+    phrase_noted_below n end h b m e = absurd e
+    phrase_noted_below n (then i p t) h b m e = either_below (b < bound) b m (item_starts counts n p i) (phrase_starts counts (item_behind counts n i) t) (item_noted_below n p i h.0 b m) (phrase_noted_below (item_behind counts n i) t h.1 b m) e
+
+    item_noted_below : (n : ℕ) (p : Place) (i : Item) → IsClosableItem bound i → (b : ℕ) (m : ArrayStart) → IsEntry b m (item_starts counts n p i) → b < bound
+    item_noted_below n p (quot t) h b m e = phrase_noted_below (suc n) t h b m e
+    item_noted_below n p (lit_arr a) h b m (inl e) = omega (arith, h, e.0)
+    item_noted_below n p (lit_arr a) h b m (inr e) = absurd e
+    item_noted_below n p (lit q) h b m e = absurd e
+    item_noted_below n p (word w) h b m e = absurd e
+    item_noted_below n p (bind x) h b m e = absurd h
+    item_noted_below n p (local x) h b m e = absurd h
+    item_noted_below n p (fry t j) h b m e = absurd h
+    item_noted_below n p (hole j) h b m e = absurd h
+    item_noted_below n p (call_eff f) h b m e = absurd h
+    item_noted_below n p (exec_eff f) h b m e = absurd h
+    item_noted_below n p next_method h b m e = absurd h
+    item_noted_below n p (made j) h b m e = absurd h
+    item_noted_below n p (next_after j) h b m e = absurd h
+    item_noted_below n p (held v) h b m e = absurd h
+    item_noted_below n p (known j) h b m e = absurd h
+
+  pub words_noted_below : (n : ℕ) (ds : List WordDef) → AreClosable bound ds → (b : ℕ) (m : ArrayStart) → IsEntry b m (words_starts counts n ds) → b < bound
+  words_noted_below n [] h b m e = absurd e
+  words_noted_below n (d ∷ ds) h b m e =
+      let j = phrase_behind counts n (body_of d.sort) in
+      either_below (b < bound) b m (phrase_starts counts n (body_of d.sort)) (words_starts counts j ds) (phrase_noted_below n (body_of d.sort) h.0 b m) (words_noted_below j ds h.1 b m) e
+
+  sort_names : (top : ℕ) (s : Sort) (ds : List WordDef) → HasBuiltPhrase top s → arrays_named (body_of s) ++ joined (map arrays_named (word_phrases ds)) ≡ joined (map arrays_named (with_phrase s (word_phrases ds)))
+  sort_names top (body t) ds h = refl
+  sort_names top (prim k) ds h = refl
+  sort_names top (core k) ds h = refl
+  sort_names top (past t) ds h = absurd h
+  sort_names top itself ds h = refl
+  sort_names top (class k) ds h = refl
+  sort_names top (isa k) ds h = refl
+  sort_names top (getter x) ds h = refl
+  sort_names top (setter x) ds h = refl
+  sort_names top (putter x) ds h = refl
+  sort_names top generic ds h = refl
+  sort_names top (method c g t) ds h = absurd h
+
+  -- the arrays that words name
+  pub words_names_noted : (top n : ℕ) (ds : List WordDef) → HaveBuiltPhrases top ds → AreClosable bound ds → keys (words_starts counts n ds) ≡ joined (map arrays_named (word_phrases ds))
+  words_names_noted top n [] b h = refl
+  words_names_noted top n (d ∷ ds) b h =
+      let j = phrase_behind counts n (body_of d.sort) in
+      keys_both (phrase_starts counts n (body_of d.sort)) (words_starts counts j ds)
+      ∙ rw (phrase_names_noted n (body_of d.sort) h.0, words_names_noted top j ds b.1 h.1) (sort_names top d.sort ds b.0)
+
+pub elements_names : (p : Place) (ls : List Lit) → arrays_named (plain_phrase p ls) ≡ arrays_in ls
+elements_names p [] = refl
+elements_names p (l_int z ∷ ls) = elements_names p ls
+elements_names p (l_yes ∷ ls) = elements_names p ls
+elements_names p (l_no ∷ ls) = elements_names p ls
+elements_names p (l_str s ∷ ls) = elements_names p ls
+elements_names p (l_arr a ∷ ls) = ap (λ (ks : List ℕ). a ∷ ks) (elements_names p ls)
+elements_names p (l_word w ∷ ls) = elements_names p ls
+elements_names p (l_quot t ∷ ls) = ap (λ (ks : List ℕ). arrays_named t ++ ks) (elements_names p ls)
+elements_names p (l_made k ∷ ls) = elements_names p ls
+
+-- the arrays that those below a number name
+abbrev pub names_below : ℕ → List (List Lit) → List ℕ
+names_below zero lss = []
+names_below (suc a) [] = []
+names_below (suc a) (ls ∷ lss) = arrays_in ls ++ names_below a lss
+
+pub names_all : (lss : List (List Lit)) → names_below (length lss) lss ≡ joined (map arrays_in lss)
+names_all [] = refl
+names_all (ls ∷ lss) = ap (λ (ks : List ℕ). arrays_in ls ++ ks) (names_all lss)
+
+pub names_step : (b a : ℕ) (lss : List (List Lit)) (ls : List Lit) → slice_get lss a ≡ Some ls → times_in b (names_below (suc a) lss) ≡ times_in b (names_below a lss) + times_in b (arrays_in ls)
+names_step b a [] ls e = absurd cc
+names_step b zero (xs ∷ lss) ls e =
+    let same : xs ≡ ls = cc in
+    let both = times_both b (arrays_in xs) [] in
+    let again = ap (λ (ys : List Lit). times_in b (arrays_in ys)) same in
+    omega (arith, both, again)
+names_step b (suc a) (xs ∷ lss) ls e =
+    let outer = times_both b (arrays_in xs) (names_below (suc a) lss) in
+    let inner = times_both b (arrays_in xs) (names_below a lss) in
+    let rest = names_step b a lss ls e in
+    omega (arith, outer, inner, rest)
+
+pub names_fewer : (b a : ℕ) (lss : List (List Lit)) → times_in b (names_below a lss) ≤ times_in b (joined (map arrays_in lss))
+names_fewer b zero lss = omega arith
+names_fewer b (suc a) [] = omega arith
+names_fewer b (suc a) (ls ∷ lss) =
+    let outer = times_both b (arrays_in ls) (names_below a lss) in
+    let inner = times_both b (arrays_in ls) (joined (map arrays_in lss)) in
+    let rest = names_fewer b a lss in
+    omega (arith, outer, inner, rest)
+
+absent : (x k : ℕ) (xs : List ℕ) → list_all (λ (b : ℕ). nat_lt b k) xs ≡ true → k ≤ x → times_in x xs ≡ 0
+absent x k [] h le = refl
+absent x k (y ∷ ys) h le = let both = and_parts (nat_lt y k) _ h in go (nat_eq x y) refl (absent x k ys both.1 le) (ltb-true y k both.0) where
+  go : (b : Bool) → nat_eq x y ≡ b → times_in x ys ≡ 0 → y < k → counted b (times_in x ys) ≡ 0
+  go true e rest lt = let same = eqb-true x y e in absurd (omega (arith, same, lt, le))
+  go false e rest lt = rest
+
+pub not_named_below : (x k j : ℕ) (lss : List (List Lit)) → each_numbered names_earlier k lss ≡ true → k + j ≤ suc x → times_in x (names_below j lss) ≡ 0
+not_named_below x k zero lss h le = refl
+not_named_below x k (suc j) [] h le = refl
+not_named_below x k (suc j) (ls ∷ lss) h le =
+    let both = and_parts (names_earlier k ls) _ h in
+    let here = absent x k (arrays_in ls) both.0 (omega (arith, le)) in
+    let rest = not_named_below x (suc k) j lss both.1 (omega (arith, le)) in
+    let sum = times_both x (arrays_in ls) (names_below j lss) in
+    omega (arith, here, rest, sum)
+
+pub below_once : (f : ℕ → ℕ) (n b : ℕ) → each_below (λ (a : ℕ). nat_eq (f a) 1) n ≡ true → b < n → f b ≡ 1
+below_once f zero b h lt = absurd (omega (arith, lt))
+below_once f (suc n) b h lt = let both = and_parts (nat_eq (f n) 1) _ h in go (cases_eq b n) (eqb-true (f n) 1 both.0) (below_once f n b both.1) where
+  go : (b ≡ n) ⊎ (b ≡ n → ⊥) → f n ≡ 1 → (b < n → f b ≡ 1) → f b ≡ 1
+  go (inl e) here rest = ap f e ∙ here
+  go (inr ne) here rest = by_side (f b ≡ 1) n b rest (λ (le : n ≤ b). absurd (ne (omega (arith, le, lt)))) (cases_lt b n)

@@ -1,0 +1,285 @@
+-- The literal arrays of a built program: none stands in a method, each names only earlier ones, and so many quotations are counted in each.
+use Rattle.std.proofs.Common.{◌≡◌, ◌<◌, ◌≤◌, ℕ, zero, suc, ◌+◌, List, [], ◌∷◌, ◌++◌, length, get_or, Option, Some, None, true, false, refl, sym, ap, ◌∙◌, subst, length-append, arith}
+use Rattle.std.specs.Prelude.{map, slice_get, nat_lt, ◌&&◌}
+use Rattle.std.specs.List.{list_all}
+use Rattle.std.proofs.lemmas.List.{get_or_append_left, get_or_at}
+use Rattle.std.proofs.lemmas.List.Folds.{list_all-append}
+use Rattle.std.proofs.lemmas.Bool.{ltb-true, and_parts}
+use Rattle.fac_lang.specs.Phrases.{Phrase, end, then, Item, lit, lit_arr, quot, word, bind, local, fry, hole, call_eff, exec_eff, next_method, made, next_after, held, known}
+use Rattle.fac_lang.specs.Meaning.{nowhere, method_naming, array_naming, array_method, phrase_names}
+use Rattle.fac_lang.specs.declared.phrase.Place.{Place}
+use Rattle.fac_lang.specs.declared.program.Lit.{Lit}
+use Rattle.fac_lang.specs.declared.program.Lit.TheVariants.{Int as l_int, True as l_yes, False as l_no, Str as l_str, Arr as l_arr, Wref as l_word, Quot as l_quot, Made as l_made}
+use Rattle.fac_lang.specs.declared.program.Program.{Program}
+use Rattle.fac_lang.specs.declared.program.WordDef.{WordDef}
+use Rattle.fac_lang.specs.declared.program.Sort.{Sort}
+use Rattle.fac_lang.specs.declared.program.Sort.TheVariants.{Prim as prim, Core as core, Body as body, Past as past, Itself as itself, Class as class, Isa as isa, Getter as getter, Setter as setter, Putter as putter, Generic as generic, Method as method}
+use Rattle.fac_lang.specs.Forms.{IsBuilt, IsBuiltPhrase, IsBuiltItem, IsBuiltSort, AreBuiltWords, AreBuiltElements, AreBuiltArrays}
+use Rattle.fac_lang.specs.Whole.{IsWhole, each_item, each_inner, item_fits, word_phrases, quotations, joined, arrays_named, arrays_named_by, arrays_in, each_numbered, names_earlier}
+use Rattle.fac_locals.specs.Literals.{array_phrase}
+use Rattle.fac_locals.specs.inner.Numbering.{phrase_behind, item_behind, plain_phrase, body_of, elements_count, counts_from}
+
+-- the phrase of a word, where it has one, is of the built forms
+abbrev pub HasBuiltPhrase : ℕ → Sort → Type 0
+HasBuiltPhrase bound (body t) = IsBuiltPhrase bound t
+HasBuiltPhrase bound (past t) = ⊥
+HasBuiltPhrase bound (method c g t) = ⊥
+HasBuiltPhrase bound _ = Unit {0}
+
+-- likewise the phrases of words
+abbrev pub HaveBuiltPhrases : ℕ → List WordDef → Type 0
+HaveBuiltPhrases bound [] = Unit {0}
+HaveBuiltPhrases bound (d ∷ ds) = HasBuiltPhrase bound d.sort × HaveBuiltPhrases bound ds
+
+sort_built : (bound : ℕ) (d : WordDef) (s : Sort) → IsBuiltSort bound d s → HasBuiltPhrase bound s
+sort_built bound d (body t) h = h
+sort_built bound d (prim k) h = tt
+sort_built bound d (core k) h = tt
+sort_built bound d (past t) h = absurd h
+sort_built bound d itself h = tt
+sort_built bound d (class k) h = tt
+sort_built bound d (isa k) h = tt
+sort_built bound d (getter x) h = tt
+sort_built bound d (setter x) h = tt
+sort_built bound d (putter x) h = tt
+sort_built bound d generic h = tt
+sort_built bound d (method c g t) h = absurd h
+
+phrases_built : (bound : ℕ) (ds : List WordDef) (d : WordDef) → AreBuiltWords bound ds → HasBuiltPhrase bound d.sort → HaveBuiltPhrases bound (ds ++ d ∷ [])
+phrases_built bound [] d hs h = (h, tt)
+phrases_built bound (x ∷ ds) d hs h = (sort_built bound x x.sort hs.0, phrases_built bound ds d hs.1 h)
+
+-- each phrase of a program of the built forms is of the built forms
+pub built_phrases : (P : Program) → IsBuilt P → HaveBuiltPhrases P.top P.words
+built_phrases P b = rw b.words_are (phrases_built P.top b.words b.last_word b.built (rw b.last_word_is.sort_is b.last_word_is.phrase_built))
+
+-- No array stands in a method.
+abbrev named_by : ℕ → ℕ → Sort → Option ℕ → Option ℕ
+named_by a k s r = elim s [ method c g t ↦ elim (phrase_names a t) [ true ↦ Some k | false ↦ r ] | _ ↦ r ]
+
+no_method_named : (bound a k : ℕ) (ds : List WordDef) → HaveBuiltPhrases bound ds → (P : Program) → method_naming P a k ds ≡ None
+no_method_named bound a k [] h P = refl
+no_method_named bound a k (d ∷ ds) h P = go d.sort h.0 (no_method_named bound a (suc k) ds h.1 P) where
+  go : (s : Sort) → HasBuiltPhrase bound s → method_naming P a (suc k) ds ≡ None → named_by a k s (method_naming P a (suc k) ds) ≡ None
+  go (body t) h e = e
+  go (prim n) h e = e
+  go (core n) h e = e
+  go (past t) h e = absurd h
+  go itself h e = e
+  go (class n) h e = e
+  go (isa n) h e = e
+  go (getter x) h e = e
+  go (setter x) h e = e
+  go (putter x) h e = e
+  go generic h e = e
+  go (method c g t) h e = absurd h
+
+abbrev around_by : Program → ℕ → Option ℕ → Option ℕ → Option ℕ
+around_by P n o r = elim o [ Some m ↦ Some m | None ↦ elim r [ None ↦ None | Some b ↦ array_method P n b ] ]
+
+around_none : (P : Program) (n : ℕ) (o r : Option ℕ) → o ≡ None → ((b : ℕ) → array_method P n b ≡ None) → around_by P n o r ≡ None
+around_none P n None None e h = refl
+around_none P n None (Some b) e h = h b
+around_none P n (Some m) r e h = absurd cc
+
+no_method : (P : Program) (bound : ℕ) → HaveBuiltPhrases bound P.words → (n a : ℕ) → array_method P n a ≡ None
+no_method P bound h zero a = no_method_named bound a 0 P.words h P
+no_method P bound h (suc n) a = around_none P n (method_naming P a 0 P.words) (array_naming P a 0 P.arrays) (no_method_named bound a 0 P.words h P) (λ (b : ℕ). no_method P bound h n b)
+
+-- no literal array of a built program stands in a method
+pub array_in_no_method : (P : Program) → IsBuilt P → (n a : ℕ) → array_method P n a ≡ None
+array_in_no_method P b n a = no_method P P.top (built_phrases P b) n a
+
+-- a phrase of the built forms that names only literal arrays before this one
+abbrev mutual
+  pub IsClosable : ℕ → Phrase → Type 0
+  IsClosable a end = Unit {0}
+  IsClosable a (then i p t) = IsClosableItem a i × IsClosable a t
+
+  pub IsClosableItem : ℕ → Item → Type 0
+  IsClosableItem a (lit q) = Unit {0}
+  IsClosableItem a (lit_arr b) = b < a
+  IsClosableItem a (word w) = Unit {0}
+  IsClosableItem a (quot t) = IsClosable a t
+  IsClosableItem a _ = ⊥
+
+-- likewise the bodies of words
+abbrev pub AreClosable : ℕ → List WordDef → Type 0
+AreClosable a [] = Unit {0}
+AreClosable a (d ∷ ds) = IsClosable a (body_of d.sort) × AreClosable a ds
+
+mutual
+  pub closable_more : (a n : ℕ) (t : Phrase) → a ≤ n → IsClosable a t → IsClosable n t
+  closable_more a n end le h = tt
+  closable_more a n (then i p t) le h = (closable_item_more a n i le h.0, closable_more a n t le h.1)
+
+  closable_item_more : (a n : ℕ) (i : Item) → a ≤ n → IsClosableItem a i → IsClosableItem n i
+  closable_item_more a n (lit q) le h = tt
+  closable_item_more a n (lit_arr b) le h = omega (arith, le, h)
+  closable_item_more a n (word w) le h = tt
+  closable_item_more a n (quot t) le h = closable_more a n t le h
+  closable_item_more a n (bind x) le h = absurd h
+  closable_item_more a n (local x) le h = absurd h
+  closable_item_more a n (fry t k) le h = absurd h
+  closable_item_more a n (hole k) le h = absurd h
+  closable_item_more a n (call_eff f) le h = absurd h
+  closable_item_more a n (exec_eff f) le h = absurd h
+  closable_item_more a n next_method le h = absurd h
+  closable_item_more a n (made k) le h = absurd h
+  closable_item_more a n (next_after m) le h = absurd h
+  closable_item_more a n (held v) le h = absurd h
+  closable_item_more a n (known m) le h = absurd h
+
+-- a phrase whose items fit
+mutual
+  fitting_closable : (P : Program) (bound : ℕ) (t : Phrase) → IsBuiltPhrase bound t → each_item (item_fits P) t ≡ true → IsClosable (length P.arrays) t
+  fitting_closable P bound end h e = tt
+  fitting_closable P bound (then i p t) h e =
+      let later = and_parts _ (each_item (item_fits P) t) e in
+      (fitting_item P bound i h.0 later.0, fitting_closable P bound t h.1 later.1)
+
+  fitting_item : (P : Program) (bound : ℕ) (i : Item) → IsBuiltItem bound i → (item_fits P i && each_inner (item_fits P) i) ≡ true → IsClosableItem (length P.arrays) i
+  fitting_item P bound (lit q) h e = tt
+  fitting_item P bound (lit_arr b) h e = ltb-true b (length P.arrays) (and_parts (nat_lt b (length P.arrays)) true e).0
+  fitting_item P bound (word w) h e = tt
+  fitting_item P bound (quot t) h e = fitting_closable P bound t h (and_parts true (each_item (item_fits P) t) e).1
+  fitting_item P bound (bind x) h e = absurd h
+  fitting_item P bound (local x) h e = absurd h
+  fitting_item P bound (fry t k) h e = absurd h
+  fitting_item P bound (hole k) h e = absurd h
+  fitting_item P bound (call_eff f) h e = absurd h
+  fitting_item P bound (exec_eff f) h e = absurd h
+  fitting_item P bound next_method h e = absurd h
+  fitting_item P bound (made k) h e = absurd h
+  fitting_item P bound (next_after m) h e = absurd h
+  fitting_item P bound (held v) h e = absurd h
+  fitting_item P bound (known m) h e = absurd h
+
+words_closable : (P : Program) (bound : ℕ) (ds : List WordDef) → HaveBuiltPhrases bound ds → list_all (each_item (item_fits P)) (word_phrases ds) ≡ true → AreClosable (length P.arrays) ds
+words_closable P bound [] h e = tt
+words_closable P bound (d ∷ ds) h e = let both = go d.sort h.0 e in (both.0, words_closable P bound ds h.1 both.1) where
+  go : (s : Sort) → HasBuiltPhrase bound s → list_all (each_item (item_fits P)) (elim s [ body t ↦ t ∷ word_phrases ds | past t ↦ t ∷ word_phrases ds | method c g t ↦ t ∷ word_phrases ds | _ ↦ word_phrases ds ]) ≡ true → IsClosable (length P.arrays) (body_of s) × (list_all (each_item (item_fits P)) (word_phrases ds) ≡ true)
+  go (body t) h e = let both = and_parts (each_item (item_fits P) t) _ e in (fitting_closable P bound t h both.0, both.1)
+  go (prim n) h e = (tt, e)
+  go (core n) h e = (tt, e)
+  go (past t) h e = absurd h
+  go itself h e = (tt, e)
+  go (class n) h e = (tt, e)
+  go (isa n) h e = (tt, e)
+  go (getter x) h e = (tt, e)
+  go (setter x) h e = (tt, e)
+  go (putter x) h e = (tt, e)
+  go generic h e = (tt, e)
+  go (method c g t) h e = absurd h
+
+-- the bodies of a built and whole program name only arrays that are there
+pub program_closable : (P : Program) → IsBuilt P → IsWhole P → AreClosable (length P.arrays) P.words
+program_closable P b w =
+    words_closable P P.top P.words (built_phrases P b) (and_parts _ _ (sym (list_all-append (each_item (item_fits P)) (word_phrases P.words) (joined (map quotations P.arrays))) ∙ w.items_fit)).0
+
+-- a phrase whose arrays are all before this one
+mutual
+  naming_closable : (bound a : ℕ) (t : Phrase) → IsBuiltPhrase bound t → list_all (λ (b : ℕ). nat_lt b a) (arrays_named t) ≡ true → IsClosable a t
+  naming_closable bound a end h e = tt
+  naming_closable bound a (then i p t) h e =
+      let both = and_parts _ _ (sym (list_all-append (λ (b : ℕ). nat_lt b a) (arrays_named_by i) (arrays_named t)) ∙ e) in
+      (naming_item bound a i h.0 both.0, naming_closable bound a t h.1 both.1)
+
+  naming_item : (bound a : ℕ) (i : Item) → IsBuiltItem bound i → list_all (λ (b : ℕ). nat_lt b a) (arrays_named_by i) ≡ true → IsClosableItem a i
+  naming_item bound a (lit q) h e = tt
+  naming_item bound a (lit_arr b) h e = ltb-true b a (and_parts (nat_lt b a) true e).0
+  naming_item bound a (word w) h e = tt
+  naming_item bound a (quot t) h e = naming_closable bound a t h e
+  naming_item bound a (bind x) h e = absurd h
+  naming_item bound a (local x) h e = absurd h
+  naming_item bound a (fry t k) h e = absurd h
+  naming_item bound a (hole k) h e = absurd h
+  naming_item bound a (call_eff f) h e = absurd h
+  naming_item bound a (exec_eff f) h e = absurd h
+  naming_item bound a next_method h e = absurd h
+  naming_item bound a (made k) h e = absurd h
+  naming_item bound a (next_after m) h e = absurd h
+  naming_item bound a (held v) h e = absurd h
+  naming_item bound a (known m) h e = absurd h
+
+elements_closable : (bound a : ℕ) (p : Place) (ls : List Lit) → AreBuiltElements bound ls → list_all (λ (b : ℕ). nat_lt b a) (arrays_in ls) ≡ true → IsClosable a (plain_phrase p ls)
+elements_closable bound a p [] h e = tt
+elements_closable bound a p (l_int z ∷ ls) h e = (tt, elements_closable bound a p ls h.1 e)
+elements_closable bound a p (l_yes ∷ ls) h e = (tt, elements_closable bound a p ls h.1 e)
+elements_closable bound a p (l_no ∷ ls) h e = (tt, elements_closable bound a p ls h.1 e)
+elements_closable bound a p (l_str s ∷ ls) h e = (tt, elements_closable bound a p ls h.1 e)
+elements_closable bound a p (l_arr b ∷ ls) h e = let both = and_parts (nat_lt b a) _ e in (ltb-true b a both.0, elements_closable bound a p ls h.1 both.1)
+elements_closable bound a p (l_word w ∷ ls) h e = (tt, elements_closable bound a p ls h.1 e)
+elements_closable bound a p (l_quot t ∷ ls) h e =
+    let both = and_parts _ _ (sym (list_all-append (λ (b : ℕ). nat_lt b a) (arrays_named t) (arrays_in ls)) ∙ e) in
+    (naming_closable bound a t h.0 both.0, elements_closable bound a p ls h.1 both.1)
+elements_closable bound a p (l_made k ∷ ls) h e = absurd h.0
+
+arrays_closable : (bound k a j : ℕ) (p : Place) (lss : List (List Lit)) (ls : List Lit) → AreBuiltArrays bound lss → each_numbered names_earlier k lss ≡ true → a ≡ k + j → slice_get lss j ≡ Some ls → IsClosable a (plain_phrase p ls)
+arrays_closable bound k a j p [] ls h e is at = absurd cc
+arrays_closable bound k a zero p (xs ∷ lss) ls h e is at =
+    let same : xs ≡ ls = cc in
+    let here : k ≡ a = omega (arith, is) in
+    let both = and_parts (names_earlier k xs) _ e in
+    subst (λ (ys : List Lit). IsClosable a (plain_phrase p ys)) same (subst (λ (n : ℕ). IsClosable n (plain_phrase p xs)) here (elements_closable bound k p xs h.0 both.0))
+arrays_closable bound k a (suc j) p (xs ∷ lss) ls h e is at = arrays_closable bound (suc k) a j p lss ls h.1 (and_parts (names_earlier k xs) _ e).1 (omega (arith, is)) at
+
+-- the elements of a literal array name only earlier ones
+pub array_closable : (P : Program) → IsBuilt P → IsWhole P → (a : ℕ) (p : Place) (ls : List Lit) → slice_get P.arrays a ≡ Some ls → IsClosable a (plain_phrase p ls)
+array_closable P b w a p ls at = arrays_closable P.top 0 a a p P.arrays ls b.arrays_built w.arrays_earlier (omega arith) at
+
+-- the items of a literal array
+pub array_phrase_is : (P : Program) → IsBuilt P → (a : ℕ) (p : Place) (ls : List Lit) → slice_get P.arrays a ≡ Some ls → array_phrase P a p ≡ plain_phrase p ls
+array_phrase_is P b a p ls at = rw (array_in_no_method P b (length P.arrays) a, at) refl
+
+-- Counts.
+
+-- a count of arrays before another is enough for what names only those
+mutual
+  behind_same : (cs ds : List ℕ) (a : ℕ) → ((b : ℕ) → b < a → get_or cs b 0 ≡ get_or ds b 0) → (n : ℕ) (t : Phrase) → IsClosable a t → phrase_behind cs n t ≡ phrase_behind ds n t
+  behind_same cs ds a e n end h = refl
+  behind_same cs ds a e n (then i p t) h = ap (λ (m : ℕ). phrase_behind cs m t) (item_behind_same cs ds a e n i h.0) ∙ behind_same cs ds a e (item_behind ds n i) t h.1
+
+  item_behind_same : (cs ds : List ℕ) (a : ℕ) → ((b : ℕ) → b < a → get_or cs b 0 ≡ get_or ds b 0) → (n : ℕ) (i : Item) → IsClosableItem a i → item_behind cs n i ≡ item_behind ds n i
+  item_behind_same cs ds a e n (lit q) h = refl
+  item_behind_same cs ds a e n (lit_arr b) h = ap (λ (m : ℕ). n + m) (e b h)
+  item_behind_same cs ds a e n (word w) h = refl
+  item_behind_same cs ds a e n (quot t) h = behind_same cs ds a e (suc n) t h
+  item_behind_same cs ds a e n (bind x) h = absurd h
+  item_behind_same cs ds a e n (local x) h = absurd h
+  item_behind_same cs ds a e n (fry t k) h = absurd h
+  item_behind_same cs ds a e n (hole k) h = absurd h
+  item_behind_same cs ds a e n (call_eff f) h = absurd h
+  item_behind_same cs ds a e n (exec_eff f) h = absurd h
+  item_behind_same cs ds a e n next_method h = absurd h
+  item_behind_same cs ds a e n (made k) h = absurd h
+  item_behind_same cs ds a e n (next_after m) h = absurd h
+  item_behind_same cs ds a e n (held v) h = absurd h
+  item_behind_same cs ds a e n (known m) h = absurd h
+
+one_longer : {A : Type 0} (xs : List A) (x : A) (n : ℕ) → length xs ≡ n → length (xs ++ x ∷ []) ≡ suc n
+one_longer xs x n e = rw (length-append xs (x ∷ [])) (omega (arith, e))
+
+counts_stay : (cs : List ℕ) (lss : List (List Lit)) (b : ℕ) → b < length cs → get_or (counts_from cs lss) b 0 ≡ get_or cs b 0
+counts_stay cs [] b lt = refl
+counts_stay cs (ls ∷ lss) b lt =
+    let long = one_longer cs (elements_count cs ls) (length cs) refl in
+    counts_stay (cs ++ elements_count cs ls ∷ []) lss b (omega (arith, lt, long)) ∙ get_or_append_left cs (elements_count cs ls ∷ []) 0 b lt
+
+counts_at : (P : Program) (k a j : ℕ) (cs : List ℕ) (lss : List (List Lit)) (ls : List Lit) → length cs ≡ k → a ≡ k + j → slice_get lss j ≡ Some ls → IsClosable a (plain_phrase nowhere ls) → get_or (counts_from cs lss) a 0 ≡ elements_count (counts_from cs lss) ls
+counts_at P k a j cs [] ls long is at h = absurd cc
+counts_at P k a zero cs (xs ∷ lss) ls long is at h =
+    let same : xs ≡ ls = cc in
+    let here : a ≡ length cs = omega (arith, is, long) in
+    let c = elements_count cs xs in
+    let longer = one_longer cs c (length cs) refl in
+    let all = counts_from (cs ++ c ∷ []) lss in
+    counts_stay (cs ++ c ∷ []) lss a (omega (arith, here, longer))
+    ∙ get_or_at cs c [] 0 a (sym here)
+    ∙ ap (elements_count cs) same
+    ∙ behind_same cs all a (λ (b : ℕ) (lt : b < a). sym (counts_stay (cs ++ c ∷ []) lss b (omega (arith, here, longer, lt)) ∙ get_or_append_left cs (c ∷ []) 0 b (omega (arith, here, lt)))) 0 (plain_phrase nowhere ls) h
+counts_at P k a (suc j) cs (xs ∷ lss) ls long is at h = counts_at P (suc k) a j (cs ++ elements_count cs xs ∷ []) lss ls (one_longer cs (elements_count cs xs) k long) (omega (arith, is)) at h
+
+-- so many quotations are counted in a literal array as its elements have
+pub counted_elements : (P : Program) → IsBuilt P → IsWhole P → (a : ℕ) (ls : List Lit) → slice_get P.arrays a ≡ Some ls → get_or (counts_from [] P.arrays) a 0 ≡ elements_count (counts_from [] P.arrays) ls
+counted_elements P b w a ls at = counts_at P 0 a a [] P.arrays ls refl (omega arith) at (array_closable P b w a nowhere ls at)

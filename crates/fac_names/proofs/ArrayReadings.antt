@@ -1,0 +1,445 @@
+-- Each literal array of what was read is named at one place: no word is told twice.
+use Rattle.std.proofs.Common.{◌≡◌, ◌≤◌, ◌<◌, ◌+◌, ℕ, zero, suc, List, [], ◌∷◌, ◌++◌, length, Option, Some, Bool, true, false, cond, refl, ap, sym, ◌∙◌, subst, arith}
+use Rattle.std.specs.Prelude.{◌&&◌, ◌||◌, not, nat_eq, slice_get}
+use Rattle.std.specs.List.{find, filter, list_any}
+use Rattle.std.specs.Str.{bytes_eq}
+use Rattle.std.proofs.lemmas.List.{length_push}
+use Rattle.std.proofs.lemmas.Slice.Eq.{bytes_eq-Decides}
+use Rattle.fac_lang.specs.Phrases.{Phrase, end, then as placed}
+use Rattle.fac_lang.specs.RunningLaws.{append}
+use Rattle.fac_lang.specs.Signatures.{Signature}
+use Rattle.fac_lang.specs.Whole.{arrays_named, arrays_named_by, each_numbered, names_earlier, times_in}
+use Rattle.fac_lang.specs.declared.phrase.Place.{Place}
+use Rattle.fac_lang.specs.declared.program.Lit.{Lit}
+use Rattle.fac_lang.specs.declared.program.Sort.{Sort}
+use Rattle.fac_lang.specs.declared.program.Sort.TheVariants.{Body as body, Past as past, Method as method}
+use Rattle.fac_lang.specs.declared.program.WordDef.{WordDef}
+use Rattle.fac_vocab.specs.declared.entry.Entry.{Entry}
+use Rattle.fac_vocab.specs.Scopes.{Scope, entries_from, holders, home, now_defined, same_table}
+use Rattle.fac_names.specs.declared.refusal.NameFault.{NameFault}
+use Rattle.fac_names.specs.declared.refusal.NameKind.TheVariants.{Twice}
+use Rattle.fac_names.specs.Written.{Tok}
+use Rattle.fac_names.specs.Items.{fault}
+use Rattle.fac_names.specs.Forms.{Draft, Numbered, Reading, added, at_place, changed, defining, deferring, draft_of, own, refused, settled, told, with_told}
+use Rattle.fac_names.proofs.ArrayNumbers.{Adds, below, held_times, times_both}
+use Rattle.fac_names.proofs.BuiltScopes.{EntriesBelow}
+use Rattle.fac_names.proofs.Staying.{all_spare, spares}
+
+-- What a word names.
+
+abbrev pub names_by : Sort → List ℕ
+names_by (body t) = arrays_named t
+names_by (past t) = arrays_named t
+names_by (method c g t) = arrays_named t
+names_by _ = []
+
+abbrev pub named_in : List Draft → List ℕ
+named_in [] = []
+named_in (d ∷ ds) = names_by d.word.sort ++ named_in ds
+
+-- the words of entries ascend
+abbrev pub Ascending : ℕ → List Entry → Type 0
+Ascending least [] = Unit {0}
+Ascending least (e ∷ es) = (least ≤ e.word) × Ascending (suc e.word) es
+
+-- a word of which an entry is only deferred names no array; the first word has number k
+abbrev pub Spared : ℕ → List Draft → List Entry → Type 0
+Spared k [] table = Unit {0}
+Spared k (d ∷ ds) table = (all_spare k table ≡ false → names_by d.word.sort ≡ []) × Spared (suc k) ds table
+
+pub record Counted (r : Reading) : Type 0 where
+  pub ascending : Ascending 0 r.scope.table
+  pub spared : Spared 0 r.words r.scope.table
+  pub once : (a : ℕ) → times_in a (named_in r.words) + times_in a (arrays_named r.top) + held_times a r.arrays ≡ below (length r.arrays) a
+  pub earlier : each_numbered names_earlier 0 r.arrays ≡ true
+  pub main_none : arrays_named r.main ≡ []
+
+-- a word that isn't told yet
+pub record Fresh (n : Numbered) : Type 0 where
+  pub within : n.word < length n.reading.words
+  pub unnamed : (d : Draft) → slice_get n.reading.words n.word ≡ Some d → names_by d.word.sort ≡ []
+  pub spared : all_spare n.word n.reading.scope.table ≡ true
+
+-- Truth values.
+
+both_are : (a b : Bool) → a ≡ true → b ≡ true → (a && b) ≡ true
+both_are a b h k = rw (h, k) refl
+
+first_and : (b c : Bool) → (b && c) ≡ true → b ≡ true
+first_and true c h = refl
+first_and false c h = h
+
+second_and : (b c : Bool) → (b && c) ≡ true → c ≡ true
+second_and true c h = h
+second_and false c h = cc
+
+or_true : (b c : Bool) → c ≡ true → (b || c) ≡ true
+or_true true c h = refl
+or_true false c h = h
+
+none_of : {A : Type 0} → true ≡ false → A
+none_of h = cc
+
+backward : (a b : Bool) → (a ≡ true → b ≡ true) → b ≡ false → a ≡ false
+backward true b f h = none_of (sym (f refl) ∙ h)
+backward false b f h = refl
+
+is_other : (a b : ℕ) → a < b → nat_eq a b ≡ false
+is_other a b lt = grind arith
+
+-- Entries.
+
+entry_spares : (w : ℕ) (e : Entry) → nat_eq e.word w ≡ false → spares w e ≡ true
+entry_spares w e h = or_true e.is_defined (not (nat_eq e.word w)) (ap not h)
+
+-- a word above those of all entries
+pub out_spared : (n w : ℕ) (es : List Entry) → EntriesBelow n es → n ≤ w → all_spare w es ≡ true
+out_spared n w [] h few = refl
+out_spared n w (e ∷ es) h few = let lt = h.0 in both_are (spares w e) (all_spare w es) (entry_spares w e (is_other e.word w (omega (arith, lt, few)))) (out_spared n w es h.1 few)
+
+greater_other : (a b : ℕ) → b < a → nat_eq a b ≡ false
+greater_other a b lt = grind arith
+
+-- a word below those of all entries
+under_spared : (least w : ℕ) (es : List Entry) → Ascending least es → w < least → all_spare w es ≡ true
+under_spared least w [] h lt = refl
+under_spared least w (e ∷ es) h lt =
+    let up = h.0 in
+    both_are (spares w e) (all_spare w es) (entry_spares w e (greater_other e.word w (omega (arith, up, lt)))) (under_spared (suc e.word) w es h.1 (omega (arith, up, lt)))
+
+found_if : (b : Bool) (x e : Entry) (o : Option Entry) → cond b (Some x) o ≡ Some e → (b ≡ false → o ≡ Some e → x.word ≤ e.word) → x.word ≤ e.word
+found_if true x e o h f = let same : x ≡ e = cc in let words = ap (λ (y : Entry). y.word) same in omega (arith, words)
+found_if false x e o h f = f refl h
+
+found_up : (least : ℕ) (p : Entry → Bool) (es : List Entry) (e : Entry) → Ascending least es → find p es ≡ Some e → least ≤ e.word
+found_up least p [] e h is = absurd (cc)
+found_up least p (x ∷ xs) e h is =
+    let up = h.0 in
+    let behind = found_if (p x) x e (find p xs) is (λ out there. (let more = found_up (suc x.word) p xs e h.1 there in omega (arith, more))) in
+    omega (arith, up, behind)
+
+-- where the first entry of a name is defined now, it was the one of its word that was only deferred
+now_spared : (vocab name : List ℕ) (least : ℕ) (es : List Entry) (e : Entry) → Ascending least es → find (λ (f : Entry). bytes_eq name f.name && bytes_eq vocab f.vocab) es ≡ Some e → all_spare e.word (now_defined vocab name es) ≡ true
+now_spared vocab name least [] e h is = refl
+now_spared vocab name least (x ∷ xs) e h is = one (bytes_eq name x.name && bytes_eq vocab x.vocab) (λ there. now_spared vocab name (suc x.word) xs e h.1 there) is
+  where
+    one : (b : Bool) → (find (λ (f : Entry). bytes_eq name f.name && bytes_eq vocab f.vocab) xs ≡ Some e → all_spare e.word (now_defined vocab name xs) ≡ true) → cond b (Some x) (find (λ (f : Entry). bytes_eq name f.name && bytes_eq vocab f.vocab) xs) ≡ Some e → all_spare e.word (cond b (record x { is_defined = true } ∷ xs) (x ∷ now_defined vocab name xs)) ≡ true
+    one true behind there =
+        let same : x ≡ e = cc in
+        let words = ap (λ (y : Entry). y.word) same in
+        under_spared (suc x.word) e.word xs h.1 (omega (arith, words))
+    one false behind there =
+        let up = found_up (suc x.word) (λ (f : Entry). bytes_eq name f.name && bytes_eq vocab f.vocab) xs e h.1 there in
+        both_are (spares e.word x) (all_spare e.word (now_defined vocab name xs)) (entry_spares e.word x (is_other x.word e.word (omega (arith, up)))) (behind there)
+
+-- the first of the entries of a name in a table and its companion is the first of its own full name
+abbrev holds : List ℕ → List ℕ → Entry → Bool
+holds vocab name e = bytes_eq name e.name && same_table vocab e.vocab
+
+abbrev exactly : Entry → Entry → Bool
+exactly e f = bytes_eq e.name f.name && bytes_eq e.vocab f.vocab
+
+exact_holds : (vocab name : List ℕ) (e x : Entry) → exactly e x ≡ true → holds vocab name x ≡ holds vocab name e
+exact_holds vocab name e x h =
+    let names = (bytes_eq-Decides e.name x.name).0 (first_and (bytes_eq e.name x.name) (bytes_eq e.vocab x.vocab) h) in
+    let vocabs = (bytes_eq-Decides e.vocab x.vocab).0 (second_and (bytes_eq e.name x.name) (bytes_eq e.vocab x.vocab) h) in
+    ap (λ (n : List ℕ). bytes_eq name n && same_table vocab x.vocab) (sym names) ∙ ap (λ (v : List ℕ). bytes_eq name e.name && same_table vocab v) (sym vocabs)
+
+exact_self : (e : Entry) → exactly e e ≡ true
+exact_self e = both_are (bytes_eq e.name e.name) (bytes_eq e.vocab e.vocab) ((bytes_eq-Decides e.name e.name).1 refl) ((bytes_eq-Decides e.vocab e.vocab).1 refl)
+
+held_holds : (vocab name : List ℕ) (es : List Entry) (e : Entry) (others : List Entry) → filter (holds vocab name) es ≡ e ∷ others → holds vocab name e ≡ true
+held_holds vocab name [] e others h = absurd (cc)
+held_holds vocab name (x ∷ xs) e others h = one (holds vocab name x) (λ there. held_holds vocab name xs e others there) refl h
+  where
+    one : (b : Bool) → (filter (holds vocab name) xs ≡ e ∷ others → holds vocab name e ≡ true) → holds vocab name x ≡ b → cond b (x ∷ filter (holds vocab name) xs) (filter (holds vocab name) xs) ≡ e ∷ others → holds vocab name e ≡ true
+    one true behind is there = let same : x ≡ e = cc in sym (ap (holds vocab name) same) ∙ is
+    one false behind is there = behind there
+
+first_found : (vocab name : List ℕ) (es : List Entry) (e : Entry) (others : List Entry) → filter (holds vocab name) es ≡ e ∷ others → find (exactly e) es ≡ Some e
+first_found vocab name [] e others h = absurd (cc)
+first_found vocab name (x ∷ xs) e others h = one (holds vocab name x) (λ there. first_found vocab name xs e others there) refl h
+  where
+    other : (b : Bool) → exactly e x ≡ b → holds vocab name x ≡ false → holds vocab name e ≡ true → cond b (Some x) (find (exactly e) xs) ≡ find (exactly e) xs
+    other true is out held_is = none_of (sym held_is ∙ sym (exact_holds vocab name e x is) ∙ out)
+    other false is out held_is = refl
+
+    one : (b : Bool) → (filter (holds vocab name) xs ≡ e ∷ others → find (exactly e) xs ≡ Some e) → holds vocab name x ≡ b → cond b (x ∷ filter (holds vocab name) xs) (filter (holds vocab name) xs) ≡ e ∷ others → find (exactly e) (x ∷ xs) ≡ Some e
+    one true behind is there = let same : x ≡ e = cc in subst (λ (y : Entry). cond (exactly y x) (Some x) (find (exactly y) xs) ≡ Some y) same (ap (λ (b : Bool). cond b (Some x) (find (exactly x) xs)) (exact_self x))
+    one false behind is there = other (exactly e x) refl is (held_holds vocab name xs e others there) ∙ behind there
+
+found_spares : (p : Entry → Bool) (es : List Entry) (e : Entry) → find p es ≡ Some e → e.is_defined ≡ false → all_spare e.word es ≡ false
+found_spares p [] e h late = absurd (cc)
+found_spares p (x ∷ xs) e h late = one (p x) (λ there. found_spares p xs e there late) h
+  where
+    same_word : (w : ℕ) → nat_eq w w ≡ true
+    same_word w = grind arith
+
+    not_spared : (b : Bool) (w : ℕ) → b ≡ false → (b || not (nat_eq w w)) ≡ false
+    not_spared b w is = rw (is, same_word w) refl
+
+    no_first : (a b : Bool) → a ≡ false → (a && b) ≡ false
+    no_first a b is = rw is refl
+
+    no_second : (a b : Bool) → b ≡ false → (a && b) ≡ false
+    no_second true b is = is
+    no_second false b is = refl
+
+    one : (b : Bool) → (find p xs ≡ Some e → all_spare e.word xs ≡ false) → cond b (Some x) (find p xs) ≡ Some e → all_spare e.word (x ∷ xs) ≡ false
+    one true behind there =
+        let same : x ≡ e = cc in
+        no_first (spares e.word x) (all_spare e.word xs) (subst (λ (y : Entry). spares e.word y ≡ false) (sym same) (not_spared e.is_defined e.word late))
+    one false behind there = no_second (spares e.word x) (all_spare e.word xs) (behind there)
+
+-- Entries ascend.
+
+ascending_with : (least n : ℕ) (es : List Entry) (e : Entry) → Ascending least es → EntriesBelow n es → least ≤ n → e.word ≡ n → Ascending least (es ++ e ∷ [])
+ascending_with least n [] e h k few is = (omega (arith, few, is), tt)
+ascending_with least n (x ∷ xs) e h k few is = let lt = k.0 in (h.0, ascending_with (suc x.word) n xs e h.1 k.1 (omega (arith, lt)) is)
+
+ascending_if : (least : ℕ) (b : Bool) (x : Entry) (xs ys : List Entry) → Ascending least (x ∷ xs) → Ascending (suc x.word) ys → Ascending least (cond b (record x { is_defined = true } ∷ xs) (x ∷ ys))
+ascending_if least true x xs ys h k = h
+ascending_if least false x xs ys h k = (h.0, k)
+
+ascending_defined : (vocab name : List ℕ) (least : ℕ) (es : List Entry) → Ascending least es → Ascending least (now_defined vocab name es)
+ascending_defined vocab name least [] h = tt
+ascending_defined vocab name least (x ∷ xs) h = ascending_if least (bytes_eq name x.name && bytes_eq vocab x.vocab) x xs (now_defined vocab name xs) h (ascending_defined vocab name (suc x.word) xs h.1)
+
+pub known_ascending : (k : ℕ) (ds : List WordDef) → Ascending k (entries_from k ds)
+known_ascending k [] = tt
+known_ascending k (d ∷ ds) = (omega arith, subst (λ (n : ℕ). Ascending n (entries_from (k + 1) ds)) (let e : k + 1 ≡ suc k = omega arith in e) (known_ascending (k + 1) ds))
+
+known_spare : (w k : ℕ) (ds : List WordDef) → all_spare w (entries_from k ds) ≡ true
+known_spare w k [] = refl
+known_spare w k (d ∷ ds) = known_spare w (k + 1) ds
+
+pub known_spared : (k : ℕ) (ds : List Draft) (table : List WordDef) → Spared k ds (entries_from 0 table)
+known_spared k [] table = tt
+known_spared k (d ∷ ds) table = (λ h. none_of (sym (known_spare k 0 table) ∙ h), known_spared (suc k) ds table)
+
+-- Words of which entries are only deferred.
+
+more_spare : (w : ℕ) (es : List Entry) (e : Entry) → all_spare w es ≡ true → spares w e ≡ true → all_spare w (es ++ e ∷ []) ≡ true
+more_spare w [] e h k = both_are (spares w e) true k refl
+more_spare w (x ∷ xs) e h k = both_are (spares w x) (all_spare w (xs ++ e ∷ [])) (first_and (spares w x) (all_spare w xs) h) (more_spare w xs e (second_and (spares w x) (all_spare w xs) h) k)
+
+-- an entry of a word that comes behind
+spared_entry : (k : ℕ) (ds : List Draft) (table : List Entry) (e : Entry) → Spared k ds table → k + length ds ≤ e.word → Spared k ds (table ++ e ∷ [])
+spared_entry k [] table e h few = tt
+spared_entry k (d ∷ ds) table e h few =
+    (λ out. h.0 (backward (all_spare k table) (all_spare k (table ++ e ∷ [])) (λ held_is. more_spare k table e held_is (entry_spares k e (greater_other e.word k (omega (arith, few))))) out), spared_entry (suc k) ds table e h.1 (omega (arith, few)))
+
+-- a word that names no array
+spared_word : (k : ℕ) (ds : List Draft) (d : Draft) (table : List Entry) → names_by d.word.sort ≡ [] → Spared k ds table → Spared k (ds ++ d ∷ []) table
+spared_word k [] d table none h = (λ out. none, tt)
+spared_word k (x ∷ ds) d table none h = (h.0, spared_word (suc k) ds d table none h.1)
+
+-- a table in which the same words are spared
+spared_table : (k : ℕ) (ds : List Draft) (table other : List Entry) → ((w : ℕ) → all_spare w table ≡ true → all_spare w other ≡ true) → Spared k ds table → Spared k ds other
+spared_table k [] table other f h = tt
+spared_table k (d ∷ ds) table other f h = (λ out. h.0 (backward (all_spare k table) (all_spare k other) (f k) out), spared_table (suc k) ds table other f h.1)
+
+now_if : (w : ℕ) (b : Bool) (e : Entry) (es fs : List Entry) → all_spare w (e ∷ es) ≡ true → all_spare w fs ≡ true → all_spare w (cond b (record e { is_defined = true } ∷ es) (e ∷ fs)) ≡ true
+now_if w true e es fs h k = second_and (spares w e) (all_spare w es) h
+now_if w false e es fs h k = both_are (spares w e) (all_spare w fs) (first_and (spares w e) (all_spare w es) h) k
+
+now_spare : (w : ℕ) (vocab name : List ℕ) (es : List Entry) → all_spare w es ≡ true → all_spare w (now_defined vocab name es) ≡ true
+now_spare w vocab name [] h = refl
+now_spare w vocab name (e ∷ es) h = now_if w (bytes_eq name e.name && bytes_eq vocab e.vocab) e es (now_defined vocab name es) h (now_spare w vocab name es (second_and (spares w e) (all_spare w es) h))
+
+-- a word that is placed
+spared_placed : (k n : ℕ) (p : Place) (ds : List Draft) (table : List Entry) → Spared k ds table → Spared k (changed (at_place p) n ds) table
+spared_placed k n p [] table h = tt
+spared_placed k zero p (d ∷ ds) table h = h
+spared_placed k (suc n) p (d ∷ ds) table h = (h.0, spared_placed (suc k) n p ds table h.1)
+
+-- a word that is told
+spared_told : (k n : ℕ) (f : Draft → Draft) (ds : List Draft) (table : List Entry) → ((d : Draft) → all_spare (n + k) table ≡ false → names_by (f d).word.sort ≡ []) → Spared k ds table → Spared k (changed f n ds) table
+spared_told k n f [] table none h = tt
+spared_told k zero f (d ∷ ds) table none h = (λ out. none d (ap (λ (m : ℕ). all_spare m table) (let e : 0 + k ≡ k = omega arith in e) ∙ out), h.1)
+spared_told k (suc n) f (d ∷ ds) table none h = (h.0, spared_told (suc k) n f ds table (λ e out. none e (ap (λ (m : ℕ). all_spare m table) (let e : suc n + k ≡ n + suc k = omega arith in e) ∙ out)) h.1)
+
+-- what is known of one word
+spared_at : (k n : ℕ) (ds : List Draft) (table : List Entry) (d : Draft) → Spared k ds table → slice_get ds n ≡ Some d → all_spare (n + k) table ≡ false → names_by d.word.sort ≡ []
+spared_at k n [] table d h is out = absurd (cc)
+spared_at k zero (x ∷ ds) table d h is out = let same : x ≡ d = cc in subst (λ (y : Draft). names_by y.word.sort ≡ []) same (h.0 (ap (λ (m : ℕ). all_spare m table) (let e : k ≡ 0 + k = omega arith in e) ∙ out))
+spared_at k (suc n) (x ∷ ds) table d h is out = spared_at (suc k) n ds table d h.1 is (ap (λ (m : ℕ). all_spare m table) (let e : n + suc k ≡ suc n + k = omega arith in e) ∙ out)
+
+-- Numbers of arrays in words.
+
+named_word : (ds : List Draft) (vocab : List ℕ) (t : Tok) → named_in (ds ++ draft_of vocab t ∷ []) ≡ named_in ds
+named_word [] vocab t = refl
+named_word (d ∷ ds) vocab t = ap (λ (xs : List ℕ). names_by d.word.sort ++ xs) (named_word ds vocab t)
+
+named_placed : (p : Place) (n : ℕ) (ds : List Draft) → named_in (changed (at_place p) n ds) ≡ named_in ds
+named_placed p n [] = refl
+named_placed p zero (d ∷ ds) = refl
+named_placed p (suc n) (d ∷ ds) = ap (λ (xs : List ℕ). names_by d.word.sort ++ xs) (named_placed p n ds)
+
+named_told : (a n : ℕ) (sort : Sort) (e : Signature) (inline recursive : Bool) (ds : List Draft) → n < length ds → ((d : Draft) → slice_get ds n ≡ Some d → names_by d.word.sort ≡ []) →
+    times_in a (named_in (changed (with_told sort e inline recursive settled) n ds)) ≡ times_in a (names_by sort) + times_in a (named_in ds)
+named_told a n sort e inline recursive [] lt none = absurd (omega (arith, lt))
+named_told a zero sort e inline recursive (d ∷ ds) lt none =
+    times_both a (names_by sort) (named_in ds) ∙ ap (λ (xs : List ℕ). times_in a (names_by sort) + times_in a (xs ++ named_in ds)) (sym (none d refl))
+named_told a (suc n) sort e inline recursive (d ∷ ds) lt none =
+    let rest = named_told a n sort e inline recursive ds (omega (arith, lt)) (λ x is. none x is) in
+    let one = times_both a (names_by d.word.sort) (named_in (changed (with_told sort e inline recursive settled) n ds)) in
+    let two = times_both a (names_by d.word.sort) (named_in ds) in
+    omega (arith, rest, one, two)
+
+pub named_append : (t u : Phrase) (a : ℕ) → times_in a (arrays_named (append t u)) ≡ times_in a (arrays_named t) + times_in a (arrays_named u)
+named_append end u a = omega arith
+named_append (placed i p t) u a =
+    let rest = named_append t u a in
+    let one = times_both a (arrays_named_by i) (arrays_named (append t u)) in
+    let two = times_both a (arrays_named_by i) (arrays_named t) in
+    omega (arith, rest, one, two)
+
+-- Readings.
+
+pub refused_counted : (r : Reading) (first : Option NameFault) → Counted r → Counted (record r { first = first })
+refused_counted r first c = record { ascending = c.ascending; spared = c.spared; once = c.once; earlier = c.earlier; main_none = c.main_none }
+
+pub scoped_counted : (r : Reading) (s : Scope) → s.table ≡ r.scope.table → Counted r → Counted (record r { scope = s })
+scoped_counted r s same c =
+    record { ascending = subst (Ascending 0) (sym same) c.ascending; spared = subst (Spared 0 r.words) (sym same) c.spared; once = c.once; earlier = c.earlier; main_none = c.main_none }
+
+-- a new word without an entry, and one with an entry
+added_counted : (vocab : List ℕ) (t : Tok) (r : Reading) → Counted r → Counted (added vocab t r).reading
+added_counted vocab t r c =
+    record {
+      ascending = c.ascending;
+      spared = spared_word 0 r.words (draft_of vocab t) r.scope.table refl c.spared;
+      once = λ a. ap (λ (xs : List ℕ). times_in a xs + times_in a (arrays_named r.top) + held_times a r.arrays) (named_word r.words vocab t) ∙ c.once a;
+      earlier = c.earlier;
+      main_none = c.main_none;
+    }
+
+entered_counted : (vocab : List ℕ) (t : Tok) (b : Bool) (r : Reading) → EntriesBelow (length r.words) r.scope.table → Counted r →
+    Counted (record r { scope = record r.scope { table = r.scope.table ++ (record { vocab = vocab; name = t.text; word = length r.words; is_defined = b }) ∷ [] }; words = r.words ++ draft_of vocab t ∷ [] })
+entered_counted vocab t b r few c =
+    let e : Entry = record { vocab = vocab; name = t.text; word = length r.words; is_defined = b } in
+    record {
+      ascending = ascending_with 0 (length r.words) r.scope.table e c.ascending few (omega arith) refl;
+      spared = spared_word 0 r.words (draft_of vocab t) (r.scope.table ++ e ∷ []) refl (spared_entry 0 r.words r.scope.table e c.spared (omega arith));
+      once = (added_counted vocab t r c).once;
+      earlier = c.earlier;
+      main_none = c.main_none;
+    }
+
+last_draft : (ds : List Draft) (x d : Draft) → slice_get (ds ++ x ∷ []) (length ds) ≡ Some d → d ≡ x
+last_draft [] x d h = cc
+last_draft (y ∷ ds) x d h = last_draft ds x d h
+
+unnamed_draft : (vocab : List ℕ) (t : Tok) (ds : List Draft) (d : Draft) → slice_get (ds ++ draft_of vocab t ∷ []) (length ds) ≡ Some d → names_by d.word.sort ≡ []
+unnamed_draft vocab t ds d h = ap (λ (x : Draft). names_by x.word.sort) (last_draft ds (draft_of vocab t) d h)
+
+one_more : (vocab : List ℕ) (t : Tok) (ds : List Draft) → length ds < length (ds ++ draft_of vocab t ∷ [])
+one_more vocab t ds = let pushed = length_push ds (draft_of vocab t) in omega (arith, pushed)
+
+-- what a definition begins with: a word that isn't told yet
+pub record Begins (n : Numbered) : Type 0 where
+  pub counted : Counted n.reading
+  pub fresh : Fresh n
+
+begins_if : (b : Bool) (n m : Numbered) → (b ≡ true → Begins n) → (b ≡ false → Begins m) → Begins (cond b n m)
+begins_if true n m f g = f refl
+begins_if false n m f g = g refl
+
+length_placed : (p : Place) (n : ℕ) (ds : List Draft) → length (changed (at_place p) n ds) ≡ length ds
+length_placed p n [] = refl
+length_placed p zero (d ∷ ds) = refl
+length_placed p (suc n) (d ∷ ds) = ap suc (length_placed p n ds)
+
+below_if : (n : ℕ) (b : Bool) (x e : Entry) (o : Option Entry) → x.word < n → (o ≡ Some e → e.word < n) → cond b (Some x) o ≡ Some e → e.word < n
+below_if n true x e o h f is = let same : x ≡ e = cc in subst (λ (y : Entry). y.word < n) same h
+below_if n false x e o h f is = f is
+
+found_below : (n : ℕ) (p : Entry → Bool) (es : List Entry) (e : Entry) → EntriesBelow n es → find p es ≡ Some e → e.word < n
+found_below n p [] e h is = absurd (cc)
+found_below n p (x ∷ xs) e h is = below_if n (p x) x e (find p xs) h.0 (λ there. found_below n p xs e h.1 there) is
+
+-- an entry that is only deferred
+deferred_begins : (vocab : List ℕ) (t : Tok) (r : Reading) (e : Entry) (others : List Entry) → holders r.scope.table vocab t.text ≡ e ∷ others → e.is_defined ≡ false → EntriesBelow (length r.words) r.scope.table → Counted r →
+    Begins (record { word = e.word; reading = record r { scope = record r.scope { table = now_defined e.vocab e.name r.scope.table }; words = changed (at_place t.place) e.word r.words } })
+deferred_begins vocab t r e others held late few c =
+    let there = first_found vocab t.text r.scope.table e others held in
+    record {
+      counted = record {
+        ascending = ascending_defined e.vocab e.name 0 r.scope.table c.ascending;
+        spared = spared_placed 0 e.word t.place r.words (now_defined e.vocab e.name r.scope.table) (spared_table 0 r.words r.scope.table (now_defined e.vocab e.name r.scope.table) (λ w h. now_spare w e.vocab e.name r.scope.table h) c.spared);
+        once = λ a. ap (λ (xs : List ℕ). times_in a xs + times_in a (arrays_named r.top) + held_times a r.arrays) (named_placed t.place e.word r.words) ∙ c.once a;
+        earlier = c.earlier;
+        main_none = c.main_none;
+      };
+      fresh = record {
+        within = let inside = found_below (length r.words) (exactly e) r.scope.table e few there in let same = length_placed t.place e.word r.words in omega (arith, inside, same);
+        unnamed = λ d is. spared_at 0 e.word (changed (at_place t.place) e.word r.words) r.scope.table d (spared_placed 0 e.word t.place r.words r.scope.table c.spared) is (ap (λ (w : ℕ). all_spare w r.scope.table) (let e : e.word + 0 ≡ e.word = omega arith in e) ∙ found_spares (exactly e) r.scope.table e there late);
+        spared = now_spared e.vocab e.name 0 r.scope.table e c.ascending there;
+      };
+    }
+
+first_or : (b c : Bool) → (b || c) ≡ false → b ≡ false
+first_or true c h = h
+first_or false c h = refl
+
+defining_begins : (vocab : List ℕ) (t : Tok) (r : Reading) (es : List Entry) → holders r.scope.table vocab t.text ≡ es → EntriesBelow (length r.words) r.scope.table → Counted r → Begins (defining vocab t r es)
+defining_begins vocab t r [] held few c =
+    record {
+      counted = entered_counted vocab t true r few c;
+      fresh = record {
+        within = one_more vocab t r.words;
+        unnamed = unnamed_draft vocab t r.words;
+        spared = more_spare (length r.words) r.scope.table _ (out_spared (length r.words) (length r.words) r.scope.table few (omega arith)) refl;
+      };
+    }
+defining_begins vocab t r (e ∷ es) held few c =
+    begins_if (list_any (λ (f : Entry). f.is_defined) (e ∷ es)) _ _
+    (λ held_is. record {
+      counted = added_counted vocab t (refused (fault Twice t ∷ []) r) (refused_counted r _ c);
+      fresh = record { within = one_more vocab t r.words; unnamed = unnamed_draft vocab t r.words; spared = out_spared (length r.words) (length r.words) r.scope.table few (omega arith) };
+    })
+    (λ out. deferred_begins vocab t r e es held (first_or e.is_defined (list_any (λ (f : Entry). f.is_defined) es) out) few c)
+
+pub own_begins : (t : Tok) (r : Reading) → EntriesBelow (length r.words) r.scope.table → Counted r → Begins (own t r)
+own_begins t r few c = defining_begins (home r.scope) t r (holders r.scope.table (home r.scope) t.text) refl few c
+
+pub deferring_counted : (t : Tok) (r : Reading) (es : List Entry) → EntriesBelow (length r.words) r.scope.table → Counted r → Counted (deferring t r es)
+deferring_counted t r [] few c = entered_counted (home r.scope) t false r few c
+deferring_counted t r (e ∷ es) few c = refused_counted r _ c
+
+-- a word is told, and its phrase names these arrays, of which some are new
+pub told_counted : (n : Numbered) (sort : Sort) (e : Signature) (inline recursive : Bool) (arrays : List (List Lit)) (first : Option NameFault) → Adds n.reading.arrays arrays (names_by sort) → Begins n →
+    Counted (told sort e inline recursive settled (record { word = n.word; reading = record n.reading { arrays = arrays; first = first } }))
+told_counted n sort e inline recursive arrays first adds b =
+    let r = n.reading in
+    let c = b.counted in
+    record {
+      ascending = c.ascending;
+      spared = spared_told 0 n.word (with_told sort e inline recursive settled) r.words r.scope.table (λ d out. none_of (sym (ap (λ (w : ℕ). all_spare w r.scope.table) (let e : n.word + 0 ≡ n.word = omega arith in e) ∙ b.fresh.spared) ∙ out)) c.spared;
+      once = λ a. (
+          let words = named_told a n.word sort e inline recursive r.words b.fresh.within b.fresh.unnamed in
+          let more = adds.once a in
+          let before = c.once a in
+          omega (arith, words, more, before));
+      earlier = adds.earlier c.earlier;
+      main_none = c.main_none;
+    }
+
+-- items at the top level
+pub items_counted : (r : Reading) (t : Phrase) (arrays : List (List Lit)) (first : Option NameFault) → Adds r.arrays arrays (arrays_named t) → Counted r → Counted (record r { top = append r.top t; arrays = arrays; first = first })
+items_counted r t arrays first adds c =
+    record {
+      ascending = c.ascending;
+      spared = c.spared;
+      once = λ a. (
+          let both = named_append r.top t a in
+          let more = adds.once a in
+          let before = c.once a in
+          omega (arith, both, more, before));
+      earlier = adds.earlier c.earlier;
+      main_none = c.main_none;
+    }
+
+pub main_counted : (r : Reading) (t : Phrase) (first : Option NameFault) → arrays_named t ≡ [] → Counted r → Counted (record r { main = t; first = first })
+main_counted r t first none c = record { ascending = c.ascending; spared = c.spared; once = c.once; earlier = c.earlier; main_none = none }

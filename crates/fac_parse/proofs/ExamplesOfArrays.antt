@@ -1,0 +1,89 @@
+-- Literal arrays, computed.
+use Rattle.std.specs.Prelude.{◌≡◌, ℕ, List, [], ◌∷◌, Option, Some, None, codes}
+use Rattle.std.proofs.Common.{refl, replicate}
+use Rattle.fac_lang.specs.declared.phrase.Place.{Place}
+use Rattle.fac_lang.specs.declared.token.Token.{Token}
+use Rattle.fac_lang.specs.declared.tree.Bracket.TheVariants as bracket
+use Rattle.fac_lang.specs.declared.tree.Element.{Element}
+use Rattle.fac_lang.specs.declared.tree.Element.TheVariants.{Item, Opens, Closes}
+use Rattle.fac_lang.specs.declared.tree.Term.TheVariants.{True}
+use Rattle.fac_lang.specs.declared.tree.Form.{Form}
+use Rattle.fac_lang.specs.declared.tree.Form.TheVariants.{Items}
+use Rattle.fac_parse.specs.declared.context.Context.TheVariants.{Quotation, Array}
+use Rattle.fac_effect.specs.Spellings.{plain_token, spelling_of, has_integer_form, word_spelling, sign_spelling}
+use Rattle.fac_parse.specs.Trees.{behind}
+use Rattle.fac_parse.specs.inner.Reader.{State, start, steps, ended}
+
+abbrev here : Place
+here = record { file = 1; token = 1 }
+
+abbrev w : List ℕ → Token
+w text = plain_token here text
+
+-- the tree of these tokens, if there is one
+abbrev forms_read : Option State → Option (List Form)
+forms_read None = None
+forms_read (Some s) = ended s
+
+abbrev tree : List Token → Option (List Form)
+tree tokens = forms_read (steps (Some start) tokens)
+
+abbrev item : Element
+item = Item (True here)
+
+-- { t [ t ] { } }
+nested : tree (w (codes "{") ∷ w (codes "t") ∷ w (codes "[") ∷ w (codes "t") ∷ w (codes "]") ∷ w (codes "{") ∷ w (codes "}") ∷ w (codes "}") ∷ []) ≡
+    Some (Items (Opens bracket.Array here ∷ item ∷ Opens bracket.Quotation here ∷ item ∷ Closes bracket.Quotation here ∷ Opens bracket.Array here ∷ Closes bracket.Array here ∷ Closes bracket.Array here ∷ []) ∷ [])
+unfolding spelling_of has_integer_form word_spelling sign_spelling
+nested = refl
+
+-- { [ } ]
+crossed : tree (w (codes "{") ∷ w (codes "[") ∷ w (codes "}") ∷ w (codes "]") ∷ []) ≡ None
+unfolding spelling_of has_integer_form word_spelling sign_spelling
+crossed = refl
+
+-- Each item and each bracket that opens is an element of the array around it, and what stands in a quotation is none.
+item_counts : behind (Array 7 ∷ []) item ≡ Some (Array 8 ∷ [])
+item_counts = refl
+
+quotation_counts : behind (Array 7 ∷ []) (Opens bracket.Quotation here) ≡ Some (Quotation ∷ Array 8 ∷ [])
+quotation_counts = refl
+
+array_counts : behind (Array 7 ∷ []) (Opens bracket.Array here) ≡ Some (Array 0 ∷ Array 8 ∷ [])
+array_counts = refl
+
+quoted_counts_not : behind (Quotation ∷ Array 8 ∷ []) item ≡ Some (Quotation ∷ Array 8 ∷ [])
+quoted_counts_not = refl
+
+closing_counts_not : behind (Array 3 ∷ Array 8 ∷ []) (Closes bracket.Array here) ≡ Some (Array 8 ∷ [])
+closing_counts_not = refl
+
+-- A bracket closes a pair of its kind.
+array_stays_open : behind (Array 3 ∷ []) (Closes bracket.Quotation here) ≡ None
+array_stays_open = refl
+
+quotation_stays_open : behind (Quotation ∷ []) (Closes bracket.Array here) ≡ None
+quotation_stays_open = refl
+
+-- Of 1,000,000 elements the last one may stand, and none behind it. The array ends, and a quotation that is the last one takes items.
+last_stands : behind (Array 999999 ∷ []) item ≡ Some (Array 1000000 ∷ [])
+last_stands = refl
+
+item_too_many : behind (Array 1000000 ∷ []) item ≡ None
+item_too_many = refl
+
+quotation_too_many : behind (Array 1000000 ∷ []) (Opens bracket.Quotation here) ≡ None
+quotation_too_many = refl
+
+full_ends : behind (Array 1000000 ∷ []) (Closes bracket.Array here) ≡ Some []
+full_ends = refl
+
+in_last : behind (Quotation ∷ Array 1000000 ∷ []) item ≡ Some (Quotation ∷ Array 1000000 ∷ [])
+in_last = refl
+
+-- Quotations and arrays nest 256 deep, counted together.
+level_256 : behind (Quotation ∷ replicate 254 (Array 1)) (Opens bracket.Array here) ≡ Some (Array 0 ∷ Quotation ∷ replicate 254 (Array 1))
+level_256 = refl
+
+level_257 : behind (Quotation ∷ replicate 255 (Array 1)) (Opens bracket.Array here) ≡ None
+level_257 = refl

@@ -1,0 +1,3 @@
+pub mod PrintedLemmas
+pub mod AddingLemmas
+pub mod FormLemmas
