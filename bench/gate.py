@@ -2,8 +2,9 @@
 """Measures the gate: runs `rt ci` with the words of the command line, and tells at the end the processor minutes that each crate's
 proof, tests and must-fail edits took, as the table of docs/PROVING.md.
 
-    python3 bench/gate.py --anew >gate.log 2>&1         the whole gate from nothing
-    python3 bench/gate.py fac_io                        one crate and those below it, as far as they aren't kept
+    python3 bench/gate.py >gate.log 2>&1        the whole gate, from nothing
+
+A toolchain whose `rt ci` keeps what it proved before takes the word --anew for a run from nothing.
 
 The times are those of the prover's own processes, read five times a second from /proc. What the rest took (linking, and the tests and
 programs themselves) stands in a line of its own: it is the difference to what the system counted for all of them.
