@@ -4,6 +4,7 @@
 
 mod accepted;
 mod checker;
+mod components;
 mod doing;
 mod judge;
 mod laws;

@@ -1,3 +1,1 @@
 pub mod ExamplesOfReferences
-pub mod ExamplesOfNames
-mod LookupLemmas

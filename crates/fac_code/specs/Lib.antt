@@ -1,5 +1,4 @@
 pub mod Code
 pub mod References
 pub mod Images
-pub mod ImageNames
-pub mod ClassSets
+pub mod WordNames

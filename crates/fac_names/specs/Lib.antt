@@ -1,3 +1,6 @@
+pub mod Written
+pub mod Readings
+pub mod Items
 pub mod Forms
 pub mod Resolved
 pub mod FromFlat

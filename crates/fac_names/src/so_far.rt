@@ -1,8 +1,7 @@
 //! What was read so far.
-use crate::drafts::Drafts;
-use fac_endings::NewClass;
-use fac_lang::{ClassDef, Item, List, Lit};
-use fac_refusal::NameFault;
+use crate::drafts::Draft;
+use crate::refusal::NameFault;
+use fac_lang::{Item, List, Lit};
 use fac_vocab::Scope;
 
 /// What the forms so far come to.
@@ -11,11 +10,7 @@ pub struct SoFar {
     /// What names find.
     pub scope: Scope,
     /// The words, by their numbers.
-    pub drafts: Drafts,
-    /// The classes that there were before any form, by their numbers.
-    pub old_classes: List<ClassDef>,
-    /// Those of forms, whose numbers come behind.
-    pub classes: List<NewClass>,
+    pub drafts: Vec<Draft>,
     /// The literal arrays, by their numbers.
     pub arrays: List<List<Lit>>,
     /// The items at the top level.

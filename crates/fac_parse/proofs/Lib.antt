@@ -7,4 +7,3 @@ pub mod ReaderCompletes
 pub mod ExactPlaces
 pub mod ParseLemmas
 pub mod ExamplesOfArrays
-pub mod ExamplesOfClasses

@@ -1,2 +1,0 @@
-pub mod ClassKinds
-pub mod inner
