@@ -978,6 +978,390 @@ EXAMPLES_OF_OBJECTS = [
     ("{ } 3 [ { 0 } suffix ] times dup . 5 0 pick first set-nth .", "{ { 0 } { 0 } { 0 } }\n{ { 5 } { 5 } { 5 } }\n"),
 ]
 
+# Classes at their exact ticks: what uses H, the ticks and the output.
+EXAMPLES_OF_TICKS = [
+    ("TUPLE: p x ; 5 p boa x>> .", 5, "5\n"),
+    ("TUPLE: p x ; C: <p> p 5 <p> x>> .", 6, "5\n"),
+    ("TUPLE: p x ; p new 5 >>x x>> .", 6, "5\n"),
+    ("TUPLE: p x ; p new dup 5 swap x<< x>> .", 8, "5\n"),
+    ("5 integer? .", 3, "t\n"),
+    ("SINGLETON: s s s? .", 3, "t\n"),
+    ("GENERIC: g ( x -- y ) M: integer g 1 + ; 5 g .", 5, "6\n"),
+    ("GENERIC: g ( x -- y ) M: object g drop 1 ; M: integer g call-next-method 2 + ; 5 g .", 8, "3\n"),
+    ("{ { [ t ] [ 1 ] } [ 2 ] } cond .", 8, "1\n"),
+    ("{ { [ f ] [ 1 ] } [ 2 ] } cond .", 8, "2\n"),
+    ("{ { [ f ] [ 1 ] } { [ t ] [ 2 ] } } cond .", 14, "2\n"),
+    ("{ [ 7 ] } cond .", 2, "7\n"),
+]
+
+CASES_OF_64 = "{ [ f ] [ ] } " * 64
+SLOTS_OF_64 = " ".join(f"s{number}" for number in range(64))
+
+# What uses H, and what it prints. What fails prints what stands before the last line and has this line behind `error: ` as its note.
+EXAMPLES_OF_CLASSES = [
+    # tuples and their slots
+    ("TUPLE: p x y ; 1 2 p boa . p new . p .", "T{ p 1 2 }\nT{ p f f }\np\n"),
+    ("TUPLE: p ; p boa . p new .", "T{ p }\nT{ p }\n"),
+    ("TUPLE: p x ; TUPLE: q < p y ; TUPLE: r < q ; 1 2 q boa . 1 2 r boa . q new .", "T{ q 1 2 }\nT{ r 1 2 }\nT{ q f f }\n"),
+    ("TUPLE: p x y ; 1 2 p boa x>> . 1 2 p boa y>> .", "1\n2\n"),
+    ("TUPLE: p x y ; p new 5 >>x 6 >>y .", "T{ p 5 6 }\n"),
+    ("TUPLE: p x ; p new dup 5 swap x<< .", "T{ p 5 }\n"),
+    ("TUPLE: p x ; p new dup 7 >>x eq? . p new dup dup 7 >>x drop 8 >>x x>> . .", "t\n8\nT{ p 8 }\n"),
+    ("DEFER: q TUPLE: r < q c ; TUPLE: p a ; TUPLE: q < p b ; 1 2 3 r boa .", "T{ r 1 2 3 }\n"),
+    ("IN: a TUPLE: p x ; IN: b TUPLE: p y ; 1 p boa . p . IN: c USE: a 2 p boa .", "T{ p 1 }\np\nT{ p 2 }\n"),
+    ("TUPLE: < x ; TUPLE: y < < ; 1 y boa .", "T{ y 1 }\n"),
+    ("TUPLE: p x: ; 1 p boa x:>> .", "1\n"),
+    (f"TUPLE: p {SLOTS_OF_64} ; p new s63>> . TUPLE: q < p ; q new 5 >>s63 s63>> .", "f\n5\n"),
+    (
+        'TUPLE: account owner balance ; TUPLE: savings < account percent ; "ann" 5 account boa . "eve" 7 2 savings boa dup . account? . '
+        "account new .",
+        'T{ account "ann" 5 }\nT{ savings "eve" 7 2 }\nt\nT{ account f f }\n',
+    ),
+    # an accessor is that of each class with the slot
+    (
+        "TUPLE: point x y ; TUPLE: pixel color x y ; 1 2 point boa x>> . 7 8 9 pixel boa x>> . point new 3 >>x 4 >>y .",
+        "1\n8\nT{ point 3 4 }\n",
+    ),
+    ("TUPLE: p x ; TUPLE: q a x ; 1 2 q boa x>> .", "2\n"),
+    ("TUPLE: p x ; TUPLE: q < p ; 1 q boa x>> .", "1\n"),
+    ("IN: a TUPLE: p x ; IN: b TUPLE: q x ; 1 q boa x>> .", "1\n"),
+    ("TUPLE: p x ; 5 x>>", "not-tuple in accessors:x>>: 5"),
+    ("TUPLE: p x ; { 1 } 2 >>x", "not-tuple in accessors:>>x: { 1 }"),
+    ("TUPLE: p x ; 2 p x<<", "not-tuple in accessors:x<<: p"),
+    ("TUPLE: p x ; TUPLE: q y ; 1 q boa x>>", "no-slot in accessors:x>>: T{ q 1 }"),
+    ("TUPLE: p x ; TUPLE: q y ; 1 q boa 2 >>x", "no-slot in accessors:>>x: T{ q 1 }"),
+    ("TUPLE: p x ; TUPLE: q y ; 2 q new x<<", "no-slot in accessors:x<<: T{ q f }"),
+    ("TUPLE: p ; TUPLE: q < p x ; p new x>>", "no-slot in accessors:x>>: T{ p }"),
+    # names of accessors that are held; those of a slot are defined in their order, and the first two of a slot of `>` are one
+    ("TUPLE: p > ; 5 p boa >>> . 5 p boa 7 >>>", "5\nnot-tuple in accessors:>>>: 7"),
+    ("TUPLE: p >> << ; 5 6 p boa dup >>>> . <<>> . p new 7 over >><< .", "5\n6\nT{ p 7 f }\n"),
+    ("TUPLE: p << >> ; 5 6 p boa 7 >><< .", "T{ p 7 6 }\n"),
+    ("IN: accessors : x>> ( o -- o ) ; IN: scratchpad TUPLE: p x ; 7 x>> . 1 p boa x>> . 1 p boa 2 >>x .", "7\nT{ p 1 }\nT{ p 2 }\n"),
+    ("IN: accessors DEFER: x>> IN: scratchpad TUPLE: p x ; IN: accessors : x>> ( o -- n ) drop 9 ; IN: scratchpad 1 p boa x>> .", "9\n"),
+    ("IN: a TUPLE: p x ; 1 p boa IN: accessors x>> .", "1\n"),
+    ("IN: a <PRIVATE TUPLE: p x ; PRIVATE> 1 p boa x>> .", "1\n"),
+    # new, boa and C:
+    ("5 new", "not-tuple in kernel:new: 5"),
+    ("integer new", "not-tuple in kernel:new: integer"),
+    ("tuple new", "not-tuple in kernel:new: tuple"),
+    ("SINGLETON: s s new", "not-tuple in kernel:new: s"),
+    ("UNION: u ; u new", "not-tuple in kernel:new: u"),
+    ("TUPLE: p x ; { p } first new . : w ( class -- tuple ) new ; p w .", "T{ p f }\nT{ p f }\n"),
+    ("TUPLE: p x ; : w ( x class -- tuple ) boa ; inline 1 p w . 1 t [ p ] [ p ] if boa .", "T{ p 1 }\nT{ p 1 }\n"),
+    ("TUPLE: p x ; { 1 2 } [ p boa ] map .", "{ T{ p 1 } T{ p 2 } }\n"),
+    ("TUPLE: p x y ; C: <p> p 1 2 <p> .", "T{ p 1 2 }\n"),
+    ("DEFER: p C: <p> p TUPLE: p x ; 1 <p> .", "T{ p 1 }\n"),
+    ("TUPLE: p x ; TUPLE: q < p y ; C: <q> q 1 2 <q> x>> .", "1\n"),
+    (f"TUPLE: p {SLOTS_OF_64} ; C: <p> p {'7 ' * 64} <p> s63>> .", "7\n"),
+    # predicates and kinds
+    ("TUPLE: p ; TUPLE: q < p ; p new p? . q new p? . p new q? . p p? . 5 p? .", "t\nt\nf\nf\nf\n"),
+    ("5 integer? . t integer? . integer integer? . integer . t boolean? . f boolean? . 5 boolean? .", "t\nf\nf\ninteger\nt\nt\nf\n"),
+    ('USE: strings "a" string? . 97 string? . { } array? . "" array? . 3 <iota> iota? . { } iota? .', "t\nf\nt\nf\nt\nf\n"),
+    ('{ } sequence? . "" sequence? . 3 <iota> sequence? . 5 sequence? . f sequence? .', "t\nt\nt\nf\nf\n"),
+    ("[ ] callable? . 1 [ ] curry callable? . [ ] [ ] compose callable? . 5 callable? .", "t\nt\nt\nf\n"),
+    ("USE: words SYMBOL: s SINGLETON: z TUPLE: p ; s word? . z word? . p word? . integer word? . { dup } first word? . 5 word? .", "t\nt\nt\nt\nt\nf\n"),
+    ("TUPLE: p ; p new tuple? . p tuple? . { } tuple? . p new object? . 5 object? . [ ] object? .", "t\nf\nf\nt\nt\nt\n"),
+    # unions and singletons
+    ('USE: strings UNION: number-or-text integer string ; SINGLETON: none "a" number-or-text? . none none? . none number-or-text? .', "t\nt\nf\n"),
+    (
+        'USE: strings TUPLE: p ; SINGLETON: s UNION: u p integer s t ; UNION: v u string ; { 5 "a" t f } [ v? . ] each p new v? . s v? . { } v? .',
+        "t\nt\nt\nf\nt\nt\nf\n",
+    ),
+    ("UNION: u ; 5 u? . u . UNION: v u ; 5 v? .", "f\nu\nf\n"),
+    ("DEFER: a UNION: b a ; UNION: a integer ; 5 b? . t b? .", "t\nf\n"),
+    ("UNION: u integer integer ; UNION: v u integer u ; 5 v? .", "t\n"),
+    ("TUPLE: p ; UNION: u p ; TUPLE: q < p ; q new u? .", "t\n"),
+    ("SINGLETON: s SINGLETON: z s s eq? . s . s s? . z s? . s z = . { s } { s } = .", "t\ns\nt\nf\nf\nt\n"),
+    # which method runs
+    (
+        'IN: shapes TUPLE: shape ; TUPLE: circle < shape r ; UNION: round circle integer ; GENERIC: name ( x -- str ) '
+        'M: round name drop "round" ; M: shape name drop "shape" ; 5 circle boa name . shape new name . 7 name .',
+        '"round"\n"shape"\n"round"\n',
+    ),
+    (
+        'IN: shapes TUPLE: shape ; TUPLE: circle < shape r ; UNION: round circle integer ; GENERIC: name ( x -- str ) '
+        'M: shape name drop "shape" ; M: round name drop "round" ; 5 circle boa name . TUPLE: ring < circle ; 5 ring boa name .',
+        '"round"\n"round"\n',
+    ),
+    (
+        'IN: shapes TUPLE: shape ; TUPLE: circle < shape r ; UNION: tower circle integer ; GENERIC: name ( x -- str ) '
+        'M: shape name drop "shape" ; M: tower name drop "tower" ; 5 circle boa name .',
+        '"shape"\n',
+    ),
+    (
+        'IN: shapes TUPLE: shape ; TUPLE: circle < shape r ; UNION: tower circle integer ; GENERIC: name ( x -- str ) '
+        'M: shape name drop "shape" ; M: tower name drop "tower" ; 5 circle boa name . TUPLE: box < shape ;',
+        '"tower"\n',
+    ),
+    (
+        "TUPLE: circle radius ; TUPLE: rectangle width height ; GENERIC: area ( shape -- n ) M: rectangle area [ width>> ] [ height>> ] bi * ; "
+        "M: circle area radius>> sq 355 * 113 /i ; M: integer area sq ; 3 4 rectangle boa area . 10 circle boa area . 5 area .",
+        "12\n314\n25\n",
+    ),
+    (
+        "GENERIC: g ( x -- y ) M: object g drop 1 ; M: integer g drop 2 ; M: t g drop 3 ; M: boolean g drop 4 ; 5 g . t g . f g . { } g .",
+        "2\n3\n4\n1\n",
+    ),
+    (
+        "GENERIC: g ( x -- y ) M: boolean g drop 4 ; M: t g drop 3 ; M: integer g drop 2 ; M: object g drop 1 ; 5 g . t g . f g . { } g .",
+        "2\n3\n4\n1\n",
+    ),
+    ("USE: words SYMBOL: z SINGLETON: s TUPLE: p ; GENERIC: g ( x -- y ) M: word g drop 1 ; M: s g drop 2 ; s g . z g . p g .", "2\n1\n1\n"),
+    ("UNION: u integer ; UNION: v integer ; GENERIC: g ( x -- y ) M: v g drop 1 ; M: u g drop 2 ; 5 g .", "2\n"),
+    ("UNION: u integer ; GENERIC: g ( x -- y ) M: u g drop 1 ; M: integer g drop 2 ; 5 g .", "2\n"),
+    ("USE: words UNION: u word ; GENERIC: g ( x -- y ) M: word g drop 1 ; M: u g drop 2 ; u g .", "2\n"),
+    ("IN: b UNION: x integer ; IN: a.b UNION: x integer ; IN: a UNION: x integer ; GENERIC: g ( x -- y ) M: x g drop 1 ; IN: a.b USE: a M: x g drop 2 ; IN: b M: x g drop 3 ; 5 g .", "2\n"),
+    ("SINGLETON: s UNION: u s integer ; UNION: v s ; GENERIC: g ( x -- y ) M: u g drop 1 ; M: v g drop 2 ; s g . 5 g .", "2\n1\n"),
+    ("TUPLE: a ; TUPLE: b < a ; TUPLE: c < a ; GENERIC: g ( x -- y ) M: a g drop 1 ; M: c g drop 2 ; b new g . c new g .", "1\n2\n"),
+    ("GENERIC: g ( x -- y ) M: tuple g drop 1 ; M: object g drop 2 ; 5 g . TUPLE: p ; p new g .", "2\n1\n"),
+    ("GENERIC: g ( x y -- z ) M: integer g nip ; M: f g drop ; 1 2 g . 1 f g . f 2 g .", "2\n1\n2\n"),
+    ("DEFER: g : w ( x -- y ) g ; M: integer g 1 + ; GENERIC: g ( x -- y ) 5 w . M: f g drop 7 ; f w .", "6\n7\n"),
+    ("DEFER: c GENERIC: g ( x -- y ) M: c g drop 1 ; SINGLETON: c c g .", "1\n"),
+    ("GENERIC: g ( x -- y ) M: integer g dup 0 > [ 1 - g ] when ; inline 3 g .", "0\n"),
+    ("GENERIC: g ( x -- y ) 5 g", "no-method in scratchpad:g: 5"),
+    ("IN: z TUPLE: p x ; GENERIC: g ( x -- ) M: integer g . ; 3 g 1 p boa g", "3\nno-method in z:g: T{ p 1 }"),
+    ("GENERIC: g ( x -- * ) M: object g throw ; 5 g", "thrown in kernel:throw: 5"),
+    ("GENERIC: g ( x -- y ) M: integer g 1 + ; { 1 2 } [ g ] map . 5 [ g ] call .", "{ 2 3 }\n6\n"),
+    ("GENERIC: g ( x -- ) M: object g . ; MAIN: g 5 7", "7\n"),
+    ("GENERIC: g ( x -- ) { g } .", "{ g }\n"),
+    # the next method
+    (
+        "IN: z TUPLE: p ; TUPLE: q < p ; GENERIC: g ( x -- n ) M: p g drop 1 ; M: q g call-next-method 10 + ; q new g . p new g . 5 g .",
+        "11\n1\nno-method in z:g: 5",
+    ),
+    (
+        "TUPLE: p ; TUPLE: q < p ; TUPLE: r < q ; GENERIC: g ( x -- ) M: object g drop 0 . ; M: p g 1 . call-next-method ; "
+        "M: q g 2 . call-next-method ; M: r g 3 . call-next-method ; r new g q new g p new g 5 g",
+        "3\n2\n1\n0\n2\n1\n0\n1\n0\n0\n",
+    ),
+    ("GENERIC: g ( x -- ) M: integer g call-next-method ; 5 g", "no-next-method in scratchpad:g: 5"),
+    ("GENERIC: g ( x -- ) M: integer g 1 + call-next-method ; M: object g . ; 5 g", "6\n"),
+    ("GENERIC: g ( x -- ) M: integer g drop t call-next-method ; M: object g . ; 5 g", "no-next-method in scratchpad:g: t"),
+    (
+        "TUPLE: p ; TUPLE: q < p ; GENERIC: g ( x -- ) M: q g drop 1 . ; M: p g drop q new call-next-method ; p new g",
+        "no-next-method in scratchpad:g: T{ q }",
+    ),
+    ("TUPLE: p ; TUPLE: q < p ; GENERIC: g ( x -- ) M: object g . ; M: p g drop q new call-next-method ; M: q g drop 1 . ; p new g", "T{ q }\n"),
+    ("UNION: u integer t ; GENERIC: g ( x -- ) M: u g drop 5 call-next-method ; M: object g . ; M: integer g drop 1 . ; t g", "5\n"),
+    ("GENERIC: g ( x -- y ) M: integer g [ call-next-method ] call 1 + ; M: object g drop 10 ; 5 g .", "11\n"),
+    ("GENERIC: g ( x -- y ) M: integer g 3 [ call-next-method ] dip + ; M: object g drop 10 ; 5 g .", "13\n"),
+    ("GENERIC: g ( x -- y ) M: integer g 3 [ call-next-method ] times ; M: object g 1 + ; 5 g .", "8\n"),
+    ("GENERIC: g ( x -- y ) M: integer g { { [ dup 3 > ] [ call-next-method ] } [ ] } cond ; M: object g drop 10 ; 5 g . 3 g .", "10\n3\n"),
+    ("GENERIC: g ( x -- y ) M: integer g { [ call-next-method ] } nip ; 5 g .", "{ [ ... ] }\n"),
+    ("GENERIC: g ( x y -- z ) M: integer g call-next-method 1 + ; M: object g + ; 1 2 g .", "4\n"),
+    (
+        "GENERIC: g ( x -- y ) GENERIC: h ( x -- y ) M: object g drop 1 ; M: integer g h call-next-method ; M: object h drop 7 ; M: integer h call-next-method ; 5 g .",
+        "1\n",
+    ),
+    # cases
+    (
+        ': grade ( n -- str ) { { [ dup 100 < ] [ drop "low" ] } { [ dup 1000 < ] [ drop "mid" ] } [ drop "high" ] } cond ; '
+        "50 grade print 500 grade print 5000 grade print",
+        "low\nmid\nhigh\n",
+    ),
+    ('5 { { [ dup 3 < ] [ drop "a" ] } { [ dup 7 < ] [ drop "b" ] } [ drop "c" ] } cond .', '"b"\n'),
+    ("{ { [ 1 . t ] [ 2 . ] } { [ 3 . t ] [ 4 . ] } } cond", "1\n2\n"),
+    ("{ { [ 1 . f ] [ 2 . ] } { [ 3 . 5 ] [ 4 . ] } { [ 6 . t ] [ 7 . ] } } cond", "1\n3\n4\n"),
+    ("{ { [ f ] [ 2 . ] } { [ 1 . f ] [ 4 . ] } } cond", "1\nno-cond in combinators.private:(no-cond)"),
+    ("{ } cond", "no-cond in combinators.private:(no-cond)"),
+    ("USE: combinators.private 1 . (no-cond)", "1\nno-cond in combinators.private:(no-cond)"),
+    ("{ [ 7 . ] } cond { [ ] } cond [ { [ 8 . ] } cond ] call", "7\n8\n"),
+    ("QUALIFIED-WITH: combinators c { [ 7 . ] } c:cond", "7\n"),
+    (": cond ( x -- ) . ; { [ 7 . ] } cond", "{ [ ... ] }\n"),
+    ("{ cond { [ 7 ] } cond } .", "{ cond { [ ... ] } cond }\n"),
+    ("5 { { [ dup 3 > ] [ { { [ dup 4 > ] [ 1 . ] } [ 2 . ] } cond ] } [ 3 . ] } cond .", "1\n5\n"),
+    ("{ [ { [ 7 ] } ] } cond .", "{ [ ... ] }\n"),
+    ("{ " + CASES_OF_64 + "} cond", "no-cond in combinators.private:(no-cond)"),
+    ("{ " + CASES_OF_64 + "[ 7 . ] } cond", "7\n"),
+    # equality and printed forms
+    (
+        "TUPLE: p x ; 1 p boa 1 p boa = . 1 p boa 1 p boa eq? . 1 p boa dup eq? . 1 p boa 2 p boa = . p new p new = .",
+        "t\nf\nt\nf\nt\n",
+    ),
+    ("TUPLE: p x ; TUPLE: q x ; TUPLE: r < p ; 1 p boa 1 q boa = . 1 p boa 1 r boa = . p new { f } = . p new p = .", "f\nf\nf\nf\n"),
+    ("TUPLE: p x ; { 1 } p boa { 1 } p boa = . p new 1array p new 1array = .", "t\nt\n"),
+    ("TUPLE: p x ; [ ] p boa dup = . [ ] p boa [ ] p boa eq? . [ ] p boa [ ] p boa =", "t\nf\nno-compare in kernel:="),
+    ("TUPLE: p x y ; 0 20 [ dup p boa ] times 0 20 [ dup p boa ] times =", "compare-too-large in kernel:="),
+    ("TUPLE: p x ; p new dup >>x .", "T{ p " * 16 + "..." + " }" * 16 + "\n"),
+    ("TUPLE: p x ; 0 8 [ p boa 1array ] times dup . 1array .", "{ T{ p " * 8 + "0" + " } }" * 8 + "\n{ " + "{ T{ p " * 7 + "{ ..." + " }" + " } }" * 7 + " }\n"),
+    ('TUPLE: p x y ; "a" { 1 } p boa . [ ] p p boa throw', 'T{ p "a" { 1 } }\nthrown in kernel:throw: T{ p [ ... ] p }'),
+    # classes as values
+    ("TUPLE: p ; { p integer object } . p p eq? . p integer = .", "{ p integer object }\nt\nf\n"),
+]
+
+# What uses H, whose first token is the twelfth of the file `a`, and the note on it; of what is accepted there is none.
+EXAMPLES_OF_CLASS_NOTES = [
+    # what is no class, no generic and no parent
+    ("GENERIC: g ( x -- ) M: dup g ;", "name: a token 19: not-a-class dup"),
+    ("GENERIC: g ( x -- ) M: g g ;", "name: a token 19: not-a-class g"),
+    ("UNION: u integer drop ;", "name: a token 15: not-a-class drop"),
+    ("SYMBOL: s UNION: u s ;", "name: a token 16: not-a-class s"),
+    ("UNION: u u? ;", "name: a token 14: not-a-class u?"),
+    ("C: <p> integer", "name: a token 14: not-a-class integer"),
+    ("SINGLETON: s C: <s> s", "name: a token 16: not-a-class s"),
+    ("UNION: u ; C: <u> u", "name: a token 17: not-a-class u"),
+    ("C: p p", "name: a token 14: not-a-class p"),
+    ("M: integer dup ;", "name: a token 14: not-a-generic dup"),
+    ("M: dup drop ;", "name: a token 13: not-a-class dup"),
+    ("SYMBOL: s M: integer s ;", "name: a token 16: not-a-generic s"),
+    ("M: nothing g ;", "name: a token 13: unknown nothing"),
+    ("M: integer g ;", "name: a token 14: unknown g"),
+    ("TUPLE: a < nothing ;", "name: a token 15: unknown nothing"),
+    ("TUPLE: a < integer ;", "name: a token 15: bad-parent integer"),
+    ("TUPLE: a < tuple ;", "name: a token 15: bad-parent tuple"),
+    ("SYMBOL: s TUPLE: a < s ;", "name: a token 17: bad-parent s"),
+    ("UNION: u ; TUPLE: a < u ;", "name: a token 18: bad-parent u"),
+    ("TUPLE: a < a? ;", "name: a token 15: bad-parent a?"),
+    (f"TUPLE: a {SLOTS_OF_64} ; TUPLE: b < a x ;", "name: a token 82: bad-parent a"),
+    (f"DEFER: a TUPLE: b < a x ; TUPLE: a {SLOTS_OF_64} ;", "name: a token 17: bad-parent a"),
+    (f"TUPLE: a {SLOTS_OF_64} ; TUPLE: b < a ;", ""),
+    # what reaches itself
+    ("TUPLE: a < a ;", "name: a token 13: cycle a"),
+    ("UNION: u u ;", "name: a token 13: cycle u"),
+    ("DEFER: b TUPLE: a < b ; TUPLE: b < a ;", "name: a token 15: cycle a"),
+    ("DEFER: v UNION: u integer v ; UNION: v u ;", "name: a token 15: cycle u"),
+    ("DEFER: a UNION: u a ; UNION: a a ;", "name: a token 19: cycle a"),
+    ("DEFER: u TUPLE: a < u ; UNION: u a ;", "name: a token 15: cycle a"),
+    ("DEFER: u TUPLE: a ; TUPLE: b < a ; UNION: u b a ;", ""),
+    ("TUPLE: < < < ;", "name: a token 13: cycle <"),
+    # what is defined twice
+    ("TUPLE: a x x ;", "name: a token 15: twice x"),
+    ("TUPLE: a x ; TUPLE: b < a y x ;", "name: a token 21: twice x"),
+    ("DEFER: a TUPLE: b < a x ; TUPLE: a x ;", "name: a token 18: twice x"),
+    ("TUPLE: a x ; TUPLE: b < a ; TUPLE: c < b x ;", "name: a token 25: twice x"),
+    ("TUPLE: a ; TUPLE: a ;", "name: a token 16: twice a"),
+    (": a? ( -- ) ; TUPLE: a ;", "name: a token 19: twice a?"),
+    (": a ( -- ) ; : a? ( -- ) ; UNION: a ;", "name: a token 25: twice a"),
+    ("TUPLE: a ; : a? ( -- ) ;", "name: a token 16: twice a?"),
+    ("SINGLETON: a TUPLE: b ; SYMBOL: a?", "name: a token 18: twice a?"),
+    ("DEFER: a? SINGLETON: a", ""),
+    ("TUPLE: a x ; IN: accessors : x>> ( -- ) ;", "name: a token 19: twice x>>"),
+    ("TUPLE: a x ; IN: accessors DEFER: >>x", "name: a token 19: twice >>x"),
+    ("IN: accessors DEFER: x>> IN: scratchpad TUPLE: a x ;", "name: a token 15: undefined x>>"),
+    ("IN: accessors <PRIVATE : x>> ( o -- o ) ; PRIVATE> IN: scratchpad TUPLE: p x ; p new x>>", "name: a token 32: unknown x>>"),
+    ("IN: math SINGLETON: integer", "name: a token 15: twice integer"),
+    ("IN: kernel : tuple? ( -- ) ;", "name: a token 15: twice tuple?"),
+    ("GENERIC: g ( x -- ) M: integer g drop ; M: integer g drop ;", "name: a token 25: twice g"),
+    ("QUALIFIED-WITH: math m GENERIC: g ( x -- ) M: integer g drop ; M: m:integer g drop ;", "name: a token 28: twice g"),
+    ("GENERIC: g ( x -- ) GENERIC: g ( x -- )", "name: a token 19: twice g"),
+    ("DEFER: a UNION: u a ;", "name: a token 13: undefined a"),
+    (" ".join(f"SINGLETON: s{number}" for number in range(1_024)), ""),
+    (" ".join(f"SINGLETON: s{number}" for number in range(1_026)), "name: a token 2061: too-many s1024"),
+    (" ".join(f"UNION: s{number} ;" for number in range(1_024)) + " TUPLE: p < integer ;", "name: a token 3085: too-many p"),
+    # generics and methods
+    ("GENERIC: g ( -- x )", "check: scratchpad:g, a token 13: method-effect"),
+    ("GENERIC: g ( q: ( -- ) -- )", "check: scratchpad:g, a token 13: method-effect"),
+    ("GENERIC: g ( ..a x -- ..a )", "check: scratchpad:g, a token 13: row-declaration"),
+    ("GENERIC: g ( -- ..a x )", "check: scratchpad:g, a token 13: row-declaration"),
+    ("GENERIC: g ( x q: ( ..a -- ..a ) -- )", "check: scratchpad:g, a token 13: row-declaration"),
+    ("GENERIC: g ( x: c -- q: ( -- ) )", ""),
+    ("IN: a <PRIVATE GENERIC: g ( -- ) PRIVATE>", "check: a.private:g, a token 16: method-effect"),
+    ("DEFER: g : w ( -- ) 1 + ; GENERIC: g ( -- )", "check: scratchpad:g, a token 23: method-effect"),
+    ("GENERIC: g ( x -- y ) M: object g drop ;", "check: M: object g, a token 21: outputs, declared 1, found 0"),
+    ("GENERIC: g ( x -- * ) M: object g drop ;", "check: M: object g, a token 21: must-return"),
+    ("GENERIC: g ( x -- ) M: object g drop drop ;", "check: M: object g, a token 22: underflow, needs 1, has 0"),
+    ("GENERIC: g ( x -- ) M: f g ;", "check: M: f g, a token 20: outputs, declared 0, found 1"),
+    ("QUALIFIED-WITH: math m GENERIC: g ( x -- ) M: m:integer g ;", "check: M: integer g, a token 23: outputs, declared 0, found 1"),
+    ("IN: a GENERIC: g ( x -- ) IN: b QUALIFIED-WITH: a p M: object p:g ;", "check: M: object g, a token 27: outputs, declared 0, found 1"),
+    ("GENERIC: g ( x y -- ) M: object g call ;", "check: M: object g, a token 22: not-known"),
+    ("GENERIC: g ( x -- y ) g", "check: top-level, a token 19: underflow, needs 1, has 0"),
+    ("GENERIC: g ( x -- * ) M: object g throw ; 5 g + call", ""),
+    ("GENERIC: g ( x -- ) M: object g drop ; M: integer g drop 1 + ; : w ( -- ) 2 + ;", "check: M: integer g, a token 28: underflow, needs 2, has 1"),
+    # call-next-method
+    ("call-next-method", "check: top-level, a token 12: method-effect"),
+    (": w ( x -- ) call-next-method ;", "check: scratchpad:w, a token 18: method-effect"),
+    (": w ( x -- ) call-next-method ; inline", ""),
+    (": w ( x -- ) call-next-method ; inline recursive", "check: scratchpad:w, a token 18: method-effect"),
+    (": w ( x -- ) call-next-method ; inline GENERIC: g ( x -- ) M: object g w ;", "check: M: object g, a token 18: method-effect"),
+    (": w ( -- x ) { [ call-next-method ] } ;", ""),
+    (": w ( -- ) [ call-next-method ] drop ;", ""),
+    (": w ( -- ) [ call-next-method ] call ;", "check: scratchpad:w, a token 18: method-effect"),
+    ("GENERIC: g ( x -- ) M: object g 5 throw call-next-method ;", ""),
+    ("GENERIC: g ( x -- ) M: object g drop call-next-method ;", "check: M: object g, a token 22: underflow, needs 1, has 0"),
+    ("GENERIC: g ( x -- y ) M: object g call-next-method call-next-method ;", ""),
+    ("GENERIC: g ( x -- * ) M: object g call-next-method + ;", ""),
+    ("GENERIC: g ( x -- y ) M: object g call-next-method call ;", "check: M: object g, a token 23: not-known"),
+    ("GENERIC: g ( x -- ) M: object g [ call-next-method ] keep ;", "check: M: object g, a token 20: outputs, declared 0, found 1"),
+    # boa
+    ("boa", "check: top-level, a token 12: underflow, needs 1, has 0"),
+    ("1 boa", "check: top-level, a token 13: not-known"),
+    ("TUPLE: p ; { p } first boa", "check: top-level, a token 19: not-known"),
+    (": w ( x class -- y ) boa ;", "check: scratchpad:w, a token 20: not-known"),
+    ("TUPLE: p x ; TUPLE: q x ; 1 t [ p ] [ q ] if boa", "check: top-level, a token 29: not-known"),
+    ("SYMBOL: s s boa", "check: top-level, a token 15: not-a-class"),
+    ("SINGLETON: s s boa", "check: top-level, a token 15: not-a-class"),
+    ("UNION: u ; u boa", "check: top-level, a token 16: not-a-class"),
+    ("5 integer boa", "check: top-level, a token 14: not-a-class"),
+    ("TUPLE: p x y ; 1 p boa", "check: top-level, a token 19: underflow, needs 3, has 2"),
+    ("TUPLE: p x y ; p boa", "check: top-level, a token 18: underflow, needs 3, has 1"),
+    ("TUPLE: p ; p call", "check: top-level, a token 16: not-known"),
+    ("TUPLE: p x ; C: <p> p <p>", "check: top-level, a token 19: underflow, needs 1, has 0"),
+    ("TUPLE: p x ; : w ( -- y ) p boa ;", "check: scratchpad:w, a token 23: underflow, needs 2, has 1"),
+    # cond
+    ("cond", "check: top-level, a token 12: not-known"),
+    ("1 cond", "check: top-level, a token 13: not-known"),
+    ("{ { [ t ] [ ] [ ] } } cond", "check: top-level, a token 23: not-known"),
+    ("{ { [ t ] 1 } } cond", "check: top-level, a token 20: not-known"),
+    ("{ { } } cond", "check: top-level, a token 16: not-known"),
+    ("{ [ ] [ ] } cond", "check: top-level, a token 18: not-known"),
+    ("{ 1 } cond", "check: top-level, a token 15: not-known"),
+    ("{ } USE: combinators cond", "check: top-level, a token 16: not-known"),
+    ("{ } dup cond", "check: top-level, a token 15: not-known"),
+    ("CONSTANT: c { } c cond", "check: top-level, a token 17: not-known"),
+    (": w ( -- x ) { { [ t ] [ 1 ] } { [ f ] [ 1 2 ] } [ 3 ] } cond ;", "check: scratchpad:w, a token 40: branches, 2 and 1"),
+    ("{ { [ ] [ 1 ] } [ 2 ] } cond", "check: top-level, a token 24: underflow, needs 3, has 2"),
+    ("{ { [ drop t ] [ 1 ] } [ 2 ] } cond", "check: top-level, a token 15: underflow, needs 1, has 0"),
+    ("{ { [ t ] [ 1 ] } } cond drop", ""),
+    ("{ " + CASES_OF_64 + "{ [ f ] [ ] } } cond", "check: top-level, a token 469: too-deep"),
+    (": w ( -- ) { { [ t ] [ w ] } } cond ; inline", "check: scratchpad:w, a token 13: undeclared-recursion"),
+    (": w ( -- x ) { { [ t ] [ w ] } } ; inline", ""),
+    ("{ { [ t ] [ nothing ] } } cond", "name: a token 18: unknown nothing"),
+]
+
+# Files that begin a form of classes, and the note on them; of those that are of the grammar there is none.
+EXAMPLES_OF_CLASS_FORMS = [
+    ("TUPLE: a < b < ;", not_expected(5)),
+    ("TUPLE: a x < ;", not_expected(4)),
+    ("TUPLE: a < ;", not_expected(4)),
+    ("TUPLE: a", ends(3)),
+    ("TUPLE: a <", ends(4)),
+    ("TUPLE: t ;", not_expected(2)),
+    ("TUPLE: a f ;", not_expected(3)),
+    ("TUPLE: a 1 ;", not_expected(3)),
+    (f"TUPLE: a {SLOTS_OF_64} ;", ""),
+    (f"TUPLE: a {SLOTS_OF_64} s64 ;", not_expected(67)),
+    (f"TUPLE: a {SLOTS_OF_64}", ends(67)),
+    (f"TUPLE: b ; TUPLE: a < b {SLOTS_OF_64} s64 ;", not_expected(72)),
+    ("UNION: t ;", not_expected(2)),
+    ("UNION: u t f", ends(5)),
+    ("UNION: u t f ;", ""),
+    ("UNION: u 1 ;", not_expected(3)),
+    ("SINGLETON: s ;", not_expected(3)),
+    ("SINGLETON: f", not_expected(2)),
+    ("SINGLETON:", ends(2)),
+    ("C: <p>", ends(3)),
+    ("C: <p> t", not_expected(3)),
+    ("C: <p> p ;", not_expected(4)),
+    ("C: t p", not_expected(2)),
+    ("GENERIC: g", ends(3)),
+    ("GENERIC: g ;", not_expected(3)),
+    ("GENERIC: g ( x -- ) ;", not_expected(7)),
+    ("GENERIC: g ( x -- ) inline", not_expected(7)),
+    ("M: t t ;", not_expected(3)),
+    ("M: 1 g ;", not_expected(2)),
+    ("M: t g", ends(4)),
+    ("GENERIC: g ( x -- x ) M: t g ; inline", ""),
+    ("M: t g ; recursive", not_expected(5)),
+    ("M: t g ; inline inline", not_expected(6)),
+    ("M: t g : w ( -- ) ; ;", not_expected(4)),
+    ("[ M: t g ; ]", not_expected(2)),
+    ("{ TUPLE: a ; }", not_expected(2)),
+    ("{ call-next-method }", not_expected(2)),
+    ("CONSTANT: c call-next-method", not_expected(3)),
+    (": call-next-method ( -- ) ;", not_expected(2)),
+    ("T{ p }", not_expected(1)),
+]
+
 # Files that aren't UTF-8, by the byte that is told.
 EXAMPLES_OF_BYTES = [
     (b"\xff", 0),
@@ -1079,24 +1463,36 @@ EXAMPLES_OF_COMMANDS = [
 ]
 
 
+def counted(text):
+    """What `check` writes of an accepted text: how many definitions it has."""
+    definitions = sum(token in (":", "CONSTANT:", "M:", "C:") for token in text.split())
+    return f"checked {definitions} definitions\n"
+
+
 def all_examples():
     """Every example: words, files by their names, and the status, ticks, output and note that are wanted. Of few the ticks aren't told,
     which are None."""
     for source, *wanted in EXAMPLES:
         yield ["run", "a"], {"a": source.encode()}, wanted
-    for text, ticks, output in EXAMPLES_OF_PRELUDE:
-        files = {"a": f"USING: kernel math io prettyprint ; {text}".encode()}
+    small = "USING: kernel math io prettyprint ;"
+    for head, (text, ticks, output) in [(small, one) for one in EXAMPLES_OF_PRELUDE] + [(H, one) for one in EXAMPLES_OF_TICKS]:
+        files = {"a": f"{head} {text}".encode()}
         yield ["run", "--steps", str(ticks), "a"], files, [model.DONE, ticks, output, ""]
         before = "".join(output.splitlines(True)[:-1]) if text.endswith(" .") else output
         yield ["run", "--steps", str(ticks - 1), "a"], files, [model.SPENT, ticks - 1, before, f"spent: {ticks - 1} ticks\n"]
     for text, told in EXAMPLES_OF_ROWS:
-        checked = f"checked {text.split().count(':')} definitions\n"
-        wanted = [model.CHECKER, 0, "", f"check: {told}\n"] if told else [model.DONE, 0, checked, ""]
+        wanted = [model.CHECKER, 0, "", f"check: {told}\n"] if told else [model.DONE, 0, counted(text), ""]
         yield ["check", "a"], {"a": f"USING: kernel math io ; {text}".encode()}, wanted
-    for text, told in EXAMPLES_OF_OBJECTS:
+    head = f"{H} SYMBOL: s"
+    for head, (text, told) in [(head, one) for one in EXAMPLES_OF_OBJECTS] + [(H, one) for one in EXAMPLES_OF_CLASSES]:
         output, _, error = told.rpartition("\n")
         wanted = [model.ERROR, None, output and output + "\n", f"error: {error}\n"] if error else [model.DONE, None, told, ""]
-        yield ["run", "a"], {"a": f"{H} SYMBOL: s {text}".encode()}, wanted
+        yield ["run", "a"], {"a": f"{head} {text}".encode()}, wanted
+    for text, told in EXAMPLES_OF_CLASS_NOTES:
+        status = {"": model.DONE, "name": model.NAME, "check": model.CHECKER}[told.partition(":")[0]]
+        yield ["check", "a"], {"a": f"{H} {text}".encode()}, [status, 0, "" if told else counted(text), told and told + "\n"]
+    for text, note in EXAMPLES_OF_CLASS_FORMS:
+        yield ["check", "a"], {"a": text.encode()}, [model.SYNTAX if note else model.DONE, 0, "" if note else counted(text), note]
     for source, byte in EXAMPLES_OF_BYTES:
         yield ["run", "a"], {"a": source}, [model.SYNTAX, 0, "", f"syntax: a byte {byte}: not UTF-8\n"]
     for words, files, *wanted in EXAMPLES_OF_COMMANDS:

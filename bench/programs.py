@@ -1,6 +1,6 @@
 #!/usr/bin/env python3
-"""Measures programs that loop, call and change arrays all the time, and the same work in gforth and Lua, where these are installed, and in
-CPython.
+"""Measures programs that loop, call and change arrays and tuples all the time, and the same work in gforth and Lua, where these are
+installed, and in CPython.
 
     python3 bench/programs.py [PROGRAM]
 
@@ -12,6 +12,9 @@ itself twice for all others.
 odd; `append` makes a string longer by a character 10,000 times, of which each is a new string; and `set-nth` marks every third, seventh
 and eleventh element of an array of 1,000,000, and counts the marks by `filter`. In Lua and CPython the loops are functions of the same
 names, which are handed functions, and each string is a new one too.
+
+`dispatch` calls a method three million times on tuples of four classes in turn, each of which holds the next; in Lua they are tables that
+hold closures, and in CPython objects of four classes. `slots` reads two slots of a tuple as often, and writes one.
 
 The script prints the shortest of several times and, of factorc, the ticks per second in it. It ends with status 1 where a program
 answers wrongly, also where it takes other ticks than are told here.
@@ -29,6 +32,8 @@ ELEMENTS = 500_000
 STRINGS = 10_000
 PLACES = 1_000_000
 STEPS = (3, 7, 11)
+CALLS = 3_000_000
+CLASSES = "abcd"
 
 
 def fibonacci(number):
@@ -65,6 +70,13 @@ MARKED = sum(any(place % step == 0 for step in STEPS) for place in range(PLACES)
 
 # Each turn of `while` takes thirteen for its test and fifteen for the mark. The flags of `filter` are the elements.
 SET_NTH_TICKS = 3 + 23 * len(STEPS) + 28 * MARKS + 2 + 4 + 28 + 40 * PLACES + 7 + 1 + 2
+
+# Fifteen items at the top level and seven in `times` before the first turn; 30 in each turn and six in the generic word and its method;
+# seven for the last test and `3drop`, and two more.
+DISPATCH_TICKS = 15 + 7 + 36 * CALLS + 7 + 2
+
+# As these, with six items in each turn.
+SLOTS_TICKS = 7 + 7 + 36 * CALLS + 7 + 2
 
 TIMES = {
     "factorc": f"USING: math prettyprint ; 7 {TURNS:,} [ ] times .",
@@ -183,6 +195,97 @@ print(len(filter_(a, lambda x: x)))
 """,
 }
 
+CLASSES_OF_NODES = " ".join(f"TUPLE: {name} < node ;" for name in CLASSES)
+METHODS_OF_NODES = " ".join(f"M: {name} step next>> [ {number} + ] dip ;" for number, name in enumerate(CLASSES, 1))
+
+DISPATCH = {
+    "factorc": f"""
+USING: accessors kernel math prettyprint ;
+TUPLE: node next ; {CLASSES_OF_NODES}
+GENERIC: step ( n node -- n node ) {METHODS_OF_NODES}
+a new dup d boa c boa b boa >>next 0 swap {CALLS:,} [ step ] times drop .
+""",
+    "lua5.4": f"""
+local function times(n, f) for i = 1, n do f() end end
+local function node(k, next) return {{next = next, step = function(self, n) return n + k, self.next end}} end
+local a = node(1)
+a.next = node(2, node(3, node(4, a)))
+local n, o = 0, a
+times({CALLS}, function() n, o = o.step(o, n) end)
+print(n)
+""",
+    "python3": f"""
+class Node:
+    def __init__(self, next):
+        self.next = next
+
+class A(Node):
+    def step(self, n):
+        return n + 1, self.next
+
+class B(Node):
+    def step(self, n):
+        return n + 2, self.next
+
+class C(Node):
+    def step(self, n):
+        return n + 3, self.next
+
+class D(Node):
+    def step(self, n):
+        return n + 4, self.next
+
+def times(n, f):
+    for _ in range(n):
+        f()
+
+def main():
+    a = A(None)
+    a.next = B(C(D(a)))
+    n, o = 0, a
+    def step():
+        nonlocal n, o
+        n, o = o.step(n)
+    times({CALLS}, step)
+    print(n)
+
+main()
+""",
+}
+
+SLOTS = {
+    "factorc": f"""
+USING: accessors kernel math prettyprint ;
+TUPLE: counter n step ;
+0 3 counter boa {CALLS:,} [ dup n>> over step>> + >>n ] times n>> .
+""",
+    "lua5.4": f"""
+local function times(n, f) for i = 1, n do f() end end
+local c = {{n = 0, step = 3}}
+times({CALLS}, function() c.n = c.n + c.step end)
+print(c.n)
+""",
+    "python3": f"""
+class Counter:
+    def __init__(self, n, step):
+        self.n = n
+        self.step = step
+
+def times(n, f):
+    for _ in range(n):
+        f()
+
+def main():
+    c = Counter(0, 3)
+    def add():
+        c.n = c.n + c.step
+    times({CALLS}, add)
+    print(c.n)
+
+main()
+""",
+}
+
 # The programs that run the same work, and where they are.
 OTHERS = {"gforth": shutil.which("gforth"), "lua5.4": shutil.which("lua5.4"), "python3": sys.executable}
 
@@ -194,6 +297,8 @@ PROGRAMS = [
     ("map, filter", ELEMENTS // 2, MAP_AND_FILTER_TICKS, MAP_AND_FILTER),
     ("append", STRINGS, APPEND_TICKS, APPEND),
     ("set-nth", MARKED, SET_NTH_TICKS, SET_NTH),
+    ("dispatch", CALLS // 4 * sum(range(1, 5)), DISPATCH_TICKS, DISPATCH),
+    ("slots", 3 * CALLS, SLOTS_TICKS, SLOTS),
 ]
 
 

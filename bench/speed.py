@@ -244,6 +244,53 @@ def nested_uses(path, count):
     return 0, b"7\n", b""
 
 
+GENERICS = 10
+
+
+def classes_with_methods(path, count):
+    """So many classes of tuples, each with a method of each of ten generic words, and a value of each class for one of these."""
+    with open(path, "wb") as file:
+        file.write(b"USING: accessors kernel math prettyprint ;\n")
+        for generic in range(GENERICS):
+            file.write(b"GENERIC: generic-%d ( x -- y )\n" % generic)
+        for number in range(count):
+            file.write(b"TUPLE: class-%d value-%d count ;\n" % (number, number % 7))
+            for generic in range(GENERICS):
+                file.write(b"M: class-%d generic-%d count>> %d + ;\n" % (number, generic, number % 100))
+        file.write(b"0\n")
+        for number in range(count):
+            file.write(b"5 %d class-%d boa generic-%d +\n" % (number, number, number % GENERICS))
+        file.write(b".\n")
+    return 0, b"%d\n" % sum(number + number % 100 for number in range(count)), b""
+
+
+def deep_hierarchy(path, count):
+    """So many classes of tuples, each with the one before it as its parent and a method that goes on with the parent's."""
+    with open(path, "wb") as file:
+        file.write(b"USING: kernel math prettyprint ;\nGENERIC: depth ( x -- n )\nTUPLE: class-0 ;\nM: class-0 depth drop 1 ;\n")
+        for number in range(1, count):
+            file.write(b"TUPLE: class-%d < class-%d ;\n" % (number, number - 1))
+            file.write(b"M: class-%d depth call-next-method 1 + ;\n" % number)
+        file.write(b"class-%d new depth .\n" % (count - 1))
+    return 0, b"%d\n" % count, b""
+
+
+def wide_unions(path, count):
+    """Classes of which all but twenty are singletons. The others are unions of all these and of the unions before, with a method each."""
+    unions = 20
+    names = [b"class-%d" % number for number in range(count - unions)]
+    with open(path, "wb") as file:
+        file.write(b"USING: kernel math prettyprint ;\nGENERIC: width ( x -- n )\nM: object width drop 0 ;\n")
+        for name in names:
+            file.write(b"SINGLETON: %s\n" % name)
+        for number in range(unions):
+            file.write(b"UNION: union-%d %s ;\n" % (number, b" ".join(names)))
+            file.write(b"M: union-%d width call-next-method 1 + ;\n" % number)
+            names.append(b"union-%d" % number)
+        file.write(b"class-0 width .\n")
+    return 0, b"%d\n" % unions, b""
+
+
 def first_example(path, _):
     """The first example of README."""
     with open(path, "wb") as file:
@@ -291,6 +338,9 @@ SORTS = [
     ("dup compose", composed_twice, (63,), words, 0.5, []),
     ("loops", loops, (2_500, 10_000), words, 1.0, ["rows", "prelude", "check"]),
     ("nested uses", nested_uses, (60,), words, 0.1, ["rows", "prelude"]),
+    ("classes", classes_with_methods, (250, 1_000), words, 1.0, ["TUPLE:", "prelude"]),
+    ("deep hierarchy", deep_hierarchy, (1_024,), words, 0.3, ["TUPLE:", "prelude"]),
+    ("wide unions", wide_unions, (1_024,), words, 0.3, ["TUPLE:", "prelude"]),
     ("first example", first_example, (1,), words, 0.004, ["prelude"]),
     ("recursion, if", spending(RECURSION_THROUGH_IF), (20_000_000,), words, 20.0, []),
     ("composing", spending(COMPOSING), (25_000_000,), words, 20.0, []),

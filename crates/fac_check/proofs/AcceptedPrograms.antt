@@ -151,8 +151,8 @@ module _ (P : Program) where
   by_rules false false true start w d h = absurd (some_refusal _ h)
   by_rules false false false start w d h = (refl, refl, h)
 
-  of_word : (start : ℕ) → verdict P start ≡ None → (w : ℕ) (d : WordDef) → slice_get P.words w ≡ Some d → (bad_rows P w d ≡ false) × (bad_generic P d.sort d.effect ≡ false) × (sort_verdict P start w d d.sort ≡ None)
-  of_word start h w d q = by_rules (undeclared P w d) (bad_rows P w d) (bad_generic P d.sort d.effect) start w d (accepted_word start h w d q)
+  of_word : (start : ℕ) → verdict P start ≡ None → (w : ℕ) (d : WordDef) → slice_get P.words w ≡ Some d → (bad_rows P w d ≡ false) × (bad_generic d.sort d.effect ≡ false) × (sort_verdict P start w d d.sort ≡ None)
+  of_word start h w d q = by_rules (undeclared P w d) (bad_rows P w d) (bad_generic d.sort d.effect) start w d (accepted_word start h w d q)
 
   -- an ordinary word
   by_phrase : (b : Bool) (start w : ℕ) (t : Phrase) (d : WordDef) → not b ≡ true → phrase_verdict P b start w t d ≡ None → body_verdict P d.inline w t d ≡ None
@@ -345,15 +345,15 @@ module _ (P : Program) where
     prim_there w d k e s = (let z = has_prim (primitive_word k) (subst (λ x. sort_fits P x ≡ true) s (one_passes (λ x. sort_fits P x.sort) P.words whole.sorts_fit w d e)) in let found = prim_found k z.0 z.1 in (found.0, found.1))
 
     -- an accepted generic takes a value
-    some_input : (e : Signature) → no_generic_effect P e ≡ false → (i : ℕ) × ((effect_height e).ins ≡ suc i)
-    some_input (signature r is l) h = counted (inputs_count is) (has_rows (signature r is l) || any_quoted P is) h
+    some_input : (e : Signature) → no_generic_effect e ≡ false → (i : ℕ) × ((effect_height e).ins ≡ suc i)
+    some_input (signature r is l) h = counted (inputs_count is) (has_rows (signature r is l) || any_quoted is) h
       where
         counted : (n : ℕ) (b : Bool) → (nat_eq n 0 || b) ≡ false → (i : ℕ) × (n ≡ suc i)
         counted zero b z = absurd (never_true (sym z))
         counted (suc i) b z = (i, refl)
 
     generic_input : (start : ℕ) → verdict P start ≡ None → (w : ℕ) (d : WordDef) → slice_get P.words w ≡ Some d → d.sort ≡ generic → (i : ℕ) × ((height_of d).ins ≡ suc i)
-    generic_input start h w d e s = some_input d.effect (subst (λ x. bad_generic P x d.effect ≡ false) s (of_word start h w d e).1)
+    generic_input start h w d e s = some_input d.effect (subst (λ x. bad_generic x d.effect ≡ false) s (of_word start h w d e).1)
 
     -- the generic of a method
     generic_sort : (m c g : ℕ) (t : Phrase) (d : WordDef) → sort_of P m ≡ Some (method c g t) → slice_get P.words g ≡ Some d → d.sort ≡ generic

@@ -81,6 +81,30 @@ module _ (P : Program) (at : Literal) where
   closes_array (held v) a h = absurd h
   closes_array (known m) a h = absurd h
 
+-- next methods
+module _ (P : Program) (at : Literal) where
+  pub closes_next : (i : Item) → ClosesItem P at i next_method → i ≡ next_method
+  closes_next next_method h = refl
+  closes_next (quot t) h = absurd (let e = h.1 in cc)
+  closes_next (lit q) h = absurd (cc)
+  closes_next (lit_arr c) h = absurd (cc)
+  closes_next (word v) h = absurd (cc)
+  closes_next (call_eff g) h = absurd (cc)
+  closes_next (exec_eff g) h = absurd (cc)
+  closes_next (next_after m) h = absurd (cc)
+  closes_next _ h = absurd h
+
+  pub closes_after : (i : Item) (m : ℕ) → ClosesItem P at i (next_after m) → i ≡ next_after m
+  closes_after (next_after k) m h = sym h
+  closes_after (quot t) m h = absurd (let e = h.1 in cc)
+  closes_after (lit q) m h = absurd (cc)
+  closes_after (lit_arr c) m h = absurd (cc)
+  closes_after (word v) m h = absurd (cc)
+  closes_after (call_eff g) m h = absurd (cc)
+  closes_after (exec_eff g) m h = absurd (cc)
+  closes_after next_method m h = absurd (cc)
+  closes_after _ m h = absurd h
+
 as_many_arrays : (P : Program) (a : ℕ) (lss css : List (List Lit)) → CloseArrays P a lss css → length css ≡ length lss
 as_many_arrays P a [] css h = ap length h
 as_many_arrays P a (ls ∷ lss) css h = ap length h.3 ∙ ap suc (as_many_arrays P (suc a) lss h.2 h.5)

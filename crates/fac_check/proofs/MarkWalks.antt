@@ -24,8 +24,7 @@ use Rattle.fac_abs.specs.declared.reached.Reached.TheVariants.{Dead, On}
 use Rattle.fac_check.specs.Flow.{Walked, and_then, join, living, inside, Walk, walk_phrase, walk_mark}
 use Rattle.fac_check.specs.inner.Walking.{Opened, walked_seen, Enters, body_phrase, phrase_of, sort_phrase, mark_walk, fork_walk}
 use Rattle.fac_check.specs.inner.OwnEffects.{own_effect}
-use Rattle.fac_check.proofs.BuiltWords.{built_as}
-use Rattle.fac_check.proofs.WordItems.{is_body}
+use Rattle.fac_check.proofs.ClosedSorts.{is_body}
 
 module _ (own : Option Signature) (go : Walk) (p : Place) (nested : ℕ) (b : Option Row) (ms : List Mark) (left rest : ℕ) (counts : left ≡ suc rest) where
   -- what `curry` made
@@ -54,7 +53,7 @@ module _ {C : Program} {templates : List Template} {own : Option ℕ} (O : Opene
   pub word_phrase_closed : (w : ℕ) (c : WordDef) (t : Phrase) → slice_get C.words w ≡ Some c → c.sort ≡ body t → ClosesPhrase O.program (first_of_word w) (body_phrase O.program w) t
   word_phrase_closed w c t e s =
       let there = word_open O.program C templates O.closes w c e in
-      let sort = is_body O.program w there.def c there.closes (built_as O.program O.built w there.def there.at) t s in
+      let sort = is_body O.program w there.def c there.closes t s in
       subst (λ (u : Phrase). ClosesPhrase O.program (first_of_word w) u t) (sym (ap phrase_of there.at ∙ ap sort_phrase sort.1)) sort.2
 
 -- a program for which a closed one stands, where the closed one is told by an equal

@@ -35,7 +35,7 @@ pub inline_same : (P : Program) (w : ℕ) (o : Option WordDef) → inline_word w
 inline_same P w None = refl
 inline_same P w (Some d) = inline_sort w d.inline d.sort
 
-closes_inline : (P : Program) (w : ℕ) (b : Bool) (s c : Sort) → ClosesSort P w s c → inline_phrase b c ≡ inline_phrase b s
+pub closes_inline : (P : Program) (w : ℕ) (b : Bool) (s c : Sort) → ClosesSort P w s c → inline_phrase b c ≡ inline_phrase b s
 closes_inline P w b (body t) c h = ap (inline_phrase b) h.1
 closes_inline P w b (past t) c h = ap (inline_phrase b) h.1
 closes_inline P w b (method n g t) c h = ap (inline_phrase b) h.1

@@ -1,31 +1,32 @@
 -- The walk takes each closed program that stands for a built and whole one.
-use Rattle.std.proofs.Common.{◌≡◌, ◌<◌, ◌≤◌, ◌⊎◌, ℕ, zero, suc, List, [], ◌∷◌, ◌++◌, drop, length, Bool, true, Some, None, refl, sym, ap, subst, ◌∙◌, arith}
+use Rattle.std.proofs.Common.{◌≡◌, ◌<◌, ◌≤◌, ℕ, zero, suc, List, [], ◌∷◌, ◌++◌, drop, length, Bool, true, Some, None, refl, sym, ap, subst, arith}
 use Rattle.std.specs.Prelude.{◌&&◌, nat_lt, nat_le, slice_get}
 use Rattle.std.specs.List.{list_all}
 use Rattle.std.proofs.lemmas.Bool.{leb-true, le-leb}
-use mathlib.Core.Logic.{inl, inr}
 use Rattle.fac_lang.specs.declared.phrase.Item.{Item as PlacedItem}
 use Rattle.fac_lang.specs.declared.phrase.Template.{Template}
 use Rattle.fac_lang.specs.declared.program.Program.{Program}
 use Rattle.fac_lang.specs.declared.program.WordDef.{WordDef}
 use Rattle.fac_lang.specs.declared.program.Sort.{Sort}
-use Rattle.fac_lang.specs.declared.program.Sort.TheVariants.{Prim as prim, Core as core, Body as body, Past as past, Itself as itself, Class as class, Isa as isa, Getter as getter, Setter as setter, Putter as putter, Generic as generic, Method as method}
+use Rattle.fac_lang.specs.declared.program.Sort.TheVariants.{Prim as prim, Core as core, Body as body, Past as past, Method as method}
 use Rattle.fac_lang.specs.Phrases.{int, yes, no, str, iota, wrd, arr, tup, Literal, Phrase, end, then, Item, lit, lit_arr, quot, word, bind, local, fry, hole, call_eff, exec_eff, next_method, made, next_after, held, known}
 use Rattle.fac_lang.specs.PhraseView.{what_item, items_phrase}
 use Rattle.fac_lang.specs.Signatures.{Signature, signature, Inputs, no_inputs, value, quoted}
 use Rattle.fac_lang.specs.Effects.{effect_height, inputs_count}
 use Rattle.fac_lang.specs.Primitives.{built_count}
-use Rattle.fac_lang.specs.Forms.{IsBuilt, IsBuiltPhrase, IsBuiltItem, IsBuiltSort}
+use Rattle.fac_lang.specs.CoreWords.{is_built_core}
+use Rattle.fac_lang.specs.Substitution.{of_method}
+use Rattle.fac_lang.specs.Forms.{IsBuilt}
 use Rattle.fac_lang.specs.Whole.{IsWhole, name_count, inputs_name_count}
-use Rattle.fac_locals.specs.Closed.{Closes, ClosesPhrase, ClosesItem, ClosesSort, ClosesWord, IsMadeBy}
+use Rattle.fac_locals.specs.Closed.{Closes, ClosesPhrase, ClosesItem, ClosesSort, IsMadeBy}
 use Rattle.fac_locals.proofs.Lookups.{word_open, words_closed_count, template_closed}
-use Rattle.fac_locals.proofs.Places.{literal_built}
+use Rattle.fac_locals.proofs.RunningPhrases.{IsRun, IsRunItem, RunsAs, word_runs, literal_runs}
 use Rattle.fac_locals.specs.Literals.{literal_numbered, first_of_literal, first_of_word, behind}
 use Rattle.fac_abs.proofs.EqualMarks.{and_first, and_second}
 use Rattle.fac_abs.proofs.SeenLemmas.{both, is_below, below_is}
 use Rattle.fac_check.specs.inner.UndeclaredRecursion.{named_word, made_template}
 use Rattle.fac_check.specs.inner.Taken.{takes_item, takes_phrase, takes_template, takes_sort, takes_word, takes_all}
-use Rattle.fac_check.proofs.BuiltWords.{at_or_last, built_there}
+use Rattle.fac_check.proofs.BuiltWords.{HasBuiltNumber, built_number}
 use Rattle.fac_check.proofs.LiteralNumbers.{template_of_words, made_there}
 use Rattle.fac_check.proofs.NamedWords.{number_below}
 
@@ -47,52 +48,32 @@ first_dropped [] (suc k) x rest e = absurd cc
 first_dropped (y ∷ ys) zero x rest e = let same : y ≡ x = cc in ap Some same
 first_dropped (y ∷ ys) (suc k) x rest e = first_dropped ys k x rest e
 
-module _ (P : Program) (bound count : ℕ) (numbered : (at : Literal) (t : Phrase) (k : ℕ) → at.word < length P.words → IsMadeBy P at t k → nat_lt k count ≡ true) where
-  taken_item : (at : Literal) (i j : Item) → at.word < length P.words → ClosesItem P at i j → IsBuiltItem bound i → takes_item bound count j ≡ true
+module _ (P : Program) (count : ℕ) (numbered : (at : Literal) (t : Phrase) (k : ℕ) → at.word < length P.words → IsMadeBy P at t k → nat_lt k count ≡ true) where
+  taken_item : (at : Literal) (i j : Item) → at.word < length P.words → ClosesItem P at i j → IsRunItem P i → takes_item P.top count j ≡ true
   taken_item at (lit (int z)) j l c h = rw c refl
   taken_item at (lit yes) j l c h = rw c refl
   taken_item at (lit no) j l c h = rw c refl
-  taken_item at (lit (str bs)) j l c h = rw c refl
-  taken_item at (lit (iota n)) j l c h = absurd h
-  taken_item at (lit (wrd w)) j l c h = rw c h
-  taken_item at (lit (arr a)) j l c h = absurd h
-  taken_item at (lit (tup a)) j l c h = absurd h
+  taken_item at (lit (str cs)) j l c h = rw c refl
+  taken_item at (lit (wrd w)) j l c h = rw c (below_is w P.top h)
   taken_item at (quot t) j l c h = rw c.1 (numbered at t c.0 l c.2)
-  taken_item at (word w) j l c h = rw c h
+  taken_item at (word w) j l c h = rw c (below_is w P.top h)
   taken_item at (lit_arr a) j l c h = rw c refl
-  taken_item at (bind x) j l c h = absurd h
-  taken_item at (local x) j l c h = absurd h
-  taken_item at (fry t n) j l c h = absurd h
-  taken_item at (hole k) j l c h = absurd h
-  taken_item at (call_eff g) j l c h = absurd h
-  taken_item at (exec_eff g) j l c h = absurd h
-  taken_item at next_method j l c h = absurd h
-  taken_item at (made k) j l c h = absurd h
-  taken_item at (next_after m) j l c h = absurd h
-  taken_item at (held v) j l c h = absurd h
-  taken_item at (known m) j l c h = absurd h
+  taken_item at next_method j l c h = rw c refl
+  taken_item at (next_after m) j l c h = rw c refl
+  taken_item at _ j l c h = absurd h
 
-  -- a closed phrase of a built one
-  pub taken_phrase : (at : Literal) (t c : Phrase) → at.word < length P.words → ClosesPhrase P at t c → IsBuiltPhrase bound t → takes_phrase bound count c ≡ true
+  -- a closed phrase of one that runs
+  pub taken_phrase : (at : Literal) (t c : Phrase) → at.word < length P.words → ClosesPhrase P at t c → IsRun P t → takes_phrase P.top count c ≡ true
   taken_phrase at end c l e h = rw e refl
-  taken_phrase at (then i p t) c l e h = rw e.2 (both (takes_item bound count e.0) (takes_phrase bound count e.1) (taken_item at i e.0 l e.3 h.0) (taken_phrase (behind at i) t e.1 l e.4 h.1))
+  taken_phrase at (then i p t) c l e h = rw e.2 (both (takes_item P.top count e.0) (takes_phrase P.top count e.1) (taken_item at i e.0 l e.3 h.0) (taken_phrase (behind at i) t e.1 l e.4 h.1))
 
-  taken_sort : (w : ℕ) (d : WordDef) (s o : Sort) → w < length P.words → ClosesSort P w s o → IsBuiltSort bound d s → takes_sort bound count o ≡ true
-  taken_sort w d (prim k) o l c h = rw c h.is_built
-  taken_sort w d (core k) o l c h = rw c h.is_built
-  taken_sort w d (body t) o l c h = rw c.1 (taken_phrase (first_of_word w) t c.0 l c.2 h)
-  taken_sort w d (past t) o l c h = absurd h
-  taken_sort w d itself o l c h = rw c refl
-  taken_sort w d (class k) o l c h = absurd h
-  taken_sort w d (isa k) o l c h = absurd h
-  taken_sort w d (getter s) o l c h = absurd h
-  taken_sort w d (setter s) o l c h = absurd h
-  taken_sort w d (putter s) o l c h = absurd h
-  taken_sort w d generic o l c h = absurd h
-  taken_sort w d (method k g t) o l c h = absurd h
-
-  taken_top : (w : ℕ) (s o : Sort) (t : Phrase) → w < length P.words → ClosesSort P w s o → s ≡ body t → IsBuiltPhrase bound t → takes_sort bound count o ≡ true
-  taken_top w s o t l c e h = (let d = subst (λ x. ClosesSort P w x o) e c in rw d.1 (taken_phrase (first_of_word w) t d.0 l d.2 h))
+  taken_sort : (w : ℕ) (s o : Sort) → w < length P.words → ClosesSort P w s o → RunsAs P w s → HasBuiltNumber s → takes_sort P.top count o ≡ true
+  taken_sort w (prim k) o l c h b = rw c b
+  taken_sort w (core k) o l c h b = rw c b
+  taken_sort w (body t) o l c h b = rw c.1 (taken_phrase (first_of_word w) t c.0 l c.2 h)
+  taken_sort w (method k g t) o l c h b = rw c.1 (taken_phrase (first_of_word w) (of_method w t) c.0 l c.2 h)
+  taken_sort w (past t) o l c h b = absurd h
+  taken_sort w _ o l c h b = rw c refl
 
 -- no more inputs than names
 inputs_named : (is : Inputs) → inputs_count is ≤ inputs_name_count is
@@ -118,16 +99,10 @@ module _ (P C : Program) (templates : List Template) (closes : Closes P C templa
   taken_word w c e =
       let there = word_open P C templates closes w c e in
       let d = there.def in
-      both (takes_sort P.top (length templates) c.sort) (nat_le (effect_height c.effect).ins 65)
-      (by_place d there.at there.closes (at_or_last built.words built.last_word w d (subst (λ ws. slice_get ws w ≡ Some d) built.words_are there.at)))
-      (subst (λ x. nat_le (effect_height x).ins 65 ≡ true) (sym there.closes.effect) (few_inputs d.effect (one_there (λ x. nat_le (name_count x.effect) 65) P.words w d whole.few_names there.at)))
-    where
-      by_place : (d : WordDef) → slice_get P.words w ≡ Some d → ClosesWord P w d c → (slice_get built.words w ≡ Some d) ⊎ ((w ≡ length built.words) × (built.last_word ≡ d)) → takes_sort P.top (length templates) c.sort ≡ true
-      by_place d at h (inl f) = taken_sort P P.top (length templates) numbered w d d.sort c.sort (number_below P.words w d at) h.sort (built_there P.top built.words built.built w d f)
-      by_place d at h (inr f) = taken_top P P.top (length templates) numbered w d.sort c.sort built.phrase (number_below P.words w d at) h.sort (sym (ap (λ (x : WordDef). x.sort) f.1) ∙ built.last_word_is.sort_is) built.last_word_is.phrase_built
+      both (takes_sort P.top (length templates) c.sort) (nat_le (effect_height c.effect).ins 65) (taken_sort P (length templates) numbered w d.sort c.sort (number_below P.words w d there.at) there.closes.sort (word_runs P built w d there.at) (built_number P built w d there.at)) (subst (λ x. nat_le (effect_height x).ins 65 ≡ true) (sym there.closes.effect) (few_inputs d.effect (one_there (λ x. nat_le (name_count x.effect) 65) P.words w d whole.few_names there.at)))
 
   taken_template : (k : ℕ) (t : Template) → slice_get templates k ≡ Some t → takes_template P.top (length templates) t ≡ true
-  taken_template k t e = taken_phrase P P.top (length templates) numbered (first_of_literal (literal_numbered P k).0) (literal_numbered P k).1 t.body (template_of_words P C templates closes k t e) (template_closed P C templates closes k t e).body (literal_built P built k)
+  taken_template k t e = taken_phrase P (length templates) numbered (first_of_literal (literal_numbered P k).0) (literal_numbered P k).1 t.body (template_of_words P C templates closes k t e) (template_closed P C templates closes k t e).body (literal_runs P built k)
 
   top_there : nat_lt C.top (length C.words) ≡ true
   top_there = rw (closes.top, built.top_is, words_closed_count P C templates closes, built.words_are) (longer built.words built.last_word)
@@ -145,6 +120,9 @@ module _ (C : Program) (templates : List Template) (taken : takes_all C template
 
   pub template_taken : (k : ℕ) (t : Template) → slice_get templates k ≡ Some t → takes_phrase C.top (length templates) t.body ≡ true
   template_taken k t e = one_there (takes_template C.top (length templates)) templates k t (and_second (list_all (takes_word C.top (length templates)) C.words) _ (and_second (nat_lt C.top (length C.words)) _ taken)) e
+
+  pub method_taken : (w : ℕ) (c : WordDef) (k g : ℕ) (t : Phrase) → slice_get C.words w ≡ Some c → c.sort ≡ method k g t → takes_phrase C.top (length templates) t ≡ true
+  method_taken w c k g t e s = subst (λ x. takes_sort C.top (length templates) x ≡ true) s (and_first _ _ (word_taken w c e))
 
   pub phrase_taken : (w : ℕ) (c : WordDef) (t : Phrase) → slice_get C.words w ≡ Some c → c.sort ≡ body t → takes_phrase C.top (length templates) t ≡ true
   phrase_taken w c t e s = subst (λ x. takes_sort C.top (length templates) x ≡ true) s (and_first _ _ (word_taken w c e))
@@ -215,7 +193,7 @@ module _ (C : Program) (templates : List Template) (taken : takes_all C template
   made_below (held v) k h e = absurd cc
   made_below (known m) k h e = absurd cc
 
-pub core_below : (top count k : ℕ) (d : WordDef) → takes_word top count d ≡ true → d.sort ≡ core k → nat_lt k 3 ≡ true
+pub core_below : (top count k : ℕ) (d : WordDef) → takes_word top count d ≡ true → d.sort ≡ core k → is_built_core k ≡ true
 core_below top count k d h e = subst (λ x. takes_sort top count x ≡ true) e (and_first _ _ h)
 
 pub primitive_below : (top count k : ℕ) (d : WordDef) → takes_word top count d ≡ true → d.sort ≡ prim k → k < built_count

@@ -1,17 +1,20 @@
 -- A word leads back to itself by the words that each word leads to exactly where it does so in the program.
-use Rattle.std.proofs.Common.{◌≡◌, ◌<◌, ◌⊎◌, inl, inr, ℕ, zero, suc, ◌+◌, List, [], ◌∷◌, length, Bool, true, false, Option, Some, None, refl, sym, ap, ◌∙◌, subst, arith}
-use Rattle.std.specs.Prelude.{slice_get, nat_eq, ◌&&◌}
+use Rattle.std.proofs.Common.{◌≡◌, ◌⊎◌, inl, inr, ℕ, zero, suc, ◌+◌, List, [], ◌∷◌, length, Bool, true, false, Option, Some, None, refl, sym, ap, ◌∙◌, subst, arith}
+use Rattle.std.specs.Prelude.{◌||◌, ◌↔◌, slice_get, nat_eq, ◌&&◌}
+use Rattle.std.proofs.lemmas.Bool.{or_left, or_right, or_cases, false_from_ne_true}
+use Rattle.fac_graph.specs.Paths.{one_of, IsOneOf, list_or_none, successors, LeadsTo, by_edge, and_edge, AreLeadingBack, leads_within}
+use Rattle.fac_graph.proofs.NumberLists.{same_number, in_either, in_one}
+use Rattle.fac_graph.proofs.PathLemmas.{any_is, leads_soon, same_truth}
 use Rattle.fac_lang.specs.Phrases.{Plain, int, yes, no, str, iota, wrd, arr, tup, Phrase, end, then, Item, lit, lit_arr, quot, word, bind, local, fry, hole, call_eff, exec_eff, next_method, made, next_after, held, known}
 use Rattle.fac_lang.specs.declared.phrase.Template.{Template}
 use Rattle.fac_lang.specs.declared.program.Program.{Program}
 use Rattle.fac_lang.specs.declared.program.WordDef.{WordDef}
 use Rattle.fac_lang.specs.declared.program.Sort.{Sort}
 use Rattle.fac_lang.specs.declared.program.Sort.TheVariants.{Prim as prim, Core as core, Body as body, Past as past, Itself as itself, Class as class, Isa as isa, Getter as getter, Setter as setter, Putter as putter, Generic as generic, Method as method}
-use Rattle.fac_check.specs.Verdicts.{one_of, more_of, inline_body, inline_words, item_words, body_words, named_by, led_to, without, leads_back, undeclared}
-use Rattle.fac_check.specs.inner.UndeclaredRecursion.{IsOneOf, one_if, inline_phrase, inline_word, list_or_none, led_from, IsWithin, StaysInside, Decides, DecidesAll, phrase_edges, inline_edges, sort_edges, word_edges, edges_from, AreEdges}
+use Rattle.fac_check.specs.Verdicts.{more_of, inline_body, inline_words, item_words, body_words, named_by, led_to, without, leads_back, undeclared}
+use Rattle.fac_check.specs.inner.UndeclaredRecursion.{one_if, inline_phrase, inline_word, phrase_edges, inline_edges, sort_edges, word_edges, edges_from, AreEdges}
 use Rattle.fac_check.specs.Judged.{undeclared_from, AreUndeclared}
-use Rattle.fac_check.proofs.NamedWords.{inline_same, number_below}
-use Rattle.fac_check.proofs.NumberLists.{or_left, or_right, or_either, same_number, in_either, in_one}
+use Rattle.fac_check.proofs.NamedWords.{inline_same}
 
 -- adding numbers to a list
 more_keeps_by : (b : Bool) (x : ℕ) (xs ys : List ℕ) (v : ℕ) → ((zs : List ℕ) → IsOneOf v zs → IsOneOf v (more_of xs zs)) → IsOneOf v ys → IsOneOf v (elim b [ true ↦ more_of xs ys | false ↦ more_of xs (x ∷ ys) ])
@@ -33,7 +36,7 @@ more_rest false x xs ys v adds = adds (x ∷ ys)
 more_adds : (xs ys : List ℕ) (v : ℕ) → IsOneOf v xs → IsOneOf v (more_of xs ys)
 more_adds [] ys v e = absurd cc
 more_adds (x ∷ xs) ys v e =
-    elim (or_either (nat_eq v x) (one_of v xs) e) [
+    elim (or_cases (nat_eq v x) (one_of v xs) e) [
       | inl p ↦ subst (λ (u : ℕ). IsOneOf u (more_of (x ∷ xs) ys)) (sym (same_number v x p)) (more_first (one_of x ys) x xs ys refl)
       | inr p ↦ more_rest (one_of x ys) x xs ys v (λ zs. more_adds xs zs v p)
     ]
@@ -43,7 +46,7 @@ more_only_by true x xs ys v only e = elim (only ys e) [ inl p ↦ inl (or_right 
 more_only_by false x xs ys v only e =
     elim (only (x ∷ ys) e) [
       | inl p ↦ inl (or_right (nat_eq v x) (one_of v xs) p)
-      | inr p ↦ elim (or_either (nat_eq v x) (one_of v ys) p) [ inl q ↦ inl (or_left (nat_eq v x) (one_of v xs) q) | inr q ↦ inr q ]
+      | inr p ↦ elim (or_cases (nat_eq v x) (one_of v ys) p) [ inl q ↦ inl (or_left (nat_eq v x) (one_of v xs) q) | inr q ↦ inr q ]
     ]
 
 more_only : (xs ys : List ℕ) (v : ℕ) → IsOneOf v (more_of xs ys) → IsOneOf v xs ⊎ IsOneOf v ys
@@ -52,7 +55,7 @@ more_only (x ∷ xs) ys v e = more_only_by (one_of x ys) x xs ys v (λ zs h. mor
 
 without_only_by : (b : Bool) (u : ℕ) (us vs : List ℕ) (v : ℕ) → (IsOneOf v us → IsOneOf v vs) → IsOneOf v (elim b [ true ↦ us | false ↦ u ∷ us ]) → IsOneOf v (u ∷ vs)
 without_only_by true u us vs v only e = or_right (nat_eq v u) (one_of v vs) (only e)
-without_only_by false u us vs v only e = elim (or_either (nat_eq v u) (one_of v us) e) [ inl p ↦ or_left (nat_eq v u) (one_of v vs) p | inr p ↦ or_right (nat_eq v u) (one_of v vs) (only p) ]
+without_only_by false u us vs v only e = elim (or_cases (nat_eq v u) (one_of v us) e) [ inl p ↦ or_left (nat_eq v u) (one_of v vs) p | inr p ↦ or_right (nat_eq v u) (one_of v vs) (only p) ]
 
 without_only : (P : Program) (w : ℕ) (vs : List ℕ) (v : ℕ) → IsOneOf v (without P w vs) → IsOneOf v vs
 without_only P w [] v e = e
@@ -67,7 +70,7 @@ without_keeps_by false w u us v is other (inr p) = or_right (nat_eq v u) (one_of
 without_keeps : (P : Program) (w : ℕ) (vs : List ℕ) (v : ℕ) → (v ≡ w → ⊥) → IsOneOf v vs → IsOneOf v (without P w vs)
 without_keeps P w [] v other e = e
 without_keeps P w (u ∷ vs) v other e =
-    without_keeps_by (nat_eq w u) w u (without P w vs) v refl other (elim (or_either (nat_eq v u) (one_of v vs) e) [ inl p ↦ inl p | inr p ↦ inr (without_keeps P w vs v other p) ])
+    without_keeps_by (nat_eq w u) w u (without P w vs) v refl other (elim (or_cases (nat_eq v u) (one_of v vs) e) [ inl p ↦ inl p | inr p ↦ inr (without_keeps P w vs v other p) ])
 
 -- an inline word with a phrase
 pub record InlineWord (P : Program) (v : ℕ) : Type 0 where
@@ -92,7 +95,7 @@ body_sort b (putter x) e = absurd cc
 body_sort b generic e = absurd cc
 
 one_if_true : (b : Bool) (w v : ℕ) → IsOneOf v (one_if b w) → (b ≡ true) × (v ≡ w)
-one_if_true true w v e = (refl, elim (or_either (nat_eq v w) (one_of v []) e) [ inl p ↦ same_number v w p | inr p ↦ absurd cc ])
+one_if_true true w v e = (refl, elim (or_cases (nat_eq v w) (one_of v []) e) [ inl p ↦ same_number v w p | inr p ↦ absurd cc ])
 one_if_true false w v e = absurd cc
 
 module _ (P : Program) where
@@ -147,7 +150,7 @@ module _ (P : Program) where
   named_adds : (ws seen : List ℕ) (u v : ℕ) → IsOneOf u ws → IsOneOf v (body_words P (slice_get P.words u)) → IsOneOf v (named_by P ws seen)
   named_adds [] seen u v e h = absurd cc
   named_adds (w ∷ ws) seen u v e h =
-      elim (or_either (nat_eq u w) (one_of u ws) e) [
+      elim (or_cases (nat_eq u w) (one_of u ws) e) [
         | inl p ↦ more_adds (body_words P (slice_get P.words w)) (named_by P ws seen) v (subst (λ (x : ℕ). IsOneOf v (body_words P (slice_get P.words x))) (same_number u w p) h)
         | inr p ↦ more_keeps (body_words P (slice_get P.words w)) (named_by P ws seen) v (named_adds ws seen u v p h)
       ]
@@ -160,10 +163,9 @@ module _ (P : Program) where
         | inr p ↦ elim (named_only ws seen v p) [ inl q ↦ inl q | inr q ↦ inr (q.0, or_right (nat_eq q.0 w) (one_of q.0 ws) q.1, q.2) ]
       ]
 
-  -- the last step of several
-  led_last : (n : ℕ) (ws : List ℕ) → led_to P (suc n) ws ≡ named_by P (led_to P n ws) (led_to P n ws)
-  led_last zero ws = refl
-  led_last (suc n) ws = led_last n (named_by P ws ws)
+  led_keeps : (n : ℕ) (ws : List ℕ) (v : ℕ) → IsOneOf v ws → IsOneOf v (led_to P n ws)
+  led_keeps zero ws v e = e
+  led_keeps (suc n) ws v e = led_keeps n (named_by P ws ws) v (named_keeps ws ws v e)
 
   -- the words that one leads to
   edges_at : (w k u : ℕ) (ds : List WordDef) (d : WordDef) → u ≡ w + k → slice_get ds k ≡ Some d → list_or_none (slice_get (edges_from P w ds) k) ≡ word_edges P u d
@@ -205,68 +207,64 @@ module _ (P : Program) where
   sort_edges_named w i r (putter x) v e = absurd cc
   sort_edges_named w i r generic v e = absurd cc
 
-  led_named : (u v : ℕ) (o : Option WordDef) → slice_get P.words u ≡ o → IsOneOf v (led_from edges u) → IsOneOf v (body_words P o)
+  led_named : (u v : ℕ) (o : Option WordDef) → slice_get P.words u ≡ o → IsOneOf v (successors edges u) → IsOneOf v (body_words P o)
   led_named u v None is e = absurd (let none : IsOneOf v [] = subst (λ (vs : List ℕ). IsOneOf v vs) (edges_none 0 u P.words is) e in cc)
   led_named u v (Some d) is e = sort_edges_named u d.inline d.recursive d.sort v (subst (λ (vs : List ℕ). IsOneOf v vs) (edges_at 0 u u P.words d (omega arith) is) e)
 
-  -- what is led to in so many steps
-  within_led : (starts : List ℕ) (n v : ℕ) → IsWithin edges starts n v → IsOneOf v (led_to P n starts)
-  within_led starts zero v h = h
-  within_led starts (suc n) v (inl p) = rw (led_last n starts) (named_keeps (led_to P n starts) (led_to P n starts) v (within_led starts n v p))
-  within_led starts (suc n) v (inr p) = rw (led_last n starts) (named_adds (led_to P n starts) (led_to P n starts) p.0 v (within_led starts n p.0 p.1) (led_named p.0 v (slice_get P.words p.0) refl p.2))
+  -- what a path of few edges leads to
+  within_led : (n u v : ℕ) (ws : List ℕ) → ((x : ℕ) → IsOneOf x (successors edges u) → IsOneOf x ws) → leads_within n edges u v ≡ true → IsOneOf v (led_to P n ws)
+  within_led zero u v ws begins e = absurd cc
+  within_led (suc n) u v ws begins e =
+      let found = any_is (λ x. nat_eq v x || leads_within n edges x v) (successors edges u) e in
+      elim (or_cases (nat_eq v found.0) (leads_within n edges found.0 v) found.2) [
+        | inl p ↦ led_keeps n (named_by P ws ws) v (named_keeps ws ws v (subst (λ (x : ℕ). IsOneOf x ws) (sym (same_number v found.0 p)) (begins found.0 found.1)))
+        | inr p ↦ within_led n found.0 v (named_by P ws ws) (λ y h. named_adds ws ws found.0 y (begins found.0 found.1) (led_named found.0 y (slice_get P.words found.0) refl h)) p
+      ]
 
   phrase_edges_other : (u : ℕ) (r : Bool) (t : Phrase) (v : ℕ) → (v ≡ u → ⊥) → IsOneOf v (inline_words P t) → IsOneOf v (phrase_edges P u r t)
   phrase_edges_other u true t v other e = without_keeps P u (inline_words P t) v other e
   phrase_edges_other u false t v other e = e
 
-  inline_edges_are : (u : ℕ) (f : InlineWord P u) → led_from edges u ≡ phrase_edges P u f.def.recursive f.phrase
+  inline_edges_are : (u : ℕ) (f : InlineWord P u) → successors edges u ≡ phrase_edges P u f.def.recursive f.phrase
   inline_edges_are u f = edges_at 0 u u P.words f.def (omega arith) f.at ∙ ap (sort_edges P u f.def.inline f.def.recursive) f.sort_is ∙ ap (λ (b : Bool). inline_edges P u b f.def.recursive f.phrase) f.inline_is
 
   inline_named : (u v : ℕ) (f : InlineWord P u) → IsOneOf v (body_words P (slice_get P.words u)) → IsOneOf v (inline_words P f.phrase)
   inline_named u v f e = subst (λ (vs : List ℕ). IsOneOf v vs) (ap (body_words P) f.at ∙ ap (λ (s : Sort). elim s [ body t ↦ inline_words P t | _ ↦ [] ]) f.sort_is) e
 
-  is_below : (v : ℕ) → InlineWord P v → v < length edges
-  is_below v f =
-      let lt = number_below P.words v f.def f.at in
-      omega (arith, lt, edges_count 0 P.words)
+  named_path : (w u v : ℕ) (b : Bool) → nat_eq v u ≡ b → LeadsTo edges w u → (f : InlineWord P u) → IsOneOf v (inline_words P f.phrase) → LeadsTo edges w v
+  named_path w u v true is path f e = subst (λ (x : ℕ). LeadsTo edges w x) (sym (same_number v u is)) path
+  named_path w u v false is path f e =
+      and_edge u path (subst (λ (vs : List ℕ). IsOneOf v vs) (sym (inline_edges_are u f)) (phrase_edges_other u f.def.recursive f.phrase v (λ same. let itself : nat_eq u u ≡ false = ap (λ (x : ℕ). nat_eq x u) (sym same) ∙ is in absurd (grind arith)) e))
 
-  stays_by : (w : ℕ) (s : StaysInside edges w) (u v : ℕ) (b : Bool) → nat_eq v u ≡ b → s.inside u ≡ true → (f : InlineWord P u) → IsOneOf v (inline_words P f.phrase) → v < length edges → s.inside v ≡ true
-  stays_by w s u v true is inside f e lt = ap s.inside (same_number v u is) ∙ inside
-  stays_by w s u v false is inside f e lt =
-      s.closed u v inside (subst (λ (vs : List ℕ). IsOneOf v vs) (sym (inline_edges_are u f)) (phrase_edges_other u f.def.recursive f.phrase v (λ same. let itself : nat_eq u u ≡ false = ap (λ (x : ℕ). nat_eq x u) (sym same) ∙ is in absurd (grind arith)) e)) lt
-
-  -- all words that these lead to stay inside
-  stays_led : (w : ℕ) (s : StaysInside edges w) (n : ℕ) (ws : List ℕ) → ((v : ℕ) → IsOneOf v ws → (s.inside v ≡ true) × InlineWord P v) → (v : ℕ) → IsOneOf v (led_to P n ws) → s.inside v ≡ true
-  stays_led w s zero ws all v e = (all v e).0
-  stays_led w s (suc n) ws all v e =
-      stays_led w s n (named_by P ws ws) (λ u h. elim (named_only ws ws u h) [
+  -- a path leads to all words that those with a path lead to
+  led_path : (w n : ℕ) (ws : List ℕ) → ((v : ℕ) → IsOneOf v ws → LeadsTo edges w v × InlineWord P v) → (v : ℕ) → IsOneOf v (led_to P n ws) → LeadsTo edges w v
+  led_path w zero ws all v e = (all v e).0
+  led_path w (suc n) ws all v e =
+      led_path w n (named_by P ws ws) (λ u h. elim (named_only ws ws u h) [
         | inl p ↦ all u p
-        | inr p ↦ let from = all p.0 p.1 in let named = inline_named p.0 u from.1 p.2 in let found = words_inline from.1.phrase u named in (stays_by w s p.0 u (nat_eq u p.0) refl from.0 from.1 named (is_below u found), found)
+        | inr p ↦ let from = all p.0 p.1 in let named = inline_named p.0 u from.1 p.2 in (named_path w p.0 u (nat_eq u p.0) refl from.0 from.1 named, words_inline from.1.phrase u named)
       ]) v e
 
-  nowhere : (n v : ℕ) → IsWithin edges [] n v → ⊥
-  nowhere zero v h = cc
-  nowhere (suc n) v (inl p) = nowhere n v p
-  nowhere (suc n) v (inr p) = nowhere n p.0 p.1
+  nowhere : (w v : ℕ) → successors edges w ≡ [] → LeadsTo edges w v → ⊥
+  nowhere w v is (by_edge e) = absurd (let none : IsOneOf v [] = subst (λ (vs : List ℕ). IsOneOf v vs) is e in cc)
+  nowhere w v is (and_edge u p e) = nowhere w u is p
 
-  no_start : (w : ℕ) (b : Bool) → led_from edges w ≡ [] → Decides edges w b → b ≡ false
-  no_start w true is h = absurd (nowhere (length edges) w (subst (λ (vs : List ℕ). IsWithin edges vs (length edges) w) is h))
-  no_start w false is h = refl
+  -- this is whether a word leads back to itself
+  abbrev Tells : ℕ → Bool → Type 0
+  Tells w b = (b ≡ true) ↔ LeadsTo edges w w
 
-  not_both : (b : Bool) → (b ≡ true → ⊥) → false ≡ b
-  not_both true h = absurd (h refl)
-  not_both false h = refl
+  no_start : (w : ℕ) (b : Bool) → successors edges w ≡ [] → Tells w b → b ≡ false
+  no_start w b is h = false_from_ne_true b (λ e. nowhere w w is (h.0 e))
 
   begins_phrase : (w : ℕ) (r : Bool) (t : Phrase) → phrase_edges P w r t ≡ elim r [ true ↦ without P w (inline_words P t) | false ↦ inline_words P t ]
   begins_phrase w true t = refl
   begins_phrase w false t = refl
 
-  decides_inline : (w : ℕ) (r : Bool) (t : Phrase) (b : Bool) → led_from edges w ≡ phrase_edges P w r t → Decides edges w b → b ≡ one_of w (led_to P (length P.words) (phrase_edges P w r t))
-  decides_inline w r t true is h = sym (within_led (phrase_edges P w r t) (length P.words) w (subst (λ (n : ℕ). IsWithin edges (phrase_edges P w r t) n w) (edges_count 0 P.words) (subst (λ (vs : List ℕ). IsWithin edges vs (length edges) w) is h)))
-  decides_inline w r t false is h =
-      not_both (one_of w (led_to P (length P.words) (phrase_edges P w r t))) (λ e. let back = stays_led w h (length P.words) (phrase_edges P w r t) (λ v f. let found = words_inline t v (phrase_edges_named w r t v f) in (h.begins v (subst (λ (vs : List ℕ). IsOneOf v vs) (sym is) f) (is_below v found), found)) w e in let clash : true ≡ false = sym back ∙ h.apart in cc)
+  decides_inline : (w : ℕ) (r : Bool) (t : Phrase) (b : Bool) → successors edges w ≡ phrase_edges P w r t → Tells w b → b ≡ one_of w (led_to P (length P.words) (phrase_edges P w r t))
+  decides_inline w r t b is h =
+      same_truth b (one_of w (led_to P (length P.words) (phrase_edges P w r t))) (λ e. within_led (length P.words) w w (phrase_edges P w r t) (λ x f. subst (λ (vs : List ℕ). IsOneOf x vs) is f) (subst (λ (n : ℕ). leads_within n edges w w ≡ true) (edges_count 0 P.words) (leads_soon edges w w (h.0 e)))) (λ e. h.1 (led_path w (length P.words) (phrase_edges P w r t) (λ v f. (by_edge (subst (λ (vs : List ℕ). IsOneOf v vs) (sym is) f), words_inline t v (phrase_edges_named w r t v f))) w e))
 
-  decides_sort : (w : ℕ) (i r : Bool) (s : Sort) (b : Bool) → led_from edges w ≡ sort_edges P w i r s → Decides edges w b → b ≡ elim s [ body t ↦ i && leads_back P w r t | _ ↦ false ]
+  decides_sort : (w : ℕ) (i r : Bool) (s : Sort) (b : Bool) → successors edges w ≡ sort_edges P w i r s → Tells w b → b ≡ elim s [ body t ↦ i && leads_back P w r t | _ ↦ false ]
   decides_sort w true r (body t) b is h = decides_inline w r t b is h ∙ ap (λ (vs : List ℕ). one_of w (led_to P (length P.words) vs)) (begins_phrase w r t)
   decides_sort w false r (body t) b is h = no_start w b is h
   decides_sort w i r (past t) b is h = no_start w b is h
@@ -281,7 +279,7 @@ module _ (P : Program) where
   decides_sort w i r (putter x) b is h = no_start w b is h
   decides_sort w i r generic b is h = no_start w b is h
 
-  decides_word : (w : ℕ) (d : WordDef) (b : Bool) → slice_get P.words w ≡ Some d → Decides edges w b → b ≡ undeclared P w d
+  decides_word : (w : ℕ) (d : WordDef) (b : Bool) → slice_get P.words w ≡ Some d → Tells w b → b ≡ undeclared P w d
   decides_word w d b at h = decides_sort w d.inline d.recursive d.sort b (edges_at 0 w w P.words d (omega arith) at) h
 
   flags_from : (w : ℕ) (ds : List WordDef) (flags : List Bool) → length flags ≡ length ds → ((k u : ℕ) (b : Bool) (d : WordDef) → u ≡ w + k → slice_get flags k ≡ Some b → slice_get ds k ≡ Some d → b ≡ undeclared P u d) → flags ≡ undeclared_from P w ds
@@ -292,7 +290,7 @@ module _ (P : Program) where
       ap (λ (c : Bool). c ∷ flags) (all 0 w b d (omega arith) refl refl) ∙ ap (λ (fs : List Bool). undeclared P w d ∷ fs) (flags_from (suc w) ds flags (omega (arith, e)) (λ k u c x is at found. all (suc k) u c x (omega (arith, is)) at found))
 
 -- the flags of all words
-pub flags_are : (C : Program) (ts : List Template) (edges : List (List ℕ)) (flags : List Bool) → AreEdges C ts edges → DecidesAll edges flags → AreUndeclared C ts flags
+pub flags_are : (C : Program) (ts : List Template) (edges : List (List ℕ)) (flags : List Bool) → AreEdges C ts edges → AreLeadingBack edges flags → AreUndeclared C ts flags
 flags_are C ts edges flags are decides = λ P h. (
-    let all = subst (λ (es : List (List ℕ)). DecidesAll es flags) (are P h) decides in flags_from P 0 P.words flags (all.same_length ∙ edges_count P 0 P.words) (λ k u b d is at found. let here : k ≡ u = omega (arith, is) in decides_word P u d b (ap (slice_get P.words) (sym here) ∙ found) (all.each u b (ap (slice_get flags) (sym here) ∙ at)))
+    let all = subst (λ (es : List (List ℕ)). AreLeadingBack es flags) (are P h) decides in flags_from P 0 P.words flags (all.same_length ∙ edges_count P 0 P.words) (λ k u b d is at found. let here : k ≡ u = omega (arith, is) in decides_word P u d b (ap (slice_get P.words) (sym here) ∙ found) (all.each u b (ap (slice_get flags) (sym here) ∙ at)))
     )

@@ -7,34 +7,37 @@ use Rattle.fac_lang.specs.declared.phrase.Template.{Template}
 use Rattle.fac_lang.specs.declared.program.Program.{Program}
 use Rattle.fac_lang.specs.declared.program.WordDef.{WordDef}
 use Rattle.fac_lang.specs.declared.program.Sort.{Sort}
-use Rattle.fac_lang.specs.declared.program.Sort.TheVariants.{Prim as prim, Core as core, Body as body, Itself as itself}
+use Rattle.fac_lang.specs.declared.program.Sort.TheVariants.{Body as body, Past as past, Generic as generic, Method as method}
 use Rattle.fac_lang.specs.Phrases.{Literal, Phrase}
 use Rattle.fac_lang.specs.Signatures.{Signature, signature}
 use Rattle.fac_lang.specs.Effects.{effect_height, inputs_count}
+use Rattle.fac_lang.specs.Substitution.{of_method}
 use Rattle.fac_lang.specs.Forms.{IsBuilt}
 use Rattle.fac_locals.specs.Literals.{first_of_word, literal_numbered}
 use Rattle.fac_locals.specs.Closed.{Closes, ClosesPhrase, ClosesSort, ClosesWord}
-use Rattle.fac_locals.proofs.Places.{literal_apart, literal_built}
+use Rattle.fac_locals.proofs.Places.{literal_apart}
+use Rattle.fac_locals.proofs.RunningPhrases.{literal_runs}
 use Rattle.fac_locals.proofs.Lookups.{word_closed}
 use Rattle.fac_lang.specs.RowVariables.{Row, named_row, effect_inputs, effect_leaving, outer_in, outer_out, has_rows, bindable, is_row}
 use Rattle.fac_abs.specs.Marks.{AbstractStack, unknowns}
 use Rattle.fac_abs.specs.MarkTrees.{Naming}
 use Rattle.fac_abs.specs.SeenMarks.{MarksSeen, stack_of, base_seen}
 use Rattle.fac_abs.specs.declared.rule.Rule.{Rule}
-use Rattle.fac_abs.specs.declared.rule.Rule.TheVariants.{RowDeclaration}
+use Rattle.fac_abs.specs.declared.rule.Rule.TheVariants.{RowDeclaration, MethodEffect}
 use Rattle.fac_rows.specs.RowBinding.{inputs_marks}
 use Rattle.fac_rows.specs.RowNumbers.{NamesRows, NamesOwn}
 use Rattle.fac_rows.proofs.NamingRows.{naming_for, naming_for_names}
 use Rattle.fac_check.specs.declared.walker.Walked.{Walked}
 use Rattle.fac_check.specs.Flow.{Walked as WalkedPhrase, most_steps, walk, doing, walked}
-use Rattle.fac_check.specs.Verdicts.{Refusal, refusal, end_of, kept_word, ordinary_verdict, row_verdict, top_verdict, inline_verdict, body_verdict, phrase_verdict, sort_verdict, ruled_verdict, word_verdict, undeclared, bad_rows, bad_generic}
+use Rattle.fac_check.specs.Verdicts.{Refusal, refusal, end_of, kept_word, ordinary_verdict, row_verdict, top_verdict, inline_verdict, body_verdict, phrase_verdict, sort_verdict, ruled_verdict, word_verdict, undeclared, bad_rows, bad_generic, no_generic_effect}
 use Rattle.fac_check.specs.inner.Walking.{Opened, walked_seen, go_at}
 use Rattle.fac_check.specs.inner.OwnEffects.{effect_where, own_effect}
 use Rattle.fac_check.specs.inner.UndeclaredRecursion.{inline_phrase}
-use Rattle.fac_check.specs.inner.Breaches.{bad_rows_so}
+use Rattle.fac_check.specs.inner.Breaches.{bad_rows_so, is_past_sort, generic_refusal}
 use Rattle.fac_check.specs.Judged.{breach_seen}
-use Rattle.fac_check.proofs.BuiltMarks.{built_unmarked}
-use Rattle.fac_check.proofs.BuiltWords.{BuiltAs, as_primitive, as_core, as_symbol, as_defined, built_as, no_bad_generic}
+use Rattle.fac_check.proofs.BuiltMarks.{run_unmarked}
+use Rattle.fac_check.proofs.ClosedSorts.{past_same}
+use Rattle.fac_check.proofs.NamedWords.{closes_inline}
 
 -- A row for each number.
 abbrev pub numbered_row : ℕ → Row
@@ -45,7 +48,7 @@ numbered_apart j k e = cc
 
 -- the literals of a built program by the numbers of their templates
 abbrev pub named_literals : (P : Program) → IsBuilt P → Naming
-named_literals P built = record { literal = literal_numbered P; apart = literal_apart P; unmarked = λ k. built_unmarked P.top (literal_numbered P k).1 (literal_built P built k); row = numbered_row; rows_apart = numbered_apart }
+named_literals P built = record { literal = literal_numbered P; apart = literal_apart P; unmarked = λ k. run_unmarked P (literal_numbered P k).1 (literal_runs P built k); row = numbered_row; rows_apart = numbered_apart }
 
 -- The templates of a built program's closed one name its literals, and the bases of a walk name the rows of the word that is checked.
 abbrev pub opened : (P C : Program) (templates : List Template) (own : Option ℕ) → Closes P C templates → IsBuilt P → Opened C templates own
@@ -144,46 +147,79 @@ module _ (P : Program) (w : ℕ) (d c : WordDef) (closes : ClosesWord P w d c) w
   pub row_mark_is : is_row d.recursive d.effect ≡ is_row c.recursive c.effect
   row_mark_is = rw (closes.recursive, closes.effect) refl
 
-  abbrev rows_so : ℕ → Bool → Signature → Bool
-  rows_so top inline e = not (nat_eq w top) && (has_rows e && not (inline && bindable e))
+  abbrev rows_so : ℕ → Bool → Bool → Signature → Bool
+  rows_so top late inline e = not (nat_eq w top) && (not late && (has_rows e && not (inline && bindable e)))
+
+  abbrev inline_by : Sort → Bool → Bool
+  inline_by s i = elim s [ body t ↦ i | _ ↦ false ]
+
+  abbrev rows_by : Sort → Bool → Signature → Bool
+  rows_by s inline e = elim s [ past t ↦ false | _ ↦ not (nat_eq w P.top) && (has_rows e && not (inline && bindable e)) ]
+
+  neither : (b : Bool) → (b && false) ≡ false
+  neither true = refl
+  neither false = refl
+
+  rows_sorted : (s : Sort) (i : Bool) (e : Signature) → rows_so P.top (is_past_sort s) (inline_phrase i s) e ≡ rows_by s (inline_by s i) e
+  rows_sorted (past t) i e = neither (not (nat_eq w P.top))
+  rows_sorted _ i e = refl
 
   -- the code's test of row declarations
-  pub bad_rows_are : BuiltAs P w d → (top : ℕ) → top ≡ P.top → bad_rows_so top w c ≡ bad_rows P w d
-  bad_rows_are built top same = ap (λ n. bad_rows_so n w c) same ∙ ap (λ e. rows_so P.top (inline_phrase c.inline c.sort) e) closes.effect ∙ by_sort built
+  pub bad_rows_are : (top : ℕ) → top ≡ P.top → bad_rows_so top w c ≡ bad_rows P w d
+  bad_rows_are top same =
+      ap (λ n. bad_rows_so n w c) same
+      ∙ ap (λ e. rows_so P.top (is_past_sort c.sort) (inline_phrase c.inline c.sort) e) closes.effect
+      ∙ ap (λ (b : Bool). rows_so P.top b (inline_phrase c.inline c.sort) d.effect) (past_same P w d.sort c.sort closes.sort)
+      ∙ ap (λ (b : Bool). rows_so P.top (is_past_sort d.sort) b d.effect) (ap (λ (b : Bool). inline_phrase b c.sort) closes.inline ∙ closes_inline P w d.inline d.sort c.sort closes.sort)
+      ∙ rows_sorted d.sort d.inline d.effect
+
+module _ (P : Program) (w : ℕ) (d : WordDef) (start : ℕ) where
+  -- the verdict where no rule is broken that comes before that of generics
+  abbrev verdict_by : Bool → Sort → Option Refusal
+  verdict_by true s = refusal MethodEffect d.place
+  verdict_by false s = sort_verdict P start w d s
+
+  ruled : (u r g : Bool) → false ≡ u → r ≡ false → verdict_by g d.sort ≡ ruled_verdict P u r g start w d
+  ruled false false true e f = refl
+  ruled false false false e f = refl
+  ruled true r g e f = absurd (cc)
+  ruled false true g e f = absurd (cc)
+
+  -- the verdict on a word of this sort
+  pub sorted_verdict : (s : Sort) (x : Option Refusal) → d.sort ≡ s → false ≡ undeclared P w d → bad_rows P w d ≡ false → x ≡ verdict_by (bad_generic s d.effect) s → x ≡ word_verdict P start w d
+  sorted_verdict s x is e f h = h ∙ ap (λ q. verdict_by (bad_generic q d.effect) q) (sym is) ∙ ruled (undeclared P w d) (bad_rows P w d) (bad_generic d.sort d.effect) e f
+
+  pub body_verdict_is : (t : Phrase) (x : Option Refusal) → d.sort ≡ body t → false ≡ undeclared P w d → bad_rows P w d ≡ false → x ≡ phrase_verdict P (nat_eq w P.top) start w t d → x ≡ word_verdict P start w d
+  body_verdict_is t x is e f h = sorted_verdict (body t) x is e f h
+
+  -- a method is walked as an ordinary word
+  pub method_verdict_is : (k g : ℕ) (t : Phrase) (x : Option Refusal) → d.sort ≡ method k g t → false ≡ undeclared P w d → bad_rows P w d ≡ false → x ≡ ordinary_verdict P w (of_method w t) d → x ≡ word_verdict P start w d
+  method_verdict_is k g t x is e f h = sorted_verdict (method k g t) x is e f h
+
+  generic_by : (b : Bool) → generic_refusal b d.place ≡ verdict_by b generic
+  generic_by true = refl
+  generic_by false = refl
+
+  pub generic_verdict_is : (x : Option Refusal) → d.sort ≡ generic → false ≡ undeclared P w d → bad_rows P w d ≡ false → x ≡ generic_refusal (no_generic_effect d.effect) d.place → x ≡ word_verdict P start w d
+  generic_verdict_is x is e f h = sorted_verdict generic x is e f (h ∙ generic_by (no_generic_effect d.effect))
+
+  none_by : (s : Sort) → ((t : Phrase) → s ≡ body t → ⊥) → ((k g : ℕ) (t : Phrase) → s ≡ method k g t → ⊥) → (s ≡ generic → ⊥) → None ≡ verdict_by (bad_generic s d.effect) s
+  none_by (body t) f g h = absurd (f t refl)
+  none_by (method k j t) f g h = absurd (g k j t refl)
+  none_by generic f g h = absurd (h refl)
+  none_by _ f g h = refl
+
+  -- a word of any other sort isn't walked
+  pub no_phrase_verdict : (c : WordDef) → ClosesWord P w d c → ((t : Phrase) → c.sort ≡ body t → ⊥) → ((k g : ℕ) (t : Phrase) → c.sort ≡ method k g t → ⊥) → (c.sort ≡ generic → ⊥) → false ≡ undeclared P w d → bad_rows P w d ≡ false → None ≡ word_verdict P start w d
+  no_phrase_verdict c closes f g h e r = by_sort d.sort refl closes.sort
     where
-      sorted : (s : Sort) → d.sort ≡ s → ClosesSort P w s c.sort
-      sorted s e = subst (λ q. ClosesSort P w q c.sort) e closes.sort
-
-      by_sort : BuiltAs P w d → rows_so P.top (inline_phrase c.inline c.sort) d.effect ≡ bad_rows P w d
-      by_sort (as_primitive k s b i r) = rw (sorted (prim k) s, s) refl
-      by_sort (as_core k s b i r) = rw (sorted (core k) s, s) refl
-      by_sort (as_symbol s i r) = rw (sorted itself s, s) refl
-      by_sort (as_defined t s) = (let found = sorted (body t) s in rw (found.1, s, closes.inline) refl)
-
-module _ (P : Program) (built : IsBuilt P) (w : ℕ) (d : WordDef) (at : slice_get P.words w ≡ Some d) where
-  -- where no rule is broken that needs no walk
-  walked_verdict : (start : ℕ) → false ≡ undeclared P w d → bad_rows P w d ≡ false → sort_verdict P start w d d.sort ≡ word_verdict P start w d
-  walked_verdict start e f = ruled (undeclared P w d) (bad_rows P w d) (bad_generic P d.sort d.effect) e f (no_bad_generic P w d (built_as P built w d at))
-    where
-      ruled : (u r g : Bool) → false ≡ u → r ≡ false → g ≡ false → sort_verdict P start w d d.sort ≡ ruled_verdict P u r g start w d
-      ruled false false false e f g = refl
-      ruled true r g e f h = absurd (cc)
-      ruled false true g e f h = absurd (cc)
-      ruled false false true e f h = absurd (cc)
-
-  pub body_verdict_is : (start : ℕ) (t : Phrase) (x : Option Refusal) → d.sort ≡ body t → false ≡ undeclared P w d → bad_rows P w d ≡ false → x ≡ phrase_verdict P (nat_eq w P.top) start w t d → x ≡ word_verdict P start w d
-  body_verdict_is start t x s e f h = h ∙ ap (λ q. sort_verdict P start w d q) (sym s) ∙ walked_verdict start e f
-
-  pub no_phrase_verdict : (start : ℕ) (c : WordDef) → ClosesWord P w d c → ((t : Phrase) → c.sort ≡ body t → ⊥) → false ≡ undeclared P w d → bad_rows P w d ≡ false → None ≡ word_verdict P start w d
-  no_phrase_verdict start c closes none e f = by_sort (built_as P built w d at) ∙ walked_verdict start e f
-    where
-      by_sort : BuiltAs P w d → None ≡ sort_verdict P start w d d.sort
-      by_sort (as_primitive k s b i r) = ap (λ q. sort_verdict P start w d q) (sym s)
-      by_sort (as_core k s b i r) = ap (λ q. sort_verdict P start w d q) (sym s)
-      by_sort (as_symbol s i r) = ap (λ q. sort_verdict P start w d q) (sym s)
-      by_sort (as_defined t s) = (let found = subst (λ q. ClosesSort P w q c.sort) s closes.sort in absurd (none found.0 found.1))
+      by_sort : (s : Sort) → d.sort ≡ s → ClosesSort P w s c.sort → None ≡ word_verdict P start w d
+      by_sort (body t) is k = absurd (f k.0 k.1)
+      by_sort (method j i t) is k = absurd (g j i k.0 k.1)
+      by_sort (past t) is k = sorted_verdict (past t) None is e r refl
+      by_sort s is k = sorted_verdict s None is e r (none_by s (λ t q. f t (k ∙ q)) (λ j i t q. g j i t (k ∙ q)) (λ q. h (k ∙ q)))
 
 -- a word whose rows can't be bound, where its phrase doesn't lead back to it
 pub rows_refused : (P : Program) (start w : ℕ) (d c : WordDef) → ClosesWord P w d c → false ≡ undeclared P w d → bad_rows P w d ≡ true → refusal RowDeclaration c.place ≡ word_verdict P start w d
 rows_refused P start w d c closes e f =
-    ap (refusal RowDeclaration) closes.place ∙ ap (λ u. ruled_verdict P u true (bad_generic P d.sort d.effect) start w d) e ∙ ap (λ r. ruled_verdict P (undeclared P w d) r (bad_generic P d.sort d.effect) start w d) (sym f)
+    ap (refusal RowDeclaration) closes.place ∙ ap (λ u. ruled_verdict P u true (bad_generic d.sort d.effect) start w d) e ∙ ap (λ r. ruled_verdict P (undeclared P w d) r (bad_generic d.sort d.effect) start w d) (sym f)

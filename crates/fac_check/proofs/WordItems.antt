@@ -1,36 +1,34 @@
 -- What the items of a built program's words do in the checker's walk.
-use Rattle.std.proofs.Common.{◌≡◌, ◌≢◌, ℕ, List, ◌∷◌, length, Bool, true, false, Option, Some, refl, sym, ap, subst, ◌∙◌, Result, Ok, Err}
-use Rattle.std.specs.Prelude.{nat_eq, not, slice_get, IfOk}
-use Rattle.std.proofs.lemmas.Bool.{eq-eqb, ne_eqb}
+use Rattle.std.proofs.Common.{◌≡◌, ◌≢◌, ℕ, List, length, Bool, true, false, Option, Some, None, refl, sym, ap, subst, ◌∙◌, Result, Ok, Err}
+use Rattle.std.specs.Prelude.{not, slice_get, IfOk}
+use Rattle.std.proofs.lemmas.Bool.{ne_eqb}
 use Rattle.fac_lang.specs.declared.phrase.Height.{Height}
 use Rattle.fac_lang.specs.declared.program.Program.{Program}
 use Rattle.fac_lang.specs.declared.program.WordDef.{WordDef}
 use Rattle.fac_lang.specs.declared.program.Sort.{Sort}
-use Rattle.fac_lang.specs.declared.program.Sort.TheVariants.{Prim as prim, Core as core, Body as body, Itself as itself}
+use Rattle.fac_lang.specs.declared.program.Sort.TheVariants.{Prim as prim, Body as body}
 use Rattle.fac_lang.specs.declared.phrase.Template.{Template}
-use Rattle.fac_lang.specs.Phrases.{Phrase, Mark, wrd_mark}
+use Rattle.fac_lang.specs.Phrases.{Phrase, Mark}
 use Rattle.fac_lang.specs.Signatures.{Signature}
 use Rattle.fac_lang.specs.Effects.{effect_height}
 use Rattle.fac_lang.specs.PrimitiveWords.{outputs_of, written_effect}
 use Rattle.fac_lang.specs.Primitives.{Primitive, prim_numbered}
-use Rattle.fac_lang.specs.Meaning.{core_numbered, c_call, c_dip, c_if}
-use Rattle.fac_locals.specs.Literals.{first_of_word}
-use Rattle.fac_locals.specs.Closed.{ClosesWord, ClosesSort, ClosesPhrase}
+use Rattle.fac_lang.specs.Meaning.{core_numbered, c_call, c_dip, c_if, c_boa}
+use Rattle.fac_locals.specs.Closed.{ClosesWord}
 use Rattle.fac_lang.specs.RowVariables.{Row, is_row}
-use Rattle.fac_abs.specs.Marks.{on}
 use Rattle.fac_abs.specs.declared.rule.Rule.TheVariants.{NotKnown}
-use Rattle.fac_check.specs.Flow.{Doing, breaks, gives, by_height, callable_or, prim_doing, core_doing, is_own, sort_doing, inline_doing, row_or_phrase}
+use Rattle.fac_check.specs.Flow.{Doing, by_height, callable_or, prim_doing, is_own, sort_doing, inline_doing, row_or_phrase}
 use Rattle.fac_check.specs.inner.Walking.{Opened, NamesWhereOwn, body_phrase, phrase_of, sort_phrase}
 use Rattle.fac_check.specs.inner.OwnEffects.{own_effect, effect_where}
 use Rattle.fac_rows.specs.RowNumbers.{NamesOwn}
 use Rattle.fac_check.proofs.PrimitivesKeep.{written_height}
-use Rattle.fac_check.proofs.BuiltWords.{BuiltAs, as_primitive, as_core, as_symbol, as_defined}
 
 -- an answer's fact out of another
 pub ok_maps : {A E : Type 0} {Q R : A → Type 0} (r : Result A E) → ((x : A) → Q x → R x) → IfOk r Q → IfOk r R
 ok_maps (Ok x) f h = f x h
 ok_maps (Err e) f h = h
 
+-- the core words by their numbers
 pub core_0 : core_numbered 0 ≡ Some c_call
 unfolding core_numbered
 core_0 = refl
@@ -43,39 +41,20 @@ pub core_2 : core_numbered 2 ≡ Some c_if
 unfolding core_numbered
 core_2 = refl
 
+pub core_4 : core_numbered 4 ≡ Some c_boa
+unfolding core_numbered
+core_4 = refl
+
+pub core_9 : core_numbered 9 ≡ None
+unfolding core_numbered
+core_9 = refl
+
 -- the rows of the word that is checked
 module _ {C : Program} {templates : List Template} {own : Option ℕ} (O : Opened C templates own) where
   pub named_own : (w : ℕ) (c : WordDef) → slice_get C.words w ≡ Some c → NamesWhereOwn O.naming own w c.effect
   named_own w c at e = subst (λ (o : Option WordDef). NamesOwn O.naming (effect_where o)) at (subst (λ (o : Option Signature). NamesOwn O.naming o) (O.effect_is ∙ ap (own_effect C) e) O.rows)
 
 module _ (P : Program) (w : ℕ) (d c : WordDef) (closes : ClosesWord P w d c) where
-  sorted : (s : Sort) → d.sort ≡ s → ClosesSort P w s c.sort
-  sorted s e = subst (λ x. ClosesSort P w x c.sort) e closes.sort
-
-  pub is_prim : BuiltAs P w d → (k : ℕ) → c.sort ≡ prim k → d.sort ≡ prim k
-  is_prim (as_primitive j e b i r) k s = (let same : j ≡ k = (let f = sorted (prim j) e in cc) in subst (λ n. d.sort ≡ prim n) same e)
-  is_prim (as_core j e b i r) k s = absurd (let f = sorted (core j) e in cc)
-  is_prim (as_symbol e i r) k s = absurd (let f = sorted itself e in cc)
-  is_prim (as_defined t e) k s = absurd (let f = sorted (body t) e in let g = f.1 in cc)
-
-  pub is_core : BuiltAs P w d → (k : ℕ) → c.sort ≡ core k → d.sort ≡ core k
-  is_core (as_primitive j e b i r) k s = absurd (let f = sorted (prim j) e in cc)
-  is_core (as_core j e b i r) k s = (let same : j ≡ k = (let f = sorted (core j) e in cc) in subst (λ n. d.sort ≡ core n) same e)
-  is_core (as_symbol e i r) k s = absurd (let f = sorted itself e in cc)
-  is_core (as_defined t e) k s = absurd (let f = sorted (body t) e in let g = f.1 in cc)
-
-  pub is_body : BuiltAs P w d → (t : Phrase) → c.sort ≡ body t → (u : Phrase) × (d.sort ≡ body u) × ClosesPhrase P (first_of_word w) u t
-  is_body (as_primitive j e b i r) t s = absurd (let f = sorted (prim j) e in cc)
-  is_body (as_core j e b i r) t s = absurd (let f = sorted (core j) e in cc)
-  is_body (as_symbol e i r) t s = absurd (let f = sorted itself e in cc)
-  is_body (as_defined u e) t s = (let f = sorted (body u) e in (u, e, (let same : f.0 ≡ t = (let g = f.1 in cc) in subst (λ x. ClosesPhrase P (first_of_word w) u x) same f.2)))
-
-  pub is_symbol : BuiltAs P w d → c.sort ≡ itself → d.sort ≡ itself
-  is_symbol (as_primitive j e b i r) s = absurd (let f = sorted (prim j) e in cc)
-  is_symbol (as_core j e b i r) s = absurd (let f = sorted (core j) e in cc)
-  is_symbol (as_symbol e i r) s = e
-  is_symbol (as_defined t e) s = absurd (let f = sorted (body t) e in let g = f.1 in cc)
-
   -- the height that the code reads off
   height_read : (i : ℕ) (o : Option ℕ) → i ≡ (effect_height c.effect).ins → o ≡ (effect_height c.effect).outs → (let h : Height = record { ins = i; outs = o } in h ≡ effect_height d.effect)
   height_read i o e f = rw (e, f, closes.effect) refl
@@ -88,25 +67,16 @@ module _ (P : Program) (w : ℕ) (d c : WordDef) (closes : ClosesWord P w d c) w
   prim_outs p o e f = ap (λ (h : Height). h.outs) (height_read (effect_height c.effect).ins o refl f ∙ ap effect_height e ∙ written_height p.word)
 
 module _ (P : Program) (own : Option ℕ) (w : ℕ) (d c : WordDef) (closes : ClosesWord P w d c) where
-  -- a word that pushes itself
-  pub symbol_item : (X : Doing) (b : Option Row) (ms : List Mark) → d.sort ≡ itself → X ≡ gives (on b (wrd_mark w ∷ ms)) → X ≡ sort_doing P own w d d.sort b ms
-  symbol_item X b ms s x = x ∙ ap (λ q. sort_doing P own w d q b ms) (sym s)
+  -- a word of this sort
+  pub item_of : (s : Sort) (X : Doing) (b : Option Row) (ms : List Mark) → d.sort ≡ s → X ≡ sort_doing P own w d s b ms → X ≡ sort_doing P own w d d.sort b ms
+  item_of s X b ms e x = x ∙ ap (λ q. sort_doing P own w d q b ms) (sym e)
+
+  -- one that goes by its effect
+  pub effect_item : (X : Doing) (b : Option Row) (ms : List Mark) → X ≡ by_height (effect_height c.effect).ins (effect_height c.effect).outs b ms → X ≡ by_height (effect_height d.effect).ins (effect_height d.effect).outs b ms
+  effect_item X b ms x = x ∙ ap (λ f. by_height (effect_height f).ins (effect_height f).outs b ms) closes.effect
 
   pub prim_item : (k : ℕ) (p : Primitive) (X : Doing) (b : Option Row) (ms : List Mark) → d.sort ≡ prim k → prim_numbered k ≡ Some p → X ≡ prim_doing (Some p) b ms → X ≡ sort_doing P own w d d.sort b ms
   prim_item k p X b ms s e x = x ∙ ap (λ o. prim_doing o b ms) (sym e) ∙ ap (λ q. sort_doing P own w d q b ms) (sym s)
-
-  pub core_item : (k : ℕ) (X : Doing) (b : Option Row) (ms : List Mark) → d.sort ≡ core k → X ≡ core_doing P (core_numbered k) b ms → X ≡ sort_doing P own w d d.sort b ms
-  core_item k X b ms s x = x ∙ ap (λ q. sort_doing P own w d q b ms) (sym s)
-
-  pub top_item : (t : Phrase) (c : Option Row) (ms : List Mark) → d.sort ≡ body t → w ≡ P.top → breaks NotKnown ≡ sort_doing P own w d d.sort c ms
-  top_item t c ms s e = top (nat_eq w P.top) (rw e (same_number P.top)) ∙ ap (λ q. sort_doing P own w d q c ms) (sym s)
-    where
-      same_number : (n : ℕ) → nat_eq n n ≡ true
-      same_number n = eq-eqb n n refl
-
-      top : (b : Bool) → b ≡ true → breaks NotKnown ≡ callable_or (not b) NotKnown (inline_doing P own d.inline w d t c ms)
-      top true q = refl
-      top false q = absurd (cc)
 
   pub body_item :
       (t : Phrase) (X : Doing) (e : Option Row) (ms : List Mark) → slice_get P.words w ≡ Some d → d.sort ≡ body t → w ≢ P.top → X ≡ inline_doing P own c.inline w c (body_phrase P w) e ms → X ≡ sort_doing P own w d d.sort e ms

@@ -14,6 +14,7 @@ use Rattle.fac_abs.specs.Marks.{AbstractStack, dead, on, base_eq, unknowns}
 use Rattle.fac_abs.specs.declared.rule.Rule.{Rule}
 use Rattle.fac_abs.specs.declared.rule.Rule.TheVariants.{UndeclaredRecursion, RowDeclaration, MethodEffect, Outputs, MustReturn}
 use Rattle.fac_rows.specs.RowBinding.{inputs_marks}
+use Rattle.fac_graph.specs.Paths.{one_of}
 use Rattle.fac_check.specs.Flow.{Walked, found, refused, walked}
 
 -- a broken rule, and where
@@ -25,15 +26,25 @@ pub record Refusal : Type 0 where
 abbrev pub refusal : Rule → Place → Option Refusal
 refusal r p = Some (record { rule = r; place = p })
 
--- whether a number is in a list
-abbrev pub one_of : ℕ → List ℕ → Bool
-one_of x [] = false
-one_of x (y ∷ ys) = nat_eq x y || one_of x ys
-
 -- the numbers of the first list that aren't in the second, put before it
 abbrev pub more_of : List ℕ → List ℕ → List ℕ
 more_of [] ys = ys
 more_of (x ∷ xs) ys = elim (one_of x ys) [ true ↦ more_of xs ys | false ↦ more_of xs (x ∷ ys) ]
+
+-- whether an input has an effect
+abbrev pub any_quoted : Inputs → Bool
+any_quoted no_inputs = false
+any_quoted (value x is) = any_quoted is
+any_quoted (quoted x e is) = true
+
+-- whether an effect is none for a generic
+abbrev pub no_generic_effect : Signature → Bool
+no_generic_effect e = nat_eq (inputs_count (effect_inputs e)) 0 || (has_rows e || any_quoted (effect_inputs e))
+
+-- whether a word of this sort and effect is a generic that breaks `method-effect`
+abbrev pub bad_generic : Sort → Signature → Bool
+bad_generic generic e = no_generic_effect e
+bad_generic _ e = false
 
 module _ (P : Program) where
   -- the number of a word, where it is an inline word with a phrase
@@ -89,21 +100,6 @@ module _ (P : Program) where
   -- whether a word breaks `row-declaration`; past and top-level phrases are spared
   abbrev pub bad_rows : ℕ → WordDef → Bool
   bad_rows w d = elim d.sort [ past t ↦ false | _ ↦ not (nat_eq w P.top) && (has_rows d.effect && not (is_inline_body d && bindable d.effect)) ]
-
-  -- whether an input has an effect
-  abbrev pub any_quoted : Inputs → Bool
-  any_quoted no_inputs = false
-  any_quoted (value x is) = any_quoted is
-  any_quoted (quoted x e is) = true
-
-  -- whether an effect is none for a generic
-  abbrev pub no_generic_effect : Signature → Bool
-  no_generic_effect e = nat_eq (inputs_count (effect_inputs e)) 0 || (has_rows e || any_quoted (effect_inputs e))
-
-  -- whether a word of this sort and effect is a generic that breaks `method-effect`
-  abbrev pub bad_generic : Sort → Signature → Bool
-  bad_generic generic e = no_generic_effect e
-  bad_generic _ e = false
 
   -- What a word breaks that leaves this stack, where it declares to leave these outputs on this row. What never returns leaves what any word declares.
   abbrev pub kept_word : Leaving → Option Row → Place → AbstractStack → Option Refusal

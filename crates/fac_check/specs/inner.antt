@@ -2,7 +2,7 @@
 pub mod Taken
 pub mod ItemWalk
 pub mod OwnEffects
+pub mod KnownClasses
 pub mod Walking
 pub mod UndeclaredRecursion
-pub mod StrongComponents
 pub mod Breaches

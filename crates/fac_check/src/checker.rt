@@ -6,9 +6,10 @@ ghost use Rattle.fac_abs.specs.SeenMarks.{MarksSeen, IsStack, stack_of, base_see
 ghost use Rattle.fac_abs.specs.MarkTrees.{Naming};
 ghost use Rattle.fac_lang.specs.Effects.{effect_height};
 ghost use Rattle.fac_lang.specs.RowVariables.{effect_leaving};
-ghost use Rattle.fac_check.specs.Verdicts.{end_of, kept_word};
+ghost use Rattle.fac_lang.specs.EffectView.{inputs_tree};
+ghost use Rattle.fac_check.specs.Verdicts.{any_quoted, end_of, kept_word, no_generic_effect};
 ghost use Rattle.fac_check.specs.Judged.{breach_seen};
-ghost use Rattle.fac_check.specs.inner.Breaches.{IsOrdinaryBreach, IsRowBreach, IsTopBreach, IsInlineBreach, IsPhraseBreach, IsWordBreach, bad_rows_so};
+ghost use Rattle.fac_check.specs.inner.Breaches.{IsOrdinaryBreach, IsRowBreach, IsTopBreach, IsInlineBreach, IsPhraseBreach, IsWordBreach, bad_rows_so, generic_refusal, is_past_sort};
 ghost use Rattle.fac_check.specs.inner.Taken.{takes_all, takes_phrase, takes_word};
 ghost use Rattle.fac_check.specs.inner.Walking.{IsWalked, walked_seen};
 
@@ -19,7 +20,7 @@ use crate::walker::{Step, Walked, Walker};
 use fac_abs::{Marks, Reached, Rule, same_base};
 use fac_effect::{bindable, has_rows, is_row_word};
 use fac_lang::limits::{MOST_APPLICATIONS, MOST_ITEMS};
-use fac_lang::{Memory, Phrase, Place, Sort, WordDef};
+use fac_lang::{Effect, Input, Memory, Phrase, Place, Sort, WordDef};
 use fac_locals::Closed;
 use fac_rows::{inputs_marks, outer_in, outer_out};
 use std::alloc::Global;
@@ -192,15 +193,57 @@ fn phrase_breach(
     ordinary_breach(alloc, closed, word, phrase)
 }
 
-// Whether a word's effect has row variables where none may be: only an inline word has them, and only so that they can be bound. The
-// top-level phrase is spared.
+// Whether a word is an earlier top-level phrase.
+fn is_past(word: &WordDef) -> bool
+    ensures { result ≡ is_past_sort word.now.sort }
+{
+    match &word.sort {
+        Sort::Past(_) => true,
+        _ => false,
+    }
+}
+
+// Whether a word's effect has row variables where none may be: only an inline word has them, and only so that they can be bound. Top-level
+// phrases are spared.
 fn has_bad_rows(top: u32, number: u32, word: &WordDef) -> bool
     ensures { result ≡ bad_rows_so top number word.now }
 {
     if number == top {
         return false;
     }
+    if is_past(word) {
+        return false;
+    }
     has_rows(&word.effect) && !(is_inline(word) && bindable(&word.effect))
+}
+
+// Whether one of these inputs has an effect.
+fn any_quotation(inputs: &[Input]) -> bool
+    ensures { result ≡ any_quoted (inputs_tree inputs.now) }
+{
+    for input in inputs {
+        if input.quot.is_some() {
+            return true;
+        }
+    }
+    false
+}
+
+// Whether an effect is none for a generic, which takes the value that chooses its method, and whose inputs and rows are plain.
+fn is_no_generic_effect(effect: &Effect) -> bool
+    ensures { result ≡ no_generic_effect effect.now }
+{
+    effect.inputs() == 0 || has_rows(effect) || any_quotation(&effect.ins)
+}
+
+// What a generic breaks.
+fn generic_breach(word: &WordDef) -> Option<(Place, Rule)>
+    ensures { breach_seen result ≡ generic_refusal (no_generic_effect word.now.effect) word.now.place }
+{
+    if is_no_generic_effect(&word.effect) {
+        return Some((word.place, Rule::MethodEffect));
+    }
+    None
 }
 
 /// What the word with this number breaks, where it is known whether its phrase leads back to it.
@@ -223,6 +266,8 @@ pub fn word_breach(
     }
     match &word.sort {
         Sort::Body(phrase) => phrase_breach(alloc, closed, number, word, phrase),
+        Sort::Method { body, .. } => ordinary_breach(alloc, closed, word, body),
+        Sort::Generic => Ok(generic_breach(word)),
         _ => Ok(None),
     }
 }

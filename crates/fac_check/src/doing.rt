@@ -1,23 +1,28 @@
 //! What an item does to a stack at once.
 ghost use Rattle.std.specs.declared.option.Option.{Option};
-ghost use Rattle.std.specs.Prelude.{◌≡◌, ◌<◌, ◌≤◌, ◌∷◌, ℕ, true, length, nat_lt, slice_get, Some, IfOk};
+ghost use Rattle.std.specs.Prelude.{◌≡◌, ◌<◌, ◌≤◌, ◌∷◌, ℕ, suc, true, length, nat_lt, slice_get, Some, IfOk, option_copied};
 ghost use Rattle.fac_lang.specs.declared.program.Program.{Program as ProgramSeen};
 ghost use Rattle.fac_lang.specs.Effects.{effect_height};
-ghost use Rattle.fac_lang.specs.Meaning.{c_call, c_dip, c_if, core_numbered};
+ghost use Rattle.fac_lang.specs.CoreWords.{is_built_core};
+ghost use Rattle.fac_lang.specs.Meaning.{c_boa, c_call, c_dip, c_if, class_of_word, core_numbered, sort_of};
 ghost use Rattle.fac_lang.specs.Primitives.{built_count};
 ghost use Rattle.fac_lang.specs.Phrases.{any, lit_mark, wrd_mark};
 ghost use Rattle.fac_lang.specs.PhraseView.{what_item};
 ghost use Rattle.fac_abs.specs.Marks.{on, curried_mark, composed_mark};
-ghost use Rattle.fac_abs.specs.SeenMarks.{IsMark, IsStack, Grows, mark_of};
-ghost use Rattle.fac_check.specs.Flow.{by_height as takes_and_leaves, marks_moved, mark_made, core_doing, is_own, gives};
+ghost use Rattle.fac_abs.specs.MarkTrees.{Naming};
+ghost use Rattle.fac_abs.specs.SeenMarks.{IsMark, IsStack, Grows, mark_of, stack_of};
+ghost use Rattle.fac_locals.specs.Closed.{Closes};
+ghost use Rattle.fac_check.specs.Flow.{by_height as takes_and_leaves, marks_moved, mark_made, core_doing, next_doing, is_own, gives};
+ghost use Rattle.fac_check.specs.inner.KnownClasses.{IsTupleWord, generic_word, makes_counted, tuple_slots, word_in};
 ghost use Rattle.fac_check.specs.inner.Taken.{takes_all, takes_item, takes_word};
 ghost use Rattle.fac_check.specs.inner.Walking.{IsDoing, IsDoingOf, only, has_phrase, DoesAs, PutsMark, DoesArray, PopsTwo, PopsBranches, lacks};
-ghost use Rattle.fac_check.specs.inner.Walking.{DoesItem, DoesWord, DoesWordSo, DoesDefined, DoesUse, DoesOwnCall, DoesPrimitive};
+ghost use Rattle.fac_check.specs.inner.Walking.{DoesIn, DoesItem, DoesWord, DoesWordSo, DoesDefined, DoesUse, DoesOwnCall, DoesPrimitive};
 
 use crate::subject::Subject;
-use fac_abs::{Marks, Reached, Rule};
+use fac_abs::{MarkNode, Marks, Reached, Rule};
 use fac_effect::{bindable, is_row_word};
-use fac_lang::{Effect, Height, Memory, Operation, Sort, What, WordDef, operation_of};
+use fac_lang::{Effect, Height, Memory, Operation, Shape, Sort, What, WordDef, operation_of};
+use fac_locals::Closed;
 use fac_rows::{Called, known_inputs, own_call as own_call_of, take_inputs};
 
 /// What an item does at once, with marks and stacks by their numbers. A stack stays on its base, but for `Leaves`.
@@ -237,18 +242,121 @@ fn branch(marks: &Marks, stack: u32) -> Doing
     }
 }
 
-// A core word that applies callables.
-#[tactic(auto, unfolding(fac_lang::specs::Meaning::core_numbered))]
-fn core(marks: &Marks, stack: u32, number: u32) -> Doing
-    requires stack { IsStack marks.now stack }
-    requires number { nat_lt number 3 ≡ true }
-    ensures there { IsDoing marks.now result }
-    ensures does { (P : ProgramSeen) → DoesAs marks.now marks.now stack result (core_doing P (core_numbered number)) }
+// The word that a mark stands for.
+fn word_of(marks: &Marks, mark: u32) -> Option<u32>
+    requires { IsMark marks.now mark }
+    ensures { (N : Naming) → result ≡ word_in (mark_of N marks.now mark) }
+{
+    match marks.node(mark) {
+        MarkNode::Wrd(word) => Some(word),
+        MarkNode::Any => None,
+        MarkNode::Lit(_) => None,
+        MarkNode::Cur(_, _) => None,
+        MarkNode::Com(_, _) => None,
+        MarkNode::Par(_) => None,
+    }
+}
+
+// The class whose word this is.
+fn class_of(closed: &Closed, word: u32) -> Option<u32>
+    ensures { result ≡ class_of_word closed.now.program word }
+{
+    match closed.program.words.get(word as usize) {
+        Some(found) => match &found.sort {
+            Sort::Class(class) => Some(*class),
+            _ => None,
+        },
+        None => None,
+    }
+}
+
+// How many slots a class has with those of its parents, where it is a tuple class.
+fn slots_of(closed: &Closed, class: u32) -> Option<u32>
+    ensures { result ≡ tuple_slots closed.now.program.classes class }
+{
+    match closed.program.classes.get(class as usize) {
+        Some(found) => match &found.shape {
+            Shape::Tuple { .. } => closed.slots.get(class as usize).copied(),
+            _ => None,
+        },
+        None => None,
+    }
+}
+
+// How many slots the tuple class has whose word this is.
+fn slots_of_word(closed: &Closed, word: u32) -> Option<u32>
+    ensures { IsTupleWord closed.now word result }
+{
+    match class_of(closed, word) {
+        Some(class) => slots_of(closed, class),
+        None => None,
+    }
+}
+
+// Makes a tuple of so many values below the class that is on top.
+fn tuple(marks: &mut Marks, stack: u32, rest: u32, slots: Option<u32>) -> Result<Doing, Memory>
+    requires stack { IsStack marks.old stack }
+    requires rest { IsStack marks.old rest }
+    requires top { (N : Naming) → length (stack_of N marks.old stack) ≡ suc (length (stack_of N marks.old rest)) }
+    ensures grows { Grows marks.old marks.new }
+    ensures there { IfOk result (λ doing. IsDoing marks.new doing) }
+    ensures does { IfOk result (λ doing. DoesAs marks.old marks.new rest doing (makes_counted slots)) }
+{
+    let Some(count) = slots else {
+        return Ok(Doing::Breaks(Rule::NotAClass));
+    };
+    match marks.below(rest, count) {
+        Some(below) => Ok(Doing::Gives {
+            stack: marks.unknowns(below, 1)?,
+        }),
+        None => {
+            let needs = one_more(count)?;
+            let has = marks.height(stack);
+            Ok(Doing::Breaks(Rule::Underflow { needs, has }))
+        }
+    }
+}
+
+// The number behind this one.
+fn one_more(number: u32) -> Result<u32, Memory>
+    ensures { IfOk result (λ n. n ≡ suc number) }
+{
+    match number.checked_add(1) {
+        Some(next) => Ok(next),
+        None => Err(Memory),
+    }
+}
+
+// `boa`
+fn boa(closed: &Closed, marks: &mut Marks, stack: u32) -> Result<Doing, Memory>
+    requires { IsStack marks.old stack }
+    ensures grows { Grows marks.old marks.new }
+    ensures there { IfOk result (λ doing. IsDoing marks.new doing) }
+    ensures does { IfOk result (λ doing. DoesIn closed.now marks.old marks.new stack doing (λ P. core_doing P (Some c_boa))) }
+{
+    match marks.pop(stack) {
+        Some((mark, rest)) => match word_of(marks, mark) {
+            Some(word) => tuple(marks, stack, rest, slots_of_word(closed, word)),
+            None => Ok(Doing::Breaks(Rule::NotKnown)),
+        },
+        None => Ok(underflow(marks, stack, 1)),
+    }
+}
+
+// A core word. `cond` is read with its literal, and is known nowhere else.
+fn core(closed: &Closed, marks: &mut Marks, stack: u32, number: u32) -> Result<Doing, Memory>
+    requires stack { IsStack marks.old stack }
+    requires number { is_built_core number ≡ true }
+    ensures grows { Grows marks.old marks.new }
+    ensures there { IfOk result (λ doing. IsDoing marks.new doing) }
+    ensures does { IfOk result (λ doing. DoesIn closed.now marks.old marks.new stack doing (λ P. core_doing P (core_numbered number))) }
 {
     match number {
-        0 => call(marks, stack),
-        1 => dip(marks, stack),
-        2 => branch(marks, stack),
+        0 => Ok(call(marks, stack)),
+        1 => Ok(dip(marks, stack)),
+        2 => Ok(branch(marks, stack)),
+        4 => boa(closed, marks, stack),
+        9 => Ok(Doing::Breaks(Rule::NotKnown)),
         _ => unreachable!(),
     }
 }
@@ -380,10 +488,10 @@ fn reference(marks: &mut Marks, stack: u32, word: u32) -> Result<Doing, Memory>
     put(marks, stack, mark)
 }
 
-// The item of a word that isn't the top-level phrase.
+// The item of a word that isn't the top-level phrase. An earlier one and a method are never items.
 fn word_item(
+    subject: Subject<'_>,
     marks: &mut Marks,
-    own: Option<u32>,
     base: Option<u32>,
     stack: u32,
     number: u32,
@@ -393,23 +501,19 @@ fn word_item(
     requires word { (top : ℕ) × (count : ℕ) × (takes_word top count word.now ≡ true) }
     ensures grows { Grows marks.old marks.new }
     ensures there { IfOk result (λ doing. IsDoingOf (only number word.now) marks.new doing) }
-    ensures does { IfOk result (λ doing. DoesWordSo marks.old marks.new own base stack number word.now doing) }
+    ensures does { IfOk result (λ doing. DoesWordSo subject.entry.closed.now marks.old marks.new subject.entry.own base stack number word.now doing) }
 {
     match &word.sort {
         Sort::Prim(primitive_number) => {
             primitive(marks, stack, *primitive_number, height_of(word))
         }
-        Sort::Core(core_number) => Ok(core(marks, stack, *core_number)),
-        Sort::Body(_) => defined(marks, own, base, stack, number, word),
-        Sort::Itself => reference(marks, stack, number),
-        Sort::Past(_)
-        | Sort::Class(_)
-        | Sort::Isa(_)
-        | Sort::Getter(_)
-        | Sort::Setter(_)
-        | Sort::Putter(_)
-        | Sort::Generic
-        | Sort::Method { .. } => unreachable!(),
+        Sort::Core(core_number) => core(subject.closed, marks, stack, *core_number),
+        Sort::Body(_) => defined(marks, subject.own, base, stack, number, word),
+        Sort::Itself | Sort::Class(_) => reference(marks, stack, number),
+        Sort::Isa(_) | Sort::Getter(_) | Sort::Setter(_) | Sort::Putter(_) | Sort::Generic => {
+            by_height(marks, stack, height_of(word))
+        }
+        Sort::Past(_) | Sort::Method { .. } => Ok(Doing::Breaks(Rule::NotKnown)),
     }
 }
 
@@ -429,7 +533,7 @@ fn word(
     ensures does { IfOk result (λ doing. DoesWord subject.entry marks.old marks.new base stack number doing) }
 {
     match subject.closed.program.words.get(number as usize) {
-        Some(word) => word_item(marks, subject.own, base, stack, number, word),
+        Some(word) => word_item(subject, marks, base, stack, number, word),
         None => unreachable!(),
     }
 }
@@ -472,6 +576,38 @@ fn quotation(marks: &mut Marks, stack: u32, template: u32) -> Result<Doing, Memo
     put(marks, stack, mark)
 }
 
+// The generic of a method, where there are both.
+fn generic_of(closed: &Closed, method: u32) -> Option<&WordDef>
+    ensures { option_copied result ≡ generic_word closed.now.program (sort_of closed.now.program method) }
+{
+    match closed.program.words.get(method as usize) {
+        Some(word) => match &word.sort {
+            Sort::Method { generic, .. } => closed.program.words.get(*generic as usize),
+            _ => None,
+        },
+        None => None,
+    }
+}
+
+// `call-next-method` in a method, which goes by the effect of its generic.
+fn next_after(
+    closed: &Closed,
+    marks: &mut Marks,
+    stack: u32,
+    method: u32,
+) -> Result<Doing, Memory>
+    requires stack { IsStack marks.old stack }
+    requires program { takes_all closed.now.program closed.now.templates ≡ true }
+    ensures grows { Grows marks.old marks.new }
+    ensures there { IfOk result (λ doing. IsDoing marks.new doing) }
+    ensures does { IfOk result (λ doing. (own : Option ℕ) → DoesIn closed.now marks.old marks.new stack doing (λ P. next_doing P own (sort_of P method))) }
+{
+    match generic_of(closed, method) {
+        Some(generic) => by_height(marks, stack, height_of(generic)),
+        None => Ok(Doing::Breaks(Rule::MethodEffect)),
+    }
+}
+
 /// What an item of a closed phrase does to a stack on a base.
 pub fn item_doing(
     subject: Subject<'_>,
@@ -494,13 +630,14 @@ pub fn item_doing(
         What::Wref(number) => reference(marks, stack, *number),
         What::Made(template) => quotation(marks, stack, *template),
         What::Arr(number) => array(subject, marks, stack, *number),
+        What::NextMethod => Ok(Doing::Breaks(Rule::MethodEffect)),
+        What::NextAfter(method) => next_after(subject.closed, marks, stack, *method),
         What::Quot(_)
         | What::Bind(_)
         | What::Local(_)
         | What::Fry(_, _)
         | What::Hole(_)
         | What::CallEff(_)
-        | What::ExecEff(_)
-        | What::NextMethod => unreachable!(),
+        | What::ExecEff(_) => unreachable!(),
     }
 }

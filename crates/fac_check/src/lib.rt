@@ -4,7 +4,6 @@
 
 mod accepted;
 mod checker;
-mod components;
 mod doing;
 mod judge;
 mod laws;

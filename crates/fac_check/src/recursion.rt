@@ -6,7 +6,7 @@ ghost use Rattle.fac_check.specs.inner.UndeclaredRecursion.{named_word, made_tem
 ghost use Rattle.fac_check.specs.inner.UndeclaredRecursion.{AddsNames, AddsItemNames, AddsMadeNames, LedBy, LedByPhrase, AreEdges};
 ghost use Rattle.fac_check.specs.Judged.{AreUndeclared, StandsForBuilt};
 
-use crate::components::lead_back;
+use fac_graph::leading_back;
 use fac_lang::{List, Memory, Phrase, Sort, What, WordDef};
 use fac_locals::Closed;
 use std::alloc::Global;
@@ -193,5 +193,5 @@ pub fn undeclared_words(alloc: Global, closed: &Closed) -> Result<List<bool>, Me
     ensures { IfOk result (AreUndeclared closed.now.program closed.now.templates) }
 {
     let edges = edges_of(alloc, closed)?;
-    lead_back(alloc, &edges)
+    leading_back(alloc, &edges)
 }

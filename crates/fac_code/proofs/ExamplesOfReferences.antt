@@ -1,15 +1,16 @@
 -- Which tables and code are those of an image, computed.
-use Rattle.std.proofs.Common.{◌≡◌, ℕ, List, [], ◌∷◌, Bool, true, false, refl}
+use Rattle.std.proofs.Common.{◌≡◌, ℕ, List, [], ◌∷◌, Bool, true, false, Option, Some, None, refl}
 use Rattle.std.specs.Prelude.{codes}
 use Rattle.fac_lang.specs.Primitives.{built_count}
 use Rattle.fac_code.specs.declared.image.Instr.{Instr}
-use Rattle.fac_code.specs.declared.image.Instr.TheVariants.{Halt, Text, Array, Word, Quot, Prim, Callw, Ret}
+use Rattle.fac_code.specs.declared.image.Instr.TheVariants.{Halt, Text, Array, Word, Quot, Prim, Callw, Ret, Generic, Next, Isa}
 use Rattle.fac_code.specs.declared.image.Elem.{Elem}
 use Rattle.fac_code.specs.declared.image.Elem.TheVariants as elem
 use Rattle.fac_code.specs.declared.image.Action.{Action}
-use Rattle.fac_code.specs.declared.image.Action.TheVariants.{Prim as prim_action, Core as core_action, Code as code_action, Itself as itself_action}
+use Rattle.fac_code.specs.declared.image.Action.TheVariants.{Prim as prim_action, Core as core_action, Code as code_action, Itself as itself_action, Generic as generic_action}
 use Rattle.fac_code.specs.declared.image.TemplateRow.{TemplateRow}
 use Rattle.fac_code.specs.declared.image.WordRow.{WordRow}
+use Rattle.fac_code.specs.declared.image.Tables.{Tables}
 use Rattle.fac_code.specs.References.{is_image}
 
 -- a template whose code begins here, with so many holes; its cell has no bound
@@ -17,11 +18,15 @@ abbrev template : ℕ → ℕ → TemplateRow
 template entry holes = record { entry = entry; cells = 99 ∷ []; holes = holes }
 
 abbrev does : Action → WordRow
-does a = record { name = 0; action = a }
+does a = record { name = 0; action = a; kind = None }
+
+-- tables without classes
+abbrev plain_tables : List (List Elem) → List TemplateRow → List WordRow → List (List ℕ) → Tables
+plain_tables arrays templates words texts = record { arrays = arrays; kinds = []; sets = []; templates = templates; words = words; generics = []; texts = texts }
 
 -- with a first instruction, a template's place, a word's action and a start; word 0 is `+`, word 1 is `if`, word 2 is the code at 3
 abbrev with_parts : Instr → ℕ → Action → ℕ → Bool
-with_parts i entry a start = is_image [] (template 3 0 ∷ template entry 2 ∷ []) (does (prim_action 25) ∷ does (core_action 2) ∷ does (code_action 3) ∷ does a ∷ []) (codes "a" ∷ []) (i ∷ Callw 2 false ∷ Halt ∷ Ret ∷ []) start
+with_parts i entry a start = is_image (plain_tables [] (template 3 0 ∷ template entry 2 ∷ []) (does (prim_action 26) ∷ does (core_action 2) ∷ does (code_action 3) ∷ does a ∷ []) (codes "a" ∷ [])) (i ∷ Callw 2 false ∷ Halt ∷ Ret ∷ []) start
 
 pub an_image : with_parts (Quot 0) 3 (code_action 0) 0 ≡ true
 unfolding built_count
@@ -72,7 +77,7 @@ unfolding built_count
 no_word = refl
 
 -- a word's name is a text that is there
-no_name : is_image [] [] (record { name = 0; action = itself_action } ∷ []) [] (Halt ∷ []) 0 ≡ false
+no_name : is_image (plain_tables [] [] (does itself_action ∷ []) []) (Halt ∷ []) 0 ≡ false
 unfolding built_count
 no_name = refl
 
@@ -90,15 +95,15 @@ unfolding built_count
 call_of_no_word = refl
 
 -- primitives and core words that the machine has
-a_primitive : with_parts (Prim 57) 3 (prim_action 22) 0 ≡ true
+a_primitive : with_parts (Prim 59) 3 (prim_action 22) 0 ≡ true
 unfolding built_count
 a_primitive = refl
 
-word_of_no_primitive : with_parts (Quot 0) 3 (prim_action 58) 0 ≡ false
+word_of_no_primitive : with_parts (Quot 0) 3 (prim_action 60) 0 ≡ false
 unfolding built_count
 word_of_no_primitive = refl
 
-no_primitive : with_parts (Prim 58) 3 (code_action 0) 0 ≡ false
+no_primitive : with_parts (Prim 60) 3 (code_action 0) 0 ≡ false
 unfolding built_count
 no_primitive = refl
 
@@ -107,13 +112,13 @@ unfolding built_count
 word_of_no_core_word = refl
 
 -- no image is without code
-no_code : is_image [] [] [] [] [] 0 ≡ false
+no_code : is_image (plain_tables [] [] [] []) [] 0 ≡ false
 unfolding built_count
 no_code = refl
 
 -- with these literal arrays, of which the code names one; template 0 keeps a value and template 1 keeps none
 abbrev with_arrays : List (List Elem) → ℕ → Bool
-with_arrays arrays k = is_image arrays (template 0 0 ∷ record { entry = 0; cells = []; holes = 0 } ∷ []) (does itself_action ∷ []) (codes "a" ∷ []) (Array k ∷ Halt ∷ []) 0
+with_arrays arrays k = is_image (plain_tables arrays (template 0 0 ∷ record { entry = 0; cells = []; holes = 0 } ∷ []) (does itself_action ∷ []) (codes "a" ∷ [])) (Array k ∷ Halt ∷ []) 0
 
 -- all that an element can be
 pub with_elements : with_arrays ([] ∷ (elem.Text 0 ∷ elem.Array 0 ∷ elem.Word 0 ∷ elem.Template 1 ∷ elem.True ∷ []) ∷ []) 1 ≡ true
@@ -132,3 +137,53 @@ array_in_itself = refl
 element_that_keeps : with_arrays ((elem.Template 0 ∷ []) ∷ []) 0 ≡ false
 unfolding built_count
 element_that_keeps = refl
+
+-- Classes: kind 8 has these slots, and kind 9 is a singleton; the sets are these; word 0 is of this kind, and word 1 the generic, whose method has this set
+abbrev with_classes : List ℕ → List (List ℕ) → Option ℕ → ℕ → Instr → Bool
+with_classes slots sets kind set i =
+    is_image (record {
+      arrays = [];
+      kinds = record { name = 0; slots = Some slots } ∷ record { name = 0; slots = None } ∷ [];
+      sets = sets;
+      templates = [];
+      words = record { name = 0; action = itself_action; kind = kind } ∷ does (generic_action 0) ∷ [];
+      generics = record { word = 1; methods = record { set = set; entry = 1 } ∷ [] } ∷ [];
+      texts = codes "a" ∷ [];
+    }) (i ∷ Halt ∷ []) 0
+
+pub classes : with_classes (0 ∷ 0 ∷ []) ((0 ∷ 8 ∷ 9 ∷ []) ∷ [] ∷ []) (Some 9) 1 (Next 0 0 true) ≡ true
+unfolding built_count
+classes = refl
+
+slot_without_name : with_classes (0 ∷ 1 ∷ []) ([] ∷ []) None 0 Halt ≡ false
+unfolding built_count
+slot_without_name = refl
+
+kind_past_the_last : with_classes [] ((10 ∷ []) ∷ []) None 0 Halt ≡ false
+unfolding built_count
+kind_past_the_last = refl
+
+kind_twice : with_classes [] ((3 ∷ 3 ∷ []) ∷ []) None 0 Halt ≡ false
+unfolding built_count
+kind_twice = refl
+
+-- no word is of a kind that every program has
+kind_without_row : with_classes [] ([] ∷ []) (Some 7) 0 Halt ≡ false
+unfolding built_count
+kind_without_row = refl
+
+no_set : with_classes [] ([] ∷ []) None 1 Halt ≡ false
+unfolding built_count
+no_set = refl
+
+no_method : with_classes [] ([] ∷ []) None 0 (Next 0 1 true) ≡ false
+unfolding built_count
+no_method = refl
+
+no_generic : with_classes [] ([] ∷ []) None 0 (Generic 1 true) ≡ false
+unfolding built_count
+no_generic = refl
+
+set_past_the_last : with_classes [] ([] ∷ []) None 0 (Isa 1) ≡ false
+unfolding built_count
+set_past_the_last = refl

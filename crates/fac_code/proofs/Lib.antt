@@ -1,1 +1,3 @@
 pub mod ExamplesOfReferences
+pub mod ExamplesOfNames
+mod LookupLemmas

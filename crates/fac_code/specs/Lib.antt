@@ -1,4 +1,5 @@
 pub mod Code
 pub mod References
 pub mod Images
-pub mod WordNames
+pub mod ImageNames
+pub mod ClassSets

@@ -48,6 +48,35 @@ pub enum Instr {
     },
     /// Takes the next return entry and goes on there. It costs no tick.
     Ret,
+    /// Takes a word and below it a value for each slot of its tuple class, the first slot's the deepest, and pushes a new tuple, at a
+    /// tick.
+    Boa,
+    /// Takes a tuple and pushes what is in its slot, whose name is the text with this number, at a tick.
+    Get(u32),
+    /// Takes a value and a tuple below it, puts the value in the tuple's slot and pushes the tuple, at a tick. The slot's name is the
+    /// text with this number.
+    Set(u32),
+    /// Takes a tuple and a value below it and puts the value in the tuple's slot, at a tick. The slot's name is the text with this
+    /// number.
+    Put(u32),
+    /// Takes a value and pushes whether its kind is in the class set with this number, at a tick.
+    Isa(u32),
+    /// Enters the method of a generic for the kind of the top value, which stays, at a tick.
+    Generic {
+        /// The number of the generic.
+        generic: u32,
+        /// As that of `Callw`.
+        tail: bool,
+    },
+    /// Enters the method after one of a generic, for the kind of the top value, which stays, at a tick.
+    Next {
+        /// The number of the generic.
+        generic: u32,
+        /// The place of the method among those of the generic.
+        method: u32,
+        /// As that of `Callw`.
+        tail: bool,
+    },
 }
 
 /// What a word does.
@@ -55,12 +84,22 @@ pub enum Instr {
 pub enum Action {
     /// The primitive of this number.
     Prim(u32),
-    /// The core word of this number: 0 is `call`, 1 is `dip` and 2 is `if`.
+    /// The core word of this number: 0 is `call`, 1 is `dip`, 2 is `if` and 4 is `boa`. Nothing does `cond`, which is number 9.
     Core(u32),
     /// The code at this place.
     Code(u32),
     /// Pushes the word itself.
     Itself,
+    /// Enters a method of the generic with this number.
+    Generic(u32),
+    /// Gives what is in the slot whose name is the text with this number.
+    Get(u32),
+    /// Puts a value in that slot and gives the tuple.
+    Set(u32),
+    /// Puts a value in that slot.
+    Put(u32),
+    /// Gives whether a value's kind is in the class set with this number.
+    Isa(u32),
 }
 
 /// A word of an image.
@@ -70,6 +109,36 @@ pub struct WordRow {
     pub name: u32,
     /// What it does. Only code can be gone to by a call.
     pub action: Action,
+    /// Of the word of a tuple class or a singleton its kind.
+    pub kind: Option<u32>,
+}
+
+/// A kind: a tuple class or a singleton. The eight kinds from 0 on, of integers, `t`, `f`, strings, iotas, words, arrays and callables, have no
+/// rows, so the first row is kind 8.
+#[derive(Drop)]
+pub struct KindRow {
+    /// The number of the text that is its class's name, without its vocabulary.
+    pub name: u32,
+    /// The numbers of the texts that are the names of all slots of a tuple class, its parents' first. None for a singleton.
+    pub slots: Option<List<u32>>,
+}
+
+/// A method of a generic.
+#[derive(Clone, Copy, Debug, PartialEq, Eq)]
+pub struct MethodRow {
+    /// The number of the class set of its class.
+    pub set: u32,
+    /// The place of its first instruction.
+    pub entry: u32,
+}
+
+/// A generic.
+#[derive(Drop)]
+pub struct GenericRow {
+    /// The number of its word.
+    pub word: u32,
+    /// Its methods, in the order in which they are asked: the first whose class set has a value's kind is entered.
+    pub methods: List<MethodRow>,
 }
 
 /// A template: the code of a quotation, of which callables are made.
@@ -102,16 +171,41 @@ pub enum Elem {
     Template(u32),
 }
 
+/// The tables of an image.
+#[derive(Drop)]
+pub struct Tables {
+    /// The literal arrays, by their numbers. A machine makes them in this order, before its first run.
+    pub arrays: List<List<Elem>>,
+    /// One row for each kind, from kind 8 on.
+    pub kinds: List<KindRow>,
+    /// The class sets, by their numbers: the kinds of a class, ascending.
+    pub sets: List<List<u32>>,
+    /// One row for each template, by its number.
+    pub templates: List<TemplateRow>,
+    /// One row for each word of the program, by its number.
+    pub words: List<WordRow>,
+    /// One row for each generic, by its number.
+    pub generics: List<GenericRow>,
+    /// The texts that instructions and rows name by their numbers. One text may stand several times.
+    pub texts: List<Text>,
+}
+
 /// The code of a program. Its words have the numbers of the program's words.
 #[derive(Drop)]
 pub struct Image {
     /// The literal arrays, by their numbers. A machine makes them in this order, before its first run.
     pub arrays: List<List<Elem>>,
+    /// One row for each kind, from kind 8 on.
+    pub kinds: List<KindRow>,
+    /// The class sets, by their numbers: the kinds of a class, ascending.
+    pub sets: List<List<u32>>,
     /// One row for each template, by its number.
     pub templates: List<TemplateRow>,
     /// One row for each word of the program, by its number.
     pub words: List<WordRow>,
-    /// The texts that instructions name by their numbers. One text may stand several times.
+    /// One row for each generic, by its number.
+    pub generics: List<GenericRow>,
+    /// The texts that instructions and rows name by their numbers. One text may stand several times.
     pub texts: List<Text>,
     /// The instructions, at places from 0.
     pub code: List<Instr>,
@@ -120,5 +214,5 @@ pub struct Image {
     // Each primitive in the code is one that the machine has.
     ghost built: { has_built_code code ≡ true },
     // Each number in the tables and the code names something of its kind.
-    ghost refers: { all_refer arrays templates words texts code start ≡ true },
+    ghost refers: { all_refer (record { arrays = arrays; kinds = kinds; sets = sets; templates = templates; words = words; generics = generics; texts = texts }) code start ≡ true },
 }

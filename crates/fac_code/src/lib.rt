@@ -2,9 +2,12 @@
 #![tactic(auto)]
 
 mod image;
+mod lookups;
 mod making;
 mod names;
 mod references;
 
-pub use image::{Action, Elem, Image, Instr, TemplateRow, WordRow};
+pub use image::{
+    Action, Elem, GenericRow, Image, Instr, KindRow, MethodRow, Tables, TemplateRow, WordRow,
+};
 pub use names::TrapWhy;

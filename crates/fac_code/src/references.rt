@@ -2,10 +2,10 @@
 ghost use Rattle.std.specs.Prelude.{◌≡◌, length, slice_get};
 ghost use Rattle.std.specs.List.{list_all};
 ghost use Rattle.fac_code.specs.Code.{is_built_instr, has_built_code};
-ghost use Rattle.fac_code.specs.References.{is_code as does_code, names_code, names_quotation, names_constant, instr_refers, elem_refers, arrays_refer, action_refers, word_refers, template_refers, refers as all_refer};
+ghost use Rattle.fac_code.specs.References.{is_code as does_code, names_code, names_quotation, names_method, names_constant, instr_refers, elem_refers, arrays_refer, action_refers, own_refers, word_refers, template_refers, texts_refer, slots_refer, kind_refers, set_refers, method_refers, generic_refers, tables_refer, refers as all_refer};
 
-use crate::{Action, Elem, Instr, TemplateRow, WordRow};
-use fac_lang::{List, Text, is_core_word, is_primitive};
+use crate::{Action, Elem, GenericRow, Instr, KindRow, MethodRow, Tables, WordRow};
+use fac_lang::{List, is_core_word, is_primitive};
 
 // Whether a word does code.
 fn is_code(action: Action) -> bool
@@ -13,91 +13,89 @@ fn is_code(action: Action) -> bool
 {
     match action {
         Action::Code(_) => true,
-        Action::Prim(_) => false,
-        Action::Core(_) => false,
-        Action::Itself => false,
+        Action::Prim(_)
+        | Action::Core(_)
+        | Action::Itself
+        | Action::Generic(_)
+        | Action::Get(_)
+        | Action::Set(_)
+        | Action::Put(_)
+        | Action::Isa(_) => false,
     }
 }
 
 // Whether a number names a word that does code.
-fn is_code_word(words: &[WordRow], word: u32) -> bool
-    ensures { result ≡ names_code (slice_get words.now word) }
+fn is_code_word(tables: &Tables, word: u32) -> bool
+    ensures { result ≡ names_code (slice_get tables.now.words word) }
 {
-    match words.get(word as usize) {
+    match tables.words.get(word as usize) {
         Some(row) => is_code(row.action),
         None => false,
     }
 }
 
 // Whether a number names a template that takes no values from the stack.
-fn is_quotation(templates: &[TemplateRow], template: u32) -> bool
-    ensures { result ≡ names_quotation (slice_get templates.now template) }
+fn is_quotation(tables: &Tables, template: u32) -> bool
+    ensures { result ≡ names_quotation (slice_get tables.now.templates template) }
 {
-    match templates.get(template as usize) {
+    match tables.templates.get(template as usize) {
         Some(row) => row.holes == 0,
         None => false,
     }
 }
 
 // Whether a number names a template that keeps and takes no values.
-fn is_constant(templates: &[TemplateRow], template: u32) -> bool
-    ensures { result ≡ names_constant (slice_get templates.now template) }
+fn is_constant(tables: &Tables, template: u32) -> bool
+    ensures { result ≡ names_constant (slice_get tables.now.templates template) }
 {
-    match templates.get(template as usize) {
+    match tables.templates.get(template as usize) {
         Some(row) => row.cells.len() == 0 && row.holes == 0,
         None => false,
     }
 }
 
+// Whether a number names a generic that has a method at this place.
+fn is_method(tables: &Tables, generic: u32, method: u32) -> bool
+    ensures { result ≡ names_method (slice_get tables.now.generics generic) method }
+{
+    match tables.generics.get(generic as usize) {
+        Some(row) => method < row.methods.len(),
+        None => false,
+    }
+}
+
 // Whether what an element of the literal array with this number names is there.
-fn refers_elem(
-    templates: &[TemplateRow],
-    words: &[WordRow],
-    texts: &[Text],
-    array: usize,
-    element: Elem,
-) -> bool
-    ensures { result ≡ elem_refers templates.now words.now texts.now array element }
+fn refers_elem(tables: &Tables, array: usize, element: Elem) -> bool
+    ensures { result ≡ elem_refers tables.now array element }
 {
     match element {
-        Elem::Text(number) => (number as usize) < texts.len(),
+        Elem::Text(number) => number < tables.texts.len(),
         Elem::Array(number) => (number as usize) < array,
-        Elem::Word(number) => (number as usize) < words.len(),
-        Elem::Template(template) => is_constant(templates, template),
+        Elem::Word(number) => number < tables.words.len(),
+        Elem::Template(template) => is_constant(tables, template),
         Elem::Int(_) | Elem::True | Elem::False => true,
     }
 }
 
 // Whether that is so of each element.
-fn elements_refer(
-    templates: &[TemplateRow],
-    words: &[WordRow],
-    texts: &[Text],
-    array: usize,
-    elements: &[Elem],
-) -> bool
-    ensures { result ≡ list_all (elem_refers templates.now words.now texts.now array) elements.now }
+fn elements_refer(tables: &Tables, array: usize, elements: &[Elem]) -> bool
+    ensures { result ≡ list_all (elem_refers tables.now array) elements.now }
 {
     for element in elements {
-        if !refers_elem(templates, words, texts, array, *element) {
+        if !refers_elem(tables, array, *element) {
             return false;
         }
     }
     true
 }
 
-// Whether that is so of each literal array.
-fn all_arrays_refer(
-    templates: &[TemplateRow],
-    words: &[WordRow],
-    texts: &[Text],
-    arrays: &[List<Elem>],
-) -> bool
-    ensures { result ≡ arrays_refer templates.now words.now texts.now 0 arrays.now }
+// Whether that is so of each of these literal arrays, which are those of the tables.
+fn all_arrays_refer(tables: &Tables, arrays: &[List<Elem>]) -> bool
+    ensures { result ≡ arrays_refer tables.now 0 arrays.now }
 {
     let mut number = 0;
     for elements in arrays {
-        if !elements_refer(templates, words, texts, number, elements.as_slice()) {
+        if !elements_refer(tables, number, elements.as_slice()) {
             return false;
         }
         number += 1;
@@ -105,22 +103,25 @@ fn all_arrays_refer(
     true
 }
 
-// Whether what an instruction names is there, among so many literal arrays.
-fn refers_instr(
-    arrays: usize,
-    templates: &[TemplateRow],
-    words: &[WordRow],
-    texts: &[Text],
-    instr: Instr,
-) -> bool
-    ensures { result ≡ instr_refers arrays templates.now words.now texts.now instr }
+// Whether what an instruction names is there.
+fn refers_instr(tables: &Tables, instr: Instr) -> bool
+    ensures { result ≡ instr_refers tables.now instr }
 {
     match instr {
-        Instr::Callw { word, .. } => is_code_word(words, word),
-        Instr::Quot(template) => is_quotation(templates, template),
-        Instr::Text(number) => (number as usize) < texts.len(),
-        Instr::Array(number) => (number as usize) < arrays,
-        Instr::Word(number) => (number as usize) < words.len(),
+        Instr::Callw { word, .. } => is_code_word(tables, word),
+        Instr::Quot(template) => is_quotation(tables, template),
+        Instr::Text(number) | Instr::Get(number) | Instr::Set(number) | Instr::Put(number) => {
+            number < tables.texts.len()
+        }
+        Instr::Array(number) => number < tables.arrays.len(),
+        Instr::Word(number) => number < tables.words.len(),
+        Instr::Isa(set) => set < tables.sets.len(),
+        Instr::Generic { generic, .. } => generic < tables.generics.len(),
+        Instr::Next {
+            generic,
+            method,
+            ..
+        } => is_method(tables, generic, method),
         Instr::Halt
         | Instr::Int(_)
         | Instr::True
@@ -129,35 +130,53 @@ fn refers_instr(
         | Instr::Call { .. }
         | Instr::Dip
         | Instr::If { .. }
-        | Instr::Ret => true,
+        | Instr::Ret
+        | Instr::Boa => true,
     }
 }
 
 // Whether what a word does is there, in code of so many instructions.
-fn refers_action(size: usize, action: Action) -> bool
-    ensures { result ≡ action_refers size action }
+fn refers_action(tables: &Tables, size: usize, action: Action) -> bool
+    ensures { result ≡ action_refers tables.now size action }
 {
     match action {
         Action::Prim(number) => is_primitive(number),
         Action::Core(number) => is_core_word(number),
         Action::Code(place) => (place as usize) < size,
         Action::Itself => true,
+        Action::Generic(generic) => generic < tables.generics.len(),
+        Action::Get(number) | Action::Set(number) | Action::Put(number) => {
+            number < tables.texts.len()
+        }
+        Action::Isa(set) => set < tables.sets.len(),
     }
 }
 
-// Whether the name of a word is there, among so many texts, and what it does.
-fn refers_word(size: usize, count: usize, row: WordRow) -> bool
-    ensures { result ≡ word_refers size count row }
+// Whether the own kind of a word's class is one of the rows.
+fn refers_own(tables: &Tables, kind: Option<u32>) -> bool
+    ensures { result ≡ own_refers tables.now kind }
 {
-    (row.name as usize) < count && refers_action(size, row.action)
+    match kind {
+        Some(kind) => 8 <= kind && (kind as u64) < 8 + tables.kinds.len() as u64,
+        None => true,
+    }
 }
 
-// Whether that is so of each word.
-fn words_refer(size: usize, count: usize, words: &[WordRow]) -> bool
-    ensures { result ≡ list_all (word_refers size count) words.now }
+// Whether the name of a word is there, what it does and its kind.
+fn refers_word(tables: &Tables, size: usize, row: WordRow) -> bool
+    ensures { result ≡ word_refers tables.now size row }
 {
-    for row in words {
-        if !refers_word(size, count, *row) {
+    row.name < tables.texts.len()
+        && refers_action(tables, size, row.action)
+        && refers_own(tables, row.kind)
+}
+
+// Whether that is so of each word of the tables.
+fn words_refer(tables: &Tables, size: usize) -> bool
+    ensures { result ≡ list_all (word_refers tables.now size) tables.now.words }
+{
+    for row in tables.words.as_slice() {
+        if !refers_word(tables, size, *row) {
             return false;
         }
     }
@@ -165,10 +184,10 @@ fn words_refer(size: usize, count: usize, words: &[WordRow]) -> bool
 }
 
 // Whether each template's code begins in the code.
-fn templates_refer(size: usize, templates: &[TemplateRow]) -> bool
-    ensures { result ≡ list_all (template_refers size) templates.now }
+fn templates_refer(tables: &Tables, size: usize) -> bool
+    ensures { result ≡ list_all (template_refers tables.now size) tables.now.templates }
 {
-    for row in templates {
+    for row in tables.templates.as_slice() {
         if (row.entry as usize) >= size {
             return false;
         }
@@ -176,18 +195,118 @@ fn templates_refer(size: usize, templates: &[TemplateRow]) -> bool
     true
 }
 
+// Whether these texts are there.
+fn refers_texts(tables: &Tables, numbers: &[u32]) -> bool
+    ensures { result ≡ texts_refer tables.now numbers.now }
+{
+    for number in numbers {
+        if *number >= tables.texts.len() {
+            return false;
+        }
+    }
+    true
+}
+
+// Whether the name and the slots of a kind are there.
+fn refers_kind(tables: &Tables, row: &KindRow) -> bool
+    ensures { result ≡ kind_refers tables.now row.now }
+{
+    if row.name >= tables.texts.len() {
+        return false;
+    }
+    match &row.slots {
+        Some(slots) => refers_texts(tables, slots.as_slice()),
+        None => true,
+    }
+}
+
+// Whether that is so of each kind of the tables.
+fn kinds_refer(tables: &Tables) -> bool
+    ensures { result ≡ list_all (kind_refers tables.now) tables.now.kinds }
+{
+    for row in tables.kinds.as_slice() {
+        if !refers_kind(tables, row) {
+            return false;
+        }
+    }
+    true
+}
+
+// Whether numbers are kinds in ascending order.
+fn refers_set(tables: &Tables, kinds: &[u32]) -> bool
+    ensures { result ≡ set_refers tables.now 0 kinds.now }
+{
+    let mut least: u64 = 0;
+    for kind in kinds {
+        if (*kind as u64) < least || (*kind as u64) >= 8 + tables.kinds.len() as u64 {
+            return false;
+        }
+        least = *kind as u64 + 1;
+    }
+    true
+}
+
+// Whether that is so of each class set of the tables.
+fn sets_refer(tables: &Tables) -> bool
+    ensures { result ≡ list_all (set_refers tables.now 0) tables.now.sets }
+{
+    for kinds in tables.sets.as_slice() {
+        if !refers_set(tables, kinds.as_slice()) {
+            return false;
+        }
+    }
+    true
+}
+
+// Whether the class set and the code of each method are there.
+fn methods_refer(tables: &Tables, size: usize, methods: &[MethodRow]) -> bool
+    ensures { result ≡ list_all (method_refers tables.now size) methods.now }
+{
+    for row in methods {
+        if row.set >= tables.sets.len() || (row.entry as usize) >= size {
+            return false;
+        }
+    }
+    true
+}
+
+// Whether the word and the methods of a generic are there.
+fn refers_generic(tables: &Tables, size: usize, row: &GenericRow) -> bool
+    ensures { result ≡ generic_refers tables.now size row.now }
+{
+    row.word < tables.words.len() && methods_refer(tables, size, row.methods.as_slice())
+}
+
+// Whether that is so of each generic of the tables.
+fn generics_refer(tables: &Tables, size: usize) -> bool
+    ensures { result ≡ list_all (generic_refers tables.now size) tables.now.generics }
+{
+    for row in tables.generics.as_slice() {
+        if !refers_generic(tables, size, row) {
+            return false;
+        }
+    }
+    true
+}
+
+// Whether that is so of all tables, where there are so many instructions.
+fn refers_tables(tables: &Tables, size: usize) -> bool
+    ensures { result ≡ tables_refer tables.now size }
+{
+    all_arrays_refer(tables, tables.arrays.as_slice())
+        && kinds_refer(tables)
+        && sets_refer(tables)
+        && templates_refer(tables, size)
+        && words_refer(tables, size)
+        && generics_refer(tables, size)
+}
+
 // Whether what each instruction names is there.
-fn instrs_refer(
-    arrays: usize,
-    templates: &[TemplateRow],
-    words: &[WordRow],
-    texts: &[Text],
-    code: &[Instr],
-) -> bool
-    ensures { result ≡ list_all (instr_refers arrays templates.now words.now texts.now) code.now }
+fn instrs_refer(tables: &Tables, code: &[Instr]) -> bool
+    ensures { result ≡ list_all (instr_refers tables.now) code.now }
 {
     for instr in code {
-        if !refers_instr(arrays, templates, words, texts, *instr) {
+        if !refers_instr(tables, *instr) {
             return false;
         }
     }
@@ -195,22 +314,10 @@ fn instrs_refer(
 }
 
 /// Whether each number in the tables and the code names something of its kind, and the start is a place in the code.
-pub fn refers(
-    arrays: &[List<Elem>],
-    templates: &[TemplateRow],
-    words: &[WordRow],
-    texts: &[Text],
-    code: &[Instr],
-    start: u32,
-) -> bool
-    ensures { result ≡ all_refer arrays.now templates.now words.now texts.now code.now start }
+pub fn refers(tables: &Tables, code: &[Instr], start: u32) -> bool
+    ensures { result ≡ all_refer tables.now code.now start }
 {
-    let size = code.len();
-    all_arrays_refer(templates, words, texts, arrays)
-        && templates_refer(size, templates)
-        && words_refer(size, texts.len(), words)
-        && instrs_refer(arrays.len(), templates, words, texts, code)
-        && (start as usize) < size
+    refers_tables(tables, code.len()) && instrs_refer(tables, code) && (start as usize) < code.len()
 }
 
 // Whether the machine has the primitive of an instruction, where it is one.
@@ -231,7 +338,14 @@ fn is_built(instr: Instr) -> bool
         | Instr::Call { .. }
         | Instr::Dip
         | Instr::If { .. }
-        | Instr::Ret => true,
+        | Instr::Ret
+        | Instr::Boa
+        | Instr::Get(_)
+        | Instr::Set(_)
+        | Instr::Put(_)
+        | Instr::Isa(_)
+        | Instr::Generic { .. }
+        | Instr::Next { .. } => true,
     }
 }
 

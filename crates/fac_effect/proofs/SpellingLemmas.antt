@@ -7,13 +7,13 @@ use Rattle.fac_lang.specs.declared.phrase.Place.{Place}
 use Rattle.fac_lang.specs.declared.token.Token.{Token}
 use Rattle.fac_lang.specs.declared.token.TokKind.{TokKind}
 use Rattle.fac_lang.specs.declared.token.TokKind.TheVariants.{Plain, Str}
-use Rattle.fac_lang.specs.declared.tree.FormKind.TheVariants.{In, Use, Using, From, QualifiedWith, Defer, Symbol, Constant, Private, Public, Main, Define}
+use Rattle.fac_lang.specs.declared.tree.FormKind.TheVariants.{In, Use, Using, From, QualifiedWith, Defer, Symbol, Constant, Private, Public, Main, Define, Tuple, Union, Singleton, Generic, Method, Maker}
 use Rattle.fac_lang.specs.declared.tree.Bracket.TheVariants.{Quotation, Array}
 use Rattle.fac_lang.specs.declared.tree.Key.TheVariants.{Arrow}
 use Rattle.fac_effect.specs.declared.spelling.Spelling.{Spelling}
-use Rattle.fac_effect.specs.declared.spelling.Spelling.TheVariants.{Begins, Fixed, Semi, Opens, Closes, Dashes, OpensBracket, ClosesBracket, True, False, Inline, Recursive, Integer, String, Name, Other}
+use Rattle.fac_effect.specs.declared.spelling.Spelling.TheVariants.{Begins, Fixed, Semi, Opens, Closes, Dashes, OpensBracket, ClosesBracket, True, False, Inline, Recursive, NextMethod, Integer, String, Name, Other}
 use Rattle.fac_lang.specs.Numbers.{signed_in, integer_in, in_range}
-use Rattle.fac_effect.specs.Spellings.{has_integer_form, is_reserved, sign_text, signs, sign_among, with_text, sign_spelling, word_spelling, integer_spelling, spelling_of, string_spelling, token_spelling, plain_token}
+use Rattle.fac_effect.specs.Spellings.{has_integer_form, is_reserved, sign_text, signs, sign_among, with_text, sign_spelling, word_spelling, integer_spelling, spelling_of, string_spelling, token_spelling, token_text, plain_token}
 
 -- spellings of one text
 abbrev pub IsSign : Spelling → Type 0
@@ -38,6 +38,12 @@ sign_is (Begins Private) h = refl
 sign_is (Begins Public) h = refl
 sign_is (Begins Main) h = refl
 sign_is (Begins Define) h = refl
+sign_is (Begins Tuple) h = refl
+sign_is (Begins Union) h = refl
+sign_is (Begins Singleton) h = refl
+sign_is (Begins Generic) h = refl
+sign_is (Begins Method) h = refl
+sign_is (Begins Maker) h = refl
 sign_is (Fixed Arrow) h = refl
 sign_is Semi h = refl
 sign_is Opens h = refl
@@ -51,6 +57,7 @@ sign_is True h = refl
 sign_is False h = refl
 sign_is Inline h = refl
 sign_is Recursive h = refl
+sign_is NextMethod h = refl
 sign_is (Integer z) h = absurd h
 sign_is String h = absurd h
 sign_is Name h = absurd h
@@ -98,6 +105,22 @@ sign_kind p (Str text) h = absurd (no_sign_string text h)
 -- a token that is spelled as a sign is that sign
 pub sign_token : (t : Token) (s : Spelling) → token_spelling t.kind ≡ s → IsSign s → t ≡ plain_token t.place (sign_text s)
 sign_token t s e h = subst (λ (s : Spelling). t ≡ plain_token t.place (sign_text s)) e (sign_kind t.place t.kind (subst IsSign (sym e) h))
+
+-- A name is a plain token.
+no_name_picked : (b : Bool) → cond b String Other ≡ Name → ⊥
+no_name_picked true h = cc
+no_name_picked false h = cc
+
+no_name_string : (content : List ℕ) → string_spelling content ≡ Name → ⊥
+unfolding string_spelling
+no_name_string content h = no_name_picked _ h
+
+name_kind : (p : Place) (k : TokKind) → token_spelling k ≡ Name → record { place = p; kind = k } ≡ plain_token p (token_text k)
+name_kind p (Plain text) h = refl
+name_kind p (Str text) h = absurd (no_name_string text h)
+
+pub name_token : (t : Token) → token_spelling t.kind ≡ Name → t ≡ plain_token t.place (token_text t.kind)
+name_token t h = name_kind t.place t.kind h
 
 -- Integers.
 no_integer_sign : (text : List ℕ) (z : ℤ) → sign_spelling text ≡ Some (Integer z) → ⊥

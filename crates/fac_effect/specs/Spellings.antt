@@ -9,13 +9,13 @@ use Rattle.fac_lang.specs.declared.token.TokKind.TheVariants.{Plain, Str}
 use Rattle.fac_lang.specs.declared.phrase.Place.{Place}
 use Rattle.fac_lang.specs.declared.token.Token.{Token}
 use Rattle.fac_lang.specs.declared.tree.FormKind.{FormKind}
-use Rattle.fac_lang.specs.declared.tree.FormKind.TheVariants.{In, Use, Using, From, QualifiedWith, Defer, Symbol, Constant, Private, Public, Main, Define}
+use Rattle.fac_lang.specs.declared.tree.FormKind.TheVariants.{In, Use, Using, From, QualifiedWith, Defer, Symbol, Constant, Private, Public, Main, Define, Tuple, Union, Singleton, Generic, Method, Maker}
 use Rattle.fac_lang.specs.declared.tree.Bracket.{Bracket}
 use Rattle.fac_lang.specs.declared.tree.Bracket.TheVariants.{Quotation, Array}
 use Rattle.fac_lang.specs.declared.tree.Key.{Key}
 use Rattle.fac_lang.specs.declared.tree.Key.TheVariants.{Arrow}
 use Rattle.fac_effect.specs.declared.spelling.Spelling.{Spelling}
-use Rattle.fac_effect.specs.declared.spelling.Spelling.TheVariants.{Begins, Fixed, Semi, Opens, Closes, OpensBracket, ClosesBracket, True, False, Inline, Recursive, Integer, String, Name, Other, Dashes}
+use Rattle.fac_effect.specs.declared.spelling.Spelling.TheVariants.{Begins, Fixed, Semi, Opens, Closes, OpensBracket, ClosesBracket, True, False, Inline, Recursive, NextMethod, Integer, String, Name, Other, Dashes}
 
 -- a plain token at a place
 abbrev pub plain_token : Place → List ℕ → Token
@@ -40,6 +40,12 @@ head_of Private = codes "<PRIVATE"
 head_of Public = codes "PRIVATE>"
 head_of Main = codes "MAIN:"
 head_of Define = codes ":"
+head_of Tuple = codes "TUPLE:"
+head_of Union = codes "UNION:"
+head_of Singleton = codes "SINGLETON:"
+head_of Generic = codes "GENERIC:"
+head_of Method = codes "M:"
+head_of Maker = codes "C:"
 
 -- a token at a fixed place of a row
 abbrev pub key_text : Key → List ℕ
@@ -102,14 +108,16 @@ sign_text True = codes "t"
 sign_text False = codes "f"
 sign_text Inline = codes "inline"
 sign_text Recursive = codes "recursive"
+sign_text NextMethod = codes "call-next-method"
 sign_text _ = []
 
 -- the tokens that forms are made of
 abbrev pub signs : List Spelling
 signs =
     Begins In ∷ Begins Use ∷ Begins Using ∷ Begins From ∷ Begins QualifiedWith ∷ Begins Defer ∷ Begins Symbol ∷ Begins Constant ∷
-    Begins Private ∷ Begins Public ∷ Begins Main ∷ Begins Define ∷ Semi ∷ Opens ∷ Closes ∷ Dashes ∷
-    OpensBracket Quotation ∷ ClosesBracket Quotation ∷ OpensBracket Array ∷ ClosesBracket Array ∷ True ∷ False ∷ Inline ∷ Recursive ∷ Fixed Arrow ∷ []
+    Begins Private ∷ Begins Public ∷ Begins Main ∷ Begins Define ∷
+    Begins Tuple ∷ Begins Union ∷ Begins Singleton ∷ Begins Generic ∷ Begins Method ∷ Begins Maker ∷ Semi ∷ Opens ∷ Closes ∷ Dashes ∷
+    OpensBracket Quotation ∷ ClosesBracket Quotation ∷ OpensBracket Array ∷ ClosesBracket Array ∷ True ∷ False ∷ Inline ∷ Recursive ∷ NextMethod ∷ Fixed Arrow ∷ []
 
 -- the first of these that is of this text
 abbrev pub sign_among : List (List ℕ × Spelling) → List ℕ → Option Spelling

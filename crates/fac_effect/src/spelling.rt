@@ -36,6 +36,8 @@ pub enum Spelling {
     Inline,
     /// `recursive`
     Recursive,
+    /// `call-next-method`
+    NextMethod,
     /// A token in one of the integer forms, in range.
     Integer(i128),
     /// A string of at most 1,000,000 characters.
@@ -123,7 +125,7 @@ fn reserved(text: &str) -> bool
 
 // The tokens that forms are made of, each with its text.
 #[rattlefmt::skip]
-static FORM_SIGNS: [(&str, Spelling); 25] = [
+static FORM_SIGNS: [(&str, Spelling); 32] = [
     ("IN:", Spelling::Begins(FormKind::In)),
     ("USE:", Spelling::Begins(FormKind::Use)),
     ("USING:", Spelling::Begins(FormKind::Using)),
@@ -136,6 +138,12 @@ static FORM_SIGNS: [(&str, Spelling); 25] = [
     ("PRIVATE>", Spelling::Begins(FormKind::Public)),
     ("MAIN:", Spelling::Begins(FormKind::Main)),
     (":", Spelling::Begins(FormKind::Define)),
+    ("TUPLE:", Spelling::Begins(FormKind::Tuple)),
+    ("UNION:", Spelling::Begins(FormKind::Union)),
+    ("SINGLETON:", Spelling::Begins(FormKind::Singleton)),
+    ("GENERIC:", Spelling::Begins(FormKind::Generic)),
+    ("M:", Spelling::Begins(FormKind::Method)),
+    ("C:", Spelling::Begins(FormKind::Maker)),
     (";", Spelling::Semi),
     ("(", Spelling::Opens),
     (")", Spelling::Closes),
@@ -148,6 +156,7 @@ static FORM_SIGNS: [(&str, Spelling); 25] = [
     ("f", Spelling::False),
     ("inline", Spelling::Inline),
     ("recursive", Spelling::Recursive),
+    ("call-next-method", Spelling::NextMethod),
     ("=>", Spelling::Fixed(Key::Arrow)),
 ];
 

@@ -6,6 +6,7 @@ use Rattle.fac_lang.specs.declared.phrase.Template.{Template}
 use Rattle.fac_lang.specs.declared.program.Program.{Program}
 use Rattle.fac_lang.specs.Phrases.{Value, Callable}
 use Rattle.fac_lang.specs.Forms.{IsBuilt}
+use Rattle.fac_lang.specs.Whole.{IsWhole}
 use Rattle.fac_lang.specs.Eval.{Result, Done, Failed, Spent, Stuck}
 use Rattle.fac_lang.specs.Meaning.{word_phrase}
 use Rattle.fac_lang.specs.RunningLaws.{IsNotStuck}
@@ -20,7 +21,8 @@ use Rattle.fac_emit.specs.ProgramCode.{IsPlain}
 use Rattle.fac_emit.specs.Stands.{Stands, PlainCode}
 use Rattle.fac_emit.proofs.Simulation.{carried}
 use Rattle.fac_emit.proofs.PlainIsCode.{plain_code_is_code}
-use Rattle.fac_emit.proofs.Placed.{coded, top_stands}
+use Rattle.fac_generic.specs.Methods.{MethodLaws}
+use Rattle.fac_emit.proofs.PlainStands.{plain_code}
 use Rattle.fac_emit.proofs.NamedImages.{image_named}
 use Rattle.fac_emit.proofs.MadeArrays.{arrays_made}
 
@@ -30,30 +32,20 @@ not_stuck (Failed x st m) h e = cc
 not_stuck (Spent st i) h e = cc
 not_stuck Stuck h e = absurd h
 
--- the place of a row's code
-abbrev place_of : Option WordRow → ℕ
-place_of None = 0
-place_of (Some r) = elim r.action [ code_action a ↦ a | _ ↦ 0 ]
-
-pub plain_code : (P C : Program) (templates : List Template) (M : Image) → IsBuilt P → Closes P C templates → IsPlain C templates M → PlainCode P M
-plain_code P C templates M b closes is_plain =
-    let top = top_stands P C templates M b closes is_plain in
-    let begins : slice_get M.words P.top ≡ Some (record { name = P.top; action = code_action M.start }) = sym (ap (slice_get M.words) closes.top) ∙ is_plain.begins ∙ ap (λ (k : ℕ). Some (record { name = k; action = code_action M.start })) closes.top in
-    let there : top.0 ≡ M.start = ap place_of (sym top.1 ∙ begins) in
-    record { coded = coded P C templates M b closes is_plain; phrase = subst (λ (a : ℕ). Stands P M (template_phrases P) Halt [] a (word_phrase P P.top)) there top.2 }
-
 pub carries :
     (P C : Program) (templates : List Template) (M : Image) (fits : Height → Height → Bool) (callable_height : Callable → Option Height) (count : ℕ) →
-    IsBuilt P → Closes P C templates → IsPlain C templates M → Carries P fits callable_height count M
-carries P C templates M fits callable_height count b closes is_plain =
+    IsBuilt P → IsWhole P → MethodLaws P → Closes P C templates → IsPlain C templates M → Carries P fits callable_height count M
+carries P C templates M fits callable_height count b whole laws closes is_plain =
     let made = arrays_made P C templates M b closes is_plain in
+    let named = image_named P C templates M b closes is_plain in
     record {
       same_end = λ stack w many values objects never n.
           let phrase = word_phrase P P.top in
           let T = template_phrases P in
-          let code = plain_code_is_code P M (plain_code P C templates M b closes is_plain) in
+          let code = plain_code_is_code P M (plain_code P C templates M b whole laws closes is_plain) in
           let going = λ (m : ℕ). not_stuck (top_run P fits callable_height (values_view T stack) (world_view T w) m) (never m) in
-          carried (record { program = P; fits = fits; callable_height = callable_height; image = M; texts = T; named = image_named P C templates M closes is_plain }) code.called M.start phrase code.phrase stack w (record { cells = tt; held = tt; values = values; objects = objects }) going n;
+          carried (record { program = P; fits = fits; callable_height = callable_height; image = M; texts = T; named = named }) code.called M.start phrase code.phrase stack w (record { cells = tt; held = tt; values = values; objects = objects }) going n;
       same_first = λ input. (made input).same;
       first_whole = λ input. (made input).whole;
+      same_names = named;
     }

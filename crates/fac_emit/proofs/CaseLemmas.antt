@@ -4,7 +4,7 @@ use Rattle.std.specs.Prelude.{slice_get}
 use Rattle.fac_lang.specs.declared.phrase.Place.{Place}
 use Rattle.fac_lang.specs.declared.program.Program.{Program}
 use Rattle.fac_lang.specs.declared.program.Sort.{Sort}
-use Rattle.fac_lang.specs.declared.program.Sort.TheVariants.{Prim as prim_sort, Core as core_sort, Body as body}
+use Rattle.fac_lang.specs.declared.program.Sort.TheVariants.{Prim as prim_sort, Core as core_sort, Body as body, Method as method}
 use Rattle.fac_lang.specs.Phrases.{arr, Phrase, end, then, Item, lit_arr, quot, word, Value, fun, of_phrase}
 use Rattle.fac_lang.specs.World.{World, State, pile, push, push_each}
 use Rattle.fac_lang.specs.Printed.{Names}
@@ -12,18 +12,21 @@ use Rattle.fac_lang.specs.PrimitiveWords.{outputs_of}
 use Rattle.fac_lang.specs.Procedures.{Gives, gives, bad, Fn, fn0, fn1, fn2, fn3}
 use Rattle.fac_lang.specs.Primitives.{Primitive, prim_numbered, prim_fn, seen_no}
 use Rattle.fac_lang.specs.Eval.{Result, Stuck, then_do, Act, wrong, goes, runs, Run, run_callable, go_on}
-use Rattle.fac_lang.specs.Meaning.{meaning_values, names, sort_of, Core, core_numbered, c_call as w_call, c_dip as w_dip, c_if as w_if, does, given, prim_act, core_act, sort_act, pushes_array, act}
+use Rattle.fac_lang.specs.Meaning.{meaning_values, names, sort_of, sort_phrase, word_phrase, Core, core_numbered, c_call as w_call, c_dip as w_dip, c_if as w_if, does, given, prim_act, core_act, sort_act, pushes_array, act}
 use Rattle.fac_lang.proofs.Laws.{Within, within_call}
 use Rattle.fac_code.specs.declared.image.Instr.{Instr}
-use Rattle.fac_code.specs.declared.image.Instr.TheVariants.{Array, Quot, Prim as prim_instr, Call, Dip, If, Ret}
+use Rattle.fac_code.specs.declared.image.Instr.TheVariants.{Array, Quot, Prim as prim_instr, Callw, Call, Dip, If, Ret}
 use Rattle.fac_code.specs.declared.image.Image.{Image}
 use Rattle.fac_code.specs.declared.image.TemplateRow.{TemplateRow}
-use Rattle.fac_code.specs.WordNames.{image_names}
+use Rattle.fac_code.specs.declared.image.WordRow.{WordRow}
+use Rattle.fac_code.specs.ImageNames.{image_names}
+use Rattle.fac_code.specs.declared.image.Action.TheVariants as action
 use Rattle.fac_code.specs.declared.names.TrapWhy.TheVariants.{Kind as t_kind, Frame as t_frame}
-use Rattle.fac_store.specs.MachineValues.{MValue, m_plain, m_fun, MCallable, m_lit, m_cur, m_com, kept_list, m_seen, machine_values, with_names, cells_at}
-use Rattle.fac_vm.specs.Machine.{Machine, Entry, resume, put_back, enter, spent, Step, goes_on, ends, after, given as machine_given, does as machine_does, word_of_prim, or_trap, branch, entering, fetched, step}
+use Rattle.fac_store.specs.MachineValues.{MValue, m_plain, m_fun, MCallable, m_lit, m_cur, m_com, kept_list, m_seen, machine_values, cells_at}
+use Rattle.fac_vm.specs.Machine.{Machine, Entry, resume, put_back, enter, spent, Step, goes_on, ends, after, given as machine_given, does as machine_does, word_with, or_trap, code_of, branch, entering, fetched, step}
 use Rattle.fac_vm.proofs.Leading.{leads_none, ends_step}
 use Rattle.fac_emit.specs.MachineView.{Templates, value_view, callable_view, values_view, world_view, state_view, gives_view}
+use Rattle.fac_emit.specs.Stands.{RunsPhrase, HasCode}
 use Rattle.fac_emit.specs.WholeValues as whole
 use Rattle.fac_emit.specs.Symbols.{Sym, here, off, k_phrase, Task, do_phrase, Needs, heres, AllHere, ins, outs, count}
 use Rattle.fac_emit.proofs.RunLaws.{free, spares, Stays, stays_phrase, stays_call, live_first, live_rest}
@@ -53,7 +56,7 @@ module _ (Y : Setting) where
   run = free A
 
   abbrev stepping : Machine → ℕ → Step
-  stepping = step M (names P)
+  stepping = step M
 
   abbrev V : World MValue → World Value
   V = world_view T
@@ -72,7 +75,7 @@ module _ (Y : Setting) where
 
   pub g_last : (f : ℕ) (F : List MValue) (last : Instr) (S : List Sym) (pc : ℕ) → AllHere S → slice_get M.code pc ≡ Some last → Go Y f F (Some last) zero S [] pc
   g_last f F last S pc a e R base ms rs vs L w n le ok lv l keeps_none =
-      record { pc = pc; frame = F; stack = ms; world = w; same = ap (λ xs. state xs (V w)) (all_here T S ms vs a l); fine = record { cells = tt; held = tt; values = ok.values; objects = ok.objects }; there = e; leads = leads_none M (names P) _ n }
+      record { pc = pc; frame = F; stack = ms; world = w; same = ap (λ xs. state xs (V w)) (all_here T S ms vs a l); fine = record { cells = tt; held = tt; values = ok.values; objects = ok.objects }; there = e; leads = leads_none M _ n }
 
   pub g_trim : (f : ℕ) (F : List MValue) (last : Option Instr) (d : ℕ) (S H : List Sym) (K : List Task) (pc : ℕ) → AllHere H → Go Y f F last d S K pc → Go Y f F last d (S ++ H) K pc
   g_trim f F last d S H K pc a go R base ms rs vs L w n le ok lv l k = go R base ms rs vs L w n le ok lv (trim T S H a ms vs l) k
@@ -106,8 +109,8 @@ module _ (Y : Setting) where
 
   -- an instruction that pushes a value
   pub g_push : (f : ℕ) (F : List MValue) (last : Option Instr) (i : Item) (p : Place) (t : Phrase) (S : List Sym) (K : List Task) (pc : ℕ) (x : Instr) (m : MValue) → Whole m → slice_get M.code pc ≡ Some x →
-      ((s : Machine) → fetched M (names P) (Some x) s zero ≡ ends (spent s)) →
-      ((ms rs : List MValue) (R : List Entry) (w : World MValue) (n : ℕ) → fetched M (names P) (Some x) (at F pc ms rs R w) (suc n) ≡ goes_on (at F (pc + 1) (m ∷ ms) rs R w) n) →
+      ((s : Machine) → fetched M (Some x) s zero ≡ ends (spent s)) →
+      ((ms rs : List MValue) (R : List Entry) (w : World MValue) (n : ℕ) → fetched M (Some x) (at F pc ms rs R w) (suc n) ≡ goes_on (at F (pc + 1) (m ∷ ms) rs R w) n) →
       ((st : State Value) → A i st ≡ goes (push (value_view T m) st)) → Go Y f F last zero (here ∷ S) (do_phrase t ∷ K) (pc + 1) → Go Y f F last zero S (do_phrase (then i p t) ∷ K) pc
   g_push f F last i p t S K pc x m hm e none some acts go R base ms rs vs L w zero le ok lv l (keeps_phrase h) = spent_here Y last R base (at F pc ms rs R w) (state vs (V w)) (Some i) x e (none (at F pc ms rs R w)) refl
   g_push f F last i p t S K pc x m hm e none some acts go R base ms rs vs L w (suc n) le ok lv l (keeps_phrase {L = L1} h) =
@@ -118,12 +121,16 @@ module _ (Y : Setting) where
       rw (first_goes Y i p t L1 st st' n (acts st)) (step_before Y last R base s (at F (pc + 1) (m ∷ ms) rs R w) (suc n) n _ (fetch Y s (suc n) x e ∙ some ms rs R w n)
       (go R base (m ∷ ms) rs (value_view T m ∷ vs) (l_phrase t ∷ L1) w n (omega (arith, le)) ok1 (live_goes Y i p t L1 st st' (acts st) lv) (lies_more r_here l) (keeps_phrase h)))
 
+  -- no run comes to an item that nothing can do
+  pub g_stuck : (f : ℕ) (F : List MValue) (last : Option Instr) (i : Item) (p : Place) (t : Phrase) (S : List Sym) (K : List Task) (pc : ℕ) → ((st : State Value) → A i st ≡ wrong) → Go Y f F last zero S (do_phrase (then i p t) ∷ K) pc
+  g_stuck f F last i p t S K pc acts R base ms rs vs L w n le ok lv l (keeps_phrase {L = L1} h) = wrong_here Y i p t L1 (state vs (V w)) (acts (state vs (V w))) lv
+
   -- a literal array, whose address is the world's
   array_is : (a : ℕ) (st : State Value) (o : Option ℕ) → slice_get st.world.literals a ≡ o → A (lit_arr a) st ≡ pushes_array P Y.fits Y.callable_height o st
   array_is a st o e = ap (λ (o : Option ℕ). pushes_array P Y.fits Y.callable_height o st) e
 
   array_goes : (F : List MValue) (pc a : ℕ) (o : Option ℕ) (ms rs : List MValue) (R : List Entry) (w : World MValue) (n : ℕ) → slice_get w.literals a ≡ o →
-      fetched M (names P) (Some (Array a)) (at F pc ms rs R w) (suc n) ≡ or_trap o t_kind (at F pc ms rs R w) n (λ k. goes_on (at F (pc + 1) (m_plain (arr k) ∷ ms) rs R w) n)
+      fetched M (Some (Array a)) (at F pc ms rs R w) (suc n) ≡ or_trap o t_kind (at F pc ms rs R w) n (λ k. goes_on (at F (pc + 1) (m_plain (arr k) ∷ ms) rs R w) n)
   array_goes F pc a o ms rs R w n e = ap (λ (o : Option ℕ). or_trap o t_kind (at F pc ms rs R w) n (λ k. goes_on (at F (pc + 1) (m_plain (arr k) ∷ ms) rs R w) n)) e
 
   pub g_array : (f : ℕ) (F : List MValue) (last : Option Instr) (a : ℕ) (p : Place) (t : Phrase) (S : List Sym) (K : List Task) (pc : ℕ) → slice_get M.code pc ≡ Some (Array a) → Go Y f F last zero (here ∷ S) (do_phrase t ∷ K) (pc + 1) →
@@ -144,7 +151,7 @@ module _ (Y : Setting) where
           (go R base (m ∷ ms) rs (value_view T m ∷ vs) (l_phrase t ∷ L1) w n (omega (arith, le)) ok1 (live_goes Y (lit_arr a) p t L1 st st' acts lv) (lies_more r_here l) (keeps_phrase h)))
 
   -- what a primitive gives
-  gave : (f : ℕ) (F : List MValue) (last : Option Instr) (o : Option ℕ) (t : Phrase) (S1 : List Sym) (K : List Task) (pc : ℕ) → Go Y f F last zero (heres (count o) S1) (do_phrase t ∷ K) (pc + 1) →
+  pub gave : (f : ℕ) (F : List MValue) (last : Option Instr) (o : Option ℕ) (t : Phrase) (S1 : List Sym) (K : List Task) (pc : ℕ) → Go Y f F last zero (heres (count o) S1) (do_phrase t ∷ K) (pc + 1) →
       (R : List Entry) (base rs : List MValue) (L : List Left) (n : ℕ) → n ≤ f → Keeps T base K rs L → (all ms : List MValue) (us : List Value) (w0 w : World MValue) (a : ℕ) → AllWhole F → AllWhole rs → AllWhole ms → Lies T S1 ms us →
       (g : Gives MValue) (g' : Gives Value) → g' ≡ gives_view T g → whole.WholeGives M g → IsLong o g → ((m : ℕ) → then_do (go_on run (given a us g') t m) (left Y L) ≢ Stuck) →
       stepping (at F pc all rs R w0) (suc n) ≡ machine_given a (at F pc ms rs R w) n (λ s'. goes_on (after s') n) g → Follows Y last R base (at F pc all rs R w0) (suc n) (then_do (go_on run (given a us g') t n) (left Y L))
@@ -159,7 +166,7 @@ module _ (Y : Setting) where
       rw same (record {
         stood = at F pc all rs R w0;
         ticks = suc n;
-        leads = leads_none M (names P) _ (suc n);
+        leads = leads_none M _ (suc n);
         error = record { name = x; value = v; word = a };
         fallen = at F pc ms rs R w';
         fails = e;
@@ -186,7 +193,7 @@ module _ (Y : Setting) where
   short_wrong a N o mf tf c h vs w lt = absurd h
 
   -- what it does with what is there
-  prim_done : (f : ℕ) (F : List MValue) (last : Option Instr) (i : Item) (p : Place) (t : Phrase) (a N : ℕ) (o : Option ℕ) (S1 : List Sym) (K : List Task) (pc : ℕ) → Go Y f F last zero (heres (count o) S1) (do_phrase t ∷ K) (pc + 1) →
+  pub prim_done : (f : ℕ) (F : List MValue) (last : Option Instr) (i : Item) (p : Place) (t : Phrase) (a N : ℕ) (o : Option ℕ) (S1 : List Sym) (K : List Task) (pc : ℕ) → Go Y f F last zero (heres (count o) S1) (do_phrase t ∷ K) (pc + 1) →
       (R : List Entry) (base rs : List MValue) (L : List Left) (w : World MValue) (n : ℕ) → n ≤ f → Keeps T base K rs L → AllWhole F → AllWhole rs → whole.WholeObjects M w.objects → (mf : Fn MValue) (tf : Fn Value) → IsCounted N o mf →
       Same T mf tf → whole.Keeps M mf → ((st : State Value) → A i st ≡ does a tf st) → ((ms : List MValue) → stepping (at F pc ms rs R w) (suc n) ≡ machine_does a mf (at F pc ms rs R w) n (λ s'. goes_on (after s') n)) →
       (ms : List MValue) (vs : List Value) → AllWhole ms → Live Y (l_phrase (then i p t) ∷ L) (state vs (V w)) → Has T N S1 ms vs → Follows Y last R base (at F pc ms rs R w) (suc n) (left Y (l_phrase (then i p t) ∷ L) (state vs (V w)) (suc n))
@@ -225,7 +232,7 @@ module _ (Y : Setting) where
   prim_done f F last i p t a N o S1 K pc go R base rs L w n le h hf hr hw mf tf c same kp acts steps ms vs hs lv x = absurd same
 
   pub g_prim : (f : ℕ) (F : List MValue) (last : Option Instr) (wd k : ℕ) (q : Primitive) (p : Place) (t : Phrase) (S S1 : List Sym) (K : List Task) (pc : ℕ) → sort_of P wd ≡ Some (prim_sort k) → prim_numbered k ≡ Some q →
-      word_of_prim k 0 M.words ≡ wd → Needs (ins q) S S1 → slice_get M.code pc ≡ Some (prim_instr k) → Go Y f F last zero (heres (outs q) S1) (do_phrase t ∷ K) (pc + 1) → Go Y f F last zero S (do_phrase (then (word wd) p t) ∷ K) pc
+      word_with (action.Prim k) 0 M.words ≡ wd → Needs (ins q) S S1 → slice_get M.code pc ≡ Some (prim_instr k) → Go Y f F last zero (heres (outs q) S1) (do_phrase t ∷ K) (pc + 1) → Go Y f F last zero S (do_phrase (then (word wd) p t) ∷ K) pc
   g_prim f F last wd k q p t S S1 K pc es en ew needs e go R base ms rs vs L w zero le ok lv l (keeps_phrase h) = spent_here Y last R base (at F pc ms rs R w) (state vs (V w)) (Some (word wd)) (prim_instr k) e refl refl
   g_prim f F last wd k q p t S S1 K pc es en ew needs e go R base ms rs vs L w (suc n) le ok lv l (keeps_phrase {L = L1} h) =
       prim_done f F last (word wd) p t wd (ins q) (outputs_of q.word) S1 K pc go R base rs L1 w n (omega (arith, le)) h ok.cells ok.held ok.objects (prim_fn machine_values (names P) q) (prim_fn meaning_values (names P) q) (prim_counted (names P) q)
@@ -237,9 +244,8 @@ module _ (Y : Setting) where
       steps : (ms : List MValue) → stepping (at F pc ms rs R w) (suc n) ≡ machine_does wd (prim_fn machine_values (names P) q) (at F pc ms rs R w) n (λ s'. goes_on (after s') n)
       steps ms =
           let s = at F pc ms rs R w in
-          let N = with_names (image_names M) (names P) in
-          let one = ap (λ (v : ℕ). or_trap (prim_numbered k) t_kind s n (λ q. machine_does v (prim_fn machine_values N q) s n (λ s'. goes_on (after s') n))) ew in
-          let two = ap (λ (o : Option Primitive). or_trap o t_kind s n (λ q. machine_does wd (prim_fn machine_values N q) s n (λ s'. goes_on (after s') n))) en in
+          let one = ap (λ (v : ℕ). or_trap (prim_numbered k) t_kind s n (λ q. machine_does v (prim_fn machine_values (image_names M) q) s n (λ s'. goes_on (after s') n))) ew in
+          let two = ap (λ (o : Option Primitive). or_trap o t_kind s n (λ q. machine_does wd (prim_fn machine_values (image_names M) q) s n (λ s'. goes_on (after s') n))) en in
           let three = ap (λ (N : Names). machine_does wd (prim_fn machine_values N q) s n (λ s'. goes_on (after s') n)) Y.named in
           fetch Y s (suc n) (prim_instr k) e ∙ one ∙ two ∙ three
 
@@ -274,36 +280,55 @@ module _ (Y : Setting) where
       stepping (at G pc2 ms2 rs (put_back x ∷ resume (pc + 1) F ∷ R) w2) m ≡ goes_on (at F (pc + 1) (x ∷ ms2) rs R w2) m
   ret_put x F pc R rs G pc2 ms2 w2 m e = fetch Y (at G pc2 ms2 rs (put_back x ∷ resume (pc + 1) F ∷ R) w2) m Ret e
 
-  -- a word whose code is called at a place under a frame, and its rest behind the instruction
-  pub g_called : (f : ℕ) (F : List MValue) (last : Option Instr) (x : Instr) (wd : ℕ) (b : Phrase) (p : Place) (t : Phrase) (G : List MValue) (a : ℕ) (S : List Sym) (K : List Task) (pc : ℕ) → sort_of P wd ≡ Some (body b) → AllWhole G →
-      slice_get M.code pc ≡ Some x → ((s : Machine) → fetched M (names P) (Some x) s zero ≡ ends (spent s)) →
-      ((ms rs : List MValue) (R : List Entry) (w : World MValue) (n : ℕ) → fetched M (names P) (Some x) (at F pc ms rs R w) (suc n) ≡ goes_on (at G a ms rs (resume (pc + 1) F ∷ R) w) n) → CallsTo Y (Some Ret) f G a S b →
-      Go Y f F last zero [] (do_phrase t ∷ K) (pc + 1) → Go Y f F last zero S (do_phrase (then (word wd) p t) ∷ K) pc
-  g_called f F last x wd b p t G a S K pc es hg e none some calls go R base ms rs vs L w zero le ok lv l (keeps_phrase h) = spent_here Y last R base (at F pc ms rs R w) (state vs (V w)) (Some (word wd)) x e (none (at F pc ms rs R w)) refl
-  g_called f F last x wd b p t G a S K pc es hg e none some calls go R base ms rs vs L w (suc n) le ok lv l (keeps_phrase {L = L1} h) =
+  -- a phrase whose code is called at a place under a frame, and the rest behind the instruction
+  pub called_at : (f : ℕ) (F : List MValue) (last : Option Instr) (x : Instr) (i : Item) (b : Phrase) (p : Place) (t : Phrase) (G : List MValue) (a : ℕ) (S : List Sym) (K : List Task) (pc : ℕ) → AllWhole G → slice_get M.code pc ≡ Some x →
+      CallsTo Y (Some Ret) f G a S b → Go Y f F last zero [] (do_phrase t ∷ K) (pc + 1) → (R : List Entry) (base ms rs : List MValue) (vs : List Value) (L : List Left) (w : World MValue) (n : ℕ) → suc n ≤ f → Fine F rs ms w →
+      Live Y (l_phrase (then i p t) ∷ L) (state vs (V w)) → Lies T S ms vs → Keeps T base K rs L → A i (state vs (V w)) ≡ runs (of_phrase b) (state vs (V w)) [] → fetched M (Some x) (at F pc ms rs R w) (suc n) ≡ goes_on (at G a ms rs (resume (pc + 1) F ∷ R) w) n →
+      Follows Y last R base (at F pc ms rs R w) (suc n) (left Y (l_phrase (then i p t) ∷ L) (state vs (V w)) (suc n))
+  called_at f F last x i b p t G a S K pc hg e calls go R base ms rs vs L w n le ok lv l h acts steps =
       let s = at F pc ms rs R w in
       let st = state vs (V w) in
       let entry = resume (pc + 1) F in
-      let acts : A (word wd) st ≡ runs (of_phrase b) st [] = ap (λ (o : Option Sort). sort_act P wd o st) es in
-      let live = live_runs Y (word wd) p t L1 st st (of_phrase b) [] acts lv in
+      let live = live_runs Y i p t L st st (of_phrase b) [] acts lv in
       let ok1 : Fine G rs ms w = record { cells = hg; held = ok.held; values = ok.values; objects = ok.objects } in
-      let first = step_before Y (Some Ret) (entry ∷ R) rs s (at G a ms rs (entry ∷ R) w) (suc n) n (run b st n) (fetch Y s (suc n) x e ∙ some ms rs R w n)
-      (calls (entry ∷ R) rs ms vs w n (omega (arith, le)) ok1 (live_first (run b st) (left Y (l_phrase t ∷ L1)) live) l) in
-      subst (λ (r : Result). Follows Y last R base s (suc n) r) (sym (first_runs Y (word wd) p t L1 st st (of_phrase b) [] n acts))
-      (behind f F last t K pc go R (entry ∷ []) (tt, tt) base rs L1 h ok.cells ok.held [] tt (ret_resume F pc R rs) (run b st) (stays_phrase A b st) s (suc n) n (omega (arith, le)) (spares A n b st n (omega arith)) live first)
+      let first = step_before Y (Some Ret) (entry ∷ R) rs s (at G a ms rs (entry ∷ R) w) (suc n) n (run b st n) (fetch Y s (suc n) x e ∙ steps)
+      (calls (entry ∷ R) rs ms vs w n (omega (arith, le)) ok1 (live_first (run b st) (left Y (l_phrase t ∷ L)) live) l) in
+      subst (λ (r : Result). Follows Y last R base s (suc n) r) (sym (first_runs Y i p t L st st (of_phrase b) [] n acts))
+      (behind f F last t K pc go R (entry ∷ []) (tt, tt) base rs L h ok.cells ok.held [] tt (ret_resume F pc R rs) (run b st) (stays_phrase A b st) s (suc n) n (omega (arith, le)) (spares A n b st n (omega arith)) live first)
+
+  -- what the item of a word does that runs a phrase
+  phrase_runs : (wd : ℕ) (o : Option Sort) (st : State Value) → RunsPhrase o → sort_act P wd o st ≡ runs (of_phrase (sort_phrase P wd o)) st []
+  phrase_runs wd (Some (body b)) st h = refl
+  phrase_runs wd (Some (method c g b)) st h = refl
+  phrase_runs wd (Some _) st h = absurd h
+  phrase_runs wd None st h = absurd h
+
+  word_goes : (wd a : ℕ) (r : WordRow) (F : List MValue) (pc : ℕ) → slice_get M.words wd ≡ Some r → r.action ≡ action.Code a → (ms rs : List MValue) (R : List Entry) (w : World MValue) (n : ℕ) →
+      fetched M (Some (Callw wd false)) (at F pc ms rs R w) (suc n) ≡ goes_on (at [] a ms rs (resume (pc + 1) F ∷ R) w) n
+  word_goes wd a r F pc er ea ms rs R w n =
+      let s = at F pc ms rs (resume (pc + 1) F ∷ R) w in
+      let one = ap (λ o. or_trap o t_kind s n (λ r. or_trap (code_of r.action) t_kind s n (λ d. goes_on (at [] d ms rs (resume (pc + 1) F ∷ R) w) n))) er in
+      let two = ap (λ c. or_trap (code_of c) t_kind s n (λ d. goes_on (at [] d ms rs (resume (pc + 1) F ∷ R) w) n)) ea in
+      one ∙ two
+
+  pub g_word : (f : ℕ) (F : List MValue) (last : Option Instr) (wd a : ℕ) (p : Place) (t : Phrase) (S : List Sym) (K : List Task) (pc : ℕ) → HasCode P M wd a → slice_get M.code pc ≡ Some (Callw wd false) → CallsTo Y (Some Ret) f [] a S (word_phrase P wd) →
+      Go Y f F last zero [] (do_phrase t ∷ K) (pc + 1) → Go Y f F last zero S (do_phrase (then (word wd) p t) ∷ K) pc
+  g_word f F last wd a p t S K pc hc e calls go R base ms rs vs L w zero le ok lv l (keeps_phrase h) = spent_here Y last R base (at F pc ms rs R w) (state vs (V w)) (Some (word wd)) (Callw wd false) e refl refl
+  g_word f F last wd a p t S K pc hc e calls go R base ms rs vs L w (suc n) le ok lv l (keeps_phrase {L = L1} h) =
+      called_at f F last (Callw wd false) (word wd) (word_phrase P wd) p t [] a S K pc tt e calls go R base ms rs vs L1 w n le ok lv l h (phrase_runs wd (sort_of P wd) (state vs (V w)) hc.runs) (word_goes wd a hc.row F pc hc.there hc.does ms rs R w n)
 
   -- A callable that a step enters. What `compose` made leaves an entry for its second part, which is entered at the `ret` of the first.
   enters : (f : ℕ) → Templated Y f → (c : MCallable) → WholeCallable c → (F : List MValue) (pc : ℕ) (R : List Entry) (base ms : List MValue) (w : World MValue) (n : ℕ) → n < f → Fine [] base ms w →
-      ((m : ℕ) → run_callable run (callable_view T c) (state_view T ms w) m ≢ Stuck) → (s : Machine) (k : ℕ) → stepping s k ≡ entering M (names P) c (at F pc ms base R w) n →
+      ((m : ℕ) → run_callable run (callable_view T c) (state_view T ms w) m ≢ Stuck) → (s : Machine) (k : ℕ) → stepping s k ≡ entering M c (at F pc ms base R w) n →
       Follows Y (Some Ret) R base s k (run_callable run (callable_view T c) (state_view T ms w) n)
   enters f tpl (m_lit q vs) h F pc R base ms w n lt ok lv s k e =
       let go = ap (λ o. or_trap o t_kind (at F pc ms base R w) n (λ u. goes_on (at (kept_list vs) u.entry ms base R w) n)) h.1 in
       let ok1 : Fine (kept_list vs) base ms w = record { cells = kept_whole M vs h.3; held = ok.held; values = ok.values; objects = ok.objects } in
       step_before Y (Some Ret) R base s (at (kept_list vs) h.0.entry ms base R w) k n _ (e ∙ go) (tpl q h.0 vs h.1 h.2 h.3 R base ms (values_view T ms) w n lt ok1 lv lies_none)
-  enters f tpl (m_cur v c) h F pc R base ms w zero lt ok lv s k e = (at F pc ms base R w, ends_step M (names P) s k _ e, refl)
+  enters f tpl (m_cur v c) h F pc R base ms w zero lt ok lv s k e = (at F pc ms base R w, ends_step M s k _ e, refl)
   enters f tpl (m_cur v c) h F pc R base ms w (suc n) lt ok lv s k e =
       enters f tpl c h.1 F pc R base (v ∷ ms) w n (omega (arith, lt)) (record { cells = tt; held = ok.held; values = (h.0, ok.values); objects = ok.objects }) (λ m. lv (suc m)) s k e
-  enters f tpl (m_com c d) h F pc R base ms w zero lt ok lv s k e = (at F pc ms base R w, ends_step M (names P) s k _ e, refl)
+  enters f tpl (m_com c d) h F pc R base ms w zero lt ok lv s k e = (at F pc ms base R w, ends_step M s k _ e, refl)
   enters f tpl (m_com c d) h F pc R base ms w (suc n) lt ok lv s k e =
       let st = state_view T ms w in
       let X = run_callable run (callable_view T c) st in
@@ -318,7 +343,7 @@ module _ (Y : Setting) where
   -- an instruction that enters a callable of the machine, and the rest behind it
   pub g_entered : (f : ℕ) (F : List MValue) → Templated Y f → (last : Option Instr) (i : Item) (p : Place) (t : Phrase) (K : List Task) (pc : ℕ) → Go Y f F last zero [] (do_phrase t ∷ K) (pc + 1) → (R own : List Entry) → HasNoGuard own →
       (base all ms rs : List MValue) (vs : List Value) (L : List Left) (w : World MValue) (n : ℕ) → suc n ≤ f → AllWhole F → Fine [] rs ms w → Keeps T base K rs L → (c : MCallable) → WholeCallable c → (put : List MValue) → AllWhole put →
-      A i (state vs (V w)) ≡ runs (callable_view T c) (state_view T ms w) (values_view T put) → stepping (at F pc all rs R w) (suc n) ≡ entering M (names P) c (at F pc ms rs (own ++ R) w) n →
+      A i (state vs (V w)) ≡ runs (callable_view T c) (state_view T ms w) (values_view T put) → stepping (at F pc all rs R w) (suc n) ≡ entering M c (at F pc ms rs (own ++ R) w) n →
       ((G : List MValue) (pc2 : ℕ) (ms2 : List MValue) (w2 : World MValue) (m : ℕ) → slice_get M.code pc2 ≡ Some Ret → stepping (at G pc2 ms2 rs (own ++ R) w2) m ≡ goes_on (at F (pc + 1) (pile put ms2) rs R w2) m) →
       Live Y (l_phrase (then i p t) ∷ L) (state vs (V w)) → Follows Y last R base (at F pc all rs R w) (suc n) (left Y (l_phrase (then i p t) ∷ L) (state vs (V w)) (suc n))
   g_entered f F tpl last i p t K pc go R own none base all ms rs vs L w n le hf ok h c hc put hp acts e back_step lv =
@@ -333,7 +358,7 @@ module _ (Y : Setting) where
       (behind f F last t K pc go R own none base rs L h hf ok.held put hp back_step (run_callable run v st') (stays_call A v st') s (suc n) n (omega (arith, le)) (within_call run (spares A) n v st' n (omega arith)) live first)
 
   -- `call`, `dip` and `if` of values
-  core_is : (wd k : ℕ) (c : Core) (st : State Value) → sort_of P wd ≡ Some (core_sort k) → core_numbered k ≡ Some c → A (word wd) st ≡ core_act P (Some c) st
+  pub core_is : (wd k : ℕ) (c : Core) (st : State Value) → sort_of P wd ≡ Some (core_sort k) → core_numbered k ≡ Some c → A (word wd) st ≡ core_act P (Some c) st
   core_is wd k c st es en = ap (λ (o : Option Sort). sort_act P wd o st) es ∙ ap (λ (o : Option Core). core_act P o st) en
 
   pub g_call : (f : ℕ) (F : List MValue) → Templated Y f → (last : Option Instr) (wd k : ℕ) (p : Place) (t : Phrase) (S : List Sym) (K : List Task) (pc : ℕ) → sort_of P wd ≡ Some (core_sort k) → core_numbered k ≡ Some w_call → AllHere S →

@@ -1,31 +1,38 @@
 -- The code of a word and of a template, as it is made, is what they emit.
-use Rattle.std.proofs.Common.{◌≡◌, ◌<◌, ℕ, zero, suc, List, [], ◌∷◌, ◌++◌, length, Bool, true, Some, None, refl, ap, sym, subst, ◌∙◌, arith, Result, Ok, Err, IfOk}
-use Rattle.std.proofs.lemmas.Bool.{ltb-true}
+use Rattle.std.proofs.Common.{◌≡◌, ◌<◌, ℕ, zero, suc, List, [], ◌∷◌, ◌++◌, length, Bool, true, false, Option, Some, None, refl, ap, sym, subst, ◌∙◌, arith, Result, Ok, Err, IfOk, true≢false}
 use Rattle.std.specs.Prelude.{nat_eq, slice_get}
 use Rattle.fac_lang.specs.declared.memory.Memory.{Memory}
 use Rattle.fac_lang.specs.declared.phrase.Template.{Template}
 use Rattle.fac_lang.specs.declared.program.Program.{Program}
 use Rattle.fac_lang.specs.declared.program.WordDef.{WordDef}
 use Rattle.fac_lang.specs.declared.program.Sort.{Sort}
-use Rattle.fac_lang.specs.declared.program.Sort.TheVariants.{Prim as prim_sort, Core as core_sort, Body as body, Itself as itself, Past as past, Method as method}
-use Rattle.fac_lang.specs.Phrases.{Literal, Phrase, word}
+use Rattle.fac_lang.specs.declared.program.Sort.TheVariants.{Prim as prim_sort, Core as core_sort, Body as body, Itself as itself, Class as class, Isa as isa, Getter as getter, Setter as setter, Putter as putter, Generic as generic, Past as past, Method as method}
+use Rattle.fac_lang.specs.Phrases.{Literal, Phrase, word, next_method, next_after}
 use Rattle.fac_lang.specs.Forms.{IsBuilt, IsBuiltSort}
 use Rattle.fac_lang.specs.CoreWords.{is_built_core}
-use Rattle.fac_lang.specs.Meaning.{sort_of, core_numbered}
+use Rattle.fac_lang.specs.Meaning.{sort_of, sort_act, sort_phrase, generic_of, core_numbered}
 use Rattle.fac_lang.proofs.FormsLemmas.{word_below, sort_at}
 use Rattle.fac_locals.specs.Literals.{first_of_word, first_of_literal, literal_numbered}
 use Rattle.fac_locals.specs.Closed.{Closes, ClosesSort}
-use Rattle.fac_locals.proofs.LiteralArrays.{HasBuiltPhrase, HaveBuiltPhrases, built_phrases}
-use Rattle.fac_locals.proofs.Places.{literal_built}
 use Rattle.fac_locals.proofs.Lookups.{word_closed, word_open, template_closed}
 use Rattle.fac_code.specs.declared.image.Instr.{Instr}
-use Rattle.fac_code.specs.declared.image.Instr.TheVariants.{Ret}
+use Rattle.fac_code.specs.declared.image.Instr.TheVariants.{Ret, Next}
+use Rattle.fac_emit.specs.Accessors.{getting, setting, putting}
+use Rattle.fac_emit.specs.ProgramTables.{slot_number, generic_number, method_number}
 use Rattle.fac_emit.specs.ProgramCode.{core_instr, sort_instr, word_instr, item_instr, phrase_code, phrase_texts, last_instr, sort_code, sort_texts, word_code}
+use Rattle.fac_emit.specs.Stands.{RunsPhrase}
 use Rattle.fac_emit.specs.inner.FoundCode.{IsCodeOf, found_code, found_texts, found_template, found_template_texts}
 use Rattle.fac_emit.specs.declared.emitter.Piece.{Piece}
-use Rattle.fac_emit.specs.Emits.{ItemEmits, e_int, e_true, e_false, e_text, e_array, e_reference, e_symbol, e_quot, e_prim, e_word, e_call, e_dip, e_if, PhraseEmits, e_end, e_item, Emits, e_phrase, e_no_phrase, TemplateEmits}
-use Rattle.fac_emit.proofs.Closings.{Closing, c_end, c_int, c_true, c_false, c_text, c_array, c_ref, c_word, c_quot, closing}
+use Rattle.fac_emit.specs.Emits.{ItemEmits, e_int, e_true, e_false, e_text, e_array, e_reference, e_symbol, e_quot, e_prim, e_accessor, e_isa, e_word, e_generic, e_next, e_call, e_dip, e_if, e_boa, e_stuck, PhraseEmits, e_end, e_item, Emits, e_phrase, e_no_phrase, TemplateEmits}
+use Rattle.fac_emit.proofs.Closings.{Closing, c_end, c_int, c_true, c_false, c_text, c_array, c_ref, c_word, c_quot, c_outside, c_next, closing}
+use Rattle.fac_emit.proofs.NextMethods.{is_method}
+use Rattle.fac_emit.proofs.PlacedWords.{element_at, ran}
+use Rattle.fac_emit.proofs.RunningPhrases.{IsMethod, RunsAs, word_runs, literal_runs}
+use Rattle.fac_emit.proofs.TableNumbers.{slot_same, generic_same, generic_of_same, method_same}
 use Rattle.fac_emit.proofs.TextLists.{Begins, begins_same, text_there}
+
+never_true : {A : Type 0} → false ≡ true → A
+never_true h = absurd (true≢false (sym h))
 
 module _ (P C : Program) (templates : List Template) (b : IsBuilt P) (closes : Closes P C templates) where
   -- the instruction of a word
@@ -34,25 +41,42 @@ module _ (P C : Program) (templates : List Template) (b : IsBuilt P) (closes : C
   core_emits pool at w zero h e = e_call w 0 e refl
   core_emits pool at w (suc zero) h e = e_dip w 1 e refl
   core_emits pool at w (suc (suc zero)) h e = e_if w 2 e refl
-  core_emits pool at w (suc (suc (suc k))) h e = absurd (let lt : suc (suc (suc k)) < 3 = ltb-true (suc (suc (suc k))) 3 h in omega (arith, lt))
+  core_emits pool at w (suc (suc (suc zero))) h e = never_true h
+  core_emits pool at w (suc (suc (suc (suc zero)))) h e = e_boa w 4 e refl
+  core_emits pool at w (suc (suc (suc (suc (suc k))))) h e = e_stuck (λ fits callable_height st. ap (λ (o : Option Sort). sort_act P w o st) e)
 
-  instr_is : (n w : ℕ) (c : WordDef) (s : Sort) → slice_get C.words w ≡ Some c → c.sort ≡ s → item_instr C.words n (word w) ≡ sort_instr w s
-  instr_is n w c s at is = ap (word_instr w) at ∙ ap (sort_instr w) is
+  instr_is : (n w : ℕ) (c : WordDef) (s : Sort) → slice_get C.words w ≡ Some c → c.sort ≡ s → item_instr C n (word w) ≡ sort_instr C w s
+  instr_is n w c s at is = ap (word_instr C w) at ∙ ap (sort_instr C w) is
 
-  sort_emits : (pool : List (List ℕ)) (at : Literal) (n w : ℕ) (d c : WordDef) (s : Sort) → slice_get P.words w ≡ Some d → slice_get C.words w ≡ Some c → d.sort ≡ s → ClosesSort P w s c.sort → IsBuiltSort P.top d s → ItemEmits P pool at (word w) (item_instr C.words n (word w))
+  sort_emits : (pool : List (List ℕ)) (at : Literal) (n w : ℕ) (d c : WordDef) (s : Sort) → slice_get P.words w ≡ Some d → slice_get C.words w ≡ Some c → d.sort ≡ s → ClosesSort P w s c.sort → IsBuiltSort P.top d s → ItemEmits P pool at (word w) (item_instr C n (word w))
   sort_emits pool at n w d c (prim_sort k) there closed is h built = rw (instr_is n w c (prim_sort k) closed h) (e_prim w k (sort_at P w d there ∙ ap Some is) built.is_built)
   sort_emits pool at n w d c (core_sort k) there closed is h built = rw (instr_is n w c (core_sort k) closed h) (core_emits pool at w k built.is_built (sort_at P w d there ∙ ap Some is))
-  sort_emits pool at n w d c (body t) there closed is h built = rw (instr_is n w c (body h.0) closed h.1) (e_word w t (sort_at P w d there ∙ ap Some is))
-  sort_emits pool at n w d c itself there closed is h built = rw (instr_is n w c itself closed h) (e_symbol w (sort_at P w d there ∙ ap Some is))
+  sort_emits pool at n w d c (body t) there closed is h built = rw (instr_is n w c (body h.0) closed h.1) (e_word w (rw (sort_at P w d there ∙ ap Some is) tt))
+  sort_emits pool at n w d c (method k g t) there closed is h built = rw (instr_is n w c (method k g h.0) closed h.1) (e_word w (rw (sort_at P w d there ∙ ap Some is) tt))
+  sort_emits pool at n w d c itself there closed is h built = rw (instr_is n w c itself closed h) (e_symbol w (rw (sort_at P w d there ∙ ap Some is) tt))
+  sort_emits pool at n w d c (class k) there closed is h built = rw (instr_is n w c (class k) closed h) (e_symbol w (rw (sort_at P w d there ∙ ap Some is) tt))
+  sort_emits pool at n w d c (isa k) there closed is h built = rw (instr_is n w c (isa k) closed h) (e_isa w k (sort_at P w d there ∙ ap Some is))
+  sort_emits pool at n w d c (getter s) there closed is h built = rw (instr_is n w c (getter s) closed h, slot_same P C templates closes s) (e_accessor getting w s (sort_at P w d there ∙ ap Some is))
+  sort_emits pool at n w d c (setter s) there closed is h built = rw (instr_is n w c (setter s) closed h, slot_same P C templates closes s) (e_accessor setting w s (sort_at P w d there ∙ ap Some is))
+  sort_emits pool at n w d c (putter s) there closed is h built = rw (instr_is n w c (putter s) closed h, slot_same P C templates closes s) (e_accessor putting w s (sort_at P w d there ∙ ap Some is))
+  sort_emits pool at n w d c generic there closed is h built = rw (instr_is n w c generic closed h, generic_same P C templates closes w) (e_generic w (sort_at P w d there ∙ ap Some is))
   sort_emits pool at n w d c _ there closed is h built = absurd built
 
-  word_emits : (pool : List (List ℕ)) (at : Literal) (n w : ℕ) → w < P.top → ItemEmits P pool at (word w) (item_instr C.words n (word w))
+  word_emits : (pool : List (List ℕ)) (at : Literal) (n w : ℕ) → w < P.top → ItemEmits P pool at (word w) (item_instr C n (word w))
   word_emits pool at n w lt =
       let found = word_below P b w lt in
       let closed = word_closed P C templates closes w found.def found.at in
       sort_emits pool at n w found.def closed.closed found.def.sort found.at closed.at refl closed.closes.sort found.built
 
-  phrase_emits : (pool : List (List ℕ)) (last : Instr) (at : Literal) (texts : List (List ℕ)) (t c : Phrase) → Closing P at t c → Begins (phrase_texts texts c) pool → PhraseEmits P pool last at t (phrase_code C.words last texts c)
+  -- that of a next method
+  next_emits : (pool : List (List ℕ)) (at : Literal) (n m : ℕ) → IsMethod (sort_of P m) → ItemEmits P pool at (next_after m) (item_instr C n (next_after m))
+  next_emits pool at n m is =
+      let found = is_method (sort_of P m) is in
+      let of : generic_of C (sort_of C m) ≡ found.1 = generic_of_same P C templates closes m ∙ ap (generic_of P) found.3 in
+      let number : generic_number C (generic_of C (sort_of C m)) ≡ generic_number P found.1 = ap (generic_number C) of ∙ generic_same P C templates closes found.1 in
+      rw (number, method_same P C templates closes m) (e_next m found.0 found.1 found.2 found.3)
+
+  phrase_emits : (pool : List (List ℕ)) (last : Instr) (at : Literal) (texts : List (List ℕ)) (t c : Phrase) → Closing P at t c → Begins (phrase_texts texts c) pool → PhraseEmits P pool last at t (phrase_code C last texts c)
   phrase_emits pool last at texts t c c_end b = e_end
   phrase_emits pool last at texts t c (c_int z h) b = e_item (e_int z) (phrase_emits pool last _ texts _ _ h b)
   phrase_emits pool last at texts t c (c_true h) b = e_item e_true (phrase_emits pool last _ texts _ _ h b)
@@ -62,40 +86,37 @@ module _ (P C : Program) (templates : List Template) (b : IsBuilt P) (closes : C
   phrase_emits pool last at texts t c (c_ref w lt h) b = e_item (e_reference w) (phrase_emits pool last _ texts _ _ h b)
   phrase_emits pool last at texts t c (c_word w lt h) b = e_item (word_emits pool at (length texts) w lt) (phrase_emits pool last _ texts _ _ h b)
   phrase_emits pool last at texts t c (c_quot u q is h) b = e_item (e_quot u q is) (phrase_emits pool last _ texts _ _ h b)
+  phrase_emits pool last at texts t c (c_outside h) b = e_item (e_stuck (λ fits callable_height st. refl)) (phrase_emits pool last _ texts _ _ h b)
+  phrase_emits pool last at texts t c (c_next m is h) b = e_item (next_emits pool at (length texts) m is) (phrase_emits pool last _ texts _ _ h b)
 
   -- a phrase by itself, with its own texts
-  alone : (last : Instr) (at : Literal) (t c : Phrase) → Closing P at t c → PhraseEmits P (phrase_texts [] c) last at t (phrase_code C.words last [] c)
+  alone : (last : Instr) (at : Literal) (t c : Phrase) → Closing P at t c → PhraseEmits P (phrase_texts [] c) last at t (phrase_code C last [] c)
   alone last at t c h = phrase_emits (phrase_texts [] c) last at [] t c h (begins_same (phrase_texts [] c))
 
-  pub built_at : (ds : List WordDef) (w : ℕ) (d : WordDef) → HaveBuiltPhrases P.top ds → slice_get ds w ≡ Some d → HasBuiltPhrase P.top d.sort
-  built_at [] w d h e = absurd (cc)
-  built_at (x ∷ ds) zero d h e = let same : x ≡ d = cc in subst (λ (y : WordDef). HasBuiltPhrase P.top y.sort) same h.0
-  built_at (x ∷ ds) (suc w) d h e = built_at ds w d h.1 e
+  runs_emitted : (w : ℕ) (s c : Sort) (is_top : Bool) → is_top ≡ nat_eq w P.top → RunsPhrase (Some s) → ClosesSort P w s c → RunsAs P w s → Emits P (sort_texts [] c) w (Some s) (sort_code C is_top [] c)
+  runs_emitted w s c is_top which runs h built =
+      let own = ran P C w s c runs h built in
+      rw (own.code_is is_top [], own.texts_are [])
+      (e_phrase runs (subst (λ (q : Bool). PhraseEmits P (phrase_texts [] own.phrase) (last_instr q) (first_of_word w) (sort_phrase P w (Some s)) (phrase_code C (last_instr is_top) [] own.phrase)) which (alone (last_instr is_top) (first_of_word w) (sort_phrase P w (Some s)) own.phrase own.closes)))
 
-  sort_emitted : (w : ℕ) (s c : Sort) (is_top : Bool) → is_top ≡ nat_eq w P.top → ClosesSort P w s c → HasBuiltPhrase P.top s → Emits P (sort_texts [] c) w (Some s) (sort_code C.words is_top [] c)
-  sort_emitted w (body t) c is_top which h built =
-      rw h.1 (e_phrase (subst (λ (q : Bool). PhraseEmits P (phrase_texts [] h.0) (last_instr q) (first_of_word w) t (phrase_code C.words (last_instr is_top) [] h.0)) which (alone (last_instr is_top) (first_of_word w) t h.0 (closing P (first_of_word w) t h.0 h.2 built))))
+  sort_emitted : (w : ℕ) (s c : Sort) (is_top : Bool) → is_top ≡ nat_eq w P.top → ClosesSort P w s c → RunsAs P w s → Emits P (sort_texts [] c) w (Some s) (sort_code C is_top [] c)
+  sort_emitted w (body t) c is_top which h built = runs_emitted w (body t) c is_top which tt h built
   sort_emitted w (past t) c is_top which h built = absurd built
-  sort_emitted w (method n g t) c is_top which h built = absurd built
+  sort_emitted w (method n g t) c is_top which h built = runs_emitted w (method n g t) c is_top which tt h built
   sort_emitted w s c is_top which h built = rw h (e_no_phrase tt)
 
   -- the code of a word that is there
-  word_emitted_at : (w : ℕ) (c : WordDef) → slice_get C.words w ≡ Some c → Emits P (sort_texts [] c.sort) w (sort_of P w) (word_code C.words C.top [] w c)
+  word_emitted_at : (w : ℕ) (c : WordDef) → slice_get C.words w ≡ Some c → Emits P (sort_texts [] c.sort) w (sort_of P w) (word_code C [] w c)
   word_emitted_at w c at =
       let found = word_open P C templates closes w c at in
-      rw (sort_at P w found.def found.at) (sort_emitted w found.def.sort c.sort (nat_eq w C.top) (ap (nat_eq w) closes.top) found.closes.sort (built_at P.words w found.def (built_phrases P b) found.at))
+      rw (sort_at P w found.def found.at) (sort_emitted w found.def.sort c.sort (nat_eq w C.top) (ap (nat_eq w) closes.top) found.closes.sort (word_runs P b w found.def found.at))
 
   -- and of a template
-  template_emitted_at : (q : ℕ) (t : Template) → slice_get templates q ≡ Some t → TemplateEmits P (phrase_texts [] t.body) q (phrase_code C.words Ret [] t.body)
+  template_emitted_at : (q : ℕ) (t : Template) → slice_get templates q ≡ Some t → TemplateEmits P (phrase_texts [] t.body) q (phrase_code C Ret [] t.body)
   template_emitted_at q t at =
       let l = literal_numbered P q in
       let closed = template_closed P C templates closes q t at in
-      alone Ret (first_of_literal l.0) l.1 t.body (closing P (first_of_literal l.0) l.1 t.body closed.body (literal_built P b q))
-
-element_at : {A : Type 0} (xs : List A) (k : ℕ) → k < length xs → (x : A) × (slice_get xs k ≡ Some x)
-element_at [] k lt = absurd (omega (arith, lt))
-element_at (x ∷ xs) zero lt = (x, refl)
-element_at (x ∷ xs) (suc k) lt = element_at xs k (omega (arith, lt))
+      alone Ret (first_of_literal l.0) l.1 t.body (closing P (first_of_literal l.0) l.1 t.body closed.body (literal_runs P b q))
 
 -- a number below the length names an element
 pub is_there : {A : Type 0} (xs : List A) (k : ℕ) → k < length xs → slice_get xs k ≡ None → ⊥
@@ -113,5 +134,5 @@ pub template_emitted :
     IfOk r (λ piece. (P : Program) → Closes P C templates → IsBuilt P → TemplateEmits P piece.texts q piece.code)
 template_emitted C templates q (Ok piece) lt is =
     λ P closes b. let found = element_at templates q lt in
-    subst (λ (c : List Instr). TemplateEmits P piece.texts q c) (sym (is.0 ∙ ap (found_template C) found.1)) (subst (λ (texts : List (List ℕ)). TemplateEmits P texts q (phrase_code C.words Ret [] found.0.body)) (sym (is.1 ∙ ap found_template_texts found.1)) (template_emitted_at P C templates b closes q found.0 found.1))
+    subst (λ (c : List Instr). TemplateEmits P piece.texts q c) (sym (is.0 ∙ ap (found_template C) found.1)) (subst (λ (texts : List (List ℕ)). TemplateEmits P texts q (phrase_code C Ret [] found.0.body)) (sym (is.1 ∙ ap found_template_texts found.1)) (template_emitted_at P C templates b closes q found.0 found.1))
 template_emitted C templates q (Err e) lt is = tt

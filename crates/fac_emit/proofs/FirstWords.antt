@@ -1,63 +1,178 @@
--- The first word with a primitive is the only one.
-use Rattle.std.proofs.Common.{◌≡◌, ℕ, zero, suc, ◌+◌, List, [], ◌∷◌, Bool, true, false, not, ◌&&◌, Some, length, refl, ap, ◌∙◌, arith}
+-- The first word with an action is the only one: no two words are the same primitive, or the same accessor of one slot.
+use Rattle.std.proofs.Common.{◌≡◌, ◌<◌, ℕ, zero, suc, ◌+◌, List, [], ◌∷◌, length, Bool, true, false, not, ◌&&◌, ◌||◌, Option, Some, refl, ap, sym, subst, ◌∙◌, arith, true≢false}
+use Rattle.std.proofs.lemmas.Slice.Eq.{bytes_eq-Decides}
 use Rattle.std.specs.Prelude.{nat_eq, slice_get}
+use Rattle.std.specs.List.{list_any}
+use Rattle.std.specs.Str.{bytes_eq}
+use Rattle.fac_lang.specs.declared.program.Program.{Program}
 use Rattle.fac_lang.specs.declared.program.WordDef.{WordDef}
 use Rattle.fac_lang.specs.declared.program.Sort.{Sort}
-use Rattle.fac_lang.specs.declared.program.Sort.TheVariants.{Prim as prim}
-use Rattle.fac_lang.specs.Forms.{is_member, primitive_numbers, numbers_before, has_no_repeats}
-use Rattle.fac_vm.specs.Machine.{word_of_prim, is_prim_action}
-use Rattle.fac_emit.specs.ProgramCode.{sort_action, sort_texts, word_code, words_from}
+use Rattle.fac_lang.specs.declared.program.Sort.TheVariants.{Prim as prim, Getter as getter, Setter as setter, Putter as putter}
+use Rattle.fac_lang.specs.Whole.{no_two, same_word}
+use Rattle.fac_code.specs.declared.image.Action.{Action}
+use Rattle.fac_code.specs.declared.image.Action.TheVariants as action
+use Rattle.fac_code.specs.declared.image.WordRow.{WordRow}
+use Rattle.fac_vm.specs.Machine.{word_with, same_action}
+use Rattle.fac_emit.specs.Accessors.{Accessor, getting, setting, putting, accessor_sort, accessor_action}
+use Rattle.fac_emit.specs.ProgramTables.{slot_names, slot_number, table_texts, accessed}
+use Rattle.fac_emit.specs.ProgramCode.{sort_action}
+use Rattle.fac_emit.proofs.TableLemmas.{IsAmong, AreAmong, accessor_named, slot_text}
 
-more_members : (s : Sort) (k : ℕ) (ks : List ℕ) → is_member k ks ≡ true → is_member k (numbers_before s ks) ≡ true
-more_members (prim j) k ks h = rw h (grind arith)
-more_members _ k ks h = h
-
-own_member : (s : Sort) (k : ℕ) (ks : List ℕ) → s ≡ prim k → is_member k (numbers_before s ks) ≡ true
-own_member s k ks e = rw e (grind arith)
-
--- a word's primitive is among those of the words
-member_of : (ds : List WordDef) (w k : ℕ) (d : WordDef) → slice_get ds w ≡ Some d → d.sort ≡ prim k → is_member k (primitive_numbers ds) ≡ true
-member_of [] w k d at is = absurd (cc)
-member_of (x ∷ ds) zero k d at is = let same : x ≡ d = cc in own_member x.sort k (primitive_numbers ds) (ap (λ (d : WordDef). d.sort) same ∙ is)
-member_of (x ∷ ds) (suc w) k d at is = more_members x.sort k (primitive_numbers ds) (member_of ds w k d at is)
-
-rest_distinct : (s : Sort) (ks : List ℕ) → has_no_repeats (numbers_before s ks) ≡ true → has_no_repeats ks ≡ true
-rest_distinct (prim j) ks h = grind arith
-rest_distinct _ ks h = h
-
-not_both : (b c : Bool) → b ≡ true → (not b && c) ≡ true → ⊥
-not_both true c e h = cc
-not_both false c e h = cc
-
-clash : (k j : ℕ) (ks : List ℕ) → k ≡ j → is_member k ks ≡ true → (not (is_member j ks) && has_no_repeats ks) ≡ true → ⊥
-clash k j ks e m h = not_both (is_member j ks) (has_no_repeats ks) (rw e at m) h
-
--- a word before it has another primitive, or none
-other_action : (at : ℕ) (s : Sort) (k : ℕ) (ks : List ℕ) → has_no_repeats (numbers_before s ks) ≡ true → is_member k ks ≡ true → is_prim_action k (sort_action at s) ≡ false
-other_action at (prim j) k ks h m = differs (nat_eq k j) refl
-  where
-    differs : (b : Bool) → nat_eq k j ≡ b → nat_eq k j ≡ false
-    differs true e = absurd (let same : k ≡ j = grind arith in clash k j ks same m h)
-    differs false e = e
-other_action at _ k ks h m = refl
-
-own_action : (at : ℕ) (s : Sort) (k : ℕ) → s ≡ prim k → is_prim_action k (sort_action at s) ≡ true
-own_action at s k e = rw e (grind arith)
+never_true : {A : Type 0} → false ≡ true → A
+never_true h = absurd (true≢false (sym h))
 
 chosen : (b : Bool) (x y z : ℕ) → b ≡ true → x ≡ z → elim b [ true ↦ x | false ↦ y ] ≡ z
 chosen true x y z e same = same
-chosen false x y z e same = absurd (cc)
+chosen false x y z e same = never_true e
 
 passed : (b : Bool) (x y z : ℕ) → b ≡ false → y ≡ z → elim b [ true ↦ x | false ↦ y ] ≡ z
-passed true x y z e same = absurd (cc)
+passed true x y z e same = never_true (sym e)
 passed false x y z e same = same
 
--- the rows stand for the words from number v on
-pub first_with : (words : List WordDef) (top : ℕ) (texts : List (List ℕ)) (at v : ℕ) (ds : List WordDef) (w j k : ℕ) (d : WordDef) → slice_get ds w ≡ Some d → d.sort ≡ prim k → has_no_repeats (primitive_numbers ds) ≡ true → word_of_prim k j (words_from words top texts at v ds) ≡ j + w
-first_with words top texts at v [] w j k d there is distinct = absurd (cc)
-first_with words top texts at v (x ∷ ds) zero j k d there is distinct =
-    let same : x ≡ d = cc in chosen (is_prim_action k (sort_action at x.sort)) j _ (j + zero) (own_action at x.sort k (ap (λ (d : WordDef). d.sort) same ∙ is)) (omega arith)
-first_with words top texts at v (x ∷ ds) (suc w) j k d there is distinct =
-    let numbers = primitive_numbers ds in
-    let later = first_with words top (sort_texts texts x.sort) (at + length (word_code words top texts v x)) (suc v) ds w (suc j) k d there is (rest_distinct x.sort numbers distinct) in
-    passed (is_prim_action k (sort_action at x.sort)) j _ (j + suc w) (other_action at x.sort k numbers distinct (member_of ds w k d there is)) (omega (arith, later))
+-- a row that does an action, and before it none that does
+pub first_row : (a : Action) (rows : List WordRow) (k w : ℕ) (r : WordRow) → slice_get rows w ≡ Some r → same_action a r.action ≡ true → ((j : ℕ) → j < w → (x : WordRow) × (slice_get rows j ≡ Some x) × (same_action a x.action ≡ false)) → word_with a k rows ≡ k + w
+first_row a [] k w r there own earlier = absurd (cc)
+first_row a (x ∷ rows) k zero r there own earlier =
+    let same : x ≡ r = cc in
+    let here : k ≡ k + zero = omega arith in
+    chosen (same_action a x.action) k (word_with a (suc k) rows) (k + zero) (ap (λ (y : WordRow). same_action a y.action) same ∙ own) here
+first_row a (x ∷ rows) k (suc w) r there own earlier =
+    let first = earlier 0 (omega arith) in
+    let same : x ≡ first.0 = let e = first.1 in cc in
+    let later = first_row a rows (suc k) w r there own (λ j lt. earlier (suc j) (omega (arith, lt))) in
+    let number : suc k + w ≡ k + suc w = omega arith in
+    passed (same_action a x.action) k (word_with a (suc k) rows) (k + suc w) (ap (λ (y : WordRow). same_action a y.action) same ∙ first.2) (later ∙ number)
+
+-- of two elements of a list without two that are alike, the first isn't like the second
+pub any_there : {A : Type 0} (test : A → Bool) (xs : List A) (k : ℕ) (x : A) → slice_get xs k ≡ Some x → test x ≡ true → list_any test xs ≡ true
+any_there test [] k x e h = absurd (cc)
+any_there test (y ∷ xs) zero x e h = let same : y ≡ x = cc in first (test y) (list_any test xs) (ap test same ∙ h)
+  where
+    first : (a b : Bool) → a ≡ true → (a || b) ≡ true
+    first true b h = refl
+    first false b h = never_true h
+any_there test (y ∷ xs) (suc k) x e h = last (test y) (list_any test xs) (any_there test xs k x e h)
+  where
+    last : (a b : Bool) → b ≡ true → (a || b) ≡ true
+    last true b h = refl
+    last false b h = h
+
+not_alike : (b : Bool) → (b ≡ true → ⊥) → b ≡ false
+not_alike true h = absurd (h refl)
+not_alike false h = refl
+
+both_hold : (a b : Bool) → (not a && b) ≡ true → (a ≡ true → ⊥) × (b ≡ true)
+both_hold true b h = never_true h
+both_hold false b h = (λ e. never_true e, h)
+
+pub differ : {A : Type 0} (alike : A → A → Bool) (xs : List A) (j w : ℕ) (x y : A) → no_two alike xs ≡ true → j < w → slice_get xs j ≡ Some x → slice_get xs w ≡ Some y → alike x y ≡ false
+differ alike [] j w x y h lt e f = absurd (cc)
+differ alike (z ∷ xs) zero zero x y h lt e f = absurd (omega (arith, lt))
+differ alike (z ∷ xs) (suc j) zero x y h lt e f = absurd (omega (arith, lt))
+differ alike (z ∷ xs) zero (suc w) x y h lt e f =
+    let same : z ≡ x = cc in
+    let parts = both_hold (list_any (alike z) xs) (no_two alike xs) h in
+    subst (λ (u : _). alike u y ≡ false) same (not_alike (alike z y) (λ is. parts.0 (any_there (alike z) xs w y f is)))
+differ alike (z ∷ xs) (suc j) (suc w) x y h lt e f = differ alike xs j w x y (both_hold (list_any (alike z) xs) (no_two alike xs) h).1 (omega (arith, lt)) e f
+
+-- whether two words are the same primitive or accessor, by their sorts
+abbrev same_sort : Sort → Sort → Bool
+same_sort s t =
+    elim s [
+      | prim j ↦ elim t [ prim k ↦ nat_eq j k | _ ↦ false ]
+      | getter x ↦ elim t [ getter u ↦ bytes_eq x u | _ ↦ false ]
+      | setter x ↦ elim t [ setter u ↦ bytes_eq x u | _ ↦ false ]
+      | putter x ↦ elim t [ putter u ↦ bytes_eq x u | _ ↦ false ]
+      | _ ↦ false
+    ]
+
+other_number : (j k : ℕ) → nat_eq j k ≡ false → nat_eq k j ≡ false
+other_number j k h = not_alike (nat_eq k j) (λ e. let same : k ≡ j = grind arith in never_true (sym h ∙ (rw same (itself j))))
+  where
+    itself : (j : ℕ) → nat_eq j j ≡ true
+    itself j = grind arith
+
+module _ (P : Program) where
+  prim_other : (C : Program) (v at k : ℕ) (s : Sort) → same_sort s (prim k) ≡ false → same_action (action.Prim k) (sort_action C v at s) ≡ false
+  prim_other C v at k (prim j) h = other_number j k h
+  prim_other C v at k _ h = refl
+
+  -- slots with one number have one name
+  same_slot : (s u : List ℕ) → IsAmong (slot_names P) s → IsAmong (slot_names P) u → slot_number P s ≡ slot_number P u → u ≡ s
+  same_slot s u hs hu e =
+      let one = slot_text P s hs in
+      let two : slice_get (table_texts P) (slot_number P s) ≡ Some u = ap (slice_get (table_texts P)) e ∙ slot_text P u hu in
+      cc
+
+  slot_other : (C : Program) → ((s : List ℕ) → slot_number C s ≡ slot_number P s) → (s u : List ℕ) → IsAmong (slot_names P) s → IsAmong (slot_names P) u → bytes_eq u s ≡ false → nat_eq (slot_number C s) (slot_number C u) ≡ false
+  slot_other C numbers s u hs hu h =
+      not_alike (nat_eq (slot_number C s) (slot_number C u)) (λ e.
+      let same : slot_number C s ≡ slot_number C u = grind arith in
+      let names = same_slot s u hs hu (sym (numbers s) ∙ same ∙ numbers u) in
+      let is : bytes_eq u s ≡ true = (bytes_eq-Decides u s).1 names in
+      never_true (sym h ∙ is))
+
+  -- where each slot of an accessor is named
+  abbrev Named : Sort → Type 0
+  Named (getter u) = IsAmong (slot_names P) u
+  Named (setter u) = IsAmong (slot_names P) u
+  Named (putter u) = IsAmong (slot_names P) u
+  Named _ = Unit {0}
+
+  named_by : (s : Sort) → AreAmong (slot_names P) (accessed s) → Named s
+  named_by (getter u) h = h.0
+  named_by (setter u) h = h.0
+  named_by (putter u) h = h.0
+  named_by _ h = tt
+
+  accessor_other :
+      (C : Program) → ((s : List ℕ) → slot_number C s ≡ slot_number P s) → (x : Accessor) (u : List ℕ) (v at : ℕ) (s : Sort) → IsAmong (slot_names P) u → Named s → same_sort s (accessor_sort x u) ≡ false →
+      same_action (accessor_action x (slot_number C u)) (sort_action C v at s) ≡ false
+  accessor_other C numbers getting u v at (getter y) hu hy h = slot_other C numbers u y hu hy h
+  accessor_other C numbers getting u v at _ hu hy h = refl
+  accessor_other C numbers setting u v at (setter y) hu hy h = slot_other C numbers u y hu hy h
+  accessor_other C numbers setting u v at _ hu hy h = refl
+  accessor_other C numbers putting u v at (putter y) hu hy h = slot_other C numbers u y hu hy h
+  accessor_other C numbers putting u v at _ hu hy h = refl
+
+  itself : (k : ℕ) → nat_eq k k ≡ true
+  itself k = grind arith
+
+  accessor_own : (C : Program) (x : Accessor) (u : List ℕ) (v at : ℕ) → same_action (accessor_action x (slot_number C u)) (sort_action C v at (accessor_sort x u)) ≡ true
+  accessor_own C getting u v at = itself (slot_number C u)
+  accessor_own C setting u v at = itself (slot_number C u)
+  accessor_own C putting u v at = itself (slot_number C u)
+
+  accessor_slot : (x : Accessor) (u : List ℕ) → AreAmong (slot_names P) (accessed (accessor_sort x u)) → IsAmong (slot_names P) u
+  accessor_slot getting u h = h.0
+  accessor_slot setting u h = h.0
+  accessor_slot putting u h = h.0
+
+  -- the rows of the words of an image, each of which does what its word's sort says
+  abbrev pub DoAsSorts : Program → List WordRow → Type 0
+  DoAsSorts C rows = (w : ℕ) (d : WordDef) → slice_get P.words w ≡ Some d → (r : WordRow) × (at : ℕ) × (slice_get rows w ≡ Some r) × (r.action ≡ sort_action C w at d.sort)
+
+  module _ (C : Program) (rows : List WordRow) (distinct : no_two same_word P.words ≡ true) (does : DoAsSorts C rows) (present : (j w : ℕ) (d : WordDef) → j < w → slice_get P.words w ≡ Some d → (x : WordDef) × (slice_get P.words j ≡ Some x)) where
+    pub first_prim : (w k : ℕ) (d : WordDef) → slice_get P.words w ≡ Some d → d.sort ≡ prim k → word_with (action.Prim k) 0 rows ≡ w
+    first_prim w k d at is =
+        let row = does w d at in
+        let own : same_action (action.Prim k) row.0.action ≡ true = ap (same_action (action.Prim k)) row.3 ∙ ap (λ (s : Sort). same_action (action.Prim k) (sort_action C w row.1 s)) is ∙ itself k in
+        let n : 0 + w ≡ w = omega arith in
+        first_row (action.Prim k) rows 0 w row.0 row.2 own (λ j lt.
+        let x = present j w d lt at in
+        let before = does j x.0 x.1 in
+        let other : same_sort x.0.sort (prim k) ≡ false = ap (same_sort x.0.sort) (sym is) ∙ differ same_word P.words j w x.0 d distinct lt x.1 at in
+        (before.0, before.2, ap (same_action (action.Prim k)) before.3 ∙ prim_other C j before.1 k x.0.sort other)) ∙ n
+
+    pub first_accessor : ((s : List ℕ) → slot_number C s ≡ slot_number P s) → (x : Accessor) (u : List ℕ) (w : ℕ) (d : WordDef) → slice_get P.words w ≡ Some d → d.sort ≡ accessor_sort x u → word_with (accessor_action x (slot_number C u)) 0 rows ≡ w
+    first_accessor numbers x u w d at is =
+        let row = does w d at in
+        let a = accessor_action x (slot_number C u) in
+        let own : same_action a row.0.action ≡ true = ap (same_action a) row.3 ∙ ap (λ (s : Sort). same_action a (sort_action C w row.1 s)) is ∙ accessor_own C x u w row.1 in
+        let named = accessor_slot x u (subst (λ (s : Sort). AreAmong (slot_names P) (accessed s)) is (accessor_named P w d at)) in
+        let n : 0 + w ≡ w = omega arith in
+        first_row a rows 0 w row.0 row.2 own (λ j lt.
+        let y = present j w d lt at in
+        let before = does j y.0 y.1 in
+        let other : same_sort y.0.sort (accessor_sort x u) ≡ false = ap (same_sort y.0.sort) (sym is) ∙ differ same_word P.words j w y.0 d distinct lt y.1 at in
+        (before.0, before.2, ap (same_action a) before.3 ∙ accessor_other C numbers x u j before.1 y.0.sort named (named_by y.0.sort (accessor_named P j y.0 y.1)) other)) ∙ n

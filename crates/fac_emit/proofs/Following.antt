@@ -17,8 +17,8 @@ use Rattle.fac_code.specs.declared.image.Instr.{Instr}
 use Rattle.fac_code.specs.declared.image.Instr.TheVariants.{Ret}
 use Rattle.fac_code.specs.declared.image.Image.{Image}
 use Rattle.fac_code.specs.declared.image.TemplateRow.{TemplateRow}
-use Rattle.fac_code.specs.WordNames.{image_names}
-use Rattle.fac_store.specs.MachineValues.{MValue, Kept, kept_list, with_names}
+use Rattle.fac_code.specs.ImageNames.{image_names}
+use Rattle.fac_store.specs.MachineValues.{MValue, Kept, kept_list}
 use Rattle.fac_vm.specs.Machine.{Machine, Leads, Entry, resume, put_back, enter, failed, spent, Step, goes_on, ends, fetched, step, Ends}
 use Rattle.fac_vm.proofs.Leading.{leads_on, leads_step, ends_after, ends_step}
 use Rattle.fac_emit.specs.MachineView.{Templates, world_view, state_view, error_view}
@@ -34,8 +34,8 @@ pub record Setting : Type 0 where
   pub callable_height : Callable → Option Height
   pub image : Image
   pub texts : Templates
-  -- the image's words have the names of the program's
-  pub named : with_names (image_names image) (names program) ≡ names program
+  -- the image says of words and kinds what the program says
+  pub named : image_names image ≡ names program
 
 -- d ticks are owed: with fewer than these the meaning is spent already, in the same world
 abbrev pub owing : World Value → ℕ → ℕ → (ℕ → Result) → Result
@@ -81,7 +81,7 @@ module _ (Y : Setting) where
   run = free A
 
   abbrev stepping : Machine → ℕ → Step
-  stepping = step M (names P)
+  stepping = step M
 
   abbrev V : World MValue → World Value
   V = world_view T
@@ -114,7 +114,7 @@ module _ (Y : Setting) where
     pub same : state_view T stack world ≡ st
     pub fine : Fine [] [] stack world
     pub there : slice_get M.code pc ≡ Some last
-    pub leads : Leads M (names P) s n (at frame pc stack base R world) m
+    pub leads : Leads M s n (at frame pc stack base R world) m
 
   abbrev ArrivesIf : Option Instr → List Entry → List MValue → Machine → ℕ → State Value → ℕ → Type 0
   ArrivesIf None R base s n st m = ⊥
@@ -124,7 +124,7 @@ module _ (Y : Setting) where
   pub record Fails (R : List Entry) (s : Machine) (n : ℕ) (e : Error Value) (w : World Value) (m : ℕ) : Type 0 where
     pub stood : Machine
     pub ticks : ℕ
-    pub leads : Leads M (names P) s n stood ticks
+    pub leads : Leads M s n stood ticks
     pub error : Error MValue
     pub fallen : Machine
     pub fails : stepping stood ticks ≡ ends (failed error fallen m)
@@ -138,17 +138,17 @@ module _ (Y : Setting) where
   abbrev pub Follows : Option Instr → List Entry → List MValue → Machine → ℕ → Result → Type 0
   Follows last R base s n (Done st m) = ArrivesIf last R base s n st m
   Follows last R base s n (Failed e st m) = Fails R s n e st.world m
-  Follows last R base s n (Spent st i) = (s' : Machine) × Ends M (names P) s n (spent s') × (V s'.world ≡ st.world)
+  Follows last R base s n (Spent st i) = (s' : Machine) × Ends M s n (spent s') × (V s'.world ≡ st.world)
   Follows last R base s n Stuck = Unit {0}
 
   -- a way before
-  pub way_before : (last : Option Instr) (R : List Entry) (base : List MValue) (s s' : Machine) (n n' : ℕ) (r : Result) → Leads M (names P) s n s' n' → Follows last R base s' n' r → Follows last R base s n r
+  pub way_before : (last : Option Instr) (R : List Entry) (base : List MValue) (s s' : Machine) (n n' : ℕ) (r : Result) → Leads M s n s' n' → Follows last R base s' n' r → Follows last R base s n r
   way_before None R base s s' n n' (Done st m) l h = h
-  way_before (Some last) R base s s' n n' (Done st m) l h = record { pc = h.pc; frame = h.frame; stack = h.stack; world = h.world; same = h.same; fine = h.fine; there = h.there; leads = leads_on M (names P) s s' _ n n' m l h.leads }
+  way_before (Some last) R base s s' n n' (Done st m) l h = record { pc = h.pc; frame = h.frame; stack = h.stack; world = h.world; same = h.same; fine = h.fine; there = h.there; leads = leads_on M s s' _ n n' m l h.leads }
   way_before last R base s s' n n' (Failed e st m) l h = record {
     stood = h.stood;
     ticks = h.ticks;
-    leads = leads_on M (names P) s s' h.stood n n' h.ticks l h.leads;
+    leads = leads_on M s s' h.stood n n' h.ticks l h.leads;
     error = h.error;
     fallen = h.fallen;
     fails = h.fails;
@@ -158,19 +158,19 @@ module _ (Y : Setting) where
     same = h.same;
     world = h.world;
   }
-  way_before last R base s s' n n' (Spent st i) l h = (h.0, ends_after M (names P) s s' n n' _ l h.1, h.2)
+  way_before last R base s s' n n' (Spent st i) l h = (h.0, ends_after M s s' n n' _ l h.1, h.2)
   way_before last R base s s' n n' Stuck l h = tt
 
   -- by one step
   pub step_before : (last : Option Instr) (R : List Entry) (base : List MValue) (s s' : Machine) (n n' : ℕ) (r : Result) → stepping s n ≡ goes_on s' n' → Follows last R base s' n' r → Follows last R base s n r
-  step_before last R base s s' n n' r e h = way_before last R base s s' n n' r (leads_step M (names P) s s' n n' e) h
+  step_before last R base s s' n n' r e h = way_before last R base s s' n n' r (leads_step M s s' n n' e) h
 
-  pub fetch : (s : Machine) (n : ℕ) (x : Instr) → slice_get M.code s.pc ≡ Some x → stepping s n ≡ fetched M (names P) (Some x) s n
-  fetch s n x e = ap (λ o. fetched M (names P) o s n) e
+  pub fetch : (s : Machine) (n : ℕ) (x : Instr) → slice_get M.code s.pc ≡ Some x → stepping s n ≡ fetched M (Some x) s n
+  fetch s n x e = ap (λ o. fetched M o s n) e
 
-  pub spent_here : (last : Option Instr) (R : List Entry) (base : List MValue) (s : Machine) (st : State Value) (i : Option Item) (x : Instr) → slice_get M.code s.pc ≡ Some x → fetched M (names P) (Some x) s zero ≡ ends (spent s) →
+  pub spent_here : (last : Option Instr) (R : List Entry) (base : List MValue) (s : Machine) (st : State Value) (i : Option Item) (x : Instr) → slice_get M.code s.pc ≡ Some x → fetched M (Some x) s zero ≡ ends (spent s) →
       V s.world ≡ st.world → Follows last R base s zero (Spent st i)
-  spent_here last R base s st i x e none same = (s, ends_step M (names P) s 0 (spent s) (fetch s 0 x e ∙ none), same)
+  spent_here last R base s st i x e none same = (s, ends_step M s 0 (spent s) (fetch s 0 x e ∙ none), same)
 
   -- what runs after a run that arrived at a `ret`, with more entries
   pub then_follows : (b : ℕ) (last : Option Instr) (R own : List Entry) → HasNoGuard own → (base base' : List MValue) (s : Machine) (n : ℕ) (r : Result) (go : State Value → ℕ → Result) → Within b r → Follows (Some Ret) (own ++ R) base' s n r →

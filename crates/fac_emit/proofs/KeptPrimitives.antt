@@ -39,7 +39,7 @@ module _ (M : Image) where
   repeated_whole zero v h = tt
   repeated_whole (suc n) v h = (h, repeated_whole n v h)
 
-  set_whole : (vs : List MValue) (k : ℕ) (v : MValue) → AllWhole M vs → Whole M v → AllWhole M (set vs k v)
+  pub set_whole : (vs : List MValue) (k : ℕ) (v : MValue) → AllWhole M vs → Whole M v → AllWhole M (set vs k v)
   set_whole [] k v h g = tt
   set_whole (x ∷ vs) zero v h g = (g, h.1)
   set_whole (x ∷ vs) (suc k) v h g = (h.0, set_whole vs k v h.1 g)
@@ -49,7 +49,7 @@ module _ (M : Image) where
   object_added [] o h g = (g, tt)
   object_added (x ∷ os) o h g = (h.0, object_added os o h.1 g)
 
-  object_set : (os : List (Object MValue)) (a : ℕ) (o : Object MValue) → WholeObjects M os → WholeObject M o → WholeObjects M (set os a o)
+  pub object_set : (os : List (Object MValue)) (a : ℕ) (o : Object MValue) → WholeObjects M os → WholeObject M o → WholeObjects M (set os a o)
   object_set [] a o h g = tt
   object_set (x ∷ os) zero o h g = (g, h.1)
   object_set (x ∷ os) (suc a) o h g = (h.0, object_set os a o h.1 g)

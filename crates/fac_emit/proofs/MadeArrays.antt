@@ -22,10 +22,14 @@ use Rattle.fac_emit.specs.WholeValues.{Whole, AllWhole, WholeObjects}
 use Rattle.fac_emit.specs.ProgramCode.{program_texts, elem_of, with_element_text, elems_of, elements_texts, arrays_of, arrays_texts, IsPlain}
 use Rattle.fac_emit.proofs.KeptPrimitives.{object_added}
 use Rattle.fac_emit.proofs.LiteralWords.{is_listed_in_array}
-use Rattle.fac_emit.proofs.Placed.{RowFor, listed_row, texts_begin}
-use Rattle.fac_emit.proofs.ReferenceLemmas.{has_first}
+use Rattle.fac_emit.proofs.Placed.{RowFor, listed_row}
+use Rattle.fac_emit.proofs.PlacedWords.{texts_begin}
 use Rattle.fac_emit.proofs.SamePrimitives.{map_more}
 use Rattle.fac_emit.proofs.TextLists.{Begins, begins_same, begins_on, elements_behind, arrays_behind, element_there}
+
+pub has_first : (xs : List ℕ) (x : ℕ) → (i : ℕ) × (is : List ℕ) × (xs ++ x ∷ [] ≡ i ∷ is)
+has_first [] x = (x, [], refl)
+has_first (y ∷ xs) x = (y, xs ++ x ∷ [], refl)
 
 module _ (P C : Program) (templates : List Template) (M : Image) (b : IsBuilt P) (closes : Closes P C templates) (is_plain : IsPlain C templates M) where
   abbrev T : Templates
@@ -74,7 +78,7 @@ module _ (P C : Program) (templates : List Template) (M : Image) (b : IsBuilt P)
   -- callables in arrays are of the image's templates
   template_whole : (i : ℕ) (is : List ℕ) (at : Literal) (u : Phrase) (q : ℕ) → at.around ≡ i ∷ is → (let l : Quoted = (at, u) in literal_numbered P q ≡ l) → Whole M (m_fun (m_lit q none_kept))
   template_whole i is at u q around e =
-      let row = listed_row P C templates b closes M.code M.texts M.templates is_plain.code (texts_begin P C templates M b closes is_plain) is_plain.template_rows_are q (at, u) (is_listed_in_array P q (at, u) i is around e) in
+      let row = listed_row P C templates closes M.code M.texts M.templates is_plain.code (texts_begin P C templates M b closes is_plain) is_plain.template_rows_are q (at, u) (is_listed_in_array P q (at, u) i is around e) in
       let cells = ap length row.cells in
       (row.row, row.there, omega (arith, cells, row.holes), tt)
 

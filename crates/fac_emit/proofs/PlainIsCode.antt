@@ -10,10 +10,11 @@ use Rattle.fac_code.specs.declared.image.Instr.{Instr}
 use Rattle.fac_code.specs.declared.image.Instr.TheVariants.{Ret}
 use Rattle.fac_code.specs.declared.image.Image.{Image}
 use Rattle.fac_store.specs.MachineValues.{MValue}
+use Rattle.fac_emit.specs.Accessors.{accessor_ins, accessor_outs}
 use Rattle.fac_emit.specs.MachineView.{Templates, template_phrases}
 use Rattle.fac_emit.specs.Symbols.{Sym, here, Task, do_phrase, top_none, Needs, needs_none, needs_more, heres, AllHere, all_none, all_more, ins, outs, Special}
-use Rattle.fac_emit.specs.Expanded.{Code, c_last, c_make, c_trim, c_end, c_off, c_int, c_true, c_false, c_text, c_array, c_reference, c_symbol, c_prim, c_word, c_call, c_dip, c_if, EachCalled, ExpandedCode}
-use Rattle.fac_emit.specs.Stands.{Calling, l_word, l_call, l_if, Translates, t_int, t_true, t_false, t_text, t_array, t_reference, t_symbol, t_quot, t_prim, t_dip, t_calling, Stands, s_end, s_item, Coded, PlainCode}
+use Rattle.fac_emit.specs.Expanded.{Code, c_last, c_make, c_trim, c_end, c_off, c_int, c_true, c_false, c_text, c_array, c_reference, c_symbol, c_prim, c_accessor, c_isa, c_boa, c_stuck, c_word, c_call, c_dip, c_if, c_generic, c_next, EachCalled, ExpandedCode}
+use Rattle.fac_emit.specs.Stands.{Calling, l_word, l_call, l_if, l_generic, l_next, Translates, t_int, t_true, t_false, t_text, t_array, t_reference, t_symbol, t_quot, t_prim, t_accessor, t_isa, t_dip, t_boa, t_stuck, t_calling, Stands, s_end, s_item, Coded, PlainCode}
 
 needs_any : (n : ℕ) → Needs n [] []
 needs_any zero = needs_none
@@ -34,11 +35,13 @@ unfolding prim_numbered built_count
 built_there k h = in_front built_primitives later_primitives k (ltb-true k (length built_primitives) h)
 
 module _ (P : Program) (M : Image) (T : Templates) where
-  calling_code : (Γ : List Special) (last : Option Instr) (F : List MValue) (i : Item) (x : Instr) (p : Place) (t : Phrase) (K : List Task) (pc : ℕ) → slice_get M.code pc ≡ Some x → Calling P M T false i x →
+  calling_code : (Γ : List Special) (last : Option Instr) (F : List MValue) (i : Item) (x : Instr) (p : Place) (t : Phrase) (K : List Task) (pc : ℕ) → slice_get M.code pc ≡ Some x → Calling P M false i x →
       Code P M T Γ last F zero [] (do_phrase t ∷ K) (pc + 1) → Code P M T Γ last F zero [] (do_phrase (then i p t) ∷ K) pc
-  calling_code Γ last F i x p t K pc e (l_word w b lt es) rest = c_word w b lt es all_none e rest
+  calling_code Γ last F i x p t K pc e (l_word w a code) rest = c_word w a code all_none e rest
   calling_code Γ last F i x p t K pc e (l_call w k es en) rest = c_call w k es en all_none e rest
   calling_code Γ last F i x p t K pc e (l_if w k es en) rest = c_if w k es en all_none e rest
+  calling_code Γ last F i x p t K pc e (l_generic w n r es er ew same) rest = c_generic w n r es er ew same all_none e rest
+  calling_code Γ last F i x p t K pc e (l_next m n j r er ew same) rest = c_next m n j r er ew same all_none e rest
 
   -- an item before code that stands for any stack on which nothing is put off
   item_code : (Γ : List Special) (last : Option Instr) (F : List MValue) (i : Item) (x : Instr) (p : Place) (t : Phrase) (K : List Task) (pc : ℕ) → slice_get M.code pc ≡ Some x → Translates P M T F i x →
@@ -54,7 +57,11 @@ module _ (P : Program) (M : Image) (T : Templates) where
   item_code Γ last F i x p t K pc e (t_prim w k es built ew) rest =
       let there = built_there k built in
       c_prim w k there.0 es there.1 ew (needs_any (ins there.0)) e (rest (heres (outs there.0) []) (all_heres (outs there.0) [] all_none))
+  item_code Γ last F i x p t K pc e (t_accessor a w k s es et ew) rest = c_accessor a w k s es et ew (needs_any (accessor_ins a)) e (rest (heres (accessor_outs a) []) (all_heres (accessor_outs a) [] all_none))
+  item_code Γ last F i x p t K pc e (t_isa w c k es same) rest = c_isa w c k es same (needs_any 1) e (rest (here ∷ []) (all_more all_none))
   item_code Γ last F i x p t K pc e (t_dip w k es en) rest = c_dip w k es en all_none e (rest [] all_none)
+  item_code Γ last F i x p t K pc e (t_boa w k es en) rest = c_boa w k es en all_none e (rest (here ∷ []) (all_more all_none))
+  item_code Γ last F i x p t K pc e (t_stuck y stuck) rest = c_stuck stuck
   item_code Γ last F i x p t K pc e (t_calling c) rest = calling_code Γ last F i x p t K pc e c (rest [] all_none)
 
   -- Code that takes a phrase from one place to another, where its last instruction stands: whatever is left to do there, the phrase is left to do before it.
@@ -74,7 +81,7 @@ module _ (P : Program) (M : Image) (T : Templates) where
 
   pub each_called : Coded P M T → EachCalled P M T
   each_called coded = record {
-    bodies = λ w b lt es. let h = coded.bodies w b lt es in (h.0, h.1, h.2, h.3, plain_is_code Ret [] h.1 b h.4);
+    words = λ w a code. plain_is_code Ret [] a _ (coded.words w a code);
     templates = λ q r k e size whole. plain_is_code Ret _ r.entry (T q) (coded.templates q r k e size whole);
   }
 

@@ -21,7 +21,7 @@ module _ {A B : Type 0} (f : A → B) where
   map_more [] ys = refl
   map_more (x ∷ xs) ys = ap (λ (l : List B). f x ∷ l) (map_more xs ys)
 
-  map_set : (xs : List A) (k : ℕ) (y : A) → map f (set xs k y) ≡ set (map f xs) k (f y)
+  pub map_set : (xs : List A) (k : ℕ) (y : A) → map f (set xs k y) ≡ set (map f xs) k (f y)
   map_set [] k y = refl
   map_set (x ∷ xs) zero y = refl
   map_set (x ∷ xs) (suc k) y = ap (λ (l : List B). f x ∷ l) (map_set xs k y)

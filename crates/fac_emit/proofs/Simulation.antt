@@ -1,30 +1,33 @@
 -- The machine follows the meaning, tick for tick.
-use Rattle.std.proofs.Common.{◌≡◌, ◌≢◌, ℕ, zero, suc, ◌+◌, ◌<◌, List, [], ◌∷◌, false, Option, Some, refl, ap, sym, subst, ◌∙◌, arith}
+use Rattle.std.proofs.Common.{◌≡◌, ◌≢◌, ℕ, zero, suc, ◌+◌, ◌<◌, List, [], ◌∷◌, false, Option, Some, None, refl, ap, sym, subst, ◌∙◌, arith}
 use Rattle.std.specs.Prelude.{slice_get}
 use Rattle.fac_lang.specs.declared.program.Program.{Program}
 use Rattle.fac_lang.specs.declared.program.Sort.{Sort}
-use Rattle.fac_lang.specs.Phrases.{int, yes, no, str, wrd, Phrase, Item, lit, word, Value}
-use Rattle.fac_lang.specs.World.{World, State}
-use Rattle.fac_lang.specs.Eval.{Result, Done, Failed, Spent, Stuck, then_do, Act, Run}
-use Rattle.fac_lang.specs.Meaning.{names, sort_act, act}
+use Rattle.fac_lang.specs.declared.program.Sort.TheVariants.{Itself as itself, Class as class}
+use Rattle.fac_lang.specs.Phrases.{int, yes, no, str, wrd, Phrase, Item, lit, word, Value, plain}
+use Rattle.fac_lang.specs.World.{World, State, push}
+use Rattle.fac_lang.specs.Eval.{Result, Done, Failed, Spent, Stuck, then_do, Act, goes, Run}
+use Rattle.fac_lang.specs.Meaning.{word_phrase, sort_of, sort_act, act}
 use Rattle.fac_code.specs.declared.image.Instr.{Instr}
-use Rattle.fac_code.specs.declared.image.Instr.TheVariants.{Halt, Int, True, False, Text, Word, Callw, Ret}
-use Rattle.fac_code.specs.declared.image.Action.TheVariants.{Code as code_action}
+use Rattle.fac_code.specs.declared.image.Instr.TheVariants.{Halt, Int, True, False, Text, Word, Ret}
 use Rattle.fac_code.specs.declared.image.Image.{Image}
 use Rattle.fac_code.specs.declared.image.WordRow.{WordRow}
 use Rattle.fac_code.specs.declared.names.TrapWhy.TheVariants.{Kind as t_kind}
 use Rattle.fac_store.specs.MachineValues.{MValue, m_plain, kept_list}
-use Rattle.fac_vm.specs.Machine.{Machine, Entry, resume, End, done, failed, spent, goes_on, or_trap, code_of, fetched, Ends}
+use Rattle.fac_vm.specs.Machine.{Machine, Entry, End, done, failed, spent, goes_on, or_trap, fetched, Ends}
 use Rattle.fac_vm.proofs.Leading.{ends_after, ends_step}
 use Rattle.fac_emit.specs.MachineView.{Templates, values_view, world_view, state_view}
 use Rattle.fac_emit.specs.Carries.{SameEnd}
 use Rattle.fac_emit.specs.WholeValues as whole
+use Rattle.fac_emit.specs.Accessors.{accessor_outs}
+use Rattle.fac_emit.specs.Stands.{PushesItself, HasCode}
 use Rattle.fac_emit.specs.Symbols.{Sym, here, off, k_phrase, Task, do_phrase, heres, AllHere, outs, Special}
-use Rattle.fac_emit.specs.Expanded.{Code, c_last, c_make, c_trim, c_end, c_off, c_int, c_true, c_false, c_text, c_array, c_reference, c_symbol, c_prim, c_word, c_call, c_dip, c_if, EachCalled}
+use Rattle.fac_emit.specs.Expanded.{Code, c_last, c_make, c_trim, c_end, c_off, c_int, c_true, c_false, c_text, c_array, c_reference, c_symbol, c_prim, c_accessor, c_isa, c_boa, c_stuck, c_word, c_call, c_dip, c_if, c_generic, c_next, EachCalled}
 use Rattle.fac_emit.proofs.RunLaws.{free}
 use Rattle.fac_emit.proofs.SymbolicStacks.{l_phrase, Lies, lies_none, keeps_none, keeps_phrase, all_here}
 use Rattle.fac_emit.proofs.Following.{Setting, state, at, left, Follows, fetch, Live, LivePhrase, Go, CallsTo, Templated, Valid}
-use Rattle.fac_emit.proofs.CaseLemmas.{g_array, g_call, g_called, g_dip, g_end, g_if, g_last, g_make, g_off, g_prim, g_push, g_trim}
+use Rattle.fac_emit.proofs.CaseLemmas.{g_array, g_call, g_dip, g_end, g_if, g_last, g_make, g_off, g_prim, g_push, g_stuck, g_trim, g_word}
+use Rattle.fac_emit.proofs.ClassCases.{g_accessor, g_boa, g_generic, g_isa, g_next}
 
 module _ (Y : Setting) where
   -- short names of what a setting has, as in Following: names under a module's argument aren't handed on without it
@@ -75,19 +78,22 @@ module _ (Y : Setting) where
   on_all : (S : List Sym) (F : List MValue) (a : ℕ) (b : Phrase) (f : ℕ) → AllHere S → CallsTo Y (Some Ret) f F a [] b → CallsTo Y (Some Ret) f F a S b
   on_all S F a b f h calls R base ms vs w n lt ok lv l = calls R base ms vs w n lt ok lv (subst (λ (us : List Value). Lies T [] ms us) (all_here T S ms vs h l) lies_none)
 
-  word_goes : (wd a : ℕ) (r : WordRow) (F : List MValue) (pc : ℕ) → slice_get M.words wd ≡ Some r → r.action ≡ code_action a → (ms rs : List MValue) (R : List Entry) (w : World MValue) (n : ℕ) →
-      fetched M (names P) (Some (Callw wd false)) (at F pc ms rs R w) (suc n) ≡ goes_on (at [] a ms rs (resume (pc + 1) F ∷ R) w) n
-  word_goes wd a r F pc er ea ms rs R w n =
-      let s = at F pc ms rs (resume (pc + 1) F ∷ R) w in
-      let one = ap (λ o. or_trap o t_kind s n (λ r. or_trap (code_of r.action) t_kind s n (λ d. goes_on (at [] d ms rs (resume (pc + 1) F ∷ R) w) n))) er in
-      let two = ap (λ c. or_trap (code_of c) t_kind s n (λ d. goes_on (at [] d ms rs (resume (pc + 1) F ∷ R) w) n)) ea in
-      one ∙ two
-
-  text_goes : (F : List MValue) (pc k : ℕ) (cs : List ℕ) → slice_get M.texts k ≡ Some cs → (ms rs : List MValue) (R : List Entry) (w : World MValue) (n : ℕ) → fetched M (names P) (Some (Text k)) (at F pc ms rs R w) (suc n) ≡ goes_on (at F (pc + 1) (m_plain (str cs) ∷ ms) rs R w) n
+  text_goes : (F : List MValue) (pc k : ℕ) (cs : List ℕ) → slice_get M.texts k ≡ Some cs → (ms rs : List MValue) (R : List Entry) (w : World MValue) (n : ℕ) → fetched M (Some (Text k)) (at F pc ms rs R w) (suc n) ≡ goes_on (at F (pc + 1) (m_plain (str cs) ∷ ms) rs R w) n
   text_goes F pc k cs ek ms rs R w n = ap (λ (o : Option (List ℕ)). or_trap o t_kind (at F pc ms rs R w) n (λ us. goes_on (at F (pc + 1) (m_plain (str us) ∷ ms) rs R w) n)) ek
 
-  push_goes : (F : List MValue) (pc a : ℕ) (r : WordRow) → slice_get M.words a ≡ Some r → (ms rs : List MValue) (R : List Entry) (w : World MValue) (n : ℕ) → fetched M (names P) (Some (Word a)) (at F pc ms rs R w) (suc n) ≡ goes_on (at F (pc + 1) (m_plain (wrd a) ∷ ms) rs R w) n
+  push_goes : (F : List MValue) (pc a : ℕ) (r : WordRow) → slice_get M.words a ≡ Some r → (ms rs : List MValue) (R : List Entry) (w : World MValue) (n : ℕ) → fetched M (Some (Word a)) (at F pc ms rs R w) (suc n) ≡ goes_on (at F (pc + 1) (m_plain (wrd a) ∷ ms) rs R w) n
   push_goes F pc a r er ms rs R w n = ap (λ (o : Option WordRow). or_trap o t_kind (at F pc ms rs R w) n (λ r. goes_on (at F (pc + 1) (m_plain (wrd a) ∷ ms) rs R w) n)) er
+
+  -- what a word does that pushes itself
+  itself_pushed : (wd : ℕ) (o : Option Sort) → PushesItself o → (st : State Value) → sort_act P wd o st ≡ goes (push (plain (wrd wd)) st)
+  itself_pushed wd (Some itself) h st = refl
+  itself_pushed wd (Some (class c)) h st = refl
+  itself_pushed wd (Some _) h st = absurd h
+  itself_pushed wd None h st = absurd h
+
+  -- the code of a word that runs a phrase, or of a method, at fewer ticks
+  word_called : (f : ℕ) → Below f → EachCalled P M T → (S : List Sym) → AllHere S → (wd a : ℕ) → HasCode P M wd a → CallsTo Y (Some Ret) f [] a S (word_phrase P wd)
+  word_called f below each S h wd a code = on_all S [] a (word_phrase P wd) f h (called_phrase (Some Ret) f below [] [] a [] (word_phrase P wd) (each.words wd a code) (λ g less. tt))
 
   main : (f : ℕ) → Below f → EachCalled P M T → Templated Y f → Main f
   main f below each tpl Γ last F d S K pc (c_last {last = x} a e) v = g_last Y f F x S pc a e
@@ -106,16 +112,22 @@ module _ (Y : Setting) where
   main f below each tpl Γ last F d S K pc (c_array {p = p} {t = t} {K = K1} a e c) v = g_array Y f F last a p t S K1 pc e (main f below each tpl Γ last F zero (here ∷ S) (do_phrase t ∷ K1) (pc + 1) c v)
   main f below each tpl Γ last F d S K pc (c_reference {p = p} {t = t} {K = K1} wd r e er c) v = g_push Y f F last (lit (wrd wd)) p t S K1 pc (Word wd) (m_plain (wrd wd)) tt e (λ s. refl) (push_goes F pc wd r er) (λ st. refl)
       (main f below each tpl Γ last F zero (here ∷ S) (do_phrase t ∷ K1) (pc + 1) c v)
-  main f below each tpl Γ last F d S K pc (c_symbol {p = p} {t = t} {K = K1} wd r es e er c) v = g_push Y f F last (word wd) p t S K1 pc (Word wd) (m_plain (wrd wd)) tt e (λ s. refl) (push_goes F pc wd r er) (λ st. ap (λ (o : Option Sort). sort_act P wd o st) es)
+  main f below each tpl Γ last F d S K pc (c_symbol {p = p} {t = t} {K = K1} wd r es e er c) v = g_push Y f F last (word wd) p t S K1 pc (Word wd) (m_plain (wrd wd)) tt e (λ s. refl) (push_goes F pc wd r er) (itself_pushed wd (sort_of P wd) es)
       (main f below each tpl Γ last F zero (here ∷ S) (do_phrase t ∷ K1) (pc + 1) c v)
   main f below each tpl Γ last F d S K pc (c_prim {p = p} {t = t} {S1 = S1} {K = K1} wd k q es en ew needs e c) v = g_prim Y f F last wd k q p t S S1 K1 pc es en ew needs e (main f below each tpl Γ last F zero (heres (outs q) S1) (do_phrase t ∷ K1) (pc + 1) c v)
-  main f below each tpl Γ last F d S K pc (c_word {p = p} {t = t} {K = K1} wd b lt es a e c) v =
-      let there = each.bodies wd b lt es in
-      g_called Y f F last (Callw wd false) wd b p t [] there.1 S K1 pc es tt e (λ s. refl) (word_goes wd there.1 there.0 F pc there.2 there.3)
-      (on_all S [] there.1 b f a (called_phrase (Some Ret) f below [] [] there.1 [] b there.4 (λ g less. tt))) (main f below each tpl Γ last F zero [] (do_phrase t ∷ K1) (pc + 1) c v)
+  main f below each tpl Γ last F d S K pc (c_accessor {p = p} {t = t} {S1 = S1} {K = K1} x wd k cs es et ew needs e c) v =
+      g_accessor Y f F last x wd k cs p t S S1 K1 pc es et ew needs e (main f below each tpl Γ last F zero (heres (accessor_outs x) S1) (do_phrase t ∷ K1) (pc + 1) c v)
+  main f below each tpl Γ last F d S K pc (c_isa {p = p} {t = t} {S1 = S1} {K = K1} wd k n es same needs e c) v = g_isa Y f F last wd k n p t S S1 K1 pc es same needs e (main f below each tpl Γ last F zero (here ∷ S1) (do_phrase t ∷ K1) (pc + 1) c v)
+  main f below each tpl Γ last F d S K pc (c_boa {p = p} {t = t} {K = K1} wd k es en a e c) v = g_boa Y f F last wd k p t S K1 pc es en a e (main f below each tpl Γ last F zero (here ∷ []) (do_phrase t ∷ K1) (pc + 1) c v)
+  main f below each tpl Γ last F d S K pc (c_stuck {p = p} {t = t} {i = i} {K = K1} stuck) v = g_stuck Y f F last i p t S K1 pc (stuck Y.fits Y.callable_height)
+  main f below each tpl Γ last F d S K pc (c_word {p = p} {t = t} {K = K1} wd at code a e c) v = g_word Y f F last wd at p t S K1 pc code e (word_called f below each S a wd at code) (main f below each tpl Γ last F zero [] (do_phrase t ∷ K1) (pc + 1) c v)
   main f below each tpl Γ last F d S K pc (c_call {p = p} {t = t} {K = K1} wd k es en a e c) v = g_call Y f F tpl last wd k p t S K1 pc es en a e (main f below each tpl Γ last F zero [] (do_phrase t ∷ K1) (pc + 1) c v)
   main f below each tpl Γ last F d S K pc (c_dip {p = p} {t = t} {K = K1} wd k es en a e c) v = g_dip Y f F tpl last wd k p t S K1 pc es en a e (main f below each tpl Γ last F zero [] (do_phrase t ∷ K1) (pc + 1) c v)
   main f below each tpl Γ last F d S K pc (c_if {p = p} {t = t} {K = K1} wd k es en a e c) v = g_if Y f F tpl last wd k p t S K1 pc es en a e (main f below each tpl Γ last F zero [] (do_phrase t ∷ K1) (pc + 1) c v)
+  main f below each tpl Γ last F d S K pc (c_generic {p = p} {t = t} {K = K1} wd n r es er ew same a e c) v =
+      g_generic Y f F last wd n r p t S K1 pc es er ew same a e (word_called f below each S a) (main f below each tpl Γ last F zero [] (do_phrase t ∷ K1) (pc + 1) c v)
+  main f below each tpl Γ last F d S K pc (c_next {p = p} {t = t} {K = K1} m n j r er ew same a e c) v =
+      g_next Y f F last m n j r p t S K1 pc er ew same a e (word_called f below each S a) (main f below each tpl Γ last F zero [] (do_phrase t ∷ K1) (pc + 1) c v)
 
   below_all : EachCalled P M T → (f : ℕ) → Below f
   below_all each zero g lt = absurd (omega (arith, lt))
@@ -127,17 +139,17 @@ module _ (Y : Setting) where
   pub follows : EachCalled P M T → (f : ℕ) → Main f
   follows each f = below_all each (suc f) f (omega arith)
 
-  ending : (s : Machine) (n : ℕ) (r : Result) → r ≢ Stuck → Follows Y (Some Halt) [] [] s n r → (e : End) × Ends M (names P) s n e × SameEnd T r e
+  ending : (s : Machine) (n : ℕ) (r : Result) → r ≢ Stuck → Follows Y (Some Halt) [] [] s n r → (e : End) × Ends M s n e × SameEnd T r e
   ending s n (Done st m) ns h =
-      let last = at h.frame h.pc h.stack [] [] h.world in (done last m, ends_after M (names P) s last n m (done last m) h.leads (ends_step M (names P) last m (done last m) (fetch Y last m Halt h.there)), (h.same, refl))
-  ending s n (Failed e st m) ns h = (failed h.error h.fallen m, ends_after M (names P) s h.stood n h.ticks _ h.leads (ends_step M (names P) h.stood h.ticks _ h.fails), (h.same, h.world, refl))
+      let last = at h.frame h.pc h.stack [] [] h.world in (done last m, ends_after M s last n m (done last m) h.leads (ends_step M last m (done last m) (fetch Y last m Halt h.there)), (h.same, refl))
+  ending s n (Failed e st m) ns h = (failed h.error h.fallen m, ends_after M s h.stood n h.ticks _ h.leads (ends_step M h.stood h.ticks _ h.fails), (h.same, h.world, refl))
   ending s n (Spent st i) ns h = (spent h.0, h.1, h.2)
   ending s n Stuck ns h = absurd (ns refl)
 
   -- The code of a phrase stands at a place, and then `halt`: from there the machine ends as the meaning does, tick for tick, at every budget, where the
   -- meaning is stuck at none.
   pub carried : EachCalled P M T → (pc : ℕ) (t : Phrase) → Code P M T [] (Some Halt) [] zero [] (do_phrase t ∷ []) pc → (stack : List MValue) (world : World MValue) → Fine [] [] stack world → LivePhrase Y t (state_view T stack world) → (n : ℕ) →
-      (e : End) × Ends M (names P) (at [] pc stack [] [] world) n e × SameEnd T (run t (state_view T stack world) n) e
+      (e : End) × Ends M (at [] pc stack [] [] world) n e × SameEnd T (run t (state_view T stack world) n) e
   carried each pc t code stack world ok lv n =
       let st = state_view T stack world in
       ending (at [] pc stack [] [] world) n (run t st n) (lv n) (subst (λ (r : Result). Follows Y (Some Halt) [] [] (at [] pc stack [] [] world) n r) (then_done (run t st n))

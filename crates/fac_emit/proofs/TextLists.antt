@@ -1,5 +1,5 @@
 -- The texts of code: those behind it begin with those before it.
-use Rattle.std.proofs.Common.{◌≡◌, ◌≤◌, ℕ, List, [], ◌∷◌, ◌++◌, Some, refl, sym, ◌∙◌, append_assoc, length-append, arith}
+use Rattle.std.proofs.Common.{◌≡◌, ◌≤◌, ℕ, zero, suc, ◌+◌, List, [], ◌∷◌, ◌++◌, Some, refl, sym, ◌∙◌, append_assoc, length-append, arith}
 use Rattle.std.specs.Prelude.{length, slice_get}
 use Rattle.std.proofs.lemmas.List.{append-nil}
 use Rattle.fac_lang.specs.declared.phrase.Template.{Template}
@@ -7,11 +7,23 @@ use Rattle.fac_lang.specs.declared.program.Lit.{Lit}
 use Rattle.fac_lang.specs.declared.program.Lit.TheVariants.{Str as l_str}
 use Rattle.fac_lang.specs.declared.program.WordDef.{WordDef}
 use Rattle.fac_lang.specs.declared.program.Sort.{Sort}
-use Rattle.fac_lang.specs.declared.program.Sort.TheVariants.{Body as body}
+use Rattle.fac_lang.specs.declared.program.Sort.TheVariants.{Body as body, Method as method}
 use Rattle.fac_lang.specs.Phrases.{str, Phrase, end, then, Item, lit}
-use Rattle.fac_store.proofs.ValueTreeLemmas.{get_behind}
-use Rattle.fac_vm.proofs.ActLemmas.{get_front}
 use Rattle.fac_emit.specs.ProgramCode.{with_text, phrase_texts, templates_texts, sort_texts, words_texts, with_element_text, elements_texts, arrays_texts}
+
+-- what stands in the front of a list, and behind it
+pub get_front : {A : Type 0} (xs more : List A) (k : ℕ) (x : A) → slice_get xs k ≡ Some x → slice_get (xs ++ more) k ≡ Some x
+get_front [] more k x e = absurd (cc)
+get_front (y ∷ xs) more zero x e = e
+get_front (y ∷ xs) more (suc k) x e = get_front xs more k x e
+
+pub get_more : {A : Type 0} (xs more : List A) (k : ℕ) → slice_get (xs ++ more) (length xs + k) ≡ slice_get more k
+get_more [] more k = let n : 0 + k ≡ k = omega arith in rw n refl
+get_more (x ∷ xs) more k = let n : suc (length xs) + k ≡ suc (length xs + k) = omega arith in rw n (get_more xs more k)
+
+get_behind : {A : Type 0} (xs : List A) (x : A) (more : List A) → slice_get (xs ++ x ∷ more) (length xs) ≡ Some x
+get_behind [] x more = refl
+get_behind (y ∷ xs) x more = get_behind xs x more
 
 -- a list that begins so
 abbrev pub Begins : List (List ℕ) → List (List ℕ) → Type 0
@@ -37,6 +49,7 @@ templates_behind texts (t ∷ ts) = let next = phrase_texts texts t.body in begi
 
 sort_behind : (texts : List (List ℕ)) (s : Sort) → Begins texts (sort_texts texts s)
 sort_behind texts (body t) = phrase_behind texts t
+sort_behind texts (method c g t) = phrase_behind texts t
 sort_behind texts _ = begins_same texts
 
 pub words_behind : (texts : List (List ℕ)) (ds : List WordDef) → Begins texts (words_texts texts ds)

@@ -25,7 +25,7 @@ module _ (M : Image) where
   abbrev AllWhole : List MValue → Type 0
   AllWhole = whole.AllWhole M
 
-  get_whole : (F : List MValue) (k : ℕ) (v : MValue) → AllWhole F → slice_get F k ≡ Some v → Whole v
+  pub get_whole : (F : List MValue) (k : ℕ) (v : MValue) → AllWhole F → slice_get F k ≡ Some v → Whole v
   get_whole [] k v h e = absurd (cc)
   get_whole (x ∷ F) zero v h e = let d : x ≡ v = cc in subst Whole d h.0
   get_whole (x ∷ F) (suc k) v h e = get_whole F k v h.1 e

@@ -8,6 +8,7 @@ use Rattle.fac_lang.specs.Eval.{Result, Done, Failed, Spent}
 use Rattle.fac_lang.specs.Meaning.{run, start, word_phrase, names}
 use Rattle.fac_lang.specs.RunningLaws.{IsNotStuck}
 use Rattle.fac_code.specs.declared.image.Image.{Image}
+use Rattle.fac_code.specs.ImageNames.{image_names}
 use Rattle.fac_store.specs.MachineValues.{MValue}
 use Rattle.fac_vm.specs.Machine.{Machine, End, done, failed, spent, Ends, starting, first_world}
 use Rattle.fac_emit.specs.MachineView.{Templates, template_phrases, values_view, state_view, world_view, error_view}
@@ -34,7 +35,9 @@ pub record Carries (P : Program) (fits : Height → Height → Bool) (callable_h
   -- with the same stack and ticks. Failed: with the same error and ticks. Spent too: with the same objects, output and input left.
   pub same_end :
       (stack : List MValue) (w : World MValue) → length stack ≡ count → AllWhole M stack → WholeObjects M w.objects → IsNeverStuck (top_run P fits callable_height (values_view (template_phrases P) stack) (world_view (template_phrases P) w)) →
-      (n : ℕ) → (e : End) × Ends M (names P) (starting M stack w) n e × SameEnd (template_phrases P) (top_run P fits callable_height (values_view (template_phrases P) stack) (world_view (template_phrases P) w) n) e
+      (n : ℕ) → (e : End) × Ends M (starting M stack w) n e × SameEnd (template_phrases P) (top_run P fits callable_height (values_view (template_phrases P) stack) (world_view (template_phrases P) w) n) e
   -- The image's literal arrays, as they are made, stand for those of the program before its first item, and their callables are of the image's templates.
   pub same_first : (input : List ℕ) → world_view (template_phrases P) (first_world M input) ≡ (start P input).world
   pub first_whole : (input : List ℕ) → WholeObjects M (first_world M input).objects
+  -- What the image says of words and kinds is what the program says, so that printed forms are alike.
+  pub same_names : image_names M ≡ names P

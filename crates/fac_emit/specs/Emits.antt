@@ -1,17 +1,20 @@
 -- The code of a word and of a template, by cases: which instructions stand for which phrase of the program.
-use Rattle.std.specs.Prelude.{◌≡◌, ℕ, ℤ, List, [], ◌∷◌, nat_eq, true, false, Option, Some, slice_get}
+use Rattle.std.specs.Prelude.{◌≡◌, ℕ, ℤ, List, [], ◌∷◌, nat_eq, true, false, Option, Some, None, slice_get}
 use Rattle.fac_lang.specs.declared.phrase.Place.{Place}
 use Rattle.fac_lang.specs.declared.program.Program.{Program}
 use Rattle.fac_lang.specs.declared.program.Sort.{Sort}
-use Rattle.fac_lang.specs.declared.program.Sort.TheVariants.{Prim as prim_sort, Core as core_sort, Body as body, Itself as itself, Past as past, Method as method}
-use Rattle.fac_lang.specs.Phrases.{int, yes, no, str, wrd, Literal, Phrase, end, then, Item, lit, lit_arr, quot, word}
+use Rattle.fac_lang.specs.declared.program.Sort.TheVariants.{Prim as prim_sort, Core as core_sort, Body as body, Past as past, Isa as isa, Generic as generic, Method as method}
+use Rattle.fac_lang.specs.Phrases.{int, yes, no, str, wrd, Literal, Phrase, end, then, Item, lit, lit_arr, quot, word, next_after}
 use Rattle.fac_lang.specs.Primitives.{is_built_primitive}
-use Rattle.fac_lang.specs.Meaning.{sort_of, core_numbered, c_call, c_dip, c_if}
+use Rattle.fac_lang.specs.Meaning.{sort_of, sort_phrase, core_numbered, c_call, c_dip, c_if, c_boa}
 use Rattle.fac_locals.specs.Literals.{first_of_word, first_of_literal, behind, literal_numbered}
 use Rattle.fac_locals.specs.Closed.{IsMadeBy}
 use Rattle.fac_code.specs.declared.image.Instr.{Instr}
-use Rattle.fac_code.specs.declared.image.Instr.TheVariants.{Int, True, False, Text, Array, Word, Quot, Prim, Callw, Call, Dip, If, Ret}
-use Rattle.fac_emit.specs.ProgramCode.{last_instr}
+use Rattle.fac_code.specs.declared.image.Instr.TheVariants.{Int, True, False, Text, Array, Word, Quot, Prim, Callw, Call, Dip, If, Ret, Boa, Isa, Generic, Next}
+use Rattle.fac_emit.specs.Accessors.{Accessor, accessor_sort, accessor_instr}
+use Rattle.fac_emit.specs.ProgramTables.{slot_number, generic_number, method_number}
+use Rattle.fac_emit.specs.ProgramCode.{last_instr, stuck_instr}
+use Rattle.fac_emit.specs.Stands.{RunsPhrase, PushesItself, IsStuck}
 
 -- a word of this sort isn't defined by a phrase
 abbrev pub HasNoPhrase : Sort → Type 0
@@ -21,7 +24,7 @@ HasNoPhrase (method c g t) = ⊥
 HasNoPhrase _ = Unit {0}
 
 module _ (P : Program) (texts : List (List ℕ)) where
-  -- The instruction of an item that stands here, among these texts. A string is one of them; a literal array has the number of the program's; a quotation is made by the template of its literal; a primitive and a core word are done in place, a word that is defined by a phrase is called, and a word as a value and a symbol are pushed.
+  -- The instruction of an item that stands here, among these texts. A string is one of them; a literal array has the number of the program's; a quotation is made by the template of its literal; what a word does is done in place, a word that runs a phrase is called, and a word as a value, a symbol and the word of a class are pushed. A slot, a class, a generic and a method have their numbers in the program's tables.
   pub data ItemEmits (at : Literal) : Item → Instr → Type 0 where
     e_int : (z : ℤ) → ItemEmits at (lit (int z)) (Int z)
     e_true : ItemEmits at (lit yes) True
@@ -29,22 +32,28 @@ module _ (P : Program) (texts : List (List ℕ)) where
     e_text : (cs : List ℕ) (k : ℕ) → slice_get texts k ≡ Some cs → ItemEmits at (lit (str cs)) (Text k)
     e_array : (a : ℕ) → ItemEmits at (lit_arr a) (Array a)
     e_reference : (w : ℕ) → ItemEmits at (lit (wrd w)) (Word w)
-    e_symbol : (w : ℕ) → sort_of P w ≡ Some itself → ItemEmits at (word w) (Word w)
+    e_symbol : (w : ℕ) → PushesItself (sort_of P w) → ItemEmits at (word w) (Word w)
     e_quot : (t : Phrase) (q : ℕ) → IsMadeBy P at t q → ItemEmits at (quot t) (Quot q)
     e_prim : (w k : ℕ) → sort_of P w ≡ Some (prim_sort k) → is_built_primitive k ≡ true → ItemEmits at (word w) (Prim k)
-    e_word : (w : ℕ) (t : Phrase) → sort_of P w ≡ Some (body t) → ItemEmits at (word w) (Callw w false)
+    e_accessor : (x : Accessor) (w : ℕ) (s : List ℕ) → sort_of P w ≡ Some (accessor_sort x s) → ItemEmits at (word w) (accessor_instr x (slot_number P s))
+    e_isa : (w c : ℕ) → sort_of P w ≡ Some (isa c) → ItemEmits at (word w) (Isa c)
+    e_word : (w : ℕ) → RunsPhrase (sort_of P w) → ItemEmits at (word w) (Callw w false)
+    e_generic : (w : ℕ) → sort_of P w ≡ Some generic → ItemEmits at (word w) (Generic (generic_number P w) false)
+    e_next : (m c g : ℕ) (t : Phrase) → sort_of P m ≡ Some (method c g t) → ItemEmits at (next_after m) (Next (generic_number P g) (method_number P m) false)
     e_call : (w k : ℕ) → sort_of P w ≡ Some (core_sort k) → core_numbered k ≡ Some c_call → ItemEmits at (word w) (Call false)
     e_dip : (w k : ℕ) → sort_of P w ≡ Some (core_sort k) → core_numbered k ≡ Some c_dip → ItemEmits at (word w) Dip
     e_if : (w k : ℕ) → sort_of P w ≡ Some (core_sort k) → core_numbered k ≡ Some c_if → ItemEmits at (word w) (If false)
+    e_boa : (w k : ℕ) → sort_of P w ≡ Some (core_sort k) → core_numbered k ≡ Some c_boa → ItemEmits at (word w) Boa
+    e_stuck : {i : Item} → IsStuck P i → ItemEmits at i stuck_instr
 
   -- The instructions of a phrase whose first item stands here, one for each item, and behind them the last one.
   pub data PhraseEmits (last : Instr) : Literal → Phrase → List Instr → Type 0 where
     e_end : {at : Literal} → PhraseEmits last at end (last ∷ [])
     e_item : {at : Literal} {i : Item} {p : Place} {t : Phrase} {x : Instr} {code : List Instr} → ItemEmits at i x → PhraseEmits last (behind at i) t code → PhraseEmits last at (then i p t) (x ∷ code)
 
-  -- What a word of this sort has as its code. One that is defined by a phrase has the instructions of that phrase, with a `halt` behind those of the top-level phrase and a `ret` behind others. Another word has none.
+  -- What a word of this sort has as its code. One that runs a phrase has the instructions of that phrase, with a `halt` behind those of the top-level phrase and a `ret` behind others. Another word has none.
   pub data Emits (w : ℕ) : Option Sort → List Instr → Type 0 where
-    e_phrase : {t : Phrase} {code : List Instr} → PhraseEmits (last_instr (nat_eq w P.top)) (first_of_word w) t code → Emits w (Some (body t)) code
+    e_phrase : {s : Sort} {code : List Instr} → RunsPhrase (Some s) → PhraseEmits (last_instr (nat_eq w P.top)) (first_of_word w) (sort_phrase P w (Some s)) code → Emits w (Some s) code
     e_no_phrase : {s : Sort} → HasNoPhrase s → Emits w (Some s) []
 
   -- What the template with this number has as its code: the instructions of its quotation's phrase, with a `ret` behind them.

@@ -1,9 +1,11 @@
 pub mod MachineView
 pub mod Carries
 pub mod WholeValues
+pub mod Accessors
 pub mod Stands
 pub mod Symbols
 pub mod Expanded
+pub mod ProgramTables
 pub mod ProgramCode
 pub mod Emits
 pub mod PrintedForms

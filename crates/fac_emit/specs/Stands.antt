@@ -1,32 +1,77 @@
 -- Which code stands for which phrase. The relation is of running phrases, under the frame of the code that runs, and whatever stands around the
 -- code.
-use Rattle.std.specs.Prelude.{◌≡◌, ◌<◌, ◌+◌, ℕ, ℤ, List, [], length, Bool, true, false, Some, slice_get}
+use Rattle.std.specs.Prelude.{◌≡◌, ◌<◌, ◌+◌, ℕ, ℤ, List, [], length, drop, Bool, true, false, Option, Some, None, slice_get}
+use Rattle.fac_lang.specs.declared.phrase.Height.{Height}
 use Rattle.fac_lang.specs.declared.phrase.Place.{Place}
 use Rattle.fac_lang.specs.declared.program.Program.{Program}
-use Rattle.fac_lang.specs.declared.program.Sort.TheVariants.{Prim as prim_sort, Core as core_sort, Body as body, Itself as itself}
-use Rattle.fac_lang.specs.Phrases.{int, yes, no, str, wrd, Phrase, end, then, Item, lit, lit_arr, quot, word}
+use Rattle.fac_lang.specs.declared.program.Sort.{Sort}
+use Rattle.fac_lang.specs.declared.program.Sort.TheVariants.{Prim as prim_sort, Core as core_sort, Body as body, Itself as itself, Class as class, Isa as isa, Generic as generic, Method as method}
+use Rattle.fac_lang.specs.Phrases.{int, yes, no, str, wrd, Phrase, end, then, Item, lit, lit_arr, quot, word, next_after, Value, Callable}
+use Rattle.fac_lang.specs.World.{State}
+use Rattle.fac_lang.specs.Classes.{has_kind, pick, next}
+use Rattle.fac_lang.specs.Eval.{wrong}
 use Rattle.fac_lang.specs.Primitives.{is_built_primitive}
-use Rattle.fac_lang.specs.Meaning.{sort_of, word_phrase, core_numbered, c_call, c_dip, c_if}
+use Rattle.fac_lang.specs.Meaning.{sort_of, word_phrase, generic_of, act, core_numbered, c_call, c_dip, c_if, c_boa}
 use Rattle.fac_code.specs.declared.image.Instr.{Instr}
-use Rattle.fac_code.specs.declared.image.Instr.TheVariants.{Halt, Int, True, False, Text, Array, Word, Quot, Prim, Callw, Call, Dip, If, Ret}
-use Rattle.fac_code.specs.declared.image.Action.TheVariants.{Code as code_action}
+use Rattle.fac_code.specs.declared.image.Instr.TheVariants.{Halt, Int, True, False, Text, Array, Word, Quot, Prim, Callw, Call, Dip, If, Ret, Boa, Isa, Generic, Next}
+use Rattle.fac_code.specs.declared.image.Action.TheVariants as action
 use Rattle.fac_code.specs.declared.image.Image.{Image}
 use Rattle.fac_code.specs.declared.image.TemplateRow.{TemplateRow}
 use Rattle.fac_code.specs.declared.image.WordRow.{WordRow}
+use Rattle.fac_code.specs.declared.image.GenericRow.{GenericRow}
+use Rattle.fac_code.specs.declared.image.MethodRow.{MethodRow}
 use Rattle.fac_store.specs.MachineValues.{MValue, Kept, kept_list, cells_at}
-use Rattle.fac_vm.specs.Machine.{word_of_prim}
+use Rattle.fac_vm.specs.Machine.{word_with, set_has, method_for, method_after}
+use Rattle.fac_emit.specs.Accessors.{Accessor, accessor_sort, accessor_instr, accessor_action}
 use Rattle.fac_emit.specs.MachineView.{Templates, template_phrases}
 use Rattle.fac_emit.specs.WholeValues.{WholeKept}
 
-module _ (P : Program) (M : Image) (T : Templates) where
-  -- An item that calls, and its instruction, which in a tail call leaves no return entry.
+-- a word of this sort runs a phrase: it is defined by one, or it is a method
+abbrev pub RunsPhrase : Option Sort → Type 0
+RunsPhrase (Some (body t)) = Unit {0}
+RunsPhrase (Some (method c g t)) = Unit {0}
+RunsPhrase _ = ⊥
+
+-- a word of this sort pushes itself: it is a symbol, or the word of a class
+abbrev pub PushesItself : Option Sort → Type 0
+PushesItself (Some itself) = Unit {0}
+PushesItself (Some (class c)) = Unit {0}
+PushesItself _ = ⊥
+
+-- an item that nothing can do, whatever the state is: `cond` without its literal, and `call-next-method` outside of a method
+abbrev pub IsStuck : Program → Item → Type 0
+IsStuck P i = (fits : Height → Height → Bool) (callable_height : Callable → Option Height) (st : State Value) → act P fits callable_height i st ≡ wrong
+
+module _ (P : Program) (M : Image) where
+  -- a word that runs a phrase and isn't the top-level phrase has its code at this place
+  pub record HasCode (w a : ℕ) : Type 0 where
+    pub below : w < P.top
+    pub runs : RunsPhrase (sort_of P w)
+    pub row : WordRow
+    pub there : slice_get M.words w ≡ Some row
+    pub does : row.action ≡ action.Code a
+
+  -- a method of the machine has the code of one of the program, or there is neither
+  abbrev pub SameMethod : Option MethodRow → Option ℕ → Type 0
+  SameMethod None None = Unit {0}
+  SameMethod (Some r) (Some m) = HasCode m r.entry
+  SameMethod None (Some m) = ⊥
+  SameMethod (Some r) None = ⊥
+
+  -- An item that calls, and its instruction, which in a tail call leaves no return entry. The row of a generic has its word, and for each kind the method that
+  -- the program picks; behind a method of the row stands the one that comes next.
   pub data Calling (tail : Bool) : Item → Instr → Type 0 where
-    l_word : (w : ℕ) (t : Phrase) → w < P.top → sort_of P w ≡ Some (body t) → Calling tail (word w) (Callw w tail)
+    l_word : (w a : ℕ) → HasCode w a → Calling tail (word w) (Callw w tail)
     l_call : (w k : ℕ) → sort_of P w ≡ Some (core_sort k) → core_numbered k ≡ Some c_call → Calling tail (word w) (Call tail)
     l_if : (w k : ℕ) → sort_of P w ≡ Some (core_sort k) → core_numbered k ≡ Some c_if → Calling tail (word w) (If tail)
+    l_generic :
+        (w n : ℕ) (r : GenericRow) → sort_of P w ≡ Some generic → slice_get M.generics n ≡ Some r → r.word ≡ w → ((k : ℕ) → SameMethod (method_for M.sets k r.methods) (pick P w k)) → Calling tail (word w) (Generic n tail)
+    l_next :
+        (m n j : ℕ) (r : GenericRow) → slice_get M.generics n ≡ Some r → r.word ≡ generic_of P (sort_of P m) → ((k : ℕ) → SameMethod (method_after M.sets k (drop j r.methods)) (next P m k)) → Calling tail (next_after m) (Next n j tail)
 
-  -- An item and its plain instruction, where the frame is F and T has the phrases of the templates. A run error of a primitive names the first word
-  -- of the image that does it, so that is to be the item's word.
+module _ (P : Program) (M : Image) (T : Templates) where
+  -- An item and its plain instruction, where the frame is F and T has the phrases of the templates. A run error of a primitive or an accessor names the first
+  -- word of the image that does it, so that is to be the item's word. No run comes to an item that nothing can do, so its instruction is any.
   pub data Translates (F : List MValue) : Item → Instr → Type 0 where
     t_int : (z : ℤ) → Translates F (lit (int z)) (Int z)
     t_true : Translates F (lit yes) True
@@ -34,21 +79,26 @@ module _ (P : Program) (M : Image) (T : Templates) where
     t_text : (cs : List ℕ) (k : ℕ) → slice_get M.texts k ≡ Some cs → Translates F (lit (str cs)) (Text k)
     t_array : (a : ℕ) → Translates F (lit_arr a) (Array a)
     t_reference : (w : ℕ) (r : WordRow) → slice_get M.words w ≡ Some r → Translates F (lit (wrd w)) (Word w)
-    t_symbol : (w : ℕ) (r : WordRow) → sort_of P w ≡ Some itself → slice_get M.words w ≡ Some r → Translates F (word w) (Word w)
+    t_symbol : (w : ℕ) (r : WordRow) → PushesItself (sort_of P w) → slice_get M.words w ≡ Some r → Translates F (word w) (Word w)
     t_quot : (q : ℕ) (r : TemplateRow) (vs : List MValue) → slice_get M.templates q ≡ Some r → r.holes ≡ 0 → cells_at r.cells F ≡ Some vs → Translates F (quot (T q)) (Quot q)
-    t_prim : (w k : ℕ) → sort_of P w ≡ Some (prim_sort k) → is_built_primitive k ≡ true → word_of_prim k 0 M.words ≡ w → Translates F (word w) (Prim k)
+    t_prim : (w k : ℕ) → sort_of P w ≡ Some (prim_sort k) → is_built_primitive k ≡ true → word_with (action.Prim k) 0 M.words ≡ w → Translates F (word w) (Prim k)
+    t_accessor :
+        (x : Accessor) (w k : ℕ) (s : List ℕ) → sort_of P w ≡ Some (accessor_sort x s) → slice_get M.texts k ≡ Some s → word_with (accessor_action x k) 0 M.words ≡ w → Translates F (word w) (accessor_instr x k)
+    t_isa : (w c k : ℕ) → sort_of P w ≡ Some (isa c) → ((j : ℕ) → set_has (slice_get M.sets k) j ≡ has_kind P.classes c j) → Translates F (word w) (Isa k)
     t_dip : (w k : ℕ) → sort_of P w ≡ Some (core_sort k) → core_numbered k ≡ Some c_dip → Translates F (word w) Dip
-    t_calling : {i : Item} {x : Instr} → Calling false i x → Translates F i x
+    t_boa : (w k : ℕ) → sort_of P w ≡ Some (core_sort k) → core_numbered k ≡ Some c_boa → Translates F (word w) Boa
+    t_stuck : {i : Item} (x : Instr) → IsStuck P i → Translates F i x
+    t_calling : {i : Item} {x : Instr} → Calling P M false i x → Translates F i x
 
   -- The plain instructions of a phrase stand at this place under the frame F, and behind them the last one.
   pub data Stands (last : Instr) : List MValue → ℕ → Phrase → Type 0 where
     s_end : {F : List MValue} {pc : ℕ} → slice_get M.code pc ≡ Some last → Stands last F pc end
     s_item : {F : List MValue} {pc : ℕ} {i : Item} {p : Place} {t : Phrase} (x : Instr) → slice_get M.code pc ≡ Some x → Translates F i x → Stands last F (pc + 1) t → Stands last F pc (then i p t)
 
-  -- Each word that is defined by a phrase, but for the top-level phrase, has its code, which ends in `ret`; and so has each template, under the values
-  -- that its callables keep.
+  -- The code of each word that runs a phrase, but for the top-level phrase, stands for its phrase and ends in `ret`; and so does that of each template,
+  -- under the values that its callables keep.
   pub record Coded : Type 0 where
-    pub bodies : (w : ℕ) (t : Phrase) → w < P.top → sort_of P w ≡ Some (body t) → (r : WordRow) × (a : ℕ) × (slice_get M.words w ≡ Some r) × (r.action ≡ code_action a) × Stands Ret [] a t
+    pub words : (w a : ℕ) → HasCode P M w a → Stands Ret [] a (word_phrase P w)
     pub templates : (q : ℕ) (r : TemplateRow) (k : Kept) → slice_get M.templates q ≡ Some r → length (kept_list k) ≡ length r.cells + r.holes → WholeKept M k → Stands Ret (kept_list k) r.entry (T q)
 
 -- The code of an image stands for the phrases of a program: those of its words, of its templates, and of the top-level phrase, where it starts.

@@ -3,3 +3,6 @@ pub mod AddedTemplates
 pub mod FoundCode
 pub mod Parts
 pub mod Coded
+pub mod Numbered
+pub mod OwnRows
+pub mod Dispatch

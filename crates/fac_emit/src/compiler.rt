@@ -1,34 +1,95 @@
 //! The compiler: the code of the templates and the words is linked to an image.
-ghost use Rattle.std.specs.Prelude.{◌≡◌, ◌++◌, [], ℕ, true, Some, IfOk, OnOk, slice_get, Bool, Option};
+ghost use Rattle.std.specs.Prelude.{◌≡◌, ◌++◌, [], ℕ, Bool, true, nat_eq, Option, Some, IfOk, OnOk};
 ghost use Rattle.std.specs.List.{list_all};
-ghost use Rattle.fac_lang.specs.declared.phrase.Height.{Height};
 ghost use Rattle.fac_lang.specs.declared.program.Program.{Program as Source};
+ghost use Rattle.fac_lang.specs.declared.phrase.Height.{Height};
 ghost use Rattle.fac_lang.specs.Forms.{IsBuilt};
-ghost use Rattle.fac_lang.specs.Whole.{IsWhole};
 ghost use Rattle.fac_lang.specs.Phrases.{Callable};
+ghost use Rattle.fac_lang.specs.Whole.{IsWhole};
+ghost use Rattle.fac_lang.specs.Classes.{own_kind};
+ghost use Rattle.fac_lang.specs.Meaning.{sort_of};
 ghost use Rattle.fac_locals.specs.Closed.{Closes};
+ghost use Rattle.fac_generic.specs.Methods.{MethodLaws};
+ghost use Rattle.fac_emit.specs.ProgramTables.{table_texts, word_numbers};
 ghost use Rattle.fac_emit.specs.Carries.{Carries};
-ghost use Rattle.fac_emit.specs.ProgramCode.{sort_action, word_names, IsPlain};
-ghost use Rattle.fac_emit.specs.inner.Coded.{body_is_coded, word_body_is_coded};
-ghost use Rattle.fac_emit.specs.inner.Parts.{AreParts, PlacesWord, PlacesWords};
 ghost use Rattle.fac_emit.specs.Stands.{PlainCode};
+ghost use Rattle.fac_emit.specs.ProgramCode.{sort_kind, word_row, code_place, IsPlain};
+ghost use Rattle.fac_emit.specs.inner.Coded.{body_is_coded, word_body_is_coded};
+ghost use Rattle.fac_emit.specs.inner.Numbered.{numbered_action};
+ghost use Rattle.fac_emit.specs.inner.Parts.{AreParts, AreTables, PlacesWord, PlacesWords};
 
 use crate::arrays::add_arrays;
-use crate::emitter::{Piece, add_templates, add_word, no_code};
-use fac_code::{Action, Elem, Image, TemplateRow, WordRow};
-use fac_lang::{Duplicate, List, Memory, Sort, Text, WordDef};
+use crate::emitter::{Piece, add_templates, add_word};
+use crate::dispatch::{generics_of, places_of};
+use crate::numbers::{number_of, numbers_of, texts_of};
+use crate::rows::place_of;
+use crate::slots::slots_of;
+use crate::tables::{kinds_of, sets_of};
+use fac_classes::Classes;
+use fac_code::{Action, Elem, GenericRow, Image, KindRow, TemplateRow, WordRow};
+use fac_generic::{methods_are_lawful, tables as method_tables};
+use fac_lang::{List, Memory, Program, Sort, Text};
 use fac_locals::Closed;
 use std::alloc::Global;
 
-// What a word does whose code, where it has code, stands at a place.
-fn action_of(place: u32, sort: &Sort) -> Action
-    ensures { result ≡ sort_action place sort.now }
+// What a word with this number in the tables does, whose code, where it has code, stands at a place.
+fn action_of(number: u32, place: u32, sort: &Sort) -> Action
+    ensures { result ≡ numbered_action number place sort.now }
 {
     match sort {
-        Sort::Prim(number) => Action::Prim(*number),
-        Sort::Core(number) => Action::Core(*number),
+        Sort::Prim(primitive) => Action::Prim(*primitive),
+        Sort::Core(core) => Action::Core(*core),
         Sort::Itself => Action::Itself,
+        Sort::Class(_) => Action::Itself,
+        Sort::Isa(class) => Action::Isa(*class),
+        Sort::Getter(_) => Action::Get(number),
+        Sort::Setter(_) => Action::Set(number),
+        Sort::Putter(_) => Action::Put(number),
+        Sort::Generic => Action::Generic(number),
         _ => Action::Code(place),
+    }
+}
+
+// The kind that a class has as its own.
+fn own_kind_of(classes: &Classes, class: u32) -> Option<u32>
+    ensures { result ≡ own_kind 8 classes.now class }
+{
+    if class < classes.len() {
+        classes.kind_of(class)
+    } else {
+        None
+    }
+}
+
+// The kind of the class whose word this is.
+fn kind_of(program: &Program, classes: &Classes, sort: &Sort) -> Option<u32>
+    requires { classes.now ≡ program.now.classes }
+    ensures { result ≡ sort_kind program.now sort.now }
+{
+    match sort {
+        Sort::Class(class) => own_kind_of(classes, *class),
+        _ => None,
+    }
+}
+
+// The row of a word of this sort, whose code, where it has code, stands at a place.
+fn row_of(
+    program: &Program,
+    numbers: &List<u32>,
+    classes: &Classes,
+    word: u32,
+    place: u32,
+    sort: &Sort,
+) -> WordRow
+    requires numbers { numbers.now ≡ word_numbers program.now }
+    requires classes { classes.now ≡ program.now.classes }
+    requires sort { sort_of program.now word ≡ Some sort.now }
+    ensures { result ≡ word_row program.now place word sort.now }
+{
+    WordRow {
+        name: word,
+        action: action_of(number_of(numbers, word), place, sort),
+        kind: kind_of(program, classes, sort),
     }
 }
 
@@ -45,130 +106,162 @@ struct Parts {
 fn place_word(
     alloc: Global,
     parts: &mut Parts,
-    words: &List<WordDef>,
+    program: &Program,
+    numbers: &List<u32>,
+    classes: &Classes,
     word: u32,
-    is_top: bool,
     sort: &Sort,
 ) -> Result<(), Memory>
-    requires { body_is_coded words.now sort.now ≡ true }
-    ensures { OnOk result (PlacesWord words.now word is_top sort.now parts.old parts.new) }
+    requires numbers { numbers.now ≡ word_numbers program.now }
+    requires classes { classes.now ≡ program.now.classes }
+    requires sort { sort_of program.now word ≡ Some sort.now }
+    requires coded { body_is_coded program.now sort.now ≡ true }
+    ensures { OnOk result (PlacesWord program.now word (nat_eq word program.now.top) sort.now parts.old parts.new) }
 {
     let place = parts.piece.code.len();
-    parts.words.push(WordRow {
-        name: word,
-        action: action_of(place, sort),
-    })?;
-    add_word(alloc, &mut parts.piece, words, is_top, sort)
+    parts
+        .words
+        .push(row_of(program, numbers, classes, word, place, sort))?;
+    add_word(
+        alloc,
+        &mut parts.piece,
+        program,
+        numbers,
+        word == program.top,
+        sort,
+    )
 }
 
 // Adds the code and the rows of the words.
 fn add_words(
     alloc: Global,
     parts: &mut Parts,
-    words: &List<WordDef>,
-    top: u32,
+    program: &Program,
+    numbers: &List<u32>,
+    classes: &Classes,
 ) -> Result<(), Memory>
-    requires { list_all (word_body_is_coded words.now) words.now ≡ true }
-    ensures { OnOk result (PlacesWords words.now top parts.old parts.new) }
+    requires numbers { numbers.now ≡ word_numbers program.now }
+    requires classes { classes.now ≡ program.now.classes }
+    requires coded { list_all (word_body_is_coded program.now) program.now.words ≡ true }
+    ensures { OnOk result (PlacesWords program.now parts.old parts.new) }
 {
-    let _count = words.len();
+    let _count = program.words.len();
     let mut number = 0u32;
-    for word in words.as_slice() {
-        place_word(alloc, parts, words, number, number == top, &word.sort)?;
+    for word in program.words.as_slice() {
+        place_word(alloc, parts, program, numbers, classes, number, &word.sort)?;
         number += 1;
     }
     Ok(())
 }
 
-// Adds the names of words.
-fn add_names(alloc: Global, texts: &mut List<Text>, words: &List<WordDef>) -> Result<(), Memory>
-    ensures { OnOk result (texts.new ≡ texts.old ++ word_names words.now) }
-{
-    for word in words.as_slice() {
-        texts.push(word.name.name.copy(alloc)?)?;
-    }
-    Ok(())
-}
-
-// A piece with no code, whose texts are the names of words.
-fn named_piece(alloc: Global, words: &List<WordDef>) -> Result<Piece, Memory>
-    ensures { IfOk result (λ piece. (piece.code ≡ []) × (piece.texts ≡ word_names words.now)) }
-{
-    let mut piece = no_code(alloc);
-    add_names(alloc, &mut piece.texts, words)?;
-    Ok(piece)
-}
-
-// The code of a closed program, that of its templates first and then that of its words, its literal arrays and its tables.
-fn link(alloc: Global, closed: &Closed) -> Result<Parts, Memory>
-    requires { (P : Source) × Closes P closed.now.program closed.now.templates × IsBuilt P × IsWhole P }
+// The code of a closed program behind these texts, that of its templates first and then that of its words, its literal arrays and its tables.
+fn link(
+    alloc: Global,
+    closed: &Closed,
+    texts: List<Text>,
+    numbers: &List<u32>,
+    classes: &Classes,
+) -> Result<Parts, Memory>
+    requires closed { (P : Source) × Closes P closed.now.program closed.now.templates × IsBuilt P × IsWhole P }
+    requires texts { texts ≡ table_texts closed.now.program }
+    requires numbers { numbers.now ≡ word_numbers closed.now.program }
+    requires classes { classes.now ≡ closed.now.program.classes }
     ensures { IfOk result (AreParts closed.now.program closed.now.templates) }
 {
+    let code = List::new(alloc);
     let mut parts = Parts {
         arrays: List::new(alloc),
-        piece: named_piece(alloc, &closed.program.words)?,
+        piece: Piece { code, texts },
         templates: List::new(alloc),
         words: List::new(alloc),
     };
-    let words = &closed.program.words;
+    let program = &closed.program;
     add_templates(
         alloc,
         &mut parts.piece,
         &mut parts.templates,
-        words,
+        program,
+        numbers,
         &closed.templates,
     )?;
-    add_words(alloc, &mut parts, words, closed.program.top)?;
+    add_words(alloc, &mut parts, program, numbers, classes)?;
     add_arrays(
         alloc,
         &mut parts.arrays,
         &mut parts.piece.texts,
-        &closed.program.arrays,
+        &program.arrays,
     )?;
     Ok(parts)
 }
 
-// The place of a word's code.
-fn place(rows: &List<WordRow>, word: u32) -> u32
-    requires { (a : ℕ) × (slice_get rows.now word ≡ Some (record { name = word; action = Action.Code a })) }
-    ensures { slice_get rows.now word ≡ Some (record { name = word; action = Action.Code result }) }
-{
-    match rows.get(word as usize) {
-        Some(row) => match row.action {
-            Action::Code(place) => place,
-            Action::Prim(_) => unreachable!(),
-            Action::Core(_) => unreachable!(),
-            Action::Itself => unreachable!(),
-        },
-        None => unreachable!(),
-    }
+// The tables of an image that no phrase is in.
+#[derive(Drop)]
+struct ClassTables {
+    kinds: List<KindRow>,
+    sets: List<List<u32>>,
+    generics: List<GenericRow>,
 }
 
-/// The image of a closed program of the built forms. It carries the program that this one stands for, on every list of as many values as
-/// the closed program starts on and in every world, whose callables are of the image's templates, and at every budget, where that program is
-/// stuck at none; and its literal arrays, as a machine makes them, are those of that program before its first item. Its code stands for the
-/// phrases of that program, item by item, and is plain: the code of the templates and behind it that of the words, each in their order, with the
-/// names of the words, the texts of its strings in the order of their instructions and behind them those of its literal arrays, and a row for each template and each word; it starts at the top-level phrase. Want of memory is the one error.
-pub fn compile(alloc: Global, closed: &Closed) -> Result<Image, Memory>
-    requires { (P : Source) × Closes P closed.now.program closed.now.templates × IsBuilt P × IsWhole P }
-    ensures carries { IfOk result (λ image. (P : Source) (fits : Height → Height → Bool) (callable_height : Callable → Option Height) → Closes P closed.now.program closed.now.templates → IsBuilt P → Carries P fits callable_height closed.now.start image) }
-    ensures stands { IfOk result (λ image. (P : Source) → Closes P closed.now.program closed.now.templates → IsBuilt P → PlainCode P image) }
-    ensures plain { IfOk result (IsPlain closed.now.program closed.now.templates) }
+// The image of these parts and tables.
+fn image_of(closed: &Closed, parts: Parts, tables: ClassTables) -> Image
+    requires closed { (P : Source) × Closes P closed.now.program closed.now.templates × IsBuilt P × IsWhole P × MethodLaws P }
+    requires parts { AreParts closed.now.program closed.now.templates parts }
+    requires tables { AreTables closed.now.program closed.now.templates tables }
+    ensures { IsPlain closed.now.program closed.now.templates result }
 {
     let Parts {
         arrays,
         piece,
         templates,
         words,
-    } = link(alloc, closed)?;
+    } = parts;
+    let ClassTables {
+        kinds,
+        sets,
+        generics,
+    } = tables;
     let Piece { code, texts } = piece;
-    let start = place(&words, closed.program.top);
-    Ok(Image {
+    let start = place_of(&words, closed.program.top);
+    Image {
         arrays,
+        kinds,
+        sets,
         templates,
         words,
+        generics,
         texts,
         code,
         start,
-    })
+    }
+}
+
+/// The image of a closed program of the built forms. It carries the program that this one stands for, on every list of as many values as
+/// the closed program starts on and in every world, whose callables are of the image's templates, and at every budget, where that program is
+/// stuck at none; and its literal arrays, as a machine makes them, are those of that program before its first item. Its code stands for the
+/// phrases of that program, item by item, and is plain: the code of the templates and behind it that of the words, each in their order, with
+/// the names of the words, the slots and the kinds, the texts of its strings in the order of their instructions and behind them those of its
+/// literal arrays, a row for each template, word, kind and generic, and the kinds of each class; it starts at the top-level phrase. Want of
+/// memory is the one error, also where there are more kinds or texts than numbers for them.
+pub fn compile(alloc: Global, closed: &Closed) -> Result<Image, Memory>
+    requires { (P : Source) × Closes P closed.now.program closed.now.templates × IsBuilt P × IsWhole P }
+    ensures carries { IfOk result (λ image. (P : Source) (fits : Height → Height → Bool) (callable_height : Callable → Option Height) → Closes P closed.now.program closed.now.templates → IsBuilt P → IsWhole P → Carries P fits callable_height closed.now.start image) }
+    ensures stands { IfOk result (λ image. (P : Source) → Closes P closed.now.program closed.now.templates → IsBuilt P → IsWhole P → PlainCode P image) }
+    ensures plain { IfOk result (IsPlain closed.now.program closed.now.templates) }
+{
+    methods_are_lawful();
+    let program = &closed.program;
+    let classes = Classes::build(alloc, program)?;
+    let methods = method_tables(alloc, program, &classes)?;
+    let slots = slots_of(alloc, program)?;
+    let texts = texts_of(alloc, program, &slots)?;
+    let _count = texts.len();
+    let places = places_of(alloc, program, &methods)?;
+    let numbers = numbers_of(alloc, program, &slots, &places)?;
+    let parts = link(alloc, closed, texts, &numbers, &classes)?;
+    let tables = ClassTables {
+        kinds: kinds_of(alloc, program, &classes, &slots)?,
+        sets: sets_of(alloc, &classes)?,
+        generics: generics_of(alloc, program, &methods, &parts.words)?,
+    };
+    Ok(image_of(closed, parts, tables))
 }

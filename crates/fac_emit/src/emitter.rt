@@ -1,20 +1,24 @@
 //! The plain code of words and templates.
-ghost use Rattle.std.specs.Prelude.{◌≡◌, ◌<◌, ◌++◌, ◌∷◌, [], length, slice_get, true, IfOk, OnOk};
+ghost use Rattle.std.specs.Prelude.{◌≡◌, ◌<◌, ◌++◌, ◌∷◌, [], length, slice_get, true, false, IfOk, OnOk};
 ghost use Rattle.std.specs.List.{list_all};
 ghost use Rattle.fac_lang.specs.PhraseView.{what_item};
 ghost use Rattle.fac_lang.specs.declared.program.Program.{Program as Source};
 ghost use Rattle.fac_lang.specs.Forms.{IsBuilt};
-ghost use Rattle.fac_lang.specs.CoreWords.{is_built_core};
-ghost use Rattle.fac_lang.specs.Meaning.{sort_of};
+ghost use Rattle.fac_lang.specs.Whole.{IsWhole};
+ghost use Rattle.fac_lang.specs.Meaning.{sort_of, generic_of};
 ghost use Rattle.fac_locals.specs.Closed.{Closes};
-ghost use Rattle.fac_emit.specs.ProgramCode.{core_instr, sort_instr, item_instr, with_text, phrase_code, phrase_texts, last_instr, sort_code, sort_texts};
+ghost use Rattle.fac_code.specs.declared.image.Instr.TheVariants as instr;
+ghost use Rattle.fac_emit.specs.ProgramTables.{generic_number, method_number, word_numbers};
+ghost use Rattle.fac_emit.specs.ProgramCode.{core_instr, word_instr, item_instr, with_text, phrase_code, phrase_texts, last_instr, sort_code, sort_texts};
 ghost use Rattle.fac_emit.specs.inner.AddedTemplates.{AddsTemplate, AddsTemplates};
-ghost use Rattle.fac_emit.specs.inner.Coded.{sort_is_coded, item_is_coded, phrase_is_coded, template_is_coded, body_is_coded};
+ghost use Rattle.fac_emit.specs.inner.Coded.{is_method, item_is_coded, phrase_is_coded, template_is_coded, body_is_coded};
 ghost use Rattle.fac_emit.specs.inner.FoundCode.{IsCodeOf, found_code, found_texts, found_template, found_template_texts};
+ghost use Rattle.fac_emit.specs.inner.Numbered.{numbered_instr};
 ghost use Rattle.fac_emit.specs.Emits.{Emits, TemplateEmits};
 
+use crate::numbers::number_of;
 use fac_code::{Instr, TemplateRow};
-use fac_lang::{Duplicate, List, Memory, Phrase, Sort, Template, Text, What, WordDef};
+use fac_lang::{Duplicate, List, Memory, Phrase, Program, Sort, Template, Text, What};
 use fac_locals::Closed;
 use std::alloc::Global;
 
@@ -29,35 +33,74 @@ pub struct Piece {
 
 // The instruction of the core word with this number.
 fn instr_of_core(number: u32) -> Instr
-    requires { is_built_core number ≡ true }
     ensures { result ≡ core_instr number }
 {
     match number {
         0 => Instr::Call { tail: false },
         1 => Instr::Dip,
         2 => Instr::If { tail: false },
-        _ => unreachable!(),
+        _ => Instr::Boa,
     }
 }
 
-// The instruction of the word with this number, by its sort.
-fn instr_of_sort(word: u32, sort: &Sort) -> Instr
-    requires { sort_is_coded sort.now ≡ true }
-    ensures { result ≡ sort_instr word sort.now }
+// The instruction of a word, by its sort and its number in the tables.
+fn instr_of_sort(number: u32, word: u32, sort: &Sort) -> Instr
+    ensures { result ≡ numbered_instr number word sort.now }
 {
     match sort {
-        Sort::Prim(number) => Instr::Prim(*number),
-        Sort::Core(number) => instr_of_core(*number),
+        Sort::Prim(primitive) => Instr::Prim(*primitive),
+        Sort::Core(core) => instr_of_core(*core),
         Sort::Body(_) => Instr::Callw { word, tail: false },
+        Sort::Method { .. } => Instr::Callw { word, tail: false },
         Sort::Itself => Instr::Word(word),
-        _ => unreachable!(),
+        Sort::Class(_) => Instr::Word(word),
+        Sort::Isa(class) => Instr::Isa(*class),
+        Sort::Getter(_) => Instr::Get(number),
+        Sort::Setter(_) => Instr::Set(number),
+        Sort::Putter(_) => Instr::Put(number),
+        Sort::Generic => Instr::Generic {
+            generic: number,
+            tail: false,
+        },
+        Sort::Past(_) => Instr::Boa,
+    }
+}
+
+// The instruction of the word with this number.
+fn instr_of_word(program: &Program, numbers: &List<u32>, word: u32) -> Instr
+    requires { numbers.now ≡ word_numbers program.now }
+    ensures { result ≡ word_instr program.now word (slice_get program.now.words word) }
+{
+    match program.words.get(word as usize) {
+        Some(def) => instr_of_sort(number_of(numbers, word), word, &def.sort),
+        None => Instr::Boa,
+    }
+}
+
+// The instruction of what is next after a method.
+fn instr_after(program: &Program, numbers: &List<u32>, method: u32) -> Instr
+    requires numbers { numbers.now ≡ word_numbers program.now }
+    requires method { is_method program.now (sort_of program.now method) ≡ true }
+    ensures { result ≡ instr.Next (generic_number program.now (generic_of program.now (sort_of program.now method))) (method_number program.now method) false }
+{
+    match program.words.get(method as usize) {
+        Some(def) => match &def.sort {
+            Sort::Method { generic, .. } => Instr::Next {
+                generic: number_of(numbers, *generic),
+                method: number_of(numbers, method),
+                tail: false,
+            },
+            _ => unreachable!(),
+        },
+        None => unreachable!(),
     }
 }
 
 // The instruction of an item. A string is the text with this number.
-fn instr_of(words: &List<WordDef>, text: u32, what: &What) -> Instr
-    requires { item_is_coded words.now (what_item what.now) ≡ true }
-    ensures { result ≡ item_instr words.now text (what_item what.now) }
+fn instr_of(program: &Program, numbers: &List<u32>, text: u32, what: &What) -> Instr
+    requires numbers { numbers.now ≡ word_numbers program.now }
+    requires coded { item_is_coded program.now (what_item what.now) ≡ true }
+    ensures { result ≡ item_instr program.now text (what_item what.now) }
 {
     match what {
         What::Int(value) => Instr::Int(*value),
@@ -66,12 +109,10 @@ fn instr_of(words: &List<WordDef>, text: u32, what: &What) -> Instr
         What::Str(_) => Instr::Text(text),
         What::Arr(array) => Instr::Array(*array),
         What::Wref(word) => Instr::Word(*word),
-        What::Word(number) => match words.get(*number as usize) {
-            Some(word) => instr_of_sort(*number, &word.sort),
-            None => unreachable!(),
-        },
+        What::Word(word) => instr_of_word(program, numbers, *word),
+        What::NextAfter(method) => instr_after(program, numbers, *method),
         What::Made(number) => Instr::Quot(*number),
-        _ => unreachable!(),
+        _ => Instr::Boa,
     }
 }
 
@@ -89,14 +130,16 @@ fn add_text(alloc: Global, texts: &mut List<Text>, what: &What) -> Result<(), Me
 fn add_item(
     alloc: Global,
     piece: &mut Piece,
-    words: &List<WordDef>,
+    program: &Program,
+    numbers: &List<u32>,
     what: &What,
 ) -> Result<(), Memory>
-    requires { item_is_coded words.now (what_item what.now) ≡ true }
-    ensures { OnOk result ((piece.new.code ≡ piece.old.code ++ item_instr words.now (length piece.old.texts) (what_item what.now) ∷ []) × (piece.new.texts ≡ with_text piece.old.texts (what_item what.now))) }
+    requires numbers { numbers.now ≡ word_numbers program.now }
+    requires coded { item_is_coded program.now (what_item what.now) ≡ true }
+    ensures { OnOk result ((piece.new.code ≡ piece.old.code ++ item_instr program.now (length piece.old.texts) (what_item what.now) ∷ []) × (piece.new.texts ≡ with_text piece.old.texts (what_item what.now))) }
 {
     let number = piece.texts.len();
-    piece.code.push(instr_of(words, number, what))?;
+    piece.code.push(instr_of(program, numbers, number, what))?;
     add_text(alloc, &mut piece.texts, what)
 }
 
@@ -104,15 +147,17 @@ fn add_item(
 fn add_phrase(
     alloc: Global,
     piece: &mut Piece,
-    words: &List<WordDef>,
+    program: &Program,
+    numbers: &List<u32>,
     phrase: &Phrase,
     last: Instr,
 ) -> Result<(), Memory>
-    requires { phrase_is_coded words.now phrase.now ≡ true }
-    ensures { OnOk result ((piece.new.code ≡ piece.old.code ++ phrase_code words.now last piece.old.texts phrase.now) × (piece.new.texts ≡ phrase_texts piece.old.texts phrase.now)) }
+    requires numbers { numbers.now ≡ word_numbers program.now }
+    requires coded { phrase_is_coded program.now phrase.now ≡ true }
+    ensures { OnOk result ((piece.new.code ≡ piece.old.code ++ phrase_code program.now last piece.old.texts phrase.now) × (piece.new.texts ≡ phrase_texts piece.old.texts phrase.now)) }
 {
     for item in &phrase.items {
-        add_item(alloc, piece, words, &item.what)?;
+        add_item(alloc, piece, program, numbers, &item.what)?;
     }
     piece.code.push(last)
 }
@@ -122,11 +167,13 @@ fn add_template(
     alloc: Global,
     piece: &mut Piece,
     rows: &mut List<TemplateRow>,
-    words: &List<WordDef>,
+    program: &Program,
+    numbers: &List<u32>,
     template: &Template,
 ) -> Result<(), Memory>
-    requires { template_is_coded words.now template.now ≡ true }
-    ensures { OnOk result (AddsTemplate words.now template.now piece.old piece.new rows.old rows.new) }
+    requires numbers { numbers.now ≡ word_numbers program.now }
+    requires coded { template_is_coded program.now template.now ≡ true }
+    ensures { OnOk result (AddsTemplate program.now template.now piece.old piece.new rows.old rows.new) }
 {
     let entry = piece.code.len();
     let cells = template.captures.copy(alloc)?;
@@ -135,7 +182,7 @@ fn add_template(
         cells,
         holes: template.holes,
     })?;
-    add_phrase(alloc, piece, words, &template.body, Instr::Ret)
+    add_phrase(alloc, piece, program, numbers, &template.body, Instr::Ret)
 }
 
 /// Adds the code of these templates with its texts, and their rows, in their order.
@@ -143,14 +190,16 @@ pub fn add_templates(
     alloc: Global,
     piece: &mut Piece,
     rows: &mut List<TemplateRow>,
-    words: &List<WordDef>,
+    program: &Program,
+    numbers: &List<u32>,
     templates: &List<Template>,
 ) -> Result<(), Memory>
-    requires { list_all (template_is_coded words.now) templates.now ≡ true }
-    ensures { OnOk result (AddsTemplates words.now templates.now piece.old piece.new rows.old rows.new) }
+    requires numbers { numbers.now ≡ word_numbers program.now }
+    requires coded { list_all (template_is_coded program.now) templates.now ≡ true }
+    ensures { OnOk result (AddsTemplates program.now templates.now piece.old piece.new rows.old rows.new) }
 {
     for template in templates.as_slice() {
-        add_template(alloc, piece, rows, words, template)?;
+        add_template(alloc, piece, rows, program, numbers, template)?;
     }
     Ok(())
 }
@@ -162,19 +211,24 @@ fn last(is_top: bool) -> Instr
     if is_top { Instr::Halt } else { Instr::Ret }
 }
 
-/// Adds the code of a word of this sort with its texts, where it is defined by a phrase.
+/// Adds the code of a word of this sort with its texts, where it runs a phrase.
 pub fn add_word(
     alloc: Global,
     piece: &mut Piece,
-    words: &List<WordDef>,
+    program: &Program,
+    numbers: &List<u32>,
     is_top: bool,
     sort: &Sort,
 ) -> Result<(), Memory>
-    requires { body_is_coded words.now sort.now ≡ true }
-    ensures { OnOk result ((piece.new.code ≡ piece.old.code ++ sort_code words.now is_top piece.old.texts sort.now) × (piece.new.texts ≡ sort_texts piece.old.texts sort.now)) }
+    requires numbers { numbers.now ≡ word_numbers program.now }
+    requires coded { body_is_coded program.now sort.now ≡ true }
+    ensures { OnOk result ((piece.new.code ≡ piece.old.code ++ sort_code program.now is_top piece.old.texts sort.now) × (piece.new.texts ≡ sort_texts piece.old.texts sort.now)) }
 {
     match sort {
-        Sort::Body(phrase) => add_phrase(alloc, piece, words, phrase, last(is_top)),
+        Sort::Body(phrase) => add_phrase(alloc, piece, program, numbers, phrase, last(is_top)),
+        Sort::Method { body, .. } => {
+            add_phrase(alloc, piece, program, numbers, body, last(is_top))
+        }
         _ => Ok(()),
     }
 }
@@ -190,8 +244,15 @@ pub fn no_code(alloc: Global) -> Piece
 }
 
 // The code of the word with this number.
-fn code_of_word(alloc: Global, closed: &Closed, word: u32) -> Result<Piece, Memory>
-    requires { ((P : Source) × Closes P closed.now.program closed.now.templates × IsBuilt P) × (word < length closed.now.program.words) }
+fn code_of_word(
+    alloc: Global,
+    closed: &Closed,
+    numbers: &List<u32>,
+    word: u32,
+) -> Result<Piece, Memory>
+    requires closed { (P : Source) × Closes P closed.now.program closed.now.templates × IsBuilt P × IsWhole P }
+    requires numbers { numbers.now ≡ word_numbers closed.now.program }
+    requires word { word < length closed.now.program.words }
     ensures { IfOk result (IsCodeOf (found_code closed.now.program word (slice_get closed.now.program.words word)) (found_texts (slice_get closed.now.program.words word))) }
 {
     let mut piece = no_code(alloc);
@@ -199,7 +260,8 @@ fn code_of_word(alloc: Global, closed: &Closed, word: u32) -> Result<Piece, Memo
         Some(def) => add_word(
             alloc,
             &mut piece,
-            &closed.program.words,
+            &closed.program,
+            numbers,
             word == closed.program.top,
             &def.sort,
         )?,
@@ -209,8 +271,15 @@ fn code_of_word(alloc: Global, closed: &Closed, word: u32) -> Result<Piece, Memo
 }
 
 // The code of the template with this number.
-fn code_of_template(alloc: Global, closed: &Closed, template: u32) -> Result<Piece, Memory>
-    requires { ((P : Source) × Closes P closed.now.program closed.now.templates × IsBuilt P) × (template < length closed.now.templates) }
+fn code_of_template(
+    alloc: Global,
+    closed: &Closed,
+    numbers: &List<u32>,
+    template: u32,
+) -> Result<Piece, Memory>
+    requires closed { (P : Source) × Closes P closed.now.program closed.now.templates × IsBuilt P × IsWhole P }
+    requires numbers { numbers.now ≡ word_numbers closed.now.program }
+    requires template { template < length closed.now.templates }
     ensures { IfOk result (IsCodeOf (found_template closed.now.program (slice_get closed.now.templates template)) (found_template_texts (slice_get closed.now.templates template))) }
 {
     let mut piece = no_code(alloc);
@@ -218,7 +287,8 @@ fn code_of_template(alloc: Global, closed: &Closed, template: u32) -> Result<Pie
         Some(found) => add_phrase(
             alloc,
             &mut piece,
-            &closed.program.words,
+            &closed.program,
+            numbers,
             &found.body,
             Instr::Ret,
         )?,
@@ -228,19 +298,33 @@ fn code_of_template(alloc: Global, closed: &Closed, template: u32) -> Result<Pie
 }
 
 /// The plain code of the word with this number, as a piece: an instruction for each item of its phrase, and behind them a `ret`, or a `halt`
-/// for the top-level phrase. A word that isn't defined by a phrase has none. Want of memory is the one error.
-pub fn emit_word(alloc: Global, closed: &Closed, word: u32) -> Result<Piece, Memory>
-    requires { ((P : Source) × Closes P closed.now.program closed.now.templates × IsBuilt P) × (word < length closed.now.program.words) }
+/// for the top-level phrase. A word that runs no phrase has none. Want of memory is the one error.
+pub fn emit_word(
+    alloc: Global,
+    closed: &Closed,
+    numbers: &List<u32>,
+    word: u32,
+) -> Result<Piece, Memory>
+    requires closed { (P : Source) × Closes P closed.now.program closed.now.templates × IsBuilt P × IsWhole P }
+    requires numbers { numbers.now ≡ word_numbers closed.now.program }
+    requires word { word < length closed.now.program.words }
     ensures { IfOk result (λ piece. (P : Source) → Closes P closed.now.program closed.now.templates → IsBuilt P → Emits P piece.texts word (sort_of P word) piece.code) }
 {
-    code_of_word(alloc, closed, word)
+    code_of_word(alloc, closed, numbers, word)
 }
 
 /// The plain code of the template with this number, as a piece: an instruction for each item of its quotation, and behind them a `ret`.
 /// Want of memory is the one error.
-pub fn emit_template(alloc: Global, closed: &Closed, template: u32) -> Result<Piece, Memory>
-    requires { ((P : Source) × Closes P closed.now.program closed.now.templates × IsBuilt P) × (template < length closed.now.templates) }
+pub fn emit_template(
+    alloc: Global,
+    closed: &Closed,
+    numbers: &List<u32>,
+    template: u32,
+) -> Result<Piece, Memory>
+    requires closed { (P : Source) × Closes P closed.now.program closed.now.templates × IsBuilt P × IsWhole P }
+    requires numbers { numbers.now ≡ word_numbers closed.now.program }
+    requires template { template < length closed.now.templates }
     ensures { IfOk result (λ piece. (P : Source) → Closes P closed.now.program closed.now.templates → IsBuilt P → TemplateEmits P piece.texts template piece.code) }
 {
-    code_of_template(alloc, closed, template)
+    code_of_template(alloc, closed, numbers, template)
 }

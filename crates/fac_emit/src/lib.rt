@@ -3,8 +3,13 @@
 
 mod arrays;
 mod compiler;
+mod dispatch;
 mod emitter;
 mod laws;
+mod numbers;
+mod rows;
+mod slots;
+mod tables;
 
 pub use compiler::compile;
 pub use emitter::{Piece, emit_template, emit_word};

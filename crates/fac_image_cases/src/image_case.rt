@@ -8,14 +8,25 @@
 //!     @word prim NAME         a word that does this primitive, by its name or its number
 //!     @word core N            a word that does this core word
 //!     @word code N            a word with the code at this place
-//!     @word symbol NAME       a word that pushes itself. The last part of each of these four lines is the word's name
+//!     @word symbol NAME       a word that pushes itself
+//!     @word get N             a word that does this accessor of the slot whose name is text N; also with set and put
+//!     @word isa N             a word that tells whether a value is in class set N
+//!     @word generic N         a word that does this generic. The last part of each of these lines is the word's name
+//!     @class K NAME           a word that pushes itself and is that of the class with kind K
+//!     @singleton NAME         the next kind, that of a singleton
+//!     @tuple NAME SLOT ..     the next kind, that of a tuple class with these slots
+//!     @set K ..               a class set of these kinds
+//!     @generic W              a generic whose word is W
+//!     @method S N             a method of the last generic, for class set S, with the code at the place N
 //!     @text TEXT              a text of the image, with a `|` for each end of a line in it
 //!     @output N M             the write of this number fails after M bytes
 //!     @run N M                runs the code from the place N, with M ticks
 //!     @twice N M              runs it so two times on one machine
-use crate::instructions::{action, elem, instr};
+use crate::instructions::{action, class, elem, instr, method};
 use crate::told_runs::told;
-use fac_code::{Elem, Image, Instr, TemplateRow, WordRow};
+use fac_code::{
+    Action, Elem, GenericRow, Image, Instr, KindRow, MethodRow, Tables, TemplateRow, WordRow,
+};
 use fac_io::MemSink;
 use fac_lang::{Duplicate, List, Memory, Text};
 use fac_vm::Machine;
@@ -24,14 +35,31 @@ use std::alloc::Global;
 // The most bytes that the sink takes.
 const ROOM: u64 = 20;
 
+// A kind, with the numbers of its name and of its slots' names.
+#[derive(Drop)]
+struct Kind {
+    name: u32,
+    slots: Option<Vec<u32>>,
+}
+
+// A generic: its word and its methods.
+#[derive(Drop)]
+struct Generic {
+    word: u32,
+    methods: Vec<MethodRow>,
+}
+
 /// An image and the writes that fail.
 #[derive(Drop)]
 pub struct Case {
     arrays: Vec<Vec<Elem>>,
+    kinds: Vec<Kind>,
+    sets: Vec<Vec<u32>>,
+    generics: Vec<Generic>,
     // The numbers of each template: its place, its holes, its cells.
     templates: Vec<Vec<u32>>,
-    // The words, whose names are numbered by themselves, and their names.
     words: Vec<WordRow>,
+    // The names of words, kinds and slots, which are numbered by themselves.
     names: List<Text>,
     texts: List<Text>,
     code: Vec<Instr>,
@@ -41,6 +69,9 @@ pub struct Case {
 // The numbers of a text, with a space between two.
 fn numbers(alloc: Global, text: &str) -> Result<Option<Vec<u32>>, Memory> {
     let mut numbers = Vec::new(alloc);
+    if text.is_empty() {
+        return Ok(Some(numbers));
+    }
     for word in text.split(' ') {
         let Ok(number) = word.parse::<u32>() else {
             return Ok(None);
@@ -121,7 +152,63 @@ fn rows(alloc: Global, words: &[WordRow], first: u32) -> Result<List<WordRow>, M
         rows.push(WordRow {
             name: first.saturating_add(row.name),
             action: row.action,
+            kind: row.kind,
         })?;
+    }
+    Ok(rows)
+}
+
+// The slots of a kind, whose names stand behind so many other texts.
+fn slots(alloc: Global, names: &[u32], first: u32) -> Result<List<u32>, Memory> {
+    let mut slots = List::new(alloc);
+    for name in names {
+        slots.push(first.saturating_add(*name))?;
+    }
+    Ok(slots)
+}
+
+// The row of a kind.
+fn kind_row(alloc: Global, kind: &Kind, first: u32) -> Result<KindRow, Memory> {
+    Ok(KindRow {
+        name: first.saturating_add(kind.name),
+        slots: match &kind.slots {
+            Some(names) => Some(slots(alloc, names.as_slice(), first)?),
+            None => None,
+        },
+    })
+}
+
+// The rows of kinds.
+fn kinds(alloc: Global, told: &[Kind], first: u32) -> Result<List<KindRow>, Memory> {
+    let mut rows = List::new(alloc);
+    for kind in told {
+        rows.push(kind_row(alloc, kind, first)?)?;
+    }
+    Ok(rows)
+}
+
+// Class sets of these kinds.
+fn sets(alloc: Global, told: &[Vec<u32>]) -> Result<List<List<u32>>, Memory> {
+    let mut sets = List::new(alloc);
+    for kinds in told {
+        sets.push(List::from_vec(Vec::from_slice(alloc, kinds.as_slice())?)?)?;
+    }
+    Ok(sets)
+}
+
+// The row of a generic.
+fn generic_row(alloc: Global, generic: &Generic) -> Result<GenericRow, Memory> {
+    Ok(GenericRow {
+        word: generic.word,
+        methods: List::from_vec(Vec::from_slice(alloc, generic.methods.as_slice())?)?,
+    })
+}
+
+// The rows of generics.
+fn generics(alloc: Global, told: &[Generic]) -> Result<List<GenericRow>, Memory> {
+    let mut rows = List::new(alloc);
+    for generic in told {
+        rows.push(generic_row(alloc, generic)?)?;
     }
     Ok(rows)
 }
@@ -179,6 +266,9 @@ impl Case {
     pub fn new(alloc: Global) -> Self {
         Case {
             arrays: Vec::new(alloc),
+            kinds: Vec::new(alloc),
+            sets: Vec::new(alloc),
+            generics: Vec::new(alloc),
             templates: Vec::new(alloc),
             words: Vec::new(alloc),
             names: List::new(alloc),
@@ -231,15 +321,38 @@ impl Case {
                 None => Ok(false),
             },
             "word" => match action(text) {
-                Some((action, name)) => {
-                    let number = self.names.len();
-                    self.names.push(Text::from_str(alloc, name)?)?;
-                    self.words.push(WordRow {
-                        name: number,
-                        action,
+                Some((action, name)) => self.add_word(alloc, name, action, None),
+                None => Ok(false),
+            },
+            "class" => match class(text) {
+                Some((kind, name)) => self.add_word(alloc, name, Action::Itself, Some(kind)),
+                None => Ok(false),
+            },
+            "singleton" => {
+                let name = self.add_name(alloc, text)?;
+                self.kinds.push(Kind { name, slots: None })?;
+                Ok(true)
+            }
+            "tuple" => self.add_tuple(alloc, text),
+            "set" => match numbers(alloc, text)? {
+                Some(kinds) => {
+                    self.sets.push(kinds)?;
+                    Ok(true)
+                }
+                None => Ok(false),
+            },
+            "generic" => match text.parse::<u32>() {
+                Ok(word) => {
+                    self.generics.push(Generic {
+                        word,
+                        methods: Vec::new(alloc),
                     })?;
                     Ok(true)
                 }
+                Err(_) => Ok(false),
+            },
+            "method" => match method(text) {
+                Some(row) => self.add_method(row),
                 None => Ok(false),
             },
             "text" => {
@@ -257,14 +370,66 @@ impl Case {
         }
     }
 
+    // Adds a name and answers its number.
+    fn add_name(&mut self, alloc: Global, name: &str) -> Result<u32, Memory> {
+        let number = self.names.len();
+        self.names.push(Text::from_str(alloc, name)?)?;
+        Ok(number)
+    }
+
+    // Adds a word.
+    fn add_word(
+        &mut self,
+        alloc: Global,
+        name: &str,
+        action: Action,
+        kind: Option<u32>,
+    ) -> Result<bool, Memory> {
+        let name = self.add_name(alloc, name)?;
+        self.words.push(WordRow { name, action, kind })?;
+        Ok(true)
+    }
+
+    // Adds the kind of a tuple class, from its name and those of its slots.
+    fn add_tuple(&mut self, alloc: Global, text: &str) -> Result<bool, Memory> {
+        let mut slots = Vec::new(alloc);
+        let (name, behind) = text.split_once(' ').unwrap_or((text, ""));
+        let name = self.add_name(alloc, name)?;
+        for slot in behind.split_whitespace() {
+            slots.push(self.add_name(alloc, slot)?)?;
+        }
+        self.kinds.push(Kind {
+            name,
+            slots: Some(slots),
+        })?;
+        Ok(true)
+    }
+
+    // Adds a method to the last generic. False where there is none.
+    fn add_method(&mut self, row: MethodRow) -> Result<bool, Memory> {
+        match self.generics.last_mut() {
+            Some(generic) => {
+                generic.methods.push(row)?;
+                Ok(true)
+            }
+            None => Ok(false),
+        }
+    }
+
     // The image that begins at a place. None where the tables and the code are none.
     fn image(&self, alloc: Global, start: u32) -> Result<Option<Image>, Memory> {
-        let arrays = arrays(alloc, self.arrays.as_slice())?;
-        let templates = templates(alloc, self.templates.as_slice())?;
-        let words = rows(alloc, self.words.as_slice(), self.texts.len())?;
-        let texts = texts(alloc, &self.texts, &self.names)?;
+        let first = self.texts.len();
+        let tables = Tables {
+            arrays: arrays(alloc, self.arrays.as_slice())?,
+            kinds: kinds(alloc, self.kinds.as_slice(), first)?,
+            sets: sets(alloc, self.sets.as_slice())?,
+            templates: templates(alloc, self.templates.as_slice())?,
+            words: rows(alloc, self.words.as_slice(), first)?,
+            generics: generics(alloc, self.generics.as_slice())?,
+            texts: texts(alloc, &self.texts, &self.names)?,
+        };
         let code = List::from_vec(Vec::from_slice(alloc, self.code.as_slice())?)?;
-        Ok(Image::new(arrays, templates, words, texts, code, start))
+        Ok(Image::new(tables, code, start))
     }
 
     // Runs the image, once or twice, and tells how each run ended.

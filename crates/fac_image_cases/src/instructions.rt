@@ -1,5 +1,5 @@
 //! Instructions, elements of literal arrays and what words do, as texts tell them.
-use fac_code::{Action, Elem, Instr};
+use fac_code::{Action, Elem, Instr, MethodRow};
 use fac_lang::primitives;
 
 // The number of the primitive with this name.
@@ -32,6 +32,7 @@ fn plain(name: &str) -> Option<Instr> {
         "if" => Some(Instr::If { tail: false }),
         "tail-if" => Some(Instr::If { tail: true }),
         "ret" => Some(Instr::Ret),
+        "boa" => Some(Instr::Boa),
         _ => None,
     }
 }
@@ -43,6 +44,18 @@ fn with_number(name: &str, number: u32) -> Option<Instr> {
         "array" => Some(Instr::Array(number)),
         "word" => Some(Instr::Word(number)),
         "quot" => Some(Instr::Quot(number)),
+        "get" => Some(Instr::Get(number)),
+        "set" => Some(Instr::Set(number)),
+        "put" => Some(Instr::Put(number)),
+        "isa" => Some(Instr::Isa(number)),
+        "generic" => Some(Instr::Generic {
+            generic: number,
+            tail: false,
+        }),
+        "tail-generic" => Some(Instr::Generic {
+            generic: number,
+            tail: true,
+        }),
         "callw" => Some(Instr::Callw {
             word: number,
             tail: false,
@@ -55,12 +68,24 @@ fn with_number(name: &str, number: u32) -> Option<Instr> {
     }
 }
 
+// The next method behind the one whose generic and place two numbers tell.
+fn next(text: &str, tail: bool) -> Option<Instr> {
+    let (generic, method) = text.split_once(' ')?;
+    Some(Instr::Next {
+        generic: generic.parse::<u32>().ok()?,
+        method: method.parse::<u32>().ok()?,
+        tail,
+    })
+}
+
 /// The instruction that a text tells.
 pub fn instr(text: &str) -> Option<Instr> {
     match text.split_once(' ') {
         None => plain(text),
         Some(("int", number)) => Some(Instr::Int(number.parse::<i128>().ok()?)),
         Some(("prim", name)) => Some(Instr::Prim(primitive(name)?)),
+        Some(("next", numbers)) => next(numbers, false),
+        Some(("tail-next", numbers)) => next(numbers, true),
         Some((name, number)) => with_number(name, number.parse::<u32>().ok()?),
     }
 }
@@ -96,6 +121,11 @@ fn does(told: &str, behind: &str) -> Option<Action> {
         "core" => Some(Action::Core(behind.parse::<u32>().ok()?)),
         "code" => Some(Action::Code(behind.parse::<u32>().ok()?)),
         "symbol" => Some(Action::Itself),
+        "get" => Some(Action::Get(behind.parse::<u32>().ok()?)),
+        "set" => Some(Action::Set(behind.parse::<u32>().ok()?)),
+        "put" => Some(Action::Put(behind.parse::<u32>().ok()?)),
+        "isa" => Some(Action::Isa(behind.parse::<u32>().ok()?)),
+        "generic" => Some(Action::Generic(behind.parse::<u32>().ok()?)),
         _ => None,
     }
 }
@@ -104,4 +134,19 @@ fn does(told: &str, behind: &str) -> Option<Action> {
 pub fn action(text: &str) -> Option<(Action, &str)> {
     let (told, behind) = text.split_once(' ')?;
     Some((does(told, behind)?, behind))
+}
+
+/// The kind of a class, and the name of its word.
+pub fn class(text: &str) -> Option<(u32, &str)> {
+    let (kind, name) = text.split_once(' ')?;
+    Some((kind.parse::<u32>().ok()?, name))
+}
+
+/// The method that two numbers tell: its class set and the place of its code.
+pub fn method(text: &str) -> Option<MethodRow> {
+    let (set, entry) = text.split_once(' ')?;
+    Some(MethodRow {
+        set: set.parse::<u32>().ok()?,
+        entry: entry.parse::<u32>().ok()?,
+    })
 }

@@ -2,8 +2,8 @@
 use Rattle.std.specs.Prelude.{List, [], ◌∷◌}
 use Rattle.fac_lang.specs.declared.phrase.Item.{Item as PlacedItem}
 use Rattle.fac_lang.specs.declared.phrase.What.{What}
-use Rattle.fac_lang.specs.declared.phrase.What.TheVariants.{Int, True, False, Str, Arr, Wref, Quot, Word, Bind, Local, Fry, Hole, CallEff, ExecEff, NextMethod, Made}
-use Rattle.fac_lang.specs.Phrases.{int, yes, no, str, wrd, Phrase, end, then, Item, lit, lit_arr, quot, word, bind, local, fry, hole, call_eff, exec_eff, next_method, made}
+use Rattle.fac_lang.specs.declared.phrase.What.TheVariants.{Int, True, False, Str, Arr, Wref, Quot, Word, Bind, Local, Fry, Hole, CallEff, ExecEff, NextMethod, NextAfter, Made}
+use Rattle.fac_lang.specs.Phrases.{int, yes, no, str, wrd, Phrase, end, then, Item, lit, lit_arr, quot, word, bind, local, fry, hole, call_eff, exec_eff, next_method, made, next_after}
 
 abbrev pub what_item : What → Item
 what_item (Int z) = lit (int z)
@@ -21,6 +21,7 @@ what_item (Hole n) = hole n
 what_item (CallEff h) = call_eff h
 what_item (ExecEff h) = exec_eff h
 what_item NextMethod = next_method
+what_item (NextAfter n) = next_after n
 what_item (Made n) = made n
 
 -- the phrase of a list of items

@@ -1,20 +1,31 @@
-//! The table of the core words that are built. The number of a row is that of the core word.
+//! The table of the core words that are built.
 ghost use Rattle.std.specs.Prelude.{◌≡◌, map};
 ghost use Rattle.fac_lang.specs.CoreWords.{built_core_words, is_built_core};
-ghost use Rattle.fac_lang.specs.WrittenWords.{written_word};
+ghost use Rattle.fac_lang.specs.WrittenWords.{written_core};
 
 use crate::word_row::WordRow;
 
+/// A core word.
+#[derive(Clone, Copy)]
+pub struct CoreRow {
+    /// Its number among the core words.
+    pub number: u32,
+    /// The word, as it is written.
+    pub word: WordRow,
+}
+
 #[rattlefmt::skip]
-static CORE_WORDS: [WordRow; 3] = [
-    WordRow { vocab: "kernel", name: "call", ins: &["quot"], outs: Some(&[]) },
-    WordRow { vocab: "kernel", name: "dip", ins: &["x", "quot"], outs: Some(&["x"]) },
-    WordRow { vocab: "kernel", name: "if", ins: &["?", "true", "false"], outs: Some(&[]) },
+static CORE_WORDS: [CoreRow; 5] = [
+    CoreRow { number: 0, word: WordRow { vocab: "kernel", name: "call", ins: &["quot"], outs: Some(&[]) } },
+    CoreRow { number: 1, word: WordRow { vocab: "kernel", name: "dip", ins: &["x", "quot"], outs: Some(&["x"]) } },
+    CoreRow { number: 2, word: WordRow { vocab: "kernel", name: "if", ins: &["?", "true", "false"], outs: Some(&[]) } },
+    CoreRow { number: 4, word: WordRow { vocab: "kernel", name: "boa", ins: &["class"], outs: Some(&["tuple"]) } },
+    CoreRow { number: 9, word: WordRow { vocab: "combinators", name: "cond", ins: &["pairs"], outs: Some(&[]) } },
 ];
 
-/// The table, by the numbers of its rows.
-pub fn core_words() -> &'static [WordRow]
-    ensures { map written_word result.now ≡ built_core_words }
+/// The table.
+pub fn core_words() -> &'static [CoreRow]
+    ensures { map written_core result.now ≡ built_core_words }
 {
     &CORE_WORDS
 }
@@ -23,5 +34,10 @@ pub fn core_words() -> &'static [WordRow]
 pub fn is_core_word(number: u32) -> bool
     ensures { result ≡ is_built_core number }
 {
-    (number as usize) < core_words().len()
+    for row in core_words() {
+        if row.number == number {
+            return true;
+        }
+    }
+    false
 }

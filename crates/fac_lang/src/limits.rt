@@ -19,6 +19,12 @@ pub const MOST_LEVELS: u32 = 256;
 /// The most names of an effect.
 pub const MOST_NAMES: u64 = 64;
 
+/// The most slots of a tuple class that it has of its own, and with those of its parents.
+pub const MOST_SLOTS: u64 = 64;
+
+/// The most classes that files define, the prelude apart: tuple classes, unions and singletons.
+pub const MOST_CLASSES: u64 = 1_024;
+
 /// The most applications inside one another that the checker enters.
 pub const MOST_APPLICATIONS: u32 = 64;
 

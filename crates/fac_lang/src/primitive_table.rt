@@ -42,6 +42,8 @@ pub enum Operation {
     Equal,
     /// `eq?`
     Same,
+    /// `new`
+    New,
     /// `+`
     Add,
     /// `-`
@@ -108,10 +110,12 @@ pub enum Operation {
     NewLine,
     /// `.`
     Show,
+    /// `(no-cond)`
+    NoCond,
 }
 
 #[rattlefmt::skip]
-static PRIMITIVES: [PrimitiveRow; 58] = [
+static PRIMITIVES: [PrimitiveRow; 60] = [
     PrimitiveRow { word: WordRow { vocab: "kernel", name: "drop", ins: &["x"], outs: Some(&[]) }, does: Operation::Shuffle { takes: 1, leaves: &[] } },
     PrimitiveRow { word: WordRow { vocab: "kernel", name: "dup", ins: &["x"], outs: Some(&["x", "x"]) }, does: Operation::Shuffle { takes: 1, leaves: &[0, 0] } },
     PrimitiveRow { word: WordRow { vocab: "kernel", name: "swap", ins: &["x", "y"], outs: Some(&["y", "x"]) }, does: Operation::Shuffle { takes: 2, leaves: &[1, 0] } },
@@ -137,6 +141,7 @@ static PRIMITIVES: [PrimitiveRow; 58] = [
     PrimitiveRow { word: WordRow { vocab: "kernel", name: "?", ins: &["?", "x", "y"], outs: Some(&["z"]) }, does: Operation::Choose },
     PrimitiveRow { word: WordRow { vocab: "kernel", name: "=", ins: &["x", "y"], outs: Some(&["?"]) }, does: Operation::Equal },
     PrimitiveRow { word: WordRow { vocab: "kernel", name: "eq?", ins: &["x", "y"], outs: Some(&["?"]) }, does: Operation::Same },
+    PrimitiveRow { word: WordRow { vocab: "kernel", name: "new", ins: &["class"], outs: Some(&["tuple"]) }, does: Operation::New },
     PrimitiveRow { word: WordRow { vocab: "math", name: "+", ins: &["x", "y"], outs: Some(&["z"]) }, does: Operation::Add },
     PrimitiveRow { word: WordRow { vocab: "math", name: "-", ins: &["x", "y"], outs: Some(&["z"]) }, does: Operation::Subtract },
     PrimitiveRow { word: WordRow { vocab: "math", name: "*", ins: &["x", "y"], outs: Some(&["z"]) }, does: Operation::Multiply },
@@ -170,6 +175,7 @@ static PRIMITIVES: [PrimitiveRow; 58] = [
     PrimitiveRow { word: WordRow { vocab: "io", name: "print", ins: &["str"], outs: Some(&[]) }, does: Operation::Print },
     PrimitiveRow { word: WordRow { vocab: "io", name: "nl", ins: &[], outs: Some(&[]) }, does: Operation::NewLine },
     PrimitiveRow { word: WordRow { vocab: "prettyprint", name: ".", ins: &["x"], outs: Some(&[]) }, does: Operation::Show },
+    PrimitiveRow { word: WordRow { vocab: "combinators.private", name: "(no-cond)", ins: &[], outs: None }, does: Operation::NoCond },
 ];
 
 /// The table, by the numbers of its rows.

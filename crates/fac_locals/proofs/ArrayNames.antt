@@ -1,19 +1,19 @@
 -- Which numbers of templates a phrase covers, and which arrays are named where.
-use Rattle.std.proofs.Common.{◌≡◌, ◌<◌, ◌≤◌, ◌⊎◌, inl, inr, ℕ, zero, suc, ◌+◌, List, [], ◌∷◌, ◌++◌, length, get_or, Some, Bool, true, false, refl, ap, ◌∙◌, arith}
+use Rattle.std.proofs.Common.{◌≡◌, ◌<◌, ◌≤◌, ◌⊎◌, inl, inr, ℕ, zero, suc, ◌+◌, List, [], ◌∷◌, ◌++◌, length, get_or, Option, Some, Bool, true, false, refl, ap, ◌∙◌, arith}
 use Rattle.std.specs.Prelude.{map, slice_get, nat_eq, nat_lt}
 use Rattle.std.specs.List.{list_all}
 use Rattle.std.proofs.lemmas.Bool.{cases_lt, cases_eq, eqb-true, ltb-true, and_parts}
-use Rattle.fac_lang.specs.Phrases.{Phrase, end, then, Item, lit, lit_arr, quot, word, bind, local, fry, hole, call_eff, exec_eff, next_method, made, next_after, held, known}
+use Rattle.fac_lang.specs.Phrases.{Phrase, end, then, Item, lit, lit_arr, quot, word, next_method}
 use Rattle.fac_lang.specs.declared.phrase.Place.{Place}
 use Rattle.fac_lang.specs.declared.phrase.Template.{Template}
 use Rattle.fac_lang.specs.declared.program.Lit.{Lit}
 use Rattle.fac_lang.specs.declared.program.Lit.TheVariants.{Int as l_int, True as l_yes, False as l_no, Str as l_str, Arr as l_arr, Wref as l_word, Quot as l_quot, Made as l_made}
 use Rattle.fac_lang.specs.declared.program.WordDef.{WordDef}
 use Rattle.fac_lang.specs.declared.program.Sort.{Sort}
-use Rattle.fac_lang.specs.declared.program.Sort.TheVariants.{Prim as prim, Core as core, Body as body, Past as past, Itself as itself, Class as class, Isa as isa, Getter as getter, Setter as setter, Putter as putter, Generic as generic, Method as method}
+use Rattle.fac_lang.specs.declared.program.Sort.TheVariants.{Body as body, Past as past, Method as method}
 use Rattle.fac_lang.specs.Whole.{times_in, each_below, each_numbered, names_earlier, arrays_named, arrays_named_by, arrays_in, joined, word_phrases}
 use Rattle.fac_locals.specs.declared.closing.ArrayStart.{ArrayStart}
-use Rattle.fac_locals.specs.inner.Numbering.{template_of, plain_phrase, body_of, phrase_behind, item_behind, closed_phrase, phrase_templates, item_templates, phrase_starts, item_starts, words_behind, words_templates, words_starts}
+use Rattle.fac_locals.specs.inner.Numbering.{template_of, plain_phrase, phrase_of, method_of, phrase_behind, item_behind, closed_phrase, phrase_templates, item_templates, phrase_starts, item_starts, words_behind, words_templates, words_starts}
 use Rattle.fac_locals.proofs.LiteralArrays.{HasBuiltPhrase, HaveBuiltPhrases, IsClosable, IsClosableItem, AreClosable}
 use Rattle.fac_locals.proofs.Puts.{counted, keys, IsPut, IsEntry, put_left, put_right, times_both, keys_both}
 
@@ -65,128 +65,95 @@ first_covered counts k ts own rs (inl h) = inl (put_left k ts (own ∷ []) h)
 first_covered counts k ts own rs (inr h) = inr h
 
 module _ (counts : List ℕ) (k : ℕ) where
-  mutual
-    pub phrase_covers : (n : ℕ) (t : Phrase) → n ≤ k → k < phrase_behind counts n t → Covered counts k (phrase_templates counts n t) (phrase_starts counts n t)
-    phrase_covers n end le lt = outside _ n k le lt
-    phrase_covers n (then i p t) le lt =
-        let m = item_behind counts n i in
-        let ts = item_templates counts n p i in
-        let us = phrase_templates counts m t in
-        let ss = item_starts counts n p i in
-        let rs = phrase_starts counts m t in
-        by_side (Covered counts k (ts ++ us) (ss ++ rs)) m k (λ (h : k < m). covered_left counts k ts us ss rs (item_covers n p i le h)) (λ (h : m ≤ k). covered_right counts k ts us ss rs (phrase_covers m t h lt)) (cases_lt k m)
+  module _ (m : Option ℕ) where
+    mutual
+      pub phrase_covers : (n : ℕ) (t : Phrase) → n ≤ k → k < phrase_behind counts n t → Covered counts k (phrase_templates counts m n t) (phrase_starts counts m n t)
+      phrase_covers n end le lt = outside _ n k le lt
+      phrase_covers n (then i p t) le lt =
+          let j = item_behind counts n i in
+          let ts = item_templates counts m n p i in
+          let us = phrase_templates counts m j t in
+          let ss = item_starts counts m n p i in
+          let rs = phrase_starts counts m j t in
+          by_side (Covered counts k (ts ++ us) (ss ++ rs)) j k (λ (h : k < j). covered_left counts k ts us ss rs (item_covers n p i le h)) (λ (h : j ≤ k). covered_right counts k ts us ss rs (phrase_covers j t h lt)) (cases_lt k j)
 
-    item_covers : (n : ℕ) (p : Place) (i : Item) → n ≤ k → k < item_behind counts n i → Covered counts k (item_templates counts n p i) (item_starts counts n p i)
-    item_covers n p (quot t) le lt =
-        let own : ℕ × Template = (n, template_of p (closed_phrase counts (suc n) t)) in
-        let ts = phrase_templates counts (suc n) t in
-        let rs = phrase_starts counts (suc n) t in
-        by_side (Covered counts k (ts ++ own ∷ []) rs) (suc n) k (λ (h : k < suc n). inl (put_right k ts (own ∷ []) (inl (omega (arith, h, le))))) (λ (h : suc n ≤ k). first_covered counts k ts own rs (phrase_covers (suc n) t h lt)) (cases_lt k (suc n))
-    item_covers n p (lit_arr a) le lt = inr (inl (le, lt))
-    item_covers n p (lit q) le lt = outside _ n k le lt
-    item_covers n p (word w) le lt = outside _ n k le lt
-    item_covers n p (bind x) le lt = outside _ n k le lt
-    item_covers n p (local x) le lt = outside _ n k le lt
-    item_covers n p (fry t m) le lt = outside _ n k le lt
-    item_covers n p (hole m) le lt = outside _ n k le lt
-    item_covers n p (call_eff f) le lt = outside _ n k le lt
-    item_covers n p (exec_eff f) le lt = outside _ n k le lt
-    item_covers n p next_method le lt = outside _ n k le lt
-    item_covers n p (made m) le lt = outside _ n k le lt
-    item_covers n p (next_after m) le lt = outside _ n k le lt
-    item_covers n p (held v) le lt = outside _ n k le lt
-    item_covers n p (known m) le lt = outside _ n k le lt
+      item_covers : (n : ℕ) (p : Place) (i : Item) → n ≤ k → k < item_behind counts n i → Covered counts k (item_templates counts m n p i) (item_starts counts m n p i)
+      item_covers n p (quot t) le lt =
+          let own : ℕ × Template = (n, template_of p (closed_phrase counts m (suc n) t)) in
+          let ts = phrase_templates counts m (suc n) t in
+          let rs = phrase_starts counts m (suc n) t in
+          by_side (Covered counts k (ts ++ own ∷ []) rs) (suc n) k (λ (h : k < suc n). inl (put_right k ts (own ∷ []) (inl (omega (arith, h, le))))) (λ (h : suc n ≤ k). first_covered counts k ts own rs (phrase_covers (suc n) t h lt)) (cases_lt k (suc n))
+      item_covers n p (lit_arr a) le lt = inr (inl (le, lt))
+      item_covers n p _ le lt = outside _ n k le lt
 
-  pub words_cover : (n : ℕ) (ds : List WordDef) → n ≤ k → k < words_behind counts n ds → Covered counts k (words_templates counts n ds) (words_starts counts n ds)
-  words_cover n [] le lt = outside _ n k le lt
-  words_cover n (d ∷ ds) le lt =
-      let t = body_of d.sort in
-      let m = phrase_behind counts n t in
-      let ts = phrase_templates counts n t in
-      let us = words_templates counts m ds in
-      let ss = phrase_starts counts n t in
-      let rs = words_starts counts m ds in
-      by_side (Covered counts k (ts ++ us) (ss ++ rs)) m k (λ (h : k < m). covered_left counts k ts us ss rs (phrase_covers n t le h)) (λ (h : m ≤ k). covered_right counts k ts us ss rs (words_cover m ds h lt)) (cases_lt k m)
+  pub words_cover : (w n : ℕ) (ds : List WordDef) → n ≤ k → k < words_behind counts n ds → Covered counts k (words_templates counts w n ds) (words_starts counts w n ds)
+  words_cover w n [] le lt = outside _ n k le lt
+  words_cover w n (d ∷ ds) le lt =
+      let t = phrase_of d.sort in
+      let m = method_of w d.sort in
+      let j = phrase_behind counts n t in
+      let ts = phrase_templates counts m n t in
+      let us = words_templates counts (suc w) j ds in
+      let ss = phrase_starts counts m n t in
+      let rs = words_starts counts (suc w) j ds in
+      by_side (Covered counts k (ts ++ us) (ss ++ rs)) j k (λ (h : k < j). covered_left counts k ts us ss rs (phrase_covers m n t le h)) (λ (h : j ≤ k). covered_right counts k ts us ss rs (words_cover (suc w) j ds h lt)) (cases_lt k j)
 
 -- a word's phrase before others
-abbrev with_phrase : Sort → List Phrase → List Phrase
+abbrev pub with_phrase : Sort → List Phrase → List Phrase
 with_phrase s ts = elim s [ body t ↦ t ∷ ts | past t ↦ t ∷ ts | method c g t ↦ t ∷ ts | _ ↦ ts ]
 
 -- The arrays that are noted are those that the phrase names.
 module _ (counts : List ℕ) (bound : ℕ) where
-  mutual
-    pub phrase_names_noted : (n : ℕ) (t : Phrase) → IsClosable bound t → keys (phrase_starts counts n t) ≡ arrays_named t
-    phrase_names_noted n end h = refl
-    phrase_names_noted n (then i p t) h = keys_both (item_starts counts n p i) (phrase_starts counts (item_behind counts n i) t) ∙ rw (item_names_noted n p i h.0, phrase_names_noted (item_behind counts n i) t h.1) refl
+  module _ (m : Option ℕ) where
+    mutual
+      pub phrase_names_noted : (n : ℕ) (t : Phrase) → IsClosable bound t → keys (phrase_starts counts m n t) ≡ arrays_named t
+      phrase_names_noted n end h = refl
+      phrase_names_noted n (then i p t) h = keys_both (item_starts counts m n p i) (phrase_starts counts m (item_behind counts n i) t) ∙ rw (item_names_noted n p i h.0, phrase_names_noted (item_behind counts n i) t h.1) refl
 
-    item_names_noted : (n : ℕ) (p : Place) (i : Item) → IsClosableItem bound i → keys (item_starts counts n p i) ≡ arrays_named_by i
-    item_names_noted n p (quot t) h = phrase_names_noted (suc n) t h
-    item_names_noted n p (lit_arr a) h = refl
-    item_names_noted n p (lit q) h = refl
-    item_names_noted n p (word w) h = refl
-    item_names_noted n p (bind x) h = absurd h
-    item_names_noted n p (local x) h = absurd h
-    item_names_noted n p (fry t m) h = absurd h
-    item_names_noted n p (hole m) h = absurd h
-    item_names_noted n p (call_eff f) h = absurd h
-    item_names_noted n p (exec_eff f) h = absurd h
-    item_names_noted n p next_method h = absurd h
-    item_names_noted n p (made m) h = absurd h
-    item_names_noted n p (next_after m) h = absurd h
-    item_names_noted n p (held v) h = absurd h
-    item_names_noted n p (known m) h = absurd h
+      item_names_noted : (n : ℕ) (p : Place) (i : Item) → IsClosableItem bound i → keys (item_starts counts m n p i) ≡ arrays_named_by i
+      item_names_noted n p (quot t) h = phrase_names_noted (suc n) t h
+      item_names_noted n p (lit_arr a) h = refl
+      item_names_noted n p (lit q) h = refl
+      item_names_noted n p (word w) h = refl
+      item_names_noted n p next_method h = refl
+      item_names_noted n p _ h = absurd h
 
-  -- what is noted is below the bound
-  mutual
-    pub phrase_noted_below : (n : ℕ) (t : Phrase) → IsClosable bound t → (b : ℕ) (m : ArrayStart) → IsEntry b m (phrase_starts counts n t) → b < bound
-    phrase_noted_below n end h b m e = absurd e
-    phrase_noted_below n (then i p t) h b m e = either_below (b < bound) b m (item_starts counts n p i) (phrase_starts counts (item_behind counts n i) t) (item_noted_below n p i h.0 b m) (phrase_noted_below (item_behind counts n i) t h.1 b m) e
+    -- what is noted is below the bound
+    mutual
+      pub phrase_noted_below : (n : ℕ) (t : Phrase) → IsClosable bound t → (b : ℕ) (x : ArrayStart) → IsEntry b x (phrase_starts counts m n t) → b < bound
+      phrase_noted_below n end h b x e = absurd e
+      phrase_noted_below n (then i p t) h b x e = either_below (b < bound) b x (item_starts counts m n p i) (phrase_starts counts m (item_behind counts n i) t) (item_noted_below n p i h.0 b x) (phrase_noted_below (item_behind counts n i) t h.1 b x) e
 
-    item_noted_below : (n : ℕ) (p : Place) (i : Item) → IsClosableItem bound i → (b : ℕ) (m : ArrayStart) → IsEntry b m (item_starts counts n p i) → b < bound
-    item_noted_below n p (quot t) h b m e = phrase_noted_below (suc n) t h b m e
-    item_noted_below n p (lit_arr a) h b m (inl e) = omega (arith, h, e.0)
-    item_noted_below n p (lit_arr a) h b m (inr e) = absurd e
-    item_noted_below n p (lit q) h b m e = absurd e
-    item_noted_below n p (word w) h b m e = absurd e
-    item_noted_below n p (bind x) h b m e = absurd h
-    item_noted_below n p (local x) h b m e = absurd h
-    item_noted_below n p (fry t j) h b m e = absurd h
-    item_noted_below n p (hole j) h b m e = absurd h
-    item_noted_below n p (call_eff f) h b m e = absurd h
-    item_noted_below n p (exec_eff f) h b m e = absurd h
-    item_noted_below n p next_method h b m e = absurd h
-    item_noted_below n p (made j) h b m e = absurd h
-    item_noted_below n p (next_after j) h b m e = absurd h
-    item_noted_below n p (held v) h b m e = absurd h
-    item_noted_below n p (known j) h b m e = absurd h
+      item_noted_below : (n : ℕ) (p : Place) (i : Item) → IsClosableItem bound i → (b : ℕ) (x : ArrayStart) → IsEntry b x (item_starts counts m n p i) → b < bound
+      item_noted_below n p (quot t) h b x e = phrase_noted_below (suc n) t h b x e
+      item_noted_below n p (lit_arr a) h b x (inl e) = omega (arith, h, e.0)
+      item_noted_below n p (lit_arr a) h b x (inr e) = absurd e
+      item_noted_below n p (lit q) h b x e = absurd e
+      item_noted_below n p (word w) h b x e = absurd e
+      item_noted_below n p next_method h b x e = absurd e
+      item_noted_below n p _ h b x e = absurd h
 
-  pub words_noted_below : (n : ℕ) (ds : List WordDef) → AreClosable bound ds → (b : ℕ) (m : ArrayStart) → IsEntry b m (words_starts counts n ds) → b < bound
-  words_noted_below n [] h b m e = absurd e
-  words_noted_below n (d ∷ ds) h b m e =
-      let j = phrase_behind counts n (body_of d.sort) in
-      either_below (b < bound) b m (phrase_starts counts n (body_of d.sort)) (words_starts counts j ds) (phrase_noted_below n (body_of d.sort) h.0 b m) (words_noted_below j ds h.1 b m) e
+  pub words_noted_below : (w n : ℕ) (ds : List WordDef) → AreClosable bound ds → (b : ℕ) (x : ArrayStart) → IsEntry b x (words_starts counts w n ds) → b < bound
+  words_noted_below w n [] h b x e = absurd e
+  words_noted_below w n (d ∷ ds) h b x e =
+      let j = phrase_behind counts n (phrase_of d.sort) in
+      let m = method_of w d.sort in
+      either_below (b < bound) b x (phrase_starts counts m n (phrase_of d.sort)) (words_starts counts (suc w) j ds) (phrase_noted_below m n (phrase_of d.sort) h.0 b x) (words_noted_below (suc w) j ds h.1 b x) e
 
-  sort_names : (top : ℕ) (s : Sort) (ds : List WordDef) → HasBuiltPhrase top s → arrays_named (body_of s) ++ joined (map arrays_named (word_phrases ds)) ≡ joined (map arrays_named (with_phrase s (word_phrases ds)))
+  sort_names : (top : ℕ) (s : Sort) (ds : List WordDef) → HasBuiltPhrase top s → arrays_named (phrase_of s) ++ joined (map arrays_named (word_phrases ds)) ≡ joined (map arrays_named (with_phrase s (word_phrases ds)))
   sort_names top (body t) ds h = refl
-  sort_names top (prim k) ds h = refl
-  sort_names top (core k) ds h = refl
   sort_names top (past t) ds h = absurd h
-  sort_names top itself ds h = refl
-  sort_names top (class k) ds h = refl
-  sort_names top (isa k) ds h = refl
-  sort_names top (getter x) ds h = refl
-  sort_names top (setter x) ds h = refl
-  sort_names top (putter x) ds h = refl
-  sort_names top generic ds h = refl
-  sort_names top (method c g t) ds h = absurd h
+  sort_names top (method c g t) ds h = refl
+  sort_names top _ ds h = refl
 
   -- the arrays that words name
-  pub words_names_noted : (top n : ℕ) (ds : List WordDef) → HaveBuiltPhrases top ds → AreClosable bound ds → keys (words_starts counts n ds) ≡ joined (map arrays_named (word_phrases ds))
-  words_names_noted top n [] b h = refl
-  words_names_noted top n (d ∷ ds) b h =
-      let j = phrase_behind counts n (body_of d.sort) in
-      keys_both (phrase_starts counts n (body_of d.sort)) (words_starts counts j ds)
-      ∙ rw (phrase_names_noted n (body_of d.sort) h.0, words_names_noted top j ds b.1 h.1) (sort_names top d.sort ds b.0)
+  pub words_names_noted : (top w n : ℕ) (ds : List WordDef) → HaveBuiltPhrases top ds → AreClosable bound ds → keys (words_starts counts w n ds) ≡ joined (map arrays_named (word_phrases ds))
+  words_names_noted top w n [] b h = refl
+  words_names_noted top w n (d ∷ ds) b h =
+      let j = phrase_behind counts n (phrase_of d.sort) in
+      let m = method_of w d.sort in
+      keys_both (phrase_starts counts m n (phrase_of d.sort)) (words_starts counts (suc w) j ds)
+      ∙ rw (phrase_names_noted m n (phrase_of d.sort) h.0, words_names_noted top (suc w) j ds b.1 h.1) (sort_names top d.sort ds b.0)
 
 pub elements_names : (p : Place) (ls : List Lit) → arrays_named (plain_phrase p ls) ≡ arrays_in ls
 elements_names p [] = refl
@@ -231,7 +198,7 @@ names_fewer b (suc a) (ls ∷ lss) =
     let rest = names_fewer b a lss in
     omega (arith, outer, inner, rest)
 
-absent : (x k : ℕ) (xs : List ℕ) → list_all (λ (b : ℕ). nat_lt b k) xs ≡ true → k ≤ x → times_in x xs ≡ 0
+pub absent : (x k : ℕ) (xs : List ℕ) → list_all (λ (b : ℕ). nat_lt b k) xs ≡ true → k ≤ x → times_in x xs ≡ 0
 absent x k [] h le = refl
 absent x k (y ∷ ys) h le = let both = and_parts (nat_lt y k) _ h in go (nat_eq x y) refl (absent x k ys both.1 le) (ltb-true y k both.0) where
   go : (b : Bool) → nat_eq x y ≡ b → times_in x ys ≡ 0 → y < k → counted b (times_in x ys) ≡ 0

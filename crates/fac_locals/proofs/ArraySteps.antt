@@ -1,5 +1,5 @@
 -- One step of counting and closing literal arrays, and the parts of a program together.
-use Rattle.std.proofs.Common.{◌≡◌, ◌<◌, ℕ, suc, List, [], ◌∷◌, ◌++◌, length, set, get_or, refl, sym, ap, ◌∙◌}
+use Rattle.std.proofs.Common.{◌≡◌, ◌<◌, ℕ, suc, List, [], ◌∷◌, ◌++◌, length, set, get_or, None, refl, sym, ap, ◌∙◌}
 use Rattle.std.proofs.lemmas.List.{set-set, length-set, get_or_default}
 use Rattle.fac_lang.specs.Meaning.{nowhere}
 use Rattle.fac_lang.specs.declared.phrase.Template.{Template}
@@ -27,17 +27,17 @@ same_stage e f g = rw (e, f, g) refl
 
 module _ (counts : List ℕ) where
   -- a literal array whose elements were taken out, closed and put back
-  pub array_step : (a : ℕ) (arrays : List (List Lit)) (before moved behind : Closing) (start : ArrayStart) (taken elements nothing closed : List Lit) → start ≡ get_or before.starts.items a start → a < length before.starts.items → taken ≡ get_or arrays a taken → a < length arrays → elements ≡ taken → moved.next ≡ start.number → moved.templates.items ≡ before.templates.items → moved.starts.items ≡ before.starts.items → (closed ≡ closed_elements counts moved.next elements) × PhrasePassed counts moved (plain_phrase start.place elements) behind → stage_of (set (set arrays a nothing) a closed) behind ≡ array_closed counts a (stage_of arrays before)
+  pub array_step : (a : ℕ) (arrays : List (List Lit)) (before moved behind : Closing) (start : ArrayStart) (taken elements nothing closed : List Lit) → start ≡ get_or before.starts.items a start → a < length before.starts.items → taken ≡ get_or arrays a taken → a < length arrays → elements ≡ taken → moved.next ≡ start.number → moved.templates.items ≡ before.templates.items → moved.starts.items ≡ before.starts.items → (closed ≡ closed_elements counts moved.next elements) × PhrasePassed counts start.method moved (plain_phrase start.place elements) behind → stage_of (set (set arrays a nothing) a closed) behind ≡ array_closed counts a (stage_of arrays before)
   array_step a arrays before moved behind start taken elements nothing closed is_start inside is_taken within is_elements next_is templates_stay starts_stay closes =
       let s = stage_of arrays before in
-      let start_is : start ≡ start_at s a = is_start ∙ get_or_default before.starts.items a start (start_of 0 nowhere) inside in
+      let start_is : start ≡ start_at s a = is_start ∙ get_or_default before.starts.items a start (start_of 0 nowhere None) inside in
       let elements_are : elements ≡ elements_at s a = is_elements ∙ is_taken ∙ get_or_default arrays a taken [] within in
       let number_is : moved.next ≡ (start_at s a).number = next_is ∙ ap (λ (x : ArrayStart). x.number) start_is in
       let passed = closes.1 in
       same_stage
       (set-set arrays a nothing closed ∙ ap (set arrays a) (closes.0 ∙ ap (λ (n : ℕ). closed_elements counts n elements) number_is ∙ ap (closed_elements counts (start_at s a).number) elements_are))
-      (passed.templates_are ∙ ap (λ (ts : List Template). put_all ts (phrase_templates counts moved.next (plain_phrase start.place elements))) templates_stay ∙ ap (λ (n : ℕ). put_all before.templates.items (phrase_templates counts n (plain_phrase start.place elements))) number_is ∙ ap (λ (x : ArrayStart). put_all before.templates.items (phrase_templates counts (start_at s a).number (plain_phrase x.place elements))) start_is ∙ ap (λ (ls : List Lit). put_all before.templates.items (phrase_templates counts (start_at s a).number (plain_phrase (start_at s a).place ls))) elements_are)
-      (passed.starts_are ∙ ap (λ (ts : List ArrayStart). put_all ts (phrase_starts counts moved.next (plain_phrase start.place elements))) starts_stay ∙ ap (λ (n : ℕ). put_all before.starts.items (phrase_starts counts n (plain_phrase start.place elements))) number_is ∙ ap (λ (x : ArrayStart). put_all before.starts.items (phrase_starts counts (start_at s a).number (plain_phrase x.place elements))) start_is ∙ ap (λ (ls : List Lit). put_all before.starts.items (phrase_starts counts (start_at s a).number (plain_phrase (start_at s a).place ls))) elements_are)
+      (passed.templates_are ∙ ap (λ (ts : List Template). put_all ts (phrase_templates counts start.method moved.next (plain_phrase start.place elements))) templates_stay ∙ ap (λ (n : ℕ). put_all before.templates.items (phrase_templates counts start.method n (plain_phrase start.place elements))) number_is ∙ ap (λ (x : ArrayStart). put_all before.templates.items (phrase_templates counts x.method (start_at s a).number (plain_phrase x.place elements))) start_is ∙ ap (λ (ls : List Lit). put_all before.templates.items (phrase_templates counts (start_at s a).method (start_at s a).number (plain_phrase (start_at s a).place ls))) elements_are)
+      (passed.starts_are ∙ ap (λ (ts : List ArrayStart). put_all ts (phrase_starts counts start.method moved.next (plain_phrase start.place elements))) starts_stay ∙ ap (λ (n : ℕ). put_all before.starts.items (phrase_starts counts start.method n (plain_phrase start.place elements))) number_is ∙ ap (λ (x : ArrayStart). put_all before.starts.items (phrase_starts counts x.method (start_at s a).number (plain_phrase x.place elements))) start_is ∙ ap (λ (ls : List Lit). put_all before.starts.items (phrase_starts counts (start_at s a).method (start_at s a).number (plain_phrase (start_at s a).place ls))) elements_are)
 
   -- the last of the arrays that are left
   pub closed_step : (left a : ℕ) (s u : Stage) → left ≡ suc a → u ≡ array_closed counts a s → arrays_closed counts left s ≡ arrays_closed counts a u
@@ -47,10 +47,10 @@ module _ (counts : List ℕ) where
   as_many_arrays a s u is_closed = ap (λ (x : Stage). length x.arrays) is_closed ∙ length-set s.arrays a (closed_elements counts (start_at s a).number (elements_at s a))
 
   pub as_many_starts : (a : ℕ) (s u : Stage) → u ≡ array_closed counts a s → length u.starts ≡ length s.starts
-  as_many_starts a s u is_closed = ap (λ (x : Stage). length x.starts) is_closed ∙ as_many_put s.starts (phrase_starts counts (start_at s a).number (plain_phrase (start_at s a).place (elements_at s a)))
+  as_many_starts a s u is_closed = ap (λ (x : Stage). length x.starts) is_closed ∙ as_many_put s.starts (phrase_starts counts (start_at s a).method (start_at s a).number (plain_phrase (start_at s a).place (elements_at s a)))
 
   -- words and arrays are closed one after the other
-  pub parts_closed : (words words_closed : List WordDef) (arrays arrays_now : List (List Lit)) (templates : List Template) (begun between done : Closing) → counts ≡ counts_from [] arrays → begun.next ≡ 0 → length begun.templates.items ≡ words_behind counts 0 words → length begun.starts.items ≡ length arrays → (words_closed ≡ closed_words counts begun.next words) × WordsPassed counts begun words between → stage_of arrays_now done ≡ arrays_closed counts (length arrays) (stage_of arrays between) → templates ≡ done.templates.items → PartsClosed words arrays words_closed arrays_now templates
+  pub parts_closed : (words words_closed : List WordDef) (arrays arrays_now : List (List Lit)) (templates : List Template) (begun between done : Closing) → counts ≡ counts_from [] arrays → begun.next ≡ 0 → length begun.templates.items ≡ words_behind counts 0 words → length begun.starts.items ≡ length arrays → (words_closed ≡ closed_words counts 0 begun.next words) × WordsPassed counts 0 begun words between → stage_of arrays_now done ≡ arrays_closed counts (length arrays) (stage_of arrays between) → templates ≡ done.templates.items → PartsClosed words arrays words_closed arrays_now templates
   parts_closed words words_closed arrays arrays_now templates begun between done counts_are next_is many_templates many_starts closes arrays_are templates_are = record {
     counts = counts;
     counts_are = counts_are;
@@ -58,9 +58,9 @@ module _ (counts : List ℕ) where
     unfilled_count = many_templates;
     unmet = begun.starts.items;
     unmet_count = many_starts;
-    words_are = closes.0 ∙ ap (λ (n : ℕ). closed_words counts n words) next_is;
+    words_are = closes.0 ∙ ap (λ (n : ℕ). closed_words counts 0 n words) next_is;
     after_words = stage_of arrays between;
-    after_words_is = same_stage refl (closes.1.templates_are ∙ ap (λ (n : ℕ). put_all begun.templates.items (words_templates counts n words)) next_is) (closes.1.starts_are ∙ ap (λ (n : ℕ). put_all begun.starts.items (words_starts counts n words)) next_is);
+    after_words_is = same_stage refl (closes.1.templates_are ∙ ap (λ (n : ℕ). put_all begun.templates.items (words_templates counts 0 n words)) next_is) (closes.1.starts_are ∙ ap (λ (n : ℕ). put_all begun.starts.items (words_starts counts 0 n words)) next_is);
     last = stage_of arrays_now done;
     last_is = arrays_are;
     arrays_are = refl;

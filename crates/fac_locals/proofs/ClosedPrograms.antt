@@ -1,10 +1,10 @@
 -- What closing makes stands for the program.
-use Rattle.std.proofs.Common.{◌≡◌, ◌<◌, ◌≤◌, ◌⊎◌, inl, inr, ℕ, zero, suc, ◌+◌, List, [], ◌∷◌, ◌++◌, length, set, get_or, Option, Some, None, refl, sym, ap, ◌∙◌, subst, append_assoc, length-append, length-set, arith}
+use Rattle.std.proofs.Common.{◌≡◌, ◌<◌, ◌≤◌, ◌⊎◌, inl, inr, ℕ, zero, suc, ◌+◌, List, [], ◌∷◌, ◌++◌, length, set, get_or, true, Option, Some, None, refl, sym, ap, ◌∙◌, subst, append_assoc, length-append, length-set, arith}
 use Rattle.std.specs.Prelude.{map, slice_get}
 use Rattle.std.proofs.lemmas.Bool.{cases_eq, cases_lt}
 use Rattle.std.proofs.lemmas.Option.{get_or_from_slice_get, slice_get_within}
-use Rattle.fac_lang.specs.Phrases.{Literal, Phrase, end, then, Item, lit, lit_arr, quot, word, bind, local, fry, hole, call_eff, exec_eff, next_method, made, next_after, held, known}
-use Rattle.fac_lang.specs.Meaning.{nowhere}
+use Rattle.fac_lang.specs.Phrases.{Literal, Phrase, end, then, Item, lit, lit_arr, quot, word, next_method}
+use Rattle.fac_lang.specs.Meaning.{nowhere, array_method}
 use Rattle.fac_lang.specs.declared.phrase.Place.{Place}
 use Rattle.fac_lang.specs.declared.phrase.Template.{Template}
 use Rattle.fac_lang.specs.declared.program.Lit.{Lit}
@@ -12,17 +12,18 @@ use Rattle.fac_lang.specs.declared.program.Lit.TheVariants.{Int as l_int, True a
 use Rattle.fac_lang.specs.declared.program.Program.{Program}
 use Rattle.fac_lang.specs.declared.program.WordDef.{WordDef}
 use Rattle.fac_lang.specs.declared.program.Sort.{Sort}
-use Rattle.fac_lang.specs.declared.program.Sort.TheVariants.{Prim as prim, Core as core, Body as body, Past as past, Itself as itself, Class as class, Isa as isa, Getter as getter, Setter as setter, Putter as putter, Generic as generic, Method as method}
+use Rattle.fac_lang.specs.declared.program.Sort.TheVariants.{Body as body, Past as past, Method as method}
 use Rattle.fac_lang.specs.Forms.{IsBuilt}
-use Rattle.fac_lang.specs.Whole.{IsWhole, times_in, arrays_named, arrays_in, joined, word_phrases, all_arrays_named}
+use Rattle.fac_lang.specs.Whole.{IsWhole, times_in, each_numbered, names_earlier, arrays_named, arrays_named_by, arrays_in, joined, word_phrases, all_arrays_named}
 use Rattle.fac_locals.specs.declared.closing.ArrayStart.{ArrayStart}
-use Rattle.fac_locals.specs.Literals.{Quoted, first_of_word, first_of_literal, first_in_array, behind, literal_or, literal_numbered}
-use Rattle.fac_locals.specs.Closed.{Closes, CloseWords, ClosesSort, ClosesPhrase, ClosesItem, ClosesLiteral, CloseLiterals, ClosesElement, CloseElements, CloseArrays}
-use Rattle.fac_locals.specs.inner.Numbering.{put_all, template_of, start_of, plain_item, plain_phrase, body_of, phrase_behind, item_behind, closed_item, closed_phrase, phrase_templates, item_templates, phrase_starts, item_starts, closed_element, closed_elements, closed_sort, closed_word, closed_words, words_behind, words_templates, words_starts, counts_from, Stage, start_at, elements_at, array_closed, arrays_closed, PartsClosed}
-use Rattle.fac_locals.proofs.LiteralArrays.{HasBuiltPhrase, HaveBuiltPhrases, built_phrases, array_in_no_method, IsClosable, IsClosableItem, AreClosable, program_closable, array_closable, closable_more}
+use Rattle.fac_locals.specs.Literals.{Quoted, element_item, first_of_word, first_of_literal, first_in_array, behind, literal_or, literal_numbered}
+use Rattle.fac_locals.specs.Closed.{IsMadeBy, Closes, CloseWords, ClosesSort, ClosesPhrase, ClosesItem, ClosesLiteral, CloseLiterals, ClosesElement, CloseElements, CloseArrays}
+use Rattle.fac_locals.specs.inner.Numbering.{put_all, template_of, start_of, plain_item, plain_phrase, phrase_of, method_of, next_in, phrase_behind, item_behind, closed_item, closed_phrase, phrase_templates, item_templates, phrase_starts, item_starts, closed_element, closed_elements, closed_sort, closed_word, closed_words, words_behind, words_templates, words_starts, counts_from, Stage, start_at, elements_at, array_closed, arrays_closed, PartsClosed}
+use Rattle.fac_locals.proofs.LiteralArrays.{HasBuiltPhrase, HaveBuiltPhrases, built_phrases, IsClosable, IsClosableItem, AreClosable, program_closable, array_closable, closable_more, in_method, item_in, in_method_is, body_of}
 use Rattle.fac_locals.proofs.PlacedLiterals.{Placed, quoted_of, place_at, placed_in, placed_at, placed_words, array_placed, program_placed, placed_literals, placed_places, phrase_counted, item_counted, words_counted, array_unfolds, array_counted, found}
 use Rattle.fac_locals.proofs.Puts.{keys, AllOf, Has, all_both, set_here, set_other, put_keeps, put_there, put_elsewhere, named_put, entry_named, put_once, times_both}
 use Rattle.fac_locals.proofs.ArrayNames.{Covered, by_side, reserved_by, phrase_covers, words_cover, phrase_names_noted, phrase_noted_below, words_noted_below, words_names_noted, elements_names, names_below, names_all, names_step, names_fewer, not_named_below, below_once}
+use Rattle.fac_locals.proofs.ArrayMethods.{by_words, by_arrays, word_array, array_array}
 use Rattle.fac_locals.proofs.ArraySteps.{as_many_put}
 
 pub element_at : {A : Type 0} (xs : List A) (x : A) (ys : List A) (n : ℕ) → length xs ≡ n → slice_get (xs ++ x ∷ ys) n ≡ Some x
@@ -34,9 +35,9 @@ element_at (z ∷ xs) x ys (suc n) e = element_at xs x ys n (omega (arith, e))
 one_more : {A : Type 0} (xs : List A) (x : A) (n : ℕ) → length xs ≡ n → length (xs ++ x ∷ []) ≡ suc n
 one_more xs x n e = rw (length-append xs (x ∷ [])) (omega (arith, e))
 
--- a literal array is closed where it stands, in no method
-abbrev pub IsClosedArray : Program → List Lit → List Lit → Type 0
-IsClosedArray P ls c = (at : Literal) × CloseElements P None (first_in_array at) ls c
+-- the literal array of this number is closed where it stands
+abbrev pub IsClosedArray : Program → ℕ → List Lit → List Lit → Type 0
+IsClosedArray P a ls c = (at : Literal) × CloseElements P (array_method P (length P.arrays) a) (first_in_array at) ls c
 
 some_same : {A : Type 0} (x y : A) → Some x ≡ Some y → x ≡ y
 some_same x y e = cc
@@ -57,6 +58,7 @@ module _ (P : Program) (counts : List ℕ) (X : ℕ → Literal → Place → Li
     pub after : List Placed
     pub is : all ≡ before ++ (X b at m.place ++ after)
     pub number_is : length before ≡ m.number
+    pub method_is : m.method ≡ array_method P (length P.arrays) b
 
   first_part : (before xs ys after : List Placed) → all ≡ before ++ ((xs ++ ys) ++ after) → all ≡ before ++ (xs ++ (ys ++ after))
   first_part before xs ys after is = is ∙ ap (λ (ls : List Placed). before ++ ls) (append_assoc xs ys after)
@@ -64,159 +66,143 @@ module _ (P : Program) (counts : List ℕ) (X : ℕ → Literal → Place → Li
   second_part : (before xs ys after : List Placed) → all ≡ before ++ ((xs ++ ys) ++ after) → all ≡ (before ++ xs) ++ (ys ++ after)
   second_part before xs ys after is = first_part before xs ys after is ∙ sym (append_assoc before xs (ys ++ after))
 
-  mutual
-    phrase_closes : (n : ℕ) (before after : List Placed) (at : Literal) (t : Phrase) → IsClosable (length P.arrays) t → length before ≡ n → all ≡ before ++ (placed_in X at t ++ after) → ClosesPhrase P at t (closed_phrase counts n t)
-    phrase_closes n before after at end h e is = refl
-    phrase_closes n before after at (then i p t) h e is =
-        let here = placed_at X at p i in
-        let rest = placed_in X (behind at i) t in
-        (closed_item counts n i, closed_phrase counts (item_behind counts n i) t, refl, item_closes n before (rest ++ after) at p i h.0 e (first_part before here rest after is), phrase_closes (item_behind counts n i) (before ++ here) after (behind at i) t h.1 (item_counted X counts (length P.arrays) count n before at p i h.0 e) (second_part before here rest after is))
+  next_closes : (at : Literal) (m : Option ℕ) → ClosesItem P at (next_in m) (next_in m)
+  next_closes at None = refl
+  next_closes at (Some m) = refl
 
-    item_closes : (n : ℕ) (before after : List Placed) (at : Literal) (p : Place) (i : Item) → IsClosableItem (length P.arrays) i → length before ≡ n → all ≡ before ++ (placed_at X at p i ++ after) → ClosesItem P at i (closed_item counts n i)
-    item_closes n before after at p (quot t) h e is =
-        let x : Placed = ((at, t), p) in
-        (n, refl, numbers n x (ap (λ (ls : List Placed). slice_get ls n) is ∙ element_at before x (placed_in X (first_of_literal at) t ++ after) n e))
-    item_closes n before after at p (lit q) h e is = refl
-    item_closes n before after at p (word w) h e is = refl
-    item_closes n before after at p (lit_arr a) h e is = refl
-    item_closes n before after at p (bind x) h e is = absurd h
-    item_closes n before after at p (local x) h e is = absurd h
-    item_closes n before after at p (fry t k) h e is = absurd h
-    item_closes n before after at p (hole k) h e is = absurd h
-    item_closes n before after at p (call_eff f) h e is = absurd h
-    item_closes n before after at p (exec_eff f) h e is = absurd h
-    item_closes n before after at p next_method h e is = absurd h
-    item_closes n before after at p (made k) h e is = absurd h
-    item_closes n before after at p (next_after m) h e is = absurd h
-    item_closes n before after at p (held v) h e is = absurd h
-    item_closes n before after at p (known m) h e is = absurd h
+  -- in the phrase of a method, or of none
+  module _ (m : Option ℕ) where
+    mutual
+      phrase_closes : (n : ℕ) (before after : List Placed) (at : Literal) (t : Phrase) → IsClosable (length P.arrays) t → length before ≡ n → all ≡ before ++ (placed_in X at (in_method m t) ++ after) → ClosesPhrase P at (in_method m t) (closed_phrase counts m n t)
+      phrase_closes n before after at end h e is = refl
+      phrase_closes n before after at (then i p t) h e is =
+          let here = placed_at X at p (item_in m i) in
+          let rest = placed_in X (behind at (item_in m i)) (in_method m t) in
+          (closed_item counts m n i, closed_phrase counts m (item_behind counts n i) t, refl, item_closes n before (rest ++ after) at p i h.0 e (first_part before here rest after is), phrase_closes (item_behind counts n i) (before ++ here) after (behind at (item_in m i)) t h.1 (item_counted X counts (length P.arrays) count m n before at p i h.0 e) (second_part before here rest after is))
 
-  -- the templates of a phrase
-  mutual
-    templates_fill : (n : ℕ) (before after : List Placed) (at : Literal) (t : Phrase) → IsClosable (length P.arrays) t → length before ≡ n → all ≡ before ++ (placed_in X at t ++ after) → AllOf Fills (phrase_templates counts n t)
-    templates_fill n before after at end h e is = tt
-    templates_fill n before after at (then i p t) h e is =
-        let here = placed_at X at p i in
-        let rest = placed_in X (behind at i) t in
-        all_both Fills (item_templates counts n p i) (phrase_templates counts (item_behind counts n i) t) (item_fills n before (rest ++ after) at p i h.0 e (first_part before here rest after is)) (templates_fill (item_behind counts n i) (before ++ here) after (behind at i) t h.1 (item_counted X counts (length P.arrays) count n before at p i h.0 e) (second_part before here rest after is))
+      item_closes : (n : ℕ) (before after : List Placed) (at : Literal) (p : Place) (i : Item) → IsClosableItem (length P.arrays) i → length before ≡ n → all ≡ before ++ (placed_at X at p (item_in m i) ++ after) → ClosesItem P at (item_in m i) (closed_item counts m n i)
+      item_closes n before after at p (quot t) h e is =
+          let x : Placed = ((at, in_method m t), p) in
+          (n, refl, numbers n x (ap (λ (ls : List Placed). slice_get ls n) is ∙ element_at before x (placed_in X (first_of_literal at) (in_method m t) ++ after) n e))
+      item_closes n before after at p (lit q) h e is = refl
+      item_closes n before after at p (word w) h e is = refl
+      item_closes n before after at p (lit_arr a) h e is = refl
+      item_closes n before after at p next_method h e is = next_closes at m
+      item_closes n before after at p _ h e is = absurd h
 
-    item_fills : (n : ℕ) (before after : List Placed) (at : Literal) (p : Place) (i : Item) → IsClosableItem (length P.arrays) i → length before ≡ n → all ≡ before ++ (placed_at X at p i ++ after) → AllOf Fills (item_templates counts n p i)
-    item_fills n before after at p (quot t) h e is =
-        let x : Placed = ((at, t), p) in
-        let inner = placed_in X (first_of_literal at) t in
-        let long = one_more before x n e in
-        let split = second_part before (x ∷ []) inner after is in
-        let closed = closed_phrase counts (suc n) t in
-        all_both Fills (phrase_templates counts (suc n) t) ((n, template_of p closed) ∷ []) (templates_fill (suc n) (before ++ x ∷ []) after (first_of_literal at) t h long split) ((x, ap (λ (ls : List Placed). slice_get ls n) is ∙ element_at before x (inner ++ after) n e, record { body = phrase_closes (suc n) (before ++ x ∷ []) after (first_of_literal at) t h long split; captures = refl; holes = refl }, refl), tt)
-    item_fills n before after at p (lit q) h e is = tt
-    item_fills n before after at p (word w) h e is = tt
-    item_fills n before after at p (lit_arr a) h e is = tt
-    item_fills n before after at p (bind x) h e is = absurd h
-    item_fills n before after at p (local x) h e is = absurd h
-    item_fills n before after at p (fry t k) h e is = absurd h
-    item_fills n before after at p (hole k) h e is = absurd h
-    item_fills n before after at p (call_eff f) h e is = absurd h
-    item_fills n before after at p (exec_eff f) h e is = absurd h
-    item_fills n before after at p next_method h e is = absurd h
-    item_fills n before after at p (made k) h e is = absurd h
-    item_fills n before after at p (next_after m) h e is = absurd h
-    item_fills n before after at p (held v) h e is = absurd h
-    item_fills n before after at p (known m) h e is = absurd h
+    -- the templates of a phrase
+    mutual
+      templates_fill : (n : ℕ) (before after : List Placed) (at : Literal) (t : Phrase) → IsClosable (length P.arrays) t → length before ≡ n → all ≡ before ++ (placed_in X at (in_method m t) ++ after) → AllOf Fills (phrase_templates counts m n t)
+      templates_fill n before after at end h e is = tt
+      templates_fill n before after at (then i p t) h e is =
+          let here = placed_at X at p (item_in m i) in
+          let rest = placed_in X (behind at (item_in m i)) (in_method m t) in
+          all_both Fills (item_templates counts m n p i) (phrase_templates counts m (item_behind counts n i) t) (item_fills n before (rest ++ after) at p i h.0 e (first_part before here rest after is)) (templates_fill (item_behind counts n i) (before ++ here) after (behind at (item_in m i)) t h.1 (item_counted X counts (length P.arrays) count m n before at p i h.0 e) (second_part before here rest after is))
 
-  -- the arrays that a phrase names
-  mutual
-    starts_stand : (n : ℕ) (before after : List Placed) (at : Literal) (t : Phrase) → IsClosable (length P.arrays) t → length before ≡ n → all ≡ before ++ (placed_in X at t ++ after) → AllOf Stands (phrase_starts counts n t)
-    starts_stand n before after at end h e is = tt
-    starts_stand n before after at (then i p t) h e is =
-        let here = placed_at X at p i in
-        let rest = placed_in X (behind at i) t in
-        all_both Stands (item_starts counts n p i) (phrase_starts counts (item_behind counts n i) t) (item_stands n before (rest ++ after) at p i h.0 e (first_part before here rest after is)) (starts_stand (item_behind counts n i) (before ++ here) after (behind at i) t h.1 (item_counted X counts (length P.arrays) count n before at p i h.0 e) (second_part before here rest after is))
+      item_fills : (n : ℕ) (before after : List Placed) (at : Literal) (p : Place) (i : Item) → IsClosableItem (length P.arrays) i → length before ≡ n → all ≡ before ++ (placed_at X at p (item_in m i) ++ after) → AllOf Fills (item_templates counts m n p i)
+      item_fills n before after at p (quot t) h e is =
+          let x : Placed = ((at, in_method m t), p) in
+          let inner = placed_in X (first_of_literal at) (in_method m t) in
+          let long = one_more before x n e in
+          let split = second_part before (x ∷ []) inner after is in
+          let closed = closed_phrase counts m (suc n) t in
+          all_both Fills (phrase_templates counts m (suc n) t) ((n, template_of p closed) ∷ []) (templates_fill (suc n) (before ++ x ∷ []) after (first_of_literal at) t h long split) ((x, ap (λ (ls : List Placed). slice_get ls n) is ∙ element_at before x (inner ++ after) n e, record { body = phrase_closes (suc n) (before ++ x ∷ []) after (first_of_literal at) t h long split; captures = refl; holes = refl }, refl), tt)
+      item_fills n before after at p _ h e is = tt
 
-    item_stands : (n : ℕ) (before after : List Placed) (at : Literal) (p : Place) (i : Item) → IsClosableItem (length P.arrays) i → length before ≡ n → all ≡ before ++ (placed_at X at p i ++ after) → AllOf Stands (item_starts counts n p i)
-    item_stands n before after at p (quot t) h e is =
-        let x : Placed = ((at, t), p) in
-        starts_stand (suc n) (before ++ x ∷ []) after (first_of_literal at) t h (one_more before x n e) (second_part before (x ∷ []) (placed_in X (first_of_literal at) t) after is)
-    item_stands n before after at p (lit_arr a) h e is = (record { at = at; before = before; after = after; is = is; number_is = e }, tt)
-    item_stands n before after at p (lit q) h e is = tt
-    item_stands n before after at p (word w) h e is = tt
-    item_stands n before after at p (bind x) h e is = absurd h
-    item_stands n before after at p (local x) h e is = absurd h
-    item_stands n before after at p (fry t k) h e is = absurd h
-    item_stands n before after at p (hole k) h e is = absurd h
-    item_stands n before after at p (call_eff f) h e is = absurd h
-    item_stands n before after at p (exec_eff f) h e is = absurd h
-    item_stands n before after at p next_method h e is = absurd h
-    item_stands n before after at p (made k) h e is = absurd h
-    item_stands n before after at p (next_after m) h e is = absurd h
-    item_stands n before after at p (held v) h e is = absurd h
-    item_stands n before after at p (known m) h e is = absurd h
+    -- the arrays that a phrase names
+    mutual
+      starts_stand : (n : ℕ) (before after : List Placed) (at : Literal) (t : Phrase) → IsClosable (length P.arrays) t → ((b : ℕ) → b < length P.arrays → 0 < times_in b (arrays_named t) → m ≡ array_method P (length P.arrays) b) → length before ≡ n → all ≡ before ++ (placed_in X at (in_method m t) ++ after) → AllOf Stands (phrase_starts counts m n t)
+      starts_stand n before after at end h own e is = tt
+      starts_stand n before after at (then i p t) h own e is =
+          let here = placed_at X at p (item_in m i) in
+          let rest = placed_in X (behind at (item_in m i)) (in_method m t) in
+          all_both Stands (item_starts counts m n p i) (phrase_starts counts m (item_behind counts n i) t) (item_stands n before (rest ++ after) at p i h.0 (λ b low some. own b low (let sum = times_both b (arrays_named_by i) (arrays_named t) in omega (arith, sum, some))) e (first_part before here rest after is)) (starts_stand (item_behind counts n i) (before ++ here) after (behind at (item_in m i)) t h.1 (λ b low some. own b low (let sum = times_both b (arrays_named_by i) (arrays_named t) in omega (arith, sum, some))) (item_counted X counts (length P.arrays) count m n before at p i h.0 e) (second_part before here rest after is))
 
-  -- the elements of an array that stands in no method
-  element_closes : (n : ℕ) (before after : List Placed) (at : Literal) (p : Place) (l : Lit) → IsClosableItem (length P.arrays) (plain_item l) → length before ≡ n → all ≡ before ++ (placed_at X at p (plain_item l) ++ after) → ClosesElement P None at l (closed_element counts n l)
-  element_closes n before after at p (l_quot t) h e is =
-      let x : Placed = ((at, t), p) in
-      (n, refl, numbers n x (ap (λ (ls : List Placed). slice_get ls n) is ∙ element_at before x (placed_in X (first_of_literal at) t ++ after) n e))
-  element_closes n before after at p (l_int z) h e is = refl
-  element_closes n before after at p l_yes h e is = refl
-  element_closes n before after at p l_no h e is = refl
-  element_closes n before after at p (l_str s) h e is = refl
-  element_closes n before after at p (l_arr a) h e is = refl
-  element_closes n before after at p (l_word w) h e is = refl
-  element_closes n before after at p (l_made k) h e is = absurd h
+      item_stands : (n : ℕ) (before after : List Placed) (at : Literal) (p : Place) (i : Item) → IsClosableItem (length P.arrays) i → ((b : ℕ) → b < length P.arrays → 0 < times_in b (arrays_named_by i) → m ≡ array_method P (length P.arrays) b) → length before ≡ n → all ≡ before ++ (placed_at X at p (item_in m i) ++ after) → AllOf Stands (item_starts counts m n p i)
+      item_stands n before after at p (quot t) h own e is =
+          let x : Placed = ((at, in_method m t), p) in
+          starts_stand (suc n) (before ++ x ∷ []) after (first_of_literal at) t h own (one_more before x n e) (second_part before (x ∷ []) (placed_in X (first_of_literal at) (in_method m t)) after is)
+      item_stands n before after at p (lit_arr a) h own e is = (record { at = at; before = before; after = after; is = is; number_is = e; method_is = own a h (entry_named ((a, m) ∷ []) a m (inl (refl, refl))) }, tt)
+      item_stands n before after at p _ h own e is = tt
 
-  elements_close : (n : ℕ) (before after : List Placed) (at : Literal) (p : Place) (ls : List Lit) → IsClosable (length P.arrays) (plain_phrase p ls) → length before ≡ n → all ≡ before ++ (placed_in X at (plain_phrase p ls) ++ after) → CloseElements P None at ls (closed_elements counts n ls)
-  elements_close n before after at p [] h e is = refl
-  elements_close n before after at p (l ∷ ls) h e is =
-      let i = plain_item l in
-      let here = placed_at X at p i in
-      let rest = placed_in X (behind at i) (plain_phrase p ls) in
-      (closed_element counts n l, closed_elements counts (item_behind counts n i) ls, refl, element_closes n before (rest ++ after) at p l h.0 e (first_part before here rest after is), elements_close (item_behind counts n i) (before ++ here) after (behind at i) p ls h.1 (item_counted X counts (length P.arrays) count n before at p i h.0 e) (second_part before here rest after is))
+    -- the elements of an array
+    element_closes : (n : ℕ) (before after : List Placed) (at : Literal) (p : Place) (l : Lit) → IsClosableItem (length P.arrays) (plain_item l) → length before ≡ n → all ≡ before ++ (placed_at X at p (item_in m (plain_item l)) ++ after) → ClosesElement P m at l (closed_element counts n l)
+    element_closes n before after at p (l_quot t) h e is =
+        let x : Placed = ((at, in_method m t), p) in
+        (n, refl, subst (λ (u : Phrase). IsMadeBy P at u n) (in_method_is (length P.arrays) m t h) (numbers n x (ap (λ (ls : List Placed). slice_get ls n) is ∙ element_at before x (placed_in X (first_of_literal at) (in_method m t) ++ after) n e)))
+    element_closes n before after at p (l_made k) h e is = absurd h
+    element_closes n before after at p (l_int z) h e is = refl
+    element_closes n before after at p l_yes h e is = refl
+    element_closes n before after at p l_no h e is = refl
+    element_closes n before after at p (l_str s) h e is = refl
+    element_closes n before after at p (l_arr a) h e is = refl
+    element_closes n before after at p (l_word w) h e is = refl
+
+    -- the items of an element are as many as those of its item in the method
+    same_behind : (at : Literal) (l : Lit) → IsClosableItem (length P.arrays) (plain_item l) → behind at (item_in m (plain_item l)) ≡ behind at (element_item m l)
+    same_behind at (l_quot t) h = ap (λ (u : Phrase). behind at (quot u)) (in_method_is (length P.arrays) m t h)
+    same_behind at (l_made k) h = absurd h
+    same_behind at (l_int z) h = refl
+    same_behind at l_yes h = refl
+    same_behind at l_no h = refl
+    same_behind at (l_str s) h = refl
+    same_behind at (l_arr a) h = refl
+    same_behind at (l_word w) h = refl
+
+    elements_close : (n : ℕ) (before after : List Placed) (at : Literal) (p : Place) (ls : List Lit) → IsClosable (length P.arrays) (plain_phrase p ls) → length before ≡ n → all ≡ before ++ (placed_in X at (in_method m (plain_phrase p ls)) ++ after) → CloseElements P m at ls (closed_elements counts n ls)
+    elements_close n before after at p [] h e is = refl
+    elements_close n before after at p (l ∷ ls) h e is =
+        let i = plain_item l in
+        let here = placed_at X at p (item_in m i) in
+        let rest = placed_in X (behind at (item_in m i)) (in_method m (plain_phrase p ls)) in
+        let more = elements_close (item_behind counts n i) (before ++ here) after (behind at (item_in m i)) p ls h.1 (item_counted X counts (length P.arrays) count m n before at p i h.0 e) (second_part before here rest after is) in
+        (closed_element counts n l, closed_elements counts (item_behind counts n i) ls, refl, element_closes n before (rest ++ after) at p l h.0 e (first_part before here rest after is), subst (λ (x : Literal). CloseElements P m x ls (closed_elements counts (item_behind counts n i) ls)) (same_behind at l h.0) more)
 
   -- Words from word w on, whose literals are the last ones.
-  sort_closes : (top n w : ℕ) (before after : List Placed) (s : Sort) → HasBuiltPhrase top s → IsClosable (length P.arrays) (body_of s) → length before ≡ n → all ≡ before ++ (placed_in X (first_of_word w) (body_of s) ++ after) → ClosesSort P w s (closed_sort counts n s)
-  sort_closes top n w before after (body t) b h e is = (closed_phrase counts n t, refl, phrase_closes n before after (first_of_word w) t h e is)
-  sort_closes top n w before after (prim k) b h e is = refl
-  sort_closes top n w before after (core k) b h e is = refl
+  sort_closes : (top n w : ℕ) (before after : List Placed) (s : Sort) → HasBuiltPhrase top s → IsClosable (length P.arrays) (phrase_of s) → length before ≡ n → all ≡ before ++ (placed_in X (first_of_word w) (body_of w s) ++ after) → ClosesSort P w s (closed_sort counts w n s)
+  sort_closes top n w before after (body t) b h e is =
+      (closed_phrase counts None n t, refl, subst (λ (u : Phrase). ClosesPhrase P (first_of_word w) u (closed_phrase counts None n t)) (in_method_is (length P.arrays) None t h) (phrase_closes None n before after (first_of_word w) t h e is))
   sort_closes top n w before after (past t) b h e is = absurd b
-  sort_closes top n w before after itself b h e is = refl
-  sort_closes top n w before after (class k) b h e is = refl
-  sort_closes top n w before after (isa k) b h e is = refl
-  sort_closes top n w before after (getter x) b h e is = refl
-  sort_closes top n w before after (setter x) b h e is = refl
-  sort_closes top n w before after (putter x) b h e is = refl
-  sort_closes top n w before after generic b h e is = refl
-  sort_closes top n w before after (method c g t) b h e is = absurd b
+  sort_closes top n w before after (method c g t) b h e is =
+      (closed_phrase counts (Some w) n t, refl, subst (λ (u : Phrase). ClosesPhrase P (first_of_word w) u (closed_phrase counts (Some w) n t)) (in_method_is (length P.arrays) (Some w) t h) (phrase_closes (Some w) n before after (first_of_word w) t h e is))
+  sort_closes top n w before after _ b h e is = refl
 
-  words_close : (top n w : ℕ) (before : List Placed) (ds : List WordDef) → HaveBuiltPhrases top ds → AreClosable (length P.arrays) ds → length before ≡ n → all ≡ before ++ placed_words X w ds → CloseWords P w ds (closed_words counts n ds)
+  words_close : (top n w : ℕ) (before : List Placed) (ds : List WordDef) → HaveBuiltPhrases top ds → AreClosable (length P.arrays) ds → length before ≡ n → all ≡ before ++ placed_words X w ds → CloseWords P w ds (closed_words counts w n ds)
   words_close top n w before [] b h e is = refl
   words_close top n w before (d ∷ ds) b h e is =
-      let t = body_of d.sort in
-      let here = placed_in X (first_of_word w) t in
+      let t = phrase_of d.sort in
+      let here = placed_in X (first_of_word w) (body_of w d.sort) in
       let rest = placed_words X (suc w) ds in
-      let m = phrase_behind counts n t in
-      (closed_word counts n d, closed_words counts m ds, refl, record { name = refl; sort = sort_closes top n w before rest d.sort b.0 h.0 e is; effect = refl; inline = refl; recursive = refl; place = refl }, words_close top m (suc w) (before ++ here) ds b.1 h.1 (phrase_counted X counts (length P.arrays) count n before (first_of_word w) t h.0 e) (is ∙ sym (append_assoc before here rest)))
+      let j = phrase_behind counts n t in
+      (closed_word counts w n d, closed_words counts (suc w) j ds, refl, record { name = refl; sort = sort_closes top n w before rest d.sort b.0 h.0 e is; effect = refl; inline = refl; recursive = refl; place = refl }, words_close top j (suc w) (before ++ here) ds b.1 h.1 (phrase_counted X counts (length P.arrays) count (method_of w d.sort) n before (first_of_word w) t h.0 e) (is ∙ sym (append_assoc before here rest)))
 
-  words_fill : (n w : ℕ) (before : List Placed) (ds : List WordDef) → AreClosable (length P.arrays) ds → length before ≡ n → all ≡ before ++ placed_words X w ds → AllOf Fills (words_templates counts n ds)
+  words_fill : (n w : ℕ) (before : List Placed) (ds : List WordDef) → AreClosable (length P.arrays) ds → length before ≡ n → all ≡ before ++ placed_words X w ds → AllOf Fills (words_templates counts w n ds)
   words_fill n w before [] h e is = tt
   words_fill n w before (d ∷ ds) h e is =
-      let t = body_of d.sort in
-      let here = placed_in X (first_of_word w) t in
+      let t = phrase_of d.sort in
+      let m = method_of w d.sort in
+      let here = placed_in X (first_of_word w) (body_of w d.sort) in
       let rest = placed_words X (suc w) ds in
-      let m = phrase_behind counts n t in
-      all_both Fills (phrase_templates counts n t) (words_templates counts m ds) (templates_fill n before rest (first_of_word w) t h.0 e is) (words_fill m (suc w) (before ++ here) ds h.1 (phrase_counted X counts (length P.arrays) count n before (first_of_word w) t h.0 e) (is ∙ sym (append_assoc before here rest)))
+      let j = phrase_behind counts n t in
+      all_both Fills (phrase_templates counts m n t) (words_templates counts (suc w) j ds) (templates_fill m n before rest (first_of_word w) t h.0 e is) (words_fill j (suc w) (before ++ here) ds h.1 (phrase_counted X counts (length P.arrays) count m n before (first_of_word w) t h.0 e) (is ∙ sym (append_assoc before here rest)))
 
-  words_stand : (n w : ℕ) (before : List Placed) (ds : List WordDef) → AreClosable (length P.arrays) ds → length before ≡ n → all ≡ before ++ placed_words X w ds → AllOf Stands (words_starts counts n ds)
-  words_stand n w before [] h e is = tt
-  words_stand n w before (d ∷ ds) h e is =
-      let t = body_of d.sort in
-      let here = placed_in X (first_of_word w) t in
+  -- the arrays that these words name stand in the methods that the words are
+  abbrev OwnArrays : ℕ → List WordDef → Type 0
+  OwnArrays w ds = (k v b : ℕ) (d : WordDef) → v ≡ w + k → slice_get ds k ≡ Some d → b < length P.arrays → 0 < times_in b (arrays_named (phrase_of d.sort)) → method_of v d.sort ≡ array_method P (length P.arrays) b
+
+  words_stand : (n w : ℕ) (before : List Placed) (ds : List WordDef) → AreClosable (length P.arrays) ds → OwnArrays w ds → length before ≡ n → all ≡ before ++ placed_words X w ds → AllOf Stands (words_starts counts w n ds)
+  words_stand n w before [] h own e is = tt
+  words_stand n w before (d ∷ ds) h own e is =
+      let t = phrase_of d.sort in
+      let m = method_of w d.sort in
+      let here = placed_in X (first_of_word w) (body_of w d.sort) in
       let rest = placed_words X (suc w) ds in
-      let m = phrase_behind counts n t in
-      all_both Stands (phrase_starts counts n t) (words_starts counts m ds) (starts_stand n before rest (first_of_word w) t h.0 e is) (words_stand m (suc w) (before ++ here) ds h.1 (phrase_counted X counts (length P.arrays) count n before (first_of_word w) t h.0 e) (is ∙ sym (append_assoc before here rest)))
+      let j = phrase_behind counts n t in
+      all_both Stands (phrase_starts counts m n t) (words_starts counts (suc w) j ds) (starts_stand m n before rest (first_of_word w) t h.0 (λ b low some. own 0 w b d (omega arith) refl low some) e is) (words_stand j (suc w) (before ++ here) ds h.1 (λ k v b x is at low some. own (suc k) v b x (omega (arith, is)) at low some) (phrase_counted X counts (length P.arrays) count m n before (first_of_word w) t h.0 e) (is ∙ sym (append_assoc before here rest)))
 
   -- a stage at which this array is closed, where it starts here and has these elements
   abbrev closed_with : ℕ → Stage → ArrayStart → List Lit → Stage
-  closed_with a s m ls = record { arrays = set s.arrays a (closed_elements counts m.number ls); templates = put_all s.templates (phrase_templates counts m.number (plain_phrase m.place ls)); starts = put_all s.starts (phrase_starts counts m.number (plain_phrase m.place ls)) }
+  closed_with a s m ls = record { arrays = set s.arrays a (closed_elements counts m.number ls); templates = put_all s.templates (phrase_templates counts m.method m.number (plain_phrase m.place ls)); starts = put_all s.starts (phrase_starts counts m.method m.number (plain_phrase m.place ls)) }
 
   -- This number is reserved for an array that is still to be closed, and that none of those which are still to be closed names.
   record Pending (a : ℕ) (s : Stage) (k : ℕ) : Type 0 where
@@ -236,11 +222,11 @@ module _ (P : Program) (counts : List ℕ) (X : ℕ → Literal → Place → Li
     pub stand : (b : ℕ) → b < length P.arrays → times_in b (names_below a P.arrays) ≡ 0 → Has Stands s.starts b
     pub fill : (k : ℕ) → k < length all → Has Fills s.templates k ⊎ Pending a s k
     pub not_yet : (b : ℕ) → b < a → slice_get s.arrays b ≡ slice_get P.arrays b
-    pub done : (b : ℕ) (ls : List Lit) → a ≤ b → slice_get P.arrays b ≡ Some ls → (c : List Lit) × (slice_get s.arrays b ≡ Some c) × IsClosedArray P ls c
+    pub done : (b : ℕ) (ls : List Lit) → a ≤ b → slice_get P.arrays b ≡ Some ls → (c : List Lit) × (slice_get s.arrays b ≡ Some c) × IsClosedArray P b ls c
 
-  module _ (once : (b : ℕ) → b < length P.arrays → times_in b (joined (map arrays_named (word_phrases P.words))) + times_in b (joined (map arrays_in P.arrays)) ≡ 1) where
+  module _ (once : (b : ℕ) → b < length P.arrays → by_words b P.words + by_arrays b P.arrays ≡ 1) (earlier : each_numbered names_earlier 0 P.arrays ≡ true) where
     -- One array more is closed.
-    module _ (a : ℕ) (s : Stage) (ls : List Lit) (m : ArrayStart) (is : slice_get P.arrays a ≡ Some ls) (within : a < length P.arrays) (closable : IsClosable a (plain_phrase m.place ls)) (stands_at : Stands a m) (unfolds : X a stands_at.at m.place ≡ placed_in X (first_in_array stands_at.at) (plain_phrase m.place ls)) (noted : slice_get s.starts a ≡ Some m) (h : ClosedFrom (suc a) s) where
+    module _ (a : ℕ) (s : Stage) (ls : List Lit) (m : ArrayStart) (is : slice_get P.arrays a ≡ Some ls) (within : a < length P.arrays) (closable : IsClosable a (plain_phrase m.place ls)) (stands_at : Stands a m) (unfolds : X a stands_at.at m.place ≡ placed_in X (first_in_array stands_at.at) (in_method m.method (plain_phrase m.place ls))) (noted : slice_get s.starts a ≡ Some m) (h : ClosedFrom (suc a) s) where
       abbrev t : Phrase
       t = plain_phrase m.place ls
 
@@ -248,10 +234,10 @@ module _ (P : Program) (counts : List ℕ) (X : ℕ → Literal → Place → Li
       at = first_in_array stands_at.at
 
       abbrev ts : List (ℕ × Template)
-      ts = phrase_templates counts m.number t
+      ts = phrase_templates counts m.method m.number t
 
       abbrev ss : List (ℕ × ArrayStart)
-      ss = phrase_starts counts m.number t
+      ss = phrase_starts counts m.method m.number t
 
       abbrev u : Stage
       u = closed_with a s m ls
@@ -259,22 +245,22 @@ module _ (P : Program) (counts : List ℕ) (X : ℕ → Literal → Place → Li
       wide : IsClosable (length P.arrays) t
       wide = closable_more a (length P.arrays) t (omega (arith, within)) closable
 
-      split : all ≡ stands_at.before ++ (placed_in X at t ++ stands_at.after)
+      split : all ≡ stands_at.before ++ (placed_in X at (in_method m.method t) ++ stands_at.after)
       split = stands_at.is ∙ ap (λ (xs : List Placed). stands_at.before ++ (xs ++ stands_at.after)) unfolds
 
       fills : AllOf Fills ts
-      fills = templates_fill m.number stands_at.before stands_at.after at t wide stands_at.number_is split
+      fills = templates_fill m.method m.number stands_at.before stands_at.after at t wide stands_at.number_is split
 
       stands : AllOf Stands ss
-      stands = starts_stand m.number stands_at.before stands_at.after at t wide stands_at.number_is split
+      stands = starts_stand m.method m.number stands_at.before stands_at.after at t wide (λ b low some. stands_at.method_is ∙ array_array P once earlier a b ls low is (let same = ap (times_in b) (elements_names m.place ls) in omega (arith, same, some))) stands_at.number_is split
 
       names : keys ss ≡ arrays_in ls
-      names = phrase_names_noted counts a m.number t closable ∙ elements_names m.place ls
+      names = phrase_names_noted counts a m.method m.number t closable ∙ elements_names m.place ls
 
       ends : phrase_behind counts m.number t ≡ m.number + get_or counts a 0
       ends =
-          let long = phrase_counted X counts (length P.arrays) count m.number stands_at.before at t wide stands_at.number_is in
-          let sum = length-append stands_at.before (placed_in X at t) in
+          let long = phrase_counted X counts (length P.arrays) count m.method m.number stands_at.before at t wide stands_at.number_is in
+          let sum = length-append stands_at.before (placed_in X at (in_method m.method t)) in
           let own = ap length (sym unfolds) ∙ count a stands_at.at m.place within in
           omega (arith, long, sum, own, stands_at.number_is)
 
@@ -295,7 +281,7 @@ module _ (P : Program) (counts : List ℕ) (X : ℕ → Literal → Place → Li
       covered k lt (inl put) = inl (put_there Fills s.templates ts k fills put (omega (arith, lt, h.many_templates)))
       covered k lt (inr reserved) =
           let r = reserved_by counts k ss reserved in
-          let less = phrase_noted_below counts a m.number t closable r.0 r.1 r.2 in
+          let less = phrase_noted_below counts a m.method m.number t closable r.0 r.1 r.2 in
           let few = fewer r.0 (omega (arith, less, within)) in
           let some = entry_named ss r.0 r.1 r.2 in
           inr (record { number = r.0; start = r.1; to_come = less; unnamed = omega (arith, few, some); noted = put_once s.starts ss r.0 r.1 r.2 (omega (arith, few)) (omega (arith, less, within, h.many_starts)); behind_start = r.3; before_end = r.4 })
@@ -312,7 +298,7 @@ module _ (P : Program) (counts : List ℕ) (X : ℕ → Literal → Place → Li
       fill_pending k lt p (inl e) =
           let same = ap (λ (x : ArrayStart). x.number) (same_start p.start m p.number e p.noted noted) in
           let count_is = ap (λ (b : ℕ). get_or counts b 0) e in
-          covered k lt (phrase_covers counts k m.number t (omega (arith, p.behind_start, same)) (omega (arith, p.before_end, same, count_is, ends)))
+          covered k lt (phrase_covers counts k m.method m.number t (omega (arith, p.behind_start, same)) (omega (arith, p.before_end, same, count_is, ends)))
       fill_pending k lt p (inr other) = inr (still_pending k p other)
 
       fill_either : (k : ℕ) → k < length all → Has Fills s.templates k ⊎ Pending (suc a) s k → Has Fills u.templates k ⊎ Pending a u k
@@ -322,13 +308,14 @@ module _ (P : Program) (counts : List ℕ) (X : ℕ → Literal → Place → Li
       not_itself : (b : ℕ) → b < a → b ≡ a → ⊥
       not_itself b lt e = omega (arith, lt, e)
 
-      done_now : (b : ℕ) (xs : List Lit) → a ≤ b → slice_get P.arrays b ≡ Some xs → (b ≡ a) ⊎ (b ≡ a → ⊥) → (c : List Lit) × (slice_get u.arrays b ≡ Some c) × IsClosedArray P xs c
+      done_now : (b : ℕ) (xs : List Lit) → a ≤ b → slice_get P.arrays b ≡ Some xs → (b ≡ a) ⊎ (b ≡ a → ⊥) → (c : List Lit) × (slice_get u.arrays b ≡ Some c) × IsClosedArray P b xs c
       done_now b xs le is_b (inl e) =
           let both : Some xs ≡ Some ls = sym is_b ∙ ap (slice_get P.arrays) e ∙ is in
           let same : xs ≡ ls = cc in
           let closed = closed_elements counts m.number ls in
           let here = set_here s.arrays a closed (omega (arith, within, h.many_arrays)) in
-          (closed, ap (slice_get u.arrays) e ∙ here, (stands_at.at, subst (λ (ys : List Lit). CloseElements P None at ys closed) (sym same) (elements_close m.number stands_at.before stands_at.after at m.place ls wide stands_at.number_is split)))
+          let own : m.method ≡ array_method P (length P.arrays) b = stands_at.method_is ∙ sym (ap (array_method P (length P.arrays)) e) in
+          (closed, ap (slice_get u.arrays) e ∙ here, (stands_at.at, subst (λ (ys : List Lit). CloseElements P (array_method P (length P.arrays) b) at ys closed) (sym same) (subst (λ (o : Option ℕ). CloseElements P o at ls closed) own (elements_close m.method m.number stands_at.before stands_at.after at m.place ls wide stands_at.number_is split))))
       done_now b xs le is_b (inr other) =
           let before = h.done b xs (by_side (suc a ≤ b) (suc a) b (λ (lt : b < suc a). absurd (other (omega (arith, lt, le)))) (λ (more : suc a ≤ b). more) (cases_lt b (suc a))) is_b in
           (before.0, set_other s.arrays a b (closed_elements counts m.number ls) other ∙ before.1, before.2)
@@ -344,15 +331,15 @@ module _ (P : Program) (counts : List ℕ) (X : ℕ → Literal → Place → Li
         done = λ (b : ℕ) (xs : List Lit) (le : a ≤ b) (is_b : slice_get P.arrays b ≡ Some xs). done_now b xs le is_b (cases_eq b a);
       }
 
-    module _ (built : IsBuilt P) (whole : IsWhole P) (unfolds : (a : ℕ) (at : Literal) (p : Place) (ls : List Lit) → slice_get P.arrays a ≡ Some ls → a < length P.arrays → X a at p ≡ placed_in X (first_in_array at) (plain_phrase p ls)) where
+    module _ (built : IsBuilt P) (whole : IsWhole P) (unfolds : (a : ℕ) (at : Literal) (p : Place) (ls : List Lit) → slice_get P.arrays a ≡ Some ls → a < length P.arrays → X a at p ≡ placed_in X (first_in_array at) (in_method (array_method P (length P.arrays) a) (plain_phrase p ls))) where
       step : (a : ℕ) (s : Stage) → a < length P.arrays → ClosedFrom (suc a) s → ClosedFrom a (array_closed counts a s)
       step a s within h =
           let here = found P.arrays a within in
           let ls = here.0 in
           let start = h.stand a within (not_named_below a 0 (suc a) P.arrays whole.arrays_earlier (omega arith)) in
           let m = start.0 in
-          let one = one_closed a s ls m here.1 within (array_closable P built whole a m.place ls here.1) start.2 (unfolds a start.2.at m.place ls here.1 within) start.1 h in
-          let start_is : start_at s a ≡ m = get_or_from_slice_get s.starts a m (start_of 0 nowhere) start.1 in
+          let one = one_closed a s ls m here.1 within (array_closable P built whole a m.place ls here.1) start.2 (unfolds a start.2.at m.place ls here.1 within ∙ ap (λ (o : Option ℕ). placed_in X (first_in_array start.2.at) (in_method o (plain_phrase m.place ls))) (sym start.2.method_is)) start.1 h in
+          let start_is : start_at s a ≡ m = get_or_from_slice_get s.starts a m (start_of 0 nowhere None) start.1 in
           let elements_are : elements_at s a ≡ ls = get_or_from_slice_get s.arrays a ls [] (h.not_yet a (omega arith) ∙ here.1) in
           subst (ClosedFrom a) (sym (ap (λ (x : ArrayStart). closed_with a s x (elements_at s a)) start_is ∙ ap (closed_with a s m) elements_are)) one
 
@@ -363,10 +350,10 @@ module _ (P : Program) (counts : List ℕ) (X : ℕ → Literal → Place → Li
       -- Words are closed, and no array yet.
       module _ (all_is : all ≡ placed_words X 0 P.words) (unfilled : List Template) (unmet : List ArrayStart) (many_unfilled : length unfilled ≡ words_behind counts 0 P.words) (many_unmet : length unmet ≡ length P.arrays) where
         abbrev word_templates : List (ℕ × Template)
-        word_templates = words_templates counts 0 P.words
+        word_templates = words_templates counts 0 0 P.words
 
         abbrev word_starts : List (ℕ × ArrayStart)
-        word_starts = words_starts counts 0 P.words
+        word_starts = words_starts counts 0 0 P.words
 
         abbrev begun : Stage
         begun = record { arrays = P.arrays; templates = put_all unfilled word_templates; starts = put_all unmet word_starts }
@@ -381,10 +368,10 @@ module _ (P : Program) (counts : List ℕ) (X : ℕ → Literal → Place → Li
         words_filled = words_fill 0 0 [] P.words closable_words refl all_is
 
         words_standing : AllOf Stands word_starts
-        words_standing = words_stand 0 0 [] P.words closable_words refl all_is
+        words_standing = words_stand 0 0 [] P.words closable_words (λ k v b d is at low some. let here : k ≡ v = omega (arith, is) in word_array P once earlier v b d low (ap (slice_get P.words) (sym here) ∙ at) some) refl all_is
 
         names_of_words : (b : ℕ) → times_in b (keys word_starts) ≡ times_in b (joined (map arrays_named (word_phrases P.words)))
-        names_of_words b = ap (times_in b) (words_names_noted counts (length P.arrays) P.top 0 P.words (built_phrases P built) closable_words)
+        names_of_words b = ap (times_in b) (words_names_noted counts (length P.arrays) P.top 0 0 P.words (built_phrases P built) closable_words)
 
         names_of_arrays : (b : ℕ) → times_in b (names_below (length P.arrays) P.arrays) ≡ times_in b (joined (map arrays_in P.arrays))
         names_of_arrays b = ap (times_in b) (names_all P.arrays)
@@ -393,7 +380,7 @@ module _ (P : Program) (counts : List ℕ) (X : ℕ → Literal → Place → Li
         begun_covered k lt (inl put) = inl (put_there Fills unfilled word_templates k words_filled put (omega (arith, lt, many_unfilled, words_end)))
         begun_covered k lt (inr reserved) =
             let r = reserved_by counts k word_starts reserved in
-            let less = words_noted_below counts (length P.arrays) 0 P.words closable_words r.0 r.1 r.2 in
+            let less = words_noted_below counts (length P.arrays) 0 0 P.words closable_words r.0 r.1 r.2 in
             let some = entry_named word_starts r.0 r.1 r.2 in
             let one = once r.0 less in
             let by_words = names_of_words r.0 in
@@ -406,7 +393,7 @@ module _ (P : Program) (counts : List ℕ) (X : ℕ → Literal → Place → Li
           many_starts = as_many_put unmet word_starts ∙ many_unmet;
           many_arrays = refl;
           stand = λ (b : ℕ) (lt : b < length P.arrays) (none : times_in b (names_below (length P.arrays) P.arrays) ≡ 0). put_there Stands unmet word_starts b words_standing (named_put word_starts b (omega (arith, none, once b lt, names_of_words b, names_of_arrays b))) (omega (arith, lt, many_unmet));
-          fill = λ (k : ℕ) (lt : k < length all). begun_covered k lt (words_cover counts k 0 P.words (omega arith) (omega (arith, lt, words_end)));
+          fill = λ (k : ℕ) (lt : k < length all). begun_covered k lt (words_cover counts k 0 0 P.words (omega arith) (omega (arith, lt, words_end)));
           not_yet = λ (b : ℕ) (lt : b < length P.arrays). refl;
           done = λ (b : ℕ) (ls : List Lit) (le : length P.arrays ≤ b) (is : slice_get P.arrays b ≡ Some ls). absurd (omega (arith, le, slice_get_within P.arrays b ls is));
         }
@@ -436,15 +423,14 @@ literals_close P (j ∷ js) (t ∷ ts) many each =
     let rest = literals_close P js ts (omega (arith, many)) (λ (k : ℕ) (lt : k < length js). each (suc k) (omega (arith, lt))) in
     ((t, ts, refl, subst (λ (u : Template). ClosesLiteral P j.0 u) (sym template) (subst (λ (l : Placed). ClosesLiteral P l.0 here.0) (sym literal) here.2.2), rest.0), both_places t j (map place_of ts) (map place_at js) (ap place_of template ∙ here.2.3 ∙ sym (ap place_at literal)) rest.1)
 
-arrays_close : (P : Program) → IsBuilt P → (k : ℕ) (lss cs : List (List Lit)) → length cs ≡ length lss → ((j : ℕ) (ls : List Lit) → slice_get lss j ≡ Some ls → (c : List Lit) × (slice_get cs j ≡ Some c) × IsClosedArray P ls c) → CloseArrays P k lss cs
-arrays_close P b k [] [] many each = refl
-arrays_close P b k [] (c ∷ cs) many each = absurd (omega (arith, many))
-arrays_close P b k (ls ∷ lss) [] many each = absurd (omega (arith, many))
-arrays_close P b k (ls ∷ lss) (c ∷ cs) many each =
-    let here = each 0 ls refl in
+arrays_close : (P : Program) (k : ℕ) (lss cs : List (List Lit)) → length cs ≡ length lss → ((j a : ℕ) (ls : List Lit) → a ≡ k + j → slice_get lss j ≡ Some ls → (c : List Lit) × (slice_get cs j ≡ Some c) × IsClosedArray P a ls c) → CloseArrays P k lss cs
+arrays_close P k [] [] many each = refl
+arrays_close P k [] (c ∷ cs) many each = absurd (omega (arith, many))
+arrays_close P k (ls ∷ lss) [] many each = absurd (omega (arith, many))
+arrays_close P k (ls ∷ lss) (c ∷ cs) many each =
+    let here = each 0 k ls (omega arith) refl in
     let same : c ≡ here.0 = some_same c here.0 here.1 in
-    let closed = subst (λ (xs : List Lit). CloseElements P None (first_in_array here.2.0) ls xs) (sym same) here.2.1 in
-    (here.2.0, c, cs, refl, subst (λ (m : Option ℕ). CloseElements P m (first_in_array here.2.0) ls c) (sym (array_in_no_method P b (length P.arrays) k)) closed, arrays_close P b (suc k) lss cs (omega (arith, many)) (λ (j : ℕ) (xs : List Lit) (e : slice_get lss j ≡ Some xs). each (suc j) xs e))
+    (here.2.0, c, cs, refl, subst (λ (xs : List Lit). CloseElements P (array_method P (length P.arrays) k) (first_in_array here.2.0) ls xs) (sym same) here.2.1, arrays_close P (suc k) lss cs (omega (arith, many)) (λ (j a : ℕ) (xs : List Lit) (is : a ≡ suc k + j) (e : slice_get lss j ≡ Some xs). each (suc j) a xs (omega (arith, is)) e))
 
 mapped_at : {A B : Type 0} (f : A → B) (xs : List A) (k : ℕ) (x : A) → slice_get xs k ≡ Some x → slice_get (map f xs) k ≡ Some (f x)
 mapped_at f [] k x e = absurd cc
@@ -453,23 +439,23 @@ mapped_at f (y ∷ xs) (suc k) x e = mapped_at f xs k x e
 
 module _ (P : Program) (b : IsBuilt P) (w : IsWhole P) where
   numbered : (k : ℕ) (l : Placed) → slice_get (program_placed P) k ≡ Some l → literal_numbered P k ≡ l.0
-  numbered k l is = ap (literal_or P k) (ap (λ (ls : List Quoted). slice_get ls k) (sym (placed_literals P b)) ∙ mapped_at quoted_of (program_placed P) k l is)
+  numbered k l is = ap (literal_or P k) (ap (λ (ls : List Quoted). slice_get ls k) (sym (placed_literals P b w)) ∙ mapped_at quoted_of (program_placed P) k l is)
 
-  named_once : (a : ℕ) → a < length P.arrays → times_in a (joined (map arrays_named (word_phrases P.words))) + times_in a (joined (map arrays_in P.arrays)) ≡ 1
+  named_once : (a : ℕ) → a < length P.arrays → by_words a P.words + by_arrays a P.arrays ≡ 1
   named_once a lt = sym (times_both a (joined (map arrays_named (word_phrases P.words))) (joined (map arrays_in P.arrays))) ∙ below_once (λ (k : ℕ). times_in k (all_arrays_named P)) (length P.arrays) a w.arrays_once lt
 
-  closes_stage : (counts : List ℕ) → counts ≡ counts_from [] P.arrays → (unfilled : List Template) (unmet : List ArrayStart) → length unfilled ≡ words_behind counts 0 P.words → length unmet ≡ length P.arrays → (s : Stage) → s ≡ arrays_closed counts (length P.arrays) (record { arrays = P.arrays; templates = put_all unfilled (words_templates counts 0 P.words); starts = put_all unmet (words_starts counts 0 P.words) }) → Closes P (record { words = closed_words counts 0 P.words; arrays = s.arrays; classes = P.classes; top = P.top }) s.templates
+  closes_stage : (counts : List ℕ) → counts ≡ counts_from [] P.arrays → (unfilled : List Template) (unmet : List ArrayStart) → length unfilled ≡ words_behind counts 0 P.words → length unmet ≡ length P.arrays → (s : Stage) → s ≡ arrays_closed counts (length P.arrays) (record { arrays = P.arrays; templates = put_all unfilled (words_templates counts 0 0 P.words); starts = put_all unmet (words_starts counts 0 0 P.words) }) → Closes P (record { words = closed_words counts 0 0 P.words; arrays = s.arrays; classes = P.classes; top = P.top }) s.templates
   closes_stage counts counts_are unfilled unmet many_unfilled many_unmet s s_is =
       let X = array_placed P (length P.arrays) in
       let every = program_placed P in
       let count = λ (a : ℕ) (at : Literal) (p : Place) (lt : a < length P.arrays). array_counted P b w a at p lt ∙ sym (ap (λ (cs : List ℕ). get_or cs a 0) counts_are) in
-      let h = subst (ClosedFrom P counts X every count numbered 0) (sym s_is) (everything_closed P counts X every count numbered named_once b w (array_unfolds P b w) refl unfilled unmet many_unfilled many_unmet) in
+      let h = subst (ClosedFrom P counts X every count numbered 0) (sym s_is) (everything_closed P counts X every count numbered named_once w.arrays_earlier b w (array_unfolds P b w) refl unfilled unmet many_unfilled many_unmet) in
       let both = literals_close P every s.templates h.many_templates (all_filled P counts X every count numbered s h) in
       record {
         words = words_close P counts X every count numbered P.top 0 0 [] P.words (built_phrases P b) (program_closable P b w) refl refl;
-        templates_are = subst (λ (ls : List Quoted). CloseLiterals P ls s.templates) (placed_literals P b) both.0;
-        places = both.1 ∙ placed_places P b;
-        arrays = arrays_close P b 0 P.arrays s.arrays h.many_arrays (λ (j : ℕ) (ls : List Lit) (e : slice_get P.arrays j ≡ Some ls). h.done j ls (omega arith) e);
+        templates_are = subst (λ (ls : List Quoted). CloseLiterals P ls s.templates) (placed_literals P b w) both.0;
+        places = both.1 ∙ placed_places P b w;
+        arrays = arrays_close P 0 P.arrays s.arrays h.many_arrays (λ (j a : ℕ) (ls : List Lit) (is : a ≡ 0 + j) (e : slice_get P.arrays j ≡ Some ls). let here : j ≡ a = omega (arith, is) in let found = h.done j ls (omega arith) e in (found.0, found.1, subst (λ (n : ℕ). IsClosedArray P n ls found.0) here found.2));
         classes = refl;
         top = refl;
       }

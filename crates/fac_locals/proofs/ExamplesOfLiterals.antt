@@ -7,9 +7,9 @@ use Rattle.fac_lang.specs.declared.program.Lit.{Lit}
 use Rattle.fac_lang.specs.declared.program.Lit.TheVariants.{Int as l_int, Arr as l_arr, Quot as l_quot, Made as l_made}
 use Rattle.fac_lang.specs.declared.program.Program.{Program}
 use Rattle.fac_lang.specs.declared.program.WordDef.{WordDef}
-use Rattle.fac_lang.specs.declared.program.Sort.TheVariants.{Body as body}
+use Rattle.fac_lang.specs.declared.program.Sort.TheVariants.{Body as body, Method as method}
 use Rattle.fac_lang.specs.Signatures.{signature, no_inputs, leaves}
-use Rattle.fac_lang.specs.Phrases.{Phrase, end, then, Item, lit_arr, quot, word, made}
+use Rattle.fac_lang.specs.Phrases.{Phrase, end, then, Item, lit_arr, quot, word, next_method, made, next_after}
 use Rattle.fac_lang.specs.Meaning.{nowhere}
 use Rattle.fac_lang.proofs.DemoWords.{phrase, number, quotation}
 use Rattle.fac_lang.proofs.DemoPrelude.{word_of}
@@ -124,3 +124,23 @@ array_places_are = refl
 
 pub array_placed_are : map (λ (t : Template). t.place) (made_templates placed_array elements) ≡ token 19 ∷ token 22 ∷ token 19 ∷ token 30 ∷ []
 array_placed_are = refl
+
+-- Methods.
+
+-- a method with this phrase
+abbrev meant : List Item → WordDef
+meant is = word_of (codes "scratchpad") (codes "m") (method 0 0 (phrase is)) (signature None no_inputs (leaves None [])) false false
+
+-- a word   [ 3 ] ;   and a method   call-next-method [ 2 call-next-method ] { [ call-next-method ] } ;
+abbrev with_method : List WordDef
+with_method = written (quotation (number 3 ∷ []) ∷ []) ∷ meant (next_method ∷ quotation (number 2 ∷ next_method ∷ []) ∷ lit_arr 0 ∷ []) ∷ []
+
+abbrev its_array : List (List Lit)
+its_array = (block (next_method ∷ []) ∷ []) ∷ []
+
+-- A next method is next after the method in whose phrase it stands, also in its quotations and in those of its arrays.
+pub method_closed_is : made_words with_method its_array ≡ written (made 0 ∷ []) ∷ meant (next_after 1 ∷ made 1 ∷ lit_arr 0 ∷ []) ∷ []
+method_closed_is = refl
+
+pub method_templates_are : made_templates with_method its_array ≡ template (number 3 ∷ []) ∷ template (number 2 ∷ next_after 1 ∷ []) ∷ template (next_after 1 ∷ []) ∷ []
+method_templates_are = refl

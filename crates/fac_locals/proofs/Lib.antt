@@ -4,8 +4,10 @@ pub mod ArraySteps
 pub mod LiteralArrays
 pub mod PlacedLiterals
 pub mod ArrayNames
+pub mod ArrayMethods
 pub mod ClosedPrograms
 pub mod Places
+pub mod RunningPhrases
 pub mod Lookups
 pub mod ClosedForms
 pub mod ExamplesOfLiterals

@@ -1,29 +1,30 @@
--- The literal arrays of a built program: none stands in a method, each names only earlier ones, and so many quotations are counted in each.
-use Rattle.std.proofs.Common.{◌≡◌, ◌<◌, ◌≤◌, ℕ, zero, suc, ◌+◌, List, [], ◌∷◌, ◌++◌, length, get_or, Option, Some, None, true, false, refl, sym, ap, ◌∙◌, subst, length-append, arith}
+-- The literal arrays of a built program: each names only earlier ones, and so many quotations are counted in each.
+use Rattle.std.proofs.Common.{◌≡◌, ◌<◌, ◌≤◌, ℕ, zero, suc, ◌+◌, List, [], ◌∷◌, ◌++◌, length, get_or, Option, Some, None, true, refl, sym, ap, ◌∙◌, subst, length-append, arith}
 use Rattle.std.specs.Prelude.{map, slice_get, nat_lt, ◌&&◌}
 use Rattle.std.specs.List.{list_all}
 use Rattle.std.proofs.lemmas.List.{get_or_append_left, get_or_at}
 use Rattle.std.proofs.lemmas.List.Folds.{list_all-append}
 use Rattle.std.proofs.lemmas.Bool.{ltb-true, and_parts}
-use Rattle.fac_lang.specs.Phrases.{Phrase, end, then, Item, lit, lit_arr, quot, word, bind, local, fry, hole, call_eff, exec_eff, next_method, made, next_after, held, known}
-use Rattle.fac_lang.specs.Meaning.{nowhere, method_naming, array_naming, array_method, phrase_names}
+use Rattle.fac_lang.specs.Phrases.{int, yes, no, str, wrd, Phrase, end, then, Item, lit, lit_arr, quot, word, next_method}
+use Rattle.fac_lang.specs.Substitution.{of_method, of_method_item}
+use Rattle.fac_lang.specs.Meaning.{nowhere, of_method_if, array_method}
 use Rattle.fac_lang.specs.declared.phrase.Place.{Place}
 use Rattle.fac_lang.specs.declared.program.Lit.{Lit}
 use Rattle.fac_lang.specs.declared.program.Lit.TheVariants.{Int as l_int, True as l_yes, False as l_no, Str as l_str, Arr as l_arr, Wref as l_word, Quot as l_quot, Made as l_made}
 use Rattle.fac_lang.specs.declared.program.Program.{Program}
 use Rattle.fac_lang.specs.declared.program.WordDef.{WordDef}
 use Rattle.fac_lang.specs.declared.program.Sort.{Sort}
-use Rattle.fac_lang.specs.declared.program.Sort.TheVariants.{Prim as prim, Core as core, Body as body, Past as past, Itself as itself, Class as class, Isa as isa, Getter as getter, Setter as setter, Putter as putter, Generic as generic, Method as method}
+use Rattle.fac_lang.specs.declared.program.Sort.TheVariants.{Body as body, Past as past, Method as method}
 use Rattle.fac_lang.specs.Forms.{IsBuilt, IsBuiltPhrase, IsBuiltItem, IsBuiltSort, AreBuiltWords, AreBuiltElements, AreBuiltArrays}
 use Rattle.fac_lang.specs.Whole.{IsWhole, each_item, each_inner, item_fits, word_phrases, quotations, joined, arrays_named, arrays_named_by, arrays_in, each_numbered, names_earlier}
-use Rattle.fac_locals.specs.Literals.{array_phrase}
-use Rattle.fac_locals.specs.inner.Numbering.{phrase_behind, item_behind, plain_phrase, body_of, elements_count, counts_from}
+use Rattle.fac_locals.specs.Literals.{array_phrase, array_or_none, elements_phrase}
+use Rattle.fac_locals.specs.inner.Numbering.{phrase_behind, item_behind, plain_phrase, phrase_of, method_of, next_in, elements_count, counts_from}
 
 -- the phrase of a word, where it has one, is of the built forms
 abbrev pub HasBuiltPhrase : ℕ → Sort → Type 0
 HasBuiltPhrase bound (body t) = IsBuiltPhrase bound t
 HasBuiltPhrase bound (past t) = ⊥
-HasBuiltPhrase bound (method c g t) = ⊥
+HasBuiltPhrase bound (method c g t) = IsBuiltPhrase bound t
 HasBuiltPhrase bound _ = Unit {0}
 
 -- likewise the phrases of words
@@ -33,17 +34,9 @@ HaveBuiltPhrases bound (d ∷ ds) = HasBuiltPhrase bound d.sort × HaveBuiltPhra
 
 sort_built : (bound : ℕ) (d : WordDef) (s : Sort) → IsBuiltSort bound d s → HasBuiltPhrase bound s
 sort_built bound d (body t) h = h
-sort_built bound d (prim k) h = tt
-sort_built bound d (core k) h = tt
 sort_built bound d (past t) h = absurd h
-sort_built bound d itself h = tt
-sort_built bound d (class k) h = tt
-sort_built bound d (isa k) h = tt
-sort_built bound d (getter x) h = tt
-sort_built bound d (setter x) h = tt
-sort_built bound d (putter x) h = tt
-sort_built bound d generic h = tt
-sort_built bound d (method c g t) h = absurd h
+sort_built bound d (method c g t) h = h.1
+sort_built bound d _ h = tt
 
 phrases_built : (bound : ℕ) (ds : List WordDef) (d : WordDef) → AreBuiltWords bound ds → HasBuiltPhrase bound d.sort → HaveBuiltPhrases bound (ds ++ d ∷ [])
 phrases_built bound [] d hs h = (h, tt)
@@ -52,43 +45,6 @@ phrases_built bound (x ∷ ds) d hs h = (sort_built bound x x.sort hs.0, phrases
 -- each phrase of a program of the built forms is of the built forms
 pub built_phrases : (P : Program) → IsBuilt P → HaveBuiltPhrases P.top P.words
 built_phrases P b = rw b.words_are (phrases_built P.top b.words b.last_word b.built (rw b.last_word_is.sort_is b.last_word_is.phrase_built))
-
--- No array stands in a method.
-abbrev named_by : ℕ → ℕ → Sort → Option ℕ → Option ℕ
-named_by a k s r = elim s [ method c g t ↦ elim (phrase_names a t) [ true ↦ Some k | false ↦ r ] | _ ↦ r ]
-
-no_method_named : (bound a k : ℕ) (ds : List WordDef) → HaveBuiltPhrases bound ds → (P : Program) → method_naming P a k ds ≡ None
-no_method_named bound a k [] h P = refl
-no_method_named bound a k (d ∷ ds) h P = go d.sort h.0 (no_method_named bound a (suc k) ds h.1 P) where
-  go : (s : Sort) → HasBuiltPhrase bound s → method_naming P a (suc k) ds ≡ None → named_by a k s (method_naming P a (suc k) ds) ≡ None
-  go (body t) h e = e
-  go (prim n) h e = e
-  go (core n) h e = e
-  go (past t) h e = absurd h
-  go itself h e = e
-  go (class n) h e = e
-  go (isa n) h e = e
-  go (getter x) h e = e
-  go (setter x) h e = e
-  go (putter x) h e = e
-  go generic h e = e
-  go (method c g t) h e = absurd h
-
-abbrev around_by : Program → ℕ → Option ℕ → Option ℕ → Option ℕ
-around_by P n o r = elim o [ Some m ↦ Some m | None ↦ elim r [ None ↦ None | Some b ↦ array_method P n b ] ]
-
-around_none : (P : Program) (n : ℕ) (o r : Option ℕ) → o ≡ None → ((b : ℕ) → array_method P n b ≡ None) → around_by P n o r ≡ None
-around_none P n None None e h = refl
-around_none P n None (Some b) e h = h b
-around_none P n (Some m) r e h = absurd cc
-
-no_method : (P : Program) (bound : ℕ) → HaveBuiltPhrases bound P.words → (n a : ℕ) → array_method P n a ≡ None
-no_method P bound h zero a = no_method_named bound a 0 P.words h P
-no_method P bound h (suc n) a = around_none P n (method_naming P a 0 P.words) (array_naming P a 0 P.arrays) (no_method_named bound a 0 P.words h P) (λ (b : ℕ). no_method P bound h n b)
-
--- no literal array of a built program stands in a method
-pub array_in_no_method : (P : Program) → IsBuilt P → (n a : ℕ) → array_method P n a ≡ None
-array_in_no_method P b n a = no_method P P.top (built_phrases P b) n a
 
 -- a phrase of the built forms that names only literal arrays before this one
 abbrev mutual
@@ -101,12 +57,62 @@ abbrev mutual
   IsClosableItem a (lit_arr b) = b < a
   IsClosableItem a (word w) = Unit {0}
   IsClosableItem a (quot t) = IsClosable a t
+  IsClosableItem a next_method = Unit {0}
   IsClosableItem a _ = ⊥
+
+-- the same phrase in a method, or in none
+abbrev mutual
+  pub in_method : Option ℕ → Phrase → Phrase
+  in_method m end = end
+  in_method m (then i p t) = then (item_in m i) p (in_method m t)
+
+  pub item_in : Option ℕ → Item → Item
+  item_in m (quot t) = quot (in_method m t)
+  item_in m next_method = next_in m
+  item_in m i = i
+
+both_items : (i j : Item) (p : Place) (t u : Phrase) → i ≡ j → t ≡ u → then i p t ≡ then j p u
+both_items i j p t u e f = rw (e, f) refl
+
+mutual
+  in_none : (a : ℕ) (t : Phrase) → IsClosable a t → in_method None t ≡ t
+  in_none a end h = refl
+  in_none a (then i p t) h = both_items (item_in None i) i p (in_method None t) t (item_in_none a i h.0) (in_none a t h.1)
+
+  item_in_none : (a : ℕ) (i : Item) → IsClosableItem a i → item_in None i ≡ i
+  item_in_none a (lit q) h = refl
+  item_in_none a (lit_arr b) h = refl
+  item_in_none a (word w) h = refl
+  item_in_none a (quot t) h = ap quot (in_none a t h)
+  item_in_none a next_method h = refl
+  item_in_none a _ h = absurd h
+
+mutual
+  in_some : (a m : ℕ) (t : Phrase) → IsClosable a t → in_method (Some m) t ≡ of_method m t
+  in_some a m end h = refl
+  in_some a m (then i p t) h = both_items (item_in (Some m) i) (of_method_item m i) p (in_method (Some m) t) (of_method m t) (item_in_some a m i h.0) (in_some a m t h.1)
+
+  item_in_some : (a m : ℕ) (i : Item) → IsClosableItem a i → item_in (Some m) i ≡ of_method_item m i
+  item_in_some a m (lit q) h = refl
+  item_in_some a m (lit_arr b) h = refl
+  item_in_some a m (word w) h = refl
+  item_in_some a m (quot t) h = ap quot (in_some a m t h)
+  item_in_some a m next_method h = refl
+  item_in_some a m _ h = absurd h
+
+-- the phrase of word w as it stands in this word
+abbrev pub body_of : ℕ → Sort → Phrase
+body_of w s = in_method (method_of w s) (phrase_of s)
+
+-- that is its form in the method
+pub in_method_is : (a : ℕ) (m : Option ℕ) (t : Phrase) → IsClosable a t → in_method m t ≡ of_method_if m t
+in_method_is a None t h = in_none a t h
+in_method_is a (Some m) t h = in_some a m t h
 
 -- likewise the bodies of words
 abbrev pub AreClosable : ℕ → List WordDef → Type 0
 AreClosable a [] = Unit {0}
-AreClosable a (d ∷ ds) = IsClosable a (body_of d.sort) × AreClosable a ds
+AreClosable a (d ∷ ds) = IsClosable a (phrase_of d.sort) × AreClosable a ds
 
 mutual
   pub closable_more : (a n : ℕ) (t : Phrase) → a ≤ n → IsClosable a t → IsClosable n t
@@ -118,17 +124,8 @@ mutual
   closable_item_more a n (lit_arr b) le h = omega (arith, le, h)
   closable_item_more a n (word w) le h = tt
   closable_item_more a n (quot t) le h = closable_more a n t le h
-  closable_item_more a n (bind x) le h = absurd h
-  closable_item_more a n (local x) le h = absurd h
-  closable_item_more a n (fry t k) le h = absurd h
-  closable_item_more a n (hole k) le h = absurd h
-  closable_item_more a n (call_eff f) le h = absurd h
-  closable_item_more a n (exec_eff f) le h = absurd h
-  closable_item_more a n next_method le h = absurd h
-  closable_item_more a n (made k) le h = absurd h
-  closable_item_more a n (next_after m) le h = absurd h
-  closable_item_more a n (held v) le h = absurd h
-  closable_item_more a n (known m) le h = absurd h
+  closable_item_more a n next_method le h = tt
+  closable_item_more a n _ le h = absurd h
 
 -- a phrase whose items fit
 mutual
@@ -143,36 +140,19 @@ mutual
   fitting_item P bound (lit_arr b) h e = ltb-true b (length P.arrays) (and_parts (nat_lt b (length P.arrays)) true e).0
   fitting_item P bound (word w) h e = tt
   fitting_item P bound (quot t) h e = fitting_closable P bound t h (and_parts true (each_item (item_fits P) t) e).1
-  fitting_item P bound (bind x) h e = absurd h
-  fitting_item P bound (local x) h e = absurd h
-  fitting_item P bound (fry t k) h e = absurd h
-  fitting_item P bound (hole k) h e = absurd h
-  fitting_item P bound (call_eff f) h e = absurd h
-  fitting_item P bound (exec_eff f) h e = absurd h
-  fitting_item P bound next_method h e = absurd h
-  fitting_item P bound (made k) h e = absurd h
-  fitting_item P bound (next_after m) h e = absurd h
-  fitting_item P bound (held v) h e = absurd h
-  fitting_item P bound (known m) h e = absurd h
+  fitting_item P bound next_method h e = tt
+  fitting_item P bound _ h e = absurd h
 
 words_closable : (P : Program) (bound : ℕ) (ds : List WordDef) → HaveBuiltPhrases bound ds → list_all (each_item (item_fits P)) (word_phrases ds) ≡ true → AreClosable (length P.arrays) ds
 words_closable P bound [] h e = tt
 words_closable P bound (d ∷ ds) h e = let both = go d.sort h.0 e in (both.0, words_closable P bound ds h.1 both.1) where
-  go : (s : Sort) → HasBuiltPhrase bound s → list_all (each_item (item_fits P)) (elim s [ body t ↦ t ∷ word_phrases ds | past t ↦ t ∷ word_phrases ds | method c g t ↦ t ∷ word_phrases ds | _ ↦ word_phrases ds ]) ≡ true → IsClosable (length P.arrays) (body_of s) × (list_all (each_item (item_fits P)) (word_phrases ds) ≡ true)
+  go : (s : Sort) → HasBuiltPhrase bound s → list_all (each_item (item_fits P)) (elim s [ body t ↦ t ∷ word_phrases ds | past t ↦ t ∷ word_phrases ds | method c g t ↦ t ∷ word_phrases ds | _ ↦ word_phrases ds ]) ≡ true → IsClosable (length P.arrays) (phrase_of s) × (list_all (each_item (item_fits P)) (word_phrases ds) ≡ true)
   go (body t) h e = let both = and_parts (each_item (item_fits P) t) _ e in (fitting_closable P bound t h both.0, both.1)
-  go (prim n) h e = (tt, e)
-  go (core n) h e = (tt, e)
   go (past t) h e = absurd h
-  go itself h e = (tt, e)
-  go (class n) h e = (tt, e)
-  go (isa n) h e = (tt, e)
-  go (getter x) h e = (tt, e)
-  go (setter x) h e = (tt, e)
-  go (putter x) h e = (tt, e)
-  go generic h e = (tt, e)
-  go (method c g t) h e = absurd h
+  go (method c g t) h e = let both = and_parts (each_item (item_fits P) t) _ e in (fitting_closable P bound t h both.0, both.1)
+  go _ h e = (tt, e)
 
--- the bodies of a built and whole program name only arrays that are there
+-- the phrases of a built and whole program name only arrays that are there
 pub program_closable : (P : Program) → IsBuilt P → IsWhole P → AreClosable (length P.arrays) P.words
 program_closable P b w =
     words_closable P P.top P.words (built_phrases P b) (and_parts _ _ (sym (list_all-append (each_item (item_fits P)) (word_phrases P.words) (joined (map quotations P.arrays))) ∙ w.items_fit)).0
@@ -190,17 +170,8 @@ mutual
   naming_item bound a (lit_arr b) h e = ltb-true b a (and_parts (nat_lt b a) true e).0
   naming_item bound a (word w) h e = tt
   naming_item bound a (quot t) h e = naming_closable bound a t h e
-  naming_item bound a (bind x) h e = absurd h
-  naming_item bound a (local x) h e = absurd h
-  naming_item bound a (fry t k) h e = absurd h
-  naming_item bound a (hole k) h e = absurd h
-  naming_item bound a (call_eff f) h e = absurd h
-  naming_item bound a (exec_eff f) h e = absurd h
-  naming_item bound a next_method h e = absurd h
-  naming_item bound a (made k) h e = absurd h
-  naming_item bound a (next_after m) h e = absurd h
-  naming_item bound a (held v) h e = absurd h
-  naming_item bound a (known m) h e = absurd h
+  naming_item bound a next_method h e = tt
+  naming_item bound a _ h e = absurd h
 
 elements_closable : (bound a : ℕ) (p : Place) (ls : List Lit) → AreBuiltElements bound ls → list_all (λ (b : ℕ). nat_lt b a) (arrays_in ls) ≡ true → IsClosable a (plain_phrase p ls)
 elements_closable bound a p [] h e = tt
@@ -228,9 +199,20 @@ arrays_closable bound k a (suc j) p (xs ∷ lss) ls h e is at = arrays_closable 
 pub array_closable : (P : Program) → IsBuilt P → IsWhole P → (a : ℕ) (p : Place) (ls : List Lit) → slice_get P.arrays a ≡ Some ls → IsClosable a (plain_phrase p ls)
 array_closable P b w a p ls at = arrays_closable P.top 0 a a p P.arrays ls b.arrays_built w.arrays_earlier (omega arith) at
 
--- the items of a literal array
-pub array_phrase_is : (P : Program) → IsBuilt P → (a : ℕ) (p : Place) (ls : List Lit) → slice_get P.arrays a ≡ Some ls → array_phrase P a p ≡ plain_phrase p ls
-array_phrase_is P b a p ls at = rw (array_in_no_method P b (length P.arrays) a, at) refl
+-- the items of a literal array that stands in a method, or in none
+pub elements_in : (a : ℕ) (m : Option ℕ) (p : Place) (ls : List Lit) → IsClosable a (plain_phrase p ls) → in_method m (plain_phrase p ls) ≡ elements_phrase m p ls
+elements_in a m p [] h = refl
+elements_in a m p (l_int z ∷ ls) h = ap (then (lit (int z)) p) (elements_in a m p ls h.1)
+elements_in a m p (l_yes ∷ ls) h = ap (then (lit yes) p) (elements_in a m p ls h.1)
+elements_in a m p (l_no ∷ ls) h = ap (then (lit no) p) (elements_in a m p ls h.1)
+elements_in a m p (l_str s ∷ ls) h = ap (then (lit (str s)) p) (elements_in a m p ls h.1)
+elements_in a m p (l_arr b ∷ ls) h = ap (then (lit_arr b) p) (elements_in a m p ls h.1)
+elements_in a m p (l_word w ∷ ls) h = ap (then (lit (wrd w)) p) (elements_in a m p ls h.1)
+elements_in a m p (l_quot t ∷ ls) h = both_items (quot (in_method m t)) (quot (of_method_if m t)) p (in_method m (plain_phrase p ls)) (elements_phrase m p ls) (ap quot (in_method_is a m t h.0)) (elements_in a m p ls h.1)
+elements_in a m p (l_made k ∷ ls) h = absurd h.0
+
+pub array_phrase_is : (P : Program) → IsBuilt P → IsWhole P → (a : ℕ) (p : Place) (ls : List Lit) → slice_get P.arrays a ≡ Some ls → array_phrase P a p ≡ in_method (array_method P (length P.arrays) a) (plain_phrase p ls)
+array_phrase_is P b w a p ls at = ap (λ (o : Option (List Lit)). elements_phrase (array_method P (length P.arrays) a) p (array_or_none o)) at ∙ sym (elements_in a (array_method P (length P.arrays) a) p ls (array_closable P b w a p ls at))
 
 -- Counts.
 
@@ -245,17 +227,8 @@ mutual
   item_behind_same cs ds a e n (lit_arr b) h = ap (λ (m : ℕ). n + m) (e b h)
   item_behind_same cs ds a e n (word w) h = refl
   item_behind_same cs ds a e n (quot t) h = behind_same cs ds a e (suc n) t h
-  item_behind_same cs ds a e n (bind x) h = absurd h
-  item_behind_same cs ds a e n (local x) h = absurd h
-  item_behind_same cs ds a e n (fry t k) h = absurd h
-  item_behind_same cs ds a e n (hole k) h = absurd h
-  item_behind_same cs ds a e n (call_eff f) h = absurd h
-  item_behind_same cs ds a e n (exec_eff f) h = absurd h
-  item_behind_same cs ds a e n next_method h = absurd h
-  item_behind_same cs ds a e n (made k) h = absurd h
-  item_behind_same cs ds a e n (next_after m) h = absurd h
-  item_behind_same cs ds a e n (held v) h = absurd h
-  item_behind_same cs ds a e n (known m) h = absurd h
+  item_behind_same cs ds a e n next_method h = refl
+  item_behind_same cs ds a e n _ h = absurd h
 
 one_longer : {A : Type 0} (xs : List A) (x : A) (n : ℕ) → length xs ≡ n → length (xs ++ x ∷ []) ≡ suc n
 one_longer xs x n e = rw (length-append xs (x ∷ [])) (omega (arith, e))

@@ -1,21 +1,22 @@
 -- The literals of a program together with their places, and those of a literal array wherever it stands.
-use Rattle.std.proofs.Common.{◌≡◌, ◌<◌, ℕ, zero, suc, ◌+◌, List, [], ◌∷◌, ◌++◌, length, get_or, Option, Some, refl, sym, ap, ◌∙◌, append_assoc, length-append, arith}
+use Rattle.std.proofs.Common.{◌≡◌, ◌<◌, ℕ, zero, suc, ◌+◌, List, [], ◌∷◌, ◌++◌, length, get_or, Option, Some, None, refl, sym, ap, ◌∙◌, append_assoc, length-append, arith}
 use Rattle.std.specs.Prelude.{map, slice_get}
 use Rattle.std.proofs.lemmas.List.{append-nil, map-append}
 use Rattle.fac_lang.specs.Phrases.{Literal, Phrase, end, then, Item, lit, lit_arr, quot, word, bind, local, fry, hole, call_eff, exec_eff, next_method, made, next_after, held, known}
+use Rattle.fac_lang.specs.Substitution.{of_method}
 use Rattle.fac_lang.specs.Meaning.{nowhere}
 use Rattle.fac_lang.specs.declared.phrase.Place.{Place}
 use Rattle.fac_lang.specs.declared.program.Lit.{Lit}
 use Rattle.fac_lang.specs.declared.program.Program.{Program}
 use Rattle.fac_lang.specs.declared.program.WordDef.{WordDef}
 use Rattle.fac_lang.specs.declared.program.Sort.{Sort}
-use Rattle.fac_lang.specs.declared.program.Sort.TheVariants.{Prim as prim, Core as core, Body as body, Past as past, Itself as itself, Class as class, Isa as isa, Getter as getter, Setter as setter, Putter as putter, Generic as generic, Method as method}
+use Rattle.fac_lang.specs.declared.program.Sort.TheVariants.{Body as body, Past as past, Method as method}
 use Rattle.fac_lang.specs.Forms.{IsBuilt}
 use Rattle.fac_lang.specs.Whole.{IsWhole}
 use Rattle.fac_locals.specs.Literals.{Quoted, first_of_word, first_of_literal, first_in_array, behind, literals_in, literals_at, array_literals, sort_literals, word_literals, literals, places_in, places_at, array_places, sort_places, word_places, literal_places, array_phrase, array_or_none, elements_phrase, element_item}
 use Rattle.fac_lang.specs.Meaning.{array_method}
-use Rattle.fac_locals.specs.inner.Numbering.{phrase_behind, item_behind, plain_item, plain_phrase, body_of, words_behind, counts_from}
-use Rattle.fac_locals.proofs.LiteralArrays.{HasBuiltPhrase, HaveBuiltPhrases, built_phrases, IsClosable, IsClosableItem, AreClosable, array_closable, array_phrase_is, counted_elements}
+use Rattle.fac_locals.specs.inner.Numbering.{phrase_behind, item_behind, plain_item, plain_phrase, phrase_of, method_of, words_behind, counts_from}
+use Rattle.fac_locals.proofs.LiteralArrays.{HasBuiltPhrase, HaveBuiltPhrases, built_phrases, IsClosable, IsClosableItem, AreClosable, array_closable, array_phrase_is, counted_elements, in_method, item_in, in_method_is, body_of, program_closable}
 
 -- a literal and the place of its template
 abbrev pub Placed : Type 0
@@ -44,10 +45,10 @@ abbrev pub array_placed : Program → ℕ → ℕ → Literal → Place → List
 array_placed P zero a at p = []
 array_placed P (suc n) a at p = placed_in (array_placed P n) (first_in_array at) (array_phrase P a p)
 
--- those of the bodies of words, from word w on
+-- those of the phrases of words, from word w on
 abbrev pub placed_words : (ℕ → Literal → Place → List Placed) → ℕ → List WordDef → List Placed
 placed_words arrays w [] = []
-placed_words arrays w (d ∷ ds) = placed_in arrays (first_of_word w) (body_of d.sort) ++ placed_words arrays (suc w) ds
+placed_words arrays w (d ∷ ds) = placed_in arrays (first_of_word w) (body_of w d.sort) ++ placed_words arrays (suc w) ds
 
 -- Without the places they are the literals.
 both_mapped : {A : Type 0} (f : Placed → A) (ls ms : List Placed) (xs ys : List A) → map f ls ≡ xs → map f ms ≡ ys → map f (ls ++ ms) ≡ xs ++ ys
@@ -76,23 +77,16 @@ module _ (X : ℕ → Literal → Place → List Placed) (Y : ℕ → Literal �
     quoted_at at p (held v) = refl
     quoted_at at p (known m) = refl
 
-  quoted_sort : (P : Program) (bound w : ℕ) (s : Sort) → Y ≡ array_literals P (length P.arrays) → HasBuiltPhrase bound s → map quoted_of (placed_in X (first_of_word w) (body_of s)) ≡ sort_literals P w s
-  quoted_sort P bound w (body t) e h = quoted_in (first_of_word w) t ∙ ap (λ (Z : ℕ → Literal → List Quoted). literals_in Z (first_of_word w) t) e
-  quoted_sort P bound w (prim k) e h = refl
-  quoted_sort P bound w (core k) e h = refl
-  quoted_sort P bound w (past t) e h = absurd h
-  quoted_sort P bound w itself e h = refl
-  quoted_sort P bound w (class k) e h = refl
-  quoted_sort P bound w (isa k) e h = refl
-  quoted_sort P bound w (getter x) e h = refl
-  quoted_sort P bound w (setter x) e h = refl
-  quoted_sort P bound w (putter x) e h = refl
-  quoted_sort P bound w generic e h = refl
-  quoted_sort P bound w (method c g t) e h = absurd h
+  quoted_sort : (P : Program) (bound n w : ℕ) (s : Sort) → Y ≡ array_literals P (length P.arrays) → HasBuiltPhrase bound s → IsClosable n (phrase_of s) → map quoted_of (placed_in X (first_of_word w) (body_of w s)) ≡ sort_literals P w s
+  quoted_sort P bound n w (body t) e h c = quoted_in (first_of_word w) (in_method None t) ∙ ap (literals_in Y (first_of_word w)) (in_method_is n None t c) ∙ ap (λ (Z : ℕ → Literal → List Quoted). literals_in Z (first_of_word w) t) e
+  quoted_sort P bound n w (past t) e h c = absurd h
+  quoted_sort P bound n w (method k g t) e h c =
+      quoted_in (first_of_word w) (in_method (Some w) t) ∙ ap (literals_in Y (first_of_word w)) (in_method_is n (Some w) t c) ∙ ap (λ (Z : ℕ → Literal → List Quoted). literals_in Z (first_of_word w) (of_method w t)) e
+  quoted_sort P bound n w _ e h c = refl
 
-  quoted_words : (P : Program) (bound w : ℕ) (ds : List WordDef) → Y ≡ array_literals P (length P.arrays) → HaveBuiltPhrases bound ds → map quoted_of (placed_words X w ds) ≡ word_literals P w ds
-  quoted_words P bound w [] e h = refl
-  quoted_words P bound w (d ∷ ds) e h = both_mapped quoted_of (placed_in X (first_of_word w) (body_of d.sort)) (placed_words X (suc w) ds) (sort_literals P w d.sort) (word_literals P (suc w) ds) (quoted_sort P bound w d.sort e h.0) (quoted_words P bound (suc w) ds e h.1)
+  quoted_words : (P : Program) (bound n w : ℕ) (ds : List WordDef) → Y ≡ array_literals P (length P.arrays) → HaveBuiltPhrases bound ds → AreClosable n ds → map quoted_of (placed_words X w ds) ≡ word_literals P w ds
+  quoted_words P bound n w [] e h c = refl
+  quoted_words P bound n w (d ∷ ds) e h c = both_mapped quoted_of (placed_in X (first_of_word w) (body_of w d.sort)) (placed_words X (suc w) ds) (sort_literals P w d.sort) (word_literals P (suc w) ds) (quoted_sort P bound n w d.sort e h.0 c.0) (quoted_words P bound n (suc w) ds e h.1 c.1)
 
 -- where the elements of an array are placed is nothing to its literals
 elements_anywhere : (Y : ℕ → Literal → List Quoted) (m : Option ℕ) (p q : Place) (at : Literal) (ls : List Lit) → literals_in Y at (elements_phrase m p ls) ≡ literals_in Y at (elements_phrase m q ls)
@@ -128,23 +122,15 @@ module _ (X : ℕ → Literal → Place → List Placed) (Y : ℕ → Place → 
     place_at_item at p (held v) = refl
     place_at_item at p (known m) = refl
 
-  place_sort : (P : Program) (bound w : ℕ) (s : Sort) → Y ≡ array_places P (length P.arrays) → HasBuiltPhrase bound s → map place_at (placed_in X (first_of_word w) (body_of s)) ≡ sort_places P w s
-  place_sort P bound w (body t) e h = place_in (first_of_word w) t ∙ ap (λ (Z : ℕ → Place → List Place). places_in Z t) e
-  place_sort P bound w (prim k) e h = refl
-  place_sort P bound w (core k) e h = refl
-  place_sort P bound w (past t) e h = absurd h
-  place_sort P bound w itself e h = refl
-  place_sort P bound w (class k) e h = refl
-  place_sort P bound w (isa k) e h = refl
-  place_sort P bound w (getter x) e h = refl
-  place_sort P bound w (setter x) e h = refl
-  place_sort P bound w (putter x) e h = refl
-  place_sort P bound w generic e h = refl
-  place_sort P bound w (method c g t) e h = absurd h
+  place_sort : (P : Program) (bound n w : ℕ) (s : Sort) → Y ≡ array_places P (length P.arrays) → HasBuiltPhrase bound s → IsClosable n (phrase_of s) → map place_at (placed_in X (first_of_word w) (body_of w s)) ≡ sort_places P w s
+  place_sort P bound n w (body t) e h c = place_in (first_of_word w) (in_method None t) ∙ ap (places_in Y) (in_method_is n None t c) ∙ ap (λ (Z : ℕ → Place → List Place). places_in Z t) e
+  place_sort P bound n w (past t) e h c = absurd h
+  place_sort P bound n w (method k g t) e h c = place_in (first_of_word w) (in_method (Some w) t) ∙ ap (places_in Y) (in_method_is n (Some w) t c) ∙ ap (λ (Z : ℕ → Place → List Place). places_in Z (of_method w t)) e
+  place_sort P bound n w _ e h c = refl
 
-  place_words : (P : Program) (bound w : ℕ) (ds : List WordDef) → Y ≡ array_places P (length P.arrays) → HaveBuiltPhrases bound ds → map place_at (placed_words X w ds) ≡ word_places P w ds
-  place_words P bound w [] e h = refl
-  place_words P bound w (d ∷ ds) e h = both_mapped place_at (placed_in X (first_of_word w) (body_of d.sort)) (placed_words X (suc w) ds) (sort_places P w d.sort) (word_places P (suc w) ds) (place_sort P bound w d.sort e h.0) (place_words P bound (suc w) ds e h.1)
+  place_words : (P : Program) (bound n w : ℕ) (ds : List WordDef) → Y ≡ array_places P (length P.arrays) → HaveBuiltPhrases bound ds → AreClosable n ds → map place_at (placed_words X w ds) ≡ word_places P w ds
+  place_words P bound n w [] e h c = refl
+  place_words P bound n w (d ∷ ds) e h c = both_mapped place_at (placed_in X (first_of_word w) (body_of w d.sort)) (placed_words X (suc w) ds) (sort_places P w d.sort) (word_places P (suc w) ds) (place_sort P bound n w d.sort e h.0 c.0) (place_words P bound n (suc w) ds e h.1 c.1)
 
 place_array : (P : Program) (n a : ℕ) (at : Literal) (p : Place) → map place_at (array_placed P n a at p) ≡ array_places P n a p
 place_array P zero a at p = refl
@@ -154,11 +140,11 @@ place_array P (suc n) a at p = place_in (array_placed P n) (array_places P n) (p
 abbrev pub program_placed : Program → List Placed
 program_placed P = placed_words (array_placed P (length P.arrays)) 0 P.words
 
-pub placed_literals : (P : Program) → IsBuilt P → map quoted_of (program_placed P) ≡ literals P
-placed_literals P b = quoted_words (array_placed P (length P.arrays)) (array_literals P (length P.arrays)) (quoted_array P (length P.arrays)) P P.top 0 P.words refl (built_phrases P b)
+pub placed_literals : (P : Program) → IsBuilt P → IsWhole P → map quoted_of (program_placed P) ≡ literals P
+placed_literals P b w = quoted_words (array_placed P (length P.arrays)) (array_literals P (length P.arrays)) (quoted_array P (length P.arrays)) P P.top (length P.arrays) 0 P.words refl (built_phrases P b) (program_closable P b w)
 
-pub placed_places : (P : Program) → IsBuilt P → map place_at (program_placed P) ≡ literal_places P
-placed_places P b = place_words (array_placed P (length P.arrays)) (array_places P (length P.arrays)) (place_array P (length P.arrays)) P P.top 0 P.words refl (built_phrases P b)
+pub placed_places : (P : Program) → IsBuilt P → IsWhole P → map place_at (program_placed P) ≡ literal_places P
+placed_places P b w = place_words (array_placed P (length P.arrays)) (array_places P (length P.arrays)) (place_array P (length P.arrays)) P P.top (length P.arrays) 0 P.words refl (built_phrases P b) (program_closable P b w)
 
 -- A phrase has so many.
 no_more : {A : Type 0} (xs : List A) (n : ℕ) → length xs ≡ n → length (xs ++ []) ≡ n
@@ -172,59 +158,43 @@ more xs ys n k e f = rw (length-append xs ys, e, f) refl
 
 module _ (X : ℕ → Literal → Place → List Placed) (counts : List ℕ) (bound : ℕ) (count : (b : ℕ) (at : Literal) (p : Place) → b < bound → length (X b at p) ≡ get_or counts b 0) where
   mutual
-    pub phrase_counted : (n : ℕ) (ls : List Placed) (at : Literal) (t : Phrase) → IsClosable bound t → length ls ≡ n → length (ls ++ placed_in X at t) ≡ phrase_behind counts n t
-    phrase_counted n ls at end h e = no_more ls n e
-    phrase_counted n ls at (then i p t) h e =
-        ap length (sym (append_assoc ls (placed_at X at p i) (placed_in X (behind at i) t))) ∙ phrase_counted (item_behind counts n i) (ls ++ placed_at X at p i) (behind at i) t h.1 (item_counted n ls at p i h.0 e)
+    pub phrase_counted : (m : Option ℕ) (n : ℕ) (ls : List Placed) (at : Literal) (t : Phrase) → IsClosable bound t → length ls ≡ n → length (ls ++ placed_in X at (in_method m t)) ≡ phrase_behind counts n t
+    phrase_counted m n ls at end h e = no_more ls n e
+    phrase_counted m n ls at (then i p t) h e =
+        ap length (sym (append_assoc ls (placed_at X at p (item_in m i)) (placed_in X (behind at (item_in m i)) (in_method m t)))) ∙ phrase_counted m (item_behind counts n i) (ls ++ placed_at X at p (item_in m i)) (behind at (item_in m i)) t h.1 (item_counted m n ls at p i h.0 e)
 
-    pub item_counted : (n : ℕ) (ls : List Placed) (at : Literal) (p : Place) (i : Item) → IsClosableItem bound i → length ls ≡ n → length (ls ++ placed_at X at p i) ≡ item_behind counts n i
-    item_counted n ls at p (quot t) h e =
-        let x : Placed = ((at, t), p) in
-        ap length (sym (append_assoc ls (x ∷ []) (placed_in X (first_of_literal at) t))) ∙ phrase_counted (suc n) (ls ++ x ∷ []) (first_of_literal at) t h (one_more ls x n e)
-    item_counted n ls at p (lit q) h e = no_more ls n e
-    item_counted n ls at p (word w) h e = no_more ls n e
-    item_counted n ls at p (lit_arr a) h e = more ls (X a at p) n (get_or counts a 0) e (count a at p h)
-    item_counted n ls at p (bind x) h e = absurd h
-    item_counted n ls at p (local x) h e = absurd h
-    item_counted n ls at p (fry t k) h e = absurd h
-    item_counted n ls at p (hole k) h e = absurd h
-    item_counted n ls at p (call_eff f) h e = absurd h
-    item_counted n ls at p (exec_eff f) h e = absurd h
-    item_counted n ls at p next_method h e = absurd h
-    item_counted n ls at p (made k) h e = absurd h
-    item_counted n ls at p (next_after m) h e = absurd h
-    item_counted n ls at p (held v) h e = absurd h
-    item_counted n ls at p (known m) h e = absurd h
+    pub item_counted : (m : Option ℕ) (n : ℕ) (ls : List Placed) (at : Literal) (p : Place) (i : Item) → IsClosableItem bound i → length ls ≡ n → length (ls ++ placed_at X at p (item_in m i)) ≡ item_behind counts n i
+    item_counted m n ls at p (quot t) h e =
+        let x : Placed = ((at, in_method m t), p) in
+        ap length (sym (append_assoc ls (x ∷ []) (placed_in X (first_of_literal at) (in_method m t)))) ∙ phrase_counted m (suc n) (ls ++ x ∷ []) (first_of_literal at) t h (one_more ls x n e)
+    item_counted m n ls at p (lit q) h e = no_more ls n e
+    item_counted m n ls at p (word w) h e = no_more ls n e
+    item_counted m n ls at p (lit_arr a) h e = more ls (X a at p) n (get_or counts a 0) e (count a at p h)
+    item_counted None n ls at p next_method h e = no_more ls n e
+    item_counted (Some m) n ls at p next_method h e = no_more ls n e
+    item_counted m n ls at p _ h e = absurd h
 
   pub words_counted : (n w : ℕ) (ls : List Placed) (ds : List WordDef) → AreClosable bound ds → length ls ≡ n → length (ls ++ placed_words X w ds) ≡ words_behind counts n ds
   words_counted n w ls [] h e = no_more ls n e
   words_counted n w ls (d ∷ ds) h e =
-      let here = placed_in X (first_of_word w) (body_of d.sort) in
-      ap length (sym (append_assoc ls here (placed_words X (suc w) ds))) ∙ words_counted (phrase_behind counts n (body_of d.sort)) (suc w) (ls ++ here) ds h.1 (phrase_counted n ls (first_of_word w) (body_of d.sort) h.0 e)
+      let here = placed_in X (first_of_word w) (body_of w d.sort) in
+      ap length (sym (append_assoc ls here (placed_words X (suc w) ds))) ∙ words_counted (phrase_behind counts n (phrase_of d.sort)) (suc w) (ls ++ here) ds h.1 (phrase_counted (method_of w d.sort) n ls (first_of_word w) (phrase_of d.sort) h.0 e)
 
 -- Two ways to find the literals of arrays agree on a phrase where they agree on the arrays that it names.
 module _ (X Y : ℕ → Literal → Place → List Placed) (bound : ℕ) (same : (b : ℕ) (at : Literal) (p : Place) → b < bound → X b at p ≡ Y b at p) where
   mutual
-    phrase_same : (at : Literal) (t : Phrase) → IsClosable bound t → placed_in X at t ≡ placed_in Y at t
-    phrase_same at end h = refl
-    phrase_same at (then i p t) h = rw (item_same at p i h.0, phrase_same (behind at i) t h.1) refl
+    phrase_same : (m : Option ℕ) (at : Literal) (t : Phrase) → IsClosable bound t → placed_in X at (in_method m t) ≡ placed_in Y at (in_method m t)
+    phrase_same m at end h = refl
+    phrase_same m at (then i p t) h = rw (item_same m at p i h.0, phrase_same m (behind at (item_in m i)) t h.1) refl
 
-    item_same : (at : Literal) (p : Place) (i : Item) → IsClosableItem bound i → placed_at X at p i ≡ placed_at Y at p i
-    item_same at p (quot t) h = ap (λ (ls : List Placed). ((at, t), p) ∷ ls) (phrase_same (first_of_literal at) t h)
-    item_same at p (lit q) h = refl
-    item_same at p (word w) h = refl
-    item_same at p (lit_arr a) h = same a at p h
-    item_same at p (bind x) h = absurd h
-    item_same at p (local x) h = absurd h
-    item_same at p (fry t k) h = absurd h
-    item_same at p (hole k) h = absurd h
-    item_same at p (call_eff f) h = absurd h
-    item_same at p (exec_eff f) h = absurd h
-    item_same at p next_method h = absurd h
-    item_same at p (made k) h = absurd h
-    item_same at p (next_after m) h = absurd h
-    item_same at p (held v) h = absurd h
-    item_same at p (known m) h = absurd h
+    item_same : (m : Option ℕ) (at : Literal) (p : Place) (i : Item) → IsClosableItem bound i → placed_at X at p (item_in m i) ≡ placed_at Y at p (item_in m i)
+    item_same m at p (quot t) h = ap (λ (ls : List Placed). ((at, in_method m t), p) ∷ ls) (phrase_same m (first_of_literal at) t h)
+    item_same m at p (lit q) h = refl
+    item_same m at p (word w) h = refl
+    item_same m at p (lit_arr a) h = same a at p h
+    item_same None at p next_method h = refl
+    item_same (Some m) at p next_method h = refl
+    item_same m at p _ h = absurd h
 
 -- what a list has below its length
 pub found : {A : Type 0} (xs : List A) (k : ℕ) → k < length xs → (x : A) × (slice_get xs k ≡ Some x)
@@ -237,25 +207,29 @@ behind_anywhere counts n p q [] = refl
 behind_anywhere counts n p q (l ∷ ls) = behind_anywhere counts (item_behind counts n (plain_item l)) p q ls
 
 module _ (P : Program) (b : IsBuilt P) (w : IsWhole P) where
+  -- the method in which a literal array stands
+  abbrev around : ℕ → Option ℕ
+  around a = array_method P (length P.arrays) a
+
   -- As many nestings as arrays before an array are enough.
   arrays_same : (f g a : ℕ) (at : Literal) (p : Place) → a < f → a < g → a < length P.arrays → array_placed P f a at p ≡ array_placed P g a at p
   arrays_same zero g a at p lt le inside = absurd (omega (arith, lt))
   arrays_same (suc f) zero a at p lt le inside = absurd (omega (arith, le))
   arrays_same (suc f) (suc g) a at p lt le inside =
       let here = found P.arrays a inside in
-      let is = array_phrase_is P b a p here.0 here.1 in
+      let is = array_phrase_is P b w a p here.0 here.1 in
       ap (placed_in (array_placed P f) (first_in_array at)) is
-      ∙ phrase_same (array_placed P f) (array_placed P g) a (λ (c : ℕ) (at : Literal) (p : Place) (less : c < a). arrays_same f g c at p (omega (arith, lt, less)) (omega (arith, le, less)) (omega (arith, inside, less))) (first_in_array at) (plain_phrase p here.0) (array_closable P b w a p here.0 here.1)
+      ∙ phrase_same (array_placed P f) (array_placed P g) a (λ (c : ℕ) (at : Literal) (p : Place) (less : c < a). arrays_same f g c at p (omega (arith, lt, less)) (omega (arith, le, less)) (omega (arith, inside, less))) (around a) (first_in_array at) (plain_phrase p here.0) (array_closable P b w a p here.0 here.1)
       ∙ sym (ap (placed_in (array_placed P g) (first_in_array at)) is)
 
-  unfolds : (f a : ℕ) (at : Literal) (p : Place) (ls : List Lit) → a < f → slice_get P.arrays a ≡ Some ls → a < length P.arrays → array_placed P f a at p ≡ placed_in (array_placed P (length P.arrays)) (first_in_array at) (plain_phrase p ls)
+  unfolds : (f a : ℕ) (at : Literal) (p : Place) (ls : List Lit) → a < f → slice_get P.arrays a ≡ Some ls → a < length P.arrays → array_placed P f a at p ≡ placed_in (array_placed P (length P.arrays)) (first_in_array at) (in_method (around a) (plain_phrase p ls))
   unfolds zero a at p ls lt is inside = absurd (omega (arith, lt))
   unfolds (suc f) a at p ls lt is inside =
-      ap (placed_in (array_placed P f) (first_in_array at)) (array_phrase_is P b a p ls is)
-      ∙ phrase_same (array_placed P f) (array_placed P (length P.arrays)) a (λ (c : ℕ) (at : Literal) (p : Place) (less : c < a). arrays_same f (length P.arrays) c at p (omega (arith, lt, less)) (omega (arith, inside, less)) (omega (arith, inside, less))) (first_in_array at) (plain_phrase p ls) (array_closable P b w a p ls is)
+      ap (placed_in (array_placed P f) (first_in_array at)) (array_phrase_is P b w a p ls is)
+      ∙ phrase_same (array_placed P f) (array_placed P (length P.arrays)) a (λ (c : ℕ) (at : Literal) (p : Place) (less : c < a). arrays_same f (length P.arrays) c at p (omega (arith, lt, less)) (omega (arith, inside, less)) (omega (arith, inside, less))) (around a) (first_in_array at) (plain_phrase p ls) (array_closable P b w a p ls is)
 
   -- the literals of an array are those of its elements
-  pub array_unfolds : (a : ℕ) (at : Literal) (p : Place) (ls : List Lit) → slice_get P.arrays a ≡ Some ls → a < length P.arrays → array_placed P (length P.arrays) a at p ≡ placed_in (array_placed P (length P.arrays)) (first_in_array at) (plain_phrase p ls)
+  pub array_unfolds : (a : ℕ) (at : Literal) (p : Place) (ls : List Lit) → slice_get P.arrays a ≡ Some ls → a < length P.arrays → array_placed P (length P.arrays) a at p ≡ placed_in (array_placed P (length P.arrays)) (first_in_array at) (in_method (array_method P (length P.arrays) a) (plain_phrase p ls))
   array_unfolds a at p ls is inside = unfolds (length P.arrays) a at p ls inside is inside
 
   counted_at : (f a : ℕ) (at : Literal) (p : Place) → a < f → a < length P.arrays → length (array_placed P f a at p) ≡ get_or (counts_from [] P.arrays) a 0
@@ -263,8 +237,8 @@ module _ (P : Program) (b : IsBuilt P) (w : IsWhole P) where
   counted_at (suc f) a at p lt inside =
       let here = found P.arrays a inside in
       let counts = counts_from [] P.arrays in
-      ap (λ (t : Phrase). length (placed_in (array_placed P f) (first_in_array at) t)) (array_phrase_is P b a p here.0 here.1)
-      ∙ phrase_counted (array_placed P f) counts a (λ (c : ℕ) (at : Literal) (p : Place) (less : c < a). counted_at f c at p (omega (arith, lt, less)) (omega (arith, inside, less))) 0 [] (first_in_array at) (plain_phrase p here.0) (array_closable P b w a p here.0 here.1) refl
+      ap (λ (t : Phrase). length (placed_in (array_placed P f) (first_in_array at) t)) (array_phrase_is P b w a p here.0 here.1)
+      ∙ phrase_counted (array_placed P f) counts a (λ (c : ℕ) (at : Literal) (p : Place) (less : c < a). counted_at f c at p (omega (arith, lt, less)) (omega (arith, inside, less))) (around a) 0 [] (first_in_array at) (plain_phrase p here.0) (array_closable P b w a p here.0 here.1) refl
       ∙ behind_anywhere counts 0 p nowhere here.0
       ∙ sym (counted_elements P b w a here.0 here.1)
 

@@ -5,17 +5,11 @@ use Rattle.std.specs.Prelude.{slice_get}
 use Rattle.fac_lang.specs.Phrases.{Literal, Phrase, end, then, Item, lit, lit_arr, quot, word, bind, local, fry, hole, call_eff, exec_eff, next_method, made, next_after, held, known}
 use Rattle.fac_lang.specs.Substitution.{of_method}
 use Rattle.fac_lang.specs.Meaning.{nowhere}
-use Rattle.fac_lang.specs.declared.phrase.Place.{Place}
-use Rattle.fac_lang.specs.declared.program.Lit.{Lit}
-use Rattle.fac_lang.specs.declared.program.Lit.TheVariants.{Int as l_int, True as l_yes, False as l_no, Str as l_str, Arr as l_arr, Wref as l_word, Quot as l_quot, Made as l_made}
 use Rattle.fac_lang.specs.declared.program.Program.{Program}
 use Rattle.fac_lang.specs.declared.program.WordDef.{WordDef}
 use Rattle.fac_lang.specs.declared.program.Sort.{Sort}
 use Rattle.fac_lang.specs.declared.program.Sort.TheVariants.{Prim as prim, Core as core, Body as body, Past as past, Itself as itself, Class as class, Isa as isa, Getter as getter, Setter as setter, Putter as putter, Generic as generic, Method as method}
-use Rattle.fac_lang.specs.Forms.{IsBuilt, IsBuiltPhrase, IsBuiltItem, AreBuiltElements, AreBuiltArrays}
-use Rattle.fac_locals.specs.Literals.{NotBehind, NotBefore, Quoted, path, items_in, items_inside, first_of_word, first_of_literal, first_in_array, behind, array_or_none, array_phrase, array_literals, literals_in, literals_at, sort_literals, word_literals, literals, literal_or, literal_numbered}
-use Rattle.fac_locals.specs.inner.Numbering.{plain_phrase}
-use Rattle.fac_locals.proofs.LiteralArrays.{HasBuiltPhrase, HaveBuiltPhrases, built_phrases, array_in_no_method}
+use Rattle.fac_locals.specs.Literals.{NotBehind, NotBefore, Quoted, path, items_in, items_inside, first_of_word, first_of_literal, first_in_array, behind, array_phrase, array_literals, literals_in, literals_at, sort_literals, word_literals, literals, literal_or, literal_numbered}
 
 -- places of literals grow from one place on, and all stand before another
 abbrev pub Between : Literal → Literal → List Quoted → Type 0
@@ -265,87 +259,3 @@ grows_or P j k None None o p e = last_numbers (length P.words) j k e
 -- numbers grow as places do
 pub literal_behind : (P : Program) (j k : ℕ) → NotBefore (first_of_literal (literal_numbered P k).0) (literal_numbered P j).0 → k < j
 literal_behind P j k e = grows_or P j k (slice_get (literals P) k) (slice_get (literals P) j) refl refl e
-
--- each of these literals has a phrase of the built forms
-abbrev AreBuiltLiterals : ℕ → List Quoted → Type 0
-AreBuiltLiterals bound [] = Unit {0}
-AreBuiltLiterals bound (l ∷ ls) = IsBuiltPhrase bound l.1 × AreBuiltLiterals bound ls
-
-both_built : (bound : ℕ) (ls ms : List Quoted) → AreBuiltLiterals bound ls → AreBuiltLiterals bound ms → AreBuiltLiterals bound (ls ++ ms)
-both_built bound [] ms h k = k
-both_built bound (l ∷ ls) ms h k = (h.0, both_built bound ls ms h.1 k)
-
-module _ (bound : ℕ) (arrays : ℕ → Literal → List Quoted) (arrays_built : (a : ℕ) (at : Literal) → AreBuiltLiterals bound (arrays a at)) where
-  mutual
-    phrase_literals_built : (at : Literal) (t : Phrase) → IsBuiltPhrase bound t → AreBuiltLiterals bound (literals_in arrays at t)
-    phrase_literals_built at end h = tt
-    phrase_literals_built at (then i p t) h = both_built bound (literals_at arrays at i) (literals_in arrays (behind at i) t) (item_literals_built at i h.0) (phrase_literals_built (behind at i) t h.1)
-
-    item_literals_built : (at : Literal) (i : Item) → IsBuiltItem bound i → AreBuiltLiterals bound (literals_at arrays at i)
-    item_literals_built at (quot t) h = (h, phrase_literals_built (first_of_literal at) t h)
-    item_literals_built at (fry t n) h = absurd h
-    item_literals_built at (lit_arr a) h = arrays_built a at
-    item_literals_built at (lit q) h = tt
-    item_literals_built at (word w) h = tt
-    item_literals_built at (bind x) h = tt
-    item_literals_built at (local x) h = tt
-    item_literals_built at (hole k) h = tt
-    item_literals_built at (call_eff f) h = tt
-    item_literals_built at (exec_eff f) h = tt
-    item_literals_built at next_method h = tt
-    item_literals_built at (made k) h = tt
-    item_literals_built at (next_after m) h = tt
-    item_literals_built at (held v) h = tt
-    item_literals_built at (known m) h = tt
-
--- the items of a literal array
-elements_built : (bound : ℕ) (p : Place) (ls : List Lit) → AreBuiltElements bound ls → IsBuiltPhrase bound (plain_phrase p ls)
-elements_built bound p [] h = tt
-elements_built bound p (l_int z ∷ ls) h = (tt, elements_built bound p ls h.1)
-elements_built bound p (l_yes ∷ ls) h = (tt, elements_built bound p ls h.1)
-elements_built bound p (l_no ∷ ls) h = (tt, elements_built bound p ls h.1)
-elements_built bound p (l_str s ∷ ls) h = (tt, elements_built bound p ls h.1)
-elements_built bound p (l_arr a ∷ ls) h = (tt, elements_built bound p ls h.1)
-elements_built bound p (l_word w ∷ ls) h = (h.0, elements_built bound p ls h.1)
-elements_built bound p (l_quot t ∷ ls) h = (h.0, elements_built bound p ls h.1)
-elements_built bound p (l_made k ∷ ls) h = absurd h.0
-
-array_built : (bound a : ℕ) (lss : List (List Lit)) → AreBuiltArrays bound lss → AreBuiltElements bound (array_or_none (slice_get lss a))
-array_built bound a [] h = tt
-array_built bound zero (ls ∷ lss) h = h.0
-array_built bound (suc a) (ls ∷ lss) h = array_built bound a lss h.1
-
--- the phrase of a literal array of a built program is of the built forms
-pub array_phrase_built : (P : Program) → IsBuilt P → (a : ℕ) (p : Place) → IsBuiltPhrase P.top (array_phrase P a p)
-array_phrase_built P b a p = rw (array_in_no_method P b (length P.arrays) a) (elements_built P.top p (array_or_none (slice_get P.arrays a)) (array_built P.top a P.arrays b.arrays_built))
-
-array_literals_built : (P : Program) → IsBuilt P → (n a : ℕ) (at : Literal) → AreBuiltLiterals P.top (array_literals P n a at)
-array_literals_built P b zero a at = tt
-array_literals_built P b (suc n) a at = phrase_literals_built P.top (array_literals P n) (array_literals_built P b n) (first_in_array at) (array_phrase P a nowhere) (array_phrase_built P b a nowhere)
-
-sort_literals_built : (P : Program) → IsBuilt P → (w : ℕ) (s : Sort) → HasBuiltPhrase P.top s → AreBuiltLiterals P.top (sort_literals P w s)
-sort_literals_built P b w (body t) h = phrase_literals_built P.top (arrays_of P) (array_literals_built P b (length P.arrays)) (first_of_word w) t h
-sort_literals_built P b w (past t) h = absurd h
-sort_literals_built P b w (method c g t) h = absurd h
-sort_literals_built P b w (prim k) h = tt
-sort_literals_built P b w (core k) h = tt
-sort_literals_built P b w itself h = tt
-sort_literals_built P b w (class k) h = tt
-sort_literals_built P b w (isa k) h = tt
-sort_literals_built P b w (getter x) h = tt
-sort_literals_built P b w (setter x) h = tt
-sort_literals_built P b w (putter x) h = tt
-sort_literals_built P b w generic h = tt
-
-word_literals_built : (P : Program) → IsBuilt P → (w : ℕ) (ds : List WordDef) → HaveBuiltPhrases P.top ds → AreBuiltLiterals P.top (word_literals P w ds)
-word_literals_built P b w [] h = tt
-word_literals_built P b w (d ∷ ds) h = both_built P.top (sort_literals P w d.sort) (word_literals P (suc w) ds) (sort_literals_built P b w d.sort h.0) (word_literals_built P b (suc w) ds h.1)
-
-built_literal : (P : Program) (bound n k : ℕ) (ls : List Quoted) → AreBuiltLiterals bound ls → IsBuiltPhrase bound (literal_or P n (slice_get ls k)).1
-built_literal P bound n k [] h = tt
-built_literal P bound n zero (l ∷ ls) h = h.0
-built_literal P bound n (suc k) (l ∷ ls) h = built_literal P bound n k ls h.1
-
--- the phrase of each literal is of the built forms, so no mark stands in it
-pub literal_built : (P : Program) → IsBuilt P → (k : ℕ) → IsBuiltPhrase P.top (literal_numbered P k).1
-literal_built P b k = built_literal P P.top k k (literals P) (word_literals_built P b 0 P.words (built_phrases P b))

@@ -1,4 +1,4 @@
--- When a closed program stands for a program: each quotation in a phrase or in a literal array is made by the template of its literal, and a template's phrase is closed likewise.
+-- When a closed program stands for a program: each quotation in a phrase or in a literal array is made by the template of its literal, and a template's phrase is closed likewise. A next method keeps the method that it is next after.
 use Rattle.std.specs.Prelude.{◌≡◌, ℕ, suc, Option, List, [], ◌∷◌, length, map}
 use Rattle.fac_lang.specs.Phrases.{Literal, Phrase, end, then, Item, lit, lit_arr, quot, word, bind, local, fry, hole, call_eff, exec_eff, next_method, made, next_after, held, known}
 use Rattle.fac_lang.specs.Substitution.{of_method}
@@ -20,13 +20,13 @@ module _ (P : Program) where
   -- An item for one that stands here. Phrases with locals, holes and fries aren't closed yet.
   abbrev pub ClosesItem : Literal → Item → Item → Type 0
   ClosesItem at (quot t) j = (k : ℕ) × (j ≡ made k) × IsMadeBy at t k
-  ClosesItem at (next_after m) j = j ≡ next_method
   ClosesItem at (lit p) j = j ≡ lit p
   ClosesItem at (lit_arr a) j = j ≡ lit_arr a
   ClosesItem at (word w) j = j ≡ word w
   ClosesItem at (call_eff h) j = j ≡ call_eff h
   ClosesItem at (exec_eff h) j = j ≡ exec_eff h
   ClosesItem at next_method j = j ≡ next_method
+  ClosesItem at (next_after m) j = j ≡ next_after m
   ClosesItem at (bind x) j = ⊥
   ClosesItem at (local x) j = ⊥
   ClosesItem at (fry t n) j = ⊥

@@ -4,12 +4,14 @@ ghost use Rattle.fac_lang.specs.Forms.{IsBuilt};
 ghost use Rattle.fac_lang.specs.Whole.{IsWhole};
 ghost use Rattle.fac_lang.specs.PhraseView.{what_item};
 ghost use Rattle.fac_lang.specs.Phrases.{lit_arr};
+ghost use Rattle.fac_slots.specs.Slots.{slot_counts};
 ghost use Rattle.fac_locals.specs.Closed.{Closes};
 ghost use Rattle.fac_locals.specs.inner.Numbering.{ItemPassed, PhrasePassed, WordsPassed, NumberTaken, PartsClosed, closed_what, closed_phrase, closed_element, closed_elements, closed_sort, closed_word, closed_words};
-ghost use Rattle.fac_locals.specs.inner.Numbering.{body_of, plain_item, plain_phrase, template_of, array_closed, arrays_closed, stage_of};
+ghost use Rattle.fac_locals.specs.inner.Numbering.{method_of, next_what, phrase_of, plain_item, plain_phrase, template_of, array_closed, arrays_closed, stage_of};
 
 use crate::counting::{behind_array, count_arrays, count_words, one_more};
 use fac_lang::{Item, List, Lit, Memory, Phrase, Place, Program, Sort, Template, What, WordDef};
+use fac_slots::slot_counts;
 use std::alloc::Global;
 use std::mem;
 
@@ -20,8 +22,11 @@ pub struct Closed {
     pub program: Program,
     /// The templates, by their numbers.
     pub templates: List<Template>,
+    /// How many slots each class has, with those of its parents, by the numbers of the classes.
+    pub slots: List<u32>,
     /// How many values the top-level phrase starts on.
     pub start: u64,
+    ghost counted: { slots ≡ slot_counts program.classes },
 }
 
 // Where a literal array stands, and the number that its first quotation gets.
@@ -29,6 +34,8 @@ pub struct Closed {
 struct ArrayStart {
     number: u32,
     place: Place,
+    // The word of the method in whose phrase it stands.
+    method: Option<u32>,
 }
 
 // What closing has made so far.
@@ -74,7 +81,7 @@ fn unmet(alloc: Global, count: usize) -> Result<Vec<ArrayStart>, Memory>
     ensures { IfOk result (λ starts. length starts.items ≡ count) }
 {
     let place = Place { file: 0, token: 0 };
-    Ok(vec![in alloc; ArrayStart { number: 0, place }; count]?)
+    Ok(vec![in alloc; ArrayStart { number: 0, place, method: None }; count]?)
 }
 
 // Puts an element at its number, where the list has that number.
@@ -96,16 +103,37 @@ fn take_number(closing: &mut Closing) -> Result<u32, Memory>
 }
 
 // Notes where a literal array starts, and goes behind its quotations.
-fn pass_array(closing: &mut Closing, counts: &[u32], array: u32, place: Place) -> Result<(), Memory>
-    ensures { IfOk result (λ done. ItemPassed counts.now closing.old place (lit_arr array) closing.new) }
+fn pass_array(
+    closing: &mut Closing,
+    counts: &[u32],
+    array: u32,
+    place: Place,
+    method: Option<u32>,
+) -> Result<(), Memory>
+    ensures { IfOk result (λ done. ItemPassed counts.now method closing.old place (lit_arr array) closing.new) }
 {
     let number = closing.next;
     closing.next = behind_array(array, counts, number)?;
-    put(&mut closing.starts, array, ArrayStart { number, place });
+    let start = ArrayStart {
+        number,
+        place,
+        method,
+    };
+    put(&mut closing.starts, array, start);
     Ok(())
 }
 
-// An item with a template in place of its quotation.
+// `call-next-method` in the phrase of this method, or in none.
+fn next_method(method: Option<u32>) -> What
+    ensures { result ≡ next_what method }
+{
+    match method {
+        Some(number) => What::NextAfter(number),
+        None => What::NextMethod,
+    }
+}
+
+// An item with a template in place of its quotation, in the phrase of this method or in none.
 #[cycle(closing)]
 fn close_what(
     what: What,
@@ -113,66 +141,85 @@ fn close_what(
     closing: &mut Closing,
     counts: &[u32],
     place: Place,
+    method: Option<u32>,
 ) -> Result<What, Memory>
-    ensures { IfOk result (λ closed. (closed ≡ closed_what counts.now closing.old.next what) × ItemPassed counts.now closing.old place (what_item what) closing.new) }
+    ensures { IfOk result (λ closed. (closed ≡ closed_what counts.now method closing.old.next what) × ItemPassed counts.now method closing.old place (what_item what) closing.new) }
 {
     match what {
         What::Quot(inner) => {
             let number = take_number(closing)?;
-            let body = close_phrase(inner, alloc, closing, counts)?;
+            let body = close_phrase(inner, alloc, closing, counts, method)?;
             put(&mut closing.templates, number, template(alloc, place, body));
             Ok(What::Made(number))
         }
         What::Arr(array) => {
-            pass_array(closing, counts, array, place)?;
+            pass_array(closing, counts, array, place, method)?;
             Ok(What::Arr(array))
         }
+        What::NextMethod => Ok(next_method(method)),
         other => Ok(other),
     }
 }
 
-// A phrase with templates in place of its quotations.
+// A phrase with templates in place of its quotations, which stands in this method or in none.
 #[cycle(closing)]
 fn close_phrase(
     phrase: Phrase,
     alloc: Global,
     closing: &mut Closing,
     counts: &[u32],
+    method: Option<u32>,
 ) -> Result<Phrase, Memory>
-    ensures { IfOk result (λ closed. (closed ≡ closed_phrase counts.now closing.old.next phrase) × PhrasePassed counts.now closing.old phrase closing.new) }
+    ensures { IfOk result (λ closed. (closed ≡ closed_phrase counts.now method closing.old.next phrase) × PhrasePassed counts.now method closing.old phrase closing.new) }
 {
     let mut items = Vec::new(alloc);
     for item in phrase.items {
         let Item { what, place } = item;
-        let what = close_what(what, alloc, closing, counts, place)?;
+        let what = close_what(what, alloc, closing, counts, place, method)?;
         items.push(Item { what, place })?;
     }
     Ok(Phrase { items })
 }
 
-// What a word is, with its phrase closed.
+// What the word of this number is, with its phrase closed.
 fn close_sort(
     alloc: Global,
     closing: &mut Closing,
     counts: &[u32],
+    number: u32,
     sort: Sort,
 ) -> Result<Sort, Memory>
-    ensures { IfOk result (λ closed. (closed ≡ closed_sort counts.now closing.old.next sort) × PhrasePassed counts.now closing.old (body_of sort) closing.new) }
+    ensures { IfOk result (λ closed. (closed ≡ closed_sort counts.now number closing.old.next sort) × PhrasePassed counts.now (method_of number sort) closing.old (phrase_of sort) closing.new) }
 {
     match sort {
-        Sort::Body(phrase) => Ok(Sort::Body(close_phrase(phrase, alloc, closing, counts)?)),
+        Sort::Body(phrase) => Ok(Sort::Body(close_phrase(
+            phrase, alloc, closing, counts, None,
+        )?)),
+        Sort::Method {
+            class,
+            generic,
+            body,
+        } => {
+            let body = close_phrase(body, alloc, closing, counts, Some(number))?;
+            Ok(Sort::Method {
+                class,
+                generic,
+                body,
+            })
+        }
         other => Ok(other),
     }
 }
 
-// A word with its phrase closed.
+// The word of this number with its phrase closed.
 fn close_word(
     alloc: Global,
     closing: &mut Closing,
     counts: &[u32],
+    number: u32,
     word: WordDef,
 ) -> Result<WordDef, Memory>
-    ensures { IfOk result (λ closed. (closed ≡ closed_word counts.now closing.old.next word) × PhrasePassed counts.now closing.old (body_of word.sort) closing.new) }
+    ensures { IfOk result (λ closed. (closed ≡ closed_word counts.now number closing.old.next word) × PhrasePassed counts.now (method_of number word.sort) closing.old (phrase_of word.sort) closing.new) }
 {
     let WordDef {
         name,
@@ -182,7 +229,7 @@ fn close_word(
         recursive,
         place,
     } = word;
-    let sort = close_sort(alloc, closing, counts, sort)?;
+    let sort = close_sort(alloc, closing, counts, number, sort)?;
     Ok(WordDef {
         name,
         sort,
@@ -200,53 +247,56 @@ fn close_words(
     counts: &[u32],
     words: Vec<WordDef>,
 ) -> Result<List<WordDef>, Memory>
-    ensures { IfOk result (λ closed. (closed ≡ closed_words counts.now closing.old.next words.items) × WordsPassed counts.now closing.old words.items closing.new) }
+    ensures { IfOk result (λ closed. (closed ≡ closed_words counts.now 0 closing.old.next words.items) × WordsPassed counts.now 0 closing.old words.items closing.new) }
 {
     let mut closed = List::new(alloc);
     for word in words {
-        closed.push(close_word(alloc, closing, counts, word)?)?;
+        let number = closed.len();
+        closed.push(close_word(alloc, closing, counts, number, word)?)?;
     }
     Ok(closed)
 }
 
-// An element of a literal array that stands here, with a template in place of its quotation.
+// An element of a literal array that stands here, in the phrase of this method or in none, with a template in place of its quotation.
 fn close_element(
     element: Lit,
     alloc: Global,
     closing: &mut Closing,
     counts: &[u32],
     place: Place,
+    method: Option<u32>,
 ) -> Result<Lit, Memory>
-    ensures { IfOk result (λ closed. (closed ≡ closed_element counts.now closing.old.next element) × ItemPassed counts.now closing.old place (plain_item element) closing.new) }
+    ensures { IfOk result (λ closed. (closed ≡ closed_element counts.now closing.old.next element) × ItemPassed counts.now method closing.old place (plain_item element) closing.new) }
 {
     match element {
         Lit::Quot(inner) => {
             let number = take_number(closing)?;
-            let body = close_phrase(inner, alloc, closing, counts)?;
+            let body = close_phrase(inner, alloc, closing, counts, method)?;
             put(&mut closing.templates, number, template(alloc, place, body));
             Ok(Lit::Made(number))
         }
         Lit::Arr(array) => {
-            pass_array(closing, counts, array, place)?;
+            pass_array(closing, counts, array, place, method)?;
             Ok(Lit::Arr(array))
         }
         other => Ok(other),
     }
 }
 
-// The elements of a literal array that stands here, with templates in place of their quotations.
+// The elements of a literal array that starts so, with templates in place of their quotations.
 fn close_elements(
     elements: Vec<Lit>,
     alloc: Global,
     closing: &mut Closing,
     counts: &[u32],
-    place: Place,
+    start: ArrayStart,
 ) -> Result<List<Lit>, Memory>
-    ensures { IfOk result (λ closed. (closed ≡ closed_elements counts.now closing.old.next elements.items) × PhrasePassed counts.now closing.old (plain_phrase place elements.items) closing.new) }
+    ensures { IfOk result (λ closed. (closed ≡ closed_elements counts.now closing.old.next elements.items) × PhrasePassed counts.now start.method closing.old (plain_phrase start.place elements.items) closing.new) }
 {
     let mut closed = List::new(alloc);
     for element in elements {
-        closed.push(close_element(element, alloc, closing, counts, place)?)?;
+        let element = close_element(element, alloc, closing, counts, start.place, start.method)?;
+        closed.push(element)?;
     }
     Ok(closed)
 }
@@ -266,7 +316,7 @@ fn close_array(
     let start = closing.starts[array];
     closing.next = start.number;
     let elements = mem::replace(&mut arrays[array], List::new(alloc));
-    let closed = close_elements(elements.into_vec(), alloc, closing, counts, start.place)?;
+    let closed = close_elements(elements.into_vec(), alloc, closing, counts, start)?;
     arrays[array] = closed;
     Ok(())
 }
@@ -310,8 +360,9 @@ fn close_parts(
     Ok((closed, List::from_vec(templates)?))
 }
 
-/// The program with each quotation replaced by the number of its template. Templates are numbered from 0, word by word, an outer
-/// quotation before those in it, and those of a literal array where the array stands. Want of memory is the one error.
+/// The program with each quotation replaced by the number of its template, and each `call-next-method` of a method by the next one after that
+/// method. Templates are numbered from 0, word by word, an outer quotation before those in it, and those of a literal array where the array
+/// stands. Want of memory is the one error.
 pub fn close(alloc: Global, program: Program, start: u64) -> Result<Closed, Memory>
     requires built { IsBuilt program }
     requires whole { IsWhole program }
@@ -323,6 +374,7 @@ pub fn close(alloc: Global, program: Program, start: u64) -> Result<Closed, Memo
         classes,
         top,
     } = program;
+    let slots = slot_counts(alloc, &classes)?;
     let mut arrays = arrays.into_vec();
     let (words, templates) = close_parts(alloc, words.into_vec(), &mut arrays)?;
     Ok(Closed {
@@ -333,6 +385,7 @@ pub fn close(alloc: Global, program: Program, start: u64) -> Result<Closed, Memo
             top,
         },
         templates,
+        slots,
         start,
     })
 }

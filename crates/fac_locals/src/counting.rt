@@ -2,7 +2,7 @@
 ghost use Rattle.std.specs.Prelude.{◌≡◌, ◌+◌, [], suc, slice_index_or, IfOk};
 ghost use Rattle.fac_lang.specs.Meaning.{nowhere};
 ghost use Rattle.fac_lang.specs.PhraseView.{what_item};
-ghost use Rattle.fac_locals.specs.inner.Numbering.{phrase_behind, item_behind, plain_item, plain_phrase, elements_count, counts_from, words_behind, body_of};
+ghost use Rattle.fac_locals.specs.inner.Numbering.{phrase_behind, item_behind, plain_item, plain_phrase, elements_count, counts_from, words_behind, phrase_of};
 
 use fac_lang::{List, Lit, Memory, Phrase, Sort, What, WordDef};
 use std::alloc::Global;
@@ -90,10 +90,11 @@ pub fn count_arrays(alloc: Global, arrays: &[List<Lit>]) -> Result<Vec<u32>, Mem
 
 // The number behind those of a word's quotations.
 fn behind_sort(sort: &Sort, counts: &[u32], number: u32) -> Result<u32, Memory>
-    ensures { IfOk result (λ n. n ≡ phrase_behind counts.now number (body_of sort.now)) }
+    ensures { IfOk result (λ n. n ≡ phrase_behind counts.now number (phrase_of sort.now)) }
 {
     match sort {
         Sort::Body(phrase) => behind_phrase(phrase, counts, number),
+        Sort::Method { body, .. } => behind_phrase(body, counts, number),
         _ => Ok(number),
     }
 }

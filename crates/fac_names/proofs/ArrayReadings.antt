@@ -12,16 +12,19 @@ use Rattle.fac_lang.specs.Whole.{arrays_named, arrays_named_by, each_numbered, n
 use Rattle.fac_lang.specs.declared.phrase.Place.{Place}
 use Rattle.fac_lang.specs.declared.program.Lit.{Lit}
 use Rattle.fac_lang.specs.declared.program.Sort.{Sort}
-use Rattle.fac_lang.specs.declared.program.Sort.TheVariants.{Body as body, Past as past, Method as method}
+use Rattle.fac_lang.specs.declared.program.Sort.TheVariants.{Body as body, Past as past, Itself as itself, Method as method}
 use Rattle.fac_lang.specs.declared.program.WordDef.{WordDef}
 use Rattle.fac_vocab.specs.declared.entry.Entry.{Entry}
 use Rattle.fac_vocab.specs.Scopes.{Scope, entries_from, holders, home, now_defined, same_table}
-use Rattle.fac_names.specs.declared.refusal.NameFault.{NameFault}
-use Rattle.fac_names.specs.declared.refusal.NameKind.TheVariants.{Twice}
-use Rattle.fac_names.specs.Written.{Tok}
-use Rattle.fac_names.specs.Items.{fault}
-use Rattle.fac_names.specs.Forms.{Draft, Numbered, Reading, added, at_place, changed, defining, deferring, draft_of, own, refused, settled, told, with_told}
-use Rattle.fac_names.proofs.ArrayNumbers.{Adds, below, held_times, times_both}
+use Rattle.fac_refusal.specs.declared.refusal.NameFault.{NameFault}
+use Rattle.fac_refusal.specs.declared.refusal.NameKind.TheVariants.{Twice}
+use Rattle.fac_items.specs.Written.{Tok}
+use Rattle.fac_refusal.specs.Refusals.{fault}
+use Rattle.fac_endings.specs.declared.draft.Draft.{Draft}
+use Rattle.fac_names.specs.Forms.{Numbered, Reading, added, at_place, changed, defined, defining, deferring, draft_of, own, refused, told, with_told}
+use Rattle.fac_endings.specs.declared.draft.Late.{Late}
+use Rattle.fac_endings.specs.declared.draft.Late.TheVariants.{Deferred as deferred}
+use Rattle.fac_items.proofs.ArrayNumbers.{Adds, below, held_times, times_both}
 use Rattle.fac_names.proofs.BuiltScopes.{EntriesBelow}
 use Rattle.fac_names.proofs.Staying.{all_spare, spares}
 
@@ -42,10 +45,14 @@ abbrev pub Ascending : ℕ → List Entry → Type 0
 Ascending least [] = Unit {0}
 Ascending least (e ∷ es) = (least ≤ e.word) × Ascending (suc e.word) es
 
--- a word of which an entry is only deferred names no array; the first word has number k
+-- what no form told
+abbrev pub IsUntold : Draft → Type 0
+IsUntold d = (d.word.sort ≡ itself) × (d.late ≡ deferred)
+
+-- a word of which an entry is only deferred isn't told; the first word has number k
 abbrev pub Spared : ℕ → List Draft → List Entry → Type 0
 Spared k [] table = Unit {0}
-Spared k (d ∷ ds) table = (all_spare k table ≡ false → names_by d.word.sort ≡ []) × Spared (suc k) ds table
+Spared k (d ∷ ds) table = (all_spare k table ≡ false → IsUntold d) × Spared (suc k) ds table
 
 pub record Counted (r : Reading) : Type 0 where
   pub ascending : Ascending 0 r.scope.table
@@ -57,7 +64,7 @@ pub record Counted (r : Reading) : Type 0 where
 -- a word that isn't told yet
 pub record Fresh (n : Numbered) : Type 0 where
   pub within : n.word < length n.reading.words
-  pub unnamed : (d : Draft) → slice_get n.reading.words n.word ≡ Some d → names_by d.word.sort ≡ []
+  pub untold : (d : Draft) → slice_get n.reading.words n.word ≡ Some d → IsUntold d
   pub spared : all_spare n.word n.reading.scope.table ≡ true
 
 -- Truth values.
@@ -136,7 +143,7 @@ now_spared vocab name least (x ∷ xs) e h is = one (bytes_eq name x.name && byt
 abbrev holds : List ℕ → List ℕ → Entry → Bool
 holds vocab name e = bytes_eq name e.name && same_table vocab e.vocab
 
-abbrev exactly : Entry → Entry → Bool
+abbrev pub exactly : Entry → Entry → Bool
 exactly e f = bytes_eq e.name f.name && bytes_eq e.vocab f.vocab
 
 exact_holds : (vocab name : List ℕ) (e x : Entry) → exactly e x ≡ true → holds vocab name x ≡ holds vocab name e
@@ -156,7 +163,7 @@ held_holds vocab name (x ∷ xs) e others h = one (holds vocab name x) (λ there
     one true behind is there = let same : x ≡ e = cc in sym (ap (holds vocab name) same) ∙ is
     one false behind is there = behind there
 
-first_found : (vocab name : List ℕ) (es : List Entry) (e : Entry) (others : List Entry) → filter (holds vocab name) es ≡ e ∷ others → find (exactly e) es ≡ Some e
+pub first_found : (vocab name : List ℕ) (es : List Entry) (e : Entry) (others : List Entry) → filter (holds vocab name) es ≡ e ∷ others → find (exactly e) es ≡ Some e
 first_found vocab name [] e others h = absurd (cc)
 first_found vocab name (x ∷ xs) e others h = one (holds vocab name x) (λ there. first_found vocab name xs e others there) refl h
   where
@@ -229,8 +236,8 @@ spared_entry k [] table e h few = tt
 spared_entry k (d ∷ ds) table e h few =
     (λ out. h.0 (backward (all_spare k table) (all_spare k (table ++ e ∷ [])) (λ held_is. more_spare k table e held_is (entry_spares k e (greater_other e.word k (omega (arith, few))))) out), spared_entry (suc k) ds table e h.1 (omega (arith, few)))
 
--- a word that names no array
-spared_word : (k : ℕ) (ds : List Draft) (d : Draft) (table : List Entry) → names_by d.word.sort ≡ [] → Spared k ds table → Spared k (ds ++ d ∷ []) table
+-- a word that isn't told
+spared_word : (k : ℕ) (ds : List Draft) (d : Draft) (table : List Entry) → IsUntold d → Spared k ds table → Spared k (ds ++ d ∷ []) table
 spared_word k [] d table none h = (λ out. none, tt)
 spared_word k (x ∷ ds) d table none h = (h.0, spared_word (suc k) ds d table none h.1)
 
@@ -254,15 +261,15 @@ spared_placed k zero p (d ∷ ds) table h = h
 spared_placed k (suc n) p (d ∷ ds) table h = (h.0, spared_placed (suc k) n p ds table h.1)
 
 -- a word that is told
-spared_told : (k n : ℕ) (f : Draft → Draft) (ds : List Draft) (table : List Entry) → ((d : Draft) → all_spare (n + k) table ≡ false → names_by (f d).word.sort ≡ []) → Spared k ds table → Spared k (changed f n ds) table
+spared_told : (k n : ℕ) (f : Draft → Draft) (ds : List Draft) (table : List Entry) → ((d : Draft) → all_spare (n + k) table ≡ false → IsUntold (f d)) → Spared k ds table → Spared k (changed f n ds) table
 spared_told k n f [] table none h = tt
 spared_told k zero f (d ∷ ds) table none h = (λ out. none d (ap (λ (m : ℕ). all_spare m table) (let e : 0 + k ≡ k = omega arith in e) ∙ out), h.1)
 spared_told k (suc n) f (d ∷ ds) table none h = (h.0, spared_told (suc k) n f ds table (λ e out. none e (ap (λ (m : ℕ). all_spare m table) (let e : suc n + k ≡ n + suc k = omega arith in e) ∙ out)) h.1)
 
 -- what is known of one word
-spared_at : (k n : ℕ) (ds : List Draft) (table : List Entry) (d : Draft) → Spared k ds table → slice_get ds n ≡ Some d → all_spare (n + k) table ≡ false → names_by d.word.sort ≡ []
+spared_at : (k n : ℕ) (ds : List Draft) (table : List Entry) (d : Draft) → Spared k ds table → slice_get ds n ≡ Some d → all_spare (n + k) table ≡ false → IsUntold d
 spared_at k n [] table d h is out = absurd (cc)
-spared_at k zero (x ∷ ds) table d h is out = let same : x ≡ d = cc in subst (λ (y : Draft). names_by y.word.sort ≡ []) same (h.0 (ap (λ (m : ℕ). all_spare m table) (let e : k ≡ 0 + k = omega arith in e) ∙ out))
+spared_at k zero (x ∷ ds) table d h is out = let same : x ≡ d = cc in subst IsUntold same (h.0 (ap (λ (m : ℕ). all_spare m table) (let e : k ≡ 0 + k = omega arith in e) ∙ out))
 spared_at k (suc n) (x ∷ ds) table d h is out = spared_at (suc k) n ds table d h.1 is (ap (λ (m : ℕ). all_spare m table) (let e : n + suc k ≡ suc n + k = omega arith in e) ∙ out)
 
 -- Numbers of arrays in words.
@@ -276,14 +283,14 @@ named_placed p n [] = refl
 named_placed p zero (d ∷ ds) = refl
 named_placed p (suc n) (d ∷ ds) = ap (λ (xs : List ℕ). names_by d.word.sort ++ xs) (named_placed p n ds)
 
-named_told : (a n : ℕ) (sort : Sort) (e : Signature) (inline recursive : Bool) (ds : List Draft) → n < length ds → ((d : Draft) → slice_get ds n ≡ Some d → names_by d.word.sort ≡ []) →
-    times_in a (named_in (changed (with_told sort e inline recursive settled) n ds)) ≡ times_in a (names_by sort) + times_in a (named_in ds)
-named_told a n sort e inline recursive [] lt none = absurd (omega (arith, lt))
-named_told a zero sort e inline recursive (d ∷ ds) lt none =
-    times_both a (names_by sort) (named_in ds) ∙ ap (λ (xs : List ℕ). times_in a (names_by sort) + times_in a (xs ++ named_in ds)) (sym (none d refl))
-named_told a (suc n) sort e inline recursive (d ∷ ds) lt none =
-    let rest = named_told a n sort e inline recursive ds (omega (arith, lt)) (λ x is. none x is) in
-    let one = times_both a (names_by d.word.sort) (named_in (changed (with_told sort e inline recursive settled) n ds)) in
+named_told : (a n : ℕ) (sort : Sort) (e : Signature) (inline recursive : Bool) (late : Late) (ds : List Draft) → n < length ds → ((d : Draft) → slice_get ds n ≡ Some d → IsUntold d) →
+    times_in a (named_in (changed (with_told sort e inline recursive late) n ds)) ≡ times_in a (names_by sort) + times_in a (named_in ds)
+named_told a n sort e inline recursive late [] lt none = absurd (omega (arith, lt))
+named_told a zero sort e inline recursive late (d ∷ ds) lt none =
+    times_both a (names_by sort) (named_in ds) ∙ ap (λ (xs : List ℕ). times_in a (names_by sort) + times_in a (xs ++ named_in ds)) (sym (ap names_by (none d refl).0))
+named_told a (suc n) sort e inline recursive late (d ∷ ds) lt none =
+    let rest = named_told a n sort e inline recursive late ds (omega (arith, lt)) (λ x is. none x is) in
+    let one = times_both a (names_by d.word.sort) (named_in (changed (with_told sort e inline recursive late) n ds)) in
     let two = times_both a (names_by d.word.sort) (named_in ds) in
     omega (arith, rest, one, two)
 
@@ -305,23 +312,23 @@ scoped_counted r s same c =
     record { ascending = subst (Ascending 0) (sym same) c.ascending; spared = subst (Spared 0 r.words) (sym same) c.spared; once = c.once; earlier = c.earlier; main_none = c.main_none }
 
 -- a new word without an entry, and one with an entry
-added_counted : (vocab : List ℕ) (t : Tok) (r : Reading) → Counted r → Counted (added vocab t r).reading
+pub added_counted : (vocab : List ℕ) (t : Tok) (r : Reading) → Counted r → Counted (added vocab t r).reading
 added_counted vocab t r c =
     record {
       ascending = c.ascending;
-      spared = spared_word 0 r.words (draft_of vocab t) r.scope.table refl c.spared;
+      spared = spared_word 0 r.words (draft_of vocab t) r.scope.table (refl, refl) c.spared;
       once = λ a. ap (λ (xs : List ℕ). times_in a xs + times_in a (arrays_named r.top) + held_times a r.arrays) (named_word r.words vocab t) ∙ c.once a;
       earlier = c.earlier;
       main_none = c.main_none;
     }
 
-entered_counted : (vocab : List ℕ) (t : Tok) (b : Bool) (r : Reading) → EntriesBelow (length r.words) r.scope.table → Counted r →
+pub entered_counted : (vocab : List ℕ) (t : Tok) (b : Bool) (r : Reading) → EntriesBelow (length r.words) r.scope.table → Counted r →
     Counted (record r { scope = record r.scope { table = r.scope.table ++ (record { vocab = vocab; name = t.text; word = length r.words; is_defined = b }) ∷ [] }; words = r.words ++ draft_of vocab t ∷ [] })
 entered_counted vocab t b r few c =
     let e : Entry = record { vocab = vocab; name = t.text; word = length r.words; is_defined = b } in
     record {
       ascending = ascending_with 0 (length r.words) r.scope.table e c.ascending few (omega arith) refl;
-      spared = spared_word 0 r.words (draft_of vocab t) (r.scope.table ++ e ∷ []) refl (spared_entry 0 r.words r.scope.table e c.spared (omega arith));
+      spared = spared_word 0 r.words (draft_of vocab t) (r.scope.table ++ e ∷ []) (refl, refl) (spared_entry 0 r.words r.scope.table e c.spared (omega arith));
       once = (added_counted vocab t r c).once;
       earlier = c.earlier;
       main_none = c.main_none;
@@ -331,8 +338,8 @@ last_draft : (ds : List Draft) (x d : Draft) → slice_get (ds ++ x ∷ []) (len
 last_draft [] x d h = cc
 last_draft (y ∷ ds) x d h = last_draft ds x d h
 
-unnamed_draft : (vocab : List ℕ) (t : Tok) (ds : List Draft) (d : Draft) → slice_get (ds ++ draft_of vocab t ∷ []) (length ds) ≡ Some d → names_by d.word.sort ≡ []
-unnamed_draft vocab t ds d h = ap (λ (x : Draft). names_by x.word.sort) (last_draft ds (draft_of vocab t) d h)
+untold_draft : (vocab : List ℕ) (t : Tok) (ds : List Draft) (d : Draft) → slice_get (ds ++ draft_of vocab t ∷ []) (length ds) ≡ Some d → IsUntold d
+untold_draft vocab t ds d h = subst IsUntold (sym (last_draft ds (draft_of vocab t) d h)) (refl, refl)
 
 one_more : (vocab : List ℕ) (t : Tok) (ds : List Draft) → length ds < length (ds ++ draft_of vocab t ∷ [])
 one_more vocab t ds = let pushed = length_push ds (draft_of vocab t) in omega (arith, pushed)
@@ -374,7 +381,7 @@ deferred_begins vocab t r e others held late few c =
       };
       fresh = record {
         within = let inside = found_below (length r.words) (exactly e) r.scope.table e few there in let same = length_placed t.place e.word r.words in omega (arith, inside, same);
-        unnamed = λ d is. spared_at 0 e.word (changed (at_place t.place) e.word r.words) r.scope.table d (spared_placed 0 e.word t.place r.words r.scope.table c.spared) is (ap (λ (w : ℕ). all_spare w r.scope.table) (let e : e.word + 0 ≡ e.word = omega arith in e) ∙ found_spares (exactly e) r.scope.table e there late);
+        untold = λ d is. spared_at 0 e.word (changed (at_place t.place) e.word r.words) r.scope.table d (spared_placed 0 e.word t.place r.words r.scope.table c.spared) is (ap (λ (w : ℕ). all_spare w r.scope.table) (let e : e.word + 0 ≡ e.word = omega arith in e) ∙ found_spares (exactly e) r.scope.table e there late);
         spared = now_spared e.vocab e.name 0 r.scope.table e c.ascending there;
       };
     }
@@ -383,13 +390,13 @@ first_or : (b c : Bool) → (b || c) ≡ false → b ≡ false
 first_or true c h = h
 first_or false c h = refl
 
-defining_begins : (vocab : List ℕ) (t : Tok) (r : Reading) (es : List Entry) → holders r.scope.table vocab t.text ≡ es → EntriesBelow (length r.words) r.scope.table → Counted r → Begins (defining vocab t r es)
+pub defining_begins : (vocab : List ℕ) (t : Tok) (r : Reading) (es : List Entry) → holders r.scope.table vocab t.text ≡ es → EntriesBelow (length r.words) r.scope.table → Counted r → Begins (defining vocab t r es)
 defining_begins vocab t r [] held few c =
     record {
       counted = entered_counted vocab t true r few c;
       fresh = record {
         within = one_more vocab t r.words;
-        unnamed = unnamed_draft vocab t r.words;
+        untold = untold_draft vocab t r.words;
         spared = more_spare (length r.words) r.scope.table _ (out_spared (length r.words) (length r.words) r.scope.table few (omega arith)) refl;
       };
     }
@@ -397,28 +404,40 @@ defining_begins vocab t r (e ∷ es) held few c =
     begins_if (list_any (λ (f : Entry). f.is_defined) (e ∷ es)) _ _
     (λ held_is. record {
       counted = added_counted vocab t (refused (fault Twice t ∷ []) r) (refused_counted r _ c);
-      fresh = record { within = one_more vocab t r.words; unnamed = unnamed_draft vocab t r.words; spared = out_spared (length r.words) (length r.words) r.scope.table few (omega arith) };
+      fresh = record { within = one_more vocab t r.words; untold = untold_draft vocab t r.words; spared = out_spared (length r.words) (length r.words) r.scope.table few (omega arith) };
     })
     (λ out. deferred_begins vocab t r e es held (first_or e.is_defined (list_any (λ (f : Entry). f.is_defined) es) out) few c)
 
+-- a name in any vocabulary
+pub defined_begins : (vocab : List ℕ) (t : Tok) (r : Reading) → EntriesBelow (length r.words) r.scope.table → Counted r → Begins (defined vocab t r)
+defined_begins vocab t r few c = defining_begins vocab t r (holders r.scope.table vocab t.text) refl few c
+
+-- a word that no table has
+pub added_begins : (vocab : List ℕ) (t : Tok) (r : Reading) → EntriesBelow (length r.words) r.scope.table → Counted r → Begins (added vocab t r)
+added_begins vocab t r few c =
+    record {
+      counted = added_counted vocab t r c;
+      fresh = record { within = one_more vocab t r.words; untold = untold_draft vocab t r.words; spared = out_spared (length r.words) (length r.words) r.scope.table few (omega arith) };
+    }
+
 pub own_begins : (t : Tok) (r : Reading) → EntriesBelow (length r.words) r.scope.table → Counted r → Begins (own t r)
-own_begins t r few c = defining_begins (home r.scope) t r (holders r.scope.table (home r.scope) t.text) refl few c
+own_begins t r few c = defined_begins (home r.scope) t r few c
 
 pub deferring_counted : (t : Tok) (r : Reading) (es : List Entry) → EntriesBelow (length r.words) r.scope.table → Counted r → Counted (deferring t r es)
 deferring_counted t r [] few c = entered_counted (home r.scope) t false r few c
 deferring_counted t r (e ∷ es) few c = refused_counted r _ c
 
 -- a word is told, and its phrase names these arrays, of which some are new
-pub told_counted : (n : Numbered) (sort : Sort) (e : Signature) (inline recursive : Bool) (arrays : List (List Lit)) (first : Option NameFault) → Adds n.reading.arrays arrays (names_by sort) → Begins n →
-    Counted (told sort e inline recursive settled (record { word = n.word; reading = record n.reading { arrays = arrays; first = first } }))
-told_counted n sort e inline recursive arrays first adds b =
+pub told_counted : (n : Numbered) (sort : Sort) (e : Signature) (inline recursive : Bool) (late : Late) (arrays : List (List Lit)) (first : Option NameFault) → Adds n.reading.arrays arrays (names_by sort) → Begins n →
+    Counted (told sort e inline recursive late (record { word = n.word; reading = record n.reading { arrays = arrays; first = first } }))
+told_counted n sort e inline recursive late arrays first adds b =
     let r = n.reading in
     let c = b.counted in
     record {
       ascending = c.ascending;
-      spared = spared_told 0 n.word (with_told sort e inline recursive settled) r.words r.scope.table (λ d out. none_of (sym (ap (λ (w : ℕ). all_spare w r.scope.table) (let e : n.word + 0 ≡ n.word = omega arith in e) ∙ b.fresh.spared) ∙ out)) c.spared;
+      spared = spared_told 0 n.word (with_told sort e inline recursive late) r.words r.scope.table (λ d out. none_of (sym (ap (λ (w : ℕ). all_spare w r.scope.table) (let e : n.word + 0 ≡ n.word = omega arith in e) ∙ b.fresh.spared) ∙ out)) c.spared;
       once = λ a. (
-          let words = named_told a n.word sort e inline recursive r.words b.fresh.within b.fresh.unnamed in
+          let words = named_told a n.word sort e inline recursive late r.words b.fresh.within b.fresh.untold in
           let more = adds.once a in
           let before = c.once a in
           omega (arith, words, more, before));

@@ -4,13 +4,15 @@ use Rattle.fac_lang.specs.declared.phrase.Place.{Place}
 use Rattle.fac_lang.specs.declared.tree.Element.{Element}
 use Rattle.fac_lang.specs.declared.tree.Element.TheVariants as element
 use Rattle.fac_lang.specs.declared.tree.Bracket.{Bracket}
+use Rattle.fac_lang.specs.declared.tree.Term.{Term}
+use Rattle.fac_lang.specs.declared.tree.Term.TheVariants as term
 use Rattle.fac_lang.specs.declared.tree.Bracket.TheVariants.{Quotation, Array}
 use Rattle.fac_parse.specs.declared.context.Context.{Context}
 use Rattle.fac_parse.specs.declared.context.Context.TheVariants as context
-use Rattle.fac_parse.specs.Trees.{Lead, AreItems, Encloses, IsLiteral, behind, closed, context_of, counted, counted_opened, most_elements, most_levels}
-use Rattle.fac_names.specs.Written.{Nodes, nothing, more}
-use Rattle.fac_names.specs.FromFlat.{bracketed, node, rests, nested, first_node, opened as open_before}
-use Rattle.fac_names.specs.inner.Following.{AreClosing, IsClosable, level_behind}
+use Rattle.fac_parse.specs.Trees.{Lead, AreItems, Encloses, IsLiteral, behind, closed, context_of, counted, counted_opened, item_behind, most_elements, most_levels, uncounted}
+use Rattle.fac_items.specs.Written.{Nodes, nothing, more}
+use Rattle.fac_items.specs.FromElements.{opened as open_before, bracketed, node, rests, nested, AreClosing, IsClosable, level_behind}
+use Rattle.fac_names.specs.FromFlat.{first_node}
 
 -- an element more, and as many are open
 counted_length : (cs next : List Context) → counted cs ≡ Some next → length next ≡ length cs
@@ -37,9 +39,23 @@ closed_by context.Quotation Array cs next h = absurd (cc)
 closed_by (context.Array n) Quotation cs next h = absurd (cc)
 closed_by (context.Array n) Array cs next h = cc
 
+-- an item that is no element
+uncounted_length : (cs next : List Context) → uncounted cs ≡ Some next → length next ≡ length cs
+uncounted_length [] next h = let same : next ≡ [] = cc in ap length same
+uncounted_length (context.Quotation ∷ cs) next h = let same : next ≡ context.Quotation ∷ cs = cc in ap length same
+uncounted_length (context.Array n ∷ cs) next h = absurd (cc)
+
+item_length : (cs next : List Context) (t : Term) → item_behind cs t ≡ Some next → length next ≡ length cs
+item_length cs next (term.Name t) h = counted_length cs next h
+item_length cs next (term.Integer t z) h = counted_length cs next h
+item_length cs next (term.Text t) h = counted_length cs next h
+item_length cs next (term.True p) h = counted_length cs next h
+item_length cs next (term.False p) h = counted_length cs next h
+item_length cs next (term.NextMethod p) h = uncounted_length cs next h
+
 -- how many are open behind an element
 behind_level : (cs next : List Context) (e : Element) → behind cs e ≡ Some next → IsClosable (length cs) e × (length next ≡ level_behind (length cs) e)
-behind_level cs next (element.Item t) h = (tt, counted_length cs next h)
+behind_level cs next (element.Item t) h = (tt, item_length cs next t h)
 behind_level cs next (element.Opens b place) h = (tt, counted_longer (counted cs) cs next b refl h)
 behind_level [] next (element.Closes b place) h = absurd (cc)
 behind_level (c ∷ cs) next (element.Closes b place) h = let same = ap length (closed_by c b cs next h) in (omega arith, omega (arith, same))

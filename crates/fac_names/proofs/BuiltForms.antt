@@ -1,87 +1,401 @@
 -- Each form keeps what is read of the forms built.
-use Rattle.std.proofs.Common.{◌≡◌, ◌≤◌, ℕ, List, [], ◌∷◌, length, fold, Option, Some, None, Bool, true, false, refl, ap, sym, ◌∙◌, subst, arith}
-use Rattle.std.specs.Prelude.{if◌then◌else◌, nat_le, codes}
-use Rattle.std.specs.List.{list_any}
+use Rattle.std.proofs.Common.{◌≡◌, ◌+◌, ℕ, zero, suc, List, [], ◌∷◌, ◌++◌, length, fold, Option, Some, None, Bool, true, false, refl, ap, sym, ◌∙◌, subst, arith}
+use Rattle.std.specs.Prelude.{if◌then◌else◌, ◌&&◌, nat_le, nat_lt, codes, slice_get}
+use Rattle.std.specs.List.{find, list_any}
+use Rattle.std.specs.Option.{option_map}
 use Rattle.std.proofs.lemmas.Bool.Decides.{Decides-ltb}
-use Rattle.fac_lang.specs.Forms.{AreBuiltArrays, IsBuiltPhrase}
+use Rattle.fac_lang.specs.Forms.{AreBuiltArrays, IsBuiltPhrase, IsBuiltSort, numbers_before}
 use Rattle.fac_lang.specs.Phrases.{Phrase}
 use Rattle.fac_lang.specs.RunningLaws.{append}
 use Rattle.fac_lang.specs.Signatures.{Signature}
-use Rattle.fac_lang.specs.Whole.{arrays_named, name_count, plain_effect}
-use Rattle.fac_lang.specs.declared.program.Lit.{Lit}
-use Rattle.fac_lang.specs.declared.program.Sort.TheVariants.{Body as body, Itself as itself}
-use Rattle.fac_lang.specs.declared.tree.Element.{Element}
+use Rattle.fac_lang.specs.Whole.{name_count, plain_effect}
+use Rattle.fac_lang.specs.declared.program.Name.{Name as FullName}
+use Rattle.fac_lang.specs.declared.program.Sort.{Sort}
+use Rattle.fac_lang.specs.declared.program.Sort.TheVariants.{Body as body, Itself as itself, Class as class, Isa as isa, Getter as getter, Setter as setter, Putter as putter, Generic as generic}
+use Rattle.fac_lang.specs.declared.program.WordDef.{WordDef}
 use Rattle.fac_vocab.specs.declared.brought.Brought.TheVariants.{Named as named, Prefixed as prefixed}
 use Rattle.fac_vocab.specs.declared.entry.Entry.{Entry}
-use Rattle.fac_vocab.specs.Scopes.{begun, bringing, entered, exists, holders, home, now_defined, using_vocab, word_held}
-use Rattle.fac_names.specs.declared.refusal.NameFault.{NameFault}
-use Rattle.fac_names.specs.declared.refusal.NameKind.TheVariants.{Unknown, Twice, NoVocab}
-use Rattle.fac_names.specs.Written.{Tok, Nodes, given, Form, f_in, f_use, f_using, f_from, f_qualified, f_private, f_public, f_defer, f_symbol, f_main, f_define, f_items}
-use Rattle.fac_names.specs.Items.{fault, search_fault, sooner, word_of}
-use Rattle.fac_names.specs.Forms.{Reading, added, at_place, bring_one, bringing_one, changed, defining, deferring, own, read_phrase, refused, scoped, settled, take, told, use_one}
-use Rattle.fac_names.specs.FromFlat.{nested}
-use Rattle.fac_names.specs.inner.Following.{AreClosing, first_behind, made}
-use Rattle.fac_names.proofs.BuiltScopes.{WordBelow, word_below_held, word_of_below}
-use Rattle.fac_names.proofs.BuiltReadings.{Built, append_built, entered_word, phrase_built, moved_built, refused_built, scoped_built, told_built, wider, with_word}
-use Rattle.fac_names.proofs.ArrayNumbers.{Adds, adds_none, phrase_adds}
-use Rattle.fac_names.proofs.ArrayReadings.{Counted, deferring_counted, items_counted, main_counted, own_begins}
-use Rattle.fac_names.proofs.PlainItems.{nested_plain}
-use Rattle.fac_names.proofs.ReadingLemmas.{read_plainly}
+use Rattle.fac_vocab.specs.Scopes.{Scope, begun, bringing, entered, exists, holders, home, now_defined, using_vocab, with_entry, word_held}
+use Rattle.fac_refusal.specs.declared.refusal.NameFault.{NameFault}
+use Rattle.fac_refusal.specs.declared.refusal.NameKind.TheVariants.{Unknown, Twice, NoVocab, TooMany}
+use Rattle.fac_refusal.specs.Refusals.{fault, fault_if, sooner}
+use Rattle.fac_items.specs.Written.{Tok, Nodes, Declared, given, makes, Form, f_in, f_use, f_using, f_from, f_qualified, f_private, f_public, f_defer, f_symbol, f_main, f_define, f_tuple, f_union, f_single, f_generic, f_method, f_items}
+use Rattle.fac_items.specs.Readings.{read_items}
+use Rattle.fac_items.specs.Items.{entry_name, is_cond, items_faults, phrase_of, ref, search_fault, search_faults, word_of}
+use Rattle.fac_items.specs.inner.Bits.{ArePlain}
+use Rattle.fac_items.proofs.ArrayNumbers.{Adds, adds_none, phrase_adds}
+use Rattle.fac_endings.specs.Words.{no_effect}
+use Rattle.fac_endings.specs.declared.draft.Draft.{Draft}
+use Rattle.fac_endings.specs.declared.draft.Late.{Late}
+use Rattle.fac_endings.specs.declared.draft.Late.TheVariants.{Settled as settled, Maker as maker, Method as method_of}
+use Rattle.fac_endings.specs.declared.draft.Named.{Named}
+use Rattle.fac_endings.specs.declared.draft.Named.TheVariants.{Tuple as a_tuple, Union as a_union, Single as a_single}
+use Rattle.fac_endings.specs.declared.draft.NewClass.{NewClass}
+use Rattle.fac_endings.proofs.Apart.{and_true}
+use Rattle.fac_endings.proofs.EndedClasses.{class_in, late_in, own_few}
+use Rattle.fac_names.specs.Forms.{Numbered, Reading, accessor, added, at_place, bring_one, bringing_one, changed, class_form, class_words, counted, declared_effect, declared_late, defined, defining, deferring, draft_of, in_table, making, most_classes, option_list, own, plainly, read_phrase, refused, scoped, take, told, use_one, with_slot, with_told}
+use Rattle.fac_names.proofs.ArrayReadings.{Begins, Counted, added_begins, defined_begins, defining_begins, deferring_counted, exactly, first_found, names_by, refused_counted}
+use Rattle.fac_names.proofs.BuiltScopes.{WordBelow, word_below_held}
+use Rattle.fac_names.proofs.BuiltReadings.{Adds_word, Built, IsBuiltLate, IsLateBody, IsTold, Keeps, append_built, entered_word, found_below, moved_built, moved_keeps, one_class_more, phrase_built, refused_built, scoped_built, told_built, told_keeps, wider, with_class, with_main, with_top, with_word, word_keeps}
+use Rattle.fac_names.proofs.HeldNames.{WordHeld, accessor_text, held_defined, held_new, held_same, held_with, kept_then, named_found, named_kept, named_with, names_push, no_accessor, told_same, word_kept}
+
+-- First refusals.
+
+no_more : (o : Option NameFault) (f : NameFault) → sooner o f ≡ None → ⊥
+no_more None f h = cc
+no_more (Some g) f h = cc
+
+-- where there is none, there was none before
+pub none_before : (o : Option NameFault) (fs : List NameFault) → fold sooner o fs ≡ None → o ≡ None
+none_before o [] h = h
+none_before None (f ∷ fs) h = refl
+none_before (Some g) (f ∷ fs) h = absurd (no_more (Some g) f (none_before (sooner (Some g) f) fs h))
+
+-- What stays.
+
+stays_then : (p q r : Reading) → Keeps p q → Keeps q r → Keeps p r
+stays_then p q r h k =
+    record {
+      names = λ w name is. k.names w name (h.names w name is);
+      words = λ w d at late. kept_then q.words r.words w d late k.words (h.words w d at late);
+      table = λ v n w is. k.table v n w (h.table v n w is);
+      first = λ none. h.first (k.first none);
+    }
+
+keeps_refused : (r : Reading) (fs : List NameFault) → Keeps r (refused fs r)
+keeps_refused r fs = record { names = λ w name is. is; words = told_same r.words; table = held_same r.scope.table; first = none_before r.first fs }
 
 -- The word of a definition.
 
-defining_built : (vocab : List ℕ) (t : Tok) (r : Reading) (es : List Entry) → Counted (defining vocab t r es).reading → Built r → Built (defining vocab t r es).reading
-defining_built vocab t r [] c b = with_word r _ vocab t r.first (entered_word (length r.words) r.scope vocab t.text true b.scope) c b
-defining_built vocab t r (e ∷ es) c b = one (list_any (λ (f : Entry). f.is_defined) (e ∷ es)) c
+-- where nothing is refused, a word's name is held
+record NameHeld (n : Numbered) : Type 0 where
+  draft : Draft
+  at : slice_get n.reading.words n.word ≡ Some draft
+  held : word_held n.reading.scope.table draft.word.name.vocab draft.word.name.name ≡ Some n.word
+
+-- what a name comes to that is defined
+record IsDefined (k c : ℕ) (r : Reading) (n : Numbered) : Type 0 where
+  built : Built k c n.reading
+  keeps : Keeps r n.reading
+  begins : Begins n
+  name_held : n.reading.first ≡ None → NameHeld n
+
+last_at : {A : Type 0} (xs : List A) (x : A) → slice_get (xs ++ x ∷ []) (length xs) ≡ Some x
+last_at [] x = refl
+last_at (y ∷ xs) x = last_at xs x
+
+changed_here : (f : Draft → Draft) (n : ℕ) (ds : List Draft) (d : Draft) → slice_get ds n ≡ Some d → slice_get (changed f n ds) n ≡ Some (f d)
+changed_here f n [] d h = absurd (cc)
+changed_here f zero (x ∷ ds) d h = let same : x ≡ d = cc in ap (λ (y : Draft). Some (f y)) same
+changed_here f (suc n) (x ∷ ds) d h = changed_here f n ds d h
+
+name_there : (ds : List Draft) (w : ℕ) (name : FullName) (o : Option Draft) → slice_get ds w ≡ o → option_map (λ (d : Draft). d.word.name) o ≡ Some name → (d : Draft) × (slice_get ds w ≡ Some d) × (d.word.name ≡ name)
+name_there ds w name None at h = absurd (cc)
+name_there ds w name (Some d) at h = (d, at, (let same : d.word.name ≡ name = cc in same))
+
+-- a new word, with an entry or with none
+with_entry_word : (r : Reading) (vocab : List ℕ) (t : Tok) (b : Bool) (k c : ℕ) → Built k c r → Adds_word r (with_entry vocab t.text (length r.words) b r.scope) vocab t r.first
+with_entry_word r vocab t b k c built =
+    let e : Entry = record { vocab = vocab; name = t.text; word = length r.words; is_defined = b } in
+    record {
+      below = entered_word (length r.words) r.scope vocab t.text b built.scope;
+      table = held_with r.scope.table e;
+      named = named_with (r.words ++ draft_of vocab t ∷ []) r.scope.table e (named_kept r.words (r.words ++ draft_of vocab t ∷ []) r.scope.table (names_push r.words (draft_of vocab t)) built.named) (ap (option_map (λ (d : Draft). d.word.name)) (last_at r.words (draft_of vocab t)));
+      first_before = λ none. none;
+    }
+
+with_no_entry : (r : Reading) (vocab : List ℕ) (t : Tok) (first : Option NameFault) (k c : ℕ) → (first ≡ None → r.first ≡ None) → Built k c r → Adds_word r r.scope vocab t first
+with_no_entry r vocab t first k c before built =
+    record {
+      below = wider (length r.words) r.scope built.scope;
+      table = held_same r.scope.table;
+      named = named_kept r.words (r.words ++ draft_of vocab t ∷ []) r.scope.table (names_push r.words (draft_of vocab t)) built.named;
+      first_before = before;
+    }
+
+new_defined : (k c : ℕ) (vocab : List ℕ) (t : Tok) (r : Reading) → holders r.scope.table vocab t.text ≡ [] → Built k c r → IsDefined k c r (in_table vocab t true (added vocab t r))
+new_defined k c vocab t r none b =
+    let adds = with_entry_word r vocab t true k c b in
+    let begins = defining_begins vocab t r [] none b.scope.table b.counted in
+    record {
+      built = with_word k c r _ vocab t r.first adds begins.counted b;
+      keeps = word_keeps r _ vocab t r.first adds;
+      begins = begins;
+      name_held = λ is_none. record { draft = draft_of vocab t; at = last_at r.words (draft_of vocab t); held = held_new r.scope.table _ none };
+    }
+
+refused_defined : (k c : ℕ) (vocab : List ℕ) (t : Tok) (r : Reading) → Built k c r → Begins (added vocab t (refused (fault Twice t ∷ []) r)) → IsDefined k c r (added vocab t (refused (fault Twice t ∷ []) r))
+refused_defined k c vocab t r b begins =
+    let first = sooner r.first (fault Twice t) in
+    let adds = with_no_entry r vocab t first k c (none_before r.first (fault Twice t ∷ [])) b in
+    record {
+      built = with_word k c r r.scope vocab t first adds begins.counted b;
+      keeps = word_keeps r r.scope vocab t first adds;
+      begins = begins;
+      name_held = λ none. absurd (no_more r.first (fault Twice t) none);
+    }
+
+abbrev settled_name : Tok → Reading → Entry → Numbered
+settled_name t r e = record { word = e.word; reading = record r { scope = record r.scope { table = now_defined e.vocab e.name r.scope.table }; words = changed (at_place t.place) e.word r.words } }
+
+moved_defined : (k c : ℕ) (vocab : List ℕ) (t : Tok) (r : Reading) (e : Entry) (others : List Entry) → holders r.scope.table vocab t.text ≡ e ∷ others → Built k c r → Begins (settled_name t r e) → IsDefined k c r (settled_name t r e)
+moved_defined k c vocab t r e others held b begins =
+    let there = first_found vocab t.text r.scope.table e others held in
+    let d = name_there r.words e.word (entry_name e) (slice_get r.words e.word) refl (named_found r.words (exactly e) r.scope.table e b.named there) in
+    record {
+      built = moved_built k c r e.vocab e.name t.place e.word begins.counted b;
+      keeps = moved_keeps r e.vocab e.name t.place e.word;
+      begins = begins;
+      name_held = λ none. record {
+        draft = at_place t.place d.0;
+        at = changed_here (at_place t.place) e.word r.words d.0 d.1;
+        held =
+            ap (λ (n : FullName). word_held (now_defined e.vocab e.name r.scope.table) n.vocab n.name) d.2
+            ∙ held_defined r.scope.table e.vocab e.name e.vocab e.name e.word (ap (option_map (λ (x : Entry). x.word)) there);
+      };
+    }
+
+defining_built : (k c : ℕ) (vocab : List ℕ) (t : Tok) (r : Reading) (es : List Entry) → holders r.scope.table vocab t.text ≡ es → Built k c r → IsDefined k c r (defining vocab t r es)
+defining_built k c vocab t r [] held b = new_defined k c vocab t r held b
+defining_built k c vocab t r (e ∷ es) held b = one (list_any (λ (f : Entry). f.is_defined) (e ∷ es)) (defining_begins vocab t r (e ∷ es) held b.scope.table b.counted)
   where
-    one : (defined : Bool) → Counted (if defined then added vocab t (refused (fault Twice t ∷ []) r) else record { word = e.word; reading = record r { scope = record r.scope { table = now_defined e.vocab e.name r.scope.table }; words = changed (at_place t.place) e.word r.words } }).reading →
-        Built (if defined then added vocab t (refused (fault Twice t ∷ []) r) else record { word = e.word; reading = record r { scope = record r.scope { table = now_defined e.vocab e.name r.scope.table }; words = changed (at_place t.place) e.word r.words } }).reading
-    one true counted = with_word r r.scope vocab t (fold sooner r.first (fault Twice t ∷ [])) (wider (length r.words) r.scope b.scope) counted b
-    one false counted = moved_built r e.vocab e.name t.place e.word counted b
+    one : (defined_is : Bool) → Begins (if defined_is then added vocab t (refused (fault Twice t ∷ []) r) else settled_name t r e) → IsDefined k c r (if defined_is then added vocab t (refused (fault Twice t ∷ []) r) else settled_name t r e)
+    one true begins = refused_defined k c vocab t r b begins
+    one false begins = moved_defined k c vocab t r e es held b begins
 
-own_built : (t : Tok) (r : Reading) → Built r → Built (own t r).reading
-own_built t r b = defining_built (home r.scope) t r (holders r.scope.table (home r.scope) t.text) (own_begins t r b.scope.table b.counted).counted b
+defined_built : (k c : ℕ) (vocab : List ℕ) (t : Tok) (r : Reading) → Built k c r → IsDefined k c r (defined vocab t r)
+defined_built k c vocab t r b = defining_built k c vocab t r (holders r.scope.table vocab t.text) refl b
 
-deferring_built : (t : Tok) (r : Reading) (es : List Entry) → Built r → Built (deferring t r es)
-deferring_built t r [] b = with_word r _ (home r.scope) t r.first (entered_word (length r.words) r.scope (home r.scope) t.text false b.scope) (deferring_counted t r [] b.scope.table b.counted) b
-deferring_built t r (e ∷ es) b = refused_built r (fold sooner r.first (fault Twice t ∷ [])) b
+own_built : (k c : ℕ) (t : Tok) (r : Reading) → Built k c r → IsDefined k c r (own t r)
+own_built k c t r b = defined_built k c (home r.scope) t r b
+
+deferring_built : (k c : ℕ) (t : Tok) (r : Reading) (es : List Entry) → Built k c r → Built k c (deferring t r es)
+deferring_built k c t r [] b = with_word k c r _ (home r.scope) t r.first (with_entry_word r (home r.scope) t false k c b) (deferring_counted t r [] b.scope.table b.counted) b
+deferring_built k c t r (e ∷ es) b = refused_built k c r (sooner r.first (fault Twice t)) (none_before r.first (fault Twice t ∷ [])) b
 
 -- What files use.
 
-reading_if : (q s : Reading) (c : Bool) → Built q → Built s → Built (if c then q else s)
-reading_if q s true h k = h
-reading_if q s false h k = k
+reading_if : (k c : ℕ) (q s : Reading) (b : Bool) → Built k c q → Built k c s → Built k c (if b then q else s)
+reading_if k c q s true h is = h
+reading_if k c q s false h is = is
 
-use_built : (r : Reading) (t : Tok) → Built r → Built (use_one r t)
-use_built r t b =
-    reading_if (scoped (using_vocab t.text) r) (refused (fault NoVocab t ∷ []) r) (exists r.scope t.text)
-    (scoped_built r (using_vocab t.text r.scope) (record { table = b.scope.table; brought = b.scope.brought }) refl b)
-    (refused_built r (fold sooner r.first (fault NoVocab t ∷ [])) b)
+one_refused : (k c : ℕ) (r : Reading) (f : NameFault) → Built k c r → Built k c (refused (f ∷ []) r)
+one_refused k c r f b = refused_built k c r (sooner r.first f) (none_before r.first (f ∷ [])) b
 
-bringing_built : (t : Tok) (r : Reading) (o : Option ℕ) → WordBelow (length r.words) o → Built r → Built (bringing_one t r o)
-bringing_built t r (Some w) h b = scoped_built r (bringing (named t.text w) r.scope) (record { table = b.scope.table; brought = (h, b.scope.brought) }) refl b
-bringing_built t r None h b = refused_built r (fold sooner r.first (fault Unknown t ∷ [])) b
+use_built : (k c : ℕ) (r : Reading) (t : Tok) → Built k c r → Built k c (use_one r t)
+use_built k c r t b =
+    reading_if k c (scoped (using_vocab t.text) r) (refused (fault NoVocab t ∷ []) r) (exists r.scope t.text)
+    (scoped_built k c r (using_vocab t.text r.scope) (record { table = b.scope.table; brought = b.scope.brought }) refl b)
+    (one_refused k c r (fault NoVocab t) b)
 
-bring_built : (vocab : List ℕ) (r : Reading) (t : Tok) → Built r → Built (bring_one vocab r t)
-bring_built vocab r t b = bringing_built t r (word_held r.scope.table vocab t.text) (word_below_held (length r.words) r.scope.table vocab t.text b.scope.table) b
+bringing_built : (k c : ℕ) (t : Tok) (r : Reading) (o : Option ℕ) → WordBelow (length r.words) o → Built k c r → Built k c (bringing_one t r o)
+bringing_built k c t r (Some w) h b = scoped_built k c r (bringing (named t.text w) r.scope) (record { table = b.scope.table; brought = (h, b.scope.brought) }) refl b
+bringing_built k c t r None h b = one_refused k c r (fault Unknown t) b
 
-pub fold_built : {A : Type 0} (f : Reading → A → Reading) → ((r : Reading) (a : A) → Built r → Built (f r a)) → (xs : List A) (r : Reading) → Built r → Built (fold f r xs)
-fold_built f h [] r b = b
-fold_built f h (x ∷ xs) r b = fold_built f h xs (f r x) (h r x b)
+bring_built : (k c : ℕ) (vocab : List ℕ) (r : Reading) (t : Tok) → Built k c r → Built k c (bring_one vocab r t)
+bring_built k c vocab r t b = bringing_built k c t r (word_held r.scope.table vocab t.text) (word_below_held (length r.words) r.scope.table vocab t.text b.scope.table) b
+
+pub fold_built : {A : Type 0} (k c : ℕ) (f : Reading → A → Reading) → ((r : Reading) (a : A) → Built k c r → Built k c (f r a)) → (xs : List A) (r : Reading) → Built k c r → Built k c (fold f r xs)
+fold_built k c f h [] r b = b
+fold_built k c f h (x ∷ xs) r b = fold_built k c f h xs (f r x) (h r x b)
+
+-- Words of one sort.
+
+-- a word that names no array is told
+plain_told : (k c : ℕ) (n : Numbered) (s : Sort) (e : Signature) → names_by s ≡ [] → IsTold k n s e false false settled → Begins n → Built k c n.reading → Built k c (told s e false false settled n)
+plain_told k c n s e none t begins b = told_built k c n s e false false settled n.reading.arrays n.reading.first t (λ is. is) b.arrays (subst (Adds n.reading.arrays n.reading.arrays) (sym none) (adds_none n.reading.arrays)) begins b
+
+symbol_built : (k c : ℕ) (t : Tok) (r : Reading) → Built k c r → Built k c (take (f_symbol t) r)
+symbol_built k c t r b =
+    let d = own_built k c t r b in
+    plain_told k c (own t r) itself (plain_effect [] (codes "value" ∷ [])) refl
+    (record { no_primitive = λ ks. refl; built = λ bound within w. record { effect_is = refl; not_inline = refl; not_recursive = refl }; ok = refl; accessor = no_accessor (own t r).reading.scope.table (own t r).word itself refl }) d.begins d.built
+
+generic_built : (k c : ℕ) (t : Tok) (e : Signature) (r : Reading) → nat_le (name_count e) 65 ≡ true → Built k c r → Built k c (take (f_generic t e) r)
+generic_built k c t e r few b =
+    let d = own_built k c t r b in
+    plain_told k c (own t r) generic e refl
+    (record { no_primitive = λ ks. refl; built = λ bound within w. record { not_inline = refl; not_recursive = refl }; ok = few; accessor = no_accessor (own t r).reading.scope.table (own t r).word generic refl }) d.begins d.built
 
 -- Definitions and items.
 
--- what a form defines is of the forms built
-pub record IsPlainDefinition (e : Signature) (ns : Nodes) : Type 0 where
-  pub elements : List Element
-  pub items : ns ≡ nested elements
-  pub closing : AreClosing 0 elements
-  pub few : nat_le (name_count e) 65 ≡ true
+-- items whose readings are plain
+abbrev pub AreReadPlain : Nodes → Type 0
+AreReadPlain ns = (is_cond : List ℕ → Bool) → ArePlain (read_items is_cond [] ns)
 
-pub record ArePlainItems (ns : Nodes) : Type 0 where
-  pub elements : List Element
-  pub items : ns ≡ nested elements
-  pub closing : AreClosing 0 elements
+-- what a word has of its effect and its marks
+abbrev pub IsFewDeclared : Declared → Bool → Bool → Type 0
+IsFewDeclared (given e) inline recursive = nat_le (name_count e) 65 ≡ true
+IsFewDeclared (makes t) inline recursive = (inline ≡ false) × (recursive ≡ false)
+
+declared_ok : (k : ℕ) (s : Scope) (e : Declared) (u : Phrase) (inline recursive : Bool) → IsFewDeclared e inline recursive → ((class_in k (body u) && late_in (body u) (declared_late s e)) && nat_le (name_count (declared_effect e)) 65) ≡ true
+declared_ok k s (given e) u inline recursive h = h
+declared_ok k s (makes t) u inline recursive h = refl
+
+declared_built : (bound : ℕ) (s : Scope) (e : Declared) (u : Phrase) (inline recursive : Bool) (d : WordDef) → IsFewDeclared e inline recursive → IsBuiltPhrase bound u → IsBuiltLate bound (record d { sort = body u; effect = declared_effect e; inline = inline; recursive = recursive }) (declared_late s e)
+declared_built bound s (given e) u inline recursive d h is = is
+declared_built bound s (makes t) u inline recursive d h is = record { built = is; not_inline = h.0; not_recursive = h.1 }
+
+define_built : (k c : ℕ) (t : Tok) (e : Declared) (ns : Nodes) (inline recursive : Bool) (r : Reading) → AreReadPlain ns → IsFewDeclared e inline recursive → Built k c r → Built k c (take (f_define t e ns inline recursive) r)
+define_built k c t e ns inline recursive r plain few b =
+    let n = own t r in
+    let d = own_built k c t r b in
+    let s = n.reading.scope in
+    let ms = read_items (is_cond s) [] ns in
+    let m = phrase_of s [] ms n.reading.arrays 0 in
+    let whole = plain (is_cond s) in
+    told_built k c n (body m.phrase) (declared_effect e) inline recursive (declared_late s e) m.arrays (fold sooner n.reading.first (items_faults s [] ms))
+    (record {
+      no_primitive = λ ks. refl;
+      built = λ bound within w. declared_built bound s e m.phrase inline recursive w few (phrase_built (length n.reading.words) bound s ms n.reading.arrays 0 d.built.some within d.built.scope whole (d.built.arrays bound within)).0;
+      ok = declared_ok k s e m.phrase inline recursive few;
+      accessor = no_accessor s.table n.word (body m.phrase) refl;
+    })
+    (none_before n.reading.first (items_faults s [] ms))
+    (λ bound within. (phrase_built (length n.reading.words) bound s ms n.reading.arrays 0 d.built.some within d.built.scope whole (d.built.arrays bound within)).1)
+    (phrase_adds s ms n.reading.arrays 0 whole) d.begins d.built
+
+method_built : (k c : ℕ) (x g : Tok) (ns : Nodes) (r : Reading) → AreReadPlain ns → Built k c r → Built k c (take (f_method x g ns) r)
+method_built k c x g ns r plain b =
+    let fs = search_faults r.scope (x ∷ g ∷ []) in
+    let q = refused fs r in
+    let first = fold sooner r.first fs in
+    let n = added [] g q in
+    let begins = added_begins [] g q b.scope.table (refused_counted r first b.counted) in
+    let mid = with_word k c r r.scope [] g first (with_no_entry r [] g first k c (none_before r.first fs) b) begins.counted b in
+    let s = r.scope in
+    let ms = read_items (is_cond s) [] ns in
+    let m = phrase_of s [] ms r.arrays 0 in
+    let whole = plain (is_cond s) in
+    told_built k c n (body m.phrase) no_effect false false (method_of (ref s x) (ref s g)) m.arrays (fold sooner first (items_faults s [] ms))
+    (record {
+      no_primitive = λ ks. refl;
+      built = λ bound within w. record { built = (phrase_built (length n.reading.words) bound s ms r.arrays 0 mid.some within mid.scope whole (mid.arrays bound within)).0; not_inline = refl; not_recursive = refl };
+      ok = refl;
+      accessor = no_accessor s.table n.word (body m.phrase) refl;
+    })
+    (none_before first (items_faults s [] ms))
+    (λ bound within. (phrase_built (length n.reading.words) bound s ms r.arrays 0 mid.some within mid.scope whole (mid.arrays bound within)).1)
+    (phrase_adds s ms r.arrays 0 whole) begins mid
+
+items_built : (k c : ℕ) (ns : Nodes) (r : Reading) → AreReadPlain ns → Built k c r → Built k c (take (f_items ns) r)
+items_built k c ns r plain b =
+    let s = r.scope in
+    let ms = read_items (is_cond s) [] ns in
+    let m = phrase_of s [] ms r.arrays 0 in
+    let whole = plain (is_cond s) in
+    with_top k c r m.phrase m.arrays (fold sooner r.first (items_faults s [] ms)) (none_before r.first (items_faults s [] ms))
+    (λ bound within. append_built bound r.top m.phrase (b.top bound within) (phrase_built (length r.words) bound s ms r.arrays 0 b.some within b.scope whole (b.arrays bound within)).0)
+    (λ bound within. (phrase_built (length r.words) bound s ms r.arrays 0 b.some within b.scope whole (b.arrays bound within)).1)
+    (phrase_adds s ms r.arrays 0 whole) b
+
+main_built : (k c : ℕ) (n : Tok) (r : Reading) → Built k c r → Built k c (take (f_main n) r)
+main_built k c n r b = with_main k c r _ (fold sooner r.first (search_fault r.scope n)) (none_before r.first (search_fault r.scope n)) (λ bound within. (found_below (length r.words) bound r.scope n b.some within b.scope, tt)) refl b
+
+-- Classes.
+
+-- the number of classes
+abbrev classes_in : Reading → ℕ
+classes_in r = length r.old_classes + length r.classes
+
+-- all classes are counted
+abbrev pub BuiltUp : Reading → Type 0
+BuiltUp r = Built (classes_in r) (classes_in r) r
+
+pub up : (c : ℕ) (r : Reading) → Built c c r → BuiltUp r
+up c r b = subst (λ (n : ℕ). Built n n r) (sym b.count) b
+
+below_next : (c : ℕ) → nat_lt c (suc c) ≡ true
+below_next c = grind arith
+
+class_told : (k c : ℕ) (n : Numbered) (j : ℕ) → nat_lt j k ≡ true → Begins n → Built k c n.reading → Built k c (plainly (class j) [] (codes "value" ∷ []) n)
+class_told k c n j below begins b =
+    plain_told k c n (class j) (plain_effect [] (codes "value" ∷ [])) refl
+    (record { no_primitive = λ ks. refl; built = λ bound within w. record { effect_is = refl; not_inline = refl; not_recursive = refl }; ok = and_true (nat_lt j k && true) true (and_true (nat_lt j k) true below refl) refl; accessor = no_accessor n.reading.scope.table n.word (class j) refl }) begins b
+
+predicate_told : (k c : ℕ) (n : Numbered) (j : ℕ) → nat_lt j k ≡ true → Begins n → Built k c n.reading → Built k c (plainly (isa j) (codes "object" ∷ []) (codes "?" ∷ []) n)
+predicate_told k c n j below begins b =
+    plain_told k c n (isa j) (plain_effect (codes "object" ∷ []) (codes "?" ∷ [])) refl
+    (record { no_primitive = λ ks. refl; built = λ bound within w. record { effect_is = refl; not_inline = refl; not_recursive = refl }; ok = and_true (nat_lt j k && true) true (and_true (nat_lt j k) true below refl) refl; accessor = no_accessor n.reading.scope.table n.word (isa j) refl }) begins b
+
+plainly_keeps : (n : Numbered) (s : Sort) (ins outs : List (List ℕ)) → Begins n → Keeps n.reading (plainly s ins outs n)
+plainly_keeps n s ins outs begins = told_keeps n s (plain_effect ins outs) false false settled n.reading.arrays n.reading.first (λ none. none) begins
+
+-- the word of a class is held under its name
+class_held : (n : Numbered) (j : ℕ) → NameHeld n → WordHeld (plainly (class j) [] (codes "value" ∷ []) n).words n.reading.scope.table n.word j
+class_held n j h =
+    record { draft = with_told (class j) (plain_effect [] (codes "value" ∷ [])) false false settled h.draft; at = changed_here (with_told (class j) (plain_effect [] (codes "value" ∷ [])) false false settled) n.word n.reading.words h.draft h.at; sort_is = refl; late_is = refl; held = h.held }
+
+-- the words of a class form
+record IsClassWorded (c : ℕ) (n : Numbered) : Type 0 where
+  built : Built (suc c) c n.reading
+  held : n.reading.first ≡ None → WordHeld n.reading.words n.reading.scope.table n.word c
+
+class_worded : (t : Tok) (r : Reading) → BuiltUp r → IsClassWorded (classes_in r) (class_words t r)
+class_worded t r b =
+    let c = classes_in r in
+    let n = own t r in
+    let d = own_built (suc c) c t r (one_class_more c c r b) in
+    let named_class = plainly (class c) [] (codes "value" ∷ []) n in
+    let built_class = class_told (suc c) c n c (below_next c) d.begins d.built in
+    let fs = fault_if (nat_lt 0 t.place.file && nat_le most_classes (counted r.words)) TooMany t in
+    let q = refused fs named_class in
+    let built_then = refused_built (suc c) c named_class (fold sooner named_class.first fs) (none_before named_class.first fs) built_class in
+    let p : Tok = record t { text = t.text ++ codes "?" } in
+    let m = own p q in
+    let e = own_built (suc c) c p q built_then in
+    let all = plainly (isa c) (codes "object" ∷ []) (codes "?" ∷ []) m in
+    let keeps = stays_then named_class q all (keeps_refused named_class fs) (stays_then q m.reading all e.keeps (plainly_keeps m (isa c) (codes "object" ∷ []) (codes "?" ∷ []) e.begins)) in
+    record {
+      built = predicate_told (suc c) c m c (below_next c) e.begins e.built;
+      held = λ none. word_kept named_class.words all.words named_class.scope.table all.scope.table n.word c keeps.words keeps.table (class_held n c (d.name_held (keeps.first none)));
+    }
+
+class_form_built : (t : Tok) (searched : List Tok) (names : Scope → Named) (r : Reading) → ((s : Scope) → own_few (names s) ≡ true) → BuiltUp r → BuiltUp (class_form t searched names r)
+class_form_built t searched names r few b =
+    let c = classes_in r in
+    let n = class_words t r in
+    let w = class_worded t r b in
+    let fs = search_faults n.reading.scope searched in
+    let d : NewClass = record { tok = t; word = n.word; names = names n.reading.scope } in
+    up (suc c) (class_form t searched names r) (with_class (suc c) c n.reading d (fold sooner n.reading.first fs) (none_before n.reading.first fs) (few n.reading.scope) w.held w.built)
+
+-- Accessors.
+
+record IsAccessor (s : Sort) (ins outs : List (List ℕ)) (text : List ℕ) : Type 0 where
+  no_primitive : (ks : List ℕ) → numbers_before s ks ≡ ks
+  no_arrays : names_by s ≡ []
+  built : (bound : ℕ) (d : WordDef) → IsBuiltSort bound (record d { sort = s; effect = plain_effect ins outs; inline = false; recursive = false }) s
+  ok : (k : ℕ) → ((class_in k s && late_in s settled) && nat_le (name_count (plain_effect ins outs)) 65) ≡ true
+  text_is : accessor_text s ≡ Some text
+
+making_built : (k c : ℕ) (t : Tok) (s : Sort) (ins outs : List (List ℕ)) (r : Reading) (es : List Entry) → IsAccessor s ins outs t.text → holders r.scope.table (codes "accessors") t.text ≡ es → Built k c r → Built k c (making t s ins outs r es)
+making_built k c t s ins outs r (e ∷ es) a held b = b
+making_built k c t s ins outs r [] a held b =
+    let n = in_table (codes "accessors") t true (added (codes "accessors") t r) in
+    let d = new_defined k c (codes "accessors") t r held b in
+    subst (λ (es : List Entry). Built k c (plainly s ins outs (defining (codes "accessors") t r es))) (sym held)
+    (plain_told k c n s (plain_effect ins outs) a.no_arrays
+    (record {
+      no_primitive = a.no_primitive;
+      built = λ bound within w. a.built bound w;
+      ok = a.ok k;
+      accessor = λ name is. subst (λ (x : List ℕ). word_held n.reading.scope.table (codes "accessors") x ≡ Some n.word) (the_text name (sym a.text_is ∙ is)) (held_new r.scope.table _ held);
+    }) d.begins d.built)
+  where
+    the_text : (name : List ℕ) → Some t.text ≡ Some name → t.text ≡ name
+    the_text name e = cc
+
+accessor_built : (k c : ℕ) (t : Tok) (s : Sort) (ins outs : List (List ℕ)) (r : Reading) → IsAccessor s ins outs t.text → Built k c r → Built k c (accessor t s ins outs r)
+accessor_built k c t s ins outs r a b = making_built k c t s ins outs r (holders r.scope.table (codes "accessors") t.text) a refl b
+
+slot_built : (k c : ℕ) (r : Reading) (t : Tok) → Built k c r → Built k c (with_slot r t)
+slot_built k c r t b =
+    let one = accessor_built k c (record t { text = t.text ++ codes ">>" }) (getter t.text) (codes "object" ∷ []) (codes "value" ∷ []) r (record { no_primitive = λ ks. refl; no_arrays = refl; built = λ bound d. record { effect_is = refl; not_inline = refl; not_recursive = refl }; ok = λ j. refl; text_is = refl }) b in
+    let two = accessor_built k c (record t { text = codes ">>" ++ t.text }) (setter t.text) (codes "object" ∷ codes "value" ∷ []) (codes "object" ∷ []) _ (record { no_primitive = λ ks. refl; no_arrays = refl; built = λ bound d. record { effect_is = refl; not_inline = refl; not_recursive = refl }; ok = λ j. refl; text_is = refl }) one in
+    accessor_built k c (record t { text = t.text ++ codes "<<" }) (putter t.text) (codes "value" ∷ codes "object" ∷ []) [] _ (record { no_primitive = λ ks. refl; no_arrays = refl; built = λ bound d. record { effect_is = refl; not_inline = refl; not_recursive = refl }; ok = λ j. refl; text_is = refl }) two
+
+-- Forms.
 
 abbrev pub IsPlainForm : Form → Type 0
 IsPlainForm (f_in v) = Unit {0}
@@ -94,75 +408,45 @@ IsPlainForm f_public = Unit {0}
 IsPlainForm (f_defer n) = Unit {0}
 IsPlainForm (f_symbol n) = Unit {0}
 IsPlainForm (f_main n) = Unit {0}
-IsPlainForm (f_define n (given e) ns inline recursive) = IsPlainDefinition e ns
-IsPlainForm (f_items ns) = ArePlainItems ns
+IsPlainForm (f_define n e ns inline recursive) = AreReadPlain ns × IsFewDeclared e inline recursive
+IsPlainForm (f_tuple n parent slots) = nat_le (length slots) 64 ≡ true
+IsPlainForm (f_union n members) = Unit {0}
+IsPlainForm (f_single n) = Unit {0}
+IsPlainForm (f_generic n e) = nat_le (name_count e) 65 ≡ true
+IsPlainForm (f_method x g ns) = AreReadPlain ns
+IsPlainForm (f_items ns) = AreReadPlain ns
 IsPlainForm _ = ⊥
 
-define_built : (t : Tok) (e : Signature) (ns : Nodes) (inline recursive : Bool) (r : Reading) → IsPlainDefinition e ns → Built r → Built (take (f_define t (given e) ns inline recursive) r)
-define_built t e ns inline recursive r p b =
-    let n = own t r in
-    let mid = own_built t r b in
-    let m = made n.reading.scope p.elements n.reading.arrays in
-    let plain = nested_plain p.elements in
-    subst Built
-    (sym (ap (λ (ms : Nodes). read_phrase ms (λ u q. told (body u) e inline recursive settled (record { word = n.word; reading = q })) n.reading) p.items
-    ∙ read_plainly (λ u q. told (body u) e inline recursive settled (record { word = n.word; reading = q })) n.reading p.elements p.closing))
-    (told_built n (body m.phrase) e inline recursive m.arrays (first_behind n.reading.scope p.elements n.reading.first) (λ ks. refl)
-    (λ bound within d. record { built = (phrase_built (length n.reading.words) bound n.reading.scope (nested p.elements) n.reading.arrays 0 mid.some within mid.scope plain (mid.arrays bound within)).0; few = p.few })
-    (λ bound within. (phrase_built (length n.reading.words) bound n.reading.scope (nested p.elements) n.reading.arrays 0 mid.some within mid.scope plain (mid.arrays bound within)).1)
-    (phrase_adds n.reading.scope (nested p.elements) n.reading.arrays 0 plain) (own_begins t r b.scope.table b.counted) mid)
-
-with_top : (r : Reading) (t : Phrase) (arrays : List (List Lit)) (first : Option NameFault) → ((bound : ℕ) → length r.words ≤ bound → IsBuiltPhrase bound (append r.top t)) → ((bound : ℕ) → length r.words ≤ bound → AreBuiltArrays bound arrays) → Adds r.arrays arrays (arrays_named t) →
-    Built r → Built (record r { top = append r.top t; arrays = arrays; first = first })
-with_top r t arrays first h k adds b =
-    record { some = b.some; scope = b.scope; words = b.words; top = h; main = b.main; distinct = b.distinct; no_old_classes = b.no_old_classes; no_classes = b.no_classes; arrays = k; counted = items_counted r t arrays first adds b.counted }
-
-with_main : (r : Reading) (t : Phrase) (first : Option NameFault) → ((bound : ℕ) → length r.words ≤ bound → IsBuiltPhrase bound t) → arrays_named t ≡ [] → Built r → Built (record r { main = t; first = first })
-with_main r t first h none b =
-    record { some = b.some; scope = b.scope; words = b.words; top = b.top; main = h; distinct = b.distinct; no_old_classes = b.no_old_classes; no_classes = b.no_classes; arrays = b.arrays; counted = main_counted r t first none b.counted }
-
-items_built : (ns : Nodes) (r : Reading) → ArePlainItems ns → Built r → Built (take (f_items ns) r)
-items_built ns r p b =
-    let m = made r.scope p.elements r.arrays in
-    let plain = nested_plain p.elements in
-    subst Built
-    (sym (ap (λ (ms : Nodes). read_phrase ms (λ u q. record q { top = append q.top u }) r) p.items ∙ read_plainly (λ u q. record q { top = append q.top u }) r p.elements p.closing))
-    (with_top r m.phrase m.arrays (first_behind r.scope p.elements r.first)
-    (λ bound within. append_built bound r.top m.phrase (b.top bound within) (phrase_built (length r.words) bound r.scope (nested p.elements) r.arrays 0 b.some within b.scope plain (b.arrays bound within)).0)
-    (λ bound within. (phrase_built (length r.words) bound r.scope (nested p.elements) r.arrays 0 b.some within b.scope plain (b.arrays bound within)).1)
-    (phrase_adds r.scope (nested p.elements) r.arrays 0 plain) b)
-
-main_built : (n : Tok) (r : Reading) → Built r → Built (take (f_main n) r)
-main_built n r b =
-    with_main r _ (fold sooner r.first (search_fault r.scope n)) (λ bound within. ((let below = word_of_below (length r.words) r.scope n b.some b.scope in (Decides-ltb (word_of r.scope n) bound).1 (omega (arith, below, within))), tt)) refl b
-
-symbol_built : (n : Tok) (r : Reading) → Built r → Built (take (f_symbol n) r)
-symbol_built n r b =
-    let d = own n r in
-    let mid = own_built n r b in
-    told_built d itself (plain_effect [] (codes "value" ∷ [])) false false d.reading.arrays d.reading.first (λ ks. refl) (λ bound within w. record { built = record { effect_is = refl; not_inline = refl; not_recursive = refl }; few = refl })
-    mid.arrays (adds_none d.reading.arrays) (own_begins n r b.scope.table b.counted) mid
-
--- Forms.
-
-pub take_built : (form : Form) (r : Reading) → IsPlainForm form → Built r → Built (take form r)
-take_built (f_in v) r p b = scoped_built r (entered v.text r.scope) (record { table = b.scope.table; brought = b.scope.brought }) refl b
-take_built (f_use v) r p b = use_built r v b
-take_built (f_using vs) r p b = fold_built use_one use_built vs r b
+pub take_built : (form : Form) (r : Reading) → IsPlainForm form → BuiltUp r → BuiltUp (take form r)
+take_built (f_in v) r p b = scoped_built (classes_in r) (classes_in r) r (entered v.text r.scope) (record { table = b.scope.table; brought = b.scope.brought }) refl b
+take_built (f_use v) r p b = up (classes_in r) _ (use_built (classes_in r) (classes_in r) r v b)
+take_built (f_using vs) r p b = up (classes_in r) _ (fold_built (classes_in r) (classes_in r) use_one (use_built (classes_in r) (classes_in r)) vs r b)
 take_built (f_from v ns) r p b =
-    reading_if (fold (bring_one v.text) r ns) (refused (fault NoVocab v ∷ []) r) (exists r.scope v.text) (fold_built (bring_one v.text) (bring_built v.text) ns r b) (refused_built r (fold sooner r.first (fault NoVocab v ∷ [])) b)
+    let c = classes_in r in
+    up c (take (f_from v ns) r)
+    (reading_if c c (fold (bring_one v.text) r ns) (refused (fault NoVocab v ∷ []) r) (exists r.scope v.text) (fold_built c c (bring_one v.text) (bring_built c c v.text) ns r b) (one_refused c c r (fault NoVocab v) b))
 take_built (f_qualified v p) r q b =
-    reading_if (scoped (bringing (prefixed v.text p.text)) r) (refused (fault NoVocab v ∷ []) r) (exists r.scope v.text)
-    (scoped_built r (bringing (prefixed v.text p.text) r.scope) (record { table = b.scope.table; brought = b.scope.brought }) refl b)
-    (refused_built r (fold sooner r.first (fault NoVocab v ∷ [])) b)
-take_built f_private r p b = scoped_built r _ (record { table = b.scope.table; brought = b.scope.brought }) refl b
-take_built f_public r p b = scoped_built r _ (record { table = b.scope.table; brought = b.scope.brought }) refl b
-take_built (f_defer n) r p b = deferring_built n r (holders r.scope.table (home r.scope) n.text) b
-take_built (f_symbol n) r p b = symbol_built n r b
-take_built (f_main n) r p b = main_built n r b
-take_built (f_define n (given e) ns inline recursive) r p b = define_built n e ns inline recursive r p b
-take_built (f_items ns) r p b = items_built ns r p b
+    let c = classes_in r in
+    up c (take (f_qualified v p) r)
+    (reading_if c c (scoped (bringing (prefixed v.text p.text)) r) (refused (fault NoVocab v ∷ []) r) (exists r.scope v.text)
+    (scoped_built c c r (bringing (prefixed v.text p.text) r.scope) (record { table = b.scope.table; brought = b.scope.brought }) refl b)
+    (one_refused c c r (fault NoVocab v) b))
+take_built f_private r p b = scoped_built (classes_in r) (classes_in r) r _ (record { table = b.scope.table; brought = b.scope.brought }) refl b
+take_built f_public r p b = scoped_built (classes_in r) (classes_in r) r _ (record { table = b.scope.table; brought = b.scope.brought }) refl b
+take_built (f_defer n) r p b = up (classes_in r) _ (deferring_built (classes_in r) (classes_in r) n r (holders r.scope.table (home r.scope) n.text) b)
+take_built (f_symbol n) r p b = up (classes_in r) _ (symbol_built (classes_in r) (classes_in r) n r b)
+take_built (f_main n) r p b = up (classes_in r) _ (main_built (classes_in r) (classes_in r) n r b)
+take_built (f_define n e ns inline recursive) r p b = up (classes_in r) _ (define_built (classes_in r) (classes_in r) n e ns inline recursive r p.0 p.1 b)
+take_built (f_tuple n parent slots) r p b =
+    let q = class_form n (option_list parent) (λ s. a_tuple (option_map (ref s) parent) slots) r in
+    let mid = class_form_built n (option_list parent) (λ s. a_tuple (option_map (ref s) parent) slots) r (λ s. p) b in
+    up (classes_in q) _ (fold_built (classes_in q) (classes_in q) with_slot (slot_built (classes_in q) (classes_in q)) slots q mid)
+take_built (f_union n members) r p b = class_form_built n members _ r (λ s. refl) b
+take_built (f_single n) r p b = class_form_built n [] _ r (λ s. refl) b
+take_built (f_generic n e) r p b = up (classes_in r) _ (generic_built (classes_in r) (classes_in r) n e r p b)
+take_built (f_method x g ns) r p b = up (classes_in r) _ (method_built (classes_in r) (classes_in r) x g ns r p b)
+take_built (f_items ns) r p b = up (classes_in r) _ (items_built (classes_in r) (classes_in r) ns r p b)
 take_built form r p b = absurd p
 
-pub begun_built : (r : Reading) → Built r → Built (scoped begun r)
-begun_built r b = scoped_built r (begun r.scope) (record { table = b.scope.table; brought = tt }) refl b
+pub begun_built : (r : Reading) → BuiltUp r → BuiltUp (scoped begun r)
+begun_built r b = scoped_built (classes_in r) (classes_in r) r (begun r.scope) (record { table = b.scope.table; brought = tt }) refl b

@@ -32,18 +32,25 @@ use Rattle.fac_parse.specs.Rows.{slots_of}
 use Rattle.fac_effect.specs.WrittenEffects.{Written, written, Entries, no_entries, plain, described, detailed, written_names, entries_names, is_row, plain_name, colon_name, row_if, row_in, values_in, output_names, leaving_in, said, side_inputs, inputs_of, IsEffect}
 use Rattle.fac_parse.specs.Trees.{AreItems, AreWellFormed, Fills, FillAll, IsForm, IsLiteral, IsWellFormed}
 use Rattle.fac_vocab.specs.Scopes.{begun, entries_from}
-use Rattle.fac_names.specs.declared.refusal.NameFault.{NameFault}
-use Rattle.fac_names.specs.declared.refusal.ResolveFault.{ResolveFault}
-use Rattle.fac_names.specs.Readings.{read_form}
-use Rattle.fac_names.specs.Items.{sooner}
-use Rattle.fac_names.specs.Forms.{Draft, Late, settled, deferred, Reading, scoped, take_file}
+use Rattle.fac_refusal.specs.declared.refusal.NameFault.{NameFault}
+use Rattle.fac_refusal.specs.declared.refusal.ResolveFault.{ResolveFault}
+use Rattle.fac_items.specs.Readings.{read_form}
+use Rattle.fac_refusal.specs.Refusals.{sooner}
+use Rattle.fac_endings.specs.declared.draft.Draft.{Draft}
+use Rattle.fac_endings.specs.declared.draft.Late.{Late}
+use Rattle.fac_endings.specs.declared.draft.Late.TheVariants.{Settled as settled, Deferred as deferred}
+use Rattle.fac_names.specs.Forms.{Reading, scoped, take_file}
 use Rattle.fac_names.specs.FromFlat.{effect_in, elements_in, form_of, row}
 use Rattle.fac_names.specs.KnownWords.{known_words, words_from}
-use Rattle.fac_names.specs.Resolved.{answer, class_faults, classes_of, finished, first_fault, last_faults, late_faults, program_of, words_faults}
+use Rattle.fac_names.specs.Resolved.{answer, first_fault, program_of}
+use Rattle.fac_endings.specs.LastRefusals.{class_faults, last_faults, late_faults, words_faults}
+use Rattle.fac_endings.specs.ClassTable.{classes_of}
+use Rattle.fac_endings.specs.FinishedWords.{finished}
 use Rattle.fac_names.specs.Resolution.{Resolves, first_reading, program_alone, resolved, settled_draft}
-use Rattle.fac_names.specs.inner.Ending.{program_with, top_word}
+use Rattle.fac_endings.specs.inner.Ready.{program_with}
+use Rattle.fac_endings.specs.Words.{top_word}
 use Rattle.fac_names.specs.inner.Taking.{take_all}
-use Rattle.fac_names.proofs.ArrayNumbers.{below, times_both}
+use Rattle.fac_items.proofs.ArrayNumbers.{below, times_both}
 use Rattle.fac_names.proofs.ArrayReadings.{Counted, known_ascending, known_spared, named_append, named_in, names_by}
 use Rattle.fac_names.proofs.BracketLemmas.{items_closing, literal_closing, literal_sole}
 use Rattle.fac_names.proofs.BuiltForms.{IsPlainForm, begun_built, take_built}

@@ -1,27 +1,40 @@
 -- What forms come to is of the forms built.
-use Rattle.std.proofs.Common.{◌≡◌, ◌<◌, ◌≤◌, ◌+◌, ℕ, zero, suc, List, [], ◌∷◌, ◌++◌, map, length, Option, Bool, true, false, refl, ap, sym, ◌∙◌, subst, arith}
-use Rattle.std.specs.Prelude.{◌&&◌, ◌||◌, not, nat_eq, nat_le, nat_lt}
+use Rattle.std.proofs.Common.{◌≡◌, ◌<◌, ◌≤◌, ◌+◌, ℕ, zero, suc, List, [], ◌∷◌, ◌++◌, map, length, fold, Option, Some, None, Bool, true, false, refl, ap, sym, ◌∙◌, subst, arith}
+use Rattle.std.specs.Prelude.{◌&&◌, ◌||◌, not, nat_eq, nat_le, nat_lt, slice_get}
+use Rattle.std.specs.List.{list_all}
 use Rattle.std.proofs.lemmas.Bool.Decides.{Decides-ltb}
 use Rattle.std.proofs.lemmas.List.{length_push}
+use Rattle.std.proofs.lemmas.List.Folds.{list_all-append}
 use Rattle.fac_lang.specs.Forms.{AreBuiltArrays, AreBuiltElements, IsBuiltPhrase, IsBuiltSort, has_no_repeats, is_member, numbers_before, primitive_numbers}
 use Rattle.fac_lang.specs.Phrases.{int, yes, no, str, Phrase, end, then as placed}
 use Rattle.fac_lang.specs.RunningLaws.{append}
 use Rattle.fac_lang.specs.Signatures.{Signature}
-use Rattle.fac_lang.specs.Whole.{name_count}
+use Rattle.fac_lang.specs.Whole.{arrays_named, name_count}
 use Rattle.fac_lang.specs.declared.phrase.Place.{Place}
 use Rattle.fac_lang.specs.declared.program.Lit.{Lit}
 use Rattle.fac_lang.specs.declared.program.Sort.{Sort}
-use Rattle.fac_lang.specs.declared.program.Sort.TheVariants.{Body as body, Itself as itself, Prim as prim, Core as core}
+use Rattle.fac_lang.specs.declared.program.Sort.TheVariants.{Body as body, Itself as itself, Prim as prim, Core as core, Past as past, Class as class, Isa as isa, Getter as getter, Setter as setter, Putter as putter, Generic as generic, Method as method}
 use Rattle.fac_lang.specs.declared.program.WordDef.{WordDef}
-use Rattle.fac_vocab.specs.Scopes.{Scope, now_defined, with_entry}
-use Rattle.fac_names.specs.declared.refusal.NameFault.{NameFault}
-use Rattle.fac_names.specs.Written.{Tok, n_lit, n_name, n_quot, n_array, Nodes, nothing, more}
-use Rattle.fac_names.specs.Items.{elements_of, phrase_of, word_of}
-use Rattle.fac_names.specs.Forms.{Draft, Late, settled, deferred, Numbered, Reading, at_place, changed, draft_of, told, with_told}
-use Rattle.fac_names.proofs.ArrayNumbers.{Adds}
-use Rattle.fac_names.proofs.ArrayReadings.{Begins, Counted, names_by, refused_counted, scoped_counted, told_counted}
-use Rattle.fac_names.proofs.PlainItems.{ArePlain}
-use Rattle.fac_names.proofs.BuiltScopes.{ScopeBelow, brought_more, entries_defined, entries_more, entries_with, word_of_below}
+use Rattle.fac_refusal.specs.declared.refusal.NameFault.{NameFault}
+use Rattle.fac_refusal.specs.Refusals.{sooner}
+use Rattle.fac_refusal.specs.Toks.{number}
+use Rattle.fac_vocab.specs.declared.entry.Entry.{Entry}
+use Rattle.fac_vocab.specs.Scopes.{Scope, now_defined, with_entry, word_held}
+use Rattle.fac_items.specs.Written.{Tok, n_lit, n_name, n_next, n_full, n_part, n_quot, n_array, Nodes, nothing, more}
+use Rattle.fac_items.specs.Items.{elements_of, phrase_of, word_of}
+use Rattle.fac_items.specs.inner.Bits.{AreElements, ArePlain}
+use Rattle.fac_items.proofs.ArrayNumbers.{Adds}
+use Rattle.fac_endings.specs.declared.draft.Draft.{Draft}
+use Rattle.fac_endings.specs.declared.draft.Late.{Late}
+use Rattle.fac_endings.specs.declared.draft.Late.TheVariants.{Settled as settled, Deferred as deferred, Maker as maker, Method as method_of}
+use Rattle.fac_endings.specs.declared.draft.NewClass.{NewClass}
+use Rattle.fac_endings.proofs.Apart.{and_true, true_both}
+use Rattle.fac_endings.proofs.EndedClasses.{class_in, draft_fits, late_in, own_few}
+use Rattle.fac_names.specs.Forms.{Numbered, Reading, at_place, changed, draft_of, refused, told, with_told}
+use Rattle.fac_names.specs.KnownWords.{known_classes}
+use Rattle.fac_names.proofs.ArrayReadings.{Begins, Counted, items_counted, main_counted, names_by, refused_counted, scoped_counted, told_counted}
+use Rattle.fac_names.proofs.BuiltScopes.{ScopeBelow, WordBelow, brought_more, entries_defined, entries_more, entries_with, word_below_held, word_of_below}
+use Rattle.fac_names.proofs.HeldNames.{AccessorAt, AccessorsHeld, AreNamed, KeepsHeld, KeepsNames, KeepsTold, NewHeld, OldHeld, WordHeld, accessor_text, accessors_kept, accessors_placed, accessors_push, accessors_told, held_defined, held_same, name_at, named_defined, named_kept, names_changed, names_push, new_kept, new_with, old_kept, told_other, told_placed, told_push, told_same}
 
 -- Phrases and arrays.
 
@@ -29,8 +42,19 @@ arrays_with : (bound : ℕ) (arrays : List (List Lit)) (ls : List Lit) → AreBu
 arrays_with bound [] ls h k = (k, tt)
 arrays_with bound (xs ∷ arrays) ls h k = (h.0, arrays_with bound arrays ls h.1 k)
 
-found_below : (n bound : ℕ) (s : Scope) (t : Tok) → 0 < n → n ≤ bound → ScopeBelow n s → nat_lt (word_of s t) bound ≡ true
+pub append_built : (bound : ℕ) (t u : Phrase) → IsBuiltPhrase bound t → IsBuiltPhrase bound u → IsBuiltPhrase bound (append t u)
+append_built bound end u h k = k
+append_built bound (placed i p t) u h k = (h.0, append_built bound t u h.1 k)
+
+pub found_below : (n bound : ℕ) (s : Scope) (t : Tok) → 0 < n → n ≤ bound → ScopeBelow n s → nat_lt (word_of s t) bound ≡ true
 found_below n bound s t some few h = let below = word_of_below n s t some h in (Decides-ltb (word_of s t) bound).1 (omega (arith, below, few))
+
+number_below : (n bound : ℕ) (o : Option ℕ) → 0 < n → n ≤ bound → WordBelow n o → nat_lt (number o) bound ≡ true
+number_below n bound None some few h = (Decides-ltb 0 bound).1 (omega (arith, some, few))
+number_below n bound (Some w) some few h = (Decides-ltb w bound).1 (omega (arith, h, few))
+
+held_below : (n bound : ℕ) (s : Scope) (vocab name : List ℕ) → 0 < n → n ≤ bound → ScopeBelow n s → nat_lt (number (word_held s.table vocab name)) bound ≡ true
+held_below n bound s vocab name some few h = number_below n bound (word_held s.table vocab name) some few (word_below_held n s.table vocab name h.table)
 
 mutual
   pub phrase_built : (n bound : ℕ) (s : Scope) (ns : Nodes) (arrays : List (List Lit)) (holes : ℕ) → 0 < n → n ≤ bound → ScopeBelow n s → ArePlain ns → AreBuiltArrays bound arrays →
@@ -42,6 +66,8 @@ mutual
   phrase_built n bound s (more (n_lit (str bs) p) ns) arrays holes some few h plain k = let rest = phrase_built n bound s ns arrays holes some few h plain.1 k in ((tt, rest.0), rest.1)
   phrase_built n bound s (more (n_lit l p) ns) arrays holes some few h plain k = absurd plain.0
   phrase_built n bound s (more (n_name t p) ns) arrays holes some few h plain k = let rest = phrase_built n bound s ns arrays holes some few h plain.1 k in ((found_below n bound s t some few h, rest.0), rest.1)
+  phrase_built n bound s (more (n_next p) ns) arrays holes some few h plain k = let rest = phrase_built n bound s ns arrays holes some few h plain.1 k in ((tt, rest.0), rest.1)
+  phrase_built n bound s (more (n_full v x p) ns) arrays holes some few h plain k = let rest = phrase_built n bound s ns arrays holes some few h plain.1 k in ((held_below n bound s v x some few h, rest.0), rest.1)
   phrase_built n bound s (more (n_quot ms p) ns) arrays holes some few h plain k =
       let m = phrase_of s [] ms arrays holes in
       let inner = phrase_built n bound s ms arrays holes some few h plain.0 k in
@@ -52,9 +78,14 @@ mutual
       let inner = elements_built n bound s ms arrays some few h plain.0 k in
       let rest = phrase_built n bound s ns (m.arrays ++ m.elements ∷ []) holes some few h plain.1 (arrays_with bound m.arrays m.elements inner.1 inner.0) in
       ((tt, rest.0), rest.1)
+  phrase_built n bound s (more (n_part ms) ns) arrays holes some few h plain k =
+      let m = phrase_of s [] ms arrays holes in
+      let inner = phrase_built n bound s ms arrays holes some few h plain.0 k in
+      let rest = phrase_built n bound s ns m.arrays m.holes some few h plain.1 inner.1 in
+      (append_built bound m.phrase (phrase_of s [] ns m.arrays m.holes).phrase inner.0 rest.0, rest.1)
   phrase_built n bound s (more x ns) arrays holes some few h plain k = absurd plain.0
 
-  pub elements_built : (n bound : ℕ) (s : Scope) (ns : Nodes) (arrays : List (List Lit)) → 0 < n → n ≤ bound → ScopeBelow n s → ArePlain ns → AreBuiltArrays bound arrays →
+  pub elements_built : (n bound : ℕ) (s : Scope) (ns : Nodes) (arrays : List (List Lit)) → 0 < n → n ≤ bound → ScopeBelow n s → AreElements ns → AreBuiltArrays bound arrays →
       AreBuiltElements bound (elements_of s ns arrays).elements × AreBuiltArrays bound (elements_of s ns arrays).arrays
   elements_built n bound s nothing arrays some few h plain k = (tt, k)
   elements_built n bound s (more (n_lit (int z) p) ns) arrays some few h plain k = let rest = elements_built n bound s ns arrays some few h plain.1 k in ((tt, rest.0), rest.1)
@@ -63,6 +94,7 @@ mutual
   elements_built n bound s (more (n_lit (str bs) p) ns) arrays some few h plain k = let rest = elements_built n bound s ns arrays some few h plain.1 k in ((tt, rest.0), rest.1)
   elements_built n bound s (more (n_lit l p) ns) arrays some few h plain k = absurd plain.0
   elements_built n bound s (more (n_name t p) ns) arrays some few h plain k = let rest = elements_built n bound s ns arrays some few h plain.1 k in ((found_below n bound s t some few h, rest.0), rest.1)
+  elements_built n bound s (more (n_next p) ns) arrays some few h plain k = elements_built n bound s ns arrays some few h plain.1 k
   elements_built n bound s (more (n_quot ms p) ns) arrays some few h plain k =
       let m = phrase_of s [] ms arrays 0 in
       let inner = phrase_built n bound s ms arrays 0 some few h plain.0 k in
@@ -75,25 +107,28 @@ mutual
       ((tt, rest.0), rest.1)
   elements_built n bound s (more x ns) arrays some few h plain k = absurd plain.0
 
-pub append_built : (bound : ℕ) (t u : Phrase) → IsBuiltPhrase bound t → IsBuiltPhrase bound u → IsBuiltPhrase bound (append t u)
-append_built bound end u h k = k
-append_built bound (placed i p t) u h k = (h.0, append_built bound t u h.1 k)
-
 -- Words.
 
-pub record IsToldWord (bound : ℕ) (d : WordDef) : Type 0 where
+-- a word whose phrase has an effect that the end gives it
+pub record IsLateBody (bound : ℕ) (d : WordDef) : Type 0 where
   pub built : IsBuiltSort bound d d.sort
-  pub few : nat_le (name_count d.effect) 65 ≡ true
+  pub not_inline : d.inline ≡ false
+  pub not_recursive : d.recursive ≡ false
 
 -- a word is of the forms built, where it isn't only deferred
 abbrev pub IsBuiltLate : ℕ → WordDef → Late → Type 0
-IsBuiltLate bound d settled = IsToldWord bound d
+IsBuiltLate bound d settled = IsBuiltSort bound d d.sort
 IsBuiltLate bound d deferred = Unit {0}
-IsBuiltLate bound d _ = ⊥
+IsBuiltLate bound d (maker r) = IsLateBody bound d
+IsBuiltLate bound d (method_of c g) = IsLateBody bound d
 
 abbrev pub DraftsBuilt : ℕ → List Draft → Type 0
 DraftsBuilt bound [] = Unit {0}
 DraftsBuilt bound (d ∷ ds) = IsBuiltLate bound d.word d.late × DraftsBuilt bound ds
+
+-- the numbers of classes in a word are below k, and its effect has few names
+abbrev pub draft_ok : ℕ → Draft → Bool
+draft_ok k d = draft_fits k d && nat_le (name_count d.word.effect) 65
 
 abbrev pub words_in : List Draft → List WordDef
 words_in ds = map (λ (d : Draft). d.word) ds
@@ -101,25 +136,94 @@ words_in ds = map (λ (d : Draft). d.word) ds
 abbrev pub numbers_in : List Draft → List ℕ
 numbers_in ds = primitive_numbers (words_in ds)
 
-pub record Built (r : Reading) : Type 0 where
+-- the words of classes are held under their names
+abbrev pub AreHeld : Reading → Type 0
+AreHeld r = OldHeld r.words r.scope.table 0 r.old_classes × NewHeld r.words r.scope.table (length r.old_classes) r.classes
+
+-- Words name classes below k, and there are c of them.
+pub record Built (k c : ℕ) (r : Reading) : Type 0 where
   pub some : 0 < length r.words
   pub scope : ScopeBelow (length r.words) r.scope
   pub words : (bound : ℕ) → length r.words ≤ bound → DraftsBuilt bound r.words
+  pub ok : list_all (draft_ok k) r.words ≡ true
   pub top : (bound : ℕ) → length r.words ≤ bound → IsBuiltPhrase bound r.top
   pub main : (bound : ℕ) → length r.words ≤ bound → IsBuiltPhrase bound r.main
   pub distinct : has_no_repeats (numbers_in r.words) ≡ true
-  pub no_old_classes : r.old_classes ≡ []
-  pub no_classes : r.classes ≡ []
+  pub old : r.old_classes ≡ known_classes
+  pub own : list_all (λ (d : NewClass). own_few d.names) r.classes ≡ true
+  pub count : length r.old_classes + length r.classes ≡ c
+  pub named : AreNamed r.words r.scope.table
+  pub accessors : AccessorsHeld r.scope.table 0 r.words
+  pub held : r.first ≡ None → AreHeld r
   pub arrays : (bound : ℕ) → length r.words ≤ bound → AreBuiltArrays bound r.arrays
   pub counted : Counted r
 
 -- the same but for the first refusal
-pub refused_built : (r : Reading) (first : Option NameFault) → Built r → Built (record r { first = first })
-refused_built r first b = record { some = b.some; scope = b.scope; words = b.words; top = b.top; main = b.main; distinct = b.distinct; no_old_classes = b.no_old_classes; no_classes = b.no_classes; arrays = b.arrays; counted = refused_counted r first b.counted }
+pub refused_built : (k c : ℕ) (r : Reading) (first : Option NameFault) → (first ≡ None → r.first ≡ None) → Built k c r → Built k c (record r { first = first })
+refused_built k c r first before b =
+    record { some = b.some; scope = b.scope; words = b.words; ok = b.ok; top = b.top; main = b.main; distinct = b.distinct; old = b.old; own = b.own; count = b.count; named = b.named; accessors = b.accessors; held = λ none. b.held (before none); arrays = b.arrays; counted = refused_counted r first b.counted }
 
 -- another scope with words that there are, and the same table
-pub scoped_built : (r : Reading) (s : Scope) → ScopeBelow (length r.words) s → s.table ≡ r.scope.table → Built r → Built (record r { scope = s })
-scoped_built r s h same b = record { some = b.some; scope = h; words = b.words; top = b.top; main = b.main; distinct = b.distinct; no_old_classes = b.no_old_classes; no_classes = b.no_classes; arrays = b.arrays; counted = scoped_counted r s same b.counted }
+pub scoped_built : (k c : ℕ) (r : Reading) (s : Scope) → ScopeBelow (length r.words) s → s.table ≡ r.scope.table → Built k c r → Built k c (record r { scope = s })
+scoped_built k c r s h same b =
+    record {
+      some = b.some;
+      scope = h;
+      words = b.words;
+      ok = b.ok;
+      top = b.top;
+      main = b.main;
+      distinct = b.distinct;
+      old = b.old;
+      own = b.own;
+      count = b.count;
+      named = subst (AreNamed r.words) (sym same) b.named;
+      accessors = subst (λ (es : List Entry). AccessorsHeld es 0 r.words) (sym same) b.accessors;
+      held = λ none. subst (λ (es : List Entry). OldHeld r.words es 0 r.old_classes × NewHeld r.words es (length r.old_classes) r.classes) (sym same) (b.held none);
+      arrays = b.arrays;
+      counted = scoped_counted r s same b.counted;
+    }
+
+-- words may name classes up to a larger number
+class_more : (k : ℕ) (s : Sort) → class_in k s ≡ true → class_in (suc k) s ≡ true
+class_more k (class c) h = grind arith
+class_more k (isa c) h = grind arith
+class_more k (past t) h = h
+class_more k (method c g t) h = h
+class_more k (prim j) h = refl
+class_more k (core j) h = refl
+class_more k (body t) h = refl
+class_more k itself h = refl
+class_more k (getter s) h = refl
+class_more k (setter s) h = refl
+class_more k (putter s) h = refl
+class_more k generic h = refl
+
+draft_more : (k : ℕ) (d : Draft) → draft_ok k d ≡ true → draft_ok (suc k) d ≡ true
+draft_more k d h =
+    let both = true_both (draft_fits k d) (nat_le (name_count d.word.effect) 65) h in
+    let parts = true_both (class_in k d.word.sort) (late_in d.word.sort d.late) both.0 in
+    and_true (draft_fits (suc k) d) (nat_le (name_count d.word.effect) 65) (and_true (class_in (suc k) d.word.sort) (late_in d.word.sort d.late) (class_more k d.word.sort parts.0) parts.1) both.1
+
+drafts_more : (k : ℕ) (ds : List Draft) → list_all (draft_ok k) ds ≡ true → list_all (draft_ok (suc k)) ds ≡ true
+drafts_more k [] h = refl
+drafts_more k (d ∷ ds) h = let both = true_both (draft_ok k d) (list_all (draft_ok k) ds) h in and_true (draft_ok (suc k) d) (list_all (draft_ok (suc k)) ds) (draft_more k d both.0) (drafts_more k ds both.1)
+
+pub one_class_more : (k c : ℕ) (r : Reading) → Built k c r → Built (suc k) c r
+one_class_more k c r b =
+    record { some = b.some; scope = b.scope; words = b.words; ok = drafts_more k r.words b.ok; top = b.top; main = b.main; distinct = b.distinct; old = b.old; own = b.own; count = b.count; named = b.named; accessors = b.accessors; held = b.held; arrays = b.arrays; counted = b.counted }
+
+-- What stays of words and tables.
+
+pub record Keeps (r q : Reading) : Type 0 where
+  pub names : KeepsNames r.words q.words
+  pub words : KeepsTold r.words q.words
+  pub table : KeepsHeld r.scope.table q.scope.table
+  pub first : q.first ≡ None → r.first ≡ None
+
+held_through : (r q : Reading) → Keeps r q → AreHeld r → OldHeld q.words q.scope.table 0 r.old_classes × NewHeld q.words q.scope.table (length r.old_classes) r.classes
+held_through r q k h =
+    (old_kept r.words q.words r.scope.table q.scope.table 0 r.old_classes k.names k.words k.table h.0, new_kept r.words q.words r.scope.table q.scope.table (length r.old_classes) r.classes k.words k.table h.1)
 
 -- A word more.
 
@@ -131,18 +235,34 @@ numbers_with : (ds : List Draft) (vocab : List ℕ) (t : Tok) → numbers_in (ds
 numbers_with [] vocab t = refl
 numbers_with (d ∷ ds) vocab t = ap (numbers_before d.word.sort) (numbers_with ds vocab t)
 
-pub with_word : (r : Reading) (s : Scope) (vocab : List ℕ) (t : Tok) (first : Option NameFault) → ScopeBelow (length r.words + 1) s → Counted (record r { scope = s; words = r.words ++ draft_of vocab t ∷ []; first = first }) → Built r → Built (record r { scope = s; words = r.words ++ draft_of vocab t ∷ []; first = first })
-with_word r s vocab t first h counted b =
+-- the table is the same, or has an entry of the new word more
+pub record Adds_word (r : Reading) (s : Scope) (vocab : List ℕ) (t : Tok) (first : Option NameFault) : Type 0 where
+  pub below : ScopeBelow (length r.words + 1) s
+  pub table : KeepsHeld r.scope.table s.table
+  pub named : AreNamed (r.words ++ draft_of vocab t ∷ []) s.table
+  pub first_before : first ≡ None → r.first ≡ None
+
+pub word_keeps : (r : Reading) (s : Scope) (vocab : List ℕ) (t : Tok) (first : Option NameFault) → Adds_word r s vocab t first → Keeps r (record r { scope = s; words = r.words ++ draft_of vocab t ∷ []; first = first })
+word_keeps r s vocab t first a = record { names = names_push r.words (draft_of vocab t); words = told_push r.words (draft_of vocab t); table = a.table; first = a.first_before }
+
+pub with_word : (k c : ℕ) (r : Reading) (s : Scope) (vocab : List ℕ) (t : Tok) (first : Option NameFault) → Adds_word r s vocab t first → Counted (record r { scope = s; words = r.words ++ draft_of vocab t ∷ []; first = first }) → Built k c r → Built k c (record r { scope = s; words = r.words ++ draft_of vocab t ∷ []; first = first })
+with_word k c r s vocab t first a counted b =
     let longer = length_push r.words (draft_of vocab t) in
+    let keeps = word_keeps r s vocab t first a in
     record {
       some = omega (arith, longer);
-      scope = subst (λ (n : ℕ). ScopeBelow n s) (sym longer) h;
+      scope = subst (λ (n : ℕ). ScopeBelow n s) (sym longer) a.below;
       words = λ bound few. drafts_with bound r.words (draft_of vocab t) (b.words bound (omega (arith, longer, few))) tt;
+      ok = list_all-append (draft_ok k) r.words (draft_of vocab t ∷ []) ∙ and_true (list_all (draft_ok k) r.words) true b.ok refl;
       top = λ bound few. b.top bound (omega (arith, longer, few));
       main = λ bound few. b.main bound (omega (arith, longer, few));
       distinct = ap has_no_repeats (numbers_with r.words vocab t) ∙ b.distinct;
-      no_old_classes = b.no_old_classes;
-      no_classes = b.no_classes;
+      old = b.old;
+      own = b.own;
+      count = b.count;
+      named = a.named;
+      accessors = accessors_kept r.scope.table s.table 0 (r.words ++ draft_of vocab t ∷ []) a.table (accessors_push r.scope.table 0 r.words (draft_of vocab t) refl b.accessors);
+      held = λ none. held_through r (record r { scope = s; words = r.words ++ draft_of vocab t ∷ []; first = first }) keeps (b.held (a.first_before none));
       arrays = λ bound few. b.arrays bound (omega (arith, longer, few));
       counted = counted;
     }
@@ -173,31 +293,61 @@ placed_sort bound d p (prim k) h = record { row = h.row; row_is = h.row_is; is_b
 placed_sort bound d p (core k) h = record { row = h.row; row_is = h.row_is; is_built = h.is_built; effect_is = h.effect_is; not_inline = h.not_inline; not_recursive = h.not_recursive }
 placed_sort bound d p (body t) h = h
 placed_sort bound d p itself h = record { effect_is = h.effect_is; not_inline = h.not_inline; not_recursive = h.not_recursive }
+placed_sort bound d p (class c) h = record { effect_is = h.effect_is; not_inline = h.not_inline; not_recursive = h.not_recursive }
+placed_sort bound d p (isa c) h = record { effect_is = h.effect_is; not_inline = h.not_inline; not_recursive = h.not_recursive }
+placed_sort bound d p (getter s) h = record { effect_is = h.effect_is; not_inline = h.not_inline; not_recursive = h.not_recursive }
+placed_sort bound d p (setter s) h = record { effect_is = h.effect_is; not_inline = h.not_inline; not_recursive = h.not_recursive }
+placed_sort bound d p (putter s) h = record { effect_is = h.effect_is; not_inline = h.not_inline; not_recursive = h.not_recursive }
+placed_sort bound d p generic h = record { not_inline = h.not_inline; not_recursive = h.not_recursive }
+placed_sort bound d p (method c g t) h = (record { not_inline = h.0.not_inline; not_recursive = h.0.not_recursive }, h.1)
 placed_sort bound d p s h = absurd h
 
+placed_body : (bound : ℕ) (d : WordDef) (p : Place) → IsLateBody bound d → IsLateBody bound (record d { place = p })
+placed_body bound d p h = record { built = placed_sort bound d p d.sort h.built; not_inline = h.not_inline; not_recursive = h.not_recursive }
+
 placed_late : (bound : ℕ) (d : WordDef) (p : Place) (l : Late) → IsBuiltLate bound d l → IsBuiltLate bound (record d { place = p }) l
-placed_late bound d p settled h = record { built = placed_sort bound d p d.sort h.built; few = h.few }
+placed_late bound d p settled h = placed_sort bound d p d.sort h
 placed_late bound d p deferred h = tt
-placed_late bound d p l h = absurd h
+placed_late bound d p (maker r) h = placed_body bound d p h
+placed_late bound d p (method_of c g) h = placed_body bound d p h
 
 numbers_placed : (p : Place) (n : ℕ) (ds : List Draft) → numbers_in (changed (at_place p) n ds) ≡ numbers_in ds
 numbers_placed p n [] = refl
 numbers_placed p zero (d ∷ ds) = refl
 numbers_placed p (suc n) (d ∷ ds) = ap (numbers_before d.word.sort) (numbers_placed p n ds)
 
-pub moved_built : (r : Reading) (vocab name : List ℕ) (p : Place) (n : ℕ) → Counted (record r { scope = record r.scope { table = now_defined vocab name r.scope.table }; words = changed (at_place p) n r.words }) → Built r → Built (record r { scope = record r.scope { table = now_defined vocab name r.scope.table }; words = changed (at_place p) n r.words })
-moved_built r vocab name p n counted b =
+ok_changed : (k : ℕ) (f : Draft → Draft) (n : ℕ) (ds : List Draft) → ((d : Draft) → draft_ok k d ≡ true → draft_ok k (f d) ≡ true) → list_all (draft_ok k) ds ≡ true → list_all (draft_ok k) (changed f n ds) ≡ true
+ok_changed k f n [] keeps h = refl
+ok_changed k f zero (d ∷ ds) keeps h = let both = true_both (draft_ok k d) (list_all (draft_ok k) ds) h in and_true (draft_ok k (f d)) (list_all (draft_ok k) ds) (keeps d both.0) both.1
+ok_changed k f (suc n) (d ∷ ds) keeps h = let both = true_both (draft_ok k d) (list_all (draft_ok k) ds) h in and_true (draft_ok k d) (list_all (draft_ok k) (changed f n ds)) both.0 (ok_changed k f n ds keeps both.1)
+
+-- a reading in which a name is no more only deferred
+abbrev moved : Reading → List ℕ → List ℕ → Place → ℕ → Reading
+moved r vocab name p n = record r { scope = record r.scope { table = now_defined vocab name r.scope.table }; words = changed (at_place p) n r.words }
+
+pub moved_keeps : (r : Reading) (vocab name : List ℕ) (p : Place) (n : ℕ) → Keeps r (moved r vocab name p n)
+moved_keeps r vocab name p n = record { names = names_changed (at_place p) (λ d. refl) n r.words; words = told_placed p n r.words; table = held_defined r.scope.table vocab name; first = λ none. none }
+
+pub moved_built : (k c : ℕ) (r : Reading) (vocab name : List ℕ) (p : Place) (n : ℕ) → Counted (moved r vocab name p n) → Built k c r → Built k c (moved r vocab name p n)
+moved_built k c r vocab name p n counted b =
     let same = length_changed (at_place p) n r.words in
     let below = b.some in
+    let keeps = moved_keeps r vocab name p n in
+    let table = now_defined vocab name r.scope.table in
     record {
       some = omega (arith, same, below);
-      scope = subst (λ (k : ℕ). ScopeBelow k (record r.scope { table = now_defined vocab name r.scope.table })) (sym same) (record { table = entries_defined (length r.words) vocab name r.scope.table b.scope.table; brought = b.scope.brought });
+      scope = subst (λ (m : ℕ). ScopeBelow m (record r.scope { table = table })) (sym same) (record { table = entries_defined (length r.words) vocab name r.scope.table b.scope.table; brought = b.scope.brought });
       words = λ bound few. drafts_changed bound (at_place p) n r.words (λ d h. placed_late bound d.word p d.late h) (b.words bound (omega (arith, same, few)));
+      ok = ok_changed k (at_place p) n r.words (λ d h. h) b.ok;
       top = λ bound few. b.top bound (omega (arith, same, few));
       main = λ bound few. b.main bound (omega (arith, same, few));
       distinct = ap has_no_repeats (numbers_placed p n r.words) ∙ b.distinct;
-      no_old_classes = b.no_old_classes;
-      no_classes = b.no_classes;
+      old = b.old;
+      own = b.own;
+      count = b.count;
+      named = named_kept r.words (changed (at_place p) n r.words) table keeps.names (named_defined r.words vocab name r.scope.table b.named);
+      accessors = accessors_kept r.scope.table table 0 (changed (at_place p) n r.words) keeps.table (accessors_placed r.scope.table 0 p n r.words b.accessors);
+      held = λ none. held_through r (moved r vocab name p n) keeps (b.held none);
       arrays = λ bound few. b.arrays bound (omega (arith, same, few));
       counted = counted;
     }
@@ -225,9 +375,6 @@ first_and false c h = h
 second_and : (b c : Bool) → (b && c) ≡ true → c ≡ true
 second_and true c h = h
 second_and false c h = cc
-
-and_true : (b c : Bool) → b ≡ true → c ≡ true → (b && c) ≡ true
-and_true b c h k = rw (h, k) refl
 
 not_true : (b : Bool) → not b ≡ true → b ≡ false
 not_true true h = cc
@@ -260,27 +407,76 @@ told_distinct f n [] none h = h
 told_distinct f zero (d ∷ ds) none h = ap has_no_repeats (none d (numbers_in ds)) ∙ fewer_distinct d.word.sort (numbers_in ds) h
 told_distinct f (suc n) (d ∷ ds) none h = distinct_before d.word.sort (numbers_in ds) (numbers_in (changed f n ds)) (λ j. told_member j f n ds none) (told_distinct f n ds none) h
 
--- what a word is told to be
-abbrev IsTold : ℕ → Sort → Signature → Bool → Bool → Type 0
-IsTold bound s e inline recursive = (d : WordDef) → IsToldWord bound (record d { sort = s; effect = e; inline = inline; recursive = recursive })
+-- What a word is told to be.
+pub record IsTold (k : ℕ) (n : Numbered) (s : Sort) (e : Signature) (inline recursive : Bool) (late : Late) : Type 0 where
+  pub no_primitive : (ks : List ℕ) → numbers_before s ks ≡ ks
+  pub built : (bound : ℕ) → length n.reading.words ≤ bound → (d : WordDef) → IsBuiltLate bound (record d { sort = s; effect = e; inline = inline; recursive = recursive }) late
+  pub ok : ((class_in k s && late_in s late) && nat_le (name_count e) 65) ≡ true
+  pub accessor : AccessorAt n.reading.scope.table n.word s
 
-pub told_built : (n : Numbered) (s : Sort) (e : Signature) (inline recursive : Bool) (arrays : List (List Lit)) (first : Option NameFault) → IsNoPrimitive s → ((bound : ℕ) → length n.reading.words ≤ bound → IsTold bound s e inline recursive) →
-    ((bound : ℕ) → length n.reading.words ≤ bound → AreBuiltArrays bound arrays) → Adds n.reading.arrays arrays (names_by s) → Begins n → Built n.reading → Built (told s e inline recursive settled (record { word = n.word; reading = record n.reading { arrays = arrays; first = first } }))
-told_built n s e inline recursive arrays first none h k adds begins b =
+pub told_keeps : (n : Numbered) (s : Sort) (e : Signature) (inline recursive : Bool) (late : Late) (arrays : List (List Lit)) (first : Option NameFault) → (first ≡ None → n.reading.first ≡ None) → Begins n →
+    Keeps n.reading (told s e inline recursive late (record { word = n.word; reading = record n.reading { arrays = arrays; first = first } }))
+told_keeps n s e inline recursive late arrays first before begins =
+    record { names = names_changed (with_told s e inline recursive late) (λ d. refl) n.word n.reading.words; words = told_other (with_told s e inline recursive late) n.word n.reading.words (λ d at. (begins.fresh.untold d at).1); table = held_same n.reading.scope.table; first = before }
+
+pub told_built : (k c : ℕ) (n : Numbered) (s : Sort) (e : Signature) (inline recursive : Bool) (late : Late) (arrays : List (List Lit)) (first : Option NameFault) → IsTold k n s e inline recursive late → (first ≡ None → n.reading.first ≡ None) →
+    ((bound : ℕ) → length n.reading.words ≤ bound → AreBuiltArrays bound arrays) → Adds n.reading.arrays arrays (names_by s) → Begins n → Built k c n.reading → Built k c (told s e inline recursive late (record { word = n.word; reading = record n.reading { arrays = arrays; first = first } }))
+told_built k c n s e inline recursive late arrays first t before is_built adds begins b =
     let r = n.reading in
     let w = n.word in
-    let f = with_told s e inline recursive settled in
+    let f = with_told s e inline recursive late in
     let same = length_changed f w r.words in
     let below = b.some in
+    let keeps = told_keeps n s e inline recursive late arrays first before begins in
     record {
       some = omega (arith, same, below);
       scope = subst (λ (m : ℕ). ScopeBelow m r.scope) (sym same) b.scope;
-      words = λ bound few. drafts_changed bound f w r.words (λ d is. h bound (omega (arith, same, few)) d.word) (b.words bound (omega (arith, same, few)));
+      words = λ bound few. drafts_changed bound f w r.words (λ d is. t.built bound (omega (arith, same, few)) d.word) (b.words bound (omega (arith, same, few)));
+      ok = ok_changed k f w r.words (λ d h. t.ok) b.ok;
       top = λ bound few. b.top bound (omega (arith, same, few));
       main = λ bound few. b.main bound (omega (arith, same, few));
-      distinct = told_distinct f w r.words (λ d. none) b.distinct;
-      no_old_classes = b.no_old_classes;
-      no_classes = b.no_classes;
-      arrays = λ bound few. k bound (omega (arith, same, few));
-      counted = told_counted n s e inline recursive arrays first adds begins;
+      distinct = told_distinct f w r.words (λ d. t.no_primitive) b.distinct;
+      old = b.old;
+      own = b.own;
+      count = b.count;
+      named = named_kept r.words (changed f w r.words) r.scope.table keeps.names b.named;
+      accessors = accessors_told r.scope.table 0 w s f r.words (λ d. refl) (λ name is. subst (λ (m : ℕ). word_held r.scope.table _ name ≡ Some m) (let e : w ≡ w + 0 = omega arith in e) (t.accessor name is)) b.accessors;
+      held = λ none. held_through r (told s e inline recursive late (record { word = n.word; reading = record n.reading { arrays = arrays; first = first } })) keeps (b.held (before none));
+      arrays = λ bound few. is_built bound (omega (arith, same, few));
+      counted = told_counted n s e inline recursive late arrays first adds begins;
+    }
+
+-- The top-level phrase.
+
+pub with_top : (k c : ℕ) (r : Reading) (t : Phrase) (arrays : List (List Lit)) (first : Option NameFault) → (first ≡ None → r.first ≡ None) → ((bound : ℕ) → length r.words ≤ bound → IsBuiltPhrase bound (append r.top t)) → ((bound : ℕ) → length r.words ≤ bound → AreBuiltArrays bound arrays) → Adds r.arrays arrays (arrays_named t) →
+    Built k c r → Built k c (record r { top = append r.top t; arrays = arrays; first = first })
+with_top k c r t arrays first before h is_built adds b =
+    record { some = b.some; scope = b.scope; words = b.words; ok = b.ok; top = h; main = b.main; distinct = b.distinct; old = b.old; own = b.own; count = b.count; named = b.named; accessors = b.accessors; held = λ none. b.held (before none); arrays = is_built; counted = items_counted r t arrays first adds b.counted }
+
+pub with_main : (k c : ℕ) (r : Reading) (t : Phrase) (first : Option NameFault) → (first ≡ None → r.first ≡ None) → ((bound : ℕ) → length r.words ≤ bound → IsBuiltPhrase bound t) → arrays_named t ≡ [] → Built k c r → Built k c (record r { main = t; first = first })
+with_main k c r t first before h none b =
+    record { some = b.some; scope = b.scope; words = b.words; ok = b.ok; top = b.top; main = h; distinct = b.distinct; old = b.old; own = b.own; count = b.count; named = b.named; accessors = b.accessors; held = λ is_none. b.held (before is_none); arrays = b.arrays; counted = main_counted r t first none b.counted }
+
+-- A class more.
+
+pub with_class : (k c : ℕ) (r : Reading) (d : NewClass) (first : Option NameFault) → (first ≡ None → r.first ≡ None) → own_few d.names ≡ true → (r.first ≡ None → WordHeld r.words r.scope.table d.word c) → Built k c r → Built k (suc c) (record r { classes = r.classes ++ d ∷ []; first = first })
+with_class k c r d first before few is_held b =
+    let longer = length_push r.classes d in
+    let count = b.count in
+    record {
+      some = b.some;
+      scope = b.scope;
+      words = b.words;
+      ok = b.ok;
+      top = b.top;
+      main = b.main;
+      distinct = b.distinct;
+      old = b.old;
+      own = list_all-append (λ (x : NewClass). own_few x.names) r.classes (d ∷ []) ∙ and_true (list_all (λ (x : NewClass). own_few x.names) r.classes) (own_few d.names && true) b.own (and_true (own_few d.names) true few refl);
+      count = omega (arith, longer, count);
+      named = b.named;
+      accessors = b.accessors;
+      held = λ none. ((b.held (before none)).0, new_with r.words r.scope.table (length r.old_classes) r.classes d (b.held (before none)).1 (subst (WordHeld r.words r.scope.table d.word) (sym count) (is_held (before none))));
+      arrays = b.arrays;
+      counted = record { ascending = b.counted.ascending; spared = b.counted.spared; once = b.counted.once; earlier = b.counted.earlier; main_none = b.counted.main_none };
     }

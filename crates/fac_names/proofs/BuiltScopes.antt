@@ -8,8 +8,9 @@ use Rattle.fac_vocab.specs.declared.brought.Brought.{Brought}
 use Rattle.fac_vocab.specs.declared.brought.Brought.TheVariants.{Named as named, Prefixed as prefixed}
 use Rattle.fac_vocab.specs.declared.entry.Entry.{Entry}
 use Rattle.fac_vocab.specs.Scopes.{Scope, Found, the, unknown, ambiguous, all_used, companion, found, full_text, given_by, held, latest, now_defined, only_one, or_else, put_in_order, word_held}
-use Rattle.fac_names.specs.Written.{Tok}
-use Rattle.fac_names.specs.Items.{number, word_of}
+use Rattle.fac_items.specs.Written.{Tok}
+use Rattle.fac_refusal.specs.Toks.{number}
+use Rattle.fac_items.specs.Items.{word_of}
 
 abbrev pub EntriesBelow : ℕ → List Entry → Type 0
 EntriesBelow n [] = Unit {0}

@@ -1,85 +1,58 @@
 -- The end of the files.
-use Rattle.std.proofs.Common.{◌≡◌, ℕ, List, [], ◌∷◌, ◌++◌, map, length, fold, Option, Some, None, Result, Ok, Err, Bool, true, false, refl, ap, sym, ◌∙◌, append-nil}
-use Rattle.std.proofs.lemmas.List.{length-map}
-use Rattle.std.proofs.lemmas.List.Sums.{fold-append}
-use Rattle.fac_lang.specs.Phrases.{Phrase}
+use Rattle.std.proofs.Common.{◌≡◌, List, map, fold, Option, Some, None, Result, Ok, Err, false, ap, sym, ◌∙◌}
 use Rattle.fac_lang.specs.PhraseView.{items_phrase}
 use Rattle.fac_lang.specs.RunningLaws.{append}
 use Rattle.fac_lang.specs.declared.program.ClassDef.{ClassDef}
 use Rattle.fac_lang.specs.declared.program.Lit.{Lit}
 use Rattle.fac_lang.specs.declared.program.Program.{Program}
-use Rattle.fac_lang.specs.declared.program.WordDef.{WordDef}
 use Rattle.fac_lang.specs.declared.tree.Form.{Form as Flat}
-use Rattle.fac_names.specs.declared.drafts.Draft.{Draft as Kept}
-use Rattle.fac_names.specs.declared.refusal.NameFault.{NameFault}
-use Rattle.fac_names.specs.declared.refusal.ResolveFault.{ResolveFault}
-use Rattle.fac_names.specs.declared.refusal.ResolveFault.TheVariants.{Name, Memory}
-use Rattle.fac_names.specs.declared.so_far.SoFar.{SoFar}
-use Rattle.fac_names.specs.Forms.{Draft, Reading, take_file}
-use Rattle.fac_names.specs.Items.{sooner}
+use Rattle.fac_refusal.specs.declared.refusal.NameFault.{NameFault}
+use Rattle.fac_refusal.specs.declared.refusal.ResolveFault.{ResolveFault}
+use Rattle.fac_refusal.specs.declared.refusal.ResolveFault.TheVariants.{Name, Memory}
+use Rattle.fac_endings.specs.declared.draft.Draft.{Draft}
+use Rattle.fac_endings.specs.declared.draft.NewClass.{NewClass}
+use Rattle.fac_endings.specs.declared.gathered.Gathered.{Gathered}
+use Rattle.fac_endings.specs.Endings.{Ends, first_fault as first_of, program_of as program_in}
+use Rattle.fac_names.specs.Forms.{Reading, take_file}
 use Rattle.fac_names.specs.FromFlat.{form_of}
-use Rattle.fac_names.specs.Resolved.{answer, finished, first_fault, late_faults, program_of, words_faults}
+use Rattle.fac_names.specs.Resolved.{answer, first_fault}
 use Rattle.fac_names.specs.Resolution.{Resolves, first_reading, program_alone, resolved}
-use Rattle.fac_names.specs.inner.Drafts.{draft_seen, drafts_seen}
-use Rattle.fac_names.specs.inner.Ending.{Ends, first_undefined, program_with, top_word, with_undefined, word_in}
-use Rattle.fac_names.specs.inner.State.{reading_of}
+use Rattle.fac_names.specs.inner.Ended.{EndsReading}
 
--- Refusals.
+first_same : (r : Reading) (g : Gathered) → g.drafts.items ≡ r.words → g.old_classes ≡ r.old_classes → g.classes ≡ r.classes → g.first ≡ r.first → first_fault r ≡ first_of g.drafts.items g.old_classes g.classes g.first
+first_same r g words old new first =
+    sym
+    (ap (λ (ds : List Draft). first_of ds g.old_classes g.classes g.first) words
+    ∙ ap (λ (cs : List ClassDef). first_of r.words cs g.classes g.first) old
+    ∙ ap (λ (cs : List NewClass). first_of r.words r.old_classes cs g.first) new
+    ∙ ap (first_of r.words r.old_classes r.classes) first)
 
-draft_faults : (ds : List Draft) (cs : List ClassDef) (earlier : List WordDef) (d : WordDef) (b : Bool) (first : Option NameFault) → fold sooner first (late_faults ds cs earlier (draft_seen (record { word = d; is_deferred = b }))) ≡ with_undefined b d first
-draft_faults ds cs earlier d true first = refl
-draft_faults ds cs earlier d false first = refl
-
-drafts_faults : (ds : List Draft) (cs : List ClassDef) (earlier : List WordDef) (xs : List Kept) (first : Option NameFault) → fold sooner first (words_faults ds cs earlier (drafts_seen xs)) ≡ first_undefined xs first
-drafts_faults ds cs earlier [] first = refl
-drafts_faults ds cs earlier (x ∷ xs) first =
-    fold-append sooner first (late_faults ds cs earlier (draft_seen x)) (words_faults ds cs (finished ds cs (draft_seen x) ∷ earlier) (drafts_seen xs))
-    ∙ ap (λ (o : Option NameFault). fold sooner o (words_faults ds cs (finished ds cs (draft_seen x) ∷ earlier) (drafts_seen xs))) (draft_faults ds cs earlier x.word x.is_deferred first)
-    ∙ drafts_faults ds cs (finished ds cs (draft_seen x) ∷ earlier) xs (with_undefined x.is_deferred x.word first)
-
-pub last_first : (s : SoFar) → first_fault (reading_of s) ≡ first_undefined s.drafts.items s.first
-last_first s =
-    ap (fold sooner s.first) (append-nil (words_faults (drafts_seen s.drafts.items) [] [] (drafts_seen s.drafts.items)))
-    ∙ drafts_faults (drafts_seen s.drafts.items) [] [] s.drafts.items s.first
-
--- Words.
-
-draft_finished : (ds : List Draft) (cs : List ClassDef) (d : WordDef) (b : Bool) → finished ds cs (draft_seen (record { word = d; is_deferred = b })) ≡ d
-draft_finished ds cs d true = refl
-draft_finished ds cs d false = refl
-
-drafts_finished : (ds : List Draft) (cs : List ClassDef) (xs : List Kept) → map (finished ds cs) (drafts_seen xs) ≡ map word_in xs
-drafts_finished ds cs [] = refl
-drafts_finished ds cs (x ∷ xs) = ap (λ (w : WordDef). w ∷ map (finished ds cs) (drafts_seen xs)) (draft_finished ds cs x.word x.is_deferred) ∙ ap (λ (ws : List WordDef). x.word ∷ ws) (drafts_finished ds cs xs)
-
-abbrev made : List (List Lit) → List WordDef → Phrase → ℕ → Program
-made arrays words phrase top = record { words = words ++ top_word phrase ∷ []; arrays = arrays; classes = []; top = top }
-
-pub program_made : (s : SoFar) → program_with (map word_in s.drafts.items) s.arrays (append (items_phrase s.items.items) (items_phrase s.main.items)) ≡ program_of false (reading_of s)
-program_made s =
-    let phrase = append (items_phrase s.items.items) (items_phrase s.main.items) in
-    let ds = drafts_seen s.drafts.items in
-    ap (made s.arrays (map word_in s.drafts.items) phrase) (length-map s.drafts.items word_in ∙ sym (length-map s.drafts.items draft_seen))
-    ∙ sym (ap (λ (ws : List WordDef). made s.arrays ws phrase (length ds)) (drafts_finished ds [] s.drafts.items))
-
-pub ends_refused : (s : SoFar) (fault : NameFault) → Some fault ≡ first_undefined s.drafts.items s.first → first_fault (reading_of s) ≡ Some fault
-ends_refused s fault h = last_first s ∙ sym h
-
-pub ends_well : (s : SoFar) → None ≡ first_undefined s.drafts.items s.first → first_fault (reading_of s) ≡ None
-ends_well s h = last_first s ∙ sym h
-
--- The whole.
+-- what is gathered of a reading ends as the reading does
+pub ends_reading : (r : Reading) (g : Gathered) (e : Result Program ResolveFault) → g.drafts.items ≡ r.words → g.old_classes ≡ r.old_classes → g.classes ≡ r.classes → g.arrays ≡ r.arrays → g.first ≡ r.first → items_phrase g.items.items ≡ append r.top r.main →
+    Ends g e → EndsReading r e
+ends_reading r g (Ok program) words old new arrays first items h = (
+  first_same r g words old new first ∙ h.0,
+  h.1
+  ∙ ap (λ (ds : List Draft). program_in ds g.old_classes g.classes g.arrays (items_phrase g.items.items)) words
+  ∙ ap (λ (cs : List ClassDef). program_in r.words cs g.classes g.arrays (items_phrase g.items.items)) old
+  ∙ ap (λ (cs : List NewClass). program_in r.words r.old_classes cs g.arrays (items_phrase g.items.items)) new
+  ∙ ap (λ (lss : List (List Lit)). program_in r.words r.old_classes r.classes lss (items_phrase g.items.items)) arrays
+  ∙ ap (program_in r.words r.old_classes r.classes r.arrays) items,
+)
+ends_reading r g (Err (Name fault)) words old new arrays first items h = first_same r g words old new first ∙ h
+ends_reading r g (Err Memory) words old new arrays first items h = tt
 
 abbrev files_of : List (List Flat) → Reading
 files_of files = fold (take_file false) first_reading (map (map form_of) files)
 
-pub resolves : (files : List (List Flat)) (s : SoFar) (e : Result Program ResolveFault) → reading_of s ≡ files_of files → Ends s e → Resolves files e
+-- what the end of all files answers
+pub resolves : (files : List (List Flat)) (r : Reading) (e : Result Program ResolveFault) → r ≡ files_of files → EndsReading r e → Resolves files e
 unfolding resolved
-resolves files s (Ok program) is h =
-    sym (ap (λ (r : Reading). program_alone (answer false r (first_fault r))) is)
-    ∙ ap (λ (o : Option NameFault). program_alone (answer false (reading_of s) o)) h.0
+resolves files r (Ok program) is h =
+    sym (ap (λ (q : Reading). program_alone (answer false q (first_fault q))) is)
+    ∙ ap (λ (o : Option NameFault). program_alone (answer false r o)) h.0
     ∙ ap (λ (p : Program). Ok p) (sym h.1)
-resolves files s (Err (Name fault)) is h =
-    sym (ap (λ (r : Reading). program_alone (answer false r (first_fault r))) is)
-    ∙ ap (λ (o : Option NameFault). program_alone (answer false (reading_of s) o)) h
-resolves files s (Err Memory) is h = tt
+resolves files r (Err (Name fault)) is h =
+    sym (ap (λ (q : Reading). program_alone (answer false q (first_fault q))) is)
+    ∙ ap (λ (o : Option NameFault). program_alone (answer false r o)) h
+resolves files r (Err Memory) is h = tt

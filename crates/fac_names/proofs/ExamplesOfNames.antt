@@ -15,13 +15,13 @@ use Rattle.fac_lang.specs.declared.tree.Bracket.TheVariants.{Quotation, Array}
 use Rattle.fac_lang.specs.declared.tree.Element.TheVariants as element
 use Rattle.fac_lang.specs.declared.tree.Term.TheVariants as term
 use Rattle.fac_vocab.specs.Scopes.{entries_from, found, word_held}
-use Rattle.fac_names.specs.declared.refusal.NameFault.{NameFault}
-use Rattle.fac_names.specs.declared.refusal.NameKind.{NameKind}
-use Rattle.fac_names.specs.declared.refusal.NameKind.TheVariants.{Unknown, Ambiguous, Twice, NoVocab, Undefined}
-use Rattle.fac_names.specs.Written.{Tok, Node, n_lit, n_array, n_name, n_quot, Nodes, nothing, more, given, Form, f_constant, f_in, f_use, f_using, f_from, f_qualified, f_private, f_public, f_defer, f_symbol, f_main, f_define, f_items}
-use Rattle.fac_names.specs.Items.{number}
-use Rattle.fac_names.specs.FromFlat.{nested}
-use Rattle.fac_names.specs.Forms.{no_effect}
+use Rattle.fac_refusal.specs.declared.refusal.NameFault.{NameFault}
+use Rattle.fac_refusal.specs.declared.refusal.NameKind.{NameKind}
+use Rattle.fac_refusal.specs.declared.refusal.NameKind.TheVariants.{Unknown, Ambiguous, Twice, NoVocab, Undefined}
+use Rattle.fac_items.specs.Written.{Tok, Node, n_lit, n_array, n_name, n_quot, Nodes, nothing, given, Form, f_constant, f_in, f_use, f_using, f_from, f_qualified, f_private, f_public, f_defer, f_symbol, f_main, f_define, f_items, more}
+use Rattle.fac_refusal.specs.Toks.{number}
+use Rattle.fac_items.specs.FromElements.{nested}
+use Rattle.fac_endings.specs.Words.{no_effect}
 use Rattle.fac_names.specs.KnownWords.{known_words}
 use Rattle.fac_names.specs.Resolved.{Known, read_files}
 use Rattle.fac_names.specs.Resolution.{first_reading}

@@ -3,14 +3,15 @@ use Rattle.std.proofs.Common.{◌≡◌, List, [], ◌∷◌, map, fold, false, 
 use Rattle.fac_lang.specs.declared.tree.Form.{Form as Flat}
 use Rattle.fac_lang.specs.declared.tree.Form.TheVariants.{Row, Items}
 use Rattle.fac_lang.specs.declared.tree.FormKind.{FormKind}
-use Rattle.fac_lang.specs.declared.tree.FormKind.TheVariants.{In, Use, Using, From, QualifiedWith, Defer, Symbol, Constant, Private, Public, Main, Define}
+use Rattle.fac_lang.specs.declared.tree.FormKind.TheVariants.{In, Use, Using, From, QualifiedWith, Defer, Symbol, Constant, Private, Public, Main, Define, Tuple, Union, Singleton, Generic, Method, Maker}
 use Rattle.fac_lang.specs.declared.tree.Part.{Part}
 use Rattle.fac_lang.specs.declared.tree.Tree.{Tree}
 use Rattle.fac_parse.specs.Trees.{AreWellFormed, IsForm, IsWellFormed, MayStandBefore, forms_of}
-use Rattle.fac_names.specs.Written.{Nodes, Form, f_items}
-use Rattle.fac_names.specs.Readings.{read_form, read_forms, with_items}
+use Rattle.fac_items.specs.Written.{Nodes, Form, f_items}
+use Rattle.fac_items.specs.Readings.{read_form, read_forms, with_items}
 use Rattle.fac_names.specs.Forms.{Reading, take, take_file}
-use Rattle.fac_names.specs.FromFlat.{form_of, nested, row}
+use Rattle.fac_names.specs.FromFlat.{form_of, row}
+use Rattle.fac_items.specs.FromElements.{nested}
 use Rattle.fac_names.specs.inner.Taking.{take_all}
 
 -- the next form of those that are left
@@ -32,6 +33,12 @@ row_read Private ps fs = refl
 row_read Public ps fs = refl
 row_read Main ps fs = refl
 row_read Define ps fs = refl
+row_read Tuple ps fs = refl
+row_read Union ps fs = refl
+row_read Singleton ps fs = refl
+row_read Generic ps fs = refl
+row_read Method ps fs = refl
+row_read Maker ps fs = refl
 
 -- items before a row
 row_behind : (ns : Nodes) (kind : FormKind) (ps : List Part) (fs : List Form) → with_items ns (read_form (row kind ps) ∷ fs) ≡ f_items ns ∷ read_form (row kind ps) ∷ fs
@@ -47,6 +54,12 @@ row_behind ns Private ps fs = refl
 row_behind ns Public ps fs = refl
 row_behind ns Main ps fs = refl
 row_behind ns Define ps fs = refl
+row_behind ns Tuple ps fs = refl
+row_behind ns Union ps fs = refl
+row_behind ns Singleton ps fs = refl
+row_behind ns Generic ps fs = refl
+row_behind ns Method ps fs = refl
+row_behind ns Maker ps fs = refl
 
 -- forms are read one by one
 read_one : (f : Flat) (forms : List Flat) → MayStandBefore f forms → read_forms (map form_of (f ∷ forms)) ≡ read_form (form_of f) ∷ read_forms (map form_of forms)

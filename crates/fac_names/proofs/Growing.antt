@@ -10,15 +10,21 @@ use Rattle.fac_lang.specs.declared.program.Sort.TheVariants.{Itself as itself, C
 use Rattle.fac_lang.specs.Whole.{plain_effect}
 use Rattle.std.specs.List.{list_any}
 use Rattle.std.specs.Option.{option_map}
-use Rattle.fac_names.specs.declared.refusal.NameFault.{NameFault}
-use Rattle.fac_names.specs.declared.refusal.NameKind.TheVariants.{Unknown, Twice, NoVocab, TooMany}
-use Rattle.fac_names.specs.Written.{Tok, Node, n_lit, n_array, n_quot, n_ref, n_name, n_locals, n_fry, n_call, n_execute, n_bind, n_hole, n_at, n_next, n_full, n_part, Nodes, nothing, more, f_in, f_use, f_using, f_from, f_qualified, f_private, f_public, f_defer, f_symbol, f_main, f_constant, f_define, f_locals, f_tuple, f_union, f_single, f_maker, f_generic, f_method, f_items}
-use Rattle.fac_names.specs.Readings.{bound, read_items}
+use Rattle.fac_refusal.specs.declared.refusal.NameFault.{NameFault}
+use Rattle.fac_refusal.specs.declared.refusal.NameKind.TheVariants.{Unknown, Twice, NoVocab, TooMany}
+use Rattle.fac_items.specs.Written.{Tok, Node, n_lit, n_array, n_quot, n_ref, n_name, n_locals, n_fry, n_call, n_execute, n_bind, n_hole, n_at, n_next, n_full, n_part, Nodes, nothing, f_in, f_use, f_using, f_from, f_qualified, f_private, f_public, f_defer, f_symbol, f_main, f_constant, f_define, f_locals, f_tuple, f_union, f_single, f_maker, f_generic, f_method, f_items, more}
+use Rattle.fac_items.specs.Readings.{bound, read_items}
 use Rattle.fac_vocab.specs.declared.entry.Entry.{Entry}
 use Rattle.fac_vocab.specs.declared.brought.Brought.TheVariants.{Named as named, Prefixed as prefixed}
 use Rattle.fac_vocab.specs.Scopes.{Scope, with_entry, now_defined, holders, home, exists, using_vocab, bringing, entered, word_held}
-use Rattle.fac_names.specs.Items.{fault, fault_if, sooner, search_fault, search_faults, ref, is_cond, item_of, phrase_of, elements_of, items_faults}
-use Rattle.fac_names.specs.Forms.{Late, settled, a_tuple, a_union, a_single, at_place, counted, most_classes, option_list, Draft, Named, Reading, Numbered, changed, added, defining, defined, deferring, with_told, told, own, plainly, refused, scoped, use_one, bringing_one, bring_one, class_words, class_form, making, accessor, with_slot}
+use Rattle.fac_refusal.specs.Refusals.{fault, fault_if, sooner}
+use Rattle.fac_items.specs.Items.{search_fault, search_faults, ref, is_cond, item_of, phrase_of, elements_of, items_faults}
+use Rattle.fac_endings.specs.declared.draft.Late.{Late}
+use Rattle.fac_endings.specs.declared.draft.Late.TheVariants.{Settled as settled}
+use Rattle.fac_endings.specs.declared.draft.Named.TheVariants.{Tuple as a_tuple, Union as a_union, Single as a_single}
+use Rattle.fac_names.specs.Forms.{at_place, counted, most_classes, option_list, Reading, Numbered, changed, added, defining, defined, deferring, with_told, told, own, plainly, refused, scoped, use_one, bringing_one, bring_one, class_words, class_form, making, accessor, with_slot}
+use Rattle.fac_endings.specs.declared.draft.Draft.{Draft}
+use Rattle.fac_endings.specs.declared.draft.Named.{Named}
 use Rattle.fac_names.specs.Laws.{names_of, Longer, Sooner, Grows, FormsGrow}
 
 -- Lists.

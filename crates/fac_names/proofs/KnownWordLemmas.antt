@@ -1,42 +1,42 @@
--- The words of the code's tables.
-use Rattle.std.proofs.Common.{◌≡◌, ◌<◌, ℕ, List, [], ◌∷◌, ◌++◌, length, map, drop, refl, ap, ◌∙◌, append-nil, true, arith, Fits, w32}
+-- The words and classes of the code's tables.
+use Rattle.std.proofs.Common.{◌≡◌, ◌<◌, ◌∙◌, ℕ, List, [], ◌++◌, length, map, drop, refl, ap, sym, append-nil, true, arith, Fits, w32}
+use Rattle.std.proofs.lemmas.List.{length-map}
+use Rattle.fac_lang.specs.BuiltInClasses.{BuiltInClass, built_in_classes}
+use Rattle.fac_lang.specs.CoreWords.{CoreWord, built_core_words}
 use Rattle.fac_lang.specs.PrimitiveWords.{PrimitiveWord}
 use Rattle.fac_lang.specs.Primitives.{built_primitive_words, built_count}
-use Rattle.fac_lang.specs.Operations.{RowSeen, row_seen, rows_seen}
-use Rattle.fac_lang.specs.WrittenWords.{written_word}
+use Rattle.fac_lang.specs.Operations.{row_seen, rows_seen}
+use Rattle.fac_lang.specs.WrittenWords.{written_class}
+use Rattle.fac_lang.specs.declared.class_table.ClassRow.{ClassRow}
 use Rattle.fac_lang.specs.declared.primitive_table.PrimitiveRow.{PrimitiveRow}
-use Rattle.fac_lang.specs.declared.program.Sort.{Sort}
-use Rattle.fac_lang.specs.declared.program.WordDef.{WordDef}
-use Rattle.fac_names.specs.KnownWords.{words_from, known_words}
 use Rattle.fac_vocab.specs.ScopeCalls.{names_differ}
 use Rattle.fac_vocab.specs.Scopes.{entries_from}
 use Rattle.fac_lang.proofs.TableLemmas.{row_count}
+use Rattle.fac_names.specs.KnownWords.{known_words}
 
--- the word of a primitive's row
-abbrev pub primitive_row_word : PrimitiveRow → PrimitiveWord
-primitive_row_word r = written_word r.word
-
-words_of_rows : (rows : List PrimitiveRow) → map primitive_row_word rows ≡ map (λ (r : RowSeen). r.word) (map row_seen rows)
-words_of_rows [] = refl
-words_of_rows (r ∷ rows) = ap (λ (ws : List PrimitiveWord). primitive_row_word r ∷ ws) (words_of_rows rows)
-
--- the code's table has the words of the definition's
-pub rows_written : (rows : List PrimitiveRow) → map row_seen rows ≡ rows_seen → map primitive_row_word rows ≡ built_primitive_words
-unfolding rows_seen built_primitive_words
-rows_written rows same = words_of_rows rows ∙ ap (map (λ (r : RowSeen). r.word)) same
-
--- words, and then those of the rows from here on
-abbrev pub and_from : (ℕ → Sort) → ℕ → List WordDef → List PrimitiveWord → List WordDef
-and_from sort n words rows = words ++ words_from sort n rows
+-- what there is, and then that of the rows from here on
+abbrev pub and_from : {R D : Type 0} → (ℕ → List R → List D) → ℕ → List D → List R → List D
+and_from f n ds rows = ds ++ f n rows
 
 -- all rows are there
-pub rows_added : {R : Type 0} (word_of : R → PrimitiveWord) (sort : ℕ → Sort) (words : List WordDef) (all : List R) (n : ℕ) → drop n all ≡ [] → and_from sort n words (map word_of (drop n all)) ≡ words
-rows_added word_of sort words all n none = ap (λ (rows : List _). and_from sort n words (map word_of rows)) none ∙ append-nil words
+pub all_added : {R W D : Type 0} (seen : R → W) (f : ℕ → List W → List D) (ds : List D) (rows : List R) (n : ℕ) → f n [] ≡ [] → drop n rows ≡ [] → and_from f n ds (map seen (drop n rows)) ≡ ds
+all_added {R} {W} {D} seen f ds rows n empty none =
+    ap (λ (rs : List R). and_from f n ds (map seen rs)) none
+    ∙ ap (λ (xs : List D). ds ++ xs) empty
+    ∙ append-nil ds
 
 -- there are so few that each has a number
 pub row_fits : (rows : List PrimitiveRow) (n : ℕ) → map row_seen rows ≡ rows_seen → n < length rows → Fits w32 n
 unfolding built_count
 row_fits rows n same less = let count = row_count rows same in omega (arith, count)
+
+class_count : length built_in_classes ≡ 12
+class_count = refl
+
+pub class_fits : (rows : List ClassRow) (n : ℕ) → map written_class rows ≡ built_in_classes → n < length rows → Fits w32 n
+class_fits rows n same less =
+    let count = sym (length-map rows written_class) ∙ ap length same ∙ class_count in
+    omega (arith, count, less)
 
 -- no two of the words have one name
 pub names_of_known : names_differ (entries_from 0 known_words) ≡ true

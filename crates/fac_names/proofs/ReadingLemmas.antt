@@ -1,72 +1,107 @@
--- What reading elements does.
-use Rattle.std.proofs.Common.{◌≡◌, ℕ, List, [], ◌∷◌, ◌++◌, Option, Bool, refl, ap, sym, ◌∙◌, fold}
-use Rattle.fac_lang.specs.Phrases.{Phrase, then}
-use Rattle.fac_lang.specs.PhraseView.{what_item, items_phrase}
+-- What forms do with the items that they read.
+use Rattle.std.proofs.Common.{◌≡◌, ℕ, List, [], ◌∷◌, ◌++◌, Option, Result, Ok, Err, Bool, true, false, refl, ap, sym, ◌∙◌, fold, append-nil}
+use Rattle.std.specs.Prelude.{codes, OnOk}
+use Rattle.fac_lang.specs.Phrases.{Phrase, end, then, word}
+use Rattle.fac_lang.specs.PhraseView.{items_phrase}
 use Rattle.fac_lang.specs.RunningLaws.{append}
 use Rattle.fac_lang.specs.Signatures.{Signature}
-use Rattle.fac_lang.specs.declared.phrase.Item.{Item as PlacedItem}
-use Rattle.fac_lang.specs.declared.program.Lit.{Lit}
+use Rattle.fac_lang.specs.declared.program.Sort.{Sort}
 use Rattle.fac_lang.specs.declared.program.Sort.TheVariants.{Body as body}
 use Rattle.fac_lang.specs.declared.tree.Element.{Element}
-use Rattle.fac_names.specs.declared.refusal.NameFault.{NameFault}
+use Rattle.fac_refusal.specs.declared.refusal.NameFault.{NameFault}
+use Rattle.fac_refusal.specs.Refusals.{sooner}
+use Rattle.fac_refusal.specs.Toks.{number}
+use Rattle.fac_vocab.specs.Scopes.{home, word_held}
+use Rattle.fac_items.specs.FromElements.{nested}
+use Rattle.fac_items.specs.Items.{ref, search_fault, search_faults}
+use Rattle.fac_items.specs.Made.{made}
+use Rattle.fac_items.specs.Readings.{read_form}
+use Rattle.fac_items.specs.Written.{Tok, Nodes, f_define, f_items, f_maker, f_method, given}
+use Rattle.fac_endings.specs.Words.{no_effect}
+use Rattle.fac_endings.specs.declared.draft.Draft.{Draft}
+use Rattle.fac_endings.specs.declared.draft.Late.{Late}
+use Rattle.fac_endings.specs.declared.draft.Late.TheVariants.{Settled as settled, Maker as maker, Method as method_of}
+use Rattle.fac_names.specs.declared.drafts.Told.{Told}
 use Rattle.fac_names.specs.declared.so_far.SoFar.{SoFar}
-use Rattle.fac_names.specs.Written.{Tok, Nodes, f_define, f_items, given}
-use Rattle.fac_names.specs.Items.{items_faults, phrase_of, sooner}
-use Rattle.fac_names.specs.Forms.{Draft, Reading, Numbered, changed, read_phrase, settled, take, told, with_told}
-use Rattle.fac_names.specs.FromFlat.{nested}
-use Rattle.fac_names.specs.inner.Drafts.{drafts_seen}
-use Rattle.fac_names.specs.inner.Following.{AreClosing, first_behind, made}
-use Rattle.fac_names.specs.inner.State.{Owns, reading_of}
-use Rattle.fac_names.proofs.PlainItems.{reads_plainly}
+use Rattle.fac_names.specs.Forms.{Numbered, Reading, added, changed, defined, own, read_phrase, refused, take, told, with_told}
+use Rattle.fac_names.specs.inner.State.{Owns, Reads, reading_of}
 
-pub items_phrase_append : (is js : List PlacedItem) → items_phrase (is ++ js) ≡ append (items_phrase is) (items_phrase js)
-items_phrase_append [] js = refl
-items_phrase_append (i ∷ is) js = ap (then (what_item i.what) i.place) (items_phrase_append is js)
+pub on_ok : {A B P Q : Type 0} (r : Result A B) → (P → Q) → OnOk r P → OnOk r Q
+on_ok (Ok x) f h = f h
+on_ok (Err e) f h = tt
 
-abbrev read_to : (Phrase → Reading → Reading) → Reading → Nodes → Reading
-read_to f r ms = let m = phrase_of r.scope [] ms r.arrays 0 in f m.phrase (record r { arrays = m.arrays; first = fold sooner r.first (items_faults r.scope [] ms) })
+-- what is told, by its parts
+pub told_parts : (t : Told) (sort : Sort) (e : Signature) (inline recursive : Bool) (late : Late) (number : ℕ) (ds words : List Draft) → t.sort ≡ sort → t.effect ≡ e → t.inline ≡ inline → t.recursive ≡ recursive → t.late ≡ late →
+    words ≡ changed (with_told t.sort t.effect t.inline t.recursive t.late) number ds → words ≡ changed (with_told sort e inline recursive late) number ds
+told_parts t sort e inline recursive late number ds words a b c d f h =
+    h
+    ∙ ap (λ (x : Sort). changed (with_told x t.effect t.inline t.recursive t.late) number ds) a
+    ∙ ap (λ (x : Signature). changed (with_told sort x t.inline t.recursive t.late) number ds) b
+    ∙ ap (λ (x : Bool). changed (with_told sort e x t.recursive t.late) number ds) c
+    ∙ ap (λ (x : Bool). changed (with_told sort e inline x t.late) number ds) d
+    ∙ ap (λ (x : Late). changed (with_told sort e inline recursive x) number ds) f
 
--- what items come to with the refusals in them
-abbrev pub read_made : (Phrase → Reading → Reading) → Reading → List Element → Reading
-read_made f r es = let m = made r.scope es r.arrays in f m.phrase (record r { arrays = m.arrays; first = first_behind r.scope es r.first })
+-- what is told of a word that was named
+pub named_told : (s mid : SoFar) (vocab : List ℕ) (t : Tok) (number : ℕ) (sort : Sort) (e : Signature) (words : List Draft) → Owns s vocab t number mid → words ≡ changed (with_told sort e false false settled) number mid.drafts →
+    record (reading_of mid) { words = words } ≡ told sort e false false settled (defined vocab t (reading_of s))
+named_told s mid vocab t number sort e words owned more = ap (λ (ds : List Draft). record (reading_of mid) { words = ds }) more ∙ ap (told sort e false false settled) owned
 
--- items of elements whose brackets match
-pub read_plainly : (f : Phrase → Reading → Reading) (r : Reading) (es : List Element) → AreClosing 0 es → read_phrase (nested es) f r ≡ read_made f r es
-read_plainly f r es h =
-    let p = reads_plainly r.scope es h in
-    ap (read_to f r) p.read
-    ∙ ap (λ (o : Option NameFault). let m = made r.scope es r.arrays in f m.phrase (record r { arrays = m.arrays; first = o })) (p.faults r.first)
+-- what is done with items that were read
+pub phrase_told : (mid after : SoFar) (es : List Element) (phrase : Phrase) (f : Phrase → Reading → Reading) → Reads mid es phrase after → f phrase (reading_of after) ≡ read_phrase (nested es) f (reading_of mid)
+phrase_told mid after es phrase f h = ap (λ (t : Phrase). f t (reading_of after)) h.phrase_is ∙ ap (f (made mid.scope es mid.arrays).phrase) h.reading_is
 
-abbrev define_in : Signature → Bool → Bool → Nodes → Numbered → Reading
-define_in e inline recursive ns d = read_phrase ns (λ t q. told (body t) e inline recursive settled (record { word = d.word; reading = q })) d.reading
+-- what is told of a word whose items were read
+abbrev telling : Signature → Bool → Bool → Late → ℕ → Phrase → Reading → Reading
+telling e inline recursive late n t q = told (body t) e inline recursive late (record { word = n; reading = q })
 
-told_in : (s mid : SoFar) (t : Tok) (number : ℕ) (e : Signature) (es : List Element) (inline recursive : Bool) → AreClosing 0 es → Owns s t number mid →
-    read_made (λ u q. told (body u) e inline recursive settled (record { word = number; reading = q })) (reading_of mid) es ≡ take (f_define t (given e) (nested es) inline recursive) (reading_of s)
-told_in s mid t number e es inline recursive h owned =
-    sym (
-    ap (define_in e inline recursive (nested es)) (sym owned)
-    ∙ read_plainly (λ u q. told (body u) e inline recursive settled (record { word = number; reading = q })) (reading_of mid) es h)
+abbrev reads_told : Signature → Bool → Bool → Late → Nodes → Numbered → Reading
+reads_told e inline recursive late ns d = read_phrase ns (telling e inline recursive late d.word) d.reading
 
--- what is told of a phrase
-abbrev told_of : SoFar → Signature → Bool → Bool → ℕ → Phrase → List (List Lit) → Option NameFault → Reading
-told_of mid e inline recursive number b arrays first =
-    record (reading_of mid) { words = changed (with_told (body b) e inline recursive settled) number (drafts_seen mid.drafts.items); arrays = arrays; first = first }
+body_told : (mid after : SoFar) (number : ℕ) (e : Signature) (es : List Element) (inline recursive : Bool) (late : Late) (phrase : Phrase) (words : List Draft) (d : Numbered) → record { word = number; reading = reading_of mid } ≡ d → Reads mid es phrase after →
+    words ≡ changed (with_told (body phrase) e inline recursive late) number after.drafts → record (reading_of after) { words = words } ≡ reads_told e inline recursive late (nested es) d
+body_told mid after number e es inline recursive late phrase words d is h more =
+    ap (λ (ds : List Draft). record (reading_of after) { words = ds }) more
+    ∙ phrase_told mid after es phrase (telling e inline recursive late number) h
+    ∙ ap (reads_told e inline recursive late (nested es)) is
 
-pub define_taken : (s mid : SoFar) (t : Tok) (number : ℕ) (e : Signature) (es : List Element) (inline recursive : Bool) (b : Phrase) (words : List Draft) (arrays : List (List Lit)) (first : Option NameFault) →
-    AreClosing 0 es → Owns s t number mid → b ≡ (made mid.scope es mid.arrays).phrase → words ≡ changed (with_told (body b) e inline recursive settled) number (drafts_seen mid.drafts.items) →
-    arrays ≡ (made mid.scope es mid.arrays).arrays → first ≡ first_behind mid.scope es mid.first →
-    record (reading_of mid) { words = words; arrays = arrays; first = first } ≡ take (f_define t (given e) (nested es) inline recursive) (reading_of s)
-define_taken s mid t number e es inline recursive b words arrays first h owned phrase more kept later =
-    ap (λ (ds : List Draft). record (reading_of mid) { words = ds; arrays = arrays; first = first }) more
-    ∙ ap (λ (u : Phrase). told_of mid e inline recursive number u arrays first) phrase
-    ∙ ap (λ (xs : List (List Lit)). told_of mid e inline recursive number (made mid.scope es mid.arrays).phrase xs first) kept
-    ∙ ap (told_of mid e inline recursive number (made mid.scope es mid.arrays).phrase (made mid.scope es mid.arrays).arrays) later
-    ∙ told_in s mid t number e es inline recursive h owned
+pub define_taken : (s mid after : SoFar) (t : Tok) (number : ℕ) (e : Signature) (es : List Element) (inline recursive : Bool) (phrase : Phrase) (words : List Draft) → Owns s (home s.scope) t number mid → Reads mid es phrase after →
+    words ≡ changed (with_told (body phrase) e inline recursive settled) number after.drafts → record (reading_of after) { words = words } ≡ take (f_define t (given e) (nested es) inline recursive) (reading_of s)
+define_taken s mid after t number e es inline recursive phrase words owned h more = body_told mid after number e es inline recursive settled phrase words (own t (reading_of s)) owned h more
 
-pub items_taken : (s : SoFar) (es : List Element) (top : Phrase) (arrays : List (List Lit)) (first : Option NameFault) → AreClosing 0 es → top ≡ append (items_phrase s.items.items) (made s.scope es s.arrays).phrase →
-    arrays ≡ (made s.scope es s.arrays).arrays → first ≡ first_behind s.scope es s.first → record (reading_of s) { top = top; arrays = arrays; first = first } ≡ take (f_items (nested es)) (reading_of s)
-items_taken s es top arrays first h more kept later =
-    ap (λ (t : Phrase). record (reading_of s) { top = t; arrays = arrays; first = first }) more
-    ∙ ap (λ (xs : List (List Lit)). record (reading_of s) { top = append (items_phrase s.items.items) (made s.scope es s.arrays).phrase; arrays = xs; first = first }) kept
-    ∙ ap (λ (o : Option NameFault). record (reading_of s) { top = append (items_phrase s.items.items) (made s.scope es s.arrays).phrase; arrays = (made s.scope es s.arrays).arrays; first = o }) later
-    ∙ sym (read_plainly (λ u q. record q { top = append q.top u }) (reading_of s) es h)
+pub method_taken : (s referred mid after : SoFar) (c g : Tok) (number : ℕ) (es : List Element) (phrase : Phrase) (words : List Draft) → reading_of referred ≡ refused (search_faults s.scope (c ∷ g ∷ [])) (reading_of s) →
+    record { word = number; reading = reading_of mid } ≡ added [] g (reading_of referred) → Reads mid es phrase after → words ≡ changed (with_told (body phrase) no_effect false false (method_of (ref s.scope c) (ref s.scope g))) number after.drafts →
+    record (reading_of after) { words = words } ≡ take (f_method c g (nested es)) (reading_of s)
+method_taken s referred mid after c g number es phrase words both new h more =
+    body_told mid after number no_effect es false false (method_of (ref s.scope c) (ref s.scope g)) phrase words (added [] g (refused (search_faults s.scope (c ∷ g ∷ [])) (reading_of s))) (new ∙ ap (added [] g) both) h more
+
+pub items_taken : (s after : SoFar) (es : List Element) (top phrase : Phrase) → Reads s es phrase after → top ≡ append (items_phrase after.items.items) phrase → record (reading_of after) { top = top } ≡ take (f_items (nested es)) (reading_of s)
+items_taken s after es top phrase h more =
+    ap (λ (t : Phrase). record (reading_of after) { top = t }) more
+    ∙ phrase_told s after es phrase (λ t q. record q { top = append q.top t }) h
+
+-- The word of a `C:`.
+
+abbrev making : Tok → Tok → Numbered → Reading
+making n c d =
+    let s = d.reading.scope in
+    let boa = number (word_held s.table (codes "kernel") (codes "boa")) in
+    told (body (then (word (number (ref s c).word)) n.place (then (word boa) n.place end))) no_effect false false (maker (ref s c)) (record { word = d.word; reading = refused (search_fault s c) d.reading })
+
+-- the refusals of a sole name
+sole_fault : (n c : Tok) (r : Reading) → making n c (own n r) ≡ take (read_form (f_maker n c)) r
+sole_fault n c r =
+    let d = own n r in
+    let s = d.reading.scope in
+    let boa = number (word_held s.table (codes "kernel") (codes "boa")) in
+    let t = then (word (number (ref s c).word)) n.place (then (word boa) n.place end) in
+    ap (λ (fs : List NameFault). told (body t) no_effect false false (maker (ref s c)) (record { word = d.word; reading = refused fs d.reading })) (sym (append-nil (search_fault s c)))
+
+pub maker_taken : (s mid : SoFar) (n c : Tok) (number_of : ℕ) (phrase : Phrase) (first : Option NameFault) (words : List Draft) → Owns s (home s.scope) n number_of mid → first ≡ fold sooner mid.first (search_fault mid.scope c) →
+    phrase ≡ then (word (number (ref mid.scope c).word)) n.place (then (word (number (word_held mid.scope.table (codes "kernel") (codes "boa")))) n.place end) →
+    words ≡ changed (with_told (body phrase) no_effect false false (maker (ref mid.scope c))) number_of mid.drafts → record (reading_of mid) { words = words; first = first } ≡ take (read_form (f_maker n c)) (reading_of s)
+maker_taken s mid n c number_of phrase first words owned more is said =
+    ap (λ (o : Option NameFault). record (reading_of mid) { words = words; first = o }) more
+    ∙ ap (λ (ds : List Draft). record (refused (search_fault mid.scope c) (reading_of mid)) { words = ds }) said
+    ∙ ap (λ (t : Phrase). told (body t) no_effect false false (maker (ref mid.scope c)) (record { word = number_of; reading = refused (search_fault mid.scope c) (reading_of mid) })) is
+    ∙ ap (making n c) owned
+    ∙ sole_fault n c (reading_of s)

@@ -1,7 +1,7 @@
 -- The phrase of items is written as the items are.
 use Rattle.std.proofs.Common.{◌≡◌, ◌+◌, ◌<◌, ℕ, suc, List, [], ◌∷◌, ◌++◌, map, length, Bool, true, false, Option, Some, None, cond, refl, ap, sym, ◌∙◌, subst, append_assoc, append-nil, arith}
 use Rattle.std.specs.Prelude.{nat_eq, nat_lt}
-use Rattle.fac_lang.specs.Phrases.{lit, int, yes, no, str, word}
+use Rattle.fac_lang.specs.Phrases.{Phrase, lit, int, yes, no, str, word, next_method}
 use Rattle.fac_lang.specs.declared.phrase.Place.{Place}
 use Rattle.fac_lang.specs.declared.program.Lit.{Lit}
 use Rattle.fac_lang.specs.declared.program.Lit.TheVariants as literal_is
@@ -13,15 +13,16 @@ use Rattle.fac_lang.specs.declared.tree.Term.{Term}
 use Rattle.fac_lang.specs.declared.tree.Term.TheVariants as term
 use Rattle.fac_parse.specs.declared.context.Context.{Context}
 use Rattle.fac_parse.specs.declared.context.Context.TheVariants as context
-use Rattle.fac_parse.specs.Trees.{Lead, closed, context_of, counted, counted_opened, most_elements, most_levels}
+use Rattle.fac_parse.specs.Trees.{Lead, closed, context_of, counted, counted_opened, item_behind, most_elements, most_levels, uncounted}
 use Rattle.fac_vocab.specs.Scopes.{Scope}
-use Rattle.fac_names.specs.Written.{Node, n_lit, n_name, n_quot, n_array, Nodes, nothing, more}
-use Rattle.fac_names.specs.FromFlat.{Rests, bracketed, nested, node, opened as open_before, rests}
-use Rattle.fac_names.specs.Items.{elements_of, literal, phrase_of, word_of}
+use Rattle.fac_items.specs.Written.{Node, n_lit, n_name, n_next, n_quot, n_array, Nodes, nothing, more}
+use Rattle.fac_items.specs.FromElements.{Rests, bracketed, nested, node, opened as open_before, rests}
+use Rattle.fac_items.specs.Items.{elements_of, literal, phrase_of, word_of}
 use Rattle.fac_names.specs.Laws.{Longer}
-use Rattle.fac_names.specs.Signs.{Sign, PhrasesAreWrittenAsItems, array_signs, closes, element_signs, elements_signs, innermost, one, opens, phrase_signs, place_in, term_sign, value, with_array_signs, with_arrays_signs, within}
+use Rattle.fac_names.specs.Signs.{Sign, PhrasesAreWrittenAsItems, array_signs, element_signs, elements_signs, innermost, phrase_signs, place_in, term_signs, value, with_array_signs, with_arrays_signs, closes, one, opens, within}
 use Rattle.fac_names.proofs.Growing.{and_then, elements_longer, phrase_longer, same}
-use Rattle.fac_names.proofs.PlainItems.{ArePlain, nested_plain}
+use Rattle.fac_items.specs.Made.{made}
+use Rattle.fac_items.proofs.RawNodes.{AreRaw, nested_raw}
 
 -- Nodes as they are written.
 
@@ -35,6 +36,7 @@ abbrev mutual
   node_signs s b (n_array ms p) = within Array (place_in b p) (nodes_signs s Array ms)
   node_signs s Quotation (n_lit l p) = one (lit l) p ∷ []
   node_signs s Quotation (n_name t p) = one (word (word_of s t)) p ∷ []
+  node_signs s Quotation (n_next p) = one next_method p ∷ []
   node_signs s Array (n_lit l p) = value (literal l) ∷ []
   node_signs s Array (n_name t p) = value (literal_is.Wref (word_of s t)) ∷ []
   node_signs s b _ = []
@@ -72,10 +74,11 @@ array_at xs ls all h =
 -- The phrase of nodes, and the elements, with any arrays behind theirs.
 
 mutual
-  phrase_written : (s : Scope) (ns : Nodes) (arrays : List (List Lit)) (holes : ℕ) (all : List (List Lit)) → ArePlain ns → Longer (phrase_of s [] ns arrays holes).arrays all → phrase_signs (array_signs all) (phrase_of s [] ns arrays holes).phrase ≡ nodes_signs s Quotation ns
+  phrase_written : (s : Scope) (ns : Nodes) (arrays : List (List Lit)) (holes : ℕ) (all : List (List Lit)) → AreRaw ns → Longer (phrase_of s [] ns arrays holes).arrays all → phrase_signs (array_signs all) (phrase_of s [] ns arrays holes).phrase ≡ nodes_signs s Quotation ns
   phrase_written s nothing arrays holes all plain h = refl
   phrase_written s (more (n_lit l p) ns) arrays holes all plain h = ap (λ (xs : List Sign). one (lit l) p ∷ xs) (phrase_written s ns arrays holes all plain.1 h)
   phrase_written s (more (n_name t p) ns) arrays holes all plain h = ap (λ (xs : List Sign). one (word (word_of s t)) p ∷ xs) (phrase_written s ns arrays holes all plain.1 h)
+  phrase_written s (more (n_next p) ns) arrays holes all plain h = ap (λ (xs : List Sign). one next_method p ∷ xs) (phrase_written s ns arrays holes all plain.1 h)
   phrase_written s (more (n_quot ms p) ns) arrays holes all plain h =
       let m = phrase_of s [] ms arrays holes in
       let r = phrase_of s [] ns m.arrays m.holes in
@@ -89,7 +92,7 @@ mutual
       ∙ ap (λ (xs : List Sign). within Array (Some p) (nodes_signs s Array ms) ++ xs) (phrase_written s ns more_arrays holes all plain.1 h)
   phrase_written s (more n ns) arrays holes all plain h = absurd plain.0
 
-  elements_written : (s : Scope) (ns : Nodes) (arrays : List (List Lit)) (all : List (List Lit)) → ArePlain ns → Longer (elements_of s ns arrays).arrays all → elements_signs (array_signs all) (elements_of s ns arrays).elements ≡ nodes_signs s Array ns
+  elements_written : (s : Scope) (ns : Nodes) (arrays : List (List Lit)) (all : List (List Lit)) → AreRaw ns → Longer (elements_of s ns arrays).arrays all → elements_signs (array_signs all) (elements_of s ns arrays).elements ≡ nodes_signs s Array ns
   elements_written s nothing arrays all plain h = refl
   elements_written s (more (n_lit (int z) p) ns) arrays all plain h = ap (λ (xs : List Sign). value (literal (int z)) ∷ xs) (elements_written s ns arrays all plain.1 h)
   elements_written s (more (n_lit yes p) ns) arrays all plain h = ap (λ (xs : List Sign). value (literal yes) ∷ xs) (elements_written s ns arrays all plain.1 h)
@@ -97,6 +100,7 @@ mutual
   elements_written s (more (n_lit (str cs) p) ns) arrays all plain h = ap (λ (xs : List Sign). value (literal (str cs)) ∷ xs) (elements_written s ns arrays all plain.1 h)
   elements_written s (more (n_lit l p) ns) arrays all plain h = absurd plain.0
   elements_written s (more (n_name t p) ns) arrays all plain h = ap (λ (xs : List Sign). value (literal_is.Wref (word_of s t)) ∷ xs) (elements_written s ns arrays all plain.1 h)
+  elements_written s (more (n_next p) ns) arrays all plain h = elements_written s ns arrays all plain.1 h
   elements_written s (more (n_quot ms p) ns) arrays all plain h =
       let m = phrase_of s [] ms arrays 0 in
       let r = elements_of s ns m.arrays in
@@ -133,17 +137,19 @@ record Spells (s : Scope) (brackets : List Bracket) (r : Rests) (signs : List Si
   around : length r.around ≡ length brackets
   written : all_signs s brackets r ≡ signs
 
-term_alone : (s : Scope) (b : Bracket) (t : Term) → node_signs s b (node t) ≡ term_sign s b t ∷ []
+term_alone : (s : Scope) (b : Bracket) (t : Term) → node_signs s b (node t) ≡ term_signs s b t
 term_alone s Quotation (term.Name t) = refl
 term_alone s Quotation (term.Integer t z) = refl
 term_alone s Quotation (term.Text t) = refl
 term_alone s Quotation (term.True place) = refl
 term_alone s Quotation (term.False place) = refl
+term_alone s Quotation (term.NextMethod place) = refl
 term_alone s Array (term.Name t) = refl
 term_alone s Array (term.Integer t z) = refl
 term_alone s Array (term.Text t) = refl
 term_alone s Array (term.True place) = refl
 term_alone s Array (term.False place) = refl
+term_alone s Array (term.NextMethod place) = refl
 
 bracket_signs : (s : Scope) (around b : Bracket) (ms : Nodes) (p : Place) → node_signs s around (bracketed b ms p) ≡ within b (place_in around p) (nodes_signs s b ms)
 bracket_signs s around Quotation ms p = refl
@@ -172,7 +178,8 @@ elements_spell s brackets (element.Item t ∷ es) h =
       around = rest.around;
       written =
           ap (λ (xs : List Sign). (xs ++ nodes_signs s (innermost brackets) (rests es).here) ++ around_signs s brackets (rests es).around) (term_alone s (innermost brackets) t)
-          ∙ ap (λ (xs : List Sign). term_sign s (innermost brackets) t ∷ xs) rest.written;
+          ∙ append_assoc (term_signs s (innermost brackets) t) (nodes_signs s (innermost brackets) (rests es).here) (around_signs s brackets (rests es).around)
+          ∙ ap (λ (xs : List Sign). term_signs s (innermost brackets) t ++ xs) rest.written;
     }
 elements_spell s brackets (element.Opens b place ∷ es) h =
     let rest = elements_spell s (b ∷ brackets) es h in
@@ -201,6 +208,19 @@ counted_same (context.Array n ∷ cs) next h = one (nat_lt n most_elements) h
     one true is = let alike : next ≡ context.Array (n + 1) ∷ cs = cc in ap brackets_of alike
     one false is = absurd (cc)
 
+uncounted_same : (cs next : List Context) → uncounted cs ≡ Some next → brackets_of next ≡ brackets_of cs
+uncounted_same [] next h = let alike : next ≡ [] = cc in ap brackets_of alike
+uncounted_same (context.Quotation ∷ cs) next h = let alike : next ≡ context.Quotation ∷ cs = cc in ap brackets_of alike
+uncounted_same (context.Array n ∷ cs) next h = absurd (cc)
+
+item_same : (cs next : List Context) (t : Term) → item_behind cs t ≡ Some next → brackets_of next ≡ brackets_of cs
+item_same cs next (term.Name t) h = counted_same cs next h
+item_same cs next (term.Integer t z) h = counted_same cs next h
+item_same cs next (term.Text t) h = counted_same cs next h
+item_same cs next (term.True p) h = counted_same cs next h
+item_same cs next (term.False p) h = counted_same cs next h
+item_same cs next (term.NextMethod p) h = uncounted_same cs next h
+
 context_bracket : (b : Bracket) → bracket_of (context_of b) ≡ b
 context_bracket Quotation = refl
 context_bracket Array = refl
@@ -223,7 +243,7 @@ closed_same (context.Array n) Array cs next h = let alike : next ≡ cs = cc in 
 
 leads_matching : (cs : List Context) (es : List Element) → Lead cs es [] → Matching (brackets_of cs) es
 leads_matching cs [] h = ap brackets_of h
-leads_matching cs (element.Item t ∷ es) h = subst (λ (bs : List Bracket). Matching bs es) (counted_same cs h.1 h.2) (leads_matching h.1 es h.3)
+leads_matching cs (element.Item t ∷ es) h = subst (λ (bs : List Bracket). Matching bs es) (item_same cs h.1 t h.2) (leads_matching h.1 es h.3)
 leads_matching cs (element.Opens b place ∷ es) h = subst (λ (bs : List Bracket). Matching bs es) (opened_same (counted cs) cs h.1 b refl h.2) (leads_matching h.1 es h.3)
 leads_matching [] (element.Closes b place ∷ es) h = absurd (no_bracket h.1 h.2)
   where
@@ -234,9 +254,10 @@ leads_matching (c ∷ cs) (element.Closes b place ∷ es) h =
     (one.0, subst (λ (bs : List Bracket). Matching bs es) one.1 (leads_matching h.1 es h.3))
 
 pub phrases_are_written : PhrasesAreWrittenAsItems
-phrases_are_written s arrays items h =
+phrases_are_written s arrays items h same_nodes =
     let spelled = elements_spell s [] items (leads_matching [] items h) in
     let m = phrase_of s [] (nested items) arrays 0 in
-    phrase_written s (nested items) arrays 0 m.arrays (nested_plain items) (same m.arrays)
+    ap (λ (ns : Nodes). let q = phrase_of s [] ns arrays 0 in phrase_signs (array_signs q.arrays) q.phrase) same_nodes
+    ∙ phrase_written s (nested items) arrays 0 m.arrays (nested_raw items) (same m.arrays)
     ∙ sym (append-nil (nodes_signs s Quotation (nested items)))
     ∙ spelled.written

@@ -10,18 +10,26 @@ use Rattle.fac_lang.specs.Signatures.{Signature}
 use Rattle.fac_lang.specs.Whole.{plain_effect}
 use Rattle.fac_lang.specs.declared.program.Sort.{Sort}
 use Rattle.fac_lang.specs.declared.program.Sort.TheVariants.{Itself as itself, Class as class, Isa as isa, Getter as getter, Setter as setter, Putter as putter, Generic as generic}
-use Rattle.fac_names.specs.Written.{Tok, Nodes, Form, f_in, f_use, f_using, f_from, f_qualified, f_private, f_public, f_defer, f_symbol, f_main, f_constant, f_define, f_locals, f_tuple, f_union, f_single, f_maker, f_generic, f_method, f_items}
+use Rattle.fac_items.specs.Written.{Tok, Nodes, Form, f_in, f_use, f_using, f_from, f_qualified, f_private, f_public, f_defer, f_symbol, f_main, f_constant, f_define, f_locals, f_tuple, f_union, f_single, f_maker, f_generic, f_method, f_items}
 use Rattle.std.specs.Option.{option_map}
 use Rattle.fac_vocab.specs.declared.entry.Entry.{Entry}
 use Rattle.fac_vocab.specs.declared.brought.Brought.TheVariants.{Named as named, Prefixed as prefixed}
 use Rattle.fac_vocab.specs.Scopes.{Scope, begun, using_vocab, bringing, same_table, now_defined, holders, home, exists, word_held}
-use Rattle.fac_names.specs.declared.refusal.NameFault.{NameFault}
-use Rattle.fac_names.specs.declared.refusal.NameKind.TheVariants.{Unknown, Twice, NoVocab, TooMany}
-use Rattle.fac_names.specs.Items.{fault, fault_if, search_faults, ref}
-use Rattle.fac_names.specs.Forms.{Late, settled, a_tuple, a_union, a_single, at_place, counted, most_classes, option_list, draft_of, Draft, Named, Reading, Numbered, changed, added, defining, defined, deferring, with_told, told, own, plainly, refused, scoped, use_one, bringing_one, bring_one, class_words, class_form, making, accessor, with_slot, take, take_file}
+use Rattle.fac_refusal.specs.declared.refusal.NameFault.{NameFault}
+use Rattle.fac_refusal.specs.declared.refusal.NameKind.TheVariants.{Unknown, Twice, NoVocab, TooMany}
+use Rattle.fac_refusal.specs.Refusals.{fault, fault_if}
+use Rattle.fac_items.specs.Items.{search_faults, ref}
+use Rattle.fac_endings.specs.declared.draft.Late.{Late}
+use Rattle.fac_endings.specs.declared.draft.Late.TheVariants.{Settled as settled}
+use Rattle.fac_endings.specs.declared.draft.Named.TheVariants.{Tuple as a_tuple, Union as a_union, Single as a_single}
+use Rattle.fac_names.specs.Forms.{at_place, counted, most_classes, option_list, draft_of, Reading, Numbered, changed, added, defining, defined, deferring, with_told, told, own, plainly, refused, scoped, use_one, bringing_one, bring_one, class_words, class_form, making, accessor, with_slot, take, take_file}
+use Rattle.fac_endings.specs.declared.draft.Draft.{Draft}
+use Rattle.fac_endings.specs.declared.draft.Named.{Named}
 use Rattle.fac_lang.specs.declared.program.WordDef.{WordDef}
-use Rattle.fac_names.specs.Readings.{read_forms}
-use Rattle.fac_names.specs.Resolved.{Known, beginning, as_past, finished, classes_of, program_of, answer, first_fault, resolved_after}
+use Rattle.fac_items.specs.Readings.{read_forms}
+use Rattle.fac_names.specs.Resolved.{Known, beginning, as_past, program_of, answer, first_fault, resolved_after}
+use Rattle.fac_endings.specs.FinishedWords.{finished}
+use Rattle.fac_endings.specs.ClassTable.{classes_of}
 use Rattle.fac_names.specs.Laws.{IsKnown, KnownStays}
 use Rattle.fac_names.proofs.Growing.{read_for}
 
@@ -254,7 +262,7 @@ beginning_at k known w d h top =
 -- a word that is settled is finished
 finished_at : (keep : Bool) (r : Reading) (w : ℕ) (d : WordDef) → At w (settled_draft d) r → slice_get (program_of keep r).words w ≡ Some d
 finished_at keep r w d a =
-    there_still (map (finished r.words (classes_of r)) r.words) _ w d (slice_get-map (finished r.words (classes_of r)) r.words w ∙ ap (option_map (finished r.words (classes_of r))) a.is)
+    there_still (map (finished r.words (classes_of r.words r.old_classes r.classes)) r.words) _ w d (slice_get-map (finished r.words (classes_of r.words r.old_classes r.classes)) r.words w ∙ ap (option_map (finished r.words (classes_of r.words r.old_classes r.classes))) a.is)
 
 answered : (keep : Bool) (r : Reading) (o : Option NameFault) (q : Known) (w : ℕ) (d : WordDef) → At w (settled_draft d) r → answer keep r o ≡ Ok q → slice_get q.program.words w ≡ Some d
 answered keep r (Some f) q w d a h = absurd (true≢false (sym (ap (λ x. elim x [ Ok y ↦ true | Err e ↦ false ]) h)))

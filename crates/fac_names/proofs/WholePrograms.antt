@@ -1,24 +1,25 @@
--- Every program of the forms built is whole where its effects have few names.
+-- Every program of the forms built is whole where its classes and its words are so together.
 use Rattle.std.proofs.Common.{◌≡◌, ℕ, suc, ◌<◌, ◌≤◌, Bool, true, false, not, ◌&&◌, ◌||◌, List, [], ◌∷◌, ◌++◌, Option, Some, None, length, refl, ap, sym, ◌∙◌, subst, arith, map}
 use Rattle.std.proofs.lemmas.Bool.Decides.{Decides-ltb}
 use Rattle.std.proofs.lemmas.List.{length_push}
 use Rattle.std.proofs.lemmas.List.Folds.{list_all-append}
 use Rattle.std.proofs.lemmas.Slice.Eq.{bytes_eq-Decides}
-use Rattle.std.specs.Prelude.{◌+◌, ℤ, nat_lt, nat_le, nat_eq}
+use Rattle.std.specs.Prelude.{◌+◌, ℤ, nat_lt, nat_le, nat_eq, codes}
 use Rattle.std.specs.List.{list_all, list_any}
 use Rattle.std.specs.Str.{bytes_eq}
 use Rattle.fac_lang.specs.Forms.{IsBuilt, IsBuiltPhrase, IsBuiltSort, AreBuiltArrays, AreBuiltElements, AreBuiltWords, IsPrimitiveWord, IsCoreWord, IsSymbolWord, IsTopPhrase, is_member, numbers_before, primitive_numbers, has_no_repeats}
 use Rattle.fac_lang.specs.Meaning.{sort_of, is_past}
 use Rattle.fac_lang.specs.PrimitiveWords.{PrimitiveWord, plain_inputs, plain_leaving, written_effect}
-use Rattle.fac_lang.specs.Phrases.{Phrase, end, then, Item, lit, int, yes, no, str, wrd, lit_arr, quot, word}
-use Rattle.fac_lang.specs.Whole.{IsWhole, all_arrays_named, all_phrases, arrays_in, arrays_named, joined, literal_fits, literal_spares, names_earlier, quotations, times_in, each_item, each_numbered, locals_bound, holes_within, item_fits, item_spares, is_body, tests_small, word_phrases, sort_fits, has_written_effect, has_generic_effect, marks_fit, effect_eq, inputs_eq, leaving_eq, names_eq, name_count, no_two, same_word, same_method}
+use Rattle.fac_lang.specs.Phrases.{Phrase, end, then, Item, lit, int, yes, no, str, wrd, lit_arr, quot, word, next_method}
+use Rattle.fac_lang.specs.Whole.{IsWhole, all_arrays_named, all_phrases, arrays_in, arrays_named, joined, literal_fits, literal_spares, names_earlier, quotations, times_in, each_item, each_numbered, locals_bound, holes_within, item_fits, item_spares, is_body, tests_small, word_phrases, sort_fits, has_written_effect, has_generic_effect, marks_fit, effect_eq, inputs_eq, leaving_eq, names_eq, name_count, no_two, same_word, same_method, is_class, is_generic, shape_fits, slots_of, reaches, same_class_name, each_below, plain_effect}
+use Rattle.fac_lang.specs.declared.program.ClassDef.{ClassDef}
 use Rattle.fac_lang.specs.declared.program.Lit.{Lit}
 use Rattle.fac_lang.specs.declared.program.Lit.TheVariants.{Int as l_int, True as l_yes, False as l_no, Str as l_str, Arr as l_arr, Wref as l_word, Quot as l_quot, Made as l_made}
 use Rattle.fac_lang.specs.declared.program.Program.{Program}
 use Rattle.fac_lang.specs.declared.program.Sort.{Sort}
-use Rattle.fac_lang.specs.declared.program.Sort.TheVariants.{Prim as prim, Core as core, Body as body, Past as past, Method as method, Itself as itself}
+use Rattle.fac_lang.specs.declared.program.Sort.TheVariants.{Prim as prim, Core as core, Body as body, Past as past, Itself as itself, Class as class, Isa as isa, Getter as getter, Setter as setter, Putter as putter, Generic as generic, Method as method}
 use Rattle.fac_lang.specs.declared.program.WordDef.{WordDef}
-use Rattle.fac_names.proofs.ArrayNumbers.{all_below, all_named_below, all_once, below}
+use Rattle.fac_items.proofs.ArrayNumbers.{all_below, all_named_below, all_once, below}
 use Rattle.fac_lang.proofs.FormsLemmas.{word_below, sort_at, top_sort, all_distinct}
 
 -- Phrases.
@@ -43,6 +44,7 @@ record Passes (bound count : ℕ) (f : Item → Bool) : Type 0 where
   arrays : (a : ℕ) → nat_lt a count ≡ true → f (lit_arr a) ≡ true
   quotations : (t : Phrase) → f (quot t) ≡ true
   words : (w : ℕ) → nat_lt w bound ≡ true → f (word w) ≡ true
+  next : f next_method ≡ true
 
 split_below : (n : ℕ) (xs ys : List ℕ) → all_below n (xs ++ ys) ≡ true → (all_below n xs ≡ true) × (all_below n ys ≡ true)
 split_below n xs ys h = both_true (all_below n xs) (all_below n ys) (sym (list_all-append (λ (b : ℕ). nat_lt b n) xs ys) ∙ h)
@@ -59,6 +61,7 @@ items_pass bound count f p (then (lit_arr a) place t) h k =
 items_pass bound count f p (then (quot u) place t) h k =
     let inside = split_below count (arrays_named u) (arrays_named t) k in three_true (f (quot u)) (each_item f u) (each_item f t) (p.quotations u) (items_pass bound count f p u h.0 inside.0) (items_pass bound count f p t h.1 inside.1)
 items_pass bound count f p (then (word w) place t) h k = three_true (f (word w)) true (each_item f t) (p.words w h.0) refl (items_pass bound count f p t h.1 k)
+items_pass bound count f p (then next_method place t) h k = three_true (f next_method) true (each_item f t) p.next refl (items_pass bound count f p t h.1 k)
 items_pass bound count f p (then i place t) h k = absurd h.0
 
 phrase_bound : (bound : ℕ) (xs : List ℕ) (t : Phrase) → IsBuiltPhrase bound t → locals_bound xs t ≡ true
@@ -71,6 +74,7 @@ phrase_bound bound xs (then (lit (wrd w)) place t) h = phrase_bound bound xs t h
 phrase_bound bound xs (then (lit_arr a) place t) h = phrase_bound bound xs t h.1
 phrase_bound bound xs (then (quot u) place t) h = both_are (locals_bound xs u) (locals_bound xs t) (phrase_bound bound xs u h.0) (phrase_bound bound xs t h.1)
 phrase_bound bound xs (then (word w) place t) h = phrase_bound bound xs t h.1
+phrase_bound bound xs (then next_method place t) h = phrase_bound bound xs t h.1
 phrase_bound bound xs (then i place t) h = absurd h.0
 
 phrase_without_holes : (bound : ℕ) (t : Phrase) → IsBuiltPhrase bound t → holes_within 0 t ≡ true
@@ -83,17 +87,10 @@ phrase_without_holes bound (then (lit (wrd w)) place t) h = phrase_without_holes
 phrase_without_holes bound (then (lit_arr a) place t) h = phrase_without_holes bound t h.1
 phrase_without_holes bound (then (quot u) place t) h = both_are (holes_within 0 u) (holes_within 0 t) (phrase_without_holes bound u h.0) (phrase_without_holes bound t h.1)
 phrase_without_holes bound (then (word w) place t) h = phrase_without_holes bound t h.1
+phrase_without_holes bound (then next_method place t) h = phrase_without_holes bound t h.1
 phrase_without_holes bound (then i place t) h = absurd h.0
 
 -- Words.
-
--- what holds of each primitive, each core word, each word that is defined by a phrase and each symbol holds of each built word
-built_sort : (bound : ℕ) (d : WordDef) (M : Sort → Type 0) → ((k : ℕ) → IsPrimitiveWord d k → M (prim k)) → ((k : ℕ) → IsCoreWord d k → M (core k)) → ((t : Phrase) → IsBuiltPhrase bound t → M (body t)) → (IsSymbolWord d → M itself) → (s : Sort) → IsBuiltSort bound d s → M s
-built_sort bound d M prims cores bodies symbols (prim k) h = prims k h
-built_sort bound d M prims cores bodies symbols (core k) h = cores k h
-built_sort bound d M prims cores bodies symbols (body t) h = bodies t h
-built_sort bound d M prims cores bodies symbols itself h = symbols h
-built_sort bound d M prims cores bodies symbols s h = absurd h
 
 words_pass : (bound : ℕ) (f : WordDef → Bool) → ((d : WordDef) → IsBuiltSort bound d d.sort → f d ≡ true) → (ds : List WordDef) → AreBuiltWords bound ds → list_all f ds ≡ true
 words_pass bound f each [] h = refl
@@ -109,14 +106,19 @@ good_both bound count [] us h k = k
 good_both bound count (t ∷ ts) us h k = (h.0, h.1, good_both bound count ts us h.2 k)
 
 -- the phrases of words
+abbrev with_phrase_of : Sort → List Phrase → List Phrase
+with_phrase_of s ts = elim s [ body t ↦ t ∷ ts | past t ↦ t ∷ ts | method c g t ↦ t ∷ ts | _ ↦ ts ]
+
+good_word : (bound count : ℕ) (d : WordDef) (s : Sort) (ts : List Phrase) → IsBuiltSort bound d s → (all_below count (joined (map arrays_named ts)) ≡ true → GoodPhrases bound count ts) →
+    all_below count (joined (map arrays_named (with_phrase_of s ts))) ≡ true → GoodPhrases bound count (with_phrase_of s ts)
+good_word bound count d (body t) ts h rest k = let both = split_below count (arrays_named t) (joined (map arrays_named ts)) k in (h, both.0, rest both.1)
+good_word bound count d (method c g t) ts h rest k = let both = split_below count (arrays_named t) (joined (map arrays_named ts)) k in (h.1, both.0, rest both.1)
+good_word bound count d (past t) ts h rest k = absurd h
+good_word bound count d s ts h rest k = rest k
+
 good_words : (bound count : ℕ) (ds : List WordDef) → AreBuiltWords bound ds → all_below count (joined (map arrays_named (word_phrases ds))) ≡ true → GoodPhrases bound count (word_phrases ds)
 good_words bound count [] h k = tt
-good_words bound count (d ∷ ds) h k =
-    built_sort bound d (λ s. all_below count (joined (map arrays_named (elim s [ body t ↦ t ∷ word_phrases ds | past t ↦ t ∷ word_phrases ds | method c g t ↦ t ∷ word_phrases ds | _ ↦ word_phrases ds ]))) ≡ true →
-    GoodPhrases bound count (elim s [ body t ↦ t ∷ word_phrases ds | past t ↦ t ∷ word_phrases ds | method c g t ↦ t ∷ word_phrases ds | _ ↦ word_phrases ds ]))
-    (λ n is inside. good_words bound count ds h.1 inside) (λ n is inside. good_words bound count ds h.1 inside)
-    (λ u own inside. let both = split_below count (arrays_named u) (joined (map arrays_named (word_phrases ds))) inside in (own, both.0, good_words bound count ds h.1 both.1))
-    (λ is inside. good_words bound count ds h.1 inside) d.sort h.0 k
+good_words bound count (d ∷ ds) h k = good_word bound count d d.sort (word_phrases ds) h.0 (λ inside. good_words bound count ds h.1 inside) k
 
 -- the quotations in arrays
 good_elements : (bound count : ℕ) (ls : List Lit) → AreBuiltElements bound ls → all_below count (arrays_in ls) ≡ true → GoodPhrases bound count (quotations ls)
@@ -184,8 +186,26 @@ all_built P b = subst (AreBuiltWords P.top) (sym b.words_are) (phrase_last P.top
 
 -- Tests of one word.
 
-sort_passes : (P : Program) (bound : ℕ) (d : WordDef) → IsBuiltSort bound d d.sort → sort_fits P d.sort ≡ true
-sort_passes P bound d h = built_sort bound d (λ s. sort_fits P s ≡ true) (λ k is. rw is.row_is refl) (λ k is. rw is.row_is refl) (λ t is. refl) (λ is. refl) d.sort h
+-- whether the numbers of classes and generics in a word's sort name something of their kind
+abbrev pub sort_named : Program → Sort → Bool
+sort_named P (class c) = is_class P c
+sort_named P (isa c) = is_class P c
+sort_named P (method c g t) = is_class P c && is_generic (sort_of P g)
+sort_named P _ = true
+
+sort_passes : (P : Program) (bound : ℕ) (d : WordDef) (s : Sort) → IsBuiltSort bound d s → sort_named P s ≡ true → sort_fits P s ≡ true
+sort_passes P bound d (prim k) h fits = rw h.row_is refl
+sort_passes P bound d (core k) h fits = rw h.row_is refl
+sort_passes P bound d (class c) h fits = fits
+sort_passes P bound d (isa c) h fits = fits
+sort_passes P bound d (method c g t) h fits = fits
+sort_passes P bound d s h fits = refl
+
+sorts_pass : (P : Program) (bound : ℕ) (ds : List WordDef) → AreBuiltWords bound ds → list_all (λ (d : WordDef). sort_named P d.sort) ds ≡ true → list_all (λ (d : WordDef). sort_fits P d.sort) ds ≡ true
+sorts_pass P bound [] h fits = refl
+sorts_pass P bound (d ∷ ds) h fits =
+    let both = both_true (sort_named P d.sort) (list_all (λ (e : WordDef). sort_named P e.sort) ds) fits in
+    both_are (sort_fits P d.sort) (list_all (λ (e : WordDef). sort_fits P e.sort) ds) (sort_passes P bound d d.sort h.0 both.0) (sorts_pass P bound ds h.1 both.1)
 
 names_same : (xs : List (List ℕ)) → names_eq xs xs ≡ true
 names_same [] = refl
@@ -202,12 +222,22 @@ leaving_same (Some xs) = names_same xs
 effect_same : (row : PrimitiveWord) → effect_eq (written_effect row) (written_effect row) ≡ true
 effect_same row = both_are (inputs_eq (plain_inputs row.ins) (plain_inputs row.ins)) (leaving_eq (plain_leaving row.outs) (plain_leaving row.outs)) (inputs_same row.ins) (leaving_same row.outs)
 
-effect_passes : (bound : ℕ) (d : WordDef) → IsBuiltSort bound d d.sort → has_written_effect d ≡ true
-effect_passes bound d h =
-    built_sort bound d (λ s. d.sort ≡ s → has_written_effect d ≡ true) (λ k p is. rw (is, p.row_is, p.effect_is) (effect_same p.row)) (λ k p is. rw (is, p.row_is, p.effect_is) (effect_same p.row)) (λ t p is. rw is refl) (λ p is. rw (is, p.effect_is) refl) d.sort h refl
+plain_same : (ins outs : List (List ℕ)) → effect_eq (plain_effect ins outs) (plain_effect ins outs) ≡ true
+plain_same ins outs = both_are (inputs_eq (plain_inputs ins) (plain_inputs ins)) (names_eq outs outs) (inputs_same ins) (names_same outs)
 
-generic_effect_passes : (P : Program) (bound : ℕ) (d : WordDef) → IsBuiltSort bound d d.sort → has_generic_effect P d ≡ true
-generic_effect_passes P bound d h = built_sort bound d (λ s. d.sort ≡ s → has_generic_effect P d ≡ true) (λ k p is. rw is refl) (λ k p is. rw is refl) (λ t p is. rw is refl) (λ p is. rw is refl) d.sort h refl
+effect_passes : (bound : ℕ) (d : WordDef) (s : Sort) → d.sort ≡ s → IsBuiltSort bound d s → has_written_effect d ≡ true
+effect_passes bound d (prim k) is p = rw (is, p.row_is, p.effect_is) (effect_same p.row)
+effect_passes bound d (core k) is p = rw (is, p.row_is, p.effect_is) (effect_same p.row)
+effect_passes bound d (body t) is p = rw is refl
+effect_passes bound d itself is p = rw (is, p.effect_is) refl
+effect_passes bound d (class c) is p = rw (is, p.effect_is) refl
+effect_passes bound d (isa c) is p = rw (is, p.effect_is) (plain_same (codes "object" ∷ []) (codes "?" ∷ []))
+effect_passes bound d (getter x) is p = rw (is, p.effect_is) (plain_same (codes "object" ∷ []) (codes "value" ∷ []))
+effect_passes bound d (setter x) is p = rw (is, p.effect_is) (plain_same (codes "object" ∷ codes "value" ∷ []) (codes "object" ∷ []))
+effect_passes bound d (putter x) is p = rw (is, p.effect_is) (plain_same (codes "value" ∷ codes "object" ∷ []) [])
+effect_passes bound d generic is p = rw is refl
+effect_passes bound d (method c g t) is p = rw is refl
+effect_passes bound d (past t) is p = absurd p
 
 is_other : (a b : ℕ) → a < b → nat_eq a b ≡ false
 is_other a b lt = grind arith
@@ -223,14 +253,24 @@ with_body : (P : Program) (n : ℕ) (d : WordDef) (t : Phrase) → d.sort ≡ bo
 with_body P n d t is below =
     or_true (not (d.inline || d.recursive)) (is_body (Some d.sort) && not (nat_eq n P.top)) (both_are (is_body (Some d.sort)) (not (nat_eq n P.top)) (ap (λ (s : Sort). is_body (Some s)) is) (ap not (is_other n P.top below)))
 
-mark_passes : (P : Program) (bound n : ℕ) (d : WordDef) → IsBuiltSort bound d d.sort → n < P.top → marks_fit P n d ≡ true
-mark_passes P bound n d h below =
-    built_sort bound d (λ s. d.sort ≡ s → marks_fit P n d ≡ true) (λ k p is. without_marks P n d p.not_inline p.not_recursive) (λ k p is. without_marks P n d p.not_inline p.not_recursive) (λ t p is. with_body P n d t is below) (λ p is. without_marks P n d p.not_inline p.not_recursive) d.sort h refl
+mark_passes : (P : Program) (bound n : ℕ) (d : WordDef) (s : Sort) → d.sort ≡ s → IsBuiltSort bound d s → n < P.top → marks_fit P n d ≡ true
+mark_passes P bound n d (body t) is p below = with_body P n d t is below
+mark_passes P bound n d (prim k) is p below = without_marks P n d p.not_inline p.not_recursive
+mark_passes P bound n d (core k) is p below = without_marks P n d p.not_inline p.not_recursive
+mark_passes P bound n d itself is p below = without_marks P n d p.not_inline p.not_recursive
+mark_passes P bound n d (class c) is p below = without_marks P n d p.not_inline p.not_recursive
+mark_passes P bound n d (isa c) is p below = without_marks P n d p.not_inline p.not_recursive
+mark_passes P bound n d (getter x) is p below = without_marks P n d p.not_inline p.not_recursive
+mark_passes P bound n d (setter x) is p below = without_marks P n d p.not_inline p.not_recursive
+mark_passes P bound n d (putter x) is p below = without_marks P n d p.not_inline p.not_recursive
+mark_passes P bound n d generic is p below = without_marks P n d p.not_inline p.not_recursive
+mark_passes P bound n d (method c g t) is p below = without_marks P n d p.0.not_inline p.0.not_recursive
+mark_passes P bound n d (past t) is p below = absurd p
 
 marks_pass : (P : Program) (bound n : ℕ) (ds : List WordDef) (last : WordDef) → AreBuiltWords bound ds → n + length ds ≤ P.top → last.inline ≡ false → last.recursive ≡ false → each_numbered (marks_fit P) n (ds ++ last ∷ []) ≡ true
 marks_pass P bound n [] last h few i r = both_are (marks_fit P n last) true (without_marks P n last i r) refl
 marks_pass P bound n (d ∷ ds) last h few i r =
-    both_are (marks_fit P n d) (each_numbered (marks_fit P) (suc n) (ds ++ last ∷ [])) (mark_passes P bound n d h.0 (omega (arith, few))) (marks_pass P bound (suc n) ds last h.1 (omega (arith, few)) i r)
+    both_are (marks_fit P n d) (each_numbered (marks_fit P) (suc n) (ds ++ last ∷ [])) (mark_passes P bound n d d.sort refl h.0 (omega (arith, few))) (marks_pass P bound (suc n) ds last h.1 (omega (arith, few)) i r)
 
 all_marks : (P : Program) (b : IsBuilt P) → each_numbered (marks_fit P) 0 P.words ≡ true
 all_marks P b =
@@ -239,8 +279,9 @@ all_marks P b =
 
 -- Numbers of words.
 
-not_past : (bound : ℕ) (d : WordDef) → IsBuiltSort bound d d.sort → is_past (Some d.sort) ≡ false
-not_past bound d h = built_sort bound d (λ s. is_past (Some s) ≡ false) (λ k p. refl) (λ k p. refl) (λ t p. refl) (λ p. refl) d.sort h
+not_past : (bound : ℕ) (d : WordDef) (s : Sort) → IsBuiltSort bound d s → is_past (Some s) ≡ false
+not_past bound d (past t) h = absurd h
+not_past bound d s h = refl
 
 words_counted : (P : Program) → IsBuilt P → length P.words ≡ suc P.top
 words_counted P b = let all = ap length b.words_are ∙ length_push b.words b.last_word in let top = b.top_is in omega (arith, all, top)
@@ -255,97 +296,55 @@ word_spares : (P : Program) → IsBuilt P → (w : ℕ) → nat_lt w P.top ≡ t
 word_spares P b w h =
     let below = (Decides-ltb w P.top).0 h in
     let there = word_below P b w below in
-    neither (nat_eq w P.top) (is_past (sort_of P w)) (is_other w P.top below) (ap is_past (sort_at P w there.def there.at) ∙ not_past P.top there.def there.built)
-
--- Words that are there once.
-
-none_passes : {A : Type 0} (f : A → Bool) → ((x : A) → f x ≡ false) → (xs : List A) → list_any f xs ≡ false
-none_passes f each [] = refl
-none_passes f each (x ∷ xs) = rw (each x) (none_passes f each xs)
-
-same_primitive : (c d : WordDef) (j k : ℕ) → c.sort ≡ prim j → d.sort ≡ prim k → same_word c d ≡ nat_eq j k
-same_primitive c d j k is there = rw (is, there) refl
-
-not_defined : (c d : WordDef) (j : ℕ) (t : Phrase) → c.sort ≡ prim j → d.sort ≡ body t → same_word c d ≡ false
-not_defined c d j t is there = rw (is, there) refl
-
-not_symbol : (c d : WordDef) (j : ℕ) → c.sort ≡ prim j → d.sort ≡ itself → same_word c d ≡ false
-not_symbol c d j is there = rw (is, there) refl
-
-not_core : (c d : WordDef) (j k : ℕ) → c.sort ≡ prim j → d.sort ≡ core k → same_word c d ≡ false
-not_core c d j k is there = rw (is, there) refl
-
-either : (a b c d : Bool) → a ≡ c → b ≡ d → (a || b) ≡ (c || d)
-either a b c d h k = rw (h, k) refl
-
--- a primitive is alike to the words of its number alone
-alike : (bound : ℕ) (c : WordDef) (j : ℕ) (ds : List WordDef) → c.sort ≡ prim j → AreBuiltWords bound ds → list_any (same_word c) ds ≡ is_member j (primitive_numbers ds)
-alike bound c j [] is h = refl
-alike bound c j (d ∷ ds) is h =
-    let later = alike bound c j ds is h.1 in
-    built_sort bound d (λ s. d.sort ≡ s → (same_word c d || list_any (same_word c) ds) ≡ is_member j (numbers_before s (primitive_numbers ds)))
-    (λ k p there. either (same_word c d) (list_any (same_word c) ds) (nat_eq j k) (is_member j (primitive_numbers ds)) (same_primitive c d j k is there) later)
-    (λ k p there. either (same_word c d) (list_any (same_word c) ds) false (is_member j (primitive_numbers ds)) (not_core c d j k is there) later)
-    (λ t p there. either (same_word c d) (list_any (same_word c) ds) false (is_member j (primitive_numbers ds)) (not_defined c d j t is there) later)
-    (λ p there. either (same_word c d) (list_any (same_word c) ds) false (is_member j (primitive_numbers ds)) (not_symbol c d j is there) later)
-    d.sort h.0 refl
-
-first_alone : (bound : ℕ) (d : WordDef) (ds : List WordDef) → AreBuiltWords bound ds → (s : Sort) → IsBuiltSort bound d s → d.sort ≡ s → has_no_repeats (numbers_before s (primitive_numbers ds)) ≡ true → (not (list_any (same_word d) ds) ≡ true) × (has_no_repeats (primitive_numbers ds) ≡ true)
-first_alone bound d ds h s built =
-    built_sort bound d (λ s. d.sort ≡ s → has_no_repeats (numbers_before s (primitive_numbers ds)) ≡ true → (not (list_any (same_word d) ds) ≡ true) × (has_no_repeats (primitive_numbers ds) ≡ true))
-    (λ k p is once. let both = both_true (not (is_member k (primitive_numbers ds))) (has_no_repeats (primitive_numbers ds)) once in (ap not (alike bound d k ds is h) ∙ both.0, both.1))
-    (λ k p is once. (ap not (none_passes (same_word d) (λ e. rw is refl) ds), once))
-    (λ t p is once. (ap not (none_passes (same_word d) (λ e. rw is refl) ds), once))
-    (λ p is once. (ap not (none_passes (same_word d) (λ e. rw is refl) ds), once))
-    s built
-
-words_alone : (bound : ℕ) (ds : List WordDef) → AreBuiltWords bound ds → has_no_repeats (primitive_numbers ds) ≡ true → no_two same_word ds ≡ true
-words_alone bound [] h once = refl
-words_alone bound (d ∷ ds) h once =
-    let first = first_alone bound d ds h.1 d.sort h.0 refl once in both_are (not (list_any (same_word d) ds)) (no_two same_word ds) first.0 (words_alone bound ds h.1 first.1)
-
-no_methods : (bound : ℕ) (ds : List WordDef) → AreBuiltWords bound ds → no_two same_method ds ≡ true
-no_methods bound [] h = refl
-no_methods bound (d ∷ ds) h =
-    let other : (e : WordDef) → same_method d e ≡ false = built_sort bound d (λ s. d.sort ≡ s → (e : WordDef) → same_method d e ≡ false) (λ k p is e. rw is refl) (λ k p is e. rw is refl) (λ t p is e. rw is refl) (λ p is e. rw is refl) d.sort h.0 refl in
-    both_are (not (list_any (same_method d) ds)) (no_two same_method ds) (ap not (none_passes (same_method d) other ds)) (no_methods bound ds h.1)
-
-abbrev of_arrays : List WordDef → List (List Lit) → ℕ → Program
-of_arrays words arrays top = record { words = words; arrays = arrays; classes = []; top = top }
+    neither (nat_eq w P.top) (is_past (sort_of P w)) (is_other w P.top below) (ap is_past (sort_at P w there.def there.at) ∙ not_past P.top there.def there.def.sort there.built)
 
 literal_word_spares : (P : Program) → IsBuilt P → (w : ℕ) → nat_lt w P.top ≡ true → literal_spares P (l_word w) ≡ true
 literal_word_spares P b w h = word_spares P b w h
 
-pub whole : (words : List WordDef) (arrays : List (List Lit)) (top : ℕ) → IsBuilt (of_arrays words arrays top) → list_all (λ (d : WordDef). nat_le (name_count d.effect) 65) words ≡ true →
-    ((a : ℕ) → times_in a (all_arrays_named (of_arrays words arrays top)) ≡ below (length arrays) a) → each_numbered names_earlier 0 arrays ≡ true → IsWhole (of_arrays words arrays top)
-whole words arrays top b few once earlier =
-    let P = of_arrays words arrays top in
-    let n = length arrays in
+-- what holds of the classes and of all words together
+pub record IsTogether (P : Program) : Type 0 where
+  pub few : list_all (λ (d : WordDef). nat_le (name_count d.effect) 65) P.words ≡ true
+  pub once : (a : ℕ) → times_in a (all_arrays_named P) ≡ below (length P.arrays) a
+  pub earlier : each_numbered names_earlier 0 P.arrays ≡ true
+  pub names_fit : list_all (λ (d : WordDef). sort_named P d.sort) P.words ≡ true
+  pub shapes_fit : list_all (λ (c : ClassDef). shape_fits P c.shape) P.classes ≡ true
+  pub method_effects : list_all (has_generic_effect P) P.words ≡ true
+  pub slots_differ : each_below (λ c. no_two bytes_eq (slots_of P c)) (length P.classes) ≡ true
+  pub few_slots : each_below (λ c. nat_le (length (slots_of P c)) 64) (length P.classes) ≡ true
+  pub class_names_differ : no_two same_class_name P.classes ≡ true
+  pub classes_end : each_below (λ c. not (reaches (length P.classes) P.classes c c)) (length P.classes) ≡ true
+  pub words_differ : no_two same_word P.words ≡ true
+  pub methods_differ : no_two same_method P.words ≡ true
+
+pub whole : (P : Program) → IsBuilt P → IsTogether P → IsWhole P
+whole P b h =
+    let top = P.top in
+    let n = length P.arrays in
     let all = all_built P b in
-    let named = split_below n (joined (map arrays_named (word_phrases words))) (joined (map arrays_in arrays)) (all_named_below n (all_arrays_named P) (all_arrays_named P) once (λ a. omega arith)) in
-    let good = good_both top n (word_phrases words) (joined (map quotations arrays)) (good_words top n words all named.0) (good_arrays top n arrays b.arrays_built named.1) in
+    let named = split_below n (joined (map arrays_named (word_phrases P.words))) (joined (map arrays_in P.arrays)) (all_named_below n (all_arrays_named P) (all_arrays_named P) h.once (λ a. omega arith)) in
+    let good = good_both top n (word_phrases P.words) (joined (map quotations P.arrays)) (good_words top n P.words all named.0) (good_arrays top n P.arrays b.arrays_built named.1) in
     record {
-      items_fit = all_items_pass top n (item_fits P) (record { ints = λ z. refl; truth = refl; falsity = refl; strings = λ cs. refl; references = word_fits P b; arrays = λ a k. k; quotations = λ t. refl; words = word_fits P b }) (all_phrases P) good;
-      literals_fit = arrays_pass top n (literal_fits P) (record { ints = λ z. refl; truth = refl; falsity = refl; strings = λ cs. refl; arrays = λ a k. k; words = word_fits P b; quotations = λ t. refl }) arrays b.arrays_built named.1;
-      sorts_fit = words_pass top (λ d. sort_fits P d.sort) (sort_passes P top) words all;
-      shapes_fit = refl;
-      arrays_earlier = earlier;
-      arrays_once = all_once n (all_arrays_named P) once;
+      items_fit = all_items_pass top n (item_fits P) (record { ints = λ z. refl; truth = refl; falsity = refl; strings = λ cs. refl; references = word_fits P b; arrays = λ a k. k; quotations = λ t. refl; words = word_fits P b; next = refl }) (all_phrases P) good;
+      literals_fit = arrays_pass top n (literal_fits P) (record { ints = λ z. refl; truth = refl; falsity = refl; strings = λ cs. refl; arrays = λ a k. k; words = word_fits P b; quotations = λ t. refl }) P.arrays b.arrays_built named.1;
+      sorts_fit = sorts_pass P top P.words all h.names_fit;
+      shapes_fit = h.shapes_fit;
+      arrays_earlier = h.earlier;
+      arrays_once = all_once n (all_arrays_named P) h.once;
       top_last = words_counted P b;
       top_phrase = ap is_body (top_sort P b);
-      items_spare = all_items_pass top n (item_spares P) (record { ints = λ z. refl; truth = refl; falsity = refl; strings = λ cs. refl; references = word_spares P b; arrays = λ a k. refl; quotations = λ t. refl; words = word_spares P b }) (all_phrases P) good;
-      literals_spare = arrays_pass top n (literal_spares P) (record { ints = λ z. refl; truth = refl; falsity = refl; strings = λ cs. refl; arrays = λ a k. refl; words = literal_word_spares P b; quotations = λ t. refl }) arrays b.arrays_built named.1;
+      items_spare = all_items_pass top n (item_spares P) (record { ints = λ z. refl; truth = refl; falsity = refl; strings = λ cs. refl; references = word_spares P b; arrays = λ a k. refl; quotations = λ t. refl; words = word_spares P b; next = refl }) (all_phrases P) good;
+      literals_spare = arrays_pass top n (literal_spares P) (record { ints = λ z. refl; truth = refl; falsity = refl; strings = λ cs. refl; arrays = λ a k. refl; words = literal_word_spares P b; quotations = λ t. refl }) P.arrays b.arrays_built named.1;
       bound = phrases_pass top n (locals_bound []) (λ t built inside. phrase_bound top [] t built) (all_phrases P) good;
       holes_in_fries = phrases_pass top n (holes_within 0) (λ t built inside. phrase_without_holes top t built) (all_phrases P) good;
-      written_effects = words_pass top has_written_effect (effect_passes top) words all;
-      method_effects = words_pass top (has_generic_effect P) (generic_effect_passes P top) words all;
+      written_effects = words_pass top has_written_effect (λ d is. effect_passes top d d.sort refl is) P.words all;
+      method_effects = h.method_effects;
       marks_of_bodies = all_marks P b;
-      few_names = few;
-      small_tests = all_items_pass top n tests_small (record { ints = λ z. refl; truth = refl; falsity = refl; strings = λ cs. refl; references = λ w k. refl; arrays = λ a k. refl; quotations = λ t. refl; words = λ w k. refl }) (all_phrases P) good;
-      slots_differ = refl;
-      few_slots = refl;
-      class_names_differ = refl;
-      classes_end = refl;
-      words_differ = words_alone top words all (all_distinct P b);
-      methods_differ = no_methods top words all;
+      few_names = h.few;
+      small_tests = all_items_pass top n tests_small (record { ints = λ z. refl; truth = refl; falsity = refl; strings = λ cs. refl; references = λ w k. refl; arrays = λ a k. refl; quotations = λ t. refl; words = λ w k. refl; next = refl }) (all_phrases P) good;
+      slots_differ = h.slots_differ;
+      few_slots = h.few_slots;
+      class_names_differ = h.class_names_differ;
+      classes_end = h.classes_end;
+      words_differ = h.words_differ;
+      methods_differ = h.methods_differ;
     }

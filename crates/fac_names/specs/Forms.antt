@@ -1,49 +1,35 @@
 -- What forms define and do, in order.
 use Rattle.std.specs.Prelude.{ℕ, zero, suc, ◌+◌, nat_lt, nat_le, List, [], ◌∷◌, ◌++◌, map, length, fold, Option, Some, None, Bool, true, false, ◌&&◌, codes, if◌then◌else◌}
-use Rattle.std.specs.List.{list_any, filter}
+use Rattle.std.specs.List.{list_any}
 use Rattle.std.specs.Option.{option_map}
 use Rattle.fac_lang.specs.RunningLaws.{append}
-use Rattle.fac_lang.specs.Signatures.{Signature, signature, no_inputs, leaves}
+use Rattle.fac_lang.specs.Signatures.{Signature}
 use Rattle.fac_lang.specs.Phrases.{Phrase, end, then as placed, word}
 use Rattle.fac_lang.specs.Whole.{plain_effect}
+use Rattle.fac_lang.specs.declared.limits.TheConstants.{MOST_CLASSES}
 use Rattle.fac_lang.specs.declared.phrase.Place.{Place}
 use Rattle.fac_lang.specs.declared.program.ClassDef.{ClassDef}
 use Rattle.fac_lang.specs.declared.program.Lit.{Lit}
 use Rattle.fac_lang.specs.declared.program.Sort.{Sort}
 use Rattle.fac_lang.specs.declared.program.Sort.TheVariants.{Body as body, Itself as itself, Class as class, Isa as isa, Getter as getter, Setter as setter, Putter as putter, Generic as generic}
 use Rattle.fac_lang.specs.declared.program.WordDef.{WordDef}
-use Rattle.fac_names.specs.Written.{Tok, Nodes, Declared, given, makes, Form, f_in, f_use, f_using, f_from, f_qualified, f_private, f_public, f_defer, f_symbol, f_main, f_define, f_tuple, f_union, f_single, f_generic, f_method, f_items}
-use Rattle.fac_names.specs.Readings.{read_items, read_forms}
+use Rattle.fac_items.specs.Written.{Tok, Nodes, Declared, given, makes, Form, f_in, f_use, f_using, f_from, f_qualified, f_private, f_public, f_defer, f_symbol, f_main, f_define, f_tuple, f_union, f_single, f_generic, f_method, f_items}
+use Rattle.fac_items.specs.Readings.{read_items, read_forms}
 use Rattle.fac_vocab.specs.declared.entry.Entry.{Entry}
 use Rattle.fac_vocab.specs.declared.brought.Brought.TheVariants.{Named as named, Prefixed as prefixed}
 use Rattle.fac_vocab.specs.Scopes.{Scope, exists, word_held, begun, entered, using_vocab, bringing, home, holders, with_entry, now_defined}
-use Rattle.fac_names.specs.declared.refusal.NameFault.{NameFault}
-use Rattle.fac_names.specs.declared.refusal.NameKind.TheVariants.{Unknown, Twice, NoVocab, TooMany}
-use Rattle.fac_names.specs.Items.{fault, fault_if, sooner, Ref, search_fault, search_faults, ref, word_of, is_cond, items_faults, phrase_of}
-
--- what of a word is settled at the end of the program
-pub data Late : Type 0 where
-  settled : Late
-  deferred : Late
-  -- the effect of `C:` on this class
-  maker : Ref → Late
-  -- the class and the generic of `M:`
-  method_of : Ref → Ref → Late
-
-pub record Draft : Type 0 where
-  pub word : WordDef
-  pub late : Late
-
--- a class by its word, and what it names
-pub data Named : Type 0 where
-  a_tuple : Option Ref → List Tok → Named
-  a_union : List Ref → Named
-  a_single : Named
-
-pub record NewClass : Type 0 where
-  pub tok : Tok
-  pub word : ℕ
-  pub names : Named
+use Rattle.fac_refusal.specs.declared.refusal.NameFault.{NameFault}
+use Rattle.fac_refusal.specs.declared.refusal.NameKind.TheVariants.{Unknown, Twice, NoVocab, TooMany}
+use Rattle.fac_refusal.specs.Refusals.{fault, fault_if, sooner}
+use Rattle.fac_items.specs.Items.{search_fault, search_faults, ref, word_of, is_cond, items_faults, phrase_of}
+use Rattle.fac_endings.specs.Words.{no_effect, plain_word}
+-- words and classes as forms tell them
+use Rattle.fac_endings.specs.declared.draft.Draft.{Draft}
+use Rattle.fac_endings.specs.declared.draft.Late.{Late}
+use Rattle.fac_endings.specs.declared.draft.Late.TheVariants.{Settled as settled, Deferred as deferred, Maker as maker, Method as method_of}
+use Rattle.fac_endings.specs.declared.draft.Named.{Named}
+use Rattle.fac_endings.specs.declared.draft.Named.TheVariants.{Tuple as a_tuple, Union as a_union, Single as a_single}
+use Rattle.fac_endings.specs.declared.draft.NewClass.{NewClass}
 
 -- what the forms so far come to
 pub record Reading : Type 0 where
@@ -67,12 +53,6 @@ abbrev pub changed : {A : Type 0} → (A → A) → ℕ → List A → List A
 changed f n [] = []
 changed f zero (x ∷ xs) = f x ∷ xs
 changed f (suc n) (x ∷ xs) = x ∷ changed f n xs
-
-abbrev pub no_effect : Signature
-no_effect = signature None no_inputs (leaves None [])
-
-abbrev pub plain_word : List ℕ → List ℕ → Sort → Signature → Place → WordDef
-plain_word vocab name sort effect place = record { name = record { vocab = vocab; name = name }; sort = sort; effect = effect; inline = false; recursive = false; place = place }
 
 -- a word that is still to be told, under a new number
 abbrev pub draft_of : List ℕ → Tok → Draft
@@ -147,13 +127,22 @@ bring_one vocab r t = bringing_one t r (word_held r.scope.table vocab t.text)
 
 -- The classes of the program after the prelude count up to this.
 abbrev pub most_classes : ℕ
-most_classes = 1024
+most_classes = MOST_CLASSES
+
+abbrev pub is_class_sort : Sort → Bool
+is_class_sort (class c) = true
+is_class_sort _ = false
 
 abbrev pub is_counted : WordDef → Bool
-is_counted d = nat_lt 0 d.place.file && elim d.sort [ class c ↦ true | _ ↦ false ]
+is_counted d = nat_lt 0 d.place.file && is_class_sort d.sort
+
+abbrev pub one_more_if : Bool → ℕ → ℕ
+one_more_if true n = suc n
+one_more_if false n = n
 
 abbrev pub counted : List Draft → ℕ
-counted ds = length (filter (λ d. is_counted d.word) ds)
+counted [] = 0
+counted (d ∷ ds) = one_more_if (is_counted d.word) (counted ds)
 
 -- the words of a class form: the class and its predicate
 abbrev pub class_words : Tok → Reading → Numbered

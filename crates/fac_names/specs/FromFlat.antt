@@ -1,60 +1,19 @@
 -- Trees, which are flat and have all tokens, as they are read for their names.
-use Rattle.std.specs.Prelude.{List, [], ◌∷◌, map, None, Bool, true, false}
+use Rattle.std.specs.Prelude.{List, [], ◌∷◌, map, Option, None, Bool, true, false}
+use Rattle.std.specs.Option.{option_map}
 use Rattle.fac_lang.specs.Signatures.{Signature, signature, no_inputs, leaves}
-use Rattle.fac_lang.specs.Phrases.{int, yes, no, str}
-use Rattle.fac_lang.specs.declared.phrase.Place.{Place}
-use Rattle.fac_lang.specs.declared.token.Token.{Token}
-use Rattle.fac_lang.specs.declared.tree.Bracket.{Bracket}
-use Rattle.fac_lang.specs.declared.tree.Bracket.TheVariants.{Quotation, Array}
 use Rattle.fac_lang.specs.declared.tree.Element.{Element}
-use Rattle.fac_lang.specs.declared.tree.Element.TheVariants as element
 use Rattle.fac_lang.specs.declared.tree.Form.{Form as Flat}
 use Rattle.fac_lang.specs.declared.tree.Form.TheVariants.{Row, Items}
 use Rattle.fac_lang.specs.declared.tree.FormKind.{FormKind}
-use Rattle.fac_lang.specs.declared.tree.FormKind.TheVariants.{In, Use, Using, From, QualifiedWith, Defer, Symbol, Constant, Private, Public, Main, Define}
+use Rattle.fac_lang.specs.declared.tree.FormKind.TheVariants.{In, Use, Using, From, QualifiedWith, Defer, Symbol, Constant, Private, Public, Main, Define, Tuple, Union, Singleton, Generic, Method, Maker}
 use Rattle.fac_lang.specs.declared.tree.Mark.{Mark}
 use Rattle.fac_lang.specs.declared.tree.Mark.TheVariants.{Inline, Recursive}
+use Rattle.fac_lang.specs.declared.tree.Parent.{Parent}
 use Rattle.fac_lang.specs.declared.tree.Part.{Part}
 use Rattle.fac_lang.specs.declared.tree.Part.TheVariants as part
-use Rattle.fac_lang.specs.declared.tree.Term.{Term}
-use Rattle.fac_lang.specs.declared.tree.Term.TheVariants as term
-use Rattle.fac_effect.specs.Spellings.{token_text}
-use Rattle.fac_names.specs.Written.{Tok, Node, n_lit, n_array, n_name, n_quot, n_part, Nodes, nothing, more, given, Form, f_in, f_use, f_using, f_from, f_qualified, f_private, f_public, f_defer, f_symbol, f_constant, f_main, f_define, f_items}
-
-abbrev pub tok : Token → Tok
-tok t = record { text = token_text t.kind; place = t.place }
-
-abbrev pub node : Term → Node
-node (term.Name t) = n_name (tok t) t.place
-node (term.Integer t value) = n_lit (int value) t.place
-node (term.Text t) = n_lit (str (token_text t.kind)) t.place
-node (term.True place) = n_lit yes place
-node (term.False place) = n_lit no place
-
--- What elements come to: those up to the bracket that closes the quotation or array in which they stand, and those of what is around it, from the inside out.
-pub record Rests : Type 0 where
-  pub here : Nodes
-  pub around : List Nodes
-
--- a quotation or an array
-abbrev pub bracketed : Bracket → Nodes → Place → Node
-bracketed Quotation items place = n_quot items place
-bracketed Array elements place = n_array elements place
-
--- one with these in it before what is around it; one that nothing closes reaches to the end
-abbrev pub opened : Bracket → Place → Nodes → List Nodes → Rests
-opened bracket place inner [] = record { here = more (bracketed bracket inner place) nothing; around = [] }
-opened bracket place inner (ns ∷ nss) = record { here = more (bracketed bracket inner place) ns; around = nss }
-
-abbrev pub rests : List Element → Rests
-rests [] = record { here = nothing; around = [] }
-rests (element.Item t ∷ es) = let r = rests es in record r { here = more (node t) r.here }
-rests (element.Opens bracket place ∷ es) = let r = rests es in opened bracket place r.here r.around
-rests (element.Closes bracket place ∷ es) = let r = rests es in record { here = nothing; around = r.here ∷ r.around }
-
--- the items of elements whose brackets match
-abbrev pub nested : List Element → Nodes
-nested es = (rests es).here
+use Rattle.fac_items.specs.FromElements.{nested, tok}
+use Rattle.fac_items.specs.Written.{Tok, Node, n_part, Nodes, nothing, more, given, Form, f_in, f_use, f_using, f_from, f_qualified, f_private, f_public, f_defer, f_symbol, f_constant, f_main, f_define, f_tuple, f_union, f_single, f_maker, f_generic, f_method, f_items}
 
 abbrev pub is_inline : List Mark → Bool
 is_inline [] = false
@@ -89,6 +48,19 @@ names_in [] = []
 names_in (part.Names ts ends ∷ parts) = map tok ts
 names_in (p ∷ parts) = names_in parts
 
+abbrev pub parent_name : Option Parent → Option Tok
+parent_name parent = option_map (λ (p : Parent). tok p.class) parent
+
+abbrev pub parent_in : List Part → Option Tok
+parent_in [] = None
+parent_in (part.Slots parent ts ends ∷ parts) = parent_name parent
+parent_in (p ∷ parts) = parent_in parts
+
+abbrev pub slots_in : List Part → List Tok
+slots_in [] = []
+slots_in (part.Slots parent ts ends ∷ parts) = map tok ts
+slots_in (p ∷ parts) = slots_in parts
+
 abbrev pub effect_in : List Part → Signature
 effect_in [] = signature None no_inputs (leaves None [])
 effect_in (part.Effect e ∷ parts) = e.effect
@@ -119,6 +91,13 @@ row Private parts = f_private
 row Public parts = f_public
 row Main parts = f_main (first_name parts)
 row Define parts = f_define (first_name parts) (given (effect_in parts)) (nested (elements_in parts)) (is_inline (marks_in parts)) (is_recursive (marks_in parts))
+row Tuple parts = f_tuple (first_name parts) (parent_in parts) (slots_in parts)
+row Union parts = f_union (first_name parts) (names_in parts)
+row Singleton parts = f_single (first_name parts)
+row Generic parts = f_generic (first_name parts) (effect_in parts)
+-- its mark says nothing: a method is as any other
+row Method parts = f_method (first_name parts) (second_name parts) (nested (elements_in parts))
+row Maker parts = f_maker (first_name parts) (second_name parts)
 
 abbrev pub form_of : Flat → Form
 form_of (Row kind opens parts) = row kind parts

@@ -7,10 +7,11 @@ use Rattle.fac_lang.specs.declared.program.Sort.TheVariants.{Past as past, Metho
 use Rattle.fac_lang.specs.declared.program.WordDef.{WordDef}
 use Rattle.fac_vocab.specs.declared.entry.Entry.{Entry}
 use Rattle.fac_vocab.specs.Scopes.{word_held}
-use Rattle.fac_names.specs.declared.refusal.NameFault.{NameFault}
-use Rattle.fac_names.specs.Written.{Form}
-use Rattle.fac_names.specs.Items.{sooner}
-use Rattle.fac_names.specs.Forms.{Draft, Reading, take}
+use Rattle.fac_refusal.specs.declared.refusal.NameFault.{NameFault}
+use Rattle.fac_items.specs.Written.{Form}
+use Rattle.fac_refusal.specs.Refusals.{sooner}
+use Rattle.fac_endings.specs.declared.draft.Draft.{Draft}
+use Rattle.fac_names.specs.Forms.{Reading, take}
 use Rattle.fac_names.specs.Resolved.{Known, resolved_after}
 
 -- Programs.

@@ -1,6 +1,3 @@
-pub mod Written
-pub mod Readings
-pub mod Items
 pub mod Forms
 pub mod Resolved
 pub mod FromFlat

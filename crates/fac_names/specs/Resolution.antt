@@ -7,20 +7,22 @@ use Rattle.fac_lang.specs.declared.tree.Form.{Form as Flat}
 use Rattle.fac_lang.specs.Whole.{IsWhole}
 use Rattle.fac_parse.specs.Trees.{AreWellFormed}
 use Rattle.fac_vocab.specs.Scopes.{first_scope}
-use Rattle.fac_names.specs.declared.refusal.NameFault.{NameFault}
-use Rattle.fac_names.specs.declared.refusal.ResolveFault.{ResolveFault}
-use Rattle.fac_names.specs.declared.refusal.ResolveFault.TheVariants.{Name, Memory}
-use Rattle.fac_names.specs.Forms.{Draft, Reading, settled}
+use Rattle.fac_refusal.specs.declared.refusal.NameFault.{NameFault}
+use Rattle.fac_refusal.specs.declared.refusal.ResolveFault.{ResolveFault}
+use Rattle.fac_refusal.specs.declared.refusal.ResolveFault.TheVariants.{Name, Memory}
+use Rattle.fac_endings.specs.declared.draft.Draft.{Draft}
+use Rattle.fac_endings.specs.declared.draft.Late.TheVariants.{Settled as settled}
+use Rattle.fac_names.specs.Forms.{Reading}
 use Rattle.fac_names.specs.Resolved.{Known, read_files}
 use Rattle.fac_names.specs.FromFlat.{form_of}
-use Rattle.fac_names.specs.KnownWords.{known_words}
+use Rattle.fac_names.specs.KnownWords.{known_classes, known_words}
 
 abbrev pub settled_draft : WordDef → Draft
 settled_draft d = record { word = d; late = settled }
 
 -- before the first file
 abbrev pub first_reading : Reading
-first_reading = record { scope = first_scope known_words; words = map settled_draft known_words; old_classes = []; classes = []; arrays = []; top = end; main = end; first = None }
+first_reading = record { scope = first_scope known_words; words = map settled_draft known_words; old_classes = known_classes; classes = []; arrays = []; top = end; main = end; first = None }
 
 abbrev pub program_alone : Result Known NameFault → Result Program NameFault
 program_alone (Ok known) = Ok known.program

@@ -1,6 +1,6 @@
 -- Phrases as they are written: a resolved phrase, printed again, is the elements that it was made of.
 use Rattle.std.specs.Prelude.{◌≡◌, ℕ, suc, nat_eq, List, [], ◌∷◌, ◌++◌, Option, Some, None, if◌then◌else◌}
-use Rattle.fac_lang.specs.Phrases.{Phrase, end, then as placed, Item, lit, lit_arr, int, yes, no, str, quot, word}
+use Rattle.fac_lang.specs.Phrases.{Phrase, end, then as placed, Item, lit, lit_arr, int, yes, no, str, quot, word, next_method}
 use Rattle.fac_lang.specs.declared.phrase.Place.{Place}
 use Rattle.fac_lang.specs.declared.program.Lit.{Lit}
 use Rattle.fac_lang.specs.declared.program.Lit.TheVariants as literal
@@ -13,8 +13,9 @@ use Rattle.fac_lang.specs.declared.tree.Term.TheVariants as term
 use Rattle.fac_parse.specs.Trees.{AreItems}
 use Rattle.fac_effect.specs.Spellings.{token_text}
 use Rattle.fac_vocab.specs.Scopes.{Scope}
-use Rattle.fac_names.specs.FromFlat.{nested, tok}
-use Rattle.fac_names.specs.Items.{phrase_of, word_of}
+use Rattle.fac_items.specs.FromElements.{nested, tok}
+use Rattle.fac_items.specs.Items.{word_of}
+use Rattle.fac_items.specs.Made.{made, nodes_read}
 
 -- What is written: an item at its place, a value directly in an array, or a bracket. What stands directly in an array has no place.
 pub data Sign : Type 0 where
@@ -71,18 +72,20 @@ abbrev pub place_in : Bracket → Place → Option Place
 place_in Quotation place = Some place
 place_in Array place = None
 
--- an item of one token, by the word that its name finds
-abbrev pub term_sign : Scope → Bracket → Term → Sign
-term_sign s Quotation (term.Name t) = one (word (word_of s (tok t))) t.place
-term_sign s Quotation (term.Integer t z) = one (lit (int z)) t.place
-term_sign s Quotation (term.Text t) = one (lit (str (token_text t.kind))) t.place
-term_sign s Quotation (term.True place) = one (lit yes) place
-term_sign s Quotation (term.False place) = one (lit no) place
-term_sign s Array (term.Name t) = value (literal.Wref (word_of s (tok t)))
-term_sign s Array (term.Integer t z) = value (literal.Int z)
-term_sign s Array (term.Text t) = value (literal.Str (token_text t.kind))
-term_sign s Array (term.True place) = value literal.True
-term_sign s Array (term.False place) = value literal.False
+-- an item of one token, by the word that its name finds; a next method is no value, so an array has none
+abbrev pub term_signs : Scope → Bracket → Term → List Sign
+term_signs s Quotation (term.Name t) = one (word (word_of s (tok t))) t.place ∷ []
+term_signs s Quotation (term.Integer t z) = one (lit (int z)) t.place ∷ []
+term_signs s Quotation (term.Text t) = one (lit (str (token_text t.kind))) t.place ∷ []
+term_signs s Quotation (term.True place) = one (lit yes) place ∷ []
+term_signs s Quotation (term.False place) = one (lit no) place ∷ []
+term_signs s Quotation (term.NextMethod place) = one next_method place ∷ []
+term_signs s Array (term.Name t) = value (literal.Wref (word_of s (tok t))) ∷ []
+term_signs s Array (term.Integer t z) = value (literal.Int z) ∷ []
+term_signs s Array (term.Text t) = value (literal.Str (token_text t.kind)) ∷ []
+term_signs s Array (term.True place) = value literal.True ∷ []
+term_signs s Array (term.False place) = value literal.False ∷ []
+term_signs s Array (term.NextMethod place) = []
 
 abbrev pub rest_of : List Bracket → List Bracket
 rest_of [] = []
@@ -91,12 +94,12 @@ rest_of (b ∷ bs) = bs
 -- elements as they stand, where these brackets are open, the innermost first
 abbrev pub element_signs : Scope → List Bracket → List Element → List Sign
 element_signs s brackets [] = []
-element_signs s brackets (element.Item t ∷ es) = term_sign s (innermost brackets) t ∷ element_signs s brackets es
+element_signs s brackets (element.Item t ∷ es) = term_signs s (innermost brackets) t ++ element_signs s brackets es
 element_signs s brackets (element.Opens bracket place ∷ es) = opens bracket (place_in (innermost brackets) place) ∷ element_signs s (bracket ∷ brackets) es
 element_signs s brackets (element.Closes bracket place ∷ es) = closes bracket ∷ element_signs s (rest_of brackets) es
 
--- the phrase of items is written as the items are, behind any arrays
+-- Items that their readings leave as they are: their phrase is written as they are, behind any arrays.
 abbrev pub PhrasesAreWrittenAsItems : Type 0
 PhrasesAreWrittenAsItems =
-    (s : Scope) (arrays : List (List Lit)) (items : List Element) → AreItems items →
-    (let m = phrase_of s [] (nested items) arrays 0 in phrase_signs (array_signs m.arrays) m.phrase) ≡ element_signs s [] items
+    (s : Scope) (arrays : List (List Lit)) (items : List Element) → AreItems items → nodes_read s items ≡ nested items →
+    (let m = made s items arrays in phrase_signs (array_signs m.arrays) m.phrase) ≡ element_signs s [] items

@@ -1,9 +1,8 @@
-pub mod First
-pub mod Search
-pub mod Following
-pub mod Drafts
-pub mod PlainEffects
+pub mod Counts
 pub mod State
-pub mod Ending
 pub mod Taking
 pub mod Parts
+pub mod Named
+pub mod Tuples
+pub mod Accessors
+pub mod Ended

@@ -1,26 +1,31 @@
 //! Forms and files, in order.
 ghost use Rattle.std.specs.Prelude.{◌≡◌, fold, map, false, OnOk};
-ghost use Rattle.fac_lang.specs.declared.tree.FormKind.TheVariants.{Constant, Define};
+ghost use Rattle.fac_lang.specs.declared.tree.FormKind.TheVariants.{Constant, Define, Generic, Method, Tuple, Union};
 ghost use Rattle.fac_parse.specs.Rows.{slots_of};
-ghost use Rattle.fac_parse.specs.Trees.{AreItems, AreWellFormed, FillAll, IsForm, IsLiteral, IsWellFormed, forms_of};
+ghost use Rattle.fac_parse.specs.Trees.{AreWellFormed, FillAll, IsForm, IsWellFormed, forms_of};
+ghost use Rattle.fac_items.specs.FromElements.{nested, tok};
+ghost use Rattle.fac_items.specs.Readings.{read_form};
+ghost use Rattle.fac_items.specs.Written.{f_constant, f_define, given};
 ghost use Rattle.fac_names.specs.Forms.{take, take_file};
-ghost use Rattle.fac_names.specs.FromFlat.{first_node, form_of, is_inline, is_recursive, nested, row, tok};
-ghost use Rattle.fac_names.specs.Readings.{read_form};
-ghost use Rattle.fac_names.specs.Written.{f_constant, f_define, given};
+ghost use Rattle.fac_names.specs.FromFlat.{first_node, form_of, is_inline, is_recursive, parent_name, row};
+ghost use Rattle.std.specs.Option.{option_copied};
+ghost use Rattle.fac_names.specs.inner.Named.{option_tok};
 ghost use Rattle.fac_names.specs.inner.State.{reading_of};
 ghost use Rattle.fac_names.specs.inner.Taking.{take_all};
 
-use crate::effects::value_effect;
+use crate::accessors::accessors;
+use crate::classes::{singleton, tuple, union};
 use crate::forms::{
-    begin_file, close_private, define, enter, from, open_private, qualify, symbol, take_defer,
-    take_items, take_main, use_all, use_vocab,
+    begin_file, close_private, define, enter, from, generic, maker, method, open_private, qualify,
+    symbol, take_defer, take_items, take_main, use_all, use_vocab,
 };
 use crate::parts::{
-    all_names, brought, constant_parts, definition_parts, marks_inline, marks_recursive, sole_name,
-    two_names,
+    all_names, brought, constant_parts, definition_parts, generic_parts, marks_inline,
+    marks_recursive, method_parts, sole_name, tuple_parts, two_names, union_parts,
 };
 use crate::so_far::SoFar;
-use fac_lang::{Form, FormKind, List, Memory, Part, Tree};
+use fac_endings::plain_effect;
+use fac_lang::{Form, FormKind, List, Memory, Parent, Part, Token, Tree};
 use std::alloc::Global;
 
 // Takes the definition of a word.
@@ -49,8 +54,69 @@ fn take_constant(alloc: Global, so_far: &mut SoFar, parts: &[Part]) -> Result<()
     ensures { OnOk result (reading_of so_far.new ≡ take (read_form (row Constant parts.now)) (reading_of so_far.old)) }
 {
     let (name, literal) = constant_parts(parts);
-    let effect = value_effect(alloc)?;
+    let effect = plain_effect(alloc, &[], &["value"])?;
     define(alloc, so_far, name, effect, literal, false, false)
+}
+
+// The name of a parent, where one is written.
+fn parent_name(parent: &Option<Parent>) -> Option<&Token>
+    ensures { option_tok (option_copied result) ≡ parent_name parent.now }
+{
+    match parent {
+        Some(parent) => Some(&parent.class),
+        None => None,
+    }
+}
+
+// Takes a `TUPLE:`.
+fn take_tuple(alloc: Global, so_far: &mut SoFar, parts: &[Part]) -> Result<(), Memory>
+    requires { FillAll (slots_of Tuple) parts.now }
+    ensures { OnOk result (reading_of so_far.new ≡ take (row Tuple parts.now) (reading_of so_far.old)) }
+{
+    let found = tuple_parts(parts);
+    tuple(
+        alloc,
+        so_far,
+        found.name,
+        parent_name(found.parent),
+        found.slots,
+    )?;
+    accessors(alloc, so_far, found.slots)
+}
+
+// Takes a `UNION:`.
+fn take_union(alloc: Global, so_far: &mut SoFar, parts: &[Part]) -> Result<(), Memory>
+    requires { FillAll (slots_of Union) parts.now }
+    ensures { OnOk result (reading_of so_far.new ≡ take (row Union parts.now) (reading_of so_far.old)) }
+{
+    let (name, members) = union_parts(parts);
+    union(alloc, so_far, name, members)
+}
+
+// Takes a `GENERIC:`.
+fn take_generic(alloc: Global, so_far: &mut SoFar, parts: &[Part]) -> Result<(), Memory>
+    requires { FillAll (slots_of Generic) parts.now }
+    ensures { OnOk result (reading_of so_far.new ≡ take (row Generic parts.now) (reading_of so_far.old)) }
+{
+    let (name, written) = generic_parts(parts);
+    let effect = written.effect.copy(alloc)?;
+    generic(alloc, so_far, name, effect)
+}
+
+// Takes an `M:`.
+#[tactic(auto, using(crate::proofs::BracketLemmas::items_closing))]
+fn take_method(alloc: Global, so_far: &mut SoFar, parts: &[Part]) -> Result<(), Memory>
+    requires { FillAll (slots_of Method) parts.now }
+    ensures { OnOk result (reading_of so_far.new ≡ take (row Method parts.now) (reading_of so_far.old)) }
+{
+    let found = method_parts(parts);
+    method(
+        alloc,
+        so_far,
+        found.class,
+        found.generic,
+        found.elements,
+    )
 }
 
 // Takes a row.
@@ -83,6 +149,15 @@ fn take_row(alloc: Global, so_far: &mut SoFar, kind: FormKind, parts: &[Part]) -
         }
         FormKind::Main => take_main(alloc, so_far, sole_name(parts)),
         FormKind::Define => take_definition(alloc, so_far, parts),
+        FormKind::Tuple => take_tuple(alloc, so_far, parts),
+        FormKind::Union => take_union(alloc, so_far, parts),
+        FormKind::Singleton => singleton(alloc, so_far, sole_name(parts)),
+        FormKind::Generic => take_generic(alloc, so_far, parts),
+        FormKind::Method => take_method(alloc, so_far, parts),
+        FormKind::Maker => {
+            let (name, class) = two_names(parts);
+            maker(alloc, so_far, name, class)
+        }
     }
 }
 

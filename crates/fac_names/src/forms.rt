@@ -1,26 +1,29 @@
-//! What forms define and do.
-ghost use Rattle.std.specs.Prelude.{◌≡◌, ◌++◌, ◌∷◌, [], map, codes, true, false, fold, IfOk, OnOk};
+//! What forms define and do, but for those of classes.
+ghost use Rattle.std.specs.Prelude.{◌≡◌, ◌++◌, ◌∷◌, [], map, codes, false, fold, IfOk, OnOk};
 ghost use Rattle.fac_lang.specs.PhraseView.{items_phrase};
+ghost use Rattle.fac_lang.specs.Phrases.{end, then, word};
 ghost use Rattle.fac_lang.specs.declared.phrase.What.TheVariants.{Word};
+ghost use Rattle.fac_lang.specs.declared.program.Sort.TheVariants.{Body};
 ghost use Rattle.fac_lang.specs.RunningLaws.{append};
-ghost use Rattle.fac_lang.specs.Whole.{plain_effect};
-ghost use Rattle.fac_vocab.specs.Scopes.{begun, exists};
-ghost use Rattle.fac_names.specs.FromFlat.{nested, tok};
-ghost use Rattle.fac_names.specs.Forms.{bring_one, scoped, take, use_one};
-ghost use Rattle.fac_names.specs.Written.{f_define, f_defer, f_from, f_in, f_items, f_main, f_private, f_public, f_qualified, f_symbol, f_use, f_using, given};
-ghost use Rattle.fac_names.specs.inner.Following.{AreClosing};
-ghost use Rattle.fac_names.specs.inner.State.{reading_of};
+ghost use Rattle.fac_vocab.specs.Scopes.{begun, word_held};
+ghost use Rattle.fac_refusal.specs.Toks.{number};
+ghost use Rattle.fac_endings.specs.Words.{no_effect};
+ghost use Rattle.fac_endings.specs.declared.draft.Late.TheVariants.{Settled};
+ghost use Rattle.fac_items.specs.FromElements.{AreClosing, nested, tok};
+ghost use Rattle.fac_items.specs.Written.{f_define, f_defer, f_from, f_generic, f_in, f_items, f_main, f_maker, f_method, f_private, f_public, f_qualified, f_symbol, f_use, f_using, given};
+ghost use Rattle.fac_items.specs.Items.{ref, search_faults};
+ghost use Rattle.fac_items.specs.Readings.{read_form};
+ghost use Rattle.fac_names.specs.Forms.{added, bring_one, refused, scoped, take, use_one};
+ghost use Rattle.fac_names.specs.inner.State.{Reads, reading_of};
 
-use crate::drafts::tell;
-use crate::effects::value_effect;
-use crate::items::phrase_of;
+use crate::drafts::Told;
 use crate::naming::{defer, own};
-use crate::refusal::NameKind;
-use crate::refusal_kept::refuse;
-use crate::search::word_of;
 use crate::so_far::SoFar;
 use fac_effect::text;
-use fac_lang::{Effect, Element, Item, Memory, Place, Sort, Token, What};
+use fac_endings::{Late, no_effect, plain_effect};
+use fac_items::{phrase_of, refer, refuse_token, word_of};
+use fac_lang::{Effect, Element, Item, Memory, Name, Phrase, Place, Sort, Text, Token, What};
+use fac_refusal::{NameKind, Ref};
 use fac_vocab::ScopeFault;
 use std::alloc::Global;
 
@@ -63,7 +66,7 @@ pub fn use_vocab(alloc: Global, so_far: &mut SoFar, vocab: &Token) -> Result<(),
     match so_far.scope.use_vocab(alloc, text(&vocab.kind)) {
         Ok(()) => Ok(()),
         Err(ScopeFault::NoVocab) => {
-            refuse(alloc, &mut so_far.first, NameKind::NoVocab, vocab)?;
+            refuse_token(alloc, &mut so_far.first, NameKind::NoVocab, vocab)?;
             Ok(())
         }
         Err(ScopeFault::Memory) => Err(Memory),
@@ -97,7 +100,7 @@ pub fn qualify(
     {
         Ok(()) => Ok(()),
         Err(ScopeFault::NoVocab) => {
-            refuse(alloc, &mut so_far.first, NameKind::NoVocab, vocab)?;
+            refuse_token(alloc, &mut so_far.first, NameKind::NoVocab, vocab)?;
             Ok(())
         }
         Err(ScopeFault::Memory) => Err(Memory),
@@ -116,7 +119,7 @@ fn bring(alloc: Global, so_far: &mut SoFar, vocab: &Token, name: &Token) -> Resu
     {
         Ok(()) => Ok(()),
         Err(ScopeFault::Unknown) => {
-            refuse(alloc, &mut so_far.first, NameKind::Unknown, name)?;
+            refuse_token(alloc, &mut so_far.first, NameKind::Unknown, name)?;
             Ok(())
         }
         Err(ScopeFault::Memory) => Err(Memory),
@@ -147,7 +150,7 @@ pub fn from(alloc: Global, so_far: &mut SoFar, vocab: &Token, names: &[Token]) -
     if so_far.scope.exists(text(&vocab.kind)) {
         bring_all(alloc, so_far, vocab, names)
     } else {
-        refuse(alloc, &mut so_far.first, NameKind::NoVocab, vocab)?;
+        refuse_token(alloc, &mut so_far.first, NameKind::NoVocab, vocab)?;
         Ok(())
     }
 }
@@ -159,21 +162,43 @@ pub fn take_defer(alloc: Global, so_far: &mut SoFar, name: &Token) -> Result<(),
     defer(alloc, so_far, name)
 }
 
+/// What a word is that has no marks and of which nothing is late.
+pub fn plainly(sort: Sort, effect: Effect) -> Told
+    ensures sort { result.sort ≡ sort }
+    ensures effect { result.effect ≡ effect }
+    ensures inline { result.inline ≡ false }
+    ensures recursive { result.recursive ≡ false }
+    ensures late { result.late ≡ Settled }
+{
+    Told {
+        sort,
+        effect,
+        inline: false,
+        recursive: false,
+        late: Late::Settled,
+    }
+}
+
 /// Takes a `SYMBOL:`.
 pub fn symbol(alloc: Global, so_far: &mut SoFar, name: &Token) -> Result<(), Memory>
     ensures { OnOk result (reading_of so_far.new ≡ take (f_symbol (tok name.now)) (reading_of so_far.old)) }
 {
     let number = own(alloc, so_far, name)?;
-    let effect = value_effect(alloc)?;
-    tell(
-        &mut so_far.drafts,
-        number,
-        Sort::Itself,
-        effect,
-        false,
-        false,
-    );
-    Ok(())
+    let effect = plain_effect(alloc, &[], &["value"])?;
+    so_far.drafts.tell(number, plainly(Sort::Itself, effect))
+}
+
+/// Takes a `GENERIC:`.
+pub fn generic(
+    alloc: Global,
+    so_far: &mut SoFar,
+    name: &Token,
+    effect: Effect,
+) -> Result<(), Memory>
+    ensures { OnOk result (reading_of so_far.new ≡ take (f_generic (tok name.now) effect) (reading_of so_far.old)) }
+{
+    let number = own(alloc, so_far, name)?;
+    so_far.drafts.tell(number, plainly(Sort::Generic, effect))
 }
 
 // The one item that a `MAIN:` adds.
@@ -198,6 +223,24 @@ pub fn take_main(alloc: Global, so_far: &mut SoFar, name: &Token) -> Result<(), 
     Ok(())
 }
 
+// The phrase of items.
+fn read_phrase(
+    alloc: Global,
+    so_far: &mut SoFar,
+    elements: &[Element],
+) -> Result<Phrase, Memory>
+    requires { AreClosing 0 elements.now }
+    ensures { IfOk result (λ phrase. Reads so_far.old elements.now phrase so_far.new) }
+{
+    phrase_of(
+        alloc,
+        &so_far.scope,
+        &mut so_far.first,
+        &mut so_far.arrays,
+        elements,
+    )
+}
+
 /// Takes the definition of a word with this effect.
 pub fn define(
     alloc: Global,
@@ -212,26 +255,150 @@ pub fn define(
     ensures { OnOk result (reading_of so_far.new ≡ take (f_define (tok name.now) (given effect) (nested elements.now) inline recursive) (reading_of so_far.old)) }
 {
     let number = own(alloc, so_far, name)?;
-    let body = phrase_of(
-        alloc,
-        &so_far.scope,
-        &mut so_far.first,
-        &mut so_far.arrays,
-        elements,
-    )?;
-    tell(
-        &mut so_far.drafts,
+    let body = read_phrase(alloc, so_far, elements)?;
+    so_far.drafts.tell(
         number,
-        Sort::Body(body),
-        effect,
-        inline,
-        recursive,
-    );
-    Ok(())
+        Told {
+            sort: Sort::Body(body),
+            effect,
+            inline,
+            recursive,
+            late: Late::Settled,
+        },
+    )
+}
+
+// What a word is whose phrase has an effect that is late.
+fn late_body(alloc: Global, body: Phrase, late: Late) -> Told
+    ensures sort { result.sort ≡ Body body }
+    ensures effect { result.effect ≡ no_effect }
+    ensures inline { result.inline ≡ false }
+    ensures recursive { result.recursive ≡ false }
+    ensures late { result.late ≡ late }
+{
+    Told {
+        sort: Sort::Body(body),
+        effect: no_effect(alloc),
+        inline: false,
+        recursive: false,
+        late,
+    }
+}
+
+// The name of a method, which no table has.
+fn method_name(alloc: Global, generic: &Token) -> Result<Name, Memory>
+    ensures { IfOk result (λ name. name ≡ record { vocab = []; name = (tok generic.now).text }) }
+{
+    let name = Text::from_str(alloc, text(&generic.kind))?;
+    Ok(Name {
+        vocab: Text::new(alloc),
+        name,
+    })
+}
+
+// The class and the generic of a method.
+fn refer_both(
+    alloc: Global,
+    so_far: &mut SoFar,
+    class: &Token,
+    generic: &Token,
+) -> Result<(Ref, Ref), Memory>
+    ensures class { IfOk result (λ both. both.0 ≡ ref so_far.old.scope (tok class.now)) }
+    ensures generic { IfOk result (λ both. both.1 ≡ ref so_far.old.scope (tok generic.now)) }
+    ensures refused { OnOk result (reading_of so_far.new ≡ refused (search_faults so_far.old.scope (tok class.now ∷ tok generic.now ∷ [])) (reading_of so_far.old)) }
+{
+    let class = refer(alloc, &so_far.scope, &mut so_far.first, class)?;
+    match refer(alloc, &so_far.scope, &mut so_far.first, generic) {
+        Ok(generic) => Ok((class, generic)),
+        Err(Memory) => Err(Memory),
+    }
+}
+
+// A new word for a method.
+fn add_method(alloc: Global, so_far: &mut SoFar, generic: &Token) -> Result<u32, Memory>
+    ensures { IfOk result (λ number. record { word = number; reading = reading_of so_far.new } ≡ added [] (tok generic.now) (reading_of so_far.old)) }
+{
+    let number = so_far.drafts.len()?;
+    let name = method_name(alloc, generic)?;
+    so_far.drafts.add(alloc, name, generic.place)?;
+    Ok(number)
+}
+
+/// Takes an `M:`.
+pub fn method(
+    alloc: Global,
+    so_far: &mut SoFar,
+    class: &Token,
+    generic: &Token,
+    elements: &[Element],
+) -> Result<(), Memory>
+    requires { AreClosing 0 elements.now }
+    ensures { OnOk result (reading_of so_far.new ≡ take (f_method (tok class.now) (tok generic.now) (nested elements.now)) (reading_of so_far.old)) }
+{
+    let (class, of) = refer_both(alloc, so_far, class, generic)?;
+    let number = add_method(alloc, so_far, generic)?;
+    let body = read_phrase(alloc, so_far, elements)?;
+    so_far
+        .drafts
+        .tell(number, late_body(alloc, body, Late::Method(class, of)))
+}
+
+// The phrase of a `C:`: the word of its class, and `boa`.
+fn maker_phrase(
+    alloc: Global,
+    class: u32,
+    boa: u32,
+    place: Place,
+) -> Result<Phrase, Memory>
+    ensures { IfOk result (λ phrase. phrase ≡ then (word class) place (then (word boa) place end)) }
+{
+    let mut items = sole_item(alloc, class, place)?;
+    items.push(Item {
+        what: What::Word(boa),
+        place,
+    })?;
+    Ok(Phrase { items })
+}
+
+// The number of the word `boa`.
+fn boa_number(so_far: &SoFar) -> u32
+    ensures { result ≡ number (word_held so_far.now.scope.table (codes "kernel") (codes "boa")) }
+{
+    match so_far.scope.word("kernel", "boa") {
+        Some(number) => number,
+        None => 0,
+    }
+}
+
+// The number of a name's word, or 0 where there is none.
+fn number_of(name: &Ref) -> u32
+    ensures { result ≡ number name.now.word }
+{
+    match name.word {
+        Some(number) => number,
+        None => 0,
+    }
+}
+
+/// Takes a `C:`.
+pub fn maker(
+    alloc: Global,
+    so_far: &mut SoFar,
+    name: &Token,
+    class: &Token,
+) -> Result<(), Memory>
+    ensures { OnOk result (reading_of so_far.new ≡ take (read_form (f_maker (tok name.now) (tok class.now))) (reading_of so_far.old)) }
+{
+    let number = own(alloc, so_far, name)?;
+    let class = refer(alloc, &so_far.scope, &mut so_far.first, class)?;
+    let body = maker_phrase(alloc, number_of(&class), boa_number(so_far), name.place)?;
+    so_far
+        .drafts
+        .tell(number, late_body(alloc, body, Late::Maker(class)))
 }
 
 /// Adds items behind others.
-#[tactic(auto, using(crate::proofs::ReadingLemmas::items_phrase_append))]
+#[tactic(auto, using(fac_items::proofs::TakenLemmas::items_phrase_append))]
 pub fn add_items(items: &mut Vec<Item>, mut more: Vec<Item>) -> Result<(), Memory>
     ensures { OnOk result (items_phrase items.new.items ≡ append (items_phrase items.old.items) (items_phrase more.items)) }
 {
@@ -244,13 +411,7 @@ pub fn take_items(alloc: Global, so_far: &mut SoFar, elements: &[Element]) -> Re
     requires { AreClosing 0 elements.now }
     ensures { OnOk result (reading_of so_far.new ≡ take (f_items (nested elements.now)) (reading_of so_far.old)) }
 {
-    let phrase = phrase_of(
-        alloc,
-        &so_far.scope,
-        &mut so_far.first,
-        &mut so_far.arrays,
-        elements,
-    )?;
+    let phrase = read_phrase(alloc, so_far, elements)?;
     add_items(&mut so_far.items, phrase.items)?;
     Ok(())
 }

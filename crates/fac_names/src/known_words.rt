@@ -1,42 +1,23 @@
-//! The words that there are before a source is read.
-ghost use Rattle.std.specs.Prelude.{◌≡◌, ◌++◌, ◌∷◌, [], map, IfOk, OnOk};
+//! The words and classes that there are before a source is read.
+ghost use Rattle.std.specs.Prelude.{◌≡◌, ◌++◌, ◌∷◌, [], map, true, IfOk, OnOk};
 ghost use Rattle.std.specs.Option.{option_map};
+ghost use Rattle.fac_lang.specs.BuiltInClasses.{built_in_classes};
 ghost use Rattle.fac_lang.specs.CoreWords.{built_core_words};
 ghost use Rattle.fac_lang.specs.EffectView.{outs_leaving};
 ghost use Rattle.fac_lang.specs.PrimitiveWords.{plain_leaving, written_effect};
 ghost use Rattle.fac_lang.specs.Primitives.{built_primitive_words};
-ghost use Rattle.fac_lang.specs.WrittenWords.{written_word};
-ghost use Rattle.fac_names.specs.KnownWords.{row_word, words_from, known_words};
-ghost use Rattle.fac_names.specs.inner.PlainEffects.{plain_input};
+ghost use Rattle.fac_lang.specs.WrittenWords.{written_class, written_word};
+ghost use Rattle.fac_endings.specs.Words.{nowhere, plain_word};
+ghost use Rattle.fac_names.specs.KnownWords.{class_word, class_words_from, classes_from, core_words_of, known_classes, known_words, predicates_if, primitives_from, row_word};
+ghost use Rattle.fac_lang.specs.declared.program.Shape.TheVariants.{Kind};
 
-use crate::effects::{add_input, add_text};
+use crate::naming::full_name;
+use fac_endings::{inputs, plain_effect, texts};
 use fac_lang::{
-    Effect, Input, List, Memory, Name, Outs, Place, Sort, Text, WordDef, WordRow, core_words,
-    primitives,
+    ClassDef, ClassRow, Effect, List, Memory, Name, Outs, Place, Shape, Sort, WordDef,
+    WordRow, built_in_classes, core_words, primitives,
 };
 use std::alloc::Global;
-
-// Inputs that are plain values.
-fn inputs(alloc: Global, names: &[&str]) -> Result<Vec<Input>, Memory>
-    ensures { IfOk result (λ inputs. inputs.items ≡ map plain_input (map (λ name. name.now) names.now)) }
-{
-    let mut inputs = Vec::new(alloc);
-    for name in names {
-        add_input(alloc, &mut inputs, name)?;
-    }
-    Ok(inputs)
-}
-
-// A copy of names.
-fn texts(alloc: Global, names: &[&str]) -> Result<List<Text>, Memory>
-    ensures { IfOk result (λ texts. texts ≡ map (λ name. name.now) names.now) }
-{
-    let mut texts = List::new(alloc);
-    for name in names {
-        add_text(alloc, &mut texts, name)?;
-    }
-    Ok(texts)
-}
 
 // What is left, of plain values.
 fn leaving(alloc: Global, outs: Option<&[&str]>) -> Result<Outs, Memory>
@@ -52,7 +33,7 @@ fn leaving(alloc: Global, outs: Option<&[&str]>) -> Result<Outs, Memory>
 }
 
 // The effect of a row.
-#[tactic(auto, using(crate::proofs::PlainEffectLemmas::plain_tree))]
+#[tactic(auto, using(fac_endings::proofs::PlainEffectLemmas::plain_tree))]
 fn effect(alloc: Global, row: &WordRow) -> Result<Effect, Memory>
     ensures { IfOk result (λ effect. effect ≡ written_effect (written_word row.now)) }
 {
@@ -63,17 +44,6 @@ fn effect(alloc: Global, row: &WordRow) -> Result<Effect, Memory>
         ins,
         outs,
     })
-}
-
-/// The full name of a word.
-pub fn full_name(alloc: Global, vocab: &str, name: &str) -> Result<Name, Memory>
-    ensures { IfOk result (λ full. full ≡ record { vocab = vocab.now; name = name.now }) }
-{
-    let vocab = Text::from_str(alloc, vocab)?;
-    match Text::from_str(alloc, name) {
-        Ok(name) => Ok(Name { vocab, name }),
-        Err(Memory) => Err(Memory),
-    }
 }
 
 // The full name and the effect of a row.
@@ -88,20 +58,17 @@ fn heading(alloc: Global, row: &WordRow) -> Result<(Name, Effect), Memory>
     }
 }
 
-// The word of a row.
-fn row_word(alloc: Global, row: &WordRow, sort: Sort) -> Result<WordDef, Memory>
-    ensures { IfOk result (λ word. word ≡ row_word (written_word row.now) sort) }
+// A word that no source defines.
+fn word_of(name: Name, sort: Sort, effect: Effect) -> WordDef
+    ensures { result ≡ plain_word name.vocab name.name sort effect nowhere }
 {
-    match heading(alloc, row) {
-        Ok((name, effect)) => Ok(WordDef {
-            name,
-            sort,
-            effect,
-            inline: false,
-            recursive: false,
-            place: Place { file: 0, token: 0 },
-        }),
-        Err(Memory) => Err(Memory),
+    WordDef {
+        name,
+        sort,
+        effect,
+        inline: false,
+        recursive: false,
+        place: Place { file: 0, token: 0 },
     }
 }
 
@@ -114,14 +81,14 @@ fn add_word(
 ) -> Result<(), Memory>
     ensures { OnOk result (words.new ≡ words.old ++ row_word (written_word row.now) sort ∷ []) }
 {
-    let word = row_word(alloc, row, sort)?;
-    words.push(word)?;
+    let (name, effect) = heading(alloc, row)?;
+    words.push(word_of(name, sort, effect))?;
     Ok(())
 }
 
 // Adds the words of the primitives.
 fn add_primitives(alloc: Global, words: &mut List<WordDef>) -> Result<(), Memory>
-    ensures { OnOk result (words.new ≡ words.old ++ words_from Sort.Prim 0 built_primitive_words) }
+    ensures { OnOk result (words.new ≡ words.old ++ primitives_from 0 built_primitive_words) }
 {
     let rows = primitives();
     for (number, row) in rows.iter().enumerate() {
@@ -132,11 +99,70 @@ fn add_primitives(alloc: Global, words: &mut List<WordDef>) -> Result<(), Memory
 
 // Adds the core words.
 fn add_core_words(alloc: Global, words: &mut List<WordDef>) -> Result<(), Memory>
-    ensures { OnOk result (words.new ≡ words.old ++ words_from Sort.Core 0 built_core_words) }
+    ensures { OnOk result (words.new ≡ words.old ++ core_words_of built_core_words) }
 {
     let rows = core_words();
+    for row in rows {
+        add_word(alloc, words, &row.word, Sort::Core(row.number))?;
+    }
+    Ok(())
+}
+
+// Adds the word of a built-in class.
+fn add_class_word(
+    alloc: Global,
+    words: &mut List<WordDef>,
+    row: &ClassRow,
+    number: u32,
+) -> Result<(), Memory>
+    ensures { OnOk result (words.new ≡ words.old ++ class_word (written_class row.now) number ∷ []) }
+{
+    let name = full_name(alloc, row.vocab, row.name)?;
+    let effect = plain_effect(alloc, &[], &["value"])?;
+    words.push(word_of(name, Sort::Class(number), effect))?;
+    Ok(())
+}
+
+// Adds the predicate of a built-in class.
+fn add_predicate(
+    alloc: Global,
+    words: &mut List<WordDef>,
+    row: &ClassRow,
+    number: u32,
+) -> Result<(), Memory>
+    ensures { OnOk result (words.new ≡ words.old ++ predicates_if true (written_class row.now) number) }
+{
+    let mut name = full_name(alloc, row.vocab, row.name)?;
+    name.name.push_str("?")?;
+    let effect = plain_effect(alloc, &["object"], &["?"])?;
+    words.push(word_of(name, Sort::Isa(number), effect))?;
+    Ok(())
+}
+
+// Adds the words of a built-in class.
+fn add_class(
+    alloc: Global,
+    words: &mut List<WordDef>,
+    row: &ClassRow,
+    number: u32,
+) -> Result<(), Memory>
+    ensures { OnOk result (words.new ≡ words.old ++ class_word (written_class row.now) number ∷ predicates_if row.now.has_predicate (written_class row.now) number) }
+{
+    add_class_word(alloc, words, row, number)?;
+    if row.has_predicate {
+        add_predicate(alloc, words, row, number)
+    } else {
+        Ok(())
+    }
+}
+
+// Adds the words of the built-in classes.
+fn add_classes(alloc: Global, words: &mut List<WordDef>) -> Result<(), Memory>
+    ensures { OnOk result (words.new ≡ words.old ++ class_words_from 0 built_in_classes) }
+{
+    let rows = built_in_classes();
     for (number, row) in rows.iter().enumerate() {
-        add_word(alloc, words, row, Sort::Core(number as u32))?;
+        add_class(alloc, words, row, number as u32)?;
     }
     Ok(())
 }
@@ -149,5 +175,36 @@ pub fn first_words(alloc: Global) -> Result<List<WordDef>, Memory>
     let mut words = List::new(alloc);
     add_primitives(alloc, &mut words)?;
     add_core_words(alloc, &mut words)?;
+    add_classes(alloc, &mut words)?;
     Ok(words)
+}
+
+// Adds a built-in class.
+fn add_class_def(
+    alloc: Global,
+    classes: &mut List<ClassDef>,
+    row: &ClassRow,
+    number: u32,
+) -> Result<(), Memory>
+    ensures { OnOk result (classes.new ≡ classes.old ++ (record { name = record { vocab = row.now.vocab.now; name = row.now.name.now }; shape = Kind number }) ∷ []) }
+{
+    let name = full_name(alloc, row.vocab, row.name)?;
+    classes.push(ClassDef {
+        name,
+        shape: Shape::Kind(number),
+    })?;
+    Ok(())
+}
+
+/// The classes that there are before a source is read.
+#[tactic(auto, unfolding(crate::specs::KnownWords::known_classes))]
+pub fn first_classes(alloc: Global) -> Result<List<ClassDef>, Memory>
+    ensures { IfOk result (λ classes. classes ≡ known_classes) }
+{
+    let mut classes = List::new(alloc);
+    let rows = built_in_classes();
+    for (number, row) in rows.iter().enumerate() {
+        add_class_def(alloc, &mut classes, row, number as u32)?;
+    }
+    Ok(classes)
 }

@@ -1,34 +1,32 @@
 //! The words to which forms give names.
-ghost use Rattle.std.specs.Prelude.{◌≡◌, ◌++◌, ◌∷◌, [], length, true, false, IfOk, OnOk};
+ghost use Rattle.std.specs.Prelude.{◌≡◌, true, false, IfOk, OnOk};
 ghost use Rattle.fac_vocab.specs.ScopeCalls.{Stands};
-ghost use Rattle.fac_vocab.specs.Scopes.{with_entry};
+ghost use Rattle.fac_vocab.specs.Scopes.{holders, home, with_entry};
 ghost use Rattle.fac_vocab.specs.declared.answers.Standing.TheVariants.{New, Deferred, Defined};
-ghost use Rattle.fac_names.specs.FromFlat.{tok};
+ghost use Rattle.fac_items.specs.FromElements.{tok};
 ghost use Rattle.fac_names.specs.Forms.{deferring};
-ghost use Rattle.fac_vocab.specs.Scopes.{holders, home};
-ghost use Rattle.fac_names.specs.inner.State.{Owns, Settles, own_name, reading_of};
+ghost use Rattle.fac_names.specs.inner.State.{Owns, Settles, reading_of, tok_at};
 
-use crate::drafts::{add_draft, count, move_to};
-use crate::refusal::NameKind;
-use crate::refusal_kept::refuse;
 use crate::so_far::SoFar;
 use fac_effect::text;
+use fac_items::refuse_token;
 use fac_lang::{Memory, Name, Place, Text, Token};
+use fac_refusal::{NameKind, refuse_name};
 use fac_vocab::{Scope, ScopeFault, Standing};
 use std::alloc::Global;
 
-// The full name of a word that is defined now.
-fn own_name(alloc: Global, scope: &Scope, token: &Token) -> Result<Name, Memory>
-    ensures { IfOk result (λ name. name ≡ own_name scope.now (tok token.now)) }
+/// The full name of a word.
+pub fn full_name(alloc: Global, vocab: &str, name: &str) -> Result<Name, Memory>
+    ensures { IfOk result (λ full. full ≡ record { vocab = vocab.now; name = name.now }) }
 {
-    let vocab = Text::from_str(alloc, scope.home())?;
-    match Text::from_str(alloc, text(&token.kind)) {
+    let vocab = Text::from_str(alloc, vocab)?;
+    match Text::from_str(alloc, name) {
         Ok(name) => Ok(Name { vocab, name }),
         Err(Memory) => Err(Memory),
     }
 }
 
-// The next two make one call, by what the name stands for before it: their contracts are its two cases, and no caller has both.
+// The next three make one call, by what the name stands for before it: no caller has two of its cases.
 
 // Defines a new name.
 fn define_new(alloc: Global, scope: &mut Scope, name: &Name, number: u32) -> Result<(), Memory>
@@ -73,14 +71,13 @@ fn defer_new(alloc: Global, scope: &mut Scope, name: &Name, number: u32) -> Resu
 }
 
 // The word of a new name.
-fn own_new(alloc: Global, so_far: &mut SoFar, token: &Token, name: Name) -> Result<u32, Memory>
-    requires name { name ≡ own_name so_far.old.scope (tok token.now) }
-    requires new { Stands so_far.old.scope name New }
-    ensures { IfOk result (λ number. Owns so_far.old (tok token.now) number so_far.new) }
+fn own_new(alloc: Global, so_far: &mut SoFar, name: Name, place: Place) -> Result<u32, Memory>
+    requires { Stands so_far.old.scope name New }
+    ensures { IfOk result (λ number. Owns so_far.old name.vocab (tok_at name place) number so_far.new) }
 {
-    let number = count(&so_far.drafts)?;
+    let number = so_far.drafts.len()?;
     define_new(alloc, &mut so_far.scope, &name, number)?;
-    add_draft(alloc, &mut so_far.drafts, name, token.place)?;
+    so_far.drafts.add(alloc, name, place)?;
     Ok(number)
 }
 
@@ -88,55 +85,76 @@ fn own_new(alloc: Global, so_far: &mut SoFar, token: &Token, name: Name) -> Resu
 fn own_deferred(
     alloc: Global,
     so_far: &mut SoFar,
-    token: &Token,
     name: &Name,
+    place: Place,
     number: u32,
 ) -> Result<(), Memory>
-    requires name { name.now ≡ own_name so_far.old.scope (tok token.now) }
-    requires deferred { Stands so_far.old.scope name.now (Deferred number) }
-    ensures { OnOk result (Owns so_far.old (tok token.now) number so_far.new) }
+    requires { Stands so_far.old.scope name.now (Deferred number) }
+    ensures { OnOk result (Owns so_far.old name.now.vocab (tok_at name.now place) number so_far.new) }
 {
     settle(alloc, &mut so_far.scope, name, number)?;
-    move_to(&mut so_far.drafts, number, token.place);
+    so_far.drafts.move_to(number, place)?;
     Ok(())
 }
 
 // The word of a name that is refused, since it is defined already: no name finds it.
-fn own_refused(alloc: Global, so_far: &mut SoFar, token: &Token, name: Name) -> Result<u32, Memory>
-    requires name { name ≡ own_name so_far.old.scope (tok token.now) }
-    requires defined { Stands so_far.old.scope name Defined }
-    ensures { IfOk result (λ number. Owns so_far.old (tok token.now) number so_far.new) }
+fn own_refused(alloc: Global, so_far: &mut SoFar, name: Name, place: Place) -> Result<u32, Memory>
+    requires { Stands so_far.old.scope name Defined }
+    ensures { IfOk result (λ number. Owns so_far.old name.vocab (tok_at name place) number so_far.new) }
 {
-    let number = count(&so_far.drafts)?;
-    refuse(alloc, &mut so_far.first, NameKind::Twice, token)?;
-    add_draft(alloc, &mut so_far.drafts, name, token.place)?;
+    let number = so_far.drafts.len()?;
+    refuse_name(
+        alloc,
+        &mut so_far.first,
+        NameKind::Twice,
+        name.name.as_str(),
+        place,
+    )?;
+    so_far.drafts.add(alloc, name, place)?;
     Ok(number)
+}
+
+/// The number of the word that a form defines under a full name, which stands at this place.
+pub fn define_name(
+    alloc: Global,
+    so_far: &mut SoFar,
+    name: Name,
+    place: Place,
+) -> Result<u32, Memory>
+    ensures { IfOk result (λ number. Owns so_far.old name.vocab (tok_at name place) number so_far.new) }
+{
+    match so_far.scope.standing(&name) {
+        Standing::New => own_new(alloc, so_far, name, place),
+        Standing::Deferred(number) => {
+            own_deferred(alloc, so_far, &name, place, number)?;
+            Ok(number)
+        }
+        Standing::Defined => own_refused(alloc, so_far, name, place),
+    }
 }
 
 /// The number of the word that a form defines.
 pub fn own(alloc: Global, so_far: &mut SoFar, token: &Token) -> Result<u32, Memory>
-    ensures { IfOk result (λ number. Owns so_far.old (tok token.now) number so_far.new) }
+    ensures { IfOk result (λ number. Owns so_far.old (home so_far.old.scope) (tok token.now) number so_far.new) }
 {
-    let name = own_name(alloc, &so_far.scope, token)?;
-    match so_far.scope.standing(&name) {
-        Standing::New => own_new(alloc, so_far, token, name),
-        Standing::Deferred(number) => {
-            own_deferred(alloc, so_far, token, &name, number)?;
-            Ok(number)
-        }
-        Standing::Defined => own_refused(alloc, so_far, token, name),
-    }
+    let name = full_name(alloc, so_far.scope.home(), text(&token.kind))?;
+    define_name(alloc, so_far, name, token.place)
 }
 
 // The word of a new name that is deferred.
-fn deferred_new(alloc: Global, so_far: &mut SoFar, token: &Token, name: Name) -> Result<(), Memory>
-    requires name { name ≡ own_name so_far.old.scope (tok token.now) }
+fn deferred_new(
+    alloc: Global,
+    so_far: &mut SoFar,
+    name: Name,
+    place: Place,
+) -> Result<(), Memory>
+    requires home { name.vocab ≡ home so_far.old.scope }
     requires new { Stands so_far.old.scope name New }
-    ensures { OnOk result (reading_of so_far.new ≡ deferring (tok token.now) (reading_of so_far.old) (holders so_far.old.scope.table (home so_far.old.scope) (tok token.now).text)) }
+    ensures { OnOk result (reading_of so_far.new ≡ deferring (tok_at name place) (reading_of so_far.old) (holders so_far.old.scope.table (home so_far.old.scope) name.name)) }
 {
-    let number = count(&so_far.drafts)?;
+    let number = so_far.drafts.len()?;
     defer_new(alloc, &mut so_far.scope, &name, number)?;
-    add_draft(alloc, &mut so_far.drafts, name, token.place)?;
+    so_far.drafts.add(alloc, name, place)?;
     Ok(())
 }
 
@@ -144,15 +162,15 @@ fn deferred_new(alloc: Global, so_far: &mut SoFar, token: &Token, name: Name) ->
 pub fn defer(alloc: Global, so_far: &mut SoFar, token: &Token) -> Result<(), Memory>
     ensures { OnOk result (reading_of so_far.new ≡ deferring (tok token.now) (reading_of so_far.old) (holders so_far.old.scope.table (home so_far.old.scope) (tok token.now).text)) }
 {
-    let name = own_name(alloc, &so_far.scope, token)?;
+    let name = full_name(alloc, so_far.scope.home(), text(&token.kind))?;
     match so_far.scope.standing(&name) {
-        Standing::New => deferred_new(alloc, so_far, token, name),
+        Standing::New => deferred_new(alloc, so_far, name, token.place),
         Standing::Deferred(_) => {
-            refuse(alloc, &mut so_far.first, NameKind::Twice, token)?;
+            refuse_token(alloc, &mut so_far.first, NameKind::Twice, token)?;
             Ok(())
         }
         Standing::Defined => {
-            refuse(alloc, &mut so_far.first, NameKind::Twice, token)?;
+            refuse_token(alloc, &mut so_far.first, NameKind::Twice, token)?;
             Ok(())
         }
     }

@@ -5,9 +5,9 @@ ghost use Rattle.fac_lang.specs.declared.tree.Part.TheVariants as part;
 ghost use Rattle.fac_parse.specs.declared.rows.Slot.TheVariants as slot;
 ghost use Rattle.fac_parse.specs.Trees.{FillAll};
 ghost use Rattle.fac_names.specs.FromFlat.{is_inline, is_recursive};
-ghost use Rattle.fac_names.specs.inner.Parts.{AreBrought, IsConstant, IsDefinition, IsNamesPart};
+ghost use Rattle.fac_names.specs.inner.Parts.{AreBrought, IsConstant, IsDefinition, IsMethod, IsNamesPart, IsTuple, IsUnion};
 
-use fac_lang::{Element, Mark, Part, Token, WrittenEffect};
+use fac_lang::{Element, Mark, Parent, Part, Token, WrittenEffect};
 
 /// The one name of a row.
 pub fn sole_name(parts: &[Part]) -> &Token
@@ -93,6 +93,86 @@ pub fn definition_parts(parts: &[Part]) -> Definition<'_>
             written,
             elements: elements.as_slice(),
             marks: marks.as_slice(),
+        },
+        _ => unreachable!(),
+    }
+}
+
+/// The name and the members of a union.
+pub fn union_parts(parts: &[Part]) -> (&Token, &[Token])
+    requires { FillAll (slot.Name ∷ slot.Classes ∷ []) parts.now }
+    ensures { IsUnion parts.now result.0.now result.1.now }
+{
+    match parts {
+        [Part::Name(name), Part::Names { names, .. }] => (name, names.as_slice()),
+        _ => unreachable!(),
+    }
+}
+
+/// The name and the effect of a generic.
+pub fn generic_parts(parts: &[Part]) -> (&Token, &WrittenEffect)
+    requires { FillAll (slot.Name ∷ slot.Effect ∷ []) parts.now }
+    ensures { parts.now ≡ part.Name result.0.now ∷ part.Effect result.1.now ∷ [] }
+{
+    match parts {
+        [Part::Name(name), Part::Effect(written)] => (name, written),
+        _ => unreachable!(),
+    }
+}
+
+/// What a tuple class has.
+#[derive(Clone, Copy)]
+pub struct TupleParts<'a> {
+    pub name: &'a Token,
+    pub parent: &'a Option<Parent>,
+    pub slots: &'a [Token],
+}
+
+/// The parts of a tuple class.
+pub fn tuple_parts(parts: &[Part]) -> TupleParts<'_>
+    requires { FillAll (slot.Name ∷ slot.Slots ∷ []) parts.now }
+    ensures { IsTuple parts.now result.name.now result.parent.now result.slots.now }
+{
+    match parts {
+        [
+            Part::Name(name),
+            Part::Slots {
+                parent,
+                names,
+                ends: _,
+            },
+        ] => TupleParts {
+            name,
+            parent,
+            slots: names.as_slice(),
+        },
+        _ => unreachable!(),
+    }
+}
+
+/// What a method has.
+#[derive(Clone, Copy)]
+pub struct MethodParts<'a> {
+    pub class: &'a Token,
+    pub generic: &'a Token,
+    pub elements: &'a [Element],
+}
+
+/// The parts of a method.
+pub fn method_parts(parts: &[Part]) -> MethodParts<'_>
+    requires { FillAll (slot.Class ∷ slot.Name ∷ slot.Items ∷ slot.MethodMark ∷ []) parts.now }
+    ensures { IsMethod parts.now result.class.now result.generic.now result.elements.now }
+{
+    match parts {
+        [
+            Part::Name(class),
+            Part::Name(generic),
+            Part::Items { elements, .. },
+            Part::Marks(_),
+        ] => MethodParts {
+            class,
+            generic,
+            elements: elements.as_slice(),
         },
         _ => unreachable!(),
     }

@@ -1,37 +1,45 @@
 //! Trees to a program.
-ghost use Rattle.std.specs.Prelude.{◌≡◌, ◌++◌, [], map, IfOk, OnOk};
+ghost use Rattle.std.specs.Prelude.{◌≡◌, ◌++◌, ◌∷◌, [], map, IfOk, OnOk};
 ghost use Rattle.fac_lang.specs.Forms.{IsBuilt};
 ghost use Rattle.fac_lang.specs.Whole.{IsWhole};
 ghost use Rattle.fac_parse.specs.Trees.{AreWellFormed, forms_of};
 ghost use Rattle.fac_names.specs.Resolution.{Resolves, first_reading, settled_draft};
-ghost use Rattle.fac_names.specs.inner.Drafts.{drafts_seen};
+ghost use Rattle.fac_names.specs.inner.Ended.{EndsReading};
 ghost use Rattle.fac_names.specs.inner.State.{reading_of};
 
-use crate::drafts::Draft;
-use crate::ending::ended;
+use crate::drafts::Drafts;
 use crate::files::take_trees;
-use crate::known_words::first_words;
-use crate::refusal::ResolveFault;
+use crate::forms::add_items;
+use crate::known_words::{first_classes, first_words};
 use crate::so_far::SoFar;
-use fac_lang::{List, Memory, Program, Tree, WordDef};
+use fac_endings::{Draft, Gathered, Late, ended};
+use fac_lang::{Item, List, Memory, Program, Tree, WordDef};
+use fac_refusal::ResolveFault;
 use fac_vocab::Scope;
 use std::alloc::Global;
 
-// The words that are known, as they are told.
-fn known_drafts(alloc: Global, words: Vec<WordDef>) -> Result<Vec<Draft>, Memory>
-    ensures { IfOk result (λ drafts. drafts_seen drafts.items ≡ map settled_draft words.items) }
+// Adds a word that is known.
+fn add_known(drafts: &mut Drafts, word: WordDef) -> Result<(), Memory>
+    ensures { OnOk result (drafts.new ≡ drafts.old ++ settled_draft word ∷ []) }
 {
-    let mut drafts = Vec::new(alloc);
+    drafts.push(Draft {
+        word,
+        late: Late::Settled,
+    })
+}
+
+// The words that are known, as they are told.
+fn known_drafts(alloc: Global, words: Vec<WordDef>) -> Result<Drafts, Memory>
+    ensures { IfOk result (λ drafts. drafts ≡ map settled_draft words.items) }
+{
+    let mut drafts = Drafts::new(alloc);
     for word in words {
-        drafts.push(Draft {
-            word,
-            is_deferred: false,
-        })?;
+        add_known(&mut drafts, word)?;
     }
     Ok(drafts)
 }
 
-// What there is before the first file.
+// What there is before the first file, where these words are known.
 #[tactic(auto, using(crate::proofs::KnownWordLemmas::names_of_known))]
 fn first(alloc: Global) -> Result<SoFar, Memory>
     ensures { IfOk result (λ first. reading_of first ≡ first_reading) }
@@ -39,14 +47,59 @@ fn first(alloc: Global) -> Result<SoFar, Memory>
     let words = first_words(alloc)?;
     let scope = Scope::new(alloc, words.as_slice())?;
     let drafts = known_drafts(alloc, words.into_vec())?;
+    let old_classes = first_classes(alloc)?;
     Ok(SoFar {
         scope,
         drafts,
+        old_classes,
+        classes: List::new(alloc),
         arrays: List::new(alloc),
         items: Vec::new(alloc),
         main: Vec::new(alloc),
         first: None,
     })
+}
+
+// What was read, as the end takes it, and the item of the last `MAIN:`.
+fn gathered(so_far: SoFar) -> (Gathered, Vec<Item>)
+    ensures drafts { result.0.drafts.items ≡ so_far.drafts }
+    ensures old_classes { result.0.old_classes ≡ so_far.old_classes }
+    ensures classes { result.0.classes ≡ so_far.classes }
+    ensures arrays { result.0.arrays ≡ so_far.arrays }
+    ensures items { result.0.items.items ≡ so_far.items.items }
+    ensures first { result.0.first ≡ so_far.first }
+    ensures main { result.1.items ≡ so_far.main.items }
+{
+    let SoFar {
+        drafts,
+        old_classes,
+        classes,
+        arrays,
+        items,
+        main,
+        first,
+        ..
+    } = so_far;
+    let gathered = Gathered {
+        drafts: drafts.into_vec(),
+        old_classes,
+        classes,
+        arrays,
+        items,
+        first,
+    };
+    (gathered, main)
+}
+
+// What the end of the files answers.
+fn end(alloc: Global, so_far: SoFar) -> Result<Program, ResolveFault>
+    ensures { EndsReading (reading_of so_far) result }
+{
+    let (mut gathered, main) = gathered(so_far);
+    match add_items(&mut gathered.items, main) {
+        Ok(()) => ended(alloc, gathered),
+        Err(Memory) => Err(ResolveFault::Memory),
+    }
 }
 
 // The program of files.
@@ -57,7 +110,7 @@ fn program_of(alloc: Global, trees: List<Tree>) -> Result<Program, ResolveFault>
 {
     match first(alloc) {
         Ok(mut so_far) => match take_trees(alloc, &mut so_far, trees) {
-            Ok(()) => ended(alloc, so_far),
+            Ok(()) => end(alloc, so_far),
             Err(Memory) => Err(ResolveFault::Memory),
         },
         Err(Memory) => Err(ResolveFault::Memory),

@@ -1,7 +1,8 @@
 //! What was read so far.
-use crate::drafts::Draft;
-use crate::refusal::NameFault;
-use fac_lang::{Item, List, Lit};
+use crate::drafts::Drafts;
+use fac_endings::NewClass;
+use fac_lang::{ClassDef, Item, List, Lit};
+use fac_refusal::NameFault;
 use fac_vocab::Scope;
 
 /// What the forms so far come to.
@@ -10,7 +11,11 @@ pub struct SoFar {
     /// What names find.
     pub scope: Scope,
     /// The words, by their numbers.
-    pub drafts: Vec<Draft>,
+    pub drafts: Drafts,
+    /// The classes that there were before any form, by their numbers.
+    pub old_classes: List<ClassDef>,
+    /// Those of forms, whose numbers come behind.
+    pub classes: List<NewClass>,
     /// The literal arrays, by their numbers.
     pub arrays: List<List<Lit>>,
     /// The items at the top level.

@@ -2,8 +2,8 @@
 use Rattle.std.specs.Prelude.{ℕ, List, ◌++◌, codes, decimal}
 use Rattle.fac_parse.specs.declared.reader.Why.{Why}
 use Rattle.fac_parse.specs.declared.reader.Why.TheVariants as why
-use Rattle.fac_names.specs.declared.refusal.NameKind.{NameKind}
-use Rattle.fac_names.specs.declared.refusal.NameKind.TheVariants as kind
+use Rattle.fac_refusal.specs.declared.refusal.NameKind.{NameKind}
+use Rattle.fac_refusal.specs.declared.refusal.NameKind.TheVariants as kind
 use Rattle.fac_abs.specs.declared.rule.Rule.{Rule}
 use Rattle.fac_abs.specs.declared.rule.Rule.TheVariants as rule
 use Rattle.fac_lang.specs.declared.error_name.ErrorName.{ErrorName}

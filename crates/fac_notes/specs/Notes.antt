@@ -2,9 +2,9 @@
 use Rattle.std.specs.Prelude.{◌<◌, ℕ, List, length, [], ◌++◌, None, Some, codes, decimal, slice_get}
 use Rattle.std.specs.declared.option.Option.{Option}
 use Rattle.fac_parse.specs.declared.reader.Why.{Why}
-use Rattle.fac_names.specs.declared.refusal.NameFault.{NameFault}
-use Rattle.fac_names.specs.declared.refusal.NameKind.{NameKind}
-use Rattle.fac_names.specs.declared.refusal.NameKind.TheVariants.{Ambiguous}
+use Rattle.fac_refusal.specs.declared.refusal.NameFault.{NameFault}
+use Rattle.fac_refusal.specs.declared.refusal.NameKind.{NameKind}
+use Rattle.fac_refusal.specs.declared.refusal.NameKind.TheVariants.{Ambiguous}
 use Rattle.fac_check.specs.declared.refusal.Refusal.{Refusal}
 use Rattle.fac_lang.specs.declared.error_name.ErrorName.{ErrorName}
 use Rattle.fac_lang.specs.declared.program.Name.{Name}

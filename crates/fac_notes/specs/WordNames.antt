@@ -4,19 +4,40 @@ use Rattle.std.specs.declared.option.Option.{Option}
 use Rattle.fac_lang.specs.declared.program.Name.{Name}
 use Rattle.fac_lang.specs.declared.program.Program.{Program}
 use Rattle.fac_lang.specs.declared.program.WordDef.{WordDef}
+use Rattle.fac_lang.specs.declared.program.ClassDef.{ClassDef}
+use Rattle.fac_lang.specs.declared.program.Sort.{Sort}
+use Rattle.fac_lang.specs.declared.program.Sort.TheVariants.{Method as method}
 use Rattle.fac_lang.specs.Meaning.{word_call, word_execute}
 
 -- the name of a number that no word has: the tests of `call( )` and `execute( )` have the two greatest numbers
 abbrev pub name_without_word : ℕ → List ℕ
 name_without_word w = (if w == word_call then codes "call(" else if w == word_execute then codes "execute(" else codes "unnamed")
 
+-- the names of a class and of a word without their vocabularies
+abbrev pub bare_class : Option ClassDef → List ℕ
+bare_class (Some d) = d.name.name
+bare_class None = []
+
+abbrev pub bare_word : Option WordDef → List ℕ
+bare_word (Some d) = d.name.name
+bare_word None = []
+
+-- a method by its class and its generic
+abbrev pub method_name : Program → ℕ → ℕ → List ℕ
+method_name P c g = codes "M: " ++ bare_class (slice_get P.classes c) ++ 32 ∷ bare_word (slice_get P.words g)
+
+-- the name of a word of this sort that is defined under this name
+abbrev pub name_as : Program → Name → Sort → Name
+name_as P n (method c g t) = record { vocab = []; name = method_name P c g }
+name_as P n _ = n
+
 -- the name of a word by its number
-abbrev pub name_or : ℕ → Option WordDef → Name
-name_or w (Some d) = d.name
-name_or w None = record { vocab = []; name = name_without_word w }
+abbrev pub name_or : Program → ℕ → Option WordDef → Name
+name_or P w (Some d) = name_as P d.name d.sort
+name_or P w None = record { vocab = []; name = name_without_word w }
 
 abbrev pub word_name : Program → ℕ → Name
-word_name P w = name_or w (slice_get P.words w)
+word_name P w = name_or P w (slice_get P.words w)
 
 -- how a name is told: vocabulary, colon and name, and without a colon where the vocabulary is empty
 abbrev pub text_by : List ℕ → List ℕ → List ℕ

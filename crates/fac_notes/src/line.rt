@@ -8,8 +8,8 @@ use crate::word_names::push_name;
 use crate::{ByteFault, Report};
 use fac_check::Refusal;
 use fac_lang::{ErrorName, List, Memory, Name, Text};
-use fac_names::{NameFault, NameKind};
 use fac_parse::Why;
+use fac_refusal::{NameFault, NameKind};
 use std::alloc::Global;
 
 // The name of a file by its number; nothing where no file has it.

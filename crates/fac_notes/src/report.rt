@@ -4,8 +4,8 @@ ghost use Rattle.fac_notes.specs.Statuses.{status_of};
 
 use fac_check::Refusal;
 use fac_lang::{ErrorName, Name, Text};
-use fac_names::NameFault;
 use fac_parse::Why;
+use fac_refusal::NameFault;
 
 /// What is wrong with the bytes of a file that has no tokens.
 #[derive(Clone, Copy, Debug, PartialEq, Eq)]

@@ -1,5 +1,5 @@
 -- What is read is a tree's tokens, and nothing else is refused, at the exact place.
-use Rattle.fac_parse.specs.inner.Reader.{literal, name, names, fixed, effect, items, marks, Open, top, row, row_form, more, with_run, State, start, steps, ended, ended_open, IsRead}
+use Rattle.fac_parse.specs.inner.Reader.{literal, name, names, tuple_slots, tuple_parent, fixed, effect, items, marks, Open, top, row, row_form, more, with_run, State, start, steps, ended, ended_open, IsRead}
 use Rattle.std.proofs.Common.{ℕ, ◌≡◌, ◌+◌, ◌<◌, ◌≤◌, List, [], ◌∷◌, ◌++◌, Option, Some, None, refl, sym, ◌∙◌, ap, subst, append_assoc, append-nil, arith, take, drop, length}
 use Rattle.std.proofs.lemmas.List.{take-append-drop, take-take, take_all}
 use Rattle.fac_lang.specs.declared.token.Token.{Token}
@@ -22,13 +22,15 @@ is_ended fs forms tokens e h = let same : fs ≡ forms = cc in subst (λ (x : Li
 open_ended : (before : List Form) (o : Open) (forms : List Form) → IsWellFormed before → GoodOpen before o → ended_open before o ≡ Some forms → Ended forms (tokens_of before o)
 open_ended before (top es []) forms fits g e = is_ended (with_run before es) forms _ e (record { fits = run_fits before es fits g.1 g.0; spelled = run_tokens before es })
 open_ended before (top es (c ∷ contexts)) forms fits g e = cc
-open_ended before (row b (marks ms)) forms fits g e =
+open_ended before (row b (marks k ms)) forms fits g e =
     is_ended (before ++ row_form (more b (part.Marks ms)) ∷ []) forms _ e (record {
-      fits = (marked_gone before b ms fits g).good.fits;
-      spelled = sym (append-nil (flatten (before ++ row_form (more b (part.Marks ms)) ∷ []))) ∙ marked_tokens before b ms fits g;
+      fits = (marked_gone before b k ms fits g).good.fits;
+      spelled = sym (append-nil (flatten (before ++ row_form (more b (part.Marks ms)) ∷ []))) ∙ marked_tokens before b k ms fits g;
     })
-open_ended before (row b name) forms fits g e = cc
-open_ended before (row b (names ns)) forms fits g e = cc
+open_ended before (row b (name k)) forms fits g e = cc
+open_ended before (row b (names k ns)) forms fits g e = cc
+open_ended before (row b (tuple_slots p ns)) forms fits g e = cc
+open_ended before (row b (tuple_parent place)) forms fits g e = cc
 open_ended before (row b (fixed key)) forms fits g e = cc
 open_ended before (row b (effect ts r)) forms fits g e = cc
 open_ended before (row b (items es contexts)) forms fits g e = cc
@@ -39,12 +41,14 @@ known ts s h = subst (λ (o : Option State). Known o ts) h (steps_known (Some st
 
 open_read : (forms : List Form) (o : Open) → GoodOpen forms o → IsRead o
 open_read forms (row b (effect ts r)) g = g.within
-open_read forms (row b name) g = tt
-open_read forms (row b (names ns)) g = tt
+open_read forms (row b (name k)) g = tt
+open_read forms (row b (names k ns)) g = tt
+open_read forms (row b (tuple_slots p ns)) g = tt
+open_read forms (row b (tuple_parent place)) g = tt
 open_read forms (row b (fixed key)) g = tt
 open_read forms (row b (items es contexts)) g = tt
 open_read forms (row b (literal es contexts)) g = tt
-open_read forms (row b (marks ms)) g = tt
+open_read forms (row b (marks k ms)) g = tt
 open_read forms (top es contexts) g = tt
 
 -- an effect that is open is read as far as its tokens

@@ -14,18 +14,18 @@ use Rattle.fac_effect.specs.Spellings.{plain_token, spelling_of, has_integer_for
 use Rattle.fac_parse.specs.Trees.{behind}
 use Rattle.fac_parse.specs.inner.Reader.{State, start, steps, ended}
 
-abbrev here : Place
+abbrev pub here : Place
 here = record { file = 1; token = 1 }
 
-abbrev w : List ℕ → Token
+abbrev pub w : List ℕ → Token
 w text = plain_token here text
 
 -- the tree of these tokens, if there is one
-abbrev forms_read : Option State → Option (List Form)
+abbrev pub forms_read : Option State → Option (List Form)
 forms_read None = None
 forms_read (Some s) = ended s
 
-abbrev tree : List Token → Option (List Form)
+abbrev pub tree : List Token → Option (List Form)
 tree tokens = forms_read (steps (Some start) tokens)
 
 abbrev item : Element

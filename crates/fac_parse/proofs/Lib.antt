@@ -7,3 +7,4 @@ pub mod ReaderCompletes
 pub mod ExactPlaces
 pub mod ParseLemmas
 pub mod ExamplesOfArrays
+pub mod ExamplesOfClasses

@@ -1,10 +1,10 @@
 -- Whatever is open can be closed.
-use Rattle.fac_parse.specs.inner.Reader.{literal, add_literal, Within, name, names, fixed, effect, items, marks, Begun, Open, top, row, State, in_state, begin, row_form, at_slot, go_on, more, with_part, with_run, with_element, written, row_items, steps, ended}
-use Rattle.fac_parse.proofs.ReaderKeeps.{inside_more, inside_ends, never_out, Lead-more}
+use Rattle.fac_parse.specs.inner.Reader.{literal, add_literal, Within, name, names, tuple_slots, tuple_parent, fixed, effect, items, marks, Begun, Open, top, row, State, in_state, begin, row_form, at_slot, go_on, more, with_part, with_run, with_element, written, row_items, steps, ended}
+use Rattle.fac_parse.proofs.ReaderKeeps.{name_fills, names_fill, inside_more, inside_ends, never_out, Lead-more}
 use Rattle.fac_parse.proofs.StateTokens.{Inside, open_inside, GoodLiteral, Filled, filled_more, first_of, next_slot, slot_of, GoodWithin, GoodOpen, Good}
-use Rattle.fac_parse.proofs.ReaderReads.{adds_literal, chain, effect_read, one, by_spelling, element_spelled, HoldsItems, top_holds_items, row_holds_items}
+use Rattle.fac_parse.proofs.ReaderReads.{named_name, name_read, names_end, slots_end, adds_literal, chain, effect_read, one, by_spelling, element_spelled, HoldsItems, top_holds_items, row_holds_items}
 use Rattle.fac_lang.specs.declared.tree.Term.TheVariants as term
-use Rattle.std.proofs.Common.{◌≡◌, List, [], ◌∷◌, ◌++◌, Option, Some, refl, ap, sym, ◌∙◌, subst}
+use Rattle.std.proofs.Common.{◌≡◌, ◌≤◌, List, [], ◌∷◌, ◌++◌, length, Option, Some, None, refl, ap, sym, ◌∙◌, subst, arith}
 use Rattle.std.specs.Prelude.{codes}
 use Rattle.fac_lang.specs.declared.phrase.Place.{Place}
 use Rattle.fac_lang.specs.declared.token.Token.{Token}
@@ -16,11 +16,15 @@ use Rattle.fac_lang.specs.declared.tree.Key.{Key}
 use Rattle.fac_lang.specs.declared.tree.Key.TheVariants.{Arrow}
 use Rattle.fac_lang.specs.declared.tree.Part.{Part}
 use Rattle.fac_lang.specs.declared.tree.Part.TheVariants as part
+use Rattle.fac_lang.specs.declared.tree.Parent.{Parent}
 use Rattle.fac_lang.specs.declared.tree.Form.{Form}
 use Rattle.fac_parse.specs.declared.context.Context.{Context}
 use Rattle.fac_parse.specs.declared.context.Context.TheVariants as context
 use Rattle.fac_parse.specs.declared.rows.Slot.{Slot}
 use Rattle.fac_parse.specs.declared.rows.Slot.TheVariants as slot
+use Rattle.fac_parse.specs.declared.rows.Naming.{Naming}
+use Rattle.fac_parse.specs.declared.rows.Naming.TheVariants as naming
+use Rattle.fac_parse.specs.declared.rows.Marked.TheVariants as marked
 use Rattle.fac_effect.specs.declared.spelling.Spelling.TheVariants.{Fixed, Semi, Name}
 use Rattle.fac_effect.specs.declared.effect_reader.EffectReader.{EffectReader}
 use Rattle.fac_effect.specs.EffectReading.{Progress, reads as reading, start as no_tokens, run, after}
@@ -28,7 +32,7 @@ use Rattle.fac_effect.proofs.EffectRuns.{run_append}
 use Rattle.fac_effect.proofs.EffectLemmas.{whole_is_effect, effect_is_whole, read_goes_on}
 use Rattle.fac_parse.specs.Rows.{slots_of}
 use Rattle.fac_effect.specs.Spellings.{token_spelling, spelling_of, has_integer_form, word_spelling, sign_spelling, is_reserved, is_reserved_sign, is_reserved_form, is_reserved_word, is_left_out, closing_text, plain_token}
-use Rattle.fac_parse.specs.Trees.{closed, Lead, Fills, AreNames}
+use Rattle.fac_parse.specs.Trees.{closed, Lead, Fills, named, IsName, AreNames, most_slots, AreSlots, IsParent}
 use Rattle.fac_effect.proofs.SpellingLemmas.{sign_is}
 
 -- a place, and a name
@@ -118,16 +122,38 @@ closes_fixed forms b Arrow = record {
   reads = by_spelling forms (row b (fixed Arrow)) (plain_token somewhere (codes "=>")) (Fixed Arrow) (sign_is (Fixed Arrow) tt);
 }
 
-closes_names : (forms : List Form) (b : Begun) (ns : List Token) → AreNames ns → ClosesPart forms b (names ns)
-closes_names forms b ns g = record {
+closes_names : (forms : List Form) (b : Begun) (k : Naming) (ns : List Token) → AreNames k ns → ClosesPart forms b (names k ns)
+closes_names forms b k ns g = record {
   tokens = plain_token somewhere (codes ";") ∷ [];
   whole = part.Names ns somewhere;
-  fills = g;
-  reads = by_spelling forms (row b (names ns)) (plain_token somewhere (codes ";")) Semi (sign_is Semi tt);
+  fills = names_fill k ns somewhere g;
+  reads = names_end forms b k ns somewhere;
 }
 
-closes_name : (forms : List Form) (b : Begun) → ClosesPart forms b name
-closes_name forms b = record { tokens = some_name ∷ []; whole = part.Name some_name; fills = is_name; reads = by_spelling forms (row b name) some_name Name is_name }
+closes_name : (forms : List Form) (b : Begun) (k : Naming) → ClosesPart forms b (name k)
+closes_name forms b k =
+    let is : IsName k some_name = ap (named k) is_name ∙ named_name k in
+    record { tokens = some_name ∷ []; whole = part.Name some_name; fills = name_fills k some_name is; reads = name_read forms b k some_name is }
+
+closes_slots : (forms : List Form) (b : Begun) (p : Option Parent) (ns : List Token) → IsParent p × AreSlots ns × (length ns ≤ most_slots) → ClosesPart forms b (tuple_slots p ns)
+closes_slots forms b p ns g = record {
+  tokens = plain_token somewhere (codes ";") ∷ [];
+  whole = part.Slots p ns somewhere;
+  fills = g;
+  reads = slots_end forms b p ns somewhere;
+}
+
+closes_parent : (forms : List Form) (b : Begun) (place : Place) → ClosesPart forms b (tuple_parent place)
+closes_parent forms b place =
+    let p : Option Parent = Some (record { sign = place; class = some_name }) in
+    record {
+      tokens = some_name ∷ plain_token somewhere (codes ";") ∷ [];
+      whole = part.Slots p [] somewhere;
+      fills = (is_name, tt, omega arith);
+      reads =
+          one (in_state forms (row b (tuple_parent place))) (in_state forms (row b (tuple_slots p []))) some_name (plain_token somewhere (codes ";") ∷ []) _ (by_spelling forms (row b (tuple_parent place)) some_name Name is_name)
+          (slots_end forms b p [] somewhere);
+    }
 
 -- a literal in which something is open
 closes_literal_from : (forms : List Form) (b : Begun) (bracket : Bracket) (place : Place) (es : List Element) (c : Context) (contexts : List Context) → Inside (open_inside bracket) es (c ∷ contexts) → ClosesPart forms b (literal (element.Opens bracket place ∷ es) (c ∷ contexts))
@@ -188,22 +214,28 @@ part_completes : (forms : List Form) (b : Begun) (w : Within) → Later forms b 
 part_completes forms b w later c = completes_then (in_state forms (row b w)) (with_part forms b c.whole) c.tokens c.reads (later c.whole c.fills)
 
 within_completes : (forms : List Form) (b : Begun) (w : Within) (rest : List Slot) → GoodWithin rest w → Later forms b (slot_of w) → Completes (in_state forms (row b w))
-within_completes forms b name rest g later = part_completes forms b name later (closes_name forms b)
-within_completes forms b (names ns) rest g later = part_completes forms b (names ns) later (closes_names forms b ns g)
+within_completes forms b (name k) rest g later = part_completes forms b (name k) later (closes_name forms b k)
+within_completes forms b (names k ns) rest g later = part_completes forms b (names k ns) later (closes_names forms b k ns g)
+within_completes forms b (tuple_slots p ns) rest g later = part_completes forms b (tuple_slots p ns) later (closes_slots forms b p ns g)
+within_completes forms b (tuple_parent place) rest g later = part_completes forms b (tuple_parent place) later (closes_parent forms b place)
 within_completes forms b (fixed key) rest g later = part_completes forms b (fixed key) later (closes_fixed forms b key)
 within_completes forms b (effect ts r) rest g later = part_completes forms b (effect ts r) later (closes_effect forms b ts r g)
 within_completes forms b (items es contexts) rest g later = part_completes forms b (items es contexts) later (closes_items forms b es contexts g)
 within_completes forms b (literal es contexts) rest g later = part_completes forms b (literal es contexts) later (closes_literal forms b es contexts g)
-within_completes forms b (marks ms) rest g later = record { tokens = []; to = in_state forms (row b (marks ms)); forms = _; reads = refl; whole = refl }
+within_completes forms b (marks k ms) rest g later = record { tokens = []; to = in_state forms (row b (marks k ms)); forms = _; reads = refl; whole = refl }
 
 begun_completes : (forms : List Form) (b : Begun) (s : Slot) → Later forms b s → Completes (in_state forms (row b (begin s)))
-begun_completes forms b slot.Name later = part_completes forms b name later (closes_name forms b)
-begun_completes forms b slot.Names later = part_completes forms b (names []) later (closes_names forms b [] tt)
+begun_completes forms b slot.Name later = part_completes forms b (name naming.Any) later (closes_name forms b naming.Any)
+begun_completes forms b slot.Class later = part_completes forms b (name naming.Class) later (closes_name forms b naming.Class)
+begun_completes forms b slot.Names later = part_completes forms b (names naming.Any []) later (closes_names forms b naming.Any [] tt)
+begun_completes forms b slot.Classes later = part_completes forms b (names naming.Class []) later (closes_names forms b naming.Class [] tt)
+begun_completes forms b slot.Slots later = part_completes forms b (tuple_slots None []) later (closes_slots forms b None [] (tt, tt, omega arith))
 begun_completes forms b (slot.Fixed key) later = part_completes forms b (fixed key) later (closes_fixed forms b key)
 begun_completes forms b slot.Effect later = part_completes forms b (effect [] no_tokens) later (closes_effect forms b [] no_tokens refl)
 begun_completes forms b slot.Items later = part_completes forms b (items [] []) later (closes_items forms b [] [] refl)
 begun_completes forms b slot.Literal later = part_completes forms b (literal [] []) later (closes_literal forms b [] [] refl)
-begun_completes forms b slot.Marks later = record { tokens = []; to = in_state forms (row b (marks [])); forms = _; reads = refl; whole = refl }
+begun_completes forms b slot.Marks later = record { tokens = []; to = in_state forms (row b (marks marked.Word [])); forms = _; reads = refl; whole = refl }
+begun_completes forms b slot.MethodMark later = record { tokens = []; to = in_state forms (row b (marks marked.Method [])); forms = _; reads = refl; whole = refl }
 
 slots_complete : (forms : List Form) (b : Begun) (rest : List Slot) → Filled (slots_of b.kind) b.parts rest → Completes (go_on forms b)
 slots_complete forms b rest h = subst (λ (o : Option Slot). Completes (at_slot forms b o)) (sym (next_slot (slots_of b.kind) b.parts rest h)) (completes_at forms b rest h) where

@@ -1,7 +1,11 @@
 -- A token that is taken is behind those before it, and what is known stays known.
 use Rattle.fac_lang.specs.declared.tree.Element.TheVariants as element
 use Rattle.fac_lang.specs.declared.tree.Term.TheVariants as term
-use Rattle.std.proofs.Common.{◌≡◌, Bool, true, false, cond, List, [], ◌∷◌, ◌++◌, Option, Some, None, refl, ap, sym, ◌∙◌, subst, append_assoc, append-nil}
+use Rattle.std.proofs.Common.{◌≡◌, ℕ, ◌≤◌, Bool, true, false, cond, List, [], ◌∷◌, ◌++◌, Option, Some, None, refl, ap, sym, ◌∙◌, subst, append_assoc, append-nil, arith, length}
+use Rattle.std.proofs.lemmas.Bool.Decides.{Decides-ltb}
+use Rattle.std.proofs.lemmas.List.{length_push}
+use Rattle.std.proofs.lemmas.Slice.Eq.{bytes_eq-Decides}
+use Rattle.std.specs.Prelude.{nat_lt, codes}
 use Rattle.fac_lang.specs.declared.phrase.Place.{Place}
 use Rattle.fac_lang.specs.declared.token.Token.{Token}
 use Rattle.fac_lang.specs.declared.tree.Element.{Element}
@@ -13,19 +17,24 @@ use Rattle.fac_lang.specs.declared.tree.Key.{Key}
 use Rattle.fac_lang.specs.declared.tree.Key.TheVariants.{Arrow}
 use Rattle.fac_lang.specs.declared.tree.Part.{Part}
 use Rattle.fac_lang.specs.declared.tree.Part.TheVariants as part
+use Rattle.fac_lang.specs.declared.tree.Parent.{Parent}
 use Rattle.fac_lang.specs.declared.tree.Form.{Form}
 use Rattle.fac_parse.specs.declared.context.Context.{Context}
 use Rattle.fac_parse.specs.declared.rows.Slot.{Slot}
+use Rattle.fac_parse.specs.declared.rows.Naming.{Naming}
+use Rattle.fac_parse.specs.declared.rows.Naming.TheVariants as naming
+use Rattle.fac_parse.specs.declared.rows.Marked.{Marked}
+use Rattle.fac_parse.specs.declared.rows.Marked.TheVariants as marked
 use Rattle.fac_effect.specs.declared.spelling.Spelling.{Spelling}
-use Rattle.fac_effect.specs.declared.spelling.Spelling.TheVariants.{Begins, Fixed, Semi, OpensBracket, ClosesBracket, True, False, Inline, Recursive, Integer, String, Name}
+use Rattle.fac_effect.specs.declared.spelling.Spelling.TheVariants.{Begins, Fixed, Semi, OpensBracket, ClosesBracket, True, False, Inline, Recursive, NextMethod, Integer, String, Name}
 use Rattle.fac_effect.specs.declared.effect_reader.EffectReader.{EffectReader}
 use Rattle.fac_effect.specs.EffectReading.{Progress, reads as reading, whole, refused, step as token_step, go_on, after}
 use Rattle.fac_effect.proofs.EffectLemmas.{whole_is_effect, after_more}
-use Rattle.fac_effect.specs.Spellings.{head_of, token_spelling, plain_token}
+use Rattle.fac_effect.specs.Spellings.{head_of, token_spelling, token_text, plain_token}
 use Rattle.fac_parse.specs.Rows.{slots_of}
-use Rattle.fac_parse.specs.Trees.{element_tokens, items_tokens, mark_token, marks_tokens, part_tokens, parts_tokens, flatten, AreNames, AreMarks, IsElement, behind, Lead, Encloses, Fills, IsWellFormed}
-use Rattle.fac_parse.specs.inner.Reader.{Within, name, names, fixed, effect, items, literal, marks, Begun, begun, Open, top, row, State, in_state, start, row_form, more, with_part, with_run, begin_row, element_of, with_element, add_element, begins, begin_or_add, top_step, name_step, names_step, key_step, fixed_step, written, effect_with, effect_step, row_items, end_items, is_semi, end_or_add, goes_into, literal_with, add_literal, mark_of, may_follow, with_mark, mark_step, row_step, open_step, step, steps}
-use Rattle.fac_effect.proofs.SpellingLemmas.{sign_token}
+use Rattle.fac_parse.specs.Trees.{element_tokens, items_tokens, mark_token, marks_tokens, parent_tokens, part_tokens, parts_tokens, flatten, named, IsName, AreNames, most_slots, is_parent_sign, AreSlots, AreMarks, IsElement, behind, Lead, Encloses, Fills, IsWellFormed}
+use Rattle.fac_parse.specs.inner.Reader.{Within, name, names, tuple_slots, tuple_parent, fixed, effect, items, literal, marks, Begun, begun, Open, top, row, State, in_state, start, row_form, more, with_part, with_run, begin_row, element_of, with_element, add_element, begins, begin_or_add, top_step, name_step, names_step, sign_step, sign_or_slot, slots_step, parent_step, key_step, fixed_step, written, effect_with, effect_step, row_items, end_items, is_semi, end_or_add, goes_into, literal_with, add_literal, mark_of, may_follow, with_mark, mark_step, row_step, open_step, step, steps}
+use Rattle.fac_effect.proofs.SpellingLemmas.{sign_token, name_token}
 use Rattle.fac_parse.proofs.StateTokens.{within_tokens, tokens_of, state_tokens, element_behind, parts-last, Filled, filled_more, slot_of, Inside, open_inside, GoodWithin, GoodRow, NoRunLast, GoodOpen, Good, run_fits, run_tokens, Gone, ended_row_gone, gone_on}
 
 -- a state is good, and has these tokens and this one
@@ -70,22 +79,71 @@ within_taken forms b w v t fits g same good e =
           ∙ front_tokens (flatten forms) head (parts_tokens b.parts) (within_tokens w) t;
     }
 
-name_keeps : (forms : List Form) (b : Begun) (t : Token) (s : Spelling) → token_spelling t.kind ≡ s → IsWellFormed forms → GoodRow b name → Keeps (tokens_of forms (row b name)) t (name_step forms b s t)
-name_keeps forms b t Name h fits g = part_taken forms b name (part.Name t) t fits g h refl
-name_keeps forms b t _ h fits g = tt
+-- Names.
 
-AreNames-more : (ts : List Token) (t : Token) → AreNames ts → token_spelling t.kind ≡ Name → AreNames (ts ++ t ∷ [])
-AreNames-more [] t h e = (e, tt)
-AreNames-more (u ∷ ts) t h e = (h.0, AreNames-more ts t h.1 e)
+named_sign : (k : Naming) (s : Spelling) → named k s ≡ Semi → s ≡ Semi
+named_sign naming.Any s h = h
+named_sign naming.Class True h = cc
+named_sign naming.Class False h = cc
+named_sign naming.Class _ h = h
+
+pub name_fills : (k : Naming) (t : Token) → IsName k t → Fills (slot_of (name k)) (part.Name t)
+name_fills naming.Any t h = h
+name_fills naming.Class t h = h
+
+pub names_fill : (k : Naming) (ns : List Token) (ends : Place) → AreNames k ns → Fills (slot_of (names k ns)) (part.Names ns ends)
+names_fill naming.Any ns ends h = h
+names_fill naming.Class ns ends h = h
+
+name_keeps : (forms : List Form) (b : Begun) (k : Naming) (t : Token) (s : Spelling) → named k (token_spelling t.kind) ≡ s → IsWellFormed forms → GoodRow b (name k) → Keeps (tokens_of forms (row b (name k))) t (name_step forms b s t)
+name_keeps forms b k t Name h fits g = part_taken forms b (name k) (part.Name t) t fits g (name_fills k t h) refl
+name_keeps forms b k t _ h fits g = tt
+
+AreNames-more : (k : Naming) (ts : List Token) (t : Token) → AreNames k ts → IsName k t → AreNames k (ts ++ t ∷ [])
+AreNames-more k [] t h e = (e, tt)
+AreNames-more k (u ∷ ts) t h e = (h.0, AreNames-more k ts t h.1 e)
 
 -- tokens and a sign behind them
 with_sign : (ts : List Token) (t : Token) (u : Token) → t ≡ u → ts ++ u ∷ [] ≡ ts ++ t ∷ []
 with_sign ts t u e = ap (λ (v : Token). ts ++ v ∷ []) (sym e)
 
-names_keeps : (forms : List Form) (b : Begun) (ns : List Token) (t : Token) (s : Spelling) → token_spelling t.kind ≡ s → IsWellFormed forms → GoodRow b (names ns) → Keeps (tokens_of forms (row b (names ns))) t (names_step forms b ns s t)
-names_keeps forms b ns t Name h fits g = within_taken forms b (names ns) (names (ns ++ t ∷ [])) t fits g refl (AreNames-more ns t g.within h) refl
-names_keeps forms b ns t Semi h fits g = part_taken forms b (names ns) (part.Names ns t.place) t fits g g.within (with_sign ns t _ (sign_token t Semi h tt))
-names_keeps forms b ns t _ h fits g = tt
+names_keeps : (forms : List Form) (b : Begun) (k : Naming) (ns : List Token) (t : Token) (s : Spelling) → named k (token_spelling t.kind) ≡ s → IsWellFormed forms → GoodRow b (names k ns) → Keeps (tokens_of forms (row b (names k ns))) t (names_step forms b k ns s t)
+names_keeps forms b k ns t Name h fits g = within_taken forms b (names k ns) (names k (ns ++ t ∷ [])) t fits g refl (AreNames-more k ns t g.within h) refl
+names_keeps forms b k ns t Semi h fits g = part_taken forms b (names k ns) (part.Names ns t.place) t fits g (names_fill k ns t.place g.within) (with_sign ns t _ (sign_token t Semi (named_sign k (token_spelling t.kind) h) tt))
+names_keeps forms b k ns t _ h fits g = tt
+
+-- Slots of a tuple class.
+
+AreSlots-more : (ts : List Token) (t : Token) → AreSlots ts → token_spelling t.kind ≡ Name → is_parent_sign t ≡ false → AreSlots (ts ++ t ∷ [])
+AreSlots-more [] t h e f = (e, f, tt)
+AreSlots-more (u ∷ ts) t h e f = (h.0, h.1, AreSlots-more ts t h.2 e f)
+
+one_more : (ts : List Token) (t : Token) (most : ℕ) → nat_lt (length ts) most ≡ true → length (ts ++ t ∷ []) ≤ most
+one_more ts t most h = let pushed = length_push ts t in let less = (Decides-ltb (length ts) most).0 h in omega (arith, pushed, less)
+
+-- the sign before a parent
+pub parent_sign : (t : Token) → token_spelling t.kind ≡ Name → is_parent_sign t ≡ true → t ≡ plain_token t.place (codes "<")
+parent_sign t h e = name_token t h ∙ ap (plain_token t.place) ((bytes_eq-Decides (token_text t.kind) (codes "<")).0 e)
+
+sign_keeps : (forms : List Form) (b : Begun) (p : Option Parent) (ns : List Token) (t : Token) → t ≡ plain_token t.place (codes "<") → IsWellFormed forms → GoodRow b (tuple_slots p ns) → Keeps (tokens_of forms (row b (tuple_slots p ns))) t (sign_step forms b p ns t.place)
+sign_keeps forms b None [] t is fits g = within_taken forms b (tuple_slots None []) (tuple_parent t.place) t fits g refl tt (with_sign [] t _ is)
+sign_keeps forms b None (n ∷ ns) t is fits g = tt
+sign_keeps forms b (Some q) ns t is fits g = tt
+
+slot_keeps : (forms : List Form) (b : Begun) (p : Option Parent) (ns : List Token) (t : Token) (o : Bool) → is_parent_sign t ≡ o → token_spelling t.kind ≡ Name → IsWellFormed forms → GoodRow b (tuple_slots p ns) → Keeps (tokens_of forms (row b (tuple_slots p ns))) t (sign_or_slot forms b p ns o t)
+slot_keeps forms b p ns t true e h fits g = sign_keeps forms b p ns t (parent_sign t h e) fits g
+slot_keeps forms b p ns t false e h fits g =
+    cond_keeps (nat_lt (length ns) most_slots) _ t (in_state forms (row b (tuple_slots p (ns ++ t ∷ [])))) (λ few.
+    within_taken forms b (tuple_slots p ns) (tuple_slots p (ns ++ t ∷ [])) t fits g refl (g.within.0, AreSlots-more ns t g.within.1 h e, one_more ns t most_slots few) (sym (append_assoc (parent_tokens p) ns (t ∷ []))))
+
+slots_keeps : (forms : List Form) (b : Begun) (p : Option Parent) (ns : List Token) (t : Token) (s : Spelling) → token_spelling t.kind ≡ s → IsWellFormed forms → GoodRow b (tuple_slots p ns) → Keeps (tokens_of forms (row b (tuple_slots p ns))) t (slots_step forms b p ns s t)
+slots_keeps forms b p ns t Name h fits g = slot_keeps forms b p ns t (is_parent_sign t) refl h fits g
+slots_keeps forms b p ns t Semi h fits g = part_taken forms b (tuple_slots p ns) (part.Slots p ns t.place) t fits g g.within (with_sign (parent_tokens p ++ ns) t _ (sign_token t Semi h tt))
+slots_keeps forms b p ns t _ h fits g = tt
+
+parent_keeps : (forms : List Form) (b : Begun) (place : Place) (t : Token) (s : Spelling) → token_spelling t.kind ≡ s → IsWellFormed forms → GoodRow b (tuple_parent place) → Keeps (tokens_of forms (row b (tuple_parent place))) t (parent_step forms b place s t)
+parent_keeps forms b place t Name h fits g = within_taken forms b (tuple_parent place) (tuple_slots (Some (record { sign = place; class = t })) []) t fits g refl (h, tt, omega arith) refl
+parent_keeps forms b place t _ h fits g = tt
 
 key_keeps : (forms : List Form) (b : Begun) (key other : Key) (t : Token) → token_spelling t.kind ≡ Fixed other → IsWellFormed forms → GoodRow b (fixed key) → Keeps (tokens_of forms (row b (fixed key))) t (key_step forms b key other t.place)
 key_keeps forms b Arrow Arrow t h fits g = part_taken forms b (fixed Arrow) (part.Fixed Arrow t.place) t fits g refl (with_sign [] t _ (sign_token t (Fixed Arrow) h tt))
@@ -124,6 +182,7 @@ element_is t String h = (h, refl)
 element_is t Name h = (h, refl)
 element_is t True h = (tt, alone t _ (sign_token t True h tt))
 element_is t False h = (tt, alone t _ (sign_token t False h tt))
+element_is t NextMethod h = (tt, alone t _ (sign_token t NextMethod h tt))
 element_is t (OpensBracket bracket) h = (tt, alone t _ (sign_token t (OpensBracket bracket) h tt))
 element_is t (ClosesBracket bracket) h = (tt, alone t _ (sign_token t (ClosesBracket bracket) h tt))
 element_is t _ h = tt
@@ -214,6 +273,7 @@ literal_begins forms b t (element.Item (term.Integer n z)) fits g is spelled = p
 literal_begins forms b t (element.Item (term.Text n)) fits g is spelled = part_taken forms b (literal [] []) (part.Literal (element.Item (term.Text n) ∷ [])) t fits g is spelled
 literal_begins forms b t (element.Item (term.True place)) fits g is spelled = part_taken forms b (literal [] []) (part.Literal (element.Item (term.True place) ∷ [])) t fits g is spelled
 literal_begins forms b t (element.Item (term.False place)) fits g is spelled = part_taken forms b (literal [] []) (part.Literal (element.Item (term.False place) ∷ [])) t fits g is spelled
+literal_begins forms b t (element.Item (term.NextMethod place)) fits g is spelled = tt
 literal_begins forms b t (element.Opens bracket place) fits g is spelled = within_taken forms b (literal [] []) (literal (element.Opens bracket place ∷ []) (open_inside bracket)) t fits g refl refl spelled
 literal_begins forms b t (element.Closes bracket place) fits g is spelled = tt
 
@@ -223,6 +283,7 @@ into_open c contexts (element.Item (term.Integer n z)) = refl
 into_open c contexts (element.Item (term.Text n)) = refl
 into_open c contexts (element.Item (term.True place)) = refl
 into_open c contexts (element.Item (term.False place)) = refl
+into_open c contexts (element.Item (term.NextMethod place)) = refl
 into_open c contexts (element.Opens bracket place) = refl
 into_open c contexts (element.Closes bracket place) = refl
 
@@ -253,49 +314,58 @@ mark_is t Inline h = sign_token t Inline h tt
 mark_is t Recursive h = sign_token t Recursive h tt
 mark_is t _ h = tt
 
-AreMarks-more : (ms : List Mark) (m : Mark) → AreMarks ms → may_follow ms m ≡ true → AreMarks (ms ++ m ∷ [])
-AreMarks-more [] m h f = tt
-AreMarks-more (mark.Inline p ∷ []) (mark.Inline q) h f = cc
-AreMarks-more (mark.Inline p ∷ []) (mark.Recursive q) h f = tt
-AreMarks-more (mark.Recursive p ∷ []) (mark.Inline q) h f = tt
-AreMarks-more (mark.Recursive p ∷ []) (mark.Recursive q) h f = cc
-AreMarks-more (mark.Inline p ∷ k ∷ ms) m h f = cc
-AreMarks-more (mark.Recursive p ∷ k ∷ ms) m h f = cc
+AreMarks-more : (k : Marked) (ms : List Mark) (m : Mark) → AreMarks k ms → may_follow k ms m ≡ true → AreMarks k (ms ++ m ∷ [])
+AreMarks-more marked.Word [] m h f = tt
+AreMarks-more marked.Word (mark.Inline p ∷ []) (mark.Inline q) h f = cc
+AreMarks-more marked.Word (mark.Inline p ∷ []) (mark.Recursive q) h f = tt
+AreMarks-more marked.Word (mark.Recursive p ∷ []) (mark.Inline q) h f = tt
+AreMarks-more marked.Word (mark.Recursive p ∷ []) (mark.Recursive q) h f = cc
+AreMarks-more marked.Word (mark.Inline p ∷ n ∷ ms) m h f = cc
+AreMarks-more marked.Word (mark.Recursive p ∷ n ∷ ms) m h f = cc
+AreMarks-more marked.Method [] (mark.Inline q) h f = tt
+AreMarks-more marked.Method [] (mark.Recursive q) h f = cc
+AreMarks-more marked.Method (n ∷ ms) m h f = cc
+
+pub marks_fill : (k : Marked) (ms : List Mark) → AreMarks k ms → Fills (slot_of (marks k ms)) (part.Marks ms)
+marks_fill marked.Word ms h = h
+marks_fill marked.Method ms h = h
 
 marks-last : (ms : List Mark) (m : Mark) → marks_tokens (ms ++ m ∷ []) ≡ marks_tokens ms ++ mark_token m ∷ []
 marks-last [] m = refl
 marks-last (k ∷ ms) m = ap (λ (ts : List Token). mark_token k ∷ ts) (marks-last ms m)
 
-mark_keeps : (forms : List Form) (b : Begun) (ms : List Mark) (t : Token) (m : Mark) → t ≡ mark_token m → IsWellFormed forms → GoodRow b (marks ms) → Keeps (tokens_of forms (row b (marks ms))) t (with_mark forms b ms m)
-mark_keeps forms b ms t m e fits g =
-    cond_keeps (may_follow ms m) _ t (in_state forms (row b (marks (ms ++ m ∷ [])))) (λ h.
-    within_taken forms b (marks ms) (marks (ms ++ m ∷ [])) t fits g refl (AreMarks-more ms m g.within.0 h, g.within.1) (marks-last ms m ∙ with_sign (marks_tokens ms) t (mark_token m) e))
+mark_keeps : (forms : List Form) (b : Begun) (k : Marked) (ms : List Mark) (t : Token) (m : Mark) → t ≡ mark_token m → IsWellFormed forms → GoodRow b (marks k ms) → Keeps (tokens_of forms (row b (marks k ms))) t (with_mark forms b k ms m)
+mark_keeps forms b k ms t m e fits g =
+    cond_keeps (may_follow k ms m) _ t (in_state forms (row b (marks k (ms ++ m ∷ [])))) (λ h.
+    within_taken forms b (marks k ms) (marks k (ms ++ m ∷ [])) t fits g refl (AreMarks-more k ms m g.within.0 h, g.within.1) (marks-last ms m ∙ with_sign (marks_tokens ms) t (mark_token m) e))
 
 -- a row with its marks, which ends
-pub marked_gone : (forms : List Form) (b : Begun) (ms : List Mark) → IsWellFormed forms → GoodRow b (marks ms) → Gone forms (more b (part.Marks ms)) (in_state (forms ++ row_form (more b (part.Marks ms)) ∷ []) (top [] []))
-marked_gone forms b ms fits g =
-    ended_row_gone forms (more b (part.Marks ms)) fits (filled_more (slots_of b.kind) b.parts (slot_of (marks ms)) [] (part.Marks ms) (subst (λ (rest : List Slot). Filled (slots_of b.kind) b.parts (slot_of (marks ms) ∷ rest)) g.within.1 g.filled) g.within.0)
+pub marked_gone : (forms : List Form) (b : Begun) (k : Marked) (ms : List Mark) → IsWellFormed forms → GoodRow b (marks k ms) → Gone forms (more b (part.Marks ms)) (in_state (forms ++ row_form (more b (part.Marks ms)) ∷ []) (top [] []))
+marked_gone forms b k ms fits g =
+    ended_row_gone forms (more b (part.Marks ms)) fits (filled_more (slots_of b.kind) b.parts (slot_of (marks k ms)) [] (part.Marks ms) (subst (λ (rest : List Slot). Filled (slots_of b.kind) b.parts (slot_of (marks k ms) ∷ rest)) g.within.1 g.filled) (marks_fill k ms g.within.0))
 
-pub marked_tokens : (forms : List Form) (b : Begun) (ms : List Mark) → IsWellFormed forms → GoodRow b (marks ms) → tokens_of (forms ++ row_form (more b (part.Marks ms)) ∷ []) (top [] []) ≡ tokens_of forms (row b (marks ms))
-marked_tokens forms b ms fits g =
-    (marked_gone forms b ms fits g).tokens ∙ ap (λ (ts : List Token). flatten forms ++ plain_token b.opens (head_of b.kind) ∷ ts) (parts-last b.parts (part.Marks ms))
+pub marked_tokens : (forms : List Form) (b : Begun) (k : Marked) (ms : List Mark) → IsWellFormed forms → GoodRow b (marks k ms) → tokens_of (forms ++ row_form (more b (part.Marks ms)) ∷ []) (top [] []) ≡ tokens_of forms (row b (marks k ms))
+marked_tokens forms b k ms fits g =
+    (marked_gone forms b k ms fits g).tokens ∙ ap (λ (ts : List Token). flatten forms ++ plain_token b.opens (head_of b.kind) ∷ ts) (parts-last b.parts (part.Marks ms))
 
-marks_keeps_by : (forms : List Form) (b : Begun) (ms : List Mark) (o : Option Mark) (s : Spelling) (t : Token) → IsMarkOf t o → token_spelling t.kind ≡ s → IsWellFormed forms → GoodRow b (marks ms) → Keeps (tokens_of forms (row b (marks ms))) t (mark_step forms b ms o s t)
-marks_keeps_by forms b ms (Some m) s t is h fits g = mark_keeps forms b ms t m is fits g
-marks_keeps_by forms b ms None s t is h fits g =
-    let ended = (marked_gone forms b ms fits g).good in
-    subst (λ (ts : List Token). Keeps ts t (mark_step forms b ms None s t)) (marked_tokens forms b ms fits g) (top_keeps (forms ++ row_form (more b (part.Marks ms)) ∷ []) [] [] s t h ended.fits ended.opens)
+marks_keeps_by : (forms : List Form) (b : Begun) (k : Marked) (ms : List Mark) (o : Option Mark) (s : Spelling) (t : Token) → IsMarkOf t o → token_spelling t.kind ≡ s → IsWellFormed forms → GoodRow b (marks k ms) → Keeps (tokens_of forms (row b (marks k ms))) t (mark_step forms b k ms o s t)
+marks_keeps_by forms b k ms (Some m) s t is h fits g = mark_keeps forms b k ms t m is fits g
+marks_keeps_by forms b k ms None s t is h fits g =
+    let ended = (marked_gone forms b k ms fits g).good in
+    subst (λ (ts : List Token). Keeps ts t (mark_step forms b k ms None s t)) (marked_tokens forms b k ms fits g) (top_keeps (forms ++ row_form (more b (part.Marks ms)) ∷ []) [] [] s t h ended.fits ended.opens)
 
 -- All.
 
 row_keeps : (forms : List Form) (b : Begun) (w : Within) (s : Spelling) (t : Token) → token_spelling t.kind ≡ s → IsWellFormed forms → GoodRow b w → Keeps (tokens_of forms (row b w)) t (row_step forms b w s t)
-row_keeps forms b name s t h fits g = name_keeps forms b t s h fits g
-row_keeps forms b (names ns) s t h fits g = names_keeps forms b ns t s h fits g
+row_keeps forms b (name k) s t h fits g = name_keeps forms b k t (named k s) (ap (named k) h) fits g
+row_keeps forms b (names k ns) s t h fits g = names_keeps forms b k ns t (named k s) (ap (named k) h) fits g
+row_keeps forms b (tuple_slots p ns) s t h fits g = slots_keeps forms b p ns t s h fits g
+row_keeps forms b (tuple_parent place) s t h fits g = parent_keeps forms b place t s h fits g
 row_keeps forms b (fixed key) s t h fits g = fixed_keeps forms b key t s h fits g
 row_keeps forms b (effect ts r) s t h fits g = effect_keeps forms b ts r t s h fits g
 row_keeps forms b (items es contexts) s t h fits g = items_keeps_by forms b es contexts (is_semi s) s t refl h fits g
 row_keeps forms b (literal es contexts) s t h fits g = literal_keeps forms b es contexts (element_of s t) t (element_is t s h) fits g
-row_keeps forms b (marks ms) s t h fits g = marks_keeps_by forms b ms (mark_of s t.place) s t (mark_is t s h) h fits g
+row_keeps forms b (marks k ms) s t h fits g = marks_keeps_by forms b k ms (mark_of s t.place) s t (mark_is t s h) h fits g
 
 open_keeps : (forms : List Form) (o : Open) (t : Token) → IsWellFormed forms → GoodOpen forms o → Keeps (tokens_of forms o) t (open_step forms o (token_spelling t.kind) t)
 open_keeps forms (top es contexts) t fits g = top_keeps forms es contexts (token_spelling t.kind) t refl fits g

@@ -1,12 +1,14 @@
 -- The tokens of a well-formed tree are read, to that tree.
-use Rattle.fac_parse.specs.inner.Reader.{literal, goes_into, literal_with, add_literal, Within, name, names, fixed, effect, items, marks, Begun, begun, Open, top, row, State, in_state, start, row_form, row_ended, at_slot, go_on, more, with_part, element_of, with_element, add_element, begins, begin_or_add, top_step, written, effect_with, row_items, is_semi, end_or_add, mark_of, mark_step, open_step, step, steps, ended}
-use Rattle.fac_parse.specs.Trees.{behind, IsLiteral, Encloses, element_tokens, items_tokens, marks_tokens, part_tokens, parts_tokens, form_tokens, flatten, AreNames, IsElement, Lead, AreMarks, FillAll, IsWellFormed, Reads}
+use Rattle.fac_parse.specs.inner.Reader.{literal, goes_into, literal_with, add_literal, Within, name, names, tuple_slots, tuple_parent, fixed, effect, items, marks, Begun, begun, Open, top, row, State, in_state, start, row_form, row_ended, at_slot, go_on, more, with_part, name_step, names_step, sign_or_slot, element_of, with_element, add_element, begins, begin_or_add, top_step, written, effect_with, row_items, is_semi, end_or_add, mark_of, may_follow, mark_step, open_step, step, steps, ended}
+use Rattle.fac_parse.specs.Trees.{behind, IsLiteral, Encloses, element_tokens, items_tokens, mark_token, marks_tokens, part_tokens, parts_tokens, form_tokens, flatten, named, IsName, AreNames, most_slots, AreSlots, IsParent, IsElement, Lead, AreMarks, FillAll, IsWellFormed, Reads}
 use Rattle.fac_parse.proofs.ReaderKeeps.{into_open}
 use Rattle.fac_parse.proofs.StateTokens.{open_inside, Filled, filled_more, first_of, next_slot, MarksLast, marks_last}
-use Rattle.std.proofs.Common.{◌≡◌, Bool, false, cond, List, [], ◌∷◌, ◌++◌, Option, Some, None, refl, ap, sym, ◌∙◌, subst, append_assoc, append-nil}
-use Rattle.std.specs.Prelude.{codes}
+use Rattle.std.proofs.Common.{◌≡◌, ℕ, ◌≤◌, Bool, true, false, cond, List, [], ◌∷◌, ◌++◌, Option, Some, None, refl, ap, sym, ◌∙◌, subst, append_assoc, append-nil, arith, length, length-append}
+use Rattle.std.specs.Prelude.{codes, nat_lt}
+use Rattle.std.proofs.lemmas.Bool.Decides.{Decides-ltb}
 use Rattle.fac_lang.specs.declared.phrase.Place.{Place}
 use Rattle.fac_lang.specs.declared.token.Token.{Token}
+use Rattle.fac_lang.specs.declared.token.TokKind.TheVariants.{Plain}
 use Rattle.fac_lang.specs.declared.tree.Term.TheVariants as term
 use Rattle.fac_lang.specs.declared.tree.Element.{Element}
 use Rattle.fac_lang.specs.declared.tree.Element.TheVariants as element
@@ -17,13 +19,18 @@ use Rattle.fac_lang.specs.declared.tree.Key.{Key}
 use Rattle.fac_lang.specs.declared.tree.Key.TheVariants.{Arrow}
 use Rattle.fac_lang.specs.declared.tree.Part.{Part}
 use Rattle.fac_lang.specs.declared.tree.Part.TheVariants as part
+use Rattle.fac_lang.specs.declared.tree.Parent.{Parent}
 use Rattle.fac_lang.specs.declared.tree.Form.{Form}
 use Rattle.fac_lang.specs.declared.tree.Form.TheVariants.{Row, Items}
 use Rattle.fac_parse.specs.declared.context.Context.{Context}
 use Rattle.fac_parse.specs.declared.rows.Slot.{Slot}
 use Rattle.fac_parse.specs.declared.rows.Slot.TheVariants as slot
+use Rattle.fac_parse.specs.declared.rows.Naming.{Naming}
+use Rattle.fac_parse.specs.declared.rows.Naming.TheVariants as naming
+use Rattle.fac_parse.specs.declared.rows.Marked.{Marked}
+use Rattle.fac_parse.specs.declared.rows.Marked.TheVariants as marked
 use Rattle.fac_effect.specs.declared.spelling.Spelling.{Spelling}
-use Rattle.fac_effect.specs.declared.spelling.Spelling.TheVariants.{Begins, Fixed, Semi, OpensBracket, ClosesBracket, True, False, Inline, Recursive, Name}
+use Rattle.fac_effect.specs.declared.spelling.Spelling.TheVariants.{Begins, Fixed, Semi, OpensBracket, ClosesBracket, True, False, Inline, Recursive, NextMethod, Name}
 use Rattle.fac_lang.specs.Signatures.{Signature}
 use Rattle.fac_effect.specs.declared.effect_reader.EffectReader.{EffectReader}
 use Rattle.fac_effect.specs.declared.effect_reader.EffectWhy.{EffectWhy}
@@ -32,7 +39,7 @@ use Rattle.fac_effect.specs.EffectReading.{Progress, reads as reading, whole as 
 use Rattle.fac_effect.proofs.EffectRuns.{refused_stays}
 use Rattle.fac_effect.proofs.EffectLemmas.{effect_is_whole}
 use Rattle.fac_effect.specs.WrittenEffects.{IsEffect}
-use Rattle.fac_effect.specs.Spellings.{head_of, opening_text, closing_text, token_spelling, plain_token}
+use Rattle.fac_effect.specs.Spellings.{head_of, opening_text, closing_text, token_spelling, plain_token, spelling_of, has_integer_form, word_spelling, sign_spelling, is_reserved, is_reserved_sign, is_reserved_form, is_reserved_word, is_left_out}
 use Rattle.fac_parse.specs.Rows.{slots_of}
 use Rattle.fac_effect.proofs.SpellingLemmas.{sign_is}
 
@@ -58,11 +65,61 @@ by_spelling forms o t s h = ap (λ (x : Spelling). open_step forms o x t) h
 
 -- Names.
 
-names_read : (forms : List Form) (b : Begun) (ns ms : List Token) → AreNames ms → steps (Some (in_state forms (row b (names ns)))) ms ≡ Some (in_state forms (row b (names (ns ++ ms))))
-names_read forms b ns [] h = ap (λ (x : List Token). Some (in_state forms (row b (names x)))) (sym (append-nil ns))
-names_read forms b ns (t ∷ ms) h =
-    one (in_state forms (row b (names ns))) (in_state forms (row b (names (ns ++ t ∷ [])))) t ms _ (by_spelling forms (row b (names ns)) t Name h.0)
-    (names_read forms b (ns ++ t ∷ []) ms h.1 ∙ ap (λ (x : List Token). Some (in_state forms (row b (names x)))) (append_assoc ns (t ∷ []) ms))
+pub named_name : (k : Naming) → named k Name ≡ Name
+named_name naming.Any = refl
+named_name naming.Class = refl
+
+named_semi : (k : Naming) → named k Semi ≡ Semi
+named_semi naming.Any = refl
+named_semi naming.Class = refl
+
+pub name_read : (forms : List Form) (b : Begun) (k : Naming) (t : Token) → IsName k t → step (in_state forms (row b (name k))) t ≡ Some (with_part forms b (part.Name t))
+name_read forms b k t h = ap (λ (s : Spelling). name_step forms b s t) h
+
+pub names_end : (forms : List Form) (b : Begun) (k : Naming) (ns : List Token) (ends : Place) → step (in_state forms (row b (names k ns))) (plain_token ends (codes ";")) ≡ Some (with_part forms b (part.Names ns ends))
+names_end forms b k ns ends =
+    let t = plain_token ends (codes ";") in
+    by_spelling forms (row b (names k ns)) t Semi (sign_is Semi tt) ∙ ap (λ (s : Spelling). names_step forms b k ns s t) (named_semi k)
+
+names_read : (forms : List Form) (b : Begun) (k : Naming) (ns ms : List Token) → AreNames k ms → steps (Some (in_state forms (row b (names k ns)))) ms ≡ Some (in_state forms (row b (names k (ns ++ ms))))
+names_read forms b k ns [] h = ap (λ (x : List Token). Some (in_state forms (row b (names k x)))) (sym (append-nil ns))
+names_read forms b k ns (t ∷ ms) h =
+    one (in_state forms (row b (names k ns))) (in_state forms (row b (names k (ns ++ t ∷ [])))) t ms _ (ap (λ (s : Spelling). names_step forms b k ns s t) h.0)
+    (names_read forms b k (ns ++ t ∷ []) ms h.1 ∙ ap (λ (x : List Token). Some (in_state forms (row b (names k x)))) (append_assoc ns (t ∷ []) ms))
+
+-- Slots of a tuple class.
+
+has_room : (ns : List Token) (t : Token) (ms : List Token) (most : ℕ) → length (ns ++ t ∷ ms) ≤ most → nat_lt (length ns) most ≡ true
+has_room ns t ms most h = let both = length-append ns (t ∷ ms) in (Decides-ltb (length ns) most).1 (omega (arith, h, both))
+
+slots_read : (forms : List Form) (b : Begun) (p : Option Parent) (ns ms : List Token) → AreSlots ms → length (ns ++ ms) ≤ most_slots → steps (Some (in_state forms (row b (tuple_slots p ns)))) ms ≡ Some (in_state forms (row b (tuple_slots p (ns ++ ms))))
+slots_read forms b p ns [] h few = ap (λ (x : List Token). Some (in_state forms (row b (tuple_slots p x)))) (sym (append-nil ns))
+slots_read forms b p ns (t ∷ ms) h few =
+    let next = in_state forms (row b (tuple_slots p (ns ++ t ∷ []))) in
+    one (in_state forms (row b (tuple_slots p ns))) next t ms _
+    (by_spelling forms (row b (tuple_slots p ns)) t Name h.0 ∙ ap (λ (x : Bool). sign_or_slot forms b p ns x t) h.1 ∙ ap (λ (x : Bool). cond x (Some next) None) (has_room ns t ms most_slots few))
+    (slots_read forms b p (ns ++ t ∷ []) ms h.2 (subst (λ (x : List Token). length x ≤ most_slots) (sym (append_assoc ns (t ∷ []) ms)) few) ∙ ap (λ (x : List Token). Some (in_state forms (row b (tuple_slots p x)))) (append_assoc ns (t ∷ []) ms))
+
+pub slots_end : (forms : List Form) (b : Begun) (p : Option Parent) (ns : List Token) (ends : Place) → step (in_state forms (row b (tuple_slots p ns))) (plain_token ends (codes ";")) ≡ Some (with_part forms b (part.Slots p ns ends))
+slots_end forms b p ns ends = by_spelling forms (row b (tuple_slots p ns)) (plain_token ends (codes ";")) Semi (sign_is Semi tt)
+
+all_slots_read : (forms : List Form) (b : Begun) (p : Option Parent) (ns : List Token) (ends : Place) → AreSlots ns → length ns ≤ most_slots → steps (Some (in_state forms (row b (tuple_slots p [])))) (ns ++ plain_token ends (codes ";") ∷ []) ≡ Some (with_part forms b (part.Slots p ns ends))
+all_slots_read forms b p ns ends h few =
+    chain (in_state forms (row b (tuple_slots p []))) (in_state forms (row b (tuple_slots p ns))) ns (plain_token ends (codes ";") ∷ []) _ (slots_read forms b p [] ns h few) (slots_end forms b p ns ends)
+
+sign_is_name : token_spelling (Plain (codes "<")) ≡ Name
+unfolding spelling_of has_integer_form word_spelling sign_spelling is_reserved is_reserved_sign is_reserved_form is_reserved_word is_left_out
+sign_is_name = refl
+
+sign_read : (forms : List Form) (b : Begun) (place : Place) → step (in_state forms (row b (tuple_slots None []))) (plain_token place (codes "<")) ≡ Some (in_state forms (row b (tuple_parent place)))
+sign_read forms b place = by_spelling forms (row b (tuple_slots None [])) (plain_token place (codes "<")) Name sign_is_name
+
+slots_part_read : (forms : List Form) (b : Begun) (p : Option Parent) (ns : List Token) (ends : Place) → IsParent p → AreSlots ns → length ns ≤ most_slots → steps (Some (in_state forms (row b (tuple_slots None [])))) (part_tokens (part.Slots p ns ends)) ≡ Some (with_part forms b (part.Slots p ns ends))
+slots_part_read forms b None ns ends i h few = all_slots_read forms b None ns ends h few
+slots_part_read forms b (Some q) ns ends i h few =
+    let rest = ns ++ plain_token ends (codes ";") ∷ [] in
+    one (in_state forms (row b (tuple_slots None []))) (in_state forms (row b (tuple_parent q.sign))) (plain_token q.sign (codes "<")) (q.class ∷ rest) _ (sign_read forms b q.sign)
+    (one (in_state forms (row b (tuple_parent q.sign))) (in_state forms (row b (tuple_slots (Some q) []))) q.class rest _ (by_spelling forms (row b (tuple_parent q.sign)) q.class Name i) (all_slots_read forms b (Some q) ns ends h few))
 
 -- Effects.
 
@@ -94,6 +151,7 @@ term_token (element.Item (term.Integer t z)) = t
 term_token (element.Item (term.Text t)) = t
 term_token (element.Item (term.True place)) = plain_token place (codes "t")
 term_token (element.Item (term.False place)) = plain_token place (codes "f")
+term_token (element.Item (term.NextMethod place)) = plain_token place (codes "call-next-method")
 term_token (element.Opens bracket place) = plain_token place (opening_text bracket)
 term_token (element.Closes bracket place) = plain_token place (closing_text bracket)
 
@@ -103,6 +161,7 @@ token_alone (element.Item (term.Integer t z)) = refl
 token_alone (element.Item (term.Text t)) = refl
 token_alone (element.Item (term.True place)) = refl
 token_alone (element.Item (term.False place)) = refl
+token_alone (element.Item (term.NextMethod place)) = refl
 token_alone (element.Opens bracket place) = refl
 token_alone (element.Closes bracket place) = refl
 
@@ -112,6 +171,7 @@ element_spelled (element.Item (term.Integer t z)) h = ap (λ (s : Spelling). ele
 element_spelled (element.Item (term.Text t)) h = ap (λ (s : Spelling). element_of s t) h
 element_spelled (element.Item (term.True place)) h = ap (λ (s : Spelling). element_of s (plain_token place (codes "t"))) (sign_is True tt)
 element_spelled (element.Item (term.False place)) h = ap (λ (s : Spelling). element_of s (plain_token place (codes "f"))) (sign_is False tt)
+element_spelled (element.Item (term.NextMethod place)) h = ap (λ (s : Spelling). element_of s (plain_token place (codes "call-next-method"))) (sign_is NextMethod tt)
 element_spelled (element.Opens bracket place) h = ap (λ (s : Spelling). element_of s (plain_token place (opening_text bracket))) (sign_is (OpensBracket bracket) tt)
 element_spelled (element.Closes bracket place) h = ap (λ (s : Spelling). element_of s (plain_token place (closing_text bracket))) (sign_is (ClosesBracket bracket) tt)
 
@@ -156,28 +216,36 @@ elements_read held forms holds es (e ∷ ms) from to h =
 
 -- Parts.
 
-marks_read : (forms : List Form) (b : Begun) (ms : List Mark) → AreMarks ms → steps (Some (in_state forms (row b (marks [])))) (marks_tokens ms) ≡ Some (in_state forms (row b (marks ms)))
-marks_read forms b [] h = refl
-marks_read forms b (mark.Inline place ∷ []) h = by_spelling forms (row b (marks [])) (plain_token place (codes "inline")) Inline (sign_is Inline tt)
-marks_read forms b (mark.Recursive place ∷ []) h = by_spelling forms (row b (marks [])) (plain_token place (codes "recursive")) Recursive (sign_is Recursive tt)
-marks_read forms b (mark.Inline place ∷ mark.Recursive other ∷ []) h =
-    one (in_state forms (row b (marks []))) (in_state forms (row b (marks (mark.Inline place ∷ [])))) (plain_token place (codes "inline")) (plain_token other (codes "recursive") ∷ []) _
-    (by_spelling forms (row b (marks [])) (plain_token place (codes "inline")) Inline (sign_is Inline tt)) (by_spelling forms (row b (marks (mark.Inline place ∷ []))) (plain_token other (codes "recursive")) Recursive (sign_is Recursive tt))
-marks_read forms b (mark.Recursive place ∷ mark.Inline other ∷ []) h =
-    one (in_state forms (row b (marks []))) (in_state forms (row b (marks (mark.Recursive place ∷ [])))) (plain_token place (codes "recursive")) (plain_token other (codes "inline") ∷ []) _
-    (by_spelling forms (row b (marks [])) (plain_token place (codes "recursive")) Recursive (sign_is Recursive tt)) (by_spelling forms (row b (marks (mark.Recursive place ∷ []))) (plain_token other (codes "inline")) Inline (sign_is Inline tt))
-marks_read forms b (mark.Inline place ∷ mark.Inline other ∷ ms) h = absurd h
-marks_read forms b (mark.Recursive place ∷ mark.Recursive other ∷ ms) h = absurd h
-marks_read forms b (mark.Inline place ∷ mark.Recursive other ∷ m ∷ ms) h = absurd h
-marks_read forms b (mark.Recursive place ∷ mark.Inline other ∷ m ∷ ms) h = absurd h
+-- a mark that may stand behind these
+mark_read : (forms : List Form) (b : Begun) (k : Marked) (ms : List Mark) (m : Mark) → may_follow k ms m ≡ true → step (in_state forms (row b (marks k ms))) (mark_token m) ≡ Some (in_state forms (row b (marks k (ms ++ m ∷ []))))
+mark_read forms b k ms (mark.Inline place) h =
+    by_spelling forms (row b (marks k ms)) (mark_token (mark.Inline place)) Inline (sign_is Inline tt) ∙ ap (λ (x : Bool). cond x (Some (in_state forms (row b (marks k (ms ++ mark.Inline place ∷ []))))) None) h
+mark_read forms b k ms (mark.Recursive place) h =
+    by_spelling forms (row b (marks k ms)) (mark_token (mark.Recursive place)) Recursive (sign_is Recursive tt) ∙ ap (λ (x : Bool). cond x (Some (in_state forms (row b (marks k (ms ++ mark.Recursive place ∷ []))))) None) h
+
+both_read : (forms : List Form) (b : Begun) (m n : Mark) → may_follow marked.Word [] m ≡ true → may_follow marked.Word (m ∷ []) n ≡ true → steps (Some (in_state forms (row b (marks marked.Word [])))) (marks_tokens (m ∷ n ∷ [])) ≡ Some (in_state forms (row b (marks marked.Word (m ∷ n ∷ []))))
+both_read forms b m n h k =
+    one (in_state forms (row b (marks marked.Word []))) (in_state forms (row b (marks marked.Word (m ∷ [])))) (mark_token m) (mark_token n ∷ []) _ (mark_read forms b marked.Word [] m h) (mark_read forms b marked.Word (m ∷ []) n k)
+
+marks_read : (forms : List Form) (b : Begun) (k : Marked) (ms : List Mark) → AreMarks k ms → steps (Some (in_state forms (row b (marks k [])))) (marks_tokens ms) ≡ Some (in_state forms (row b (marks k ms)))
+marks_read forms b k [] h = refl
+marks_read forms b marked.Word (m ∷ []) h = mark_read forms b marked.Word [] m refl
+marks_read forms b marked.Word (mark.Inline place ∷ mark.Recursive other ∷ []) h = both_read forms b (mark.Inline place) (mark.Recursive other) refl refl
+marks_read forms b marked.Word (mark.Recursive place ∷ mark.Inline other ∷ []) h = both_read forms b (mark.Recursive place) (mark.Inline other) refl refl
+marks_read forms b marked.Word (mark.Inline place ∷ mark.Inline other ∷ ms) h = absurd h
+marks_read forms b marked.Word (mark.Recursive place ∷ mark.Recursive other ∷ ms) h = absurd h
+marks_read forms b marked.Word (mark.Inline place ∷ mark.Recursive other ∷ m ∷ ms) h = absurd h
+marks_read forms b marked.Word (mark.Recursive place ∷ mark.Inline other ∷ m ∷ ms) h = absurd h
+marks_read forms b marked.Method (mark.Inline place ∷ []) h = mark_read forms b marked.Method [] (mark.Inline place) refl
+marks_read forms b marked.Method (mark.Inline place ∷ m ∷ ms) h = absurd h
+marks_read forms b marked.Method (mark.Recursive place ∷ ms) h = absurd h
 
 fixed_read : (forms : List Form) (b : Begun) (key other : Key) (place : Place) → key ≡ other → steps (Some (in_state forms (row b (fixed key)))) (part_tokens (part.Fixed other place)) ≡ Some (with_part forms b (part.Fixed other place))
 fixed_read forms b Arrow Arrow place h = by_spelling forms (row b (fixed Arrow)) (plain_token place (codes "=>")) (Fixed Arrow) (sign_is (Fixed Arrow) tt)
 
-names_part_read : (forms : List Form) (b : Begun) (ns : List Token) (ends : Place) → AreNames ns → steps (Some (in_state forms (row b (names [])))) (part_tokens (part.Names ns ends)) ≡ Some (with_part forms b (part.Names ns ends))
-names_part_read forms b ns ends h =
-    chain (in_state forms (row b (names []))) (in_state forms (row b (names ns))) ns (plain_token ends (codes ";") ∷ []) _ (names_read forms b [] ns h)
-    (by_spelling forms (row b (names ns)) (plain_token ends (codes ";")) Semi (sign_is Semi tt))
+names_part_read : (forms : List Form) (b : Begun) (k : Naming) (ns : List Token) (ends : Place) → AreNames k ns → steps (Some (in_state forms (row b (names k [])))) (part_tokens (part.Names ns ends)) ≡ Some (with_part forms b (part.Names ns ends))
+names_part_read forms b k ns ends h =
+    chain (in_state forms (row b (names k []))) (in_state forms (row b (names k ns))) ns (plain_token ends (codes ";") ∷ []) _ (names_read forms b k [] ns h) (names_end forms b k ns ends)
 
 items_part_read : (forms : List Form) (b : Begun) (es : List Element) (ends : Place) → Lead [] es [] → steps (Some (in_state forms (row b (items [] [])))) (part_tokens (part.Items es ends)) ≡ Some (with_part forms b (part.Items es ends))
 items_part_read forms b es ends h =
@@ -219,6 +287,7 @@ literal_part_read forms b (element.Item (term.Integer t z) ∷ []) h = term_read
 literal_part_read forms b (element.Item (term.Text t) ∷ []) h = term_read forms b (element.Item (term.Text t)) h refl
 literal_part_read forms b (element.Item (term.True place) ∷ []) h = term_read forms b (element.Item (term.True place)) h refl
 literal_part_read forms b (element.Item (term.False place) ∷ []) h = term_read forms b (element.Item (term.False place)) h refl
+literal_part_read forms b (element.Item (term.NextMethod place) ∷ []) h = absurd h
 literal_part_read forms b (element.Item item ∷ e ∷ es) h = absurd h
 literal_part_read forms b (element.Closes bracket place ∷ es) h = absurd h
 literal_part_read forms b (element.Opens bracket place ∷ es) h =
@@ -261,10 +330,10 @@ start_ready rest = fresh_ready start [] rest refl (λ t h. refl)
 ended_ready : (forms : List Form) (b : Begun) (rest : List Form) → Ready (row_ended forms b) (forms ++ row_form b ∷ []) rest
 ended_ready forms b rest = fresh_ready (row_ended forms b) (forms ++ row_form b ∷ []) rest refl (λ t h. refl)
 
-marked_ready : (forms : List Form) (b : Begun) (ms : List Mark) (rest : List Form) → Ready (in_state forms (row b (marks ms))) (forms ++ row_form (more b (part.Marks ms)) ∷ []) rest
-marked_ready forms b ms rest =
-    fresh_ready (in_state forms (row b (marks ms))) (forms ++ row_form (more b (part.Marks ms)) ∷ []) rest refl (λ t h.
-    ap (λ (o : Option Mark). mark_step forms b ms o (token_spelling t.kind) t) h)
+marked_ready : (forms : List Form) (b : Begun) (k : Marked) (ms : List Mark) (rest : List Form) → Ready (in_state forms (row b (marks k ms))) (forms ++ row_form (more b (part.Marks ms)) ∷ []) rest
+marked_ready forms b k ms rest =
+    fresh_ready (in_state forms (row b (marks k ms))) (forms ++ row_form (more b (part.Marks ms)) ∷ []) rest refl (λ t h.
+    ap (λ (o : Option Mark). mark_step forms b k ms o (token_spelling t.kind) t) h)
 
 -- behind a run
 run_ready : (forms : List Form) (e : Element) (es : List Element) (rest : List Form) → (BeginWithRun rest → ⊥) → Ready (in_state forms (top (e ∷ es) [])) (forms ++ Items (e ∷ es) ∷ []) rest
@@ -290,24 +359,38 @@ part_then forms b w p ps rest h later = record {
 to_slot : (forms : List Form) (b : Begun) (slots : List Slot) (ts : List Token) (fs rest : List Form) → Filled (slots_of b.kind) b.parts slots → Reaches (at_slot forms b (first_of slots)) ts fs rest → Reaches (go_on forms b) ts fs rest
 to_slot forms b slots ts fs rest h r = subst (λ (o : Option Slot). Reaches (at_slot forms b o) ts fs rest) (sym (next_slot (slots_of b.kind) b.parts slots h)) r
 
+marks_reach : (forms : List Form) (b : Begun) (k : Marked) (ms : List Mark) (rest : List Form) → AreMarks k ms → Reaches (in_state forms (row b (marks k []))) (parts_tokens (part.Marks ms ∷ [])) (forms ++ row_with b (part.Marks ms ∷ []) ∷ []) rest
+marks_reach forms b k ms rest h = record {
+  to = in_state forms (row b (marks k ms));
+  reads = ap (steps (Some (in_state forms (row b (marks k []))))) (append-nil (marks_tokens ms)) ∙ marks_read forms b k ms h;
+  ready = marked_ready forms b k ms rest;
+}
+
 parts_read : (forms : List Form) (b : Begun) (slots : List Slot) (ps : List Part) (rest : List Form) → Filled (slots_of b.kind) b.parts slots → MarksLast slots → FillAll slots ps → Reaches (at_slot forms b (first_of slots)) (parts_tokens ps) (forms ++ row_with b ps ∷ []) rest
 parts_read forms b [] [] rest h l f = record {
   to = row_ended forms b;
   reads = refl;
   ready = subst (λ (qs : List Part). Ready (row_ended forms b) (forms ++ Row b.kind b.opens qs ∷ []) rest) (sym (append-nil b.parts)) (ended_ready forms b rest);
 }
-parts_read forms b (slot.Marks ∷ []) (part.Marks ms ∷ []) rest h l f = record {
-  to = in_state forms (row b (marks ms));
-  reads = ap (steps (Some (in_state forms (row b (marks []))))) (append-nil (marks_tokens ms)) ∙ marks_read forms b ms f.0;
-  ready = marked_ready forms b ms rest;
-}
+parts_read forms b (slot.Marks ∷ []) (part.Marks ms ∷ []) rest h l f = marks_reach forms b marked.Word ms rest f.0
+parts_read forms b (slot.MethodMark ∷ []) (part.Marks ms ∷ []) rest h l f = marks_reach forms b marked.Method ms rest f.0
 parts_read forms b (slot.Marks ∷ s ∷ slots) (p ∷ ps) rest h l f = let e = l.0 in cc
+parts_read forms b (slot.MethodMark ∷ s ∷ slots) (p ∷ ps) rest h l f = let e = l.0 in cc
 parts_read forms b (slot.Name ∷ slots) (part.Name n ∷ ps) rest h l f =
     let filled = filled_more (slots_of b.kind) b.parts slot.Name slots (part.Name n) h f.0 in
-    part_then forms b name (part.Name n) ps rest (by_spelling forms (row b name) n Name f.0) (to_slot forms (more b (part.Name n)) slots _ _ rest filled (parts_read forms (more b (part.Name n)) slots ps rest filled l.1 f.1))
+    part_then forms b (name naming.Any) (part.Name n) ps rest (name_read forms b naming.Any n f.0) (to_slot forms (more b (part.Name n)) slots _ _ rest filled (parts_read forms (more b (part.Name n)) slots ps rest filled l.1 f.1))
+parts_read forms b (slot.Class ∷ slots) (part.Name n ∷ ps) rest h l f =
+    let filled = filled_more (slots_of b.kind) b.parts slot.Class slots (part.Name n) h f.0 in
+    part_then forms b (name naming.Class) (part.Name n) ps rest (name_read forms b naming.Class n f.0) (to_slot forms (more b (part.Name n)) slots _ _ rest filled (parts_read forms (more b (part.Name n)) slots ps rest filled l.1 f.1))
 parts_read forms b (slot.Names ∷ slots) (part.Names ns ends ∷ ps) rest h l f =
     let filled = filled_more (slots_of b.kind) b.parts slot.Names slots (part.Names ns ends) h f.0 in
-    part_then forms b (names []) (part.Names ns ends) ps rest (names_part_read forms b ns ends f.0) (to_slot forms (more b (part.Names ns ends)) slots _ _ rest filled (parts_read forms (more b (part.Names ns ends)) slots ps rest filled l.1 f.1))
+    part_then forms b (names naming.Any []) (part.Names ns ends) ps rest (names_part_read forms b naming.Any ns ends f.0) (to_slot forms (more b (part.Names ns ends)) slots _ _ rest filled (parts_read forms (more b (part.Names ns ends)) slots ps rest filled l.1 f.1))
+parts_read forms b (slot.Classes ∷ slots) (part.Names ns ends ∷ ps) rest h l f =
+    let filled = filled_more (slots_of b.kind) b.parts slot.Classes slots (part.Names ns ends) h f.0 in
+    part_then forms b (names naming.Class []) (part.Names ns ends) ps rest (names_part_read forms b naming.Class ns ends f.0) (to_slot forms (more b (part.Names ns ends)) slots _ _ rest filled (parts_read forms (more b (part.Names ns ends)) slots ps rest filled l.1 f.1))
+parts_read forms b (slot.Slots ∷ slots) (part.Slots q ns ends ∷ ps) rest h l f =
+    let filled = filled_more (slots_of b.kind) b.parts slot.Slots slots (part.Slots q ns ends) h f.0 in
+    part_then forms b (tuple_slots None []) (part.Slots q ns ends) ps rest (slots_part_read forms b q ns ends f.0.0 f.0.1 f.0.2) (to_slot forms (more b (part.Slots q ns ends)) slots _ _ rest filled (parts_read forms (more b (part.Slots q ns ends)) slots ps rest filled l.1 f.1))
 parts_read forms b (slot.Fixed key ∷ slots) (part.Fixed other place ∷ ps) rest h l f =
     let filled = filled_more (slots_of b.kind) b.parts (slot.Fixed key) slots (part.Fixed other place) h f.0 in
     part_then forms b (fixed key) (part.Fixed other place) ps rest (fixed_read forms b key other place f.0) (to_slot forms (more b (part.Fixed other place)) slots _ _ rest filled (parts_read forms (more b (part.Fixed other place)) slots ps rest filled l.1 f.1))
@@ -321,6 +404,7 @@ parts_read forms b (slot.Literal ∷ slots) (part.Literal es ∷ ps) rest h l f 
     let filled = filled_more (slots_of b.kind) b.parts slot.Literal slots (part.Literal es) h f.0 in
     part_then forms b (literal [] []) (part.Literal es) ps rest (literal_part_read forms b es f.0) (to_slot forms (more b (part.Literal es)) slots _ _ rest filled (parts_read forms (more b (part.Literal es)) slots ps rest filled l.1 f.1))
 parts_read forms b (slot.Marks ∷ []) (part.Marks ms ∷ p ∷ ps) rest h l f = absurd f.1
+parts_read forms b (slot.MethodMark ∷ []) (part.Marks ms ∷ p ∷ ps) rest h l f = absurd f.1
 parts_read forms b [] (p ∷ ps) rest h l f = absurd f
 parts_read forms b (s ∷ slots) [] rest h l f = absurd f
 parts_read forms b (s ∷ slots) (p ∷ ps) rest h l f = absurd f.0

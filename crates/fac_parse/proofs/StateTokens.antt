@@ -1,35 +1,41 @@
 -- The tokens of what was read so far, and what is known of it.
-use Rattle.fac_parse.specs.Trees.{IsElement, context_of, behind, element_tokens, items_tokens, marks_tokens, part_tokens, parts_tokens, form_tokens, flatten, AreNames, Lead, AreItems, AreMarks, Fills, FillAll, IsForm, MayStandBefore, IsWellFormed}
+use Rattle.fac_parse.specs.Trees.{IsElement, context_of, behind, element_tokens, items_tokens, marks_tokens, parent_tokens, part_tokens, parts_tokens, form_tokens, flatten, most_slots, AreNames, AreSlots, IsParent, Lead, AreItems, AreMarks, Fills, FillAll, IsForm, MayStandBefore, IsWellFormed}
 use Rattle.fac_parse.specs.declared.context.Context.{Context}
-use Rattle.std.proofs.Common.{◌≡◌, List, [], ◌∷◌, ◌++◌, length, Option, Some, None, refl, ap, sym, ◌∙◌, subst, append_assoc, append-nil}
-use Rattle.std.specs.Prelude.{slice_get}
+use Rattle.std.proofs.Common.{◌≡◌, ◌≤◌, List, [], ◌∷◌, ◌++◌, length, Option, Some, None, refl, ap, sym, ◌∙◌, subst, append_assoc, append-nil, arith}
+use Rattle.std.specs.Prelude.{slice_get, codes}
 use Rattle.fac_lang.specs.declared.phrase.Place.{Place}
 use Rattle.fac_lang.specs.declared.token.Token.{Token}
 use Rattle.fac_lang.specs.declared.tree.Element.{Element}
 use Rattle.fac_lang.specs.declared.tree.Element.TheVariants as element
 use Rattle.fac_lang.specs.declared.tree.Bracket.{Bracket}
 use Rattle.fac_lang.specs.declared.tree.FormKind.{FormKind}
-use Rattle.fac_lang.specs.declared.tree.FormKind.TheVariants.{In, Use, Using, From, QualifiedWith, Defer, Symbol, Constant, Private, Public, Main, Define}
+use Rattle.fac_lang.specs.declared.tree.FormKind.TheVariants.{In, Use, Using, From, QualifiedWith, Defer, Symbol, Constant, Private, Public, Main, Define, Tuple, Union, Singleton, Generic, Method, Maker}
 use Rattle.fac_lang.specs.declared.tree.Part.{Part}
 use Rattle.fac_lang.specs.declared.tree.Form.{Form}
 use Rattle.fac_lang.specs.declared.tree.Form.TheVariants.{Row, Items}
 use Rattle.fac_parse.specs.declared.rows.Slot.{Slot}
 use Rattle.fac_parse.specs.declared.rows.Slot.TheVariants as slot
+use Rattle.fac_parse.specs.declared.rows.Naming.{Naming}
+use Rattle.fac_parse.specs.declared.rows.Naming.TheVariants as naming
+use Rattle.fac_parse.specs.declared.rows.Marked.{Marked}
+use Rattle.fac_parse.specs.declared.rows.Marked.TheVariants as marked
 use Rattle.fac_effect.specs.EffectReading.{reads as reading, after}
 use Rattle.fac_effect.specs.Spellings.{head_of, plain_token}
 use Rattle.fac_parse.specs.Rows.{slots_of}
-use Rattle.fac_parse.specs.inner.Reader.{Within, name, names, fixed, effect, items, literal, marks, Begun, Open, top, row, State, begin, row_form, row_ended, at_slot, go_on, with_run}
+use Rattle.fac_parse.specs.inner.Reader.{Within, name, names, tuple_slots, tuple_parent, fixed, effect, items, literal, marks, Begun, Open, top, row, State, begin, row_form, row_ended, at_slot, go_on, with_run}
 
 -- The tokens of what is open.
 
 abbrev pub within_tokens : Within → List Token
-within_tokens name = []
-within_tokens (names ns) = ns
+within_tokens (name k) = []
+within_tokens (names k ns) = ns
+within_tokens (tuple_slots p ns) = parent_tokens p ++ ns
+within_tokens (tuple_parent place) = plain_token place (codes "<") ∷ []
 within_tokens (fixed key) = []
 within_tokens (effect ts r) = ts
 within_tokens (items elements contexts) = items_tokens elements
 within_tokens (literal elements contexts) = items_tokens elements
-within_tokens (marks ms) = marks_tokens ms
+within_tokens (marks k ms) = marks_tokens ms
 
 abbrev pub open_tokens : Open → List Token
 open_tokens (top elements contexts) = items_tokens elements
@@ -94,6 +100,7 @@ next_slot (s ∷ slots) (p ∷ ps) rest h = next_slot slots ps rest h.1
 -- marks stand last
 abbrev pub LastMarks : Slot → List Slot → Type 0
 LastMarks slot.Marks rest = rest ≡ []
+LastMarks slot.MethodMark rest = rest ≡ []
 LastMarks _ rest = Unit {0}
 
 abbrev pub MarksLast : List Slot → Type 0
@@ -118,18 +125,38 @@ marks_last Private = tt
 marks_last Public = tt
 marks_last Main = (tt, tt)
 marks_last Define = (tt, (tt, (tt, (refl, tt))))
+marks_last Tuple = (tt, (tt, tt))
+marks_last Union = (tt, (tt, tt))
+marks_last Singleton = (tt, tt)
+marks_last Generic = (tt, (tt, tt))
+marks_last Method = (tt, (tt, (tt, (refl, tt))))
+marks_last Maker = (tt, (tt, tt))
 
 -- What is known of what is open.
 
+abbrev pub name_slot : Naming → Slot
+name_slot naming.Any = slot.Name
+name_slot naming.Class = slot.Class
+
+abbrev pub names_slot : Naming → Slot
+names_slot naming.Any = slot.Names
+names_slot naming.Class = slot.Classes
+
+abbrev pub marks_slot : Marked → Slot
+marks_slot marked.Word = slot.Marks
+marks_slot marked.Method = slot.MethodMark
+
 -- the slot that is being filled
 abbrev pub slot_of : Within → Slot
-slot_of name = slot.Name
-slot_of (names ns) = slot.Names
+slot_of (name k) = name_slot k
+slot_of (names k ns) = names_slot k
+slot_of (tuple_slots p ns) = slot.Slots
+slot_of (tuple_parent place) = slot.Slots
 slot_of (fixed key) = slot.Fixed key
 slot_of (effect ts r) = slot.Effect
 slot_of (items elements contexts) = slot.Items
 slot_of (literal elements contexts) = slot.Literal
-slot_of (marks ms) = slot.Marks
+slot_of (marks k ms) = marks_slot k
 
 -- elements from where something is open to where something is, before each of which something is open
 abbrev pub Inside : List Context → List Element → List Context → Type 0
@@ -149,13 +176,15 @@ GoodLiteral _ contexts = ⊥
 
 -- what was read of a part, with these slots behind it
 abbrev pub GoodWithin : List Slot → Within → Type 0
-GoodWithin rest name = Unit {0}
-GoodWithin rest (names ns) = AreNames ns
+GoodWithin rest (name k) = Unit {0}
+GoodWithin rest (names k ns) = AreNames k ns
+GoodWithin rest (tuple_slots p ns) = IsParent p × AreSlots ns × (length ns ≤ most_slots)
+GoodWithin rest (tuple_parent place) = Unit {0}
 GoodWithin rest (fixed key) = Unit {0}
 GoodWithin rest (effect ts r) = after ts ≡ reading r
 GoodWithin rest (items elements contexts) = Lead [] elements contexts
 GoodWithin rest (literal elements contexts) = GoodLiteral elements contexts
-GoodWithin rest (marks ms) = AreMarks ms × (rest ≡ [])
+GoodWithin rest (marks k ms) = AreMarks k ms × (rest ≡ [])
 
 pub record GoodRow (b : Begun) (w : Within) : Type 0 where
   pub rest : List Slot
@@ -216,21 +245,29 @@ pub record Gone (forms : List Form) (b : Begun) (s : State) : Type 0 where
 
 begun_within : (s : Slot) → within_tokens (begin s) ≡ []
 begun_within slot.Name = refl
+begun_within slot.Class = refl
 begun_within slot.Names = refl
+begun_within slot.Classes = refl
+begun_within slot.Slots = refl
 begun_within (slot.Fixed key) = refl
 begun_within slot.Effect = refl
 begun_within slot.Items = refl
 begun_within slot.Literal = refl
 begun_within slot.Marks = refl
+begun_within slot.MethodMark = refl
 
 begun_row : (b : Begun) (s : Slot) (rest : List Slot) → Filled (slots_of b.kind) b.parts (s ∷ rest) → LastMarks s rest → GoodRow b (begin s)
 begun_row b slot.Name rest h l = record { rest = rest; filled = h; within = tt }
+begun_row b slot.Class rest h l = record { rest = rest; filled = h; within = tt }
 begun_row b slot.Names rest h l = record { rest = rest; filled = h; within = tt }
+begun_row b slot.Classes rest h l = record { rest = rest; filled = h; within = tt }
+begun_row b slot.Slots rest h l = record { rest = rest; filled = h; within = (tt, tt, omega arith) }
 begun_row b (slot.Fixed key) rest h l = record { rest = rest; filled = h; within = tt }
 begun_row b slot.Effect rest h l = record { rest = rest; filled = h; within = refl }
 begun_row b slot.Items rest h l = record { rest = rest; filled = h; within = refl }
 begun_row b slot.Literal rest h l = record { rest = rest; filled = h; within = refl }
 begun_row b slot.Marks rest h l = record { rest = rest; filled = h; within = (tt, l) }
+begun_row b slot.MethodMark rest h l = record { rest = rest; filled = h; within = (tt, l) }
 
 -- a row that ends
 pub ended_row_gone : (forms : List Form) (b : Begun) → IsWellFormed forms → Filled (slots_of b.kind) b.parts [] → Gone forms b (row_ended forms b)

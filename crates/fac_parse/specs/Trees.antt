@@ -1,6 +1,7 @@
 -- Trees, their tokens, and which trees are well-formed.
-use Rattle.std.specs.Prelude.{◌≡◌, ◌≤◌, ◌<◌, ◌+◌, ◌⊎◌, ℕ, nat_lt, Option, Some, None, List, [], ◌∷◌, ◌++◌, length, take, codes, Result, Ok, Err, if◌then◌else◌}
-use Rattle.fac_lang.specs.declared.limits.TheConstants.{MOST_LEVELS, MOST_ELEMENTS}
+use Rattle.std.specs.Prelude.{◌≡◌, ◌≤◌, ◌<◌, ◌+◌, ◌⊎◌, ℕ, nat_lt, Bool, false, Option, Some, None, List, [], ◌∷◌, ◌++◌, length, take, codes, Result, Ok, Err, if◌then◌else◌}
+use Rattle.std.specs.Str.{bytes_eq}
+use Rattle.fac_lang.specs.declared.limits.TheConstants.{MOST_LEVELS, MOST_ELEMENTS, MOST_SLOTS}
 use Rattle.fac_lang.specs.declared.token.Token.{Token}
 use Rattle.fac_lang.specs.declared.tree.Tree.{Tree}
 use Rattle.fac_lang.specs.declared.tree.Term.{Term}
@@ -15,6 +16,8 @@ use Rattle.fac_lang.specs.declared.tree.Form.{Form}
 use Rattle.fac_lang.specs.declared.tree.Form.TheVariants.{Row, Items}
 use Rattle.fac_lang.specs.declared.tree.Part.{Part}
 use Rattle.fac_lang.specs.declared.tree.Part.TheVariants as part
+use Rattle.fac_lang.specs.declared.tree.Parent.{Parent}
+use Rattle.fac_effect.specs.declared.spelling.Spelling.{Spelling}
 use Rattle.fac_effect.specs.declared.spelling.Spelling.TheVariants as spelled
 use Rattle.fac_parse.specs.declared.reader.ParseFault.{ParseFault}
 use Rattle.fac_parse.specs.declared.reader.ParseFault.TheVariants.{Syntax, Memory}
@@ -24,7 +27,11 @@ use Rattle.fac_parse.specs.declared.context.Context.{Context}
 use Rattle.fac_parse.specs.declared.context.Context.TheVariants as context
 use Rattle.fac_parse.specs.declared.rows.Slot.{Slot}
 use Rattle.fac_parse.specs.declared.rows.Slot.TheVariants as slot
-use Rattle.fac_effect.specs.Spellings.{head_of, key_text, opening_text, closing_text, plain_token, token_spelling}
+use Rattle.fac_parse.specs.declared.rows.Naming.{Naming}
+use Rattle.fac_parse.specs.declared.rows.Naming.TheVariants as naming
+use Rattle.fac_parse.specs.declared.rows.Marked.{Marked}
+use Rattle.fac_parse.specs.declared.rows.Marked.TheVariants as marked
+use Rattle.fac_effect.specs.Spellings.{head_of, key_text, opening_text, closing_text, plain_token, token_text, token_spelling}
 use Rattle.fac_effect.specs.WrittenEffects.{IsEffect}
 use Rattle.fac_parse.specs.Rows.{slots_of}
 
@@ -34,6 +41,7 @@ term_tokens (term.Integer token value) = token ∷ []
 term_tokens (term.Text token) = token ∷ []
 term_tokens (term.True place) = plain_token place (codes "t") ∷ []
 term_tokens (term.False place) = plain_token place (codes "f") ∷ []
+term_tokens (term.NextMethod place) = plain_token place (codes "call-next-method") ∷ []
 
 abbrev pub element_tokens : Element → List Token
 element_tokens (element.Item item) = term_tokens item
@@ -54,6 +62,11 @@ abbrev pub marks_tokens : List Mark → List Token
 marks_tokens [] = []
 marks_tokens (mark ∷ marks) = mark_token mark ∷ marks_tokens marks
 
+-- the parent of a tuple class, behind its sign
+abbrev pub parent_tokens : Option Parent → List Token
+parent_tokens None = []
+parent_tokens (Some parent) = plain_token parent.sign (codes "<") ∷ parent.class ∷ []
+
 abbrev pub part_tokens : Part → List Token
 part_tokens (part.Name name) = name ∷ []
 part_tokens (part.Names names ends) = names ++ plain_token ends (codes ";") ∷ []
@@ -61,6 +74,7 @@ part_tokens (part.Fixed key place) = plain_token place (key_text key) ∷ []
 part_tokens (part.Effect effect) = effect.tokens
 part_tokens (part.Items elements ends) = items_tokens elements ++ plain_token ends (codes ";") ∷ []
 part_tokens (part.Literal elements) = items_tokens elements
+part_tokens (part.Slots parent names ends) = parent_tokens parent ++ names ++ plain_token ends (codes ";") ∷ []
 part_tokens (part.Marks marks) = marks_tokens marks
 
 -- the tokens of parts, in order
@@ -77,9 +91,33 @@ abbrev pub flatten : List Form → List Token
 flatten [] = []
 flatten (form ∷ forms) = form_tokens form ++ flatten forms
 
-abbrev pub AreNames : List Token → Type 0
-AreNames [] = Unit {0}
-AreNames (token ∷ tokens) = (token_spelling token.kind ≡ spelled.Name) × AreNames tokens
+-- what a token is where a name stands: `t` and `f` are names of classes
+abbrev pub named : Naming → Spelling → Spelling
+named naming.Class spelled.True = spelled.Name
+named naming.Class spelled.False = spelled.Name
+named _ s = s
+
+abbrev pub IsName : Naming → Token → Type 0
+IsName kind token = named kind (token_spelling token.kind) ≡ spelled.Name
+
+abbrev pub AreNames : Naming → List Token → Type 0
+AreNames kind [] = Unit {0}
+AreNames kind (token ∷ tokens) = IsName kind token × AreNames kind tokens
+
+-- Slots of a tuple class: at most so many names, of which none is the sign that stands before a parent.
+abbrev pub most_slots : ℕ
+most_slots = MOST_SLOTS
+
+abbrev pub is_parent_sign : Token → Bool
+is_parent_sign token = bytes_eq (token_text token.kind) (codes "<")
+
+abbrev pub AreSlots : List Token → Type 0
+AreSlots [] = Unit {0}
+AreSlots (token ∷ tokens) = IsName naming.Any token × (is_parent_sign token ≡ false) × AreSlots tokens
+
+abbrev pub IsParent : Option Parent → Type 0
+IsParent None = Unit {0}
+IsParent (Some parent) = IsName naming.Any parent.class
 
 abbrev pub IsTerm : Term → Type 0
 IsTerm (term.Name token) = token_spelling token.kind ≡ spelled.Name
@@ -87,6 +125,7 @@ IsTerm (term.Integer token value) = token_spelling token.kind ≡ spelled.Intege
 IsTerm (term.Text token) = token_spelling token.kind ≡ spelled.String
 IsTerm (term.True place) = Unit {0}
 IsTerm (term.False place) = Unit {0}
+IsTerm (term.NextMethod place) = Unit {0}
 
 abbrev pub IsElement : Element → Type 0
 IsElement (element.Item item) = IsTerm item
@@ -111,6 +150,16 @@ counted [] = Some []
 counted (context.Quotation ∷ contexts) = Some (context.Quotation ∷ contexts)
 counted (context.Array n ∷ contexts) = (if nat_lt n most_elements then Some (context.Array (n + 1) ∷ contexts) else None)
 
+-- What is open behind an item that is no element: it stands in a quotation, or at the outside.
+abbrev pub uncounted : List Context → Option (List Context)
+uncounted [] = Some []
+uncounted (context.Quotation ∷ contexts) = Some (context.Quotation ∷ contexts)
+uncounted (context.Array n ∷ contexts) = None
+
+abbrev pub item_behind : List Context → Term → Option (List Context)
+item_behind contexts (term.NextMethod place) = uncounted contexts
+item_behind contexts item = counted contexts
+
 -- what is open behind a bracket that opens
 abbrev pub opened : List Context → Bracket → Option (List Context)
 opened contexts bracket = (if nat_lt (length contexts) most_levels then Some (context_of bracket ∷ contexts) else None)
@@ -130,7 +179,7 @@ closed (context.Array n ∷ contexts) Array = Some contexts
 
 -- What is open behind an element, the innermost first, where this is open before it. None where the element may not stand.
 abbrev pub behind : List Context → Element → Option (List Context)
-behind contexts (element.Item item) = counted contexts
+behind contexts (element.Item item) = item_behind contexts item
 behind contexts (element.Opens bracket place) = counted_opened (counted contexts) bracket
 behind contexts (element.Closes bracket place) = closed contexts bracket
 
@@ -145,6 +194,7 @@ AreItems elements = Lead [] elements []
 
 abbrev pub IsLiteralTerm : Term → Type 0
 IsLiteralTerm (term.Name token) = ⊥
+IsLiteralTerm (term.NextMethod place) = ⊥
 IsLiteralTerm item = IsTerm item
 
 -- Elements up to the one that closes the outermost of these brackets. Something is open before each of them.
@@ -159,23 +209,29 @@ IsLiteral (element.Item item ∷ []) = IsLiteralTerm item
 IsLiteral (element.Opens bracket place ∷ elements) = Encloses (context_of bracket ∷ []) elements
 IsLiteral _ = ⊥
 
--- marks of one definition: each of the two at most once, in any order
-abbrev pub AreMarks : List Mark → Type 0
-AreMarks [] = Unit {0}
-AreMarks (mark ∷ []) = Unit {0}
-AreMarks (Inline place ∷ Recursive other ∷ []) = Unit {0}
-AreMarks (Recursive place ∷ Inline other ∷ []) = Unit {0}
-AreMarks _ = ⊥
+-- marks of one definition: of a word each of the two at most once, in any order, and of a method at most one `inline`
+abbrev pub AreMarks : Marked → List Mark → Type 0
+AreMarks marked.Word [] = Unit {0}
+AreMarks marked.Word (mark ∷ []) = Unit {0}
+AreMarks marked.Word (Inline place ∷ Recursive other ∷ []) = Unit {0}
+AreMarks marked.Word (Recursive place ∷ Inline other ∷ []) = Unit {0}
+AreMarks marked.Method [] = Unit {0}
+AreMarks marked.Method (Inline place ∷ []) = Unit {0}
+AreMarks _ _ = ⊥
 
 -- whether a part fills a slot
 abbrev pub Fills : Slot → Part → Type 0
-Fills slot.Name (part.Name name) = token_spelling name.kind ≡ spelled.Name
-Fills slot.Names (part.Names names ends) = AreNames names
+Fills slot.Name (part.Name name) = IsName naming.Any name
+Fills slot.Class (part.Name name) = IsName naming.Class name
+Fills slot.Names (part.Names names ends) = AreNames naming.Any names
+Fills slot.Classes (part.Names names ends) = AreNames naming.Class names
+Fills slot.Slots (part.Slots parent names ends) = IsParent parent × AreSlots names × (length names ≤ most_slots)
 Fills (slot.Fixed key) (part.Fixed other place) = key ≡ other
 Fills slot.Effect (part.Effect effect) = IsEffect effect.tokens effect.effect
 Fills slot.Items (part.Items elements ends) = AreItems elements
 Fills slot.Literal (part.Literal elements) = IsLiteral elements
-Fills slot.Marks (part.Marks marks) = AreMarks marks
+Fills slot.Marks (part.Marks marks) = AreMarks marked.Word marks
+Fills slot.MethodMark (part.Marks marks) = AreMarks marked.Method marks
 Fills _ _ = ⊥
 
 -- these parts fill these slots, one each

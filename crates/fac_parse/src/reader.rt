@@ -1,9 +1,11 @@
 //! The tree of a source's tokens.
 ghost use Rattle.std.specs.Prelude.{◌≡◌, ◌++◌, ◌∷◌, [], OnOk, IfOk};
-ghost use Rattle.fac_parse.specs.Trees.{Parses, behind, context_of as starting, counted, opened, counted_opened, closed, file_of};
+ghost use Rattle.fac_parse.specs.Trees.{Parses, behind, item_behind, context_of as starting, counted, uncounted as not_counted, opened, counted_opened, closed, file_of};
+ghost use Rattle.fac_parse.specs.Trees.{named as is_named, is_parent_sign as is_sign};
 ghost use Rattle.fac_parse.specs.inner.Reader.{in_state, row, begin, begun_at, row_ended, go_on as goes_on, with_part, with_run, more, written};
 ghost use Rattle.fac_parse.specs.inner.Reader.{begin_row as row_begins, begins, is_semi, element_of, end_items as items_end, mark_of, goes_into};
-ghost use Rattle.fac_parse.specs.inner.Reader.{top_step, name_step, names_step, key_step, fixed_step, effect_step, items_step, literal_step};
+ghost use Rattle.fac_parse.specs.inner.Reader.{top_step, name_step, names_step, sign_step, add_slot as slot_added, slots_step, parent_step};
+ghost use Rattle.fac_parse.specs.inner.Reader.{key_step, fixed_step, effect_step, items_step, literal_step};
 ghost use Rattle.fac_parse.specs.inner.Reader.{add_literal as literal_added, may_follow as may_stand, with_mark, marks_step, step, ended, ended_top, start};
 ghost use Rattle.fac_parse.specs.inner.Reader.{open_of, state_of, IsRead, Goes, Passes, Adds, Finishes, IsSyntax, TakesAll, GivesForms};
 ghost use Rattle.fac_lang.specs.declared.tree.Part.TheVariants as part;
@@ -12,12 +14,12 @@ ghost use Rattle.fac_effect.specs.EffectReading.{reads as reading, whole, after}
 
 use crate::context::Context;
 use crate::cut::cut;
-use crate::rows::{Slot, slot_at};
-use fac_effect::{EffectReader, Spelling, Taken, classify, effect_from};
-use fac_lang::limits::{MOST_ELEMENTS, MOST_LEVELS};
+use crate::rows::{Marked, Naming, Slot, slot_at};
+use fac_effect::{EffectReader, Spelling, Taken, classify, effect_from, text};
+use fac_lang::limits::{MOST_ELEMENTS, MOST_LEVELS, MOST_SLOTS};
 use fac_lang::{
-    Bracket, Element, Form, FormKind, Key, List, Mark, Memory, Part, Place, Stack, Term, Token,
-    Tree, WrittenEffect,
+    Bracket, Element, Form, FormKind, Key, List, Mark, Memory, Parent, Part, Place, Stack, Term,
+    Token, Tree, WrittenEffect,
 };
 use std::alloc::Global;
 use std::mem;
@@ -65,9 +67,13 @@ pub enum At {
     /// Among items at the top level, or between two rows.
     Top,
     /// Where a row has a name.
-    Name(Head),
+    Name(Head, Naming),
     /// Among names.
-    Names(Head),
+    Names(Head, Naming),
+    /// Among the slots of a tuple class, or in front of its parent.
+    Slots(Head),
+    /// Behind the sign before a parent, which stands here.
+    Parent(Head, Place),
     /// Where a row has a fixed token.
     Fixed(Head, Key),
     /// In an effect, or before it.
@@ -77,7 +83,7 @@ pub enum At {
     /// Where a row has a literal, or among its elements.
     Literal(Head),
     /// Behind the `;` of a row that may have marks.
-    Marks(Head),
+    Marks(Head, Marked),
 }
 
 /// What was read so far. What stands in a list counts where the next token stands among what the list has.
@@ -87,8 +93,10 @@ pub struct Reader {
     pub forms: List<Form>,
     /// The parts of the row that are whole.
     pub parts: List<Part>,
-    /// Names, or the tokens of an effect.
+    /// Names, slots, or the tokens of an effect.
     pub names: List<Token>,
+    /// The parent of the tuple class.
+    pub parent: Option<Parent>,
     /// How far the effect is read.
     pub effect: EffectReader,
     /// Items.
@@ -119,6 +127,27 @@ fn is_semicolon(spelling: Spelling) -> bool
     }
 }
 
+// What a token of this spelling is where a name stands.
+fn named(naming: Naming, spelling: Spelling) -> Spelling
+    ensures { result ≡ is_named naming spelling }
+{
+    match naming {
+        Naming::Any => spelling,
+        Naming::Class => match spelling {
+            Spelling::True => Spelling::Name,
+            Spelling::False => Spelling::Name,
+            _ => spelling,
+        },
+    }
+}
+
+// Whether a name is the sign that stands before a parent.
+fn is_parent_sign(token: &Token) -> bool
+    ensures { result ≡ is_sign token.now }
+{
+    text(&token.kind) == "<"
+}
+
 // The element that a token of this spelling is.
 fn element(spelling: Spelling, token: Token) -> Option<Element>
     ensures { result ≡ element_of spelling token }
@@ -129,6 +158,7 @@ fn element(spelling: Spelling, token: Token) -> Option<Element>
         Spelling::Name => Some(Element::Item(Term::Name(token))),
         Spelling::True => Some(Element::Item(Term::True(token.place))),
         Spelling::False => Some(Element::Item(Term::False(token.place))),
+        Spelling::NextMethod => Some(Element::Item(Term::NextMethod(token.place))),
         Spelling::OpensBracket(bracket) => Some(Element::Opens(bracket, token.place)),
         Spelling::ClosesBracket(bracket) => Some(Element::Closes(bracket, token.place)),
         _ => None,
@@ -165,6 +195,32 @@ fn count(contexts: &mut Stack<Context>) -> Result<bool, Memory>
                 }
             }
         },
+    }
+}
+
+// Goes on behind an item that is no element. False where the innermost pair is an array.
+fn uncounted(contexts: &mut Stack<Context>) -> Result<bool, Memory>
+    ensures { Passes (not_counted contexts.old) contexts.new result }
+{
+    match contexts.pop() {
+        None => Ok(true),
+        Some(context) => match context {
+            Context::Quotation => {
+                contexts.push(context)?;
+                Ok(true)
+            }
+            Context::Array(_) => Ok(false),
+        },
+    }
+}
+
+// Goes on behind an item. False where it may not stand.
+fn pass_item(contexts: &mut Stack<Context>, term: &Term) -> Result<bool, Memory>
+    ensures { Passes (item_behind contexts.old term.now) contexts.new result }
+{
+    match term {
+        Term::NextMethod(_) => uncounted(contexts),
+        _ => count(contexts),
     }
 }
 
@@ -215,13 +271,13 @@ fn pass(contexts: &mut Stack<Context>, element: &Element) -> Result<bool, Memory
     ensures { Passes (behind contexts.old element.now) contexts.new result }
 {
     match element {
-        Element::Item(_) => count(contexts),
+        Element::Item(term) => pass_item(contexts, term),
         Element::Opens(bracket, _) => begin_bracket(contexts, *bracket),
         Element::Closes(bracket, _) => Ok(close(contexts, *bracket)),
     }
 }
 
-// Whether an element goes on with a literal in which this is open. A name doesn't begin one.
+// Whether an element goes on with a literal in which this is open. Neither a name nor `call-next-method` begins one.
 fn goes_on_with(contexts: &Stack<Context>, element: &Element) -> bool
     ensures { result ≡ goes_into contexts.now element.now }
 {
@@ -231,6 +287,7 @@ fn goes_on_with(contexts: &Stack<Context>, element: &Element) -> bool
     match element {
         Element::Item(term) => match term {
             Term::Name(_) => false,
+            Term::NextMethod(_) => false,
             _ => true,
         },
         _ => true,
@@ -248,23 +305,32 @@ fn mark(spelling: Spelling, place: Place) -> Option<Mark>
     }
 }
 
-// Whether a mark may stand behind these: none stands twice.
-fn may_follow(marks: &List<Mark>, mark: Mark) -> bool
-    ensures { result ≡ may_stand marks.now mark }
+// Whether a mark may stand behind these: none stands twice, and a method has only the one.
+fn may_follow(marked: Marked, marks: &List<Mark>, mark: Mark) -> bool
+    ensures { result ≡ may_stand marked marks.now mark }
 {
-    match marks.as_slice() {
-        [] => true,
-        [first] => match first {
-            Mark::Inline(_) => match mark {
-                Mark::Inline(_) => false,
-                Mark::Recursive(_) => true,
+    match marked {
+        Marked::Word => match marks.as_slice() {
+            [] => true,
+            [first] => match first {
+                Mark::Inline(_) => match mark {
+                    Mark::Inline(_) => false,
+                    Mark::Recursive(_) => true,
+                },
+                Mark::Recursive(_) => match mark {
+                    Mark::Inline(_) => true,
+                    Mark::Recursive(_) => false,
+                },
             },
-            Mark::Recursive(_) => match mark {
+            _ => false,
+        },
+        Marked::Method => match marks.as_slice() {
+            [] => match mark {
                 Mark::Inline(_) => true,
                 Mark::Recursive(_) => false,
             },
+            _ => false,
         },
-        _ => false,
     }
 }
 
@@ -318,6 +384,7 @@ impl Reader {
             forms: List::new(alloc),
             parts: List::new(alloc),
             names: List::new(alloc),
+            parent: None,
             effect: EffectReader::new(alloc),
             elements: List::new(alloc),
             contexts: Stack::new(alloc),
@@ -332,11 +399,23 @@ impl Reader {
     {
         match slot {
             Slot::Name => {
-                self.at = At::Name(head);
+                self.at = At::Name(head, Naming::Any);
+            }
+            Slot::Class => {
+                self.at = At::Name(head, Naming::Class);
             }
             Slot::Names => {
                 self.names = List::new(alloc);
-                self.at = At::Names(head);
+                self.at = At::Names(head, Naming::Any);
+            }
+            Slot::Classes => {
+                self.names = List::new(alloc);
+                self.at = At::Names(head, Naming::Class);
+            }
+            Slot::Slots => {
+                self.names = List::new(alloc);
+                self.parent = None;
+                self.at = At::Slots(head);
             }
             Slot::Fixed(key) => {
                 self.at = At::Fixed(head, key);
@@ -358,7 +437,11 @@ impl Reader {
             }
             Slot::Marks => {
                 self.marks = List::new(alloc);
-                self.at = At::Marks(head);
+                self.at = At::Marks(head, Marked::Word);
+            }
+            Slot::MethodMark => {
+                self.marks = List::new(alloc);
+                self.at = At::Marks(head, Marked::Method);
             }
         }
     }
@@ -459,16 +542,25 @@ impl Reader {
         }
     }
 
+    // Ends names.
+    fn end_names(&mut self, alloc: Global, head: Head, ends: Place) -> Result<(), Memory>
+        ensures { OnOk result (state_of self.new ≡ with_part self.old.forms (begun_at head self.old.parts) (part.Names self.old.names ends)) }
+    {
+        let names = cut(mem::replace(&mut self.names, List::new(alloc)));
+        self.add_part(alloc, head, Part::Names { names, ends })
+    }
+
     // Takes a token among names.
     fn take_names(
         &mut self,
         alloc: Global,
         head: Head,
+        naming: Naming,
         spelling: Spelling,
         token: Token,
     ) -> Result<bool, Memory>
-        requires { self.now.at ≡ At.Names head }
-        ensures { Goes (names_step self.old.forms (begun_at head self.old.parts) self.old.names spelling token) (state_of self.new) result }
+        requires { self.now.at ≡ At.Names head naming }
+        ensures { Goes (names_step self.old.forms (begun_at head self.old.parts) naming self.old.names spelling token) (state_of self.new) result }
     {
         match spelling {
             Spelling::Name => {
@@ -476,15 +568,106 @@ impl Reader {
                 Ok(true)
             }
             Spelling::Semi => {
-                let names = cut(mem::replace(&mut self.names, List::new(alloc)));
-                let part = Part::Names {
-                    names,
-                    ends: token.place,
-                };
-                self.add_part(alloc, head, part)?;
+                self.end_names(alloc, head, token.place)?;
                 Ok(true)
             }
             _ => Ok(false),
+        }
+    }
+
+    // Goes on behind the sign before a parent. False where the parent or a slot stands before it.
+    fn take_sign(&mut self, head: Head, sign: Place) -> bool
+        ensures { Goes (sign_step self.old.forms (begun_at head self.old.parts) self.old.parent self.old.names sign) (state_of self.new) (Ok result) }
+    {
+        match &self.parent {
+            None => {
+                if self.names.len() == 0 {
+                    self.at = At::Parent(head, sign);
+                    true
+                } else {
+                    false
+                }
+            }
+            Some(_) => false,
+        }
+    }
+
+    // Adds a slot. False where there are too many.
+    fn add_slot(&mut self, head: Head, token: Token) -> Result<bool, Memory>
+        requires { self.now.at ≡ At.Slots head }
+        ensures { Goes (slot_added self.old.forms (begun_at head self.old.parts) self.old.parent self.old.names token) (state_of self.new) result }
+    {
+        if (self.names.len() as u64) < MOST_SLOTS {
+            self.names.push(token)?;
+            Ok(true)
+        } else {
+            Ok(false)
+        }
+    }
+
+    // Ends the slots of a tuple class.
+    fn end_slots(&mut self, alloc: Global, head: Head, ends: Place) -> Result<(), Memory>
+        ensures { OnOk result (state_of self.new ≡ with_part self.old.forms (begun_at head self.old.parts) (part.Slots self.old.parent self.old.names ends)) }
+    {
+        let names = cut(mem::replace(&mut self.names, List::new(alloc)));
+        let parent = mem::replace(&mut self.parent, None);
+        self.add_part(
+            alloc,
+            head,
+            Part::Slots {
+                parent,
+                names,
+                ends,
+            },
+        )
+    }
+
+    // Takes a token among the slots of a tuple class, or in front of its parent.
+    fn take_slot(
+        &mut self,
+        alloc: Global,
+        head: Head,
+        spelling: Spelling,
+        token: Token,
+    ) -> Result<bool, Memory>
+        requires { self.now.at ≡ At.Slots head }
+        ensures { Goes (slots_step self.old.forms (begun_at head self.old.parts) self.old.parent self.old.names spelling token) (state_of self.new) result }
+    {
+        match spelling {
+            Spelling::Name => {
+                if is_parent_sign(&token) {
+                    Ok(self.take_sign(head, token.place))
+                } else {
+                    self.add_slot(head, token)
+                }
+            }
+            Spelling::Semi => {
+                self.end_slots(alloc, head, token.place)?;
+                Ok(true)
+            }
+            _ => Ok(false),
+        }
+    }
+
+    // Takes the parent of a tuple class.
+    fn take_parent(
+        &mut self,
+        alloc: Global,
+        head: Head,
+        sign: Place,
+        spelling: Spelling,
+        token: Token,
+    ) -> bool
+        ensures { Goes (parent_step self.old.forms (begun_at head self.old.parts) sign spelling token) (state_of self.new) (Ok result) }
+    {
+        match spelling {
+            Spelling::Name => {
+                self.names = List::new(alloc);
+                self.parent = Some(Parent { sign, class: token });
+                self.at = At::Slots(head);
+                true
+            }
+            _ => false,
         }
     }
 
@@ -628,11 +811,11 @@ impl Reader {
     }
 
     // Adds a mark to a row. False where it may not stand.
-    fn add_mark(&mut self, head: Head, mark: Mark) -> Result<bool, Memory>
-        requires { self.now.at ≡ At.Marks head }
-        ensures { Goes (with_mark self.old.forms (begun_at head self.old.parts) self.old.marks mark) (state_of self.new) result }
+    fn add_mark(&mut self, head: Head, marked: Marked, mark: Mark) -> Result<bool, Memory>
+        requires { self.now.at ≡ At.Marks head marked }
+        ensures { Goes (with_mark self.old.forms (begun_at head self.old.parts) marked self.old.marks mark) (state_of self.new) result }
     {
-        if may_follow(&self.marks, mark) {
+        if may_follow(marked, &self.marks, mark) {
             self.marks.push(mark)?;
             Ok(true)
         } else {
@@ -654,14 +837,15 @@ impl Reader {
         &mut self,
         alloc: Global,
         head: Head,
+        marked: Marked,
         spelling: Spelling,
         token: Token,
     ) -> Result<bool, Memory>
-        requires { self.now.at ≡ At.Marks head }
-        ensures { Goes (marks_step self.old.forms (begun_at head self.old.parts) self.old.marks spelling token) (state_of self.new) result }
+        requires { self.now.at ≡ At.Marks head marked }
+        ensures { Goes (marks_step self.old.forms (begun_at head self.old.parts) marked self.old.marks spelling token) (state_of self.new) result }
     {
         match mark(spelling, token.place) {
-            Some(mark) => self.add_mark(head, mark),
+            Some(mark) => self.add_mark(head, marked, mark),
             None => {
                 self.end_marks(alloc, head)?;
                 self.take_at_top(alloc, spelling, token)
@@ -677,13 +861,17 @@ impl Reader {
         let spelling = classify(&token.kind);
         match self.at {
             At::Top => self.take_at_top(alloc, spelling, token),
-            At::Name(head) => self.take_name(alloc, head, spelling, token),
-            At::Names(head) => self.take_names(alloc, head, spelling, token),
+            At::Name(head, naming) => self.take_name(alloc, head, named(naming, spelling), token),
+            At::Names(head, naming) => {
+                self.take_names(alloc, head, naming, named(naming, spelling), token)
+            }
+            At::Slots(head) => self.take_slot(alloc, head, spelling, token),
+            At::Parent(head, sign) => Ok(self.take_parent(alloc, head, sign, spelling, token)),
             At::Fixed(head, key) => self.take_fixed(alloc, head, key, spelling, token),
             At::Effect(head) => self.take_effect(alloc, head, spelling, token),
             At::Items(head) => self.take_in_items(alloc, head, spelling, token),
             At::Literal(head) => self.take_in_literal(alloc, head, spelling, token),
-            At::Marks(head) => self.take_mark(alloc, head, spelling, token),
+            At::Marks(head, marked) => self.take_mark(alloc, head, marked, spelling, token),
         }
     }
 
@@ -704,7 +892,7 @@ impl Reader {
     {
         match self.at {
             At::Top => self.finish_top(alloc),
-            At::Marks(head) => {
+            At::Marks(head, _) => {
                 self.end_marks(alloc, head)?;
                 Ok(true)
             }
@@ -750,16 +938,19 @@ fn file(tokens: &[Token]) -> u32
     }
 }
 
-/// The tree of a file's tokens: any number of forms. A form is one of these rows, or a run of items. `n`, `v` and `p` are names, and a star means any
-/// number, none included.
+/// The tree of a file's tokens: any number of forms. A form is one of these rows, or a run of items. `n`, `v`, `p` and `s` are names, a `c` is a name,
+/// `t` or `f`, and a star means any number, none included.
 ///
 /// - `IN: v`, `USE: v`, `USING: v* ;`, `FROM: v => n* ;`, `QUALIFIED-WITH: v p`
 /// - `DEFER: n`, `SYMBOL: n`, `MAIN: n`, `<PRIVATE`, `PRIVATE>`
 /// - `CONSTANT: n` with a literal behind it: an integer, a string, `t`, `f`, a quotation or an array
 /// - `: n effect item* ;` with `inline` and `recursive` behind it, each at most once, in any order
+/// - `TUPLE: n s* ;`, `TUPLE: n < n s* ;` with at most 64 slots `s`, of which none is `<`
+/// - `UNION: n c* ;`, `SINGLETON: n`, `C: n n`
+/// - `GENERIC: n effect`, `M: c n item* ;` with at most one `inline` behind it
 ///
-/// An item is a name, an integer, a string, `t`, `f`, a quotation `[ item* ]`, or an array `{ element* }`, whose elements are literals and names. Quotations and arrays nest at most 256 deep,
-/// counted together. An array has at most 1,000,000 elements: those that stand directly in it.
+/// An item is a name, an integer, a string, `t`, `f`, `call-next-method`, a quotation `[ item* ]`, or an array `{ element* }`, whose elements are literals
+/// and names. Quotations and arrays nest at most 256 deep, counted together. An array has at most 1,000,000 elements: those that stand directly in it.
 ///
 /// An effect is `( entry* -- entry* )`. An entry is a name that ends in no colon, or a name that ends in one and what describes it: a name that ends in
 /// no colon, or an effect. A name that begins with two dots is only the first entry of its side. An effect has at most 64 names, with those of the

@@ -10,8 +10,14 @@ use fac_lang::{FormKind, Key};
 pub enum Slot {
     /// A name.
     Name,
+    /// The name of a class.
+    Class,
     /// Names, and `;`.
     Names,
+    /// Names of classes, and `;`.
+    Classes,
+    /// The parent of a tuple class, or none, its slots, and `;`.
+    Slots,
     /// A fixed token.
     Fixed(Key),
     /// An effect.
@@ -20,8 +26,28 @@ pub enum Slot {
     Items,
     /// One item that is a literal.
     Literal,
-    /// Marks, or none.
+    /// Marks of a word, or none.
     Marks,
+    /// The mark of a method, or none.
+    MethodMark,
+}
+
+/// What a name is of, where it stands.
+#[derive(Clone, Copy, Debug)]
+pub enum Naming {
+    /// Of anything.
+    Any,
+    /// Of a class: `t` and `f` are names there.
+    Class,
+}
+
+/// What marks are of.
+#[derive(Clone, Copy, Debug)]
+pub enum Marked {
+    /// Of a word: `inline` and `recursive`.
+    Word,
+    /// Of a method: `inline`.
+    Method,
 }
 
 // The slots of a row.
@@ -41,6 +67,12 @@ fn slots(kind: FormKind) -> &'static [Slot]
         FormKind::Public => &[],
         FormKind::Main => &[Slot::Name],
         FormKind::Define => &[Slot::Name, Slot::Effect, Slot::Items, Slot::Marks],
+        FormKind::Tuple => &[Slot::Name, Slot::Slots],
+        FormKind::Union => &[Slot::Name, Slot::Classes],
+        FormKind::Singleton => &[Slot::Name],
+        FormKind::Generic => &[Slot::Name, Slot::Effect],
+        FormKind::Method => &[Slot::Class, Slot::Name, Slot::Items, Slot::MethodMark],
+        FormKind::Maker => &[Slot::Name, Slot::Name],
     }
 }
 

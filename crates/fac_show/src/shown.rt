@@ -1,14 +1,14 @@
 //! The printed form of a value.
 ghost use Rattle.std.specs.Prelude.{◌≡◌, ◌∷◌, ◌++◌, [], map, string_bytes, slice_get, codes};
 ghost use Rattle.std.specs.Fmt.{signed_decimal, decimal};
-ghost use Rattle.fac_code.specs.WordNames.{image_names};
+ghost use Rattle.fac_code.specs.ImageNames.{image_names};
 ghost use Rattle.fac_lang.specs.World.{World};
-ghost use Rattle.fac_lang.specs.Printed.{Names, or_empty, printed, spaced};
-ghost use Rattle.fac_store.specs.MachineValues.{MValue, machine_values, with_names};
+ghost use Rattle.fac_lang.specs.Printed.{printed, spaced};
+ghost use Rattle.fac_store.specs.MachineValues.{MValue, machine_values};
 ghost use Rattle.fac_store.specs.ValueTrees.{trees_of, objects_of, value_in, iota_count};
 ghost use Rattle.fac_show.specs.Shown.{IsShown};
 ghost use Rattle.fac_show.specs.inner.Adding.{Adds};
-ghost use Rattle.fac_show.specs.inner.StoredForms.{array_of, object_form, stored_form};
+ghost use Rattle.fac_show.specs.inner.StoredForms.{head_of, tail_of, object_of, object_form, stored_form};
 
 use crate::ShowFault;
 use crate::escaping::add_quoted;
@@ -23,32 +23,12 @@ use std::alloc::Global;
 /// What a value is printed with.
 #[derive(Clone, Copy)]
 struct Printing<'a> {
-    /// The image, which has the names of the words.
+    /// The image, which has the names of words and classes.
     pub image: &'a Image,
     /// The store of the values.
     pub store: &'a Store,
     /// The most bytes.
     pub limit: usize,
-}
-
-// The text with this number.
-fn text_numbered(image: &Image, number: usize) -> &str
-    ensures { result.now ≡ or_empty (slice_get image.now.texts number) }
-{
-    match image.texts.get(number) {
-        Some(text) => text.as_str(),
-        None => "",
-    }
-}
-
-// The name of a word.
-fn word_name(image: &Image, word: usize) -> &str
-    ensures { result.now ≡ or_empty (slice_get (image_names image.now) word) }
-{
-    match image.words.get(word) {
-        Some(row) => text_numbered(image, row.name as usize),
-        None => "",
-    }
 }
 
 // Adds an integer.
@@ -77,6 +57,46 @@ fn add_iota(line: &mut String, limit: usize, number: i128) -> Result<(), ShowFau
             Err(fault) => Err(fault),
         },
         Err(fault) => Err(fault),
+    }
+}
+
+// Adds what a tuple of this kind begins with.
+fn add_class(line: &mut String, printing: Printing<'_>, kind: u32) -> Result<(), ShowFault>
+    ensures { Adds printing.entry.limit (string_bytes line.old) (codes "T{ " ++ (image_names printing.entry.image.now).kind_name kind ++ codes " ") (string_bytes line.new) result }
+{
+    let limit = printing.limit;
+    match add(line, limit, "T{ ") {
+        Ok(()) => match add(line, limit, printing.image.kind_name(kind)) {
+            Ok(()) => add(line, limit, " "),
+            Err(fault) => Err(fault),
+        },
+        Err(fault) => Err(fault),
+    }
+}
+
+// Adds what an object begins with.
+fn add_head(line: &mut String, printing: Printing<'_>, number: u64) -> Result<(), ShowFault>
+    ensures { Adds printing.entry.limit (string_bytes line.old) (head_of (image_names printing.entry.image.now) (slice_get printing.entry.store.now.objects number)) (string_bytes line.new) result }
+{
+    match printing.store.kind(number) {
+        Some(kind) => add_class(line, printing, kind),
+        None => match printing.store.elements(number) {
+            Some(_) => add(line, printing.limit, "{ "),
+            None => add(line, printing.limit, ""),
+        },
+    }
+}
+
+// Adds what an object ends with.
+fn add_tail(line: &mut String, printing: Printing<'_>, number: u64) -> Result<(), ShowFault>
+    ensures { Adds printing.entry.limit (string_bytes line.old) (tail_of (slice_get printing.entry.store.now.objects number)) (string_bytes line.new) result }
+{
+    match printing.store.kind(number) {
+        Some(_) => add(line, printing.limit, "}"),
+        None => match printing.store.elements(number) {
+            Some(_) => add(line, printing.limit, "}"),
+            None => add(line, printing.limit, ""),
+        },
     }
 }
 
@@ -115,29 +135,26 @@ fn add_each(
     Ok(())
 }
 
-// Adds an array, whose elements have so many levels.
+// Adds an object, whose values have so many levels.
 #[cycle(showing)]
-fn add_array(
+fn add_members(
     line: &mut String,
     printing: Printing<'_>,
     number: u64,
     levels: usize,
 ) -> Result<(), ShowFault>
-    ensures { Adds printing.entry.limit (string_bytes line.old) (array_of printing.entry.store.now (image_names printing.entry.image.now) levels number) (string_bytes line.new) result }
+    ensures { Adds printing.entry.limit (string_bytes line.old) (object_of printing.entry.store.now (image_names printing.entry.image.now) levels number) (string_bytes line.new) result }
 {
-    match printing.store.elements(number) {
-        Some(values) => match add(line, printing.limit, "{ ") {
-            Ok(()) => match add_each(line, printing, values, levels) {
-                Ok(()) => add(line, printing.limit, "}"),
-                Err(fault) => Err(fault),
-            },
+    match add_head(line, printing, number) {
+        Ok(()) => match add_each(line, printing, printing.store.object(number), levels) {
+            Ok(()) => add_tail(line, printing, number),
             Err(fault) => Err(fault),
         },
-        None => add(line, printing.limit, ""),
+        Err(fault) => Err(fault),
     }
 }
 
-// Adds an array with so many levels.
+// Adds an object with so many levels.
 #[cycle(showing)]
 fn add_object(
     line: &mut String,
@@ -150,7 +167,7 @@ fn add_object(
     if levels == 0 {
         return add(line, printing.limit, "...");
     }
-    add_array(line, printing, number, levels - 1)
+    add_members(line, printing, number, levels - 1)
 }
 
 // Adds a value with so many levels.
@@ -169,11 +186,7 @@ fn add_value(
         Value::False => add(line, printing.limit, "f"),
         Value::Text(number) => add_quoted(line, printing.limit, printing.store.text(number)),
         Value::Iota(number) => add_iota(line, printing.limit, number),
-        Value::Word(word) => add(
-            line,
-            printing.limit,
-            word_name(printing.image, word as usize),
-        ),
+        Value::Word(word) => add(line, printing.limit, printing.image.word_name(word)),
         Value::Array(number) => add_object(line, printing, number, levels),
         Value::Tuple(number) => add_object(line, printing, number, levels),
         Value::Callable(_) => add(line, printing.limit, "[ ... ]"),
@@ -188,9 +201,8 @@ pub fn show(
     value: Value,
     limit: usize,
 ) -> Result<Text, ShowFault>
-    ensures { (N : Names) (w : World MValue) → w.objects ≡ objects_of store.now → IsShown limit (printed machine_values (with_names (image_names image.now) N) w (value_in (trees_of store.now) value)) result }
+    ensures { (w : World MValue) → w.objects ≡ objects_of store.now → IsShown limit (printed machine_values (image_names image.now) w (value_in (trees_of store.now) value)) result }
 {
-    store.has_no_tuples();
     let mut line = String::new(alloc);
     let printing = Printing {
         image,

@@ -5,12 +5,15 @@ use Rattle.std.specs.declared.option.Option.{Option}
 use Rattle.fac_lang.specs.declared.memory.Memory.{Memory}
 use Rattle.fac_lang.specs.declared.phrase.Height.{Height}
 use Rattle.fac_lang.specs.declared.phrase.Template.{Template}
+use Rattle.fac_lang.specs.declared.program.Name.{Name}
 use Rattle.fac_lang.specs.declared.program.Program.{Program}
+use Rattle.fac_lang.specs.declared.program.Sort.{Sort}
+use Rattle.fac_lang.specs.declared.program.Sort.TheVariants as sort
 use Rattle.fac_lang.specs.declared.program.WordDef.{WordDef}
 use Rattle.fac_lang.specs.Phrases.{Callable}
-use Rattle.fac_lang.specs.Meaning.{names, start}
+use Rattle.fac_lang.specs.Meaning.{start}
 use Rattle.fac_lang.specs.Forms.{IsBuilt}
-use Rattle.fac_locals.specs.Closed.{Closes, CloseWords}
+use Rattle.fac_locals.specs.Closed.{Closes, CloseWords, ClosesSort}
 use Rattle.fac_locals.specs.declared.closing.Closed.{Closed}
 use Rattle.fac_check.specs.CallableEffects.{callable_height}
 use Rattle.fac_lang.specs.HeightArithmetic.{fits}
@@ -19,23 +22,49 @@ use Rattle.fac_check.specs.Judged.{refusal_seen}
 use Rattle.fac_check.specs.declared.refusal.Refusal.{Refusal}
 use Rattle.fac_check.specs.Promises.{IsSafe, SafeAreNotStuck}
 use Rattle.fac_code.specs.declared.image.Image.{Image}
-use Rattle.fac_code.specs.WordNames.{image_names}
-use Rattle.fac_store.specs.MachineValues.{with_names}
 use Rattle.fac_emit.specs.Carries.{Carries}
-use Rattle.fac_emit.specs.ProgramCode.{IsPlain}
-use Rattle.fac_emit.proofs.NamedImages.{image_named}
-use Rattle.fac_notes.specs.WordNames.{name_or}
+use Rattle.fac_notes.specs.WordNames.{bare_word, method_name, name_as, name_or}
 use Rattle.fac_tool.specs.Refusals.{refusal_of}
 use Rattle.fac_tool.specs.inner.Stops.{SameNames, Carried, StandsFor, StandsForSafe}
 
--- each word of a closed program has the name of the word for which it stands
-named_at : (P : Program) (n w k : ℕ) (ds cs : List WordDef) → CloseWords P n ds cs → name_or k (slice_get cs w) ≡ name_or k (slice_get ds w)
-named_at P n w k [] cs c = ap (λ (xs : List WordDef). name_or k (slice_get xs w)) c
-named_at P n zero k (d ∷ ds) cs c = ap (λ (xs : List WordDef). name_or k (slice_get xs 0)) c.2 ∙ c.3.name
-named_at P n (suc w) k (d ∷ ds) cs c = ap (λ (xs : List WordDef). name_or k (slice_get xs (suc w))) c.2 ∙ named_at P (suc n) w k ds c.1 c.4
+-- each word of a closed program is defined under the name of the word for which it stands
+bare_at : (P : Program) (n w : ℕ) (ds cs : List WordDef) → CloseWords P n ds cs → bare_word (slice_get cs w) ≡ bare_word (slice_get ds w)
+bare_at P n w [] cs c = ap (λ (xs : List WordDef). bare_word (slice_get xs w)) c
+bare_at P n zero (d ∷ ds) cs c = ap (λ (xs : List WordDef). bare_word (slice_get xs 0)) c.2 ∙ ap (λ (x : Name). x.name) c.3.name
+bare_at P n (suc w) (d ∷ ds) cs c = ap (λ (xs : List WordDef). bare_word (slice_get xs (suc w))) c.2 ∙ bare_at P (suc n) w ds c.1 c.4
+
+-- a name without a vocabulary
+abbrev without_vocabulary : List ℕ → Name
+without_vocabulary name = record { vocab = []; name = name }
+
+-- so a method is named by the same class and generic
+method_same : (P C : Program) (templates : List Template) (c g : ℕ) → Closes P C templates → method_name C c g ≡ method_name P c g
+method_same P C templates c g closes = rw (closes.classes, bare_at P 0 g P.words C.words closes.words) refl
+
+module _ (P C : Program) (same : (c g : ℕ) → method_name C c g ≡ method_name P c g) where
+  -- what a word is decides its name, also for the closed one
+  sort_same : (w : ℕ) (full : Name) (s r : Sort) → ClosesSort P w s r → name_as C full r ≡ name_as P full s
+  sort_same w full (sort.Prim k) r h = ap (name_as C full) h
+  sort_same w full (sort.Core k) r h = ap (name_as C full) h
+  sort_same w full (sort.Body t) r h = ap (name_as C full) h.1
+  sort_same w full (sort.Past t) r h = ap (name_as C full) h.1
+  sort_same w full sort.Itself r h = ap (name_as C full) h
+  sort_same w full (sort.Class c) r h = ap (name_as C full) h
+  sort_same w full (sort.Isa c) r h = ap (name_as C full) h
+  sort_same w full (sort.Getter s) r h = ap (name_as C full) h
+  sort_same w full (sort.Setter s) r h = ap (name_as C full) h
+  sort_same w full (sort.Putter s) r h = ap (name_as C full) h
+  sort_same w full sort.Generic r h = ap (name_as C full) h
+  sort_same w full (sort.Method c g t) r h = ap (name_as C full) h.1 ∙ ap without_vocabulary (same c g)
+
+  named_at : (n w k : ℕ) (ds cs : List WordDef) → CloseWords P n ds cs → name_or C k (slice_get cs w) ≡ name_or P k (slice_get ds w)
+  named_at n w k [] cs c = ap (λ (xs : List WordDef). name_or C k (slice_get xs w)) c
+  named_at n zero k (d ∷ ds) cs c =
+      ap (λ (xs : List WordDef). name_or C k (slice_get xs 0)) c.2 ∙ ap (λ (full : Name). name_as C full c.0.sort) c.3.name ∙ sort_same n d.name d.sort c.0.sort c.3.sort
+  named_at n (suc w) k (d ∷ ds) cs c = ap (λ (xs : List WordDef). name_or C k (slice_get xs (suc w))) c.2 ∙ named_at (suc n) w k ds c.1 c.4
 
 pub same_names : (P C : Program) (templates : List Template) → Closes P C templates → SameNames P C
-same_names P C templates closes w = named_at P 0 w w P.words C.words closes.words
+same_names P C templates closes w = named_at P C (λ c g. method_same P C templates c g closes) 0 w w P.words C.words closes.words
 
 -- a refusal comes back
 pub refusal_back : (r : Refusal) → refusal_of (refusal_seen r) ≡ r
@@ -46,17 +75,16 @@ pub safe_one : (closed : Closed) (P : Program) → IsKept closed → closed.star
 safe_one closed P kept start stands = record { closes = stands.closes; built = stands.built; whole = stands.whole; safe = subst (λ count. IsSafe P count) start (kept P stands.closes stands.built stands.whole); start = start }
 
 -- so its image carries it with the checker's test of effects, and it isn't stuck
-carried_by : SafeAreNotStuck → (P : Program) (M : Image) (count : ℕ) → IsSafe P 0 → count ≡ 0 → Carries P fits (callable_height P) count M → with_names (image_names M) (names P) ≡ names P → Carried P M
-carried_by never P M count safe none carries named = record {
+carried_by : SafeAreNotStuck → (P : Program) (M : Image) (count : ℕ) → IsSafe P 0 → count ≡ 0 → Carries P fits (callable_height P) count M → Carried P M
+carried_by never P M count safe none carries = record {
   carries = subst (λ k. Carries P fits (callable_height P) k M) none carries;
   not_stuck = λ n. never P 0 safe n (start P []) refl (safe.begins []);
-  named = named;
 }
 
 pub if_carried :
     SafeAreNotStuck → (closed : Closed) (r : Result Image Memory) →
     IfOk r (λ image. (P : Program) (fits : Height → Height → Bool) (callable_height : Callable → Option Height) → Closes P closed.program closed.templates → IsBuilt P → Carries P fits callable_height closed.start image) →
-    IfOk r (IsPlain closed.program closed.templates) → IfOk r (λ image. (P : Program) → StandsForSafe closed P → Carried P image)
-if_carried never closed (Ok image) h plain =
-    λ P stands. carried_by never P image closed.start stands.safe stands.start (h P fits (callable_height P) stands.closes stands.built) (image_named P closed.program closed.templates image stands.closes plain)
-if_carried never closed (Err e) h plain = tt
+    IfOk r (λ image. (P : Program) → StandsForSafe closed P → Carried P image)
+if_carried never closed (Ok image) h =
+    λ P stands. carried_by never P image closed.start stands.safe stands.start (h P fits (callable_height P) stands.closes stands.built)
+if_carried never closed (Err e) h = tt

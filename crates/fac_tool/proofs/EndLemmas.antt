@@ -17,11 +17,11 @@ use Rattle.fac_lang.specs.Printed.{Names, printed}
 use Rattle.fac_lang.specs.Meaning.{meaning_values, names}
 use Rattle.fac_lang.specs.Eval.{Done, Failed, Spent}
 use Rattle.fac_code.specs.declared.image.Image.{Image}
-use Rattle.fac_code.specs.WordNames.{image_names}
+use Rattle.fac_code.specs.ImageNames.{image_names}
 use Rattle.fac_show.specs.declared.show_fault.ShowFault.{ShowFault}
 use Rattle.fac_show.specs.declared.show_fault.ShowFault.TheVariants.{TooLong as too_long}
 use Rattle.fac_show.specs.Shown.{IsShown}
-use Rattle.fac_store.specs.MachineValues.{MValue, machine_values, with_names}
+use Rattle.fac_store.specs.MachineValues.{MValue, machine_values}
 use Rattle.fac_store.specs.ValueTrees.{Trees, StoreSeen, objects_of, trees_of, value_in, values_in}
 use Rattle.fac_store.specs.declared.value.Value.{Value as MachineValue}
 use Rattle.fac_vm.specs.declared.machine.RunError.{RunError}
@@ -51,11 +51,11 @@ shown_dots text form e many =
 -- the text of a value whose printed form is too long
 pub dots_told :
     (M : Image) (store : StoreSeen) (v : MachineValue) (fault : ShowFault) (r : Result (List ℕ) Memory) → fault ≡ too_long →
-    ((N : Names) (w : World MValue) → w.objects ≡ objects_of store → IsShown MOST_SHOWN_BYTES (printed machine_values (with_names (image_names M) N) w (value_in (trees_of store) v)) (Err fault)) →
+    ((w : World MValue) → w.objects ≡ objects_of store → IsShown MOST_SHOWN_BYTES (printed machine_values (image_names M) w (value_in (trees_of store) v)) (Err fault)) →
     IfOk r (λ text. text ≡ codes "...") → IfOk r (IsTextOf M store v)
-dots_told M store v fault (Ok text) is long e = λ N w same.
-    let form = printed machine_values (with_names (image_names M) N) w (value_in (trees_of store) v) in
-    shown_dots text form e (subst (λ (f : ShowFault). IsShown MOST_SHOWN_BYTES form (Err f)) is (long N w same))
+dots_told M store v fault (Ok text) is long e = λ w same.
+    let form = printed machine_values (image_names M) w (value_in (trees_of store) v) in
+    shown_dots text form e (subst (λ (f : ShowFault). IsShown MOST_SHOWN_BYTES form (Err f)) is (long w same))
 dots_told M store v fault (Err none) is long e = tt
 
 reverse_map : {A B : Type 0} (f : A → B) (xs : List A) → reverse (map f xs) ≡ map f (reverse xs)
@@ -79,7 +79,7 @@ one_by_one f T (v ∷ vs) = ap (λ (ts : List (List ℕ)). f (value_in T v) ∷ 
 -- the texts of a machine's stack, out of those of its values
 pub stack_told :
     (machine : MachineSeen) (values : List MachineValue) (r : Result (List (List ℕ)) Memory) → values_in (trees_of machine.store) (reverse values) ≡ stack_in machine → IfOk r (AreTextsOf machine.image machine.store values) → IfOk r (AreStackTexts machine)
-stack_told machine values (Ok texts) e are = λ N w same. are N w same ∙ one_by_one (machine_text (with_names (image_names machine.image) N) w) (trees_of machine.store) values ∙ ap (map (machine_text (with_names (image_names machine.image) N) w)) (upside (trees_of machine.store) values (stack_in machine) e)
+stack_told machine values (Ok texts) e are = λ w same. are w same ∙ one_by_one (machine_text machine.image w) (trees_of machine.store) values ∙ ap (map (machine_text machine.image w)) (upside (trees_of machine.store) values (stack_in machine) e)
 stack_told machine values (Err fault) e are = tt
 
 -- the report of an error with a value, out of the value's text
@@ -87,12 +87,12 @@ pub report_told :
     (machine : MachineSeen) (C : Program) (e : RunError) (word : Name) (v : MachineValue) (text : List ℕ) (M : Image) (store : StoreSeen) →
     M ≡ machine.image → store ≡ machine.store → word ≡ word_name C e.word → e.value ≡ Some v → IsTextOf M store v text → IsReportOf machine C e (report.Error e.name word (Some text))
 report_told machine C e word v text M store image stored named some is =
-    let told : IsTextOf machine.image machine.store v text = subst (λ (N : Image). IsTextOf N machine.store v text) image (subst (λ (s : StoreSeen). IsTextOf M s v text) stored is) in
-    λ N w same. rw (named, some) (ap (λ (t : List ℕ). report.Error e.name (word_name C e.word) (Some t)) (told N w same))
+    let told : IsTextOf machine.image machine.store v text = subst (λ (I : Image). IsTextOf I machine.store v text) image (subst (λ (s : StoreSeen). IsTextOf M s v text) stored is) in
+    λ w same. rw (named, some) (ap (λ (t : List ℕ). report.Error e.name (word_name C e.word) (Some t)) (told w same))
 
--- the names of the words are the program's
+-- the image says of words and kinds what the program says
 abbrev pub AreNamed : Program → Image → Type 0
-AreNamed P M = with_names (image_names M) (names P) ≡ names P
+AreNamed P M = image_names M ≡ names P
 
 shown_one : {A : Type 0} (f : A → List ℕ) (B : Type 0) (g : B → List ℕ) (h : A → B) (xs : List A) → map f xs ≡ map g (map h xs) → map (λ x. shown_text (f x)) xs ≡ map (λ y. shown_text (g y)) (map h xs)
 shown_one f B g h [] e = refl
@@ -103,20 +103,20 @@ shown_one f B g h (x ∷ xs) e =
 
 module _ (law : PrintedFormsAreEqual) (P : Program) (M : Image) (named : AreNamed P M) (w : World MValue) where
   -- the texts of values of the machine are those of the values in the meaning
-  texts_same : (vs : List MValue) → map (machine_text (with_names (image_names M) (names P)) w) vs ≡ map (shown P (world_view (template_phrases P) w)) (values_view (template_phrases P) vs)
+  texts_same : (vs : List MValue) → map (machine_text M w) vs ≡ map (shown P (world_view (template_phrases P) w)) (values_view (template_phrases P) vs)
   texts_same vs =
       let forms = ap (λ (N : Names). map (printed machine_values N w) vs) named ∙ sym (law (names P) (template_phrases P) w vs) in
-      shown_one (printed machine_values (with_names (image_names M) (names P)) w) Value (printed meaning_values (names P) (world_view (template_phrases P) w)) (value_view (template_phrases P)) vs forms
+      shown_one (printed machine_values (image_names M) w) Value (printed meaning_values (names P) (world_view (template_phrases P) w)) (value_view (template_phrases P)) vs forms
 
-  text_same : (v : MValue) → machine_text (with_names (image_names M) (names P)) w v ≡ shown P (world_view (template_phrases P) w) (value_view (template_phrases P) v)
+  text_same : (v : MValue) → machine_text M w v ≡ shown P (world_view (template_phrases P) w) (value_view (template_phrases P) v)
   text_same v = let listed = texts_same (v ∷ []) in cc
 
   stack_same :
-      (stack : List MValue) → map (machine_text (with_names (image_names M) (names P)) w) (reverse stack) ≡ map (shown P (world_view (template_phrases P) w)) (reverse (values_view (template_phrases P) stack))
+      (stack : List MValue) → map (machine_text M w) (reverse stack) ≡ map (shown P (world_view (template_phrases P) w)) (reverse (values_view (template_phrases P) stack))
   stack_same stack = texts_same (reverse stack) ∙ ap (map (shown P (world_view (template_phrases P) w))) (sym (reverse_map (value_view (template_phrases P)) stack))
 
   value_same :
-      (T : Trees) (v : Option MachineValue) → option_map (λ v. machine_text (with_names (image_names M) (names P)) w (value_in T v)) v ≡ option_map (shown P (world_view (template_phrases P) w)) (option_view (template_phrases P) (option_map (value_in T) v))
+      (T : Trees) (v : Option MachineValue) → option_map (λ v. machine_text M w (value_in T v)) v ≡ option_map (shown P (world_view (template_phrases P) w)) (option_view (template_phrases P) (option_map (value_in T) v))
   value_same T None = refl
   value_same T (Some v) = ap Some (text_same (value_in T v))
 
@@ -133,7 +133,7 @@ pub done_matches :
     AreStackTexts machine texts → StopsAs P budget (trees_of machine.store) (held_in machine) ticks out stop.Done → Matches (run_answer P budget) out (done_with ticks texts)
 done_matches law P M budget machine ticks out texts named image are h =
     let answer = ap (of_run P budget) h.2 in
-    let told = subst (λ (N : Image). texts ≡ map (machine_text (with_names (image_names N) (names P)) h.5) (reverse (stack_in machine))) image (are (names P) h.5 h.6) in
+    let told = subst (λ (I : Image). texts ≡ map (machine_text I h.5) (reverse (stack_in machine))) image (are h.5 h.6) in
     let state = ap (λ (st : State Value). map (shown P st.world) (reverse st.stack)) h.7 in
     let matches : Matches (of_run P budget (Done h.0 h.1)) out (done_with ticks texts) =
     record { status = refl; ticks = h.3; stack = ap Some (told ∙ stack_same law P M named h.5 (stack_in machine) ∙ sym state); refusal = refl; output = h.4 } in
@@ -146,11 +146,11 @@ failed_ends law P C M budget machine e ticks out why called image named is h pie
     let answer = ap (of_run P budget) h.3 in
     let T = trees_of machine.store in
     let value = value_same law P M called h.6 T e.value in
-    let told : why ≡ report.Error e.name (word_name C e.word) (option_map (λ v. machine_text (with_names (image_names M) (names P)) h.6 (value_in T v)) e.value) =
-    subst (λ (N : Image). why ≡ report.Error e.name (word_name C e.word) (option_map (λ v. machine_text (with_names (image_names N) (names P)) h.6 (value_in T v)) e.value)) image (is (names P) h.6 h.7) in
+    let told : why ≡ report.Error e.name (word_name C e.word) (option_map (λ v. machine_text M h.6 (value_in T v)) e.value) =
+    subst (λ (I : Image). why ≡ report.Error e.name (word_name C e.word) (option_map (λ v. machine_text I h.6 (value_in T v)) e.value)) image (is h.6 h.7) in
     let meant : error_report P h.1.world h.0 ≡ error_report P (world_view (template_phrases P) h.6) (error_view (template_phrases P) (error_of T e)) = ap (λ (x : World Value). error_report P x h.0) h.8 ∙ ap (error_report P (world_view (template_phrases P) h.6)) h.9 in
-    let same : report.Error e.name (word_name C e.word) (option_map (λ v. machine_text (with_names (image_names M) (names P)) h.6 (value_in T v)) e.value) ≡ error_report P h.1.world h.0 =
-    ap (λ (n : Name). report.Error e.name n (option_map (λ v. machine_text (with_names (image_names M) (names P)) h.6 (value_in T v)) e.value)) (named e.word) ∙ ap (report.Error e.name (word_name P e.word)) value ∙ sym meant in
+    let same : report.Error e.name (word_name C e.word) (option_map (λ v. machine_text M h.6 (value_in T v)) e.value) ≡ error_report P h.1.world h.0 =
+    ap (λ (n : Name). report.Error e.name n (option_map (λ v. machine_text M h.6 (value_in T v)) e.value)) (named e.word) ∙ ap (report.Error e.name (word_name P e.word)) value ∙ sym meant in
     let matches : Matches (of_run P budget (Failed h.0 h.1 h.2)) out (reported ticks (error_report P h.1.world h.0)) =
     record { status = refl; ticks = h.4; stack = refl; refusal = refl; output = h.5 } in
     let ends : EndsAs (run_answer P budget) (runs P budget) out (reported ticks (error_report P h.1.world h.0)) =

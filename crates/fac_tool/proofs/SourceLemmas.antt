@@ -10,7 +10,7 @@ use Rattle.fac_token.specs.declared.fault.TokenFault.TheVariants as token
 use Rattle.fac_token.specs.Tokens.{Tokenizes}
 use Rattle.fac_token.specs.ReadingLaws.{IsNotMemory, EveryFileAnswers, OneAnswer}
 use Rattle.fac_parse.specs.declared.reader.Why.TheVariants.{End, Other}
-use Rattle.fac_names.specs.declared.refusal.NameFault.{NameFault}
+use Rattle.fac_refusal.specs.declared.refusal.NameFault.{NameFault}
 use Rattle.fac_parse.specs.Trees.{IsWellFormed, AreWellFormed, Reads, Misses, OneTree, TreeOrNone, OnePlace, SomePlace}
 use Rattle.fac_parse.specs.declared.reader.Why.{Why}
 use Rattle.fac_names.specs.Resolution.{resolved, ResolvedAreWhole}

@@ -1,21 +1,28 @@
 -- A step of the machine with other ticks: with those that it took it goes to the same state, and with fewer it is spent there and writes nothing.
 use Rattle.std.proofs.Common.{◌≡◌, ◌<◌, ℕ, zero, suc, ◌+◌, List, [], ◌∷◌, Bool, true, false, Some, None, refl, ◌∙◌, arith}
-use Rattle.std.specs.Prelude.{slice_get, ⊤}
+use Rattle.std.specs.Prelude.{slice_get, drop, ⊤}
 use Rattle.std.specs.declared.option.Option.{Option}
 use Rattle.fac_lang.specs.Phrases.{str, wrd, arr}
-use Rattle.fac_lang.specs.Printed.{Names}
 use Rattle.fac_lang.specs.Procedures.{Gives, gives, bad, Fn, fn0, fn1, fn2, fn3}
-use Rattle.fac_lang.specs.Primitives.{Primitive, prim_numbered, prim_fn, seen_no}
+use Rattle.fac_lang.specs.Primitives.{Primitive, prim_numbered, prim_fn, seen_no, seen_word}
+use Rattle.fac_lang.specs.Objects.{get_slot, set_slot, put_slot, made_tuple}
+use Rattle.fac_lang.specs.declared.error_name.ErrorName.{ErrorName}
+use Rattle.fac_lang.specs.declared.error_name.ErrorName.TheVariants.{NoMethod, NoNextMethod}
 use Rattle.fac_code.specs.declared.image.Image.{Image}
 use Rattle.fac_code.specs.declared.image.Instr.{Instr}
 use Rattle.fac_code.specs.declared.image.WordRow.{WordRow}
 use Rattle.fac_code.specs.declared.image.TemplateRow.{TemplateRow}
-use Rattle.fac_code.specs.declared.image.Instr.TheVariants.{Halt, Int, True, False, Text, Array, Word, Quot, Prim as prim, Callw, Call, Dip, If, Ret}
-use Rattle.fac_code.specs.WordNames.{image_names}
+use Rattle.fac_code.specs.declared.image.GenericRow.{GenericRow}
+use Rattle.fac_code.specs.declared.image.MethodRow.{MethodRow}
+use Rattle.fac_code.specs.declared.image.Action.TheVariants as action
+use Rattle.fac_code.specs.declared.image.Instr.TheVariants.{Halt, Int, True, False, Text, Array, Word, Quot, Prim as prim, Callw, Call, Dip, If, Ret, Boa, Get, Set, Put, Isa, Generic, Next}
+use Rattle.fac_code.specs.ImageNames.{image_names}
+use Rattle.fac_code.specs.ClassSets.{set_has}
 use Rattle.fac_code.specs.declared.names.TrapWhy.TheVariants.{Kind as t_kind, Frame as t_frame}
-use Rattle.fac_store.specs.MachineValues.{MValue, m_plain, m_fun, MCallable, m_lit, m_cur, m_com, Kept, kept_list, keep_list, m_seen, machine_values, with_names, cells_at}
+use Rattle.fac_store.specs.MachineValues.{MValue, m_plain, m_fun, MCallable, m_lit, m_cur, m_com, Kept, kept_list, keep_list, m_seen, machine_values, cells_at}
 use Rattle.fac_vm.specs.Machine.{Entry, resume, put_back, enter, Machine, spent, Step, goes_on, ends, after, push, waiting, paying, popping1, popping2, popping3}
-use Rattle.fac_vm.specs.Machine.{given, does, word_of_prim, or_trap, code_of, leaving, going, want_callable, branch, entering, returning, makes, does_instr, fetched, step}
+use Rattle.fac_vm.specs.Machine.{given, does, word_with, or_trap, code_of, leaving, going, want_callable, branch, popping, method_for, method_after, truth}
+use Rattle.fac_vm.specs.Machine.{kind_in, entering, returning, makes, enters_method, enters_for, does_instr, fetched, step}
 use Rattle.fac_vm.specs.Runs.{end_world}
 
 -- Where a step goes, which is f by the ticks that there are, from a state with this output and with n ticks. At ends and where no tick was taken
@@ -58,32 +65,32 @@ ticking Free More f g s out n next first same (goes_on t m) h = record {
   free = λ c none. absurd (omega (arith, none));
 }
 
-module _ (M : Image) (N : Names) where
+module _ (M : Image) where
   lit_at : (k : Kept) (s : Machine) (o : Option TemplateRow) (n : ℕ) → Ticks ⊤ (λ n. or_trap o t_kind s n (λ t. goes_on (going t.entry (kept_list k) s) n)) s.world.output n
   lit_at k s None n = λ c none. refl
   lit_at k s (Some t) n = goes ⊤ _ (going t.entry (kept_list k) s) s.world.output (λ n. refl) (λ c. refl) n
 
-  enter_at : (c : MCallable) (s : Machine) (n : ℕ) → Ticks ⊤ (entering M N c s) s.world.output n
+  enter_at : (c : MCallable) (s : Machine) (n : ℕ) → Ticks ⊤ (entering M c s) s.world.output n
   enter_at (m_lit q k) s n = lit_at k s (slice_get M.templates q) n
   enter_at (m_cur v c) s zero = λ c none. refl
-  enter_at (m_cur v c) s (suc n) = ticking ⊤ ⊤ (entering M N (m_cur v c) s) (entering M N c (push v s)) s s.world.output n (λ k. refl) refl refl (entering M N c (push v s) n) (enter_at c (push v s) n)
+  enter_at (m_cur v c) s (suc n) = ticking ⊤ ⊤ (entering M (m_cur v c) s) (entering M c (push v s)) s s.world.output n (λ k. refl) refl refl (entering M c (push v s) n) (enter_at c (push v s) n)
   enter_at (m_com c d) s zero = λ c none. refl
-  enter_at (m_com c d) s (suc n) = ticking ⊤ ⊤ (entering M N (m_com c d) s) (entering M N c (waiting (enter d) s)) s s.world.output n (λ k. refl) refl refl (entering M N c (waiting (enter d) s) n) (enter_at c (waiting (enter d) s) n)
+  enter_at (m_com c d) s (suc n) = ticking ⊤ ⊤ (entering M (m_com c d) s) (entering M c (waiting (enter d) s)) s s.world.output n (λ k. refl) refl refl (entering M c (waiting (enter d) s) n) (enter_at c (waiting (enter d) s) n)
 
-  return_at : (es : List Entry) (s : Machine) (n : ℕ) → Ticks ⊤ (returning M N es s) s.world.output n
+  return_at : (es : List Entry) (s : Machine) (n : ℕ) → Ticks ⊤ (returning M es s) s.world.output n
   return_at [] s n = λ c none. refl
-  return_at (resume a f ∷ es) s n = goes ⊤ (returning M N (resume a f ∷ es) s) (going a f (record s { returns = es })) s.world.output (λ n. refl) (λ c. refl) n
+  return_at (resume a f ∷ es) s n = goes ⊤ (returning M (resume a f ∷ es) s) (going a f (record s { returns = es })) s.world.output (λ n. refl) (λ c. refl) n
   return_at (put_back v ∷ es) s n = return_at es (push v s) n
   return_at (enter c ∷ es) s n = enter_at c (record s { returns = es }) n
 
-  call_at : (stack : List MValue) (s : Machine) (n : ℕ) → Ticks ⊤ (λ n. popping1 stack s n (λ q t. want_callable q t n (λ c. entering M N c t n))) s.world.output n
+  call_at : (stack : List MValue) (s : Machine) (n : ℕ) → Ticks ⊤ (λ n. popping1 stack s n (λ q t. want_callable q t n (λ c. entering M c t n))) s.world.output n
   call_at [] s n = λ c none. refl
   call_at (m_plain p ∷ r) s n = λ c none. refl
   call_at (m_fun c ∷ r) s n = enter_at c (record s { stack = r }) n
 
   dip_at :
       (stack : List MValue) (s : Machine) (n : ℕ) →
-      Ticks ⊤ (λ n. popping2 stack s n (λ x q t. want_callable q t n (λ c. entering M N c (waiting (put_back x) (leaving false t)) n))) s.world.output n
+      Ticks ⊤ (λ n. popping2 stack s n (λ x q t. want_callable q t n (λ c. entering M c (waiting (put_back x) (leaving false t)) n))) s.world.output n
   dip_at [] s n = λ c none. refl
   dip_at (y ∷ []) s n = λ c none. refl
   dip_at (m_plain p ∷ x ∷ r) s n = λ c none. refl
@@ -91,7 +98,7 @@ module _ (M : Image) (N : Names) where
 
   if_at :
       (stack : List MValue) (s : Machine) (n : ℕ) →
-      Ticks ⊤ (λ n. popping3 stack s n (λ x p q t. want_callable p t n (λ c. want_callable q t n (λ d. entering M N (branch (seen_no (m_seen x)) c d) t n)))) s.world.output n
+      Ticks ⊤ (λ n. popping3 stack s n (λ x p q t. want_callable p t n (λ c. want_callable q t n (λ d. entering M (branch (seen_no (m_seen x)) c d) t n)))) s.world.output n
   if_at [] s n = λ c none. refl
   if_at (z ∷ []) s n = λ c none. refl
   if_at (z ∷ y ∷ []) s n = λ c none. refl
@@ -125,9 +132,9 @@ module _ (M : Image) (N : Names) where
   does_at a (fn2 f) s out n = two_at a (λ x y t. f x y t.world) s.stack s out n
   does_at a (fn3 f) s out n = three_at a (λ x y z t. f x y z t.world) s.stack s out n
 
-  prim_at : (a : ℕ) (o : Option Primitive) (s : Machine) (out : List ℕ) (n : ℕ) → Ticks ⊥ (λ n. or_trap o t_kind s n (λ q. does a (prim_fn machine_values (with_names (image_names M) N) q) s n (λ t. goes_on (after t) n))) out n
+  prim_at : (a : ℕ) (o : Option Primitive) (s : Machine) (out : List ℕ) (n : ℕ) → Ticks ⊥ (λ n. or_trap o t_kind s n (λ q. does a (prim_fn machine_values (image_names M) q) s n (λ t. goes_on (after t) n))) out n
   prim_at a None s out n = λ c none. absurd c
-  prim_at a (Some q) s out n = does_at a (prim_fn machine_values (with_names (image_names M) N) q) s out n
+  prim_at a (Some q) s out n = does_at a (prim_fn machine_values (image_names M) q) s out n
 
   code_at : (o : Option ℕ) (s : Machine) (out : List ℕ) (n : ℕ) → Ticks ⊥ (λ n. or_trap o t_kind s n (λ a. goes_on (going a [] s) n)) out n
   code_at None s out n = λ c none. absurd c
@@ -153,9 +160,58 @@ module _ (M : Image) (N : Names) where
   value_at v None s out n = λ c none. absurd c
   value_at v (Some r) s out n = goes ⊥ _ (after (push v s)) out (λ n. refl) (λ c. absurd c) n
 
-  quot_at : (q : ℕ) (o : Option TemplateRow) (s : Machine) (out : List ℕ) (n : ℕ) → Ticks ⊥ (λ n. or_trap o t_kind s n (λ t. makes M N q t s n)) out n
+  quot_at : (q : ℕ) (o : Option TemplateRow) (s : Machine) (out : List ℕ) (n : ℕ) → Ticks ⊥ (λ n. or_trap o t_kind s n (λ t. makes M q t s n)) out n
   quot_at q None s out n = λ c none. absurd c
   quot_at q (Some t) s out n = made_at q (cells_at t.cells s.frame) s out n
+
+  -- what is there, and what comes with it
+  found_at : (A : Type 0) (o : Option A) (s : Machine) (out : List ℕ) (go : A → ℕ → Step) → ((x : A) (n : ℕ) → Ticks ⊥ (go x) out n) → (n : ℕ) → Ticks ⊥ (λ n. or_trap o t_kind s n (λ x. go x n)) out n
+  found_at A None s out go h n = λ c none. absurd c
+  found_at A (Some x) s out go h n = h x n
+
+  -- the top value, and what comes with it
+  popped_at : (stack : List MValue) (s : Machine) (out : List ℕ) (go : MValue → Machine → ℕ → Step) → ((v : MValue) (t : Machine) (n : ℕ) → Ticks ⊥ (go v t) out n) → (n : ℕ) → Ticks ⊥ (λ n. popping1 stack s n (λ v t. go v t n)) out n
+  popped_at [] s out go h n = λ c none. absurd c
+  popped_at (x ∷ r) s out go h n = h x (record s { stack = r }) n
+
+  slot_at : (a k : ℕ) (fn : List ℕ → Fn MValue) (s : Machine) (out : List ℕ) (n : ℕ) → Ticks ⊥ (λ n. or_trap (slice_get M.texts k) t_kind s n (λ cs. does a (fn cs) s n (λ t. goes_on (after t) n))) out n
+  slot_at a k fn s out n = found_at (List ℕ) (slice_get M.texts k) s out (λ cs n. does a (fn cs) s n (λ t. goes_on (after t) n)) (λ cs. does_at a (fn cs) s out) n
+
+  -- whether the top value is of a class
+  told_at : (f : Machine → MValue → Bool) (s : Machine) (out : List ℕ) (n : ℕ) → Ticks ⊥ (λ n. popping1 s.stack s n (λ v t. goes_on (after (push (truth (f t v)) t)) n)) out n
+  told_at f s out n = popped_at s.stack s out (λ v t. goes_on (after (push (truth (f t v)) t))) (λ v t. goes ⊥ _ (after (push (truth (f t v)) t)) out (λ n. refl) (λ c. absurd c)) n
+
+  -- a tuple of a kind, out of its slots
+  filled_at : (k count : ℕ) (vs stack : List MValue) (s : Machine) (out : List ℕ) (n : ℕ) → Ticks ⊥ (λ n. popping count vs stack s n (λ vs t. given 0 t n (λ u. goes_on (after u) n) (made_tuple machine_values (image_names M) k vs t.world))) out n
+  filled_at k zero vs stack s out n = given_at 0 (record s { stack = stack }) out (made_tuple machine_values (image_names M) k vs s.world) n
+  filled_at k (suc count) vs [] s out n = λ c none. absurd c
+  filled_at k (suc count) vs (x ∷ r) s out n = filled_at k count (x ∷ vs) r s out n
+
+  -- a tuple of a class, by its kind and how many slots it has
+  abbrev fills : Machine → ℕ × ℕ → ℕ → Step
+  fills s c n = popping c.1 [] s.stack s n (λ vs t. given 0 t n (λ u. goes_on (after u) n) (made_tuple machine_values (image_names M) c.0 vs t.world))
+
+  -- by the class's word
+  abbrev fills_for : Machine → ℕ → ℕ → Step
+  fills_for s w n = or_trap ((image_names M).tuple_class w) t_kind s n (λ c. fills s c n)
+
+  named_at : (s : Machine) (out : List ℕ) (w n : ℕ) → Ticks ⊥ (fills_for s w) out n
+  named_at s out w n = found_at (ℕ × ℕ) ((image_names M).tuple_class w) s out (fills s) (λ c. filled_at c.0 c.1 [] s.stack s out) n
+
+  tuple_at : (s : Machine) (out : List ℕ) (n : ℕ) → Ticks ⊥ (λ n. popping1 s.stack s n (λ v t. or_trap (seen_word (m_seen v)) t_kind t n (λ w. fills_for t w n))) out n
+  tuple_at s out n = popped_at s.stack s out (λ v t n. or_trap (seen_word (m_seen v)) t_kind t n (λ w. fills_for t w n)) (λ v t. found_at ℕ (seen_word (m_seen v)) t out (fills_for t) (named_at t out)) n
+
+  -- a method, or none
+  method_at : (o : Option MethodRow) (e : ErrorName) (g : ℕ) (v : MValue) (s : Machine) (out : List ℕ) (n : ℕ) → Ticks ⊥ (enters_method M o e g v s) out n
+  method_at None e g v s out n = λ c none. absurd c
+  method_at (Some m) e g v s out n = goes ⊥ _ (going m.entry [] (push v s)) out (λ n. refl) (λ c. absurd c) n
+
+  kind_at : (pick : ℕ → Option MethodRow) (e : ErrorName) (g : ℕ) (s : Machine) (out : List ℕ) (n : ℕ) → Ticks ⊥ (enters_for M pick e g s) out n
+  kind_at pick e g s out n = popped_at s.stack s out (λ v t. enters_method M (pick (kind_in M t v)) e g v t) (λ v t. method_at (pick (kind_in M t v)) e g v t out) n
+
+  -- a method of a generic, as it picks it out of its rows
+  generic_at : (pick : GenericRow → ℕ → Option MethodRow) (e : ErrorName) (g : ℕ) (s t : Machine) (out : List ℕ) (n : ℕ) → Ticks ⊥ (λ n. or_trap (slice_get M.generics g) t_kind s n (λ r. enters_for M (pick r) e r.word t n)) out n
+  generic_at pick e g s t out n = found_at GenericRow (slice_get M.generics g) s out (λ r. enters_for M (pick r) e r.word t) (λ r. kind_at (pick r) e r.word t out) n
 
   -- the output of a state that left an entry
   leaving_at : (Free : Type 0) (t : Bool) (s : Machine) (f : ℕ → Step) (n : ℕ) (x : Step) → StepsAt Free f (leaving t s).world.output n x → StepsAt Free f s.world.output n x
@@ -167,22 +223,29 @@ module _ (M : Image) (N : Names) where
   paid_at Free g s h zero = λ c none. refl
   paid_at Free g s h (suc n) = ticking Free ⊤ (λ n. paying 1 s n g) g s s.world.output n (λ k. refl) refl refl (g n) (h n)
 
-  fetched_at : (o : Option Instr) (s : Machine) (n : ℕ) → Ticks ⊤ (λ n. fetched M N o s n) s.world.output n
+  fetched_at : (o : Option Instr) (s : Machine) (n : ℕ) → Ticks ⊤ (λ n. fetched M o s n) s.world.output n
   fetched_at None s n = λ c none. refl
   fetched_at (Some Halt) s n = λ c none. refl
-  fetched_at (Some (Int z)) s n = paid_at ⊥ (does_instr M N (Int z) s) s (goes ⊥ _ _ s.world.output (λ n. refl) (λ c. absurd c)) n
-  fetched_at (Some True) s n = paid_at ⊥ (does_instr M N True s) s (goes ⊥ _ _ s.world.output (λ n. refl) (λ c. absurd c)) n
-  fetched_at (Some False) s n = paid_at ⊥ (does_instr M N False s) s (goes ⊥ _ _ s.world.output (λ n. refl) (λ c. absurd c)) n
-  fetched_at (Some (Text k)) s n = paid_at ⊥ (does_instr M N (Text k) s) s (text_at (slice_get M.texts k) s s.world.output) n
-  fetched_at (Some (Array a)) s n = paid_at ⊥ (does_instr M N (Array a) s) s (array_at (slice_get s.world.literals a) s s.world.output) n
-  fetched_at (Some (Word a)) s n = paid_at ⊥ (does_instr M N (Word a) s) s (value_at (m_plain (wrd a)) (slice_get M.words a) s s.world.output) n
-  fetched_at (Some (Quot q)) s n = paid_at ⊥ (does_instr M N (Quot q) s) s (quot_at q (slice_get M.templates q) s s.world.output) n
-  fetched_at (Some (prim p)) s n = paid_at ⊥ (does_instr M N (prim p) s) s (prim_at (word_of_prim p 0 M.words) (prim_numbered p) s s.world.output) n
-  fetched_at (Some (Callw w t)) s n = paid_at ⊥ (does_instr M N (Callw w t) s) s (λ n. word_at (slice_get M.words w) (leaving t s) s.world.output n) n
-  fetched_at (Some (Call t)) s n = paid_at ⊤ (does_instr M N (Call t) s) s (λ n. leaving_at ⊤ t s _ n _ (call_at (leaving t s).stack (leaving t s) n)) n
-  fetched_at (Some Dip) s n = paid_at ⊤ (does_instr M N Dip s) s (dip_at s.stack s) n
-  fetched_at (Some (If t)) s n = paid_at ⊤ (does_instr M N (If t) s) s (λ n. leaving_at ⊤ t s _ n _ (if_at (leaving t s).stack (leaving t s) n)) n
+  fetched_at (Some (Int z)) s n = paid_at ⊥ (does_instr M (Int z) s) s (goes ⊥ _ _ s.world.output (λ n. refl) (λ c. absurd c)) n
+  fetched_at (Some True) s n = paid_at ⊥ (does_instr M True s) s (goes ⊥ _ _ s.world.output (λ n. refl) (λ c. absurd c)) n
+  fetched_at (Some False) s n = paid_at ⊥ (does_instr M False s) s (goes ⊥ _ _ s.world.output (λ n. refl) (λ c. absurd c)) n
+  fetched_at (Some (Text k)) s n = paid_at ⊥ (does_instr M (Text k) s) s (text_at (slice_get M.texts k) s s.world.output) n
+  fetched_at (Some (Array a)) s n = paid_at ⊥ (does_instr M (Array a) s) s (array_at (slice_get s.world.literals a) s s.world.output) n
+  fetched_at (Some (Word a)) s n = paid_at ⊥ (does_instr M (Word a) s) s (value_at (m_plain (wrd a)) (slice_get M.words a) s s.world.output) n
+  fetched_at (Some (Quot q)) s n = paid_at ⊥ (does_instr M (Quot q) s) s (quot_at q (slice_get M.templates q) s s.world.output) n
+  fetched_at (Some (prim p)) s n = paid_at ⊥ (does_instr M (prim p) s) s (prim_at (word_with (action.Prim p) 0 M.words) (prim_numbered p) s s.world.output) n
+  fetched_at (Some (Callw w t)) s n = paid_at ⊥ (does_instr M (Callw w t) s) s (λ n. word_at (slice_get M.words w) (leaving t s) s.world.output n) n
+  fetched_at (Some (Call t)) s n = paid_at ⊤ (does_instr M (Call t) s) s (λ n. leaving_at ⊤ t s _ n _ (call_at (leaving t s).stack (leaving t s) n)) n
+  fetched_at (Some Dip) s n = paid_at ⊤ (does_instr M Dip s) s (dip_at s.stack s) n
+  fetched_at (Some (If t)) s n = paid_at ⊤ (does_instr M (If t) s) s (λ n. leaving_at ⊤ t s _ n _ (if_at (leaving t s).stack (leaving t s) n)) n
   fetched_at (Some Ret) s n = return_at s.returns s n
+  fetched_at (Some Boa) s n = paid_at ⊥ (does_instr M Boa s) s (tuple_at s s.world.output) n
+  fetched_at (Some (Get k)) s n = paid_at ⊥ (does_instr M (Get k) s) s (slot_at (word_with (action.Get k) 0 M.words) k (get_slot machine_values (image_names M)) s s.world.output) n
+  fetched_at (Some (Set k)) s n = paid_at ⊥ (does_instr M (Set k) s) s (slot_at (word_with (action.Set k) 0 M.words) k (set_slot machine_values (image_names M)) s s.world.output) n
+  fetched_at (Some (Put k)) s n = paid_at ⊥ (does_instr M (Put k) s) s (slot_at (word_with (action.Put k) 0 M.words) k (put_slot machine_values (image_names M)) s s.world.output) n
+  fetched_at (Some (Isa c)) s n = paid_at ⊥ (does_instr M (Isa c) s) s (told_at (λ t v. set_has (slice_get M.sets c) (kind_in M t v)) s s.world.output) n
+  fetched_at (Some (Generic g t)) s n = paid_at ⊥ (does_instr M (Generic g t) s) s (generic_at (λ r k. method_for M.sets k r.methods) NoMethod g s (leaving t s) s.world.output) n
+  fetched_at (Some (Next g m t)) s n = paid_at ⊥ (does_instr M (Next g m t) s) s (generic_at (λ r k. method_after M.sets k (drop m r.methods)) NoNextMethod g s (leaving t s) s.world.output) n
 
-  pub step_at : (s : Machine) (n : ℕ) → Ticks ⊤ (step M N s) s.world.output n
+  pub step_at : (s : Machine) (n : ℕ) → Ticks ⊤ (step M s) s.world.output n
   step_at s n = fetched_at (slice_get M.code s.pc) s n

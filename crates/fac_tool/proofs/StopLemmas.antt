@@ -7,8 +7,6 @@ use Rattle.fac_lang.specs.Phrases.{Item, Value}
 use Rattle.fac_lang.specs.World.{World, State}
 use Rattle.fac_lang.specs.declared.memory.Memory.{Memory}
 use Rattle.fac_lang.specs.Eval.{Result as Run, Done, Failed, Spent, Stuck}
-use Rattle.fac_lang.specs.Printed.{Names}
-use Rattle.fac_lang.specs.Meaning.{names}
 use Rattle.fac_lang.specs.RunningLaws.{IsNotStuck}
 use Rattle.fac_lang.specs.HeightArithmetic.{fits}
 use Rattle.fac_locals.specs.declared.closing.Closed.{Closed}
@@ -41,7 +39,7 @@ abbrev from_world : Program → World Value → ℕ → Run
 from_world P w n = top_run P fits (callable_height P) [] w n
 
 -- the machine of the image ends as the meaning
-pub carried_end : (P : Program) (M : Image) (n : ℕ) → Carried P M → (e : End) × Ends M (names P) (first_state M) n e × EndsSame P (meaning P n) e
+pub carried_end : (P : Program) (M : Image) (n : ℕ) → Carried P M → (e : End) × Ends M (first_state M) n e × EndsSame P (meaning P n) e
 carried_end P M n carries =
     let first = carries.carries.same_first [] in
     let stuck = subst (λ (w : World Value). (m : ℕ) → IsNotStuck (from_world P w m)) (sym first) carries.not_stuck in
@@ -49,8 +47,8 @@ carried_end P M n carries =
     (end.0, end.1, subst (λ (w : World Value). EndsSame P (from_world P w n) end.0) first end.2)
 
 -- the end of the meaning is that of the machine
-pub same_end : RunsHaveOneEnd → (P : Program) (M : Image) (n : ℕ) → Carried P M → (e : End) → Ends M (names P) (first_state M) n e → EndsSame P (meaning P n) e
-same_end one_end P M n carries e there = let c = carried_end P M n carries in subst (λ (x : End). EndsSame P (meaning P n) x) (one_end M (names P) (first_state M) n c.0 e c.1 there) c.2
+pub same_end : RunsHaveOneEnd → (P : Program) (M : Image) (n : ℕ) → Carried P M → (e : End) → Ends M (first_state M) n e → EndsSame P (meaning P n) e
+same_end one_end P M n carries e there = let c = carried_end P M n carries in subst (λ (x : End). EndsSame P (meaning P n) x) (one_end M (first_state M) n c.0 e c.1 there) c.2
 
 -- literal arrays are made without reading and writing
 made_in : (M : Image) (ess : List (List Elem)) (w : World MValue) → (with_arrays M ess w).input ≡ w.input
@@ -123,28 +121,25 @@ trap_is P (Spent st i) y s left same = same
 trap_is P Stuck y s left same = same
 
 -- an end of a run that begins there
-from_first : (M : Image) (N : Names) (old : Held) (n : ℕ) (e : End) → begun M old ≡ first_state M → Ends M N (begun M old) n e → Ends M N (first_state M) n e
-from_first M N old n e begin there = subst (λ (s : Machine). Ends M N s n e) begin there
+from_first : (M : Image) (old : Held) (n : ℕ) (e : End) → begun M old ≡ first_state M → Ends M (begun M old) n e → Ends M (first_state M) n e
+from_first M old n e begin there = subst (λ (s : Machine). Ends M s n e) begin there
 
 -- a run of a fresh machine stops as the program's meaning ends
 pub stops :
     RunsHaveOneEnd → (P : Program) (M : Image) (budget : ℕ) (T : Trees) (old new : Held) (ticks : ℕ) (out : SinkSeen) (what : StopKind) →
     Carried P M → begun M old ≡ first_state M → Runs M T old new budget ticks out.before.taken out.now.taken what → StopsAs P budget T new ticks out what
 stops law P M budget T old new ticks out stop.Done c begin h =
-    let there = h.4 (names P) in
-    let end = from_first M (names P) old budget (done h.0 h.1) begin there.0 in
-    done_is P budget T (meaning P budget) h.0 h.1 ticks new out refl (same_end law P M budget c (done h.0 h.1) end) h.2 h.3 there.1
+    let end = from_first M old budget (done h.0 h.1) begin h.4.0 in
+    done_is P budget T (meaning P budget) h.0 h.1 ticks new out refl (same_end law P M budget c (done h.0 h.1) end) h.2 h.3 h.4.1
 stops law P M budget T old new ticks out (stop.Failed err) c begin h =
-    let there = h.4 (names P) in
-    let end = from_first M (names P) old budget (failed (error_of T err) h.0 h.1) begin there.0 in
-    failed_is P budget T (meaning P budget) err h.0 h.1 ticks new out refl (same_end law P M budget c (failed (error_of T err) h.0 h.1) end) h.2 h.3 there.1
+    let end = from_first M old budget (failed (error_of T err) h.0 h.1) begin h.4.0 in
+    failed_is P budget T (meaning P budget) err h.0 h.1 ticks new out refl (same_end law P M budget c (failed (error_of T err) h.0 h.1) end) h.2 h.3 h.4.1
 stops law P M budget T old new ticks out stop.Spent c begin h =
-    let there = h.4 (names P) in
-    let end = from_first M (names P) old budget (spent h.0) begin there.0 in
-    let total : ticks ≡ budget = omega (arith, h.2, there.1) in
+    let end = from_first M old budget (spent h.0) begin h.4.0 in
+    let total : ticks ≡ budget = omega (arith, h.2, h.4.1) in
     spent_is P budget T (meaning P budget) h.0 ticks new out refl (same_end law P M budget c (spent h.0) end) total h.3
 stops law P M budget T old new ticks out (stop.Trap pc y) c begin h =
-    let there = h.4 (names P) in trap_is P (meaning P budget) y h.0 h.1 (same_end law P M budget c (trap y h.0 h.1) (from_first M (names P) old budget (trap y h.0 h.1) begin there.0))
+    trap_is P (meaning P budget) y h.0 h.1 (same_end law P M budget c (trap y h.0 h.1) (from_first M old budget (trap y h.0 h.1) begin h.4.0))
 stops law P M budget T old new ticks out stop.WriteFault c begin h = tt
 stops law P M budget T old new ticks out stop.Memory c begin h = tt
 
@@ -182,13 +177,13 @@ pub within :
 within law P M budget old ticks out carries begin most reaches =
     let before = out.before.taken in
     let now = out.now.taken in
-    let last = reaches.at_most (names P) in
-    let end = from_first M (names P) old ticks last.0 begin last.1 in
+    let last = reaches.at_most in
+    let end = from_first M old ticks last.0 begin last.1 in
     record {
       within = most;
       spent_before = λ some.
-          let first = reaches.spent_before (names P) some in
-          let spends = from_first M (names P) old (ticks - 1) (spent first.0) begin first.1 in
+          let first = reaches.spent_before some in
+          let spends = from_first M old (ticks - 1) (spent first.0) begin first.1 in
           before_is P (meaning P (ticks - 1)) (ticks - 1) first.0 before now refl (same_end law P M (ticks - 1) carries (spent first.0) spends) first.2;
       at_most = subst (λ (t : List ℕ). GrowsByPrefix before now t) (output_is P (meaning P ticks) last.0 (same_end law P M ticks carries last.0 end)) last.2;
     }

@@ -8,14 +8,14 @@ use Rattle.fac_lang.specs.declared.program.Program.{Program}
 use Rattle.fac_lang.specs.declared.tree.Form.{Form}
 use Rattle.fac_lang.specs.declared.tree.Form.TheVariants as form
 use Rattle.fac_lang.specs.declared.tree.FormKind.{FormKind}
-use Rattle.fac_lang.specs.declared.tree.FormKind.TheVariants.{Constant, Define}
+use Rattle.fac_lang.specs.declared.tree.FormKind.TheVariants.{Constant, Define, Method, Maker}
 use Rattle.fac_lang.specs.Phrases.{Value}
 use Rattle.fac_lang.specs.World.{World, Error}
 use Rattle.fac_lang.specs.Printed.{printed}
 use Rattle.fac_lang.specs.Eval.{Result as Run, Done, Failed, Spent, Stuck}
 use Rattle.fac_lang.specs.Meaning.{meaning_values, names, run, start, word_phrase}
 use Rattle.fac_parse.specs.declared.reader.Why.{Why}
-use Rattle.fac_names.specs.declared.refusal.NameFault.{NameFault}
+use Rattle.fac_refusal.specs.declared.refusal.NameFault.{NameFault}
 use Rattle.fac_names.specs.Resolution.{resolved}
 use Rattle.fac_check.specs.CallableEffects.{callable_height}
 use Rattle.fac_lang.specs.HeightArithmetic.{fits}
@@ -115,6 +115,8 @@ stack_answer P budget = with_lines (run_answer P budget)
 abbrev pub gives_phrase : FormKind → Bool
 gives_phrase Constant = true
 gives_phrase Define = true
+gives_phrase Method = true
+gives_phrase Maker = true
 gives_phrase _ = false
 
 -- whether a form defines a word that has a phrase

@@ -30,6 +30,12 @@ fn has_phrase(kind: FormKind) -> bool
         FormKind::Public => false,
         FormKind::Main => false,
         FormKind::Define => true,
+        FormKind::Tuple => false,
+        FormKind::Union => false,
+        FormKind::Singleton => false,
+        FormKind::Generic => false,
+        FormKind::Method => true,
+        FormKind::Maker => true,
     }
 }
 

@@ -1,20 +1,33 @@
 -- What a word breaks, in each built program for which its closed one stands.
-use Rattle.std.specs.Prelude.{◌≡◌, ℕ, Bool, ◌&&◌, not, Option, Some, nat_eq, slice_get}
+use Rattle.std.specs.Prelude.{◌≡◌, ℕ, Bool, true, false, ◌&&◌, not, Option, Some, None, nat_eq, slice_get}
 use Rattle.fac_lang.specs.declared.phrase.Place.{Place}
 use Rattle.fac_lang.specs.declared.program.WordDef.{WordDef}
+use Rattle.fac_lang.specs.declared.program.Sort.{Sort}
+use Rattle.fac_lang.specs.declared.program.Sort.TheVariants.{Past as past}
 use Rattle.fac_lang.specs.Phrases.{Phrase}
 use Rattle.fac_locals.specs.Literals.{first_of_word}
 use Rattle.fac_locals.specs.Closed.{ClosesPhrase, ClosesWord}
 use Rattle.fac_locals.specs.declared.closing.Closed.{Closed}
 use Rattle.fac_abs.specs.declared.rule.Rule.{Rule}
+use Rattle.fac_abs.specs.declared.rule.Rule.TheVariants.{MethodEffect}
 use Rattle.fac_lang.specs.RowVariables.{has_rows, bindable, is_row}
-use Rattle.fac_check.specs.Verdicts.{ordinary_verdict, row_verdict, top_verdict, inline_verdict, phrase_verdict, word_verdict, undeclared}
+use Rattle.fac_check.specs.Verdicts.{Refusal, ordinary_verdict, row_verdict, top_verdict, inline_verdict, phrase_verdict, word_verdict, undeclared}
 use Rattle.fac_check.specs.inner.UndeclaredRecursion.{inline_phrase}
 use Rattle.fac_check.specs.Judged.{OfEach, breach_seen}
 
+-- whether a word of this sort is an earlier top-level phrase
+abbrev pub is_past_sort : Sort → Bool
+is_past_sort (past t) = true
+is_past_sort _ = false
+
 -- whether word w, where the top-level word has the first number, breaks `row-declaration`
 abbrev pub bad_rows_so : ℕ → ℕ → WordDef → Bool
-bad_rows_so top w c = not (nat_eq w top) && (has_rows c.effect && not (inline_phrase c.inline c.sort && bindable c.effect))
+bad_rows_so top w c = not (nat_eq w top) && (not (is_past_sort c.sort) && (has_rows c.effect && not (inline_phrase c.inline c.sort && bindable c.effect)))
+
+-- what a generic breaks, where its effect is none for generics or one
+abbrev pub generic_refusal : Bool → Place → Option Refusal
+generic_refusal true p = Some (record { rule = MethodEffect; place = p })
+generic_refusal false p = None
 
 module _ (closed : Closed) where
   -- an ordinary word with this closed phrase

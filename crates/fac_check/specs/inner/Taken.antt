@@ -1,13 +1,14 @@
--- Which closed programs the walk takes: numbers, truth values, strings, words as values, literal arrays, quotations and words in phrases, and words that are built primitives or core words, defined by phrases, or symbols.
+-- Which closed programs the walk takes: numbers, truth values, strings, words as values, literal arrays, quotations, words and next methods in phrases, and words of all sorts but earlier top-level phrases, with built primitives and core words.
 use Rattle.std.specs.Prelude.{ℕ, List, Bool, true, false, ◌&&◌, nat_lt, nat_le, length}
 use Rattle.std.specs.List.{list_all}
 use Rattle.fac_lang.specs.declared.phrase.Template.{Template}
 use Rattle.fac_lang.specs.declared.program.Program.{Program}
 use Rattle.fac_lang.specs.declared.program.WordDef.{WordDef}
 use Rattle.fac_lang.specs.declared.program.Sort.{Sort}
-use Rattle.fac_lang.specs.declared.program.Sort.TheVariants.{Prim as prim, Core as core, Body as body, Itself as itself}
+use Rattle.fac_lang.specs.declared.program.Sort.TheVariants.{Prim as prim, Core as core, Body as body, Past as past, Method as method}
 use Rattle.fac_lang.specs.Primitives.{is_built_primitive}
-use Rattle.fac_lang.specs.Phrases.{int, yes, no, str, wrd, Phrase, end, then, Item, lit, lit_arr, word, made}
+use Rattle.fac_lang.specs.CoreWords.{is_built_core}
+use Rattle.fac_lang.specs.Phrases.{int, yes, no, str, wrd, Phrase, end, then, Item, lit, lit_arr, word, next_method, made, next_after}
 use Rattle.fac_lang.specs.Effects.{effect_height}
 
 -- whether the walk takes an item, where words that phrases may name have numbers below the first number, and templates below the second
@@ -20,6 +21,8 @@ takes_item top count (lit (wrd w)) = nat_lt w top
 takes_item top count (lit_arr a) = true
 takes_item top count (word w) = nat_lt w top
 takes_item top count (made k) = nat_lt k count
+takes_item top count next_method = true
+takes_item top count (next_after m) = true
 takes_item top count _ = false
 
 -- whether it takes each item of a phrase
@@ -32,10 +35,11 @@ takes_template top count t = takes_phrase top count t.body
 
 abbrev pub takes_sort : ℕ → ℕ → Sort → Bool
 takes_sort top count (prim k) = is_built_primitive k
-takes_sort top count (core k) = nat_lt k 3
+takes_sort top count (core k) = is_built_core k
 takes_sort top count (body t) = takes_phrase top count t
-takes_sort top count itself = true
-takes_sort top count _ = false
+takes_sort top count (method c g t) = takes_phrase top count t
+takes_sort top count (past t) = false
+takes_sort top count _ = true
 
 -- no effect has more than 65 inputs
 abbrev pub takes_word : ℕ → ℕ → WordDef → Bool

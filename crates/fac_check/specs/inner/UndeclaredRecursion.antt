@@ -1,7 +1,5 @@
 -- How the rule of undeclared recursion is decided for all words of a program: by the words that each inline word leads to.
-use Rattle.std.specs.Prelude.{◌≡◌, ◌<◌, ◌≤◌, ◌++◌, ◌⊎◌, ℕ, zero, suc, List, [], ◌∷◌, length, Bool, true, false, nat_eq, Option, Some, None, slice_get}
-use Rattle.std.specs.List.{list_all}
-use Rattle.fac_abs.specs.SeenMarks.{are_below}
+use Rattle.std.specs.Prelude.{◌≡◌, ◌≤◌, ◌++◌, ℕ, suc, List, [], ◌∷◌, Bool, true, false, nat_eq, Option, Some, None}
 use Rattle.fac_lang.specs.Phrases.{wrd, Literal, Phrase, Item, lit, word, made}
 use Rattle.fac_lang.specs.declared.phrase.Template.{Template}
 use Rattle.fac_lang.specs.declared.program.Program.{Program}
@@ -10,11 +8,7 @@ use Rattle.fac_lang.specs.declared.program.Sort.{Sort}
 use Rattle.fac_lang.specs.declared.program.Sort.TheVariants.{Body as body}
 use Rattle.fac_locals.specs.Literals.{literal_numbered, first_of_word, NotBefore}
 use Rattle.fac_locals.specs.Closed.{Closes, ClosesWord, ClosesPhrase, ClosesItem}
-use Rattle.fac_check.specs.Verdicts.{one_of, without, inline_words, item_words}
-
--- a number is in a list
-abbrev pub IsOneOf : ℕ → List ℕ → Type 0
-IsOneOf v vs = one_of v vs ≡ true
+use Rattle.fac_check.specs.Verdicts.{without, inline_words, item_words}
 
 -- the word that an item names, as an item or by `\`
 abbrev pub named_word : Item → Option ℕ
@@ -51,41 +45,6 @@ kept_unless false v vs = v ∷ vs
 abbrev pub left_out : ℕ → List ℕ → List ℕ
 left_out w [] = []
 left_out w (v ∷ vs) = kept_unless (nat_eq w v) v (left_out w vs)
-
--- the list, or none
-abbrev pub list_or_none : Option (List ℕ) → List ℕ
-list_or_none (Some vs) = vs
-list_or_none None = []
-
--- the words that word u leads to
-abbrev pub led_from : List (List ℕ) → ℕ → List ℕ
-led_from edges u = list_or_none (slice_get edges u)
-
--- whether all words that words lead to are there
-abbrev pub all_there : List (List ℕ) → Bool
-all_there edges = list_all (are_below (length edges)) edges
-
--- a number is led to from these in at most so many steps
-abbrev pub IsWithin : List (List ℕ) → List ℕ → ℕ → ℕ → Type 0
-IsWithin edges starts zero v = IsOneOf v starts
-IsWithin edges starts (suc n) v = IsWithin edges starts n v ⊎ ((u : ℕ) × IsWithin edges starts n u × IsOneOf v (led_from edges u))
-
--- What word w leads to stays inside numbers of which w isn't one. Numbers behind the last word lead nowhere.
-pub record StaysInside (edges : List (List ℕ)) (w : ℕ) : Type 0 where
-  pub inside : ℕ → Bool
-  pub begins : (v : ℕ) → IsOneOf v (led_from edges w) → v < length edges → inside v ≡ true
-  pub closed : (u v : ℕ) → inside u ≡ true → IsOneOf v (led_from edges u) → v < length edges → inside v ≡ true
-  pub apart : inside w ≡ false
-
--- whether a word leads back to itself
-abbrev pub Decides : List (List ℕ) → ℕ → Bool → Type 0
-Decides edges w true = IsWithin edges (led_from edges w) (length edges) w
-Decides edges w false = StaysInside edges w
-
--- for each word, whether it leads back to itself
-pub record DecidesAll (edges : List (List ℕ)) (flags : List Bool) : Type 0 where
-  pub same_length : length flags ≡ length edges
-  pub each : (w : ℕ) (b : Bool) → slice_get flags w ≡ Some b → Decides edges w b
 
 module _ (P : Program) where
   -- the words that word w leads to, otherwise than directly to itself where it is marked recursive

@@ -17,6 +17,7 @@ use Rattle.fac_lang.specs.Primitives.{Primitive, prim_numbered}
 use Rattle.fac_lang.specs.Forms.{IsBuilt}
 use Rattle.fac_locals.specs.Literals.{literal_numbered, first_of_word, first_of_literal}
 use Rattle.fac_locals.specs.Closed.{Closes, ClosesPhrase, ClosesItem, ClosesWord}
+use Rattle.fac_locals.specs.declared.closing.Closed.{Closed}
 use Rattle.fac_lang.specs.RowVariables.{Row, row_name, effect_inputs, effect_leaving, outer_in}
 use Rattle.fac_abs.specs.Marks.{AbstractStack, dead, on}
 use Rattle.fac_abs.specs.declared.rule.Rule.{Rule}
@@ -122,6 +123,10 @@ only w d v = elim (nat_eq v w) [ true ↦ Some d | false ↦ None ]
 -- what an item does to stack s, from the marks that were there to those that are
 abbrev pub DoesAs : MarksSeen → MarksSeen → ℕ → Doing → (Option Row → List Mark → DoingAtOnce) → Type 0
 DoesAs old new s result does = (N : Naming) (words : ℕ → Option WordDef) (b : Option Row) → doing_seen N new words b result ≡ does b (stack_of N old s)
+
+-- likewise where that hangs on the program for which a closed one stands
+abbrev pub DoesIn : Closed → MarksSeen → MarksSeen → ℕ → Doing → (Program → Option Row → List Mark → DoingAtOnce) → Type 0
+DoesIn closed old new s result does = (P : Program) → Closes P closed.program closed.templates → DoesAs old new s result (does P)
 
 -- likewise one that puts a mark on it
 abbrev pub PutsMark : MarksSeen → MarksSeen → ℕ → (Naming → Mark) → Doing → Type 0
@@ -328,9 +333,9 @@ abbrev pub NamesWhereOwn : Naming → Option ℕ → ℕ → Signature → Type 
 NamesWhereOwn N own w e = own ≡ Some w → NamesRows N e
 
 -- likewise that of a word that is closed so
-abbrev pub DoesWordSo : MarksSeen → MarksSeen → Option ℕ → Option ℕ → ℕ → ℕ → WordDef → Doing → Type 0
-DoesWordSo M L own b s w c D =
-    (P : Program) (d : WordDef) → w < P.top → slice_get P.words w ≡ Some d → IsBuilt P → ClosesWord P w d c → (N : Naming) → NamesWhereOwn N own w c.effect → doing_seen N L (slice_get P.words) (base_seen N b) D ≡ word_doing P own w (Some d) (base_seen N b) (stack_of N M s)
+abbrev pub DoesWordSo : Closed → MarksSeen → MarksSeen → Option ℕ → Option ℕ → ℕ → ℕ → WordDef → Doing → Type 0
+DoesWordSo closed M L own b s w c D =
+    (P : Program) (d : WordDef) → Closes P closed.program closed.templates → w < P.top → slice_get P.words w ≡ Some d → IsBuilt P → ClosesWord P w d c → (N : Naming) → NamesWhereOwn N own w c.effect → doing_seen N L (slice_get P.words) (base_seen N b) D ≡ word_doing P own w (Some d) (base_seen N b) (stack_of N M s)
 
 -- a word that is defined by a phrase: an inline one is expanded, unless it is a row word, and every other one goes by its effect
 abbrev pub DoesDefined : MarksSeen → MarksSeen → Option ℕ → Option ℕ → ℕ → ℕ → WordDef → Doing → Type 0

@@ -1,55 +1,46 @@
--- Which items and words have an instruction, as inner functions ask for it.
+-- Which items and elements have their place in an image, as inner functions ask for it.
 use Rattle.std.specs.List.{list_all}
-use Rattle.std.specs.Prelude.{List, ◌&&◌, Bool, true, false, Option, Some, None, slice_get}
+use Rattle.std.specs.Prelude.{ℕ, List, ◌&&◌, Bool, true, false, Option, Some}
 use Rattle.fac_lang.specs.declared.phrase.Template.{Template}
 use Rattle.fac_lang.specs.declared.program.Lit.{Lit}
 use Rattle.fac_lang.specs.declared.program.Lit.TheVariants.{Quot as l_quot}
+use Rattle.fac_lang.specs.declared.program.Program.{Program}
 use Rattle.fac_lang.specs.declared.program.WordDef.{WordDef}
 use Rattle.fac_lang.specs.declared.program.Sort.{Sort}
-use Rattle.fac_lang.specs.declared.program.Sort.TheVariants.{Prim as prim_sort, Core as core_sort, Body as body, Itself as itself}
-use Rattle.fac_lang.specs.Phrases.{int, yes, no, str, wrd, Phrase, end, then, Item, lit, lit_arr, word, made}
-use Rattle.fac_lang.specs.CoreWords.{is_built_core}
+use Rattle.fac_lang.specs.declared.program.Sort.TheVariants.{Body as body, Method as method}
+use Rattle.fac_lang.specs.Phrases.{Phrase, end, then, Item, next_after}
+use Rattle.fac_lang.specs.Meaning.{sort_of}
+use Rattle.fac_lang.specs.Whole.{is_generic}
 
--- whether a word of this sort has an instruction
-abbrev pub sort_is_coded : Sort → Bool
-sort_is_coded (prim_sort k) = true
-sort_is_coded (core_sort k) = is_built_core k
-sort_is_coded (body t) = true
-sort_is_coded itself = true
-sort_is_coded _ = false
+-- for a closed program
+module _ (C : Program) where
+  -- whether this is the sort of a method of a generic
+  abbrev pub is_method : Option Sort → Bool
+  is_method (Some (method c g t)) = is_generic (sort_of C g)
+  is_method _ = false
 
-abbrev pub word_is_coded : Option WordDef → Bool
-word_is_coded None = false
-word_is_coded (Some d) = sort_is_coded d.sort
+  -- whether an item can be coded: what is next after anything but a method can't
+  abbrev pub item_is_coded : Item → Bool
+  item_is_coded (next_after m) = is_method (sort_of C m)
+  item_is_coded _ = true
 
--- whether an item has one
-abbrev pub item_is_coded : List WordDef → Item → Bool
-item_is_coded words (lit (int z)) = true
-item_is_coded words (lit yes) = true
-item_is_coded words (lit no) = true
-item_is_coded words (lit (str cs)) = true
-item_is_coded words (lit (wrd w)) = true
-item_is_coded words (lit_arr a) = true
-item_is_coded words (word w) = word_is_coded (slice_get words w)
-item_is_coded words (made q) = true
-item_is_coded words _ = false
+  -- whether each item of a phrase can
+  abbrev pub phrase_is_coded : Phrase → Bool
+  phrase_is_coded end = true
+  phrase_is_coded (then i place t) = item_is_coded i && phrase_is_coded t
 
--- whether each item of a phrase has one
-abbrev pub phrase_is_coded : List WordDef → Phrase → Bool
-phrase_is_coded words end = true
-phrase_is_coded words (then i place t) = item_is_coded words i && phrase_is_coded words t
+  -- whether each item of a template can
+  abbrev pub template_is_coded : Template → Bool
+  template_is_coded t = phrase_is_coded t.body
 
--- whether each item of a template has one
-abbrev pub template_is_coded : List WordDef → Template → Bool
-template_is_coded words t = phrase_is_coded words t.body
+  -- whether each item of a word's phrase can, where it runs one
+  abbrev pub body_is_coded : Sort → Bool
+  body_is_coded (body t) = phrase_is_coded t
+  body_is_coded (method c g t) = phrase_is_coded t
+  body_is_coded _ = true
 
--- whether each item of a word's phrase has one, where it is defined by a phrase
-abbrev pub body_is_coded : List WordDef → Sort → Bool
-body_is_coded words (body t) = phrase_is_coded words t
-body_is_coded words _ = true
-
-abbrev pub word_body_is_coded : List WordDef → WordDef → Bool
-word_body_is_coded words d = body_is_coded words d.sort
+  abbrev pub word_body_is_coded : WordDef → Bool
+  word_body_is_coded d = body_is_coded d.sort
 
 -- whether an element of a literal array has an element of an image: each but a quotation that isn't closed
 abbrev pub element_is_coded : Lit → Bool

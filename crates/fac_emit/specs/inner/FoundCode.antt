@@ -15,7 +15,7 @@ IsCodeOf code texts piece = (piece.code ≡ code) × (piece.texts ≡ texts)
 -- a number that no word has has no code
 abbrev pub found_code : Program → ℕ → Option WordDef → List Instr
 found_code C w None = []
-found_code C w (Some d) = word_code C.words C.top [] w d
+found_code C w (Some d) = word_code C [] w d
 
 -- its texts
 abbrev pub found_texts : Option WordDef → List (List ℕ)
@@ -25,7 +25,7 @@ found_texts (Some d) = sort_texts [] d.sort
 -- likewise for templates
 abbrev pub found_template : Program → Option Template → List Instr
 found_template C None = []
-found_template C (Some t) = phrase_code C.words Ret [] t.body
+found_template C (Some t) = phrase_code C Ret [] t.body
 
 abbrev pub found_template_texts : Option Template → List (List ℕ)
 found_template_texts None = []

@@ -3,23 +3,30 @@ use Rattle.std.specs.Prelude.{◌≡◌, ℕ, Bool, List, [], ◌∷◌, ◌++�
 use Rattle.fac_lang.specs.declared.phrase.Template.{Template}
 use Rattle.fac_lang.specs.declared.program.Program.{Program}
 use Rattle.fac_lang.specs.declared.program.Sort.{Sort}
-use Rattle.fac_lang.specs.declared.program.WordDef.{WordDef}
 use Rattle.fac_emit.specs.declared.compiler.Parts.{Parts}
-use Rattle.fac_emit.specs.ProgramCode.{program_code, program_texts, template_rows, program_words, sort_action, sort_code, sort_texts, words_texts, word_names, code_from, words_from, arrays_of, arrays_texts}
+use Rattle.fac_emit.specs.declared.compiler.ClassTables.{ClassTables}
+use Rattle.fac_emit.specs.ProgramTables.{table_texts, program_kinds, program_sets}
+use Rattle.fac_emit.specs.ProgramCode.{program_code, program_texts, template_rows, program_words, program_generics, word_row, sort_code, sort_texts, words_texts, code_from, words_from, arrays_of, arrays_texts}
 
 pub record AreParts (C : Program) (templates : List Template) (p : Parts) : Type 0 where
   pub arrays : p.arrays ≡ arrays_of (program_texts C templates) C.arrays
   pub code : p.piece.code ≡ program_code C templates
   pub texts : p.piece.texts ≡ arrays_texts (program_texts C templates) C.arrays
-  pub template_rows_are : p.templates ≡ template_rows C.words (word_names C.words) 0 templates
+  pub template_rows_are : p.templates ≡ template_rows C (table_texts C) 0 templates
   pub word_rows : p.words ≡ program_words C templates
 
+-- the tables that no phrase is in
+pub record AreTables (C : Program) (templates : List Template) (t : ClassTables) : Type 0 where
+  pub kinds : t.kinds ≡ program_kinds C
+  pub sets : t.sets ≡ program_sets C
+  pub generics : t.generics ≡ program_generics C templates
+
 -- the code and the row of the word with this number and of this sort were added behind those that stood
-abbrev pub PlacesWord : List WordDef → ℕ → Bool → Sort → Parts → Parts → Type 0
-PlacesWord words w is_top s old new =
-    (new.piece.code ≡ old.piece.code ++ sort_code words is_top old.piece.texts s) × (new.piece.texts ≡ sort_texts old.piece.texts s) × (new.templates ≡ old.templates) × (new.arrays ≡ old.arrays) × (new.words ≡ old.words ++ record { name = w; action = sort_action (length old.piece.code) s } ∷ [])
+abbrev pub PlacesWord : Program → ℕ → Bool → Sort → Parts → Parts → Type 0
+PlacesWord C w is_top s old new =
+    (new.piece.code ≡ old.piece.code ++ sort_code C is_top old.piece.texts s) × (new.piece.texts ≡ sort_texts old.piece.texts s) × (new.templates ≡ old.templates) × (new.arrays ≡ old.arrays) × (new.words ≡ old.words ++ word_row C (length old.piece.code) w s ∷ [])
 
 -- the code and the rows of all words were added
-abbrev pub PlacesWords : List WordDef → ℕ → Parts → Parts → Type 0
-PlacesWords words top old new =
-    (new.piece.code ≡ old.piece.code ++ code_from words top old.piece.texts 0 words) × (new.piece.texts ≡ words_texts old.piece.texts words) × (new.words ≡ old.words ++ words_from words top old.piece.texts (length old.piece.code) 0 words) × (new.templates ≡ old.templates) × (new.arrays ≡ old.arrays)
+abbrev pub PlacesWords : Program → Parts → Parts → Type 0
+PlacesWords C old new =
+    (new.piece.code ≡ old.piece.code ++ code_from C old.piece.texts 0 C.words) × (new.piece.texts ≡ words_texts old.piece.texts C.words) × (new.words ≡ old.words ++ words_from C old.piece.texts (length old.piece.code) 0 C.words) × (new.templates ≡ old.templates) × (new.arrays ≡ old.arrays)

@@ -1,15 +1,15 @@
 -- How closing goes through a program: the numbers that its templates get, word by word, an outer quotation before those in it and those of a literal array where the array stands. The words come first, and then the arrays from the last one to the first: what names an array comes before it.
-use Rattle.std.specs.Prelude.{◌≡◌, ℕ, zero, suc, ◌+◌, List, [], ◌∷◌, ◌++◌, length, set, slice_index_or, None}
-use Rattle.fac_lang.specs.Phrases.{Phrase, end, then, Item, lit_arr, quot, made}
+use Rattle.std.specs.Prelude.{◌≡◌, ℕ, zero, suc, ◌+◌, List, [], ◌∷◌, ◌++◌, length, set, slice_index_or, Option, Some, None}
+use Rattle.fac_lang.specs.Phrases.{Phrase, end, then, Item, lit_arr, quot, next_method, made, next_after}
 use Rattle.fac_lang.specs.Meaning.{nowhere}
 use Rattle.fac_lang.specs.declared.phrase.Place.{Place}
 use Rattle.fac_lang.specs.declared.phrase.Item.{Item as PlacedItem}
 use Rattle.fac_lang.specs.declared.phrase.What.{What}
-use Rattle.fac_lang.specs.declared.phrase.What.TheVariants.{Quot, Made}
+use Rattle.fac_lang.specs.declared.phrase.What.TheVariants.{Quot, NextMethod, NextAfter, Made}
 use Rattle.fac_lang.specs.declared.phrase.Template.{Template}
 use Rattle.fac_lang.specs.declared.program.WordDef.{WordDef}
 use Rattle.fac_lang.specs.declared.program.Sort.{Sort}
-use Rattle.fac_lang.specs.declared.program.Sort.TheVariants.{Body as body}
+use Rattle.fac_lang.specs.declared.program.Sort.TheVariants.{Body as body, Method as method}
 use Rattle.fac_lang.specs.declared.program.Lit.{Lit}
 use Rattle.fac_lang.specs.declared.program.Lit.TheVariants.{Quot as l_quot, Made as l_made}
 use Rattle.fac_lang.specs.PhraseView.{what_item}
@@ -26,9 +26,9 @@ put_all xs (w ∷ ws) = put_all (set xs w.0 w.1) ws
 abbrev pub template_of : Place → Phrase → Template
 template_of p t = record { body = t; captures = []; holes = 0; place = p }
 
--- a literal array that stands here, whose first quotation gets this number
-abbrev pub start_of : ℕ → Place → ArrayStart
-start_of n p = record { number = n; place = p }
+-- a literal array that stands here, in the phrase of this method or in none, whose first quotation gets this number
+abbrev pub start_of : ℕ → Place → Option ℕ → ArrayStart
+start_of n p m = record { number = n; place = p; method = m }
 
 -- an element of an array as an item, and those of an array as a phrase, where the array stands in no method
 abbrev pub plain_item : Lit → Item
@@ -37,10 +37,26 @@ plain_item l = element_item None l
 abbrev pub plain_phrase : Place → List Lit → Phrase
 plain_phrase p ls = elements_phrase None p ls
 
--- the phrase of a word that is defined by one
-abbrev pub body_of : Sort → Phrase
-body_of (body t) = t
-body_of _ = end
+-- the phrase of a word that is defined by one, and of a method
+abbrev pub phrase_of : Sort → Phrase
+phrase_of (body t) = t
+phrase_of (method c g t) = t
+phrase_of _ = end
+
+-- the method that word w is
+abbrev pub method_of : ℕ → Sort → Option ℕ
+method_of w (method c g t) = Some w
+method_of w _ = None
+
+-- `call-next-method` in the phrase of a method, or in none
+abbrev pub next_in : Option ℕ → Item
+next_in None = next_method
+next_in (Some m) = next_after m
+
+-- likewise in a list of items
+abbrev pub next_what : Option ℕ → What
+next_what None = NextMethod
+next_what (Some m) = NextAfter m
 
 -- Arrays have so many quotations, those of the arrays in them included.
 module _ (counts : List ℕ) where
@@ -55,46 +71,6 @@ module _ (counts : List ℕ) where
     item_behind n (lit_arr a) = n + slice_index_or counts a 0
     item_behind n _ = n
 
-  -- an item, where a quotation gets this number
-  abbrev pub closed_item : ℕ → Item → Item
-  closed_item n (quot t) = made n
-  closed_item n i = i
-
-  -- a phrase, where its first quotation gets this number
-  abbrev pub closed_phrase : ℕ → Phrase → Phrase
-  closed_phrase n end = end
-  closed_phrase n (then i p t) = then (closed_item n i) p (closed_phrase (item_behind n i) t)
-
-  -- the templates of a phrase's quotations with their numbers, where the first quotation gets this number, in the order in which they are closed
-  abbrev mutual
-    pub phrase_templates : ℕ → Phrase → List (ℕ × Template)
-    phrase_templates n end = []
-    phrase_templates n (then i p t) = item_templates n p i ++ phrase_templates (item_behind n i) t
-
-    pub item_templates : ℕ → Place → Item → List (ℕ × Template)
-    item_templates n p (quot t) = phrase_templates (suc n) t ++ (n, template_of p (closed_phrase (suc n) t)) ∷ []
-    item_templates n p _ = []
-
-  -- the literal arrays that a phrase names, each with where its quotations start
-  abbrev mutual
-    pub phrase_starts : ℕ → Phrase → List (ℕ × ArrayStart)
-    phrase_starts n end = []
-    phrase_starts n (then i p t) = item_starts n p i ++ phrase_starts (item_behind n i) t
-
-    pub item_starts : ℕ → Place → Item → List (ℕ × ArrayStart)
-    item_starts n p (quot t) = phrase_starts (suc n) t
-    item_starts n p (lit_arr a) = (a, start_of n p) ∷ []
-    item_starts n p _ = []
-
-  -- the same item in a list of items
-  abbrev pub closed_what : ℕ → What → What
-  closed_what n (Quot t) = Made n
-  closed_what n w = w
-
-  abbrev pub closed_items : ℕ → List PlacedItem → List PlacedItem
-  closed_items n [] = []
-  closed_items n (i ∷ is) = record { what = closed_what n i.what; place = i.place } ∷ closed_items (item_behind n (what_item i.what)) is
-
   -- an element of a literal array, where a quotation gets this number
   abbrev pub closed_element : ℕ → Lit → Lit
   closed_element n (l_quot t) = l_made n
@@ -104,30 +80,75 @@ module _ (counts : List ℕ) where
   closed_elements n [] = []
   closed_elements n (l ∷ ls) = closed_element n l ∷ closed_elements (item_behind n (plain_item l)) ls
 
-  -- what a word is, where the first quotation of its phrase gets this number
-  abbrev pub closed_sort : ℕ → Sort → Sort
-  closed_sort n (body t) = body (closed_phrase n t)
-  closed_sort n s = s
+  -- This is in the phrase of a method, or in none.
+  module _ (m : Option ℕ) where
+    -- an item, where a quotation gets this number
+    abbrev pub closed_item : ℕ → Item → Item
+    closed_item n (quot t) = made n
+    closed_item n next_method = next_in m
+    closed_item n i = i
 
-  -- the words of a program, where the first quotation in them gets this number
-  abbrev pub closed_word : ℕ → WordDef → WordDef
-  closed_word n d = record { name = d.name; sort = closed_sort n d.sort; effect = d.effect; inline = d.inline; recursive = d.recursive; place = d.place }
+    -- a phrase, where its first quotation gets this number
+    abbrev pub closed_phrase : ℕ → Phrase → Phrase
+    closed_phrase n end = end
+    closed_phrase n (then i p t) = then (closed_item n i) p (closed_phrase (item_behind n i) t)
+
+    -- the templates of a phrase's quotations with their numbers, where the first quotation gets this number, in the order in which they are closed
+    abbrev mutual
+      pub phrase_templates : ℕ → Phrase → List (ℕ × Template)
+      phrase_templates n end = []
+      phrase_templates n (then i p t) = item_templates n p i ++ phrase_templates (item_behind n i) t
+
+      pub item_templates : ℕ → Place → Item → List (ℕ × Template)
+      item_templates n p (quot t) = phrase_templates (suc n) t ++ (n, template_of p (closed_phrase (suc n) t)) ∷ []
+      item_templates n p _ = []
+
+    -- the literal arrays that a phrase names, each with where its quotations start
+    abbrev mutual
+      pub phrase_starts : ℕ → Phrase → List (ℕ × ArrayStart)
+      phrase_starts n end = []
+      phrase_starts n (then i p t) = item_starts n p i ++ phrase_starts (item_behind n i) t
+
+      pub item_starts : ℕ → Place → Item → List (ℕ × ArrayStart)
+      item_starts n p (quot t) = phrase_starts (suc n) t
+      item_starts n p (lit_arr a) = (a, start_of n p m) ∷ []
+      item_starts n p _ = []
+
+    -- the same item in a list of items
+    abbrev pub closed_what : ℕ → What → What
+    closed_what n (Quot t) = Made n
+    closed_what n NextMethod = next_what m
+    closed_what n w = w
+
+    abbrev pub closed_items : ℕ → List PlacedItem → List PlacedItem
+    closed_items n [] = []
+    closed_items n (i ∷ is) = record { what = closed_what n i.what; place = i.place } ∷ closed_items (item_behind n (what_item i.what)) is
+
+  -- what word w is, where the first quotation of its phrase gets this number
+  abbrev pub closed_sort : ℕ → ℕ → Sort → Sort
+  closed_sort w n (body t) = body (closed_phrase None n t)
+  closed_sort w n (method c g t) = method c g (closed_phrase (Some w) n t)
+  closed_sort w n s = s
+
+  -- the words of a program from word w on, where the first quotation in them gets this number
+  abbrev pub closed_word : ℕ → ℕ → WordDef → WordDef
+  closed_word w n d = record { name = d.name; sort = closed_sort w n d.sort; effect = d.effect; inline = d.inline; recursive = d.recursive; place = d.place }
 
   abbrev pub words_behind : ℕ → List WordDef → ℕ
   words_behind n [] = n
-  words_behind n (d ∷ ds) = words_behind (phrase_behind n (body_of d.sort)) ds
+  words_behind n (d ∷ ds) = words_behind (phrase_behind n (phrase_of d.sort)) ds
 
-  abbrev pub closed_words : ℕ → List WordDef → List WordDef
-  closed_words n [] = []
-  closed_words n (d ∷ ds) = closed_word n d ∷ closed_words (phrase_behind n (body_of d.sort)) ds
+  abbrev pub closed_words : ℕ → ℕ → List WordDef → List WordDef
+  closed_words w n [] = []
+  closed_words w n (d ∷ ds) = closed_word w n d ∷ closed_words (suc w) (phrase_behind n (phrase_of d.sort)) ds
 
-  abbrev pub words_templates : ℕ → List WordDef → List (ℕ × Template)
-  words_templates n [] = []
-  words_templates n (d ∷ ds) = phrase_templates n (body_of d.sort) ++ words_templates (phrase_behind n (body_of d.sort)) ds
+  abbrev pub words_templates : ℕ → ℕ → List WordDef → List (ℕ × Template)
+  words_templates w n [] = []
+  words_templates w n (d ∷ ds) = phrase_templates (method_of w d.sort) n (phrase_of d.sort) ++ words_templates (suc w) (phrase_behind n (phrase_of d.sort)) ds
 
-  abbrev pub words_starts : ℕ → List WordDef → List (ℕ × ArrayStart)
-  words_starts n [] = []
-  words_starts n (d ∷ ds) = phrase_starts n (body_of d.sort) ++ words_starts (phrase_behind n (body_of d.sort)) ds
+  abbrev pub words_starts : ℕ → ℕ → List WordDef → List (ℕ × ArrayStart)
+  words_starts w n [] = []
+  words_starts w n (d ∷ ds) = phrase_starts (method_of w d.sort) n (phrase_of d.sort) ++ words_starts (suc w) (phrase_behind n (phrase_of d.sort)) ds
 
 -- how many quotations the elements of an array have
 abbrev pub elements_count : List ℕ → List Lit → ℕ
@@ -146,7 +167,7 @@ pub record Stage : Type 0 where
 
 -- the number and the place that are noted for an array, and its elements
 abbrev pub start_at : Stage → ℕ → ArrayStart
-start_at s a = slice_index_or s.starts a (start_of 0 nowhere)
+start_at s a = slice_index_or s.starts a (start_of 0 nowhere None)
 
 abbrev pub elements_at : Stage → ℕ → List Lit
 elements_at s a = slice_index_or s.arrays a []
@@ -156,8 +177,8 @@ abbrev pub array_closed : List ℕ → ℕ → Stage → Stage
 array_closed counts a s =
     record {
       arrays = set s.arrays a (closed_elements counts (start_at s a).number (elements_at s a));
-      templates = put_all s.templates (phrase_templates counts (start_at s a).number (plain_phrase (start_at s a).place (elements_at s a)));
-      starts = put_all s.starts (phrase_starts counts (start_at s a).number (plain_phrase (start_at s a).place (elements_at s a)));
+      templates = put_all s.templates (phrase_templates counts (start_at s a).method (start_at s a).number (plain_phrase (start_at s a).place (elements_at s a)));
+      starts = put_all s.starts (phrase_starts counts (start_at s a).method (start_at s a).number (plain_phrase (start_at s a).place (elements_at s a)));
     }
 
 -- after those with numbers below this one are closed, the last of them first
@@ -165,35 +186,35 @@ abbrev pub arrays_closed : List ℕ → ℕ → Stage → Stage
 arrays_closed counts zero s = s
 arrays_closed counts (suc a) s = arrays_closed counts a (array_closed counts a s)
 
--- What closing has made before an item that stands here, and behind it.
-pub record ItemPassed (counts : List ℕ) (before : Closing) (p : Place) (i : Item) (behind : Closing) : Type 0 where
+-- What closing has made before an item that stands here, in the phrase of a method or in none, and behind it.
+pub record ItemPassed (counts : List ℕ) (m : Option ℕ) (before : Closing) (p : Place) (i : Item) (behind : Closing) : Type 0 where
   pub next_is : behind.next ≡ item_behind counts before.next i
-  pub templates_are : behind.templates.items ≡ put_all before.templates.items (item_templates counts before.next p i)
-  pub starts_are : behind.starts.items ≡ put_all before.starts.items (item_starts counts before.next p i)
+  pub templates_are : behind.templates.items ≡ put_all before.templates.items (item_templates counts m before.next p i)
+  pub starts_are : behind.starts.items ≡ put_all before.starts.items (item_starts counts m before.next p i)
 
 -- likewise a phrase
-pub record PhrasePassed (counts : List ℕ) (before : Closing) (t : Phrase) (behind : Closing) : Type 0 where
+pub record PhrasePassed (counts : List ℕ) (m : Option ℕ) (before : Closing) (t : Phrase) (behind : Closing) : Type 0 where
   pub next_is : behind.next ≡ phrase_behind counts before.next t
-  pub templates_are : behind.templates.items ≡ put_all before.templates.items (phrase_templates counts before.next t)
-  pub starts_are : behind.starts.items ≡ put_all before.starts.items (phrase_starts counts before.next t)
+  pub templates_are : behind.templates.items ≡ put_all before.templates.items (phrase_templates counts m before.next t)
+  pub starts_are : behind.starts.items ≡ put_all before.starts.items (phrase_starts counts m before.next t)
 
--- likewise words
-pub record WordsPassed (counts : List ℕ) (before : Closing) (ds : List WordDef) (behind : Closing) : Type 0 where
+-- likewise words, from word w on
+pub record WordsPassed (counts : List ℕ) (w : ℕ) (before : Closing) (ds : List WordDef) (behind : Closing) : Type 0 where
   pub next_is : behind.next ≡ words_behind counts before.next ds
-  pub templates_are : behind.templates.items ≡ put_all before.templates.items (words_templates counts before.next ds)
-  pub starts_are : behind.starts.items ≡ put_all before.starts.items (words_starts counts before.next ds)
+  pub templates_are : behind.templates.items ≡ put_all before.templates.items (words_templates counts w before.next ds)
+  pub starts_are : behind.starts.items ≡ put_all before.starts.items (words_starts counts w before.next ds)
 
 -- A loop over the items of a phrase: what comes of the whole phrase from the start comes of what is left of it now.
-pub record Passing (counts : List ℕ) (start : Closing) (t : Phrase) (now : Closing) (left : Phrase) : Type 0 where
+pub record Passing (counts : List ℕ) (m : Option ℕ) (start : Closing) (t : Phrase) (now : Closing) (left : Phrase) : Type 0 where
   pub next_is : phrase_behind counts start.next t ≡ phrase_behind counts now.next left
-  pub templates_are : put_all start.templates.items (phrase_templates counts start.next t) ≡ put_all now.templates.items (phrase_templates counts now.next left)
-  pub starts_are : put_all start.starts.items (phrase_starts counts start.next t) ≡ put_all now.starts.items (phrase_starts counts now.next left)
+  pub templates_are : put_all start.templates.items (phrase_templates counts m start.next t) ≡ put_all now.templates.items (phrase_templates counts m now.next left)
+  pub starts_are : put_all start.starts.items (phrase_starts counts m start.next t) ≡ put_all now.starts.items (phrase_starts counts m now.next left)
 
--- likewise over words
-pub record WordsPassing (counts : List ℕ) (start : Closing) (ds : List WordDef) (now : Closing) (left : List WordDef) : Type 0 where
+-- likewise over all words, of which those from word w on are left
+pub record WordsPassing (counts : List ℕ) (start : Closing) (ds : List WordDef) (w : ℕ) (now : Closing) (left : List WordDef) : Type 0 where
   pub next_is : words_behind counts start.next ds ≡ words_behind counts now.next left
-  pub templates_are : put_all start.templates.items (words_templates counts start.next ds) ≡ put_all now.templates.items (words_templates counts now.next left)
-  pub starts_are : put_all start.starts.items (words_starts counts start.next ds) ≡ put_all now.starts.items (words_starts counts now.next left)
+  pub templates_are : put_all start.templates.items (words_templates counts 0 start.next ds) ≡ put_all now.templates.items (words_templates counts w now.next left)
+  pub starts_are : put_all start.starts.items (words_starts counts 0 start.next ds) ≡ put_all now.starts.items (words_starts counts w now.next left)
 
 -- a quotation got this number
 pub record NumberTaken (before : Closing) (number : ℕ) (behind : Closing) : Type 0 where
@@ -213,9 +234,9 @@ pub record PartsClosed (words : List WordDef) (arrays : List (List Lit)) (words_
   pub unfilled_count : length unfilled ≡ words_behind counts 0 words
   pub unmet : List ArrayStart
   pub unmet_count : length unmet ≡ length arrays
-  pub words_are : words_closed ≡ closed_words counts 0 words
+  pub words_are : words_closed ≡ closed_words counts 0 0 words
   pub after_words : Stage
-  pub after_words_is : after_words ≡ record { arrays = arrays; templates = put_all unfilled (words_templates counts 0 words); starts = put_all unmet (words_starts counts 0 words) }
+  pub after_words_is : after_words ≡ record { arrays = arrays; templates = put_all unfilled (words_templates counts 0 0 words); starts = put_all unmet (words_starts counts 0 0 words) }
   pub last : Stage
   pub last_is : last ≡ arrays_closed counts (length arrays) after_words
   pub arrays_are : arrays_now ≡ last.arrays

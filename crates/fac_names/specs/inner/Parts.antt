@@ -1,10 +1,11 @@
 -- The parts of rows.
-use Rattle.std.specs.Prelude.{◌≡◌, List, [], ◌∷◌}
+use Rattle.std.specs.Prelude.{◌≡◌, List, [], ◌∷◌, Option}
 use Rattle.fac_lang.specs.declared.phrase.Place.{Place}
 use Rattle.fac_lang.specs.declared.token.Token.{Token}
 use Rattle.fac_lang.specs.declared.tree.Element.{Element}
 use Rattle.fac_lang.specs.declared.tree.Key.{Key}
 use Rattle.fac_lang.specs.declared.tree.Mark.{Mark}
+use Rattle.fac_lang.specs.declared.tree.Parent.{Parent}
 use Rattle.fac_lang.specs.declared.tree.Part.{Part}
 use Rattle.fac_lang.specs.declared.tree.Part.TheVariants as part
 use Rattle.fac_lang.specs.declared.tree.WrittenEffect.{WrittenEffect}
@@ -31,4 +32,21 @@ pub record IsConstant (parts : List Part) (name : Token) (elements : List Elemen
 pub record IsDefinition (parts : List Part) (name : Token) (written : WrittenEffect) (elements : List Element) (marks : List Mark) : Type 0 where
   pub ends : Place
   pub are : parts ≡ part.Name name ∷ part.Effect written ∷ part.Items elements ends ∷ part.Marks marks ∷ []
+  pub items : AreItems elements
+
+-- the name, the parent and the slots of a tuple class
+pub record IsTuple (parts : List Part) (name : Token) (parent : Option Parent) (slots : List Token) : Type 0 where
+  pub ends : Place
+  pub are : parts ≡ part.Name name ∷ part.Slots parent slots ends ∷ []
+
+-- the name and the members of a union
+pub record IsUnion (parts : List Part) (name : Token) (members : List Token) : Type 0 where
+  pub ends : Place
+  pub are : parts ≡ part.Name name ∷ part.Names members ends ∷ []
+
+-- the class, the generic and the items of a method
+pub record IsMethod (parts : List Part) (class : Token) (generic : Token) (elements : List Element) : Type 0 where
+  pub ends : Place
+  pub marks : List Mark
+  pub are : parts ≡ part.Name class ∷ part.Name generic ∷ part.Items elements ends ∷ part.Marks marks ∷ []
   pub items : AreItems elements

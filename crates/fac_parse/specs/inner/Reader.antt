@@ -1,5 +1,5 @@
 -- How the reader goes over its tokens.
-use Rattle.std.specs.Prelude.{◌≡◌, ℕ, ◌+◌, Bool, true, false, List, [], ◌∷◌, ◌++◌, length, slice_get, Option, Some, None, Result, Ok, Err, if◌then◌else◌}
+use Rattle.std.specs.Prelude.{◌≡◌, ℕ, ◌+◌, Bool, true, false, List, [], ◌∷◌, ◌++◌, length, slice_get, nat_lt, Option, Some, None, Result, Ok, Err, if◌then◌else◌}
 use Rattle.fac_lang.specs.declared.memory.Memory.{Memory}
 use Rattle.fac_lang.specs.declared.phrase.Place.{Place}
 use Rattle.fac_lang.specs.declared.token.Token.{Token}
@@ -13,14 +13,19 @@ use Rattle.fac_lang.specs.declared.tree.Key.{Key}
 use Rattle.fac_lang.specs.declared.tree.Key.TheVariants.{Arrow}
 use Rattle.fac_lang.specs.declared.tree.Part.{Part}
 use Rattle.fac_lang.specs.declared.tree.Part.TheVariants as part
+use Rattle.fac_lang.specs.declared.tree.Parent.{Parent}
 use Rattle.fac_lang.specs.declared.tree.WrittenEffect.{WrittenEffect}
 use Rattle.fac_lang.specs.declared.tree.Form.{Form}
 use Rattle.fac_lang.specs.declared.tree.Form.TheVariants.{Row, Items}
 use Rattle.fac_parse.specs.declared.context.Context.{Context}
 use Rattle.fac_parse.specs.declared.rows.Slot.{Slot}
 use Rattle.fac_parse.specs.declared.rows.Slot.TheVariants as slot
+use Rattle.fac_parse.specs.declared.rows.Naming.{Naming}
+use Rattle.fac_parse.specs.declared.rows.Naming.TheVariants as naming
+use Rattle.fac_parse.specs.declared.rows.Marked.{Marked}
+use Rattle.fac_parse.specs.declared.rows.Marked.TheVariants as marked
 use Rattle.fac_effect.specs.declared.spelling.Spelling.{Spelling}
-use Rattle.fac_effect.specs.declared.spelling.Spelling.TheVariants.{Begins, Fixed, Semi, OpensBracket, ClosesBracket, True, False, Inline, Recursive, Integer, String, Name}
+use Rattle.fac_effect.specs.declared.spelling.Spelling.TheVariants.{Begins, Fixed, Semi, OpensBracket, ClosesBracket, True, False, Inline, Recursive, NextMethod, Integer, String, Name}
 use Rattle.fac_parse.specs.declared.reader.Head.{Head}
 use Rattle.fac_parse.specs.declared.reader.At.{At}
 use Rattle.fac_parse.specs.declared.reader.At.TheVariants as at
@@ -34,17 +39,20 @@ use Rattle.fac_effect.specs.declared.effect_reader.EffectReader.{EffectReader}
 use Rattle.fac_effect.specs.Spellings.{token_spelling}
 use Rattle.fac_effect.specs.EffectReading.{Progress, reads as reading, whole, refused, start as no_tokens, step as token_step, after}
 use Rattle.fac_effect.specs.SaidEffects.{effect_of}
-use Rattle.fac_parse.specs.Trees.{behind, Parses}
+use Rattle.fac_parse.specs.Trees.{behind, named, most_slots, is_parent_sign, Parses}
 
 -- what is being read of a row
 pub data Within : Type 0 where
-  name : Within
-  names : List Token → Within
+  name : Naming → Within
+  names : Naming → List Token → Within
+  tuple_slots : Option Parent → List Token → Within
+  -- the parent of a tuple class, whose sign stands here
+  tuple_parent : Place → Within
   fixed : Key → Within
   effect : List Token → EffectReader → Within
   items : List Element → List Context → Within
   literal : List Element → List Context → Within
-  marks : List Mark → Within
+  marks : Marked → List Mark → Within
 
 -- a row as far as some of its parts
 pub record Begun : Type 0 where
@@ -71,13 +79,17 @@ start = in_state [] (top [] [])
 
 -- where a slot begins
 abbrev pub begin : Slot → Within
-begin slot.Name = name
-begin slot.Names = names []
+begin slot.Name = name naming.Any
+begin slot.Class = name naming.Class
+begin slot.Names = names naming.Any []
+begin slot.Classes = names naming.Class []
+begin slot.Slots = tuple_slots None []
 begin (slot.Fixed key) = fixed key
 begin slot.Effect = effect [] no_tokens
 begin slot.Items = items [] []
 begin slot.Literal = literal [] []
-begin slot.Marks = marks []
+begin slot.Marks = marks marked.Word []
+begin slot.MethodMark = marks marked.Method []
 
 abbrev pub row_form : Begun → Form
 row_form b = Row b.kind b.opens b.parts
@@ -120,6 +132,7 @@ element_of String t = Some (element.Item (term.Text t))
 element_of Name t = Some (element.Item (term.Name t))
 element_of True t = Some (element.Item (term.True t.place))
 element_of False t = Some (element.Item (term.False t.place))
+element_of NextMethod t = Some (element.Item (term.NextMethod t.place))
 element_of (OpensBracket bracket) t = Some (element.Opens bracket t.place)
 element_of (ClosesBracket bracket) t = Some (element.Closes bracket t.place)
 element_of _ t = None
@@ -151,10 +164,31 @@ abbrev pub name_step : List Form → Begun → Spelling → Token → Option Sta
 name_step forms b Name t = Some (with_part forms b (part.Name t))
 name_step forms b _ t = None
 
-abbrev pub names_step : List Form → Begun → List Token → Spelling → Token → Option State
-names_step forms b ns Name t = Some (in_state forms (row b (names (ns ++ t ∷ []))))
-names_step forms b ns Semi t = Some (with_part forms b (part.Names ns t.place))
-names_step forms b ns _ t = None
+abbrev pub names_step : List Form → Begun → Naming → List Token → Spelling → Token → Option State
+names_step forms b k ns Name t = Some (in_state forms (row b (names k (ns ++ t ∷ []))))
+names_step forms b k ns Semi t = Some (with_part forms b (part.Names ns t.place))
+names_step forms b k ns _ t = None
+
+-- the sign before a parent, which stands in front of all slots
+abbrev pub sign_step : List Form → Begun → Option Parent → List Token → Place → Option State
+sign_step forms b None [] place = Some (in_state forms (row b (tuple_parent place)))
+sign_step forms b _ _ place = None
+
+abbrev pub add_slot : List Form → Begun → Option Parent → List Token → Token → Option State
+add_slot forms b p ns t = (if nat_lt (length ns) most_slots then Some (in_state forms (row b (tuple_slots p (ns ++ t ∷ [])))) else None)
+
+abbrev pub sign_or_slot : List Form → Begun → Option Parent → List Token → Bool → Token → Option State
+sign_or_slot forms b p ns true t = sign_step forms b p ns t.place
+sign_or_slot forms b p ns false t = add_slot forms b p ns t
+
+abbrev pub slots_step : List Form → Begun → Option Parent → List Token → Spelling → Token → Option State
+slots_step forms b p ns Name t = sign_or_slot forms b p ns (is_parent_sign t) t
+slots_step forms b p ns Semi t = Some (with_part forms b (part.Slots p ns t.place))
+slots_step forms b p ns _ t = None
+
+abbrev pub parent_step : List Form → Begun → Place → Spelling → Token → Option State
+parent_step forms b place Name t = Some (in_state forms (row b (tuple_slots (Some (record { sign = place; class = t })) [])))
+parent_step forms b place _ t = None
 
 abbrev pub key_step : List Form → Begun → Key → Key → Place → Option State
 key_step forms b Arrow Arrow place = Some (with_part forms b (part.Fixed Arrow place))
@@ -194,9 +228,10 @@ end_or_add forms b elements contexts false s t = add_element (row_items b) forms
 abbrev pub items_step : List Form → Begun → List Element → List Context → Spelling → Token → Option State
 items_step forms b elements contexts s t = end_or_add forms b elements contexts (is_semi s) s t
 
--- whether an element goes on with a literal: a name doesn't begin one
+-- whether an element goes on with a literal: neither a name nor `call-next-method` begins one
 abbrev pub goes_into : List Context → Element → Bool
 goes_into [] (element.Item (term.Name t)) = false
+goes_into [] (element.Item (term.NextMethod place)) = false
 goes_into _ e = true
 
 -- a literal with one more element, which is whole where nothing is open then
@@ -218,32 +253,35 @@ mark_of Inline place = Some (mark.Inline place)
 mark_of Recursive place = Some (mark.Recursive place)
 mark_of _ place = None
 
--- whether a mark may stand behind these: none stands twice
-abbrev pub may_follow : List Mark → Mark → Bool
-may_follow [] m = true
-may_follow (mark.Inline place ∷ []) (mark.Recursive other) = true
-may_follow (mark.Recursive place ∷ []) (mark.Inline other) = true
-may_follow _ _ = false
+-- whether a mark may stand behind these: none stands twice, and a method has only the one
+abbrev pub may_follow : Marked → List Mark → Mark → Bool
+may_follow marked.Word [] m = true
+may_follow marked.Word (mark.Inline place ∷ []) (mark.Recursive other) = true
+may_follow marked.Word (mark.Recursive place ∷ []) (mark.Inline other) = true
+may_follow marked.Method [] (mark.Inline place) = true
+may_follow _ _ _ = false
 
-abbrev pub with_mark : List Form → Begun → List Mark → Mark → Option State
-with_mark forms b ms m = (if may_follow ms m then Some (in_state forms (row b (marks (ms ++ m ∷ [])))) else None)
+abbrev pub with_mark : List Form → Begun → Marked → List Mark → Mark → Option State
+with_mark forms b k ms m = (if may_follow k ms m then Some (in_state forms (row b (marks k (ms ++ m ∷ [])))) else None)
 
 -- a mark, or the row ended before this token
-abbrev pub mark_step : List Form → Begun → List Mark → Option Mark → Spelling → Token → Option State
-mark_step forms b ms (Some m) s t = with_mark forms b ms m
-mark_step forms b ms None s t = top_step (forms ++ row_form (more b (part.Marks ms)) ∷ []) [] [] s t
+abbrev pub mark_step : List Form → Begun → Marked → List Mark → Option Mark → Spelling → Token → Option State
+mark_step forms b k ms (Some m) s t = with_mark forms b k ms m
+mark_step forms b k ms None s t = top_step (forms ++ row_form (more b (part.Marks ms)) ∷ []) [] [] s t
 
-abbrev pub marks_step : List Form → Begun → List Mark → Spelling → Token → Option State
-marks_step forms b ms s t = mark_step forms b ms (mark_of s t.place) s t
+abbrev pub marks_step : List Form → Begun → Marked → List Mark → Spelling → Token → Option State
+marks_step forms b k ms s t = mark_step forms b k ms (mark_of s t.place) s t
 
 abbrev pub row_step : List Form → Begun → Within → Spelling → Token → Option State
-row_step forms b name s t = name_step forms b s t
-row_step forms b (names ns) s t = names_step forms b ns s t
+row_step forms b (name k) s t = name_step forms b (named k s) t
+row_step forms b (names k ns) s t = names_step forms b k ns (named k s) t
+row_step forms b (tuple_slots p ns) s t = slots_step forms b p ns s t
+row_step forms b (tuple_parent place) s t = parent_step forms b place s t
 row_step forms b (fixed key) s t = fixed_step forms b key s t
 row_step forms b (effect ts r) s t = effect_step forms b ts r s t
 row_step forms b (items elements contexts) s t = items_step forms b elements contexts s t
 row_step forms b (literal elements contexts) s t = literal_step forms b elements contexts s t
-row_step forms b (marks ms) s t = marks_step forms b ms s t
+row_step forms b (marks k ms) s t = marks_step forms b k ms s t
 
 abbrev pub open_step : List Form → Open → Spelling → Token → Option State
 open_step forms (top elements contexts) s t = top_step forms elements contexts s t
@@ -263,7 +301,7 @@ ended_top forms elements [] = Some (with_run forms elements)
 ended_top forms elements (c ∷ contexts) = None
 
 abbrev pub ended_row : List Form → Begun → Within → Option (List Form)
-ended_row forms b (marks ms) = Some (forms ++ row_form (more b (part.Marks ms)) ∷ [])
+ended_row forms b (marks k ms) = Some (forms ++ row_form (more b (part.Marks ms)) ∷ [])
 ended_row forms b _ = None
 
 abbrev pub ended_open : List Form → Open → Option (List Form)
@@ -280,13 +318,15 @@ begun_at head parts = record { kind = head.kind; opens = head.opens; parts = par
 
 abbrev pub open_of : At → Reader → Open
 open_of at.Top r = top r.elements r.contexts
-open_of (at.Name head) r = row (begun_at head r.parts) name
-open_of (at.Names head) r = row (begun_at head r.parts) (names r.names)
+open_of (at.Name head k) r = row (begun_at head r.parts) (name k)
+open_of (at.Names head k) r = row (begun_at head r.parts) (names k r.names)
+open_of (at.Slots head) r = row (begun_at head r.parts) (tuple_slots r.parent r.names)
+open_of (at.Parent head sign) r = row (begun_at head r.parts) (tuple_parent sign)
 open_of (at.Fixed head key) r = row (begun_at head r.parts) (fixed key)
 open_of (at.Effect head) r = row (begun_at head r.parts) (effect r.names r.effect)
 open_of (at.Items head) r = row (begun_at head r.parts) (items r.elements r.contexts)
 open_of (at.Literal head) r = row (begun_at head r.parts) (literal r.elements r.contexts)
-open_of (at.Marks head) r = row (begun_at head r.parts) (marks r.marks)
+open_of (at.Marks head k) r = row (begun_at head r.parts) (marks k r.marks)
 
 abbrev pub state_of : Reader → State
 state_of r = in_state r.forms (open_of r.at r)

@@ -5,10 +5,9 @@ use Rattle.std.specs.Option.{option_map}
 use Rattle.fac_io.specs.Told.{Grows}
 use Rattle.fac_lang.specs.declared.program.Program.{Program}
 use Rattle.fac_lang.specs.Phrases.{Item, Value}
-use Rattle.fac_lang.specs.Printed.{Names, printed}
+use Rattle.fac_lang.specs.Printed.{printed}
 use Rattle.fac_lang.specs.World.{World, State, Error}
 use Rattle.fac_lang.specs.Eval.{Done, Failed, Spent}
-use Rattle.fac_lang.specs.Meaning.{names}
 use Rattle.fac_lang.specs.RunningLaws.{IsNotStuck}
 use Rattle.fac_lang.specs.Forms.{IsBuilt}
 use Rattle.fac_lang.specs.Whole.{IsWhole}
@@ -18,8 +17,8 @@ use Rattle.fac_check.specs.CallableEffects.{callable_height}
 use Rattle.fac_lang.specs.HeightArithmetic.{fits}
 use Rattle.fac_check.specs.Promises.{IsSafe}
 use Rattle.fac_code.specs.declared.image.Image.{Image}
-use Rattle.fac_code.specs.WordNames.{image_names}
-use Rattle.fac_store.specs.MachineValues.{MValue, machine_values, with_names}
+use Rattle.fac_code.specs.ImageNames.{image_names}
+use Rattle.fac_store.specs.MachineValues.{MValue, machine_values}
 use Rattle.fac_store.specs.ValueTrees.{Trees, StoreSeen, objects_of, trees_of, value_in}
 use Rattle.fac_store.specs.declared.value.Value.{Value as MachineValue}
 use Rattle.fac_vm.specs.declared.machine.RunError.{RunError}
@@ -55,11 +54,10 @@ pub record StandsForSafe (closed : Closed) (P : Program) : Type 0 where
 abbrev pub SameNames : Program → Program → Type 0
 SameNames P C = (w : ℕ) → word_name C w ≡ word_name P w
 
--- with the checker's test of effects the image carries the program, whose top-level phrase isn't stuck from no value; its words have the names of the program's
+-- with the checker's test of effects the image carries the program, whose top-level phrase isn't stuck from no value
 pub record Carried (P : Program) (M : Image) : Type 0 where
   pub carries : Carries P fits (callable_height P) 0 M
   pub not_stuck : (n : ℕ) → IsNotStuck (meaning P n)
-  pub named : with_names (image_names M) (names P) ≡ names P
 
 -- a machine that holds no value, and no objects but the literal arrays of its image as they were made
 pub record IsFresh (machine : MachineSeen) : Type 0 where
@@ -94,26 +92,26 @@ TakesPieces P ticks out (stop.Trap pc why) = RunPieces P ticks [] out
 TakesPieces P ticks out stop.WriteFault = RunFront P ticks out
 TakesPieces P ticks out stop.Memory = RunPieces P ticks [] out
 
--- The text of a value of the machine as it is told, where words and kinds are called so and this is the world.
-abbrev pub machine_text : Names → World MValue → MValue → List ℕ
-machine_text N w v = shown_text (printed machine_values N w v)
+-- the text of a value of a machine of this image as it is told, where this is the world
+abbrev pub machine_text : Image → World MValue → MValue → List ℕ
+machine_text M w v = shown_text (printed machine_values (image_names M) w v)
 
--- What holds in each world with the objects of a store, where words are called as in an image, whatever kinds are called.
-abbrev pub InStore : Image → StoreSeen → (Names → World MValue → Type 0) → Type 0
-InStore M store Holds = (N : Names) (w : World MValue) → w.objects ≡ objects_of store → Holds (with_names (image_names M) N) w
+-- what holds in each world with the objects of a store
+abbrev pub InStore : StoreSeen → (World MValue → Type 0) → Type 0
+InStore store Holds = (w : World MValue) → w.objects ≡ objects_of store → Holds w
 
 -- this is the text of a value
 abbrev pub IsTextOf : Image → StoreSeen → MachineValue → List ℕ → Type 0
-IsTextOf M store v text = InStore M store (λ N w. text ≡ machine_text N w (value_in (trees_of store) v))
+IsTextOf M store v text = InStore store (λ w. text ≡ machine_text M w (value_in (trees_of store) v))
 
 -- these are the texts of values
 abbrev pub AreTextsOf : Image → StoreSeen → List MachineValue → List (List ℕ) → Type 0
-AreTextsOf M store vs texts = InStore M store (λ N w. texts ≡ map (λ v. machine_text N w (value_in (trees_of store) v)) vs)
+AreTextsOf M store vs texts = InStore store (λ w. texts ≡ map (λ v. machine_text M w (value_in (trees_of store) v)) vs)
 
 -- these are the texts of a machine's stack, from the bottom to the top
 abbrev pub AreStackTexts : MachineSeen → List (List ℕ) → Type 0
-AreStackTexts machine texts = InStore machine.image machine.store (λ N w. texts ≡ map (machine_text N w) (reverse (stack_in machine)))
+AreStackTexts machine texts = InStore machine.store (λ w. texts ≡ map (machine_text machine.image w) (reverse (stack_in machine)))
 
 -- this is the report of a run error of a machine, where the words have the names of this program
 abbrev pub IsReportOf : MachineSeen → Program → RunError → Report → Type 0
-IsReportOf machine C e why = InStore machine.image machine.store (λ N w. why ≡ report.Error e.name (word_name C e.word) (option_map (λ v. machine_text N w (value_in (trees_of machine.store) v)) e.value))
+IsReportOf machine C e why = InStore machine.store (λ w. why ≡ report.Error e.name (word_name C e.word) (option_map (λ v. machine_text machine.image w (value_in (trees_of machine.store) v)) e.value))

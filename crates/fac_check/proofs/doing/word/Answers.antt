@@ -24,7 +24,7 @@ returns-clause-does c =
     (λ r does O.
     let there = word_open O.program C.program C.templates O.closes c.args.number c.in-Some.word.now (sym c.in-Some.ensures) in
     let low = subst (λ n. c.args.number < n) O.closes.top (is_below c.args.number C.program.top c.requires.number) in
-    does O.program there.def low there.at O.built there.closes O.naming (named_own O c.args.number c.in-Some.word.now (sym c.in-Some.ensures))
+    does O.program there.def O.closes low there.at O.built there.closes O.naming (named_own O c.args.number c.in-Some.word.now (sym c.in-Some.ensures))
     ∙ ap (λ q. word_doing O.program q c.args.number (Some there.def) (base_seen O.naming c.args.base) (stack_of O.naming c.args.marks.now c.args.stack)) (sym O.word_is)
     ∙ ap (λ o. word_doing O.program O.word c.args.number o (base_seen O.naming c.args.base) (stack_of O.naming c.args.marks.now c.args.stack)) (sym there.at))
     c.word_item.ensures.does

@@ -5,4 +5,4 @@ use Rattle.fac_code.proofs.references.elements_refer.Given as goal
 
 -- what is left decides
 abbrev pub invariant-loop-element : goal.invariant-loop-element
-invariant-loop-element l = list_all (elem_refers l.templates l.words l.texts l.array) l.elements ≡ list_all (elem_refers l.templates l.words l.texts l.array) (drop l.element-index l.elements)
+invariant-loop-element l = list_all (elem_refers l.tables l.array) l.elements ≡ list_all (elem_refers l.tables l.array) (drop l.element-index l.elements)

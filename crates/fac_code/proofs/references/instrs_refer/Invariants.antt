@@ -5,4 +5,4 @@ use Rattle.fac_code.proofs.references.instrs_refer.Given as goal
 
 -- what is left decides
 abbrev pub invariant-loop-instr : goal.invariant-loop-instr
-invariant-loop-instr l = list_all (instr_refers l.arrays l.templates l.words l.texts) l.code ≡ list_all (instr_refers l.arrays l.templates l.words l.texts) (drop l.instr-index l.code)
+invariant-loop-instr l = list_all (instr_refers l.tables) l.code ≡ list_all (instr_refers l.tables) (drop l.instr-index l.code)

@@ -5,4 +5,4 @@ use Rattle.fac_code.proofs.references.words_refer.Given as goal
 
 -- what is left decides
 abbrev pub invariant-loop-row : goal.invariant-loop-row
-invariant-loop-row l = list_all (word_refers l.size l.count) l.words ≡ list_all (word_refers l.size l.count) (drop l.row-index l.words)
+invariant-loop-row l = list_all (word_refers l.tables l.size) l.tables.words ≡ list_all (word_refers l.tables l.size) (drop l.row-index l.tables.words)

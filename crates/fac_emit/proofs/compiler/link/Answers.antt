@@ -2,10 +2,16 @@ use Rattle.fac_emit.proofs.CodedItems.{templates_coded, words_coded, arrays_code
 use Rattle.fac_emit.proofs.compiler.link.Goals as goal
 
 pub add_templates-requires : goal.add_templates-requires
-add_templates-requires c = let closed = c.args.closed.now in templates_coded c.requires.0 closed.program closed.templates c.requires.2 c.requires.1
+add_templates-requires c =
+    let given = c.requires.closed in
+    let closed = c.args.closed.now in
+    record { numbers = c.requires.numbers; coded = templates_coded given.0 closed.program closed.templates given.2 given.3 given.1 }
 
 pub add_words-requires : goal.add_words-requires
-add_words-requires c = let closed = c.args.closed.now in words_coded c.requires.0 closed.program closed.templates c.requires.2 c.requires.1
+add_words-requires c =
+    let given = c.requires.closed in
+    let closed = c.args.closed.now in
+    record { numbers = c.requires.numbers; classes = c.requires.classes; coded = words_coded given.0 closed.program closed.templates given.2 given.3 given.1 }
 
 pub add_arrays-requires : goal.add_arrays-requires
-add_arrays-requires c = let closed = c.args.closed.now in arrays_coded c.requires.0 closed.program closed.templates c.requires.1
+add_arrays-requires c = let closed = c.args.closed.now in arrays_coded c.requires.closed.0 closed.program closed.templates c.requires.closed.1

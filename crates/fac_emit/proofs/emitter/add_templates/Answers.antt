@@ -8,16 +8,16 @@ loop-template-preserved c =
     let at = c.loop-template in
     let items = c.as_slice-template-items in
     let added = c.in_ok-add_template.ensures in
-    let words = c.args.words.now in
+    let C = c.args.program.now in
     let ts = c.args.templates.now in
     let lt = c.loop-template-test.true in
     record {
-      code_is = template_code_step words ts at.template-index c.template-item.result items.result.now items.ensures lt c.template-item.is at.piece.texts _ added.1 _ _ _ at.invariant.code_is added.0;
-      texts_are = template_texts_step words ts at.template-index c.template-item.result items.result.now items.ensures lt c.template-item.is at.piece.texts _ added.1 _ at.invariant.texts_are;
-      rows_are = template_rows_step words ts at.template-index c.template-item.result items.result.now items.ensures lt c.template-item.is at.piece.texts _ added.1 _ _ _ _ _ at.invariant.rows_are added.0 added.2;
+      code_is = template_code_step C ts at.template-index c.template-item.result items.result.now items.ensures lt c.template-item.is at.piece.texts _ added.1 _ _ _ at.invariant.code_is added.0;
+      texts_are = template_texts_step C ts at.template-index c.template-item.result items.result.now items.ensures lt c.template-item.is at.piece.texts _ added.1 _ at.invariant.texts_are;
+      rows_are = template_rows_step C ts at.template-index c.template-item.result items.result.now items.ensures lt c.template-item.is at.piece.texts _ added.1 _ _ _ _ _ at.invariant.rows_are added.0 added.2;
     }
 
 pub add_template-requires : goal.add_template-requires
 add_template-requires c =
     let items = c.as_slice-template-items in
-    item_passes (template_is_coded c.args.words.now) c.args.templates.now c.loop-template.template-index c.template-item.result items.result.now items.ensures c.loop-template-test.true c.template-item.is c.requires
+    record { numbers = c.requires.numbers; coded = item_passes (template_is_coded c.args.program.now) c.args.templates.now c.loop-template.template-index c.template-item.result items.result.now items.ensures c.loop-template-test.true c.template-item.is c.requires.coded }

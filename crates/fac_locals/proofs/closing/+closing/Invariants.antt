@@ -12,7 +12,7 @@ decreases-close_what l = goal.size-close_what l
 
 abbrev pub invariant-close_phrase-loop-item : goal.invariant-close_phrase-loop-item
 invariant-close_phrase-loop-item l = record {
-  items_are : closed_items l.counts l.initial.closing.next (into_iter_items l.initial.item-iterator) ≡ l.items.items ++ closed_items l.counts l.closing.next (into_iter_items l.item-iterator);
-  passing : Passing l.counts l.initial.closing (items_phrase (into_iter_items l.initial.item-iterator)) l.closing (items_phrase (into_iter_items l.item-iterator));
+  items_are : closed_items l.counts l.method l.initial.closing.next (into_iter_items l.initial.item-iterator) ≡ l.items.items ++ closed_items l.counts l.method l.closing.next (into_iter_items l.item-iterator);
+  passing : Passing l.counts l.method l.initial.closing (items_phrase (into_iter_items l.initial.item-iterator)) l.closing (items_phrase (into_iter_items l.item-iterator));
   count : into_iter_len l.item-iterator ≡ length (into_iter_items l.item-iterator);
 }

@@ -3,6 +3,9 @@ use Rattle.fac_locals.proofs.ArraySteps.{same_parts}
 use Rattle.fac_locals.proofs.ClosedPrograms.{closes_program}
 use Rattle.fac_locals.proofs.closing.close.Goals as goal
 
+pub slot_counts-requires : goal.slot_counts-requires
+slot_counts-requires c = c.requires.whole.classes_end
+
 pub returns : goal.returns
 returns c =
     let P = c.args.program in

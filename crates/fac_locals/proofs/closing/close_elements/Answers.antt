@@ -8,14 +8,15 @@ pub loop-element-preserved : goal.loop-element-preserved
 loop-element-preserved c =
     let at = c.loop-element in
     let next = c.in-Some.ensures.steps in
-    let closes = c.in_ok-close_element.ensures in
+    let closes = c.in_ok-element.ensures in
     let counts = c.args.counts.now in
-    let place = c.args.place in
+    let place = c.args.start.place in
+    let m = c.args.start.method in
     let rest = into_iter_items at.element-iterator in
     let left = into_iter_items c.next.new.self in
     let behind = c.close_element.new.closing in
     record {
-      elements_are = step_elements counts _ at.closed _ rest left at.closing behind place c.in-Some.element _ at.invariant.elements_are next.0 closes.0 closes.1 c.in_ok-push.ensures.ok;
-      passing = pass_on counts c.args.closing.now (plain_phrase place (into_iter_items c.into_iter-element-iterator.result)) at.closing (plain_phrase place rest) behind (plain_item c.in-Some.element) place (plain_phrase place left) at.invariant.passing (ap (plain_phrase place) next.0) closes.1;
+      elements_are = step_elements counts m _ at.closed _ rest left at.closing behind place c.in-Some.element _ at.invariant.elements_are next.0 closes.0 closes.1 c.in_ok-push.ensures.ok;
+      passing = pass_on counts m c.args.closing.now (plain_phrase place (into_iter_items c.into_iter-element-iterator.result)) at.closing (plain_phrase place rest) behind (plain_item c.in-Some.element) place (plain_phrase place left) at.invariant.passing (ap (plain_phrase place) next.0) closes.1;
       count = omega (arith, ap length next.0, at.invariant.count, next.1);
     }

@@ -1,5 +1,5 @@
 use Rattle.std.proofs.Common.{◌≡◌, drop, fold, map}
-use Rattle.fac_names.specs.FromFlat.{tok}
+use Rattle.fac_items.specs.FromElements.{tok}
 use Rattle.fac_names.specs.Forms.{bring_one}
 use Rattle.fac_names.specs.inner.State.{reading_of}
 use Rattle.fac_names.proofs.forms.bring_all.Given as goal

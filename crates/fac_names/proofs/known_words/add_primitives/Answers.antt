@@ -1,9 +1,9 @@
-use Rattle.std.proofs.Common.{◌≡◌, List, [], ◌++◌, drop, sym, ap, ◌∙◌, arith}
+use Rattle.std.proofs.Common.{◌≡◌, List, [], ◌++◌, drop, refl, sym, ap, ◌∙◌, arith}
 use Rattle.std.proofs.lemmas.Grind.{common_steps}
 use Rattle.fac_lang.specs.PrimitiveWords.{PrimitiveWord}
-use Rattle.fac_lang.specs.declared.program.Sort.TheVariants.{Prim}
-use Rattle.fac_names.specs.KnownWords.{words_from}
-use Rattle.fac_names.proofs.KnownWordLemmas.{primitive_row_word, rows_written, rows_added, row_fits}
+use Rattle.fac_items.proofs.KnownRowLemmas.{primitive_row_word, rows_written}
+use Rattle.fac_names.specs.KnownWords.{primitives_from}
+use Rattle.fac_names.proofs.KnownWordLemmas.{all_added, row_fits}
 use Rattle.fac_names.proofs.known_words.add_primitives.Goals as goal
 
 pub overflow_cast-number : goal.overflow_cast-number
@@ -13,6 +13,6 @@ pub returns : goal.returns
 returns c =
     let rows = c.primitives-rows.result.now in
     let none : drop c.loop-number.number rows ≡ [] = grind (arith, common_steps) in
-    sym (rows_added primitive_row_word Prim c.loop-number.words rows c.loop-number.number none)
+    sym (all_added primitive_row_word primitives_from c.loop-number.words rows c.loop-number.number refl none)
     ∙ c.loop-number.invariant
-    ∙ ap (λ (ws : List PrimitiveWord). c.args.words.now ++ words_from Prim 0 ws) (rows_written rows c.primitives-rows.ensures)
+    ∙ ap (λ (ws : List PrimitiveWord). c.args.words.now ++ primitives_from 0 ws) (rows_written rows c.primitives-rows.ensures)

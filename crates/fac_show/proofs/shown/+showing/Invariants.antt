@@ -1,18 +1,18 @@
 use Rattle.std.proofs.Common.{◌≡◌, ◌≤◌, ◌+◌, ◌*◌, ◌++◌, length, map, drop, string_bytes}
-use Rattle.fac_code.specs.WordNames.{image_names}
+use Rattle.fac_code.specs.ImageNames.{image_names}
 use Rattle.fac_lang.specs.Printed.{spaced}
 use Rattle.fac_show.specs.inner.StoredForms.{stored_form}
 use Rattle.fac_show.proofs.shown.+showing.Given as goal
 
--- levels fall from an array to its elements, and on the way each function has a smaller rank
+-- levels fall from an object to its values, and on the way each function has a smaller rank
 abbrev pub decreases-add_value : goal.decreases-add_value
 decreases-add_value l = 5 * l.levels + 2
 
 abbrev pub decreases-add_object : goal.decreases-add_object
 decreases-add_object l = 5 * l.levels + 1
 
-abbrev pub decreases-add_array : goal.decreases-add_array
-decreases-add_array l = 5 * l.levels + 5
+abbrev pub decreases-add_members : goal.decreases-add_members
+decreases-add_members l = 5 * l.levels + 5
 
 abbrev pub decreases-add_each : goal.decreases-add_each
 decreases-add_each l = 5 * l.levels + 4

@@ -10,7 +10,7 @@ returns-in-Ok-clause-ends g c P named carries =
     let image = c.run_machine-stop.ensures.image in
     let stops = rw c.in-Done.is at (c.run_machine-stop.ensures.stops P carries) in
     let pieces = rw c.in-Done.is at (c.run_machine-stop.ensures.pieces P carries) in
-    (done_matches law P _ c.args.budget c.run_machine-stop.new.machine c.run_machine-stop.result.ticks _ c.in-Ok.texts carries.named image c.in-Ok.ensures stops, pieces)
+    (done_matches law P _ c.args.budget c.run_machine-stop.new.machine c.run_machine-stop.result.ticks _ c.in-Ok.texts carries.carries.same_names image c.in-Ok.ensures stops, pieces)
 
 pub returns-in-Err-clause-ends : goal.returns-in-Err-clause-ends
 returns-in-Err-clause-ends g c P named carries =
@@ -24,7 +24,7 @@ returns-in-Ok-error_report-clause-ends g c P named carries =
     let stops = rw c.in-Failed.is at (c.run_machine-stop.ensures.stops P carries) in
     let pieces = rw c.in-Failed.is at (c.run_machine-stop.ensures.pieces P carries) in
     let why = c.in-Ok-error_report.report in
-    rw c.reported.ensures (failed_ends law P c.args.program.now _ c.args.budget c.run_machine-stop.new.machine c.in-Failed.error c.run_machine-stop.result.ticks _ why carries.named image named c.in-Ok-error_report.ensures stops pieces)
+    rw c.reported.ensures (failed_ends law P c.args.program.now _ c.args.budget c.run_machine-stop.new.machine c.in-Failed.error c.run_machine-stop.result.ticks _ why carries.carries.same_names image named c.in-Ok-error_report.ensures stops pieces)
 
 pub returns-in-Err-error_report-clause-ends : goal.returns-in-Err-error_report-clause-ends
 returns-in-Err-error_report-clause-ends g c P named carries =

@@ -1,0 +1,2 @@
+pub mod ClassKinds
+pub mod inner

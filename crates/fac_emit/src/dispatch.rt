@@ -1,0 +1,114 @@
+//! The methods of generics: their places and their rows.
+ghost use Rattle.std.specs.Prelude.{◌≡◌, ◌<◌, ◌++◌, ◌∷◌, [], length, map, OnOk, IfOk};
+ghost use Rattle.fac_generic.specs.Methods.{HasMethods, methods_in_order};
+ghost use Rattle.fac_emit.specs.ProgramTables.{method_row, generics_from};
+ghost use Rattle.fac_emit.specs.ProgramCode.{code_place};
+ghost use Rattle.fac_emit.specs.inner.Numbered.{HasPlaces};
+ghost use Rattle.fac_emit.specs.inner.Dispatch.{AreBelow, class_in, generic_rows, placed, all_placed};
+
+use crate::rows::place_of;
+use fac_code::{GenericRow, MethodRow, WordRow};
+use fac_generic::Tables;
+use fac_lang::{List, Memory, Program, Sort};
+use std::alloc::Global;
+
+// Puts the place of each of these methods. Of one that is there more than once it is the first.
+fn put_places(places: &mut [u32], methods: &[u32])
+    requires { AreBelow (length places.old) methods.now }
+    ensures { places.new ≡ placed methods.now 0 places.old }
+{
+    let mut place = methods.len();
+    while place > 0 {
+        place -= 1;
+        places[methods[place] as usize] = place as u32;
+    }
+}
+
+/// The places of methods among those of their generics, by their words.
+pub fn places_of(alloc: Global, program: &Program, tables: &Tables) -> Result<List<u32>, Memory>
+    requires methods { HasMethods program.now }
+    requires tables { tables.now ≡ program.now }
+    ensures { IfOk result (HasPlaces program.now) }
+{
+    let mut places = vec![in alloc; 0; program.words.len() as usize]?;
+    for generic in 0..program.words.len() {
+        put_places(places.as_mut_slice(), tables.methods(generic).as_slice());
+    }
+    List::from_vec(places)
+}
+
+// The class of a method.
+fn class_of(program: &Program, method: u32) -> u32
+    ensures { result ≡ class_in program.now method }
+{
+    match program.words.get(method as usize) {
+        Some(word) => match &word.sort {
+            Sort::Method { class, .. } => *class,
+            _ => 0,
+        },
+        None => 0,
+    }
+}
+
+// The rows of methods, where the words have these rows.
+fn rows_of(
+    alloc: Global,
+    program: &Program,
+    rows: &List<WordRow>,
+    methods: &List<u32>,
+) -> Result<List<MethodRow>, Memory>
+    ensures { IfOk result (λ found. found ≡ map (λ m. method_row (code_place rows.now) (m, class_in program.now m)) methods.now) }
+{
+    let mut found = List::new(alloc);
+    for method in methods.as_slice() {
+        found.push(MethodRow {
+            set: class_of(program, *method),
+            entry: place_of(rows, *method),
+        })?;
+    }
+    Ok(found)
+}
+
+// Adds the row of a word of this sort, where it is generic.
+fn add_generic(
+    alloc: Global,
+    generics: &mut List<GenericRow>,
+    program: &Program,
+    tables: &Tables,
+    rows: &List<WordRow>,
+    word: u32,
+    sort: &Sort,
+) -> Result<(), Memory>
+    requires methods { HasMethods program.now }
+    requires tables { tables.now ≡ program.now }
+    requires word { word < length program.now.words }
+    ensures { OnOk result (generics.new ≡ generics.old ++ generic_rows program.now (code_place rows.now) word sort.now) }
+{
+    match sort {
+        Sort::Generic => {
+            let methods = rows_of(alloc, program, rows, tables.methods(word))?;
+            generics.push(GenericRow { word, methods })
+        }
+        _ => Ok(()),
+    }
+}
+
+/// The rows of the generics of a program, where its words have these rows.
+pub fn generics_of(
+    alloc: Global,
+    program: &Program,
+    tables: &Tables,
+    rows: &List<WordRow>,
+) -> Result<List<GenericRow>, Memory>
+    requires methods { HasMethods program.now }
+    requires tables { tables.now ≡ program.now }
+    ensures { IfOk result (λ generics. generics ≡ generics_from program.now (code_place rows.now) 0 program.now.words) }
+{
+    let mut generics = List::new(alloc);
+    let mut number = 0u32;
+    for word in program.words.as_slice() {
+        add_generic(alloc, &mut generics, program, tables, rows, number, &word.sort)?;
+        number += 1;
+    }
+    Ok(generics)
+}

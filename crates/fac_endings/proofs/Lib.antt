@@ -1,0 +1,11 @@
+pub mod PlainEffectLemmas
+pub mod ListLemmas
+pub mod Apart
+pub mod ChainLemmas
+pub mod FaultLemmas
+pub mod KeyLemmas
+pub mod FinishLemmas
+pub mod CycleLemmas
+pub mod SlotChains
+pub mod EndedClasses
+pub mod EndedWords

@@ -1,0 +1,7 @@
+pub mod PlainEffects
+pub mod Chains
+pub mod Behind
+pub mod Cycles
+pub mod MethodKeys
+pub mod Finishes
+pub mod Ready

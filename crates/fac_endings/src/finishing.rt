@@ -1,0 +1,239 @@
+//! Words as they are at the end of the program.
+ghost use Rattle.std.specs.Prelude.{◌≡◌, ◌++◌, ◌∷◌, [], length, map, Some, IfOk, OnOk};
+ghost use Rattle.fac_lang.specs.Classes.{slots_within};
+ghost use Rattle.fac_endings.specs.ClassTable.{class_at, word_at};
+ghost use Rattle.fac_refusal.specs.Toks.{number};
+ghost use Rattle.fac_endings.specs.FinishedWords.{as_method, effect_of_word, finished, with_maker};
+ghost use Rattle.fac_endings.specs.inner.Finishes.{AreFinishes, AreSlots, FinishesBy, finished_with, line, slots_listed, with_finish};
+
+use crate::draft::{Draft, Late, Table};
+use crate::effects::{no_effect, one_output};
+use crate::lookup::{class_at, number_of, parent_of, slots_at, word_at};
+use fac_lang::{ClassDef, Duplicate, Effect, List, Memory, Sort, Text, WordDef};
+use fac_refusal::Ref;
+use std::alloc::Global;
+
+// A class and its parents, from it on; at most as many as there are classes.
+fn line_of(alloc: Global, classes: &[ClassDef], class: u32) -> Result<Vec<u32>, Memory>
+    ensures { IfOk result (λ found. found.items ≡ line (length classes.now) classes.now (Some class)) }
+{
+    let mut line = Vec::new(alloc);
+    let mut at = Some(class);
+    for _step in classes {
+        match at {
+            Some(number) => {
+                line.push(number)?;
+                at = parent_of(classes, number);
+            }
+            None => return Ok(line),
+        }
+    }
+    Ok(line)
+}
+
+// Adds copies of texts.
+fn add_texts(alloc: Global, texts: &mut List<Text>, more: &[Text]) -> Result<(), Memory>
+    ensures { OnOk result (texts.new ≡ texts.old ++ more.now) }
+{
+    for text in more {
+        texts.push(text.copy(alloc)?)?;
+    }
+    Ok(())
+}
+
+// All slots of a tuple class, its parents' first.
+fn slots_of(alloc: Global, classes: &[ClassDef], class: u32) -> Result<List<Text>, Memory>
+    ensures { IfOk result (λ slots. slots ≡ slots_within (length classes.now) classes.now class) }
+{
+    let mut line = line_of(alloc, classes, class)?;
+    let mut slots = List::new(alloc);
+    while let Some(bearer) = line.pop() {
+        add_texts(alloc, &mut slots, slots_at(classes, bearer))?;
+    }
+    Ok(slots)
+}
+
+/// All slots of each class.
+pub fn all_slots(alloc: Global, classes: &List<ClassDef>) -> Result<List<List<Text>>, Memory>
+    ensures { IfOk result (AreSlots classes.now) }
+{
+    let mut table = List::new(alloc);
+    for class in 0..classes.len() {
+        let slots = slots_of(alloc, classes.as_slice(), class)?;
+        table.push(slots)?;
+    }
+    Ok(table)
+}
+
+// What the end of the program settles of a word.
+#[derive(Drop)]
+enum Finish {
+    Nothing,
+    Effect(Effect),
+    Method {
+        class: u32,
+        generic: u32,
+        effect: Effect,
+    },
+}
+
+// The effect of the word of a name.
+fn effect_at(alloc: Global, drafts: &[Draft], name: &Ref) -> Result<Effect, Memory>
+    ensures { IfOk result (λ effect. effect ≡ effect_of_word (word_at drafts.now name.now)) }
+{
+    match word_at(drafts, name) {
+        Some(word) => word.effect.copy(alloc),
+        None => Ok(no_effect(alloc)),
+    }
+}
+
+// What is settled of a method.
+fn finish_method(
+    alloc: Global,
+    drafts: &[Draft],
+    class: &Ref,
+    generic: &Ref,
+) -> Result<Finish, Memory>
+    ensures { IfOk result (λ finish. FinishesBy finish (λ w. as_method (class_at drafts.now class.now) (number generic.now.word) (effect_of_word (word_at drafts.now generic.now)) w.sort w)) }
+{
+    match class_at(drafts, class) {
+        Some(class) => Ok(Finish::Method {
+            class,
+            generic: number_of(generic),
+            effect: effect_at(alloc, drafts, generic)?,
+        }),
+        None => Ok(Finish::Nothing),
+    }
+}
+
+// All slots of a class, by the table of them.
+fn slots_listed(slots: &[List<Text>], class: u32) -> &[Text]
+    ensures { result.now ≡ slots_listed slots.now class }
+{
+    match slots.get(class as usize) {
+        Some(found) => found.as_slice(),
+        None => &[],
+    }
+}
+
+// What is settled of a word that makes tuples.
+fn finish_maker(
+    alloc: Global,
+    table: Table<'_>,
+    slots: &[List<Text>],
+    class: &Ref,
+) -> Result<Finish, Memory>
+    requires { AreSlots table.classes.now slots.now }
+    ensures { IfOk result (λ finish. FinishesBy finish (with_maker table.entry.classes.now class.now (class_at table.entry.drafts.now class.now))) }
+{
+    match class_at(table.drafts, class) {
+        Some(number) => Ok(Finish::Effect(one_output(
+            alloc,
+            slots_listed(slots, number),
+            class.tok.text.as_str(),
+        )?)),
+        None => Ok(Finish::Nothing),
+    }
+}
+
+// What is settled of a word.
+fn finish_of(
+    alloc: Global,
+    table: Table<'_>,
+    slots: &[List<Text>],
+    draft: &Draft,
+) -> Result<Finish, Memory>
+    requires { AreSlots table.classes.now slots.now }
+    ensures { IfOk result (λ finish. with_finish finish draft.now.word ≡ finished table.entry.drafts.now table.entry.classes.now draft.now) }
+{
+    match &draft.late {
+        Late::Settled => Ok(Finish::Nothing),
+        Late::Deferred => Ok(Finish::Nothing),
+        Late::Maker(class) => finish_maker(alloc, table, slots, class),
+        Late::Method(class, generic) => finish_method(alloc, table.drafts, class, generic),
+    }
+}
+
+// What is settled of all words.
+fn finishes_of(
+    alloc: Global,
+    table: Table<'_>,
+    slots: &[List<Text>],
+) -> Result<Vec<Finish>, Memory>
+    requires { AreSlots table.classes.now slots.now }
+    ensures { IfOk result (λ finishes. AreFinishes table.entry.drafts.now table.entry.classes.now table.entry.drafts.now finishes.items) }
+{
+    let mut finishes = Vec::new(alloc);
+    for draft in table.drafts {
+        let finish = finish_of(alloc, table, slots, draft)?;
+        finishes.push(finish)?;
+    }
+    Ok(finishes)
+}
+
+// A word whose phrase is a method's.
+fn as_method(word: WordDef, class: u32, generic: u32, effect: Effect) -> WordDef
+    ensures { result ≡ as_method (Some class) generic effect word.sort word }
+{
+    let WordDef { name, sort, effect: own, inline, recursive, place } = word;
+    match sort {
+        Sort::Body(body) => WordDef { name, sort: Sort::Method { class, generic, body }, effect, inline, recursive, place },
+        other => WordDef { name, sort: other, effect: own, inline, recursive, place },
+    }
+}
+
+// A word as it is at the end.
+fn finished(word: WordDef, finish: Finish) -> WordDef
+    ensures { result ≡ with_finish finish word }
+{
+    let mut word = word;
+    match finish {
+        Finish::Nothing => word,
+        Finish::Effect(effect) => {
+            word.effect = effect;
+            word
+        }
+        Finish::Method {
+            class,
+            generic,
+            effect,
+        } => as_method(word, class, generic, effect),
+    }
+}
+
+// The words as they are at the end.
+fn words_with(
+    alloc: Global,
+    drafts: Vec<Draft>,
+    finishes: Vec<Finish>,
+) -> Result<List<WordDef>, Memory>
+    requires { length drafts.items ≡ length finishes.items }
+    ensures { IfOk result (λ words. words ≡ finished_with drafts.items finishes.items) }
+{
+    let mut words = List::new(alloc);
+    let mut rest = finishes.into_iter();
+    for draft in drafts {
+        match rest.next() {
+            Some(finish) => words.push(finished(draft.word, finish))?,
+            None => unreachable!(),
+        }
+    }
+    Ok(words)
+}
+
+/// The words as they are at the end.
+pub fn finished_words(
+    alloc: Global,
+    drafts: Vec<Draft>,
+    classes: &List<ClassDef>,
+) -> Result<List<WordDef>, Memory>
+    ensures { IfOk result (λ words. words ≡ map (finished drafts.items classes.now) drafts.items) }
+{
+    let slots = all_slots(alloc, classes)?;
+    let table = Table {
+        drafts: drafts.as_slice(),
+        classes: classes.as_slice(),
+    };
+    let finishes = finishes_of(alloc, table, slots.as_slice())?;
+    words_with(alloc, drafts, finishes)
+}

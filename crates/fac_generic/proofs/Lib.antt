@@ -1,0 +1,5 @@
+pub mod OrderedMethods
+pub mod MethodLawLemmas
+pub mod RowLemmas
+pub mod WholeMethods
+mod ExamplesOfMethods

@@ -1,0 +1,9 @@
+pub mod SearchLemmas
+pub mod KnownRowLemmas
+pub mod RawNodes
+pub mod SpellLemmas
+pub mod CaseLemmas
+pub mod PairLemmas
+pub mod ReadLemmas
+pub mod TakenLemmas
+pub mod ArrayNumbers

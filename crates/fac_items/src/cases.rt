@@ -1,0 +1,78 @@
+//! Whether the elements of an array are those that `cond` reads: pairs of quotations, and perhaps a last quotation.
+ghost use Rattle.std.specs.Prelude.{◌≡◌};
+ghost use Rattle.fac_items.specs.inner.CaseLists.{are_cases, array_child, with_child};
+
+/// What the elements of an array are, as far as they were read.
+#[derive(Clone, Copy, Debug, PartialEq, Eq)]
+pub enum Cases {
+    Nothing,
+    OneQuotation,
+    TwoQuotations,
+    /// Pairs of quotations, each in an array.
+    Pairs,
+    /// Pairs, and a quotation behind them.
+    PairsAndLast,
+    Other,
+}
+
+/// An element of an array.
+#[derive(Clone, Copy, Debug, PartialEq, Eq)]
+pub enum Child {
+    Quotation,
+    /// An array of two quotations.
+    Pair,
+    Other,
+}
+
+/// With one element more.
+pub fn with_child(cases: Cases, child: Child) -> Cases
+    ensures { result ≡ with_child cases child }
+{
+    match child {
+        Child::Quotation => match cases {
+            Cases::Nothing => Cases::OneQuotation,
+            Cases::OneQuotation => Cases::TwoQuotations,
+            Cases::Pairs => Cases::PairsAndLast,
+            Cases::TwoQuotations => Cases::Other,
+            Cases::PairsAndLast => Cases::Other,
+            Cases::Other => Cases::Other,
+        },
+        Child::Pair => match cases {
+            Cases::Nothing => Cases::Pairs,
+            Cases::Pairs => Cases::Pairs,
+            Cases::OneQuotation => Cases::Other,
+            Cases::TwoQuotations => Cases::Other,
+            Cases::PairsAndLast => Cases::Other,
+            Cases::Other => Cases::Other,
+        },
+        Child::Other => Cases::Other,
+    }
+}
+
+/// Whether an array of these elements is one that `cond` reads.
+pub fn are_cases(cases: Cases) -> bool
+    ensures { result ≡ are_cases cases }
+{
+    match cases {
+        Cases::Nothing => true,
+        Cases::OneQuotation => true,
+        Cases::Pairs => true,
+        Cases::PairsAndLast => true,
+        Cases::TwoQuotations => false,
+        Cases::Other => false,
+    }
+}
+
+/// What an array of these elements is as an element.
+pub fn array_child(cases: Cases) -> Child
+    ensures { result ≡ array_child cases }
+{
+    match cases {
+        Cases::TwoQuotations => Child::Pair,
+        Cases::Nothing => Child::Other,
+        Cases::OneQuotation => Child::Other,
+        Cases::Pairs => Child::Other,
+        Cases::PairsAndLast => Child::Other,
+        Cases::Other => Child::Other,
+    }
+}

@@ -1,0 +1,195 @@
+-- What there is before the first file is of the forms built.
+use Rattle.std.proofs.Common.{◌≡◌, ◌+◌, ◌≤◌, ℕ, suc, List, [], ◌∷◌, ◌++◌, map, length, Option, Some, None, Bool, true, false, refl, ap, sym, ◌∙◌, subst, arith, length-append, append_assoc}
+use Rattle.std.specs.Prelude.{◌&&◌, is_some, nat_lt, not, slice_get}
+use Rattle.std.specs.List.{list_all}
+use Rattle.std.specs.Option.{option_map}
+use Rattle.std.proofs.lemmas.Bool.Decides.{Decides-ltb}
+use Rattle.std.proofs.lemmas.List.{length_push, length-map}
+use Rattle.fac_lang.specs.BuiltInClasses.{BuiltInClass, built_in_classes}
+use Rattle.fac_lang.specs.CoreWords.{CoreWord, core_word, built_core_words, is_built_core}
+use Rattle.fac_lang.specs.Forms.{AreBuiltWords, has_no_repeats, primitive_numbers}
+use Rattle.fac_lang.specs.PrimitiveWords.{PrimitiveWord}
+use Rattle.fac_lang.specs.Primitives.{Primitive, built_primitives, later_primitives, built_primitive_words, prim_numbered, primitive_word, built_count, is_built_primitive}
+use Rattle.fac_lang.specs.Whole.{times_in}
+use Rattle.fac_lang.specs.declared.program.WordDef.{WordDef}
+use Rattle.fac_refusal.specs.Toks.{number}
+use Rattle.fac_vocab.specs.declared.entry.Entry.{Entry}
+use Rattle.fac_vocab.specs.Scopes.{entries_from, word_held}
+use Rattle.fac_endings.specs.declared.draft.Draft.{Draft}
+use Rattle.fac_endings.proofs.Apart.{true_both}
+use Rattle.fac_names.specs.KnownWords.{class_word, class_words_from, classes_from, core_words_of, known_classes, known_words, predicates_if, primitives_from}
+use Rattle.fac_names.specs.Resolution.{first_reading, settled_draft}
+use Rattle.fac_names.proofs.ArrayReadings.{known_ascending, known_spared, named_in}
+use Rattle.fac_names.proofs.BuiltForms.{BuiltUp, up}
+use Rattle.fac_names.proofs.BuiltReadings.{Built, DraftsBuilt, draft_ok, words_in}
+use Rattle.fac_names.proofs.BuiltScopes.{EntriesBelow}
+use Rattle.fac_names.proofs.HeldNames.{AccessorsHeld, AreNamed, ClassHeld, OldHeld, WordHeld, accessor_text, name_at, no_accessor}
+
+-- Words.
+
+built_with : (bound : ℕ) (ds es : List WordDef) → AreBuiltWords bound ds → AreBuiltWords bound es → AreBuiltWords bound (ds ++ es)
+built_with bound [] es h k = k
+built_with bound (d ∷ ds) es h k = (h.0, built_with bound ds es h.1 k)
+
+-- the element behind these
+next_at : (ps rest : List Primitive) (p : Primitive) → slice_get (ps ++ p ∷ rest) (length ps) ≡ Some p
+next_at [] rest p = refl
+next_at (q ∷ ps) rest p = next_at ps rest p
+
+primitive_at : (ps rest : List Primitive) (p : Primitive) → ps ++ p ∷ rest ≡ built_primitives → primitive_word (length ps) ≡ Some p.word
+unfolding prim_numbered
+primitive_at ps rest p e =
+    ap (λ (all : List Primitive). option_map (λ (q : Primitive). q.word) (slice_get (all ++ later_primitives) (length ps))) (sym e)
+    ∙ ap (λ (all : List Primitive). option_map (λ (q : Primitive). q.word) (slice_get all (length ps))) (append_assoc ps (p ∷ rest) later_primitives)
+    ∙ ap (option_map (λ (q : Primitive). q.word)) (next_at ps (rest ++ later_primitives) p)
+
+is_numbered : (ps rest : List Primitive) (p : Primitive) → ps ++ p ∷ rest ≡ built_primitives → is_built_primitive (length ps) ≡ true
+unfolding built_count
+is_numbered ps rest p e =
+    let count = sym (length-append ps (p ∷ rest)) ∙ ap length e in
+    (Decides-ltb (length ps) (length built_primitives)).1 (omega (arith, count))
+
+primitives_built : (bound n : ℕ) (ps rest : List Primitive) → n ≡ length ps → ps ++ rest ≡ built_primitives → AreBuiltWords bound (primitives_from n (map (λ (p : Primitive). p.word) rest))
+primitives_built bound n ps [] same e = tt
+primitives_built bound n ps (p ∷ rest) same e = (
+  record { row = p.word; row_is = ap primitive_word same ∙ primitive_at ps rest p e; is_built = ap is_built_primitive same ∙ is_numbered ps rest p e; effect_is = refl; not_inline = refl; not_recursive = refl },
+  primitives_built bound (n + 1) (ps ++ p ∷ []) rest (let more = length_push ps p in omega (arith, same, more)) (append_assoc ps (p ∷ []) rest ∙ e),
+)
+
+-- the core words that are built
+abbrev AreCoreRows : List CoreWord → Type 0
+AreCoreRows [] = Unit {0}
+AreCoreRows (row ∷ rows) = (core_word row.number ≡ Some row.word) × (is_built_core row.number ≡ true) × AreCoreRows rows
+
+cores_built : (bound : ℕ) (rows : List CoreWord) → AreCoreRows rows → AreBuiltWords bound (core_words_of rows)
+cores_built bound [] h = tt
+cores_built bound (row ∷ rows) h = (record { row = row.word; row_is = h.0; is_built = h.1; effect_is = refl; not_inline = refl; not_recursive = refl }, cores_built bound rows h.2)
+
+predicate_built : (bound k : ℕ) (row : BuiltInClass) (b : Bool) → AreBuiltWords bound (predicates_if b row k)
+predicate_built bound k row true = (record { effect_is = refl; not_inline = refl; not_recursive = refl }, tt)
+predicate_built bound k row false = tt
+
+classes_built : (bound k : ℕ) (rows : List BuiltInClass) → AreBuiltWords bound (class_words_from k rows)
+classes_built bound k [] = tt
+classes_built bound k (row ∷ rows) =
+    (record { effect_is = refl; not_inline = refl; not_recursive = refl }, built_with bound (predicates_if row.has_predicate row k) (class_words_from (k + 1) rows) (predicate_built bound k row row.has_predicate) (classes_built bound (k + 1) rows))
+
+known_built : (bound : ℕ) → AreBuiltWords bound known_words
+unfolding known_words built_primitive_words
+known_built bound =
+    built_with bound (primitives_from 0 built_primitive_words ++ core_words_of built_core_words) (class_words_from 0 built_in_classes)
+    (built_with bound (primitives_from 0 built_primitive_words) (core_words_of built_core_words) (primitives_built bound 0 [] built_primitives refl refl) (cores_built bound built_core_words (refl, refl, (refl, refl, (refl, refl, (refl, refl, (refl, refl, tt)))))))
+    (classes_built bound 0 built_in_classes)
+
+known_distinct : has_no_repeats (primitive_numbers known_words) ≡ true
+unfolding known_words built_primitive_words
+known_distinct = refl
+
+known_some : nat_lt 0 (length known_words) ≡ true
+unfolding known_words built_primitive_words
+known_some = refl
+
+-- the classes in them are the 12 that there are, and no effect has many names
+known_ok : list_all (draft_ok 12) (map settled_draft known_words) ≡ true
+unfolding known_words built_primitive_words
+known_ok = refl
+
+settled_built : (bound : ℕ) (ds : List WordDef) → AreBuiltWords bound ds → DraftsBuilt bound (map settled_draft ds)
+settled_built bound [] h = tt
+settled_built bound (d ∷ ds) h = (h.0, settled_built bound ds h.1)
+
+settled_words : (ds : List WordDef) → words_in (map settled_draft ds) ≡ ds
+settled_words [] = refl
+settled_words (d ∷ ds) = ap (λ (es : List WordDef). d ∷ es) (settled_words ds)
+
+-- words that are known name no array
+first_names : named_in (map settled_draft known_words) ≡ []
+unfolding known_words built_primitive_words
+first_names = refl
+
+-- Tables.
+
+entries_fit : (k n : ℕ) (ds : List WordDef) → k + length ds ≤ n → EntriesBelow n (entries_from k ds)
+entries_fit k n [] few = tt
+entries_fit k n (d ∷ ds) few = (omega (arith, few), entries_fit (k + 1) n ds (omega (arith, few)))
+
+name_behind : (before after : List WordDef) (d : WordDef) → name_at (map settled_draft (before ++ d ∷ after)) (length before) ≡ Some d.name
+name_behind [] after d = refl
+name_behind (x ∷ before) after d = name_behind before after d
+
+entries_named : (k : ℕ) (before after all : List WordDef) → k ≡ length before → before ++ after ≡ all → AreNamed (map settled_draft all) (entries_from k after)
+entries_named k before [] all same is = tt
+entries_named k before (d ∷ after) all same is = (
+  ap (name_at (map settled_draft all)) same ∙ ap (λ (ws : List WordDef). name_at (map settled_draft ws) (length before)) (sym is) ∙ name_behind before after d,
+  entries_named (k + 1) (before ++ d ∷ []) after all (let more = length_push before d in omega (arith, same, more)) (append_assoc before (d ∷ []) after ∙ is),
+)
+
+no_accessors : (table : List Entry) (k : ℕ) (ds : List Draft) → list_all (λ (d : Draft). not (is_some (accessor_text d.word.sort))) ds ≡ true → AccessorsHeld table k ds
+no_accessors table k [] h = tt
+no_accessors table k (d ∷ ds) h =
+    let both = true_both (not (is_some (accessor_text d.word.sort))) (list_all (λ (e : Draft). not (is_some (accessor_text e.word.sort))) ds) h in
+    (no_accessor table k d.word.sort (is_none (accessor_text d.word.sort) both.0), no_accessors table (suc k) ds both.1)
+  where
+    is_none : (o : Option (List ℕ)) → not (is_some o) ≡ true → o ≡ None
+    is_none None e = refl
+    is_none (Some x) e = absurd (cc)
+
+known_plain : list_all (λ (d : Draft). not (is_some (accessor_text d.word.sort))) (map settled_draft known_words) ≡ true
+unfolding known_words built_primitive_words
+known_plain = refl
+
+-- The word of a built-in class is held under its name.
+
+kind_held : (k : ℕ) (row : BuiltInClass) (w : ℕ) → slice_get (map settled_draft known_words) w ≡ Some (settled_draft (class_word row k)) → word_held (entries_from 0 known_words) row.vocab row.name ≡ Some w →
+    ClassHeld (map settled_draft known_words) (entries_from 0 known_words) (record { vocab = row.vocab; name = row.name }) k
+kind_held k row w at held = record { word = w; is_held = record { draft = settled_draft (class_word row k); at = at; sort_is = refl; late_is = refl; held = held }; name_is = ap (option_map (λ (d : Draft). d.word.name)) at }
+
+-- each of these is, where the first one has number k
+abbrev AreKindsHeld : ℕ → List BuiltInClass → Type 0
+AreKindsHeld k [] = Unit {0}
+AreKindsHeld k (row ∷ rows) =
+    (let w = number (word_held (entries_from 0 known_words) row.vocab row.name) in (slice_get (map settled_draft known_words) w ≡ Some (settled_draft (class_word row k))) × (word_held (entries_from 0 known_words) row.vocab row.name ≡ Some w)) × AreKindsHeld (k + 1) rows
+
+kinds_held : (k : ℕ) (rows : List BuiltInClass) → AreKindsHeld k rows → OldHeld (map settled_draft known_words) (entries_from 0 known_words) k (classes_from k rows)
+kinds_held k [] h = tt
+kinds_held k (row ∷ rows) h =
+    (kind_held k row (number (word_held (entries_from 0 known_words) row.vocab row.name)) h.0.0 h.0.1, subst (λ (n : ℕ). OldHeld (map settled_draft known_words) (entries_from 0 known_words) n (classes_from (k + 1) rows)) (let e : k + 1 ≡ suc k = omega arith in e) (kinds_held (k + 1) rows h.1))
+
+known_held : OldHeld (map settled_draft known_words) (entries_from 0 known_words) 0 known_classes
+unfolding known_words built_primitive_words known_classes
+known_held =
+    kinds_held 0 built_in_classes
+    ((refl, refl), ((refl, refl), ((refl, refl), ((refl, refl), ((refl, refl), ((refl, refl), ((refl, refl), ((refl, refl), ((refl, refl), ((refl, refl), ((refl, refl), ((refl, refl), tt))))))))))))
+
+known_count : length known_classes ≡ 12
+unfolding known_classes
+known_count = refl
+
+pub first_built : BuiltUp first_reading
+first_built =
+    let count = length-map known_words settled_draft in
+    let some = (Decides-ltb 0 (length known_words)).0 known_some in
+    let twelve = known_count in
+    up 12 first_reading (record {
+      some = omega (arith, count, some);
+      scope = record { table = entries_fit 0 (length (map settled_draft known_words)) known_words (omega (arith, count)); brought = tt };
+      words = λ bound few. settled_built bound known_words (known_built bound);
+      ok = known_ok;
+      top = λ bound few. tt;
+      main = λ bound few. tt;
+      distinct = ap (λ (ds : List WordDef). has_no_repeats (primitive_numbers ds)) (settled_words known_words) ∙ known_distinct;
+      old = refl;
+      own = refl;
+      count = omega (arith, twelve);
+      named = entries_named 0 [] known_words known_words refl refl;
+      accessors = no_accessors (entries_from 0 known_words) 0 (map settled_draft known_words) known_plain;
+      held = λ none. (known_held, tt);
+      arrays = λ bound few. tt;
+      counted = record {
+        ascending = known_ascending 0 known_words;
+        spared = known_spared 0 (map settled_draft known_words) known_words;
+        once = λ a. ap (λ (xs : List ℕ). times_in a xs + 0 + 0) first_names;
+        earlier = refl;
+        main_none = refl;
+      };
+    })

@@ -1,0 +1,193 @@
+-- The forms of trees are of the forms built.
+use Rattle.std.proofs.Common.{◌≡◌, ◌≤◌, ◌+◌, ℕ, suc, List, [], ◌∷◌, map, length, Bool, true, false, cond, refl, ap, sym, ◌∙◌, subst, arith}
+use Rattle.std.specs.Prelude.{nat_le}
+use Rattle.std.specs.Str.{bytes_eq}
+use Rattle.std.proofs.lemmas.List.{length-map}
+use Rattle.fac_lang.specs.Signatures.{Signature, Inputs, value, quoted, Leaving, never, leaves}
+use Rattle.fac_lang.specs.Whole.{name_count, inputs_name_count, leaving_count, row_count}
+use Rattle.fac_lang.specs.declared.token.Token.{Token}
+use Rattle.fac_lang.specs.declared.tree.Element.{Element}
+use Rattle.fac_lang.specs.declared.tree.Form.{Form as Flat}
+use Rattle.fac_lang.specs.declared.tree.Form.TheVariants.{Row, Items}
+use Rattle.fac_lang.specs.declared.tree.FormKind.{FormKind}
+use Rattle.fac_lang.specs.declared.tree.FormKind.TheVariants as kind
+use Rattle.fac_lang.specs.declared.tree.Part.{Part}
+use Rattle.fac_lang.specs.declared.tree.Part.TheVariants as part
+use Rattle.fac_parse.specs.declared.rows.Slot.TheVariants as slot
+use Rattle.fac_parse.specs.Rows.{slots_of}
+use Rattle.fac_effect.specs.WrittenEffects.{Written, written, Entries, no_entries, plain, described, detailed, written_names, entries_names, is_row, plain_name, colon_name, row_if, row_in, values_in, output_names, leaving_in, said, side_inputs, inputs_of, IsEffect}
+use Rattle.fac_parse.specs.Trees.{Fills, FillAll, IsForm, IsLiteral}
+use Rattle.fac_items.specs.FromElements.{nested, tok}
+use Rattle.fac_items.specs.Written.{Tok}
+use Rattle.fac_items.specs.Readings.{read_form}
+use Rattle.fac_items.proofs.RawNodes.{nested_raw}
+use Rattle.fac_items.proofs.ReadLemmas.{reads_plain}
+use Rattle.fac_names.specs.FromFlat.{effect_in, elements_in, form_of, row, slots_in}
+use Rattle.fac_names.proofs.BracketLemmas.{literal_sole}
+use Rattle.fac_names.proofs.BuiltForms.{AreReadPlain, IsPlainForm}
+
+-- Effects.
+
+at_most : (a b : ℕ) → a ≤ b → nat_le a b ≡ true
+at_most a b few = grind arith
+
+-- a side whose first entry is a row variable, or isn't
+side_counted : (b : Bool) (name : List ℕ) (rest all : Inputs) (k : ℕ) → inputs_name_count rest ≤ k → inputs_name_count all ≤ suc k → row_count (row_if b name) + inputs_name_count (cond b rest all) ≤ suc k
+side_counted true name rest all k h j = omega (arith, h)
+side_counted false name rest all k h j = omega (arith, j)
+
+outputs_counted : (es : Entries) → length (output_names es) ≤ entries_names es
+outputs_counted no_entries = omega arith
+outputs_counted (plain name es) = let rest = outputs_counted es in omega (arith, rest)
+outputs_counted (described name class es) = let rest = outputs_counted es in omega (arith, rest)
+outputs_counted (detailed name w es) = let rest = outputs_counted es in omega (arith, rest)
+
+left_counted : (b : Bool) (name : List ℕ) (rest all : Entries) (k : ℕ) → length (output_names rest) ≤ k → length (output_names all) ≤ suc k → row_count (row_if b name) + length (output_names (cond b rest all)) ≤ suc k
+left_counted true name rest all k h j = omega (arith, h)
+left_counted false name rest all k h j = omega (arith, j)
+
+never_counted : (b : Bool) (l : Leaving) (k : ℕ) → leaving_count l ≤ suc k → leaving_count (cond b never l) ≤ suc k
+never_counted true l k h = omega arith
+never_counted false l k h = h
+
+values_counted : (es : Entries) → row_count (row_in es) + length (output_names (values_in es)) ≤ entries_names es
+values_counted no_entries = omega arith
+values_counted (plain name es) = let rest = outputs_counted es in left_counted (is_row name) (plain_name name) es (plain name es) (entries_names es) rest (omega (arith, rest))
+values_counted (described name class es) = let rest = outputs_counted es in left_counted (is_row name) (colon_name name) es (described name class es) (suc (entries_names es)) (omega (arith, rest)) (omega (arith, rest))
+values_counted (detailed name w es) = let rest = outputs_counted es in left_counted (is_row name) (colon_name name) es (detailed name w es) (written_names w + entries_names es) (omega (arith, rest)) (omega (arith, rest))
+
+leaving_counted : (es : Entries) → leaving_count (leaving_in es) ≤ entries_names es
+leaving_counted no_entries = omega arith
+leaving_counted (plain name no_entries) = never_counted (bytes_eq (plain_name name) _) (leaves (row_in (plain name no_entries)) (output_names (values_in (plain name no_entries)))) 0 (values_counted (plain name no_entries))
+leaving_counted (plain name (plain next es)) = values_counted (plain name (plain next es))
+leaving_counted (plain name (described next class es)) = values_counted (plain name (described next class es))
+leaving_counted (plain name (detailed next w es)) = values_counted (plain name (detailed next w es))
+leaving_counted (described name class es) = values_counted (described name class es)
+leaving_counted (detailed name w es) = values_counted (detailed name w es)
+
+-- what is said has no more names than are written
+mutual
+  said_counted : (w : Written) → name_count (said w) ≤ written_names w
+  said_counted (written opens ins dashes outs closes) = let left = side_inputs_counted ins in let right = leaving_counted outs in omega (arith, left, right)
+
+  side_inputs_counted : (es : Entries) → row_count (row_in es) + inputs_name_count (side_inputs es) ≤ entries_names es
+  side_inputs_counted no_entries = omega arith
+  side_inputs_counted (plain name es) =
+      let rest = inputs_counted es in side_counted (is_row name) (plain_name name) (inputs_of es) (value (plain_name name) (inputs_of es)) (entries_names es) rest (omega (arith, rest))
+  side_inputs_counted (described name class es) =
+      let rest = inputs_counted es in side_counted (is_row name) (colon_name name) (inputs_of es) (value (colon_name name) (inputs_of es)) (suc (entries_names es)) (omega (arith, rest)) (omega (arith, rest))
+  side_inputs_counted (detailed name w es) =
+      let inner = said_counted w in
+      let rest = inputs_counted es in
+      side_counted (is_row name) (colon_name name) (inputs_of es) (quoted (colon_name name) (said w) (inputs_of es)) (written_names w + entries_names es) (omega (arith, rest)) (omega (arith, inner, rest))
+
+  inputs_counted : (es : Entries) → inputs_name_count (inputs_of es) ≤ entries_names es
+  inputs_counted no_entries = omega arith
+  inputs_counted (plain name es) = let rest = inputs_counted es in omega (arith, rest)
+  inputs_counted (described name class es) = let rest = inputs_counted es in omega (arith, rest)
+  inputs_counted (detailed name w es) = let inner = said_counted w in let rest = inputs_counted es in omega (arith, inner, rest)
+
+few_names : (tokens : List Token) (e : Signature) → IsEffect tokens e → nat_le (name_count e) 65 ≡ true
+few_names tokens e h =
+    let counted = said_counted h.tree in
+    let few = h.few in
+    ap (λ (s : Signature). nat_le (name_count s) 65) (sym h.says) ∙ at_most (name_count (said h.tree)) 65 (omega (arith, counted, few))
+
+-- The parts of rows.
+
+record BehindName (p : Part) (ps : List Part) : Type 0 where
+  effect : effect_in (p ∷ ps) ≡ effect_in ps
+  elements : elements_in (p ∷ ps) ≡ elements_in ps
+  slots : slots_in (p ∷ ps) ≡ slots_in ps
+
+behind_name : (p : Part) (ps : List Part) → Fills slot.Name p → BehindName p ps
+behind_name (part.Name v) ps h = record { effect = refl; elements = refl; slots = refl }
+behind_name (part.Names vs ends) ps h = absurd h
+behind_name (part.Slots parent vs ends) ps h = absurd h
+behind_name (part.Fixed key place) ps h = absurd h
+behind_name (part.Effect e) ps h = absurd h
+behind_name (part.Items es ends) ps h = absurd h
+behind_name (part.Literal es) ps h = absurd h
+behind_name (part.Marks ms) ps h = absurd h
+
+is_few : (p : Part) (ps : List Part) → Fills slot.Effect p → nat_le (name_count (effect_in (p ∷ ps))) 65 ≡ true
+is_few (part.Name v) ps h = absurd h
+is_few (part.Names vs ends) ps h = absurd h
+is_few (part.Slots parent vs ends) ps h = absurd h
+is_few (part.Fixed key place) ps h = absurd h
+is_few (part.Effect e) ps h = few_names e.tokens e.effect h
+is_few (part.Items es ends) ps h = absurd h
+is_few (part.Literal es) ps h = absurd h
+is_few (part.Marks ms) ps h = absurd h
+
+is_literal : (p : Part) (ps : List Part) → Fills slot.Literal p → IsLiteral (elements_in (p ∷ ps))
+is_literal (part.Name v) ps h = absurd h
+is_literal (part.Names vs ends) ps h = absurd h
+is_literal (part.Slots parent vs ends) ps h = absurd h
+is_literal (part.Fixed key place) ps h = absurd h
+is_literal (part.Effect e) ps h = absurd h
+is_literal (part.Items es ends) ps h = absurd h
+is_literal (part.Literal es) ps h = h
+is_literal (part.Marks ms) ps h = absurd h
+
+slots_few : (p : Part) (ps : List Part) → Fills slot.Slots p → nat_le (length (slots_in (p ∷ ps))) 64 ≡ true
+slots_few (part.Name v) ps h = absurd h
+slots_few (part.Names vs ends) ps h = absurd h
+slots_few (part.Slots parent vs ends) ps h = (let count = length-map vs tok in let few = h.2 in at_most (length (map tok vs)) 64 (omega (arith, count, few)))
+slots_few (part.Fixed key place) ps h = absurd h
+slots_few (part.Effect e) ps h = absurd h
+slots_few (part.Items es ends) ps h = absurd h
+slots_few (part.Literal es) ps h = absurd h
+slots_few (part.Marks ms) ps h = absurd h
+
+-- Rows.
+
+nested_plain : (es : List Element) → AreReadPlain (nested es)
+nested_plain es c = reads_plain c (nested es) (nested_raw es)
+
+definition_plain : (ps : List Part) → FillAll (slots_of kind.Define) ps → IsPlainForm (row kind.Define ps)
+definition_plain [] h = absurd h
+definition_plain (n ∷ []) h = absurd h.1
+definition_plain (n ∷ e ∷ ps) h = (nested_plain (elements_in (n ∷ e ∷ ps)), ap (λ (s : Signature). nat_le (name_count s) 65) (behind_name n (e ∷ ps) h.0).effect ∙ is_few e ps h.1.0)
+
+generic_plain : (ps : List Part) → FillAll (slots_of kind.Generic) ps → IsPlainForm (row kind.Generic ps)
+generic_plain [] h = absurd h
+generic_plain (n ∷ []) h = absurd h.1
+generic_plain (n ∷ e ∷ ps) h = ap (λ (s : Signature). nat_le (name_count s) 65) (behind_name n (e ∷ ps) h.0).effect ∙ is_few e ps h.1.0
+
+tuple_plain : (ps : List Part) → FillAll (slots_of kind.Tuple) ps → IsPlainForm (row kind.Tuple ps)
+tuple_plain [] h = absurd h
+tuple_plain (n ∷ []) h = absurd h.1
+tuple_plain (n ∷ s ∷ ps) h = ap (λ (ts : List Tok). nat_le (length ts) 64) (behind_name n (s ∷ ps) h.0).slots ∙ slots_few s ps h.1.0
+
+constant_plain : (ps : List Part) → FillAll (slots_of kind.Constant) ps → IsPlainForm (read_form (row kind.Constant ps))
+constant_plain [] h = absurd h
+constant_plain (n ∷ []) h = absurd h.1
+constant_plain (n ∷ l ∷ ps) h =
+    let es = elements_in (n ∷ l ∷ ps) in
+    let literal = subst IsLiteral (sym (behind_name n (l ∷ ps) h.0).elements) (is_literal l ps h.1.0) in
+    (subst AreReadPlain (literal_sole es literal) (nested_plain es), refl)
+
+row_plain : (k : FormKind) (ps : List Part) → FillAll (slots_of k) ps → IsPlainForm (read_form (row k ps))
+row_plain kind.In ps h = tt
+row_plain kind.Use ps h = tt
+row_plain kind.Using ps h = tt
+row_plain kind.From ps h = tt
+row_plain kind.QualifiedWith ps h = tt
+row_plain kind.Defer ps h = tt
+row_plain kind.Symbol ps h = tt
+row_plain kind.Constant ps h = constant_plain ps h
+row_plain kind.Private ps h = tt
+row_plain kind.Public ps h = tt
+row_plain kind.Main ps h = tt
+row_plain kind.Define ps h = definition_plain ps h
+row_plain kind.Tuple ps h = tuple_plain ps h
+row_plain kind.Union ps h = tt
+row_plain kind.Singleton ps h = tt
+row_plain kind.Generic ps h = generic_plain ps h
+row_plain kind.Method ps h = nested_plain (elements_in ps)
+row_plain kind.Maker ps h = (λ c. (tt, (tt, tt)), (refl, refl))
+
+pub form_plain : (f : Flat) → IsForm f → IsPlainForm (read_form (form_of f))
+form_plain (Row k opens ps) h = row_plain k ps h
+form_plain (Items es) h = nested_plain es

@@ -1,6 +1,0 @@
-use Rattle.std.proofs.Common.{◌≡◌, take, map}
-use Rattle.fac_names.specs.inner.PlainEffects.{plain_input}
-use Rattle.fac_names.proofs.known_words.inputs.Given as goal
-
-abbrev pub invariant-loop-name : goal.invariant-loop-name
-invariant-loop-name l = l.inputs.items ≡ map plain_input (map (λ name. name.now) (take l.name-index l.names))
