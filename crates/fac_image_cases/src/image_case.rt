@@ -72,6 +72,22 @@ fn run_told(
     told(alloc, stop, machine, out.taken())
 }
 
+// Lets a machine run, once or twice, and tells how each run ended.
+fn runs_told(
+    alloc: Global,
+    machine: &mut Machine,
+    fails: &[(u64, u64)],
+    budget: u64,
+    again: bool,
+) -> Result<Text, Memory> {
+    let mut out = sink(alloc, fails)?;
+    let mut ends = run_told(alloc, machine, &mut out, budget)?;
+    if again {
+        ends.push_str(run_told(alloc, machine, &mut out, budget)?.as_str())?;
+    }
+    Ok(ends)
+}
+
 // Runs an image, once or twice, and tells how each run ended.
 fn run(
     alloc: Global,
@@ -81,12 +97,7 @@ fn run(
     again: bool,
 ) -> Result<Text, Memory> {
     let mut machine = Machine::new(alloc, image)?;
-    let mut out = sink(alloc, fails)?;
-    let mut ends = run_told(alloc, &mut machine, &mut out, budget)?;
-    if again {
-        ends.push_str(run_told(alloc, &mut machine, &mut out, budget)?.as_str())?;
-    }
-    Ok(ends)
+    runs_told(alloc, &mut machine, fails, budget, again)
 }
 
 impl Case {
