@@ -1,5 +1,5 @@
 -- Each form keeps what is read of the forms built.
-use Rattle.std.proofs.Common.{◌≡◌, ◌+◌, ℕ, zero, suc, List, [], ◌∷◌, ◌++◌, length, fold, Option, Some, None, Bool, true, false, refl, ap, sym, ◌∙◌, subst, arith}
+use Rattle.std.proofs.Common.{◌≡◌, ◌+◌, ℕ, zero, suc, List, [], ◌∷◌, ◌++◌, map, length, fold, Option, Some, None, Bool, true, false, refl, ap, sym, ◌∙◌, subst, arith}
 use Rattle.std.specs.Prelude.{if◌then◌else◌, ◌&&◌, nat_le, nat_lt, codes, slice_get}
 use Rattle.std.specs.List.{find, list_any}
 use Rattle.std.specs.Option.{option_map}
@@ -295,7 +295,7 @@ main_built k c n r b = with_main k c r _ (fold sooner r.first (search_fault r.sc
 -- Classes.
 
 -- the number of classes
-abbrev classes_in : Reading → ℕ
+abbrev pub classes_in : Reading → ℕ
 classes_in r = length r.old_classes + length r.classes
 
 -- all classes are counted
@@ -441,8 +441,8 @@ take_built (f_tuple n parent slots) r p b =
     let q = class_form n (option_list parent) (λ s. a_tuple (option_map (ref s) parent) slots) r in
     let mid = class_form_built n (option_list parent) (λ s. a_tuple (option_map (ref s) parent) slots) r (λ s. p) b in
     up (classes_in q) _ (fold_built (classes_in q) (classes_in q) with_slot (slot_built (classes_in q) (classes_in q)) slots q mid)
-take_built (f_union n members) r p b = class_form_built n members _ r (λ s. refl) b
-take_built (f_single n) r p b = class_form_built n [] _ r (λ s. refl) b
+take_built (f_union n members) r p b = class_form_built n members (λ s. a_union (map (ref s) members)) r (λ s. refl) b
+take_built (f_single n) r p b = class_form_built n [] (λ s. a_single) r (λ s. refl) b
 take_built (f_generic n e) r p b = up (classes_in r) _ (generic_built (classes_in r) (classes_in r) n e r p b)
 take_built (f_method x g ns) r p b = up (classes_in r) _ (method_built (classes_in r) (classes_in r) x g ns r p b)
 take_built (f_items ns) r p b = up (classes_in r) _ (items_built (classes_in r) (classes_in r) ns r p b)

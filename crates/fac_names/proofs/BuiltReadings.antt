@@ -1,6 +1,6 @@
 -- What forms come to is of the forms built.
 use Rattle.std.proofs.Common.{◌≡◌, ◌<◌, ◌≤◌, ◌+◌, ℕ, zero, suc, List, [], ◌∷◌, ◌++◌, map, length, fold, Option, Some, None, Bool, true, false, refl, ap, sym, ◌∙◌, subst, arith}
-use Rattle.std.specs.Prelude.{◌&&◌, ◌||◌, not, nat_eq, nat_le, nat_lt, slice_get}
+use Rattle.std.specs.Prelude.{◌&&◌, ◌||◌, not, nat_eq, nat_le, nat_lt, slice_get, codes}
 use Rattle.std.specs.List.{list_all}
 use Rattle.std.proofs.lemmas.Bool.Decides.{Decides-ltb}
 use Rattle.std.proofs.lemmas.List.{length_push}
@@ -440,7 +440,7 @@ told_built k c n s e inline recursive late arrays first t before is_built adds b
       own = b.own;
       count = b.count;
       named = named_kept r.words (changed f w r.words) r.scope.table keeps.names b.named;
-      accessors = accessors_told r.scope.table 0 w s f r.words (λ d. refl) (λ name is. subst (λ (m : ℕ). word_held r.scope.table _ name ≡ Some m) (let e : w ≡ w + 0 = omega arith in e) (t.accessor name is)) b.accessors;
+      accessors = accessors_told r.scope.table 0 w s f r.words (λ d. refl) (λ name is. subst (λ (m : ℕ). word_held r.scope.table (codes "accessors") name ≡ Some m) (let e : w ≡ w + 0 = omega arith in e) (t.accessor name is)) b.accessors;
       held = λ none. held_through r (told s e inline recursive late (record { word = n.word; reading = record n.reading { arrays = arrays; first = first } })) keeps (b.held (before none));
       arrays = λ bound few. is_built bound (omega (arith, same, few));
       counted = told_counted n s e inline recursive late arrays first adds begins;
