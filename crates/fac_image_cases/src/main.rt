@@ -8,7 +8,9 @@
 
 mod image_case;
 mod instructions;
+mod told_rows;
 mod told_runs;
+mod told_tables;
 
 use image_case::Case;
 use std::io;

@@ -180,3 +180,98 @@ fn nested_quotations_are_compiled(rt: HostRuntime) -> Result<(), Fail> {
     assert!(rt; templates_begin(&image, &[0, 4, 6, 8, 10]));
     Ok(())
 }
+
+// The number of the word with this name.
+fn word_named(image: &Image, name: &str) -> Option<u32> {
+    for (number, row) in image.words.as_slice().iter().enumerate() {
+        match image.texts.get(row.name as usize) {
+            Some(text) => {
+                if text.as_str() == name {
+                    return u32::try_from(number).ok();
+                }
+            }
+            None => {}
+        }
+    }
+    None
+}
+
+// Whether a class set has just these kinds.
+fn has_just(image: &Image, set: u32, kinds: &[u32]) -> bool {
+    match image.sets.get(set as usize) {
+        Some(found) => found.as_slice() == kinds,
+        None => false,
+    }
+}
+
+// Whether the one kind is that of `p`, whose slot has the first text behind the names of the words.
+fn kind_is_told(image: &Image, p: u32) -> bool {
+    let slot = image.words.len();
+    match image.kinds.as_slice() {
+        [row] => match (&row.slots, image.words.get(p as usize)) {
+            (Some(slots), Some(word)) => {
+                slots.as_slice() == [slot].as_slice()
+                    && word.kind == Some(8)
+                    && word.action == Action::Itself
+            }
+            _ => false,
+        },
+        _ => false,
+    }
+}
+
+// Whether the one generic is `g`, and asks the method on `p` before the one on all values.
+fn generic_is_told(image: &Image, g: u32) -> bool {
+    match image.generics.as_slice() {
+        [row] => match row.methods.as_slice() {
+            [first, second] => {
+                row.word == g
+                    && (first.entry, second.entry) == (3, 0)
+                    && has_just(image, first.set, &[8])
+                    && has_just(image, second.set, &[0, 1, 2, 3, 4, 5, 6, 7, 8])
+            }
+            _ => false,
+        },
+        _ => false,
+    }
+}
+
+// Whether the code of the methods and then that of the run is as it should be. `drop`, `dup` and `swap` are the first primitives.
+fn methods_are_coded(image: &Image, p: u32) -> bool {
+    let code = [
+        Instr::Prim(0),
+        Instr::Int(3),
+        Instr::Ret,
+        Instr::Next {
+            generic: 0,
+            method: 0,
+            tail: false,
+        },
+        Instr::Ret,
+        Instr::Int(7),
+        Instr::Word(p),
+        Instr::Boa,
+        Instr::Prim(1),
+        Instr::Generic {
+            generic: 0,
+            tail: false,
+        },
+        Instr::Prim(2),
+        Instr::Get(image.words.len()),
+        Instr::Halt,
+    ];
+    image.code.as_slice() == code.as_slice() && image.start == 5
+}
+
+// The methods' code stands where their words do, in the order of the text; the generic asks them from the narrowest class on.
+#[test]
+fn classes_are_compiled(rt: HostRuntime) -> Result<(), Fail> {
+    let text = "USING: accessors kernel ; TUPLE: p x ; GENERIC: g ( o -- n ) M: object g drop 3 ; M: p g call-next-method ; 7 p boa dup g swap x>>";
+    let image = image_of(rt.alloc(), text)?;
+    let p = word_named(&image, "p").unwrap_or(0);
+    let g = word_named(&image, "g").unwrap_or(0);
+    assert!(rt; kind_is_told(&image, p));
+    assert!(rt; generic_is_told(&image, g));
+    assert!(rt; methods_are_coded(&image, p));
+    Ok(())
+}

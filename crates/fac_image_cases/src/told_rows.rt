@@ -1,0 +1,252 @@
+//! The rows of an image's tables, as the lines of a case tell them.
+use crate::instructions::{action, class, elem, method};
+use fac_code::{Action, Elem, MethodRow, WordRow};
+use fac_lang::{List, Memory, Text};
+use std::alloc::Global;
+
+/// A kind, with the numbers of its name and of its slots' names.
+#[derive(Drop)]
+pub struct Kind {
+    /// The number of its name.
+    pub name: u32,
+    /// The numbers of its slots' names, where it is that of a tuple class.
+    pub slots: Option<Vec<u32>>,
+}
+
+/// A generic: its word and its methods.
+#[derive(Drop)]
+pub struct Generic {
+    /// The number of its word.
+    pub word: u32,
+    /// Its methods.
+    pub methods: Vec<MethodRow>,
+}
+
+/// The rows of all tables. The names of words, kinds and slots are numbered by themselves, and stand behind the texts in an image.
+#[derive(Drop)]
+pub struct Rows {
+    /// The elements of each literal array.
+    pub arrays: Vec<Vec<Elem>>,
+    /// The kinds from 8 on.
+    pub kinds: Vec<Kind>,
+    /// The kinds of each class set.
+    pub sets: Vec<Vec<u32>>,
+    /// The generics.
+    pub generics: Vec<Generic>,
+    /// The numbers of each template: its place, its holes, its cells.
+    pub templates: Vec<Vec<u32>>,
+    /// The words.
+    pub words: Vec<WordRow>,
+    /// The names of words, kinds and slots.
+    pub names: List<Text>,
+    /// The texts.
+    pub texts: List<Text>,
+}
+
+// The numbers of a text, with a space between two.
+fn numbers(alloc: Global, text: &str) -> Result<Option<Vec<u32>>, Memory> {
+    let mut numbers = Vec::new(alloc);
+    if text.is_empty() {
+        return Ok(Some(numbers));
+    }
+    for word in text.split(' ') {
+        let Ok(number) = word.parse::<u32>() else {
+            return Ok(None);
+        };
+        numbers.push(number)?;
+    }
+    Ok(Some(numbers))
+}
+
+// The elements of a literal array, with a comma between two.
+fn elems(alloc: Global, text: &str) -> Result<Option<Vec<Elem>>, Memory> {
+    let mut elems = Vec::new(alloc);
+    if text.is_empty() {
+        return Ok(Some(elems));
+    }
+    for told in text.split(", ") {
+        let Some(next) = elem(told) else {
+            return Ok(None);
+        };
+        elems.push(next)?;
+    }
+    Ok(Some(elems))
+}
+
+// A text in which a `|` stands for each end of a line.
+fn with_lines(alloc: Global, told: &str) -> Result<Text, Memory> {
+    let mut text = Text::new(alloc);
+    for (number, line) in told.split('|').enumerate() {
+        if number > 0 {
+            text.push_ascii(b'\n')?;
+        }
+        text.push_str(line)?;
+    }
+    Ok(text)
+}
+
+impl Rows {
+    /// Empty tables.
+    pub fn new(alloc: Global) -> Self {
+        Rows {
+            arrays: Vec::new(alloc),
+            kinds: Vec::new(alloc),
+            sets: Vec::new(alloc),
+            generics: Vec::new(alloc),
+            templates: Vec::new(alloc),
+            words: Vec::new(alloc),
+            names: List::new(alloc),
+            texts: List::new(alloc),
+        }
+    }
+
+    /// Takes what a line with this name says. False where it is none of the tables.
+    pub fn take(&mut self, alloc: Global, name: &str, text: &str) -> Result<bool, Memory> {
+        match name {
+            "array" => self.add_array(alloc, text),
+            "template" => self.add_template(alloc, text),
+            "word" => self.add_word(alloc, text),
+            "class" => self.add_class(alloc, text),
+            "singleton" => self.add_singleton(alloc, text),
+            "tuple" => self.add_tuple(alloc, text),
+            "kind" => self.add_kind(alloc, text),
+            "set" => self.add_set(alloc, text),
+            "generic" => self.add_generic(alloc, text),
+            "method" => self.add_method(text),
+            "text" => self.add_text(alloc, text),
+            _ => Ok(false),
+        }
+    }
+
+    // Adds a literal array.
+    fn add_array(&mut self, alloc: Global, text: &str) -> Result<bool, Memory> {
+        match elems(alloc, text)? {
+            Some(elems) => {
+                self.arrays.push(elems)?;
+                Ok(true)
+            }
+            None => Ok(false),
+        }
+    }
+
+    // Adds a template.
+    fn add_template(&mut self, alloc: Global, text: &str) -> Result<bool, Memory> {
+        match numbers(alloc, text)? {
+            Some(numbers) => {
+                self.templates.push(numbers)?;
+                Ok(true)
+            }
+            None => Ok(false),
+        }
+    }
+
+    // Adds a name and answers its number.
+    fn add_name(&mut self, alloc: Global, name: &str) -> Result<u32, Memory> {
+        let number = self.names.len();
+        self.names.push(Text::from_str(alloc, name)?)?;
+        Ok(number)
+    }
+
+    // Adds a word that does this and has this kind.
+    fn name_word(
+        &mut self,
+        alloc: Global,
+        name: &str,
+        action: Action,
+        kind: Option<u32>,
+    ) -> Result<bool, Memory> {
+        let name = self.add_name(alloc, name)?;
+        self.words.push(WordRow { name, action, kind })?;
+        Ok(true)
+    }
+
+    // Adds a word without a kind.
+    fn add_word(&mut self, alloc: Global, text: &str) -> Result<bool, Memory> {
+        match action(text) {
+            Some((action, name)) => self.name_word(alloc, name, action, None),
+            None => Ok(false),
+        }
+    }
+
+    // Adds the word of a class.
+    fn add_class(&mut self, alloc: Global, text: &str) -> Result<bool, Memory> {
+        match class(text) {
+            Some((kind, name)) => self.name_word(alloc, name, Action::Itself, Some(kind)),
+            None => Ok(false),
+        }
+    }
+
+    // Adds the kind of a singleton.
+    fn add_singleton(&mut self, alloc: Global, name: &str) -> Result<bool, Memory> {
+        let name = self.add_name(alloc, name)?;
+        self.kinds.push(Kind { name, slots: None })?;
+        Ok(true)
+    }
+
+    // The numbers of new names, with a space between two.
+    fn add_names(&mut self, alloc: Global, text: &str) -> Result<Vec<u32>, Memory> {
+        let mut numbers = Vec::new(alloc);
+        for name in text.split_whitespace() {
+            numbers.push(self.add_name(alloc, name)?)?;
+        }
+        Ok(numbers)
+    }
+
+    // Adds the kind of a tuple class, from its name and those of its slots.
+    fn add_tuple(&mut self, alloc: Global, text: &str) -> Result<bool, Memory> {
+        let (name, behind) = text.split_once(' ').unwrap_or((text, ""));
+        let name = self.add_name(alloc, name)?;
+        let slots = Some(self.add_names(alloc, behind)?);
+        self.kinds.push(Kind { name, slots })?;
+        Ok(true)
+    }
+
+    // Adds the kind of a tuple class, from the number of its name and those of its slots' names.
+    fn add_kind(&mut self, alloc: Global, text: &str) -> Result<bool, Memory> {
+        let (name, behind) = text.split_once(' ').unwrap_or((text, ""));
+        let Ok(name) = name.parse::<u32>() else {
+            return Ok(false);
+        };
+        let slots = numbers(alloc, behind)?;
+        self.kinds.push(Kind { name, slots })?;
+        Ok(true)
+    }
+
+    // Adds a class set.
+    fn add_set(&mut self, alloc: Global, text: &str) -> Result<bool, Memory> {
+        match numbers(alloc, text)? {
+            Some(kinds) => {
+                self.sets.push(kinds)?;
+                Ok(true)
+            }
+            None => Ok(false),
+        }
+    }
+
+    // Adds a generic without methods.
+    fn add_generic(&mut self, alloc: Global, text: &str) -> Result<bool, Memory> {
+        let Ok(word) = text.parse::<u32>() else {
+            return Ok(false);
+        };
+        self.generics.push(Generic {
+            word,
+            methods: Vec::new(alloc),
+        })?;
+        Ok(true)
+    }
+
+    // Adds a method to the last generic. False where there is none.
+    fn add_method(&mut self, text: &str) -> Result<bool, Memory> {
+        let (Some(row), Some(generic)) = (method(text), self.generics.last_mut()) else {
+            return Ok(false);
+        };
+        generic.methods.push(row)?;
+        Ok(true)
+    }
+
+    // Adds a text.
+    fn add_text(&mut self, alloc: Global, text: &str) -> Result<bool, Memory> {
+        self.texts.push(with_lines(alloc, text)?)?;
+        Ok(true)
+    }
+}
