@@ -35,6 +35,7 @@ pub mod Emitted
 pub mod CodedItems
 pub mod ArrayLemmas
 pub mod NumberLemmas
+pub mod MethodPlaces
 pub mod SlotLemmas
 pub mod CountLemmas
 pub mod SetLemmas
