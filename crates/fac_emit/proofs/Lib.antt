@@ -39,5 +39,6 @@ pub mod MethodPlaces
 pub mod SlotLemmas
 pub mod CountLemmas
 pub mod SetLemmas
+pub mod ClosedTables
 pub mod TopRow
 pub mod ExamplesOfCode
