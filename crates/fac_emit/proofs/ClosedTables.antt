@@ -33,7 +33,7 @@ generic_among (d ∷ ds) cs zero h = ap (λ (xs : List WordDef). is_generic (eli
 generic_among (d ∷ ds) cs (suc w) h = ap (λ (xs : List WordDef). is_generic (elim (slice_get xs (suc w)) [ Some c ↦ Some c.sort | None ↦ None ])) h.2 ∙ generic_among ds h.1 w h.4
 
 -- whether two words are methods of one generic on one class
-method_sort : Sort → Sort → Bool
+abbrev method_sort : Sort → Sort → Bool
 method_sort s t = elim s [ method a g x ↦ elim t [ method b h y ↦ nat_eq a b && nat_eq g h | _ ↦ false ] | _ ↦ false ]
 
 second_sort : (a g : ℕ) (s c : Sort) → Alike s c → ◌≡◌ {A = Bool} (elim c [ method b h y ↦ nat_eq a b && nat_eq g h | _ ↦ false ]) (elim s [ method b h y ↦ nat_eq a b && nat_eq g h | _ ↦ false ])
