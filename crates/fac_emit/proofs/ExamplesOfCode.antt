@@ -109,7 +109,7 @@ pub phrase_code : Code opened image (template_phrases opened) [] (Some Halt) [] 
 unfolding template_phrases core_numbered
 phrase_code =
     c_int (pos 1) refl
-    (c_word 4 _ (omega arith) refl (all_more all_none) refl
+    (c_word 4 10 (record { below = omega arith; runs = tt; row = row 4 (action.Code 10); there = refl; does = refl }) (all_more all_none) refl
     (c_off (c_make 3 (record { entry = 8; cells = []; holes = 0 }) [] refl refl refl refl
     (c_dip 2 1 refl refl (all_more all_none) refl
     (c_call 1 0 refl refl all_none refl
