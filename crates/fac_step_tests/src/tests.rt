@@ -266,7 +266,8 @@ fn methods_are_coded(image: &Image, p: u32) -> bool {
 // The methods' code stands where their words do, in the order of the text; the generic asks them from the narrowest class on.
 #[test]
 fn classes_are_compiled(rt: HostRuntime) -> Result<(), Fail> {
-    let text = "USING: accessors kernel ; TUPLE: p x ; GENERIC: g ( o -- n ) M: object g drop 3 ; M: p g call-next-method ; 7 p boa dup g swap x>>";
+    let text =
+        "USING: accessors kernel ; TUPLE: p x ; GENERIC: g ( o -- n ) M: object g drop 3 ; M: p g call-next-method ; 7 p boa dup g swap x>>";
     let image = image_of(rt.alloc(), text)?;
     let p = word_named(&image, "p").unwrap_or(0);
     let g = word_named(&image, "g").unwrap_or(0);

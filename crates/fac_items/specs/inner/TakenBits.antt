@@ -48,7 +48,6 @@ nest_seen n arrays = record { outer = map open_seen n.outer; content = content_s
 
 -- Items of one token, and words that readings add.
 
-
 abbrev pub with_leaf : Scope → Node → Kept → Kept
 with_leaf s (n_lit l p) (a_phrase t) = a_phrase (append t (then (lit l) p end))
 with_leaf s (n_lit l p) (some_elements ls) = some_elements (ls ++ literal l ∷ [])
