@@ -1,5 +1,5 @@
 -- The closed program of a whole one has classes that can be built and methods of which tables can be made, and few words and slots beside its texts.
-use Rattle.std.proofs.Common.{◌≡◌, ◌<◌, ◌≤◌, ℕ, zero, suc, ◌+◌, ◌^◌, List, [], ◌∷◌, ◌++◌, length, Bool, true, false, Option, Some, None, refl, ap, sym, ◌∙◌, arith, length-append}
+use Rattle.std.proofs.Common.{◌≡◌, ◌<◌, ℕ, zero, suc, ◌+◌, List, [], ◌∷◌, ◌++◌, length, Bool, true, false, Some, None, refl, ap, ◌∙◌, arith, length-append}
 use Rattle.std.proofs.lemmas.List.{length-map}
 use Rattle.std.specs.Prelude.{◌&&◌, not, nat_eq, nat_lt, slice_get}
 use Rattle.std.specs.List.{list_all, list_any}
@@ -18,7 +18,7 @@ use Rattle.fac_locals.specs.Closed.{Closes}
 use Rattle.fac_classes.specs.ClassKinds.{CanBeBuilt}
 use Rattle.fac_generic.specs.Methods.{HasMethods}
 use Rattle.fac_emit.specs.ProgramTables.{word_names, slot_names, kind_names, table_texts}
-use Rattle.fac_emit.proofs.Closings.{Alike, a_same, a_body, a_past, a_method, AlikeWord, AlikeWords, alike_words}
+use Rattle.fac_emit.proofs.Closings.{Alike, a_same, a_body, a_past, a_method, AlikeWords, alike_words}
 
 -- whether a word is generic, which both programs say
 generic_sort : (s c : Sort) → Alike s c → is_generic (Some c) ≡ is_generic (Some s)
