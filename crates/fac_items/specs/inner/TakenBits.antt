@@ -1,7 +1,7 @@
 -- What bits come to, one after another, and the refusals in them.
 use Rattle.std.specs.Prelude.{ℕ, List, [], ◌∷◌, ◌++◌, length, fold, map, Option}
 use Rattle.fac_lang.specs.PhraseView.{items_phrase}
-use Rattle.fac_lang.specs.Phrases.{Phrase, end, then, Item, lit, lit_arr, quot, word, next_method}
+use Rattle.fac_lang.specs.Phrases.{Phrase, end, then, lit, lit_arr, quot, word, next_method}
 use Rattle.fac_lang.specs.RunningLaws.{append}
 use Rattle.fac_lang.specs.declared.phrase.Place.{Place}
 use Rattle.fac_lang.specs.declared.program.Lit.{Lit}
