@@ -39,8 +39,10 @@ use Rattle.fac_names.specs.Resolved.{answer, first_fault, program_of}
 use Rattle.fac_names.specs.Resolution.{Resolves, first_reading, program_alone, resolved}
 use Rattle.fac_names.specs.inner.Taking.{take_all}
 use Rattle.fac_names.proofs.ArrayReadings.{Counted, named_append}
-use Rattle.fac_names.proofs.BuiltForms.{BuiltUp, begun_built, classes_in, none_before, take_built}
-use Rattle.fac_names.proofs.BuiltReadings.{Built, append_built, draft_ok}
+use Rattle.fac_names.proofs.BuiltForms.{BuiltUp, begun_built, classes_in, take_built}
+use Rattle.fac_names.proofs.DefinedNames.{none_before}
+use Rattle.fac_names.proofs.BuiltReadings.{Built, draft_ok}
+use Rattle.fac_names.proofs.BuiltPhrases.{append_built}
 use Rattle.fac_names.proofs.Distinct.{classes_differ, words_differ}
 use Rattle.fac_names.proofs.FileLemmas.{take_one}
 use Rattle.fac_names.proofs.KnownBuilt.{first_built}

@@ -24,7 +24,8 @@ use Rattle.fac_endings.proofs.Apart.{AreApart, all_at, and_true, apart_differ, o
 use Rattle.fac_endings.proofs.EndedClasses.{class_in, draft_fits}
 use Rattle.fac_endings.proofs.EndedWords.{FinishOf, stays, makes, methods, FinishesOf, methods_turn}
 use Rattle.fac_names.proofs.ArrayReadings.{named_in, names_by}
-use Rattle.fac_names.proofs.BuiltReadings.{DraftsBuilt, IsBuiltLate, draft_ok, numbers_in}
+use Rattle.fac_names.proofs.BuiltReadings.{DraftsBuilt, IsBuiltLate, draft_ok}
+use Rattle.fac_names.proofs.PrimitiveNumbers.{numbers_in}
 use Rattle.fac_names.proofs.Distinct.{AccessorWords}
 use Rattle.fac_names.proofs.HeldNames.{AccessorAt, AccessorsHeld, accessor_text, no_accessor}
 use Rattle.fac_names.proofs.WholePrograms.{sort_named}
