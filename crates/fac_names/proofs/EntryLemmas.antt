@@ -32,6 +32,7 @@ use Rattle.fac_names.proofs.Staying.{all_spare, spares}
 abbrev pub Ascending : ℕ → List Entry → Type 0
 Ascending least [] = Unit {0}
 Ascending least (e ∷ es) = (least ≤ e.word) × Ascending (suc e.word) es
+
 -- Truth values.
 
 pub both_are : (a b : Bool) → a ≡ true → b ≡ true → (a && b) ≡ true
