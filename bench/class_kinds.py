@@ -330,6 +330,8 @@ SMALL_PROGRAMS = apart(
     TUPLE: p x ; GENERIC: x ( p -- n ) M: p x x>> ; 5 p boa x .
     IN: a TUPLE: p x ; IN: b USE: a TUPLE: q < p x' ; IN: a 1 p boa . IN: b 1 2 q boa x>> .
     TUPLE: p x ; { 1 2 3 } [ p boa ] map [ x>> ] map . p new p new = . p new dup eq? .
+    IN: a:b UNION: c integer ; IN: a USE: a:b UNION: b:c integer ; GENERIC: g ( x -- y ) M: b:c g drop 2 ; M: c g call-next-method ; 5 g .
+    QUALIFIED-WITH: syntax s UNION: u s:t ; GENERIC: g ( x -- y ) M: u g drop 1 ; M: s:f g drop 2 ; t g . f g . s:t u? . s:t .
     """
 )
 NEAR_NAMES = """

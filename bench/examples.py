@@ -1061,6 +1061,9 @@ EXAMPLES_OF_CLASSES = [
     ("[ ] callable? . 1 [ ] curry callable? . [ ] [ ] compose callable? . 5 callable? .", "t\nt\nt\nf\n"),
     ("USE: words SYMBOL: s SINGLETON: z TUPLE: p ; s word? . z word? . p word? . integer word? . { dup } first word? . 5 word? .", "t\nt\nt\nt\nt\nf\n"),
     ("TUPLE: p ; p new tuple? . p tuple? . { } tuple? . p new object? . 5 object? . [ ] object? .", "t\nf\nf\nt\nt\nt\n"),
+    # the classes of `t` and `f`, whose words only a prefix names
+    ("QUALIFIED-WITH: syntax s UNION: u s:t ; s:t . t u? . s:t u? . s:t t = . { s:t s:f } .", "t\nt\nf\nf\n{ t f }\n"),
+    ("QUALIFIED-WITH: syntax s GENERIC: g ( x -- y ) M: s:f g drop 1 ; M: object g drop 2 ; f g . s:f g .", "1\n2\n"),
     # unions and singletons
     ('USE: strings UNION: number-or-text integer string ; SINGLETON: none "a" number-or-text? . none none? . none number-or-text? .', "t\nt\nf\n"),
     (
@@ -1111,6 +1114,16 @@ EXAMPLES_OF_CLASSES = [
     ("UNION: u integer ; GENERIC: g ( x -- y ) M: u g drop 1 ; M: integer g drop 2 ; 5 g .", "2\n"),
     ("USE: words UNION: u word ; GENERIC: g ( x -- y ) M: word g drop 1 ; M: u g drop 2 ; u g .", "2\n"),
     ("IN: b UNION: x integer ; IN: a.b UNION: x integer ; IN: a UNION: x integer ; GENERIC: g ( x -- y ) M: x g drop 1 ; IN: a.b USE: a M: x g drop 2 ; IN: b M: x g drop 3 ; 5 g .", "2\n"),
+    # two classes with one full name, `a:b:c`, come in the order of their forms
+    (
+        "IN: a:b UNION: c integer ; IN: a USE: a:b UNION: b:c integer ; GENERIC: g ( x -- y ) M: b:c g drop 2 ; M: c g drop 1 ; 5 g .",
+        "1\n",
+    ),
+    (
+        "IN: a UNION: b:c integer ; IN: a:b UNION: c integer ; IN: a USE: a:b GENERIC: g ( x -- y ) M: c g drop 1 ; "
+        "M: b:c g call-next-method 1array ; 5 g .",
+        "{ 1 }\n",
+    ),
     ("SINGLETON: s UNION: u s integer ; UNION: v s ; GENERIC: g ( x -- y ) M: u g drop 1 ; M: v g drop 2 ; s g . 5 g .", "2\n1\n"),
     ("TUPLE: a ; TUPLE: b < a ; TUPLE: c < a ; GENERIC: g ( x -- y ) M: a g drop 1 ; M: c g drop 2 ; b new g . c new g .", "1\n2\n"),
     ("GENERIC: g ( x -- y ) M: tuple g drop 1 ; M: object g drop 2 ; 5 g . TUPLE: p ; p new g .", "2\n1\n"),
@@ -1201,6 +1214,11 @@ EXAMPLES_OF_CLASS_NOTES = [
     ("SINGLETON: s C: <s> s", "name: a token 16: not-a-class s"),
     ("UNION: u ; C: <u> u", "name: a token 17: not-a-class u"),
     ("C: p p", "name: a token 14: not-a-class p"),
+    ("QUALIFIED-WITH: syntax s C: <t> s:t", "name: a token 17: not-a-class s:t"),
+    ("QUALIFIED-WITH: syntax s TUPLE: p < s:t ;", "name: a token 18: bad-parent s:t"),
+    ("QUALIFIED-WITH: syntax s s:t boa", "check: top-level, a token 16: not-a-class"),
+    ("QUALIFIED-WITH: syntax s s:t?", "name: a token 15: unknown s:t?"),
+    ("QUALIFIED-WITH: math m GENERIC: g ( x -- ) M: m:t g drop ;", "name: a token 22: unknown m:t"),
     ("M: integer dup ;", "name: a token 14: not-a-generic dup"),
     ("M: dup drop ;", "name: a token 13: not-a-class dup"),
     ("SYMBOL: s M: integer s ;", "name: a token 16: not-a-generic s"),

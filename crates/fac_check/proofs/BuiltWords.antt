@@ -60,4 +60,3 @@ built_primitive_word P b w d e k s = which (at_or_last b.words b.last_word w d (
     which : (slice_get b.words w ≡ Some d) ⊎ ((w ≡ length b.words) × (b.last_word ≡ d)) → (p : Primitive) × (prim_numbered k ≡ Some p) × (d.effect ≡ written_effect p.word)
     which (inl f) = primitive_so d k (subst (λ x. IsBuiltSort P.top d x) s (built_there P.top b.words b.built w d f))
     which (inr f) = absurd (let is_top_phrase = b.last_word_is in let body_sort : b.last_word.sort ≡ body b.phrase = is_top_phrase.sort_is in let prim_sort : b.last_word.sort ≡ prim k = subst (λ (x : WordDef). x.sort ≡ prim k) (sym f.1) s in cc)
-

@@ -590,12 +590,7 @@ fn generic_of(closed: &Closed, method: u32) -> Option<&WordDef>
 }
 
 // `call-next-method` in a method, which goes by the effect of its generic.
-fn next_after(
-    closed: &Closed,
-    marks: &mut Marks,
-    stack: u32,
-    method: u32,
-) -> Result<Doing, Memory>
+fn next_after(closed: &Closed, marks: &mut Marks, stack: u32, method: u32) -> Result<Doing, Memory>
     requires stack { IsStack marks.old stack }
     requires program { takes_all closed.now.program closed.now.templates ≡ true }
     ensures grows { Grows marks.old marks.new }

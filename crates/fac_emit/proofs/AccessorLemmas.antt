@@ -1,6 +1,6 @@
 -- Accessors, new tuples and kinds: the same over the machine's values as over what they stand for.
-use Rattle.std.proofs.Common.{◌≡◌, ℕ, zero, suc, List, [], ◌∷◌, ◌++◌, Option, Some, None, refl, ap, sym, ◌∙◌}
-use Rattle.std.specs.Prelude.{map, set, length, slice_get}
+use Rattle.std.proofs.Common.{◌≡◌, ℕ, zero, suc, List, [], ◌∷◌, Option, Some, None, refl, ap, sym, ◌∙◌}
+use Rattle.std.specs.Prelude.{map, set, slice_get}
 use Rattle.std.proofs.lemmas.List.{length-map}
 use Rattle.std.proofs.lemmas.Option.{slice_get-map}
 use Rattle.std.specs.Option.{option_map}
@@ -104,8 +104,8 @@ module _ (T : Templates) (N : Names) where
   slot_same s v w go go' h =
       ap (λ (o : Option Plain). or_bad meaning_values (seen_tuple o) NotTuple (Some (V v)) (world_view T w) (λ a. slot_place meaning_values N s (V v) (world_view T w) a (tuple_of meaning_values (slice_get (map (object_view T) w.objects) a)) go')) (seen_same T v)
       ∙ or_bad_both (seen_tuple (m_seen v)) NotTuple v w (λ a. slot_place machine_values N s v w a (tuple_of machine_values (slice_get w.objects a)) go)
-        (λ a. slot_place meaning_values N s (V v) (world_view T w) a (tuple_of meaning_values (slice_get (map (object_view T) w.objects) a)) go')
-        (λ a. ap (λ (t : Option (ℕ × List Value)). slot_place meaning_values N s (V v) (world_view T w) a t go') (tuple_at w a) ∙ place_same s v w a (tuple_of machine_values (slice_get w.objects a)) go go' h)
+      (λ a. slot_place meaning_values N s (V v) (world_view T w) a (tuple_of meaning_values (slice_get (map (object_view T) w.objects) a)) go')
+      (λ a. ap (λ (t : Option (ℕ × List Value)). slot_place meaning_values N s (V v) (world_view T w) a t go') (tuple_at w a) ∙ place_same s v w a (tuple_of machine_values (slice_get w.objects a)) go go' h)
 
   put_same : (p : Slot machine_values N) (y : MValue) (w : World MValue) → with_slot meaning_values N (slot_view p) (V y) (world_view T w) ≡ world_view T (with_slot machine_values N p y w)
   put_same p y w =
@@ -117,7 +117,7 @@ module _ (T : Templates) (N : Names) where
   accessor_same getting s = λ v w.
       slot_same s v w (λ p. or_bad machine_values (slice_get p.values p.place) NoSlot (Some v) w (λ y. gives (y ∷ []) w)) (λ p. or_bad meaning_values (slice_get p.values p.place) NoSlot (Some (V v)) (world_view T w) (λ y. gives (y ∷ []) (world_view T w)))
       (λ p. ap (λ (o : Option Value). or_bad meaning_values o NoSlot (Some (V v)) (world_view T w) (λ y. gives (y ∷ []) (world_view T w))) (slice_get-map V p.values p.place)
-        ∙ or_bad_value (slice_get p.values p.place) NoSlot v w (λ y. gives (y ∷ []) w) (λ y. gives (y ∷ []) (world_view T w)) (λ y. refl))
+      ∙ or_bad_value (slice_get p.values p.place) NoSlot v w (λ y. gives (y ∷ []) w) (λ y. gives (y ∷ []) (world_view T w)) (λ y. refl))
   accessor_same setting s = λ v y w.
       slot_same s v w (λ p. gives (v ∷ []) (with_slot machine_values N p y w)) (λ p. gives (V v ∷ []) (with_slot meaning_values N p (V y) (world_view T w))) (λ p. ap (λ (u : World Value). gives (V v ∷ []) u) (put_same p y w))
   accessor_same putting s = λ y v w.

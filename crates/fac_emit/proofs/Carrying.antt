@@ -1,24 +1,19 @@
 -- The image of plain code carries its program.
-use Rattle.std.proofs.Common.{◌≡◌, ◌≢◌, ℕ, List, [], Option, None, Some, Bool, ap, sym, subst, ◌∙◌}
-use Rattle.std.specs.Prelude.{slice_get}
+use Rattle.std.proofs.Common.{◌≢◌, ℕ, List, Option, Bool}
 use Rattle.fac_lang.specs.declared.phrase.Height.{Height}
 use Rattle.fac_lang.specs.declared.phrase.Template.{Template}
 use Rattle.fac_lang.specs.declared.program.Program.{Program}
-use Rattle.fac_lang.specs.Phrases.{Value, Callable}
+use Rattle.fac_lang.specs.Phrases.{Callable}
 use Rattle.fac_lang.specs.Forms.{IsBuilt}
 use Rattle.fac_lang.specs.Whole.{IsWhole}
 use Rattle.fac_lang.specs.Eval.{Result, Done, Failed, Spent, Stuck}
 use Rattle.fac_lang.specs.Meaning.{word_phrase}
 use Rattle.fac_lang.specs.RunningLaws.{IsNotStuck}
 use Rattle.fac_locals.specs.Closed.{Closes}
-use Rattle.fac_code.specs.declared.image.Instr.TheVariants.{Halt}
 use Rattle.fac_code.specs.declared.image.Image.{Image}
-use Rattle.fac_code.specs.declared.image.Action.TheVariants.{Code as code_action}
-use Rattle.fac_code.specs.declared.image.WordRow.{WordRow}
-use Rattle.fac_emit.specs.MachineView.{Templates, template_phrases, values_view, world_view}
+use Rattle.fac_emit.specs.MachineView.{template_phrases, values_view, world_view}
 use Rattle.fac_emit.specs.Carries.{Carries, top_run}
 use Rattle.fac_emit.specs.ProgramCode.{IsPlain}
-use Rattle.fac_emit.specs.Stands.{Stands, PlainCode}
 use Rattle.fac_emit.proofs.Simulation.{carried}
 use Rattle.fac_emit.proofs.PlainIsCode.{plain_code_is_code}
 use Rattle.fac_generic.specs.Methods.{MethodLaws}

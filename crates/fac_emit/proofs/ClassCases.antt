@@ -1,5 +1,5 @@
 -- The step of each case that has to do with classes: accessors, predicates, new tuples, generics and next methods.
-use Rattle.std.proofs.Common.{◌≡◌, ℕ, zero, suc, ◌+◌, ◌≤◌, List, [], ◌∷◌, length, drop, Bool, true, false, Option, Some, None, refl, ap, sym, subst, ◌∙◌, arith}
+use Rattle.std.proofs.Common.{◌≡◌, ℕ, zero, suc, ◌+◌, ◌≤◌, List, [], ◌∷◌, drop, Bool, true, false, Option, Some, None, refl, ap, sym, subst, ◌∙◌, arith}
 use Rattle.std.specs.Prelude.{slice_get}
 use Rattle.fac_lang.specs.declared.error_name.ErrorName.{ErrorName}
 use Rattle.fac_lang.specs.declared.error_name.ErrorName.TheVariants.{NoMethod, NoNextMethod}
@@ -7,14 +7,13 @@ use Rattle.fac_lang.specs.declared.phrase.Place.{Place}
 use Rattle.fac_lang.specs.declared.program.Program.{Program}
 use Rattle.fac_lang.specs.declared.program.Sort.{Sort}
 use Rattle.fac_lang.specs.declared.program.Sort.TheVariants.{Core as core_sort, Isa as isa, Generic as generic}
-use Rattle.fac_lang.specs.Phrases.{int, yes, no, str, iota, wrd, arr, tup, Phrase, end, then, Item, word, next_after, Value, plain, fun, of_phrase}
-use Rattle.fac_lang.specs.World.{World, State, push}
+use Rattle.fac_lang.specs.Phrases.{int, yes, no, str, iota, wrd, arr, tup, Phrase, then, Item, word, next_after, Value}
+use Rattle.fac_lang.specs.World.{World, State}
 use Rattle.fac_lang.specs.Printed.{Names}
-use Rattle.fac_lang.specs.Procedures.{Gives, gives, Fn, fn1}
-use Rattle.fac_lang.specs.Primitives.{seen_word}
+use Rattle.fac_lang.specs.Procedures.{gives, Fn, fn1}
 use Rattle.fac_lang.specs.Classes.{has_kind, pick, next}
 use Rattle.fac_lang.specs.Objects.{kind_of, get_slot, set_slot, put_slot, made_tuple}
-use Rattle.fac_lang.specs.Eval.{Result, Act, wrong, fails, goes, Run}
+use Rattle.fac_lang.specs.Eval.{Result, Act, wrong, fails, Run}
 use Rattle.fac_lang.specs.Meaning.{meaning_values, names, sort_of, generic_of, word_phrase, core_numbered, c_boa as w_boa, taking1, taking, given, does, truth_value, makes_tuple, enters, sort_act, act}
 use Rattle.fac_code.specs.declared.image.Instr.{Instr}
 use Rattle.fac_code.specs.declared.image.Instr.TheVariants.{Isa as isa_instr, Boa, Generic, Next, Ret}
@@ -25,11 +24,11 @@ use Rattle.fac_code.specs.declared.image.GenericRow.{GenericRow}
 use Rattle.fac_code.specs.declared.image.MethodRow.{MethodRow}
 use Rattle.fac_code.specs.ImageNames.{image_names}
 use Rattle.fac_code.specs.declared.names.TrapWhy.TheVariants.{Kind as t_kind}
-use Rattle.fac_store.specs.MachineValues.{MValue, m_plain, m_fun, m_seen, machine_values}
-use Rattle.fac_vm.specs.Machine.{Machine, Entry, resume, failed, spent, Step, goes_on, ends, after, given as machine_given, does as machine_does, word_with, or_trap, popping, set_has, method_for, method_after, truth, accesses, kind_in, enters_method, enters_for, fetched, step}
+use Rattle.fac_store.specs.MachineValues.{MValue, m_plain, m_fun, machine_values}
+use Rattle.fac_vm.specs.Machine.{Machine, Entry, resume, spent, Step, goes_on, ends, after, given as machine_given, does as machine_does, word_with, or_trap, popping, set_has, method_for, method_after, truth, accesses, kind_in, enters_method, enters_for, fetched, step}
 use Rattle.fac_vm.proofs.Leading.{leads_none}
 use Rattle.fac_emit.specs.Accessors.{Accessor, getting, setting, putting, accessor_sort, accessor_instr, accessor_action, accessor_ins, accessor_outs, accessor_fn}
-use Rattle.fac_emit.specs.MachineView.{Templates, value_view, values_view, world_view, state_view, gives_view}
+use Rattle.fac_emit.specs.MachineView.{Templates, value_view, values_view, world_view}
 use Rattle.fac_emit.specs.Stands.{HasCode, SameMethod}
 use Rattle.fac_emit.specs.Symbols.{Sym, here, Task, do_phrase, Needs, heres, AllHere}
 use Rattle.fac_emit.specs.WholeValues as whole

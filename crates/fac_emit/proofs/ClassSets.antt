@@ -1,13 +1,13 @@
 -- A class set has the kinds of its class.
-use Rattle.std.proofs.Common.{◌≡◌, ◌<◌, ◌≤◌, ◌⊎◌, inl, inr, ℕ, zero, suc, ◌+◌, ◌-◌, List, [], ◌∷◌, ◌++◌, length, Bool, true, false, Option, Some, None, refl, ap, sym, subst, ◌∙◌, arith, true≢false}
-use Rattle.std.proofs.lemmas.Bool.{lt-ltb, ltb-true, cases_lt}
+use Rattle.std.proofs.Common.{◌≡◌, ◌<◌, ◌≤◌, ◌⊎◌, inl, inr, ℕ, zero, suc, ◌+◌, ◌-◌, List, [], ◌∷◌, ◌++◌, length, Bool, true, false, Option, Some, None, refl, ap, sym, ◌∙◌, arith, true≢false}
+use Rattle.std.proofs.lemmas.Bool.{ltb-true, cases_lt}
 use Rattle.std.proofs.lemmas.List.Folds.{list_any-append}
 use Rattle.std.specs.Prelude.{◌||◌, ◌&&◌, nat_eq, nat_lt, nat_le, slice_get}
 use Rattle.std.specs.List.{list_any}
 use Rattle.fac_lang.specs.declared.program.ClassDef.{ClassDef}
 use Rattle.fac_lang.specs.declared.program.Shape.{Shape}
 use Rattle.fac_lang.specs.declared.program.Shape.TheVariants.{Kind as built_in, Tuple as tuple_class, Union as union, Single as single}
-use Rattle.fac_lang.specs.Classes.{has_own, own_kind, class_with, shape_at, descends_if, is_single, is_tuple, shape_with, own_count, built_in_has, any, shape_has, has_kind_within, has_kind}
+use Rattle.fac_lang.specs.Classes.{has_own, own_kind, class_with, shape_at, descends_if, is_single, is_tuple, shape_with, own_count, any, shape_has, has_kind_within, has_kind}
 use Rattle.fac_classes.specs.ClassKinds.{kind_total, kinds_below, kinds_of}
 use Rattle.fac_vm.specs.Machine.{set_has}
 use Rattle.fac_emit.specs.ProgramTables.{sets_from}

@@ -1,5 +1,5 @@
 -- The code of a word and of a template, as it is made, is what they emit.
-use Rattle.std.proofs.Common.{◌≡◌, ◌<◌, ℕ, zero, suc, List, [], ◌∷◌, ◌++◌, length, Bool, true, false, Option, Some, None, refl, ap, sym, subst, ◌∙◌, arith, Result, Ok, Err, IfOk, true≢false}
+use Rattle.std.proofs.Common.{◌≡◌, ◌<◌, ℕ, zero, suc, List, [], ◌∷◌, ◌++◌, length, Bool, true, false, Option, Some, None, refl, ap, sym, subst, ◌∙◌, Result, Ok, Err, IfOk, true≢false}
 use Rattle.std.specs.Prelude.{nat_eq, slice_get}
 use Rattle.fac_lang.specs.declared.memory.Memory.{Memory}
 use Rattle.fac_lang.specs.declared.phrase.Template.{Template}
@@ -7,7 +7,7 @@ use Rattle.fac_lang.specs.declared.program.Program.{Program}
 use Rattle.fac_lang.specs.declared.program.WordDef.{WordDef}
 use Rattle.fac_lang.specs.declared.program.Sort.{Sort}
 use Rattle.fac_lang.specs.declared.program.Sort.TheVariants.{Prim as prim_sort, Core as core_sort, Body as body, Itself as itself, Class as class, Isa as isa, Getter as getter, Setter as setter, Putter as putter, Generic as generic, Past as past, Method as method}
-use Rattle.fac_lang.specs.Phrases.{Literal, Phrase, word, next_method, next_after}
+use Rattle.fac_lang.specs.Phrases.{Literal, Phrase, word, next_after}
 use Rattle.fac_lang.specs.Forms.{IsBuilt, IsBuiltSort}
 use Rattle.fac_lang.specs.CoreWords.{is_built_core}
 use Rattle.fac_lang.specs.Meaning.{sort_of, sort_act, sort_phrase, generic_of, core_numbered}
@@ -16,9 +16,9 @@ use Rattle.fac_locals.specs.Literals.{first_of_word, first_of_literal, literal_n
 use Rattle.fac_locals.specs.Closed.{Closes, ClosesSort}
 use Rattle.fac_locals.proofs.Lookups.{word_closed, word_open, template_closed}
 use Rattle.fac_code.specs.declared.image.Instr.{Instr}
-use Rattle.fac_code.specs.declared.image.Instr.TheVariants.{Ret, Next}
+use Rattle.fac_code.specs.declared.image.Instr.TheVariants.{Ret}
 use Rattle.fac_emit.specs.Accessors.{getting, setting, putting}
-use Rattle.fac_emit.specs.ProgramTables.{slot_number, generic_number, method_number}
+use Rattle.fac_emit.specs.ProgramTables.{generic_number}
 use Rattle.fac_emit.specs.ProgramCode.{core_instr, sort_instr, word_instr, item_instr, phrase_code, phrase_texts, last_instr, sort_code, sort_texts, word_code}
 use Rattle.fac_emit.specs.Stands.{RunsPhrase}
 use Rattle.fac_emit.specs.inner.FoundCode.{IsCodeOf, found_code, found_texts, found_template, found_template_texts}

@@ -5,22 +5,28 @@ use Rattle.fac_lang.specs.Signatures.{signature, no_inputs, never}
 use Rattle.fac_lang.specs.declared.phrase.Template.{Template}
 use Rattle.fac_lang.specs.declared.program.Lit.TheVariants.{Int as l_int, True as l_yes, Str as l_str, Arr as l_arr, Wref as l_word, Made as l_made}
 use Rattle.fac_lang.specs.declared.program.Program.{Program}
+use Rattle.fac_lang.specs.declared.program.ClassDef.{ClassDef}
+use Rattle.fac_lang.specs.declared.program.Shape.{Shape}
+use Rattle.fac_lang.specs.declared.program.Shape.TheVariants.{Kind as built_in, Tuple as tuple_class}
 use Rattle.fac_lang.specs.declared.program.WordDef.{WordDef}
 use Rattle.fac_lang.specs.declared.program.Sort.{Sort}
-use Rattle.fac_lang.specs.declared.program.Sort.TheVariants.{Prim as prim, Core as core, Body as body, Itself as itself}
-use Rattle.fac_lang.specs.Phrases.{int, str, wrd, Phrase, end, then, Item, lit, lit_arr, quot, word}
+use Rattle.fac_lang.specs.declared.program.Sort.TheVariants.{Prim as prim, Core as core, Body as body, Itself as itself, Class as class, Isa as isa, Getter as getter, Generic as generic, Method as method}
+use Rattle.fac_lang.specs.Phrases.{int, str, wrd, Phrase, end, then, Item, lit, lit_arr, quot, word, next_method}
 use Rattle.fac_lang.specs.Primitives.{built_count, prim_numbered, prim_fn}
 use Rattle.fac_code.specs.Code.{has_built_code}
 use Rattle.fac_code.specs.References.{refers}
-use Rattle.fac_lang.specs.Meaning.{nowhere, names, core_numbered}
+use Rattle.fac_lang.specs.Meaning.{nowhere, core_numbered}
 use Rattle.fac_locals.proofs.ClosedForms.{made_words, made_templates}
-use Rattle.fac_code.specs.declared.image.Instr.TheVariants.{Halt, Int, Text, Array, Word, Quot, Prim, Callw, Call, Dip, Ret}
+use Rattle.fac_code.specs.declared.image.Instr.TheVariants.{Halt, Int, Text, Array, Word, Quot, Prim, Callw, Call, Dip, Ret, Boa, Generic, Next}
 use Rattle.fac_code.specs.declared.image.Elem.TheVariants as elem
-use Rattle.fac_code.specs.declared.image.Action.TheVariants.{Prim as prim_action, Core as core_action, Code as code_action, Itself as itself_action}
+use Rattle.fac_code.specs.declared.image.Action.TheVariants as action
+use Rattle.fac_code.specs.declared.image.Action.{Action}
+use Rattle.fac_code.specs.declared.image.WordRow.{WordRow}
 use Rattle.fac_code.specs.declared.image.Image.{Image}
 use Rattle.fac_store.specs.MachineValues.{MValue, m_plain}
 use Rattle.fac_vm.specs.Machine.{End, done, steps, first_world, starting}
-use Rattle.fac_emit.specs.ProgramCode.{word_names, program_code, program_texts, template_rows, program_words, arrays_of, arrays_texts}
+use Rattle.fac_emit.specs.ProgramTables.{table_texts, program_kinds, program_sets}
+use Rattle.fac_emit.specs.ProgramCode.{program_code, program_texts, template_rows, program_words, program_generics, program_tables, arrays_of, arrays_texts}
 use Rattle.fac_emit.specs.MachineView.{template_phrases}
 use Rattle.fac_emit.specs.Symbols.{here, off, cells, k_phrase, k_cur, k_com, do_phrase, top_is, needs_none, needs_more, all_none, all_more}
 use Rattle.fac_emit.specs.Expanded.{Code, c_last, c_make, c_end, c_off, c_int, c_prim, c_word, c_call, c_dip}
@@ -38,7 +44,7 @@ named s = record { name = record { vocab = []; name = [] }; sort = s; effect = s
 -- : w [ 2 ] [ [ 3 ] call + ] compose ;   1 w [ 4 ] dip call
 abbrev source : List WordDef
 source =
-    named (prim 25) ∷ named (core 0) ∷ named (core 1) ∷ named (prim 17) ∷ named (body (items (quot (items (number 2 ∷ [])) ∷ quot (items (quot (items (number 3 ∷ [])) ∷ word 1 ∷ word 0 ∷ [])) ∷ word 3 ∷ []))) ∷ named
+    named (prim 26) ∷ named (core 0) ∷ named (core 1) ∷ named (prim 17) ∷ named (body (items (quot (items (number 2 ∷ [])) ∷ quot (items (quot (items (number 3 ∷ [])) ∷ word 1 ∷ word 0 ∷ [])) ∷ word 3 ∷ []))) ∷ named
     (body (items (number 1 ∷ word 4 ∷ quot (items (number 4 ∷ [])) ∷ word 2 ∷ word 1 ∷ []))) ∷ []
 
 abbrev closed : Program
@@ -48,26 +54,28 @@ abbrev templates : List Template
 templates = made_templates source []
 
 -- the four quotations, the one inside another behind it, then the word's phrase and the top-level phrase
-pub code_is : program_code closed templates ≡ Int (pos 2) ∷ Ret ∷ Quot 2 ∷ Call false ∷ Prim 25 ∷ Ret ∷ Int (pos 3) ∷ Ret ∷ Int (pos 4) ∷ Ret ∷ Quot 0 ∷ Quot 1 ∷ Prim 17 ∷ Ret ∷ Int (pos 1) ∷ Callw 4 false ∷ Quot 3 ∷ Dip ∷ Call false ∷ Halt ∷ []
+pub code_is : program_code closed templates ≡ Int (pos 2) ∷ Ret ∷ Quot 2 ∷ Call false ∷ Prim 26 ∷ Ret ∷ Int (pos 3) ∷ Ret ∷ Int (pos 4) ∷ Ret ∷ Quot 0 ∷ Quot 1 ∷ Prim 17 ∷ Ret ∷ Int (pos 1) ∷ Callw 4 false ∷ Quot 3 ∷ Dip ∷ Call false ∷ Halt ∷ []
 code_is = refl
 
-pub template_rows_are : template_rows closed.words (word_names closed.words) 0 templates ≡ record { entry = 0; cells = []; holes = 0 } ∷ record { entry = 2; cells = []; holes = 0 } ∷ record { entry = 6; cells = []; holes = 0 } ∷ record { entry = 8; cells = []; holes = 0 } ∷ []
+pub template_rows_are : template_rows closed (table_texts closed) 0 templates ≡ record { entry = 0; cells = []; holes = 0 } ∷ record { entry = 2; cells = []; holes = 0 } ∷ record { entry = 6; cells = []; holes = 0 } ∷ record { entry = 8; cells = []; holes = 0 } ∷ []
 template_rows_are = refl
 
-pub word_rows_are :
-    program_words closed templates ≡ record { name = 0; action = prim_action 25 } ∷ record { name = 1; action = core_action 0 } ∷ record { name = 2; action = core_action 1 } ∷ record { name = 3; action = prim_action 17 } ∷ record { name = 4; action = code_action 10 } ∷ record { name = 5; action = code_action 14 } ∷ []
+abbrev row : ℕ → Action → WordRow
+row w a = record { name = w; action = a; kind = None }
+
+pub word_rows_are : program_words closed templates ≡ row 0 (action.Prim 26) ∷ row 1 (action.Core 0) ∷ row 2 (action.Core 1) ∷ row 3 (action.Prim 17) ∷ row 4 (action.Code 10) ∷ row 5 (action.Code 14) ∷ []
 word_rows_are = refl
 
 pub is_built : has_built_code (program_code closed templates) ≡ true
 unfolding built_count
 is_built = refl
 
-pub words_built : refers [] (template_rows closed.words (word_names closed.words) 0 templates) (program_words closed templates) (program_texts closed templates) (program_code closed templates) 14 ≡ true
+pub words_built : refers (program_tables closed templates) (program_code closed templates) 14 ≡ true
 unfolding built_count
 words_built = refl
 
 abbrev image : Image
-image = record { arrays = []; templates = template_rows closed.words (word_names closed.words) 0 templates; words = program_words closed templates; texts = program_texts closed templates; code = program_code closed templates; start = 14; built = is_built; refers = words_built }
+image = record { arrays = []; kinds = []; sets = []; generics = []; templates = template_rows closed (table_texts closed) 0 templates; words = program_words closed templates; texts = program_texts closed templates; code = program_code closed templates; start = 14; built = is_built; refers = words_built }
 
 -- the stack and the ticks left where it is done
 abbrev ended : Option End → Option (List MValue × ℕ)
@@ -75,7 +83,7 @@ ended (Some (done s n)) = Some (s.stack, n)
 ended _ = None
 
 -- 1 4 [ 2 [ 3 ] call + ] call, with the ticks of `w`, `dip` and what `compose` made
-pub ends_so : ended (steps image (names closed) 40 (starting image [] (first_world image [])) 20) ≡ Some (m_plain (int (pos 5)) ∷ m_plain (int (pos 4)) ∷ m_plain (int (pos 1)) ∷ [], 5)
+pub ends_so : ended (steps image 40 (starting image [] (first_world image [])) 20) ≡ Some (m_plain (int (pos 5)) ∷ m_plain (int (pos 4)) ∷ m_plain (int (pos 1)) ∷ [], 5)
 unfolding prim_fn prim_numbered
 ends_so = refl
 
@@ -101,7 +109,7 @@ pub phrase_code : Code opened image (template_phrases opened) [] (Some Halt) [] 
 unfolding template_phrases core_numbered
 phrase_code =
     c_int (pos 1) refl
-    (c_word 4 _ (omega arith) refl (all_more all_none) refl
+    (c_word 4 10 (record { below = omega arith; runs = tt; row = row 4 (action.Code 10); there = refl; does = refl }) (all_more all_none) refl
     (c_off (c_make 3 (record { entry = 8; cells = []; holes = 0 }) [] refl refl refl refl
     (c_dip 2 1 refl refl (all_more all_none) refl
     (c_call 1 0 refl refl all_none refl
@@ -123,7 +131,7 @@ written_code = refl
 written_texts : program_texts written [] ≡ codes "red" ∷ [] ∷ codes "a" ∷ codes "a" ∷ []
 written_texts = refl
 
-written_rows : program_words written [] ≡ record { name = 0; action = itself_action } ∷ record { name = 1; action = code_action 0 } ∷ []
+written_rows : program_words written [] ≡ row 0 action.Itself ∷ row 1 (action.Code 0) ∷ []
 written_rows = refl
 
 -- A literal array, closed: `{ { t } 1 "b" [ .. ] red }`, whose quotation is template 0. Its string is a text behind those of the code.
@@ -144,3 +152,65 @@ boxed_arrays = refl
 
 boxed_texts : arrays_texts (program_texts boxed []) boxed.arrays ≡ codes "red" ∷ [] ∷ codes "a" ∷ codes "b" ∷ []
 boxed_texts = refl
+
+-- A tuple class and a generic with two methods, on `object`, which has all kinds, and on `point`, which has one and so stands first:
+-- TUPLE: point x ;   GENERIC: size   M: object size drop 1 ;   M: point size call-next-method 7 + ;   5 point boa size
+-- The words have no names here; text 10 is the slot's name, and text 11 the class's.
+abbrev figures : List WordDef
+figures =
+    named (core 4) ∷ named (prim 0) ∷ named (prim 26) ∷ named (class 1) ∷ named (isa 1) ∷ named (getter (codes "x")) ∷ named generic ∷ named (method 0 6 (items (word 1 ∷ number 1 ∷ []))) ∷ named
+    (method 1 6 (items (next_method ∷ number 7 ∷ word 2 ∷ []))) ∷ named (body (items (number 5 ∷ lit (wrd 3) ∷ word 0 ∷ word 6 ∷ []))) ∷ []
+
+abbrev class_named : List ℕ → Shape → ClassDef
+class_named name shape = record { name = record { vocab = []; name = name }; shape = shape }
+
+abbrev figure : Program
+figure = record { words = made_words figures []; arrays = []; classes = class_named (codes "object") (built_in 11) ∷ class_named (codes "point") (tuple_class None (codes "x" ∷ [])) ∷ []; top = 9 }
+
+figure_code : program_code figure [] ≡ Prim 0 ∷ Int (pos 1) ∷ Ret ∷ Next 0 0 false ∷ Int (pos 7) ∷ Prim 26 ∷ Ret ∷ Int (pos 5) ∷ Word 3 ∷ Boa ∷ Generic 0 false ∷ Halt ∷ []
+figure_code = refl
+
+figure_rows :
+    program_words figure [] ≡ row 0 (action.Core 4) ∷ row 1 (action.Prim 0) ∷ row 2 (action.Prim 26) ∷ record { name = 3; action = action.Itself; kind = Some 8 } ∷ row 4 (action.Isa 1) ∷ row 5 (action.Get 10) ∷ row 6 (action.Generic 0) ∷ row 7 (action.Code 0) ∷ row 8 (action.Code 3) ∷ row 9 (action.Code 7) ∷ []
+figure_rows = refl
+
+figure_texts : program_texts figure [] ≡ [] ∷ [] ∷ [] ∷ [] ∷ [] ∷ [] ∷ [] ∷ [] ∷ [] ∷ [] ∷ codes "x" ∷ codes "point" ∷ []
+figure_texts = refl
+
+figure_kinds : program_kinds figure ≡ record { name = 11; slots = Some (10 ∷ []) } ∷ []
+figure_kinds = refl
+
+figure_sets : program_sets figure ≡ (0 ∷ 1 ∷ 2 ∷ 3 ∷ 4 ∷ 5 ∷ 6 ∷ 7 ∷ 8 ∷ []) ∷ (8 ∷ []) ∷ []
+figure_sets = refl
+
+figure_generics : program_generics figure [] ≡ record { word = 6; methods = record { set = 1; entry = 3 } ∷ record { set = 0; entry = 0 } ∷ [] } ∷ []
+figure_generics = refl
+
+figure_built : has_built_code (program_code figure []) ≡ true
+unfolding built_count
+figure_built = refl
+
+figure_refers : refers (program_tables figure []) (program_code figure []) 7 ≡ true
+unfolding built_count
+figure_refers = refl
+
+abbrev figure_image : Image
+figure_image =
+    record {
+      arrays = [];
+      kinds = program_kinds figure;
+      sets = program_sets figure;
+      templates = [];
+      words = program_words figure [];
+      generics = program_generics figure [];
+      texts = program_texts figure [];
+      code = program_code figure [];
+      start = 7;
+      built = figure_built;
+      refers = figure_refers;
+    }
+
+-- the method on `point` is entered, and behind it that on `object`
+figure_ends : ended (steps figure_image 40 (starting figure_image [] (first_world figure_image [])) 20) ≡ Some (m_plain (int (pos 8)) ∷ [], 11)
+unfolding prim_fn prim_numbered
+figure_ends = refl

@@ -1,13 +1,9 @@
 -- The rows of the kinds of a program, and what they say of its classes.
-use Rattle.std.proofs.Common.{◌≡◌, ◌<◌, ◌≤◌, ℕ, zero, suc, ◌+◌, ◌-◌, List, [], ◌∷◌, ◌++◌, length, map, Bool, true, false, Option, Some, None, refl, ap, sym, subst, ◌∙◌, arith, true≢false}
-use Rattle.std.proofs.lemmas.List.{length-map}
-use Rattle.std.specs.Prelude.{nat_eq, nat_lt, slice_get}
+use Rattle.std.proofs.Common.{◌≡◌, ◌<◌, ℕ, zero, suc, ◌+◌, ◌-◌, List, [], ◌∷◌, Bool, true, false, Option, Some, None, refl, ap, sym, ◌∙◌, arith, true≢false}
+use Rattle.std.specs.Prelude.{nat_eq, slice_get}
 use Rattle.fac_lang.specs.declared.program.ClassDef.{ClassDef}
 use Rattle.fac_lang.specs.declared.program.Program.{Program}
-use Rattle.fac_lang.specs.declared.program.Shape.{Shape}
-use Rattle.fac_lang.specs.declared.program.Shape.TheVariants.{Kind as built_in, Tuple as tuple_class, Union as union, Single as single}
-use Rattle.fac_lang.specs.Classes.{has_own, own_kind, class_with, shape_at, slots_within}
-use Rattle.fac_code.specs.declared.image.KindRow.{KindRow}
+use Rattle.fac_lang.specs.Classes.{has_own, own_kind, class_with}
 use Rattle.fac_emit.specs.ProgramTables.{kind_names, slot_numbers, kinds_from}
 
 never_true : {A : Type 0} → false ≡ true → A

@@ -35,8 +35,10 @@ pub mod Emitted
 pub mod CodedItems
 pub mod ArrayLemmas
 pub mod NumberLemmas
+pub mod MethodPlaces
 pub mod SlotLemmas
 pub mod CountLemmas
 pub mod SetLemmas
+pub mod ClosedTables
 pub mod TopRow
 pub mod ExamplesOfCode

@@ -1,7 +1,7 @@
 -- The literal arrays of an image of plain code are made as those of its program.
-use Rattle.std.proofs.Common.{◌≡◌, ℕ, zero, suc, ◌+◌, List, [], ◌∷◌, ◌++◌, length, Option, Some, None, refl, ap, sym, subst, ◌∙◌, arith}
+use Rattle.std.proofs.Common.{◌≡◌, ℕ, suc, List, [], ◌∷◌, ◌++◌, length, Option, refl, ap, sym, subst, ◌∙◌, arith}
 use Rattle.std.proofs.lemmas.List.{length-map}
-use Rattle.std.specs.Prelude.{map, slice_get}
+use Rattle.std.specs.Prelude.{map}
 use Rattle.fac_lang.specs.declared.phrase.Template.{Template}
 use Rattle.fac_lang.specs.declared.program.Program.{Program}
 use Rattle.fac_lang.specs.declared.program.Lit.{Lit}
@@ -15,17 +15,17 @@ use Rattle.fac_locals.specs.Literals.{Quoted, behind, first_in_array, element_it
 use Rattle.fac_locals.specs.Closed.{Closes, ClosesElement, CloseElements, CloseArrays}
 use Rattle.fac_code.specs.declared.image.Elem.{Elem}
 use Rattle.fac_code.specs.declared.image.Image.{Image}
-use Rattle.fac_store.specs.MachineValues.{MValue, m_plain, m_fun, m_lit, none_kept}
+use Rattle.fac_store.specs.MachineValues.{MValue, m_fun, m_lit, none_kept}
 use Rattle.fac_vm.specs.Machine.{element_value, with_arrays, first_world}
 use Rattle.fac_emit.specs.MachineView.{Templates, template_phrases, value_view, values_view, object_view, world_view}
 use Rattle.fac_emit.specs.WholeValues.{Whole, AllWhole, WholeObjects}
 use Rattle.fac_emit.specs.ProgramCode.{program_texts, elem_of, with_element_text, elems_of, elements_texts, arrays_of, arrays_texts, IsPlain}
 use Rattle.fac_emit.proofs.KeptPrimitives.{object_added}
 use Rattle.fac_emit.proofs.LiteralWords.{is_listed_in_array}
-use Rattle.fac_emit.proofs.Placed.{RowFor, listed_row}
+use Rattle.fac_emit.proofs.Placed.{listed_row}
 use Rattle.fac_emit.proofs.PlacedWords.{texts_begin}
 use Rattle.fac_emit.proofs.SamePrimitives.{map_more}
-use Rattle.fac_emit.proofs.TextLists.{Begins, begins_same, begins_on, elements_behind, arrays_behind, element_there}
+use Rattle.fac_emit.proofs.TextLists.{Begins, begins_same, begins_on, arrays_behind, element_there}
 
 pub has_first : (xs : List ℕ) (x : ℕ) → (i : ℕ) × (is : List ℕ) × (xs ++ x ∷ [] ≡ i ∷ is)
 has_first [] x = (x, [], refl)

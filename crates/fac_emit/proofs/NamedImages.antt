@@ -1,5 +1,5 @@
 -- What an image of plain code says of words and kinds is what its program says.
-use Rattle.std.proofs.Common.{◌≡◌, ◌<◌, ◌≤◌, ℕ, zero, suc, ◌+◌, ◌-◌, List, [], ◌∷◌, ◌++◌, length, map, Bool, true, false, Option, Some, None, refl, ap, sym, subst, ◌∙◌, arith, true≢false, length-append, inl, inr}
+use Rattle.std.proofs.Common.{◌≡◌, ◌≤◌, ℕ, zero, suc, ◌+◌, ◌-◌, List, [], ◌∷◌, ◌++◌, length, map, Bool, true, false, Option, Some, None, refl, ap, sym, ◌∙◌, arith, true≢false, length-append, inl, inr}
 use Rattle.std.proofs.lemmas.Bool.{lt-ltb, cases_lt}
 use Rattle.std.proofs.lemmas.List.{length-map}
 use Rattle.std.proofs.lemmas.Option.{slice_get-map}
@@ -15,24 +15,24 @@ use Rattle.fac_lang.specs.declared.program.Sort.{Sort}
 use Rattle.fac_lang.specs.declared.program.Sort.TheVariants.{Class as class}
 use Rattle.fac_lang.specs.Classes.{has_own, own_kind, class_with, shape_at, is_single, is_tuple, slots_within}
 use Rattle.fac_lang.specs.Forms.{IsBuilt}
-use Rattle.fac_lang.specs.Meaning.{sort_of, class_of_word, own_or_word, names}
-use Rattle.fac_lang.specs.Printed.{Names, or_empty}
+use Rattle.fac_lang.specs.Meaning.{sort_of, own_or_word, names}
+use Rattle.fac_lang.specs.Printed.{or_empty}
 use Rattle.fac_locals.specs.Closed.{Closes}
-use Rattle.fac_locals.proofs.Lookups.{word_closed, word_closed_none}
+use Rattle.fac_locals.proofs.Lookups.{word_closed_none}
 use Rattle.fac_code.specs.declared.image.Image.{Image}
 use Rattle.fac_code.specs.declared.image.KindRow.{KindRow}
 use Rattle.fac_code.specs.declared.image.Tables.{Tables}
 use Rattle.fac_code.specs.declared.image.WordRow.{WordRow}
 use Rattle.fac_code.specs.Images.{tables_of}
 use Rattle.fac_code.specs.ImageNames.{text_of, kind_row, row_slots, own_kind_of, with_count, single_kind, image_names}
-use Rattle.fac_emit.specs.ProgramTables.{word_names, slot_names, slot_number, kind_names, table_texts, slot_numbers, kinds_from, program_kinds}
-use Rattle.fac_emit.specs.ProgramCode.{sort_texts, word_code, sort_kind, word_row, words_from, program_words, IsPlain}
+use Rattle.fac_emit.specs.ProgramTables.{word_names, slot_names, slot_number, kind_names, table_texts, slot_numbers, kinds_from}
+use Rattle.fac_emit.specs.ProgramCode.{sort_texts, word_code, sort_kind, words_from, IsPlain}
 use Rattle.fac_emit.proofs.Closings.{Alike, a_same, a_body, a_past, a_method, alike}
-use Rattle.fac_emit.proofs.KindRows.{no_class, KindOf, FindsKind, k_found, k_none, finds_kind, OwnOf, own_of}
-use Rattle.fac_emit.proofs.PlacedWords.{WordPut, word_put, tables_begin}
-use Rattle.fac_emit.proofs.TableLemmas.{IsAmong, AreAmong, class_named, slot_text}
+use Rattle.fac_emit.proofs.KindRows.{no_class, KindOf, FindsKind, k_found, k_none, finds_kind, own_of}
+use Rattle.fac_emit.proofs.PlacedWords.{word_put, tables_begin}
+use Rattle.fac_emit.proofs.TableLemmas.{AreAmong, class_named, slot_text}
 use Rattle.fac_emit.proofs.TableNumbers.{texts_same, kind_rows_same}
-use Rattle.fac_emit.proofs.TextLists.{Begins, front_there, get_front, get_more}
+use Rattle.fac_emit.proofs.TextLists.{front_there, get_front, get_more}
 
 never_true : {A : Type 0} → false ≡ true → A
 never_true h = absurd (true≢false (sym h))

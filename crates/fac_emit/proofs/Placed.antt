@@ -157,4 +157,3 @@ module _ (P C : Program) (templates : List Template) (closes : Closes P C templa
 
     pub quotation_row : (q : ℕ) (l : Quoted) → l.0.word < length P.words → literal_numbered P q ≡ l → RowFor q
     quotation_row q l lt e = row_or q l (slice_get templates q) (is_listed P q l lt e) refl
-

@@ -7,10 +7,10 @@ use Rattle.fac_lang.specs.declared.program.Program.{Program}
 use Rattle.fac_lang.specs.declared.program.WordDef.{WordDef}
 use Rattle.fac_lang.specs.declared.program.Sort.{Sort}
 use Rattle.fac_lang.specs.declared.program.Sort.TheVariants.{Body as body, Generic as generic, Method as method}
-use Rattle.fac_lang.specs.Phrases.{Literal, Phrase}
+use Rattle.fac_lang.specs.Phrases.{Phrase}
 use Rattle.fac_lang.specs.Forms.{IsBuilt}
 use Rattle.fac_lang.specs.Classes.{has_kind, word_in, pick, next}
-use Rattle.fac_lang.specs.Meaning.{sort_of, sort_phrase, generic_of}
+use Rattle.fac_lang.specs.Meaning.{sort_of, sort_phrase}
 use Rattle.fac_lang.proofs.FormsLemmas.{sort_at, top_sort}
 use Rattle.fac_locals.specs.Literals.{first_of_word}
 use Rattle.fac_locals.specs.Closed.{Closes, ClosesSort, ClosesWord}
@@ -23,14 +23,14 @@ use Rattle.fac_code.specs.declared.image.MethodRow.{MethodRow}
 use Rattle.fac_code.specs.declared.image.WordRow.{WordRow}
 use Rattle.fac_generic.specs.Methods.{methods_in_order, first_with}
 use Rattle.fac_vm.specs.Machine.{set_has, method_for, method_after}
-use Rattle.fac_emit.specs.ProgramTables.{table_texts, generics_among, generic_number, method_row, generics_from, program_sets}
-use Rattle.fac_emit.specs.ProgramCode.{phrase_code, phrase_texts, templates_code, templates_texts, last_instr, sort_action, sort_code, sort_texts, words_texts, word_row, word_code, words_from, program_texts, program_words, code_place, program_generics, IsPlain}
+use Rattle.fac_emit.specs.ProgramTables.{table_texts, generics_among, generic_number, method_row, generics_from}
+use Rattle.fac_emit.specs.ProgramCode.{phrase_code, phrase_texts, templates_code, templates_texts, last_instr, sort_action, sort_code, sort_texts, word_row, word_code, program_texts, program_words, code_place, program_generics, IsPlain}
 use Rattle.fac_emit.specs.Stands.{RunsPhrase, HasCode, SameMethod}
 use Rattle.fac_emit.proofs.ClassSets.{set_same}
 use Rattle.fac_emit.proofs.Closings.{Alike, a_same, a_body, a_past, a_method, alike, Closing, closing}
 use Rattle.fac_generic.specs.Methods.{MethodLaws}
-use Rattle.fac_emit.proofs.Placed.{Placed, placed, behind_templates}
-use Rattle.fac_emit.proofs.RunningPhrases.{IsMethod, RunsAs, word_runs}
+use Rattle.fac_emit.proofs.Placed.{placed, behind_templates}
+use Rattle.fac_emit.proofs.RunningPhrases.{RunsAs}
 use Rattle.fac_emit.proofs.TableNumbers.{order_same, sets_same}
 use Rattle.fac_emit.proofs.TextLists.{Begins, begins_on, templates_behind, words_behind, arrays_behind}
 

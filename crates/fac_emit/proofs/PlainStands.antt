@@ -1,20 +1,19 @@
 -- The plain code of a closed program stands for the phrases of its program.
 use Rattle.std.proofs.Common.{◌≡◌, ◌<◌, ℕ, zero, suc, ◌+◌, List, [], ◌∷◌, ◌++◌, length, drop, map, Bool, true, false, Option, Some, None, refl, ap, sym, subst, ◌∙◌, arith, true≢false}
 use Rattle.std.proofs.lemmas.Bool.{ne_eqb}
-use Rattle.std.specs.Prelude.{◌&&◌, nat_eq, slice_get}
-use Rattle.std.specs.List.{list_any, list_all, position_or_len}
+use Rattle.std.specs.Prelude.{nat_eq, slice_get}
 use Rattle.fac_lang.specs.declared.phrase.Template.{Template}
 use Rattle.fac_lang.specs.declared.program.Program.{Program}
 use Rattle.fac_lang.specs.declared.program.WordDef.{WordDef}
 use Rattle.fac_lang.specs.declared.program.Sort.{Sort}
 use Rattle.fac_lang.specs.declared.program.Sort.TheVariants.{Prim as prim_sort, Core as core_sort, Body as body, Itself as itself, Class as class, Isa as isa, Getter as getter, Setter as setter, Putter as putter, Generic as generic, Method as method}
-use Rattle.fac_lang.specs.Phrases.{Literal, Phrase, quot, word, next_method, next_after}
+use Rattle.fac_lang.specs.Phrases.{Literal, Phrase, quot, word, next_after}
 use Rattle.fac_lang.specs.Forms.{IsBuilt, IsBuiltSort}
-use Rattle.fac_lang.specs.Whole.{IsWhole, sort_fits, is_class, is_generic}
+use Rattle.fac_lang.specs.Whole.{IsWhole}
 use Rattle.fac_lang.specs.CoreWords.{is_built_core}
 use Rattle.fac_lang.specs.Classes.{next}
 use Rattle.fac_lang.specs.Meaning.{sort_of, sort_phrase, word_phrase, generic_of, sort_act, core_numbered}
-use Rattle.fac_lang.proofs.FormsLemmas.{word_below, sort_at, top_word, top_sort}
+use Rattle.fac_lang.proofs.FormsLemmas.{word_below, sort_at, top_word}
 use Rattle.fac_locals.specs.Literals.{Quoted, first_of_word, first_of_literal, literal_numbered}
 use Rattle.fac_locals.specs.Closed.{Closes, ClosesSort}
 use Rattle.fac_locals.proofs.Lookups.{word_closed, template_closed}
@@ -22,7 +21,6 @@ use Rattle.fac_code.specs.declared.image.Instr.{Instr}
 use Rattle.fac_code.specs.declared.image.Instr.TheVariants.{Halt, Int, True, False, Text, Array, Word, Quot, Callw, Ret, Boa}
 use Rattle.fac_code.specs.declared.image.Action.TheVariants as action
 use Rattle.fac_code.specs.declared.image.Image.{Image}
-use Rattle.fac_code.specs.declared.image.GenericRow.{GenericRow}
 use Rattle.fac_code.specs.declared.image.TemplateRow.{TemplateRow}
 use Rattle.fac_code.specs.declared.image.WordRow.{WordRow}
 use Rattle.fac_generic.specs.Methods.{methods_in_order}
@@ -31,17 +29,17 @@ use Rattle.fac_emit.specs.Accessors.{Accessor, getting, setting, putting, access
 use Rattle.fac_emit.specs.MachineView.{template_phrases}
 use Rattle.fac_vm.specs.Machine.{method_after}
 use Rattle.fac_emit.specs.ProgramTables.{table_texts, slot_names, slot_number, accessed, generic_number, method_number, method_row}
-use Rattle.fac_emit.specs.ProgramCode.{core_instr, sort_instr, word_instr, item_instr, phrase_code, phrase_texts, last_instr, sort_action, sort_code, word_row, code_place, program_words, IsPlain}
-use Rattle.fac_emit.specs.Stands.{RunsPhrase, HasCode, SameMethod, l_word, l_call, l_if, l_generic, l_next, Translates, t_int, t_true, t_false, t_text, t_array, t_reference, t_symbol, t_quot, t_prim, t_accessor, t_isa, t_dip, t_boa, t_stuck, t_calling, Stands, s_end, s_item, Coded, PlainCode}
+use Rattle.fac_emit.specs.ProgramCode.{core_instr, sort_instr, item_instr, phrase_code, phrase_texts, last_instr, sort_action, sort_code, word_row, code_place, program_words, IsPlain}
+use Rattle.fac_emit.specs.Stands.{RunsPhrase, SameMethod, l_word, l_call, l_if, l_generic, l_next, Translates, t_int, t_true, t_false, t_text, t_array, t_reference, t_symbol, t_quot, t_prim, t_accessor, t_isa, t_dip, t_boa, t_stuck, t_calling, Stands, s_end, s_item, Coded, PlainCode}
 use Rattle.fac_emit.proofs.Closings.{Closing, c_end, c_int, c_true, c_false, c_text, c_array, c_ref, c_word, c_quot, c_outside, c_next, closing}
-use Rattle.fac_emit.proofs.FirstWords.{DoAsSorts, any_there, first_prim, first_accessor}
+use Rattle.fac_emit.proofs.FirstWords.{DoAsSorts, first_prim, first_accessor}
 use Rattle.fac_generic.specs.Methods.{MethodLaws}
 use Rattle.fac_emit.proofs.NextMethods.{method_found}
 use Rattle.fac_emit.proofs.Placed.{code_at, template_at, literal_of, all_rows, quotation_row}
-use Rattle.fac_emit.proofs.PlacedWords.{found_below, element_at, ran, texts_begin, tables_begin, WordPut, word_put, word_does, has_code, one_place, in_set, picked_same, next_same, generic_row, word_there}
+use Rattle.fac_emit.proofs.PlacedWords.{found_below, element_at, ran, texts_begin, tables_begin, WordPut, word_put, word_does, has_code, one_place, in_set, picked_same, next_same, generic_row}
 use Rattle.fac_emit.proofs.RunningPhrases.{IsMethod, word_runs, literal_runs}
-use Rattle.fac_emit.proofs.TableLemmas.{IsAmong, AreAmong, first_of, accessor_named, slot_text}
-use Rattle.fac_emit.proofs.TableNumbers.{slot_same, texts_same, generic_same, generic_of_same, method_same}
+use Rattle.fac_emit.proofs.TableLemmas.{IsAmong, AreAmong, accessor_named, slot_text}
+use Rattle.fac_emit.proofs.TableNumbers.{slot_same, texts_same, generic_of_same, method_same}
 use Rattle.fac_emit.proofs.TextLists.{Begins, front_there, text_there}
 
 never_true : {A : Type 0} → false ≡ true → A

@@ -13,7 +13,7 @@ use Rattle.fac_lang.specs.declared.program.Program.{Program}
 use Rattle.fac_lang.specs.declared.program.WordDef.{WordDef}
 use Rattle.fac_lang.specs.declared.program.Sort.{Sort}
 use Rattle.fac_lang.specs.declared.program.Sort.TheVariants.{Prim as prim_sort, Core as core_sort, Body as body, Past as past, Itself as itself, Class as class, Isa as isa, Getter as getter, Setter as setter, Putter as putter, Generic as generic, Method as method}
-use Rattle.fac_lang.specs.Phrases.{wrd, Literal, Phrase, end, then, lit, lit_arr, quot, word}
+use Rattle.fac_lang.specs.Phrases.{Literal, Phrase, end, then}
 use Rattle.fac_lang.specs.Substitution.{of_method}
 use Rattle.fac_lang.specs.Classes.{own_kind}
 use Rattle.fac_lang.specs.Forms.{IsBuilt, IsBuiltSort, AreBuiltWords, IsBuiltElement, AreBuiltElements, AreBuiltArrays}
@@ -29,15 +29,14 @@ use Rattle.fac_code.specs.declared.image.Instr.{Instr}
 use Rattle.fac_code.specs.declared.image.Instr.TheVariants.{Ret}
 use Rattle.fac_code.specs.declared.image.Action.TheVariants as action
 use Rattle.fac_code.specs.declared.image.GenericRow.{GenericRow}
-use Rattle.fac_code.specs.declared.image.KindRow.{KindRow}
 use Rattle.fac_code.specs.declared.image.MethodRow.{MethodRow}
 use Rattle.fac_code.specs.declared.image.Tables.{Tables}
 use Rattle.fac_code.specs.declared.image.TemplateRow.{TemplateRow}
 use Rattle.fac_code.specs.declared.image.WordRow.{WordRow}
 use Rattle.fac_code.specs.References.{names_code, names_quotation, names_method, names_constant, elem_refers, arrays_refer, instr_refers, action_refers, own_refers, word_refers, template_refers, kind_refers, set_refers, method_refers, generic_refers, tables_refer, refers}
 use Rattle.fac_generic.specs.Methods.{methods_in_order}
-use Rattle.fac_emit.specs.ProgramTables.{word_names, kind_names, slot_names, slot_number, accessed, table_texts, generic_number, method_number, method_row, generics_from, program_kinds, program_sets}
-use Rattle.fac_emit.specs.ProgramCode.{core_instr, sort_instr, word_instr, item_instr, with_text, phrase_code, phrase_texts, templates_code, templates_texts, template_rows, last_instr, sort_action, sort_kind, word_row, sort_code, sort_texts, words_texts, word_code, code_from, words_from, code_place, program_code, program_texts, program_words, program_generics, program_tables, elem_of, with_element_text, elems_of, elements_texts, arrays_of, arrays_texts}
+use Rattle.fac_emit.specs.ProgramTables.{word_names, kind_names, slot_names, slot_number, accessed, table_texts, generic_number, method_number, method_row, generics_from, program_kinds}
+use Rattle.fac_emit.specs.ProgramCode.{core_instr, sort_instr, word_instr, item_instr, with_text, phrase_code, phrase_texts, templates_code, templates_texts, last_instr, sort_action, sort_kind, word_row, sort_code, sort_texts, words_texts, word_code, code_from, words_from, program_code, program_texts, program_tables, elem_of, with_element_text, elems_of, elements_texts, arrays_of, arrays_texts}
 use Rattle.fac_emit.proofs.BuiltCode.{and_true}
 use Rattle.fac_emit.proofs.Closings.{drop_behind, Closing, c_end, c_int, c_true, c_false, c_text, c_array, c_ref, c_word, c_quot, c_outside, c_next, closing}
 use Rattle.fac_emit.proofs.MadeArrays.{has_first}
@@ -46,9 +45,9 @@ use Rattle.fac_emit.proofs.NamedArrays.{NamesArrays, SortNames, word_names_array
 use Rattle.fac_emit.proofs.NextMethods.{all_at, method_fits, method_found}
 use Rattle.fac_emit.proofs.TextLists.{Begins, begins_same, begins_on, begins_length, front_there, templates_behind, words_behind, arrays_behind, text_there, element_there}
 use Rattle.fac_emit.proofs.Placed.{Rows, behind_templates, words_placed, literal_of, all_rows, listed_row, quotation_row}
-use Rattle.fac_emit.proofs.PlacedWords.{places, row_of, generic_at, word_there, method_below}
+use Rattle.fac_emit.proofs.PlacedWords.{places, row_of, generic_at, word_there}
 use Rattle.fac_emit.proofs.LiteralWords.{is_listed_in_array}
-use Rattle.fac_emit.proofs.RunningPhrases.{IsMethod, IsRun, RunsAs, word_runs, literal_runs}
+use Rattle.fac_emit.proofs.RunningPhrases.{IsMethod, RunsAs, word_runs, literal_runs}
 use Rattle.fac_emit.proofs.TableLemmas.{IsAmong, AreAmong, accessor_named, slot_text}
 use Rattle.fac_emit.proofs.TableNumbers.{slot_same, texts_same, kind_rows_same, generic_of_same, method_same, order_same, sets_same}
 use Rattle.fac_emit.proofs.TableReferences.{sets_many, kinds_refer, own_refers_so, sets_refer}

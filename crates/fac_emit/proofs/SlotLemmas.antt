@@ -1,5 +1,5 @@
 -- Names among keys, and among their bytes.
-use Rattle.std.proofs.Common.{◌≡◌, ◌<◌, ◌≤◌, Bool, true, false, ℕ, suc, ◌+◌, List, [], ◌∷◌, ◌++◌, length, map, drop, get_or, cond, Option, Some, None, refl, ap, sym, ◌∙◌, arith, if◌then◌else◌, string_bytes, String}
+use Rattle.std.proofs.Common.{◌≡◌, Bool, true, false, ℕ, List, [], ◌∷◌, ◌++◌, length, map, cond, Some, None, refl, ap, arith, if◌then◌else◌, string_bytes, String}
 use Rattle.std.specs.List.{list_any, position, position_or_len}
 use Rattle.std.specs.Prelude.{nat_lt, not}
 use Rattle.std.proofs.lemmas.List.Sums.{prefix_len-le-length}

@@ -1,20 +1,17 @@
 -- The texts, kinds and class sets of a program's tables.
-use Rattle.std.proofs.Common.{◌≡◌, ◌<◌, ◌≤◌, ℕ, zero, suc, ◌+◌, ◌-◌, List, [], ◌∷◌, ◌++◌, length, map, drop, Bool, true, false, cond, Option, Some, None, refl, ap, sym, subst, ◌∙◌, arith, append_assoc, length-append, true≢false}
-use Rattle.std.proofs.lemmas.Bool.{lt-ltb, ltb-true}
+use Rattle.std.proofs.Common.{◌≡◌, ℕ, zero, suc, ◌+◌, List, [], ◌∷◌, ◌++◌, length, Bool, true, false, Option, Some, None, refl, ap, sym, subst, ◌∙◌, arith, append_assoc, true≢false}
 use Rattle.std.proofs.lemmas.List.{length-map}
 use Rattle.std.proofs.lemmas.Slice.Eq.{bytes_eq-Decides}
-use Rattle.std.specs.Prelude.{◌||◌, ◌&&◌, nat_eq, nat_lt, nat_le, slice_get, if◌then◌else◌}
+use Rattle.std.specs.Prelude.{◌||◌, slice_get, if◌then◌else◌}
 use Rattle.std.specs.List.{list_any, position_or_len}
 use Rattle.std.specs.Str.{bytes_eq}
 use Rattle.fac_lang.specs.declared.program.ClassDef.{ClassDef}
 use Rattle.fac_lang.specs.declared.program.Program.{Program}
 use Rattle.fac_lang.specs.declared.program.Shape.{Shape}
 use Rattle.fac_lang.specs.declared.program.Shape.TheVariants.{Kind as built_in, Tuple as tuple_class, Union as union, Single as single}
-use Rattle.fac_lang.specs.declared.program.Sort.{Sort}
 use Rattle.fac_lang.specs.declared.program.WordDef.{WordDef}
-use Rattle.fac_lang.specs.Classes.{has_own, own_kind, class_with, shape_at, slots_within}
-use Rattle.fac_code.specs.declared.image.KindRow.{KindRow}
-use Rattle.fac_emit.specs.ProgramTables.{word_names, with_slot, with_slots, accessed, accessed_slots, own_slots, class_slots, slot_names, slot_number, kind_names, table_texts, slot_numbers, kinds_from, program_kinds}
+use Rattle.fac_lang.specs.Classes.{shape_at, slots_within}
+use Rattle.fac_emit.specs.ProgramTables.{word_names, with_slot, with_slots, accessed, accessed_slots, own_slots, class_slots, slot_names, slot_number, kind_names, table_texts}
 use Rattle.fac_emit.proofs.TextLists.{Begins, begins_same, begins_on, get_front, get_more}
 
 never_true : {A : Type 0} → false ≡ true → A

@@ -1,5 +1,5 @@
 -- The tables of a closed program are those of the program for which it stands.
-use Rattle.std.proofs.Common.{◌≡◌, ℕ, zero, suc, ◌+◌, List, [], ◌∷◌, ◌++◌, length, map, Bool, true, false, Option, Some, None, refl, ap, sym, subst, ◌∙◌}
+use Rattle.std.proofs.Common.{◌≡◌, ℕ, zero, suc, ◌+◌, List, [], ◌∷◌, ◌++◌, length, map, Bool, true, false, Option, Some, None, refl, ap, ◌∙◌}
 use Rattle.std.specs.Prelude.{take, nat_eq, slice_get}
 use Rattle.std.specs.List.{position_or_len}
 use Rattle.std.specs.Str.{bytes_eq}
@@ -9,13 +9,12 @@ use Rattle.fac_lang.specs.declared.program.Program.{Program}
 use Rattle.fac_lang.specs.declared.program.Shape.{Shape}
 use Rattle.fac_lang.specs.declared.program.Shape.TheVariants.{Kind as built_in, Tuple as tuple_class, Union as union, Single as single}
 use Rattle.fac_lang.specs.declared.program.Sort.{Sort}
-use Rattle.fac_lang.specs.declared.program.Sort.TheVariants.{Body as body, Past as past, Generic as generic, Method as method}
+use Rattle.fac_lang.specs.declared.program.Sort.TheVariants.{Generic as generic, Method as method}
 use Rattle.fac_lang.specs.declared.program.WordDef.{WordDef}
 use Rattle.fac_lang.specs.Classes.{has_own, slots_within, methods_from}
 use Rattle.fac_lang.specs.Meaning.{sort_of, generic_of}
 use Rattle.fac_locals.specs.Closed.{Closes}
 use Rattle.fac_code.specs.declared.image.KindRow.{KindRow}
-use Rattle.fac_code.specs.declared.image.GenericRow.{GenericRow}
 use Rattle.fac_generic.specs.Methods.{methods_in_order, in_order}
 use Rattle.fac_emit.specs.ProgramTables.{word_names, accessed, accessed_slots, with_slots, class_slots, slot_names, slot_number, kind_names, table_texts, slot_numbers, kinds_from, program_kinds, program_sets, sets_from, generics_among, generic_number, method_number}
 use Rattle.fac_emit.proofs.Closings.{Alike, a_same, a_body, a_past, a_method, AlikeWords, alike_words}

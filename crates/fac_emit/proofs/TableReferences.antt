@@ -1,6 +1,6 @@
 -- Each number in the kinds, class sets and generics of a program's tables names something.
-use Rattle.std.proofs.Common.{◌≡◌, ◌<◌, ◌≤◌, ℕ, zero, suc, ◌+◌, List, [], ◌∷◌, ◌++◌, length, map, Bool, true, false, ◌&&◌, Option, Some, None, refl, ap, sym, subst, ◌∙◌, arith, true≢false, length-append}
-use Rattle.std.proofs.lemmas.Bool.{lt-ltb, ltb-true, le-leb}
+use Rattle.std.proofs.Common.{◌≡◌, ◌<◌, ◌≤◌, ℕ, zero, suc, ◌+◌, List, [], ◌∷◌, ◌++◌, length, map, Bool, true, false, ◌&&◌, Option, Some, None, refl, ap, sym, ◌∙◌, arith, true≢false, length-append}
+use Rattle.std.proofs.lemmas.Bool.{lt-ltb, le-leb}
 use Rattle.std.proofs.lemmas.List.{length-map}
 use Rattle.std.specs.Prelude.{nat_lt, nat_le, slice_get}
 use Rattle.std.specs.List.{list_all}
@@ -15,7 +15,7 @@ use Rattle.fac_code.specs.References.{texts_refer, slots_refer, kind_refers, is_
 use Rattle.fac_classes.specs.ClassKinds.{kinds_below, kinds_of, kind_total}
 use Rattle.fac_emit.specs.ProgramTables.{word_names, slot_names, slot_number, kind_names, table_texts, slot_numbers, kinds_from, program_kinds, sets_from, program_sets}
 use Rattle.fac_emit.proofs.BuiltCode.{and_true}
-use Rattle.fac_emit.proofs.KindRows.{OwnOf, own_of}
+use Rattle.fac_emit.proofs.KindRows.{own_of}
 use Rattle.fac_emit.proofs.PlacedWords.{found_below}
 use Rattle.fac_emit.proofs.TableLemmas.{AreAmong, class_named, slot_text}
 

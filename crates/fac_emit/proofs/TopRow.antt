@@ -3,9 +3,7 @@ use Rattle.std.proofs.Common.{◌≡◌, ℕ, ◌+◌, List, Option, Some, None,
 use Rattle.std.specs.Prelude.{slice_get}
 use Rattle.fac_lang.specs.declared.phrase.Template.{Template}
 use Rattle.fac_lang.specs.declared.program.Program.{Program}
-use Rattle.fac_lang.specs.declared.program.WordDef.{WordDef}
 use Rattle.fac_lang.specs.declared.program.Sort.{Sort}
-use Rattle.fac_lang.specs.declared.program.Sort.TheVariants.{Body as body}
 use Rattle.fac_lang.specs.Forms.{IsBuilt}
 use Rattle.fac_lang.proofs.FormsLemmas.{top_word}
 use Rattle.fac_locals.specs.Closed.{Closes, ClosesSort}
@@ -23,8 +21,8 @@ top_row P C templates b closes rows are start is =
     let n : 0 + P.top ≡ C.top = let same = closes.top in omega (arith, same) in
     let sort = subst (λ (s : Sort). ClosesSort P P.top s found.closed.sort) b.last_word_is.sort_is found.closes.sort in
     let row : word_row C put.at (0 + P.top) found.closed.sort ≡ record { name = C.top; action = action.Code put.at; kind = None } =
-        ap (λ (k : ℕ). word_row C put.at k found.closed.sort) n ∙ rw sort.1 refl in
+    ap (λ (k : ℕ). word_row C put.at k found.closed.sort) n ∙ rw sort.1 refl in
     let there : slice_get rows C.top ≡ Some (record { name = C.top; action = action.Code put.at; kind = None }) =
-        ap (λ (rs : List WordRow). slice_get rs C.top) are ∙ ap (slice_get (program_words C templates)) closes.top ∙ put.row ∙ ap Some row in
+    ap (λ (rs : List WordRow). slice_get rs C.top) are ∙ ap (slice_get (program_words C templates)) closes.top ∙ put.row ∙ ap Some row in
     let place : put.at ≡ start = sym (is ∙ ap (λ (o : Option WordRow). elim o [ Some r ↦ elim r.action [ action.Code a ↦ a | _ ↦ 0 ] | None ↦ 0 ]) there) in
     there ∙ ap (λ (a : ℕ). Some (record { name = C.top; action = action.Code a; kind = None })) place

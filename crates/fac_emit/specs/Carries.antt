@@ -10,7 +10,7 @@ use Rattle.fac_lang.specs.RunningLaws.{IsNotStuck}
 use Rattle.fac_code.specs.declared.image.Image.{Image}
 use Rattle.fac_code.specs.ImageNames.{image_names}
 use Rattle.fac_store.specs.MachineValues.{MValue}
-use Rattle.fac_vm.specs.Machine.{Machine, End, done, failed, spent, Ends, starting, first_world}
+use Rattle.fac_vm.specs.Machine.{End, done, failed, spent, Ends, starting, first_world}
 use Rattle.fac_emit.specs.MachineView.{Templates, template_phrases, values_view, state_view, world_view, error_view}
 use Rattle.fac_emit.specs.WholeValues.{AllWhole, WholeObjects}
 

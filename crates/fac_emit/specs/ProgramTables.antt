@@ -1,6 +1,6 @@
 -- The tables of a program: its slots and kinds with their texts, its class sets and its generics, and the numbers by which code names them. No phrase is in
 -- them, so those of a closed program are those of the program for which it stands.
-use Rattle.std.specs.Prelude.{ℕ, zero, suc, ◌+◌, List, [], ◌∷◌, ◌++◌, length, map, take, nat_eq, true, false, Option, Some, None, if◌then◌else◌}
+use Rattle.std.specs.Prelude.{ℕ, suc, ◌+◌, List, [], ◌∷◌, ◌++◌, length, map, take, nat_eq, true, false, Option, Some, None, if◌then◌else◌}
 use Rattle.std.specs.List.{list_any, position_or_len}
 use Rattle.std.specs.Str.{bytes_eq}
 use Rattle.fac_lang.specs.declared.program.Program.{Program}

@@ -1,5 +1,5 @@
 //! The compiler: the code of the templates and the words is linked to an image.
-ghost use Rattle.std.specs.Prelude.{◌≡◌, ◌++◌, [], ℕ, Bool, true, nat_eq, Option, Some, IfOk, OnOk};
+ghost use Rattle.std.specs.Prelude.{◌≡◌, ◌<◌, ◌+◌, ◌^◌, ◌++◌, [], ℕ, Bool, true, nat_eq, length, Option, Some, IfOk, OnOk};
 ghost use Rattle.std.specs.List.{list_all};
 ghost use Rattle.fac_lang.specs.declared.program.Program.{Program as Source};
 ghost use Rattle.fac_lang.specs.declared.phrase.Height.{Height};
@@ -9,25 +9,26 @@ ghost use Rattle.fac_lang.specs.Whole.{IsWhole};
 ghost use Rattle.fac_lang.specs.Classes.{own_kind};
 ghost use Rattle.fac_lang.specs.Meaning.{sort_of};
 ghost use Rattle.fac_locals.specs.Closed.{Closes};
-ghost use Rattle.fac_generic.specs.Methods.{MethodLaws};
-ghost use Rattle.fac_emit.specs.ProgramTables.{table_texts, word_numbers};
+ghost use Rattle.fac_classes.specs.ClassKinds.{CanBeBuilt};
+ghost use Rattle.fac_generic.specs.Methods.{HasMethods, MethodLaws};
+ghost use Rattle.fac_emit.specs.ProgramTables.{slot_names, table_texts, word_numbers};
 ghost use Rattle.fac_emit.specs.Carries.{Carries};
 ghost use Rattle.fac_emit.specs.Stands.{PlainCode};
-ghost use Rattle.fac_emit.specs.ProgramCode.{sort_kind, word_row, code_place, IsPlain};
+ghost use Rattle.fac_emit.specs.ProgramCode.{sort_kind, word_row, code_place, program_words, IsPlain};
 ghost use Rattle.fac_emit.specs.inner.Coded.{body_is_coded, word_body_is_coded};
 ghost use Rattle.fac_emit.specs.inner.Numbered.{numbered_action};
 ghost use Rattle.fac_emit.specs.inner.Parts.{AreParts, AreTables, PlacesWord, PlacesWords};
 
 use crate::arrays::add_arrays;
-use crate::emitter::{Piece, add_templates, add_word};
 use crate::dispatch::{generics_of, places_of};
+use crate::emitter::{Piece, add_templates, add_word};
 use crate::numbers::{number_of, numbers_of, texts_of};
 use crate::rows::place_of;
-use crate::slots::slots_of;
+use crate::slots::{Slots, slots_of};
 use crate::tables::{kinds_of, sets_of};
 use fac_classes::Classes;
 use fac_code::{Action, Elem, GenericRow, Image, KindRow, TemplateRow, WordRow};
-use fac_generic::{methods_are_lawful, tables as method_tables};
+use fac_generic::{Tables, methods_are_lawful, tables as method_tables};
 use fac_lang::{List, Memory, Program, Sort, Text};
 use fac_locals::Closed;
 use std::alloc::Global;
@@ -235,6 +236,74 @@ fn image_of(closed: &Closed, parts: Parts, tables: ClassTables) -> Image
     }
 }
 
+// The code of a closed program behind these texts, with its literal arrays and its tables, where these are its methods and slots.
+fn parts_of(
+    alloc: Global,
+    closed: &Closed,
+    classes: &Classes,
+    methods: &Tables,
+    slots: &Slots,
+    texts: List<Text>,
+) -> Result<Parts, Memory>
+    requires closed { (P : Source) × Closes P closed.now.program closed.now.templates × IsBuilt P × IsWhole P }
+    requires classes { classes.now ≡ closed.now.program.classes }
+    requires fits { HasMethods closed.now.program }
+    requires methods { methods.now ≡ closed.now.program }
+    requires slots { slots.now ≡ slot_names closed.now.program }
+    requires short { length closed.now.program.words + length slots.now < 2 ^ 32 }
+    requires texts { texts ≡ table_texts closed.now.program }
+    ensures { IfOk result (AreParts closed.now.program closed.now.templates) }
+{
+    let places = places_of(alloc, &closed.program, methods)?;
+    let numbers = numbers_of(alloc, &closed.program, slots, &places)?;
+    link(alloc, closed, texts, &numbers, classes)
+}
+
+// The tables of a program that no phrase is in, where these are its methods and slots, and its words have these rows.
+fn tables_of(
+    alloc: Global,
+    closed: &Closed,
+    classes: &Classes,
+    methods: &Tables,
+    slots: &Slots,
+    rows: &List<WordRow>,
+) -> Result<ClassTables, Memory>
+    requires classes { classes.now ≡ closed.now.program.classes }
+    requires fits { HasMethods closed.now.program }
+    requires methods { methods.now ≡ closed.now.program }
+    requires slots { slots.now ≡ slot_names closed.now.program }
+    requires short { length (table_texts closed.now.program) < 2 ^ 32 }
+    requires rows { rows.now ≡ program_words closed.now.program closed.now.templates }
+    ensures { IfOk result (AreTables closed.now.program closed.now.templates) }
+{
+    let kinds = kinds_of(alloc, &closed.program, classes, slots)?;
+    let sets = sets_of(alloc, classes)?;
+    let generics = generics_of(alloc, &closed.program, methods, rows)?;
+    Ok(ClassTables {
+        kinds,
+        sets,
+        generics,
+    })
+}
+
+// The image of a closed program.
+fn plain_image(alloc: Global, closed: &Closed) -> Result<Image, Memory>
+    requires closed { (P : Source) × Closes P closed.now.program closed.now.templates × IsBuilt P × IsWhole P × MethodLaws P }
+    requires classes { CanBeBuilt closed.now.program }
+    requires methods { HasMethods closed.now.program }
+    ensures { IfOk result (IsPlain closed.now.program closed.now.templates) }
+{
+    let program = &closed.program;
+    let classes = Classes::build(alloc, program)?;
+    let methods = method_tables(alloc, program, &classes)?;
+    let slots = slots_of(alloc, program)?;
+    let texts = texts_of(alloc, program, &slots)?;
+    let _count = texts.len();
+    let parts = parts_of(alloc, closed, &classes, &methods, &slots, texts)?;
+    let tables = tables_of(alloc, closed, &classes, &methods, &slots, &parts.words)?;
+    Ok(image_of(closed, parts, tables))
+}
+
 /// The image of a closed program of the built forms. It carries the program that this one stands for, on every list of as many values as
 /// the closed program starts on and in every world, whose callables are of the image's templates, and at every budget, where that program is
 /// stuck at none; and its literal arrays, as a machine makes them, are those of that program before its first item. Its code stands for the
@@ -249,19 +318,5 @@ pub fn compile(alloc: Global, closed: &Closed) -> Result<Image, Memory>
     ensures plain { IfOk result (IsPlain closed.now.program closed.now.templates) }
 {
     methods_are_lawful();
-    let program = &closed.program;
-    let classes = Classes::build(alloc, program)?;
-    let methods = method_tables(alloc, program, &classes)?;
-    let slots = slots_of(alloc, program)?;
-    let texts = texts_of(alloc, program, &slots)?;
-    let _count = texts.len();
-    let places = places_of(alloc, program, &methods)?;
-    let numbers = numbers_of(alloc, program, &slots, &places)?;
-    let parts = link(alloc, closed, texts, &numbers, &classes)?;
-    let tables = ClassTables {
-        kinds: kinds_of(alloc, program, &classes, &slots)?,
-        sets: sets_of(alloc, &classes)?,
-        generics: generics_of(alloc, program, &methods, &parts.words)?,
-    };
-    Ok(image_of(closed, parts, tables))
+    plain_image(alloc, closed)
 }

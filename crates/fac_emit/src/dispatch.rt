@@ -4,7 +4,7 @@ ghost use Rattle.fac_generic.specs.Methods.{HasMethods, methods_in_order};
 ghost use Rattle.fac_emit.specs.ProgramTables.{method_row, generics_from};
 ghost use Rattle.fac_emit.specs.ProgramCode.{code_place};
 ghost use Rattle.fac_emit.specs.inner.Numbered.{HasPlaces};
-ghost use Rattle.fac_emit.specs.inner.Dispatch.{AreBelow, class_in, generic_rows, placed, all_placed};
+ghost use Rattle.fac_emit.specs.inner.Dispatch.{AreBelow, class_in, generic_rows, placed};
 
 use crate::rows::place_of;
 use fac_code::{GenericRow, MethodRow, WordRow};
@@ -12,15 +12,17 @@ use fac_generic::Tables;
 use fac_lang::{List, Memory, Program, Sort};
 use std::alloc::Global;
 
-// Puts the place of each of these methods. Of one that is there more than once it is the first.
-fn put_places(places: &mut [u32], methods: &[u32])
-    requires { AreBelow (length places.old) methods.now }
-    ensures { places.new ≡ placed methods.now 0 places.old }
+// Puts the place of each of these methods. Of one that is there more than once it is the last.
+fn put_places(places: &mut Vec<u32>, methods: &List<u32>)
+    requires { AreBelow (length places.old.items) methods.now }
+    ensures { places.new.items ≡ placed methods.now 0 places.old.items }
 {
-    let mut place = methods.len();
-    while place > 0 {
-        place -= 1;
-        places[methods[place] as usize] = place as u32;
+    let _count = methods.len();
+    let mut place = 0u32;
+    for method in methods.as_slice() {
+        let index = *method as usize;
+        places[index] = place;
+        place += 1;
     }
 }
 
@@ -32,7 +34,7 @@ pub fn places_of(alloc: Global, program: &Program, tables: &Tables) -> Result<Li
 {
     let mut places = vec![in alloc; 0; program.words.len() as usize]?;
     for generic in 0..program.words.len() {
-        put_places(places.as_mut_slice(), tables.methods(generic).as_slice());
+        put_places(&mut places, tables.methods(generic));
     }
     List::from_vec(places)
 }
@@ -104,10 +106,19 @@ pub fn generics_of(
     requires tables { tables.now ≡ program.now }
     ensures { IfOk result (λ generics. generics ≡ generics_from program.now (code_place rows.now) 0 program.now.words) }
 {
+    let _count = program.words.len();
     let mut generics = List::new(alloc);
     let mut number = 0u32;
     for word in program.words.as_slice() {
-        add_generic(alloc, &mut generics, program, tables, rows, number, &word.sort)?;
+        add_generic(
+            alloc,
+            &mut generics,
+            program,
+            tables,
+            rows,
+            number,
+            &word.sort,
+        )?;
         number += 1;
     }
     Ok(generics)

@@ -129,9 +129,7 @@ pub fn numbers_of(
     let mut generics = 0u32;
     let mut number = 0u32;
     for word in program.words.as_slice() {
-        numbers.push(number_of_sort(
-            program, slots, places, generics, number, &word.sort,
-        ))?;
+        numbers.push(number_of_sort(program, slots, places, generics, number, &word.sort))?;
         generics = behind(generics, &word.sort);
         number += 1;
     }

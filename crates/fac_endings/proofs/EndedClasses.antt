@@ -1,23 +1,22 @@
 -- The classes of a program of which the end refuses nothing.
-use Rattle.std.proofs.Common.{◌≡◌, ◌<◌, ◌≤◌, ◌+◌, ℕ, zero, suc, List, [], ◌∷◌, ◌++◌, map, length, slice_get, Option, Some, None, Bool, true, false, refl, ap, sym, ◌∙◌, subst, arith, length-append}
+use Rattle.std.proofs.Common.{◌≡◌, ◌≤◌, ◌+◌, ℕ, zero, suc, List, [], ◌∷◌, ◌++◌, map, length, slice_get, Option, Some, None, Bool, true, false, refl, ap, sym, ◌∙◌, subst, arith}
 use Rattle.std.specs.Prelude.{◌&&◌, nat_eq, nat_le, nat_lt, not, ◌||◌, if◌then◌else◌}
 use Rattle.std.specs.List.{list_all, list_any}
 use Rattle.std.specs.Option.{option_map}
 use Rattle.std.specs.Str.{bytes_eq}
 use Rattle.std.proofs.lemmas.List.{length-map}
 use Rattle.std.proofs.lemmas.List.Folds.{list_all-append}
-use Rattle.fac_lang.specs.Classes.{shape_at, is_tuple}
-use Rattle.fac_lang.specs.Whole.{is_class, parts_of, reaches, shape_fits}
+use Rattle.fac_lang.specs.Classes.{shape_at}
+use Rattle.fac_lang.specs.Whole.{parts_of, reaches, shape_fits}
 use Rattle.fac_lang.specs.declared.program.ClassDef.{ClassDef}
 use Rattle.fac_lang.specs.declared.program.Program.{Program}
 use Rattle.fac_lang.specs.declared.program.Shape.{Shape}
 use Rattle.fac_lang.specs.declared.program.Shape.TheVariants.{Kind as built_in, Tuple as tuple_class, Union as union, Single as single}
 use Rattle.fac_lang.specs.declared.program.Sort.{Sort}
 use Rattle.fac_lang.specs.declared.program.Sort.TheVariants.{Body as body, Past as past, Itself as itself, Class as class, Isa as isa, Method as method}
-use Rattle.fac_lang.specs.declared.program.WordDef.{WordDef}
 use Rattle.fac_refusal.specs.declared.refusal.NameFault.{NameFault}
 use Rattle.fac_refusal.specs.declared.refusal.NameKind.{NameKind}
-use Rattle.fac_refusal.specs.declared.refusal.NameKind.TheVariants.{Twice, NotClass, BadParent, Cycle}
+use Rattle.fac_refusal.specs.declared.refusal.NameKind.TheVariants.{Twice, BadParent, Cycle}
 use Rattle.fac_refusal.specs.declared.tok.Ref.{Ref}
 use Rattle.fac_refusal.specs.declared.tok.Tok.{Tok}
 use Rattle.fac_refusal.specs.Refusals.{fault, fault_if}
@@ -28,9 +27,9 @@ use Rattle.fac_endings.specs.declared.draft.Late.TheVariants.{Settled as settled
 use Rattle.fac_endings.specs.declared.draft.Named.{Named}
 use Rattle.fac_endings.specs.declared.draft.Named.TheVariants.{Tuple as a_tuple, Union as a_union, Single as a_single}
 use Rattle.fac_endings.specs.declared.draft.NewClass.{NewClass}
-use Rattle.fac_endings.specs.ClassTable.{and_class, class_at, class_of, class_of_sort, class_of_word, classes_at, inherited, is_tuple_class, parent_at, shape_named, word_at, word_numbered}
-use Rattle.fac_endings.specs.LastRefusals.{class_faults, class_fault, members_faults, named_faults, slot_faults, tuple_faults}
-use Rattle.fac_endings.proofs.Apart.{AreApart, all_at, and_true, or_false, true_both}
+use Rattle.fac_endings.specs.ClassTable.{and_class, class_at, class_of, class_of_sort, class_of_word, classes_at, inherited, is_tuple_class, shape_named, word_numbered}
+use Rattle.fac_endings.specs.LastRefusals.{class_faults, named_faults, slot_faults, tuple_faults}
+use Rattle.fac_endings.proofs.Apart.{AreApart, all_at, and_true, true_both}
 use Rattle.fac_endings.proofs.CycleLemmas.{none_reaches}
 use Rattle.fac_endings.proofs.SlotChains.{AreAcyclic, SlotsTested}
 

@@ -1,10 +1,9 @@
 -- Refusals one behind another, and those that stand behind the first.
-use Rattle.std.proofs.Common.{◌≡◌, ◌<◌, ◌+◌, ℕ, zero, suc, nat_eq, List, [], ◌∷◌, ◌++◌, fold, take, drop, get_or, length, Option, Some, None, Bool, true, false, refl, ap, sym, ◌∙◌, arith}
+use Rattle.std.proofs.Common.{◌≡◌, ◌<◌, ◌+◌, ℕ, suc, nat_eq, List, [], ◌∷◌, ◌++◌, fold, take, drop, get_or, length, Option, Some, None, Bool, true, false, refl, ap, sym, ◌∙◌, arith}
 use Rattle.std.specs.Prelude.{◌&&◌, ◌||◌, nat_lt, if◌then◌else◌, not}
 use Rattle.std.specs.List.{list_any}
 use Rattle.std.specs.Str.{bytes_eq}
 use Rattle.std.proofs.lemmas.List.Sums.{fold-append}
-use Rattle.fac_lang.specs.declared.phrase.Place.{Place}
 use Rattle.fac_lang.specs.Whole.{reaches, same_method}
 use Rattle.fac_lang.specs.declared.program.ClassDef.{ClassDef}
 use Rattle.fac_lang.specs.declared.program.WordDef.{WordDef}
@@ -13,14 +12,14 @@ use Rattle.fac_refusal.specs.declared.refusal.NameKind.{NameKind}
 use Rattle.fac_refusal.specs.declared.refusal.NameKind.TheVariants.{Twice, BadParent, Cycle}
 use Rattle.fac_refusal.specs.declared.tok.Ref.{Ref}
 use Rattle.fac_refusal.specs.declared.tok.Tok.{Tok}
-use Rattle.fac_refusal.specs.Refusals.{comes_before, fault, fault_if, rank, sooner}
+use Rattle.fac_refusal.specs.Refusals.{fault, fault_if, rank, sooner}
 use Rattle.fac_refusal.specs.Toks.{is_among, texts_of}
 use Rattle.fac_endings.specs.declared.draft.Draft.{Draft}
 use Rattle.fac_endings.specs.declared.draft.NewClass.{NewClass}
 use Rattle.fac_endings.specs.ClassTable.{class_at, inherited, is_tuple_class}
 use Rattle.fac_endings.specs.FinishedWords.{finished}
 use Rattle.fac_endings.specs.LastRefusals.{class_faults, late_faults, named_faults, slot_faults, too_many, tuple_faults, words_faults}
-use Rattle.fac_endings.specs.inner.Behind.{are_behind, is_behind, place_before}
+use Rattle.fac_endings.specs.inner.Behind.{are_behind, is_behind}
 use Rattle.fac_endings.proofs.ListLemmas.{drop_at, gone_more}
 
 -- two lists of refusals, one after the other

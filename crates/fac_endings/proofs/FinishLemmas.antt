@@ -1,15 +1,13 @@
 -- What the end of the program settles of words.
-use Rattle.std.proofs.Common.{◌≡◌, ◌<◌, ◌≤◌, ◌+◌, ◌⊎◌, inl, inr, ℕ, zero, suc, List, [], ◌∷◌, ◌++◌, map, length, take, get_or, slice_get, Option, Some, None, Result, Ok, Err, refl, ap, sym, ◌∙◌, subst, arith, append-nil, append_assoc}
-use Rattle.std.proofs.lemmas.Option.{slice_get_past, slice_get_within}
+use Rattle.std.proofs.Common.{◌≡◌, ◌<◌, ◌+◌, ◌⊎◌, inl, inr, ℕ, zero, suc, List, [], ◌∷◌, ◌++◌, map, length, take, get_or, slice_get, Option, Some, None, Result, Ok, Err, refl, ap, sym, ◌∙◌, subst, arith, append-nil, append_assoc}
+use Rattle.std.proofs.lemmas.Option.{slice_get_past}
 use Rattle.fac_lang.specs.Classes.{shape_at, parent_in, slots_within}
 use Rattle.std.specs.Prelude.{IfOk}
-use Rattle.fac_lang.specs.Whole.{plain_effect}
 use Rattle.fac_lang.specs.declared.memory.Memory.{Memory}
 use Rattle.fac_lang.specs.declared.program.ClassDef.{ClassDef}
 use Rattle.fac_lang.specs.declared.program.Shape.{Shape}
-use Rattle.fac_lang.specs.declared.program.Shape.TheVariants.{Kind as built_in, Tuple as tuple_class, Union as union, Single as single}
+use Rattle.fac_lang.specs.declared.program.Shape.TheVariants.{Tuple as tuple_class}
 use Rattle.fac_lang.specs.declared.program.WordDef.{WordDef}
-use Rattle.fac_refusal.specs.declared.tok.Ref.{Ref}
 use Rattle.fac_endings.specs.declared.draft.Draft.{Draft}
 use Rattle.fac_endings.specs.declared.finishing.Finish.{Finish}
 use Rattle.fac_endings.specs.ClassTable.{slots_at, slots_in}

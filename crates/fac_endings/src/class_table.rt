@@ -53,11 +53,7 @@ fn shape_of(alloc: Global, drafts: &[Draft], names: &Named) -> Result<Shape, Mem
             parent: parent_at(drafts, parent),
             slots: texts_of(alloc, slots.as_slice())?,
         }),
-        Named::Union(members) => Ok(Shape::Union(classes_at(
-            alloc,
-            drafts,
-            members.as_slice(),
-        )?)),
+        Named::Union(members) => Ok(Shape::Union(classes_at(alloc, drafts, members.as_slice())?)),
         Named::Single => Ok(Shape::Single),
     }
 }

@@ -155,11 +155,7 @@ fn finish_of(
 }
 
 // What is settled of all words.
-fn finishes_of(
-    alloc: Global,
-    table: Table<'_>,
-    slots: &[List<Text>],
-) -> Result<Vec<Finish>, Memory>
+fn finishes_of(alloc: Global, table: Table<'_>, slots: &[List<Text>]) -> Result<Vec<Finish>, Memory>
     requires { AreSlots table.classes.now slots.now }
     ensures { IfOk result (λ finishes. AreFinishes table.entry.drafts.now table.entry.classes.now table.entry.drafts.now finishes.items) }
 {
@@ -175,10 +171,35 @@ fn finishes_of(
 fn as_method(word: WordDef, class: u32, generic: u32, effect: Effect) -> WordDef
     ensures { result ≡ as_method (Some class) generic effect word.sort word }
 {
-    let WordDef { name, sort, effect: own, inline, recursive, place } = word;
+    let WordDef {
+        name,
+        sort,
+        effect: own,
+        inline,
+        recursive,
+        place,
+    } = word;
     match sort {
-        Sort::Body(body) => WordDef { name, sort: Sort::Method { class, generic, body }, effect, inline, recursive, place },
-        other => WordDef { name, sort: other, effect: own, inline, recursive, place },
+        Sort::Body(body) => WordDef {
+            name,
+            sort: Sort::Method {
+                class,
+                generic,
+                body,
+            },
+            effect,
+            inline,
+            recursive,
+            place,
+        },
+        other => WordDef {
+            name,
+            sort: other,
+            effect: own,
+            inline,
+            recursive,
+            place,
+        },
     }
 }
 

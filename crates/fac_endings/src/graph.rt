@@ -45,11 +45,7 @@ fn parts_of(alloc: Global, shape: &Shape) -> Result<List<u32>, Memory>
 }
 
 // Adds the parent or the members of a class.
-fn add_parts(
-    alloc: Global,
-    edges: &mut List<List<u32>>,
-    class: &ClassDef,
-) -> Result<(), Memory>
+fn add_parts(alloc: Global, edges: &mut List<List<u32>>, class: &ClassDef) -> Result<(), Memory>
     ensures { OnOk result (edges.new ≡ edges.old ++ parts_of (Some class.now.shape) ∷ []) }
 {
     let parts = parts_of(alloc, &class.shape)?;

@@ -92,8 +92,20 @@ fn refuse_method(
 {
     refuse_no_class(alloc, first, drafts, class)?;
     let is_generic = is_generic_word(drafts, generic);
-    refuse_if(alloc, first, !is_generic, NameKind::NotGeneric, &generic.tok)?;
-    refuse_if(alloc, first, is_generic && is_second, NameKind::Twice, &generic.tok)
+    refuse_if(
+        alloc,
+        first,
+        !is_generic,
+        NameKind::NotGeneric,
+        &generic.tok,
+    )?;
+    refuse_if(
+        alloc,
+        first,
+        is_generic && is_second,
+        NameKind::Twice,
+        &generic.tok,
+    )
 }
 
 // Refuses a word by what is late of it.

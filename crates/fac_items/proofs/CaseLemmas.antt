@@ -1,14 +1,14 @@
 -- Whether the elements of an array are those that `cond` reads.
-use Rattle.std.proofs.Common.{◌≡◌, Bool, true, false, refl, ap, sym, ◌∙◌}
+use Rattle.std.proofs.Common.{◌≡◌, false, refl, ap, ◌∙◌}
 use Rattle.fac_lang.specs.declared.phrase.Place.{Place}
 use Rattle.fac_items.specs.declared.cases.Cases.{Cases}
 use Rattle.fac_items.specs.declared.cases.Cases.TheVariants.{Nothing, OneQuotation, TwoQuotations, Pairs, PairsAndLast, Other}
 use Rattle.fac_items.specs.declared.cases.Child.{Child}
 use Rattle.fac_items.specs.declared.cases.Child.TheVariants as child
-use Rattle.fac_items.specs.Written.{Node, n_lit, n_array, n_quot, n_name, n_next, Nodes, nothing, more}
+use Rattle.fac_items.specs.Written.{Node, n_array, n_quot, Nodes, nothing, more}
 use Rattle.fac_items.specs.Readings.{are_pairs}
 use Rattle.fac_items.specs.inner.CaseLists.{are_cases, array_child, with_child}
-use Rattle.fac_items.proofs.RawNodes.{AreRaw, IsRaw}
+use Rattle.fac_items.proofs.RawNodes.{AreRaw}
 
 -- what raw nodes are as elements
 abbrev mutual

@@ -1,5 +1,5 @@
 -- The rows of the code's tables.
-use Rattle.std.proofs.Common.{◌≡◌, ◌<◌, ◌≤◌, ◌-◌, ◌+◌, ℕ, zero, suc, List, [], ◌∷◌, ◌++◌, length, map, get_or, slice_get, Option, Some, None, true, false, refl, ap, sym, ◌∙◌, subst, arith}
+use Rattle.std.proofs.Common.{◌≡◌, ◌≤◌, ◌-◌, ℕ, zero, suc, List, [], ◌∷◌, ◌++◌, length, map, get_or, slice_get, Option, Some, None, true, false, refl, ap, sym, ◌∙◌, arith}
 use Rattle.std.specs.Option.{option_map}
 use Rattle.std.specs.Prelude.{nat_lt}
 use Rattle.std.proofs.lemmas.Bool.Decides.{Decides-ltb}
@@ -12,7 +12,6 @@ use Rattle.fac_lang.specs.Primitives.{built_primitive_words}
 use Rattle.fac_lang.specs.WrittenWords.{written_core, written_word}
 use Rattle.fac_lang.specs.declared.core_table.CoreRow.{CoreRow}
 use Rattle.fac_lang.specs.declared.primitive_table.PrimitiveRow.{PrimitiveRow}
-use Rattle.fac_lang.specs.declared.word_row.WordRow.{WordRow}
 use Rattle.fac_items.specs.Items.{known_rows}
 use Rattle.fac_items.specs.inner.KnownRows.{option_row}
 

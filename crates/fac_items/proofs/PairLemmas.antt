@@ -1,18 +1,18 @@
 -- The reading of pairs, one bit after another.
-use Rattle.std.proofs.Common.{◌≡◌, ◌<◌, ◌+◌, ◌-◌, ℕ, zero, suc, List, [], ◌∷◌, ◌++◌, fold, take, drop, Bool, true, false, refl, ap, sym, ◌∙◌, append_assoc, append-nil, arith}
+use Rattle.std.proofs.Common.{◌≡◌, ◌<◌, ◌+◌, ◌-◌, ℕ, suc, List, [], ◌∷◌, ◌++◌, fold, take, drop, Bool, true, false, refl, ap, sym, ◌∙◌, append_assoc, append-nil, arith}
 use Rattle.std.specs.List.{drop-map, take-map}
 use Rattle.std.proofs.lemmas.List.Sums.{fold-append}
 use Rattle.fac_lang.specs.declared.phrase.Place.{Place}
 use Rattle.fac_lang.specs.declared.tree.Bracket.TheVariants.{Quotation, Array}
 use Rattle.fac_items.specs.declared.pairs.Spot.{Spot}
-use Rattle.fac_items.specs.declared.pairs.Spot.TheVariants.{Between, BeforeFirst, BeforeSecond, BehindSecond, Inside}
+use Rattle.fac_items.specs.declared.pairs.Spot.TheVariants.{Between, Inside}
 use Rattle.fac_items.specs.declared.pairs.Which.{Which}
 use Rattle.fac_items.specs.declared.pairs.Which.TheVariants.{First, Second, Last}
 use Rattle.fac_items.specs.declared.piece.Added.TheVariants as add
 use Rattle.fac_items.specs.declared.piece.Piece.{Piece}
 use Rattle.fac_items.specs.Written.{Node, n_lit, n_array, n_quot, n_name, n_next, n_full, n_part, Nodes, nothing, more}
 use Rattle.fac_items.specs.Readings.{are_pairs, read_items, read_pairs, read_elements}
-use Rattle.fac_items.specs.inner.Bits.{Bit, leaf, opens, closes, added_node, piece_bit, piece_bits, ArePlain, IsPlain, AreElements, IsElement, spell}
+use Rattle.fac_items.specs.inner.Bits.{Bit, leaf, opens, closes, added_node, piece_bit, piece_bits, ArePlain, AreElements, spell}
 use Rattle.fac_items.specs.inner.PairBits.{Pairs, emitted, ends, ends_added, passed, pairs_read}
 use Rattle.fac_items.proofs.RawNodes.{AreRaw}
 

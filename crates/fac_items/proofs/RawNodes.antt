@@ -1,6 +1,6 @@
 -- The nodes of elements, and what readings make of them.
-use Rattle.std.proofs.Common.{◌≡◌, List, [], ◌∷◌, Bool, true, false, Option, Some, None, refl, ap, sym, ◌∙◌}
-use Rattle.std.specs.Prelude.{ℕ, if◌then◌else◌, codes}
+use Rattle.std.proofs.Common.{List, [], ◌∷◌, Bool, Option, Some, None}
+use Rattle.std.specs.Prelude.{ℕ}
 use Rattle.fac_lang.specs.declared.phrase.Place.{Place}
 use Rattle.fac_lang.specs.declared.tree.Bracket.{Bracket}
 use Rattle.fac_lang.specs.declared.tree.Bracket.TheVariants.{Quotation, Array}
@@ -8,8 +8,8 @@ use Rattle.fac_lang.specs.declared.tree.Element.{Element}
 use Rattle.fac_lang.specs.declared.tree.Element.TheVariants as element
 use Rattle.fac_lang.specs.declared.tree.Term.{Term}
 use Rattle.fac_lang.specs.declared.tree.Term.TheVariants as term
-use Rattle.fac_items.specs.Written.{Node, n_lit, n_array, n_quot, n_name, n_next, n_full, n_part, Nodes, nothing, more}
-use Rattle.fac_items.specs.Readings.{are_pairs, before, behind_first, cond_first, joined, read_element, read_elements, read_items, read_pairs}
+use Rattle.fac_items.specs.Written.{Node, n_lit, n_array, n_quot, n_name, n_next, Nodes, nothing, more}
+use Rattle.fac_items.specs.Readings.{behind_first, joined, read_elements, read_pairs}
 use Rattle.fac_items.specs.FromElements.{bracketed, nested, node, opened, rests}
 use Rattle.fac_items.specs.inner.Bits.{AreElements, ArePlain, IsElement, IsPlain, IsPlainLiteral}
 

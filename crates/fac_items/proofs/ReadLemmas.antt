@@ -1,5 +1,5 @@
 -- The readings of items, one bit after another.
-use Rattle.std.proofs.Common.{◌≡◌, ◌+◌, arith, ℕ, zero, suc, List, [], ◌∷◌, ◌++◌, length, take, drop, fold, Option, Some, None, Bool, true, false, refl, ap, sym, ◌∙◌, subst, append_assoc, append-nil}
+use Rattle.std.proofs.Common.{◌≡◌, ◌+◌, arith, ℕ, suc, List, [], ◌∷◌, ◌++◌, length, take, drop, fold, Option, Some, None, Bool, true, false, refl, ap, sym, ◌∙◌, subst, append_assoc, append-nil}
 use Rattle.std.specs.Prelude.{if◌then◌else◌}
 use Rattle.std.proofs.lemmas.List.Sums.{fold-append}
 use Rattle.fac_lang.specs.declared.phrase.Place.{Place}
@@ -9,10 +9,10 @@ use Rattle.fac_items.specs.declared.cases.Cases.{Cases}
 use Rattle.fac_items.specs.declared.cases.Cases.TheVariants.{Nothing}
 use Rattle.fac_items.specs.declared.cases.Child.TheVariants as child
 use Rattle.fac_items.specs.declared.readings.Frame.{Frame}
-use Rattle.fac_items.specs.Written.{Tok, Node, n_lit, n_array, n_quot, n_name, n_next, n_full, n_part, Nodes, nothing, more}
-use Rattle.fac_items.specs.Readings.{are_pairs, before, behind_first, cond_first, joined, read_element, read_elements, read_items, read_pairs}
+use Rattle.fac_items.specs.Written.{Tok, Node, n_lit, n_array, n_quot, n_name, n_next, n_part, Nodes, nothing, more}
+use Rattle.fac_items.specs.Readings.{are_pairs, before, behind_first, cond_first, joined, read_elements, read_items, read_pairs}
 use Rattle.fac_items.specs.inner.Bits.{AreElements, ArePlain, Bit, closes, leaf, opens, spell}
-use Rattle.fac_items.specs.inner.CaseLists.{are_cases, array_child, with_child}
+use Rattle.fac_items.specs.inner.CaseLists.{array_child, with_child}
 use Rattle.fac_items.specs.inner.PairBits.{pairs_read}
 use Rattle.fac_items.specs.inner.ReadBits.{Read, advanced, bits_read, first_if, leaf_or_cond, place_if}
 use Rattle.fac_items.proofs.CaseLemmas.{all_cases, cases_from}

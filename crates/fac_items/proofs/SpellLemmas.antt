@@ -1,5 +1,5 @@
 -- Elements are their nodes, one behind another.
-use Rattle.std.proofs.Common.{◌≡◌, ◌-◌, ◌+◌, ℕ, zero, suc, List, [], ◌∷◌, ◌++◌, length, map, refl, ap, sym, ◌∙◌, arith, append_assoc, append-nil}
+use Rattle.std.proofs.Common.{◌≡◌, ◌-◌, ℕ, suc, List, [], ◌∷◌, ◌++◌, length, refl, ap, sym, ◌∙◌, arith, append_assoc, append-nil}
 use Rattle.fac_lang.specs.declared.phrase.Place.{Place}
 use Rattle.fac_lang.specs.declared.tree.Bracket.{Bracket}
 use Rattle.fac_lang.specs.declared.tree.Bracket.TheVariants.{Quotation, Array}
@@ -7,9 +7,9 @@ use Rattle.fac_lang.specs.declared.tree.Element.{Element}
 use Rattle.fac_lang.specs.declared.tree.Element.TheVariants as element
 use Rattle.fac_lang.specs.declared.tree.Term.{Term}
 use Rattle.fac_lang.specs.declared.tree.Term.TheVariants as term
-use Rattle.fac_items.specs.Written.{Nodes, nothing, more}
+use Rattle.fac_items.specs.Written.{Nodes, more}
 use Rattle.fac_items.specs.FromElements.{AreClosing, Rests, bracketed, nested, node, opened, rests}
-use Rattle.fac_items.specs.inner.Bits.{Bit, closes, element_bit, element_bits, leaf, opens, spell}
+use Rattle.fac_items.specs.inner.Bits.{Bit, closes, element_bits, leaf, opens, spell}
 
 -- Elements whose brackets match have nothing around them.
 

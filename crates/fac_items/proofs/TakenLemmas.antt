@@ -18,10 +18,10 @@ use Rattle.fac_refusal.specs.Refusals.{sooner}
 use Rattle.fac_refusal.specs.Toks.{number}
 use Rattle.fac_vocab.specs.Scopes.{Scope, word_held}
 use Rattle.fac_items.specs.FromElements.{AreClosing, nested}
-use Rattle.fac_items.specs.Written.{Node, n_lit, n_array, n_quot, n_name, n_next, n_full, n_part, Nodes, nothing, more}
-use Rattle.fac_items.specs.Items.{Made, MadeElements, elements_of, is_cond, items_faults, literal, phrase_of, search_fault, word_of}
+use Rattle.fac_items.specs.Written.{n_lit, n_array, n_quot, n_name, n_next, n_full, n_part, Nodes, nothing, more}
+use Rattle.fac_items.specs.Items.{elements_of, is_cond, items_faults, literal, phrase_of, search_fault, word_of}
 use Rattle.fac_items.specs.Made.{made, nodes_read}
-use Rattle.fac_items.specs.inner.Bits.{AreElements, ArePlain, AreSpelled, Bit, closes, element_bits, leaf, opens, spell}
+use Rattle.fac_items.specs.inner.Bits.{AreElements, ArePlain, AreSpelled, Bit, closes, element_bits, opens, spell}
 use Rattle.fac_items.specs.inner.ReadBits.{bits_read}
 use Rattle.fac_items.specs.inner.TakenBits.{Kept, Opened, Taken, a_phrase, bit_faults, bit_taken, bits_faults, bits_taken, some_elements}
 use Rattle.fac_items.proofs.RawNodes.{nested_raw}

@@ -1,5 +1,5 @@
 -- `::`, `[|`, `@`, `cond`, `C:` and `CONSTANT:` as rewritings of trees.
-use Rattle.std.specs.Prelude.{ℕ, List, [], ◌∷◌, ◌++◌, map, Option, Some, None, Bool, true, false, ◌&&◌, not, codes, if◌then◌else◌}
+use Rattle.std.specs.Prelude.{ℕ, List, [], ◌∷◌, ◌++◌, Option, Some, None, Bool, true, false, ◌&&◌, not, codes, if◌then◌else◌}
 use Rattle.fac_lang.specs.Whole.{plain_effect}
 use Rattle.fac_lang.specs.declared.phrase.Place.{Place}
 use Rattle.fac_refusal.specs.Toks.{is_among, texts_of}

@@ -16,9 +16,7 @@ use crate::piece::{Added, Piece};
 use crate::readings::read;
 use crate::search::word_of;
 use fac_effect::text;
-use fac_lang::{
-    Bracket, Element, Item, List, Lit, Memory, Phrase, Place, Stack, Term, Text, What,
-};
+use fac_lang::{Bracket, Element, Item, List, Lit, Memory, Phrase, Place, Stack, Term, Text, What};
 use fac_refusal::NameFault;
 use fac_vocab::Scope;
 use std::alloc::Global;
@@ -188,12 +186,7 @@ fn number_of(scope: &Scope, added: Added) -> u32
 }
 
 // Adds a word that a reading adds. Readings add none directly in an array.
-fn add_full(
-    scope: &Scope,
-    content: &mut Content,
-    added: Added,
-    place: Place,
-) -> Result<(), Memory>
+fn add_full(scope: &Scope, content: &mut Content, added: Added, place: Place) -> Result<(), Memory>
     ensures { OnOk result (content_seen content.new ≡ with_leaf scope.now (added_node added place) (content_seen content.old)) }
 {
     match content {

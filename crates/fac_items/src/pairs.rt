@@ -48,12 +48,7 @@ fn emit<'a>(pairing: &mut Pairing<'a>, piece: Piece<'a>) -> Result<(), Memory>
 }
 
 // Adds a bracket that opens, and goes on at another spot.
-fn open_at(
-    pairing: &mut Pairing<'_>,
-    bracket: Bracket,
-    at: Place,
-    spot: Spot,
-) -> Result<(), Memory>
+fn open_at(pairing: &mut Pairing<'_>, bracket: Bracket, at: Place, spot: Spot) -> Result<(), Memory>
     ensures { OnOk result (seen pairing.new ≡ open_at bracket at spot (seen pairing.old)) }
 {
     emit(pairing, Piece::Opens(bracket, at))?;
@@ -209,11 +204,7 @@ fn pass_all<'a>(pairing: &mut Pairing<'a>, pieces: &[Piece<'a>]) -> Result<(), M
 }
 
 // The pieces behind a place.
-fn behind<'a>(
-    alloc: Global,
-    pieces: &[Piece<'a>],
-    first: usize,
-) -> Result<Vec<Piece<'a>>, Memory>
+fn behind<'a>(alloc: Global, pieces: &[Piece<'a>], first: usize) -> Result<Vec<Piece<'a>>, Memory>
     ensures { IfOk result (λ rest. rest.items ≡ drop (first + 1) pieces.now) }
 {
     let mut rest = Vec::new(alloc);

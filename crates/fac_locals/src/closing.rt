@@ -81,7 +81,11 @@ fn unmet(alloc: Global, count: usize) -> Result<Vec<ArrayStart>, Memory>
     ensures { IfOk result (λ starts. length starts.items ≡ count) }
 {
     let place = Place { file: 0, token: 0 };
-    Ok(vec![in alloc; ArrayStart { number: 0, place, method: None }; count]?)
+    Ok(vec![in alloc; ArrayStart {
+        number: 0,
+        place,
+        method: None
+    }; count]?)
 }
 
 // Puts an element at its number, where the list has that number.
@@ -192,9 +196,7 @@ fn close_sort(
     ensures { IfOk result (λ closed. (closed ≡ closed_sort counts.now number closing.old.next sort) × PhrasePassed counts.now (method_of number sort) closing.old (phrase_of sort) closing.new) }
 {
     match sort {
-        Sort::Body(phrase) => Ok(Sort::Body(close_phrase(
-            phrase, alloc, closing, counts, None,
-        )?)),
+        Sort::Body(phrase) => Ok(Sort::Body(close_phrase(phrase, alloc, closing, counts, None)?)),
         Sort::Method {
             class,
             generic,

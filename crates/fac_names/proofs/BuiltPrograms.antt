@@ -1,414 +1,150 @@
 -- Every resolved program is of the forms built, and whole.
-use Rattle.std.proofs.Common.{◌≡◌, ◌≤◌, ◌+◌, ℕ, suc, List, [], ◌∷◌, ◌++◌, map, length, fold, Option, Some, None, Result, Ok, Err, Bool, true, false, cond, refl, ap, sym, ◌∙◌, subst, arith, length-append, append_assoc, append-nil}
-use Rattle.std.specs.Prelude.{IfOk, ◌&&◌, nat_le, nat_lt, slice_get}
+use Rattle.std.proofs.Common.{◌≡◌, ◌≤◌, ◌+◌, ℕ, suc, List, [], ◌∷◌, ◌++◌, map, length, fold, slice_get, Option, Some, None, Result, Ok, Err, Bool, true, false, refl, ap, sym, ◌∙◌, subst, arith, length-append}
+use Rattle.std.specs.Prelude.{IfOk, ◌&&◌, nat_le, not}
 use Rattle.std.specs.List.{list_all}
-use Rattle.std.specs.Option.{option_map}
 use Rattle.std.specs.Str.{bytes_eq}
-use Rattle.std.proofs.lemmas.Bool.Decides.{Decides-ltb}
-use Rattle.std.proofs.lemmas.List.{length_push, length-map}
-use Rattle.std.proofs.lemmas.List.Folds.{list_all-append}
-use Rattle.fac_lang.specs.CoreWords.{core_word, built_core_words, is_built_core}
-use Rattle.fac_lang.specs.Forms.{IsBuilt, IsBuiltPhrase, AreBuiltArrays, AreBuiltWords, primitive_numbers, has_no_repeats}
+use Rattle.std.proofs.lemmas.List.{length-map}
+use Rattle.fac_lang.specs.Classes.{slots_within}
+use Rattle.fac_lang.specs.Forms.{AreBuiltWords, IsBuilt, IsBuiltPhrase, has_no_repeats, primitive_numbers}
 use Rattle.fac_lang.specs.Phrases.{Phrase}
-use Rattle.fac_lang.specs.PrimitiveWords.{PrimitiveWord}
-use Rattle.fac_lang.specs.Primitives.{Primitive, built_primitives, later_primitives, built_primitive_words, prim_numbered, primitive_word, built_count, is_built_primitive}
 use Rattle.fac_lang.specs.RunningLaws.{append}
-use Rattle.fac_lang.specs.Signatures.{Signature, Inputs, value, quoted, Leaving, never, leaves}
-use Rattle.fac_lang.specs.Whole.{IsWhole, all_arrays_named, arrays_in, arrays_named, joined, times_in, word_phrases, name_count, inputs_name_count, leaving_count, row_count}
+use Rattle.fac_lang.specs.Whole.{IsWhole, all_arrays_named, arrays_in, arrays_named, has_generic_effect, joined, name_count, no_two, reaches, same_word, shape_fits, times_in, word_phrases}
 use Rattle.fac_lang.specs.declared.program.ClassDef.{ClassDef}
 use Rattle.fac_lang.specs.declared.program.Program.{Program}
 use Rattle.fac_lang.specs.declared.program.Sort.{Sort}
-use Rattle.fac_lang.specs.declared.program.Sort.TheVariants.{Prim, Core, Body as body, Past as past, Method as method}
+use Rattle.fac_lang.specs.declared.program.Sort.TheVariants.{Body as body, Past as past, Method as method}
 use Rattle.fac_lang.specs.declared.program.WordDef.{WordDef}
-use Rattle.fac_lang.specs.declared.token.Token.{Token}
 use Rattle.fac_lang.specs.declared.tree.Form.{Form as Flat}
-use Rattle.fac_lang.specs.declared.tree.Form.TheVariants.{Row, Items}
-use Rattle.fac_lang.specs.declared.tree.FormKind.{FormKind}
-use Rattle.fac_lang.specs.declared.tree.FormKind.TheVariants as kind
-use Rattle.fac_lang.specs.declared.tree.Part.{Part}
-use Rattle.fac_lang.specs.declared.tree.Part.TheVariants as part
-use Rattle.fac_parse.specs.declared.rows.Slot.TheVariants as slot
-use Rattle.fac_parse.specs.Rows.{slots_of}
-use Rattle.fac_effect.specs.WrittenEffects.{Written, written, Entries, no_entries, plain, described, detailed, written_names, entries_names, is_row, plain_name, colon_name, row_if, row_in, values_in, output_names, leaving_in, said, side_inputs, inputs_of, IsEffect}
-use Rattle.fac_parse.specs.Trees.{AreItems, AreWellFormed, Fills, FillAll, IsForm, IsLiteral, IsWellFormed}
-use Rattle.fac_vocab.specs.Scopes.{begun, entries_from}
+use Rattle.fac_lang.proofs.FormsLemmas.{all_distinct}
+use Rattle.fac_parse.specs.Trees.{AreWellFormed, IsWellFormed}
+use Rattle.fac_vocab.specs.Scopes.{begun}
 use Rattle.fac_refusal.specs.declared.refusal.NameFault.{NameFault}
 use Rattle.fac_refusal.specs.declared.refusal.ResolveFault.{ResolveFault}
-use Rattle.fac_items.specs.Readings.{read_form}
 use Rattle.fac_refusal.specs.Refusals.{sooner}
-use Rattle.fac_endings.specs.declared.draft.Draft.{Draft}
-use Rattle.fac_endings.specs.declared.draft.Late.{Late}
-use Rattle.fac_endings.specs.declared.draft.Late.TheVariants.{Settled as settled, Deferred as deferred}
-use Rattle.fac_names.specs.Forms.{Reading, scoped, take_file}
-use Rattle.fac_names.specs.FromFlat.{effect_in, elements_in, form_of, row}
-use Rattle.fac_names.specs.KnownWords.{known_words, words_from}
-use Rattle.fac_names.specs.Resolved.{answer, first_fault, program_of}
-use Rattle.fac_endings.specs.LastRefusals.{class_faults, last_faults, late_faults, words_faults}
-use Rattle.fac_endings.specs.ClassTable.{classes_of}
+use Rattle.fac_items.specs.Readings.{read_form}
+use Rattle.fac_items.proofs.ArrayNumbers.{below, each_below_is, times_both}
+use Rattle.fac_endings.specs.ClassTable.{class_of, classes_of}
 use Rattle.fac_endings.specs.FinishedWords.{finished}
-use Rattle.fac_names.specs.Resolution.{Resolves, first_reading, program_alone, resolved, settled_draft}
-use Rattle.fac_endings.specs.inner.Ready.{program_with}
+use Rattle.fac_endings.specs.LastRefusals.{class_faults, last_faults, words_faults}
 use Rattle.fac_endings.specs.Words.{top_word}
+use Rattle.fac_endings.specs.declared.draft.Draft.{Draft}
+use Rattle.fac_endings.proofs.Apart.{and_true, true_both}
+use Rattle.fac_endings.proofs.EndedClasses.{AreFew, ClassesTested, DraftsFit, classes_tested, draft_fits, is_kind, no_faults, shapes_fit}
+use Rattle.fac_endings.proofs.EndedWords.{FinishesOf, finishes_of, generic_stays, words_apart}
+use Rattle.fac_endings.proofs.SlotChains.{slots_apart, slots_few}
+use Rattle.fac_names.specs.Forms.{Reading, scoped, take_file}
+use Rattle.fac_names.specs.FromFlat.{form_of}
+use Rattle.fac_names.specs.KnownWords.{known_classes}
+use Rattle.fac_names.specs.Resolved.{answer, first_fault, program_of}
+use Rattle.fac_names.specs.Resolution.{Resolves, first_reading, program_alone, resolved}
 use Rattle.fac_names.specs.inner.Taking.{take_all}
-use Rattle.fac_items.proofs.ArrayNumbers.{below, times_both}
-use Rattle.fac_names.proofs.ArrayReadings.{Counted, known_ascending, known_spared, named_append, named_in, names_by}
-use Rattle.fac_names.proofs.BracketLemmas.{items_closing, literal_closing, literal_sole}
-use Rattle.fac_names.proofs.BuiltForms.{IsPlainForm, begun_built, take_built}
-use Rattle.fac_names.proofs.BuiltReadings.{Built, DraftsBuilt, IsBuiltLate, IsToldWord, append_built, words_in}
-use Rattle.fac_names.proofs.BuiltScopes.{EntriesBelow}
+use Rattle.fac_names.proofs.ArrayReadings.{Counted, named_append}
+use Rattle.fac_names.proofs.BuiltForms.{BuiltUp, begun_built, classes_in, take_built}
+use Rattle.fac_names.proofs.DefinedNames.{none_before}
+use Rattle.fac_names.proofs.BuiltReadings.{Built, draft_ok}
+use Rattle.fac_names.proofs.BuiltPhrases.{append_built}
+use Rattle.fac_names.proofs.Distinct.{classes_differ, words_differ}
 use Rattle.fac_names.proofs.FileLemmas.{take_one}
-use Rattle.fac_names.proofs.WholePrograms.{whole}
-
--- Words that are known from the start.
-
-built_with : (bound : ℕ) (ds es : List WordDef) → AreBuiltWords bound ds → AreBuiltWords bound es → AreBuiltWords bound (ds ++ es)
-built_with bound [] es h k = k
-built_with bound (d ∷ ds) es h k = (h.0, built_with bound ds es h.1 k)
-
--- the element behind these
-next_at : (ps rest : List Primitive) (p : Primitive) → slice_get (ps ++ p ∷ rest) (length ps) ≡ Some p
-next_at [] rest p = refl
-next_at (q ∷ ps) rest p = next_at ps rest p
-
-primitive_at : (ps rest : List Primitive) (p : Primitive) → ps ++ p ∷ rest ≡ built_primitives → primitive_word (length ps) ≡ Some p.word
-unfolding prim_numbered
-primitive_at ps rest p e =
-    ap (λ (all : List Primitive). option_map (λ (q : Primitive). q.word) (slice_get (all ++ later_primitives) (length ps))) (sym e)
-    ∙ ap (λ (all : List Primitive). option_map (λ (q : Primitive). q.word) (slice_get all (length ps))) (append_assoc ps (p ∷ rest) later_primitives)
-    ∙ ap (option_map (λ (q : Primitive). q.word)) (next_at ps (rest ++ later_primitives) p)
-
-is_numbered : (ps rest : List Primitive) (p : Primitive) → ps ++ p ∷ rest ≡ built_primitives → is_built_primitive (length ps) ≡ true
-unfolding built_count
-is_numbered ps rest p e =
-    let count = sym (length-append ps (p ∷ rest)) ∙ ap length e in
-    (Decides-ltb (length ps) (length built_primitives)).1 (omega (arith, count))
-
-primitives_built : (bound n : ℕ) (ps rest : List Primitive) → n ≡ length ps → ps ++ rest ≡ built_primitives → AreBuiltWords bound (words_from Prim n (map (λ (p : Primitive). p.word) rest))
-primitives_built bound n ps [] same e = tt
-primitives_built bound n ps (p ∷ rest) same e = (
-  record { row = p.word; row_is = ap primitive_word same ∙ primitive_at ps rest p e; is_built = ap is_built_primitive same ∙ is_numbered ps rest p e; effect_is = refl; not_inline = refl; not_recursive = refl },
-  primitives_built bound (n + 1) (ps ++ p ∷ []) rest (let more = length_push ps p in omega (arith, same, more)) (append_assoc ps (p ∷ []) rest ∙ e),
-)
-
--- the core words that are built, from this number on
-abbrev AreCoreRows : ℕ → List PrimitiveWord → Type 0
-AreCoreRows n [] = Unit {0}
-AreCoreRows n (row ∷ rows) = (core_word n ≡ Some row) × (is_built_core n ≡ true) × AreCoreRows (n + 1) rows
-
-cores_built : (bound n : ℕ) (rows : List PrimitiveWord) → AreCoreRows n rows → AreBuiltWords bound (words_from Core n rows)
-cores_built bound n [] h = tt
-cores_built bound n (row ∷ rows) h = (record { row = row; row_is = h.0; is_built = h.1; effect_is = refl; not_inline = refl; not_recursive = refl }, cores_built bound (n + 1) rows h.2)
-
-known_built : (bound : ℕ) → AreBuiltWords bound known_words
-unfolding known_words built_primitive_words
-known_built bound = built_with bound (words_from Prim 0 built_primitive_words) (words_from Core 0 built_core_words) (primitives_built bound 0 [] built_primitives refl refl) (cores_built bound 0 built_core_words (refl, refl, (refl, refl, (refl, refl, tt))))
-
-known_distinct : has_no_repeats (primitive_numbers known_words) ≡ true
-unfolding known_words built_primitive_words
-known_distinct = refl
-
--- Effects.
-
-at_most : (a b : ℕ) → a ≤ b → nat_le a b ≡ true
-at_most a b few = grind arith
-
--- a side whose first entry is a row variable, or isn't
-side_counted : (b : Bool) (name : List ℕ) (rest all : Inputs) (k : ℕ) → inputs_name_count rest ≤ k → inputs_name_count all ≤ suc k → row_count (row_if b name) + inputs_name_count (cond b rest all) ≤ suc k
-side_counted true name rest all k h j = omega (arith, h)
-side_counted false name rest all k h j = omega (arith, j)
-
-outputs_counted : (es : Entries) → length (output_names es) ≤ entries_names es
-outputs_counted no_entries = omega arith
-outputs_counted (plain name es) = let rest = outputs_counted es in omega (arith, rest)
-outputs_counted (described name class es) = let rest = outputs_counted es in omega (arith, rest)
-outputs_counted (detailed name w es) = let rest = outputs_counted es in omega (arith, rest)
-
-left_counted : (b : Bool) (name : List ℕ) (rest all : Entries) (k : ℕ) → length (output_names rest) ≤ k → length (output_names all) ≤ suc k → row_count (row_if b name) + length (output_names (cond b rest all)) ≤ suc k
-left_counted true name rest all k h j = omega (arith, h)
-left_counted false name rest all k h j = omega (arith, j)
-
-never_counted : (b : Bool) (l : Leaving) (k : ℕ) → leaving_count l ≤ suc k → leaving_count (cond b never l) ≤ suc k
-never_counted true l k h = omega arith
-never_counted false l k h = h
-
-values_counted : (es : Entries) → row_count (row_in es) + length (output_names (values_in es)) ≤ entries_names es
-values_counted no_entries = omega arith
-values_counted (plain name es) = let rest = outputs_counted es in left_counted (is_row name) (plain_name name) es (plain name es) (entries_names es) rest (omega (arith, rest))
-values_counted (described name class es) = let rest = outputs_counted es in left_counted (is_row name) (colon_name name) es (described name class es) (suc (entries_names es)) (omega (arith, rest)) (omega (arith, rest))
-values_counted (detailed name w es) = let rest = outputs_counted es in left_counted (is_row name) (colon_name name) es (detailed name w es) (written_names w + entries_names es) (omega (arith, rest)) (omega (arith, rest))
-
-leaving_counted : (es : Entries) → leaving_count (leaving_in es) ≤ entries_names es
-leaving_counted no_entries = omega arith
-leaving_counted (plain name no_entries) = never_counted (bytes_eq (plain_name name) _) (leaves (row_in (plain name no_entries)) (output_names (values_in (plain name no_entries)))) 0 (values_counted (plain name no_entries))
-leaving_counted (plain name (plain next es)) = values_counted (plain name (plain next es))
-leaving_counted (plain name (described next class es)) = values_counted (plain name (described next class es))
-leaving_counted (plain name (detailed next w es)) = values_counted (plain name (detailed next w es))
-leaving_counted (described name class es) = values_counted (described name class es)
-leaving_counted (detailed name w es) = values_counted (detailed name w es)
-
--- what is said has no more names than are written
-mutual
-  said_counted : (w : Written) → name_count (said w) ≤ written_names w
-  said_counted (written opens ins dashes outs closes) = let left = side_inputs_counted ins in let right = leaving_counted outs in omega (arith, left, right)
-
-  side_inputs_counted : (es : Entries) → row_count (row_in es) + inputs_name_count (side_inputs es) ≤ entries_names es
-  side_inputs_counted no_entries = omega arith
-  side_inputs_counted (plain name es) =
-      let rest = inputs_counted es in side_counted (is_row name) (plain_name name) (inputs_of es) (value (plain_name name) (inputs_of es)) (entries_names es) rest (omega (arith, rest))
-  side_inputs_counted (described name class es) =
-      let rest = inputs_counted es in side_counted (is_row name) (colon_name name) (inputs_of es) (value (colon_name name) (inputs_of es)) (suc (entries_names es)) (omega (arith, rest)) (omega (arith, rest))
-  side_inputs_counted (detailed name w es) =
-      let inner = said_counted w in
-      let rest = inputs_counted es in
-      side_counted (is_row name) (colon_name name) (inputs_of es) (quoted (colon_name name) (said w) (inputs_of es)) (written_names w + entries_names es) (omega (arith, rest)) (omega (arith, inner, rest))
-
-  inputs_counted : (es : Entries) → inputs_name_count (inputs_of es) ≤ entries_names es
-  inputs_counted no_entries = omega arith
-  inputs_counted (plain name es) = let rest = inputs_counted es in omega (arith, rest)
-  inputs_counted (described name class es) = let rest = inputs_counted es in omega (arith, rest)
-  inputs_counted (detailed name w es) = let inner = said_counted w in let rest = inputs_counted es in omega (arith, inner, rest)
-
-few_names : (tokens : List Token) (e : Signature) → IsEffect tokens e → nat_le (name_count e) 65 ≡ true
-few_names tokens e h =
-    let counted = said_counted h.tree in
-    let few = h.few in
-    ap (λ (s : Signature). nat_le (name_count s) 65) (sym h.says) ∙ at_most (name_count (said h.tree)) 65 (omega (arith, counted, few))
-
--- The parts of rows.
-
-behind_name : (p : Part) (ps : List Part) → Fills slot.Name p → (effect_in (p ∷ ps) ≡ effect_in ps) × (elements_in (p ∷ ps) ≡ elements_in ps)
-behind_name (part.Name v) ps h = (refl, refl)
-behind_name (part.Names vs ends) ps h = absurd h
-behind_name (part.Fixed key place) ps h = absurd h
-behind_name (part.Effect e) ps h = absurd h
-behind_name (part.Items es ends) ps h = absurd h
-behind_name (part.Literal es) ps h = absurd h
-behind_name (part.Marks ms) ps h = absurd h
-
-record HasEffect (p : Part) (ps : List Part) : Type 0 where
-  few : nat_le (name_count (effect_in (p ∷ ps))) 65 ≡ true
-  elements : elements_in (p ∷ ps) ≡ elements_in ps
-
-behind_effect : (p : Part) (ps : List Part) → Fills slot.Effect p → HasEffect p ps
-behind_effect (part.Name v) ps h = absurd h
-behind_effect (part.Names vs ends) ps h = absurd h
-behind_effect (part.Fixed key place) ps h = absurd h
-behind_effect (part.Effect e) ps h = record { few = few_names e.tokens e.effect h; elements = refl }
-behind_effect (part.Items es ends) ps h = absurd h
-behind_effect (part.Literal es) ps h = absurd h
-behind_effect (part.Marks ms) ps h = absurd h
-
-behind_items : (p : Part) (ps : List Part) → Fills slot.Items p → AreItems (elements_in (p ∷ ps))
-behind_items (part.Name v) ps h = absurd h
-behind_items (part.Names vs ends) ps h = absurd h
-behind_items (part.Fixed key place) ps h = absurd h
-behind_items (part.Effect e) ps h = absurd h
-behind_items (part.Items es ends) ps h = h
-behind_items (part.Literal es) ps h = absurd h
-behind_items (part.Marks ms) ps h = absurd h
-
-is_literal : (p : Part) (ps : List Part) → Fills slot.Literal p → IsLiteral (elements_in (p ∷ ps))
-is_literal (part.Name v) ps h = absurd h
-is_literal (part.Names vs ends) ps h = absurd h
-is_literal (part.Fixed key place) ps h = absurd h
-is_literal (part.Effect e) ps h = absurd h
-is_literal (part.Items es ends) ps h = absurd h
-is_literal (part.Literal es) ps h = h
-is_literal (part.Marks ms) ps h = absurd h
-
-definition_plain : (ps : List Part) → FillAll (slots_of kind.Define) ps → IsPlainForm (row kind.Define ps)
-definition_plain [] h = absurd h
-definition_plain (n ∷ []) h = absurd h.1
-definition_plain (n ∷ e ∷ []) h = absurd h.1.1
-definition_plain (n ∷ e ∷ i ∷ []) h = absurd h.1.1.1
-definition_plain (n ∷ e ∷ i ∷ m ∷ []) h =
-    let name = behind_name n (e ∷ i ∷ m ∷ []) h.0 in
-    let effect = behind_effect e (i ∷ m ∷ []) h.1.0 in
-    let items = behind_items i (m ∷ []) h.1.1.0 in
-    record {
-      elements = elements_in (n ∷ e ∷ i ∷ m ∷ []);
-      items = refl;
-      closing = items_closing (elements_in (n ∷ e ∷ i ∷ m ∷ [])) (subst AreItems (sym (name.1 ∙ effect.elements)) items);
-      few = ap (λ (s : Signature). nat_le (name_count s) 65) name.0 ∙ effect.few;
-    }
-definition_plain (n ∷ e ∷ i ∷ m ∷ p ∷ ps) h = absurd h.1.1.1.1
-
-constant_plain : (ps : List Part) → FillAll (slots_of kind.Constant) ps → IsPlainForm (read_form (row kind.Constant ps))
-constant_plain [] h = absurd h
-constant_plain (n ∷ []) h = absurd h.1
-constant_plain (n ∷ l ∷ []) h =
-    let name = behind_name n (l ∷ []) h.0 in
-    let literal = subst IsLiteral (sym name.1) (is_literal l [] h.1.0) in
-    record {
-      elements = elements_in (n ∷ l ∷ []);
-      items = sym (literal_sole (elements_in (n ∷ l ∷ [])) literal);
-      closing = literal_closing (elements_in (n ∷ l ∷ [])) literal;
-      few = refl;
-    }
-constant_plain (n ∷ l ∷ p ∷ ps) h = absurd h.1.1
-
-row_plain : (k : FormKind) (ps : List Part) → FillAll (slots_of k) ps → IsPlainForm (read_form (row k ps))
-row_plain kind.In ps h = tt
-row_plain kind.Use ps h = tt
-row_plain kind.Using ps h = tt
-row_plain kind.From ps h = tt
-row_plain kind.QualifiedWith ps h = tt
-row_plain kind.Defer ps h = tt
-row_plain kind.Symbol ps h = tt
-row_plain kind.Constant ps h = constant_plain ps h
-row_plain kind.Private ps h = tt
-row_plain kind.Public ps h = tt
-row_plain kind.Main ps h = tt
-row_plain kind.Define ps h = definition_plain ps h
-
-form_plain : (f : Flat) → IsForm f → IsPlainForm (read_form (form_of f))
-form_plain (Row k opens ps) h = row_plain k ps h
-form_plain (Items es) h = record { elements = es; items = refl; closing = items_closing es h.1 }
+use Rattle.fac_names.proofs.KnownBuilt.{first_built}
+use Rattle.fac_names.proofs.PlainForms.{form_plain}
+use Rattle.fac_names.proofs.Together.{GenericsStay, accessor_words, all_pass, effects_pass, few_pass, methods_differ, names_pass, names_same, numbers_same, words_built}
+use Rattle.fac_names.proofs.WholePrograms.{IsTogether, sort_named, whole}
 
 -- Files.
 
-forms_built : (forms : List Flat) (r : Reading) → IsWellFormed forms → Built r → Built (take_all r (map form_of forms))
+forms_built : (forms : List Flat) (r : Reading) → IsWellFormed forms → BuiltUp r → BuiltUp (take_all r (map form_of forms))
 forms_built [] r h b = b
 forms_built (f ∷ forms) r h b =
-    subst Built (sym (take_one r f forms h)) (forms_built forms _ h.2 (take_built (read_form (form_of f)) r (form_plain f h.0) b))
+    subst BuiltUp (sym (take_one r f forms h)) (forms_built forms _ h.2 (take_built (read_form (form_of f)) r (form_plain f h.0) b))
 
-files_built : (files : List (List Flat)) (r : Reading) → AreWellFormed files → Built r → Built (fold (take_file false) r (map (map form_of) files))
+files_built : (files : List (List Flat)) (r : Reading) → AreWellFormed files → BuiltUp r → BuiltUp (fold (take_file false) r (map (map form_of) files))
 files_built [] r h b = b
 files_built (forms ∷ files) r h b = files_built files _ h.1 (forms_built forms (scoped begun r) h.0 (begun_built r b))
 
--- Before the first file.
+-- Refusals that aren't there.
 
-known_few : list_all (λ (d : WordDef). nat_le (name_count d.effect) 65) known_words ≡ true
-unfolding known_words built_primitive_words
-known_few = refl
+some_stays : (f : NameFault) (fs : List NameFault) → fold sooner (Some f) fs ≡ None → ⊥
+some_stays f fs h = some_none f (none_before (Some f) fs h)
+  where
+    some_none : (g : NameFault) → Some g ≡ None → ⊥
+    some_none g e = cc
 
-known_some : nat_lt 0 (length known_words) ≡ true
-unfolding known_words built_primitive_words
-known_some = refl
+none_of : (o : Option NameFault) (fs : List NameFault) → fold sooner o fs ≡ None → fs ≡ []
+none_of o [] h = refl
+none_of None (f ∷ fs) h = absurd (some_stays f fs h)
+none_of (Some g) (f ∷ fs) h = absurd (some_stays g (f ∷ fs) h)
 
-entries_fit : (k n : ℕ) (ds : List WordDef) → k + length ds ≤ n → EntriesBelow n (entries_from k ds)
-entries_fit k n [] few = tt
-entries_fit k n (d ∷ ds) few = (omega (arith, few), entries_fit (k + 1) n ds (omega (arith, few)))
+-- What the end has found of a reading.
 
-both_are : (a b : Bool) → (a && b) ≡ true → (a ≡ true) × (b ≡ true)
-both_are true b h = (refl, h)
-both_are false b h = cc
+known_kinds : list_all (λ (d : ClassDef). is_kind d.shape) known_classes ≡ true
+unfolding known_classes
+known_kinds = refl
 
-settled_built : (bound : ℕ) (ds : List WordDef) → AreBuiltWords bound ds → list_all (λ (d : WordDef). nat_le (name_count d.effect) 65) ds ≡ true → DraftsBuilt bound (map settled_draft ds)
-settled_built bound [] h few = tt
-settled_built bound (d ∷ ds) h few =
-    let both = both_are (nat_le (name_count d.effect) 65) (list_all (λ (e : WordDef). nat_le (name_count e.effect) 65) ds) few in
-    (record { built = h.0; few = both.0 }, settled_built bound ds h.1 both.1)
+all_fit : (n : ℕ) (ds : List Draft) → list_all (draft_ok n) ds ≡ true → list_all (draft_fits n) ds ≡ true
+all_fit n [] h = refl
+all_fit n (d ∷ ds) h =
+    let both = true_both (draft_ok n d) (list_all (draft_ok n) ds) h in
+    and_true (draft_fits n d) (list_all (draft_fits n) ds) (true_both (draft_fits n d) (nat_le (name_count d.word.effect) 65) both.0).0 (all_fit n ds both.1)
 
-settled_words : (ds : List WordDef) → words_in (map settled_draft ds) ≡ ds
-settled_words [] = refl
-settled_words (d ∷ ds) = ap (λ (es : List WordDef). d ∷ es) (settled_words ds)
+abbrev all_classes : Reading → List ClassDef
+all_classes r = classes_of r.words r.old_classes r.classes
 
-no_names : (sort : ℕ → Sort) → ((n : ℕ) → names_by (sort n) ≡ []) → (n : ℕ) (rows : List PrimitiveWord) (ds : List Draft) → named_in (map settled_draft (words_from sort n rows) ++ ds) ≡ named_in ds
-no_names sort none n [] ds = refl
-no_names sort none n (row ∷ rows) ds = ap (λ (xs : List ℕ). xs ++ named_in (map settled_draft (words_from sort (n + 1) rows) ++ ds)) (none n) ∙ no_names sort none (n + 1) rows ds
+record IsEnded (r : Reading) : Type 0 where
+  first : r.first ≡ None
+  ok : list_all (draft_ok (length (all_classes r))) r.words ≡ true
+  fits : DraftsFit (length (all_classes r)) r.words
+  words : words_faults r.words (all_classes r) [] r.words ≡ []
+  classes : class_faults r.words (all_classes r) (length r.old_classes) r.classes ≡ []
+  few : AreFew r.old_classes r.classes
+  tested : ClassesTested (all_classes r)
+  finishes : FinishesOf r.words (all_classes r) r.words
 
-settled_both : (ds es : List WordDef) → map settled_draft (ds ++ es) ≡ map settled_draft ds ++ map settled_draft es
-settled_both [] es = refl
-settled_both (d ∷ ds) es = ap (λ (xs : List Draft). settled_draft d ∷ xs) (settled_both ds es)
-
--- words that are known name no array
-first_names : named_in (map settled_draft known_words) ≡ []
-unfolding known_words
-first_names =
-    ap named_in (settled_both (words_from Prim 0 built_primitive_words) (words_from Core 0 built_core_words))
-    ∙ no_names Prim (λ n. refl) 0 built_primitive_words (map settled_draft (words_from Core 0 built_core_words))
-    ∙ ap named_in (sym (append-nil (map settled_draft (words_from Core 0 built_core_words))))
-    ∙ no_names Core (λ n. refl) 0 built_core_words []
-
-first_built : Built first_reading
-first_built =
-    let count = length-map known_words settled_draft in
-    let some = (Decides-ltb 0 (length known_words)).0 known_some in
+ended : (r : Reading) → BuiltUp r → first_fault r ≡ None → IsEnded r
+ended r b h =
+    let cs = all_classes r in
+    let both = length-append r.old_classes (map (class_of r.words) r.classes) in
+    let mapped = length-map r.classes (class_of r.words) in
+    let count : classes_in r ≡ length cs = omega (arith, both, mapped) in
+    let ok = subst (λ (n : ℕ). list_all (draft_ok n) r.words ≡ true) count b.ok in
+    let fits = all_fit (length cs) r.words ok in
+    let none = no_faults (words_faults r.words cs [] r.words) (class_faults r.words cs (length r.old_classes) r.classes) (none_of r.first (last_faults r.words r.old_classes r.classes) h) in
+    let few : AreFew r.old_classes r.classes = record { kinds = ap (list_all (λ (d : ClassDef). is_kind d.shape)) b.old ∙ known_kinds; slots = b.own } in
+    let tested = classes_tested r.words r.old_classes r.classes few none.1 in
     record {
-      some = omega (arith, count, some);
-      scope = record { table = entries_fit 0 (length (map settled_draft known_words)) known_words (omega (arith, count)); brought = tt };
-      words = λ bound few. settled_built bound known_words (known_built bound) known_few;
-      top = λ bound few. tt;
-      main = λ bound few. tt;
-      distinct = ap (λ (ds : List WordDef). has_no_repeats (primitive_numbers ds)) (settled_words known_words) ∙ known_distinct;
-      no_old_classes = refl;
-      no_classes = refl;
-      arrays = λ bound few. tt;
-      counted = record {
-        ascending = known_ascending 0 known_words;
-        spared = known_spared 0 (map settled_draft known_words) known_words;
-        once = λ a. ap (λ (xs : List ℕ). times_in a xs + 0 + 0) first_names;
-        earlier = refl;
-        main_none = refl;
-      };
+      first = none_before r.first (last_faults r.words r.old_classes r.classes) h;
+      ok = ok;
+      fits = fits;
+      words = none.0;
+      classes = none.1;
+      few = few;
+      tested = tested;
+      finishes = finishes_of r.words cs [] r.words fits (λ c. slots_few (length cs) cs c tested.ends tested.slots (omega arith)) fits none.0;
     }
 
--- The end.
+-- The program is of the forms built.
 
-none_before : (o : Option NameFault) (fs : List NameFault) → fold sooner o fs ≡ None → (o ≡ None) × (fs ≡ [])
-none_before o [] h = (h, refl)
-none_before None (f ∷ fs) h = let later = none_before (Some f) fs h in absurd (some_none f later.0)
-  where
-    some_none : {A : Type 0} (x : A) → Some x ≡ None → ⊥
-    some_none x e = cc
-none_before (Some g) (f ∷ fs) h = let later = none_before (sooner (Some g) f) fs h in absurd (some_none _ later.0)
-  where
-    some_none : {A : Type 0} (x : A) → Some x ≡ None → ⊥
-    some_none x e = cc
+abbrev phrase_in : Reading → Phrase
+phrase_in r = append r.top r.main
 
-no_faults : (fs gs : List NameFault) → fs ++ gs ≡ [] → (fs ≡ []) × (gs ≡ [])
-no_faults [] gs h = (refl, h)
-no_faults (f ∷ fs) gs h = cc
+abbrev words_in : Reading → List WordDef
+words_in r = map (finished r.words (all_classes r)) r.words
 
-told_word : (ds : List Draft) (cs : List ClassDef) (earlier : List WordDef) (bound : ℕ) (w : WordDef) (l : Late) → IsBuiltLate bound w l → late_faults ds cs earlier (record { word = w; late = l }) ≡ [] → (finished ds cs (record { word = w; late = l }) ≡ w) × IsToldWord bound w
-told_word ds cs earlier bound w settled h e = (refl, h)
-told_word ds cs earlier bound w deferred h e = absurd (one_none _ e)
-  where
-    one_none : (f : NameFault) → f ∷ [] ≡ [] → ⊥
-    one_none f e = cc
-told_word ds cs earlier bound w l h e = absurd h
-
--- words that are all told
-record AreTold (bound : ℕ) (words : List WordDef) (ds : List Draft) : Type 0 where
-  same : words ≡ words_in ds
-  built : AreBuiltWords bound (words_in ds)
-  few : list_all (λ (d : WordDef). nat_le (name_count d.effect) 65) (words_in ds) ≡ true
-
-and_both : (a b : Bool) → a ≡ true → b ≡ true → (a && b) ≡ true
-and_both a b h k = rw (h, k) refl
-
-all_told : (ds : List Draft) (cs : List ClassDef) (earlier : List WordDef) (bound : ℕ) (xs : List Draft) → DraftsBuilt bound xs → words_faults ds cs earlier xs ≡ [] → AreTold bound (map (finished ds cs) xs) xs
-all_told ds cs earlier bound [] h e = record { same = refl; built = tt; few = refl }
-all_told ds cs earlier bound (x ∷ xs) h e =
-    let both = no_faults (late_faults ds cs earlier x) (words_faults ds cs (finished ds cs x ∷ earlier) xs) e in
-    let one = told_word ds cs earlier bound x.word x.late h.0 both.0 in
-    let others = all_told ds cs (finished ds cs x ∷ earlier) bound xs h.1 both.1 in
+is_built : (r : Reading) → BuiltUp r → IsEnded r → IsBuilt (program_of false r)
+is_built r b h =
+    let n = length r.words in
     record {
-      same = ap (λ (w : WordDef). w ∷ map (finished ds cs) xs) one.0 ∙ ap (λ (ws : List WordDef). x.word ∷ ws) others.same;
-      built = (one.1.built, others.built);
-      few = and_both (nat_le (name_count x.word.effect) 65) (list_all (λ (d : WordDef). nat_le (name_count d.effect) 65) (words_in xs)) one.1.few others.few;
+      words = words_in r;
+      last_word = top_word (phrase_in r);
+      phrase = phrase_in r;
+      words_are = refl;
+      top_is = sym (length-map r.words (finished r.words (all_classes r)));
+      last_word_is = record { sort_is = refl; phrase_built = append_built n r.top r.main (b.top n (omega arith)) (b.main n (omega arith)); effect_is = refl; not_inline = refl; not_recursive = refl };
+      built = words_built n r.words (all_classes r) r.words h.finishes (b.words n (omega arith));
+      distinct = ap has_no_repeats (numbers_same r.words (all_classes r) r.words h.finishes) ∙ b.distinct;
+      arrays_built = b.arrays n (omega arith);
     }
-
-abbrev plain_program : Reading → Program
-plain_program r = program_with (words_in r.words) r.arrays (append r.top r.main)
-
-record IsSound (r : Reading) : Type 0 where
-  same : program_of false r ≡ plain_program r
-  built : IsBuilt (plain_program r)
-  whole : IsWhole (plain_program r)
 
 -- The arrays that words name.
-
-named_words : (ds : List Draft) → joined (map arrays_named (word_phrases (words_in ds))) ≡ named_in ds
-named_words [] = refl
-named_words (d ∷ ds) = one d.word.sort ∙ ap (λ (xs : List ℕ). names_by d.word.sort ++ xs) (named_words ds)
-  where
-    one : (s : Sort) → joined (map arrays_named (elim s [ body t ↦ t ∷ word_phrases (words_in ds) | past t ↦ t ∷ word_phrases (words_in ds) | method c g t ↦ t ∷ word_phrases (words_in ds) | _ ↦ word_phrases (words_in ds) ])) ≡ names_by s ++ joined (map arrays_named (word_phrases (words_in ds)))
-    one (body t) = refl
-    one (past t) = refl
-    one (method c g t) = refl
-    one s = refl
 
 named_last : (ds : List WordDef) (t : Phrase) (a : ℕ) → times_in a (joined (map arrays_named (word_phrases (ds ++ top_word t ∷ [])))) ≡ times_in a (joined (map arrays_named (word_phrases ds))) + times_in a (arrays_named t)
 named_last [] t a = let both = times_both a (arrays_named t) [] in omega (arith, both)
@@ -427,79 +163,79 @@ named_last (d ∷ ds) t a = one d.sort (named_last ds t a)
     one (method c g u) rest = with_phrase u rest
     one s rest = rest
 
-named_once : (r : Reading) → Counted r → (a : ℕ) → times_in a (all_arrays_named (plain_program r)) ≡ below (length r.arrays) a
-named_once r c a =
-    let phrase = append r.top r.main in
-    let all = times_both a (joined (map arrays_named (word_phrases (words_in r.words ++ top_word phrase ∷ [])))) (joined (map arrays_in r.arrays)) in
-    let last = named_last (words_in r.words) phrase a in
-    let words = ap (times_in a) (named_words r.words) in
+named_once : (r : Reading) → FinishesOf r.words (all_classes r) r.words → Counted r → (a : ℕ) → times_in a (all_arrays_named (program_of false r)) ≡ below (length r.arrays) a
+named_once r h c a =
+    let all = times_both a (joined (map arrays_named (word_phrases (words_in r ++ top_word (phrase_in r) ∷ [])))) (joined (map arrays_in r.arrays)) in
+    let last = named_last (words_in r) (phrase_in r) a in
+    let words = ap (times_in a) (names_same r.words (all_classes r) r.words h) in
     let tops = named_append r.top r.main a in
     let main = ap (times_in a) c.main_none in
     let once = c.once a in
     omega (arith, all, last, words, tops, main, once)
 
-abbrev made : List WordDef → Phrase → List ClassDef → ℕ → Reading → Program
-made words phrase cs top r = record { words = words ++ top_word phrase ∷ []; arrays = r.arrays; classes = cs; top = top }
+-- The classes and the words of the program together.
 
-sound : (r : Reading) → Built r → first_fault r ≡ None → IsSound r
-sound r b h =
-    let n = length r.words in
-    let faults = none_before r.first (last_faults r) h in
-    let last = no_faults (words_faults r.words (classes_of r) [] r.words) (class_faults r.words (classes_of r) (length r.old_classes) r.classes) faults.1 in
-    let told = all_told r.words (classes_of r) [] n r.words (b.words n (omega arith)) last.0 in
-    let phrase = append r.top r.main in
-    let count = length-map r.words (λ (d : Draft). d.word) in
-    let no_classes : classes_of r ≡ [] = rw (b.no_old_classes, b.no_classes) refl in
-    let bound = subst (λ (k : ℕ). AreBuiltWords k (words_in r.words)) (sym count) told.built in
-    let phrase_is = subst (λ (k : ℕ). IsBuiltPhrase k phrase) (sym count) (append_built n r.top r.main (b.top n (omega arith)) (b.main n (omega arith))) in
-    let all : IsBuilt (plain_program r) =
+is_small : (a : ℕ) → a ≤ 64 → nat_le a 64 ≡ true
+is_small a h = grind arith
+
+stay : (r : Reading) → IsEnded r → GenericsStay r.words (program_of false r)
+stay r h g d at is = generic_stays r.words (all_classes r) (top_word (phrase_in r) ∷ []) g d h.fits at is
+
+is_together : (r : Reading) → BuiltUp r → IsEnded r → IsTogether (program_of false r)
+is_together r b h =
+    let P = program_of false r in
+    let ds = r.words in
+    let cs = all_classes r in
+    let last = top_word (phrase_in r) in
+    let held = b.held h.first in
+    let built = is_built r b h in
     record {
-      words = words_in r.words;
-      last_word = top_word phrase;
-      phrase = phrase;
-      words_are = refl;
-      top_is = refl;
-      last_word_is = record { sort_is = refl; phrase_built = phrase_is; effect_is = refl; not_inline = refl; not_recursive = refl };
-      built = bound;
-      distinct = b.distinct;
-      arrays_built = subst (λ (k : ℕ). AreBuiltArrays k r.arrays) (sym count) (b.arrays n (omega arith));
-      no_classes = refl;
-    } in
-    record {
-      same =
-          ap (λ (ws : List WordDef). made ws phrase (classes_of r) n r) told.same
-          ∙ ap (λ (cs : List ClassDef). made (words_in r.words) phrase cs n r) no_classes
-          ∙ ap (λ (k : ℕ). made (words_in r.words) phrase [] k r) (sym count);
-      built = all;
-      whole = whole (words_in r.words ++ top_word phrase ∷ []) r.arrays (length (words_in r.words)) all
-          (list_all-append (λ (d : WordDef). nat_le (name_count d.effect) 65) (words_in r.words) (top_word phrase ∷ []) ∙ and_both (list_all (λ (d : WordDef). nat_le (name_count d.effect) 65) (words_in r.words)) true told.few refl) (named_once r b.counted) b.counted.earlier;
+      few = all_pass ds cs (λ (d : WordDef). nat_le (name_count d.effect) 65) last (few_pass (length cs) ds h.ok) refl h.ok h.finishes;
+      once = named_once r h.finishes b.counted;
+      earlier = b.counted.earlier;
+      names_fit = all_pass ds cs (λ (d : WordDef). sort_named P d.sort) last (names_pass P ds (stay r h)) refl h.ok h.finishes;
+      shapes_fit = shapes_fit ds P r.old_classes r.classes refl h.few h.fits h.classes;
+      method_effects = all_pass ds cs (has_generic_effect P) last (effects_pass P ds (stay r h)) refl h.ok h.finishes;
+      slots_differ = each_below_is (λ c. no_two bytes_eq (slots_within (length cs) cs c)) (length cs) (λ c less. slots_apart (length cs) cs c h.tested.ends h.tested.slots (omega arith));
+      few_slots = each_below_is (λ c. nat_le (length (slots_within (length cs) cs c)) 64) (length cs) (λ c less. is_small (length (slots_within (length cs) cs c)) (slots_few (length cs) cs c h.tested.ends h.tested.slots (omega arith)));
+      class_names_differ = classes_differ ds r.scope.table r.old_classes r.classes held.0 held.1;
+      classes_end = each_below_is (λ c. not (reaches (length cs) cs c c)) (length cs) (λ c less. ap not (h.tested.ends c));
+      words_differ = words_differ r.scope.table P.words (all_distinct P built) (accessor_words ds cs r.scope.table 0 ds last refl h.finishes b.accessors);
+      methods_differ = methods_differ (words_in r) last (phrase_in r) refl (words_apart ds cs [] ds h.fits h.words);
     }
 
 -- Resolved programs.
 
-answered : (r : Reading) (o : Option NameFault) (P : Program) → Built r → first_fault r ≡ o → program_alone (answer false r o) ≡ Ok P → IsBuilt P × IsWhole P
+record IsSound (P : Program) : Type 0 where
+  built : IsBuilt P
+  whole : IsWhole P
+
+sound : (r : Reading) → BuiltUp r → first_fault r ≡ None → IsSound (program_of false r)
+sound r b h =
+    let end = ended r b h in
+    let built = is_built r b end in
+    record { built = built; whole = whole (program_of false r) built (is_together r b end) }
+
+answered : (r : Reading) (o : Option NameFault) (P : Program) → BuiltUp r → first_fault r ≡ o → program_alone (answer false r o) ≡ Ok P → IsSound P
 answered r (Some f) P b is h = absurd (err_ok f P h)
   where
     err_ok : (f : NameFault) (P : Program) → Err f ≡ Ok P → ⊥
     err_ok f P e = cc
-answered r None P b is h =
-    let s = sound r b is in
-    let same : plain_program r ≡ P = sym s.same ∙ ap (λ (x : Result Program NameFault). elim x [ Ok Q ↦ Q | Err f ↦ P ]) h in
-    (subst IsBuilt same s.built, subst IsWhole same s.whole)
+answered r None P b is h = subst IsSound (ap (λ (x : Result Program NameFault). elim x [ Ok Q ↦ Q | Err f ↦ P ]) h) (sound r b is)
 
-resolved_sound : (files : List (List Flat)) (P : Program) → AreWellFormed files → resolved files ≡ Ok P → IsBuilt P × IsWhole P
+resolved_sound : (files : List (List Flat)) (P : Program) → AreWellFormed files → resolved files ≡ Ok P → IsSound P
 unfolding resolved
 resolved_sound files P fits h =
     let r = fold (take_file false) first_reading (map (map form_of) files) in
     answered r (first_fault r) P (files_built files first_reading fits first_built) refl h
 
 pub resolved_are_whole : (files : List (List Flat)) (P : Program) → AreWellFormed files → resolved files ≡ Ok P → IsWhole P
-resolved_are_whole files P fits h = (resolved_sound files P fits h).1
+resolved_are_whole files P fits h = (resolved_sound files P fits h).whole
 
 pub resolved_built : (files : List (List Flat)) (e : Result Program ResolveFault) → AreWellFormed files → Resolves files e → IfOk e (λ P. IsBuilt P)
-resolved_built files (Ok P) fits h = (resolved_sound files P fits h).0
+resolved_built files (Ok P) fits h = (resolved_sound files P fits h).built
 resolved_built files (Err f) fits h = tt
 
 pub resolved_whole : (files : List (List Flat)) (e : Result Program ResolveFault) → AreWellFormed files → Resolves files e → IfOk e (λ P. IsWhole P)
-resolved_whole files (Ok P) fits h = (resolved_sound files P fits h).1
+resolved_whole files (Ok P) fits h = (resolved_sound files P fits h).whole
 resolved_whole files (Err f) fits h = tt

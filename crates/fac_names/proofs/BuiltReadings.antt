@@ -1,6 +1,6 @@
 -- What forms come to is of the forms built.
 use Rattle.std.proofs.Common.{◌≡◌, ◌<◌, ◌≤◌, ◌+◌, ℕ, zero, suc, List, [], ◌∷◌, ◌++◌, map, length, fold, Option, Some, None, Bool, true, false, refl, ap, sym, ◌∙◌, subst, arith}
-use Rattle.std.specs.Prelude.{◌&&◌, ◌||◌, not, nat_eq, nat_le, nat_lt, slice_get}
+use Rattle.std.specs.Prelude.{◌&&◌, ◌||◌, not, nat_eq, nat_le, nat_lt, slice_get, codes}
 use Rattle.std.specs.List.{list_all}
 use Rattle.std.proofs.lemmas.Bool.Decides.{Decides-ltb}
 use Rattle.std.proofs.lemmas.List.{length_push}
@@ -35,77 +35,7 @@ use Rattle.fac_names.specs.KnownWords.{known_classes}
 use Rattle.fac_names.proofs.ArrayReadings.{Begins, Counted, items_counted, main_counted, names_by, refused_counted, scoped_counted, told_counted}
 use Rattle.fac_names.proofs.BuiltScopes.{ScopeBelow, WordBelow, brought_more, entries_defined, entries_more, entries_with, word_below_held, word_of_below}
 use Rattle.fac_names.proofs.HeldNames.{AccessorAt, AccessorsHeld, AreNamed, KeepsHeld, KeepsNames, KeepsTold, NewHeld, OldHeld, WordHeld, accessor_text, accessors_kept, accessors_placed, accessors_push, accessors_told, held_defined, held_same, name_at, named_defined, named_kept, names_changed, names_push, new_kept, new_with, old_kept, told_other, told_placed, told_push, told_same}
-
--- Phrases and arrays.
-
-arrays_with : (bound : ℕ) (arrays : List (List Lit)) (ls : List Lit) → AreBuiltArrays bound arrays → AreBuiltElements bound ls → AreBuiltArrays bound (arrays ++ ls ∷ [])
-arrays_with bound [] ls h k = (k, tt)
-arrays_with bound (xs ∷ arrays) ls h k = (h.0, arrays_with bound arrays ls h.1 k)
-
-pub append_built : (bound : ℕ) (t u : Phrase) → IsBuiltPhrase bound t → IsBuiltPhrase bound u → IsBuiltPhrase bound (append t u)
-append_built bound end u h k = k
-append_built bound (placed i p t) u h k = (h.0, append_built bound t u h.1 k)
-
-pub found_below : (n bound : ℕ) (s : Scope) (t : Tok) → 0 < n → n ≤ bound → ScopeBelow n s → nat_lt (word_of s t) bound ≡ true
-found_below n bound s t some few h = let below = word_of_below n s t some h in (Decides-ltb (word_of s t) bound).1 (omega (arith, below, few))
-
-number_below : (n bound : ℕ) (o : Option ℕ) → 0 < n → n ≤ bound → WordBelow n o → nat_lt (number o) bound ≡ true
-number_below n bound None some few h = (Decides-ltb 0 bound).1 (omega (arith, some, few))
-number_below n bound (Some w) some few h = (Decides-ltb w bound).1 (omega (arith, h, few))
-
-held_below : (n bound : ℕ) (s : Scope) (vocab name : List ℕ) → 0 < n → n ≤ bound → ScopeBelow n s → nat_lt (number (word_held s.table vocab name)) bound ≡ true
-held_below n bound s vocab name some few h = number_below n bound (word_held s.table vocab name) some few (word_below_held n s.table vocab name h.table)
-
-mutual
-  pub phrase_built : (n bound : ℕ) (s : Scope) (ns : Nodes) (arrays : List (List Lit)) (holes : ℕ) → 0 < n → n ≤ bound → ScopeBelow n s → ArePlain ns → AreBuiltArrays bound arrays →
-      IsBuiltPhrase bound (phrase_of s [] ns arrays holes).phrase × AreBuiltArrays bound (phrase_of s [] ns arrays holes).arrays
-  phrase_built n bound s nothing arrays holes some few h plain k = (tt, k)
-  phrase_built n bound s (more (n_lit (int z) p) ns) arrays holes some few h plain k = let rest = phrase_built n bound s ns arrays holes some few h plain.1 k in ((tt, rest.0), rest.1)
-  phrase_built n bound s (more (n_lit yes p) ns) arrays holes some few h plain k = let rest = phrase_built n bound s ns arrays holes some few h plain.1 k in ((tt, rest.0), rest.1)
-  phrase_built n bound s (more (n_lit no p) ns) arrays holes some few h plain k = let rest = phrase_built n bound s ns arrays holes some few h plain.1 k in ((tt, rest.0), rest.1)
-  phrase_built n bound s (more (n_lit (str bs) p) ns) arrays holes some few h plain k = let rest = phrase_built n bound s ns arrays holes some few h plain.1 k in ((tt, rest.0), rest.1)
-  phrase_built n bound s (more (n_lit l p) ns) arrays holes some few h plain k = absurd plain.0
-  phrase_built n bound s (more (n_name t p) ns) arrays holes some few h plain k = let rest = phrase_built n bound s ns arrays holes some few h plain.1 k in ((found_below n bound s t some few h, rest.0), rest.1)
-  phrase_built n bound s (more (n_next p) ns) arrays holes some few h plain k = let rest = phrase_built n bound s ns arrays holes some few h plain.1 k in ((tt, rest.0), rest.1)
-  phrase_built n bound s (more (n_full v x p) ns) arrays holes some few h plain k = let rest = phrase_built n bound s ns arrays holes some few h plain.1 k in ((held_below n bound s v x some few h, rest.0), rest.1)
-  phrase_built n bound s (more (n_quot ms p) ns) arrays holes some few h plain k =
-      let m = phrase_of s [] ms arrays holes in
-      let inner = phrase_built n bound s ms arrays holes some few h plain.0 k in
-      let rest = phrase_built n bound s ns m.arrays m.holes some few h plain.1 inner.1 in
-      ((inner.0, rest.0), rest.1)
-  phrase_built n bound s (more (n_array ms p) ns) arrays holes some few h plain k =
-      let m = elements_of s ms arrays in
-      let inner = elements_built n bound s ms arrays some few h plain.0 k in
-      let rest = phrase_built n bound s ns (m.arrays ++ m.elements ∷ []) holes some few h plain.1 (arrays_with bound m.arrays m.elements inner.1 inner.0) in
-      ((tt, rest.0), rest.1)
-  phrase_built n bound s (more (n_part ms) ns) arrays holes some few h plain k =
-      let m = phrase_of s [] ms arrays holes in
-      let inner = phrase_built n bound s ms arrays holes some few h plain.0 k in
-      let rest = phrase_built n bound s ns m.arrays m.holes some few h plain.1 inner.1 in
-      (append_built bound m.phrase (phrase_of s [] ns m.arrays m.holes).phrase inner.0 rest.0, rest.1)
-  phrase_built n bound s (more x ns) arrays holes some few h plain k = absurd plain.0
-
-  pub elements_built : (n bound : ℕ) (s : Scope) (ns : Nodes) (arrays : List (List Lit)) → 0 < n → n ≤ bound → ScopeBelow n s → AreElements ns → AreBuiltArrays bound arrays →
-      AreBuiltElements bound (elements_of s ns arrays).elements × AreBuiltArrays bound (elements_of s ns arrays).arrays
-  elements_built n bound s nothing arrays some few h plain k = (tt, k)
-  elements_built n bound s (more (n_lit (int z) p) ns) arrays some few h plain k = let rest = elements_built n bound s ns arrays some few h plain.1 k in ((tt, rest.0), rest.1)
-  elements_built n bound s (more (n_lit yes p) ns) arrays some few h plain k = let rest = elements_built n bound s ns arrays some few h plain.1 k in ((tt, rest.0), rest.1)
-  elements_built n bound s (more (n_lit no p) ns) arrays some few h plain k = let rest = elements_built n bound s ns arrays some few h plain.1 k in ((tt, rest.0), rest.1)
-  elements_built n bound s (more (n_lit (str bs) p) ns) arrays some few h plain k = let rest = elements_built n bound s ns arrays some few h plain.1 k in ((tt, rest.0), rest.1)
-  elements_built n bound s (more (n_lit l p) ns) arrays some few h plain k = absurd plain.0
-  elements_built n bound s (more (n_name t p) ns) arrays some few h plain k = let rest = elements_built n bound s ns arrays some few h plain.1 k in ((found_below n bound s t some few h, rest.0), rest.1)
-  elements_built n bound s (more (n_next p) ns) arrays some few h plain k = elements_built n bound s ns arrays some few h plain.1 k
-  elements_built n bound s (more (n_quot ms p) ns) arrays some few h plain k =
-      let m = phrase_of s [] ms arrays 0 in
-      let inner = phrase_built n bound s ms arrays 0 some few h plain.0 k in
-      let rest = elements_built n bound s ns m.arrays some few h plain.1 inner.1 in
-      ((inner.0, rest.0), rest.1)
-  elements_built n bound s (more (n_array ms p) ns) arrays some few h plain k =
-      let m = elements_of s ms arrays in
-      let inner = elements_built n bound s ms arrays some few h plain.0 k in
-      let rest = elements_built n bound s ns (m.arrays ++ m.elements ∷ []) some few h plain.1 (arrays_with bound m.arrays m.elements inner.1 inner.0) in
-      ((tt, rest.0), rest.1)
-  elements_built n bound s (more x ns) arrays some few h plain k = absurd plain.0
+use Rattle.fac_names.proofs.PrimitiveNumbers.{numbers_in, numbers_with, numbers_with, numbers_placed, told_distinct}
 
 -- Words.
 
@@ -129,12 +59,6 @@ DraftsBuilt bound (d ∷ ds) = IsBuiltLate bound d.word d.late × DraftsBuilt bo
 -- the numbers of classes in a word are below k, and its effect has few names
 abbrev pub draft_ok : ℕ → Draft → Bool
 draft_ok k d = draft_fits k d && nat_le (name_count d.word.effect) 65
-
-abbrev pub words_in : List Draft → List WordDef
-words_in ds = map (λ (d : Draft). d.word) ds
-
-abbrev pub numbers_in : List Draft → List ℕ
-numbers_in ds = primitive_numbers (words_in ds)
 
 -- the words of classes are held under their names
 abbrev pub AreHeld : Reading → Type 0
@@ -231,10 +155,6 @@ drafts_with : (bound : ℕ) (ds : List Draft) (d : Draft) → DraftsBuilt bound 
 drafts_with bound [] d h k = (k, tt)
 drafts_with bound (e ∷ ds) d h k = (h.0, drafts_with bound ds d h.1 k)
 
-numbers_with : (ds : List Draft) (vocab : List ℕ) (t : Tok) → numbers_in (ds ++ draft_of vocab t ∷ []) ≡ numbers_in ds
-numbers_with [] vocab t = refl
-numbers_with (d ∷ ds) vocab t = ap (numbers_before d.word.sort) (numbers_with ds vocab t)
-
 -- the table is the same, or has an entry of the new word more
 pub record Adds_word (r : Reading) (s : Scope) (vocab : List ℕ) (t : Tok) (first : Option NameFault) : Type 0 where
   pub below : ScopeBelow (length r.words + 1) s
@@ -311,11 +231,6 @@ placed_late bound d p deferred h = tt
 placed_late bound d p (maker r) h = placed_body bound d p h
 placed_late bound d p (method_of c g) h = placed_body bound d p h
 
-numbers_placed : (p : Place) (n : ℕ) (ds : List Draft) → numbers_in (changed (at_place p) n ds) ≡ numbers_in ds
-numbers_placed p n [] = refl
-numbers_placed p zero (d ∷ ds) = refl
-numbers_placed p (suc n) (d ∷ ds) = ap (numbers_before d.word.sort) (numbers_placed p n ds)
-
 ok_changed : (k : ℕ) (f : Draft → Draft) (n : ℕ) (ds : List Draft) → ((d : Draft) → draft_ok k d ≡ true → draft_ok k (f d) ≡ true) → list_all (draft_ok k) ds ≡ true → list_all (draft_ok k) (changed f n ds) ≡ true
 ok_changed k f n [] keeps h = refl
 ok_changed k f zero (d ∷ ds) keeps h = let both = true_both (draft_ok k d) (list_all (draft_ok k) ds) h in and_true (draft_ok k (f d)) (list_all (draft_ok k) ds) (keeps d both.0) both.1
@@ -352,61 +267,6 @@ moved_built k c r vocab name p n counted b =
       counted = counted;
     }
 
--- Numbers of primitives stay distinct where a word is told that is none.
-
-abbrev IsNoPrimitive : Sort → Type 0
-IsNoPrimitive s = (ks : List ℕ) → numbers_before s ks ≡ ks
-
-behind_or : (b c : Bool) → (b || c) ≡ false → c ≡ false
-behind_or true c h = cc
-behind_or false c h = h
-
-first_or : (b c : Bool) → (b || c) ≡ false → b ≡ false
-first_or true c h = h
-first_or false c h = refl
-
-or_false : (b c : Bool) → b ≡ false → c ≡ false → (b || c) ≡ false
-or_false b c h k = rw (h, k) refl
-
-first_and : (b c : Bool) → (b && c) ≡ true → b ≡ true
-first_and true c h = refl
-first_and false c h = h
-
-second_and : (b c : Bool) → (b && c) ≡ true → c ≡ true
-second_and true c h = h
-second_and false c h = cc
-
-not_true : (b : Bool) → not b ≡ true → b ≡ false
-not_true true h = cc
-not_true false h = refl
-
-fewer_member : (j : ℕ) (s : Sort) (ks : List ℕ) → is_member j (numbers_before s ks) ≡ false → is_member j ks ≡ false
-fewer_member j (prim k) ks h = behind_or (nat_eq j k) (is_member j ks) h
-fewer_member j s ks h = h
-
-member_before : (j : ℕ) (s : Sort) (ks ls : List ℕ) → (is_member j ks ≡ false → is_member j ls ≡ false) → is_member j (numbers_before s ks) ≡ false → is_member j (numbers_before s ls) ≡ false
-member_before j (prim k) ks ls later h = or_false (nat_eq j k) (is_member j ls) (first_or (nat_eq j k) (is_member j ks) h) (later (behind_or (nat_eq j k) (is_member j ks) h))
-member_before j s ks ls later h = later h
-
-told_member : (j : ℕ) (f : Draft → Draft) (n : ℕ) (ds : List Draft) → ((d : Draft) → IsNoPrimitive (f d).word.sort) → is_member j (numbers_in ds) ≡ false → is_member j (numbers_in (changed f n ds)) ≡ false
-told_member j f n [] none h = h
-told_member j f zero (d ∷ ds) none h = ap (is_member j) (none d (numbers_in ds)) ∙ fewer_member j d.word.sort (numbers_in ds) h
-told_member j f (suc n) (d ∷ ds) none h = member_before j d.word.sort (numbers_in ds) (numbers_in (changed f n ds)) (told_member j f n ds none) h
-
-fewer_distinct : (s : Sort) (ks : List ℕ) → has_no_repeats (numbers_before s ks) ≡ true → has_no_repeats ks ≡ true
-fewer_distinct (prim k) ks h = second_and (not (is_member k ks)) (has_no_repeats ks) h
-fewer_distinct s ks h = h
-
-distinct_before : (s : Sort) (ks ls : List ℕ) → ((j : ℕ) → is_member j ks ≡ false → is_member j ls ≡ false) → (has_no_repeats ks ≡ true → has_no_repeats ls ≡ true) → has_no_repeats (numbers_before s ks) ≡ true → has_no_repeats (numbers_before s ls) ≡ true
-distinct_before (prim k) ks ls members later h =
-    and_true (not (is_member k ls)) (has_no_repeats ls) (ap not (members k (not_true (is_member k ks) (first_and (not (is_member k ks)) (has_no_repeats ks) h)))) (later (second_and (not (is_member k ks)) (has_no_repeats ks) h))
-distinct_before s ks ls members later h = later h
-
-told_distinct : (f : Draft → Draft) (n : ℕ) (ds : List Draft) → ((d : Draft) → IsNoPrimitive (f d).word.sort) → has_no_repeats (numbers_in ds) ≡ true → has_no_repeats (numbers_in (changed f n ds)) ≡ true
-told_distinct f n [] none h = h
-told_distinct f zero (d ∷ ds) none h = ap has_no_repeats (none d (numbers_in ds)) ∙ fewer_distinct d.word.sort (numbers_in ds) h
-told_distinct f (suc n) (d ∷ ds) none h = distinct_before d.word.sort (numbers_in ds) (numbers_in (changed f n ds)) (λ j. told_member j f n ds none) (told_distinct f n ds none) h
-
 -- What a word is told to be.
 pub record IsTold (k : ℕ) (n : Numbered) (s : Sort) (e : Signature) (inline recursive : Bool) (late : Late) : Type 0 where
   pub no_primitive : (ks : List ℕ) → numbers_before s ks ≡ ks
@@ -440,7 +300,7 @@ told_built k c n s e inline recursive late arrays first t before is_built adds b
       own = b.own;
       count = b.count;
       named = named_kept r.words (changed f w r.words) r.scope.table keeps.names b.named;
-      accessors = accessors_told r.scope.table 0 w s f r.words (λ d. refl) (λ name is. subst (λ (m : ℕ). word_held r.scope.table _ name ≡ Some m) (let e : w ≡ w + 0 = omega arith in e) (t.accessor name is)) b.accessors;
+      accessors = accessors_told r.scope.table 0 w s f r.words (λ d. refl) (λ name is. subst (λ (m : ℕ). word_held r.scope.table (codes "accessors") name ≡ Some m) (let e : w ≡ w + 0 = omega arith in e) (t.accessor name is)) b.accessors;
       held = λ none. held_through r (told s e inline recursive late (record { word = n.word; reading = record n.reading { arrays = arrays; first = first } })) keeps (b.held (before none));
       arrays = λ bound few. is_built bound (omega (arith, same, few));
       counted = told_counted n s e inline recursive late arrays first adds begins;

@@ -25,70 +25,7 @@ use Rattle.fac_endings.specs.Words.{no_effect}
 use Rattle.fac_names.specs.KnownWords.{known_words}
 use Rattle.fac_names.specs.Resolved.{Known, read_files}
 use Rattle.fac_names.specs.Resolution.{first_reading}
-
--- How sources are written here: tokens by their numbers in file 1.
-
-abbrev at : ℕ → Place
-at t = record { file = 1; token = t }
-
-abbrev tk : List ℕ → ℕ → Tok
-tk text t = record { text = text; place = at t }
-
-abbrev nodes : List Node → Nodes
-nodes [] = nothing
-nodes (n ∷ ns) = more n (nodes ns)
-
-abbrev named : List ℕ → ℕ → Node
-named text t = n_name (tk text t) (at t)
-
-abbrev literal : Plain → ℕ → Node
-literal l t = n_lit l (at t)
-
-abbrev run : List Node → Form
-run ns = f_items (nodes ns)
-
-abbrev defined : List ℕ → ℕ → List Node → Form
-defined name t ns = f_define (tk name t) (given no_effect) (nodes ns) false false
-
--- `USING: kernel math ;`
-abbrev kernel_and_math : Form
-kernel_and_math = f_using (tk (codes "kernel") 2 ∷ tk (codes "math") 3 ∷ [])
-
--- How answers are: the words behind those that are known, or the refusal.
-
-pub data Seen : Type 0 where
-  no : ℕ → NameKind → List ℕ → Seen
-  yes : List WordDef → Seen
-
-abbrev seen : Result Known NameFault → Seen
-seen (Err f) = no f.place.token f.kind f.name
-seen (Ok k) = yes (drop (length known_words) k.program.words)
-
-abbrev resolves : List (List Form) → Seen
-resolves files = seen (read_files first_reading files false)
-
-abbrev name : List ℕ → List ℕ → FullName
-name vocab text = record { vocab = vocab; name = text }
-
--- the number of a word of the source, and that of a known word
-abbrev own : ℕ → ℕ
-own k = length known_words + k
-
-abbrev known : List ℕ → List ℕ → ℕ
-known vocab text = number (word_held (entries_from 0 known_words) vocab text)
-
-abbrev items : List (Item × ℕ) → Phrase
-items [] = end
-items (i ∷ is) = placed i.0 (at i.1) (items is)
-
-abbrev word_def : List ℕ → List ℕ → Sort → Signature → Bool → Bool → Place → WordDef
-word_def vocab text sort effect inline recursive place = record { name = name vocab text; sort = sort; effect = effect; inline = inline; recursive = recursive; place = place }
-
-abbrev made : List ℕ → List ℕ → ℕ → Phrase → WordDef
-made vocab text t phrase = word_def vocab text (body phrase) no_effect false false (at t)
-
-abbrev top : Phrase → WordDef
-top phrase = word_def [] (codes "top-level") (body phrase) no_effect false false (record { file = 0; token = 0 })
+use Rattle.fac_names.proofs.WrittenSources.{at, tk, nodes, nodes, named, literal, run, defined, kernel_and_math, resolves, name, own, known, items, items, word_def, made, top, array, quotation, arrays_of, yes, no}
 
 -- IN: a : go ( -- ) ; IN: b : go ( -- ) ; IN: c USING: a b ; go
 two_go : resolves ((f_in (tk (codes "a") 2) ∷ defined (codes "go") 4 [] ∷ f_in (tk (codes "b") 10) ∷ defined (codes "go") 12 [] ∷ f_in (tk (codes "c") 18) ∷ (f_using ((tk (codes "a") 20) ∷ (tk (codes "b") 21) ∷ [])) ∷ run (named (codes "go") 23 ∷ []) ∷ []) ∷ []) ≡ no 23 (Ambiguous (name (codes "a") (codes "go")) (name (codes "b") (codes "go"))) (codes "go")
@@ -366,20 +303,6 @@ main_of_first = refl
 
 -- Literal arrays.
 
-abbrev array : List Node → ℕ → Node
-array ns t = n_array (nodes ns) (at t)
-
-abbrev quotation : List Node → ℕ → Node
-quotation ns t = n_quot (nodes ns) (at t)
-
--- the literal arrays of a program that isn't refused
-abbrev arrays_seen : Result Known NameFault → List (List Lit)
-arrays_seen (Err f) = []
-arrays_seen (Ok k) = k.program.arrays
-
-abbrev arrays_of : List (List Form) → List (List Lit)
-arrays_of files = arrays_seen (read_files first_reading files false)
-
 -- { 1 { 2 t } "x" }
 inner_first : List (List Form)
 inner_first = (run (array (literal (int (pos 1)) 2 ∷ array (literal (int (pos 2)) 4 ∷ literal yes_value 5 ∷ []) 3 ∷ literal (str (codes "x")) 7 ∷ []) 1 ∷ []) ∷ []) ∷ []
@@ -423,10 +346,15 @@ constant_first : arrays_of constant_array ≡ (l_int (pos 1) ∷ []) ∷ (l_int 
 unfolding constant_array known_words built_primitive_words found
 constant_first = refl
 
--- IN: combinators : cond ( -- ) ; { [ ] } cond
-own_cond : resolves ((f_in (tk (codes "combinators") 2) ∷ defined (codes "cond") 4 [] ∷ run (array (quotation [] 10 ∷ []) 9 ∷ named (codes "cond") 13 ∷ []) ∷ []) ∷ []) ≡ yes (made (codes "combinators") (codes "cond") 4 end ∷ top (items ((lit_arr 0, 9) ∷ (word (own 0), 13) ∷ [])) ∷ [])
+-- IN: a : cond ( -- ) ; { [ ] } cond
+own_cond : resolves ((f_in (tk (codes "a") 2) ∷ defined (codes "cond") 4 [] ∷ run (array (quotation [] 10 ∷ []) 9 ∷ named (codes "cond") 13 ∷ []) ∷ []) ∷ []) ≡ yes (made (codes "a") (codes "cond") 4 end ∷ top (items ((lit_arr 0, 9) ∷ (word (own 0), 13) ∷ [])) ∷ [])
 unfolding known_words built_primitive_words found
 own_cond = refl
+
+-- IN: combinators : cond ( -- ) ;
+cond_again : resolves ((f_in (tk (codes "combinators") 2) ∷ defined (codes "cond") 4 [] ∷ []) ∷ []) ≡ no 4 Twice (codes "cond")
+unfolding known_words built_primitive_words found
+cond_again = refl
 
 -- { [ ] t } f, as its elements
 elements_nested : nested (element.Opens Array (at 1) ∷ element.Opens Quotation (at 2) ∷ element.Closes Quotation (at 3) ∷ element.Item (term.True (at 4)) ∷ element.Closes Array (at 5) ∷ element.Item (term.False (at 6)) ∷ []) ≡ nodes (array (quotation [] 2 ∷ literal yes_value 4 ∷ []) 1 ∷ literal no_value 6 ∷ [])

@@ -19,9 +19,11 @@ use Rattle.fac_endings.specs.declared.draft.Draft.{Draft}
 use Rattle.fac_endings.proofs.Apart.{true_both}
 use Rattle.fac_names.specs.KnownWords.{class_word, class_words_from, classes_from, core_words_of, known_classes, known_words, predicates_if, primitives_from}
 use Rattle.fac_names.specs.Resolution.{first_reading, settled_draft}
-use Rattle.fac_names.proofs.ArrayReadings.{known_ascending, known_spared, named_in}
+use Rattle.fac_names.proofs.ArrayReadings.{known_spared, named_in}
+use Rattle.fac_names.proofs.EntryLemmas.{known_ascending}
 use Rattle.fac_names.proofs.BuiltForms.{BuiltUp, up}
-use Rattle.fac_names.proofs.BuiltReadings.{Built, DraftsBuilt, draft_ok, words_in}
+use Rattle.fac_names.proofs.BuiltReadings.{Built, DraftsBuilt, draft_ok}
+use Rattle.fac_names.proofs.PrimitiveNumbers.{words_in}
 use Rattle.fac_names.proofs.BuiltScopes.{EntriesBelow}
 use Rattle.fac_names.proofs.HeldNames.{AccessorsHeld, AreNamed, ClassHeld, OldHeld, WordHeld, accessor_text, name_at, no_accessor}
 

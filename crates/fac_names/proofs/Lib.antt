@@ -7,10 +7,14 @@ pub mod BracketLemmas
 pub mod FileLemmas
 pub mod KnownWordLemmas
 pub mod EndingLemmas
+pub mod EntryLemmas
 pub mod ArrayReadings
 pub mod BuiltScopes
 pub mod HeldNames
+pub mod BuiltPhrases
+pub mod PrimitiveNumbers
 pub mod BuiltReadings
+pub mod DefinedNames
 pub mod BuiltForms
 pub mod PlainForms
 pub mod KnownBuilt
@@ -18,5 +22,7 @@ pub mod Distinct
 pub mod WholePrograms
 pub mod Together
 pub mod BuiltPrograms
+pub mod WrittenSources
 pub mod ExamplesOfNames
+pub mod ExamplesOfClasses
 pub mod SignLemmas

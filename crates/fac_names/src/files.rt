@@ -14,10 +14,11 @@ ghost use Rattle.fac_names.specs.inner.State.{reading_of};
 ghost use Rattle.fac_names.specs.inner.Taking.{take_all};
 
 use crate::accessors::accessors;
+use crate::bodies::{define, maker, method, take_items};
 use crate::classes::{singleton, tuple, union};
 use crate::forms::{
-    begin_file, close_private, define, enter, from, generic, maker, method, open_private, qualify,
-    symbol, take_defer, take_items, take_main, use_all, use_vocab,
+    begin_file, close_private, enter, from, generic, open_private, qualify, symbol, take_defer,
+    take_main, use_all, use_vocab,
 };
 use crate::parts::{
     all_names, brought, constant_parts, definition_parts, generic_parts, marks_inline,
@@ -110,13 +111,7 @@ fn take_method(alloc: Global, so_far: &mut SoFar, parts: &[Part]) -> Result<(), 
     ensures { OnOk result (reading_of so_far.new ≡ take (row Method parts.now) (reading_of so_far.old)) }
 {
     let found = method_parts(parts);
-    method(
-        alloc,
-        so_far,
-        found.class,
-        found.generic,
-        found.elements,
-    )
+    method(alloc, so_far, found.class, found.generic, found.elements)
 }
 
 // Takes a row.

@@ -1,29 +1,21 @@
-//! What forms define and do, but for those of classes.
-ghost use Rattle.std.specs.Prelude.{◌≡◌, ◌++◌, ◌∷◌, [], map, codes, false, fold, IfOk, OnOk};
-ghost use Rattle.fac_lang.specs.PhraseView.{items_phrase};
-ghost use Rattle.fac_lang.specs.Phrases.{end, then, word};
+//! What forms define and do, but for those with items and those of classes.
+ghost use Rattle.std.specs.Prelude.{◌≡◌, ◌∷◌, [], map, false, fold, IfOk, OnOk};
 ghost use Rattle.fac_lang.specs.declared.phrase.What.TheVariants.{Word};
-ghost use Rattle.fac_lang.specs.declared.program.Sort.TheVariants.{Body};
-ghost use Rattle.fac_lang.specs.RunningLaws.{append};
-ghost use Rattle.fac_vocab.specs.Scopes.{begun, word_held};
-ghost use Rattle.fac_refusal.specs.Toks.{number};
-ghost use Rattle.fac_endings.specs.Words.{no_effect};
+ghost use Rattle.fac_vocab.specs.Scopes.{begun};
 ghost use Rattle.fac_endings.specs.declared.draft.Late.TheVariants.{Settled};
-ghost use Rattle.fac_items.specs.FromElements.{AreClosing, nested, tok};
-ghost use Rattle.fac_items.specs.Written.{f_define, f_defer, f_from, f_generic, f_in, f_items, f_main, f_maker, f_method, f_private, f_public, f_qualified, f_symbol, f_use, f_using, given};
-ghost use Rattle.fac_items.specs.Items.{ref, search_faults};
-ghost use Rattle.fac_items.specs.Readings.{read_form};
-ghost use Rattle.fac_names.specs.Forms.{added, bring_one, refused, scoped, take, use_one};
-ghost use Rattle.fac_names.specs.inner.State.{Reads, reading_of};
+ghost use Rattle.fac_items.specs.FromElements.{tok};
+ghost use Rattle.fac_items.specs.Written.{f_defer, f_from, f_generic, f_in, f_main, f_private, f_public, f_qualified, f_symbol, f_using};
+ghost use Rattle.fac_names.specs.Forms.{bring_one, scoped, take, use_one};
+ghost use Rattle.fac_names.specs.inner.State.{reading_of};
 
 use crate::drafts::Told;
 use crate::naming::{defer, own};
 use crate::so_far::SoFar;
 use fac_effect::text;
-use fac_endings::{Late, no_effect, plain_effect};
-use fac_items::{phrase_of, refer, refuse_token, word_of};
-use fac_lang::{Effect, Element, Item, Memory, Name, Phrase, Place, Sort, Text, Token, What};
-use fac_refusal::{NameKind, Ref};
+use fac_endings::{Late, plain_effect};
+use fac_items::{refuse_token, word_of};
+use fac_lang::{Effect, Item, Memory, Place, Sort, Token, What};
+use fac_refusal::NameKind;
 use fac_vocab::ScopeFault;
 use std::alloc::Global;
 
@@ -201,8 +193,8 @@ pub fn generic(
     so_far.drafts.tell(number, plainly(Sort::Generic, effect))
 }
 
-// The one item that a `MAIN:` adds.
-fn sole_item(alloc: Global, number: u32, place: Place) -> Result<Vec<Item>, Memory>
+/// One item, which names a word.
+pub fn sole_item(alloc: Global, number: u32, place: Place) -> Result<Vec<Item>, Memory>
     ensures { IfOk result (λ items. items.items ≡ (record { what = Word number; place = place }) ∷ []) }
 {
     let mut items = Vec::new(alloc);
@@ -220,198 +212,5 @@ pub fn take_main(alloc: Global, so_far: &mut SoFar, name: &Token) -> Result<(), 
     let number = word_of(alloc, &so_far.scope, &mut so_far.first, name)?;
     let main = sole_item(alloc, number, name.place)?;
     so_far.main = main;
-    Ok(())
-}
-
-// The phrase of items.
-fn read_phrase(
-    alloc: Global,
-    so_far: &mut SoFar,
-    elements: &[Element],
-) -> Result<Phrase, Memory>
-    requires { AreClosing 0 elements.now }
-    ensures { IfOk result (λ phrase. Reads so_far.old elements.now phrase so_far.new) }
-{
-    phrase_of(
-        alloc,
-        &so_far.scope,
-        &mut so_far.first,
-        &mut so_far.arrays,
-        elements,
-    )
-}
-
-/// Takes the definition of a word with this effect.
-pub fn define(
-    alloc: Global,
-    so_far: &mut SoFar,
-    name: &Token,
-    effect: Effect,
-    elements: &[Element],
-    inline: bool,
-    recursive: bool,
-) -> Result<(), Memory>
-    requires { AreClosing 0 elements.now }
-    ensures { OnOk result (reading_of so_far.new ≡ take (f_define (tok name.now) (given effect) (nested elements.now) inline recursive) (reading_of so_far.old)) }
-{
-    let number = own(alloc, so_far, name)?;
-    let body = read_phrase(alloc, so_far, elements)?;
-    so_far.drafts.tell(
-        number,
-        Told {
-            sort: Sort::Body(body),
-            effect,
-            inline,
-            recursive,
-            late: Late::Settled,
-        },
-    )
-}
-
-// What a word is whose phrase has an effect that is late.
-fn late_body(alloc: Global, body: Phrase, late: Late) -> Told
-    ensures sort { result.sort ≡ Body body }
-    ensures effect { result.effect ≡ no_effect }
-    ensures inline { result.inline ≡ false }
-    ensures recursive { result.recursive ≡ false }
-    ensures late { result.late ≡ late }
-{
-    Told {
-        sort: Sort::Body(body),
-        effect: no_effect(alloc),
-        inline: false,
-        recursive: false,
-        late,
-    }
-}
-
-// The name of a method, which no table has.
-fn method_name(alloc: Global, generic: &Token) -> Result<Name, Memory>
-    ensures { IfOk result (λ name. name ≡ record { vocab = []; name = (tok generic.now).text }) }
-{
-    let name = Text::from_str(alloc, text(&generic.kind))?;
-    Ok(Name {
-        vocab: Text::new(alloc),
-        name,
-    })
-}
-
-// The class and the generic of a method.
-fn refer_both(
-    alloc: Global,
-    so_far: &mut SoFar,
-    class: &Token,
-    generic: &Token,
-) -> Result<(Ref, Ref), Memory>
-    ensures class { IfOk result (λ both. both.0 ≡ ref so_far.old.scope (tok class.now)) }
-    ensures generic { IfOk result (λ both. both.1 ≡ ref so_far.old.scope (tok generic.now)) }
-    ensures refused { OnOk result (reading_of so_far.new ≡ refused (search_faults so_far.old.scope (tok class.now ∷ tok generic.now ∷ [])) (reading_of so_far.old)) }
-{
-    let class = refer(alloc, &so_far.scope, &mut so_far.first, class)?;
-    match refer(alloc, &so_far.scope, &mut so_far.first, generic) {
-        Ok(generic) => Ok((class, generic)),
-        Err(Memory) => Err(Memory),
-    }
-}
-
-// A new word for a method.
-fn add_method(alloc: Global, so_far: &mut SoFar, generic: &Token) -> Result<u32, Memory>
-    ensures { IfOk result (λ number. record { word = number; reading = reading_of so_far.new } ≡ added [] (tok generic.now) (reading_of so_far.old)) }
-{
-    let number = so_far.drafts.len()?;
-    let name = method_name(alloc, generic)?;
-    so_far.drafts.add(alloc, name, generic.place)?;
-    Ok(number)
-}
-
-/// Takes an `M:`.
-pub fn method(
-    alloc: Global,
-    so_far: &mut SoFar,
-    class: &Token,
-    generic: &Token,
-    elements: &[Element],
-) -> Result<(), Memory>
-    requires { AreClosing 0 elements.now }
-    ensures { OnOk result (reading_of so_far.new ≡ take (f_method (tok class.now) (tok generic.now) (nested elements.now)) (reading_of so_far.old)) }
-{
-    let (class, of) = refer_both(alloc, so_far, class, generic)?;
-    let number = add_method(alloc, so_far, generic)?;
-    let body = read_phrase(alloc, so_far, elements)?;
-    so_far
-        .drafts
-        .tell(number, late_body(alloc, body, Late::Method(class, of)))
-}
-
-// The phrase of a `C:`: the word of its class, and `boa`.
-fn maker_phrase(
-    alloc: Global,
-    class: u32,
-    boa: u32,
-    place: Place,
-) -> Result<Phrase, Memory>
-    ensures { IfOk result (λ phrase. phrase ≡ then (word class) place (then (word boa) place end)) }
-{
-    let mut items = sole_item(alloc, class, place)?;
-    items.push(Item {
-        what: What::Word(boa),
-        place,
-    })?;
-    Ok(Phrase { items })
-}
-
-// The number of the word `boa`.
-fn boa_number(so_far: &SoFar) -> u32
-    ensures { result ≡ number (word_held so_far.now.scope.table (codes "kernel") (codes "boa")) }
-{
-    match so_far.scope.word("kernel", "boa") {
-        Some(number) => number,
-        None => 0,
-    }
-}
-
-// The number of a name's word, or 0 where there is none.
-fn number_of(name: &Ref) -> u32
-    ensures { result ≡ number name.now.word }
-{
-    match name.word {
-        Some(number) => number,
-        None => 0,
-    }
-}
-
-/// Takes a `C:`.
-pub fn maker(
-    alloc: Global,
-    so_far: &mut SoFar,
-    name: &Token,
-    class: &Token,
-) -> Result<(), Memory>
-    ensures { OnOk result (reading_of so_far.new ≡ take (read_form (f_maker (tok name.now) (tok class.now))) (reading_of so_far.old)) }
-{
-    let number = own(alloc, so_far, name)?;
-    let class = refer(alloc, &so_far.scope, &mut so_far.first, class)?;
-    let body = maker_phrase(alloc, number_of(&class), boa_number(so_far), name.place)?;
-    so_far
-        .drafts
-        .tell(number, late_body(alloc, body, Late::Maker(class)))
-}
-
-/// Adds items behind others.
-#[tactic(auto, using(fac_items::proofs::TakenLemmas::items_phrase_append))]
-pub fn add_items(items: &mut Vec<Item>, mut more: Vec<Item>) -> Result<(), Memory>
-    ensures { OnOk result (items_phrase items.new.items ≡ append (items_phrase items.old.items) (items_phrase more.items)) }
-{
-    items.append(&mut more)?;
-    Ok(())
-}
-
-/// Takes items at the top level.
-pub fn take_items(alloc: Global, so_far: &mut SoFar, elements: &[Element]) -> Result<(), Memory>
-    requires { AreClosing 0 elements.now }
-    ensures { OnOk result (reading_of so_far.new ≡ take (f_items (nested elements.now)) (reading_of so_far.old)) }
-{
-    let phrase = read_phrase(alloc, so_far, elements)?;
-    add_items(&mut so_far.items, phrase.items)?;
     Ok(())
 }

@@ -2,6 +2,7 @@
 #![tactic(auto)]
 
 mod accessors;
+mod bodies;
 mod classes;
 mod drafts;
 mod files;

@@ -7,9 +7,9 @@ ghost use Rattle.fac_names.specs.Resolution.{Resolves, first_reading, settled_dr
 ghost use Rattle.fac_names.specs.inner.Ended.{EndsReading};
 ghost use Rattle.fac_names.specs.inner.State.{reading_of};
 
+use crate::bodies::add_items;
 use crate::drafts::Drafts;
 use crate::files::take_trees;
-use crate::forms::add_items;
 use crate::known_words::{first_classes, first_words};
 use crate::so_far::SoFar;
 use fac_endings::{Draft, Gathered, Late, ended};

@@ -94,11 +94,7 @@ fn climb(counting: &mut Counting, classes: &List<ClassDef>, class: u32) -> Resul
 }
 
 // Goes back down, from the parent of the last class on the way, which has so many slots.
-fn descend(
-    counting: &mut Counting,
-    classes: &List<ClassDef>,
-    above: u32,
-) -> Result<(), Memory>
+fn descend(counting: &mut Counting, classes: &List<ClassDef>, above: u32) -> Result<(), Memory>
     requires { MayDescend classes.now counting.old above }
     ensures { IfOk result (λ down. Visits classes.now counting.old counting.new) }
 {
@@ -114,11 +110,7 @@ fn descend(
 }
 
 // Counts the slots of a class, and of those above it.
-fn count_class(
-    counting: &mut Counting,
-    classes: &List<ClassDef>,
-    class: u32,
-) -> Result<(), Memory>
+fn count_class(counting: &mut Counting, classes: &List<ClassDef>, class: u32) -> Result<(), Memory>
     requires ends { classes_end classes.now ≡ true }
     requires idle { IsIdle classes.now counting.old }
     ensures { IfOk result (λ counted. VisitsOne classes.now class counting.old counting.new) }

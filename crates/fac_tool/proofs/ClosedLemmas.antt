@@ -13,6 +13,7 @@ use Rattle.fac_lang.specs.declared.program.WordDef.{WordDef}
 use Rattle.fac_lang.specs.Phrases.{Callable}
 use Rattle.fac_lang.specs.Meaning.{start}
 use Rattle.fac_lang.specs.Forms.{IsBuilt}
+use Rattle.fac_lang.specs.Whole.{IsWhole}
 use Rattle.fac_locals.specs.Closed.{Closes, CloseWords, ClosesSort}
 use Rattle.fac_locals.specs.declared.closing.Closed.{Closed}
 use Rattle.fac_check.specs.CallableEffects.{callable_height}
@@ -83,8 +84,8 @@ carried_by never P M count safe none carries = record {
 
 pub if_carried :
     SafeAreNotStuck → (closed : Closed) (r : Result Image Memory) →
-    IfOk r (λ image. (P : Program) (fits : Height → Height → Bool) (callable_height : Callable → Option Height) → Closes P closed.program closed.templates → IsBuilt P → Carries P fits callable_height closed.start image) →
+    IfOk r (λ image. (P : Program) (fits : Height → Height → Bool) (callable_height : Callable → Option Height) → Closes P closed.program closed.templates → IsBuilt P → IsWhole P → Carries P fits callable_height closed.start image) →
     IfOk r (λ image. (P : Program) → StandsForSafe closed P → Carried P image)
 if_carried never closed (Ok image) h =
-    λ P stands. carried_by never P image closed.start stands.safe stands.start (h P fits (callable_height P) stands.closes stands.built)
+    λ P stands. carried_by never P image closed.start stands.safe stands.start (h P fits (callable_height P) stands.closes stands.built stands.whole)
 if_carried never closed (Err e) h = tt

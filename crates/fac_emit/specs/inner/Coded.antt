@@ -1,6 +1,6 @@
 -- Which items and elements have their place in an image, as inner functions ask for it.
 use Rattle.std.specs.List.{list_all}
-use Rattle.std.specs.Prelude.{ℕ, List, ◌&&◌, Bool, true, false, Option, Some}
+use Rattle.std.specs.Prelude.{List, ◌&&◌, Bool, true, false, Option, Some}
 use Rattle.fac_lang.specs.declared.phrase.Template.{Template}
 use Rattle.fac_lang.specs.declared.program.Lit.{Lit}
 use Rattle.fac_lang.specs.declared.program.Lit.TheVariants.{Quot as l_quot}

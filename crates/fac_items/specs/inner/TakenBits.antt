@@ -1,7 +1,7 @@
 -- What bits come to, one after another, and the refusals in them.
 use Rattle.std.specs.Prelude.{ℕ, List, [], ◌∷◌, ◌++◌, length, fold, map, Option}
 use Rattle.fac_lang.specs.PhraseView.{items_phrase}
-use Rattle.fac_lang.specs.Phrases.{Phrase, end, then, Item, lit, lit_arr, quot, word, next_method}
+use Rattle.fac_lang.specs.Phrases.{Phrase, end, then, lit, lit_arr, quot, word, next_method}
 use Rattle.fac_lang.specs.RunningLaws.{append}
 use Rattle.fac_lang.specs.declared.phrase.Place.{Place}
 use Rattle.fac_lang.specs.declared.program.Lit.{Lit}
@@ -47,7 +47,6 @@ abbrev pub nest_seen : Nest → List (List Lit) → Taken
 nest_seen n arrays = record { outer = map open_seen n.outer; content = content_seen n.content; arrays = arrays }
 
 -- Items of one token, and words that readings add.
-
 
 abbrev pub with_leaf : Scope → Node → Kept → Kept
 with_leaf s (n_lit l p) (a_phrase t) = a_phrase (append t (then (lit l) p end))

@@ -1,5 +1,4 @@
-use Rattle.std.proofs.Common.{ℕ, ap, ◌≡◌, ◌∙◌, refl}
-use Rattle.fac_emit.specs.ProgramCode.{sort_action, word_row}
+use Rattle.std.proofs.Common.{ℕ, ap, ◌∙◌, refl}
 use Rattle.fac_emit.specs.inner.Numbered.{numbered_action}
 use Rattle.fac_emit.proofs.NumberLemmas.{action_is}
 use Rattle.fac_emit.proofs.compiler.row_of.Goals as goal

@@ -1,5 +1,4 @@
-use Rattle.std.proofs.Common.{ap, sym, ◌∙◌}
-use Rattle.fac_endings.proofs.FaultLemmas.{both_true, heir_behind, heir_over, heir_within}
+use Rattle.fac_endings.proofs.FaultLemmas.{both_true, heir_behind}
 use Rattle.fac_endings.proofs.class_faults.refuse_heir.Goals as goal
 
 pub returns-then-are_behind : goal.returns-then-are_behind

@@ -1,5 +1,4 @@
-use Rattle.std.proofs.Common.{ℕ, List, ap, sym, ◌∙◌}
-use Rattle.std.specs.Prelude.{◌++◌}
+use Rattle.std.proofs.Common.{ap, sym, ◌∙◌}
 use Rattle.fac_endings.specs.inner.Finishes.{slots_last}
 use Rattle.fac_endings.proofs.FinishLemmas.{none_left, slots_line, slots_taken}
 use Rattle.fac_endings.proofs.finishing.slots_of.Goals as goal

@@ -1,4 +1,4 @@
-use Rattle.std.proofs.Common.{◌≡◌, ◌++◌, Some, length}
+use Rattle.std.proofs.Common.{◌≡◌, ◌++◌, length}
 use Rattle.fac_endings.specs.inner.Finishes.{slots_last}
 use Rattle.fac_endings.proofs.finishing.slots_of.Given as goal
 

@@ -25,7 +25,7 @@ loop-draft-preserved c =
     let second = is_second ds cs d before earlier at.invariant.kept ∙ ap (is_kept before) (sym key) ∙ sym c.is_second.ensures in
     record {
       first = subst (λ (ws : List WordDef). fold sooner c.args.first.now (words_faults ds cs [] ds) ≡ fold sooner c.refuse_late.new.first (words_faults ds cs ws (drop (i + 1) ds))) (sym more)
-        (word_more ds cs ds earlier i d c.is_second.result c.args.first.now at.first c.refuse_late.new.first (words_faults ds cs [] ds) c.loop-draft-test.true c.draft-item.is second at.invariant.first c.in_ok-refuse_late.ensures);
+          (word_more ds cs ds earlier i d c.is_second.result c.args.first.now at.first c.refuse_late.new.first (words_faults ds cs [] ds) c.loop-draft-test.true c.draft-item.is second at.invariant.first c.in_ok-refuse_late.ensures);
       kept = subst (λ (ws : List WordDef). (q : MethodKey) → is_kept after (Some q) ≡ is_noted q ws) (sym more)
-        (noted_more ds cs d before after earlier at.invariant.kept (λ q. c.in_ok-note.ensures q ∙ ap (λ (o : Option MethodKey). same_as q o || is_kept before (Some q)) key));
+          (noted_more ds cs d before after earlier at.invariant.kept (λ q. c.in_ok-note.ensures q ∙ ap (λ (o : Option MethodKey). same_as q o || is_kept before (Some q)) key));
     }

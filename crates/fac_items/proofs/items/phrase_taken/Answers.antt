@@ -1,8 +1,7 @@
-use Rattle.std.proofs.Common.{[], List, ap, sym, ◌∙◌}
+use Rattle.std.proofs.Common.{ap, sym, ◌∙◌}
 use Rattle.std.specs.Prelude.{map}
-use Rattle.fac_lang.specs.PhraseView.{items_phrase}
 use Rattle.fac_items.specs.inner.Bits.{piece_bits}
-use Rattle.fac_items.specs.inner.TakenBits.{Kept, Opened, Taken, a_phrase, bits_taken, content_seen, open_seen}
+use Rattle.fac_items.specs.inner.TakenBits.{Kept, Taken, a_phrase, bits_taken, content_seen, open_seen}
 use Rattle.fac_items.proofs.TakenLemmas.{ends_in_phrase, ends_outside, nest_begun, taken_at}
 use Rattle.fac_items.proofs.items.phrase_taken.Goals as goal
 

@@ -2,7 +2,7 @@ use Rattle.std.proofs.Common.{ap, ◌∙◌}
 use Rattle.fac_lang.specs.PhraseView.{items_phrase}
 use Rattle.fac_lang.specs.RunningLaws.{append}
 use Rattle.fac_names.proofs.ReadingLemmas.{items_taken}
-use Rattle.fac_names.proofs.forms.take_items.Goals as goal
+use Rattle.fac_names.proofs.bodies.take_items.Goals as goal
 
 pub returns : goal.returns
 returns c =

@@ -1,6 +1,6 @@
 use Rattle.fac_items.specs.FromElements.{tok}
 use Rattle.fac_names.proofs.ReadingLemmas.{define_taken, on_ok}
-use Rattle.fac_names.proofs.forms.define.Goals as goal
+use Rattle.fac_names.proofs.bodies.define.Goals as goal
 
 pub returns : goal.returns
 returns c =

@@ -1,0 +1,29 @@
+use Rattle.std.proofs.lemmas.Result.{IfOk-weaker}
+use Rattle.fac_generic.proofs.WholeMethods.{whole_has}
+use Rattle.fac_emit.specs.ProgramCode.{IsPlain}
+use Rattle.fac_emit.proofs.Carrying.{carries}
+use Rattle.fac_emit.proofs.ClosedTables.{can_be_built, has_methods}
+use Rattle.fac_emit.proofs.PlainStands.{plain_code}
+use Rattle.fac_emit.proofs.compiler.compile.Goals as goal
+
+pub plain_image-requires : goal.plain_image-requires
+plain_image-requires c =
+    let given = c.requires in
+    let closed = c.args.closed.now in
+    record {
+      closed = (given.0, given.1, given.2, given.3, c.methods_are_lawful.ensures given.0 (whole_has given.0 given.3));
+      classes = can_be_built given.0 closed.program closed.templates given.1 given.3;
+      methods = has_methods given.0 closed.program closed.templates given.1 given.3;
+    }
+
+pub returns-clause-carries : goal.returns-clause-carries
+returns-clause-carries c =
+    let closed = c.args.closed.now in
+    let laws = c.methods_are_lawful.ensures in
+    IfOk-weaker c.plain_image.result (IsPlain closed.program closed.templates) _ (λ image plain P fits callable_height closes built whole. carries P closed.program closed.templates image fits callable_height closed.start built whole (laws P (whole_has P whole)) closes plain) c.plain_image.ensures
+
+pub returns-clause-stands : goal.returns-clause-stands
+returns-clause-stands c =
+    let closed = c.args.closed.now in
+    let laws = c.methods_are_lawful.ensures in
+    IfOk-weaker c.plain_image.result (IsPlain closed.program closed.templates) _ (λ image plain P closes built whole. plain_code P closed.program closed.templates image built whole (laws P (whole_has P whole)) closes plain) c.plain_image.ensures

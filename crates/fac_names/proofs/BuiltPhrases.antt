@@ -1,0 +1,108 @@
+-- Phrases and arrays that items come to are of the forms built.
+use Rattle.std.proofs.Common.{◌≡◌, ◌<◌, ◌≤◌, ◌+◌, ℕ, zero, suc, List, [], ◌∷◌, ◌++◌, map, length, fold, Option, Some, None, Bool, true, false, refl, ap, sym, ◌∙◌, subst, arith}
+use Rattle.std.specs.Prelude.{◌&&◌, ◌||◌, not, nat_eq, nat_le, nat_lt, slice_get, codes}
+use Rattle.std.specs.List.{list_all}
+use Rattle.std.proofs.lemmas.Bool.Decides.{Decides-ltb}
+use Rattle.std.proofs.lemmas.List.{length_push}
+use Rattle.std.proofs.lemmas.List.Folds.{list_all-append}
+use Rattle.fac_lang.specs.Forms.{AreBuiltArrays, AreBuiltElements, IsBuiltPhrase, IsBuiltSort, has_no_repeats, is_member, numbers_before, primitive_numbers}
+use Rattle.fac_lang.specs.Phrases.{int, yes, no, str, Phrase, end, then as placed}
+use Rattle.fac_lang.specs.RunningLaws.{append}
+use Rattle.fac_lang.specs.Signatures.{Signature}
+use Rattle.fac_lang.specs.Whole.{arrays_named, name_count}
+use Rattle.fac_lang.specs.declared.phrase.Place.{Place}
+use Rattle.fac_lang.specs.declared.program.Lit.{Lit}
+use Rattle.fac_lang.specs.declared.program.Sort.{Sort}
+use Rattle.fac_lang.specs.declared.program.Sort.TheVariants.{Body as body, Itself as itself, Prim as prim, Core as core, Past as past, Class as class, Isa as isa, Getter as getter, Setter as setter, Putter as putter, Generic as generic, Method as method}
+use Rattle.fac_lang.specs.declared.program.WordDef.{WordDef}
+use Rattle.fac_refusal.specs.declared.refusal.NameFault.{NameFault}
+use Rattle.fac_refusal.specs.Refusals.{sooner}
+use Rattle.fac_refusal.specs.Toks.{number}
+use Rattle.fac_vocab.specs.declared.entry.Entry.{Entry}
+use Rattle.fac_vocab.specs.Scopes.{Scope, now_defined, with_entry, word_held}
+use Rattle.fac_items.specs.Written.{Tok, n_lit, n_name, n_next, n_full, n_part, n_quot, n_array, Nodes, nothing, more}
+use Rattle.fac_items.specs.Items.{elements_of, phrase_of, word_of}
+use Rattle.fac_items.specs.inner.Bits.{AreElements, ArePlain}
+use Rattle.fac_items.proofs.ArrayNumbers.{Adds}
+use Rattle.fac_endings.specs.declared.draft.Draft.{Draft}
+use Rattle.fac_endings.specs.declared.draft.Late.{Late}
+use Rattle.fac_endings.specs.declared.draft.Late.TheVariants.{Settled as settled, Deferred as deferred, Maker as maker, Method as method_of}
+use Rattle.fac_endings.specs.declared.draft.NewClass.{NewClass}
+use Rattle.fac_endings.proofs.Apart.{and_true, true_both}
+use Rattle.fac_endings.proofs.EndedClasses.{class_in, draft_fits, late_in, own_few}
+use Rattle.fac_names.specs.Forms.{Numbered, Reading, at_place, changed, draft_of, refused, told, with_told}
+use Rattle.fac_names.specs.KnownWords.{known_classes}
+use Rattle.fac_names.proofs.ArrayReadings.{Begins, Counted, items_counted, main_counted, names_by, refused_counted, scoped_counted, told_counted}
+use Rattle.fac_names.proofs.BuiltScopes.{ScopeBelow, WordBelow, brought_more, entries_defined, entries_more, entries_with, word_below_held, word_of_below}
+use Rattle.fac_names.proofs.HeldNames.{AccessorAt, AccessorsHeld, AreNamed, KeepsHeld, KeepsNames, KeepsTold, NewHeld, OldHeld, WordHeld, accessor_text, accessors_kept, accessors_placed, accessors_push, accessors_told, held_defined, held_same, name_at, named_defined, named_kept, names_changed, names_push, new_kept, new_with, old_kept, told_other, told_placed, told_push, told_same}
+
+-- Phrases and arrays.
+
+arrays_with : (bound : ℕ) (arrays : List (List Lit)) (ls : List Lit) → AreBuiltArrays bound arrays → AreBuiltElements bound ls → AreBuiltArrays bound (arrays ++ ls ∷ [])
+arrays_with bound [] ls h k = (k, tt)
+arrays_with bound (xs ∷ arrays) ls h k = (h.0, arrays_with bound arrays ls h.1 k)
+
+pub append_built : (bound : ℕ) (t u : Phrase) → IsBuiltPhrase bound t → IsBuiltPhrase bound u → IsBuiltPhrase bound (append t u)
+append_built bound end u h k = k
+append_built bound (placed i p t) u h k = (h.0, append_built bound t u h.1 k)
+
+pub found_below : (n bound : ℕ) (s : Scope) (t : Tok) → 0 < n → n ≤ bound → ScopeBelow n s → nat_lt (word_of s t) bound ≡ true
+found_below n bound s t some few h = let below = word_of_below n s t some h in (Decides-ltb (word_of s t) bound).1 (omega (arith, below, few))
+
+number_below : (n bound : ℕ) (o : Option ℕ) → 0 < n → n ≤ bound → WordBelow n o → nat_lt (number o) bound ≡ true
+number_below n bound None some few h = (Decides-ltb 0 bound).1 (omega (arith, some, few))
+number_below n bound (Some w) some few h = (Decides-ltb w bound).1 (omega (arith, h, few))
+
+held_below : (n bound : ℕ) (s : Scope) (vocab name : List ℕ) → 0 < n → n ≤ bound → ScopeBelow n s → nat_lt (number (word_held s.table vocab name)) bound ≡ true
+held_below n bound s vocab name some few h = number_below n bound (word_held s.table vocab name) some few (word_below_held n s.table vocab name h.table)
+
+mutual
+  pub phrase_built : (n bound : ℕ) (s : Scope) (ns : Nodes) (arrays : List (List Lit)) (holes : ℕ) → 0 < n → n ≤ bound → ScopeBelow n s → ArePlain ns → AreBuiltArrays bound arrays →
+      IsBuiltPhrase bound (phrase_of s [] ns arrays holes).phrase × AreBuiltArrays bound (phrase_of s [] ns arrays holes).arrays
+  phrase_built n bound s nothing arrays holes some few h plain k = (tt, k)
+  phrase_built n bound s (more (n_lit (int z) p) ns) arrays holes some few h plain k = let rest = phrase_built n bound s ns arrays holes some few h plain.1 k in ((tt, rest.0), rest.1)
+  phrase_built n bound s (more (n_lit yes p) ns) arrays holes some few h plain k = let rest = phrase_built n bound s ns arrays holes some few h plain.1 k in ((tt, rest.0), rest.1)
+  phrase_built n bound s (more (n_lit no p) ns) arrays holes some few h plain k = let rest = phrase_built n bound s ns arrays holes some few h plain.1 k in ((tt, rest.0), rest.1)
+  phrase_built n bound s (more (n_lit (str bs) p) ns) arrays holes some few h plain k = let rest = phrase_built n bound s ns arrays holes some few h plain.1 k in ((tt, rest.0), rest.1)
+  phrase_built n bound s (more (n_lit l p) ns) arrays holes some few h plain k = absurd plain.0
+  phrase_built n bound s (more (n_name t p) ns) arrays holes some few h plain k = let rest = phrase_built n bound s ns arrays holes some few h plain.1 k in ((found_below n bound s t some few h, rest.0), rest.1)
+  phrase_built n bound s (more (n_next p) ns) arrays holes some few h plain k = let rest = phrase_built n bound s ns arrays holes some few h plain.1 k in ((tt, rest.0), rest.1)
+  phrase_built n bound s (more (n_full v x p) ns) arrays holes some few h plain k = let rest = phrase_built n bound s ns arrays holes some few h plain.1 k in ((held_below n bound s v x some few h, rest.0), rest.1)
+  phrase_built n bound s (more (n_quot ms p) ns) arrays holes some few h plain k =
+      let m = phrase_of s [] ms arrays holes in
+      let inner = phrase_built n bound s ms arrays holes some few h plain.0 k in
+      let rest = phrase_built n bound s ns m.arrays m.holes some few h plain.1 inner.1 in
+      ((inner.0, rest.0), rest.1)
+  phrase_built n bound s (more (n_array ms p) ns) arrays holes some few h plain k =
+      let m = elements_of s ms arrays in
+      let inner = elements_built n bound s ms arrays some few h plain.0 k in
+      let rest = phrase_built n bound s ns (m.arrays ++ m.elements ∷ []) holes some few h plain.1 (arrays_with bound m.arrays m.elements inner.1 inner.0) in
+      ((tt, rest.0), rest.1)
+  phrase_built n bound s (more (n_part ms) ns) arrays holes some few h plain k =
+      let m = phrase_of s [] ms arrays holes in
+      let inner = phrase_built n bound s ms arrays holes some few h plain.0 k in
+      let rest = phrase_built n bound s ns m.arrays m.holes some few h plain.1 inner.1 in
+      (append_built bound m.phrase (phrase_of s [] ns m.arrays m.holes).phrase inner.0 rest.0, rest.1)
+  phrase_built n bound s (more x ns) arrays holes some few h plain k = absurd plain.0
+
+  pub elements_built : (n bound : ℕ) (s : Scope) (ns : Nodes) (arrays : List (List Lit)) → 0 < n → n ≤ bound → ScopeBelow n s → AreElements ns → AreBuiltArrays bound arrays →
+      AreBuiltElements bound (elements_of s ns arrays).elements × AreBuiltArrays bound (elements_of s ns arrays).arrays
+  elements_built n bound s nothing arrays some few h plain k = (tt, k)
+  elements_built n bound s (more (n_lit (int z) p) ns) arrays some few h plain k = let rest = elements_built n bound s ns arrays some few h plain.1 k in ((tt, rest.0), rest.1)
+  elements_built n bound s (more (n_lit yes p) ns) arrays some few h plain k = let rest = elements_built n bound s ns arrays some few h plain.1 k in ((tt, rest.0), rest.1)
+  elements_built n bound s (more (n_lit no p) ns) arrays some few h plain k = let rest = elements_built n bound s ns arrays some few h plain.1 k in ((tt, rest.0), rest.1)
+  elements_built n bound s (more (n_lit (str bs) p) ns) arrays some few h plain k = let rest = elements_built n bound s ns arrays some few h plain.1 k in ((tt, rest.0), rest.1)
+  elements_built n bound s (more (n_lit l p) ns) arrays some few h plain k = absurd plain.0
+  elements_built n bound s (more (n_name t p) ns) arrays some few h plain k = let rest = elements_built n bound s ns arrays some few h plain.1 k in ((found_below n bound s t some few h, rest.0), rest.1)
+  elements_built n bound s (more (n_next p) ns) arrays some few h plain k = elements_built n bound s ns arrays some few h plain.1 k
+  elements_built n bound s (more (n_quot ms p) ns) arrays some few h plain k =
+      let m = phrase_of s [] ms arrays 0 in
+      let inner = phrase_built n bound s ms arrays 0 some few h plain.0 k in
+      let rest = elements_built n bound s ns m.arrays some few h plain.1 inner.1 in
+      ((inner.0, rest.0), rest.1)
+  elements_built n bound s (more (n_array ms p) ns) arrays some few h plain k =
+      let m = elements_of s ms arrays in
+      let inner = elements_built n bound s ms arrays some few h plain.0 k in
+      let rest = elements_built n bound s ns (m.arrays ++ m.elements ∷ []) some few h plain.1 (arrays_with bound m.arrays m.elements inner.1 inner.0) in
+      ((tt, rest.0), rest.1)
+  elements_built n bound s (more x ns) arrays some few h plain k = absurd plain.0

@@ -1,0 +1,105 @@
+-- How sources and answers are written in examples.
+use Rattle.std.specs.Prelude.{ℕ, ◌+◌, pos, negsuc, List, [], ◌∷◌, length, drop, None, Result, Ok, Err, Bool, false, codes}
+use Rattle.std.proofs.Common.{◌≡◌, refl}
+use Rattle.fac_lang.specs.Phrases.{Plain, int, str, yes as yes_value, no as no_value, Phrase, end, then as placed, Item, lit, lit_arr, word}
+use Rattle.fac_lang.specs.Primitives.{built_primitive_words}
+use Rattle.fac_lang.specs.Signatures.{Signature, signature, no_inputs, leaves}
+use Rattle.fac_lang.specs.declared.phrase.Place.{Place}
+use Rattle.fac_lang.specs.declared.program.Lit.{Lit}
+use Rattle.fac_lang.specs.declared.program.Lit.TheVariants.{Int as l_int, True as l_yes, Str as l_str, Arr as l_arr, Wref as l_word, Quot as l_quot}
+use Rattle.fac_lang.specs.declared.program.Name.{Name as FullName}
+use Rattle.fac_lang.specs.declared.program.Sort.{Sort}
+use Rattle.fac_lang.specs.declared.program.Sort.TheVariants.{Body as body}
+use Rattle.fac_lang.specs.declared.program.WordDef.{WordDef}
+use Rattle.fac_lang.specs.declared.tree.Bracket.TheVariants.{Quotation, Array}
+use Rattle.fac_lang.specs.declared.tree.Element.TheVariants as element
+use Rattle.fac_lang.specs.declared.tree.Term.TheVariants as term
+use Rattle.fac_vocab.specs.Scopes.{entries_from, found, word_held}
+use Rattle.fac_refusal.specs.declared.refusal.NameFault.{NameFault}
+use Rattle.fac_refusal.specs.declared.refusal.NameKind.{NameKind}
+use Rattle.fac_refusal.specs.declared.refusal.NameKind.TheVariants.{Unknown, Ambiguous, Twice, NoVocab, Undefined}
+use Rattle.fac_items.specs.Written.{Tok, Node, n_lit, n_array, n_name, n_quot, Nodes, nothing, given, Form, f_constant, f_in, f_use, f_using, f_from, f_qualified, f_private, f_public, f_defer, f_symbol, f_main, f_define, f_items, more}
+use Rattle.fac_refusal.specs.Toks.{number}
+use Rattle.fac_items.specs.FromElements.{nested}
+use Rattle.fac_endings.specs.Words.{no_effect}
+use Rattle.fac_names.specs.KnownWords.{known_words}
+use Rattle.fac_names.specs.Resolved.{Known, read_files}
+use Rattle.fac_names.specs.Resolution.{first_reading}
+
+-- How sources are written here: tokens by their numbers in file 1.
+
+abbrev pub at : ℕ → Place
+at t = record { file = 1; token = t }
+
+abbrev pub tk : List ℕ → ℕ → Tok
+tk text t = record { text = text; place = at t }
+
+abbrev pub nodes : List Node → Nodes
+nodes [] = nothing
+nodes (n ∷ ns) = more n (nodes ns)
+
+abbrev pub named : List ℕ → ℕ → Node
+named text t = n_name (tk text t) (at t)
+
+abbrev pub literal : Plain → ℕ → Node
+literal l t = n_lit l (at t)
+
+abbrev pub run : List Node → Form
+run ns = f_items (nodes ns)
+
+abbrev pub defined : List ℕ → ℕ → List Node → Form
+defined name t ns = f_define (tk name t) (given no_effect) (nodes ns) false false
+
+-- `USING: kernel math ;`
+abbrev pub kernel_and_math : Form
+kernel_and_math = f_using (tk (codes "kernel") 2 ∷ tk (codes "math") 3 ∷ [])
+
+-- How answers are: the words behind those that are known, or the refusal.
+
+pub data Seen : Type 0 where
+  no : ℕ → NameKind → List ℕ → Seen
+  yes : List WordDef → Seen
+
+abbrev pub seen : Result Known NameFault → Seen
+seen (Err f) = no f.place.token f.kind f.name
+seen (Ok k) = yes (drop (length known_words) k.program.words)
+
+abbrev pub resolves : List (List Form) → Seen
+resolves files = seen (read_files first_reading files false)
+
+abbrev pub name : List ℕ → List ℕ → FullName
+name vocab text = record { vocab = vocab; name = text }
+
+-- the number of a word of the source, and that of a known word
+abbrev pub own : ℕ → ℕ
+own k = length known_words + k
+
+abbrev pub known : List ℕ → List ℕ → ℕ
+known vocab text = number (word_held (entries_from 0 known_words) vocab text)
+
+abbrev pub items : List (Item × ℕ) → Phrase
+items [] = end
+items (i ∷ is) = placed i.0 (at i.1) (items is)
+
+abbrev pub word_def : List ℕ → List ℕ → Sort → Signature → Bool → Bool → Place → WordDef
+word_def vocab text sort effect inline recursive place = record { name = name vocab text; sort = sort; effect = effect; inline = inline; recursive = recursive; place = place }
+
+abbrev pub made : List ℕ → List ℕ → ℕ → Phrase → WordDef
+made vocab text t phrase = word_def vocab text (body phrase) no_effect false false (at t)
+
+abbrev pub top : Phrase → WordDef
+top phrase = word_def [] (codes "top-level") (body phrase) no_effect false false (record { file = 0; token = 0 })
+
+abbrev pub array : List Node → ℕ → Node
+array ns t = n_array (nodes ns) (at t)
+
+abbrev pub quotation : List Node → ℕ → Node
+quotation ns t = n_quot (nodes ns) (at t)
+
+-- the literal arrays of a program that isn't refused
+abbrev pub arrays_seen : Result Known NameFault → List (List Lit)
+arrays_seen (Err f) = []
+arrays_seen (Ok k) = k.program.arrays
+
+abbrev pub arrays_of : List (List Form) → List (List Lit)
+arrays_of files = arrays_seen (read_files first_reading files false)
