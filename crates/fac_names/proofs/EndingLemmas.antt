@@ -1,5 +1,5 @@
 -- The end of the files.
-use Rattle.std.proofs.Common.{◌≡◌, List, map, fold, Option, Some, None, Result, Ok, Err, false, ap, sym, ◌∙◌}
+use Rattle.std.proofs.Common.{◌≡◌, List, map, fold, Option, Result, Ok, Err, false, ap, sym, ◌∙◌}
 use Rattle.fac_lang.specs.PhraseView.{items_phrase}
 use Rattle.fac_lang.specs.RunningLaws.{append}
 use Rattle.fac_lang.specs.declared.program.ClassDef.{ClassDef}
@@ -33,11 +33,11 @@ pub ends_reading : (r : Reading) (g : Gathered) (e : Result Program ResolveFault
 ends_reading r g (Ok program) words old new arrays first items h = (
   first_same r g words old new first ∙ h.0,
   h.1
-  ∙ ap (λ (ds : List Draft). program_in ds g.old_classes g.classes g.arrays (items_phrase g.items.items)) words
-  ∙ ap (λ (cs : List ClassDef). program_in r.words cs g.classes g.arrays (items_phrase g.items.items)) old
-  ∙ ap (λ (cs : List NewClass). program_in r.words r.old_classes cs g.arrays (items_phrase g.items.items)) new
-  ∙ ap (λ (lss : List (List Lit)). program_in r.words r.old_classes r.classes lss (items_phrase g.items.items)) arrays
-  ∙ ap (program_in r.words r.old_classes r.classes r.arrays) items,
+      ∙ ap (λ (ds : List Draft). program_in ds g.old_classes g.classes g.arrays (items_phrase g.items.items)) words
+      ∙ ap (λ (cs : List ClassDef). program_in r.words cs g.classes g.arrays (items_phrase g.items.items)) old
+      ∙ ap (λ (cs : List NewClass). program_in r.words r.old_classes cs g.arrays (items_phrase g.items.items)) new
+      ∙ ap (λ (lss : List (List Lit)). program_in r.words r.old_classes r.classes lss (items_phrase g.items.items)) arrays
+      ∙ ap (program_in r.words r.old_classes r.classes r.arrays) items,
 )
 ends_reading r g (Err (Name fault)) words old new arrays first items h = first_same r g words old new first ∙ h
 ends_reading r g (Err Memory) words old new arrays first items h = tt

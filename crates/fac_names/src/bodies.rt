@@ -26,11 +26,7 @@ use fac_refusal::Ref;
 use std::alloc::Global;
 
 // The phrase of items.
-fn read_phrase(
-    alloc: Global,
-    so_far: &mut SoFar,
-    elements: &[Element],
-) -> Result<Phrase, Memory>
+fn read_phrase(alloc: Global, so_far: &mut SoFar, elements: &[Element]) -> Result<Phrase, Memory>
     requires { AreClosing 0 elements.now }
     ensures { IfOk result (λ phrase. Reads so_far.old elements.now phrase so_far.new) }
 {
@@ -146,12 +142,7 @@ pub fn method(
 }
 
 // The phrase of a `C:`: the word of its class, and `boa`.
-fn maker_phrase(
-    alloc: Global,
-    class: u32,
-    boa: u32,
-    place: Place,
-) -> Result<Phrase, Memory>
+fn maker_phrase(alloc: Global, class: u32, boa: u32, place: Place) -> Result<Phrase, Memory>
     ensures { IfOk result (λ phrase. phrase ≡ then (word class) place (then (word boa) place end)) }
 {
     let mut items = sole_item(alloc, class, place)?;
@@ -183,12 +174,7 @@ fn number_of(name: &Ref) -> u32
 }
 
 /// Takes a `C:`.
-pub fn maker(
-    alloc: Global,
-    so_far: &mut SoFar,
-    name: &Token,
-    class: &Token,
-) -> Result<(), Memory>
+pub fn maker(alloc: Global, so_far: &mut SoFar, name: &Token, class: &Token) -> Result<(), Memory>
     ensures { OnOk result (reading_of so_far.new ≡ take (read_form (f_maker (tok name.now) (tok class.now))) (reading_of so_far.old)) }
 {
     let number = own(alloc, so_far, name)?;

@@ -29,23 +29,14 @@ use std::alloc::Global;
 fn next_class(so_far: &SoFar) -> Result<u32, Memory>
     ensures { IfOk result (λ number. number ≡ length so_far.now.old_classes + length so_far.now.classes) }
 {
-    match so_far
-        .old_classes
-        .len()
-        .checked_add(so_far.classes.len())
-    {
+    match so_far.old_classes.len().checked_add(so_far.classes.len()) {
         Some(number) => Ok(number),
         None => Err(Memory),
     }
 }
 
 // The word of a class.
-fn class_word(
-    alloc: Global,
-    so_far: &mut SoFar,
-    name: &Token,
-    class: u32,
-) -> Result<u32, Memory>
+fn class_word(alloc: Global, so_far: &mut SoFar, name: &Token, class: u32) -> Result<u32, Memory>
     ensures { IfOk result (λ number. IsClassWord so_far.old (tok name.now) class number so_far.new) }
 {
     let number = own(alloc, so_far, name)?;
@@ -66,12 +57,7 @@ fn predicate_name(alloc: Global, scope: &Scope, name: &Token) -> Result<Name, Me
 }
 
 // The predicate of a class.
-fn predicate(
-    alloc: Global,
-    so_far: &mut SoFar,
-    name: &Token,
-    class: u32,
-) -> Result<(), Memory>
+fn predicate(alloc: Global, so_far: &mut SoFar, name: &Token, class: u32) -> Result<(), Memory>
     ensures { OnOk result (reading_of so_far.new ≡ plainly (Isa class) (codes "object" ∷ []) (codes "?" ∷ []) (own (record { text = (tok name.now).text ++ codes "?"; place = (tok name.now).place }) (reading_of so_far.old))) }
 {
     let full = predicate_name(alloc, &so_far.scope, name)?;

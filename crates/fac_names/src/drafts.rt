@@ -132,12 +132,7 @@ fn counts_as(word: &WordDef, sort: &Sort) -> bool
 
 // The count of classes where the word of a number gets a place.
 #[tactic(auto, using(crate::proofs::DraftLemmas::uncounted))]
-fn placed_count(
-    list: &[Draft],
-    classes: u64,
-    number: u32,
-    place: Place,
-) -> Result<u64, Memory>
+fn placed_count(list: &[Draft], classes: u64, number: u32, place: Place) -> Result<u64, Memory>
     requires { classes ≡ counted list.now }
     ensures { IfOk result (λ next. next ≡ counted (changed (at_place place) number list.now)) }
 {
@@ -152,12 +147,7 @@ fn placed_count(
 
 // The count of classes where the word of a number is told.
 #[tactic(auto, using(crate::proofs::DraftLemmas::uncounted))]
-fn told_count(
-    list: &[Draft],
-    classes: u64,
-    number: u32,
-    told: &Told,
-) -> Result<u64, Memory>
+fn told_count(list: &[Draft], classes: u64, number: u32, told: &Told) -> Result<u64, Memory>
     requires { classes ≡ counted list.now }
     ensures { IfOk result (λ next. next ≡ counted (changed (with_told told.now.sort told.now.effect told.now.inline told.now.recursive told.now.late) number list.now)) }
 {

@@ -111,13 +111,7 @@ fn take_method(alloc: Global, so_far: &mut SoFar, parts: &[Part]) -> Result<(), 
     ensures { OnOk result (reading_of so_far.new ≡ take (row Method parts.now) (reading_of so_far.old)) }
 {
     let found = method_parts(parts);
-    method(
-        alloc,
-        so_far,
-        found.class,
-        found.generic,
-        found.elements,
-    )
+    method(alloc, so_far, found.class, found.generic, found.elements)
 }
 
 // Takes a row.

@@ -14,8 +14,8 @@ ghost use Rattle.fac_lang.specs.declared.program.Shape.TheVariants.{Kind};
 use crate::naming::full_name;
 use fac_endings::{inputs, plain_effect, texts};
 use fac_lang::{
-    ClassDef, ClassRow, Effect, List, Memory, Name, Outs, Place, Shape, Sort, WordDef,
-    WordRow, built_in_classes, core_words, primitives,
+    ClassDef, ClassRow, Effect, List, Memory, Name, Outs, Place, Shape, Sort, WordDef, WordRow,
+    built_in_classes, core_words, primitives,
 };
 use std::alloc::Global;
 

@@ -142,12 +142,7 @@ pub fn own(alloc: Global, so_far: &mut SoFar, token: &Token) -> Result<u32, Memo
 }
 
 // The word of a new name that is deferred.
-fn deferred_new(
-    alloc: Global,
-    so_far: &mut SoFar,
-    name: Name,
-    place: Place,
-) -> Result<(), Memory>
+fn deferred_new(alloc: Global, so_far: &mut SoFar, name: Name, place: Place) -> Result<(), Memory>
     requires home { name.vocab ≡ home so_far.old.scope }
     requires new { Stands so_far.old.scope name New }
     ensures { OnOk result (reading_of so_far.new ≡ deferring (tok_at name place) (reading_of so_far.old) (holders so_far.old.scope.table (home so_far.old.scope) name.name)) }
