@@ -1,10 +1,9 @@
 -- Each literal array of what was read is named at one place: no word is told twice.
 use Rattle.std.proofs.Common.{◌≡◌, ◌≤◌, ◌<◌, ◌+◌, ℕ, zero, suc, List, [], ◌∷◌, ◌++◌, length, Option, Some, Bool, true, false, cond, refl, ap, sym, ◌∙◌, subst, arith}
-use Rattle.std.specs.Prelude.{◌&&◌, ◌||◌, not, nat_eq, slice_get}
-use Rattle.std.specs.List.{find, filter, list_any}
+use Rattle.std.specs.Prelude.{◌&&◌, ◌||◌, slice_get}
+use Rattle.std.specs.List.{find, list_any}
 use Rattle.std.specs.Str.{bytes_eq}
 use Rattle.std.proofs.lemmas.List.{length_push}
-use Rattle.std.proofs.lemmas.Slice.Eq.{bytes_eq-Decides}
 use Rattle.fac_lang.specs.Phrases.{Phrase, end, then as placed}
 use Rattle.fac_lang.specs.RunningLaws.{append}
 use Rattle.fac_lang.specs.Signatures.{Signature}
@@ -15,7 +14,7 @@ use Rattle.fac_lang.specs.declared.program.Sort.{Sort}
 use Rattle.fac_lang.specs.declared.program.Sort.TheVariants.{Body as body, Past as past, Itself as itself, Method as method}
 use Rattle.fac_lang.specs.declared.program.WordDef.{WordDef}
 use Rattle.fac_vocab.specs.declared.entry.Entry.{Entry}
-use Rattle.fac_vocab.specs.Scopes.{Scope, entries_from, holders, home, now_defined, same_table}
+use Rattle.fac_vocab.specs.Scopes.{Scope, entries_from, holders, home, now_defined}
 use Rattle.fac_refusal.specs.declared.refusal.NameFault.{NameFault}
 use Rattle.fac_refusal.specs.declared.refusal.NameKind.TheVariants.{Twice}
 use Rattle.fac_items.specs.Written.{Tok}

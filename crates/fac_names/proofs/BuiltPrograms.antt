@@ -1,14 +1,14 @@
 -- Every resolved program is of the forms built, and whole.
-use Rattle.std.proofs.Common.{◌≡◌, ◌≤◌, ◌+◌, ℕ, suc, List, [], ◌∷◌, ◌++◌, map, length, fold, slice_get, Option, Some, None, Result, Ok, Err, Bool, true, false, refl, ap, sym, ◌∙◌, subst, arith, length-append}
-use Rattle.std.specs.Prelude.{IfOk, ◌&&◌, nat_le, not}
+use Rattle.std.proofs.Common.{◌≡◌, ◌≤◌, ◌+◌, ℕ, List, [], ◌∷◌, ◌++◌, map, length, fold, Option, Some, None, Result, Ok, Err, true, false, refl, ap, sym, ◌∙◌, subst, arith, length-append}
+use Rattle.std.specs.Prelude.{IfOk, nat_le, not}
 use Rattle.std.specs.List.{list_all}
 use Rattle.std.specs.Str.{bytes_eq}
 use Rattle.std.proofs.lemmas.List.{length-map}
 use Rattle.fac_lang.specs.Classes.{slots_within}
-use Rattle.fac_lang.specs.Forms.{AreBuiltWords, IsBuilt, IsBuiltPhrase, has_no_repeats, primitive_numbers}
+use Rattle.fac_lang.specs.Forms.{IsBuilt, has_no_repeats}
 use Rattle.fac_lang.specs.Phrases.{Phrase}
 use Rattle.fac_lang.specs.RunningLaws.{append}
-use Rattle.fac_lang.specs.Whole.{IsWhole, all_arrays_named, arrays_in, arrays_named, has_generic_effect, joined, name_count, no_two, reaches, same_word, shape_fits, times_in, word_phrases}
+use Rattle.fac_lang.specs.Whole.{IsWhole, all_arrays_named, arrays_in, arrays_named, has_generic_effect, joined, name_count, no_two, reaches, times_in, word_phrases}
 use Rattle.fac_lang.specs.declared.program.ClassDef.{ClassDef}
 use Rattle.fac_lang.specs.declared.program.Program.{Program}
 use Rattle.fac_lang.specs.declared.program.Sort.{Sort}
@@ -41,7 +41,7 @@ use Rattle.fac_names.specs.inner.Taking.{take_all}
 use Rattle.fac_names.proofs.ArrayReadings.{Counted, named_append}
 use Rattle.fac_names.proofs.BuiltForms.{BuiltUp, begun_built, classes_in, take_built}
 use Rattle.fac_names.proofs.DefinedNames.{none_before}
-use Rattle.fac_names.proofs.BuiltReadings.{Built, draft_ok}
+use Rattle.fac_names.proofs.BuiltReadings.{draft_ok}
 use Rattle.fac_names.proofs.BuiltPhrases.{append_built}
 use Rattle.fac_names.proofs.Distinct.{classes_differ, words_differ}
 use Rattle.fac_names.proofs.FileLemmas.{take_one}

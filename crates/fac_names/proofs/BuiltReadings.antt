@@ -1,12 +1,11 @@
 -- What forms come to is of the forms built.
-use Rattle.std.proofs.Common.{◌≡◌, ◌<◌, ◌≤◌, ◌+◌, ℕ, zero, suc, List, [], ◌∷◌, ◌++◌, map, length, fold, Option, Some, None, Bool, true, false, refl, ap, sym, ◌∙◌, subst, arith}
-use Rattle.std.specs.Prelude.{◌&&◌, ◌||◌, not, nat_eq, nat_le, nat_lt, slice_get, codes}
+use Rattle.std.proofs.Common.{◌≡◌, ◌<◌, ◌≤◌, ◌+◌, ℕ, zero, suc, List, [], ◌∷◌, ◌++◌, length, Option, Some, None, Bool, true, false, refl, ap, sym, ◌∙◌, subst, arith}
+use Rattle.std.specs.Prelude.{◌&&◌, nat_le, codes}
 use Rattle.std.specs.List.{list_all}
-use Rattle.std.proofs.lemmas.Bool.Decides.{Decides-ltb}
 use Rattle.std.proofs.lemmas.List.{length_push}
 use Rattle.std.proofs.lemmas.List.Folds.{list_all-append}
-use Rattle.fac_lang.specs.Forms.{AreBuiltArrays, AreBuiltElements, IsBuiltPhrase, IsBuiltSort, has_no_repeats, is_member, numbers_before, primitive_numbers}
-use Rattle.fac_lang.specs.Phrases.{int, yes, no, str, Phrase, end, then as placed}
+use Rattle.fac_lang.specs.Forms.{AreBuiltArrays, IsBuiltPhrase, IsBuiltSort, has_no_repeats, numbers_before}
+use Rattle.fac_lang.specs.Phrases.{Phrase}
 use Rattle.fac_lang.specs.RunningLaws.{append}
 use Rattle.fac_lang.specs.Signatures.{Signature}
 use Rattle.fac_lang.specs.Whole.{arrays_named, name_count}
@@ -16,13 +15,9 @@ use Rattle.fac_lang.specs.declared.program.Sort.{Sort}
 use Rattle.fac_lang.specs.declared.program.Sort.TheVariants.{Body as body, Itself as itself, Prim as prim, Core as core, Past as past, Class as class, Isa as isa, Getter as getter, Setter as setter, Putter as putter, Generic as generic, Method as method}
 use Rattle.fac_lang.specs.declared.program.WordDef.{WordDef}
 use Rattle.fac_refusal.specs.declared.refusal.NameFault.{NameFault}
-use Rattle.fac_refusal.specs.Refusals.{sooner}
-use Rattle.fac_refusal.specs.Toks.{number}
 use Rattle.fac_vocab.specs.declared.entry.Entry.{Entry}
 use Rattle.fac_vocab.specs.Scopes.{Scope, now_defined, with_entry, word_held}
-use Rattle.fac_items.specs.Written.{Tok, n_lit, n_name, n_next, n_full, n_part, n_quot, n_array, Nodes, nothing, more}
-use Rattle.fac_items.specs.Items.{elements_of, phrase_of, word_of}
-use Rattle.fac_items.specs.inner.Bits.{AreElements, ArePlain}
+use Rattle.fac_items.specs.Written.{Tok}
 use Rattle.fac_items.proofs.ArrayNumbers.{Adds}
 use Rattle.fac_endings.specs.declared.draft.Draft.{Draft}
 use Rattle.fac_endings.specs.declared.draft.Late.{Late}
@@ -30,11 +25,11 @@ use Rattle.fac_endings.specs.declared.draft.Late.TheVariants.{Settled as settled
 use Rattle.fac_endings.specs.declared.draft.NewClass.{NewClass}
 use Rattle.fac_endings.proofs.Apart.{and_true, true_both}
 use Rattle.fac_endings.proofs.EndedClasses.{class_in, draft_fits, late_in, own_few}
-use Rattle.fac_names.specs.Forms.{Numbered, Reading, at_place, changed, draft_of, refused, told, with_told}
+use Rattle.fac_names.specs.Forms.{Numbered, Reading, at_place, changed, draft_of, told, with_told}
 use Rattle.fac_names.specs.KnownWords.{known_classes}
 use Rattle.fac_names.proofs.ArrayReadings.{Begins, Counted, items_counted, main_counted, names_by, refused_counted, scoped_counted, told_counted}
-use Rattle.fac_names.proofs.BuiltScopes.{ScopeBelow, WordBelow, brought_more, entries_defined, entries_more, entries_with, word_below_held, word_of_below}
-use Rattle.fac_names.proofs.HeldNames.{AccessorAt, AccessorsHeld, AreNamed, KeepsHeld, KeepsNames, KeepsTold, NewHeld, OldHeld, WordHeld, accessor_text, accessors_kept, accessors_placed, accessors_push, accessors_told, held_defined, held_same, name_at, named_defined, named_kept, names_changed, names_push, new_kept, new_with, old_kept, told_other, told_placed, told_push, told_same}
+use Rattle.fac_names.proofs.BuiltScopes.{ScopeBelow, brought_more, entries_defined, entries_more, entries_with}
+use Rattle.fac_names.proofs.HeldNames.{AccessorAt, AccessorsHeld, AreNamed, KeepsHeld, KeepsNames, KeepsTold, NewHeld, OldHeld, WordHeld, accessors_kept, accessors_placed, accessors_push, accessors_told, held_defined, held_same, named_defined, named_kept, names_changed, names_push, new_kept, new_with, old_kept, told_other, told_placed, told_push}
 use Rattle.fac_names.proofs.PrimitiveNumbers.{numbers_in, numbers_with, numbers_with, numbers_placed, told_distinct}
 
 -- Words.

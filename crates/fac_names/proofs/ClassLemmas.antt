@@ -1,5 +1,5 @@
 -- What the forms of classes do.
-use Rattle.std.proofs.Common.{◌≡◌, ℕ, List, [], ◌∷◌, ◌++◌, ◌+◌, length, Option, Bool, false, fold, refl, ap, sym, ◌∙◌}
+use Rattle.std.proofs.Common.{◌≡◌, ℕ, List, [], ◌∷◌, ◌++◌, ◌+◌, length, Option, false, fold, ap, ◌∙◌}
 use Rattle.std.specs.Prelude.{◌&&◌, codes, nat_le, nat_lt}
 use Rattle.fac_lang.specs.Signatures.{Signature}
 use Rattle.fac_lang.specs.Whole.{plain_effect}

@@ -1,45 +1,22 @@
 -- The word of a name that is defined.
-use Rattle.std.proofs.Common.{◌≡◌, ◌+◌, ℕ, zero, suc, List, [], ◌∷◌, ◌++◌, map, length, fold, Option, Some, None, Bool, true, false, refl, ap, sym, ◌∙◌, subst, arith}
-use Rattle.std.specs.Prelude.{if◌then◌else◌, ◌&&◌, nat_le, nat_lt, codes, slice_get}
-use Rattle.std.specs.List.{find, list_any}
+use Rattle.std.proofs.Common.{◌≡◌, ℕ, zero, suc, List, [], ◌∷◌, ◌++◌, length, fold, Option, Some, None, Bool, true, false, refl, ap, ◌∙◌}
+use Rattle.std.specs.Prelude.{if◌then◌else◌, slice_get}
+use Rattle.std.specs.List.{list_any}
 use Rattle.std.specs.Option.{option_map}
-use Rattle.std.proofs.lemmas.Bool.Decides.{Decides-ltb}
-use Rattle.fac_lang.specs.Forms.{AreBuiltArrays, IsBuiltPhrase, IsBuiltSort, numbers_before}
-use Rattle.fac_lang.specs.Phrases.{Phrase}
-use Rattle.fac_lang.specs.RunningLaws.{append}
-use Rattle.fac_lang.specs.Signatures.{Signature}
-use Rattle.fac_lang.specs.Whole.{name_count, plain_effect}
 use Rattle.fac_lang.specs.declared.program.Name.{Name as FullName}
-use Rattle.fac_lang.specs.declared.program.Sort.{Sort}
-use Rattle.fac_lang.specs.declared.program.Sort.TheVariants.{Body as body, Itself as itself, Class as class, Isa as isa, Getter as getter, Setter as setter, Putter as putter, Generic as generic}
-use Rattle.fac_lang.specs.declared.program.WordDef.{WordDef}
-use Rattle.fac_vocab.specs.declared.brought.Brought.TheVariants.{Named as named, Prefixed as prefixed}
 use Rattle.fac_vocab.specs.declared.entry.Entry.{Entry}
-use Rattle.fac_vocab.specs.Scopes.{Scope, begun, bringing, entered, exists, holders, home, now_defined, using_vocab, with_entry, word_held}
+use Rattle.fac_vocab.specs.Scopes.{holders, home, now_defined, with_entry, word_held}
 use Rattle.fac_refusal.specs.declared.refusal.NameFault.{NameFault}
-use Rattle.fac_refusal.specs.declared.refusal.NameKind.TheVariants.{Unknown, Twice, NoVocab, TooMany}
-use Rattle.fac_refusal.specs.Refusals.{fault, fault_if, sooner}
-use Rattle.fac_items.specs.Written.{Tok, Nodes, Declared, given, makes, Form, f_in, f_use, f_using, f_from, f_qualified, f_private, f_public, f_defer, f_symbol, f_main, f_define, f_tuple, f_union, f_single, f_generic, f_method, f_items}
-use Rattle.fac_items.specs.Readings.{read_items}
-use Rattle.fac_items.specs.Items.{entry_name, is_cond, items_faults, phrase_of, ref, search_fault, search_faults, word_of}
-use Rattle.fac_items.specs.inner.Bits.{ArePlain}
-use Rattle.fac_items.proofs.ArrayNumbers.{Adds, adds_none, phrase_adds}
-use Rattle.fac_endings.specs.Words.{no_effect}
+use Rattle.fac_refusal.specs.declared.refusal.NameKind.TheVariants.{Twice}
+use Rattle.fac_refusal.specs.Refusals.{fault, sooner}
+use Rattle.fac_items.specs.Written.{Tok}
+use Rattle.fac_items.specs.Items.{entry_name}
 use Rattle.fac_endings.specs.declared.draft.Draft.{Draft}
-use Rattle.fac_endings.specs.declared.draft.Late.{Late}
-use Rattle.fac_endings.specs.declared.draft.Late.TheVariants.{Settled as settled, Maker as maker, Method as method_of}
-use Rattle.fac_endings.specs.declared.draft.Named.{Named}
-use Rattle.fac_endings.specs.declared.draft.Named.TheVariants.{Tuple as a_tuple, Union as a_union, Single as a_single}
-use Rattle.fac_endings.specs.declared.draft.NewClass.{NewClass}
-use Rattle.fac_endings.proofs.Apart.{and_true}
-use Rattle.fac_endings.proofs.EndedClasses.{class_in, late_in, own_few}
-use Rattle.fac_names.specs.Forms.{Numbered, Reading, accessor, added, at_place, bring_one, bringing_one, changed, class_form, class_words, counted, declared_effect, declared_late, defined, defining, deferring, draft_of, in_table, making, most_classes, option_list, own, plainly, read_phrase, refused, scoped, take, told, use_one, with_slot, with_told}
-use Rattle.fac_names.proofs.ArrayReadings.{Begins, Counted, added_begins, defined_begins, defining_begins, deferring_counted, names_by, refused_counted}
+use Rattle.fac_names.specs.Forms.{Numbered, Reading, added, at_place, changed, defined, defining, deferring, draft_of, in_table, own, refused}
+use Rattle.fac_names.proofs.ArrayReadings.{Begins, defining_begins, deferring_counted}
 use Rattle.fac_names.proofs.EntryLemmas.{exactly, first_found}
-use Rattle.fac_names.proofs.BuiltScopes.{WordBelow, word_below_held}
-use Rattle.fac_names.proofs.BuiltReadings.{Adds_word, Built, IsBuiltLate, IsLateBody, IsTold, Keeps, entered_word, moved_built, moved_keeps, one_class_more, refused_built, scoped_built, told_built, told_keeps, wider, with_class, with_main, with_top, with_word, word_keeps}
-use Rattle.fac_names.proofs.BuiltPhrases.{append_built, found_below, phrase_built}
-use Rattle.fac_names.proofs.HeldNames.{WordHeld, accessor_text, held_defined, held_new, held_same, held_with, kept_then, named_found, named_kept, named_with, names_push, no_accessor, told_same, word_kept}
+use Rattle.fac_names.proofs.BuiltReadings.{Adds_word, Built, Keeps, entered_word, moved_built, moved_keeps, refused_built, wider, with_word, word_keeps}
+use Rattle.fac_names.proofs.HeldNames.{held_defined, held_new, held_same, held_with, kept_then, named_found, named_kept, named_with, names_push, told_same}
 
 -- First refusals.
 

@@ -1,6 +1,6 @@
 -- Words and classes that are there once.
-use Rattle.std.proofs.Common.{◌≡◌, ◌<◌, ◌+◌, ℕ, zero, suc, nat_eq, List, [], ◌∷◌, ◌++◌, map, length, slice_get, Option, Some, None, Bool, true, false, refl, ap, sym, ◌∙◌, subst, arith}
-use Rattle.std.specs.Prelude.{◌&&◌, ◌||◌, codes, not}
+use Rattle.std.proofs.Common.{◌≡◌, ◌<◌, ◌+◌, ℕ, zero, suc, nat_eq, List, [], ◌∷◌, ◌++◌, map, length, slice_get, Some, Bool, true, false, refl, ap, sym, ◌∙◌, subst, arith}
+use Rattle.std.specs.Prelude.{◌||◌, codes, not}
 use Rattle.std.specs.List.{list_any}
 use Rattle.std.specs.Option.{option_map}
 use Rattle.std.specs.Str.{bytes_eq}
@@ -18,7 +18,7 @@ use Rattle.fac_endings.specs.declared.draft.Draft.{Draft}
 use Rattle.fac_endings.specs.declared.draft.NewClass.{NewClass}
 use Rattle.fac_endings.specs.ClassTable.{class_of, name_of}
 use Rattle.fac_endings.proofs.Apart.{and_true, or_false, true_both}
-use Rattle.fac_names.proofs.HeldNames.{AccessorAt, ClassHeld, NewHeld, OldHeld, WordHeld, accessor_text, name_at}
+use Rattle.fac_names.proofs.HeldNames.{AccessorAt, NewHeld, OldHeld, WordHeld, accessor_text}
 
 -- Elements that are unlike at any two numbers.
 

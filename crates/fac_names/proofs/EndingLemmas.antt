@@ -1,5 +1,5 @@
 -- The end of the files.
-use Rattle.std.proofs.Common.{◌≡◌, List, map, fold, Option, Some, None, Result, Ok, Err, false, ap, sym, ◌∙◌}
+use Rattle.std.proofs.Common.{◌≡◌, List, map, fold, Option, Result, Ok, Err, false, ap, sym, ◌∙◌}
 use Rattle.fac_lang.specs.PhraseView.{items_phrase}
 use Rattle.fac_lang.specs.RunningLaws.{append}
 use Rattle.fac_lang.specs.declared.program.ClassDef.{ClassDef}

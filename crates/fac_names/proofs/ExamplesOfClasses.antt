@@ -1,23 +1,22 @@
 -- Sources with classes, tuples, generics and `cond`, and what they resolve to.
-use Rattle.std.specs.Prelude.{ℕ, pos, List, [], ◌∷◌, ◌++◌, drop, Option, Some, None, Result, Ok, Err, false, codes}
+use Rattle.std.specs.Prelude.{ℕ, pos, List, [], ◌∷◌, ◌++◌, drop, Some, None, Result, Ok, Err, false, codes}
 use Rattle.std.proofs.Common.{◌≡◌, refl}
-use Rattle.fac_lang.specs.Phrases.{int, yes as yes_value, Phrase, end, lit, quot, word}
+use Rattle.fac_lang.specs.Phrases.{int, yes as yes_value, end, lit, quot, word}
 use Rattle.fac_lang.specs.Primitives.{built_primitive_words}
 use Rattle.fac_lang.specs.Whole.{plain_effect}
 use Rattle.fac_lang.specs.declared.program.ClassDef.{ClassDef}
 use Rattle.fac_lang.specs.declared.program.Shape.{Shape}
 use Rattle.fac_lang.specs.declared.program.Shape.TheVariants.{Tuple as tuple_class, Union as union, Single as single}
-use Rattle.fac_lang.specs.declared.program.Sort.TheVariants.{Body as body, Itself as itself, Class as class, Isa as isa, Getter as getter, Setter as setter, Putter as putter, Generic as generic, Method as method}
+use Rattle.fac_lang.specs.declared.program.Sort.TheVariants.{Body as body, Class as class, Isa as isa, Getter as getter, Setter as setter, Putter as putter, Generic as generic, Method as method}
 use Rattle.fac_lang.specs.declared.program.WordDef.{WordDef}
 use Rattle.fac_refusal.specs.declared.refusal.NameFault.{NameFault}
-use Rattle.fac_refusal.specs.declared.refusal.NameKind.TheVariants.{Twice, NotClass, NotGeneric, BadParent, Cycle, Undefined}
+use Rattle.fac_refusal.specs.declared.refusal.NameKind.TheVariants.{Twice, NotClass, NotGeneric, BadParent, Cycle}
 use Rattle.fac_vocab.specs.Scopes.{found}
 use Rattle.fac_items.specs.Written.{Form, f_using, f_defer, f_symbol, f_tuple, f_union, f_single, f_maker, f_generic, f_method}
-use Rattle.fac_items.specs.Readings.{read_form}
 use Rattle.fac_names.specs.KnownWords.{known_classes, known_words}
 use Rattle.fac_names.specs.Resolved.{Known, read_files}
 use Rattle.fac_names.specs.Resolution.{first_reading}
-use Rattle.fac_names.proofs.WrittenSources.{Seen, yes, no, array, at, items, known, literal, name, named, nodes, own, quotation, resolves, run, tk, top, word_def}
+use Rattle.fac_names.proofs.WrittenSources.{yes, no, array, at, items, known, literal, name, named, nodes, own, quotation, resolves, run, tk, top, word_def}
 
 -- the classes behind the built-in ones
 abbrev classes_seen : Result Known NameFault → List ClassDef

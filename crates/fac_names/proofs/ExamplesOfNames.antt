@@ -1,30 +1,20 @@
 -- Sources, and what they resolve to.
-use Rattle.std.specs.Prelude.{ℕ, ◌+◌, pos, negsuc, List, [], ◌∷◌, length, drop, None, Result, Ok, Err, Bool, false, codes}
+use Rattle.std.specs.Prelude.{pos, negsuc, List, [], ◌∷◌, None, false, codes}
 use Rattle.std.proofs.Common.{◌≡◌, refl}
-use Rattle.fac_lang.specs.Phrases.{Plain, int, str, yes as yes_value, no as no_value, Phrase, end, then as placed, Item, lit, lit_arr, word}
+use Rattle.fac_lang.specs.Phrases.{int, str, yes as yes_value, no as no_value, end, lit, lit_arr, word}
 use Rattle.fac_lang.specs.Primitives.{built_primitive_words}
-use Rattle.fac_lang.specs.Signatures.{Signature, signature, no_inputs, leaves}
-use Rattle.fac_lang.specs.declared.phrase.Place.{Place}
-use Rattle.fac_lang.specs.declared.program.Lit.{Lit}
+use Rattle.fac_lang.specs.Signatures.{signature, no_inputs, leaves}
 use Rattle.fac_lang.specs.declared.program.Lit.TheVariants.{Int as l_int, True as l_yes, Str as l_str, Arr as l_arr, Wref as l_word, Quot as l_quot}
-use Rattle.fac_lang.specs.declared.program.Name.{Name as FullName}
-use Rattle.fac_lang.specs.declared.program.Sort.{Sort}
 use Rattle.fac_lang.specs.declared.program.Sort.TheVariants.{Body as body}
-use Rattle.fac_lang.specs.declared.program.WordDef.{WordDef}
 use Rattle.fac_lang.specs.declared.tree.Bracket.TheVariants.{Quotation, Array}
 use Rattle.fac_lang.specs.declared.tree.Element.TheVariants as element
 use Rattle.fac_lang.specs.declared.tree.Term.TheVariants as term
-use Rattle.fac_vocab.specs.Scopes.{entries_from, found, word_held}
-use Rattle.fac_refusal.specs.declared.refusal.NameFault.{NameFault}
-use Rattle.fac_refusal.specs.declared.refusal.NameKind.{NameKind}
+use Rattle.fac_vocab.specs.Scopes.{found}
 use Rattle.fac_refusal.specs.declared.refusal.NameKind.TheVariants.{Unknown, Ambiguous, Twice, NoVocab, Undefined}
-use Rattle.fac_items.specs.Written.{Tok, Node, n_lit, n_array, n_name, n_quot, Nodes, nothing, given, Form, f_constant, f_in, f_use, f_using, f_from, f_qualified, f_private, f_public, f_defer, f_symbol, f_main, f_define, f_items, more}
-use Rattle.fac_refusal.specs.Toks.{number}
+use Rattle.fac_items.specs.Written.{given, Form, f_constant, f_in, f_use, f_using, f_from, f_qualified, f_private, f_public, f_defer, f_symbol, f_main, f_define}
 use Rattle.fac_items.specs.FromElements.{nested}
 use Rattle.fac_endings.specs.Words.{no_effect}
 use Rattle.fac_names.specs.KnownWords.{known_words}
-use Rattle.fac_names.specs.Resolved.{Known, read_files}
-use Rattle.fac_names.specs.Resolution.{first_reading}
 use Rattle.fac_names.proofs.WrittenSources.{at, tk, nodes, nodes, named, literal, run, defined, kernel_and_math, resolves, name, own, known, items, items, word_def, made, top, array, quotation, arrays_of, yes, no}
 
 -- IN: a : go ( -- ) ; IN: b : go ( -- ) ; IN: c USING: a b ; go

@@ -1,6 +1,6 @@
 -- What there is before the first file is of the forms built.
 use Rattle.std.proofs.Common.{◌≡◌, ◌+◌, ◌≤◌, ℕ, suc, List, [], ◌∷◌, ◌++◌, map, length, Option, Some, None, Bool, true, false, refl, ap, sym, ◌∙◌, subst, arith, length-append, append_assoc}
-use Rattle.std.specs.Prelude.{◌&&◌, is_some, nat_lt, not, slice_get}
+use Rattle.std.specs.Prelude.{is_some, nat_lt, not, slice_get}
 use Rattle.std.specs.List.{list_all}
 use Rattle.std.specs.Option.{option_map}
 use Rattle.std.proofs.lemmas.Bool.Decides.{Decides-ltb}
@@ -8,7 +8,6 @@ use Rattle.std.proofs.lemmas.List.{length_push, length-map}
 use Rattle.fac_lang.specs.BuiltInClasses.{BuiltInClass, built_in_classes}
 use Rattle.fac_lang.specs.CoreWords.{CoreWord, core_word, built_core_words, is_built_core}
 use Rattle.fac_lang.specs.Forms.{AreBuiltWords, has_no_repeats, primitive_numbers}
-use Rattle.fac_lang.specs.PrimitiveWords.{PrimitiveWord}
 use Rattle.fac_lang.specs.Primitives.{Primitive, built_primitives, later_primitives, built_primitive_words, prim_numbered, primitive_word, built_count, is_built_primitive}
 use Rattle.fac_lang.specs.Whole.{times_in}
 use Rattle.fac_lang.specs.declared.program.WordDef.{WordDef}
@@ -22,10 +21,10 @@ use Rattle.fac_names.specs.Resolution.{first_reading, settled_draft}
 use Rattle.fac_names.proofs.ArrayReadings.{known_spared, named_in}
 use Rattle.fac_names.proofs.EntryLemmas.{known_ascending}
 use Rattle.fac_names.proofs.BuiltForms.{BuiltUp, up}
-use Rattle.fac_names.proofs.BuiltReadings.{Built, DraftsBuilt, draft_ok}
+use Rattle.fac_names.proofs.BuiltReadings.{DraftsBuilt, draft_ok}
 use Rattle.fac_names.proofs.PrimitiveNumbers.{words_in}
 use Rattle.fac_names.proofs.BuiltScopes.{EntriesBelow}
-use Rattle.fac_names.proofs.HeldNames.{AccessorsHeld, AreNamed, ClassHeld, OldHeld, WordHeld, accessor_text, name_at, no_accessor}
+use Rattle.fac_names.proofs.HeldNames.{AccessorsHeld, AreNamed, ClassHeld, OldHeld, accessor_text, name_at, no_accessor}
 
 -- Words.
 

@@ -1,9 +1,7 @@
 -- The words and classes of the code's tables.
 use Rattle.std.proofs.Common.{◌≡◌, ◌<◌, ◌∙◌, ℕ, List, [], ◌++◌, length, map, drop, refl, ap, sym, append-nil, true, arith, Fits, w32}
 use Rattle.std.proofs.lemmas.List.{length-map}
-use Rattle.fac_lang.specs.BuiltInClasses.{BuiltInClass, built_in_classes}
-use Rattle.fac_lang.specs.CoreWords.{CoreWord, built_core_words}
-use Rattle.fac_lang.specs.PrimitiveWords.{PrimitiveWord}
+use Rattle.fac_lang.specs.BuiltInClasses.{built_in_classes}
 use Rattle.fac_lang.specs.Primitives.{built_primitive_words, built_count}
 use Rattle.fac_lang.specs.Operations.{row_seen, rows_seen}
 use Rattle.fac_lang.specs.WrittenWords.{written_class}

@@ -1,5 +1,5 @@
 -- What forms do with the items that they read.
-use Rattle.std.proofs.Common.{◌≡◌, ℕ, List, [], ◌∷◌, ◌++◌, Option, Result, Ok, Err, Bool, true, false, refl, ap, sym, ◌∙◌, fold, append-nil}
+use Rattle.std.proofs.Common.{◌≡◌, ℕ, List, [], ◌∷◌, Option, Result, Ok, Err, Bool, false, ap, sym, ◌∙◌, fold, append-nil}
 use Rattle.std.specs.Prelude.{codes, OnOk}
 use Rattle.fac_lang.specs.Phrases.{Phrase, end, then, word}
 use Rattle.fac_lang.specs.PhraseView.{items_phrase}

@@ -1,7 +1,7 @@
 -- The phrase of items is written as the items are.
 use Rattle.std.proofs.Common.{◌≡◌, ◌+◌, ◌<◌, ℕ, suc, List, [], ◌∷◌, ◌++◌, map, length, Bool, true, false, Option, Some, None, cond, refl, ap, sym, ◌∙◌, subst, append_assoc, append-nil, arith}
 use Rattle.std.specs.Prelude.{nat_eq, nat_lt}
-use Rattle.fac_lang.specs.Phrases.{Phrase, lit, int, yes, no, str, word, next_method}
+use Rattle.fac_lang.specs.Phrases.{lit, int, yes, no, str, word, next_method}
 use Rattle.fac_lang.specs.declared.phrase.Place.{Place}
 use Rattle.fac_lang.specs.declared.program.Lit.{Lit}
 use Rattle.fac_lang.specs.declared.program.Lit.TheVariants as literal_is
@@ -21,7 +21,6 @@ use Rattle.fac_items.specs.Items.{elements_of, literal, phrase_of, word_of}
 use Rattle.fac_names.specs.Laws.{Longer}
 use Rattle.fac_names.specs.Signs.{Sign, PhrasesAreWrittenAsItems, array_signs, element_signs, elements_signs, innermost, phrase_signs, place_in, term_signs, value, with_array_signs, with_arrays_signs, closes, one, opens, within}
 use Rattle.fac_names.proofs.Growing.{and_then, elements_longer, phrase_longer, same}
-use Rattle.fac_items.specs.Made.{made}
 use Rattle.fac_items.proofs.RawNodes.{AreRaw, nested_raw}
 
 -- Nodes as they are written.

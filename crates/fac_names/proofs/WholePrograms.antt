@@ -5,9 +5,9 @@ use Rattle.std.proofs.lemmas.List.{length_push}
 use Rattle.std.proofs.lemmas.List.Folds.{list_all-append}
 use Rattle.std.proofs.lemmas.Slice.Eq.{bytes_eq-Decides}
 use Rattle.std.specs.Prelude.{◌+◌, ℤ, nat_lt, nat_le, nat_eq, codes}
-use Rattle.std.specs.List.{list_all, list_any}
+use Rattle.std.specs.List.{list_all}
 use Rattle.std.specs.Str.{bytes_eq}
-use Rattle.fac_lang.specs.Forms.{IsBuilt, IsBuiltPhrase, IsBuiltSort, AreBuiltArrays, AreBuiltElements, AreBuiltWords, IsPrimitiveWord, IsCoreWord, IsSymbolWord, IsTopPhrase, is_member, numbers_before, primitive_numbers, has_no_repeats}
+use Rattle.fac_lang.specs.Forms.{IsBuilt, IsBuiltPhrase, IsBuiltSort, AreBuiltArrays, AreBuiltElements, AreBuiltWords, IsTopPhrase}
 use Rattle.fac_lang.specs.Meaning.{sort_of, is_past}
 use Rattle.fac_lang.specs.PrimitiveWords.{PrimitiveWord, plain_inputs, plain_leaving, written_effect}
 use Rattle.fac_lang.specs.Phrases.{Phrase, end, then, Item, lit, int, yes, no, str, wrd, lit_arr, quot, word, next_method}
@@ -20,7 +20,7 @@ use Rattle.fac_lang.specs.declared.program.Sort.{Sort}
 use Rattle.fac_lang.specs.declared.program.Sort.TheVariants.{Prim as prim, Core as core, Body as body, Past as past, Itself as itself, Class as class, Isa as isa, Getter as getter, Setter as setter, Putter as putter, Generic as generic, Method as method}
 use Rattle.fac_lang.specs.declared.program.WordDef.{WordDef}
 use Rattle.fac_items.proofs.ArrayNumbers.{all_below, all_named_below, all_once, below}
-use Rattle.fac_lang.proofs.FormsLemmas.{word_below, sort_at, top_sort, all_distinct}
+use Rattle.fac_lang.proofs.FormsLemmas.{word_below, sort_at, top_sort}
 
 -- Phrases.
 

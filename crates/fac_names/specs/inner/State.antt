@@ -13,7 +13,7 @@ use Rattle.fac_items.specs.Written.{Tok}
 use Rattle.fac_names.specs.declared.so_far.SoFar.{SoFar}
 use Rattle.fac_items.specs.Items.{items_faults}
 use Rattle.fac_items.specs.Made.{made, nodes_read}
-use Rattle.fac_names.specs.Forms.{Numbered, Reading, defined, own, plainly, refused}
+use Rattle.fac_names.specs.Forms.{Reading, defined, own, plainly, refused}
 
 abbrev pub reading_of : SoFar → Reading
 reading_of s = record { scope = s.scope; words = s.drafts; old_classes = s.old_classes; classes = s.classes; arrays = s.arrays; top = items_phrase s.items.items; main = items_phrase s.main.items; first = s.first }

@@ -1,4 +1,3 @@
-use Rattle.std.proofs.Common.{◌∙◌}
 use Rattle.fac_items.proofs.KnownRowLemmas.{found_at}
 use Rattle.fac_names.specs.Forms.{at_place}
 use Rattle.fac_names.proofs.DraftLemmas.{recounted_ok}
