@@ -51,7 +51,113 @@ use Rattle.fac_emit.proofs.RunningPhrases.{IsMethod, RunsAs, word_runs, literal_
 use Rattle.fac_emit.proofs.TableLemmas.{IsAmong, AreAmong, accessor_named, slot_text}
 use Rattle.fac_emit.proofs.TableNumbers.{slot_same, texts_same, kind_rows_same, generic_of_same, method_same, order_same, sets_same}
 use Rattle.fac_emit.proofs.TableReferences.{sets_many, kinds_refer, own_refers_so, sets_refer}
-use Rattle.fac_emit.proofs.ClosedWords.{found_within, both_pass, first_true, one_passes, begins_within, core_refers, last_refers, word_doable, ClosedAs, closed_as}
+
+-- a place from which something stands is in the list
+within : {A : Type 0} (xs : List A) (at : ℕ) (y : A) (ys : List A) → drop at xs ≡ y ∷ ys → at < length xs
+within [] zero y ys e = absurd (cc)
+within [] (suc at) y ys e = absurd (cc)
+within (x ∷ xs) zero y ys e = omega arith
+within (x ∷ xs) (suc at) y ys e = let later = within xs at y ys e in omega (arith, later)
+
+-- what is found has a number below the length
+found_within : {A : Type 0} (xs : List A) (k : ℕ) (x : A) → slice_get xs k ≡ Some x → k < length xs
+found_within [] k x e = absurd (cc)
+found_within (y ∷ xs) zero x e = omega arith
+found_within (y ∷ xs) (suc k) x e = let later = found_within xs k x e in omega (arith, later)
+
+both_pass : {A : Type 0} (test : A → Bool) (xs ys : List A) → list_all test xs ≡ true → list_all test ys ≡ true → list_all test (xs ++ ys) ≡ true
+both_pass test xs ys h k = list_all-append test xs ys ∙ and_true (list_all test xs) (list_all test ys) h k
+
+first_true : (b c : Bool) → (b && c) ≡ true → (b ≡ true) × (c ≡ true)
+first_true true c e = (refl, e)
+first_true false c e = absurd (cc)
+
+one_passes : {A : Type 0} (test : A → Bool) (xs : List A) (k : ℕ) (x : A) → list_all test xs ≡ true → slice_get xs k ≡ Some x → test x ≡ true
+one_passes test [] k x h e = absurd (cc)
+one_passes test (y ∷ xs) zero x h e = let same : y ≡ x = cc in subst (λ (z : _). test z ≡ true) same (first_true (test y) (list_all test xs) h).0
+one_passes test (y ∷ xs) (suc k) x h e = one_passes test xs k x (first_true (test y) (list_all test xs) h).1 e
+
+-- code of a phrase isn't empty
+phrase_first : (C : Program) (last : Instr) (texts : List (List ℕ)) (t : Phrase) → (x : Instr) × (more : List Instr) × (phrase_code C last texts t ≡ x ∷ more)
+phrase_first C last texts end = (last, [], refl)
+phrase_first C last texts (then i p t) = (item_instr C (length texts) i, phrase_code C last (with_text texts i) t, refl)
+
+-- so it begins at a place in the code
+begins_within : (code : List Instr) (C : Program) (last : Instr) (texts : List (List ℕ)) (t : Phrase) (at : ℕ) (more : List Instr) → drop at code ≡ phrase_code C last texts t ++ more → nat_lt at (length code) ≡ true
+begins_within code C last texts t at more e =
+    let first = phrase_first C last texts t in lt-ltb at (length code) (within code at first.0 (first.1 ++ more) (e ∙ ap (λ (is : List Instr). is ++ more) first.2))
+
+never_true : {A : Type 0} → false ≡ true → A
+never_true h = absurd (true≢false (sym h))
+
+core_refers : (T : Tables) (k : ℕ) → instr_refers T (core_instr k) ≡ true
+core_refers T zero = refl
+core_refers T (suc zero) = refl
+core_refers T (suc (suc zero)) = refl
+core_refers T (suc (suc (suc k))) = refl
+
+last_refers : (T : Tables) (is_top : Bool) → instr_refers T (last_instr is_top) ≡ true
+last_refers T true = refl
+last_refers T false = refl
+
+module _ (P : Program) where
+  -- a primitive and a core word are built, and no word is an earlier top-level phrase
+  abbrev Doable : Sort → Type 0
+  Doable (prim_sort k) = is_built_primitive k ≡ true
+  Doable (core_sort k) = is_built_core k ≡ true
+  Doable (past t) = ⊥
+  Doable _ = Unit {0}
+
+  sort_doable : (d : WordDef) (s : Sort) → IsBuiltSort P.top d s → Doable s
+  sort_doable d (prim_sort k) h = h.is_built
+  sort_doable d (core_sort k) h = h.is_built
+  sort_doable d (past t) h = absurd h
+  sort_doable d _ h = tt
+
+  among : (ds : List WordDef) (d : WordDef) (w : ℕ) (x : WordDef) → AreBuiltWords P.top ds → Doable d.sort → slice_get (ds ++ d ∷ []) w ≡ Some x → Doable x.sort
+  among [] d zero x h f e = let same : d ≡ x = cc in subst (λ (y : WordDef). Doable y.sort) same f
+  among [] d (suc w) x h f e = absurd (cc)
+  among (y ∷ ds) d zero x h f e = let same : y ≡ x = cc in subst (λ (z : WordDef). Doable z.sort) same (sort_doable y y.sort h.0)
+  among (y ∷ ds) d (suc w) x h f e = among ds d w x h.1 f e
+
+  word_doable : IsBuilt P → (w : ℕ) (d : WordDef) → slice_get P.words w ≡ Some d → Doable d.sort
+  word_doable b w d e =
+      let phrase : Doable b.last_word.sort = rw b.last_word_is.sort_is tt in
+      among b.words b.last_word w d b.built phrase (subst (λ (ds : List WordDef). slice_get ds w ≡ Some d) b.words_are e)
+
+  -- a closed phrase that stands in the code of word w
+  pub record RunsIn (w : ℕ) (c : Phrase) : Type 0 where
+    pub phrase : Phrase
+    pub closes : Closing P (first_of_word w) phrase c
+    pub below : w < length P.words
+    pub names : NamesArrays P phrase
+
+  -- what a word of the closed program is, with the number w
+  abbrev ClosedAs : ℕ → Sort → Type 0
+  ClosedAs w (prim_sort k) = is_built_primitive k ≡ true
+  ClosedAs w (core_sort k) = is_built_core k ≡ true
+  ClosedAs w (body c) = RunsIn w c
+  ClosedAs w (past c) = ⊥
+  ClosedAs w (method n g c) = RunsIn w c
+  ClosedAs w (isa n) = nat_lt n (length P.classes) ≡ true
+  ClosedAs w (getter s) = IsAmong (slot_names P) s
+  ClosedAs w (setter s) = IsAmong (slot_names P) s
+  ClosedAs w (putter s) = IsAmong (slot_names P) s
+  ClosedAs w _ = Unit {0}
+
+  closed_as : (w : ℕ) (s c : Sort) → ClosesSort P w s c → Doable s → RunsAs P w s → w < length P.words → SortNames P w s → sort_fits P s ≡ true → AreAmong (slot_names P) (accessed s) → ClosedAs w c
+  closed_as w (prim_sort k) c h d r lt n f a = rw h d
+  closed_as w (core_sort k) c h d r lt n f a = rw h d
+  closed_as w (body t) c h d r lt n f a = rw h.1 (record { phrase = t; closes = closing P (first_of_word w) t h.0 h.2 r; below = lt; names = n })
+  closed_as w (past t) c h d r lt n f a = absurd d
+  closed_as w (method k g t) c h d r lt n f a = rw h.1 (record { phrase = of_method w t; closes = closing P (first_of_word w) (of_method w t) h.0 h.2 r; below = lt; names = n })
+  closed_as w itself c h d r lt n f a = rw h tt
+  closed_as w (class k) c h d r lt n f a = rw h tt
+  closed_as w (isa k) c h d r lt n f a = rw h f
+  closed_as w (getter s) c h d r lt n f a = rw h a.0
+  closed_as w (setter s) c h d r lt n f a = rw h a.0
+  closed_as w (putter s) c h d r lt n f a = rw h a.0
+  closed_as w generic c h d r lt n f a = rw h tt
 
 module _ (P C : Program) (templates : List Template) (built : IsBuilt P) (whole : IsWhole P) (laws : MethodLaws P) (closes : Closes P C templates) where
   abbrev code : List Instr
