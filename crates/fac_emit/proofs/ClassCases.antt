@@ -33,7 +33,8 @@ use Rattle.fac_emit.specs.Stands.{HasCode, SameMethod}
 use Rattle.fac_emit.specs.Symbols.{Sym, here, Task, do_phrase, Needs, heres, AllHere}
 use Rattle.fac_emit.specs.WholeValues as whole
 use Rattle.fac_emit.proofs.AccessorLemmas.{accessor_counted, accessor_same, accessor_keeps, kind_same, tuple_made_same, tuple_keeps}
-use Rattle.fac_emit.proofs.CaseLemmas.{gave, prim_done, called_at, core_is}
+use Rattle.fac_emit.proofs.CaseLemmas.{gave, prim_done}
+use Rattle.fac_emit.proofs.CallLemmas.{called_at, core_is}
 use Rattle.fac_emit.proofs.Following.{Setting, state, at, left, Follows, fetch, spent_here, Live, Go, CallsTo, first_is, live_is, wrong_here}
 use Rattle.fac_emit.proofs.GivenValues.{IsCounted}
 use Rattle.fac_emit.proofs.RunLaws.{free}

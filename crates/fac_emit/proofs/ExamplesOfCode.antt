@@ -60,10 +60,10 @@ code_is = refl
 pub template_rows_are : template_rows closed (table_texts closed) 0 templates ≡ record { entry = 0; cells = []; holes = 0 } ∷ record { entry = 2; cells = []; holes = 0 } ∷ record { entry = 6; cells = []; holes = 0 } ∷ record { entry = 8; cells = []; holes = 0 } ∷ []
 template_rows_are = refl
 
-abbrev row : ℕ → Action → WordRow
-row w a = record { name = w; action = a; kind = None }
+abbrev plain_row : ℕ → Action → WordRow
+plain_row w a = record { name = w; action = a; kind = None }
 
-pub word_rows_are : program_words closed templates ≡ row 0 (action.Prim 26) ∷ row 1 (action.Core 0) ∷ row 2 (action.Core 1) ∷ row 3 (action.Prim 17) ∷ row 4 (action.Code 10) ∷ row 5 (action.Code 14) ∷ []
+pub word_rows_are : program_words closed templates ≡ plain_row 0 (action.Prim 26) ∷ plain_row 1 (action.Core 0) ∷ plain_row 2 (action.Core 1) ∷ plain_row 3 (action.Prim 17) ∷ plain_row 4 (action.Code 10) ∷ plain_row 5 (action.Code 14) ∷ []
 word_rows_are = refl
 
 pub is_built : has_built_code (program_code closed templates) ≡ true
@@ -109,7 +109,7 @@ pub phrase_code : Code opened image (template_phrases opened) [] (Some Halt) [] 
 unfolding template_phrases core_numbered
 phrase_code =
     c_int (pos 1) refl
-    (c_word 4 10 (record { below = omega arith; runs = tt; row = row 4 (action.Code 10); there = refl; does = refl }) (all_more all_none) refl
+    (c_word 4 10 (record { below = omega arith; runs = tt; row = plain_row 4 (action.Code 10); there = refl; does = refl }) (all_more all_none) refl
     (c_off (c_make 3 (record { entry = 8; cells = []; holes = 0 }) [] refl refl refl refl
     (c_dip 2 1 refl refl (all_more all_none) refl
     (c_call 1 0 refl refl all_none refl
@@ -131,7 +131,7 @@ written_code = refl
 written_texts : program_texts written [] ≡ codes "red" ∷ [] ∷ codes "a" ∷ codes "a" ∷ []
 written_texts = refl
 
-written_rows : program_words written [] ≡ row 0 action.Itself ∷ row 1 (action.Code 0) ∷ []
+written_rows : program_words written [] ≡ plain_row 0 action.Itself ∷ plain_row 1 (action.Code 0) ∷ []
 written_rows = refl
 
 -- A literal array, closed: `{ { t } 1 "b" [ .. ] red }`, whose quotation is template 0. Its string is a text behind those of the code.
@@ -171,7 +171,7 @@ figure_code : program_code figure [] ≡ Prim 0 ∷ Int (pos 1) ∷ Ret ∷ Next
 figure_code = refl
 
 figure_rows :
-    program_words figure [] ≡ row 0 (action.Core 4) ∷ row 1 (action.Prim 0) ∷ row 2 (action.Prim 26) ∷ record { name = 3; action = action.Itself; kind = Some 8 } ∷ row 4 (action.Isa 1) ∷ row 5 (action.Get 10) ∷ row 6 (action.Generic 0) ∷ row 7 (action.Code 0) ∷ row 8 (action.Code 3) ∷ row 9 (action.Code 7) ∷ []
+    program_words figure [] ≡ plain_row 0 (action.Core 4) ∷ plain_row 1 (action.Prim 0) ∷ plain_row 2 (action.Prim 26) ∷ record { name = 3; action = action.Itself; kind = Some 8 } ∷ plain_row 4 (action.Isa 1) ∷ plain_row 5 (action.Get 10) ∷ plain_row 6 (action.Generic 0) ∷ plain_row 7 (action.Code 0) ∷ plain_row 8 (action.Code 3) ∷ plain_row 9 (action.Code 7) ∷ []
 figure_rows = refl
 
 figure_texts : program_texts figure [] ≡ [] ∷ [] ∷ [] ∷ [] ∷ [] ∷ [] ∷ [] ∷ [] ∷ [] ∷ [] ∷ codes "x" ∷ codes "point" ∷ []

@@ -7,6 +7,7 @@ pub mod SymbolicStacks
 pub mod Following
 pub mod AccessorLemmas
 pub mod CaseLemmas
+pub mod CallLemmas
 pub mod ClassCases
 pub mod Simulation
 pub mod PlainIsCode
@@ -29,6 +30,7 @@ pub mod BuiltCode
 pub mod NamedArrays
 pub mod TableReferences
 pub mod NextMethods
+pub mod ClosedWords
 pub mod ReferenceLemmas
 pub mod EmitLemmas
 pub mod Emitted

@@ -26,7 +26,8 @@ use Rattle.fac_emit.specs.Expanded.{Code, c_last, c_make, c_trim, c_end, c_off, 
 use Rattle.fac_emit.proofs.RunLaws.{free}
 use Rattle.fac_emit.proofs.SymbolicStacks.{l_phrase, Lies, lies_none, keeps_none, keeps_phrase, all_here}
 use Rattle.fac_emit.proofs.Following.{Setting, state, at, left, Follows, fetch, Live, LivePhrase, Go, CallsTo, Templated, Valid}
-use Rattle.fac_emit.proofs.CaseLemmas.{g_array, g_call, g_dip, g_end, g_if, g_last, g_make, g_off, g_prim, g_push, g_stuck, g_trim, g_word}
+use Rattle.fac_emit.proofs.CaseLemmas.{g_array, g_end, g_last, g_make, g_off, g_prim, g_push, g_stuck, g_trim}
+use Rattle.fac_emit.proofs.CallLemmas.{g_call, g_dip, g_if, g_word}
 use Rattle.fac_emit.proofs.ClassCases.{g_accessor, g_boa, g_generic, g_isa, g_next}
 
 module _ (Y : Setting) where

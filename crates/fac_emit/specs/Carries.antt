@@ -7,6 +7,10 @@ use Rattle.fac_lang.specs.World.{World}
 use Rattle.fac_lang.specs.Eval.{Result, Done, Failed, Spent}
 use Rattle.fac_lang.specs.Meaning.{run, start, word_phrase, names}
 use Rattle.fac_lang.specs.RunningLaws.{IsNotStuck}
+use Rattle.fac_lang.specs.Forms.{IsBuilt}
+use Rattle.fac_lang.specs.Whole.{IsWhole}
+use Rattle.fac_locals.specs.Closed.{Closes}
+use Rattle.fac_locals.specs.declared.closing.Closed.{Closed}
 use Rattle.fac_code.specs.declared.image.Image.{Image}
 use Rattle.fac_code.specs.ImageNames.{image_names}
 use Rattle.fac_store.specs.MachineValues.{MValue}
@@ -41,3 +45,9 @@ pub record Carries (P : Program) (fits : Height → Height → Bool) (callable_h
   pub first_whole : (input : List ℕ) → WholeObjects M (first_world M input).objects
   -- What the image says of words and kinds is what the program says, so that printed forms are alike.
   pub same_names : image_names M ≡ names P
+
+-- The image carries, with every test of effects, each built and whole program for which a closed one stands, from as many values as that starts on.
+abbrev pub CarriesEach : Closed → Image → Type 0
+CarriesEach closed M =
+    (P : Program) (fits : Height → Height → Bool) (callable_height : Callable → Option Height) →
+    Closes P closed.program closed.templates → IsBuilt P → IsWhole P → Carries P fits callable_height closed.start M

@@ -1,10 +1,8 @@
 //! The compiler: the code of the templates and the words is linked to an image.
-ghost use Rattle.std.specs.Prelude.{◌≡◌, ◌<◌, ◌+◌, ◌^◌, ◌++◌, [], ℕ, Bool, true, nat_eq, length, Option, Some, IfOk, OnOk};
+ghost use Rattle.std.specs.Prelude.{◌≡◌, ◌<◌, ◌+◌, ◌^◌, ◌++◌, [], ℕ, true, nat_eq, length, Some, IfOk, OnOk};
 ghost use Rattle.std.specs.List.{list_all};
 ghost use Rattle.fac_lang.specs.declared.program.Program.{Program as Source};
-ghost use Rattle.fac_lang.specs.declared.phrase.Height.{Height};
 ghost use Rattle.fac_lang.specs.Forms.{IsBuilt};
-ghost use Rattle.fac_lang.specs.Phrases.{Callable};
 ghost use Rattle.fac_lang.specs.Whole.{IsWhole};
 ghost use Rattle.fac_lang.specs.Classes.{own_kind};
 ghost use Rattle.fac_lang.specs.Meaning.{sort_of};
@@ -12,7 +10,7 @@ ghost use Rattle.fac_locals.specs.Closed.{Closes};
 ghost use Rattle.fac_classes.specs.ClassKinds.{CanBeBuilt};
 ghost use Rattle.fac_generic.specs.Methods.{HasMethods, MethodLaws};
 ghost use Rattle.fac_emit.specs.ProgramTables.{slot_names, table_texts, word_numbers};
-ghost use Rattle.fac_emit.specs.Carries.{Carries};
+ghost use Rattle.fac_emit.specs.Carries.{CarriesEach};
 ghost use Rattle.fac_emit.specs.Stands.{PlainCode};
 ghost use Rattle.fac_emit.specs.ProgramCode.{sort_kind, word_row, code_place, program_words, IsPlain};
 ghost use Rattle.fac_emit.specs.inner.Coded.{body_is_coded, word_body_is_coded};
@@ -313,7 +311,7 @@ fn plain_image(alloc: Global, closed: &Closed) -> Result<Image, Memory>
 /// memory is the one error, also where there are more kinds or texts than numbers for them.
 pub fn compile(alloc: Global, closed: &Closed) -> Result<Image, Memory>
     requires { (P : Source) × Closes P closed.now.program closed.now.templates × IsBuilt P × IsWhole P }
-    ensures carries { IfOk result (λ image. (P : Source) (fits : Height → Height → Bool) (callable_height : Callable → Option Height) → Closes P closed.now.program closed.now.templates → IsBuilt P → IsWhole P → Carries P fits callable_height closed.now.start image) }
+    ensures carries { IfOk result (CarriesEach closed.now) }
     ensures stands { IfOk result (λ image. (P : Source) → Closes P closed.now.program closed.now.templates → IsBuilt P → IsWhole P → PlainCode P image) }
     ensures plain { IfOk result (IsPlain closed.now.program closed.now.templates) }
 {

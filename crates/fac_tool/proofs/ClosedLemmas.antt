@@ -1,19 +1,14 @@
 -- What a closed program keeps of the one for which it stands, and the checker's refusals both ways.
-use Rattle.std.proofs.Common.{◌≡◌, ℕ, zero, suc, List, [], ◌∷◌, Bool, Result, Ok, Err, IfOk, refl, ap, subst, ◌∙◌}
+use Rattle.std.proofs.Common.{◌≡◌, ℕ, zero, suc, List, [], ◌∷◌, Result, Ok, Err, IfOk, refl, ap, subst, ◌∙◌}
 use Rattle.std.specs.Prelude.{slice_get}
-use Rattle.std.specs.declared.option.Option.{Option}
 use Rattle.fac_lang.specs.declared.memory.Memory.{Memory}
-use Rattle.fac_lang.specs.declared.phrase.Height.{Height}
 use Rattle.fac_lang.specs.declared.phrase.Template.{Template}
 use Rattle.fac_lang.specs.declared.program.Name.{Name}
 use Rattle.fac_lang.specs.declared.program.Program.{Program}
 use Rattle.fac_lang.specs.declared.program.Sort.{Sort}
 use Rattle.fac_lang.specs.declared.program.Sort.TheVariants as sort
 use Rattle.fac_lang.specs.declared.program.WordDef.{WordDef}
-use Rattle.fac_lang.specs.Phrases.{Callable}
 use Rattle.fac_lang.specs.Meaning.{start}
-use Rattle.fac_lang.specs.Forms.{IsBuilt}
-use Rattle.fac_lang.specs.Whole.{IsWhole}
 use Rattle.fac_locals.specs.Closed.{Closes, CloseWords, ClosesSort}
 use Rattle.fac_locals.specs.declared.closing.Closed.{Closed}
 use Rattle.fac_check.specs.CallableEffects.{callable_height}
@@ -23,7 +18,7 @@ use Rattle.fac_check.specs.Judged.{refusal_seen}
 use Rattle.fac_check.specs.declared.refusal.Refusal.{Refusal}
 use Rattle.fac_check.specs.Promises.{IsSafe, SafeAreNotStuck}
 use Rattle.fac_code.specs.declared.image.Image.{Image}
-use Rattle.fac_emit.specs.Carries.{Carries}
+use Rattle.fac_emit.specs.Carries.{Carries, CarriesEach}
 use Rattle.fac_notes.specs.WordNames.{bare_word, method_name, name_as, name_or}
 use Rattle.fac_tool.specs.Refusals.{refusal_of}
 use Rattle.fac_tool.specs.inner.Stops.{SameNames, Carried, StandsFor, StandsForSafe}
@@ -84,7 +79,7 @@ carried_by never P M count safe none carries = record {
 
 pub if_carried :
     SafeAreNotStuck → (closed : Closed) (r : Result Image Memory) →
-    IfOk r (λ image. (P : Program) (fits : Height → Height → Bool) (callable_height : Callable → Option Height) → Closes P closed.program closed.templates → IsBuilt P → IsWhole P → Carries P fits callable_height closed.start image) →
+    IfOk r (CarriesEach closed) →
     IfOk r (λ image. (P : Program) → StandsForSafe closed P → Carried P image)
 if_carried never closed (Ok image) h =
     λ P stands. carried_by never P image closed.start stands.safe stands.start (h P fits (callable_height P) stands.closes stands.built stands.whole)
