@@ -57,7 +57,7 @@ IN: kernel
 : while* ( ..a pred: ( ..a -- ..b ? ) body: ( ..b ? -- ..a ) -- ..b )
     [ [ dup ] compose ] dip while drop ; inline
 
-! As `while*`, but until the predicate leaves another value than `f`, which is left.
+! As `until`, and leaves what the predicate left last, which isn't `f`.
 : until* ( ..a pred: ( ..a -- ..b ? ) body: ( ..b -- ..a ) -- ..b ? )
     [ [ dup ] compose [ not ] compose ] dip [ drop ] prepose while ; inline
 

@@ -133,7 +133,7 @@ PRIVATE>
     [ keep <node> ] curry map [ swap after? ] (sort) ; inline
 
 ! An array of pairs in the order of their first elements.
-: sort-keys ( assoc -- alist ) [ first ] sort-by ;
+: sort-keys ( obj -- sortedseq ) [ first ] sort-by ;
 
 ! An array of pairs in the order of their second elements.
-: sort-values ( assoc -- alist ) [ second ] sort-by ;
+: sort-values ( obj -- sortedseq ) [ second ] sort-by ;
