@@ -24,6 +24,15 @@ pub enum Instr {
     Word(u32),
     /// Pushes a callable of the template with this number, at a tick. It keeps the values that the template names in the frame.
     Quot(u32),
+    /// Takes a value for each hole of the template with this number, the first hole's the deepest, and pushes a callable of it, at a tick. It
+    /// keeps the values that the template names in the frame, and behind them those of the holes.
+    Fry(u32),
+    /// Takes a value and puts it behind those of the frame, at a tick.
+    Bind,
+    /// Pushes the value of the cell of the frame with this number, at a tick.
+    Local(u32),
+    /// Drops so many cells of the frame, the last ones. It costs no tick.
+    Unbind(u32),
     /// Does the primitive of this number, at a tick.
     Prim(u32),
     /// Goes to the code of a word, at a tick.

@@ -110,6 +110,7 @@ fn refers_instr(tables: &Tables, instr: Instr) -> bool
     match instr {
         Instr::Callw { word, .. } => is_code_word(tables, word),
         Instr::Quot(template) => is_quotation(tables, template),
+        Instr::Fry(template) => template < tables.templates.len(),
         Instr::Text(number) | Instr::Get(number) | Instr::Set(number) | Instr::Put(number) => {
             number < tables.texts.len()
         }
@@ -131,7 +132,10 @@ fn refers_instr(tables: &Tables, instr: Instr) -> bool
         | Instr::Dip
         | Instr::If { .. }
         | Instr::Ret
-        | Instr::Boa => true,
+        | Instr::Boa
+        | Instr::Bind
+        | Instr::Local(_)
+        | Instr::Unbind(_) => true,
     }
 }
 
@@ -334,6 +338,10 @@ fn is_built(instr: Instr) -> bool
         | Instr::Array(_)
         | Instr::Word(_)
         | Instr::Quot(_)
+        | Instr::Fry(_)
+        | Instr::Bind
+        | Instr::Local(_)
+        | Instr::Unbind(_)
         | Instr::Callw { .. }
         | Instr::Call { .. }
         | Instr::Dip

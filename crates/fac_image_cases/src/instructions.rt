@@ -33,6 +33,7 @@ fn plain(name: &str) -> Option<Instr> {
         "tail-if" => Some(Instr::If { tail: true }),
         "ret" => Some(Instr::Ret),
         "boa" => Some(Instr::Boa),
+        "bind" => Some(Instr::Bind),
         _ => None,
     }
 }
@@ -44,6 +45,9 @@ fn with_number(name: &str, number: u32) -> Option<Instr> {
         "array" => Some(Instr::Array(number)),
         "word" => Some(Instr::Word(number)),
         "quot" => Some(Instr::Quot(number)),
+        "fry" => Some(Instr::Fry(number)),
+        "local" => Some(Instr::Local(number)),
+        "unbind" => Some(Instr::Unbind(number)),
         "get" => Some(Instr::Get(number)),
         "set" => Some(Instr::Set(number)),
         "put" => Some(Instr::Put(number)),

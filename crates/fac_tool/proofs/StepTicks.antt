@@ -1,5 +1,5 @@
 -- A step of the machine with other ticks: with those that it took it goes to the same state, and with fewer it is spent there and writes nothing.
-use Rattle.std.proofs.Common.{◌≡◌, ◌<◌, ℕ, zero, suc, ◌+◌, List, [], ◌∷◌, Bool, true, false, Some, None, refl, ◌∙◌, arith}
+use Rattle.std.proofs.Common.{◌≡◌, ◌<◌, ℕ, zero, suc, ◌+◌, List, [], ◌∷◌, ◌++◌, Bool, true, false, Some, None, refl, ◌∙◌, arith}
 use Rattle.std.specs.Prelude.{slice_get, drop, ⊤}
 use Rattle.std.specs.declared.option.Option.{Option}
 use Rattle.fac_lang.specs.Phrases.{str, wrd, arr}
@@ -15,14 +15,14 @@ use Rattle.fac_code.specs.declared.image.TemplateRow.{TemplateRow}
 use Rattle.fac_code.specs.declared.image.GenericRow.{GenericRow}
 use Rattle.fac_code.specs.declared.image.MethodRow.{MethodRow}
 use Rattle.fac_code.specs.declared.image.Action.TheVariants as action
-use Rattle.fac_code.specs.declared.image.Instr.TheVariants.{Halt, Int, True, False, Text, Array, Word, Quot, Prim as prim, Callw, Call, Dip, If, Ret, Boa, Get, Set, Put, Isa, Generic, Next}
+use Rattle.fac_code.specs.declared.image.Instr.TheVariants.{Halt, Int, True, False, Text, Array, Word, Quot, Fry, Bind, Local, Unbind, Prim as prim, Callw, Call, Dip, If, Ret, Boa, Get, Set, Put, Isa, Generic, Next}
 use Rattle.fac_code.specs.ImageNames.{image_names}
 use Rattle.fac_code.specs.ClassSets.{set_has}
 use Rattle.fac_code.specs.declared.names.TrapWhy.TheVariants.{Kind as t_kind, Frame as t_frame}
 use Rattle.fac_store.specs.MachineValues.{MValue, m_plain, m_fun, MCallable, m_lit, m_cur, m_com, Kept, kept_list, keep_list, m_seen, machine_values, cells_at}
 use Rattle.fac_vm.specs.Machine.{Entry, resume, put_back, enter, Machine, spent, Step, goes_on, ends, after, push, waiting, paying, popping1, popping2, popping3}
-use Rattle.fac_vm.specs.Machine.{given, does, word_with, or_trap, code_of, leaving, going, want_callable, branch, popping, method_for, method_after, truth}
-use Rattle.fac_vm.specs.Machine.{kind_in, entering, returning, makes, enters_method, enters_for, does_instr, fetched, step}
+use Rattle.fac_vm.specs.Machine.{given, does, word_with, or_trap, code_of, leaving, going, want_callable, branch, popping, without_last, method_for, method_after, truth}
+use Rattle.fac_vm.specs.Machine.{kind_in, entering, returning, makes, fries, enters_method, enters_for, does_instr, fetched, step}
 use Rattle.fac_vm.specs.Runs.{end_world}
 
 -- Where a step goes, which is f by the ticks that there are, from a state with this output and with n ticks. At ends and where no tick was taken
@@ -164,6 +164,33 @@ module _ (M : Image) where
   quot_at q None s out n = λ c none. absurd c
   quot_at q (Some t) s out n = made_at q (cells_at t.cells s.frame) s out n
 
+  -- a callable that keeps the values of its holes behind those of the frame
+  framed_at : (q : ℕ) (hs : List MValue) (o : Option (List MValue)) (s : Machine) (out : List ℕ) (n : ℕ) → Ticks ⊥ (λ n. or_trap o t_frame s n (λ vs. goes_on (after (push (m_fun (m_lit q (keep_list (vs ++ hs)))) s)) n)) out n
+  framed_at q hs None s out n = λ c none. absurd c
+  framed_at q hs (Some vs) s out n = goes ⊥ _ (after (push (m_fun (m_lit q (keep_list (vs ++ hs)))) s)) out (λ n. refl) (λ c. absurd c) n
+
+  holes_at : (q : ℕ) (cells : List ℕ) (count : ℕ) (hs stack : List MValue) (s : Machine) (out : List ℕ) (n : ℕ) → Ticks ⊥ (λ n. popping count hs stack s n (λ hs t. or_trap (cells_at cells t.frame) t_frame t n (λ vs. goes_on (after (push (m_fun (m_lit q (keep_list (vs ++ hs)))) t)) n))) out n
+  holes_at q cells zero hs stack s out n = framed_at q hs (cells_at cells s.frame) (record s { stack = stack }) out n
+  holes_at q cells (suc count) hs [] s out n = λ c none. absurd c
+  holes_at q cells (suc count) hs (x ∷ r) s out n = holes_at q cells count (x ∷ hs) r s out n
+
+  fry_at : (q : ℕ) (o : Option TemplateRow) (s : Machine) (out : List ℕ) (n : ℕ) → Ticks ⊥ (λ n. or_trap o t_kind s n (λ t. fries M q t s n)) out n
+  fry_at q None s out n = λ c none. absurd c
+  fry_at q (Some t) s out n = holes_at q t.cells t.holes [] s.stack s out n
+
+  bind_at : (stack : List MValue) (s : Machine) (out : List ℕ) (n : ℕ) → Ticks ⊥ (λ n. popping1 stack s n (λ v t. goes_on (after (record t { frame = t.frame ++ v ∷ [] })) n)) out n
+  bind_at [] s out n = λ c none. absurd c
+  bind_at (x ∷ r) s out n = goes ⊥ _ (after (record s { stack = r; frame = s.frame ++ x ∷ [] })) out (λ n. refl) (λ c. absurd c) n
+
+  local_at : (o : Option MValue) (s : Machine) (out : List ℕ) (n : ℕ) → Ticks ⊥ (λ n. or_trap o t_frame s n (λ v. goes_on (after (push v s)) n)) out n
+  local_at None s out n = λ c none. absurd c
+  local_at (Some v) s out n = goes ⊥ _ (after (push v s)) out (λ n. refl) (λ c. absurd c) n
+
+  -- cells of the frame are dropped without a tick
+  cut_at : (o : Option (List MValue)) (s : Machine) (n : ℕ) → Ticks ⊤ (λ n. or_trap o t_frame s n (λ f. goes_on (after (record s { frame = f })) n)) s.world.output n
+  cut_at None s n = λ c none. refl
+  cut_at (Some f) s n = goes ⊤ _ (after (record s { frame = f })) s.world.output (λ n. refl) (λ c. refl) n
+
   -- what is there, and what comes with it
   found_at : (A : Type 0) (o : Option A) (s : Machine) (out : List ℕ) (go : A → ℕ → Step) → ((x : A) (n : ℕ) → Ticks ⊥ (go x) out n) → (n : ℕ) → Ticks ⊥ (λ n. or_trap o t_kind s n (λ x. go x n)) out n
   found_at A None s out go h n = λ c none. absurd c
@@ -233,6 +260,10 @@ module _ (M : Image) where
   fetched_at (Some (Array a)) s n = paid_at ⊥ (does_instr M (Array a) s) s (array_at (slice_get s.world.literals a) s s.world.output) n
   fetched_at (Some (Word a)) s n = paid_at ⊥ (does_instr M (Word a) s) s (value_at (m_plain (wrd a)) (slice_get M.words a) s s.world.output) n
   fetched_at (Some (Quot q)) s n = paid_at ⊥ (does_instr M (Quot q) s) s (quot_at q (slice_get M.templates q) s s.world.output) n
+  fetched_at (Some (Fry q)) s n = paid_at ⊥ (does_instr M (Fry q) s) s (fry_at q (slice_get M.templates q) s s.world.output) n
+  fetched_at (Some Bind) s n = paid_at ⊥ (does_instr M Bind s) s (bind_at s.stack s s.world.output) n
+  fetched_at (Some (Local k)) s n = paid_at ⊥ (does_instr M (Local k) s) s (local_at (slice_get s.frame k) s s.world.output) n
+  fetched_at (Some (Unbind k)) s n = cut_at (without_last k s.frame) s n
   fetched_at (Some (prim p)) s n = paid_at ⊥ (does_instr M (prim p) s) s (prim_at (word_with (action.Prim p) 0 M.words) (prim_numbered p) s s.world.output) n
   fetched_at (Some (Callw w t)) s n = paid_at ⊥ (does_instr M (Callw w t) s) s (λ n. word_at (slice_get M.words w) (leaving t s) s.world.output n) n
   fetched_at (Some (Call t)) s n = paid_at ⊤ (does_instr M (Call t) s) s (λ n. leaving_at ⊤ t s _ n _ (call_at (leaving t s).stack (leaving t s) n)) n
