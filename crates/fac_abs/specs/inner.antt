@@ -2,4 +2,3 @@
 pub mod Stacks
 pub mod Keeping
 pub mod Interning
-pub mod Framing

@@ -7,4 +7,3 @@ pub mod EffectLemmas
 pub mod PartLemmas
 pub mod EffectEndLemmas
 pub mod ExamplesOfEffects
-pub mod LocalNameLemmas

@@ -24,20 +24,10 @@ pub enum Spelling {
     Closes,
     /// `--`
     Dashes,
-    /// The token that opens a bracket: `[`, `{` or `'[`.
+    /// The token that opens a bracket: `[` or `{`.
     OpensBracket(Bracket),
-    /// The token that closes a bracket: `}`, or `]`, which is that of a quotation, and closes a fry too.
+    /// The token that closes a bracket: `]` or `}`.
     ClosesBracket(Bracket),
-    /// `[|`
-    OpensLocals,
-    /// `|`
-    Bar,
-    /// `:>`
-    Binds,
-    /// `_`
-    Hole,
-    /// `@`
-    CalledHole,
     /// `t`
     True,
     /// `f`
@@ -135,7 +125,7 @@ fn reserved(text: &str) -> bool
 
 // The tokens that forms are made of, each with its text.
 #[rattlefmt::skip]
-static FORM_SIGNS: [(&str, Spelling); 39] = [
+static FORM_SIGNS: [(&str, Spelling); 32] = [
     ("IN:", Spelling::Begins(FormKind::In)),
     ("USE:", Spelling::Begins(FormKind::Use)),
     ("USING:", Spelling::Begins(FormKind::Using)),
@@ -148,7 +138,6 @@ static FORM_SIGNS: [(&str, Spelling); 39] = [
     ("PRIVATE>", Spelling::Begins(FormKind::Public)),
     ("MAIN:", Spelling::Begins(FormKind::Main)),
     (":", Spelling::Begins(FormKind::Define)),
-    ("::", Spelling::Begins(FormKind::DefineLocals)),
     ("TUPLE:", Spelling::Begins(FormKind::Tuple)),
     ("UNION:", Spelling::Begins(FormKind::Union)),
     ("SINGLETON:", Spelling::Begins(FormKind::Singleton)),
@@ -163,12 +152,6 @@ static FORM_SIGNS: [(&str, Spelling); 39] = [
     ("]", Spelling::ClosesBracket(Bracket::Quotation)),
     ("{", Spelling::OpensBracket(Bracket::Array)),
     ("}", Spelling::ClosesBracket(Bracket::Array)),
-    ("'[", Spelling::OpensBracket(Bracket::Fry)),
-    ("[|", Spelling::OpensLocals),
-    ("|", Spelling::Bar),
-    (":>", Spelling::Binds),
-    ("_", Spelling::Hole),
-    ("@", Spelling::CalledHole),
     ("t", Spelling::True),
     ("f", Spelling::False),
     ("inline", Spelling::Inline),

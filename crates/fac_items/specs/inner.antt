@@ -2,5 +2,6 @@ pub mod Search
 pub mod KnownRows
 pub mod CaseLists
 pub mod Bits
-pub mod Behind
+pub mod PairBits
+pub mod ReadBits
 pub mod TakenBits

@@ -1,5 +1,3 @@
 pub mod Literals
 pub mod Closed
-pub mod Frames
-pub mod OpenedPrograms
 pub mod inner

@@ -1,9 +1,7 @@
-//! Closing: quotations and fries become numbered templates, locals and holes cells of frames.
+//! Closing: quotations become numbered templates.
 #![tactic(auto)]
 
 mod closing;
 mod counting;
-mod laws;
 
 pub use closing::{Closed, close};
-pub use laws::closed_programs_open;

@@ -1,6 +1,5 @@
 pub mod Forms
 pub mod Resolved
-pub mod WrittenInputs
 pub mod FromFlat
 pub mod KnownWords
 pub mod Resolution

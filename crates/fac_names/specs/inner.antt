@@ -6,4 +6,3 @@ pub mod Named
 pub mod Tuples
 pub mod Accessors
 pub mod Ended
-pub mod Walks

@@ -7,7 +7,6 @@ mod classes;
 mod drafts;
 mod files;
 mod forms;
-mod inputs;
 mod known_words;
 mod laws;
 mod naming;

@@ -1,6 +1,5 @@
 pub mod HeldLemmas
 pub mod EffectTaken
-pub mod TokenTaken
 pub mod StateTokens
 pub mod ReaderKeeps
 pub mod ReaderReads
@@ -9,4 +8,3 @@ pub mod ExactPlaces
 pub mod ParseLemmas
 pub mod ExamplesOfArrays
 pub mod ExamplesOfClasses
-pub mod ExamplesOfLocals
