@@ -246,7 +246,7 @@ class Hierarchy:
         """How a statement ends by the model, behind these definitions."""
         (form,) = forms_of(text)
         refusals = len(names.refusals)
-        names.find_all(form.word.text)
+        names.find_text(form.word.text)
         if len(names.refusals) > refusals:
             return "refused"
         try:

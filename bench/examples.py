@@ -267,7 +267,6 @@ EXAMPLES = [
     ("USING: sequences prettyprint ; { " + "1 " * 1_000_000 + "} length .", 0, 3, "1000000\n", ""),
     ("{ " + "1 " * 1_000_001 + "}", 3, 0, "", not_expected(1_000_002)),
     ("1 \\ dup", 3, 0, "", not_expected(2)),
-    (":: w ( -- ) ;", 3, 0, "", not_expected(1)),
     ("[ " * 257, 3, 0, "", not_expected(257)),
     ("[ " * 257 + "] " * 257, 3, 0, "", not_expected(257)),
     ("[ " * 256, 3, 0, "", ends(257)),
@@ -498,6 +497,28 @@ EXAMPLES = [
     # long files
     (" " * 4_194_304, 0, 0, "", ""),
     (" " * 4_194_305, 11, 0, "", "too long: a, more than 4194304 bytes\n"),
+    # locals and fries
+    (":: w ( -- ) ;", 0, 0, "", ""),
+    ("USING: kernel math prettyprint locals fry ; 1 .", 0, 2, "1\n", ""),
+    (f"{H} 5 3 '[ _ _ - ] call .", 0, 8, "2\n", ""),
+    (f"{H} :: adder ( n -- m ) 4 [ n + ] call ; 3 adder . 1 [| a | a [| a | a a + ] call a + ] call .", 0, 23, "7\n3\n", ""),
+    (
+        f'{H} :: sgn ( n -- s ) {{ {{ [ n 0 < ] [ "neg" ] }} {{ [ n 0 = ] [ "zero" ] }} [ "pos" ] }} cond ; -5 sgn print',
+        0,
+        13,
+        "neg\n",
+        "",
+    ),
+    (f"{H} :: w ( a b -- c ) a b - ; 5 3 w .", 0, 9, "2\n", ""),
+    (f"{H} 3 [ sq ] '[ _ @ 1 + ] call .", 0, 13, "10\n", ""),
+    (f"{H} 2 '[ _ '[ _ 1 + ] ] call call .", 0, 10, "3\n", ""),
+    ("[ :> x ]", 3, 0, "", not_expected(2)),
+    ("[| a! | ]", 3, 0, "", not_expected(2)),
+    ("'[ { _ } ]", 3, 0, "", not_expected(3)),
+    ("[| a a | ]", 4, 0, "", "name: a token 3: twice a\n"),
+    ("1 '[ _ _ ]", 5, 0, "", "check: top-level, a token 2: underflow, needs 2, has 1\n"),
+    ("USING: kernel ; 1 [| a b | ] call", 5, 0, "", "check: top-level, a token 6: underflow, needs 1, has 0\n"),
+    ("USING: kernel ; 1 '[ @ ] call", 5, 0, "", "check: top-level, a token 6: not-known\n"),
 ]
 
 # The words of the prelude, each at its exact ticks: what runs, the ticks and the output. They use kernel, math, io and prettyprint.
@@ -1483,7 +1504,7 @@ EXAMPLES_OF_COMMANDS = [
 
 def counted(text):
     """What `check` writes of an accepted text: how many definitions it has."""
-    definitions = sum(token in (":", "CONSTANT:", "M:", "C:") for token in text.split())
+    definitions = sum(token in (":", "::", "CONSTANT:", "M:", "C:") for token in text.split())
     return f"checked {definitions} definitions\n"
 
 

@@ -16,6 +16,9 @@ names, which are handed functions, and each string is a new one too.
 `dispatch` calls a method three million times on tuples of four classes in turn, each of which holds the next; in Lua they are tables that
 hold closures, and in CPython objects of four classes. `slots` reads two slots of a tuple as often, and writes one.
 
+`captures` makes a quotation that keeps three locals of its word and calls it, a million times; in Lua and CPython it is a closure over
+three names. `fry` fills two holes and calls what that made as often; the others make a closure over the two arguments of a function.
+
 The script prints the shortest of several times and, of factorc, the ticks per second in it. It ends with status 1 where a program
 answers wrongly, also where it takes other ticks than are told here.
 """
@@ -34,6 +37,7 @@ PLACES = 1_000_000
 STEPS = (3, 7, 11)
 CALLS = 3_000_000
 CLASSES = "abcd"
+CLOSURES = 1_000_000
 
 
 def fibonacci(number):
@@ -77,6 +81,13 @@ DISPATCH_TICKS = 15 + 7 + 36 * CALLS + 7 + 2
 
 # As these, with six items in each turn.
 SLOTS_TICKS = 7 + 7 + 36 * CALLS + 7 + 2
+
+# Five items at the top level and `.`; four inputs are bound, and four items stand in the word; then as `times`, with eight items in each
+# turn, of which five are those of the quotation.
+CAPTURES_TICKS = 5 + 4 + 4 + 7 + 38 * CLOSURES + 7 + 1
+
+# As `times`, with eight items in each turn, of which three are those of the fry.
+FRY_TICKS = 5 + 7 + 38 * CLOSURES + 7
 
 TIMES = {
     "factorc": f"USING: math prettyprint ; 7 {TURNS:,} [ ] times .",
@@ -286,6 +297,71 @@ main()
 """,
 }
 
+CAPTURES = {
+    "factorc": f"""
+USING: kernel math prettyprint ;
+:: adding ( a b c n -- sum ) 0 n [ [ a b c + + ] call + ] times ;
+1 2 3 {CLOSURES:,} adding .
+""",
+    "lua5.4": f"""
+local function times(n, f) for i = 1, n do f() end end
+local function adding(a, b, c, n)
+    local s = 0
+    times(n, function()
+        local f = function() return a + b + c end
+        s = s + f()
+    end)
+    return s
+end
+print(adding(1, 2, 3, {CLOSURES}))
+""",
+    "python3": f"""
+def times(n, f):
+    for _ in range(n):
+        f()
+
+def adding(a, b, c, n):
+    s = 0
+    def turn():
+        nonlocal s
+        f = lambda: a + b + c
+        s = s + f()
+    times(n, turn)
+    return s
+
+print(adding(1, 2, 3, {CLOSURES}))
+""",
+}
+
+FRY = {
+    "factorc": f"USING: kernel math prettyprint ; 0 {CLOSURES:,} [ 3 4 '[ _ _ + ] call + ] times .",
+    "lua5.4": f"""
+local function times(n, f) for i = 1, n do f() end end
+local function filled(a, b) return function() return a + b end end
+local s = 0
+times({CLOSURES}, function() s = s + filled(3, 4)() end)
+print(s)
+""",
+    "python3": f"""
+def times(n, f):
+    for _ in range(n):
+        f()
+
+def filled(a, b):
+    return lambda: a + b
+
+def main():
+    s = 0
+    def turn():
+        nonlocal s
+        s = s + filled(3, 4)()
+    times({CLOSURES}, turn)
+    print(s)
+
+main()
+""",
+}
+
 # The programs that run the same work, and where they are.
 OTHERS = {"gforth": shutil.which("gforth"), "lua5.4": shutil.which("lua5.4"), "python3": sys.executable}
 
@@ -299,6 +375,8 @@ PROGRAMS = [
     ("set-nth", MARKED, SET_NTH_TICKS, SET_NTH),
     ("dispatch", CALLS // 4 * sum(range(1, 5)), DISPATCH_TICKS, DISPATCH),
     ("slots", 3 * CALLS, SLOTS_TICKS, SLOTS),
+    ("captures", 6 * CLOSURES, CAPTURES_TICKS, CAPTURES),
+    ("fry", 7 * CLOSURES, FRY_TICKS, FRY),
 ]
 
 

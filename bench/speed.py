@@ -291,6 +291,49 @@ def wide_unions(path, count):
     return 0, b"%d\n" % unions, b""
 
 
+# How many locals a word has that its innermost quotation names, and how many quotations stand around that.
+KEPT = 60
+
+
+def captures_in_levels(path, count):
+    """So many words of sixty locals, each of which is kept by sixty quotations in one another."""
+    names = [b"a%d" % number for number in range(KEPT)]
+    text = b"[ " * KEPT + names[0] + b"".join(b" %s +" % name for name in names[1:]) + b" ] call" * KEPT
+    with open(path, "wb") as file:
+        file.write(b"USING: kernel math prettyprint ;\n")
+        for number in range(count):
+            file.write(b":: word-%d ( %s -- x ) %s ;\n" % (number, b" ".join(names), text))
+        file.write(b"1 " * KEPT + b"word-%d .\n" % (count - 1))
+    return 0, b"%d\n" % KEPT, b""
+
+
+def words_with_locals(path, count):
+    """So many words, each with locals of all sorts, a quotation and a fry that keep some. Checks the file."""
+    with open(path, "wb") as file:
+        file.write(b"USING: kernel math ;\n")
+        for number in range(count):
+            file.write(b":: word-%d ( a b -- c ) a b + :> d d %d * [ a + ] call d [| e | e '[ _ b - ] call ] call + ;\n" % (number, number))
+    return 0, b"checked %d definitions\n" % count, b""
+
+
+def kept_callables(path, count):
+    """So many words, each with sixty known callables of which each keeps the one before it; the last is called."""
+    with open(path, "wb") as file:
+        file.write(b"USING: kernel math prettyprint ;\n:: keeping ( q -- q ) [ q call ] ; inline\n")
+        for number in range(count):
+            file.write(b": word-%d ( x -- y ) [ 1 + ]%s call ;\n" % (number, b" keeping" * KEPT))
+        file.write(b"6 word-%d .\n" % (count - 1))
+    return 0, b"7\n", b""
+
+
+def chain_of_closures(path, count):
+    """A word that makes so many callables, of which each keeps the one before it."""
+    with open(path, "wb") as file:
+        file.write(b"USING: kernel math prettyprint ;\n:: chain ( q n -- q ) n 0 > [ [ q drop ] n 1 - chain ] [ q ] if ;\n")
+        file.write(b"[ ] %d chain .\n" % count)
+    return 0, b"[ ... ]\n", b""
+
+
 def first_example(path, _):
     """The first example of README."""
     with open(path, "wb") as file:
@@ -341,6 +384,10 @@ SORTS = [
     ("classes", classes_with_methods, (250, 1_000), words, 1.0, ["TUPLE:", "prelude"]),
     ("deep hierarchy", deep_hierarchy, (1_024,), words, 0.3, ["TUPLE:", "prelude"]),
     ("wide unions", wide_unions, (1_024,), words, 0.3, ["TUPLE:", "prelude"]),
+    ("captures, levels", captures_in_levels, (100, 400), words, 2.0, ["::"]),
+    ("words with locals", words_with_locals, (2_500, 10_000), words, 1.0, ["::", "'[", "check"]),
+    ("kept callables", kept_callables, (250, 1_000), words, 2.0, ["::"]),
+    ("chain of closures", chain_of_closures, (250_000, 1_000_000), words, 4.0, ["::"]),
     ("first example", first_example, (1,), words, 0.004, ["prelude"]),
     ("recursion, if", spending(RECURSION_THROUGH_IF), (20_000_000,), words, 20.0, []),
     ("composing", spending(COMPOSING), (25_000_000,), words, 20.0, []),

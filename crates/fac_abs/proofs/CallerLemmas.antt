@@ -1,13 +1,11 @@
 -- What callers cite of marks and stacks.
 use Rattle.std.proofs.Common.{◌≡◌, ℕ, zero, suc, ◌<◌, ◌≤◌, List, [], ◌∷◌, Option, Some, None, option_map, length, drop, get_or, refl, sym, ap, ◌∙◌, arith}
-use Rattle.fac_lang.specs.Phrases.{Mark, any}
+use Rattle.fac_lang.specs.Phrases.{Mark}
 use Rattle.fac_abs.specs.InTurn.{under, taken, moved}
 use Rattle.fac_abs.specs.Marks.{popped}
-use Rattle.fac_abs.specs.declared.mark_node.MarkNode.{MarkNode}
-use Rattle.fac_abs.specs.MarkTrees.{Naming, trees}
+use Rattle.fac_abs.specs.MarkTrees.{Naming}
 use Rattle.fac_abs.specs.SeenMarks.{MarksSeen, Grows}
-use Rattle.fac_abs.specs.MarkPromises.{IsMarkOf, IsStackOf}
-use Rattle.fac_abs.proofs.SeenLemmas.{mark_within, within_mark, mark_reads}
+use Rattle.fac_abs.specs.MarkPromises.{IsMarkOf, IsFrameOf, IsStackOf}
 
 -- a mark that was there
 pub mark_later : (M L : MarksSeen) (m : ℕ) (mark : Naming → Mark) → Grows M L → IsMarkOf M m mark → IsMarkOf L m mark
@@ -17,15 +15,9 @@ mark_later M L m mark g f = record { valid = g.marks m f.valid; is = λ N. g.sam
 pub stack_later : (M L : MarksSeen) (s : ℕ) (marks : Naming → List Mark) → Grows M L → IsStackOf M s marks → IsStackOf L s marks
 stack_later M L s marks g f = record { valid = g.stacks s f.valid; is = λ N. g.same_stack N s f.valid ∙ f.is N }
 
-read_by : (N : Naming) (M L : MarksSeen) (m : ℕ) → L.nodes ≡ M.nodes → get_or (trees N L.nodes) m any ≡ get_or (trees N M.nodes) m any
-read_by N M L m e = ap (λ (ns : List MarkNode). get_or (trees N ns) m any) e
-
--- marks stay where their nodes do
-pub mark_by_nodes : (M L : MarksSeen) (m : ℕ) (mark : Naming → Mark) → L.nodes ≡ M.nodes → IsMarkOf M m mark → IsMarkOf L m mark
-mark_by_nodes M L m mark e f =
-    let long : length L.nodes ≡ length M.nodes = ap length e in
-    let there = mark_within M m f.valid in
-    record { valid = within_mark L m (omega arith); is = λ N. mark_reads N L m ∙ read_by N M L m e ∙ sym (mark_reads N M m) ∙ f.is N }
+-- a frame that was there
+pub frame_later : (M L : MarksSeen) (f : ℕ) (marks : Naming → List Mark) → Grows M L → IsFrameOf M f marks → IsFrameOf L f marks
+frame_later M L f marks g h = record { valid = g.frames f h.valid; is = λ N. g.same_frame N f h.valid ∙ h.is N }
 
 -- what lies under marks is what is left once they are taken
 pub popped_under : (n : ℕ) (before ms : List Mark) → popped n before ms ≡ option_map (λ (rest : List Mark). (taken n before ms, rest)) (under n ms)

@@ -1,25 +1,45 @@
 -- Small tables of marks and stacks.
-use Rattle.std.proofs.Common.{◌≡◌, ℕ, List, [], ◌∷◌, true, false, Some, None, refl, ap}
-use Rattle.fac_lang.specs.Phrases.{end, Literal, Mark, any, lit_mark, cur_mark, com_mark, wrd_mark, par_mark}
+use Rattle.std.proofs.Common.{◌≡◌, ℕ, suc, max, List, [], ◌∷◌, true, false, Some, None, map, slice_get, refl, ap}
+use Rattle.fac_lang.specs.Phrases.{Phrase, end, then, known, Literal, Mark, any, lit_mark, cur_mark, com_mark, wrd_mark, par_mark}
 use Rattle.fac_abs.specs.declared.stack_nodes.StackNode.{StackNode}
 use Rattle.fac_abs.specs.declared.mark_node.MarkNode.TheVariants.{Any, Lit, Cur, Com}
 use Rattle.fac_abs.specs.InTurn.{under, moved}
 use Rattle.fac_abs.specs.inner.Stacks.{zeros, joined_numbers, cover_numbers, stacks_of}
 use Rattle.fac_lang.specs.RowVariables.{hidden, named_row}
-use Rattle.fac_abs.specs.Marks.{dead, on, mark_eq, curried_mark, composed_mark, cover_marks, joined, covered}
-use Rattle.fac_abs.specs.MarkTrees.{Naming}
-use Rattle.fac_abs.specs.inner.Interning.{depths}
-use Rattle.fac_abs.specs.SeenMarks.{MarksSeen, mark_of, numbers_of, stack_of, is_mark, is_stack}
+use Rattle.fac_abs.specs.Marks.{dead, on, piled, mark_depth, phrase_marks, deepest, mark_eq, curried_mark, composed_mark, cover_marks, joined, covered}
+use Rattle.fac_abs.specs.MarkTrees.{Naming, trees}
+use Rattle.fac_abs.specs.inner.Interning.{deepest_of}
+use Rattle.fac_abs.specs.SeenMarks.{MarksSeen, mark_of, cells_of, frame_of, numbers_of, stack_of, is_mark, is_frame, is_stack}
 
 rows_apart : (j k : ℕ) → named_row (j ∷ []) ≡ named_row (k ∷ []) → j ≡ k
 rows_apart j k e = cc
 
--- template k is literal k of word 0, and empty; row k is named by one character
+-- a phrase of known marks
+abbrev knowns : List Mark → Phrase
+knowns [] = end
+knowns (m ∷ ms) = then (known m) (record { file = 0; token = 0 }) (knowns ms)
+
+knowns_apart : (ms ns : List Mark) → knowns ms ≡ knowns ns → ms ≡ ns
+knowns_apart [] [] e = refl
+knowns_apart [] (n ∷ ns) e = absurd (cc)
+knowns_apart (m ∷ ms) [] e = absurd (cc)
+knowns_apart (m ∷ ms) (n ∷ ns) e =
+    let first : m ≡ n = cc in
+    let rest : knowns ms ≡ knowns ns = cc in
+    rw (first, knowns_apart ms ns rest) refl
+
+knowns_marked : (ms : List Mark) → phrase_marks (knowns ms) ≡ deepest ms
+knowns_marked [] = refl
+knowns_marked (m ∷ ms) = ap (max (suc (mark_depth m))) (knowns_marked ms)
+
+-- template k is literal k of word 0, whose phrase is what its cells know; row k is named by one character
 abbrev sample : Naming
 sample = record {
-  literal = λ k. (record { word = 0; around = []; index = k }, end);
+  literal = λ k. record { word = 0; around = []; index = k };
   apart = λ j k e. ap (λ (l : Literal). l.index) e;
-  unmarked = λ k. refl;
+  phrase = λ k ms. knowns ms;
+  cells_apart = λ k. knowns_apart;
+  marked = λ k. knowns_marked;
   row = λ k. named_row (k ∷ []);
   rows_apart = rows_apart;
 }
@@ -27,12 +47,16 @@ sample = record {
 abbrev five : Mark
 five = lit_mark (record { word = 0; around = []; index = 5 }) end
 
--- nothing known, a literal, what `curry` makes of these two, and what `compose` makes of that twice; and four stack nodes
+-- nothing known, a literal, what `curry` makes of these two, what `compose` makes of that twice, and a literal with two cells; and four stack nodes
 abbrev stack_nodes : List StackNode
 stack_nodes = record { mark = 1; below = 0; height = 1 } ∷ record { mark = 3; below = 1; height = 2 } ∷ record { mark = 2; below = 1; height = 2 } ∷ record { mark = 0; below = 3; height = 3 } ∷ []
 
+-- the frame of one cell, and that of one more
+abbrev frame_nodes : List StackNode
+frame_nodes = record { mark = 1; below = 0; height = 1 } ∷ record { mark = 2; below = 1; height = 2 } ∷ []
+
 abbrev table : MarksSeen
-table = record { templates = 6; nodes = Any ∷ Lit 5 ∷ Cur 0 1 ∷ Com 2 2 ∷ []; stacks = stacks_of stack_nodes }
+table = record { templates = 6; nodes = Any ∷ Lit 5 0 ∷ Cur 0 1 ∷ Com 2 2 ∷ Lit 4 2 ∷ []; frames = stacks_of frame_nodes; stacks = stacks_of stack_nodes }
 
 stacks_share_what_lies_below : stacks_of stack_nodes ≡ [] ∷ (1 ∷ []) ∷ (3 ∷ 1 ∷ []) ∷ (2 ∷ 1 ∷ []) ∷ (0 ∷ 2 ∷ 1 ∷ []) ∷ []
 stacks_share_what_lies_below = refl
@@ -45,12 +69,40 @@ parts_are_trees : mark_of sample table 3 ≡ com_mark (cur_mark any five) (cur_m
 unfolding mark_of
 parts_are_trees = refl
 
-no_mark_is_any : mark_of sample table 4 ≡ any
+no_mark_is_any : mark_of sample table 5 ≡ any
 unfolding mark_of
 no_mark_is_any = refl
 
-depths_by_parts : depths table.nodes ≡ 0 ∷ 0 ∷ 1 ∷ 2 ∷ []
+-- the last cell comes first
+cells_are_put : mark_of sample table 4 ≡ lit_mark (record { word = 0; around = []; index = 4 }) (knowns (cur_mark any five ∷ five ∷ []))
+unfolding mark_of
+cells_are_put = refl
+
+frame_last_first : frame_of sample table 2 ≡ cur_mark any five ∷ five ∷ []
+unfolding frame_of cells_of mark_of
+frame_last_first = refl
+
+frame_is_there : is_frame table 2 ≡ true
+unfolding is_frame cells_of
+frame_is_there = refl
+
+frame_is_not_there : is_frame table 3 ≡ false
+unfolding is_frame cells_of
+frame_is_not_there = refl
+
+depths_by_parts : map mark_depth (trees sample table.frames table.nodes) ≡ 0 ∷ 0 ∷ 1 ∷ 2 ∷ 2 ∷ []
 depths_by_parts = refl
+
+deepest_cell : deepest_of (0 ∷ 0 ∷ 1 ∷ []) (2 ∷ 1 ∷ []) ≡ 2
+deepest_cell = refl
+
+no_cells_no_depth : deepest_of (0 ∷ 0 ∷ 1 ∷ []) [] ≡ 0
+no_cells_no_depth = refl
+
+-- cell 0 is the first
+first_cell : slice_get (piled (frame_of sample table 2) []) 0 ≡ Some five
+unfolding frame_of cells_of mark_of
+first_cell = refl
 
 top_first : stack_of sample table 4 ≡ any ∷ cur_mark any five ∷ five ∷ []
 unfolding stack_of numbers_of mark_of
@@ -64,7 +116,7 @@ is_there : is_mark table 3 ≡ true
 unfolding is_mark
 is_there = refl
 
-is_not_there : is_mark table 4 ≡ false
+is_not_there : is_mark table 5 ≡ false
 unfolding is_mark
 is_not_there = refl
 

@@ -1,6 +1,7 @@
 pub mod BaseLemmas
 pub mod CallerLemmas
 pub mod EqualMarks
+pub mod FrameLemmas
 mod ExamplesOfMarks
 pub mod InTurnLemmas
 pub mod LimitLemmas

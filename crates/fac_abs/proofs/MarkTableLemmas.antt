@@ -1,19 +1,17 @@
 -- The table of marks grows.
-use Rattle.std.proofs.Common.{◌≡◌, ℕ, zero, suc, ◌+◌, ◌<◌, ◌⊎◌, inl, inr, List, [], ◌∷◌, ◌++◌, Result, Ok, Err, IfOk, OnErr, length, get_or, refl, sym, ap, subst, ◌∙◌, arith, length-append, append-nil}
+use Rattle.std.proofs.Common.{◌≡◌, ℕ, zero, suc, ◌+◌, ◌<◌, ◌⊎◌, inl, inr, List, [], ◌∷◌, ◌++◌, Result, Ok, Err, IfOk, OnErr, length, get_or, map, refl, sym, ap, subst, ◌∙◌, arith, length-append, append-nil}
 use Rattle.std.proofs.lemmas.List.{get_or_append_left}
-use Rattle.std.proofs.lemmas.List.Elements.{All-nil, All-cons, All-append, All-weaker}
 use Rattle.std.proofs.Math.Seq.{get_or-append_seam}
-use Rattle.std.specs.List.{All}
 use Rattle.std.specs.Map.{keys_of, values_of}
+use Rattle.fac_lang.specs.Phrases.{Mark}
 use Rattle.fac_abs.specs.declared.mark_node.MarkNode.{MarkNode}
 use Rattle.fac_abs.specs.declared.mark_node.MarkNode.TheVariants.{Any}
-use Rattle.fac_abs.specs.inner.Interning.{Numbers, there, added, Interns}
-use Rattle.fac_abs.specs.inner.Interning.{node_depth, depths, HasPartsBelow, IsTable}
+use Rattle.fac_abs.specs.Marks.{mark_depth}
+use Rattle.fac_abs.specs.MarkTrees.{Naming, tree, trees}
+use Rattle.fac_abs.specs.inner.Interning.{Numbers, there, added}
+use Rattle.fac_abs.specs.inner.Interning.{HasPartsBelow, IsOrdered, TellDepths, IsTable}
 use Rattle.fac_abs.proofs.InTurnLemmas.{in_turn_append, fits_push}
 use Rattle.fac_abs.proofs.StackLemmas.{map_push}
-
-pub depths_push : (ns : List MarkNode) (n : MarkNode) → depths (ns ++ n ∷ []) ≡ depths ns ++ node_depth (depths ns) n ∷ []
-depths_push ns n = in_turn_append node_depth ns (n ∷ []) []
 
 -- the place of an element is before the last, or the last
 early_or_last : (i n : ℕ) → i < n + 1 → (i < n) ⊎ (i ≡ n)
@@ -38,62 +36,80 @@ module _ (ns : List MarkNode) (n : MarkNode) (absent : (k : ℕ) → k < length 
   apart_by distinct i j (inr h) (inl l) e = absurd (absent j l (sym (old_at j l) ∙ sym e ∙ new_at i h))
   apart_by distinct i j (inr h) (inr l) e = h ∙ sym l
 
-  pub table_push : IsTable ns → HasPartsBelow (length ns) n → IsTable (ns ++ n ∷ [])
-  table_push t parts =
+  pub table_push : IsTable ns → IsTable (ns ++ n ∷ [])
+  table_push t =
       let some = t.some in
       record {
         some = omega (arith, long);
         first = old_at 0 t.some ∙ t.first;
-        ordered = fits_push HasPartsBelow ns 0 (length ns) n t.ordered (omega arith) parts;
         distinct = λ i j h l e. apart_by t.distinct i j (early_or_last i (length ns) (omega (arith, long))) (early_or_last j (length ns) (omega (arith, long))) e;
       }
 
-  pub interns_new : IsTable ns → HasPartsBelow (length ns) n → Interns ns (ns ++ n ∷ []) n (length ns)
-  interns_new t parts = record { more = n ∷ []; only = All-cons (λ (x : MarkNode). x ≡ n) n [] refl (All-nil (λ (x : MarkNode). x ≡ n)); grows = refl; within = omega (arith, long); node_is = get_or-append_seam ns n [] Any; table = table_push t parts }
-
 -- the table of the first node alone
 pub first_table : IsTable (Any ∷ [])
-first_table = record { some = omega arith; first = refl; ordered = (tt, tt); distinct = λ i j h l e. omega arith }
+first_table = record { some = omega arith; first = refl; distinct = λ i j h l e. omega arith }
 
-pub interns_old : (ns : List MarkNode) (n : MarkNode) (k : ℕ) → IsTable ns → k < length ns → get_or ns k Any ≡ n → Interns ns ns n k
-interns_old ns n k t h e = record { more = []; only = All-nil (λ (x : MarkNode). x ≡ n); grows = sym (append-nil ns); within = h; node_is = e; table = t }
+-- A node has this number in a list that grew, or stayed.
+pub record IsInterned (ns after : List MarkNode) (n : MarkNode) (number : ℕ) : Type 0 where
+  pub more : List MarkNode
+  pub grows : after ≡ ns ++ more
+  pub within : number < length after
+  pub node_is : get_or after number Any ≡ n
 
--- what holds of all nodes and of one holds of all where it has its number
-pub all_interned : (P : MarkNode → Type 0) (before after : List MarkNode) (node : MarkNode) (number : ℕ) → All P before → P node → Interns before after node number → All P after
-all_interned P before after node number all one i =
-    subst (All P) (sym i.grows) (All-append P before i.more all (All-weaker (λ (n : MarkNode). n ≡ node) P (λ n e. subst P (sym e) one) i.more i.only))
-
-module _ {E : Type 0} where
-  -- likewise, or nothing changed
-  pub all_by : (P : MarkNode → Type 0) (before after : List MarkNode) (node : MarkNode) → All P before → P node → (r : Result ℕ E) → IfOk r (λ k. Interns before after node k) → OnErr r (after ≡ before) → All P after
-  all_by P before after node all one (Ok k) f g = all_interned P before after node k all one f
-  all_by P before after node all one (Err e) f g = subst (All P) (sym g) all
-
--- what the fields of a table are
-pub record IsKept (entries : List (MarkNode × ℕ)) : Type 0 where
-  pub table : IsTable (keys_of entries)
-  pub told : values_of entries ≡ depths (keys_of entries)
-
-module _ (before after : List (MarkNode × ℕ)) (node : MarkNode) (depth : ℕ) (kept : IsKept before) (parts : HasPartsBelow (length (keys_of before)) node) (deep : depth ≡ node_depth (depths (keys_of before)) node) where
+module _ (before after : List (MarkNode × ℕ)) (node : MarkNode) (depth : ℕ) where
   keys_push : keys_of (before ++ (node, depth) ∷ []) ≡ keys_of before ++ node ∷ []
   keys_push = map_push (λ (p : MarkNode × ℕ). p.0) before (node, depth)
 
-  values_push : values_of (before ++ (node, depth) ∷ []) ≡ depths (keys_of before ++ node ∷ [])
-  values_push = map_push (λ (p : MarkNode × ℕ). p.1) before (node, depth) ∙ ap (λ (t : List ℕ). t ++ depth ∷ []) kept.told ∙ ap (λ (d : ℕ). depths (keys_of before) ++ d ∷ []) deep ∙ sym (depths_push (keys_of before) node)
+  pub table_after : IsTable (keys_of before) → (r : ℕ) → Numbers before after node depth r → IsTable (keys_of after)
+  table_after t r (there h e same) = subst (λ (es : List (MarkNode × ℕ)). IsTable (keys_of es)) (sym same) t
+  table_after t r (added absent place e) = subst (λ (es : List (MarkNode × ℕ)). IsTable (keys_of es)) (sym e) (subst IsTable (sym keys_push) (table_push (keys_of before) node absent t))
 
-  pub kept_after : (r : ℕ) → Numbers before after node depth r → IsKept after
-  kept_after r (there h e same) = subst IsKept (sym same) kept
-  kept_after r (added absent place e) = subst IsKept (sym e) (record { table = subst IsTable (sym keys_push) (table_push (keys_of before) node absent kept.table parts); told = values_push ∙ ap depths (sym keys_push) })
+  pub interned : (r : ℕ) → Numbers before after node depth r → IsInterned (keys_of before) (keys_of after) node r
+  interned r (there h e same) = subst (λ (es : List (MarkNode × ℕ)). IsInterned (keys_of before) (keys_of es) node r) (sym same) (record { more = []; grows = sym (append-nil (keys_of before)); within = h; node_is = e })
+  interned r (added absent place e) =
+      let long : length (keys_of before ++ node ∷ []) ≡ length (keys_of before) + 1 = omega (arith, length-append (keys_of before) (node ∷ [])) in
+      let now : keys_of after ≡ keys_of before ++ node ∷ [] = ap keys_of e ∙ keys_push in
+      subst (λ (ks : List MarkNode). IsInterned (keys_of before) ks node r) (sym now) (record {
+        more = node ∷ [];
+        grows = refl;
+        within = omega (arith, long, place);
+        node_is = ap (λ (i : ℕ). get_or (keys_of before ++ node ∷ []) i Any) place ∙ get_or-append_seam (keys_of before) node [] Any;
+      })
 
-  pub interned : (r : ℕ) → Numbers before after node depth r → Interns (keys_of before) (keys_of after) node r
-  interned r (there h e same) = subst (λ (es : List (MarkNode × ℕ)). Interns (keys_of before) (keys_of es) node r) (sym same) (interns_old (keys_of before) node r kept.table h e)
-  interned r (added absent place e) = subst (λ (es : List (MarkNode × ℕ)). Interns (keys_of before) (keys_of es) node r) (sym e) (subst (λ (ns : List MarkNode). Interns (keys_of before) ns node r) (sym keys_push) (subst (λ (k : ℕ). Interns (keys_of before) (keys_of before ++ node ∷ []) node k) (sym place) (interns_new (keys_of before) node absent kept.table parts)))
+  module _ (templates : ℕ) (frames : List (List ℕ)) where
+    pub ordered_after : IsOrdered templates frames (keys_of before) → HasPartsBelow templates frames (length (keys_of before)) node → (r : ℕ) → Numbers before after node depth r → IsOrdered templates frames (keys_of after)
+    ordered_after o parts r (there h e same) = subst (λ (es : List (MarkNode × ℕ)). IsOrdered templates frames (keys_of es)) (sym same) o
+    ordered_after o parts r (added absent place e) =
+        subst (λ (ks : List MarkNode). IsOrdered templates frames ks) (sym (ap keys_of e ∙ keys_push)) (fits_push (HasPartsBelow templates frames) (keys_of before) 0 (length (keys_of before)) node o (omega arith) parts)
+
+    told_push : (N : Naming) → values_of before ≡ map mark_depth (trees N frames (keys_of before)) → depth ≡ mark_depth (tree N frames (trees N frames (keys_of before)) node) → values_of (before ++ (node, depth) ∷ []) ≡ map mark_depth (trees N frames (keys_of before ++ node ∷ []))
+    told_push N told deep =
+        let made : List Mark = trees N frames (keys_of before) in
+        map_push (λ (p : MarkNode × ℕ). p.1) before (node, depth) ∙ ap (λ (t : List ℕ). t ++ depth ∷ []) told ∙ ap (λ (d : ℕ). map mark_depth made ++ d ∷ []) deep ∙ sym (map_push mark_depth made (tree N frames made node)) ∙ ap (map mark_depth) (sym (in_turn_append (tree N frames) (keys_of before) (node ∷ []) []))
+
+    pub told_after : TellDepths frames (keys_of before) (values_of before) → ((N : Naming) → depth ≡ mark_depth (tree N frames (trees N frames (keys_of before)) node)) → (r : ℕ) → Numbers before after node depth r → TellDepths frames (keys_of after) (values_of after)
+    told_after told deep r (there h e same) = subst (λ (es : List (MarkNode × ℕ)). TellDepths frames (keys_of es) (values_of es)) (sym same) told
+    told_after told deep r (added absent place e) = λ N.
+        ap values_of e ∙ told_push N (told N) (deep N) ∙ ap (λ (ks : List MarkNode). map mark_depth (trees N frames ks)) (sym (ap keys_of e ∙ keys_push))
 
   module _ {E : Type 0} where
-    pub kept_by : (r : Result ℕ E) → IfOk r (λ k. Numbers before after node depth k) → OnErr r (after ≡ before) → IsKept after
-    kept_by (Ok k) f g = kept_after k f
-    kept_by (Err e) f g = subst IsKept (sym g) kept
+    pub table_by : IsTable (keys_of before) → (r : Result ℕ E) → IfOk r (λ k. Numbers before after node depth k) → OnErr r (after ≡ before) → IsTable (keys_of after)
+    table_by t (Ok k) f g = table_after t k f
+    table_by t (Err e) f g = subst (λ (es : List (MarkNode × ℕ)). IsTable (keys_of es)) (sym g) t
 
-    pub interned_by : (r : Result ℕ E) → IfOk r (λ k. Numbers before after node depth k) → IfOk r (λ k. Interns (keys_of before) (keys_of after) node k)
+    pub interned_by : (r : Result ℕ E) → IfOk r (λ k. Numbers before after node depth k) → IfOk r (λ k. IsInterned (keys_of before) (keys_of after) node k)
     interned_by (Ok k) f = interned k f
     interned_by (Err e) f = tt
+
+    pub ordered_by : (templates : ℕ) (frames : List (List ℕ)) → IsOrdered templates frames (keys_of before) → HasPartsBelow templates frames (length (keys_of before)) node → (r : Result ℕ E) → IfOk r (λ k. Numbers before after node depth k) → OnErr r (after ≡ before) → IsOrdered templates frames (keys_of after)
+    ordered_by templates frames o parts (Ok k) f g = ordered_after templates frames o parts k f
+    ordered_by templates frames o parts (Err e) f g = subst (λ (es : List (MarkNode × ℕ)). IsOrdered templates frames (keys_of es)) (sym g) o
+
+    pub told_by : (templates : ℕ) (frames : List (List ℕ)) → TellDepths frames (keys_of before) (values_of before) → ((N : Naming) → depth ≡ mark_depth (tree N frames (trees N frames (keys_of before)) node)) → (r : Result ℕ E) → IfOk r (λ k. Numbers before after node depth k) → OnErr r (after ≡ before) → TellDepths frames (keys_of after) (values_of after)
+    told_by templates frames told deep (Ok k) f g = told_after templates frames told deep k f
+    told_by templates frames told deep (Err e) f g = subst (λ (es : List (MarkNode × ℕ)). TellDepths frames (keys_of es) (values_of es)) (sym g) told
+
+-- keys stay where all stays
+pub keys_stay : {E : Type 0} (before after : List (MarkNode × ℕ)) (r : Result ℕ E) → OnErr r (after ≡ before) → OnErr r (keys_of after ≡ keys_of before)
+keys_stay before after (Ok k) f = tt
+keys_stay before after (Err e) f = ap keys_of f

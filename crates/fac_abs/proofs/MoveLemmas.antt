@@ -14,7 +14,8 @@ use Rattle.fac_abs.specs.inner.Stacks.{zeros, joined_number, joined_numbers, cov
 use Rattle.fac_abs.specs.inner.Keeping.{IsWhere, IsStackWith, Joins}
 use Rattle.fac_abs.specs.Marks.{int_eq, token_eq, tokens_eq, mark_eq, join_mark, join_marks, cover_marks, unknowns, piled}
 use Rattle.fac_abs.specs.MarkTrees.{Naming}
-use Rattle.fac_abs.specs.inner.Interning.{IsTable}
+use Rattle.fac_abs.specs.inner.Interning.{IsTable, IsOrdered}
+use Rattle.fac_abs.specs.inner.Framing.{AreDistinct}
 use Rattle.fac_abs.specs.SeenMarks.{mark_of, stack_of, are_below}
 use Rattle.fac_abs.specs.MarkPromises.{IsStackOf, IsStackWhere, IsJoinedWhere}
 use Rattle.fac_abs.proofs.EqualMarks.{and_first, and_second, never_true, mark_same}
@@ -178,70 +179,70 @@ module _ (f : ℕ → Mark) (k : ℕ) (first : f 0 ≡ any) (one : (x y : ℕ) �
       let lower = is_below y k (and_first (nat_lt y k) _ g) in
       ap (λ (b : Bool). b && cover_numbers xs ys) (covers_one x y o low lower) ∙ ap (λ (b : Bool). (mark_eq (f x) any || mark_eq (f x) (f y)) && b) (covers_map xs ys o (and_second (nat_lt x k) _ h) (and_second (nat_lt y k) _ g))
 
-module _ (templates : ℕ) where
+module _ (templates : ℕ) (frames : List (List ℕ)) where
   -- Answers that may be none.
 
-  pub where_some : (ns : List MarkNode) (ss ts : List (List ℕ)) (found : Option (List ℕ)) (marks : Naming → Option (List Mark)) (o : Option ℕ) → ((ys : List ℕ) → found ≡ Some ys → are_below (length ns) ys ≡ true) → ((N : Naming) → marks N ≡ option_map (map (mark_of N (seen templates ns ss))) found) → IsWhere ts o found → IsStackWhere (seen templates ns ts) o marks
-  where_some ns ss ts found marks None low same h = λ N. same N ∙ ap (option_map (map (mark_of N (seen templates ns ss)))) h
+  pub where_some : (ns : List MarkNode) (ss ts : List (List ℕ)) (found : Option (List ℕ)) (marks : Naming → Option (List Mark)) (o : Option ℕ) → ((ys : List ℕ) → found ≡ Some ys → are_below (length ns) ys ≡ true) → ((N : Naming) → marks N ≡ option_map (map (mark_of N (seen templates frames ns ss))) found) → IsWhere ts o found → IsStackWhere (seen templates frames ns ts) o marks
+  where_some ns ss ts found marks None low same h = λ N. same N ∙ ap (option_map (map (mark_of N (seen templates frames ns ss)))) h
   where_some ns ss ts found marks (Some s) low same h =
-      (within_stack (seen templates ns ts) s h.0 (low (get_or ts s []) h.1), λ N. same N ∙ ap (option_map (map (mark_of N (seen templates ns ss)))) h.1 ∙ ap Some (sym (marks_stay templates N ns ss ts (get_or ts s [])) ∙ sym (stack_reads N (seen templates ns ts) s)))
+      (within_stack (seen templates frames ns ts) s h.0 (low (get_or ts s []) h.1), λ N. same N ∙ ap (option_map (map (mark_of N (seen templates frames ns ss)))) h.1 ∙ ap Some (sym (marks_stay templates frames N ns ss ts (get_or ts s [])) ∙ sym (stack_reads N (seen templates frames ns ts) s)))
 
-  pub height_is : (N : Naming) (ns : List MarkNode) (ss : List (List ℕ)) (s : ℕ) → length (stack_of N (seen templates ns ss) s) ≡ length (get_or ss s [])
-  height_is N ns ss s = ap length (stack_reads N (seen templates ns ss) s) ∙ length-map (get_or ss s []) (mark_of N (seen templates ns ss))
+  pub height_is : (N : Naming) (ns : List MarkNode) (ss : List (List ℕ)) (s : ℕ) → length (stack_of N (seen templates frames ns ss) s) ≡ length (get_or ss s [])
+  height_is N ns ss s = ap length (stack_reads N (seen templates frames ns ss) s) ∙ length-map (get_or ss s []) (mark_of N (seen templates frames ns ss))
 
-  heights_are : (N : Naming) (ns : List MarkNode) (ss : List (List ℕ)) (a b : ℕ) → nat_eq (length (stack_of N (seen templates ns ss) a)) (length (stack_of N (seen templates ns ss) b)) ≡ nat_eq (length (get_or ss a [])) (length (get_or ss b []))
-  heights_are N ns ss a b = ap (λ (k : ℕ). nat_eq k (length (stack_of N (seen templates ns ss) b))) (height_is N ns ss a) ∙ ap (nat_eq (length (get_or ss a []))) (height_is N ns ss b)
+  heights_are : (N : Naming) (ns : List MarkNode) (ss : List (List ℕ)) (a b : ℕ) → nat_eq (length (stack_of N (seen templates frames ns ss) a)) (length (stack_of N (seen templates frames ns ss) b)) ≡ nat_eq (length (get_or ss a [])) (length (get_or ss b []))
+  heights_are N ns ss a b = ap (λ (k : ℕ). nat_eq k (length (stack_of N (seen templates frames ns ss) b))) (height_is N ns ss a) ∙ ap (nat_eq (length (get_or ss a []))) (height_is N ns ss b)
 
-  joined_some : (ns : List MarkNode) (ss ts : List (List ℕ)) (a b : ℕ) (o : Option ℕ) → IsTable ns → are_below (length ns) (get_or ss a []) ≡ true → are_below (length ns) (get_or ss b []) ≡ true → Joins ts o (get_or ss a []) (get_or ss b []) → IsJoinedWhere (seen templates ns ss) (seen templates ns ts) a b o
-  joined_some ns ss ts a b None t f g h = λ N. heights_are N ns ss a b ∙ h
-  joined_some ns ss ts a b (Some s) t f g h =
+  joined_some : (ns : List MarkNode) (ss ts : List (List ℕ)) (a b : ℕ) (o : Option ℕ) → IsTable ns → IsOrdered templates frames ns → AreDistinct frames → are_below (length ns) (get_or ss a []) ≡ true → are_below (length ns) (get_or ss b []) ≡ true → Joins ts o (get_or ss a []) (get_or ss b []) → IsJoinedWhere (seen templates frames ns ss) (seen templates frames ns ts) a b o
+  joined_some ns ss ts a b None t o d f g h = λ N. heights_are N ns ss a b ∙ h
+  joined_some ns ss ts a b (Some s) t o d f g h =
       let zero_low : nat_lt 0 (length ns) ≡ true = below_is 0 (length ns) t.some in
-      let one : (N : Naming) (x y : ℕ) → x < length ns → y < length ns → mark_of N (seen templates ns ss) x ≡ mark_of N (seen templates ns ss) y → x ≡ y = λ N x y l k e. one_number N ns t x y l k (sym (mark_reads N (seen templates ns ss) x) ∙ e ∙ mark_reads N (seen templates ns ss) y) in
-      let made = made_stack templates ns ss ts s (joined_numbers (get_or ss a []) (get_or ss b [])) (λ N. join_marks (stack_of N (seen templates ns ss) a) (stack_of N (seen templates ns ss) b)) h.1 (joins_below (length ns) (get_or ss a []) (get_or ss b []) zero_low f) (λ N. joins_map (mark_of N (seen templates ns ss)) (length ns) ((first_mark templates ns ss t).is N) (one N) (get_or ss a []) (get_or ss b []) f g ∙ ap (λ (xs : List Mark). join_marks xs (map (mark_of N (seen templates ns ss)) (get_or ss b []))) (sym (stack_reads N (seen templates ns ss) a)) ∙ ap (join_marks (stack_of N (seen templates ns ss) a)) (sym (stack_reads N (seen templates ns ss) b))) in
+      let one : (N : Naming) (x y : ℕ) → x < length ns → y < length ns → mark_of N (seen templates frames ns ss) x ≡ mark_of N (seen templates frames ns ss) y → x ≡ y = λ N x y l k e. one_number N templates frames d ns t o x y l k (sym (mark_reads N (seen templates frames ns ss) x) ∙ e ∙ mark_reads N (seen templates frames ns ss) y) in
+      let made = made_stack templates frames ns ss ts s (joined_numbers (get_or ss a []) (get_or ss b [])) (λ N. join_marks (stack_of N (seen templates frames ns ss) a) (stack_of N (seen templates frames ns ss) b)) h.1 (joins_below (length ns) (get_or ss a []) (get_or ss b []) zero_low f) (λ N. joins_map (mark_of N (seen templates frames ns ss)) (length ns) ((first_mark templates frames ns ss t o).is N) (one N) (get_or ss a []) (get_or ss b []) f g ∙ ap (λ (xs : List Mark). join_marks xs (map (mark_of N (seen templates frames ns ss)) (get_or ss b []))) (sym (stack_reads N (seen templates frames ns ss) a)) ∙ ap (join_marks (stack_of N (seen templates frames ns ss) a)) (sym (stack_reads N (seen templates frames ns ss) b))) in
       record { valid = made.valid; heights = λ N. heights_are N ns ss a b ∙ h.0; is = made.is }
 
   module _ {E : Type 0} where
-    pub where_by : (ns : List MarkNode) (ss ts : List (List ℕ)) (found : Option (List ℕ)) (marks : Naming → Option (List Mark)) → ((ys : List ℕ) → found ≡ Some ys → are_below (length ns) ys ≡ true) → ((N : Naming) → marks N ≡ option_map (map (mark_of N (seen templates ns ss))) found) → (r : Result (Option ℕ) E) → IfOk r (λ o. IsWhere ts o found) → IfOk r (λ o. IsStackWhere (seen templates ns ts) o marks)
+    pub where_by : (ns : List MarkNode) (ss ts : List (List ℕ)) (found : Option (List ℕ)) (marks : Naming → Option (List Mark)) → ((ys : List ℕ) → found ≡ Some ys → are_below (length ns) ys ≡ true) → ((N : Naming) → marks N ≡ option_map (map (mark_of N (seen templates frames ns ss))) found) → (r : Result (Option ℕ) E) → IfOk r (λ o. IsWhere ts o found) → IfOk r (λ o. IsStackWhere (seen templates frames ns ts) o marks)
     where_by ns ss ts found marks low same (Ok o) h = where_some ns ss ts found marks o low same h
     where_by ns ss ts found marks low same (Err e) h = tt
 
-    pub joined_by : (ns : List MarkNode) (ss ts : List (List ℕ)) (a b : ℕ) → IsTable ns → are_below (length ns) (get_or ss a []) ≡ true → are_below (length ns) (get_or ss b []) ≡ true → (r : Result (Option ℕ) E) → IfOk r (λ o. Joins ts o (get_or ss a []) (get_or ss b [])) → IfOk r (λ o. IsJoinedWhere (seen templates ns ss) (seen templates ns ts) a b o)
-    joined_by ns ss ts a b t f g (Ok o) h = joined_some ns ss ts a b o t f g h
-    joined_by ns ss ts a b t f g (Err e) h = tt
+    pub joined_by : (ns : List MarkNode) (ss ts : List (List ℕ)) (a b : ℕ) → IsTable ns → IsOrdered templates frames ns → AreDistinct frames → are_below (length ns) (get_or ss a []) ≡ true → are_below (length ns) (get_or ss b []) ≡ true → (r : Result (Option ℕ) E) → IfOk r (λ o. Joins ts o (get_or ss a []) (get_or ss b [])) → IfOk r (λ o. IsJoinedWhere (seen templates frames ns ss) (seen templates frames ns ts) a b o)
+    joined_by ns ss ts a b t o d f g (Ok r) h = joined_some ns ss ts a b r t o d f g h
+    joined_by ns ss ts a b t o d f g (Err e) h = tt
 
   -- The calls of stacks of marks.
 
-  pub below_where : (ns : List MarkNode) (ss : List (List ℕ)) (s n : ℕ) (o : Option ℕ) → are_below (length ns) (get_or ss s []) ≡ true → IsWhere ss o (under n (get_or ss s [])) → IsStackWhere (seen templates ns ss) o (λ N. under n (stack_of N (seen templates ns ss) s))
-  below_where ns ss s n o low h = where_some ns ss ss (under n (get_or ss s [])) (λ N. under n (stack_of N (seen templates ns ss) s)) o (λ ys e. under_below (length ns) n (get_or ss s []) ys low e) (λ N. ap (under n) (stack_reads N (seen templates ns ss) s) ∙ under_map (mark_of N (seen templates ns ss)) n (get_or ss s [])) h
+  pub below_where : (ns : List MarkNode) (ss : List (List ℕ)) (s n : ℕ) (o : Option ℕ) → are_below (length ns) (get_or ss s []) ≡ true → IsWhere ss o (under n (get_or ss s [])) → IsStackWhere (seen templates frames ns ss) o (λ N. under n (stack_of N (seen templates frames ns ss) s))
+  below_where ns ss s n o low h = where_some ns ss ss (under n (get_or ss s [])) (λ N. under n (stack_of N (seen templates frames ns ss) s)) o (λ ys e. under_below (length ns) n (get_or ss s []) ys low e) (λ N. ap (under n) (stack_reads N (seen templates frames ns ss) s) ∙ under_map (mark_of N (seen templates frames ns ss)) n (get_or ss s [])) h
 
   module _ {E : Type 0} where
-    pub push_by : (ns : List MarkNode) (ss ts : List (List ℕ)) (s m : ℕ) (r : Result ℕ E) → IfOk r (λ k. IsStackWith ts k (m ∷ get_or ss s [])) → m < length ns → are_below (length ns) (get_or ss s []) ≡ true → IfOk r (λ k. IsStackOf (seen templates ns ts) k (λ N. mark_of N (seen templates ns ss) m ∷ stack_of N (seen templates ns ss) s))
-    push_by ns ss ts s m r f h low = stack_by templates ns ss ts (m ∷ get_or ss s []) (λ N. mark_of N (seen templates ns ss) m ∷ stack_of N (seen templates ns ss) s) (both (nat_lt m (length ns)) _ (below_is m (length ns) h) low) (λ N. ap (λ (t : List Mark). mark_of N (seen templates ns ss) m ∷ t) (sym (stack_reads N (seen templates ns ss) s))) r f
+    pub push_by : (ns : List MarkNode) (ss ts : List (List ℕ)) (s m : ℕ) (r : Result ℕ E) → IfOk r (λ k. IsStackWith ts k (m ∷ get_or ss s [])) → m < length ns → are_below (length ns) (get_or ss s []) ≡ true → IfOk r (λ k. IsStackOf (seen templates frames ns ts) k (λ N. mark_of N (seen templates frames ns ss) m ∷ stack_of N (seen templates frames ns ss) s))
+    push_by ns ss ts s m r f h low = stack_by templates frames ns ss ts (m ∷ get_or ss s []) (λ N. mark_of N (seen templates frames ns ss) m ∷ stack_of N (seen templates frames ns ss) s) (both (nat_lt m (length ns)) _ (below_is m (length ns) h) low) (λ N. ap (λ (t : List Mark). mark_of N (seen templates frames ns ss) m ∷ t) (sym (stack_reads N (seen templates frames ns ss) s))) r f
 
-    pub unknowns_by : (ns : List MarkNode) (ss ts : List (List ℕ)) (s n : ℕ) (r : Result ℕ E) → IfOk r (λ k. IsStackWith ts k (zeros n (get_or ss s []))) → IsTable ns → are_below (length ns) (get_or ss s []) ≡ true → IfOk r (λ k. IsStackOf (seen templates ns ts) k (λ N. unknowns n (stack_of N (seen templates ns ss) s)))
-    unknowns_by ns ss ts s n r f t low = stack_by templates ns ss ts (zeros n (get_or ss s [])) (λ N. unknowns n (stack_of N (seen templates ns ss) s)) (zeros_below (length ns) n (get_or ss s []) (below_is 0 (length ns) t.some) low) (λ N. zeros_map (mark_of N (seen templates ns ss)) ((first_mark templates ns ss t).is N) n (get_or ss s []) ∙ ap (unknowns n) (sym (stack_reads N (seen templates ns ss) s))) r f
+    pub unknowns_by : (ns : List MarkNode) (ss ts : List (List ℕ)) (s n : ℕ) (r : Result ℕ E) → IfOk r (λ k. IsStackWith ts k (zeros n (get_or ss s []))) → IsTable ns → IsOrdered templates frames ns → are_below (length ns) (get_or ss s []) ≡ true → IfOk r (λ k. IsStackOf (seen templates frames ns ts) k (λ N. unknowns n (stack_of N (seen templates frames ns ss) s)))
+    unknowns_by ns ss ts s n r f t o low = stack_by templates frames ns ss ts (zeros n (get_or ss s [])) (λ N. unknowns n (stack_of N (seen templates frames ns ss) s)) (zeros_below (length ns) n (get_or ss s []) (below_is 0 (length ns) t.some) low) (λ N. zeros_map (mark_of N (seen templates frames ns ss)) ((first_mark templates frames ns ss t o).is N) n (get_or ss s []) ∙ ap (unknowns n) (sym (stack_reads N (seen templates frames ns ss) s))) r f
 
-    pub shuffle_by : (ns : List MarkNode) (ss ts : List (List ℕ)) (s n : ℕ) (places : List ℕ) (r : Result (Option ℕ) E) → IfOk r (λ o. IsWhere ts o (moved 0 n places (get_or ss s []))) → IsTable ns → are_below (length ns) (get_or ss s []) ≡ true → IfOk r (λ o. IsStackWhere (seen templates ns ts) o (λ N. moved any n places (stack_of N (seen templates ns ss) s)))
-    shuffle_by ns ss ts s n places r f t low =
+    pub shuffle_by : (ns : List MarkNode) (ss ts : List (List ℕ)) (s n : ℕ) (places : List ℕ) (r : Result (Option ℕ) E) → IfOk r (λ o. IsWhere ts o (moved 0 n places (get_or ss s []))) → IsTable ns → IsOrdered templates frames ns → are_below (length ns) (get_or ss s []) ≡ true → IfOk r (λ o. IsStackWhere (seen templates frames ns ts) o (λ N. moved any n places (stack_of N (seen templates frames ns ss) s)))
+    shuffle_by ns ss ts s n places r f t o low =
         let xs : List ℕ = get_or ss s [] in
-        let same : (N : Naming) → moved any n places (stack_of N (seen templates ns ss) s) ≡ option_map (map (mark_of N (seen templates ns ss))) (moved 0 n places xs) =
+        let same : (N : Naming) → moved any n places (stack_of N (seen templates frames ns ss) s) ≡ option_map (map (mark_of N (seen templates frames ns ss))) (moved 0 n places xs) =
         λ N.
-        let g : ℕ → Mark = mark_of N (seen templates ns ss) in
-        ap (moved any n places) (stack_reads N (seen templates ns ss) s) ∙ ap (λ (m : Mark). moved m n places (map g xs)) (sym ((first_mark templates ns ss t).is N)) ∙ moved_map g 0 n places xs in
-        where_by ns ss ts (moved 0 n places xs) (λ N. moved any n places (stack_of N (seen templates ns ss) s)) (λ ys e. moved_below (length ns) n places xs ys (below_is 0 (length ns) t.some) low e) same r f
+        let g : ℕ → Mark = mark_of N (seen templates frames ns ss) in
+        ap (moved any n places) (stack_reads N (seen templates frames ns ss) s) ∙ ap (λ (m : Mark). moved m n places (map g xs)) (sym ((first_mark templates frames ns ss t o).is N)) ∙ moved_map g 0 n places xs in
+        where_by ns ss ts (moved 0 n places xs) (λ N. moved any n places (stack_of N (seen templates frames ns ss) s)) (λ ys e. moved_below (length ns) n places xs ys (below_is 0 (length ns) t.some) low e) same r f
 
-  module _ (N : Naming) (ns : List MarkNode) (ss : List (List ℕ)) (t : IsTable ns) where
-    apart : (x y : ℕ) → x < length ns → y < length ns → mark_of N (seen templates ns ss) x ≡ mark_of N (seen templates ns ss) y → x ≡ y
-    apart x y h g e = one_number N ns t x y h g (sym (mark_reads N (seen templates ns ss) x) ∙ e ∙ mark_reads N (seen templates ns ss) y)
+  module _ (N : Naming) (ns : List MarkNode) (ss : List (List ℕ)) (t : IsTable ns) (o : IsOrdered templates frames ns) (d : AreDistinct frames) where
+    apart : (x y : ℕ) → x < length ns → y < length ns → mark_of N (seen templates frames ns ss) x ≡ mark_of N (seen templates frames ns ss) y → x ≡ y
+    apart x y h g e = one_number N templates frames d ns t o x y h g (sym (mark_reads N (seen templates frames ns ss) x) ∙ e ∙ mark_reads N (seen templates frames ns ss) y)
 
     -- numbers are equal where their marks are
-    pub same_numbers : (a b : ℕ) → a < length ns → b < length ns → nat_eq a b ≡ mark_eq (mark_of N (seen templates ns ss) a) (mark_of N (seen templates ns ss) b)
-    same_numbers a b h g = test_same (mark_of N (seen templates ns ss)) (length ns) ((first_mark templates ns ss t).is N) apart a b h g
+    pub same_numbers : (a b : ℕ) → a < length ns → b < length ns → nat_eq a b ≡ mark_eq (mark_of N (seen templates frames ns ss) a) (mark_of N (seen templates frames ns ss) b)
+    same_numbers a b h g = test_same (mark_of N (seen templates frames ns ss)) (length ns) ((first_mark templates frames ns ss t o).is N) apart a b h g
 
   -- stacks of one height cover others where their marks do
-  pub covers_are : (N : Naming) (ns : List MarkNode) (ss : List (List ℕ)) (a b : ℕ) → IsTable ns → are_below (length ns) (get_or ss a []) ≡ true → are_below (length ns) (get_or ss b []) ≡ true → (nat_eq (length (get_or ss a [])) (length (get_or ss b [])) && cover_numbers (get_or ss a []) (get_or ss b [])) ≡ (nat_eq (length (stack_of N (seen templates ns ss) a)) (length (stack_of N (seen templates ns ss) b)) && cover_marks (stack_of N (seen templates ns ss) a) (stack_of N (seen templates ns ss) b))
-  covers_are N ns ss a b t h g =
+  pub covers_are : (N : Naming) (ns : List MarkNode) (ss : List (List ℕ)) (a b : ℕ) → IsTable ns → IsOrdered templates frames ns → AreDistinct frames → are_below (length ns) (get_or ss a []) ≡ true → are_below (length ns) (get_or ss b []) ≡ true → (nat_eq (length (get_or ss a [])) (length (get_or ss b [])) && cover_numbers (get_or ss a []) (get_or ss b [])) ≡ (nat_eq (length (stack_of N (seen templates frames ns ss) a)) (length (stack_of N (seen templates frames ns ss) b)) && cover_marks (stack_of N (seen templates frames ns ss) a) (stack_of N (seen templates frames ns ss) b))
+  covers_are N ns ss a b t o d h g =
       let xs : List ℕ = get_or ss a [] in
       let ys : List ℕ = get_or ss b [] in
-      let f : ℕ → Mark = mark_of N (seen templates ns ss) in
-      ap (λ (q : Bool). q && cover_numbers xs ys) (sym (heights_are N ns ss a b)) ∙ ap (λ (q : Bool). nat_eq (length (stack_of N (seen templates ns ss) a)) (length (stack_of N (seen templates ns ss) b)) && q) (covers_map f (length ns) ((first_mark templates ns ss t).is N) (apart N ns ss t) xs ys t.some h g ∙ ap (λ (ms : List Mark). cover_marks ms (map f ys)) (sym (stack_reads N (seen templates ns ss) a)) ∙ ap (cover_marks (stack_of N (seen templates ns ss) a)) (sym (stack_reads N (seen templates ns ss) b)))
+      let f : ℕ → Mark = mark_of N (seen templates frames ns ss) in
+      ap (λ (q : Bool). q && cover_numbers xs ys) (sym (heights_are N ns ss a b)) ∙ ap (λ (q : Bool). nat_eq (length (stack_of N (seen templates frames ns ss) a)) (length (stack_of N (seen templates frames ns ss) b)) && q) (covers_map f (length ns) ((first_mark templates frames ns ss t o).is N) (apart N ns ss t o d) xs ys t.some h g ∙ ap (λ (ms : List Mark). cover_marks ms (map f ys)) (sym (stack_reads N (seen templates frames ns ss) a)) ∙ ap (cover_marks (stack_of N (seen templates frames ns ss) a)) (sym (stack_reads N (seen templates frames ns ss) b)))

@@ -61,6 +61,11 @@ abbrev mutual
   item_marks (known m) = suc (mark_depth m)
   item_marks _ = 0
 
+-- 0 where there are no marks, else one more than the depth of the deepest
+abbrev pub deepest : List Mark → ℕ
+deepest [] = 0
+deepest (m ∷ ms) = max (suc (mark_depth m)) (deepest ms)
+
 -- the greatest depth of a mark
 abbrev pub deepest_mark : ℕ
 deepest_mark = MOST_MARK_DEPTH

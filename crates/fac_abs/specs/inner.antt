@@ -2,3 +2,4 @@
 pub mod Stacks
 pub mod Keeping
 pub mod Interning
+pub mod Framing

@@ -1,6 +1,7 @@
 //! What the checker knows of values and stacks, and the rules that it tests.
 #![tactic(auto)]
 
+mod frame_nodes;
 mod mark_node;
 mod mark_nodes;
 mod reached;

@@ -5,8 +5,8 @@
 pub enum MarkNode {
     /// Nothing is known of the value.
     Any,
-    /// The literal with this template.
-    Lit(u32),
+    /// The literal with this template, and the frame with the marks of its cells.
+    Lit(u32, u32),
     /// What `curry` made: of which value, and of which callable.
     Cur(u32, u32),
     /// What `compose` made: of which callables, the first to run first.

@@ -1,9 +1,9 @@
 //! Marks by numbers: the nodes that were seen so far.
-ghost use Rattle.std.specs.Prelude.{◌≡◌, ◌<◌, ◌^◌, ◌++◌, ◌∷◌, [], length, get_or, slice_get, IfOk, OnErr};
-ghost use Rattle.indexmap.specs.IndexMap.{keys, values};
+ghost use Rattle.std.specs.Prelude.{◌≡◌, ◌<◌, ◌^◌, ◌∷◌, [], length, get_or, IfOk, OnErr};
+ghost use Rattle.std.specs.Map.{keys_of, values_of};
+ghost use Rattle.indexmap.specs.IndexMap.{keys};
 ghost use Rattle.fac_abs.specs.declared.mark_node.MarkNode.TheVariants.{Any};
-ghost use Rattle.fac_abs.specs.inner.Interning.{node_depth, depths, HasPartsBelow, IsTable};
-ghost use Rattle.fac_abs.specs.inner.Interning.{Numbers, Interns};
+ghost use Rattle.fac_abs.specs.inner.Interning.{IsTable, Numbers};
 
 use crate::MarkNode;
 use fac_lang::Memory;
@@ -18,16 +18,16 @@ pub struct MarkNodes {
 }
 
 impl Model for MarkNodes {
-    ghost use Rattle.std.specs.Prelude.{List, ◌≡◌, ◌<◌, ◌^◌, length};
+    ghost use Rattle.std.specs.Prelude.{List, ℕ, ◌<◌, ◌^◌, length};
     ghost use Rattle.fac_abs.specs.declared.mark_node.MarkNode.{MarkNode};
-    ghost use Rattle.indexmap.specs.IndexMap.{keys, values};
-    ghost use Rattle.fac_abs.specs.inner.Interning.{depths, IsTable};
+    ghost use Rattle.indexmap.specs.IndexMap.{keys};
+    ghost use Rattle.fac_abs.specs.inner.Interning.{IsTable};
 
-    ghost Value = { List MarkNode };
+    ghost Value = { List (MarkNode × ℕ) };
 
-    ghost view = { λ a. keys a.nodes };
+    ghost view = { λ a. a.nodes.entries };
 
-    ghost invariant = { λ a. IsTable (keys a.nodes) × (values a.nodes ≡ depths (keys a.nodes)) × (length (keys a.nodes) < 2 ^ 32) };
+    ghost invariant = { λ a. IsTable (keys a.nodes) × (length (keys a.nodes) < 2 ^ 32) };
 }
 
 // The number of a node, which is added with its depth where it isn't there.
@@ -51,7 +51,7 @@ fn number(nodes: &mut IndexMap<MarkNode, u32>, node: MarkNode, depth: u32) -> Re
 impl MarkNodes {
     /// The table with the mark of nothing known.
     pub fn new(alloc: Global) -> Result<MarkNodes, Memory>
-        ensures { IfOk result (λ nodes. nodes ≡ Any ∷ []) }
+        ensures { IfOk result (λ nodes. nodes ≡ (Any, 0) ∷ []) }
     {
         let mut nodes = IndexMap::new(alloc);
         number(&mut nodes, MarkNode::Any, 0)?;
@@ -61,7 +61,7 @@ impl MarkNodes {
     /// The number of the mark of nothing known.
     pub fn first(&self) -> u32
         ensures zero { result ≡ 0 }
-        ensures table { IsTable self.now }
+        ensures table { IsTable (keys_of self.now) }
     {
         let _nodes = &self.nodes;
         0
@@ -69,10 +69,10 @@ impl MarkNodes {
 
     /// The node of a number, and the depth of its mark.
     pub fn at(&self, mark: u32) -> (MarkNode, u32)
-        requires { mark < length self.now }
-        ensures node { result.0 ≡ get_or self.now mark Any }
-        ensures depth { result.1 ≡ get_or (depths self.now) mark 0 }
-        ensures table { IsTable self.now }
+        requires { mark < length (keys_of self.now) }
+        ensures node { result.0 ≡ get_or (keys_of self.now) mark Any }
+        ensures depth { result.1 ≡ get_or (values_of self.now) mark 0 }
+        ensures table { IsTable (keys_of self.now) }
     {
         let Some((node, depth)) = self.nodes.get_index(mark as usize) else {
             unreachable!()
@@ -82,9 +82,8 @@ impl MarkNodes {
 
     /// The number of a node, which is added where it isn't there.
     pub fn intern(&mut self, node: MarkNode, depth: u32) -> Result<u32, Memory>
-        requires parts { HasPartsBelow (length self.old) node }
-        requires depth { depth ≡ node_depth (depths self.old) node }
-        ensures made { IfOk result (λ r. Interns self.old self.new node r) }
+        ensures made { IfOk result (λ r. Numbers self.old self.new node depth r) }
+        ensures table { IsTable (keys_of self.new) }
         ensures err { OnErr result (self.new ≡ self.old) }
     {
         number(&mut self.nodes, node, depth)

@@ -9,12 +9,15 @@ use fac_lang::Memory;
 use std::alloc::Global;
 use std::marker::Model;
 
-// A mark on a stack, with the height of the whole.
-#[derive(Clone, Copy)]
-struct StackNode {
-    mark: u32,
-    below: u32,
-    height: u32,
+/// A mark on a stack, with the height of the whole; or in the last cell of a frame, with the number of cells.
+#[derive(Clone, Copy, PartialEq, Eq, Hash)]
+pub struct StackNode {
+    /// The number of the mark.
+    pub mark: u32,
+    /// The number of the stack below, or of the frame before.
+    pub below: u32,
+    /// The number of marks together.
+    pub height: u32,
 }
 
 /// Stacks of numbers, each by its own number. Number 0 is the empty stack, and node k makes stack k + 1.

@@ -1,14 +1,16 @@
-//! Marks and stacks of marks, each by a number.
-ghost use Rattle.std.specs.Prelude.{◌≡◌, ◌∷◌, ◌<◌, ◌&&◌, [], length, get_or, map, nat_eq, Some, None, IfOk, OnOk, OnErr};
+//! Marks, frames and stacks of marks, each by a number.
+ghost use Rattle.std.specs.Prelude.{◌≡◌, ◌∷◌, ◌<◌, ◌≤◌, ◌&&◌, [], true, length, get_or, map, nat_eq, Some, None, IfOk, OnOk, OnErr, MatchOption};
 ghost use Rattle.fac_lang.specs.Phrases.{any, lit_mark, wrd_mark, par_mark};
 ghost use Rattle.fac_abs.specs.InTurn.{under, moved};
-ghost use Rattle.fac_abs.specs.Marks.{on, base_eq, mark_eq, mark_depth, is_callable, curried_mark, composed_mark, cover_marks, joined, covered, unknowns};
+ghost use Rattle.fac_abs.specs.Marks.{on, base_eq, mark_eq, mark_depth, limited, is_callable, curried_mark, composed_mark, cover_marks, joined, covered, unknowns};
 ghost use Rattle.fac_abs.specs.MarkTrees.{Naming, tree, trees};
-ghost use Rattle.fac_abs.specs.inner.Interning.{node_depth, depths, HasPartsBelow, HasTemplateBelow};
-ghost use Rattle.fac_abs.specs.SeenMarks.{mark_of, stack_of, base_seen, reached_seen, IsMark, IsStack, IsReached, Grows, NumbersAreMarks};
-ghost use Rattle.fac_abs.specs.MarkPromises.{IsMarkOf, IsStackOf, IsStackWhere, IsNodeOf, HasTopWhere, IsJoinedWhere, IsReachedWhere};
+ghost use Rattle.std.specs.Map.{keys_of, values_of};
+ghost use Rattle.fac_abs.specs.inner.Interning.{HasPartsBelow, deepest_of};
+ghost use Rattle.fac_abs.specs.SeenMarks.{mark_of, frame_of, stack_of, base_seen, reached_seen, are_below, IsMark, IsFrame, IsStack, IsReached, Grows, NumbersAreMarks};
+ghost use Rattle.fac_abs.specs.MarkPromises.{IsMarkOf, IsFrameOf, HasCellWhere, IsStackOf, IsStackWhere, IsNodeOf, HasTopWhere, IsJoinedWhere, IsReachedWhere};
 
 use crate::MarkNode;
+use crate::frame_nodes::FrameNodes;
 use crate::mark_nodes::MarkNodes;
 use crate::reached::Reached;
 use crate::stack_nodes::StackNodes;
@@ -17,45 +19,68 @@ use fac_lang::limits::MOST_MARK_DEPTH;
 use std::alloc::Global;
 use std::marker::Model;
 
-/// Marks and stacks of marks, each by a number. Marks are numbered in the order in which they were first made, so that two of them are equal
-/// where their numbers are, and number 0 is the mark of a value of which nothing is known. Stack 0 is empty. Numbers stay what they are until
-/// the stacks are cleared. Each literal among the marks is that of one of as many templates as `new` was given. The one error is want of memory,
-/// which comes too at the 2^32-th mark or stack; what was there before such an error stays.
+/// Marks, frames and stacks of marks, each by a number. Marks are numbered in the order in which they were first made, and frames likewise, so
+/// that two of them are equal where their numbers are; number 0 is the mark of a value of which nothing is known, and the frame with no cells.
+/// Stack 0 is empty. Numbers stay what they are until the stacks are cleared. Each literal among the marks is that of one of as many templates
+/// as `new` was given. The one error is want of memory, which comes too at the 2^32-th mark, frame or stack; what was there before such an error
+/// stays.
 #[derive(Drop)]
 pub struct Marks {
     // How many templates there are, which contracts alone ask.
     templates: u32,
     nodes: MarkNodes,
+    frames: FrameNodes,
     stack_nodes: StackNodes,
 }
 
 impl Model for Marks {
-    ghost use Rattle.std.specs.List.{All};
-    ghost use Rattle.fac_abs.specs.inner.Interning.{HasTemplateBelow};
+    ghost use Rattle.std.specs.Map.{keys_of, values_of};
+    ghost use Rattle.fac_abs.specs.inner.Interning.{IsOrdered, TellDepths};
     ghost use Rattle.fac_abs.specs.SeenMarks.{MarksSeen};
 
     ghost Value = { MarksSeen };
 
-    ghost view = { λ a. record { templates = a.templates; nodes = a.nodes; stacks = a.stack_nodes } };
+    ghost view = { λ a. record { templates = a.templates; nodes = keys_of a.nodes; frames = a.frames; stacks = a.stack_nodes } };
 
-    ghost invariant = { λ a. All (HasTemplateBelow a.templates) a.nodes };
+    ghost invariant = { λ a. IsOrdered a.templates a.frames (keys_of a.nodes) × TellDepths a.frames (keys_of a.nodes) (values_of a.nodes) };
+}
+
+// The depth of a literal with these cells, unless it is greater than 64.
+fn frame_depth(nodes: &MarkNodes, frames: &FrameNodes, frame: u32) -> Option<u32>
+    requires frame { frame < length frames.now }
+    requires marks { are_below (length (keys_of nodes.now)) (get_or frames.now frame []) ≡ true }
+    ensures { MatchOption result (64 < deepest_of (values_of nodes.now) (get_or frames.now frame [])) (λ d. (d ≤ 64) × (d ≡ deepest_of (values_of nodes.now) (get_or frames.now frame []))) }
+{
+    let mut rest = frame;
+    let mut depth = 0;
+    while let Some((mark, below)) = frames.pop(rest) {
+        let found = nodes.at(mark).1;
+        if found >= MOST_MARK_DEPTH {
+            return None;
+        }
+        depth = depth.max(found + 1);
+        rest = below;
+    }
+    Some(depth)
 }
 
 impl Marks {
-    /// The mark of nothing known, with number 0, and the empty stack, with number 0, for literals of so many templates.
+    /// The mark of nothing known, the frame with no cells, and the empty stack, each with number 0, for literals of so many templates.
     pub fn new(alloc: Global, templates: u32) -> Result<Marks, Memory>
         ensures templates { IfOk result (λ marks. marks.templates ≡ templates) }
         ensures mark { IfOk result (λ marks. IsMarkOf marks 0 (λ N. any)) }
+        ensures frame { IfOk result (λ marks. IsFrameOf marks 0 (λ N. [])) }
         ensures stack { IfOk result (λ marks. IsStackOf marks 0 (λ N. [])) }
     {
         Ok(Marks {
             templates,
             nodes: MarkNodes::new(alloc)?,
+            frames: FrameNodes::new(alloc),
             stack_nodes: StackNodes::new(alloc),
         })
     }
 
-    /// What a mark is, by the numbers of its parts, which are lower than its own. A literal's template is there.
+    /// What a mark is, by the numbers of its parts, which are lower than its own. A literal's template and frame are there.
     pub fn node(&self, mark: u32) -> MarkNode
         requires { IsMark self.now mark }
         ensures { IsNodeOf self.now mark result }
@@ -73,24 +98,62 @@ impl Marks {
 
     // The mark of a node.
     fn make(&mut self, node: MarkNode, depth: u32) -> Result<u32, Memory>
-        requires parts { HasPartsBelow (length self.old.nodes) node }
-        requires template { HasTemplateBelow self.old.templates node }
-        requires depth { depth ≡ node_depth (depths self.old.nodes) node }
+        requires parts { HasPartsBelow self.old.templates self.old.frames (length self.old.nodes) node }
+        requires depth { (N : Naming) → depth ≡ mark_depth (tree N self.old.frames (trees N self.old.frames self.old.nodes) node) }
         ensures grows { Grows self.old self.new }
-        ensures made { IfOk result (λ r. IsMarkOf self.new r (λ N. tree N (trees N self.old.nodes) node)) }
+        ensures made { IfOk result (λ r. IsMarkOf self.new r (λ N. tree N self.old.frames (trees N self.old.frames self.old.nodes) node)) }
         ensures err { OnErr result (self.new ≡ self.old) }
     {
         self.nodes.intern(node, depth)
     }
 
-    /// The mark of a literal, by the number of its template, which is there.
-    pub fn lit(&mut self, template: u32) -> Result<u32, Memory>
-        requires { template < self.old.templates }
+    /// The frame with no cells.
+    pub fn no_cells(&self) -> u32
+        ensures { IsFrameOf self.now result (λ N. []) }
+    {
+        self.frames.empty()
+    }
+
+    /// A frame with one cell more, behind the others.
+    pub fn bind(&mut self, frame: u32, mark: u32) -> Result<u32, Memory>
+        requires frame { IsFrame self.old frame }
+        requires mark { IsMark self.old mark }
         ensures grows { Grows self.old self.new }
-        ensures made { IfOk result (λ r. IsMarkOf self.new r (λ N. lit_mark (N.literal template).0 (N.literal template).1)) }
+        ensures made { IfOk result (λ r. IsFrameOf self.new r (λ N. mark_of N self.old mark ∷ frame_of N self.old frame)) }
         ensures err { OnErr result (self.new ≡ self.old) }
     {
-        self.make(MarkNode::Lit(template), 0)
+        self.frames.push(frame, mark)
+    }
+
+    /// The number of cells of a frame.
+    pub fn cells(&self, frame: u32) -> u32
+        requires { IsFrame self.now frame }
+        ensures { (N : Naming) → result ≡ length (frame_of N self.now frame) }
+    {
+        self.frames.height(frame)
+    }
+
+    /// The mark in the cell of this number, where there is one; cell 0 is the first. It takes the time of the cells behind it.
+    pub fn cell(&self, frame: u32, cell: u32) -> Option<u32>
+        requires { IsFrame self.now frame }
+        ensures { HasCellWhere self.now frame cell result }
+    {
+        self.frames.cell(frame, cell)
+    }
+
+    /// The mark of a literal, by the number of its template, which is there, and the frame with the marks of its cells. Where it would be deeper
+    /// than 64, nothing is known. It takes the time of the cells.
+    pub fn lit(&mut self, template: u32, frame: u32) -> Result<u32, Memory>
+        requires template { template < self.old.templates }
+        requires frame { IsFrame self.old frame }
+        ensures grows { Grows self.old self.new }
+        ensures made { IfOk result (λ r. IsMarkOf self.new r (λ N. limited (lit_mark (N.literal template) (N.phrase template (frame_of N self.old frame))))) }
+        ensures err { OnErr result (self.new ≡ self.old) }
+    {
+        match frame_depth(&self.nodes, &self.frames, frame) {
+            Some(depth) => self.make(MarkNode::Lit(template, frame), depth),
+            None => Ok(self.unknown()),
+        }
     }
 
     /// The mark of a word, by its number.
@@ -114,8 +177,7 @@ impl Marks {
     // The depth of a mark.
     fn depth(&self, mark: u32) -> u32
         requires { IsMark self.now mark }
-        ensures told { result ≡ get_or (depths self.now.nodes) mark 0 }
-        ensures is { (N : Naming) → result ≡ mark_depth (mark_of N self.now mark) }
+        ensures { (N : Naming) → result ≡ mark_depth (mark_of N self.now mark) }
     {
         self.nodes.at(mark).1
     }
@@ -127,7 +189,7 @@ impl Marks {
     {
         match self.node(mark) {
             MarkNode::Any => false,
-            MarkNode::Lit(_) => true,
+            MarkNode::Lit(_, _) => true,
             MarkNode::Cur(_, _) => true,
             MarkNode::Com(_, _) => true,
             MarkNode::Wrd(_) => false,
@@ -142,6 +204,7 @@ impl Marks {
         ensures { (N : Naming) → result ≡ mark_eq (mark_of N self.now a) (mark_of N self.now b) }
     {
         let _first = self.nodes.first();
+        let _apart = self.frames.empty();
         a == b
     }
 
@@ -150,6 +213,7 @@ impl Marks {
         ensures { NumbersAreMarks self.now }
     {
         let _first = self.nodes.first();
+        let _apart = self.frames.empty();
     }
 
     /// The mark of what `curry` makes of a value with the mark `mark` and a callable with the mark `callable`. Where `callable` doesn't stand for
@@ -268,6 +332,7 @@ impl Marks {
         ensures made { IfOk result (λ o. IsJoinedWhere self.old self.new a b o) }
     {
         let _first = self.nodes.first();
+        let _apart = self.frames.empty();
         self.stack_nodes.join(a, b)
     }
 
@@ -321,6 +386,7 @@ impl Marks {
         ensures { (N : Naming) → result ≡ (nat_eq (length (stack_of N self.now bound)) (length (stack_of N self.now got)) && cover_marks (stack_of N self.now bound) (stack_of N self.now got)) }
     {
         let _first = self.nodes.first();
+        let _apart = self.frames.empty();
         self.stack_nodes.covers(bound, got)
     }
 
@@ -356,10 +422,11 @@ impl Marks {
         }
     }
 
-    /// Forgets all stacks but the empty one, so that their memory serves again. The marks stay.
+    /// Forgets all stacks but the empty one, so that their memory serves again. The marks and frames stay.
     pub fn clear_stacks(&mut self)
         ensures templates { self.new.templates ≡ self.old.templates }
         ensures nodes { self.new.nodes ≡ self.old.nodes }
+        ensures frames { self.new.frames ≡ self.old.frames }
         ensures stacks { self.new.stacks ≡ [] ∷ [] }
     {
         self.stack_nodes.clear();

@@ -17,6 +17,6 @@ module _ (P : Program) where
 
     run_item_unmarked : (i : Item) → IsRunItem P i → item_marks i ≡ 0
     run_item_unmarked (quot t) h = run_unmarked t h
-    run_item_unmarked (fry t n) h = absurd h
+    run_item_unmarked (fry t n) h = run_unmarked t h
     run_item_unmarked (known m) h = absurd h
     run_item_unmarked _ h = refl

@@ -29,13 +29,13 @@ left_out_same P w (v ∷ vs) = ap (kept_unless (nat_eq w v) v) (left_out_same P 
 -- a word that is marked recursive
 pub led_recursive : (C : Program) (ts : List Template) (w : ℕ) (r : Bool) (phrase : Phrase) (none named left : List ℕ) → r ≡ true → none ≡ [] → AddsNames C ts 0 phrase none named → left ≡ left_out w named → LedByPhrase C ts w r phrase left
 led_recursive C ts w r phrase none named left marked is_none adds is =
-    λ P h t closes. is ∙ left_out_same P w named ∙ ap (without P w) (adds P h (first_of_word w) t closes (λ k e. omega arith) ∙ ap (λ (vs : List ℕ). vs ++ inline_words P t) is_none) ∙ sym (ap (λ (b : Bool). phrase_edges P w b t) marked)
+    λ P h t closes. is ∙ left_out_same P w named ∙ ap (without P w) (adds P h [] (first_of_word w) t closes (λ k e. omega arith) ∙ ap (λ (vs : List ℕ). vs ++ inline_words P t) is_none) ∙ sym (ap (λ (b : Bool). phrase_edges P w b t) marked)
 
-sort_led : (P : Program) (w : ℕ) (r : Bool) (s c : Sort) (phrase : Phrase) (vs : List ℕ) → ClosesSort P w s c → c ≡ body phrase → ((t : Phrase) → ClosesPhrase P (first_of_word w) t phrase → vs ≡ phrase_edges P w r t) → vs ≡ sort_edges P w true r s
+sort_led : (P : Program) (w : ℕ) (r : Bool) (s c : Sort) (phrase : Phrase) (vs : List ℕ) → ClosesSort P w s c → c ≡ body phrase → ((t : Phrase) → ClosesPhrase P [] (first_of_word w) t phrase → vs ≡ phrase_edges P w r t) → vs ≡ sort_edges P w true r s
 sort_led P w r (body t) c phrase vs h is led =
     let e : body h.0 ≡ body phrase = sym h.1 ∙ is in
     let same : h.0 ≡ phrase = cc in
-    led t (subst (λ (u : Phrase). ClosesPhrase P (first_of_word w) t u) same h.2)
+    led t (subst (λ (u : Phrase). ClosesPhrase P [] (first_of_word w) t u) same h.2)
 sort_led P w r (past t) c phrase vs h is led =
     let e : past h.0 ≡ body phrase = sym h.1 ∙ is in
     absurd cc

@@ -1,5 +1,5 @@
 -- The walk of a callable by the walks of its parts.
-use Rattle.std.proofs.Common.{◌≡◌, ◌≢◌, ◌-◌, ℕ, zero, suc, List, ◌∷◌, Option, Some, Ok, refl, sym, ap, subst, ◌∙◌, arith}
+use Rattle.std.proofs.Common.{◌≡◌, ◌≢◌, ◌-◌, ◌+◌, ◌<◌, ℕ, zero, suc, List, [], ◌∷◌, length, Option, Some, Ok, refl, sym, ap, subst, ◌∙◌, arith}
 use Rattle.std.specs.Prelude.{slice_get}
 use Rattle.fac_lang.specs.declared.phrase.Place.{Place}
 use Rattle.fac_lang.specs.declared.phrase.Template.{Template}
@@ -7,12 +7,18 @@ use Rattle.fac_lang.specs.declared.program.Program.{Program}
 use Rattle.fac_lang.specs.declared.program.WordDef.{WordDef}
 use Rattle.fac_lang.specs.declared.program.Sort.TheVariants.{Body as body}
 use Rattle.fac_lang.specs.Phrases.{Literal, Phrase, Mark, cur_mark, com_mark}
-use Rattle.fac_locals.specs.Literals.{Quoted, first_of_word, first_of_literal}
-use Rattle.fac_locals.specs.Closed.{Closes, ClosesPhrase}
+use Rattle.fac_locals.specs.Literals.{literal_numbered, first_of_word, first_of_literal}
+use Rattle.fac_locals.specs.Closed.{Closes}
+use Rattle.fac_locals.specs.Frames.{Opens}
+use Rattle.fac_locals.specs.OpenedPrograms.{OpensProgram}
+use Rattle.fac_check.proofs.ClosedSorts.{opens_body}
+use Rattle.fac_lang.specs.Meaning.{nowhere}
+use Rattle.fac_abs.specs.declared.rule.Rule.TheVariants.{NotKnown}
+use Rattle.fac_check.proofs.OpenedItems.{known_put, items_length}
 use Rattle.fac_lang.specs.Signatures.{Signature}
-use Rattle.fac_locals.proofs.Lookups.{word_open, template_closed}
+use Rattle.fac_locals.proofs.Lookups.{word_open}
 use Rattle.fac_lang.specs.RowVariables.{Row}
-use Rattle.fac_abs.specs.Marks.{AbstractStack, on}
+use Rattle.fac_abs.specs.Marks.{AbstractStack, on, piled}
 use Rattle.fac_abs.specs.MarkTrees.{Naming}
 use Rattle.fac_abs.specs.SeenMarks.{MarksSeen, Grows, IsMark, IsStack, IsReached, mark_of, stack_of, base_seen, reached_seen}
 use Rattle.fac_check.specs.declared.subject.Subject.{Subject}
@@ -21,10 +27,9 @@ use Rattle.fac_check.specs.declared.walker.Walked.{Walked as Ended}
 use Rattle.fac_check.specs.declared.walker.Walked.TheVariants.{Found}
 use Rattle.fac_abs.specs.declared.reached.Reached.{Reached}
 use Rattle.fac_abs.specs.declared.reached.Reached.TheVariants.{Dead, On}
-use Rattle.fac_check.specs.Flow.{Walked, and_then, join, living, inside, Walk, walk_phrase, walk_mark}
-use Rattle.fac_check.specs.inner.Walking.{Opened, walked_seen, Enters, body_phrase, phrase_of, sort_phrase, mark_walk, fork_walk}
+use Rattle.fac_check.specs.Flow.{Walked, refused, and_then, join, living, inside, Walk, walk_phrase, walk_mark}
+use Rattle.fac_check.specs.inner.Walking.{Opened, NamesTemplate, go_at, items_of, walked_seen, Enters, body_phrase, phrase_of, sort_phrase, mark_walk, fork_walk}
 use Rattle.fac_check.specs.inner.OwnEffects.{own_effect}
-use Rattle.fac_check.proofs.ClosedSorts.{is_body}
 
 module _ (own : Option Signature) (go : Walk) (p : Place) (nested : ℕ) (b : Option Row) (ms : List Mark) (left rest : ℕ) (counts : left ≡ suc rest) where
   -- what `curry` made
@@ -45,16 +50,27 @@ phrase_entered own go at t p zero b ms n h = absurd (h refl)
 phrase_entered own go at t p (suc d) b ms n h = (let e : suc d - 1 ≡ d = omega arith in rw e refl)
 
 module _ {C : Program} {templates : List Template} {own : Option ℕ} (O : Opened C templates own) where
-  -- the phrase of a literal, for the body of its template
-  pub literal_closed : (k : ℕ) (t : Template) → slice_get templates k ≡ Some t → ClosesPhrase O.program (first_of_literal (O.naming.literal k).0) (O.naming.literal k).1 t.body
-  literal_closed k t e = subst (λ (l : Quoted). ClosesPhrase O.program (first_of_literal l.0) l.1 t.body) (sym (O.naming_is k)) (template_closed O.program C templates O.closes k t e).body
+  -- the body of a template opens to the phrase of its literal with as many marks as cells
+  pub literal_opens : (k : ℕ) (t : Template) (ms : List Mark) → slice_get templates k ≡ Some t → length ms ≡ length t.captures + t.holes → Opens O.program templates (items_of ms) (first_of_literal (O.naming.literal k)) t.body (O.naming.phrase k ms)
+  literal_opens k t ms e many =
+      let body = O.opens.bodies k t (items_of ms) e (known_put (piled ms [])) (items_length ms ∙ many) in
+      let phrase = (O.template_is k t e).phrase_is ms many in
+      subst (λ (l : Literal). Opens O.program templates (items_of ms) (first_of_literal l) t.body (O.naming.phrase k ms)) (sym (O.literal_is k)) (subst (λ (u : Phrase). Opens O.program templates (items_of ms) (first_of_literal (literal_numbered O.program k).at) t.body u) (sym phrase) body)
 
   -- the phrase of a word, for its closed phrase
-  pub word_phrase_closed : (w : ℕ) (c : WordDef) (t : Phrase) → slice_get C.words w ≡ Some c → c.sort ≡ body t → ClosesPhrase O.program (first_of_word w) (body_phrase O.program w) t
-  word_phrase_closed w c t e s =
+  pub word_phrase_opens : (w : ℕ) (c : WordDef) (t : Phrase) → slice_get C.words w ≡ Some c → c.sort ≡ body t → Opens O.program templates [] (first_of_word w) t (body_phrase O.program w)
+  word_phrase_opens w c t e s =
       let there = word_open O.program C templates O.closes w c e in
-      let sort = is_body O.program w there.def c there.closes t s in
-      subst (λ (u : Phrase). ClosesPhrase O.program (first_of_word w) u t) (sym (ap phrase_of there.at ∙ ap sort_phrase sort.1)) sort.2
+      let sort = opens_body O.program templates w there.def.sort c.sort t (O.opens.words w there.def c there.at e) s in
+      subst (λ (u : Phrase). Opens O.program templates [] (first_of_word w) t u) (sym (ap phrase_of there.at ∙ ap sort_phrase sort.1)) sort.2
+
+-- a literal that hasn't as many marks as cells isn't walked
+pub misfit_walks : {C : Program} {templates : List Template} {own : Option ℕ} (O : Opened C templates own) (k : ℕ) (t : Template) (ms : List Mark) → slice_get templates k ≡ Some t → (length ms ≡ length t.captures + t.holes → ⊥) → (f left : ℕ) → left < f → (p : Place) (nested : ℕ) → nested ≢ 0 → (b : Option Row) (ns : List Mark) → refused NotKnown nowhere ≡ walk_phrase O.effect (go_at O f) (first_of_literal (O.naming.literal k)) (O.naming.phrase k ms) p nested b ns left
+misfit_walks O k t ms e few zero left l p nested h b ns = absurd (omega (arith, l))
+misfit_walks O k t ms e few (suc f) left l p zero h b ns = absurd (h refl)
+misfit_walks O k t ms e few (suc f) left l p (suc d) h b ns =
+    let other = (O.template_is k t e).other_is ms few in
+    ap (λ (u : Phrase). go_at O (suc f) (first_of_literal (O.naming.literal k)) d u b ns left) (sym other.1)
 
 -- a program for which a closed one stands, where the closed one is told by an equal
 abbrev pub carried : {A B : Subject} → B ≡ A → Opened A.closed.now.program A.closed.now.templates A.own → Opened B.closed.now.program B.closed.now.templates B.own
@@ -63,7 +79,9 @@ carried e O = record {
   closes = subst (λ (c : Subject). Closes O.program c.closed.now.program c.closed.now.templates) (sym e) O.closes;
   built = O.built;
   naming = O.naming;
-  naming_is = O.naming_is;
+  literal_is = O.literal_is;
+  template_is = subst (λ (c : Subject). (k : ℕ) (t : Template) → slice_get c.closed.now.templates k ≡ Some t → NamesTemplate O.program O.naming k t) (sym e) O.template_is;
+  opens = subst (λ (c : Subject). OpensProgram O.program c.closed.now.program c.closed.now.templates) (sym e) O.opens;
   word = O.word;
   word_is = O.word_is ∙ ap (λ (c : Subject). c.own) (sym e);
   effect = O.effect;

@@ -18,10 +18,12 @@ use Rattle.fac_lang.specs.CoreWords.{is_built_core}
 use Rattle.fac_lang.specs.Substitution.{of_method}
 use Rattle.fac_lang.specs.Forms.{IsBuilt}
 use Rattle.fac_lang.specs.Whole.{IsWhole, name_count, inputs_name_count}
+use Rattle.fac_captures.specs.declared.cell.Cell.{Cell}
+use Rattle.fac_captures.specs.Cells.{cells_behind, inner_cells}
 use Rattle.fac_locals.specs.Closed.{Closes, ClosesPhrase, ClosesItem, ClosesSort, IsMadeBy}
 use Rattle.fac_locals.proofs.Lookups.{word_open, words_closed_count, template_closed}
 use Rattle.fac_locals.proofs.RunningPhrases.{IsRun, IsRunItem, RunsAs, word_runs, literal_runs}
-use Rattle.fac_locals.specs.Literals.{literal_numbered, first_of_literal, first_of_word, behind}
+use Rattle.fac_locals.specs.Literals.{Quoted, quoted_phrase, literal_numbered, first_of_literal, first_of_word, behind}
 use Rattle.fac_abs.proofs.EqualMarks.{and_first, and_second}
 use Rattle.fac_abs.proofs.SeenLemmas.{both, is_below, below_is}
 use Rattle.fac_check.specs.inner.UndeclaredRecursion.{named_word, made_template}
@@ -48,30 +50,34 @@ first_dropped [] (suc k) x rest e = absurd cc
 first_dropped (y ∷ ys) zero x rest e = let same : y ≡ x = cc in ap Some same
 first_dropped (y ∷ ys) (suc k) x rest e = first_dropped ys k x rest e
 
-module _ (P : Program) (count : ℕ) (numbered : (at : Literal) (t : Phrase) (k : ℕ) → at.word < length P.words → IsMadeBy P at t k → nat_lt k count ≡ true) where
-  taken_item : (at : Literal) (i j : Item) → at.word < length P.words → ClosesItem P at i j → IsRunItem P i → takes_item P.top count j ≡ true
-  taken_item at (lit (int z)) j l c h = rw c refl
-  taken_item at (lit yes) j l c h = rw c refl
-  taken_item at (lit no) j l c h = rw c refl
-  taken_item at (lit (str cs)) j l c h = rw c refl
-  taken_item at (lit (wrd w)) j l c h = rw c (below_is w P.top h)
-  taken_item at (quot t) j l c h = rw c.1 (numbered at t c.0 l c.2)
-  taken_item at (word w) j l c h = rw c (below_is w P.top h)
-  taken_item at (lit_arr a) j l c h = rw c refl
-  taken_item at next_method j l c h = rw c refl
-  taken_item at (next_after m) j l c h = rw c refl
-  taken_item at _ j l c h = absurd h
+module _ (P : Program) (count : ℕ) (numbered : (cells : List Cell) (at : Literal) (i : Item) (k : ℕ) → at.word < length P.words → IsMadeBy P cells at i k → nat_lt k count ≡ true) where
+  taken_item : (cells : List Cell) (at : Literal) (i j : Item) → at.word < length P.words → ClosesItem P cells at i j → IsRunItem P i → takes_item P.top count j ≡ true
+  taken_item cells at (lit (int z)) j l c h = rw c refl
+  taken_item cells at (lit yes) j l c h = rw c refl
+  taken_item cells at (lit no) j l c h = rw c refl
+  taken_item cells at (lit (str cs)) j l c h = rw c refl
+  taken_item cells at (lit (wrd w)) j l c h = rw c (below_is w P.top h)
+  taken_item cells at (quot t) j l c h = rw c.1 (numbered cells at (quot t) c.0 l c.2)
+  taken_item cells at (fry t n) j l c h = rw c.1 (numbered cells at (fry t n) c.0 l c.2)
+  taken_item cells at (bind x) j l c h = rw c refl
+  taken_item cells at (local x) j l c h = rw c.1 refl
+  taken_item cells at (hole k) j l c h = rw c.1 refl
+  taken_item cells at (word w) j l c h = rw c (below_is w P.top h)
+  taken_item cells at (lit_arr a) j l c h = rw c refl
+  taken_item cells at next_method j l c h = rw c refl
+  taken_item cells at (next_after m) j l c h = rw c refl
+  taken_item cells at _ j l c h = absurd h
 
   -- a closed phrase of one that runs
-  pub taken_phrase : (at : Literal) (t c : Phrase) → at.word < length P.words → ClosesPhrase P at t c → IsRun P t → takes_phrase P.top count c ≡ true
-  taken_phrase at end c l e h = rw e refl
-  taken_phrase at (then i p t) c l e h = rw e.2 (both (takes_item P.top count e.0) (takes_phrase P.top count e.1) (taken_item at i e.0 l e.3 h.0) (taken_phrase (behind at i) t e.1 l e.4 h.1))
+  pub taken_phrase : (cells : List Cell) (at : Literal) (t c : Phrase) → at.word < length P.words → ClosesPhrase P cells at t c → IsRun P t → takes_phrase P.top count c ≡ true
+  taken_phrase cells at end c l e h = rw e refl
+  taken_phrase cells at (then i p t) c l e h = rw e.2 (both (takes_item P.top count e.0) (takes_phrase P.top count e.1) (taken_item cells at i e.0 l e.3 h.0) (taken_phrase (cells_behind cells i) (behind at i) t e.1 l e.4 h.1))
 
   taken_sort : (w : ℕ) (s o : Sort) → w < length P.words → ClosesSort P w s o → RunsAs P w s → HasBuiltNumber s → takes_sort P.top count o ≡ true
   taken_sort w (prim k) o l c h b = rw c b
   taken_sort w (core k) o l c h b = rw c b
-  taken_sort w (body t) o l c h b = rw c.1 (taken_phrase (first_of_word w) t c.0 l c.2 h)
-  taken_sort w (method k g t) o l c h b = rw c.1 (taken_phrase (first_of_word w) (of_method w t) c.0 l c.2 h)
+  taken_sort w (body t) o l c h b = rw c.1 (taken_phrase [] (first_of_word w) t c.0 l c.2 h)
+  taken_sort w (method k g t) o l c h b = rw c.1 (taken_phrase [] (first_of_word w) (of_method w t) c.0 l c.2 h)
   taken_sort w (past t) o l c h b = absurd h
   taken_sort w _ o l c h b = rw c refl
 
@@ -92,7 +98,7 @@ longer : (ws : List WordDef) (d : WordDef) → nat_lt (length ws) (length (ws ++
 longer ws d = (let e = one_longer ws d in below_is (length ws) (length (ws ++ d ∷ [])) (omega (arith, e)))
 
 module _ (P C : Program) (templates : List Template) (closes : Closes P C templates) (built : IsBuilt P) (whole : IsWhole P) where
-  numbered : (at : Literal) (t : Phrase) (k : ℕ) → at.word < length P.words → IsMadeBy P at t k → nat_lt k (length templates) ≡ true
+  numbered : (cells : List Cell) (at : Literal) (i : Item) (k : ℕ) → at.word < length P.words → IsMadeBy P cells at i k → nat_lt k (length templates) ≡ true
   numbered = made_there P C templates closes
 
   taken_word : (w : ℕ) (c : WordDef) → slice_get C.words w ≡ Some c → takes_word P.top (length templates) c ≡ true
@@ -102,7 +108,7 @@ module _ (P C : Program) (templates : List Template) (closes : Closes P C templa
       both (takes_sort P.top (length templates) c.sort) (nat_le (effect_height c.effect).ins 65) (taken_sort P (length templates) numbered w d.sort c.sort (number_below P.words w d there.at) there.closes.sort (word_runs P built w d there.at) (built_number P built w d there.at)) (subst (λ x. nat_le (effect_height x).ins 65 ≡ true) (sym there.closes.effect) (few_inputs d.effect (one_there (λ x. nat_le (name_count x.effect) 65) P.words w d whole.few_names there.at)))
 
   taken_template : (k : ℕ) (t : Template) → slice_get templates k ≡ Some t → takes_template P.top (length templates) t ≡ true
-  taken_template k t e = taken_phrase P (length templates) numbered (first_of_literal (literal_numbered P k).0) (literal_numbered P k).1 t.body (template_of_words P C templates closes k t e) (template_closed P C templates closes k t e).body (literal_runs P built k)
+  taken_template k t e = let l : Quoted = literal_numbered P k in taken_phrase P (length templates) numbered (inner_cells l.cells l.item) (first_of_literal l.at) (quoted_phrase l) t.body (template_of_words P C templates closes k t e) (template_closed P C templates closes k t e).body (literal_runs P built k)
 
   top_there : nat_lt C.top (length C.words) ≡ true
   top_there = rw (closes.top, built.top_is, words_closed_count P C templates closes, built.words_are) (longer built.words built.last_word)

@@ -1,22 +1,30 @@
 -- How the walk of a phrase goes on behind an item.
 use Rattle.std.specs.Prelude.{slice_get}
-use Rattle.std.proofs.Common.{◌≡◌, ◌<◌, ◌≤◌, ℕ, zero, suc, List, [], ◌∷◌, Option, refl, sym, ap, subst, ◌∙◌, arith}
+use Rattle.std.proofs.Common.{◌≡◌, ◌<◌, ◌≤◌, ℕ, zero, suc, List, [], ◌∷◌, ◌++◌, length, false, Option, refl, sym, ap, subst, ◌∙◌, arith}
 use Rattle.fac_lang.specs.declared.phrase.Place.{Place}
 use Rattle.fac_lang.specs.declared.phrase.Template.{Template}
 use Rattle.fac_lang.specs.declared.phrase.Item.{Item as PlacedItem}
+use Rattle.fac_lang.specs.declared.phrase.What.{What}
+use Rattle.fac_lang.specs.declared.phrase.What.TheVariants.{Bind as w_bind}
 use Rattle.fac_lang.specs.declared.program.Program.{Program}
 use Rattle.fac_lang.specs.declared.program.WordDef.{WordDef}
-use Rattle.fac_lang.specs.Phrases.{Literal, Phrase, end, then, Item, Mark}
+use Rattle.fac_lang.specs.Phrases.{Literal, Phrase, end, then, Item, bind, known, Mark}
 use Rattle.fac_lang.specs.PhraseView.{what_item, items_phrase}
 use Rattle.fac_locals.specs.Literals.{behind}
-use Rattle.fac_locals.specs.Closed.{ClosesItem, ClosesPhrase}
+use Rattle.fac_lang.specs.Substitution.{put_local}
+use Rattle.fac_locals.specs.Frames.{IsPut, Opens, OpensItem, o_plain, o_end, o_item, o_bind}
 use Rattle.fac_lang.specs.RowVariables.{Row}
-use Rattle.fac_abs.specs.Marks.{dead, on}
+use Rattle.fac_abs.specs.Marks.{AbstractStack, dead, on}
 use Rattle.fac_abs.specs.MarkTrees.{Naming}
-use Rattle.fac_abs.specs.SeenMarks.{MarksSeen, stack_of, base_seen}
-use Rattle.fac_check.specs.Flow.{found, refused, and_then, doing}
+use Rattle.fac_abs.specs.SeenMarks.{MarksSeen, Grows, IsFrame, IsStack, frame_of, stack_of, base_seen}
+use Rattle.fac_abs.specs.MarkPromises.{IsFrameOf}
+use Rattle.fac_check.specs.Flow.{Walked as WalkedPhrase, found, refused, and_then, counted, doing}
 use Rattle.fac_check.specs.inner.ItemWalk.{IsAlone, item_walk}
-use Rattle.fac_check.specs.inner.Walking.{Opened, doing_seen, walked_seen, go_at, IsBelow}
+use Rattle.fac_check.specs.inner.Walking.{Opened, doing_seen, walked_seen, go_at, items_of, frame_behind, IsBelow, IsItemsWalk, IsWalkOfOne, IsWalkOfItem, DoesItem, binds}
+use Rattle.fac_abs.specs.declared.rule.Rule.{Rule}
+use Rattle.fac_check.specs.declared.subject.Subject.{Subject}
+use Rattle.fac_check.specs.declared.walker.Step.{Step}
+use Rattle.fac_check.proofs.OpenedItems.{items_more}
 use Rattle.fac_abs.specs.declared.reached.Reached.TheVariants.{Dead, On}
 use Rattle.fac_check.specs.declared.doing.Doing.{Doing}
 use Rattle.fac_check.specs.declared.doing.Doing.TheVariants.{Breaks, Ends, Gives, Leaves, Expands, Walks, Forks, Uses}
@@ -25,7 +33,7 @@ use Rattle.fac_check.specs.declared.walker.Walked.TheVariants.{Found, Refused}
 use Rattle.fac_check.proofs.StepByStep.{rest, walk_on_item}
 
 -- what the code's items do is done by the item alone
-alone : (N : Naming) (M : MarksSeen) (words : ℕ → Option WordDef) (b : Option Row) (D : Doing) → IsAlone (doing_seen N M words b D)
+pub alone : (N : Naming) (M : MarksSeen) (words : ℕ → Option WordDef) (b : Option Row) (D : Doing) → IsAlone (doing_seen N M words b D)
 alone N M words b (Breaks r) = tt
 alone N M words b Ends = tt
 alone N M words b (Gives s) = tt
@@ -36,94 +44,163 @@ alone N M words b (Forks m n s) = tt
 alone N M words b (Uses w s r) = tt
 
 module _ {C : Program} {templates : List Template} {own : Option ℕ} (O : Opened C templates own) where
-  -- The walk of a phrase from the start is the walk from here, of what stands for these items.
-  pub record Onward (at : Literal) (t : Phrase) (f nested : ℕ) (e : Option Row) (ms : List Mark) (most : ℕ) (M : MarksSeen) (b : Option ℕ) (s : ℕ) (items : List PlacedItem) (n : ℕ) : Type 0 where
+  -- The walk of a phrase from the start is the walk from here, of what these items open to under this frame.
+  pub record Onward (at : Literal) (t : Phrase) (f nested : ℕ) (e : Option Row) (ms : List Mark) (most : ℕ) (M : MarksSeen) (b : Option ℕ) (s g : ℕ) (items : List PlacedItem) (n : ℕ) : Type 0 where
     pub here : Literal
     pub phrase : Phrase
     pub steps : ℕ
-    pub closes : ClosesPhrase O.program here phrase (items_phrase items)
+    pub opens : Opens O.program templates (items_of (frame_of O.naming M g)) here (items_phrase items) phrase
     pub enough : n < steps
     pub same : go_at O f at nested t e ms most ≡ go_at O steps here nested phrase (base_seen O.naming b) (stack_of O.naming M s) n
 
-  -- a phrase for a closed one that begins with this item
-  pub record Begins (at : Literal) (t : Phrase) (j : Item) (p : Place) (c : Phrase) : Type 0 where
-    pub item : Item
-    pub more : Phrase
-    pub is : t ≡ then item p more
-    pub closes_item : ClosesItem O.program at item j
-    pub closes_more : ClosesPhrase O.program (behind at item) more c
+  -- what a closed phrase opens to that begins with this item
+  pub data OpensFirst (frame : List Item) (at : Literal) (j : Item) (p : Place) (c : Phrase) : Phrase → Type 0 where
+    first_item : (i : Item) (u : Phrase) → OpensItem O.program templates frame at j i → Opens O.program templates frame (behind at i) c u → OpensFirst frame at j p c (then i p u)
+    first_bind : (x : ℕ) (u : Phrase) → j ≡ bind (length frame) → ((v : Item) → IsPut v → Opens O.program templates (frame ++ v ∷ []) (behind at (bind x)) c (put_local x v u)) → OpensFirst frame at j p c (then (bind x) p u)
 
-  begins : (at : Literal) (t : Phrase) (j : Item) (p : Place) (c : Phrase) → ClosesPhrase O.program at t (then j p c) → Begins at t j p c
-  begins at end j p c h = absurd (cc)
-  begins at (then i q t) j p c h =
-      let e = h.2 in
-      let same_item : h.0 ≡ j = cc in
-      let same_place : q ≡ p = cc in
-      let same_rest : h.1 ≡ c = cc in
-      record { item = i; more = t; is = ap (λ x. then i x t) same_place; closes_item = subst (λ x. ClosesItem O.program at i x) same_item h.3; closes_more = subst (λ x. ClosesPhrase O.program (behind at i) t x) same_rest h.4 }
+  opens_first : (frame : List Item) (at : Literal) (j : Item) (p : Place) (c t : Phrase) → Opens O.program templates frame at (then j p c) t → OpensFirst frame at j p c t
+  opens_first frame at j p c t (o_item h r) = first_item _ _ h r
+  opens_first frame at j p c t (o_bind r) = first_bind _ _ refl r
 
-  -- the walk from an item on, by the code's answers
+  -- the walk from an item on, by what the item itself comes to
   pub behind_item :
-      (at : Literal) (i : Item) (p : Place) (t : Phrase) (f nested n : ℕ) (b : Option Row) (s : ℕ) (M L K : MarksSeen) (D : Doing) (W : Walked) →
-      doing_seen O.naming L (slice_get O.program.words) b D ≡ doing O.program O.word at i b (stack_of O.naming M s) →
-      walked_seen O.naming K W ≡ item_walk O.effect (go_at O f) (doing_seen O.naming L (slice_get O.program.words) b D) p nested n →
-      go_at O (suc f) at nested (then i p t) b (stack_of O.naming M s) n ≡ and_then (walked_seen O.naming K W) (rest O.effect (go_at O f) nested (behind at i) t)
-  behind_item at i p t f nested n b s M L K D W does walks =
-      walk_on_item O.effect (go_at O f) nested (behind at i) t (doing O.program O.word at i b (stack_of O.naming M s)) p n (subst IsAlone does (alone O.naming L (slice_get O.program.words) b D))
-      ∙ ap (λ x. and_then (item_walk O.effect (go_at O f) x p nested n) (rest O.effect (go_at O f) nested (behind at i) t)) (sym does)
+      (at : Literal) (i : Item) (p : Place) (t : Phrase) (f nested n : ℕ) (b : Option Row) (ms : List Mark) (N : Naming) (K : MarksSeen) (W : Walked) →
+      IsAlone (doing O.program O.word at i b ms) →
+      walked_seen N K W ≡ item_walk O.effect (go_at O f) (doing O.program O.word at i b ms) p nested n →
+      go_at O (suc f) at nested (then i p t) b ms n ≡ and_then (walked_seen N K W) (rest O.effect (go_at O f) nested (behind at i) t)
+  behind_item at i p t f nested n b ms N K W alone walks =
+      walk_on_item O.effect (go_at O f) nested (behind at i) t (doing O.program O.word at i b ms) p n alone
       ∙ ap (λ x. and_then x (rest O.effect (go_at O f) nested (behind at i) t)) (sym walks)
 
--- What the code's calls for an item say, with a program at hand.
-abbrev pub DoesItem : {C : Program} {templates : List Template} {own : Option ℕ} → Opened C templates own → MarksSeen → MarksSeen → Option ℕ → ℕ → PlacedItem → Doing → Type 0
-DoesItem O M L b s i D =
-    (at : Literal) (j : Item) → ClosesItem O.program at j (what_item i.what) → doing_seen O.naming L (slice_get O.program.words) (base_seen O.naming b) D ≡ doing O.program O.word at j (base_seen O.naming b) (stack_of O.naming M s)
+  counted_bind : (p : Place) (n : ℕ) (go : ℕ → WalkedPhrase AbstractStack) (b : Option Row) (ms : List Mark) (then_go : AbstractStack → ℕ → WalkedPhrase AbstractStack) → ((k : ℕ) → go k ≡ then_go (on b ms) k) → counted p n go ≡ and_then (counted p n (λ k. found (on b ms) k)) then_go
+  counted_bind p zero go b ms then_go same = refl
+  counted_bind p (suc n) go b ms then_go same = same n
 
-module _ {C : Program} {templates : List Template} {own : Option ℕ} (O : Opened C templates own) where
+  -- likewise from one that binds a local: its top mark is put for the local in the rest
+  pub behind_bind :
+      (at : Literal) (x : ℕ) (p : Place) (t : Phrase) (f nested n : ℕ) (b : Option Row) (m : Mark) (ms : List Mark) (N : Naming) (K : MarksSeen) (W : Walked) →
+      walked_seen N K W ≡ item_walk O.effect (go_at O f) (doing O.program O.word at (bind x) b (m ∷ ms)) p nested n →
+      go_at O (suc f) at nested (then (bind x) p t) b (m ∷ ms) n ≡ and_then (walked_seen N K W) (rest O.effect (go_at O f) nested (behind at (bind x)) (put_local x (known m) t))
+  behind_bind at x p t f nested n b m ms N K W walks =
+      counted_bind p n (λ k. go_at O f (behind at (bind x)) nested (put_local x (known m) t) b ms k) b ms (rest O.effect (go_at O f) nested (behind at (bind x)) (put_local x (known m) t)) (λ k. refl)
+      ∙ ap (λ y. and_then y (rest O.effect (go_at O f) nested (behind at (bind x)) (put_local x (known m) t))) (sym walks)
+
+  -- and where nothing is there to bind
+  pub behind_none :
+      (at : Literal) (x : ℕ) (p : Place) (t : Phrase) (f nested n : ℕ) (b : Option Row) (N : Naming) (K : MarksSeen) (W : Walked) (go : AbstractStack → ℕ → WalkedPhrase AbstractStack) →
+      walked_seen N K W ≡ item_walk O.effect (go_at O f) (doing O.program O.word at (bind x) b []) p nested n →
+      go_at O (suc f) at nested (then (bind x) p t) b [] n ≡ and_then (walked_seen N K W) go
+  behind_none at x p t f nested n b N K W go walks = ap (λ y. and_then y go) (sym walks)
+
   -- at the start
-  pub onward_start : (at : Literal) (t : Phrase) (f nested : ℕ) (most : ℕ) (M : MarksSeen) (b : Option ℕ) (s : ℕ) (items : List PlacedItem) → ClosesPhrase O.program at t (items_phrase items) → most < f → Onward O at t f nested (base_seen O.naming b) (stack_of O.naming M s) most M b s items most
-  onward_start at t f nested most M b s items closes enough = record { here = at; phrase = t; steps = f; closes = closes; enough = enough; same = refl }
+  pub onward_start : (at : Literal) (t : Phrase) (f nested : ℕ) (most : ℕ) (M : MarksSeen) (b : Option ℕ) (s g : ℕ) (items : List PlacedItem) → Opens O.program templates (items_of (frame_of O.naming M g)) at (items_phrase items) t → most < f → Onward at t f nested (base_seen O.naming b) (stack_of O.naming M s) most M b s g items most
+  onward_start at t f nested most M b s g items opens enough = record { here = at; phrase = t; steps = f; opens = opens; enough = enough; same = refl }
 
-  -- The walk behind an item whose walk came to this.
-  abbrev pub Behind : (at : Literal) (t : Phrase) (f nested : ℕ) (e : Option Row) (ms : List Mark) (most : ℕ) (K : MarksSeen) (items : List PlacedItem) → Walked → Type 0
-  Behind at t f nested e ms most K items (Found Dead n) = go_at O f at nested t e ms most ≡ found dead n
-  Behind at t f nested e ms most K items (Found (On b s) n) = Onward O at t f nested e ms most K b s items n
-  Behind at t f nested e ms most K items (Refused r p) = go_at O f at nested t e ms most ≡ refused r p
-
-  -- goes on behind an item
-  pub onward :
-      (at : Literal) (t : Phrase) (f nested : ℕ) (e : Option Row) (ms : List Mark) (most : ℕ) (M L K : MarksSeen) (b : Option ℕ) (s n : ℕ) (i : PlacedItem) (items : List PlacedItem) (D : Doing) (W : Walked) →
-      Onward O at t f nested e ms most M b s (i ∷ items) n → DoesItem O M L b s i D →
-      ((g : ℕ) → n ≤ g → walked_seen O.naming K W ≡ item_walk O.effect (go_at O g) (doing_seen O.naming L (slice_get O.program.words) (base_seen O.naming b) D) i.place nested n) → IsBelow n W →
-      Behind at t f nested e ms most K items W
-  onward at t f nested e ms most M L K b s n i items D W o does walks below = by_steps o.steps o.enough o.same
-    where
-      first : Begins O o.here o.phrase (what_item i.what) i.place (items_phrase items)
-      first = begins O o.here o.phrase (what_item i.what) i.place (items_phrase items) o.closes
-
-      ends : (g : ℕ) → n < suc g → (V : Walked) → IsBelow n V → go_at O f at nested t e ms most ≡ and_then (walked_seen O.naming K V) (rest O.effect (go_at O g) nested (behind o.here first.item) first.more) → Behind at t f nested e ms most K items V
-      ends g l (Found Dead k) low same = same
-      ends g l (Found (On c q) k) low same = record { here = behind o.here first.item; phrase = first.more; steps = g; closes = first.closes_more; enough = omega (arith, low, l); same = same }
-      ends g l (Refused r p) low same = same
-
-      by_steps : (g : ℕ) → n < g → go_at O f at nested t e ms most ≡ go_at O g o.here nested o.phrase (base_seen O.naming b) (stack_of O.naming M s) n → Behind at t f nested e ms most K items W
-      by_steps zero l same = absurd (omega (arith, l))
-      by_steps (suc g) l same =
-          ends g l W below
-          (same ∙ ap (λ x. go_at O (suc g) o.here nested x (base_seen O.naming b) (stack_of O.naming M s) n) first.is ∙ behind_item O o.here first.item i.place first.more g nested n (base_seen O.naming b) s M L K D W (does o.here first.item first.closes_item) (walks g (omega (arith, l))))
-
-  -- likewise from the items that were left before, where the walk of the first came to this
-  pub behind_from :
-      (at : Literal) (t : Phrase) (f nested : ℕ) (e : Option Row) (ms : List Mark) (most : ℕ) (M L K : MarksSeen) (b : Option ℕ) (s n : ℕ) (i : PlacedItem) (left items : List PlacedItem) (D : Doing) (W V : Walked) →
-      left ≡ i ∷ items → W ≡ V → Onward O at t f nested e ms most M b s left n → DoesItem O M L b s i D →
-      ((g : ℕ) → n ≤ g → walked_seen O.naming K W ≡ item_walk O.effect (go_at O g) (doing_seen O.naming L (slice_get O.program.words) (base_seen O.naming b) D) i.place nested n) → IsBelow n W →
-      Behind at t f nested e ms most K items V
-  behind_from at t f nested e ms most M L K b s n i left items D W V next is here does walks below =
-      subst (Behind at t f nested e ms most K items) is (onward at t f nested e ms most M L K b s n i items D W (subst (λ (q : List PlacedItem). Onward O at t f nested e ms most M b s q n) next here) does walks below)
+  -- The walk behind an item whose walk came to this, where the frame behind it is this one.
+  abbrev pub Behind : (at : Literal) (t : Phrase) (f nested : ℕ) (e : Option Row) (ms : List Mark) (most : ℕ) (K : MarksSeen) (g : ℕ) (items : List PlacedItem) → Walked → Type 0
+  Behind at t f nested e ms most K g items (Found Dead n) = go_at O f at nested t e ms most ≡ found dead n
+  Behind at t f nested e ms most K g items (Found (On b s) n) = Onward at t f nested e ms most K b s g items n
+  Behind at t f nested e ms most K g items (Refused r p) = go_at O f at nested t e ms most ≡ refused r p
 
   -- at the end
-  pub onward_end : (at : Literal) (t : Phrase) (f nested : ℕ) (e : Option Row) (ms : List Mark) (most : ℕ) (M : MarksSeen) (b : Option ℕ) (s n : ℕ) → Onward O at t f nested e ms most M b s [] n → found (on (base_seen O.naming b) (stack_of O.naming M s)) n ≡ go_at O f at nested t e ms most
-  onward_end at t f nested e ms most M b s n o = sym (o.same ∙ ended o.steps o.phrase o.closes)
+  pub onward_end : (at : Literal) (t : Phrase) (f nested : ℕ) (e : Option Row) (ms : List Mark) (most : ℕ) (M : MarksSeen) (b : Option ℕ) (s g n : ℕ) → Onward at t f nested e ms most M b s g [] n → found (on (base_seen O.naming b) (stack_of O.naming M s)) n ≡ go_at O f at nested t e ms most
+  onward_end at t f nested e ms most M b s g n o = sym (o.same ∙ ended o.steps (items_of (frame_of O.naming M g)) o.here o.phrase o.opens)
     where
-      ended : (g : ℕ) (u : Phrase) → ClosesPhrase O.program o.here u end → go_at O g o.here nested u (base_seen O.naming b) (stack_of O.naming M s) n ≡ found (on (base_seen O.naming b) (stack_of O.naming M s)) n
-      ended g end h = refl
-      ended g (then i p u) h = absurd (let e = h.2 in cc)
+      ended : (k : ℕ) (frame : List Item) (here : Literal) (u : Phrase) → Opens O.program templates frame here end u → go_at O k here nested u (base_seen O.naming b) (stack_of O.naming M s) n ≡ found (on (base_seen O.naming b) (stack_of O.naming M s)) n
+      ended k frame here u o_end = refl
+
+-- What the walk of one item says of the walk of the phrase that begins with it.
+module _ (subject : Subject) (O : Opened subject.closed.now.program subject.closed.now.templates subject.own) where
+  abbrev N : Naming
+  N = O.naming
+
+  abbrev frame_at : MarksSeen → ℕ → List Item
+  frame_at M g = items_of (frame_of N M g)
+
+  -- an item that binds no local
+  items_walk : (M L : MarksSeen) (c : Item) (s : Step) (W : Walked) (at : Literal) (i : Item) (f : ℕ) → IsWalkOfOne subject M L c s W → OpensItem O.program subject.closed.now.templates (frame_at M s.frame) at c i → s.left ≤ f → IsItemsWalk O M L at i s f W
+  items_walk M L (bind k) s W at i f w (o_plain j p) l = absurd p
+  items_walk M L c s W at i f w h l = w O at i f h l
+
+  frame_stays : (M : MarksSeen) (c : Item) (g : ℕ) (at : Literal) (i : Item) (ms : List Mark) → OpensItem O.program subject.closed.now.templates (frame_at M g) at c i → frame_behind c ms (frame_of N M g) ≡ frame_of N M g
+  frame_stays M (bind k) g at i ms (o_plain j p) = absurd p
+  frame_stays M c g at i ms h = refl
+
+  module _ (at : Literal) (t : Phrase) (f nested : ℕ) (e : Option Row) (ms : List Mark) (most : ℕ) (L K : MarksSeen) (b : Option ℕ) (s g g' n : ℕ) (i : PlacedItem) (items : List PlacedItem) (W : Walked) where
+    abbrev step : Step
+    step = record { place = i.place; nested = nested; base = b; stack = s; frame = g; left = n }
+
+    goes_on : (V : Walked) (k : ℕ) (next : Literal) (u : Phrase) → n < suc k → IsBelow n V → Opens O.program subject.closed.now.templates (frame_at K g') next (items_phrase items) u → go_at O f at nested t e ms most ≡ and_then (walked_seen N K V) (rest O.effect (go_at O k) nested next u) → Behind O at t f nested e ms most K g' items V
+    goes_on (Found Dead r) k next u l low opens same = same
+    goes_on (Found (On c q) r) k next u l low opens same = record { here = next; phrase = u; steps = k; opens = opens; enough = omega (arith, low, l); same = same }
+    goes_on (Refused r q) k next u l low opens same = same
+
+    refuses : (V : Walked) (r : Rule) (q : Place) → walked_seen N K V ≡ refused r q → go_at O f at nested t e ms most ≡ refused r q → Behind O at t f nested e ms most K g' items V
+    refuses (Found A k) r q same here = absurd (cc)
+    refuses (Refused x y) r q same here = here ∙ sym same
+
+    module _ (walks : IsWalkOfOne subject L K (what_item i.what) step W) (below : IsBelow n W) (behind_is : frame_of N K g' ≡ frame_behind (what_item i.what) (stack_of N L s) (frame_of N L g)) where
+      first_goes : (k : ℕ) (here : Literal) (u : Phrase) → n < suc k → OpensFirst O (frame_at L g) here (what_item i.what) i.place (items_phrase items) u → go_at O f at nested t e ms most ≡ go_at O (suc k) here nested u (base_seen N b) (stack_of N L s) n → Behind O at t f nested e ms most K g' items W
+      first_goes k here u l (first_item j v h r) same =
+          let walked = items_walk L K (what_item i.what) step W here j k walks h (omega (arith, l)) in
+          let frames : frame_at K g' ≡ frame_at L g = ap items_of (behind_is ∙ frame_stays L (what_item i.what) g here j (stack_of N L s) h) in
+          goes_on W k (behind here j) v l below (subst (λ (xs : List Item). Opens O.program subject.closed.now.templates xs (behind here j) (items_phrase items) v) (sym frames) r) (same ∙ behind_item O here j i.place v k nested n (base_seen N b) (stack_of N L s) N K W walked.is_alone walked.walks)
+      first_goes k here u l (first_bind x v is r) same =
+          let bound = subst (λ (c : Item). IsWalkOfOne subject L K c step W) is walks in
+          let walked = bound O here x k (omega (arith, l)) in
+          by_stack (stack_of N L s) walked (behind_is ∙ ap (λ (c : Item). frame_behind c (stack_of N L s) (frame_of N L g)) is) same
+        where
+          by_stack : (xs : List Mark) → walked_seen N K W ≡ item_walk O.effect (go_at O k) (doing O.program O.word here (bind x) (base_seen N b) xs) i.place nested n → frame_of N K g' ≡ frame_behind (bind (length (frame_at L g))) xs (frame_of N L g) → go_at O f at nested t e ms most ≡ go_at O (suc k) here nested (then (bind x) i.place v) (base_seen N b) xs n → Behind O at t f nested e ms most K g' items W
+          by_stack [] w q same = refuses W _ i.place w same
+          by_stack (m ∷ xs) w q same =
+              let frames : frame_at K g' ≡ frame_at L g ++ known m ∷ [] = ap items_of q ∙ items_more m (frame_of N L g) in
+              goes_on W k (behind here (bind x)) (put_local x (known m) v) l below (subst (λ (ys : List Item). Opens O.program subject.closed.now.templates ys (behind here (bind x)) (items_phrase items) (put_local x (known m) v)) (sym frames) (r (known m) tt)) (same ∙ behind_bind O here x i.place v k nested n (base_seen N b) m xs N K W w)
+
+      -- goes on behind an item
+      pub onward : Onward O at t f nested e ms most L b s g (i ∷ items) n → Behind O at t f nested e ms most K g' items W
+      onward o = by_steps o.steps o.enough o.same
+        where
+          by_steps : (k : ℕ) → n < k → go_at O f at nested t e ms most ≡ go_at O k o.here nested o.phrase (base_seen N b) (stack_of N L s) n → Behind O at t f nested e ms most K g' items W
+          by_steps zero l same = absurd (omega (arith, l))
+          by_steps (suc k) l same = first_goes k o.here o.phrase l (opens_first O (frame_at L g) o.here (what_item i.what) i.place (items_phrase items) o.phrase o.opens) same
+
+-- from marks that were there before
+pub onward_later : {C : Program} {templates : List Template} {own : Option ℕ} (O : Opened C templates own) (at : Literal) (t : Phrase) (f nested : ℕ) (e : Option Row) (ms : List Mark) (most : ℕ) (M L : MarksSeen) (b : Option ℕ) (s g : ℕ) (items : List PlacedItem) (n : ℕ) → Grows M L → IsStack M s → IsFrame M g → Onward O at t f nested e ms most M b s g items n → Onward O at t f nested e ms most L b s g items n
+onward_later {C} {templates} O at t f nested e ms most M L b s g items n grows stack frame o = record {
+  here = o.here;
+  phrase = o.phrase;
+  steps = o.steps;
+  opens = subst (λ (fs : List Mark). Opens O.program templates (items_of fs) o.here (items_phrase items) o.phrase) (sym (grows.same_frame O.naming g frame)) o.opens;
+  enough = o.enough;
+  same = o.same ∙ ap (λ xs. go_at O o.steps o.here nested o.phrase (base_seen O.naming b) xs n) (sym (grows.same_stack O.naming s stack));
+}
+
+-- how the walk of a phrase goes on behind its first item, whose walk came to this
+pub behind_from :
+    (subject : Subject) (O : Opened subject.closed.now.program subject.closed.now.templates subject.own) (at : Literal) (t : Phrase) (f nested : ℕ) (e : Option Row) (ms : List Mark) (most : ℕ) (M L K : MarksSeen) (b : Option ℕ) (s g g' n : ℕ)
+    (i : PlacedItem) (whole items : List PlacedItem) (W V : Walked) →
+    whole ≡ i ∷ items → W ≡ V → Grows M L → Grows L K → IsStack M s → IsFrame M g →
+    IsFrameOf L g' (λ N. frame_behind (what_item i.what) (stack_of N M s) (frame_of N M g)) →
+    IsWalkOfOne subject L K (what_item i.what) (record { place = i.place; nested = nested; base = b; stack = s; frame = g; left = n }) W → IsBelow n W →
+    Onward O at t f nested e ms most M b s g whole n → Behind O at t f nested e ms most K g' items V
+behind_from subject O at t f nested e ms most M L K b s g g' n i whole items W V next is grows later stack frame made walks below o =
+    let N = O.naming in
+    let c = what_item i.what in
+    let behind_is : frame_of N K g' ≡ frame_behind c (stack_of N L s) (frame_of N L g) =
+        later.same_frame N g' made.valid ∙ made.is N ∙ ap (λ xs. frame_behind c xs (frame_of N M g)) (sym (grows.same_stack N s stack)) ∙ ap (λ fs. frame_behind c (stack_of N L s) fs) (sym (grows.same_frame N g frame)) in
+    let here = subst (λ (xs : List PlacedItem). Onward O at t f nested e ms most M b s g xs n) next o in
+    subst (λ (X : Walked). Behind O at t f nested e ms most K g' items X) is
+    (onward subject O at t f nested e ms most L K b s g g' n i items W walks below behind_is (onward_later O at t f nested e ms most M L b s g (i ∷ items) n grows stack frame here))
+
+-- what is no name of a local binds none
+pub no_bind : (w : What) → ((x : ℕ) → w ≡ w_bind x → ⊥) → binds (what_item w) ≡ false
+no_bind (w_bind x) f = absurd (f x refl)
+no_bind _ f = refl
+
+-- the walk of an item that binds no local, by what it does
+pub one_walks : (subject : Subject) (M K L : MarksSeen) (c : Item) (s : Step) (D : Doing) (W : Walked) → binds c ≡ false → DoesItem subject M K s.base s.stack s.frame c D → IsWalkOfItem subject K L D s W → IsWalkOfOne subject M L c s W
+one_walks subject M K L (bind k) s D W e does walks = absurd (cc)
+one_walks subject M K L c s D W e does walks = λ O at i f h l. record {
+  is_alone = subst IsAlone (does O at i h) (alone O.naming K (slice_get O.program.words) (base_seen O.naming s.base) D);
+  walks = walks O f l ∙ ap (λ d. item_walk O.effect (go_at O f) d s.place s.nested s.left) (does O at i h);
+}

@@ -71,15 +71,16 @@ fn kept_outputs(
     }
 }
 
-// Where the walk of a word begins, with all that a word may enter and walk.
+// Where the walk of a word begins, with all that a word may enter and walk, under the frame with no cells.
 fn first_step(place: Place, base: Option<u32>, stack: u32) -> Step
-    ensures { result ≡ record { place = place; nested = 64; base = base; stack = stack; left = 200000 } }
+    ensures { result ≡ record { place = place; nested = 64; base = base; stack = stack; frame = 0; left = 200000 } }
 {
     Step {
         place,
         nested: MOST_APPLICATIONS,
         base,
         stack,
+        frame: 0,
         left: MOST_ITEMS,
     }
 }

@@ -1,29 +1,32 @@
 //! What an item does to a stack at once.
 ghost use Rattle.std.specs.declared.option.Option.{Option};
-ghost use Rattle.std.specs.Prelude.{◌≡◌, ◌<◌, ◌≤◌, ◌∷◌, ℕ, suc, true, length, nat_lt, slice_get, Some, IfOk, option_copied};
+ghost use Rattle.std.specs.Prelude.{◌≡◌, ◌<◌, ◌≤◌, ◌∷◌, ℕ, suc, true, false, length, nat_lt, slice_get, Some, IfOk, option_copied};
 ghost use Rattle.fac_lang.specs.declared.program.Program.{Program as ProgramSeen};
 ghost use Rattle.fac_lang.specs.Effects.{effect_height};
 ghost use Rattle.fac_lang.specs.CoreWords.{is_built_core};
 ghost use Rattle.fac_lang.specs.Meaning.{c_boa, c_call, c_dip, c_if, class_of_word, core_numbered, sort_of};
 ghost use Rattle.fac_lang.specs.Primitives.{built_count};
-ghost use Rattle.fac_lang.specs.Phrases.{any, lit_mark, wrd_mark};
+ghost use Rattle.fac_lang.specs.Phrases.{any, wrd_mark, made as made_item, local as local_item};
 ghost use Rattle.fac_lang.specs.PhraseView.{what_item};
-ghost use Rattle.fac_abs.specs.Marks.{on, curried_mark, composed_mark};
+ghost use Rattle.fac_abs.specs.Marks.{on, piled, curried_mark, composed_mark};
 ghost use Rattle.fac_abs.specs.MarkTrees.{Naming};
-ghost use Rattle.fac_abs.specs.SeenMarks.{IsMark, IsStack, Grows, mark_of, stack_of};
+ghost use Rattle.fac_abs.specs.SeenMarks.{IsMark, IsFrame, IsStack, Grows, mark_of, frame_of, stack_of};
+ghost use Rattle.fac_abs.specs.MarkPromises.{IsFrameOf};
+ghost use Rattle.fac_check.specs.declared.subject.Subject.{Subject};
 ghost use Rattle.fac_locals.specs.Closed.{Closes};
 ghost use Rattle.fac_check.specs.Flow.{by_height as takes_and_leaves, marks_moved, mark_made, core_doing, next_doing, is_own, gives};
 ghost use Rattle.fac_check.specs.inner.KnownClasses.{IsTupleWord, generic_word, makes_counted, tuple_slots, word_in};
 ghost use Rattle.fac_check.specs.inner.Taken.{takes_all, takes_item, takes_word};
-ghost use Rattle.fac_check.specs.inner.Walking.{IsDoing, IsDoingOf, only, has_phrase, DoesAs, PutsMark, DoesArray, PopsTwo, PopsBranches, lacks};
+ghost use Rattle.fac_check.specs.inner.Walking.{IsDoing, IsDoingOf, only, has_phrase, Captures, MakesLiteral, binds, DoesAs, PutsMark, DoesArray, PopsTwo, PopsBranches, lacks};
 ghost use Rattle.fac_check.specs.inner.Walking.{DoesIn, DoesItem, DoesWord, DoesWordSo, DoesDefined, DoesUse, DoesOwnCall, DoesPrimitive};
 
 use crate::subject::Subject;
+use crate::walker::Step;
 use fac_abs::{MarkNode, Marks, Reached, Rule};
 use fac_effect::{bindable, is_row_word};
 use fac_lang::{Effect, Height, Memory, Operation, Shape, Sort, What, WordDef, operation_of};
 use fac_locals::Closed;
-use fac_rows::{Called, known_inputs, own_call as own_call_of, take_inputs};
+use fac_rows::{Called, known_inputs, own_call as own_call_of, take, take_inputs};
 
 /// What an item does at once, with marks and stacks by their numbers. A stack stays on its base, but for `Leaves`.
 #[derive(Clone, Copy)]
@@ -250,7 +253,7 @@ fn word_of(marks: &Marks, mark: u32) -> Option<u32>
     match marks.node(mark) {
         MarkNode::Wrd(word) => Some(word),
         MarkNode::Any => None,
-        MarkNode::Lit(_) => None,
+        MarkNode::Lit(_, _) => None,
         MarkNode::Cur(_, _) => None,
         MarkNode::Com(_, _) => None,
         MarkNode::Par(_) => None,
@@ -563,17 +566,97 @@ fn array(subject: Subject<'_>, marks: &mut Marks, stack: u32, number: u32) -> Re
     Ok(Doing::Breaks(Rule::NotKnown))
 }
 
-// A quotation, by its template.
+// The frame of the cells that a template captures of another. None where one of them isn't there.
+fn capture(marks: &mut Marks, frame: u32, captures: &[u32]) -> Result<Option<u32>, Memory>
+    requires { IsFrame marks.old frame }
+    ensures grows { Grows marks.old marks.new }
+    ensures made { IfOk result (λ o. Captures marks.old marks.new frame captures.now o) }
+{
+    let mut made = marks.no_cells();
+    for cell in captures {
+        match marks.cell(frame, *cell) {
+            Some(mark) => {
+                made = marks.bind(made, mark)?;
+            }
+            None => return Ok(None),
+        }
+    }
+    Ok(Some(made))
+}
+
+// The marks of holes behind the cells of a frame, by the stack with the first hole on top.
+fn fill(marks: &mut Marks, frame: u32, holes: u32) -> Result<u32, Memory>
+    requires frame { IsFrame marks.old frame }
+    requires holes { IsStack marks.old holes }
+    ensures grows { Grows marks.old marks.new }
+    ensures made { IfOk result (λ r. IsFrameOf marks.new r (λ N. piled (stack_of N marks.old holes) (frame_of N marks.old frame))) }
+{
+    let mut rest = holes;
+    let mut made = frame;
+    let mut left = marks.height(holes);
+    while left > 0 {
+        let Some((mark, below)) = marks.pop(rest) else {
+            return Ok(made);
+        };
+        made = marks.bind(made, mark)?;
+        rest = below;
+        left -= 1;
+    }
+    Ok(made)
+}
+
+// The literal of a template with these captured cells, and the values that it takes off the stack for its holes.
 #[tactic(auto, using(fac_abs::proofs::SeenLemmas::grows_trans))]
-fn quotation(marks: &mut Marks, stack: u32, template: u32) -> Result<Doing, Memory>
+fn fry(marks: &mut Marks, stack: u32, template: u32, frame: u32, holes: u32) -> Result<Doing, Memory>
     requires stack { IsStack marks.old stack }
     requires template { template < marks.old.templates }
+    requires frame { IsFrame marks.old frame }
     ensures grows { Grows marks.old marks.new }
     ensures there { IfOk result (λ doing. IsDoing marks.new doing) }
-    ensures does { IfOk result (λ doing. PutsMark marks.old marks.new stack (λ N. lit_mark (N.literal template).0 (N.literal template).1) doing) }
+    ensures does { IfOk result (λ doing. MakesLiteral marks.old marks.new stack template frame holes doing) }
 {
-    let mark = marks.lit(template)?;
-    put(marks, stack, mark)
+    match take(marks, stack, holes as usize)? {
+        None => Ok(underflow(marks, stack, holes)),
+        Some(taken) => {
+            let cells = fill(marks, frame, taken.inputs)?;
+            let mark = marks.lit(template, cells)?;
+            put(marks, taken.rest, mark)
+        }
+    }
+}
+
+// A quotation or fry, by its template, under a frame. A cell that isn't there is that of no program.
+#[tactic(auto, using(fac_abs::proofs::SeenLemmas::grows_trans))]
+fn made(subject: Subject<'_>, marks: &mut Marks, stack: u32, frame: u32, template: u32) -> Result<Doing, Memory>
+    requires stack { IsStack marks.old stack }
+    requires frame { IsFrame marks.old frame }
+    requires template { template < marks.old.templates }
+    requires templates { marks.old.templates ≡ length subject.closed.now.templates }
+    ensures grows { Grows marks.old marks.new }
+    ensures there { IfOk result (λ doing. IsDoing marks.new doing) }
+    ensures does { IfOk result (λ doing. (b : Option ℕ) → DoesItem subject.entry marks.old marks.new b stack frame (made_item template) doing) }
+{
+    match subject.closed.templates.get(template as usize) {
+        Some(found) => match capture(marks, frame, found.captures.as_slice())? {
+            Some(cells) => fry(marks, stack, template, cells, found.holes),
+            None => Ok(Doing::Breaks(Rule::NotKnown)),
+        },
+        None => unreachable!(),
+    }
+}
+
+// The value of a local, which is a cell of the frame. One that isn't there is that of no program.
+fn local(marks: &mut Marks, stack: u32, frame: u32, cell: u32) -> Result<Doing, Memory>
+    requires stack { IsStack marks.old stack }
+    requires frame { IsFrame marks.old frame }
+    ensures grows { Grows marks.old marks.new }
+    ensures there { IfOk result (λ doing. IsDoing marks.new doing) }
+    ensures does { IfOk result (λ doing. (subject : Subject) (b : Option ℕ) → DoesItem subject marks.old marks.new b stack frame (local_item cell) doing) }
+{
+    match marks.cell(frame, cell) {
+        Some(mark) => put(marks, stack, mark),
+        None => Ok(Doing::Breaks(Rule::NotKnown)),
+    }
 }
 
 // The generic of a method, where there are both.
@@ -603,33 +686,35 @@ fn next_after(closed: &Closed, marks: &mut Marks, stack: u32, method: u32) -> Re
     }
 }
 
-/// What an item of a closed phrase does to a stack on a base.
+/// What an item of a closed phrase does to the stack, base and frame of a step. One that binds a local isn't asked for here.
 pub fn item_doing(
     subject: Subject<'_>,
     marks: &mut Marks,
-    base: Option<u32>,
-    stack: u32,
+    step: Step,
     what: &What,
 ) -> Result<Doing, Memory>
-    requires stack { IsStack marks.old stack }
+    requires stack { IsStack marks.old step.stack }
+    requires frame { IsFrame marks.old step.frame }
     requires templates { marks.old.templates ≡ length subject.closed.now.templates }
     requires program { takes_all subject.closed.now.program subject.closed.now.templates ≡ true }
     requires item { takes_item subject.closed.now.program.top (length subject.closed.now.templates) (what_item what.now) ≡ true }
+    requires binds { binds (what_item what.now) ≡ false }
     ensures grows { Grows marks.old marks.new }
     ensures there { IfOk result (λ doing. IsDoingOf (slice_get subject.entry.closed.now.program.words) marks.new doing) }
-    ensures does { IfOk result (λ doing. DoesItem subject.entry marks.old marks.new base stack (what_item what.now) doing) }
+    ensures does { IfOk result (λ doing. DoesItem subject.entry marks.old marks.new step.base step.stack step.frame (what_item what.now) doing) }
 {
+    let stack = step.stack;
     match what {
         What::Int(_) | What::True | What::False | What::Str(_) => unknown(marks, stack),
-        What::Word(number) => word(subject, marks, base, stack, *number),
+        What::Word(number) => word(subject, marks, step.base, stack, *number),
         What::Wref(number) => reference(marks, stack, *number),
-        What::Made(template) => quotation(marks, stack, *template),
+        What::Made(template) => made(subject, marks, stack, step.frame, *template),
+        What::Local(cell) => local(marks, stack, step.frame, *cell),
         What::Arr(number) => array(subject, marks, stack, *number),
         What::NextMethod => Ok(Doing::Breaks(Rule::MethodEffect)),
         What::NextAfter(method) => next_after(subject.closed, marks, stack, *method),
-        What::Quot(_)
-        | What::Bind(_)
-        | What::Local(_)
+        What::Bind(_)
+        | What::Quot(_)
         | What::Fry(_, _)
         | What::Hole(_)
         | What::CallEff(_)

@@ -1,14 +1,16 @@
 //! The walk of a phrase.
 ghost use Rattle.std.specs.declared.option.Option.{Option};
-ghost use Rattle.std.specs.Prelude.{◌≡◌, ◌<◌, ◌≤◌, ◌-◌, [], true, suc, Some, None, length, slice_get, IfOk, MatchResult, MatchOption};
-ghost use Rattle.fac_abs.specs.MarkPromises.{IsMarkOf, IsStackOf};
-ghost use Rattle.fac_abs.specs.SeenMarks.{IsMark, IsStack, IsReached, Grows, mark_of, reached_seen};
+ghost use Rattle.std.specs.Prelude.{◌≡◌, ◌<◌, ◌≤◌, ◌-◌, ◌+◌, [], true, suc, Some, None, length, slice_get, IfOk, MatchResult, MatchOption};
+ghost use Rattle.fac_abs.specs.MarkPromises.{IsMarkOf, IsFrameOf, IsStackOf};
+ghost use Rattle.fac_abs.specs.SeenMarks.{IsMark, IsFrame, IsStack, IsReached, Grows, mark_of, frame_of, stack_of, reached_seen};
+ghost use Rattle.fac_lang.specs.Meaning.{nowhere as no_place};
+ghost use Rattle.fac_lang.specs.PhraseView.{what_item};
 ghost use Rattle.fac_abs.specs.MarkTrees.{Naming};
 ghost use Rattle.fac_lang.specs.Phrases.{any};
 ghost use Rattle.fac_check.specs.Flow.{phrase_rule as rule_of_phrase, join, marks_on, marks_back};
-ghost use Rattle.fac_check.specs.inner.Taken.{takes_all, takes_phrase};
+ghost use Rattle.fac_check.specs.inner.Taken.{takes_all, takes_item, takes_phrase};
 ghost use Rattle.fac_check.specs.inner.Walking.{IsDoingOf, is_defined, IsWalked, IsWithin, IsBelow, AreMarks, Admits, Enters, IsItemRule, IsWalkOfCounted, walked_seen, marks_of_option};
-ghost use Rattle.fac_check.specs.inner.Walking.{IsWalkOf, IsWalkOfPhrase, IsWalkOfItem, literal_walk, word_walk, curried_walk, part_walk, composed_walk, mark_walk, callable_walk, fork_walk};
+ghost use Rattle.fac_check.specs.inner.Walking.{IsWalkOf, IsWalkOfPhrase, IsWalkOfItem, IsWalkOfOne, NamesLocal, frame_behind, literal_walk, word_walk, curried_walk, part_walk, composed_walk, mark_walk, callable_walk, fork_walk};
 ghost use Rattle.fac_check.specs.inner.Walking.{IsFirstRule, IsInputRule, IsInputsRule, IsUseRule, effect_of, called_walk, use_walk, effect_walk, start_walk, AreWithin, AreBound, AreWalkedInputs, IsWalkedInput, IsWalkedQuotation};
 ghost use Rattle.fac_lang.specs.EffectView.{inputs_tree};
 ghost use Rattle.fac_lang.specs.Effects.{effect_height};
@@ -17,7 +19,7 @@ ghost use Rattle.fac_rows.specs.SeenBindings.{IsBinding};
 use crate::doing::{Doing, item_doing};
 use crate::subject::Subject;
 use fac_abs::{MarkNode, Marks, Reached, Rule};
-use fac_lang::{Effect, Input, Memory, Phrase, Place, Sort};
+use fac_lang::{Effect, Input, Memory, Phrase, Place, Sort, Template, What};
 use fac_rows::{Binding, Called, par, par_rule};
 use std::alloc::Global;
 
@@ -43,6 +45,8 @@ pub struct Step {
     pub base: Option<u32>,
     /// The stack, by its number.
     pub stack: u32,
+    /// The frame under which a phrase is walked, by its number. What isn't a phrase has its own.
+    pub frame: u32,
     /// The items that may still be walked.
     pub left: u32,
 }
@@ -51,7 +55,7 @@ impl Step {
     // The step inside of one nested application more.
     fn entered(self) -> Step
         requires { 0 < self.nested }
-        ensures { result ≡ record { place = self.place; nested = self.nested - 1; base = self.base; stack = self.stack; left = self.left } }
+        ensures { result ≡ record { place = self.place; nested = self.nested - 1; base = self.base; stack = self.stack; frame = self.frame; left = self.left } }
     {
         Step {
             nested: self.nested - 1,
@@ -115,7 +119,7 @@ fn inside(marks: &Marks, part: u32, nested: u32) -> Result<u32, Rule>
     ensures enters { (N : Naming) → Enters (mark_of N marks.now part) nested result }
 {
     match marks.node(part) {
-        MarkNode::Lit(_) => Ok(nested),
+        MarkNode::Lit(_, _) => Ok(nested),
         MarkNode::Any => Err(Rule::NotKnown),
         MarkNode::Wrd(_) => Err(Rule::NotKnown),
         MarkNode::Cur(_, _) => deeper(nested),
@@ -191,12 +195,49 @@ fn joined(marks: &mut Marks, first: Reached, second: Reached, step: Step) -> Res
     }
 }
 
+// Names a local in the rest of its phrase: takes the top mark, and counts.
+fn named(marks: &Marks, step: Step) -> Walked
+    requires stack { IsStack marks.now step.stack }
+    ensures there { IsWalked marks.now result }
+    ensures below { IsBelow step.left result }
+    ensures walks { NamesLocal marks.now step result }
+{
+    match marks.pop(step.stack) {
+        None => Walked::Refused(Rule::Underflow { needs: 1, has: 0 }, step.place),
+        Some((_, stack)) => match count(step.left) {
+            None => Walked::Refused(Rule::TooLarge, step.place),
+            Some(left) => Walked::Found(
+                Reached::On {
+                    base: step.base,
+                    stack,
+                },
+                left,
+            ),
+        },
+    }
+}
+
+// How many cells the frame of a template has.
+fn cells_of(template: &Template) -> u64
+    ensures { result ≡ length template.now.captures + template.now.holes }
+{
+    template.captures.len() as u64 + template.holes as u64
+}
+
+// The place of what no source has.
+fn nowhere() -> Place
+    ensures { result ≡ no_place }
+{
+    Place { file: 0, token: 0 }
+}
+
 impl<'a> Walker<'a> {
-    /// A walker with the empty stack alone.
+    /// A walker with the empty stack and the frame with no cells alone.
     pub fn new(alloc: Global, subject: Subject<'a>) -> Result<Walker<'a>, Memory>
         requires { takes_all subject.closed.now.program subject.closed.now.templates ≡ true }
         ensures subject { IfOk result (λ walker. walker.subject ≡ subject.entry) }
         ensures mark { IfOk result (λ walker. IsMarkOf walker.marks 0 (λ N. any)) }
+        ensures frame { IfOk result (λ walker. IsFrameOf walker.marks 0 (λ N. [])) }
         ensures stack { IfOk result (λ walker. IsStackOf walker.marks 0 (λ N. [])) }
     {
         let marks = Marks::new(alloc, subject.closed.templates.len())?;
@@ -214,7 +255,7 @@ impl<'a> Walker<'a> {
         ensures { IfOk result (λ rule. IsFirstRule self.now.subject self.now.marks mark step rule) }
     {
         match self.marks.node(mark) {
-            MarkNode::Lit(_) => Ok(phrase_rule(step.nested)),
+            MarkNode::Lit(_, _) => Ok(phrase_rule(step.nested)),
             MarkNode::Par(input) => {
                 let own = self.subject.own_effect();
                 par_rule(&self.marks, own, input, step.base, step.stack)
@@ -336,23 +377,34 @@ impl<'a> Walker<'a> {
         }
     }
 
-    // Walks the phrase of a literal, which is one nested application.
+    // Walks the phrase of a literal, which is one nested application, under the frame with its marks. One that hasn't a mark for each cell of its
+    // template would have no phrase of the program.
     #[cycle(walk)]
-    fn walk_literal(&mut self, template: u32, step: Step) -> Result<Walked, Memory>
+    fn walk_literal(&mut self, template: u32, frame: u32, step: Step) -> Result<Walked, Memory>
         requires template { template < self.old.marks.templates }
+        requires frame { IsFrame self.old.marks frame }
         requires stack { IsStack self.old.marks step.stack }
         ensures subject { self.new.subject ≡ self.old.subject }
         ensures grows { Grows self.old.marks self.new.marks }
         ensures there { IfOk result (λ walked. IsWalked self.new.marks walked) }
         ensures within { IfOk result (λ walked. IsWithin step.left walked) }
-        ensures walks { IfOk result (λ walked. IsWalkOf self.old.subject self.new.marks step walked (literal_walk self.old.marks step template)) }
+        ensures walks { IfOk result (λ walked. IsWalkOf self.old.subject self.new.marks step walked (literal_walk self.old.marks step template frame)) }
     {
         if step.nested == 0 {
             return Ok(Walked::Refused(Rule::TooDeep, step.place));
         }
         let closed = self.subject.closed;
         match closed.templates.get(template as usize) {
-            Some(found) => self.walk_phrase(&found.body, step.entered()),
+            Some(found) => {
+                if self.marks.cells(frame) as u64 != cells_of(found) {
+                    return Ok(Walked::Refused(Rule::NotKnown, nowhere()));
+                }
+                let inner = Step {
+                    frame,
+                    ..step.entered()
+                };
+                self.walk_phrase(&found.body, inner)
+            }
             None => unreachable!(),
         }
     }
@@ -374,7 +426,14 @@ impl<'a> Walker<'a> {
         let closed = self.subject.closed;
         match closed.program.words.get(word as usize) {
             Some(found) => match &found.sort {
-                Sort::Body(phrase) => self.walk_phrase(phrase, step.entered()),
+                Sort::Body(phrase) => {
+                    let frame = self.marks.no_cells();
+                    let inner = Step {
+                        frame,
+                        ..step.entered()
+                    };
+                    self.walk_phrase(phrase, inner)
+                }
                 _ => unreachable!(),
             },
             None => unreachable!(),
@@ -495,7 +554,7 @@ impl<'a> Walker<'a> {
         ensures walks { IfOk result (λ walked. IsWalkOf self.old.subject self.new.marks step walked (mark_walk self.old.marks step mark)) }
     {
         match self.marks.node(mark) {
-            MarkNode::Lit(template) => self.walk_literal(template, step),
+            MarkNode::Lit(template, frame) => self.walk_literal(template, frame, step),
             MarkNode::Cur(value, callable) => self.walk_curried(mark, value, callable, step),
             MarkNode::Com(first, second) => self.walk_composed(mark, first, second, step),
             MarkNode::Par(input) => self.call_input(input, step),
@@ -814,10 +873,50 @@ impl<'a> Walker<'a> {
         }
     }
 
-    /// Walks a closed phrase. The step's place doesn't matter: each item has its own.
+    // The frame behind an item, which stands under that of the step.
+    fn frame_behind(&mut self, what: &What, step: Step) -> Result<u32, Memory>
+        requires stack { IsStack self.old.marks step.stack }
+        requires frame { IsFrame self.old.marks step.frame }
+        ensures subject { self.new.subject ≡ self.old.subject }
+        ensures grows { Grows self.old.marks self.new.marks }
+        ensures made { IfOk result (λ frame. IsFrameOf self.new.marks frame (λ N. frame_behind (what_item what.now) (stack_of N self.old.marks step.stack) (frame_of N self.old.marks step.frame))) }
+    {
+        match what {
+            What::Bind(_) => match self.marks.pop(step.stack) {
+                Some((mark, _)) => self.marks.bind(step.frame, mark),
+                None => Ok(step.frame),
+            },
+            _ => Ok(step.frame),
+        }
+    }
+
+    // Walks an item, apart from the rest of its phrase.
+    #[cycle(walk)]
+    fn walk_one(&mut self, what: &What, step: Step) -> Result<Walked, Memory>
+        requires stack { IsStack self.old.marks step.stack }
+        requires frame { IsFrame self.old.marks step.frame }
+        requires taken { takes_item self.old.subject.closed.now.program.top (length self.old.subject.closed.now.templates) (what_item what.now) ≡ true }
+        ensures subject { self.new.subject ≡ self.old.subject }
+        ensures grows { Grows self.old.marks self.new.marks }
+        ensures there { IfOk result (λ walked. IsWalked self.new.marks walked) }
+        ensures below { IfOk result (λ walked. IsBelow step.left walked) }
+        ensures walks { IfOk result (λ walked. IsWalkOfOne self.old.subject self.old.marks self.new.marks (what_item what.now) step walked) }
+    {
+        match what {
+            What::Bind(_) => Ok(named(&self.marks, step)),
+            _ => {
+                let subject = self.subject;
+                let doing = item_doing(subject, &mut self.marks, step, what)?;
+                self.walk_item(doing, step)
+            }
+        }
+    }
+
+    /// Walks a closed phrase under the step's frame. The step's place doesn't matter: each item has its own.
     #[cycle(walk)]
     pub fn walk_phrase(&mut self, phrase: &Phrase, step: Step) -> Result<Walked, Memory>
         requires stack { IsStack self.old.marks step.stack }
+        requires frame { IsFrame self.old.marks step.frame }
         requires taken { takes_phrase self.old.subject.closed.now.program.top (length self.old.subject.closed.now.templates) phrase.now ≡ true }
         ensures subject { self.new.subject ≡ self.old.subject }
         ensures grows { Grows self.old.marks self.new.marks }
@@ -825,20 +924,21 @@ impl<'a> Walker<'a> {
         ensures within { IfOk result (λ walked. IsWithin step.left walked) }
         ensures walks { IfOk result (λ walked. IsWalkOfPhrase self.old.subject self.old.marks self.new.marks phrase.now step walked) }
     {
-        let subject = self.subject;
         let mut base = step.base;
         let mut stack = step.stack;
+        let mut frame = step.frame;
         let mut left = step.left;
         for item in &phrase.items {
-            let doing = item_doing(subject, &mut self.marks, base, stack, &item.what)?;
             let here = Step {
                 place: item.place,
                 nested: step.nested,
                 base,
                 stack,
+                frame,
                 left,
             };
-            match self.walk_item(doing, here)? {
+            let behind = self.frame_behind(&item.what, here)?;
+            match self.walk_one(&item.what, here)? {
                 Walked::Refused(rule, place) => return Ok(Walked::Refused(rule, place)),
                 Walked::Found(Reached::Dead, rest) => return Ok(Walked::Found(Reached::Dead, rest)),
                 Walked::Found(
@@ -850,6 +950,7 @@ impl<'a> Walker<'a> {
                 ) => {
                     base = under;
                     stack = next;
+                    frame = behind;
                     left = rest;
                 }
             }

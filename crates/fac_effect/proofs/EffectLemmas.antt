@@ -71,27 +71,27 @@ effects_end xs ys r s e g h k l =
 
 -- Tokens that are read go on to an effect.
 
-abbrev anywhere : Place
+abbrev pub anywhere : Place
 anywhere = record { file = 0; token = 0 }
 
 -- the tokens that close a side, and those around it
-abbrev close_side : Side → List Token → List Token
+abbrev pub close_side : Side → List Token → List Token
 close_side Inputs ts = plain_token anywhere (codes "--") ∷ plain_token anywhere (codes ")") ∷ ts
 close_side Outputs ts = plain_token anywhere (codes ")") ∷ ts
 
-abbrev close_sides : List Side → List Token
+abbrev pub close_sides : List Side → List Token
 close_sides [] = []
 close_sides (side ∷ outer) = close_side side (close_sides outer)
 
-outputs_closed : (spot : Spot) (outer : List Side) (n : ℕ) (ts : List Token) → may_end spot ≡ true → run (closed outer n) ts ≡ whole → run (state Outputs spot outer n) (close_side Outputs ts) ≡ whole
+pub outputs_closed : (spot : Spot) (outer : List Side) (n : ℕ) (ts : List Token) → may_end spot ≡ true → run (closed outer n) ts ≡ whole → run (state Outputs spot outer n) (close_side Outputs ts) ≡ whole
 outputs_closed spot outer n ts h k = one (state Outputs spot outer n) (closed outer n) (plain_token anywhere (codes ")")) ts whole (closes spot outer n anywhere h) k
 
-side_closed : (side : Side) (spot : Spot) (outer : List Side) (n : ℕ) (ts : List Token) → may_end spot ≡ true → run (closed outer n) ts ≡ whole → run (state side spot outer n) (close_side side ts) ≡ whole
+pub side_closed : (side : Side) (spot : Spot) (outer : List Side) (n : ℕ) (ts : List Token) → may_end spot ≡ true → run (closed outer n) ts ≡ whole → run (state side spot outer n) (close_side side ts) ≡ whole
 side_closed Outputs spot outer n ts h k = outputs_closed spot outer n ts h k
 side_closed Inputs spot outer n ts h k =
     one (state Inputs spot outer n) (state Outputs First outer n) (plain_token anywhere (codes "--")) (close_side Outputs ts) whole (dashes spot outer n anywhere h) (outputs_closed First outer n ts refl k)
 
-sides_closed : (outer : List Side) (n : ℕ) → run (closed outer n) (close_sides outer) ≡ whole
+pub sides_closed : (outer : List Side) (n : ℕ) → run (closed outer n) (close_sides outer) ≡ whole
 sides_closed [] n = refl
 sides_closed (side ∷ outer) n = side_closed side Behind outer n (close_sides outer) refl (sides_closed outer n)
 
@@ -101,11 +101,11 @@ pub record Completes (p : Progress) : Type 0 where
   pub rest : List Token
   pub ends : run p (next ∷ rest) ≡ whole
 
-side_completes : (side : Side) (p : Progress) (ts : List Token) → run p (close_side side ts) ≡ whole → Completes p
+abbrev pub side_completes : (side : Side) (p : Progress) (ts : List Token) → run p (close_side side ts) ≡ whole → Completes p
 side_completes Inputs p ts h = record { next = plain_token anywhere (codes "--"); rest = plain_token anywhere (codes ")") ∷ ts; ends = h }
 side_completes Outputs p ts h = record { next = plain_token anywhere (codes ")"); rest = ts; ends = h }
 
-completes : (spot : Spot) (side : Side) (outer : List Side) (n : ℕ) → Completes (state side spot outer n)
+abbrev pub completes : (spot : Spot) (side : Side) (outer : List Side) (n : ℕ) → Completes (state side spot outer n)
 completes Start side outer n =
     record { next = plain_token anywhere (codes "("); rest = close_side Inputs (close_sides outer); ends = one (state side Start outer n) (state Inputs First outer n) (plain_token anywhere (codes "(")) (close_side Inputs (close_sides outer)) whole (starts side outer n anywhere) (side_closed Inputs First outer n (close_sides outer) refl (sides_closed outer n)) }
 completes First side outer n = side_completes side (state side First outer n) (close_sides outer) (side_closed side First outer n (close_sides outer) refl (sides_closed outer n))

@@ -70,7 +70,7 @@ pub entry_named : (side : Side) (spot : Spot) (outer : List Side) (n : ℕ) (t :
 entry_named side spot outer n t c h k ends free few = named (at side spot outer n) t c h k free few ∙ entry_placed side spot outer n c ends
 
 -- the class behind a name
-class_named : (side : Side) (outer : List Side) (n : ℕ) (t : Token) → IsPlainName t → n < most_names → go_on (state side Described outer n) t ≡ state side Behind outer (suc n)
+pub class_named : (side : Side) (outer : List Side) (n : ℕ) (t : Token) → IsPlainName t → n < most_names → go_on (state side Described outer n) t ≡ state side Behind outer (suc n)
 class_named side outer n t h few = named (at side Described outer n) t false h.0 h.1 refl few
 
 -- Signs.
@@ -94,7 +94,7 @@ abbrev pub side_end : Entries → Spot
 side_end no_entries = First
 side_end _ = Behind
 
-side_may_end : (es : Entries) → may_end (side_end es) ≡ true
+pub side_may_end : (es : Entries) → may_end (side_end es) ≡ true
 side_may_end no_entries = refl
 side_may_end (plain name es) = refl
 side_may_end (described name class es) = refl
@@ -111,12 +111,12 @@ inside ins outs d c outer n few h k =
     (closes (side_end outs) outer (n + entries_names ins + entries_names outs) c (side_may_end outs) ∙ ap (closed outer) sum)))
 
 mutual
-  described_runs : (w : Written) (side : Side) (outer : List Side) (n : ℕ) → IsWritten w → n + written_names w ≤ most_names → run (state side Described outer n) (written_tokens w) ≡ state side Behind outer (n + written_names w)
+  pub described_runs : (w : Written) (side : Side) (outer : List Side) (n : ℕ) → IsWritten w → n + written_names w ≤ most_names → run (state side Described outer n) (written_tokens w) ≡ state side Behind outer (n + written_names w)
   described_runs (written o ins d outs c) side outer n h few =
       one (state side Described outer n) (state Inputs First (side ∷ outer) n) (plain_token o (codes "(")) (entries_tokens ins ++ plain_token d (codes "--") ∷ (entries_tokens outs ++ plain_token c (codes ")") ∷ [])) _ (opens side outer n o)
       (inside ins outs d c (side ∷ outer) n few (side_runs ins Inputs (side ∷ outer) n h.0 (omega (arith, few))) (side_runs outs Outputs (side ∷ outer) (n + entries_names ins) h.1 (omega (arith, few))))
 
-  values_run : (es : Entries) (side : Side) (outer : List Side) (n : ℕ) → AreValues es → n + entries_names es ≤ most_names → run (state side Behind outer n) (entries_tokens es) ≡ state side Behind outer (n + entries_names es)
+  pub values_run : (es : Entries) (side : Side) (outer : List Side) (n : ℕ) → AreValues es → n + entries_names es ≤ most_names → run (state side Behind outer n) (entries_tokens es) ≡ state side Behind outer (n + entries_names es)
   values_run no_entries side outer n h few = counted side Behind outer n (n + 0) (omega arith)
   values_run (plain name es) side outer n h few =
       one (state side Behind outer n) (state side Behind outer (suc n)) name (entries_tokens es) _ (entry_named side Behind outer n name false h.0.0 h.0.1 refl h.1 (omega (arith, few)))
@@ -130,7 +130,7 @@ mutual
       (chain (state side Described outer (suc n)) (state side Behind outer (suc n + written_names w)) (written_tokens w) (entries_tokens es) _ (described_runs w side outer (suc n) h.2 (omega (arith, few)))
       (values_run es side outer (suc n + written_names w) h.3 (omega (arith, few)) ∙ counted side Behind outer (suc n + written_names w + entries_names es) (n + suc (written_names w + entries_names es)) (omega arith)))
 
-  side_runs : (es : Entries) (side : Side) (outer : List Side) (n : ℕ) → IsSide es → n + entries_names es ≤ most_names → run (state side First outer n) (entries_tokens es) ≡ state side (side_end es) outer (n + entries_names es)
+  pub side_runs : (es : Entries) (side : Side) (outer : List Side) (n : ℕ) → IsSide es → n + entries_names es ≤ most_names → run (state side First outer n) (entries_tokens es) ≡ state side (side_end es) outer (n + entries_names es)
   side_runs no_entries side outer n h few = counted side First outer n (n + 0) (omega arith)
   side_runs (plain name es) side outer n h few =
       one (state side First outer n) (state side Behind outer (suc n)) name (entries_tokens es) _ (entry_named side First outer n name false h.0.0 h.0.1 refl refl (omega (arith, few)))

@@ -7,3 +7,4 @@ pub mod EffectLemmas
 pub mod PartLemmas
 pub mod EffectEndLemmas
 pub mod ExamplesOfEffects
+pub mod LocalNameLemmas

@@ -7,20 +7,21 @@ use Rattle.fac_lang.specs.declared.phrase.Place.{Place}
 use Rattle.fac_lang.specs.declared.token.Token.{Token}
 use Rattle.fac_lang.specs.declared.token.TokKind.{TokKind}
 use Rattle.fac_lang.specs.declared.token.TokKind.TheVariants.{Plain, Str}
-use Rattle.fac_lang.specs.declared.tree.FormKind.TheVariants.{In, Use, Using, From, QualifiedWith, Defer, Symbol, Constant, Private, Public, Main, Define, Tuple, Union, Singleton, Generic, Method, Maker}
-use Rattle.fac_lang.specs.declared.tree.Bracket.TheVariants.{Quotation, Array}
+use Rattle.fac_lang.specs.declared.tree.FormKind.TheVariants.{In, Use, Using, From, QualifiedWith, Defer, Symbol, Constant, Private, Public, Main, Define, DefineLocals, Tuple, Union, Singleton, Generic, Method, Maker}
+use Rattle.fac_lang.specs.declared.tree.Bracket.TheVariants.{Quotation, Array, Fry}
 use Rattle.fac_lang.specs.declared.tree.Key.TheVariants.{Arrow}
 use Rattle.fac_effect.specs.declared.spelling.Spelling.{Spelling}
-use Rattle.fac_effect.specs.declared.spelling.Spelling.TheVariants.{Begins, Fixed, Semi, Opens, Closes, Dashes, OpensBracket, ClosesBracket, True, False, Inline, Recursive, NextMethod, Integer, String, Name, Other}
+use Rattle.fac_effect.specs.declared.spelling.Spelling.TheVariants.{Begins, Fixed, Semi, Opens, Closes, Dashes, OpensBracket, ClosesBracket, OpensLocals, Bar, Binds, Hole, CalledHole, True, False, Inline, Recursive, NextMethod, Integer, String, Name, Other}
 use Rattle.fac_lang.specs.Numbers.{signed_in, integer_in, in_range}
 use Rattle.fac_effect.specs.Spellings.{has_integer_form, is_reserved, sign_text, signs, sign_among, with_text, sign_spelling, word_spelling, integer_spelling, spelling_of, string_spelling, token_spelling, token_text, plain_token}
 
--- spellings of one text
+-- spellings of one text, by which a token is told: a fry is closed by the token of a quotation
 abbrev pub IsSign : Spelling → Type 0
 IsSign (Integer z) = ⊥
 IsSign String = ⊥
 IsSign Name = ⊥
 IsSign Other = ⊥
+IsSign (ClosesBracket Fry) = ⊥
 IsSign _ = Unit {0}
 
 -- a sign is spelled as its text says
@@ -38,6 +39,7 @@ sign_is (Begins Private) h = refl
 sign_is (Begins Public) h = refl
 sign_is (Begins Main) h = refl
 sign_is (Begins Define) h = refl
+sign_is (Begins DefineLocals) h = refl
 sign_is (Begins Tuple) h = refl
 sign_is (Begins Union) h = refl
 sign_is (Begins Singleton) h = refl
@@ -53,6 +55,13 @@ sign_is (OpensBracket Quotation) h = refl
 sign_is (OpensBracket Array) h = refl
 sign_is (ClosesBracket Quotation) h = refl
 sign_is (ClosesBracket Array) h = refl
+sign_is (OpensBracket Fry) h = refl
+sign_is (ClosesBracket Fry) h = absurd h
+sign_is OpensLocals h = refl
+sign_is Bar h = refl
+sign_is Binds h = refl
+sign_is Hole h = refl
+sign_is CalledHole h = refl
 sign_is True h = refl
 sign_is False h = refl
 sign_is Inline h = refl

@@ -1,5 +1,5 @@
 -- Laws of reading effects. Each is the contract of a function that does nothing.
-use Rattle.std.specs.Prelude.{◌≡◌, List, ◌++◌}
+use Rattle.std.specs.Prelude.{◌≡◌, List, ◌++◌, true}
 use Rattle.fac_lang.specs.declared.token.Token.{Token}
 use Rattle.fac_lang.specs.Signatures.{Signature}
 use Rattle.fac_effect.specs.declared.effect_reader.EffectReader.{EffectReader}
@@ -7,6 +7,7 @@ use Rattle.fac_effect.specs.declared.effect_reader.EffectWhy.{EffectWhy}
 use Rattle.fac_effect.specs.WrittenEffects.{IsEffect, BeginsEffect, IsUnfinished}
 use Rattle.fac_effect.specs.EffectReading.{reads, whole, refused, after}
 use Rattle.fac_effect.specs.SaidEffects.{effect_of}
+use Rattle.fac_effect.specs.LocalNames.{takes_locals, name_locals}
 
 -- Tokens are whole exactly where they are those of an effect, and then they say one thing.
 abbrev pub WholeIsEffect : Type 0
@@ -26,3 +27,11 @@ ReadGoesOn = (tokens : List Token) (r : EffectReader) → after tokens ≡ reads
 -- No effect begins with tokens that are refused.
 abbrev pub RefusedIsNone : Type 0
 RefusedIsNone = (tokens : List Token) (why : EffectWhy) → after tokens ≡ refused why → BeginsEffect tokens → ⊥
+
+-- The tokens of an effect show whether its inputs may be locals.
+abbrev pub InputsAreNamed : Type 0
+InputsAreNamed = (tokens : List Token) (effect : Signature) → IsEffect tokens effect → name_locals tokens ≡ takes_locals effect
+
+-- Tokens whose inputs may be locals go on to an effect whose inputs may.
+abbrev pub LocalsGoOn : Type 0
+LocalsGoOn = (tokens : List Token) (r : EffectReader) → after tokens ≡ reads r → name_locals tokens ≡ true → (u : IsUnfinished tokens) × (takes_locals u.effect ≡ true)

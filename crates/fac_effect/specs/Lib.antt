@@ -2,6 +2,7 @@ pub mod Spellings
 pub mod WrittenEffects
 pub mod EffectReading
 pub mod SaidEffects
+pub mod LocalNames
 pub mod EffectLaws
 pub mod ParsedEffects
 pub mod inner

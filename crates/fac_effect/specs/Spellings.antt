@@ -9,13 +9,13 @@ use Rattle.fac_lang.specs.declared.token.TokKind.TheVariants.{Plain, Str}
 use Rattle.fac_lang.specs.declared.phrase.Place.{Place}
 use Rattle.fac_lang.specs.declared.token.Token.{Token}
 use Rattle.fac_lang.specs.declared.tree.FormKind.{FormKind}
-use Rattle.fac_lang.specs.declared.tree.FormKind.TheVariants.{In, Use, Using, From, QualifiedWith, Defer, Symbol, Constant, Private, Public, Main, Define, Tuple, Union, Singleton, Generic, Method, Maker}
+use Rattle.fac_lang.specs.declared.tree.FormKind.TheVariants.{In, Use, Using, From, QualifiedWith, Defer, Symbol, Constant, Private, Public, Main, Define, DefineLocals, Tuple, Union, Singleton, Generic, Method, Maker}
 use Rattle.fac_lang.specs.declared.tree.Bracket.{Bracket}
-use Rattle.fac_lang.specs.declared.tree.Bracket.TheVariants.{Quotation, Array}
+use Rattle.fac_lang.specs.declared.tree.Bracket.TheVariants.{Quotation, Array, Fry}
 use Rattle.fac_lang.specs.declared.tree.Key.{Key}
 use Rattle.fac_lang.specs.declared.tree.Key.TheVariants.{Arrow}
 use Rattle.fac_effect.specs.declared.spelling.Spelling.{Spelling}
-use Rattle.fac_effect.specs.declared.spelling.Spelling.TheVariants.{Begins, Fixed, Semi, Opens, Closes, OpensBracket, ClosesBracket, True, False, Inline, Recursive, NextMethod, Integer, String, Name, Other, Dashes}
+use Rattle.fac_effect.specs.declared.spelling.Spelling.TheVariants.{Begins, Fixed, Semi, Opens, Closes, OpensBracket, ClosesBracket, OpensLocals, Bar, Binds, Hole, CalledHole, True, False, Inline, Recursive, NextMethod, Integer, String, Name, Other, Dashes}
 
 -- a plain token at a place
 abbrev pub plain_token : Place → List ℕ → Token
@@ -40,6 +40,7 @@ head_of Private = codes "<PRIVATE"
 head_of Public = codes "PRIVATE>"
 head_of Main = codes "MAIN:"
 head_of Define = codes ":"
+head_of DefineLocals = codes "::"
 head_of Tuple = codes "TUPLE:"
 head_of Union = codes "UNION:"
 head_of Singleton = codes "SINGLETON:"
@@ -51,14 +52,16 @@ head_of Maker = codes "C:"
 abbrev pub key_text : Key → List ℕ
 key_text Arrow = codes "=>"
 
--- the tokens in which a quotation or an array stands
+-- the tokens in which a quotation, an array or a fry stands
 abbrev pub opening_text : Bracket → List ℕ
 opening_text Quotation = codes "["
 opening_text Array = codes "{"
+opening_text Fry = codes "'["
 
 abbrev pub closing_text : Bracket → List ℕ
 closing_text Quotation = codes "]"
 closing_text Array = codes "}"
+closing_text Fry = codes "]"
 
 -- a text in one of the integer forms, in range or not
 unfoldable pub has_integer_form : List ℕ → Bool
@@ -104,6 +107,11 @@ sign_text Closes = codes ")"
 sign_text Dashes = codes "--"
 sign_text (OpensBracket bracket) = opening_text bracket
 sign_text (ClosesBracket bracket) = closing_text bracket
+sign_text OpensLocals = codes "[|"
+sign_text Bar = codes "|"
+sign_text Binds = codes ":>"
+sign_text Hole = codes "_"
+sign_text CalledHole = codes "@"
 sign_text True = codes "t"
 sign_text False = codes "f"
 sign_text Inline = codes "inline"
@@ -115,9 +123,9 @@ sign_text _ = []
 abbrev pub signs : List Spelling
 signs =
     Begins In ∷ Begins Use ∷ Begins Using ∷ Begins From ∷ Begins QualifiedWith ∷ Begins Defer ∷ Begins Symbol ∷ Begins Constant ∷
-    Begins Private ∷ Begins Public ∷ Begins Main ∷ Begins Define ∷
+    Begins Private ∷ Begins Public ∷ Begins Main ∷ Begins Define ∷ Begins DefineLocals ∷
     Begins Tuple ∷ Begins Union ∷ Begins Singleton ∷ Begins Generic ∷ Begins Method ∷ Begins Maker ∷ Semi ∷ Opens ∷ Closes ∷ Dashes ∷
-    OpensBracket Quotation ∷ ClosesBracket Quotation ∷ OpensBracket Array ∷ ClosesBracket Array ∷ True ∷ False ∷ Inline ∷ Recursive ∷ NextMethod ∷ Fixed Arrow ∷ []
+    OpensBracket Quotation ∷ ClosesBracket Quotation ∷ OpensBracket Array ∷ ClosesBracket Array ∷ OpensBracket Fry ∷ OpensLocals ∷ Bar ∷ Binds ∷ Hole ∷ CalledHole ∷ True ∷ False ∷ Inline ∷ Recursive ∷ NextMethod ∷ Fixed Arrow ∷ []
 
 -- the first of these that is of this text
 abbrev pub sign_among : List (List ℕ × Spelling) → List ℕ → Option Spelling

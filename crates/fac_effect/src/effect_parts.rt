@@ -22,8 +22,8 @@ fn has_text(token: &Token, sign: &str) -> bool
     text(&token.kind) == sign
 }
 
-// A name without the colon in which it ends. None where it ends in none.
-fn described_name(name: &str) -> Option<&str>
+/// A name without the colon in which it ends. None where it ends in none.
+pub fn described_name(name: &str) -> Option<&str>
     ensures { MatchOption result (is_described_name name.now ≡ false) (λ stem. (is_described_name name.now ≡ true) × (stem.now ≡ without_colon name.now)) }
 {
     name.strip_suffix(":")

@@ -219,8 +219,8 @@ fn is_behind(spot: Spot) -> bool
     }
 }
 
-// Whether a side may end at a spot.
-fn may_end(spot: Spot) -> bool
+/// Whether a side may end at a spot.
+pub fn may_end(spot: Spot) -> bool
     ensures { result ≡ ends_at spot }
 {
     match spot {

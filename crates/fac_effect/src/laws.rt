@@ -1,6 +1,6 @@
 //! Laws, each on the contract of a function that does nothing.
 ghost use Rattle.fac_effect.specs.Spellings.{LiteralsAreIntegers};
-ghost use Rattle.fac_effect.specs.EffectLaws.{WholeIsEffect, EffectIsWhole, EffectsEnd, ReadGoesOn, RefusedIsNone};
+ghost use Rattle.fac_effect.specs.EffectLaws.{WholeIsEffect, EffectIsWhole, EffectsEnd, ReadGoesOn, RefusedIsNone, InputsAreNamed, LocalsGoOn};
 
 /// A plain token is an integer exactly where the primitives on texts of numbers read its text as one, and has the same value.
 pub fn literals_are_integers()
@@ -30,4 +30,14 @@ pub fn read_goes_on()
 /// No effect begins with tokens of which a reader refused one.
 pub fn refused_is_none()
     ensures { RefusedIsNone }
+{}
+
+/// The tokens of an effect show, one by one, whether its inputs may be locals.
+pub fn inputs_are_named()
+    ensures { InputsAreNamed }
+{}
+
+/// Where a reader takes tokens, they aren't whole, and the inputs among them may be locals, they go on to an effect whose inputs may.
+pub fn locals_go_on()
+    ensures { LocalsGoOn }
 {}

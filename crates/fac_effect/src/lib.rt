@@ -6,6 +6,7 @@ mod effect_parts;
 mod effect_reader;
 mod heights;
 mod laws;
+mod local_names;
 mod row_variables;
 mod spelling;
 
@@ -14,8 +15,9 @@ pub use effect_parts::effect_from;
 pub use effect_reader::{EffectReader, EffectWhy, Side, Spot, Taken};
 pub use heights::{curried, fits, then};
 pub use laws::{
-    effect_is_whole, effects_end, literals_are_integers, read_goes_on, refused_is_none,
-    whole_is_effect,
+    effect_is_whole, effects_end, inputs_are_named, literals_are_integers, locals_go_on,
+    read_goes_on, refused_is_none, whole_is_effect,
 };
+pub use local_names::{is_local_name, may_stand};
 pub use row_variables::{bindable, has_rows, is_row_word};
 pub use spelling::{Spelling, classify, text};

@@ -24,10 +24,20 @@ pub enum Spelling {
     Closes,
     /// `--`
     Dashes,
-    /// The token that opens a bracket: `[` or `{`.
+    /// The token that opens a bracket: `[`, `{` or `'[`.
     OpensBracket(Bracket),
-    /// The token that closes a bracket: `]` or `}`.
+    /// The token that closes a bracket: `}`, or `]`, which is that of a quotation, and closes a fry too.
     ClosesBracket(Bracket),
+    /// `[|`
+    OpensLocals,
+    /// `|`
+    Bar,
+    /// `:>`
+    Binds,
+    /// `_`
+    Hole,
+    /// `@`
+    CalledHole,
     /// `t`
     True,
     /// `f`
@@ -125,7 +135,7 @@ fn reserved(text: &str) -> bool
 
 // The tokens that forms are made of, each with its text.
 #[rattlefmt::skip]
-static FORM_SIGNS: [(&str, Spelling); 32] = [
+static FORM_SIGNS: [(&str, Spelling); 39] = [
     ("IN:", Spelling::Begins(FormKind::In)),
     ("USE:", Spelling::Begins(FormKind::Use)),
     ("USING:", Spelling::Begins(FormKind::Using)),
@@ -138,6 +148,7 @@ static FORM_SIGNS: [(&str, Spelling); 32] = [
     ("PRIVATE>", Spelling::Begins(FormKind::Public)),
     ("MAIN:", Spelling::Begins(FormKind::Main)),
     (":", Spelling::Begins(FormKind::Define)),
+    ("::", Spelling::Begins(FormKind::DefineLocals)),
     ("TUPLE:", Spelling::Begins(FormKind::Tuple)),
     ("UNION:", Spelling::Begins(FormKind::Union)),
     ("SINGLETON:", Spelling::Begins(FormKind::Singleton)),
@@ -152,6 +163,12 @@ static FORM_SIGNS: [(&str, Spelling); 32] = [
     ("]", Spelling::ClosesBracket(Bracket::Quotation)),
     ("{", Spelling::OpensBracket(Bracket::Array)),
     ("}", Spelling::ClosesBracket(Bracket::Array)),
+    ("'[", Spelling::OpensBracket(Bracket::Fry)),
+    ("[|", Spelling::OpensLocals),
+    ("|", Spelling::Bar),
+    (":>", Spelling::Binds),
+    ("_", Spelling::Hole),
+    ("@", Spelling::CalledHole),
     ("t", Spelling::True),
     ("f", Spelling::False),
     ("inline", Spelling::Inline),

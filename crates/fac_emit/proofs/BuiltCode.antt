@@ -1,5 +1,5 @@
 -- The plain code of a closed program has built primitives alone.
-use Rattle.std.proofs.Common.{◌≡◌, ℕ, zero, suc, List, [], ◌∷◌, ◌++◌, Bool, true, false, ◌&&◌, refl, subst, sym, arith}
+use Rattle.std.proofs.Common.{◌≡◌, ℕ, zero, suc, List, [], ◌∷◌, ◌++◌, Option, Some, None, Bool, true, false, ◌&&◌, refl, subst, sym, arith}
 use Rattle.std.specs.Prelude.{length, nat_eq, slice_get}
 use Rattle.fac_lang.specs.declared.phrase.Template.{Template}
 use Rattle.fac_lang.specs.declared.program.Program.{Program}
@@ -14,7 +14,8 @@ use Rattle.fac_code.specs.declared.image.Instr.{Instr}
 use Rattle.fac_code.specs.declared.image.Instr.TheVariants.{Ret}
 use Rattle.fac_code.specs.Code.{is_built_instr, has_built_code}
 use Rattle.fac_emit.specs.ProgramTables.{table_texts}
-use Rattle.fac_emit.specs.ProgramCode.{core_instr, sort_instr, word_instr, item_instr, with_text, phrase_code, phrase_texts, templates_code, templates_texts, last_instr, sort_code, sort_texts, code_from, program_code}
+use Rattle.fac_emit.specs.ProgramCode.{core_instr, sort_instr, word_instr, made_instr, item_instr, with_text, phrase_code, phrase_texts, templates_code, templates_texts, last_instr, sort_code, sort_texts, code_from, program_code}
+use Rattle.fac_emit.specs.Stands.{making}
 use Rattle.fac_emit.proofs.Closings.{Alike, a_same, a_body, a_past, a_method, AlikeWords, alike_words}
 
 -- a word that isn't a primitive that isn't built
@@ -78,8 +79,17 @@ word_built C [] w k h = refl
 word_built C (d ∷ ds) w zero h = sort_built C w d.sort h.0
 word_built C (d ∷ ds) w (suc k) h = word_built C ds w k h.1
 
-module _ (C : Program) (fit : AllFit C.words) where
-  item_built : (k : ℕ) (i : Item) → is_built_instr (item_instr C k i) ≡ true
+-- the instruction of a quotation or fry
+made_built : (q : ℕ) (o : Option Template) → is_built_instr (made_instr q o) ≡ true
+made_built q None = refl
+made_built q (Some t) = by t.holes
+  where
+    by : (n : ℕ) → is_built_instr (making q n) ≡ true
+    by zero = refl
+    by (suc n) = refl
+
+module _ (C : Program) (templates : List Template) (fit : AllFit C.words) where
+  item_built : (k : ℕ) (i : Item) → is_built_instr (item_instr C templates k i) ≡ true
   item_built k (lit (int z)) = refl
   item_built k (lit yes) = refl
   item_built k (lit no) = refl
@@ -87,33 +97,33 @@ module _ (C : Program) (fit : AllFit C.words) where
   item_built k (lit (wrd w)) = refl
   item_built k (lit_arr a) = refl
   item_built k (word w) = word_built C C.words w w fit
-  item_built k (made q) = refl
+  item_built k (made q) = made_built q (slice_get templates q)
   item_built k _ = refl
 
-  phrase_built : (last : Instr) (texts : List (List ℕ)) (t : Phrase) → is_built_instr last ≡ true → has_built_code (phrase_code C last texts t) ≡ true
+  phrase_built : (last : Instr) (texts : List (List ℕ)) (t : Phrase) → is_built_instr last ≡ true → has_built_code (phrase_code C templates last texts t) ≡ true
   phrase_built last texts end l = and_true (is_built_instr last) true l refl
   phrase_built last texts (then i p t) l =
-      and_true (is_built_instr (item_instr C (length texts) i)) (has_built_code (phrase_code C last (with_text texts i) t)) (item_built (length texts) i) (phrase_built last (with_text texts i) t l)
+      and_true (is_built_instr (item_instr C templates (length texts) i)) (has_built_code (phrase_code C templates last (with_text texts i) t)) (item_built (length texts) i) (phrase_built last (with_text texts i) t l)
 
-  templates_built : (texts : List (List ℕ)) (ts : List Template) → has_built_code (templates_code C texts ts) ≡ true
+  templates_built : (texts : List (List ℕ)) (ts : List Template) → has_built_code (templates_code C templates texts ts) ≡ true
   templates_built texts [] = refl
   templates_built texts (t ∷ ts) =
-      let next = phrase_texts texts t.body in both_built (phrase_code C Ret texts t.body) (templates_code C next ts) (phrase_built Ret texts t.body refl) (templates_built next ts)
+      let next = phrase_texts texts t.body in both_built (phrase_code C templates Ret texts t.body) (templates_code C templates next ts) (phrase_built Ret texts t.body refl) (templates_built next ts)
 
-  sort_code_built : (is_top : Bool) (texts : List (List ℕ)) (s : Sort) → has_built_code (sort_code C is_top texts s) ≡ true
+  sort_code_built : (is_top : Bool) (texts : List (List ℕ)) (s : Sort) → has_built_code (sort_code C templates is_top texts s) ≡ true
   sort_code_built is_top texts (body t) = phrase_built (last_instr is_top) texts t (last_built is_top)
   sort_code_built is_top texts (method c g t) = phrase_built (last_instr is_top) texts t (last_built is_top)
   sort_code_built is_top texts _ = refl
 
-  words_built : (texts : List (List ℕ)) (w : ℕ) (ds : List WordDef) → has_built_code (code_from C texts w ds) ≡ true
+  words_built : (texts : List (List ℕ)) (w : ℕ) (ds : List WordDef) → has_built_code (code_from C templates texts w ds) ≡ true
   words_built texts w [] = refl
   words_built texts w (d ∷ ds) =
       let next = sort_texts texts d.sort in
-      both_built (sort_code C (nat_eq w C.top) texts d.sort) (code_from C next (suc w) ds) (sort_code_built (nat_eq w C.top) texts d.sort) (words_built next (suc w) ds)
+      both_built (sort_code C templates (nat_eq w C.top) texts d.sort) (code_from C templates next (suc w) ds) (sort_code_built (nat_eq w C.top) texts d.sort) (words_built next (suc w) ds)
 
 pub code_built : (P C : Program) (templates : List Template) → IsBuilt P → Closes P C templates → has_built_code (program_code C templates) ≡ true
 code_built P C templates b closes =
     let fit = all_fit P C templates b closes in
     let first = table_texts C in
     let texts = templates_texts first templates in
-    both_built (templates_code C first templates) (code_from C texts 0 C.words) (templates_built C fit first templates) (words_built C fit texts 0 C.words)
+    both_built (templates_code C templates first templates) (code_from C templates texts 0 C.words) (templates_built C templates fit first templates) (words_built C templates fit texts 0 C.words)

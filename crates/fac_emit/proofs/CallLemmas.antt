@@ -1,42 +1,35 @@
 -- The steps of the cases that call, from what stands behind the call to the case itself.
-use Rattle.std.proofs.Common.{◌≡◌, ◌≢◌, ℕ, zero, suc, ◌+◌, ◌≤◌, ◌<◌, List, [], ◌∷◌, ◌++◌, length, Bool, true, false, Option, Some, None, refl, ap, sym, subst, ◌∙◌, arith}
+use Rattle.std.proofs.Common.{◌≡◌, ◌≢◌, ℕ, zero, suc, ◌+◌, ◌≤◌, ◌<◌, List, [], ◌∷◌, ◌++◌, Bool, true, false, Option, Some, None, refl, ap, sym, subst, ◌∙◌, arith}
 use Rattle.std.specs.Prelude.{slice_get}
 use Rattle.fac_lang.specs.declared.phrase.Place.{Place}
 use Rattle.fac_lang.specs.declared.program.Program.{Program}
 use Rattle.fac_lang.specs.declared.program.Sort.{Sort}
-use Rattle.fac_lang.specs.declared.program.Sort.TheVariants.{Prim as prim_sort, Core as core_sort, Body as body, Method as method}
-use Rattle.fac_lang.specs.Phrases.{arr, Phrase, end, then, Item, lit_arr, quot, word, Value, fun, of_phrase}
-use Rattle.fac_lang.specs.World.{World, State, pile, push, push_each}
-use Rattle.fac_lang.specs.Printed.{Names}
-use Rattle.fac_lang.specs.PrimitiveWords.{outputs_of}
-use Rattle.fac_lang.specs.Procedures.{Gives, gives, bad, Fn, fn0, fn1, fn2, fn3}
-use Rattle.fac_lang.specs.Primitives.{Primitive, prim_numbered, prim_fn, seen_no}
-use Rattle.fac_lang.specs.Eval.{Result, Stuck, then_do, Act, wrong, goes, runs, Run, run_callable, go_on}
-use Rattle.fac_lang.specs.Meaning.{meaning_values, names, sort_of, sort_phrase, word_phrase, Core, core_numbered, c_call as w_call, c_dip as w_dip, c_if as w_if, does, given, prim_act, core_act, sort_act, pushes_array, act}
+use Rattle.fac_lang.specs.declared.program.Sort.TheVariants.{Core as core_sort, Body as body, Method as method}
+use Rattle.fac_lang.specs.Phrases.{Phrase, then, Item, word, Value, fun, of_phrase}
+use Rattle.fac_lang.specs.World.{World, State, pile, push_each}
+use Rattle.fac_lang.specs.Primitives.{seen_no}
+use Rattle.fac_lang.specs.Eval.{Result, Stuck, then_do, Act, runs, Run, run_callable}
+use Rattle.fac_lang.specs.Meaning.{sort_of, sort_phrase, word_phrase, Core, core_numbered, c_call as w_call, c_dip as w_dip, c_if as w_if, core_act, sort_act, act}
 use Rattle.fac_lang.proofs.Laws.{Within, within_call}
 use Rattle.fac_code.specs.declared.image.Instr.{Instr}
-use Rattle.fac_code.specs.declared.image.Instr.TheVariants.{Array, Quot, Prim as prim_instr, Callw, Call, Dip, If, Ret}
+use Rattle.fac_code.specs.declared.image.Instr.TheVariants.{Callw, Call, Dip, If, Ret}
 use Rattle.fac_code.specs.declared.image.Image.{Image}
-use Rattle.fac_code.specs.declared.image.TemplateRow.{TemplateRow}
 use Rattle.fac_code.specs.declared.image.WordRow.{WordRow}
-use Rattle.fac_code.specs.ImageNames.{image_names}
 use Rattle.fac_code.specs.declared.image.Action.TheVariants as action
-use Rattle.fac_code.specs.declared.names.TrapWhy.TheVariants.{Kind as t_kind, Frame as t_frame}
-use Rattle.fac_store.specs.MachineValues.{MValue, m_plain, m_fun, MCallable, m_lit, m_cur, m_com, kept_list, m_seen, machine_values, cells_at}
-use Rattle.fac_vm.specs.Machine.{Machine, Entry, resume, put_back, enter, spent, Step, goes_on, ends, after, given as machine_given, does as machine_does, word_with, or_trap, code_of, branch, entering, fetched, step}
-use Rattle.fac_vm.proofs.Leading.{leads_none, ends_step}
-use Rattle.fac_emit.specs.MachineView.{Templates, value_view, callable_view, values_view, world_view, state_view, gives_view}
+use Rattle.fac_code.specs.declared.names.TrapWhy.TheVariants.{Kind as t_kind}
+use Rattle.fac_store.specs.MachineValues.{MValue, m_plain, m_fun, MCallable, m_lit, m_cur, m_com, kept_list, m_seen}
+use Rattle.fac_vm.specs.Machine.{Machine, Entry, resume, put_back, enter, Step, goes_on, or_trap, code_of, branch, entering, fetched, step}
+use Rattle.fac_vm.proofs.Leading.{ends_step}
+use Rattle.fac_emit.specs.MachineView.{Templates, value_view, callable_view, values_view, world_view, state_view}
 use Rattle.fac_emit.specs.Stands.{RunsPhrase, HasCode}
 use Rattle.fac_emit.specs.WholeValues as whole
-use Rattle.fac_emit.specs.Symbols.{Sym, here, off, k_phrase, Task, do_phrase, Needs, heres, AllHere, ins, outs, count}
+use Rattle.fac_emit.specs.Symbols.{Sym, Task, do_phrase, AllHere}
 use Rattle.fac_emit.proofs.RunLaws.{free, spares, Stays, stays_phrase, stays_call, live_first, live_rest}
-use Rattle.fac_emit.proofs.SymbolicStacks.{Left, l_phrase, r_here, r_off, r_phrase, Lies, lies_none, lies_more, Keeps, keeps_none, keeps_phrase, Has, has, too_short, needed, all_here, trim, lies_pile}
-use Rattle.fac_emit.proofs.GivenValues.{IsLong, IsCounted, prim_counted}
-use Rattle.fac_emit.proofs.WholeValueLemmas.{pile_whole, kept_whole, cells_whole, made, made_whole, branch_whole}
-use Rattle.fac_emit.proofs.SamePrimitives.{Same, prim_same, seen_same}
-use Rattle.fac_emit.proofs.KeptPrimitives.{prim_keeps}
-use Rattle.fac_emit.proofs.Following.{Setting, owing, state, HasNoGuard, at, left, Follows, step_before, fetch, spent_here, then_follows, owe, Live, Go}
-use Rattle.fac_emit.proofs.Following.{CallsTo, Templated, first_is, first_goes, first_runs, live_is, live_goes, live_runs, wrong_here, stays_left}
+use Rattle.fac_emit.proofs.SymbolicStacks.{Left, l_phrase, Lies, lies_none, Keeps, keeps_phrase, all_here}
+use Rattle.fac_emit.proofs.WholeValueLemmas.{pile_whole, kept_whole, branch_whole}
+use Rattle.fac_emit.proofs.SamePrimitives.{seen_same}
+use Rattle.fac_emit.proofs.Following.{Setting, state, HasNoGuard, at, left, Follows, step_before, fetch, spent_here, then_follows, Live, Go}
+use Rattle.fac_emit.proofs.Following.{CallsTo, Templated, first_runs, live_runs, wrong_here, stays_left}
 
 module _ (Y : Setting) where
   -- short names of what a setting has, as in Following: names under a module's argument aren't handed on without it
@@ -73,7 +66,7 @@ module _ (Y : Setting) where
   abbrev WholeCallable : MCallable → Type 0
   WholeCallable = whole.WholeCallable M
 
-  pile_views : (put ms : List MValue) → values_view T (pile put ms) ≡ pile (values_view T put) (values_view T ms)
+  pub pile_views : (put ms : List MValue) → values_view T (pile put ms) ≡ pile (values_view T put) (values_view T ms)
   pile_views [] ms = refl
   pile_views (v ∷ put) ms = pile_views put (v ∷ ms)
 

@@ -1,42 +1,39 @@
 -- The step of each case of the relation, from what stands behind it to the case itself: values, quotations and primitives.
-use Rattle.std.proofs.Common.{◌≡◌, ◌≢◌, ℕ, zero, suc, ◌+◌, ◌≤◌, ◌<◌, List, [], ◌∷◌, ◌++◌, length, Bool, true, false, Option, Some, None, refl, ap, sym, subst, ◌∙◌, arith}
+use Rattle.std.proofs.Common.{◌≡◌, ◌≢◌, ℕ, zero, suc, ◌+◌, ◌≤◌, ◌<◌, List, [], ◌∷◌, ◌++◌, length, Option, Some, None, refl, ap, sym, subst, ◌∙◌, arith}
 use Rattle.std.specs.Prelude.{slice_get}
 use Rattle.fac_lang.specs.declared.phrase.Place.{Place}
 use Rattle.fac_lang.specs.declared.program.Program.{Program}
 use Rattle.fac_lang.specs.declared.program.Sort.{Sort}
-use Rattle.fac_lang.specs.declared.program.Sort.TheVariants.{Prim as prim_sort, Core as core_sort, Body as body, Method as method}
+use Rattle.fac_lang.specs.declared.program.Sort.TheVariants.{Prim as prim_sort}
 use Rattle.fac_lang.specs.Phrases.{arr, Phrase, end, then, Item, lit_arr, quot, word, Value, fun, of_phrase}
-use Rattle.fac_lang.specs.World.{World, State, pile, push, push_each}
+use Rattle.fac_lang.specs.World.{World, State, pile, push}
 use Rattle.fac_lang.specs.Printed.{Names}
 use Rattle.fac_lang.specs.PrimitiveWords.{outputs_of}
 use Rattle.fac_lang.specs.Procedures.{Gives, gives, bad, Fn, fn0, fn1, fn2, fn3}
-use Rattle.fac_lang.specs.Primitives.{Primitive, prim_numbered, prim_fn, seen_no}
-use Rattle.fac_lang.specs.Eval.{Result, Stuck, then_do, Act, wrong, goes, runs, Run, run_callable, go_on}
-use Rattle.fac_lang.specs.Meaning.{meaning_values, names, sort_of, sort_phrase, word_phrase, Core, core_numbered, c_call as w_call, c_dip as w_dip, c_if as w_if, does, given, prim_act, core_act, sort_act, pushes_array, act}
-use Rattle.fac_lang.proofs.Laws.{Within, within_call}
+use Rattle.fac_lang.specs.Primitives.{Primitive, prim_numbered, prim_fn}
+use Rattle.fac_lang.specs.Eval.{Result, Stuck, then_do, Act, wrong, goes, Run, go_on}
+use Rattle.fac_lang.specs.Meaning.{meaning_values, names, sort_of, does, given, prim_act, sort_act, pushes_array, act}
 use Rattle.fac_code.specs.declared.image.Instr.{Instr}
-use Rattle.fac_code.specs.declared.image.Instr.TheVariants.{Array, Quot, Prim as prim_instr, Callw, Call, Dip, If, Ret}
+use Rattle.fac_code.specs.declared.image.Instr.TheVariants.{Array, Quot, Prim as prim_instr}
 use Rattle.fac_code.specs.declared.image.Image.{Image}
 use Rattle.fac_code.specs.declared.image.TemplateRow.{TemplateRow}
-use Rattle.fac_code.specs.declared.image.WordRow.{WordRow}
 use Rattle.fac_code.specs.ImageNames.{image_names}
 use Rattle.fac_code.specs.declared.image.Action.TheVariants as action
 use Rattle.fac_code.specs.declared.names.TrapWhy.TheVariants.{Kind as t_kind, Frame as t_frame}
-use Rattle.fac_store.specs.MachineValues.{MValue, m_plain, m_fun, MCallable, m_lit, m_cur, m_com, kept_list, m_seen, machine_values, cells_at}
-use Rattle.fac_vm.specs.Machine.{Machine, Entry, resume, put_back, enter, spent, Step, goes_on, ends, after, given as machine_given, does as machine_does, word_with, or_trap, code_of, branch, entering, fetched, step}
-use Rattle.fac_vm.proofs.Leading.{leads_none, ends_step}
-use Rattle.fac_emit.specs.MachineView.{Templates, value_view, callable_view, values_view, world_view, state_view, gives_view}
-use Rattle.fac_emit.specs.Stands.{RunsPhrase, HasCode}
+use Rattle.fac_store.specs.MachineValues.{MValue, m_plain, MCallable, machine_values, cells_at}
+use Rattle.fac_vm.specs.Machine.{Machine, Entry, spent, Step, goes_on, ends, after, given as machine_given, does as machine_does, word_with, or_trap, fetched, step}
+use Rattle.fac_vm.proofs.Leading.{leads_none}
+use Rattle.fac_emit.specs.MachineView.{Templates, value_view, values_view, world_view, gives_view}
 use Rattle.fac_emit.specs.WholeValues as whole
 use Rattle.fac_emit.specs.Symbols.{Sym, here, off, k_phrase, Task, do_phrase, Needs, heres, AllHere, ins, outs, count}
-use Rattle.fac_emit.proofs.RunLaws.{free, spares, Stays, stays_phrase, stays_call, live_first, live_rest}
-use Rattle.fac_emit.proofs.SymbolicStacks.{Left, l_phrase, r_here, r_off, r_phrase, Lies, lies_none, lies_more, Keeps, keeps_none, keeps_phrase, Has, has, too_short, needed, all_here, trim, lies_pile}
+use Rattle.fac_emit.proofs.RunLaws.{free}
+use Rattle.fac_emit.proofs.SymbolicStacks.{Left, l_phrase, r_here, r_off, r_phrase, Lies, lies_more, Keeps, keeps_none, keeps_phrase, Has, has, too_short, needed, all_here, trim, lies_pile}
 use Rattle.fac_emit.proofs.GivenValues.{IsLong, IsCounted, prim_counted}
-use Rattle.fac_emit.proofs.WholeValueLemmas.{pile_whole, kept_whole, cells_whole, made, made_whole, branch_whole}
-use Rattle.fac_emit.proofs.SamePrimitives.{Same, prim_same, seen_same}
+use Rattle.fac_emit.proofs.WholeValueLemmas.{pile_whole, cells_whole, made, made_view, made_whole}
+use Rattle.fac_emit.proofs.SamePrimitives.{Same, prim_same}
 use Rattle.fac_emit.proofs.KeptPrimitives.{prim_keeps}
-use Rattle.fac_emit.proofs.Following.{Setting, owing, state, HasNoGuard, at, left, Follows, step_before, fetch, spent_here, then_follows, owe, Live, Go}
-use Rattle.fac_emit.proofs.Following.{CallsTo, Templated, first_is, first_goes, first_runs, live_is, live_goes, live_runs, wrong_here, stays_left}
+use Rattle.fac_emit.proofs.Following.{Setting, owing, state, at, left, Follows, step_before, fetch, spent_here, owe, Live, Go}
+use Rattle.fac_emit.proofs.Following.{first_is, first_goes, live_is, live_goes, wrong_here}
 
 module _ (Y : Setting) where
   -- short names of what a setting has, as in Following: names under a module's argument aren't handed on without it
@@ -84,11 +81,11 @@ module _ (Y : Setting) where
   g_end f F last d S K pc go R base ms rs vs L w n le ok lv l (keeps_phrase {L = L1} k) = go R base ms rs vs L1 w n le ok lv l k
 
   pub g_make : (f : ℕ) (F : List MValue) (last : Option Instr) (d : ℕ) (S : List Sym) (K : List Task) (pc q : ℕ) (r : TemplateRow) (ks : List MValue) → slice_get M.code pc ≡ Some (Quot q) → slice_get M.templates q ≡ Some r → r.holes ≡ 0 →
-      cells_at r.cells F ≡ Some ks → Go Y f F last d (here ∷ S) K (pc + 1) → Go Y f F last (suc d) (off (k_phrase (T q)) ∷ S) K pc
+      cells_at r.cells F ≡ Some ks → Go Y f F last d (here ∷ S) K (pc + 1) → Go Y f F last (suc d) (off (k_phrase (T q (values_view T ks))) ∷ S) K pc
   g_make f F last d S K pc q r ks e et eh ec go R base ms rs vs L w zero le ok lv l h = spent_here Y last R base (at F pc ms rs R w) (state [] (V w)) None (Quot q) e refl refl
   g_make f F last d S K pc q r ks e et eh ec go R base ms rs vs L w (suc n) le ok lv l h = one ms vs ok lv l
     where
-      one : (ms : List MValue) (vs : List Value) → Fine F rs ms w → Live Y L (state vs (V w)) → Lies T (off (k_phrase (T q)) ∷ S) ms vs → Follows Y last R base (at F pc ms rs R w) (suc n) (owing (V w) d n (left Y L (state vs (V w))))
+      one : (ms : List MValue) (vs : List Value) → Fine F rs ms w → Live Y L (state vs (V w)) → Lies T (off (k_phrase (T q (values_view T ks))) ∷ S) ms vs → Follows Y last R base (at F pc ms rs R w) (suc n) (owing (V w) d n (left Y L (state vs (V w))))
       one ms vs ok lv (lies_more {vs = us} (r_off r_phrase) l) =
           let s = at F pc ms rs R w in
           let m = made q ks in
@@ -97,7 +94,8 @@ module _ (Y : Setting) where
           let c = cells_whole M r.cells F ks ok.cells ec in
           let size : length ks ≡ length r.cells + r.holes = omega (arith, c.1, eh) in
           let ok1 : Fine F rs (m ∷ ms) w = record { cells = ok.cells; held = ok.held; values = (made_whole M q r ks et size c.0, ok.values); objects = ok.objects } in
-          step_before Y last R base s (at F (pc + 1) (m ∷ ms) rs R w) (suc n) n _ (fetch Y s (suc n) (Quot q) e ∙ row ∙ there) (go R base (m ∷ ms) rs (value_view T m ∷ us) L w n (omega (arith, le)) ok1 lv (lies_more r_here l) h)
+          let named : Lies T (here ∷ S) (m ∷ ms) (fun (of_phrase (T q (values_view T ks))) ∷ us) = subst (λ (v : Value). Lies T (here ∷ S) (m ∷ ms) (v ∷ us)) (made_view T q ks) (lies_more r_here l) in
+          step_before Y last R base s (at F (pc + 1) (m ∷ ms) rs R w) (suc n) n _ (fetch Y s (suc n) (Quot q) e ∙ row ∙ there) (go R base (m ∷ ms) rs (fun (of_phrase (T q (values_view T ks))) ∷ us) L w n (omega (arith, le)) ok1 lv named h)
 
   pub g_off : (f : ℕ) (F : List MValue) (last : Option Instr) (d : ℕ) (b : Phrase) (p : Place) (t : Phrase) (S : List Sym) (K : List Task) (pc : ℕ) → Go Y f F last (suc d) (off (k_phrase b) ∷ S) (do_phrase t ∷ K) pc →
       Go Y f F last d S (do_phrase (then (quot b) p t) ∷ K) pc
@@ -108,7 +106,7 @@ module _ (Y : Setting) where
       (go R base ms rs (fun (of_phrase b) ∷ vs) (l_phrase t ∷ L1) w n le ok (live_goes Y (quot b) p t L1 st st' refl lv) (lies_more (r_off r_phrase) l) (keeps_phrase h))
 
   -- an instruction that pushes a value
-  pub g_push : (f : ℕ) (F : List MValue) (last : Option Instr) (i : Item) (p : Place) (t : Phrase) (S : List Sym) (K : List Task) (pc : ℕ) (x : Instr) (m : MValue) → Whole m → slice_get M.code pc ≡ Some x →
+  pub g_push : (f : ℕ) (F : List MValue) (last : Option Instr) (i : Item) (p : Place) (t : Phrase) (S : List Sym) (K : List Task) (pc : ℕ) (x : Instr) (m : MValue) → (AllWhole F → Whole m) → slice_get M.code pc ≡ Some x →
       ((s : Machine) → fetched M (Some x) s zero ≡ ends (spent s)) →
       ((ms rs : List MValue) (R : List Entry) (w : World MValue) (n : ℕ) → fetched M (Some x) (at F pc ms rs R w) (suc n) ≡ goes_on (at F (pc + 1) (m ∷ ms) rs R w) n) →
       ((st : State Value) → A i st ≡ goes (push (value_view T m) st)) → Go Y f F last zero (here ∷ S) (do_phrase t ∷ K) (pc + 1) → Go Y f F last zero S (do_phrase (then i p t) ∷ K) pc
@@ -117,7 +115,7 @@ module _ (Y : Setting) where
       let s = at F pc ms rs R w in
       let st = state vs (V w) in
       let st' = state (value_view T m ∷ vs) (V w) in
-      let ok1 : Fine F rs (m ∷ ms) w = record { cells = ok.cells; held = ok.held; values = (hm, ok.values); objects = ok.objects } in
+      let ok1 : Fine F rs (m ∷ ms) w = record { cells = ok.cells; held = ok.held; values = (hm ok.cells, ok.values); objects = ok.objects } in
       rw (first_goes Y i p t L1 st st' n (acts st)) (step_before Y last R base s (at F (pc + 1) (m ∷ ms) rs R w) (suc n) n _ (fetch Y s (suc n) x e ∙ some ms rs R w n)
       (go R base (m ∷ ms) rs (value_view T m ∷ vs) (l_phrase t ∷ L1) w n (omega (arith, le)) ok1 (live_goes Y i p t L1 st st' (acts st) lv) (lies_more r_here l) (keeps_phrase h)))
 

@@ -6,10 +6,13 @@ use Rattle.fac_lang.specs.declared.program.Program.{Program}
 use Rattle.fac_lang.specs.declared.program.WordDef.{WordDef}
 use Rattle.fac_lang.specs.declared.program.Sort.{Sort}
 use Rattle.fac_lang.specs.declared.program.Sort.TheVariants.{Prim as prim, Core as core, Body as body, Past as past, Itself as itself, Class as class, Isa as isa, Getter as getter, Setter as setter, Putter as putter, Generic as generic, Method as method}
-use Rattle.fac_lang.specs.Phrases.{int, yes, no, str, wrd, Literal, Phrase, end, then, lit, lit_arr, quot, word, next_method, made, next_after}
+use Rattle.fac_lang.specs.Phrases.{int, yes, no, str, wrd, Literal, Phrase, end, then, lit, lit_arr, quot, word, bind, local, fry, hole, next_method, made, next_after}
 use Rattle.fac_lang.specs.Meaning.{sort_of}
-use Rattle.fac_locals.specs.Literals.{Quoted, behind, literal_numbered}
-use Rattle.fac_locals.specs.Closed.{ClosesPhrase, ClosesSort, CloseWords}
+use Rattle.fac_captures.specs.declared.cell.Cell.{Cell}
+use Rattle.fac_captures.specs.declared.cell.Cell.TheVariants.{Local, Hole}
+use Rattle.fac_captures.specs.Cells.{cell_number}
+use Rattle.fac_locals.specs.Literals.{behind}
+use Rattle.fac_locals.specs.Closed.{IsMadeBy, ClosesPhrase, ClosesSort, CloseWords}
 use Rattle.fac_emit.proofs.RunningPhrases.{IsMethod, IsRun}
 
 -- lists behind a part of them
@@ -34,33 +37,60 @@ get_at (y ∷ list) zero x xs e = let same : y ≡ x = cc in ap Some same
 get_at (y ∷ list) (suc at) x xs e = get_at list at x xs e
 
 module _ (P : Program) where
-  -- a phrase as it runs and its closed one, item by item
-  pub data Closing : Literal → Phrase → Phrase → Type 0 where
-    c_end : {at : Literal} → Closing at end end
-    c_int : {at : Literal} {p : Place} {t c : Phrase} (z : ℤ) → Closing (behind at (lit (int z))) t c → Closing at (then (lit (int z)) p t) (then (lit (int z)) p c)
-    c_true : {at : Literal} {p : Place} {t c : Phrase} → Closing (behind at (lit yes)) t c → Closing at (then (lit yes) p t) (then (lit yes) p c)
-    c_false : {at : Literal} {p : Place} {t c : Phrase} → Closing (behind at (lit no)) t c → Closing at (then (lit no) p t) (then (lit no) p c)
-    c_text : {at : Literal} {p : Place} {t c : Phrase} (cs : List ℕ) → Closing (behind at (lit (str cs))) t c → Closing at (then (lit (str cs)) p t) (then (lit (str cs)) p c)
-    c_array : {at : Literal} {p : Place} {t c : Phrase} (a : ℕ) → Closing (behind at (lit_arr a)) t c → Closing at (then (lit_arr a) p t) (then (lit_arr a) p c)
-    c_ref : {at : Literal} {p : Place} {t c : Phrase} (w : ℕ) → w < P.top → Closing (behind at (lit (wrd w))) t c → Closing at (then (lit (wrd w)) p t) (then (lit (wrd w)) p c)
-    c_word : {at : Literal} {p : Place} {t c : Phrase} (w : ℕ) → w < P.top → Closing (behind at (word w)) t c → Closing at (then (word w) p t) (then (word w) p c)
-    c_quot : {at : Literal} {p : Place} {t c : Phrase} (u : Phrase) (k : ℕ) → (let l : Quoted = (at, u) in literal_numbered P k ≡ l) → Closing (behind at (quot u)) t c → Closing at (then (quot u) p t) (then (made k) p c)
-    c_outside : {at : Literal} {p : Place} {t c : Phrase} → Closing (behind at next_method) t c → Closing at (then next_method p t) (then next_method p c)
-    c_next : {at : Literal} {p : Place} {t c : Phrase} (m : ℕ) → IsMethod (sort_of P m) → Closing (behind at (next_after m)) t c → Closing at (then (next_after m) p t) (then (next_after m) p c)
+  -- a phrase as it runs, whose first item stands here under these cells, and its closed one, item by item
+  pub data Closing : List Cell → Literal → Phrase → Phrase → Type 0 where
+    c_end : {cells : List Cell} {at : Literal} → Closing cells at end end
+    c_int : {cells : List Cell} {at : Literal} {p : Place} {t c : Phrase} (z : ℤ) → Closing cells (behind at (lit (int z))) t c → Closing cells at (then (lit (int z)) p t) (then (lit (int z)) p c)
+    c_true : {cells : List Cell} {at : Literal} {p : Place} {t c : Phrase} → Closing cells (behind at (lit yes)) t c → Closing cells at (then (lit yes) p t) (then (lit yes) p c)
+    c_false : {cells : List Cell} {at : Literal} {p : Place} {t c : Phrase} → Closing cells (behind at (lit no)) t c → Closing cells at (then (lit no) p t) (then (lit no) p c)
+    c_text : {cells : List Cell} {at : Literal} {p : Place} {t c : Phrase} (cs : List ℕ) → Closing cells (behind at (lit (str cs))) t c → Closing cells at (then (lit (str cs)) p t) (then (lit (str cs)) p c)
+    c_array : {cells : List Cell} {at : Literal} {p : Place} {t c : Phrase} (a : ℕ) → Closing cells (behind at (lit_arr a)) t c → Closing cells at (then (lit_arr a) p t) (then (lit_arr a) p c)
+    c_ref : {cells : List Cell} {at : Literal} {p : Place} {t c : Phrase} (w : ℕ) → w < P.top → Closing cells (behind at (lit (wrd w))) t c → Closing cells at (then (lit (wrd w)) p t) (then (lit (wrd w)) p c)
+    c_word : {cells : List Cell} {at : Literal} {p : Place} {t c : Phrase} (w : ℕ) → w < P.top → Closing cells (behind at (word w)) t c → Closing cells at (then (word w) p t) (then (word w) p c)
+    c_quot : {cells : List Cell} {at : Literal} {p : Place} {t c : Phrase} (u : Phrase) (k : ℕ) → IsMadeBy P cells at (quot u) k → Closing cells (behind at (quot u)) t c → Closing cells at (then (quot u) p t) (then (made k) p c)
+    c_fry : {cells : List Cell} {at : Literal} {p : Place} {t c : Phrase} (u : Phrase) (n k : ℕ) → IsMadeBy P cells at (fry u n) k → Closing cells (behind at (fry u n)) t c → Closing cells at (then (fry u n) p t) (then (made k) p c)
+    c_bind : {cells : List Cell} {at : Literal} {p : Place} {t c : Phrase} (x : ℕ) → Closing (cells ++ Local x ∷ []) (behind at (bind x)) t c → Closing cells at (then (bind x) p t) (then (bind (length cells)) p c)
+    c_local : {cells : List Cell} {at : Literal} {p : Place} {t c : Phrase} (x k : ℕ) → cell_number cells (Local x) ≡ Some k → Closing cells (behind at (local x)) t c → Closing cells at (then (local x) p t) (then (local k) p c)
+    c_hole : {cells : List Cell} {at : Literal} {p : Place} {t c : Phrase} (h k : ℕ) → cell_number cells (Hole h) ≡ Some k → Closing cells (behind at (hole h)) t c → Closing cells at (then (hole h) p t) (then (local k) p c)
+    c_outside : {cells : List Cell} {at : Literal} {p : Place} {t c : Phrase} → Closing cells (behind at next_method) t c → Closing cells at (then next_method p t) (then next_method p c)
+    c_next : {cells : List Cell} {at : Literal} {p : Place} {t c : Phrase} (m : ℕ) → IsMethod (sort_of P m) → Closing cells (behind at (next_after m)) t c → Closing cells at (then (next_after m) p t) (then (next_after m) p c)
 
-  pub closing : (at : Literal) (t c : Phrase) → ClosesPhrase P at t c → IsRun P t → Closing at t c
-  closing at end c h r = rw h c_end
-  closing at (then (lit (int z)) p t) c h r = rw (h.2, h.3) (c_int z (closing (behind at (lit (int z))) t h.1 h.4 r.1))
-  closing at (then (lit yes) p t) c h r = rw (h.2, h.3) (c_true (closing (behind at (lit yes)) t h.1 h.4 r.1))
-  closing at (then (lit no) p t) c h r = rw (h.2, h.3) (c_false (closing (behind at (lit no)) t h.1 h.4 r.1))
-  closing at (then (lit (str cs)) p t) c h r = rw (h.2, h.3) (c_text cs (closing (behind at (lit (str cs))) t h.1 h.4 r.1))
-  closing at (then (lit_arr a) p t) c h r = rw (h.2, h.3) (c_array a (closing (behind at (lit_arr a)) t h.1 h.4 r.1))
-  closing at (then (lit (wrd w)) p t) c h r = rw (h.2, h.3) (c_ref w r.0 (closing (behind at (lit (wrd w))) t h.1 h.4 r.1))
-  closing at (then (word w) p t) c h r = rw (h.2, h.3) (c_word w r.0 (closing (behind at (word w)) t h.1 h.4 r.1))
-  closing at (then (quot u) p t) c h r = rw (h.2, h.3.1) (c_quot u h.3.0 h.3.2 (closing (behind at (quot u)) t h.1 h.4 r.1))
-  closing at (then next_method p t) c h r = rw (h.2, h.3) (c_outside (closing (behind at next_method) t h.1 h.4 r.1))
-  closing at (then (next_after m) p t) c h r = rw (h.2, h.3) (c_next m r.0 (closing (behind at (next_after m)) t h.1 h.4 r.1))
-  closing at (then _ p t) c h r = absurd r.0
+  pub closing : (cells : List Cell) (at : Literal) (t c : Phrase) → ClosesPhrase P cells at t c → IsRun P t → Closing cells at t c
+  closing cells at end c h r = rw h c_end
+  closing cells at (then (lit (int z)) p t) c h r = rw (h.2, h.3) (c_int z (closing cells (behind at (lit (int z))) t h.1 h.4 r.1))
+  closing cells at (then (lit yes) p t) c h r = rw (h.2, h.3) (c_true (closing cells (behind at (lit yes)) t h.1 h.4 r.1))
+  closing cells at (then (lit no) p t) c h r = rw (h.2, h.3) (c_false (closing cells (behind at (lit no)) t h.1 h.4 r.1))
+  closing cells at (then (lit (str cs)) p t) c h r = rw (h.2, h.3) (c_text cs (closing cells (behind at (lit (str cs))) t h.1 h.4 r.1))
+  closing cells at (then (lit_arr a) p t) c h r = rw (h.2, h.3) (c_array a (closing cells (behind at (lit_arr a)) t h.1 h.4 r.1))
+  closing cells at (then (lit (wrd w)) p t) c h r = rw (h.2, h.3) (c_ref w r.0 (closing cells (behind at (lit (wrd w))) t h.1 h.4 r.1))
+  closing cells at (then (word w) p t) c h r = rw (h.2, h.3) (c_word w r.0 (closing cells (behind at (word w)) t h.1 h.4 r.1))
+  closing cells at (then (quot u) p t) c h r = rw (h.2, h.3.1) (c_quot u h.3.0 h.3.2 (closing cells (behind at (quot u)) t h.1 h.4 r.1))
+  closing cells at (then (fry u n) p t) c h r = rw (h.2, h.3.1) (c_fry u n h.3.0 h.3.2 (closing cells (behind at (fry u n)) t h.1 h.4 r.1))
+  closing cells at (then (bind x) p t) c h r = rw (h.2, h.3) (c_bind x (closing (cells ++ Local x ∷ []) (behind at (bind x)) t h.1 h.4 r.1))
+  closing cells at (then (local x) p t) c h r = rw (h.2, h.3.1) (c_local x h.3.0 h.3.2 (closing cells (behind at (local x)) t h.1 h.4 r.1))
+  closing cells at (then (hole k) p t) c h r = rw (h.2, h.3.1) (c_hole k h.3.0 h.3.2 (closing cells (behind at (hole k)) t h.1 h.4 r.1))
+  closing cells at (then next_method p t) c h r = rw (h.2, h.3) (c_outside (closing cells (behind at next_method) t h.1 h.4 r.1))
+  closing cells at (then (next_after m) p t) c h r = rw (h.2, h.3) (c_next m r.0 (closing cells (behind at (next_after m)) t h.1 h.4 r.1))
+  closing cells at (then (made k) p t) c h r = absurd h.3
+  closing cells at (then _ p t) c h r = absurd r.0
+
+  -- each item of it is as it runs
+  pub closed_runs : (cells : List Cell) (at : Literal) (t c : Phrase) → Closing cells at t c → IsRun P c
+  closed_runs cells at t c c_end = tt
+  closed_runs cells at t c (c_int z h) = (tt, closed_runs _ _ _ _ h)
+  closed_runs cells at t c (c_true h) = (tt, closed_runs _ _ _ _ h)
+  closed_runs cells at t c (c_false h) = (tt, closed_runs _ _ _ _ h)
+  closed_runs cells at t c (c_text cs h) = (tt, closed_runs _ _ _ _ h)
+  closed_runs cells at t c (c_array a h) = (tt, closed_runs _ _ _ _ h)
+  closed_runs cells at t c (c_ref w is h) = (is, closed_runs _ _ _ _ h)
+  closed_runs cells at t c (c_word w is h) = (is, closed_runs _ _ _ _ h)
+  closed_runs cells at t c (c_quot u k is h) = (tt, closed_runs _ _ _ _ h)
+  closed_runs cells at t c (c_fry u n k is h) = (tt, closed_runs _ _ _ _ h)
+  closed_runs cells at t c (c_bind x h) = (tt, closed_runs _ _ _ _ h)
+  closed_runs cells at t c (c_local x k is h) = (tt, closed_runs _ _ _ _ h)
+  closed_runs cells at t c (c_hole j k is h) = (tt, closed_runs _ _ _ _ h)
+  closed_runs cells at t c (c_outside h) = (tt, closed_runs _ _ _ _ h)
+  closed_runs cells at t c (c_next m is h) = (is, closed_runs _ _ _ _ h)
 
 -- What a sort is but for its phrase.
 pub data Alike : Sort → Sort → Type 0 where

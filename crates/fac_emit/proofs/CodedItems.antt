@@ -16,12 +16,14 @@ use Rattle.fac_lang.specs.Forms.{IsBuilt}
 use Rattle.fac_lang.specs.Whole.{IsWhole, is_generic}
 use Rattle.fac_lang.specs.Meaning.{sort_of, array_method}
 use Rattle.fac_lang.proofs.FormsLemmas.{sort_at}
-use Rattle.fac_locals.specs.Literals.{behind, first_of_word, first_of_literal, first_in_array, element_item, literal_numbered}
+use Rattle.fac_captures.specs.declared.cell.Cell.{Cell}
+use Rattle.fac_captures.specs.Cells.{inner_cells}
+use Rattle.fac_locals.specs.Literals.{Quoted, quoted_phrase, behind, first_of_word, first_of_literal, first_in_array, element_item, literal_numbered}
 use Rattle.fac_locals.specs.Closed.{Closes, ClosesSort, ClosesElement, CloseElements, CloseArrays}
 use Rattle.fac_locals.proofs.Lookups.{word_closed, word_open, template_closed}
 use Rattle.fac_emit.specs.inner.Coded as Coded
 use Rattle.fac_emit.specs.inner.Coded.{item_is_coded, phrase_is_coded, template_is_coded, body_is_coded, word_body_is_coded, element_is_coded, array_is_coded}
-use Rattle.fac_emit.proofs.Closings.{Closing, c_end, c_int, c_true, c_false, c_text, c_array, c_ref, c_word, c_quot, c_outside, c_next, closing}
+use Rattle.fac_emit.proofs.Closings.{Closing, c_end, c_int, c_true, c_false, c_text, c_array, c_ref, c_word, c_quot, c_fry, c_bind, c_local, c_hole, c_outside, c_next, closing}
 use Rattle.fac_emit.proofs.BuiltCode.{and_true}
 use Rattle.fac_emit.proofs.EmitLemmas.{next_element}
 use Rattle.fac_emit.proofs.NextMethods.{is_method, method_fits}
@@ -72,32 +74,37 @@ module _ (P C : Program) (templates : List Template) (b : IsBuilt P) (whole : Is
   next_coded : (m : ℕ) → IsMethod (sort_of P m) → Coded.is_method C (sort_of C m) ≡ true
   next_coded m is = let found = is_method (sort_of P m) is in method_closed m found.0 found.1 found.2 found.3
 
-  phrase_coded : (at : Literal) (t c : Phrase) → Closing P at t c → phrase_is_coded C c ≡ true
-  phrase_coded at t c c_end = refl
-  phrase_coded at t c (c_int z h) = phrase_coded _ _ _ h
-  phrase_coded at t c (c_true h) = phrase_coded _ _ _ h
-  phrase_coded at t c (c_false h) = phrase_coded _ _ _ h
-  phrase_coded at t c (c_text cs h) = phrase_coded _ _ _ h
-  phrase_coded at t c (c_array a h) = phrase_coded _ _ _ h
-  phrase_coded at t c (c_ref w lt h) = phrase_coded _ _ _ h
-  phrase_coded at t c (c_word w lt h) = phrase_coded _ _ _ h
-  phrase_coded at t c (c_quot u q is h) = phrase_coded _ _ _ h
-  phrase_coded at t c (c_outside h) = phrase_coded _ _ _ h
-  phrase_coded at t c (c_next {c = c'} m is h) = and_true (Coded.is_method C (sort_of C m)) (phrase_is_coded C c') (next_coded m is) (phrase_coded _ _ _ h)
+  phrase_coded : (cells : List Cell) (at : Literal) (t c : Phrase) → Closing P cells at t c → phrase_is_coded C c ≡ true
+  phrase_coded cells at t c c_end = refl
+  phrase_coded cells at t c (c_int z h) = phrase_coded _ _ _ _ h
+  phrase_coded cells at t c (c_true h) = phrase_coded _ _ _ _ h
+  phrase_coded cells at t c (c_false h) = phrase_coded _ _ _ _ h
+  phrase_coded cells at t c (c_text cs h) = phrase_coded _ _ _ _ h
+  phrase_coded cells at t c (c_array a h) = phrase_coded _ _ _ _ h
+  phrase_coded cells at t c (c_ref w lt h) = phrase_coded _ _ _ _ h
+  phrase_coded cells at t c (c_word w lt h) = phrase_coded _ _ _ _ h
+  phrase_coded cells at t c (c_quot u q is h) = phrase_coded _ _ _ _ h
+  phrase_coded cells at t c (c_fry u n q is h) = phrase_coded _ _ _ _ h
+  phrase_coded cells at t c (c_bind x h) = phrase_coded _ _ _ _ h
+  phrase_coded cells at t c (c_local x k is h) = phrase_coded _ _ _ _ h
+  phrase_coded cells at t c (c_hole j k is h) = phrase_coded _ _ _ _ h
+  phrase_coded cells at t c (c_outside h) = phrase_coded _ _ _ _ h
+  phrase_coded cells at t c (c_next {c = c'} m is h) = and_true (Coded.is_method C (sort_of C m)) (phrase_is_coded C c') (next_coded m is) (phrase_coded _ _ _ _ h)
 
   pub template_coded : (q : ℕ) (t : Template) → slice_get templates q ≡ Some t → template_is_coded C t ≡ true
   template_coded q t e =
-      let l = literal_numbered P q in
+      let l : Quoted = literal_numbered P q in
+      let cells = inner_cells l.cells l.item in
       let closed = template_closed P C templates closes q t e in
-      phrase_coded (first_of_literal l.0) l.1 t.body (closing P (first_of_literal l.0) l.1 t.body closed.body (literal_runs P b q))
+      phrase_coded cells (first_of_literal l.at) (quoted_phrase l) t.body (closing P cells (first_of_literal l.at) (quoted_phrase l) t.body closed.body (literal_runs P b q))
 
   pub templates_coded : list_all (template_is_coded C) templates ≡ true
   templates_coded = each_passes (template_is_coded C) templates template_coded
 
   body_coded : (w : ℕ) (s c : Sort) → ClosesSort P w s c → RunsAs P w s → body_is_coded C c ≡ true
-  body_coded w (body t) c h built = rw h.1 (phrase_coded (first_of_word w) t h.0 (closing P (first_of_word w) t h.0 h.2 built))
+  body_coded w (body t) c h built = rw h.1 (phrase_coded [] (first_of_word w) t h.0 (closing P [] (first_of_word w) t h.0 h.2 built))
   body_coded w (past t) c h built = absurd built
-  body_coded w (method n g t) c h built = rw h.1 (phrase_coded (first_of_word w) _ h.0 (closing P (first_of_word w) _ h.0 h.2 built))
+  body_coded w (method n g t) c h built = rw h.1 (phrase_coded [] (first_of_word w) _ h.0 (closing P [] (first_of_word w) _ h.0 h.2 built))
   body_coded w s c h built = rw h refl
 
   pub word_body_coded : (w : ℕ) (c : WordDef) → slice_get C.words w ≡ Some c → body_is_coded C c.sort ≡ true

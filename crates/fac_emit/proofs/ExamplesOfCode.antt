@@ -1,5 +1,5 @@
 -- Plain code, computed: that of a small program, what the machine does with it, and its code as a case of the relation.
-use Rattle.std.proofs.Common.{◌≡◌, ℕ, List, [], ◌∷◌, true, false, refl, Option, Some, None, arith}
+use Rattle.std.proofs.Common.{◌≡◌, ℕ, List, [], ◌∷◌, ◌++◌, length, map, true, false, refl, Option, Some, None, arith}
 use Rattle.std.specs.Prelude.{pos, codes}
 use Rattle.fac_lang.specs.Signatures.{signature, no_inputs, never}
 use Rattle.fac_lang.specs.declared.phrase.Template.{Template}
@@ -11,13 +11,14 @@ use Rattle.fac_lang.specs.declared.program.Shape.TheVariants.{Kind as built_in, 
 use Rattle.fac_lang.specs.declared.program.WordDef.{WordDef}
 use Rattle.fac_lang.specs.declared.program.Sort.{Sort}
 use Rattle.fac_lang.specs.declared.program.Sort.TheVariants.{Prim as prim, Core as core, Body as body, Itself as itself, Class as class, Isa as isa, Getter as getter, Generic as generic, Method as method}
-use Rattle.fac_lang.specs.Phrases.{int, str, wrd, Phrase, end, then, Item, lit, lit_arr, quot, word, next_method}
+use Rattle.fac_lang.specs.Phrases.{int, str, wrd, Phrase, end, then, Item, lit, lit_arr, quot, word, bind, local, fry, hole, next_method, held}
+use Rattle.fac_lang.specs.Substitution.{put_holes}
 use Rattle.fac_lang.specs.Primitives.{built_count, prim_numbered, prim_fn}
 use Rattle.fac_code.specs.Code.{has_built_code}
 use Rattle.fac_code.specs.References.{refers}
 use Rattle.fac_lang.specs.Meaning.{nowhere, core_numbered}
 use Rattle.fac_locals.proofs.ClosedForms.{made_words, made_templates}
-use Rattle.fac_code.specs.declared.image.Instr.TheVariants.{Halt, Int, Text, Array, Word, Quot, Prim, Callw, Call, Dip, Ret, Boa, Generic, Next}
+use Rattle.fac_code.specs.declared.image.Instr.TheVariants.{Halt, Int, Text, Array, Word, Quot, Fry, Bind, Local, Prim, Callw, Call, Dip, Ret, Boa, Generic, Next}
 use Rattle.fac_code.specs.declared.image.Elem.TheVariants as elem
 use Rattle.fac_code.specs.declared.image.Action.TheVariants as action
 use Rattle.fac_code.specs.declared.image.Action.{Action}
@@ -27,9 +28,9 @@ use Rattle.fac_store.specs.MachineValues.{MValue, m_plain}
 use Rattle.fac_vm.specs.Machine.{End, done, steps, first_world, starting}
 use Rattle.fac_emit.specs.ProgramTables.{table_texts, program_kinds, program_sets}
 use Rattle.fac_emit.specs.ProgramCode.{program_code, program_texts, template_rows, program_words, program_generics, program_tables, arrays_of, arrays_texts}
-use Rattle.fac_emit.specs.MachineView.{template_phrases}
+use Rattle.fac_emit.specs.MachineView.{template_phrases, value_view, values_view}
 use Rattle.fac_emit.specs.Symbols.{here, off, cells, k_phrase, k_cur, k_com, do_phrase, top_is, needs_none, needs_more, all_none, all_more}
-use Rattle.fac_emit.specs.Expanded.{Code, c_last, c_make, c_end, c_off, c_int, c_prim, c_word, c_call, c_dip}
+use Rattle.fac_emit.specs.Expanded.{Code, c_last, c_make, c_end, c_off, c_int, c_prim, c_bind, c_fry, c_word, c_call, c_dip}
 
 abbrev items : List Item → Phrase
 items [] = end
@@ -57,7 +58,7 @@ templates = made_templates source []
 pub code_is : program_code closed templates ≡ Int (pos 2) ∷ Ret ∷ Quot 2 ∷ Call false ∷ Prim 26 ∷ Ret ∷ Int (pos 3) ∷ Ret ∷ Int (pos 4) ∷ Ret ∷ Quot 0 ∷ Quot 1 ∷ Prim 17 ∷ Ret ∷ Int (pos 1) ∷ Callw 4 false ∷ Quot 3 ∷ Dip ∷ Call false ∷ Halt ∷ []
 code_is = refl
 
-pub template_rows_are : template_rows closed (table_texts closed) 0 templates ≡ record { entry = 0; cells = []; holes = 0 } ∷ record { entry = 2; cells = []; holes = 0 } ∷ record { entry = 6; cells = []; holes = 0 } ∷ record { entry = 8; cells = []; holes = 0 } ∷ []
+pub template_rows_are : template_rows closed templates (table_texts closed) 0 templates ≡ record { entry = 0; cells = []; holes = 0 } ∷ record { entry = 2; cells = []; holes = 0 } ∷ record { entry = 6; cells = []; holes = 0 } ∷ record { entry = 8; cells = []; holes = 0 } ∷ []
 template_rows_are = refl
 
 abbrev plain_row : ℕ → Action → WordRow
@@ -75,7 +76,7 @@ unfolding built_count
 words_built = refl
 
 abbrev image : Image
-image = record { arrays = []; kinds = []; sets = []; generics = []; templates = template_rows closed (table_texts closed) 0 templates; words = program_words closed templates; texts = program_texts closed templates; code = program_code closed templates; start = 14; built = is_built; refers = words_built }
+image = record { arrays = []; kinds = []; sets = []; generics = []; templates = template_rows closed templates (table_texts closed) 0 templates; words = program_words closed templates; texts = program_texts closed templates; code = program_code closed templates; start = 14; built = is_built; refers = words_built }
 
 -- the stack and the ticks left where it is done
 abbrev ended : Option End → Option (List MValue × ℕ)
@@ -114,6 +115,79 @@ phrase_code =
     (c_dip 2 1 refl refl (all_more all_none) refl
     (c_call 1 0 refl refl all_none refl
     (c_end (c_last all_none refl)))))))
+
+-- A local in a quotation and in a fry: 1 :> x [ x 2 + ] call   5 '[ _ x + ] call   where x is local 7
+abbrev capturing : Phrase
+capturing = items (number 1 ∷ bind 7 ∷ quot (items (local 7 ∷ number 2 ∷ word 0 ∷ [])) ∷ word 1 ∷ number 5 ∷ fry (items (hole 0 ∷ local 7 ∷ word 0 ∷ [])) 1 ∷ word 1 ∷ [])
+
+abbrev capturing_source : List WordDef
+capturing_source = named (prim 26) ∷ named (core 0) ∷ named (body capturing) ∷ []
+
+abbrev capturing_closed : Program
+capturing_closed = record { words = made_words capturing_source []; arrays = []; classes = []; top = 2 }
+
+abbrev capturing_templates : List Template
+capturing_templates = made_templates capturing_source []
+
+-- in the frame of the fry what it captures stands first, and what it takes behind it
+capturing_code : program_code capturing_closed capturing_templates ≡ Local 0 ∷ Int (pos 2) ∷ Prim 26 ∷ Ret ∷ Local 1 ∷ Local 0 ∷ Prim 26 ∷ Ret ∷ Int (pos 1) ∷ Bind ∷ Quot 0 ∷ Call false ∷ Int (pos 5) ∷ Fry 1 ∷ Call false ∷ Halt ∷ []
+capturing_code = refl
+
+capturing_rows : template_rows capturing_closed capturing_templates (table_texts capturing_closed) 0 capturing_templates ≡ record { entry = 0; cells = 0 ∷ []; holes = 0 } ∷ record { entry = 4; cells = 0 ∷ []; holes = 1 } ∷ []
+capturing_rows = refl
+
+pub capturing_built : has_built_code (program_code capturing_closed capturing_templates) ≡ true
+unfolding built_count
+capturing_built = refl
+
+pub capturing_refers : refers (program_tables capturing_closed capturing_templates) (program_code capturing_closed capturing_templates) 8 ≡ true
+unfolding built_count
+capturing_refers = refl
+
+abbrev capturing_image : Image
+capturing_image =
+    record {
+      arrays = [];
+      kinds = [];
+      sets = [];
+      generics = [];
+      templates = template_rows capturing_closed capturing_templates (table_texts capturing_closed) 0 capturing_templates;
+      words = program_words capturing_closed capturing_templates;
+      texts = program_texts capturing_closed capturing_templates;
+      code = program_code capturing_closed capturing_templates;
+      start = 8;
+      built = capturing_built;
+      refers = capturing_refers;
+    }
+
+-- 1 2 + and 5 1 +, with a tick for the binding, for each local, and for the fry
+capturing_ends : ended (steps capturing_image 40 (starting capturing_image [] (first_world capturing_image [])) 20) ≡ Some (m_plain (int (pos 6)) ∷ m_plain (int (pos 3)) ∷ [], 7)
+unfolding prim_fn prim_numbered
+capturing_ends = refl
+
+abbrev capturing_opened : Program
+capturing_opened = record { words = capturing_source; arrays = []; classes = []; top = 2 }
+
+-- what a fry of one hole is made of, with a value in it
+fried : (v : MValue) (us : List MValue) → length us ≡ 1 → put_holes (map held (values_view (template_phrases capturing_opened) us)) (items (hole 0 ∷ held (value_view (template_phrases capturing_opened) v) ∷ word 0 ∷ [])) ≡
+    template_phrases capturing_opened 1 (values_view (template_phrases capturing_opened) ((v ∷ []) ++ us))
+unfolding template_phrases
+fried v [] n = absurd (omega (arith, n))
+fried v (u ∷ []) n = refl
+fried v (u ∷ w ∷ us) n = absurd (omega (arith, n))
+
+-- its code from its place: behind the binding it stands for the rest whatever value was bound
+pub capturing_stands : Code capturing_opened capturing_image (template_phrases capturing_opened) [] (Some Halt) [] 0 [] (do_phrase capturing ∷ []) 8
+unfolding template_phrases core_numbered
+capturing_stands =
+    c_int (pos 1) refl
+    (c_bind (needs_more top_is needs_none) refl (λ v whole.
+    c_off (c_make 0 (record { entry = 0; cells = 0 ∷ []; holes = 0 }) (v ∷ []) refl refl refl refl
+    (c_call 1 0 refl refl (all_more all_none) refl
+    (c_int (pos 5) refl
+    (c_fry 1 (record { entry = 4; cells = 0 ∷ []; holes = 1 }) (v ∷ []) _ refl refl refl (fried v) (needs_more top_is needs_none)
+    (c_call 1 0 refl refl (all_more all_none) refl
+    (c_end (c_last all_none refl)))))))))
 
 -- Strings and words as values, where word 0 is a symbol: `"a" red \ red "a"`. The texts are the names of the two words, and behind them those of the strings, each with its own number.
 abbrev written : Program

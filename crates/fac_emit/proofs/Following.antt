@@ -21,7 +21,7 @@ use Rattle.fac_code.specs.ImageNames.{image_names}
 use Rattle.fac_store.specs.MachineValues.{MValue, Kept, kept_list}
 use Rattle.fac_vm.specs.Machine.{Machine, Leads, Entry, resume, put_back, enter, failed, spent, Step, goes_on, ends, fetched, step, Ends}
 use Rattle.fac_vm.proofs.Leading.{leads_on, leads_step, ends_after, ends_step}
-use Rattle.fac_emit.specs.MachineView.{Templates, world_view, state_view, error_view}
+use Rattle.fac_emit.specs.MachineView.{Templates, kept_view, world_view, state_view, error_view}
 use Rattle.fac_emit.specs.WholeValues as whole
 use Rattle.fac_emit.specs.Symbols.{Sym, Task, Special}
 use Rattle.fac_emit.proofs.RunLaws.{free, unfolds, then_again, Stays, stays_then, stays_phrase, stays_call}
@@ -225,7 +225,7 @@ module _ (Y : Setting) where
 
   -- so the templates' code
   abbrev pub Templated : ℕ → Type 0
-  Templated f = (q : ℕ) (r : TemplateRow) (k : Kept) → slice_get M.templates q ≡ Some r → length (kept_list k) ≡ length r.cells + r.holes → WholeKept k → CallsTo (Some Ret) f (kept_list k) r.entry [] (T q)
+  Templated f = (q : ℕ) (r : TemplateRow) (k : Kept) → slice_get M.templates q ≡ Some r → length (kept_list k) ≡ length r.cells + r.holes → WholeKept k → CallsTo (Some Ret) f (kept_list k) r.entry [] (T q (kept_view T k))
 
   -- and the special code in which a place stands
   abbrev pub Valid : ℕ → List Special → Type 0

@@ -8,6 +8,7 @@ pub mod Following
 pub mod AccessorLemmas
 pub mod CaseLemmas
 pub mod CallLemmas
+pub mod FrameCases
 pub mod ClassCases
 pub mod Simulation
 pub mod PlainIsCode
@@ -21,6 +22,7 @@ pub mod FirstWords
 pub mod LiteralWords
 pub mod Placed
 pub mod PlacedWords
+pub mod HeldFrames
 pub mod PlainStands
 pub mod KindRows
 pub mod NamedImages

@@ -6,13 +6,14 @@ use Rattle.fac_lang.specs.declared.phrase.Template.{Template}
 use Rattle.fac_lang.specs.declared.program.Program.{Program}
 use Rattle.fac_lang.specs.declared.program.Lit.{Lit}
 use Rattle.fac_lang.specs.declared.program.Lit.TheVariants.{Int as l_int, True as l_yes, False as l_no, Str as l_str, Arr as l_arr, Wref as l_word, Quot as l_quot, Made as l_made}
-use Rattle.fac_lang.specs.Phrases.{str, Literal, Phrase, Value, plain, fun, of_phrase}
+use Rattle.fac_lang.specs.Phrases.{str, Literal, Phrase, quot, Value, plain, fun, of_phrase}
 use Rattle.fac_lang.specs.World.{Object, array, World}
 use Rattle.fac_lang.specs.Printed.{or_empty}
 use Rattle.fac_lang.specs.Forms.{IsBuilt}
 use Rattle.fac_lang.specs.Meaning.{array_method, of_method_if, literal_value, with_arrays as meaning_arrays, start}
-use Rattle.fac_locals.specs.Literals.{Quoted, behind, first_in_array, element_item, literal_numbered}
-use Rattle.fac_locals.specs.Closed.{Closes, ClosesElement, CloseElements, CloseArrays}
+use Rattle.fac_locals.specs.Literals.{Quoted, behind, first_in_array, element_item}
+use Rattle.fac_locals.specs.Closed.{IsMadeBy, Closes, ClosesElement, CloseElements, CloseArrays}
+use Rattle.fac_locals.proofs.OpeningLaws.{programs_open}
 use Rattle.fac_code.specs.declared.image.Elem.{Elem}
 use Rattle.fac_code.specs.declared.image.Image.{Image}
 use Rattle.fac_store.specs.MachineValues.{MValue, m_fun, m_lit, none_kept}
@@ -35,9 +36,9 @@ module _ (P C : Program) (templates : List Template) (M : Image) (b : IsBuilt P)
   abbrev T : Templates
   T = template_phrases P
 
-  phrase_made : (m : Option ℕ) (q : ℕ) (at : Literal) (t : Phrase) → (let l : Quoted = (at, of_method_if m t) in literal_numbered P q ≡ l) → T q ≡ of_method_if m t
+  phrase_made : (m : Option ℕ) (q : ℕ) (at : Literal) (t : Phrase) → IsMadeBy P [] at (quot (of_method_if m t)) q → T q [] ≡ of_method_if m t
   unfolding template_phrases
-  phrase_made m q at t e = ap (λ (l : Quoted). l.1) e
+  phrase_made m q at t e = (programs_open P C templates closes).alone at (of_method_if m t) q e
 
   element_made : (m : Option ℕ) (addresses : List ℕ) (at : Literal) (texts : List (List ℕ)) (l c : Lit) (ls : List Lit) → ClosesElement P m at l c → Begins (elements_texts (with_element_text texts c) ls) M.texts →
       value_view T (element_value M addresses (elem_of (length texts) c)) ≡ literal_value P addresses m l
@@ -76,11 +77,13 @@ module _ (P C : Program) (templates : List Template) (M : Image) (b : IsBuilt P)
       rw h.3 (same_made (suc a) next lss h.2 h.5 is w' ∙ ap (meaning_arrays P (suc a) lss) view)
 
   -- callables in arrays are of the image's templates
-  template_whole : (i : ℕ) (is : List ℕ) (at : Literal) (u : Phrase) (q : ℕ) → at.around ≡ i ∷ is → (let l : Quoted = (at, u) in literal_numbered P q ≡ l) → Whole M (m_fun (m_lit q none_kept))
+  template_whole : (i : ℕ) (is : List ℕ) (at : Literal) (u : Phrase) (q : ℕ) → at.around ≡ i ∷ is → IsMadeBy P [] at (quot u) q → Whole M (m_fun (m_lit q none_kept))
   template_whole i is at u q around e =
-      let row = listed_row P C templates closes M.code M.texts M.templates is_plain.code (texts_begin P C templates M b closes is_plain) is_plain.template_rows_are q (at, u) (is_listed_in_array P q (at, u) i is around e) in
-      let cells = ap length row.cells in
-      (row.row, row.there, omega (arith, cells, row.holes), tt)
+      let l : Quoted = record { at = at; cells = []; item = quot u } in
+      let row = listed_row P C templates closes M.code M.texts M.templates is_plain.code (texts_begin P C templates M b closes is_plain) is_plain.template_rows_are q l (is_listed_in_array P q l i is around e) in
+      let cells : length row.row.cells ≡ 0 = ap length row.cells in
+      let holes : row.row.holes ≡ 0 = row.holes in
+      (row.row, row.there, omega (arith, cells, holes), tt)
 
   element_whole : (m : Option ℕ) (addresses : List ℕ) (i : ℕ) (is : List ℕ) (at : Literal) (n : ℕ) (l c : Lit) → at.around ≡ i ∷ is → ClosesElement P m at l c → Whole M (element_value M addresses (elem_of n c))
   element_whole m addresses i is at n (l_int z) c around h = rw h tt

@@ -14,7 +14,9 @@ use Rattle.fac_lang.specs.Phrases.{Literal, Phrase, end, then, Item, lit_arr, qu
 use Rattle.fac_lang.specs.Substitution.{of_method, of_method_item}
 use Rattle.fac_lang.specs.Meaning.{of_method_if, array_method, nowhere}
 use Rattle.fac_lang.specs.Whole.{IsWhole, each_item, each_inner, item_fits, literal_fits, word_phrases, quotations, joined}
-use Rattle.fac_locals.specs.Literals.{Quoted, behind, first_of_word, first_of_literal, first_in_array, elements_phrase, array_or_none, array_phrase, literals_in, literals_at, array_literals, sort_literals, word_literals, literals, literal_or, literal_numbered}
+use Rattle.fac_captures.specs.declared.cell.Cell.{Cell}
+use Rattle.fac_captures.specs.Cells.{cells_behind, inner_cells}
+use Rattle.fac_locals.specs.Literals.{Quoted, quoted_phrase, behind, first_of_word, first_of_literal, first_in_array, elements_phrase, array_or_none, array_phrase, literals_in, literals_at, array_literals, sort_literals, word_literals, literals, literal_or, literal_numbered}
 
 never_true : {A : Type 0} → false ≡ true → A
 never_true h = absurd (true≢false (sym h))
@@ -89,7 +91,7 @@ module _ (P : Program) where
   -- literals
   abbrev AllName : List Quoted → Type 0
   AllName [] = Unit {0}
-  AllName (l ∷ ls) = NamesArrays l.1 × AllName ls
+  AllName (l ∷ ls) = NamesArrays (quoted_phrase l) × AllName ls
 
   both_name : (ls ms : List Quoted) → AllName ls → AllName ms → AllName (ls ++ ms)
   both_name [] ms h k = k
@@ -97,15 +99,16 @@ module _ (P : Program) where
 
   module _ (arrays : ℕ → Literal → List Quoted) (arrays_name : (a : ℕ) (at : Literal) → AllName (arrays a at)) where
     mutual
-      phrase_literals : (at : Literal) (t : Phrase) → NamesArrays t → AllName (literals_in arrays at t)
-      phrase_literals at end h = tt
-      phrase_literals at (then i p t) h = both_name (literals_at arrays at i) (literals_in arrays (behind at i) t) (item_literals at i h.0) (phrase_literals (behind at i) t h.1)
+      phrase_literals : (cells : List Cell) (at : Literal) (t : Phrase) → NamesArrays t → AllName (literals_in arrays cells at t)
+      phrase_literals cells at end h = tt
+      phrase_literals cells at (then i p t) h =
+          both_name (literals_at arrays cells at i) (literals_in arrays (cells_behind cells i) (behind at i) t) (item_literals cells at i h.0) (phrase_literals (cells_behind cells i) (behind at i) t h.1)
 
-      item_literals : (at : Literal) (i : Item) → NamesArray i → AllName (literals_at arrays at i)
-      item_literals at (quot t) h = (h, phrase_literals (first_of_literal at) t h)
-      item_literals at (fry t n) h = (h, phrase_literals (first_of_literal at) t h)
-      item_literals at (lit_arr a) h = arrays_name a at
-      item_literals at _ h = tt
+      item_literals : (cells : List Cell) (at : Literal) (i : Item) → NamesArray i → AllName (literals_at arrays cells at i)
+      item_literals cells at (quot t) h = (h, phrase_literals (inner_cells cells (quot t)) (first_of_literal at) t h)
+      item_literals cells at (fry t n) h = (h, phrase_literals (inner_cells cells (fry t n)) (first_of_literal at) t h)
+      item_literals cells at (lit_arr a) h = arrays_name a at
+      item_literals cells at _ h = tt
 
   module _ (whole : IsWhole P) where
     parts : (list_all (each_item (item_fits P)) (word_phrases P.words) ≡ true) × (list_all (each_item (item_fits P)) (joined (map quotations P.arrays)) ≡ true)
@@ -151,22 +154,22 @@ module _ (P : Program) where
 
     array_literals_name : (n a : ℕ) (at : Literal) → AllName (array_literals P n a at)
     array_literals_name zero a at = tt
-    array_literals_name (suc n) a at = phrase_literals (array_literals P n) (array_literals_name n) (first_in_array at) (array_phrase P a nowhere) (array_names a nowhere)
+    array_literals_name (suc n) a at = phrase_literals (array_literals P n) (array_literals_name n) [] (first_in_array at) (array_phrase P a nowhere) (array_names a nowhere)
 
     sort_literals_name : (w : ℕ) (s : Sort) → SortNames w s → AllName (sort_literals P w s)
-    sort_literals_name w (body t) h = phrase_literals (array_literals P (length P.arrays)) (array_literals_name (length P.arrays)) (first_of_word w) t h
-    sort_literals_name w (past t) h = phrase_literals (array_literals P (length P.arrays)) (array_literals_name (length P.arrays)) (first_of_word w) t h
-    sort_literals_name w (method c g t) h = phrase_literals (array_literals P (length P.arrays)) (array_literals_name (length P.arrays)) (first_of_word w) (of_method w t) h
+    sort_literals_name w (body t) h = phrase_literals (array_literals P (length P.arrays)) (array_literals_name (length P.arrays)) [] (first_of_word w) t h
+    sort_literals_name w (past t) h = phrase_literals (array_literals P (length P.arrays)) (array_literals_name (length P.arrays)) [] (first_of_word w) t h
+    sort_literals_name w (method c g t) h = phrase_literals (array_literals P (length P.arrays)) (array_literals_name (length P.arrays)) [] (first_of_word w) (of_method w t) h
     sort_literals_name w _ h = tt
 
     word_literals_name : (w : ℕ) (ds : List WordDef) → list_all (each_item (item_fits P)) (word_phrases ds) ≡ true → AllName (word_literals P w ds)
     word_literals_name w [] h = tt
     word_literals_name w (d ∷ ds) h = let first = with_rest w d.sort (word_phrases ds) h in both_name (sort_literals P w d.sort) (word_literals P (suc w) ds) (sort_literals_name w d.sort first.0) (word_literals_name (suc w) ds first.1)
 
-    literal_names_at : (n k : ℕ) (ls : List Quoted) → AllName ls → NamesArrays (literal_or P n (slice_get ls k)).1
+    literal_names_at : (n k : ℕ) (ls : List Quoted) → AllName ls → NamesArrays (quoted_phrase (literal_or P n (slice_get ls k)))
     literal_names_at n k [] h = tt
     literal_names_at n zero (l ∷ ls) h = h.0
     literal_names_at n (suc k) (l ∷ ls) h = literal_names_at n k ls h.1
 
-    pub literal_names_arrays : (k : ℕ) → NamesArrays (literal_numbered P k).1
+    pub literal_names_arrays : (k : ℕ) → NamesArrays (quoted_phrase (literal_numbered P k))
     literal_names_arrays k = literal_names_at k k (literals P) (word_literals_name 0 P.words parts.0)

@@ -57,10 +57,10 @@ kind_alike C s c (a_body t u) = refl
 kind_alike C s c (a_past t u) = refl
 kind_alike C s c (a_method n g t u) = refl
 
-no_rows : (C : Program) (texts : List (List ℕ)) (at v : ℕ) (ds : List WordDef) (w : ℕ) → slice_get ds w ≡ None → slice_get (words_from C texts at v ds) w ≡ None
-no_rows C texts at v [] w e = refl
-no_rows C texts at v (d ∷ ds) zero e = absurd (cc)
-no_rows C texts at v (d ∷ ds) (suc w) e = no_rows C (sort_texts texts d.sort) (at + length (word_code C texts v d)) (suc v) ds w e
+no_rows : (C : Program) (templates : List Template) (texts : List (List ℕ)) (at v : ℕ) (ds : List WordDef) (w : ℕ) → slice_get ds w ≡ None → slice_get (words_from C templates texts at v ds) w ≡ None
+no_rows C templates texts at v [] w e = refl
+no_rows C templates texts at v (d ∷ ds) zero e = absurd (cc)
+no_rows C templates texts at v (d ∷ ds) (suc w) e = no_rows C templates (sort_texts texts d.sort) (at + length (word_code C templates texts v d)) (suc v) ds w e
 
 module _ (P C : Program) (templates : List Template) (M : Image) (b : IsBuilt P) (closes : Closes P C templates) (is_plain : IsPlain C templates M) where
   abbrev T : Tables
@@ -95,7 +95,7 @@ module _ (P C : Program) (templates : List Template) (M : Image) (b : IsBuilt P)
       by : (o : Option WordDef) → slice_get P.words w ≡ o → own_kind_of T w ≡ kind_if P.classes (elim o [ Some d ↦ Some d.sort | None ↦ None ])
       by None e =
           ap (λ (rs : List WordRow). elim (slice_get rs w) [ Some r ↦ r.kind | None ↦ None ]) is_plain.word_rows_are
-          ∙ ap (λ (o : Option WordRow). elim o [ Some r ↦ r.kind | None ↦ None ]) (no_rows C _ _ 0 C.words w (word_closed_none P C templates closes w e))
+          ∙ ap (λ (o : Option WordRow). elim o [ Some r ↦ r.kind | None ↦ None ]) (no_rows C templates _ _ 0 C.words w (word_closed_none P C templates closes w e))
       by (Some d) e =
           let p = word_put P C templates M b closes is_plain w d e in
           ap (λ (o : Option WordRow). elim o [ Some r ↦ r.kind | None ↦ None ]) p.row ∙ kind_alike C d.sort p.closed.sort (alike P w d.sort p.closed.sort p.closes_word.sort) ∙ ap (λ (cs : List ClassDef). kind_if cs (Some d.sort)) closes.classes
@@ -106,7 +106,7 @@ module _ (P C : Program) (templates : List Template) (M : Image) (b : IsBuilt P)
       by : (o : Option WordDef) → slice_get P.words w ≡ o → (image_names M).word_name w ≡ elim o [ Some d ↦ d.name.name | None ↦ [] ]
       by None e =
           ap (λ (rs : List WordRow). elim (slice_get rs w) [ Some r ↦ text_of T r.name | None ↦ [] ]) is_plain.word_rows_are
-          ∙ ap (λ (o : Option WordRow). elim o [ Some r ↦ text_of T r.name | None ↦ [] ]) (no_rows C _ _ 0 C.words w (word_closed_none P C templates closes w e))
+          ∙ ap (λ (o : Option WordRow). elim o [ Some r ↦ text_of T r.name | None ↦ [] ]) (no_rows C templates _ _ 0 C.words w (word_closed_none P C templates closes w e))
       by (Some d) e = let p = word_put P C templates M b closes is_plain w d e in ap (λ (o : Option WordRow). elim o [ Some r ↦ text_of T r.name | None ↦ [] ]) p.row ∙ word_text w d e
 
   -- Kinds.

@@ -5,14 +5,16 @@ use Rattle.fac_lang.specs.declared.phrase.Template.{Template}
 use Rattle.fac_lang.specs.declared.program.Program.{Program}
 use Rattle.fac_lang.specs.declared.program.WordDef.{WordDef}
 use Rattle.fac_locals.specs.Literals.{Quoted, literals, literal_or, literal_numbered}
-use Rattle.fac_locals.specs.Closed.{Closes}
+use Rattle.fac_captures.specs.Cells.{captured, hole_count}
+use Rattle.fac_locals.specs.Closed.{Closes, ClosesLiteral}
 use Rattle.fac_locals.proofs.Lookups.{template_closed, template_closed_none, templates_count}
 use Rattle.fac_code.specs.declared.image.Instr.{Instr}
 use Rattle.fac_code.specs.declared.image.Instr.TheVariants.{Ret}
 use Rattle.fac_code.specs.declared.image.TemplateRow.{TemplateRow}
 use Rattle.fac_code.specs.declared.image.WordRow.{WordRow}
 use Rattle.fac_emit.specs.ProgramTables.{table_texts}
-use Rattle.fac_emit.specs.ProgramCode.{phrase_code, phrase_texts, templates_code, templates_texts, row_at, template_rows, sort_texts, words_texts, word_row, word_code, code_from, words_from, program_code, program_texts, program_words}
+use Rattle.fac_emit.specs.ProgramCode.{made_instr, phrase_code, phrase_texts, templates_code, templates_texts, row_at, template_rows, sort_texts, words_texts, word_row, word_code, code_from, words_from, program_code, program_texts, program_words}
+use Rattle.fac_emit.specs.Stands.{making}
 use Rattle.fac_emit.proofs.TextLists.{Begins, begins_same, begins_on, templates_behind, words_behind}
 use Rattle.fac_emit.proofs.LiteralWords.{in_a_word, is_listed}
 use Rattle.fac_emit.proofs.Closings.{drop_behind, get_at}
@@ -31,14 +33,14 @@ pub regroup : (code xs ys zs : List Instr) → code ≡ (xs ++ ys) ++ zs → cod
 regroup code xs ys zs e = e ∙ append_assoc xs ys zs
 
 -- Where the rows of templates are, and the code of each.
-module _ (C : Program) (code : List Instr) (pool : List (List ℕ)) where
+module _ (C : Program) (templates : List Template) (code : List Instr) (pool : List (List ℕ)) where
   pub record IsRowOf (r : TemplateRow) (t : Template) : Type 0 where
     pub at : ℕ
     pub row : r ≡ row_at at t
     pub texts : List (List ℕ)
     pub begins : Begins (phrase_texts texts t.body) pool
     pub more : List Instr
-    pub there : drop at code ≡ phrase_code C Ret texts t.body ++ more
+    pub there : drop at code ≡ phrase_code C templates Ret texts t.body ++ more
 
   abbrev pub Rows : List TemplateRow → List Template → Type 0
   Rows [] [] = Unit {0}
@@ -70,17 +72,17 @@ module _ (C : Program) (code : List Instr) (pool : List (List ℕ)) where
   template_at (q ∷ rs) (u ∷ ts) (suc k) r h e = let later = template_at rs ts k r h.1 e in record { template = later.template; there = later.there; of = later.of }
 
   -- templates whose code stands one behind the other
-  pub rows_placed : (texts : List (List ℕ)) (at : ℕ) (ts : List Template) (more : List Instr) → Begins (templates_texts texts ts) pool → drop at code ≡ templates_code C texts ts ++ more → Rows (template_rows C texts at ts) ts
+  pub rows_placed : (texts : List (List ℕ)) (at : ℕ) (ts : List Template) (more : List Instr) → Begins (templates_texts texts ts) pool → drop at code ≡ templates_code C templates texts ts ++ more → Rows (template_rows C templates texts at ts) ts
   rows_placed texts at [] more b e = tt
   rows_placed texts at (t ∷ ts) more b e =
-      let own = phrase_code C Ret texts t.body in
+      let own = phrase_code C templates Ret texts t.body in
       let next = phrase_texts texts t.body in
-      let there = regroup (drop at code) own (templates_code C next ts) more e in (
-        record { at = at; row = refl; texts = texts; begins = begins_on next (templates_texts next ts) pool (templates_behind next ts) b; more = templates_code C next ts ++ more; there = there },
-        rows_placed next (at + length own) ts more b (drop_behind code at own (templates_code C next ts ++ more) there),
+      let there = regroup (drop at code) own (templates_code C templates next ts) more e in (
+        record { at = at; row = refl; texts = texts; begins = begins_on next (templates_texts next ts) pool (templates_behind next ts) b; more = templates_code C templates next ts ++ more; there = there },
+        rows_placed next (at + length own) ts more b (drop_behind code at own (templates_code C templates next ts ++ more) there),
       )
 
-module _ (C : Program) (code : List Instr) (pool : List (List ℕ)) where
+module _ (C : Program) (templates : List Template) (code : List Instr) (pool : List (List ℕ)) where
   -- a word's row, and the place of its code
   pub record Placed (rows : List WordRow) (w v : ℕ) (d : WordDef) : Type 0 where
     pub at : ℕ
@@ -88,72 +90,82 @@ module _ (C : Program) (code : List Instr) (pool : List (List ℕ)) where
     pub texts : List (List ℕ)
     pub begins : Begins (sort_texts texts d.sort) pool
     pub more : List Instr
-    pub there : drop at code ≡ word_code C texts v d ++ more
+    pub there : drop at code ≡ word_code C templates texts v d ++ more
 
-  pub placed : (texts : List (List ℕ)) (at v : ℕ) (ds : List WordDef) (w : ℕ) (d : WordDef) → Begins (words_texts texts ds) pool → drop at code ≡ code_from C texts v ds → slice_get ds w ≡ Some d → Placed (words_from C texts at v ds) w (v + w) d
+  pub placed : (texts : List (List ℕ)) (at v : ℕ) (ds : List WordDef) (w : ℕ) (d : WordDef) → Begins (words_texts texts ds) pool → drop at code ≡ code_from C templates texts v ds → slice_get ds w ≡ Some d → Placed (words_from C templates texts at v ds) w (v + w) d
   placed texts at v [] w d b e found = absurd (cc)
   placed texts at v (x ∷ ds) zero d b e found =
       let same : x ≡ d = cc in
       let number : v + zero ≡ v = omega arith in
       let next = sort_texts texts x.sort in
-      let others = code_from C next (suc v) ds in
+      let others = code_from C templates next (suc v) ds in
       record {
         at = at;
         row = ap (λ (d : WordDef). Some (word_row C at v d.sort)) same ∙ ap (λ (k : ℕ). Some (word_row C at k d.sort)) (sym number);
         texts = texts;
         begins = subst (λ (d : WordDef). Begins (sort_texts texts d.sort) pool) same (begins_on next (words_texts next ds) pool (words_behind next ds) b);
         more = others;
-        there = e ∙ ap (λ (d : WordDef). word_code C texts v d ++ others) same ∙ ap (λ (k : ℕ). word_code C texts k d ++ others) (sym number);
+        there = e ∙ ap (λ (d : WordDef). word_code C templates texts v d ++ others) same ∙ ap (λ (k : ℕ). word_code C templates texts k d ++ others) (sym number);
       }
   placed texts at v (x ∷ ds) (suc w) d b e found =
-      let own = word_code C texts v x in
+      let own = word_code C templates texts v x in
       let next = sort_texts texts x.sort in
-      let later = placed next (at + length own) (suc v) ds w d b (drop_behind code at own (code_from C next (suc v) ds) e) found in
+      let later = placed next (at + length own) (suc v) ds w d b (drop_behind code at own (code_from C templates next (suc v) ds) e) found in
       let number : suc v + w ≡ v + suc w = omega arith in
-      record { at = later.at; row = later.row ∙ ap (λ (k : ℕ). Some (word_row C later.at k d.sort)) number; texts = later.texts; begins = later.begins; more = later.more; there = later.there ∙ ap (λ (k : ℕ). word_code C later.texts k d ++ later.more) number }
+      record { at = later.at; row = later.row ∙ ap (λ (k : ℕ). Some (word_row C later.at k d.sort)) number; texts = later.texts; begins = later.begins; more = later.more; there = later.there ∙ ap (λ (k : ℕ). word_code C templates later.texts k d ++ later.more) number }
 
 -- all words, behind the templates
-pub behind_templates : (C : Program) (templates : List Template) (code : List Instr) → code ≡ program_code C templates → drop (length (templates_code C (table_texts C) templates)) code ≡ code_from C (templates_texts (table_texts C) templates) 0 C.words
+pub behind_templates : (C : Program) (templates : List Template) (code : List Instr) → code ≡ program_code C templates → drop (length (templates_code C templates (table_texts C) templates)) code ≡ code_from C templates (templates_texts (table_texts C) templates) 0 C.words
 behind_templates C templates code e =
-    let first = templates_code C (table_texts C) templates in
+    let first = templates_code C templates (table_texts C) templates in
     let front : 0 + length first ≡ length first = omega arith in
-    ap (λ (k : ℕ). drop k code) (sym front) ∙ drop_behind code 0 first (code_from C (templates_texts (table_texts C) templates) 0 C.words) e
+    ap (λ (k : ℕ). drop k code) (sym front) ∙ drop_behind code 0 first (code_from C templates (templates_texts (table_texts C) templates) 0 C.words) e
 
-pub words_placed : (C : Program) (templates : List Template) (w : ℕ) (d : WordDef) → slice_get C.words w ≡ Some d → Placed C (program_code C templates) (program_texts C templates) (program_words C templates) w (0 + w) d
+pub words_placed : (C : Program) (templates : List Template) (w : ℕ) (d : WordDef) → slice_get C.words w ≡ Some d → Placed C templates (program_code C templates) (program_texts C templates) (program_words C templates) w (0 + w) d
 words_placed C templates w d found =
     let texts = templates_texts (table_texts C) templates in
-    placed C (program_code C templates) (program_texts C templates) texts (length (templates_code C (table_texts C) templates)) 0 C.words w d (begins_same (program_texts C templates)) (behind_templates C templates (program_code C templates) refl) found
+    placed C templates (program_code C templates) (program_texts C templates) texts (length (templates_code C templates (table_texts C) templates)) 0 C.words w d (begins_same (program_texts C templates)) (behind_templates C templates (program_code C templates) refl) found
 
 -- The rows of the templates of a closed program.
 module _ (P C : Program) (templates : List Template) (closes : Closes P C templates) where
   -- each template is that of a literal in a word
-  pub literal_of : (q : ℕ) (t : Template) → slice_get templates q ≡ Some t → (literal_numbered P q).0.word < length P.words
-  literal_of q t e = let found = get_other templates (literals P) q t (templates_count P C templates closes) e in subst (λ (l : Quoted). l.0.word < length P.words) (sym (ap (literal_or P q) found.1)) (in_a_word P q found.0 found.1)
+  pub literal_of : (q : ℕ) (t : Template) → slice_get templates q ≡ Some t → (literal_numbered P q).at.word < length P.words
+  literal_of q t e = let found = get_other templates (literals P) q t (templates_count P C templates closes) e in subst (λ (l : Quoted). l.at.word < length P.words) (sym (ap (literal_or P q) found.1)) (in_a_word P q found.0 found.1)
 
-  module _ (code : List Instr) (pool : List (List ℕ)) (rows : List TemplateRow) (code_is : code ≡ program_code C templates) (pool_begins : Begins (program_texts C templates) pool) (rows_are : rows ≡ template_rows C (table_texts C) 0 templates) where
-    pub all_rows : Rows C code pool rows templates
+  module _ (code : List Instr) (pool : List (List ℕ)) (rows : List TemplateRow) (code_is : code ≡ program_code C templates) (pool_begins : Begins (program_texts C templates) pool) (rows_are : rows ≡ template_rows C templates (table_texts C) 0 templates) where
+    pub all_rows : Rows C templates code pool rows templates
     all_rows =
         let texts = templates_texts (table_texts C) templates in
         let begins : Begins texts pool = begins_on texts (program_texts C templates) pool (words_behind texts C.words) pool_begins in
-        subst (λ (rs : List TemplateRow). Rows C code pool rs templates) (sym rows_are) (rows_placed C code pool (table_texts C) 0 templates (code_from C texts 0 C.words) begins code_is)
+        subst (λ (rs : List TemplateRow). Rows C templates code pool rs templates) (sym rows_are) (rows_placed C templates code pool (table_texts C) 0 templates (code_from C templates texts 0 C.words) begins code_is)
 
-    -- the row of the template that makes a quotation
-    pub record RowFor (q : ℕ) : Type 0 where
+    -- the template of a literal, and its row
+    pub record RowFor (q : ℕ) (l : Quoted) : Type 0 where
+      pub template : Template
+      pub found : slice_get templates q ≡ Some template
       pub row : TemplateRow
       pub there : slice_get rows q ≡ Some row
-      pub cells : row.cells ≡ []
-      pub holes : row.holes ≡ 0
+      pub cells : row.cells ≡ captured l.cells l.item
+      pub holes : row.holes ≡ hole_count l.item
 
-    row_or : (q : ℕ) (l : Quoted) (o : Option Template) → slice_get (literals P) q ≡ Some l → slice_get templates q ≡ o → RowFor q
+    row_or : (q : ℕ) (l : Quoted) (o : Option Template) → slice_get (literals P) q ≡ Some l → slice_get templates q ≡ o → RowFor q l
     row_or q l None listed e = let none = template_closed_none P C templates closes q e in absurd (let clash : None ≡ Some l = sym none ∙ listed in cc)
     row_or q l (Some t) listed e =
-        let found = row_of C code pool rows templates q t all_rows e in
-        let closed = template_closed P C templates closes q t e in
-        record { row = found.row; there = found.there; cells = ap (λ (r : TemplateRow). r.cells) found.of.row ∙ closed.captures; holes = ap (λ (r : TemplateRow). r.holes) found.of.row ∙ closed.holes }
+        let found = row_of C templates code pool rows templates q t all_rows e in
+        let closed = subst (λ (m : Quoted). ClosesLiteral P m t) (ap (literal_or P q) listed) (template_closed P C templates closes q t e) in
+        record { template = t; found = e; row = found.row; there = found.there; cells = ap (λ (r : TemplateRow). r.cells) found.of.row ∙ closed.captures; holes = ap (λ (r : TemplateRow). r.holes) found.of.row ∙ closed.holes }
 
-    -- and of each quotation that is listed
-    pub listed_row : (q : ℕ) (l : Quoted) → slice_get (literals P) q ≡ Some l → RowFor q
+    -- and of each literal that is listed
+    pub listed_row : (q : ℕ) (l : Quoted) → slice_get (literals P) q ≡ Some l → RowFor q l
     listed_row q l listed = row_or q l (slice_get templates q) listed refl
 
-    pub quotation_row : (q : ℕ) (l : Quoted) → l.0.word < length P.words → literal_numbered P q ≡ l → RowFor q
-    quotation_row q l lt e = row_or q l (slice_get templates q) (is_listed P q l lt e) refl
+    pub literal_row : (q : ℕ) (l : Quoted) → l.at.word < length P.words → literal_numbered P q ≡ l → RowFor q l
+    literal_row q l lt e = row_or q l (slice_get templates q) (is_listed P q l lt e) refl
+
+  -- the instruction that makes it
+  made_or : (q : ℕ) (l : Quoted) (o : Option Template) → slice_get (literals P) q ≡ Some l → slice_get templates q ≡ o → made_instr q o ≡ making q (hole_count l.item)
+  made_or q l None listed e = let none = template_closed_none P C templates closes q e in absurd (let clash : None ≡ Some l = sym none ∙ listed in cc)
+  made_or q l (Some t) listed e = let closed = subst (λ (m : Quoted). ClosesLiteral P m t) (ap (literal_or P q) listed) (template_closed P C templates closes q t e) in ap (making q) closed.holes
+
+  pub literal_instr : (q : ℕ) (l : Quoted) → l.at.word < length P.words → literal_numbered P q ≡ l → made_instr q (slice_get templates q) ≡ making q (hole_count l.item)
+  literal_instr q l lt e = made_or q l (slice_get templates q) (is_listed P q l lt e) refl

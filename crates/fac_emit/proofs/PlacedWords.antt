@@ -112,17 +112,24 @@ module _ (C : Program) (templates : List Template) where
   pub generic_at : (g : ℕ) (c : WordDef) → slice_get C.words g ≡ Some c → c.sort ≡ generic → slice_get (program_generics C templates) (generic_number C g) ≡ Some (row_of g)
   generic_at g c e is = let n : 0 + g ≡ g = omega arith in subst (λ (w : ℕ). slice_get (program_generics C templates) (generic_number C g) ≡ Some (row_of w)) n (rows_at 0 C.words g c e is)
 
--- the phrase that word w of this sort runs, and its closed one, which stands in the code
-pub record Ran (P C : Program) (w : ℕ) (s c : Sort) : Type 0 where
-  pub phrase : Phrase
-  pub code_is : (is_top : Bool) (texts : List (List ℕ)) → sort_code C is_top texts c ≡ phrase_code C (last_instr is_top) texts phrase
-  pub texts_are : (texts : List (List ℕ)) → sort_texts texts c ≡ phrase_texts texts phrase
-  pub closes : Closing P (first_of_word w) (sort_phrase P w (Some s)) phrase
+-- a sort with another phrase
+abbrev pub with_phrase : Sort → Phrase → Sort
+with_phrase (body t) u = body u
+with_phrase (method c g t) u = method c g u
+with_phrase s u = s
 
-pub ran : (P C : Program) (w : ℕ) (s c : Sort) → RunsPhrase (Some s) → ClosesSort P w s c → RunsAs P w s → Ran P C w s c
-ran P C w (body t) c h cl r = record { phrase = cl.0; code_is = λ is_top texts. ap (sort_code C is_top texts) cl.1; texts_are = λ texts. ap (sort_texts texts) cl.1; closes = closing P (first_of_word w) t cl.0 cl.2 r }
-ran P C w (method n g t) c h cl r = record { phrase = cl.0; code_is = λ is_top texts. ap (sort_code C is_top texts) cl.1; texts_are = λ texts. ap (sort_texts texts) cl.1; closes = closing P (first_of_word w) _ cl.0 cl.2 r }
-ran P C w _ c h cl r = absurd h
+-- the phrase that word w of this sort runs, and its closed one, which stands in the code
+pub record Ran (P C : Program) (templates : List Template) (w : ℕ) (s c : Sort) : Type 0 where
+  pub phrase : Phrase
+  pub code_is : (is_top : Bool) (texts : List (List ℕ)) → sort_code C templates is_top texts c ≡ phrase_code C templates (last_instr is_top) texts phrase
+  pub texts_are : (texts : List (List ℕ)) → sort_texts texts c ≡ phrase_texts texts phrase
+  pub sort_is : c ≡ with_phrase s phrase
+  pub closes : Closing P [] (first_of_word w) (sort_phrase P w (Some s)) phrase
+
+pub ran : (P C : Program) (templates : List Template) (w : ℕ) (s c : Sort) → RunsPhrase (Some s) → ClosesSort P w s c → RunsAs P w s → Ran P C templates w s c
+ran P C templates w (body t) c h cl r = record { phrase = cl.0; code_is = λ is_top texts. ap (sort_code C templates is_top texts) cl.1; texts_are = λ texts. ap (sort_texts texts) cl.1; sort_is = cl.1; closes = closing P [] (first_of_word w) t cl.0 cl.2 r }
+ran P C templates w (method n g t) c h cl r = record { phrase = cl.0; code_is = λ is_top texts. ap (sort_code C templates is_top texts) cl.1; texts_are = λ texts. ap (sort_texts texts) cl.1; sort_is = cl.1; closes = closing P [] (first_of_word w) _ cl.0 cl.2 r }
+ran P C templates w _ c h cl r = absurd h
 
 module _ (P C : Program) (templates : List Template) (M : Image) (b : IsBuilt P) (closes : Closes P C templates) (is_plain : IsPlain C templates M) where
   pub texts_begin : Begins (program_texts C templates) M.texts
@@ -144,13 +151,13 @@ module _ (P C : Program) (templates : List Template) (M : Image) (b : IsBuilt P)
     pub texts : List (List ℕ)
     pub begins : Begins (sort_texts texts closed.sort) M.texts
     pub more : List Instr
-    pub there : drop place M.code ≡ word_code C texts w closed ++ more
+    pub there : drop place M.code ≡ word_code C templates texts w closed ++ more
 
   pub word_put : (w : ℕ) (d : WordDef) → slice_get P.words w ≡ Some d → WordPut w d
   word_put w d e =
       let found = word_closed P C templates closes w d e in
       let texts = templates_texts (table_texts C) templates in
-      let put = placed C M.code M.texts texts (length (templates_code C (table_texts C) templates)) 0 C.words w found.closed texts_begin (behind_templates C templates M.code is_plain.code) found.at in
+      let put = placed C templates M.code M.texts texts (length (templates_code C templates (table_texts C) templates)) 0 C.words w found.closed texts_begin (behind_templates C templates M.code is_plain.code) found.at in
       let n : 0 + w ≡ w = omega arith in
       record {
         closed = found.closed;
@@ -161,7 +168,7 @@ module _ (P C : Program) (templates : List Template) (M : Image) (b : IsBuilt P)
         texts = put.texts;
         begins = put.begins;
         more = put.more;
-        there = put.there ∙ ap (λ (k : ℕ). word_code C put.texts k found.closed ++ put.more) n;
+        there = put.there ∙ ap (λ (k : ℕ). word_code C templates put.texts k found.closed ++ put.more) n;
       }
 
   -- it does what its sort says

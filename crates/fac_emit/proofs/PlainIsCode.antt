@@ -4,17 +4,18 @@ use Rattle.std.proofs.lemmas.Bool.{ltb-true}
 use Rattle.std.specs.Prelude.{slice_get}
 use Rattle.fac_lang.specs.declared.phrase.Place.{Place}
 use Rattle.fac_lang.specs.declared.program.Program.{Program}
-use Rattle.fac_lang.specs.Phrases.{Phrase, end, then, Item}
+use Rattle.fac_lang.specs.Phrases.{Phrase, then, Item, held}
+use Rattle.fac_lang.specs.Substitution.{put_local}
 use Rattle.fac_lang.specs.Primitives.{Primitive, prim_numbered, is_built_primitive, built_primitives, later_primitives, built_count}
 use Rattle.fac_code.specs.declared.image.Instr.{Instr}
 use Rattle.fac_code.specs.declared.image.Instr.TheVariants.{Ret}
 use Rattle.fac_code.specs.declared.image.Image.{Image}
 use Rattle.fac_store.specs.MachineValues.{MValue}
 use Rattle.fac_emit.specs.Accessors.{accessor_ins, accessor_outs}
-use Rattle.fac_emit.specs.MachineView.{Templates, template_phrases}
+use Rattle.fac_emit.specs.MachineView.{Templates, template_phrases, value_view, kept_view}
 use Rattle.fac_emit.specs.Symbols.{Sym, here, Task, do_phrase, top_none, Needs, needs_none, needs_more, heres, AllHere, all_none, all_more, ins, outs, Special}
-use Rattle.fac_emit.specs.Expanded.{Code, c_last, c_make, c_trim, c_end, c_off, c_int, c_true, c_false, c_text, c_array, c_reference, c_symbol, c_prim, c_accessor, c_isa, c_boa, c_stuck, c_word, c_call, c_dip, c_if, c_generic, c_next, EachCalled, ExpandedCode}
-use Rattle.fac_emit.specs.Stands.{Calling, l_word, l_call, l_if, l_generic, l_next, Translates, t_int, t_true, t_false, t_text, t_array, t_reference, t_symbol, t_quot, t_prim, t_accessor, t_isa, t_dip, t_boa, t_stuck, t_calling, Stands, s_end, s_item, Coded, PlainCode}
+use Rattle.fac_emit.specs.Expanded.{Code, c_last, c_make, c_trim, c_end, c_off, c_int, c_true, c_false, c_text, c_array, c_reference, c_symbol, c_prim, c_accessor, c_isa, c_boa, c_held, c_bind, c_fry, c_stuck, c_word, c_call, c_dip, c_if, c_generic, c_next, EachCalled, ExpandedCode}
+use Rattle.fac_emit.specs.Stands.{Calling, l_word, l_call, l_if, l_generic, l_next, Translates, t_int, t_true, t_false, t_text, t_array, t_reference, t_symbol, t_held, t_quot, t_fry, t_prim, t_accessor, t_isa, t_dip, t_boa, t_stuck, t_calling, Stands, s_end, s_item, s_bind, Coded, PlainCode}
 
 needs_any : (n : ℕ) → Needs n [] []
 needs_any zero = needs_none
@@ -54,6 +55,8 @@ module _ (P : Program) (M : Image) (T : Templates) where
   item_code Γ last F i x p t K pc e (t_reference w r ew) rest = c_reference w r e ew (rest (here ∷ []) (all_more all_none))
   item_code Γ last F i x p t K pc e (t_symbol w r es ew) rest = c_symbol w r es e ew (rest (here ∷ []) (all_more all_none))
   item_code Γ last F i x p t K pc e (t_quot q r vs et eh ec) rest = c_off (c_make q r vs e et eh ec (rest (here ∷ []) (all_more all_none)))
+  item_code Γ last F i x p t K pc e (t_held k v ek) rest = c_held k v e ek (rest (here ∷ []) (all_more all_none))
+  item_code Γ last F i x p t K pc e (t_fry q r vs b et ec eh) rest = c_fry q r vs b e et ec eh (needs_any r.holes) (rest (here ∷ []) (all_more all_none))
   item_code Γ last F i x p t K pc e (t_prim w k es built ew) rest =
       let there = built_there k built in
       c_prim w k there.0 es there.1 ew (needs_any (ins there.0)) e (rest (heres (outs there.0) []) (all_heres (outs there.0) [] all_none))
@@ -64,25 +67,15 @@ module _ (P : Program) (M : Image) (T : Templates) where
   item_code Γ last F i x p t K pc e (t_stuck y stuck) rest = c_stuck stuck
   item_code Γ last F i x p t K pc e (t_calling c) rest = calling_code Γ last F i x p t K pc e c (rest [] all_none)
 
-  -- Code that takes a phrase from one place to another, where its last instruction stands: whatever is left to do there, the phrase is left to do before it.
-  pub record Reaches (last : Instr) (F : List MValue) (pc : ℕ) (t : Phrase) : Type 0 where
-    pub to : ℕ
-    pub there : slice_get M.code to ≡ Some last
-    pub behind : (Γ : List Special) (at_end : Option Instr) (K : List Task) → Code P M T Γ at_end F zero [] K to → Code P M T Γ at_end F zero [] (do_phrase t ∷ K) pc
-
-  pub plain_reaches : (last : Instr) (F : List MValue) (pc : ℕ) (t : Phrase) → Stands P M T last F pc t → Reaches last F pc t
-  plain_reaches last F pc end (s_end e) = record { to = pc; there = e; behind = λ Γ at_end K c. c_end c }
-  plain_reaches last F pc (then i p t) (s_item x e tr st) =
-      let r = plain_reaches last F (pc + 1) t st in
-      record { to = r.to; there = r.there; behind = λ Γ at_end K c. item_code Γ at_end F i x p t K pc e tr (λ S a. c_trim {S = []} S a (r.behind Γ at_end K c)) }
-
   pub plain_is_code : (last : Instr) (F : List MValue) (pc : ℕ) (t : Phrase) → Stands P M T last F pc t → Code P M T [] (Some last) F zero [] (do_phrase t ∷ []) pc
-  plain_is_code last F pc t st = let r = plain_reaches last F pc t st in r.behind [] (Some last) [] (c_last all_none r.there)
+  plain_is_code last F pc t (s_end e) = c_end (c_last all_none e)
+  plain_is_code last F pc t (s_item {i = i} {p = p} {t = u} x e tr st) = item_code [] (Some last) F i x p u [] pc e tr (λ S a. c_trim {S = []} S a (plain_is_code last F (pc + 1) u st))
+  plain_is_code last F pc t (s_bind {y = y} {t = u} e st) = c_bind (needs_any 1) e (λ v h. plain_is_code last (F ++ v ∷ []) (pc + 1) (put_local y (held (value_view T v)) u) (st v h))
 
   pub each_called : Coded P M T → EachCalled P M T
   each_called coded = record {
     words = λ w a code. plain_is_code Ret [] a _ (coded.words w a code);
-    templates = λ q r k e size whole. plain_is_code Ret _ r.entry (T q) (coded.templates q r k e size whole);
+    templates = λ q r k e size whole. plain_is_code Ret _ r.entry (T q (kept_view T k)) (coded.templates q r k e size whole);
   }
 
 -- so plain code is a part of it

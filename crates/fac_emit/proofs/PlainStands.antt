@@ -7,18 +7,23 @@ use Rattle.fac_lang.specs.declared.program.Program.{Program}
 use Rattle.fac_lang.specs.declared.program.WordDef.{WordDef}
 use Rattle.fac_lang.specs.declared.program.Sort.{Sort}
 use Rattle.fac_lang.specs.declared.program.Sort.TheVariants.{Prim as prim_sort, Core as core_sort, Body as body, Itself as itself, Class as class, Isa as isa, Getter as getter, Setter as setter, Putter as putter, Generic as generic, Method as method}
-use Rattle.fac_lang.specs.Phrases.{Literal, Phrase, quot, word, next_after}
+use Rattle.fac_lang.specs.Phrases.{int, yes, no, str, wrd, Literal, Phrase, Item, lit, lit_arr, quot, word, bind, fry, call_eff, exec_eff, next_method, next_after, held, Value}
+use Rattle.fac_lang.specs.Substitution.{put_local, put_holes}
 use Rattle.fac_lang.specs.Forms.{IsBuilt, IsBuiltSort}
 use Rattle.fac_lang.specs.Whole.{IsWhole}
 use Rattle.fac_lang.specs.CoreWords.{is_built_core}
 use Rattle.fac_lang.specs.Classes.{next}
 use Rattle.fac_lang.specs.Meaning.{sort_of, sort_phrase, word_phrase, generic_of, sort_act, core_numbered}
 use Rattle.fac_lang.proofs.FormsLemmas.{word_below, sort_at, top_word}
-use Rattle.fac_locals.specs.Literals.{Quoted, first_of_word, first_of_literal, literal_numbered}
+use Rattle.fac_captures.specs.Cells.{inner_cells}
+use Rattle.fac_locals.specs.Literals.{Quoted, quoted_phrase, behind, first_of_word, first_of_literal, literal_numbered}
 use Rattle.fac_locals.specs.Closed.{Closes, ClosesSort}
+use Rattle.fac_locals.specs.Frames.{ArePut, items_at, template_phrase, IsPlain as IsPlainItem, OpensItem, o_plain, o_local, o_quotation, o_fry, Opens, o_end, o_item, o_bind}
+use Rattle.fac_locals.specs.OpenedPrograms.{OpensSort, OpensProgram}
+use Rattle.fac_locals.proofs.OpeningLaws.{programs_open}
 use Rattle.fac_locals.proofs.Lookups.{word_closed, template_closed}
 use Rattle.fac_code.specs.declared.image.Instr.{Instr}
-use Rattle.fac_code.specs.declared.image.Instr.TheVariants.{Halt, Int, True, False, Text, Array, Word, Quot, Callw, Ret, Boa}
+use Rattle.fac_code.specs.declared.image.Instr.TheVariants.{Halt, Quot, Bind, Local, Callw, Ret, Boa}
 use Rattle.fac_code.specs.declared.image.Action.TheVariants as action
 use Rattle.fac_code.specs.declared.image.Image.{Image}
 use Rattle.fac_code.specs.declared.image.TemplateRow.{TemplateRow}
@@ -26,18 +31,19 @@ use Rattle.fac_code.specs.declared.image.WordRow.{WordRow}
 use Rattle.fac_generic.specs.Methods.{methods_in_order}
 use Rattle.fac_store.specs.MachineValues.{MValue, kept_list, cells_at}
 use Rattle.fac_emit.specs.Accessors.{Accessor, getting, setting, putting, accessor_sort, accessor_instr}
-use Rattle.fac_emit.specs.MachineView.{template_phrases}
+use Rattle.fac_emit.specs.MachineView.{Templates, template_phrases, value_view, values_view}
 use Rattle.fac_vm.specs.Machine.{method_after}
 use Rattle.fac_emit.specs.ProgramTables.{table_texts, slot_names, slot_number, accessed, generic_number, method_number, method_row}
-use Rattle.fac_emit.specs.ProgramCode.{core_instr, sort_instr, item_instr, phrase_code, phrase_texts, last_instr, sort_action, sort_code, word_row, code_place, program_words, IsPlain}
-use Rattle.fac_emit.specs.Stands.{RunsPhrase, SameMethod, l_word, l_call, l_if, l_generic, l_next, Translates, t_int, t_true, t_false, t_text, t_array, t_reference, t_symbol, t_quot, t_prim, t_accessor, t_isa, t_dip, t_boa, t_stuck, t_calling, Stands, s_end, s_item, Coded, PlainCode}
-use Rattle.fac_emit.proofs.Closings.{Closing, c_end, c_int, c_true, c_false, c_text, c_array, c_ref, c_word, c_quot, c_outside, c_next, closing}
+use Rattle.fac_emit.specs.ProgramCode.{core_instr, sort_instr, made_instr, item_instr, with_text, phrase_code, phrase_texts, last_instr, sort_action, sort_code, sort_texts, word_row, code_place, program_words, IsPlain}
+use Rattle.fac_emit.specs.Stands.{RunsPhrase, making, SameMethod, l_word, l_call, l_if, l_generic, l_next, Translates, t_int, t_true, t_false, t_text, t_array, t_reference, t_symbol, t_held, t_quot, t_fry, t_prim, t_accessor, t_isa, t_dip, t_boa, t_stuck, t_calling, Stands, s_end, s_item, s_bind, Coded, PlainCode}
+use Rattle.fac_emit.proofs.Closings.{closing, closed_runs}
+use Rattle.fac_emit.proofs.HeldFrames.{helds, helds_put, helds_count, helds_more, held_at, captured_values, kept_list_view}
 use Rattle.fac_emit.proofs.FirstWords.{DoAsSorts, first_prim, first_accessor}
 use Rattle.fac_generic.specs.Methods.{MethodLaws}
 use Rattle.fac_emit.proofs.NextMethods.{method_found}
-use Rattle.fac_emit.proofs.Placed.{code_at, template_at, literal_of, all_rows, quotation_row}
-use Rattle.fac_emit.proofs.PlacedWords.{found_below, element_at, ran, texts_begin, tables_begin, WordPut, word_put, word_does, has_code, one_place, in_set, picked_same, next_same, generic_row}
-use Rattle.fac_emit.proofs.RunningPhrases.{IsMethod, word_runs, literal_runs}
+use Rattle.fac_emit.proofs.Placed.{Rows, code_at, row_of, template_at, all_rows}
+use Rattle.fac_emit.proofs.PlacedWords.{found_below, element_at, Ran, ran, texts_begin, tables_begin, WordPut, word_put, word_does, has_code, one_place, in_set, picked_same, next_same, generic_row}
+use Rattle.fac_emit.proofs.RunningPhrases.{IsMethod, IsRun, IsRunItem, word_runs, literal_runs}
 use Rattle.fac_emit.proofs.TableLemmas.{IsAmong, AreAmong, accessor_named, slot_text}
 use Rattle.fac_emit.proofs.TableNumbers.{slot_same, texts_same, generic_of_same, method_same}
 use Rattle.fac_emit.proofs.TextLists.{Begins, front_there, text_there}
@@ -108,7 +114,7 @@ module _ (P C : Program) (templates : List Template) (M : Image) (b : IsBuilt P)
       rw h (t_calling (l_generic w (generic_number C w) _ (sort_at P w d e ∙ ap Some is) (generic_row P C templates M b closes is_plain w c at h) refl (picked_same P C templates M b closes is_plain laws w)))
   sort_does F w d c _ lt e at is h built = absurd built
 
-  word_does_so : (F : List MValue) (n w : ℕ) → w < P.top → Does F w (item_instr C n (word w))
+  word_does_so : (F : List MValue) (n w : ℕ) → w < P.top → Does F w (item_instr C templates n (word w))
   word_does_so F n w lt =
       let found = word_below P b w lt in
       let closed = word_closed P C templates closes w found.def found.at in
@@ -122,7 +128,7 @@ module _ (P C : Program) (templates : List Template) (M : Image) (b : IsBuilt P)
   abbrev NextSame : ℕ → ℕ → ℕ → ℕ → Type 0
   NextSame g m k j = SameMethod P M (method_after M.sets k (drop j (map (method_row row_place) (methods_in_order P g)))) (next P m k)
 
-  next_does : (F : List MValue) (n m : ℕ) → IsMethod (sort_of P m) → Translates P M (template_phrases P) F (next_after m) (item_instr C n (next_after m))
+  next_does : (F : List MValue) (n m : ℕ) → IsMethod (sort_of P m) → Translates P M (template_phrases P) F (next_after m) (item_instr C templates n (next_after m))
   next_does F n m is =
       let found = method_found P C templates b whole laws closes m is in
       let g = generic_of P (sort_of P m) in
@@ -130,66 +136,134 @@ module _ (P C : Program) (templates : List Template) (M : Image) (b : IsBuilt P)
       t_calling (l_next m (generic_number C (generic_of C (sort_of C m))) (method_number C m) _ row refl
       (λ k. subst (λ (j : ℕ). NextSame g m k j) (sym (method_same P C templates closes m)) (next_same P C templates M b closes is_plain laws g (method_number P m) m found.class_of k found.there)))
 
-  quotation_does : (F : List MValue) (q : ℕ) (at : Literal) (u : Phrase) → at.word < length P.words → (let l : Quoted = (at, u) in literal_numbered P q ≡ l) → Translates P M (template_phrases P) F (quot u) (Quot q)
+  abbrev T : Templates
+  T = template_phrases P
+
+  rows : Rows C templates M.code M.texts M.templates templates
+  rows = all_rows P C templates closes M.code M.texts M.templates is_plain.code (texts_begin P C templates M b closes is_plain) is_plain.template_rows_are
+
+  opens : OpensProgram P C templates
+  opens = programs_open P C templates closes
+
+  -- the phrase of a template under the values of a frame
+  template_held : (q : ℕ) (vs : List MValue) → T q (values_view T vs) ≡ template_phrase P q (helds T vs)
   unfolding template_phrases
-  quotation_does F q at u lt e =
-      let found = quotation_row P C templates closes M.code M.texts M.templates is_plain.code (texts_begin P C templates M b closes is_plain) is_plain.template_rows_are q (at, u) lt e in
-      let none : cells_at found.row.cells F ≡ Some [] = ap (λ (ks : List ℕ). cells_at ks F) found.cells in
-      subst (λ (t : Phrase). Translates P M (template_phrases P) F (quot t) (Quot q)) (ap (λ (l : Quoted). l.1) e) (t_quot q found.row [] found.there found.holes none)
+  template_held q vs = refl
 
-  -- The code of a closed phrase stands for its phrase, whatever comes behind. It stands so under every frame, since no value is put into a frame yet.
+  quotation_does : (F : List MValue) (q : ℕ) (t : Template) (is : List Item) → slice_get templates q ≡ Some t → t.holes ≡ 0 → items_at t.captures (helds T F) ≡ Some is → Translates P M T F (quot (template_phrase P q is)) (made_instr q (slice_get templates q))
+  quotation_does F q t is et eh ei =
+      let found = row_of C templates M.code M.texts M.templates templates q t rows et in
+      let row = found.of.row in
+      let kept = captured_values T t.captures F is ei in
+      let cells : cells_at found.row.cells F ≡ Some kept.0 = ap (λ (r : TemplateRow). cells_at r.cells F) row ∙ kept.1 in
+      let holes : found.row.holes ≡ 0 = ap (λ (r : TemplateRow). r.holes) row ∙ eh in
+      let instr : made_instr q (slice_get templates q) ≡ Quot q = ap (made_instr q) et ∙ ap (making q) eh in
+      let phrase : T q (values_view T kept.0) ≡ template_phrase P q is = template_held q kept.0 ∙ ap (template_phrase P q) (sym kept.2) in
+      rw instr (subst (λ (u : Phrase). Translates P M T F (quot u) (Quot q)) phrase (t_quot q found.row kept.0 found.there holes cells))
 
+  fry_does :
+      (F : List MValue) (q : ℕ) (t : Template) (is : List Item) (u : Phrase) → slice_get templates q ≡ Some t → items_at t.captures (helds T F) ≡ Some is →
+      ((js : List Item) → ArePut js → length js ≡ t.holes → put_holes js u ≡ template_phrase P q (is ++ js)) → Translates P M T F (fry u t.holes) (made_instr q (slice_get templates q))
+  fry_does F q t is u et ei puts =
+      let found = row_of C templates M.code M.texts M.templates templates q t rows et in
+      let row = found.of.row in
+      let kept = captured_values T t.captures F is ei in
+      let cells : cells_at found.row.cells F ≡ Some kept.0 = ap (λ (r : TemplateRow). cells_at r.cells F) row ∙ kept.1 in
+      let holes : found.row.holes ≡ t.holes = ap (λ (r : TemplateRow). r.holes) row in
+      let put : (us : List MValue) → length us ≡ found.row.holes → put_holes (helds T us) u ≡ T q (values_view T (kept.0 ++ us)) =
+      λ us n. puts (helds T us) (helds_put T us) (helds_count T us ∙ n ∙ holes) ∙ ap (λ (js : List Item). template_phrase P q (js ++ helds T us)) kept.2 ∙ ap (template_phrase P q) (sym (helds_more T kept.0 us)) ∙ sym (template_held q (kept.0 ++ us)) in
+      rw (ap (made_instr q) et) (subst (λ (n : ℕ). Translates P M T F (fry u n) (making q n)) holes (t_fry q found.row kept.0 u found.there cells put))
+
+  plain_does : (F : List MValue) (texts : List (List ℕ)) (i : Item) (c : Phrase) → IsPlainItem P i → IsRunItem P i → Begins (phrase_texts (with_text texts i) c) M.texts → Translates P M T F i (item_instr C templates (length texts) i)
+  plain_does F texts (lit (int z)) c h r begins = t_int z
+  plain_does F texts (lit yes) c h r begins = t_true
+  plain_does F texts (lit no) c h r begins = t_false
+  plain_does F texts (lit (str cs)) c h r begins = t_text cs (length texts) (text_there texts M.texts cs c begins)
+  plain_does F texts (lit (wrd w)) c h r begins = let there = row_there w r in t_reference w there.0 there.1
+  plain_does F texts (lit_arr a) c h r begins = t_array a
+  plain_does F texts (word w) c h r begins = word_does_so F (length texts) w r
+  plain_does F texts next_method c h r begins = t_stuck Boa (λ fits callable_height st. refl)
+  plain_does F texts (next_after m) c h r begins = next_does F (length texts) m r
+  plain_does F texts (lit _) c h r begins = absurd r
+  plain_does F texts (call_eff k) c h r begins = absurd r
+  plain_does F texts (exec_eff k) c h r begins = absurd r
+  plain_does F texts _ c h r begins = absurd h
+
+  local_does : (F : List MValue) (k : ℕ) (i : Item) → slice_get (helds T F) k ≡ Some i → Translates P M T F i (Local k)
+  local_does F k i e = let found = held_at T F k i e in subst (λ (j : Item). Translates P M T F j (Local k)) (sym found.2) (t_held k found.0 found.1)
+
+  -- an item of a closed phrase under a frame
+  item_does : (F : List MValue) (at : Literal) (texts : List (List ℕ)) (j i : Item) (c : Phrase) → OpensItem P templates (helds T F) at j i → IsRunItem P j → Begins (phrase_texts (with_text texts j) c) M.texts →
+      Translates P M T F i (item_instr C templates (length texts) j)
+  item_does F at texts j i c (o_plain x h) r begins = plain_does F texts x c h r begins
+  item_does F at texts j i c (o_local k x e put) r begins = local_does F k x e
+  item_does F at texts j i c (o_quotation k t is et eh where_at ei) r begins = quotation_does F k t is et eh ei
+  item_does F at texts j i c (o_fry k t is u et where_at ei puts) r begins = fry_does F k t is u et ei puts
+
+  -- The code of a closed phrase stands for the phrase that it opens to under a frame, whatever comes behind.
   phrase_stands :
-      (last : Instr) (F : List MValue) (pc : ℕ) (at : Literal) (texts : List (List ℕ)) (t c : Phrase) (more : List Instr) → Closing P at t c → at.word < length P.words → Begins (phrase_texts texts c) M.texts → drop pc M.code ≡ phrase_code C last texts c ++ more →
-      Stands P M (template_phrases P) last F pc t
-  phrase_stands last F pc at texts t c more c_end lt b e = s_end (code_at M.code pc last more e).0
-  phrase_stands last F pc at texts t c more (c_int {c = c'} z h) lt b e =
-      let found = code_at M.code pc (Int z) (phrase_code C last texts c' ++ more) e in s_item (Int z) found.0 (t_int z) (phrase_stands last F (pc + 1) _ texts _ c' more h lt b found.1)
-  phrase_stands last F pc at texts t c more (c_true {c = c'} h) lt b e =
-      let found = code_at M.code pc True (phrase_code C last texts c' ++ more) e in s_item True found.0 t_true (phrase_stands last F (pc + 1) _ texts _ c' more h lt b found.1)
-  phrase_stands last F pc at texts t c more (c_false {c = c'} h) lt b e =
-      let found = code_at M.code pc False (phrase_code C last texts c' ++ more) e in s_item False found.0 t_false (phrase_stands last F (pc + 1) _ texts _ c' more h lt b found.1)
-  phrase_stands last F pc at texts t c more (c_text {c = c'} cs h) lt b e =
-      let x = Text (length texts) in
-      let next = texts ++ cs ∷ [] in
-      let found = code_at M.code pc x (phrase_code C last next c' ++ more) e in s_item x found.0 (t_text cs (length texts) (text_there texts M.texts cs c' b)) (phrase_stands last F (pc + 1) _ next _ c' more h lt b found.1)
-  phrase_stands last F pc at texts t c more (c_array {c = c'} a h) lt b e =
-      let found = code_at M.code pc (Array a) (phrase_code C last texts c' ++ more) e in s_item (Array a) found.0 (t_array a) (phrase_stands last F (pc + 1) _ texts _ c' more h lt b found.1)
-  phrase_stands last F pc at texts t c more (c_ref {c = c'} w below h) lt b e =
-      let there = row_there w below in
-      let found = code_at M.code pc (Word w) (phrase_code C last texts c' ++ more) e in s_item (Word w) found.0 (t_reference w there.0 there.1) (phrase_stands last F (pc + 1) _ texts _ c' more h lt b found.1)
-  phrase_stands last F pc at texts t c more (c_word {c = c'} w below h) lt b e =
-      let x = item_instr C (length texts) (word w) in
-      let found = code_at M.code pc x (phrase_code C last texts c' ++ more) e in s_item x found.0 (word_does_so F (length texts) w below) (phrase_stands last F (pc + 1) _ texts _ c' more h lt b found.1)
-  phrase_stands last F pc at texts t c more (c_quot {c = c'} u q is h) lt b e =
-      let found = code_at M.code pc (Quot q) (phrase_code C last texts c' ++ more) e in s_item (Quot q) found.0 (quotation_does F q at u lt is) (phrase_stands last F (pc + 1) _ texts _ c' more h lt b found.1)
-  phrase_stands last F pc at texts t c more (c_outside {c = c'} h) lt b e =
-      let found = code_at M.code pc Boa (phrase_code C last texts c' ++ more) e in s_item Boa found.0 (t_stuck Boa (λ fits callable_height st. refl)) (phrase_stands last F (pc + 1) _ texts _ c' more h lt b found.1)
-  phrase_stands last F pc at texts t c more (c_next {c = c'} m is h) lt b e =
-      let x = item_instr C (length texts) (next_after m) in
-      let found = code_at M.code pc x (phrase_code C last texts c' ++ more) e in s_item x found.0 (next_does F (length texts) m is) (phrase_stands last F (pc + 1) _ texts _ c' more h lt b found.1)
+      (last : Instr) (F : List MValue) (frame : List Item) (pc : ℕ) (at : Literal) (texts : List (List ℕ)) (c t : Phrase) (more : List Instr) → frame ≡ helds T F → Opens P templates frame at c t → IsRun P c → Begins (phrase_texts texts c) M.texts →
+      drop pc M.code ≡ phrase_code C templates last texts c ++ more → Stands P M T last F pc t
+  phrase_stands last F frame pc at texts c t more is o_end r begins e = s_end (code_at M.code pc last more e).0
+  phrase_stands last F frame pc at texts c t more is (o_item {j = j} {i = i} {c = d} h later) r begins e =
+      let x = item_instr C templates (length texts) j in
+      let found = code_at M.code pc x (phrase_code C templates last (with_text texts j) d ++ more) e in
+      s_item x found.0 (item_does F at texts j i d (subst (λ (fs : List Item). OpensItem P templates fs at j i) is h) r.0 begins) (phrase_stands last F frame (pc + 1) (behind at i) (with_text texts j) d _ more is later r.1 begins found.1)
+  phrase_stands last F frame pc at texts c t more is (o_bind {x = y} {c = d} {t = u} later) r begins e =
+      let found = code_at M.code pc Bind (phrase_code C templates last texts d ++ more) e in
+      s_bind found.0 (λ v whole. phrase_stands last (F ++ v ∷ []) (frame ++ held (value_view T v) ∷ []) (pc + 1) (behind at (bind y)) texts d (put_local y (held (value_view T v)) u) more
+      (ap (λ (fs : List Item). fs ++ held (value_view T v) ∷ []) is ∙ sym (helds_more T F (v ∷ []))) (later (held (value_view T v)) tt) r.1 begins found.1)
+
+  -- the closed phrase of a word that runs a phrase
+  pub record Opened (w : ℕ) (s c : Sort) : Type 0 where
+    pub phrase : Phrase
+    pub code_is : (is_top : Bool) (texts : List (List ℕ)) → sort_code C templates is_top texts c ≡ phrase_code C templates (last_instr is_top) texts phrase
+    pub texts_are : (texts : List (List ℕ)) → sort_texts texts c ≡ phrase_texts texts phrase
+    pub opens_to : Opens P templates [] (first_of_word w) phrase (sort_phrase P w (Some s))
+    pub runs : IsRun P phrase
+
+  opened_as : (w : ℕ) (s c : Sort) → RunsPhrase (Some s) → OpensSort P templates w s c → Ran P C templates w s c → Opened w s c
+  opened_as w (body t) c h o r = record {
+    phrase = o.0;
+    code_is = λ is_top texts. ap (sort_code C templates is_top texts) o.1;
+    texts_are = λ texts. ap (sort_texts texts) o.1;
+    opens_to = o.2;
+    runs = let same : body r.phrase ≡ body o.0 = sym r.sort_is ∙ o.1 in let phrases : r.phrase ≡ o.0 = cc in subst (IsRun P) phrases (closed_runs P [] (first_of_word w) t r.phrase r.closes);
+  }
+  opened_as w (method n g t) c h o r = record {
+    phrase = o.0;
+    code_is = λ is_top texts. ap (sort_code C templates is_top texts) o.1;
+    texts_are = λ texts. ap (sort_texts texts) o.1;
+    opens_to = o.2;
+    runs = let same : method n g r.phrase ≡ method n g o.0 = sym r.sort_is ∙ o.1 in let phrases : r.phrase ≡ o.0 = cc in subst (IsRun P) phrases (closed_runs P [] (first_of_word w) _ r.phrase r.closes);
+  }
+  opened_as w _ c h o r = absurd h
 
   -- the code of a word that runs a phrase
-  word_stands : (w : ℕ) (d : WordDef) (is_top : Bool) → nat_eq w C.top ≡ is_top → (e : slice_get P.words w ≡ Some d) → RunsPhrase (Some d.sort) → Stands P M (template_phrases P) (last_instr is_top) [] (put w d e).place (sort_phrase P w (Some d.sort))
+  word_stands : (w : ℕ) (d : WordDef) (is_top : Bool) → nat_eq w C.top ≡ is_top → (e : slice_get P.words w ≡ Some d) → RunsPhrase (Some d.sort) → Stands P M T (last_instr is_top) [] (put w d e).place (sort_phrase P w (Some d.sort))
   word_stands w d is_top which e runs =
       let p = put w d e in
-      let own = ran P C w d.sort p.closed.sort runs p.closes_word.sort (word_runs P b w d e) in
-      let there : drop p.place M.code ≡ phrase_code C (last_instr is_top) p.texts own.phrase ++ p.more = p.there ∙ ap (λ (q : Bool). sort_code C q p.texts p.closed.sort ++ p.more) which ∙ ap (λ (c : List Instr). c ++ p.more) (own.code_is is_top p.texts) in
+      let own = opened_as w d.sort p.closed.sort runs (opens.words w d p.closed e p.at) (ran P C templates w d.sort p.closed.sort runs p.closes_word.sort (word_runs P b w d e)) in
+      let there : drop p.place M.code ≡ phrase_code C templates (last_instr is_top) p.texts own.phrase ++ p.more =
+      p.there ∙ ap (λ (q : Bool). sort_code C templates q p.texts p.closed.sort ++ p.more) which ∙ ap (λ (c : List Instr). c ++ p.more) (own.code_is is_top p.texts) in
       let pool : Begins (phrase_texts p.texts own.phrase) M.texts = subst (λ (ts : List (List ℕ)). Begins ts M.texts) (own.texts_are p.texts) p.begins in
-      phrase_stands (last_instr is_top) [] p.place (first_of_word w) p.texts (sort_phrase P w (Some d.sort)) own.phrase p.more own.closes (found_below P.words w d e) pool there
+      phrase_stands (last_instr is_top) [] [] p.place (first_of_word w) p.texts own.phrase (sort_phrase P w (Some d.sort)) p.more refl own.opens_to own.runs pool there
 
-  -- the code of a template
-  template_stands : (q : ℕ) (r : TemplateRow) (F : List MValue) → slice_get M.templates q ≡ Some r → Stands P M (template_phrases P) Ret F r.entry (template_phrases P q)
-  unfolding template_phrases
-  template_stands q r F e =
-      let rows = all_rows P C templates closes M.code M.texts M.templates is_plain.code (texts_begin P C templates M b closes is_plain) is_plain.template_rows_are in
-      let found = template_at C M.code M.texts M.templates templates q r rows e in
-      let l = literal_numbered P q in
-      let closed = template_closed P C templates closes q found.template found.there in
+  -- the code of a template, under the values that its callables keep
+  template_stands : (q : ℕ) (r : TemplateRow) (vs : List MValue) → slice_get M.templates q ≡ Some r → length vs ≡ length r.cells + r.holes → Stands P M T Ret vs r.entry (T q (values_view T vs))
+  template_stands q r vs e n =
+      let found = template_at C templates M.code M.texts M.templates templates q r rows e in
+      let l : Quoted = literal_numbered P q in
+      let t = found.template in
+      let cells = inner_cells l.cells l.item in
+      let closed = template_closed P C templates closes q t found.there in
       let entry : found.of.at ≡ r.entry = sym (ap (λ (r : TemplateRow). r.entry) found.of.row) in
-      subst (λ (a : ℕ). Stands P M (template_phrases P) Ret F a l.1) entry
-      (phrase_stands Ret F found.of.at (first_of_literal l.0) found.of.texts l.1 found.template.body found.of.more (closing P (first_of_literal l.0) l.1 found.template.body closed.body (literal_runs P b q))
-      (literal_of P C templates closes q found.template found.there) found.of.begins found.of.there)
+      let many : length r.cells + r.holes ≡ length t.captures + t.holes = ap (λ (r : TemplateRow). length r.cells + r.holes) found.of.row in
+      let runs = closed_runs P cells (first_of_literal l.at) (quoted_phrase l) t.body (closing P cells (first_of_literal l.at) (quoted_phrase l) t.body closed.body (literal_runs P b q)) in
+      let open_body = opens.bodies q t (helds T vs) found.there (helds_put T vs) (helds_count T vs ∙ n ∙ many) in
+      subst (λ (u : Phrase). Stands P M T Ret vs r.entry u) (sym (template_held q vs))
+      (subst (λ (a : ℕ). Stands P M T Ret vs a (template_phrase P q (helds T vs))) entry
+      (phrase_stands Ret vs (helds T vs) found.of.at (first_of_literal l.at) found.of.texts t.body (template_phrase P q (helds T vs)) found.of.more refl open_body runs found.of.begins found.of.there))
 
   coded : Coded P M (template_phrases P)
   coded = record {
@@ -200,7 +274,7 @@ module _ (P C : Program) (templates : List Template) (M : Image) (b : IsBuilt P)
         let p = put w found.def found.at in
         subst (λ (t : Phrase). Stands P M (template_phrases P) Ret [] a t) (ap (sort_phrase P w) (sym (sort_at P w found.def found.at)))
         (subst (λ (at : ℕ). Stands P M (template_phrases P) Ret [] at (sort_phrase P w (Some found.def.sort))) (one_place P C templates M b closes is_plain w a found.def p runs code) stands);
-    templates = λ q r k e n whole. template_stands q r (kept_list k) e;
+    templates = λ q r k e n whole. subst (λ (vs : List Value). Stands P M T Ret (kept_list k) r.entry (T q vs)) (sym (kept_list_view T k)) (template_stands q r (kept_list k) e n);
   }
 
   -- that of the top-level phrase

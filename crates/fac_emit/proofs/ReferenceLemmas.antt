@@ -1,5 +1,5 @@
 -- Each number in plain code and its tables names something.
-use Rattle.std.proofs.Common.{◌≡◌, ◌<◌, ◌≤◌, ℕ, zero, suc, ◌+◌, List, [], ◌∷◌, ◌++◌, length, map, drop, Bool, true, false, ◌&&◌, Option, Some, None, refl, ap, sym, subst, ◌∙◌, arith, true≢false, length-append}
+use Rattle.std.proofs.Common.{◌≡◌, ◌<◌, ◌≤◌, ℕ, zero, suc, ◌+◌, List, [], ◌∷◌, ◌++◌, length, map, drop, Bool, true, ◌&&◌, Option, Some, None, refl, ap, sym, subst, ◌∙◌, arith, length-append}
 use Rattle.std.proofs.lemmas.Bool.{lt-ltb, ltb-true}
 use Rattle.std.proofs.lemmas.List.{length-map, append-nil}
 use Rattle.std.proofs.lemmas.List.Folds.{list_all-append}
@@ -13,16 +13,15 @@ use Rattle.fac_lang.specs.declared.program.Program.{Program}
 use Rattle.fac_lang.specs.declared.program.WordDef.{WordDef}
 use Rattle.fac_lang.specs.declared.program.Sort.{Sort}
 use Rattle.fac_lang.specs.declared.program.Sort.TheVariants.{Prim as prim_sort, Core as core_sort, Body as body, Past as past, Itself as itself, Class as class, Isa as isa, Getter as getter, Setter as setter, Putter as putter, Generic as generic, Method as method}
-use Rattle.fac_lang.specs.Phrases.{Literal, Phrase, end, then}
-use Rattle.fac_lang.specs.Substitution.{of_method}
+use Rattle.fac_lang.specs.Phrases.{Literal, Phrase, quot, fry}
 use Rattle.fac_lang.specs.Classes.{own_kind}
-use Rattle.fac_lang.specs.Forms.{IsBuilt, IsBuiltSort, AreBuiltWords, IsBuiltElement, AreBuiltElements, AreBuiltArrays}
+use Rattle.fac_lang.specs.Forms.{IsBuilt, IsBuiltElement, AreBuiltElements, AreBuiltArrays}
 use Rattle.fac_lang.specs.Meaning.{sort_of, generic_of, array_method}
 use Rattle.fac_lang.specs.Whole.{IsWhole, sort_fits, names_earlier, each_numbered, arrays_in, arrays_named}
-use Rattle.fac_lang.specs.CoreWords.{is_built_core}
-use Rattle.fac_lang.specs.Primitives.{is_built_primitive}
-use Rattle.fac_locals.specs.Literals.{Quoted, behind, first_of_word, first_of_literal, first_in_array, element_item, literal_numbered}
-use Rattle.fac_locals.specs.Closed.{Closes, ClosesSort, ClosesElement, CloseElements, CloseArrays}
+use Rattle.fac_captures.specs.declared.cell.Cell.{Cell}
+use Rattle.fac_captures.specs.Cells.{inner_cells, hole_count}
+use Rattle.fac_locals.specs.Literals.{Quoted, quoted_phrase, behind, first_of_word, first_of_literal, first_in_array, element_item, literal_numbered}
+use Rattle.fac_locals.specs.Closed.{IsMadeBy, Closes, ClosesSort, ClosesElement, CloseElements, CloseArrays}
 use Rattle.fac_locals.proofs.Lookups.{word_open, word_closed, template_closed}
 use Rattle.fac_lang.proofs.FormsLemmas.{word_below}
 use Rattle.fac_code.specs.declared.image.Instr.{Instr}
@@ -33,22 +32,23 @@ use Rattle.fac_code.specs.declared.image.MethodRow.{MethodRow}
 use Rattle.fac_code.specs.declared.image.Tables.{Tables}
 use Rattle.fac_code.specs.declared.image.TemplateRow.{TemplateRow}
 use Rattle.fac_code.specs.declared.image.WordRow.{WordRow}
-use Rattle.fac_code.specs.References.{names_code, names_quotation, names_method, names_constant, elem_refers, arrays_refer, instr_refers, action_refers, own_refers, word_refers, template_refers, kind_refers, set_refers, method_refers, generic_refers, tables_refer, refers}
+use Rattle.fac_code.specs.References.{names_code, names_method, names_constant, elem_refers, arrays_refer, instr_refers, action_refers, own_refers, word_refers, template_refers, kind_refers, set_refers, method_refers, generic_refers, tables_refer, refers}
 use Rattle.fac_generic.specs.Methods.{methods_in_order}
-use Rattle.fac_emit.specs.ProgramTables.{word_names, kind_names, slot_names, slot_number, accessed, table_texts, generic_number, method_number, method_row, generics_from, program_kinds}
-use Rattle.fac_emit.specs.ProgramCode.{core_instr, sort_instr, word_instr, item_instr, with_text, phrase_code, phrase_texts, templates_code, templates_texts, last_instr, sort_action, sort_kind, word_row, sort_code, sort_texts, words_texts, word_code, code_from, words_from, program_code, program_texts, program_tables, elem_of, with_element_text, elems_of, elements_texts, arrays_of, arrays_texts}
+use Rattle.fac_emit.specs.ProgramTables.{word_names, kind_names, slot_names, slot_number, table_texts, generic_number, method_number, method_row, generics_from, program_kinds}
+use Rattle.fac_emit.specs.ProgramCode.{sort_instr, word_instr, made_instr, phrase_code, phrase_texts, templates_code, templates_texts, last_instr, sort_action, sort_kind, word_row, sort_code, sort_texts, words_texts, word_code, code_from, words_from, program_code, program_texts, program_tables, elem_of, with_element_text, elems_of, elements_texts, arrays_of, arrays_texts}
+use Rattle.fac_emit.specs.Stands.{making}
 use Rattle.fac_emit.proofs.BuiltCode.{and_true}
-use Rattle.fac_emit.proofs.Closings.{drop_behind, Closing, c_end, c_int, c_true, c_false, c_text, c_array, c_ref, c_word, c_quot, c_outside, c_next, closing}
+use Rattle.fac_emit.proofs.Closings.{drop_behind, Closing, c_end, c_int, c_true, c_false, c_text, c_array, c_ref, c_word, c_quot, c_fry, c_bind, c_local, c_hole, c_outside, c_next, closing}
 use Rattle.fac_emit.proofs.MadeArrays.{has_first}
 use Rattle.fac_generic.specs.Methods.{MethodLaws}
-use Rattle.fac_emit.proofs.NamedArrays.{NamesArrays, SortNames, word_names_arrays, literal_names_arrays}
+use Rattle.fac_emit.proofs.NamedArrays.{NamesArrays, word_names_arrays, literal_names_arrays}
 use Rattle.fac_emit.proofs.NextMethods.{all_at, method_fits, method_found}
 use Rattle.fac_emit.proofs.TextLists.{Begins, begins_same, begins_on, begins_length, front_there, templates_behind, words_behind, arrays_behind, text_there, element_there}
-use Rattle.fac_emit.proofs.Placed.{Rows, behind_templates, words_placed, literal_of, all_rows, listed_row, quotation_row}
+use Rattle.fac_emit.proofs.Placed.{Rows, behind_templates, words_placed, literal_of, all_rows, listed_row, literal_row, literal_instr}
 use Rattle.fac_emit.proofs.PlacedWords.{places, row_of, generic_at, word_there}
 use Rattle.fac_emit.proofs.LiteralWords.{is_listed_in_array}
-use Rattle.fac_emit.proofs.RunningPhrases.{IsMethod, RunsAs, word_runs, literal_runs}
-use Rattle.fac_emit.proofs.TableLemmas.{IsAmong, AreAmong, accessor_named, slot_text}
+use Rattle.fac_emit.proofs.RunningPhrases.{IsMethod, word_runs, literal_runs}
+use Rattle.fac_emit.proofs.TableLemmas.{IsAmong, accessor_named, slot_text}
 use Rattle.fac_emit.proofs.TableNumbers.{slot_same, texts_same, kind_rows_same, generic_of_same, method_same, order_same, sets_same}
 use Rattle.fac_emit.proofs.TableReferences.{sets_many, kinds_refer, own_refers_so, sets_refer}
 use Rattle.fac_emit.proofs.ClosedWords.{found_within, both_pass, first_true, one_passes, begins_within, core_refers, last_refers, word_doable, ClosedAs, closed_as}
@@ -139,48 +139,62 @@ module _ (P C : Program) (templates : List Template) (built : IsBuilt P) (whole 
       ∙ ap (λ (j : ℕ). nat_lt j (length (map (method_row (places C templates)) (methods_in_order C g)))) (method_same P C templates closes m)
       ∙ ap (nat_lt (method_number P m)) many ∙ lt-ltb (method_number P m) (length ms) lt
 
-  quotation_refers : (q : ℕ) (at : Literal) (u : Phrase) → at.word < length P.words → (let l : Quoted = (at, u) in literal_numbered P q ≡ l) → names_quotation (slice_get T.templates q) ≡ true
-  quotation_refers q at u lt e = let found = quotation_row P C templates closes code T.texts T.templates refl pool_begins refl q (at, u) lt e in rw found.there (rw found.holes refl)
+  -- the instruction of a quotation or fry
+  making_refers : (q n : ℕ) (r : TemplateRow) → slice_get T.templates q ≡ Some r → r.holes ≡ n → instr_refers T (making q n) ≡ true
+  making_refers q zero r e h = rw e (rw h refl)
+  making_refers q (suc n) r e h = lt-ltb q (length T.templates) (found_within T.templates q r e)
+
+  literal_refers : (q : ℕ) (l : Quoted) → l.at.word < length P.words → literal_numbered P q ≡ l → instr_refers T (made_instr q (slice_get templates q)) ≡ true
+  literal_refers q l lt e =
+      let found = literal_row P C templates closes code T.texts T.templates refl pool_begins refl q l lt e in rw (literal_instr P C templates closes q l lt e) (making_refers q (hole_count l.item) found.row found.there found.holes)
 
   abbrev Refers : List Instr → Type 0
   Refers is = list_all (instr_refers T) is ≡ true
 
-  phrase_refers : (last : Instr) (at : Literal) (texts : List (List ℕ)) (t c : Phrase) → instr_refers T last ≡ true → Closing P at t c → at.word < length P.words → Begins (phrase_texts texts c) T.texts → NamesArrays P t → Refers (phrase_code C last texts c)
-  phrase_refers last at texts t c l c_end lt b f = and_true (instr_refers T last) true l refl
-  phrase_refers last at texts t c l (c_int z h) lt b f = phrase_refers last _ texts _ _ l h lt b f.1
-  phrase_refers last at texts t c l (c_true h) lt b f = phrase_refers last _ texts _ _ l h lt b f.1
-  phrase_refers last at texts t c l (c_false h) lt b f = phrase_refers last _ texts _ _ l h lt b f.1
-  phrase_refers last at texts t c l (c_text {c = d} cs h) lt b f =
+  phrase_refers : (last : Instr) (cells : List Cell) (at : Literal) (texts : List (List ℕ)) (t c : Phrase) → instr_refers T last ≡ true → Closing P cells at t c → at.word < length P.words → Begins (phrase_texts texts c) T.texts → NamesArrays P t →
+      Refers (phrase_code C templates last texts c)
+  phrase_refers last cells at texts t c l c_end lt b f = and_true (instr_refers T last) true l refl
+  phrase_refers last cells at texts t c l (c_int z h) lt b f = phrase_refers last _ _ texts _ _ l h lt b f.1
+  phrase_refers last cells at texts t c l (c_true h) lt b f = phrase_refers last _ _ texts _ _ l h lt b f.1
+  phrase_refers last cells at texts t c l (c_false h) lt b f = phrase_refers last _ _ texts _ _ l h lt b f.1
+  phrase_refers last cells at texts t c l (c_text {c = d} cs h) lt b f =
       let next = texts ++ cs ∷ [] in
       let there = lt-ltb (length texts) (length T.texts) (found_within T.texts (length texts) cs (text_there texts T.texts cs d b)) in
-      and_true (nat_lt (length texts) (length T.texts)) (list_all (instr_refers T) (phrase_code C last next d)) there (phrase_refers last _ next _ d l h lt b f.1)
-  phrase_refers last at texts t c l (c_array {c = d} a h) lt b f = and_true (nat_lt a (length T.arrays)) (list_all (instr_refers T) (phrase_code C last texts d)) (ap (nat_lt a) all_arrays ∙ f.0) (phrase_refers last _ texts _ d l h lt b f.1)
-  phrase_refers last at texts t c l (c_ref {c = d} w below h) lt b f =
+      and_true (nat_lt (length texts) (length T.texts)) (list_all (instr_refers T) (phrase_code C templates last next d)) there (phrase_refers last _ _ next _ d l h lt b f.1)
+  phrase_refers last cells at texts t c l (c_array {c = d} a h) lt b f = and_true (nat_lt a (length T.arrays)) (list_all (instr_refers T) (phrase_code C templates last texts d)) (ap (nat_lt a) all_arrays ∙ f.0) (phrase_refers last _ _ texts _ d l h lt b f.1)
+  phrase_refers last cells at texts t c l (c_ref {c = d} w below h) lt b f =
       let found = word_below P built w below in
       let closed = word_closed P C templates closes w found.def found.at in
-      and_true (nat_lt w (length T.words)) (list_all (instr_refers T) (phrase_code C last texts d)) (word_row_there w closed.closed closed.at) (phrase_refers last _ texts _ d l h lt b f.1)
-  phrase_refers last at texts t c l (c_word {c = d} w below h) lt b f =
-      and_true (instr_refers T (word_instr C w (slice_get C.words w))) (list_all (instr_refers T) (phrase_code C last texts d)) (word_refers_to w (slice_get C.words w) refl) (phrase_refers last _ texts _ d l h lt b f.1)
-  phrase_refers last at texts t c l (c_quot {c = d} u q is h) lt b f = and_true (names_quotation (slice_get T.templates q)) (list_all (instr_refers T) (phrase_code C last texts d)) (quotation_refers q at u lt is) (phrase_refers last _ texts _ d l h lt b f.1)
-  phrase_refers last at texts t c l (c_outside h) lt b f = phrase_refers last _ texts _ _ l h lt b f.1
-  phrase_refers last at texts t c l (c_next {c = d} m is h) lt b f =
-      and_true (names_method (slice_get T.generics (generic_number C (generic_of C (sort_of C m)))) (method_number C m)) (list_all (instr_refers T) (phrase_code C last texts d)) (next_refers 0 m is) (phrase_refers last _ texts _ d l h lt b f.1)
+      and_true (nat_lt w (length T.words)) (list_all (instr_refers T) (phrase_code C templates last texts d)) (word_row_there w closed.closed closed.at) (phrase_refers last _ _ texts _ d l h lt b f.1)
+  phrase_refers last cells at texts t c l (c_word {c = d} w below h) lt b f =
+      and_true (instr_refers T (word_instr C w (slice_get C.words w))) (list_all (instr_refers T) (phrase_code C templates last texts d)) (word_refers_to w (slice_get C.words w) refl) (phrase_refers last _ _ texts _ d l h lt b f.1)
+  phrase_refers last cells at texts t c l (c_quot {c = d} u q is h) lt b f =
+      and_true (instr_refers T (made_instr q (slice_get templates q))) (list_all (instr_refers T) (phrase_code C templates last texts d)) (literal_refers q (record { at = at; cells = cells; item = quot u }) lt is) (phrase_refers last _ _ texts _ d l h lt b f.1)
+  phrase_refers last cells at texts t c l (c_fry {c = d} u n q is h) lt b f =
+      and_true (instr_refers T (made_instr q (slice_get templates q))) (list_all (instr_refers T) (phrase_code C templates last texts d)) (literal_refers q (record { at = at; cells = cells; item = fry u n }) lt is) (phrase_refers last _ _ texts _ d l h lt b f.1)
+  phrase_refers last cells at texts t c l (c_bind x h) lt b f = phrase_refers last _ _ texts _ _ l h lt b f.1
+  phrase_refers last cells at texts t c l (c_local x k is h) lt b f = phrase_refers last _ _ texts _ _ l h lt b f.1
+  phrase_refers last cells at texts t c l (c_hole j k is h) lt b f = phrase_refers last _ _ texts _ _ l h lt b f.1
+  phrase_refers last cells at texts t c l (c_outside h) lt b f = phrase_refers last _ _ texts _ _ l h lt b f.1
+  phrase_refers last cells at texts t c l (c_next {c = d} m is h) lt b f =
+      and_true (names_method (slice_get T.generics (generic_number C (generic_of C (sort_of C m)))) (method_number C m)) (list_all (instr_refers T) (phrase_code C templates last texts d)) (next_refers 0 m is) (phrase_refers last _ _ texts _ d l h lt b f.1)
 
-  template_refers_to : (q : ℕ) (t : Template) (texts : List (List ℕ)) → slice_get templates q ≡ Some t → Begins (phrase_texts texts t.body) T.texts → Refers (phrase_code C Ret texts t.body)
+  template_refers_to : (q : ℕ) (t : Template) (texts : List (List ℕ)) → slice_get templates q ≡ Some t → Begins (phrase_texts texts t.body) T.texts → Refers (phrase_code C templates Ret texts t.body)
   template_refers_to q t texts e begins =
-      let l = literal_numbered P q in
+      let l : Quoted = literal_numbered P q in
+      let cells = inner_cells l.cells l.item in
       let closed = template_closed P C templates closes q t e in
-      phrase_refers Ret (first_of_literal l.0) texts l.1 t.body refl (closing P (first_of_literal l.0) l.1 t.body closed.body (literal_runs P built q)) (literal_of P C templates closes q t e) begins (literal_names_arrays P whole q)
+      phrase_refers Ret cells (first_of_literal l.at) texts (quoted_phrase l) t.body refl (closing P cells (first_of_literal l.at) (quoted_phrase l) t.body closed.body (literal_runs P built q)) (literal_of P C templates closes q t e) begins (literal_names_arrays P whole q)
 
-  templates_refer : (texts : List (List ℕ)) (ts : List Template) → Begins (templates_texts texts ts) T.texts → ((k : ℕ) (t : Template) (texts : List (List ℕ)) → slice_get ts k ≡ Some t → Begins (phrase_texts texts t.body) T.texts → Refers (phrase_code C Ret texts t.body)) → Refers (templates_code C texts ts)
+  templates_refer : (texts : List (List ℕ)) (ts : List Template) → Begins (templates_texts texts ts) T.texts → ((k : ℕ) (t : Template) (texts : List (List ℕ)) → slice_get ts k ≡ Some t → Begins (phrase_texts texts t.body) T.texts → Refers (phrase_code C templates Ret texts t.body)) → Refers (templates_code C templates texts ts)
   templates_refer texts [] begins h = refl
   templates_refer texts (t ∷ ts) begins h =
       let next = phrase_texts texts t.body in
-      both_pass (instr_refers T) (phrase_code C Ret texts t.body) (templates_code C next ts) (h 0 t texts refl (begins_on next (templates_texts next ts) T.texts (templates_behind next ts) begins)) (templates_refer next ts begins (λ k u us e. h (suc k) u us e))
+      both_pass (instr_refers T) (phrase_code C templates Ret texts t.body) (templates_code C templates next ts) (h 0 t texts refl (begins_on next (templates_texts next ts) T.texts (templates_behind next ts) begins)) (templates_refer next ts begins (λ k u us e. h (suc k) u us e))
 
-  word_code_refers : (w : ℕ) (is_top : Bool) (texts : List (List ℕ)) (s : Sort) → ClosedAs P w s → Begins (sort_texts texts s) T.texts → Refers (sort_code C is_top texts s)
-  word_code_refers w is_top texts (body c) h begins = phrase_refers (last_instr is_top) (first_of_word w) texts h.phrase c (last_refers T is_top) h.closes h.below begins h.names
-  word_code_refers w is_top texts (method n g c) h begins = phrase_refers (last_instr is_top) (first_of_word w) texts h.phrase c (last_refers T is_top) h.closes h.below begins h.names
+  word_code_refers : (w : ℕ) (is_top : Bool) (texts : List (List ℕ)) (s : Sort) → ClosedAs P w s → Begins (sort_texts texts s) T.texts → Refers (sort_code C templates is_top texts s)
+  word_code_refers w is_top texts (body c) h begins = phrase_refers (last_instr is_top) [] (first_of_word w) texts h.phrase c (last_refers T is_top) h.closes h.below begins h.names
+  word_code_refers w is_top texts (method n g c) h begins = phrase_refers (last_instr is_top) [] (first_of_word w) texts h.phrase c (last_refers T is_top) h.closes h.below begins h.names
   word_code_refers w is_top texts _ h begins = refl
 
   -- words from number w on
@@ -193,20 +207,20 @@ module _ (P C : Program) (templates : List Template) (built : IsBuilt P) (whole 
   rest_closed : (w : ℕ) (d : WordDef) (ds : List WordDef) → AreClosed w (d ∷ ds) → AreClosed (suc w) ds
   rest_closed w d ds h = λ k c e. let n : w + suc k ≡ suc w + k = omega arith in subst (λ (v : ℕ). (slice_get C.words v ≡ Some c) × ClosedAs P v c.sort) n (h (suc k) c e)
 
-  words_refer : (texts : List (List ℕ)) (w : ℕ) (ds : List WordDef) → AreClosed w ds → Begins (words_texts texts ds) T.texts → Refers (code_from C texts w ds)
+  words_refer : (texts : List (List ℕ)) (w : ℕ) (ds : List WordDef) → AreClosed w ds → Begins (words_texts texts ds) T.texts → Refers (code_from C templates texts w ds)
   words_refer texts w [] h begins = refl
   words_refer texts w (d ∷ ds) h begins =
       let next = sort_texts texts d.sort in
-      both_pass (instr_refers T) (word_code C texts w d) (code_from C next (suc w) ds)
+      both_pass (instr_refers T) (word_code C templates texts w d) (code_from C templates next (suc w) ds)
       (word_code_refers w (nat_eq w C.top) texts d.sort (first_closed w d ds h).1 (begins_on next (words_texts next ds) T.texts (words_behind next ds) begins)) (words_refer next (suc w) ds (rest_closed w d ds h) begins)
 
   -- rows of words
-  action_within : (at w : ℕ) (is_top : Bool) (texts : List (List ℕ)) (c : WordDef) (s : Sort) (more : List Instr) → slice_get C.words w ≡ Some c → c.sort ≡ s → ClosedAs P w s → drop at code ≡ sort_code C is_top texts s ++ more → action_refers T (length code) (sort_action C w at s) ≡ true
+  action_within : (at w : ℕ) (is_top : Bool) (texts : List (List ℕ)) (c : WordDef) (s : Sort) (more : List Instr) → slice_get C.words w ≡ Some c → c.sort ≡ s → ClosedAs P w s → drop at code ≡ sort_code C templates is_top texts s ++ more → action_refers T (length code) (sort_action C w at s) ≡ true
   action_within at w is_top texts c (prim_sort k) more e is h there = h
   action_within at w is_top texts c (core_sort k) more e is h there = h
-  action_within at w is_top texts c (body t) more e is h there = begins_within code C (last_instr is_top) texts t at more there
+  action_within at w is_top texts c (body t) more e is h there = begins_within code C templates (last_instr is_top) texts t at more there
   action_within at w is_top texts c (past t) more e is h there = absurd h
-  action_within at w is_top texts c (method n g t) more e is h there = begins_within code C (last_instr is_top) texts t at more there
+  action_within at w is_top texts c (method n g t) more e is h there = begins_within code C templates (last_instr is_top) texts t at more there
   action_within at w is_top texts c itself more e is h there = refl
   action_within at w is_top texts c (class n) more e is h there = refl
   action_within at w is_top texts c (isa n) more e is h there = set_below n h
@@ -225,16 +239,16 @@ module _ (P C : Program) (templates : List Template) (built : IsBuilt P) (whole 
   sort_own (class c) = subst (λ (cs : List ClassDef). own_refers T (own_kind 8 cs c) ≡ true) (sym closes.classes) (own_refers_so P T kinds_are texts_long c)
   sort_own _ = refl
 
-  words_within : (texts : List (List ℕ)) (at w : ℕ) (ds : List WordDef) → AreClosed w ds → w + length ds ≤ length T.texts → drop at code ≡ code_from C texts w ds → list_all (word_refers T (length code)) (words_from C texts at w ds) ≡ true
+  words_within : (texts : List (List ℕ)) (at w : ℕ) (ds : List WordDef) → AreClosed w ds → w + length ds ≤ length T.texts → drop at code ≡ code_from C templates texts w ds → list_all (word_refers T (length code)) (words_from C templates texts at w ds) ≡ true
   words_within texts at w [] h le e = refl
   words_within texts at w (d ∷ ds) h le e =
-      let own = word_code C texts w d in
+      let own = word_code C templates texts w d in
       let next = sort_texts texts d.sort in
-      let others = code_from C next (suc w) ds in
+      let others = code_from C templates next (suc w) ds in
       let named = lt-ltb w (length T.texts) (omega (arith, le)) in
       let first = first_closed w d ds h in
       let acts = action_within at w (nat_eq w C.top) texts d d.sort others first.0 refl first.1 e in
-      and_true (nat_lt w (length T.texts) && (action_refers T (length code) (sort_action C w at d.sort) && own_refers T (sort_kind C d.sort))) (list_all (word_refers T (length code)) (words_from C next (at + length own) (suc w) ds))
+      and_true (nat_lt w (length T.texts) && (action_refers T (length code) (sort_action C w at d.sort) && own_refers T (sort_kind C d.sort))) (list_all (word_refers T (length code)) (words_from C templates next (at + length own) (suc w) ds))
       (and_true (nat_lt w (length T.texts)) (action_refers T (length code) (sort_action C w at d.sort) && own_refers T (sort_kind C d.sort)) named (and_true (action_refers T (length code) (sort_action C w at d.sort)) (own_refers T (sort_kind C d.sort)) acts (sort_own d.sort)))
       (words_within next (at + length own) (suc w) ds (rest_closed w d ds h) (omega (arith, le)) (drop_behind code at own others e))
 
@@ -254,7 +268,7 @@ module _ (P C : Program) (templates : List Template) (built : IsBuilt P) (whole 
       let texts = templates_texts first templates in
       let long = texts_long in
       let same = ap length (texts_same P C templates closes) in
-      words_within texts (length (templates_code C first templates)) 0 C.words all_closed (let short = words_short in omega (arith, long, same, short)) (behind_templates C templates code refl)
+      words_within texts (length (templates_code C templates first templates)) 0 C.words all_closed (let short = words_short in omega (arith, long, same, short)) (behind_templates C templates code refl)
 
   -- rows of generics
   abbrev place_of : ℕ → ℕ
@@ -295,18 +309,19 @@ module _ (P C : Program) (templates : List Template) (built : IsBuilt P) (whole 
   generics_within g (d ∷ ds) h = generics_by g d.sort (generics_from C place_of (suc g) ds) (word_row_there g d (first_closed g d ds h).0) (generics_within (suc g) ds (rest_closed g d ds h))
 
   -- rows of templates
-  rows_within : (rs : List TemplateRow) (ts : List Template) → Rows C code T.texts rs ts → list_all (template_refers T (length code)) rs ≡ true
+  rows_within : (rs : List TemplateRow) (ts : List Template) → Rows C templates code T.texts rs ts → list_all (template_refers T (length code)) rs ≡ true
   rows_within [] [] h = refl
   rows_within [] (t ∷ ts) h = absurd h
   rows_within (r ∷ rs) [] h = absurd h
   rows_within (r ∷ rs) (t ∷ ts) h =
-      and_true (template_refers T (length code) r) (list_all (template_refers T (length code)) rs) (ap (template_refers T (length code)) h.0.row ∙ begins_within code C Ret h.0.texts t.body h.0.at h.0.more h.0.there) (rows_within rs ts h.1)
+      and_true (template_refers T (length code) r) (list_all (template_refers T (length code)) rs) (ap (template_refers T (length code)) h.0.row ∙ begins_within code C templates Ret h.0.texts t.body h.0.at h.0.more h.0.there) (rows_within rs ts h.1)
 
   -- elements of literal arrays
-  template_constant : (m : Option ℕ) (q i : ℕ) (is : List ℕ) (at : Literal) (u : Phrase) → at.around ≡ i ∷ is → (let l : Quoted = (at, u) in literal_numbered P q ≡ l) → names_constant (slice_get T.templates q) ≡ true
+  template_constant : (m : Option ℕ) (q i : ℕ) (is : List ℕ) (at : Literal) (u : Phrase) → at.around ≡ i ∷ is → IsMadeBy P [] at (quot u) q → names_constant (slice_get T.templates q) ≡ true
   template_constant m q i is at u around e =
-      let listed = is_listed_in_array P q (at, u) i is around e in
-      let found = listed_row P C templates closes code T.texts T.templates refl pool_begins refl q (at, u) listed in
+      let l : Quoted = record { at = at; cells = []; item = quot u } in
+      let listed = is_listed_in_array P q l i is around e in
+      let found = listed_row P C templates closes code T.texts T.templates refl pool_begins refl q l listed in
       rw found.there (and_true (nat_eq (length found.row.cells) 0) (nat_eq found.row.holes 0) (rw found.cells refl) (rw found.holes refl))
 
   abbrev Earlier : ℕ → List Lit → Type 0
@@ -368,11 +383,11 @@ module _ (P C : Program) (templates : List Template) (built : IsBuilt P) (whole 
   pub plain_refers : (start : ℕ) → slice_get T.words C.top ≡ Some (record { name = C.top; action = action.Code start; kind = None }) → refers T code start ≡ true
   plain_refers start e =
       let first = table_texts C in
-      let own = templates_code C first templates in
+      let own = templates_code C templates first templates in
       let texts = templates_texts first templates in
       let size = length code in
       let of_words = begins_on texts (program_texts C templates) T.texts (words_behind texts C.words) pool_begins in
-      let instrs = both_pass (instr_refers T) own (code_from C texts 0 C.words) (templates_refer first templates of_words template_refers_to) (words_refer texts 0 C.words all_closed pool_begins) in
+      let instrs = both_pass (instr_refers T) own (code_from C templates texts 0 C.words) (templates_refer first templates of_words template_refers_to) (words_refer texts 0 C.words all_closed pool_begins) in
       let top = one_passes (word_refers T size) T.words C.top (record { name = C.top; action = action.Code start; kind = None }) all_words_within e in
       let started = first_true (nat_lt start size) true (first_true (nat_lt C.top (length T.texts)) (nat_lt start size && true) top).1 in
       let arrays = arrays_refer_so 0 (program_texts C templates) P.arrays C.arrays closes.arrays built.arrays_built whole.arrays_earlier (begins_same T.texts) in

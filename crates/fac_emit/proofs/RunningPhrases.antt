@@ -9,12 +9,14 @@ use Rattle.fac_lang.specs.declared.program.Lit.{Lit}
 use Rattle.fac_lang.specs.declared.program.Lit.TheVariants.{Int as l_int, True as l_yes, False as l_no, Str as l_str, Arr as l_arr, Wref as l_word, Quot as l_quot, Made as l_made}
 use Rattle.fac_lang.specs.declared.program.Sort.{Sort}
 use Rattle.fac_lang.specs.declared.program.Sort.TheVariants.{Body as body, Past as past, Method as method}
-use Rattle.fac_lang.specs.Phrases.{int, yes, no, str, wrd, Literal, Phrase, end, then, Item, lit, lit_arr, quot, word, fry, next_method, next_after}
+use Rattle.fac_lang.specs.Phrases.{int, yes, no, str, wrd, Literal, Phrase, end, then, Item, lit, lit_arr, quot, word, bind, local, fry, hole, made, next_method, next_after}
 use Rattle.fac_lang.specs.Substitution.{of_method, of_method_item}
 use Rattle.fac_lang.specs.Forms.{IsBuilt, IsBuiltPhrase, IsBuiltItem, IsBuiltSort, AreBuiltWords, AreBuiltElements, AreBuiltArrays}
 use Rattle.fac_lang.specs.Meaning.{sort_of, of_method_if, method_naming, array_naming, array_method, phrase_names, nowhere}
 use Rattle.fac_lang.proofs.FormsLemmas.{sort_at}
-use Rattle.fac_locals.specs.Literals.{Quoted, behind, first_of_word, first_of_literal, first_in_array, elements_phrase, array_or_none, array_phrase, literals_in, literals_at, array_literals, sort_literals, word_literals, literals, literal_or, literal_numbered}
+use Rattle.fac_captures.specs.declared.cell.Cell.{Cell}
+use Rattle.fac_captures.specs.Cells.{cells_behind, inner_cells}
+use Rattle.fac_locals.specs.Literals.{Quoted, quoted_phrase, behind, first_of_word, first_of_literal, first_in_array, elements_phrase, array_or_none, array_phrase, literals_in, literals_at, array_literals, sort_literals, word_literals, literals, literal_or, literal_numbered}
 
 -- a method's sort
 abbrev pub IsMethod : Option Sort → Type 0
@@ -36,6 +38,11 @@ module _ (P : Program) where
     IsRunItem (lit (wrd w)) = w < P.top
     IsRunItem (lit_arr a) = Unit {0}
     IsRunItem (quot t) = IsRun t
+    IsRunItem (fry t n) = IsRun t
+    IsRunItem (bind x) = Unit {0}
+    IsRunItem (local x) = Unit {0}
+    IsRunItem (hole k) = Unit {0}
+    IsRunItem (made k) = Unit {0}
     IsRunItem (word w) = w < P.top
     IsRunItem next_method = Unit {0}
     IsRunItem (next_after m) = IsMethod (sort_of P m)
@@ -55,6 +62,10 @@ module _ (P : Program) where
     built_item_runs (lit (wrd w)) h = ltb-true w P.top h
     built_item_runs (lit_arr a) h = tt
     built_item_runs (quot t) h = built_runs t h
+    built_item_runs (fry t n) h = built_runs t h
+    built_item_runs (bind x) h = tt
+    built_item_runs (local x) h = tt
+    built_item_runs (hole k) h = tt
     built_item_runs (word w) h = ltb-true w P.top h
     built_item_runs next_method h = tt
     built_item_runs _ h = absurd h
@@ -74,6 +85,10 @@ module _ (P : Program) where
       method_item_runs (lit (wrd w)) h = ltb-true w P.top h
       method_item_runs (lit_arr a) h = tt
       method_item_runs (quot t) h = method_runs t h
+      method_item_runs (fry t n) h = method_runs t h
+      method_item_runs (bind x) h = tt
+      method_item_runs (local x) h = tt
+      method_item_runs (hole k) h = tt
       method_item_runs (word w) h = ltb-true w P.top h
       method_item_runs next_method h = is
       method_item_runs _ h = absurd h
@@ -171,7 +186,7 @@ module _ (P : Program) where
   -- Literals.
   abbrev AllRun : List Quoted → Type 0
   AllRun [] = Unit {0}
-  AllRun (l ∷ ls) = IsRun l.1 × AllRun ls
+  AllRun (l ∷ ls) = IsRun (quoted_phrase l) × AllRun ls
 
   both_run : (ls ms : List Quoted) → AllRun ls → AllRun ms → AllRun (ls ++ ms)
   both_run [] ms h k = k
@@ -179,25 +194,26 @@ module _ (P : Program) where
 
   module _ (arrays : ℕ → Literal → List Quoted) (arrays_run : (a : ℕ) (at : Literal) → AllRun (arrays a at)) where
     mutual
-      phrase_literals : (at : Literal) (t : Phrase) → IsRun t → AllRun (literals_in arrays at t)
-      phrase_literals at end h = tt
-      phrase_literals at (then i p t) h = both_run (literals_at arrays at i) (literals_in arrays (behind at i) t) (item_literals at i h.0) (phrase_literals (behind at i) t h.1)
+      phrase_literals : (cells : List Cell) (at : Literal) (t : Phrase) → IsRun t → AllRun (literals_in arrays cells at t)
+      phrase_literals cells at end h = tt
+      phrase_literals cells at (then i p t) h =
+          both_run (literals_at arrays cells at i) (literals_in arrays (cells_behind cells i) (behind at i) t) (item_literals cells at i h.0) (phrase_literals (cells_behind cells i) (behind at i) t h.1)
 
-      item_literals : (at : Literal) (i : Item) → IsRunItem i → AllRun (literals_at arrays at i)
-      item_literals at (quot t) h = (h, phrase_literals (first_of_literal at) t h)
-      item_literals at (fry t n) h = absurd h
-      item_literals at (lit_arr a) h = arrays_run a at
-      item_literals at _ h = tt
+      item_literals : (cells : List Cell) (at : Literal) (i : Item) → IsRunItem i → AllRun (literals_at arrays cells at i)
+      item_literals cells at (quot t) h = (h, phrase_literals (inner_cells cells (quot t)) (first_of_literal at) t h)
+      item_literals cells at (fry t n) h = (h, phrase_literals (inner_cells cells (fry t n)) (first_of_literal at) t h)
+      item_literals cells at (lit_arr a) h = arrays_run a at
+      item_literals cells at _ h = tt
 
   module _ (b : IsBuilt P) where
     array_literals_run : (n a : ℕ) (at : Literal) → AllRun (array_literals P n a at)
     array_literals_run zero a at = tt
-    array_literals_run (suc n) a at = phrase_literals (array_literals P n) (array_literals_run n) (first_in_array at) (array_phrase P a nowhere) (array_runs b a nowhere)
+    array_literals_run (suc n) a at = phrase_literals (array_literals P n) (array_literals_run n) [] (first_in_array at) (array_phrase P a nowhere) (array_runs b a nowhere)
 
     sort_literals_run : (w : ℕ) (s : Sort) → RunsAs w s → AllRun (sort_literals P w s)
-    sort_literals_run w (body t) h = phrase_literals (array_literals P (length P.arrays)) (array_literals_run (length P.arrays)) (first_of_word w) t h
+    sort_literals_run w (body t) h = phrase_literals (array_literals P (length P.arrays)) (array_literals_run (length P.arrays)) [] (first_of_word w) t h
     sort_literals_run w (past t) h = absurd h
-    sort_literals_run w (method c g t) h = phrase_literals (array_literals P (length P.arrays)) (array_literals_run (length P.arrays)) (first_of_word w) (of_method w t) h
+    sort_literals_run w (method c g t) h = phrase_literals (array_literals P (length P.arrays)) (array_literals_run (length P.arrays)) [] (first_of_word w) (of_method w t) h
     sort_literals_run w _ h = tt
 
     word_literals_run : (w : ℕ) (ds : List WordDef) → ((k : ℕ) (d : WordDef) → slice_get ds k ≡ Some d → RunsAs (w + k) d.sort) → AllRun (word_literals P w ds)
@@ -207,12 +223,12 @@ module _ (P : Program) where
         both_run (sort_literals P w d.sort) (word_literals P (suc w) ds) (sort_literals_run w d.sort (subst (λ (v : ℕ). RunsAs v d.sort) here (h 0 d refl)))
         (word_literals_run (suc w) ds (λ k e at. let n : w + suc k ≡ suc w + k = omega arith in subst (λ (v : ℕ). RunsAs v e.sort) n (h (suc k) e at)))
 
-    literal_runs_of : (n k : ℕ) (ls : List Quoted) → AllRun ls → IsRun (literal_or P n (slice_get ls k)).1
+    literal_runs_of : (n k : ℕ) (ls : List Quoted) → AllRun ls → IsRun (quoted_phrase (literal_or P n (slice_get ls k)))
     literal_runs_of n k [] h = tt
     literal_runs_of n zero (l ∷ ls) h = h.0
     literal_runs_of n (suc k) (l ∷ ls) h = literal_runs_of n k ls h.1
 
     -- the phrase of each literal
-    pub literal_runs : (k : ℕ) → IsRun (literal_numbered P k).1
+    pub literal_runs : (k : ℕ) → IsRun (quoted_phrase (literal_numbered P k))
     literal_runs k =
         literal_runs_of k k (literals P) (word_literals_run 0 P.words (λ w d e. let n : w ≡ 0 + w = omega arith in subst (λ (v : ℕ). RunsAs v d.sort) n (word_runs b w d e)))

@@ -1,10 +1,11 @@
 -- The machine follows the meaning, tick for tick.
-use Rattle.std.proofs.Common.{◌≡◌, ◌≢◌, ℕ, zero, suc, ◌+◌, ◌<◌, List, [], ◌∷◌, Option, Some, None, refl, ap, sym, subst, ◌∙◌, arith}
+use Rattle.std.proofs.Common.{◌≡◌, ◌≢◌, ℕ, zero, suc, ◌+◌, ◌<◌, List, [], ◌∷◌, ◌++◌, Option, Some, None, refl, ap, sym, subst, ◌∙◌, arith}
 use Rattle.std.specs.Prelude.{slice_get}
 use Rattle.fac_lang.specs.declared.program.Program.{Program}
 use Rattle.fac_lang.specs.declared.program.Sort.{Sort}
 use Rattle.fac_lang.specs.declared.program.Sort.TheVariants.{Itself as itself, Class as class}
-use Rattle.fac_lang.specs.Phrases.{int, yes, no, str, wrd, Phrase, Item, lit, word, Value, plain}
+use Rattle.fac_lang.specs.Phrases.{int, yes, no, str, wrd, Phrase, Item, lit, word, held, Value, plain}
+use Rattle.fac_lang.specs.Substitution.{put_local}
 use Rattle.fac_lang.specs.World.{World, State, push}
 use Rattle.fac_lang.specs.Eval.{Result, Done, Failed, Spent, Stuck, then_do, Act, goes, Run}
 use Rattle.fac_lang.specs.Meaning.{word_phrase, sort_of, sort_act, act}
@@ -16,18 +17,19 @@ use Rattle.fac_code.specs.declared.names.TrapWhy.TheVariants.{Kind as t_kind}
 use Rattle.fac_store.specs.MachineValues.{MValue, m_plain, kept_list}
 use Rattle.fac_vm.specs.Machine.{Machine, Entry, End, done, failed, spent, goes_on, or_trap, fetched, Ends}
 use Rattle.fac_vm.proofs.Leading.{ends_after, ends_step}
-use Rattle.fac_emit.specs.MachineView.{Templates, values_view, world_view, state_view}
+use Rattle.fac_emit.specs.MachineView.{Templates, value_view, values_view, kept_view, world_view, state_view}
 use Rattle.fac_emit.specs.Carries.{SameEnd}
 use Rattle.fac_emit.specs.WholeValues as whole
 use Rattle.fac_emit.specs.Accessors.{accessor_outs}
 use Rattle.fac_emit.specs.Stands.{PushesItself, HasCode}
 use Rattle.fac_emit.specs.Symbols.{Sym, here, off, k_phrase, Task, do_phrase, heres, AllHere, outs, Special}
-use Rattle.fac_emit.specs.Expanded.{Code, c_last, c_make, c_trim, c_end, c_off, c_int, c_true, c_false, c_text, c_array, c_reference, c_symbol, c_prim, c_accessor, c_isa, c_boa, c_stuck, c_word, c_call, c_dip, c_if, c_generic, c_next, EachCalled}
+use Rattle.fac_emit.specs.Expanded.{Code, c_last, c_make, c_trim, c_end, c_off, c_int, c_true, c_false, c_text, c_array, c_reference, c_symbol, c_prim, c_accessor, c_isa, c_boa, c_held, c_bind, c_fry, c_stuck, c_word, c_call, c_dip, c_if, c_generic, c_next, EachCalled}
 use Rattle.fac_emit.proofs.RunLaws.{free}
 use Rattle.fac_emit.proofs.SymbolicStacks.{l_phrase, Lies, lies_none, keeps_none, keeps_phrase, all_here}
 use Rattle.fac_emit.proofs.Following.{Setting, state, at, left, Follows, fetch, Live, LivePhrase, Go, CallsTo, Templated, Valid}
 use Rattle.fac_emit.proofs.CaseLemmas.{g_array, g_end, g_last, g_make, g_off, g_prim, g_push, g_stuck, g_trim}
 use Rattle.fac_emit.proofs.CallLemmas.{g_call, g_dip, g_if, g_word}
+use Rattle.fac_emit.proofs.FrameCases.{g_held, g_bind, g_fry}
 use Rattle.fac_emit.proofs.ClassCases.{g_accessor, g_boa, g_generic, g_isa, g_next}
 
 module _ (Y : Setting) where
@@ -102,24 +104,29 @@ module _ (Y : Setting) where
   main f below each tpl Γ last F d S K pc (c_trim {S = S1} H a c) v = g_trim Y f F last d S1 H K pc a (main f below each tpl Γ last F d S1 K pc c v)
   main f below each tpl Γ last F d S K pc (c_end {K = K1} c) v = g_end Y f F last d S K1 pc (main f below each tpl Γ last F d S K1 pc c v)
   main f below each tpl Γ last F d S K pc (c_off {b = b} {t = t} {p = p} {K = K1} c) v = g_off Y f F last d b p t S K1 pc (main f below each tpl Γ last F (suc d) (off (k_phrase b) ∷ S) (do_phrase t ∷ K1) pc c v)
-  main f below each tpl Γ last F d S K pc (c_int {p = p} {t = t} {K = K1} z e c) v = g_push Y f F last (lit (int z)) p t S K1 pc (Int z) (m_plain (int z)) tt e (λ s. refl) (λ ms rs R w n. refl) (λ st. refl)
+  main f below each tpl Γ last F d S K pc (c_int {p = p} {t = t} {K = K1} z e c) v = g_push Y f F last (lit (int z)) p t S K1 pc (Int z) (m_plain (int z)) (λ h. tt) e (λ s. refl) (λ ms rs R w n. refl) (λ st. refl)
       (main f below each tpl Γ last F zero (here ∷ S) (do_phrase t ∷ K1) (pc + 1) c v)
-  main f below each tpl Γ last F d S K pc (c_true {p = p} {t = t} {K = K1} e c) v = g_push Y f F last (lit yes) p t S K1 pc True (m_plain yes) tt e (λ s. refl) (λ ms rs R w n. refl) (λ st. refl)
+  main f below each tpl Γ last F d S K pc (c_true {p = p} {t = t} {K = K1} e c) v = g_push Y f F last (lit yes) p t S K1 pc True (m_plain yes) (λ h. tt) e (λ s. refl) (λ ms rs R w n. refl) (λ st. refl)
       (main f below each tpl Γ last F zero (here ∷ S) (do_phrase t ∷ K1) (pc + 1) c v)
-  main f below each tpl Γ last F d S K pc (c_false {p = p} {t = t} {K = K1} e c) v = g_push Y f F last (lit no) p t S K1 pc False (m_plain no) tt e (λ s. refl) (λ ms rs R w n. refl) (λ st. refl)
+  main f below each tpl Γ last F d S K pc (c_false {p = p} {t = t} {K = K1} e c) v = g_push Y f F last (lit no) p t S K1 pc False (m_plain no) (λ h. tt) e (λ s. refl) (λ ms rs R w n. refl) (λ st. refl)
       (main f below each tpl Γ last F zero (here ∷ S) (do_phrase t ∷ K1) (pc + 1) c v)
-  main f below each tpl Γ last F d S K pc (c_text {p = p} {t = t} {K = K1} cs k e ek c) v = g_push Y f F last (lit (str cs)) p t S K1 pc (Text k) (m_plain (str cs)) tt e (λ s. refl) (text_goes F pc k cs ek) (λ st. refl)
+  main f below each tpl Γ last F d S K pc (c_text {p = p} {t = t} {K = K1} cs k e ek c) v = g_push Y f F last (lit (str cs)) p t S K1 pc (Text k) (m_plain (str cs)) (λ h. tt) e (λ s. refl) (text_goes F pc k cs ek) (λ st. refl)
       (main f below each tpl Γ last F zero (here ∷ S) (do_phrase t ∷ K1) (pc + 1) c v)
   main f below each tpl Γ last F d S K pc (c_array {p = p} {t = t} {K = K1} a e c) v = g_array Y f F last a p t S K1 pc e (main f below each tpl Γ last F zero (here ∷ S) (do_phrase t ∷ K1) (pc + 1) c v)
-  main f below each tpl Γ last F d S K pc (c_reference {p = p} {t = t} {K = K1} wd r e er c) v = g_push Y f F last (lit (wrd wd)) p t S K1 pc (Word wd) (m_plain (wrd wd)) tt e (λ s. refl) (push_goes F pc wd r er) (λ st. refl)
+  main f below each tpl Γ last F d S K pc (c_reference {p = p} {t = t} {K = K1} wd r e er c) v = g_push Y f F last (lit (wrd wd)) p t S K1 pc (Word wd) (m_plain (wrd wd)) (λ h. tt) e (λ s. refl) (push_goes F pc wd r er) (λ st. refl)
       (main f below each tpl Γ last F zero (here ∷ S) (do_phrase t ∷ K1) (pc + 1) c v)
-  main f below each tpl Γ last F d S K pc (c_symbol {p = p} {t = t} {K = K1} wd r es e er c) v = g_push Y f F last (word wd) p t S K1 pc (Word wd) (m_plain (wrd wd)) tt e (λ s. refl) (push_goes F pc wd r er) (itself_pushed wd (sort_of P wd) es)
+  main f below each tpl Γ last F d S K pc (c_symbol {p = p} {t = t} {K = K1} wd r es e er c) v = g_push Y f F last (word wd) p t S K1 pc (Word wd) (m_plain (wrd wd)) (λ h. tt) e (λ s. refl) (push_goes F pc wd r er) (itself_pushed wd (sort_of P wd) es)
       (main f below each tpl Γ last F zero (here ∷ S) (do_phrase t ∷ K1) (pc + 1) c v)
   main f below each tpl Γ last F d S K pc (c_prim {p = p} {t = t} {S1 = S1} {K = K1} wd k q es en ew needs e c) v = g_prim Y f F last wd k q p t S S1 K1 pc es en ew needs e (main f below each tpl Γ last F zero (heres (outs q) S1) (do_phrase t ∷ K1) (pc + 1) c v)
   main f below each tpl Γ last F d S K pc (c_accessor {p = p} {t = t} {S1 = S1} {K = K1} x wd k cs es et ew needs e c) v =
       g_accessor Y f F last x wd k cs p t S S1 K1 pc es et ew needs e (main f below each tpl Γ last F zero (heres (accessor_outs x) S1) (do_phrase t ∷ K1) (pc + 1) c v)
   main f below each tpl Γ last F d S K pc (c_isa {p = p} {t = t} {S1 = S1} {K = K1} wd k n es same needs e c) v = g_isa Y f F last wd k n p t S S1 K1 pc es same needs e (main f below each tpl Γ last F zero (here ∷ S1) (do_phrase t ∷ K1) (pc + 1) c v)
   main f below each tpl Γ last F d S K pc (c_boa {p = p} {t = t} {K = K1} wd k es en a e c) v = g_boa Y f F last wd k p t S K1 pc es en a e (main f below each tpl Γ last F zero (here ∷ []) (do_phrase t ∷ K1) (pc + 1) c v)
+  main f below each tpl Γ last F d S K pc (c_held {p = p} {t = t} {K = K1} k m e ek c) v = g_held Y f F last k m p t S K1 pc e ek (main f below each tpl Γ last F zero (here ∷ S) (do_phrase t ∷ K1) (pc + 1) c v)
+  main f below each tpl Γ last F d S K pc (c_bind {p = p} {y = y} {t = t} {S1 = S1} {K = K1} needs e c) v =
+      g_bind Y f F last y p t S S1 K1 pc needs e (λ m h. main f below each tpl Γ last (F ++ m ∷ []) zero S1 (do_phrase (put_local y (held (value_view T m)) t) ∷ K1) (pc + 1) (c m h) v)
+  main f below each tpl Γ last F d S K pc (c_fry {p = p} {t = t} {S1 = S1} {K = K1} q r ks b e et ec eh needs c) v =
+      g_fry Y f F last q r ks b p t S S1 K1 pc e et ec eh needs (main f below each tpl Γ last F zero (here ∷ S1) (do_phrase t ∷ K1) (pc + 1) c v)
   main f below each tpl Γ last F d S K pc (c_stuck {p = p} {t = t} {i = i} {K = K1} stuck) v = g_stuck Y f F last i p t S K1 pc (stuck Y.fits Y.callable_height)
   main f below each tpl Γ last F d S K pc (c_word {p = p} {t = t} {K = K1} wd at code a e c) v = g_word Y f F last wd at p t S K1 pc code e (word_called f below each S a wd at code) (main f below each tpl Γ last F zero [] (do_phrase t ∷ K1) (pc + 1) c v)
   main f below each tpl Γ last F d S K pc (c_call {p = p} {t = t} {K = K1} wd k es en a e c) v = g_call Y f F tpl last wd k p t S K1 pc es en a e (main f below each tpl Γ last F zero [] (do_phrase t ∷ K1) (pc + 1) c v)
@@ -134,7 +141,7 @@ module _ (Y : Setting) where
   below_all each zero g lt = absurd (omega (arith, lt))
   below_all each (suc f) g lt =
       let lower : Below g = λ j less. below_all each f j (omega (arith, lt, less)) in
-      main g lower each (λ q r k e size hk. called_phrase (Some Ret) g lower [] (kept_list k) r.entry [] (T q) (each.templates q r k e size hk) (λ j less. tt))
+      main g lower each (λ q r k e size hk. called_phrase (Some Ret) g lower [] (kept_list k) r.entry [] (T q (kept_view T k)) (each.templates q r k e size hk) (λ j less. tt))
 
   -- what stands at a place does in the machine what is left of the meaning
   pub follows : EachCalled P M T → (f : ℕ) → Main f

@@ -1,16 +1,26 @@
 -- Values of the machine whose callables are of an image's templates.
-use Rattle.std.proofs.Common.{◌≡◌, ℕ, zero, suc, ◌+◌, List, [], ◌∷◌, length, Bool, true, false, Option, Some, None, refl, ap, subst, ◌∙◌}
+use Rattle.std.proofs.Common.{◌≡◌, ℕ, zero, suc, ◌+◌, List, [], ◌∷◌, ◌++◌, length, Bool, true, false, Option, Some, None, refl, ap, subst, ◌∙◌}
 use Rattle.std.specs.Prelude.{slice_get}
+use Rattle.fac_lang.specs.Phrases.{fun, of_phrase}
 use Rattle.fac_lang.specs.World.{pile}
 use Rattle.fac_code.specs.declared.image.Image.{Image}
 use Rattle.fac_code.specs.declared.image.TemplateRow.{TemplateRow}
 use Rattle.fac_store.specs.MachineValues.{MValue, m_fun, MCallable, m_lit, Kept, none_kept, kept, kept_list, keep_list, cells_at, with_first}
 use Rattle.fac_vm.specs.Machine.{branch}
+use Rattle.fac_emit.specs.MachineView.{Templates, value_view, values_view, kept_view}
 use Rattle.fac_emit.specs.WholeValues as whole
 
 -- the value of a literal callable
 abbrev pub made : ℕ → List MValue → MValue
 made q vs = m_fun (m_lit q (keep_list vs))
+
+-- what it stands for
+kept_views : (T : Templates) (vs : List MValue) → kept_view T (keep_list vs) ≡ values_view T vs
+kept_views T [] = refl
+kept_views T (v ∷ vs) = ap (λ xs. value_view T v ∷ xs) (kept_views T vs)
+
+pub made_view : (T : Templates) (q : ℕ) (vs : List MValue) → value_view T (made q vs) ≡ fun (of_phrase (T q (values_view T vs)))
+made_view T q vs = ap (λ xs. fun (of_phrase (T q xs))) (kept_views T vs)
 
 module _ (M : Image) where
   abbrev Whole : MValue → Type 0
@@ -34,6 +44,15 @@ module _ (M : Image) where
   pile_whole [] s h k = k
   pile_whole (v ∷ vs) s h k = pile_whole vs (v ∷ s) h.1 (h.0, k)
 
+  pub more_whole : (vs us : List MValue) → AllWhole vs → AllWhole us → AllWhole (vs ++ us)
+  more_whole [] us h k = k
+  more_whole (v ∷ vs) us h k = (h.0, more_whole vs us h.1 k)
+
+  -- the first of them, and those behind them
+  pub parts_whole : (vs us : List MValue) → AllWhole (vs ++ us) → AllWhole vs × AllWhole us
+  parts_whole [] us h = (tt, h)
+  parts_whole (v ∷ vs) us h = let r = parts_whole vs us h.1 in ((h.0, r.0), r.1)
+
   keep_whole : (vs : List MValue) → AllWhole vs → WholeKept (keep_list vs)
   keep_whole [] h = tt
   keep_whole (v ∷ vs) h = (h.0, keep_whole vs h.1)
@@ -42,7 +61,7 @@ module _ (M : Image) where
   kept_whole none_kept h = tt
   kept_whole (kept v k) h = (h.0, kept_whole k h.1)
 
-  kept_same : (vs : List MValue) → kept_list (keep_list vs) ≡ vs
+  pub kept_same : (vs : List MValue) → kept_list (keep_list vs) ≡ vs
   kept_same [] = refl
   kept_same (v ∷ vs) = ap (λ xs. v ∷ xs) (kept_same vs)
 

@@ -1,30 +1,34 @@
 -- What the machine's values, objects and errors stand for in the meaning.
-use Rattle.std.specs.Prelude.{ℕ, List, map, Option, Some, None}
+use Rattle.std.specs.Prelude.{ℕ, List, [], ◌∷◌, map, Option, Some, None}
 use Rattle.fac_lang.specs.declared.program.Program.{Program}
-use Rattle.fac_lang.specs.Phrases.{Phrase, Value, plain, fun, Callable, of_phrase, cur, both}
+use Rattle.fac_lang.specs.Phrases.{Phrase, held, Value, plain, fun, Callable, of_phrase, cur, both}
 use Rattle.fac_lang.specs.World.{Object, array, tuple, World, State, Error}
 use Rattle.fac_lang.specs.Procedures.{Gives, gives, bad}
-use Rattle.fac_locals.specs.Literals.{literal_numbered}
-use Rattle.fac_store.specs.MachineValues.{MValue, m_plain, m_fun, MCallable, m_lit, m_cur, m_com}
+use Rattle.fac_locals.specs.Frames.{template_phrase}
+use Rattle.fac_store.specs.MachineValues.{MValue, m_plain, m_fun, MCallable, m_lit, m_cur, m_com, Kept, none_kept, kept}
 
--- the phrase of each template
+-- the phrase of each template, with these values held in its cells
 abbrev pub Templates : Type 0
-Templates = ℕ → Phrase
+Templates = ℕ → List Value → Phrase
 
--- that of a program's template is the phrase of its quotation
+-- those of a program's templates
 unfoldable pub template_phrases : Program → Templates
-template_phrases P q = (literal_numbered P q).1
+template_phrases P q vs = template_phrase P q (map held vs)
 
--- A literal callable stands for the phrase of its template, since no quotation keeps values yet. What `curry` and `compose` made stands part by part.
+-- A literal callable stands for the phrase of its template with the values that it keeps. What `curry` and `compose` made stands part by part.
 abbrev mutual
   pub value_view : Templates → MValue → Value
   value_view T (m_plain p) = plain p
   value_view T (m_fun c) = fun (callable_view T c)
 
   pub callable_view : Templates → MCallable → Callable
-  callable_view T (m_lit q k) = of_phrase (T q)
+  callable_view T (m_lit q k) = of_phrase (T q (kept_view T k))
   callable_view T (m_cur v c) = cur (value_view T v) (callable_view T c)
   callable_view T (m_com c d) = both (callable_view T c) (callable_view T d)
+
+  pub kept_view : Templates → Kept → List Value
+  kept_view T none_kept = []
+  kept_view T (kept v k) = value_view T v ∷ kept_view T k
 
 module _ (T : Templates) where
   abbrev pub values_view : List MValue → List Value

@@ -8,13 +8,13 @@ use Rattle.fac_lang.specs.declared.program.Program.{Program}
 use Rattle.fac_lang.specs.declared.program.WordDef.{WordDef}
 use Rattle.fac_lang.specs.declared.program.Sort.{Sort}
 use Rattle.fac_lang.specs.declared.program.Sort.TheVariants.{Prim as prim_sort, Core as core_sort, Body as body, Itself as itself, Class as class, Isa as isa, Getter as getter, Setter as setter, Putter as putter, Generic as generic, Method as method}
-use Rattle.fac_lang.specs.Phrases.{int, yes, no, str, wrd, Phrase, end, then, Item, lit, lit_arr, word, made, next_after}
+use Rattle.fac_lang.specs.Phrases.{int, yes, no, str, wrd, Phrase, end, then, Item, lit, lit_arr, word, bind, local, made, next_after}
 use Rattle.fac_lang.specs.Classes.{own_kind}
 use Rattle.fac_lang.specs.Meaning.{sort_of, generic_of}
 use Rattle.fac_code.specs.declared.image.Elem.{Elem}
 use Rattle.fac_code.specs.declared.image.Elem.TheVariants as elem
 use Rattle.fac_code.specs.declared.image.Instr.{Instr}
-use Rattle.fac_code.specs.declared.image.Instr.TheVariants.{Halt, Int, True, False, Text, Array, Word, Quot, Prim, Callw, Call, Dip, If, Ret, Boa, Get, Set, Put, Isa, Generic, Next}
+use Rattle.fac_code.specs.declared.image.Instr.TheVariants.{Halt, Int, True, False, Text, Array, Word, Bind, Local, Prim, Callw, Call, Dip, If, Ret, Boa, Get, Set, Put, Isa, Generic, Next}
 use Rattle.fac_code.specs.declared.image.Action.{Action}
 use Rattle.fac_code.specs.declared.image.Action.TheVariants as action
 use Rattle.fac_code.specs.declared.image.Tables.{Tables}
@@ -22,6 +22,7 @@ use Rattle.fac_code.specs.declared.image.TemplateRow.{TemplateRow}
 use Rattle.fac_code.specs.declared.image.WordRow.{WordRow}
 use Rattle.fac_code.specs.declared.image.GenericRow.{GenericRow}
 use Rattle.fac_code.specs.declared.image.Image.{Image}
+use Rattle.fac_emit.specs.Stands.{making}
 use Rattle.fac_emit.specs.ProgramTables.{table_texts, slot_number, program_kinds, program_sets, generic_number, method_number, generics_from}
 
 -- An item that nothing can do. No run comes to it, so its instruction is any; this one takes nothing but the word of a tuple class.
@@ -61,8 +62,15 @@ module _ (C : Program) where
   word_instr w None = stuck_instr
   word_instr w (Some d) = sort_instr w d.sort
 
-  -- A string is the text with this number, a quotation is made by its template, and behind a method comes the next of its generic; `call-next-method` outside of
-  -- a method is nothing that can be done, and the other items aren't built yet.
+-- the instruction of a quotation or fry that is made by this template
+abbrev pub made_instr : ℕ → Option Template → Instr
+made_instr q None = stuck_instr
+made_instr q (Some t) = making q t.holes
+
+-- for a closed program with these templates
+module _ (C : Program) (templates : List Template) where
+  -- A string is the text with this number, a quotation or fry is made by its template, a local that is bound gets a cell of the frame, and behind a method comes the
+  -- next of its generic; `call-next-method` outside of a method is nothing that can be done, and the other items aren't built yet.
   abbrev pub item_instr : ℕ → Item → Instr
   item_instr k (lit (int z)) = Int z
   item_instr k (lit yes) = True
@@ -70,8 +78,10 @@ module _ (C : Program) where
   item_instr k (lit (str cs)) = Text k
   item_instr k (lit (wrd w)) = Word w
   item_instr k (lit_arr a) = Array a
-  item_instr k (word w) = word_instr w (slice_get C.words w)
-  item_instr k (made q) = Quot q
+  item_instr k (word w) = word_instr C w (slice_get C.words w)
+  item_instr k (made q) = made_instr q (slice_get templates q)
+  item_instr k (bind x) = Bind
+  item_instr k (local x) = Local x
   item_instr k (next_after m) = Next (generic_number C (generic_of C (sort_of C m))) (method_number C m) false
   item_instr k _ = stuck_instr
 
@@ -94,16 +104,16 @@ templates_texts texts (t ∷ ts) = templates_texts (phrase_texts texts t.body) t
 abbrev pub row_at : ℕ → Template → TemplateRow
 row_at at t = record { entry = at; cells = t.captures; holes = t.holes }
 
-module _ (C : Program) where
+module _ (C : Program) (templates : List Template) where
   -- the code of templates, one behind the other
   abbrev pub templates_code : List (List ℕ) → List Template → List Instr
   templates_code texts [] = []
-  templates_code texts (t ∷ ts) = phrase_code C Ret texts t.body ++ templates_code (phrase_texts texts t.body) ts
+  templates_code texts (t ∷ ts) = phrase_code C templates Ret texts t.body ++ templates_code (phrase_texts texts t.body) ts
 
   -- the rows of templates, whose code stands from a place on
   abbrev pub template_rows : List (List ℕ) → ℕ → List Template → List TemplateRow
   template_rows texts at [] = []
-  template_rows texts at (t ∷ ts) = row_at at t ∷ template_rows (phrase_texts texts t.body) (at + length (phrase_code C Ret texts t.body)) ts
+  template_rows texts at (t ∷ ts) = row_at at t ∷ template_rows (phrase_texts texts t.body) (at + length (phrase_code C templates Ret texts t.body)) ts
 
 -- the top-level phrase ends the run, and each other phrase goes back to where it was called
 abbrev pub last_instr : Bool → Instr
@@ -145,10 +155,12 @@ module _ (C : Program) where
   abbrev pub word_row : ℕ → ℕ → Sort → WordRow
   word_row at w s = record { name = w; action = sort_action w at s; kind = sort_kind s }
 
+-- and with these templates
+module _ (C : Program) (templates : List Template) where
   -- the code of a word, where it runs a phrase
   abbrev pub sort_code : Bool → List (List ℕ) → Sort → List Instr
-  sort_code is_top texts (body t) = phrase_code C (last_instr is_top) texts t
-  sort_code is_top texts (method c g t) = phrase_code C (last_instr is_top) texts t
+  sort_code is_top texts (body t) = phrase_code C templates (last_instr is_top) texts t
+  sort_code is_top texts (method c g t) = phrase_code C templates (last_instr is_top) texts t
   sort_code is_top texts _ = []
 
   -- that of the word with this number
@@ -163,11 +175,11 @@ module _ (C : Program) where
   -- the rows of the words from number w on, whose code stands from a place on
   abbrev pub words_from : List (List ℕ) → ℕ → ℕ → List WordDef → List WordRow
   words_from texts at w [] = []
-  words_from texts at w (d ∷ ds) = word_row at w d.sort ∷ words_from (sort_texts texts d.sort) (at + length (word_code texts w d)) (suc w) ds
+  words_from texts at w (d ∷ ds) = word_row C at w d.sort ∷ words_from (sort_texts texts d.sort) (at + length (word_code texts w d)) (suc w) ds
 
 -- all code
 abbrev pub program_code : Program → List Template → List Instr
-program_code C ts = templates_code C (table_texts C) ts ++ code_from C (templates_texts (table_texts C) ts) 0 C.words
+program_code C ts = templates_code C ts (table_texts C) ts ++ code_from C ts (templates_texts (table_texts C) ts) 0 C.words
 
 -- the texts of all code: those of the tables, and behind them those of the strings in the order of their instructions
 abbrev pub program_texts : Program → List Template → List (List ℕ)
@@ -175,7 +187,7 @@ program_texts C ts = words_texts (templates_texts (table_texts C) ts) C.words
 
 -- the rows of the words, whose code stands behind that of the templates
 abbrev pub program_words : Program → List Template → List WordRow
-program_words C ts = words_from C (templates_texts (table_texts C) ts) (length (templates_code C (table_texts C) ts)) 0 C.words
+program_words C ts = words_from C ts (templates_texts (table_texts C) ts) (length (templates_code C ts (table_texts C) ts)) 0 C.words
 
 -- the place of a word's code by the rows of the words
 abbrev pub code_place : List WordRow → ℕ → ℕ
@@ -228,7 +240,7 @@ program_tables C ts =
       arrays = arrays_of (program_texts C ts) C.arrays;
       kinds = program_kinds C;
       sets = program_sets C;
-      templates = template_rows C (table_texts C) 0 ts;
+      templates = template_rows C ts (table_texts C) 0 ts;
       words = program_words C ts;
       generics = program_generics C ts;
       texts = arrays_texts (program_texts C ts) C.arrays;
@@ -240,7 +252,7 @@ pub record IsPlain (C : Program) (templates : List Template) (M : Image) : Type 
   pub code : M.code ≡ program_code C templates
   pub arrays : M.arrays ≡ arrays_of (program_texts C templates) C.arrays
   pub texts : M.texts ≡ arrays_texts (program_texts C templates) C.arrays
-  pub template_rows_are : M.templates ≡ template_rows C (table_texts C) 0 templates
+  pub template_rows_are : M.templates ≡ template_rows C templates (table_texts C) 0 templates
   pub word_rows_are : M.words ≡ program_words C templates
   pub kinds : M.kinds ≡ program_kinds C
   pub sets : M.sets ≡ program_sets C

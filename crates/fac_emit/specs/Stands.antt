@@ -1,19 +1,20 @@
 -- Which code stands for which phrase. The relation is of running phrases, under the frame of the code that runs, and whatever stands around the
 -- code.
-use Rattle.std.specs.Prelude.{◌≡◌, ◌<◌, ◌+◌, ℕ, ℤ, List, [], length, drop, Bool, true, false, Option, Some, None, slice_get}
+use Rattle.std.specs.Prelude.{◌≡◌, ◌<◌, ◌+◌, ℕ, zero, suc, ℤ, List, [], ◌∷◌, ◌++◌, map, length, drop, Bool, true, false, Option, Some, None, slice_get}
 use Rattle.fac_lang.specs.declared.phrase.Height.{Height}
 use Rattle.fac_lang.specs.declared.phrase.Place.{Place}
 use Rattle.fac_lang.specs.declared.program.Program.{Program}
 use Rattle.fac_lang.specs.declared.program.Sort.{Sort}
 use Rattle.fac_lang.specs.declared.program.Sort.TheVariants.{Prim as prim_sort, Core as core_sort, Body as body, Itself as itself, Class as class, Isa as isa, Generic as generic, Method as method}
-use Rattle.fac_lang.specs.Phrases.{int, yes, no, str, wrd, Phrase, end, then, Item, lit, lit_arr, quot, word, next_after, Value, Callable}
+use Rattle.fac_lang.specs.Phrases.{int, yes, no, str, wrd, Phrase, end, then, Item, lit, lit_arr, quot, word, bind, fry, next_after, held, Value, Callable}
+use Rattle.fac_lang.specs.Substitution.{put_local, put_holes}
 use Rattle.fac_lang.specs.World.{State}
 use Rattle.fac_lang.specs.Classes.{has_kind, pick, next}
 use Rattle.fac_lang.specs.Eval.{wrong}
 use Rattle.fac_lang.specs.Primitives.{is_built_primitive}
 use Rattle.fac_lang.specs.Meaning.{sort_of, word_phrase, generic_of, act, core_numbered, c_call, c_dip, c_if, c_boa}
 use Rattle.fac_code.specs.declared.image.Instr.{Instr}
-use Rattle.fac_code.specs.declared.image.Instr.TheVariants.{Halt, Int, True, False, Text, Array, Word, Quot, Prim, Callw, Call, Dip, If, Ret, Boa, Isa, Generic, Next}
+use Rattle.fac_code.specs.declared.image.Instr.TheVariants.{Halt, Int, True, False, Text, Array, Word, Quot, Prim, Callw, Call, Dip, If, Ret, Boa, Isa, Generic, Next, Fry, Bind, Local}
 use Rattle.fac_code.specs.declared.image.Action.TheVariants as action
 use Rattle.fac_code.specs.declared.image.Image.{Image}
 use Rattle.fac_code.specs.declared.image.TemplateRow.{TemplateRow}
@@ -23,8 +24,8 @@ use Rattle.fac_code.specs.declared.image.MethodRow.{MethodRow}
 use Rattle.fac_store.specs.MachineValues.{MValue, Kept, kept_list, cells_at}
 use Rattle.fac_vm.specs.Machine.{word_with, set_has, method_for, method_after}
 use Rattle.fac_emit.specs.Accessors.{Accessor, accessor_sort, accessor_instr, accessor_action}
-use Rattle.fac_emit.specs.MachineView.{Templates, template_phrases}
-use Rattle.fac_emit.specs.WholeValues.{WholeKept}
+use Rattle.fac_emit.specs.MachineView.{Templates, template_phrases, value_view, values_view, kept_view}
+use Rattle.fac_emit.specs.WholeValues.{Whole, WholeKept}
 
 -- a word of this sort runs a phrase: it is defined by one, or it is a method
 abbrev pub RunsPhrase : Option Sort → Type 0
@@ -69,6 +70,11 @@ module _ (P : Program) (M : Image) where
     l_next :
         (m n j : ℕ) (r : GenericRow) → slice_get M.generics n ≡ Some r → r.word ≡ generic_of P (sort_of P m) → ((k : ℕ) → SameMethod (method_after M.sets k (drop j r.methods)) (next P m k)) → Calling tail (next_after m) (Next n j tail)
 
+-- The instruction that makes a callable of a template with so many holes.
+abbrev pub making : ℕ → ℕ → Instr
+making q zero = Quot q
+making q (suc n) = Fry q
+
 module _ (P : Program) (M : Image) (T : Templates) where
   -- An item and its plain instruction, where the frame is F and T has the phrases of the templates. A run error of a primitive or an accessor names the first
   -- word of the image that does it, so that is to be the item's word. No run comes to an item that nothing can do, so its instruction is any.
@@ -80,7 +86,11 @@ module _ (P : Program) (M : Image) (T : Templates) where
     t_array : (a : ℕ) → Translates F (lit_arr a) (Array a)
     t_reference : (w : ℕ) (r : WordRow) → slice_get M.words w ≡ Some r → Translates F (lit (wrd w)) (Word w)
     t_symbol : (w : ℕ) (r : WordRow) → PushesItself (sort_of P w) → slice_get M.words w ≡ Some r → Translates F (word w) (Word w)
-    t_quot : (q : ℕ) (r : TemplateRow) (vs : List MValue) → slice_get M.templates q ≡ Some r → r.holes ≡ 0 → cells_at r.cells F ≡ Some vs → Translates F (quot (T q)) (Quot q)
+    t_held : (k : ℕ) (v : MValue) → slice_get F k ≡ Some v → Translates F (held (value_view T v)) (Local k)
+    t_quot : (q : ℕ) (r : TemplateRow) (vs : List MValue) → slice_get M.templates q ≡ Some r → r.holes ≡ 0 → cells_at r.cells F ≡ Some vs → Translates F (quot (T q (values_view T vs))) (Quot q)
+    t_fry :
+        (q : ℕ) (r : TemplateRow) (vs : List MValue) (b : Phrase) → slice_get M.templates q ≡ Some r → cells_at r.cells F ≡ Some vs →
+        ((us : List MValue) → length us ≡ r.holes → put_holes (map held (values_view T us)) b ≡ T q (values_view T (vs ++ us))) → Translates F (fry b r.holes) (making q r.holes)
     t_prim : (w k : ℕ) → sort_of P w ≡ Some (prim_sort k) → is_built_primitive k ≡ true → word_with (action.Prim k) 0 M.words ≡ w → Translates F (word w) (Prim k)
     t_accessor :
         (x : Accessor) (w k : ℕ) (s : List ℕ) → sort_of P w ≡ Some (accessor_sort x s) → slice_get M.texts k ≡ Some s → word_with (accessor_action x k) 0 M.words ≡ w → Translates F (word w) (accessor_instr x k)
@@ -94,12 +104,16 @@ module _ (P : Program) (M : Image) (T : Templates) where
   pub data Stands (last : Instr) : List MValue → ℕ → Phrase → Type 0 where
     s_end : {F : List MValue} {pc : ℕ} → slice_get M.code pc ≡ Some last → Stands last F pc end
     s_item : {F : List MValue} {pc : ℕ} {i : Item} {p : Place} {t : Phrase} (x : Instr) → slice_get M.code pc ≡ Some x → Translates F i x → Stands last F (pc + 1) t → Stands last F pc (then i p t)
+    -- behind a binding they stand for the rest with whatever value was put
+    s_bind :
+        {F : List MValue} {pc : ℕ} {y : ℕ} {p : Place} {t : Phrase} →
+        slice_get M.code pc ≡ Some Bind → ((v : MValue) → Whole M v → Stands last (F ++ v ∷ []) (pc + 1) (put_local y (held (value_view T v)) t)) → Stands last F pc (then (bind y) p t)
 
   -- The code of each word that runs a phrase, but for the top-level phrase, stands for its phrase and ends in `ret`; and so does that of each template,
   -- under the values that its callables keep.
   pub record Coded : Type 0 where
     pub words : (w a : ℕ) → HasCode P M w a → Stands Ret [] a (word_phrase P w)
-    pub templates : (q : ℕ) (r : TemplateRow) (k : Kept) → slice_get M.templates q ≡ Some r → length (kept_list k) ≡ length r.cells + r.holes → WholeKept M k → Stands Ret (kept_list k) r.entry (T q)
+    pub templates : (q : ℕ) (r : TemplateRow) (k : Kept) → slice_get M.templates q ≡ Some r → length (kept_list k) ≡ length r.cells + r.holes → WholeKept M k → Stands Ret (kept_list k) r.entry (T q (kept_view T k))
 
 -- The code of an image stands for the phrases of a program: those of its words, of its templates, and of the top-level phrase, where it starts.
 pub record PlainCode (P : Program) (M : Image) : Type 0 where

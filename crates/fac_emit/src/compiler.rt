@@ -27,7 +27,7 @@ use crate::tables::{kinds_of, sets_of};
 use fac_classes::Classes;
 use fac_code::{Action, Elem, GenericRow, Image, KindRow, TemplateRow, WordRow};
 use fac_generic::{Tables, methods_are_lawful, tables as method_tables};
-use fac_lang::{List, Memory, Program, Sort, Text};
+use fac_lang::{List, Memory, Program, Sort, Template, Text};
 use fac_locals::Closed;
 use std::alloc::Global;
 
@@ -106,6 +106,7 @@ fn place_word(
     alloc: Global,
     parts: &mut Parts,
     program: &Program,
+    templates: &List<Template>,
     numbers: &List<u32>,
     classes: &Classes,
     word: u32,
@@ -115,7 +116,7 @@ fn place_word(
     requires classes { classes.now ≡ program.now.classes }
     requires sort { sort_of program.now word ≡ Some sort.now }
     requires coded { body_is_coded program.now sort.now ≡ true }
-    ensures { OnOk result (PlacesWord program.now word (nat_eq word program.now.top) sort.now parts.old parts.new) }
+    ensures { OnOk result (PlacesWord program.now templates.now word (nat_eq word program.now.top) sort.now parts.old parts.new) }
 {
     let place = parts.piece.code.len();
     parts
@@ -125,6 +126,7 @@ fn place_word(
         alloc,
         &mut parts.piece,
         program,
+        templates,
         numbers,
         word == program.top,
         sort,
@@ -136,18 +138,21 @@ fn add_words(
     alloc: Global,
     parts: &mut Parts,
     program: &Program,
+    templates: &List<Template>,
     numbers: &List<u32>,
     classes: &Classes,
 ) -> Result<(), Memory>
     requires numbers { numbers.now ≡ word_numbers program.now }
     requires classes { classes.now ≡ program.now.classes }
     requires coded { list_all (word_body_is_coded program.now) program.now.words ≡ true }
-    ensures { OnOk result (PlacesWords program.now parts.old parts.new) }
+    ensures { OnOk result (PlacesWords program.now templates.now parts.old parts.new) }
 {
     let _count = program.words.len();
     let mut number = 0u32;
     for word in program.words.as_slice() {
-        place_word(alloc, parts, program, numbers, classes, number, &word.sort)?;
+        place_word(
+            alloc, parts, program, templates, numbers, classes, number, &word.sort,
+        )?;
         number += 1;
     }
     Ok(())
@@ -180,10 +185,17 @@ fn link(
         &mut parts.piece,
         &mut parts.templates,
         program,
-        numbers,
         &closed.templates,
+        numbers,
     )?;
-    add_words(alloc, &mut parts, program, numbers, classes)?;
+    add_words(
+        alloc,
+        &mut parts,
+        program,
+        &closed.templates,
+        numbers,
+        classes,
+    )?;
     add_arrays(
         alloc,
         &mut parts.arrays,

@@ -9,7 +9,8 @@ ghost use Rattle.fac_lang.specs.Meaning.{sort_of, generic_of};
 ghost use Rattle.fac_locals.specs.Closed.{Closes};
 ghost use Rattle.fac_code.specs.declared.image.Instr.TheVariants as instr;
 ghost use Rattle.fac_emit.specs.ProgramTables.{generic_number, method_number, word_numbers};
-ghost use Rattle.fac_emit.specs.ProgramCode.{core_instr, word_instr, item_instr, with_text, phrase_code, phrase_texts, last_instr, sort_code, sort_texts};
+ghost use Rattle.fac_emit.specs.Stands.{making};
+ghost use Rattle.fac_emit.specs.ProgramCode.{core_instr, word_instr, made_instr, item_instr, with_text, phrase_code, phrase_texts, last_instr, sort_code, sort_texts};
 ghost use Rattle.fac_emit.specs.inner.AddedTemplates.{AddsTemplate, AddsTemplates};
 ghost use Rattle.fac_emit.specs.inner.Coded.{is_method, item_is_coded, phrase_is_coded, template_is_coded, body_is_coded};
 ghost use Rattle.fac_emit.specs.inner.FoundCode.{IsCodeOf, found_code, found_texts, found_template, found_template_texts};
@@ -96,11 +97,37 @@ fn instr_after(program: &Program, numbers: &List<u32>, method: u32) -> Instr
     }
 }
 
+// The instruction that makes a callable of a template with so many holes.
+fn instr_making(template: u32, holes: u32) -> Instr
+    ensures { result ≡ making template holes }
+{
+    match holes {
+        0 => Instr::Quot(template),
+        _ => Instr::Fry(template),
+    }
+}
+
+// The instruction of a quotation or fry that is made by the template with this number.
+fn instr_of_made(templates: &List<Template>, number: u32) -> Instr
+    ensures { result ≡ made_instr number (slice_get templates.now number) }
+{
+    match templates.get(number as usize) {
+        Some(template) => instr_making(number, template.holes),
+        None => Instr::Boa,
+    }
+}
+
 // The instruction of an item. A string is the text with this number.
-fn instr_of(program: &Program, numbers: &List<u32>, text: u32, what: &What) -> Instr
+fn instr_of(
+    program: &Program,
+    templates: &List<Template>,
+    numbers: &List<u32>,
+    text: u32,
+    what: &What,
+) -> Instr
     requires numbers { numbers.now ≡ word_numbers program.now }
     requires coded { item_is_coded program.now (what_item what.now) ≡ true }
-    ensures { result ≡ item_instr program.now text (what_item what.now) }
+    ensures { result ≡ item_instr program.now templates.now text (what_item what.now) }
 {
     match what {
         What::Int(value) => Instr::Int(*value),
@@ -111,7 +138,9 @@ fn instr_of(program: &Program, numbers: &List<u32>, text: u32, what: &What) -> I
         What::Wref(word) => Instr::Word(*word),
         What::Word(word) => instr_of_word(program, numbers, *word),
         What::NextAfter(method) => instr_after(program, numbers, *method),
-        What::Made(number) => Instr::Quot(*number),
+        What::Made(number) => instr_of_made(templates, *number),
+        What::Bind(_) => Instr::Bind,
+        What::Local(cell) => Instr::Local(*cell),
         _ => Instr::Boa,
     }
 }
@@ -131,15 +160,18 @@ fn add_item(
     alloc: Global,
     piece: &mut Piece,
     program: &Program,
+    templates: &List<Template>,
     numbers: &List<u32>,
     what: &What,
 ) -> Result<(), Memory>
     requires numbers { numbers.now ≡ word_numbers program.now }
     requires coded { item_is_coded program.now (what_item what.now) ≡ true }
-    ensures { OnOk result ((piece.new.code ≡ piece.old.code ++ item_instr program.now (length piece.old.texts) (what_item what.now) ∷ []) × (piece.new.texts ≡ with_text piece.old.texts (what_item what.now))) }
+    ensures { OnOk result ((piece.new.code ≡ piece.old.code ++ item_instr program.now templates.now (length piece.old.texts) (what_item what.now) ∷ []) × (piece.new.texts ≡ with_text piece.old.texts (what_item what.now))) }
 {
     let number = piece.texts.len();
-    piece.code.push(instr_of(program, numbers, number, what))?;
+    piece
+        .code
+        .push(instr_of(program, templates, numbers, number, what))?;
     add_text(alloc, &mut piece.texts, what)
 }
 
@@ -148,16 +180,17 @@ fn add_phrase(
     alloc: Global,
     piece: &mut Piece,
     program: &Program,
+    templates: &List<Template>,
     numbers: &List<u32>,
     phrase: &Phrase,
     last: Instr,
 ) -> Result<(), Memory>
     requires numbers { numbers.now ≡ word_numbers program.now }
     requires coded { phrase_is_coded program.now phrase.now ≡ true }
-    ensures { OnOk result ((piece.new.code ≡ piece.old.code ++ phrase_code program.now last piece.old.texts phrase.now) × (piece.new.texts ≡ phrase_texts piece.old.texts phrase.now)) }
+    ensures { OnOk result ((piece.new.code ≡ piece.old.code ++ phrase_code program.now templates.now last piece.old.texts phrase.now) × (piece.new.texts ≡ phrase_texts piece.old.texts phrase.now)) }
 {
     for item in &phrase.items {
-        add_item(alloc, piece, program, numbers, &item.what)?;
+        add_item(alloc, piece, program, templates, numbers, &item.what)?;
     }
     piece.code.push(last)
 }
@@ -168,12 +201,13 @@ fn add_template(
     piece: &mut Piece,
     rows: &mut List<TemplateRow>,
     program: &Program,
+    templates: &List<Template>,
     numbers: &List<u32>,
     template: &Template,
 ) -> Result<(), Memory>
     requires numbers { numbers.now ≡ word_numbers program.now }
     requires coded { template_is_coded program.now template.now ≡ true }
-    ensures { OnOk result (AddsTemplate program.now template.now piece.old piece.new rows.old rows.new) }
+    ensures { OnOk result (AddsTemplate program.now templates.now template.now piece.old piece.new rows.old rows.new) }
 {
     let entry = piece.code.len();
     let cells = template.captures.copy(alloc)?;
@@ -182,7 +216,15 @@ fn add_template(
         cells,
         holes: template.holes,
     })?;
-    add_phrase(alloc, piece, program, numbers, &template.body, Instr::Ret)
+    add_phrase(
+        alloc,
+        piece,
+        program,
+        templates,
+        numbers,
+        &template.body,
+        Instr::Ret,
+    )
 }
 
 /// Adds the code of these templates with its texts, and their rows, in their order.
@@ -191,15 +233,15 @@ pub fn add_templates(
     piece: &mut Piece,
     rows: &mut List<TemplateRow>,
     program: &Program,
-    numbers: &List<u32>,
     templates: &List<Template>,
+    numbers: &List<u32>,
 ) -> Result<(), Memory>
     requires numbers { numbers.now ≡ word_numbers program.now }
     requires coded { list_all (template_is_coded program.now) templates.now ≡ true }
     ensures { OnOk result (AddsTemplates program.now templates.now piece.old piece.new rows.old rows.new) }
 {
     for template in templates.as_slice() {
-        add_template(alloc, piece, rows, program, numbers, template)?;
+        add_template(alloc, piece, rows, program, templates, numbers, template)?;
     }
     Ok(())
 }
@@ -216,18 +258,35 @@ pub fn add_word(
     alloc: Global,
     piece: &mut Piece,
     program: &Program,
+    templates: &List<Template>,
     numbers: &List<u32>,
     is_top: bool,
     sort: &Sort,
 ) -> Result<(), Memory>
     requires numbers { numbers.now ≡ word_numbers program.now }
     requires coded { body_is_coded program.now sort.now ≡ true }
-    ensures { OnOk result ((piece.new.code ≡ piece.old.code ++ sort_code program.now is_top piece.old.texts sort.now) × (piece.new.texts ≡ sort_texts piece.old.texts sort.now)) }
+    ensures { OnOk result ((piece.new.code ≡ piece.old.code ++ sort_code program.now templates.now is_top piece.old.texts sort.now) × (piece.new.texts ≡ sort_texts piece.old.texts sort.now)) }
 {
     match sort {
-        Sort::Body(phrase) => add_phrase(alloc, piece, program, numbers, phrase, last(is_top)),
+        Sort::Body(phrase) => add_phrase(
+            alloc,
+            piece,
+            program,
+            templates,
+            numbers,
+            phrase,
+            last(is_top),
+        ),
         Sort::Method { body, .. } => {
-            add_phrase(alloc, piece, program, numbers, body, last(is_top))
+            add_phrase(
+                alloc,
+                piece,
+                program,
+                templates,
+                numbers,
+                body,
+                last(is_top),
+            )
         }
         _ => Ok(()),
     }
@@ -253,7 +312,7 @@ fn code_of_word(
     requires closed { (P : Source) × Closes P closed.now.program closed.now.templates × IsBuilt P × IsWhole P }
     requires numbers { numbers.now ≡ word_numbers closed.now.program }
     requires word { word < length closed.now.program.words }
-    ensures { IfOk result (IsCodeOf (found_code closed.now.program word (slice_get closed.now.program.words word)) (found_texts (slice_get closed.now.program.words word))) }
+    ensures { IfOk result (IsCodeOf (found_code closed.now.program closed.now.templates word (slice_get closed.now.program.words word)) (found_texts (slice_get closed.now.program.words word))) }
 {
     let mut piece = no_code(alloc);
     match closed.program.words.get(word as usize) {
@@ -261,6 +320,7 @@ fn code_of_word(
             alloc,
             &mut piece,
             &closed.program,
+            &closed.templates,
             numbers,
             word == closed.program.top,
             &def.sort,
@@ -280,7 +340,7 @@ fn code_of_template(
     requires closed { (P : Source) × Closes P closed.now.program closed.now.templates × IsBuilt P × IsWhole P }
     requires numbers { numbers.now ≡ word_numbers closed.now.program }
     requires template { template < length closed.now.templates }
-    ensures { IfOk result (IsCodeOf (found_template closed.now.program (slice_get closed.now.templates template)) (found_template_texts (slice_get closed.now.templates template))) }
+    ensures { IfOk result (IsCodeOf (found_template closed.now.program closed.now.templates (slice_get closed.now.templates template)) (found_template_texts (slice_get closed.now.templates template))) }
 {
     let mut piece = no_code(alloc);
     match closed.templates.get(template as usize) {
@@ -288,6 +348,7 @@ fn code_of_template(
             alloc,
             &mut piece,
             &closed.program,
+            &closed.templates,
             numbers,
             &found.body,
             Instr::Ret,
@@ -313,7 +374,7 @@ pub fn emit_word(
     code_of_word(alloc, closed, numbers, word)
 }
 
-/// The plain code of the template with this number, as a piece: an instruction for each item of its quotation, and behind them a `ret`.
+/// The plain code of the template with this number, as a piece: an instruction for each item of its quotation or fry, and behind them a `ret`.
 /// Want of memory is the one error.
 pub fn emit_template(
     alloc: Global,

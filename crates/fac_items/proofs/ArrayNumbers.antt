@@ -1,18 +1,17 @@
 -- The numbers of literal arrays: each array has the next number, and is named at one place.
-use Rattle.std.proofs.Common.{◌≡◌, ◌≤◌, ◌<◌, ◌+◌, ℕ, zero, suc, List, [], ◌∷◌, ◌++◌, map, length, Bool, true, false, refl, ap, sym, ◌∙◌, subst, arith, append_assoc}
+use Rattle.std.proofs.Common.{◌≡◌, ◌≤◌, ◌<◌, ◌+◌, ℕ, zero, suc, List, [], ◌∷◌, ◌++◌, map, length, Option, Some, None, Bool, true, false, refl, ap, sym, ◌∙◌, subst, arith, append_assoc}
 use Rattle.std.specs.Prelude.{◌&&◌, nat_eq, nat_lt}
 use Rattle.std.specs.List.{list_all}
 use Rattle.std.proofs.lemmas.Bool.Decides.{Decides-ltb}
 use Rattle.std.proofs.lemmas.List.{length_push}
 use Rattle.std.proofs.lemmas.List.Folds.{list_all-append}
-use Rattle.fac_lang.specs.Phrases.{int, yes, no, str, Phrase, end, then}
+use Rattle.fac_lang.specs.Phrases.{int, yes, no, str, Phrase, end, then, local, word}
 use Rattle.fac_lang.specs.RunningLaws.{append}
 use Rattle.fac_lang.specs.Whole.{arrays_in, arrays_named, arrays_named_by, each_below, each_numbered, joined, names_earlier, times_in}
 use Rattle.fac_lang.specs.declared.program.Lit.{Lit}
 use Rattle.fac_vocab.specs.Scopes.{Scope}
-use Rattle.fac_items.specs.Written.{n_lit, n_name, n_next, n_full, n_part, n_quot, n_array, Nodes, nothing, more}
-use Rattle.fac_items.specs.Items.{elements_of, phrase_of}
-use Rattle.fac_items.specs.inner.Bits.{AreElements, ArePlain}
+use Rattle.fac_items.specs.Written.{Tok, n_lit, n_name, n_bind, n_hole, n_fry, n_part, n_quot, n_array, Nodes, nothing, more}
+use Rattle.fac_items.specs.Items.{elements_of, local_of, phrase_of, word_of}
 
 -- Sums.
 
@@ -169,45 +168,52 @@ named_append (then i p t) u = ap (λ (xs : List ℕ). arrays_named_by i ++ xs) (
 named_both : (t : Phrase) (before after : List (List Lit)) (xs ys : List ℕ) → arrays_named t ≡ xs ++ ys → Adds before after (xs ++ ys) → Adds before after (arrays_named t)
 named_both t before after xs ys e h = subst (Adds before after) (sym e) h
 
-mutual
-  pub phrase_adds : (s : Scope) (ns : Nodes) (arrays : List (List Lit)) (holes : ℕ) → ArePlain ns → Adds arrays (phrase_of s [] ns arrays holes).arrays (arrays_named (phrase_of s [] ns arrays holes).phrase)
-  phrase_adds s nothing arrays holes h = adds_none arrays
-  phrase_adds s (more (n_lit l p) ns) arrays holes h = phrase_adds s ns arrays holes h.1
-  phrase_adds s (more (n_name t p) ns) arrays holes h = phrase_adds s ns arrays holes h.1
-  phrase_adds s (more (n_next p) ns) arrays holes h = phrase_adds s ns arrays holes h.1
-  phrase_adds s (more (n_full v n p) ns) arrays holes h = phrase_adds s ns arrays holes h.1
-  phrase_adds s (more (n_part ms) ns) arrays holes h =
-      let m = phrase_of s [] ms arrays holes in
-      let r = phrase_of s [] ns m.arrays m.holes in
-      named_both (append m.phrase r.phrase) arrays r.arrays (arrays_named m.phrase) (arrays_named r.phrase) (named_append m.phrase r.phrase) (adds_then arrays m.arrays r.arrays (arrays_named m.phrase) (arrays_named r.phrase) (phrase_adds s ms arrays holes h.0) (phrase_adds s ns m.arrays m.holes h.1))
-  phrase_adds s (more (n_quot ms p) ns) arrays holes h =
-      let m = phrase_of s [] ms arrays holes in
-      let r = phrase_of s [] ns m.arrays m.holes in
-      adds_then arrays m.arrays r.arrays (arrays_named m.phrase) (arrays_named r.phrase) (phrase_adds s ms arrays holes h.0) (phrase_adds s ns m.arrays m.holes h.1)
-  phrase_adds s (more (n_array ms p) ns) arrays holes h =
-      let m = elements_of s ms arrays in
-      let r = phrase_of s [] ns (m.arrays ++ m.elements ∷ []) holes in
-      adds_then arrays (m.arrays ++ m.elements ∷ []) r.arrays (length m.arrays ∷ []) (arrays_named r.phrase) (adds_array arrays m.arrays m.elements (elements_adds s ms arrays h.0)) (phrase_adds s ns (m.arrays ++ m.elements ∷ []) holes h.1)
-  phrase_adds s (more n ns) arrays holes h = absurd h.0
+-- what a name is, names no array
+name_adds : (s : Scope) (t : Tok) (o : Option ℕ) (before after : List (List Lit)) (xs : List ℕ) → Adds before after xs → Adds before after (arrays_named_by (elim o [ Some x ↦ local x | None ↦ word (word_of s t) ]) ++ xs)
+name_adds s t (Some x) before after xs h = h
+name_adds s t None before after xs h = h
 
-  pub elements_adds : (s : Scope) (ns : Nodes) (arrays : List (List Lit)) → AreElements ns → Adds arrays (elements_of s ns arrays).arrays (arrays_in (elements_of s ns arrays).elements)
-  elements_adds s nothing arrays h = adds_none arrays
-  elements_adds s (more (n_lit (int z) p) ns) arrays h = elements_adds s ns arrays h.1
-  elements_adds s (more (n_lit yes p) ns) arrays h = elements_adds s ns arrays h.1
-  elements_adds s (more (n_lit no p) ns) arrays h = elements_adds s ns arrays h.1
-  elements_adds s (more (n_lit (str bs) p) ns) arrays h = elements_adds s ns arrays h.1
-  elements_adds s (more (n_lit l p) ns) arrays h = absurd h.0
-  elements_adds s (more (n_name t p) ns) arrays h = elements_adds s ns arrays h.1
-  elements_adds s (more (n_next p) ns) arrays h = elements_adds s ns arrays h.1
-  elements_adds s (more (n_quot ms p) ns) arrays h =
+mutual
+  pub phrase_adds : (s : Scope) (locals : List (List ℕ)) (ns : Nodes) (arrays : List (List Lit)) (holes : ℕ) → Adds arrays (phrase_of s locals ns arrays holes).arrays (arrays_named (phrase_of s locals ns arrays holes).phrase)
+  phrase_adds s locals nothing arrays holes = adds_none arrays
+  phrase_adds s locals (more (n_name t p) ns) arrays holes =
+      let r = phrase_of s locals ns arrays holes in name_adds s t (local_of locals t.text) arrays r.arrays (arrays_named r.phrase) (phrase_adds s locals ns arrays holes)
+  phrase_adds s locals (more (n_bind t twice p) ns) arrays holes = phrase_adds s (t.text ∷ locals) ns arrays holes
+  phrase_adds s locals (more (n_hole p) ns) arrays holes = phrase_adds s locals ns arrays (suc holes)
+  phrase_adds s locals (more (n_part ms) ns) arrays holes =
+      let m = phrase_of s locals ms arrays holes in
+      let r = phrase_of s locals ns m.arrays m.holes in
+      named_both (append m.phrase r.phrase) arrays r.arrays (arrays_named m.phrase) (arrays_named r.phrase) (named_append m.phrase r.phrase) (adds_then arrays m.arrays r.arrays (arrays_named m.phrase) (arrays_named r.phrase) (phrase_adds s locals ms arrays holes) (phrase_adds s locals ns m.arrays m.holes))
+  phrase_adds s locals (more (n_quot ms p) ns) arrays holes =
+      let m = phrase_of s locals ms arrays holes in
+      let r = phrase_of s locals ns m.arrays m.holes in
+      adds_then arrays m.arrays r.arrays (arrays_named m.phrase) (arrays_named r.phrase) (phrase_adds s locals ms arrays holes) (phrase_adds s locals ns m.arrays m.holes)
+  phrase_adds s locals (more (n_fry ms p) ns) arrays holes =
+      let m = phrase_of s locals ms arrays 0 in
+      let r = phrase_of s locals ns m.arrays holes in
+      adds_then arrays m.arrays r.arrays (arrays_named m.phrase) (arrays_named r.phrase) (phrase_adds s locals ms arrays 0) (phrase_adds s locals ns m.arrays holes)
+  phrase_adds s locals (more (n_array ms p) ns) arrays holes =
+      let m = elements_of s ms arrays in
+      let r = phrase_of s locals ns (m.arrays ++ m.elements ∷ []) holes in
+      adds_then arrays (m.arrays ++ m.elements ∷ []) r.arrays (length m.arrays ∷ []) (arrays_named r.phrase) (adds_array arrays m.arrays m.elements (elements_adds s ms arrays)) (phrase_adds s locals ns (m.arrays ++ m.elements ∷ []) holes)
+  phrase_adds s locals (more n ns) arrays holes = phrase_adds s locals ns arrays holes
+
+  pub elements_adds : (s : Scope) (ns : Nodes) (arrays : List (List Lit)) → Adds arrays (elements_of s ns arrays).arrays (arrays_in (elements_of s ns arrays).elements)
+  elements_adds s nothing arrays = adds_none arrays
+  elements_adds s (more (n_lit (int z) p) ns) arrays = elements_adds s ns arrays
+  elements_adds s (more (n_lit yes p) ns) arrays = elements_adds s ns arrays
+  elements_adds s (more (n_lit no p) ns) arrays = elements_adds s ns arrays
+  elements_adds s (more (n_lit (str bs) p) ns) arrays = elements_adds s ns arrays
+  elements_adds s (more (n_lit l p) ns) arrays = elements_adds s ns arrays
+  elements_adds s (more (n_quot ms p) ns) arrays =
       let m = phrase_of s [] ms arrays 0 in
       let r = elements_of s ns m.arrays in
-      adds_then arrays m.arrays r.arrays (arrays_named m.phrase) (arrays_in r.elements) (phrase_adds s ms arrays 0 h.0) (elements_adds s ns m.arrays h.1)
-  elements_adds s (more (n_array ms p) ns) arrays h =
+      adds_then arrays m.arrays r.arrays (arrays_named m.phrase) (arrays_in r.elements) (phrase_adds s [] ms arrays 0) (elements_adds s ns m.arrays)
+  elements_adds s (more (n_array ms p) ns) arrays =
       let m = elements_of s ms arrays in
       let r = elements_of s ns (m.arrays ++ m.elements ∷ []) in
-      adds_then arrays (m.arrays ++ m.elements ∷ []) r.arrays (length m.arrays ∷ []) (arrays_in r.elements) (adds_array arrays m.arrays m.elements (elements_adds s ms arrays h.0)) (elements_adds s ns (m.arrays ++ m.elements ∷ []) h.1)
-  elements_adds s (more n ns) arrays h = absurd h.0
+      adds_then arrays (m.arrays ++ m.elements ∷ []) r.arrays (length m.arrays ∷ []) (arrays_in r.elements) (adds_array arrays m.arrays m.elements (elements_adds s ms arrays)) (elements_adds s ns (m.arrays ++ m.elements ∷ []))
+  elements_adds s (more n ns) arrays = elements_adds s ns arrays
 
 -- What the count of each number tells.
 

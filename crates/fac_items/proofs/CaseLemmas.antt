@@ -1,133 +1,111 @@
 -- Whether the elements of an array are those that `cond` reads.
-use Rattle.std.proofs.Common.{◌≡◌, false, refl, ap, ◌∙◌}
-use Rattle.fac_lang.specs.declared.phrase.Place.{Place}
+use Rattle.std.proofs.Common.{◌≡◌, Bool, true, false, refl, ap, ◌∙◌}
 use Rattle.fac_items.specs.declared.cases.Cases.{Cases}
-use Rattle.fac_items.specs.declared.cases.Cases.TheVariants.{Nothing, OneQuotation, TwoQuotations, Pairs, PairsAndLast, Other}
+use Rattle.fac_items.specs.declared.cases.Cases.TheVariants.{Nothing, OneQuotation, TwoQuotations, Pairs, Other}
 use Rattle.fac_items.specs.declared.cases.Child.{Child}
 use Rattle.fac_items.specs.declared.cases.Child.TheVariants as child
 use Rattle.fac_items.specs.Written.{Node, n_array, n_quot, Nodes, nothing, more}
 use Rattle.fac_items.specs.Readings.{are_pairs}
 use Rattle.fac_items.specs.inner.CaseLists.{are_cases, array_child, with_child}
-use Rattle.fac_items.proofs.RawNodes.{AreRaw}
 
--- what raw nodes are as elements
+-- what nodes are as elements
 abbrev mutual
-  pub cases_from : Cases → Nodes → Cases
-  cases_from cs nothing = cs
-  cases_from cs (more n ns) = cases_from (with_child cs (child_node n)) ns
+  pub cases_in : Nodes → Cases
+  cases_in nothing = Nothing
+  cases_in (more n ns) = with_child (child_node n) (cases_in ns)
 
   pub child_node : Node → Child
   child_node (n_quot ns p) = child.Quotation
-  child_node (n_array es p) = array_child (cases_from Nothing es)
+  child_node (n_array es p) = array_child (cases_in es)
   child_node n = child.Other
 
-other_stays : (c : Child) → with_child Other c ≡ Other
-other_stays child.Quotation = refl
-other_stays child.Pair = refl
-other_stays child.Other = refl
+abbrev is_nothing : Cases → Bool
+is_nothing Nothing = true
+is_nothing cs = false
 
-others : (ns : Nodes) → cases_from Other ns ≡ Other
-others nothing = refl
-others (more n ns) = ap (λ (c : Cases). cases_from c ns) (other_stays (child_node n)) ∙ others ns
+some_child : (c : Child) (cs : Cases) → is_nothing (with_child c cs) ≡ false
+some_child child.Quotation Nothing = refl
+some_child child.Quotation OneQuotation = refl
+some_child child.Quotation TwoQuotations = refl
+some_child child.Quotation Pairs = refl
+some_child child.Quotation Other = refl
+some_child child.Pair Nothing = refl
+some_child child.Pair OneQuotation = refl
+some_child child.Pair TwoQuotations = refl
+some_child child.Pair Pairs = refl
+some_child child.Pair Other = refl
+some_child child.Other cs = refl
 
-last_only : (c : Child) → with_child PairsAndLast c ≡ Other
-last_only child.Quotation = refl
-last_only child.Pair = refl
-last_only child.Other = refl
+some_nodes : (n : Node) (ns : Nodes) → is_nothing (cases_in (more n ns)) ≡ false
+some_nodes n ns = some_child (child_node n) (cases_in ns)
 
-two_only : (c : Child) → with_child TwoQuotations c ≡ Other
-two_only child.Quotation = refl
-two_only child.Pair = refl
-two_only child.Other = refl
+-- a quotation is the last case
+quotation_last : (cs : Cases) → is_nothing cs ≡ false → are_cases (with_child child.Quotation cs) ≡ false
+quotation_last Nothing h = absurd (cc)
+quotation_last OneQuotation h = refl
+quotation_last TwoQuotations h = refl
+quotation_last Pairs h = refl
+quotation_last Other h = refl
 
-behind_last : (n : Node) (ns : Nodes) → cases_from PairsAndLast (more n ns) ≡ Other
-behind_last n ns = ap (λ (c : Cases). cases_from c ns) (last_only (child_node n)) ∙ others ns
+-- no third element makes a pair
+third_child : (cs : Cases) → is_nothing cs ≡ false → array_child (with_child child.Quotation (with_child child.Quotation cs)) ≡ child.Other
+third_child Nothing h = absurd (cc)
+third_child OneQuotation h = refl
+third_child TwoQuotations h = refl
+third_child Pairs h = refl
+third_child Other h = refl
 
-behind_two : (n : Node) (ns : Nodes) → cases_from TwoQuotations (more n ns) ≡ Other
-behind_two n ns = ap (λ (c : Cases). cases_from c ns) (two_only (child_node n)) ∙ others ns
+-- nor does a pair
+pair_child : (cs : Cases) → array_child (with_child child.Pair cs) ≡ child.Other
+pair_child Nothing = refl
+pair_child OneQuotation = refl
+pair_child TwoQuotations = refl
+pair_child Pairs = refl
+pair_child Other = refl
 
--- no case begins with one quotation and has more than it
-one_more : (c : Child) (ns : Nodes) → are_cases (cases_from (with_child OneQuotation c) ns) ≡ false
-one_more child.Quotation nothing = refl
-one_more child.Quotation (more n ns) = ap are_cases (behind_two n ns)
-one_more child.Pair ns = ap are_cases (others ns)
-one_more child.Other ns = ap are_cases (others ns)
+-- nor a pair behind a quotation
+pair_second : (cs : Cases) → array_child (with_child child.Quotation (with_child child.Pair cs)) ≡ child.Other
+pair_second Nothing = refl
+pair_second OneQuotation = refl
+pair_second TwoQuotations = refl
+pair_second Pairs = refl
+pair_second Other = refl
 
--- No array that begins with pairs is a pair itself.
+array_first : (xs cs : Cases) → array_child (with_child (array_child xs) cs) ≡ child.Other
+array_first TwoQuotations cs = pair_child cs
+array_first Nothing cs = refl
+array_first OneQuotation cs = refl
+array_first Pairs cs = refl
+array_first Other cs = refl
 
-last_child : (ns : Nodes) → array_child (cases_from PairsAndLast ns) ≡ child.Other
-last_child nothing = refl
-last_child (more n ns) = ap array_child (behind_last n ns)
+array_second : (xs cs : Cases) → array_child (with_child child.Quotation (with_child (array_child xs) cs)) ≡ child.Other
+array_second TwoQuotations cs = pair_second cs
+array_second Nothing cs = refl
+array_second OneQuotation cs = refl
+array_second Pairs cs = refl
+array_second Other cs = refl
 
-pairs_step : (c : Child) (ns : Nodes) → array_child (cases_from Pairs ns) ≡ child.Other → array_child (cases_from (with_child Pairs c) ns) ≡ child.Other
-pairs_step child.Quotation ns h = last_child ns
-pairs_step child.Pair ns h = h
-pairs_step child.Other ns h = ap array_child (others ns)
+-- a pair before cases
+pair_before : (cs : Cases) → are_cases (with_child child.Pair cs) ≡ are_cases cs
+pair_before Nothing = refl
+pair_before OneQuotation = refl
+pair_before TwoQuotations = refl
+pair_before Pairs = refl
+pair_before Other = refl
 
-pairs_child : (ns : Nodes) → array_child (cases_from Pairs ns) ≡ child.Other
-pairs_child nothing = refl
-pairs_child (more n ns) = pairs_step (child_node n) ns (pairs_child ns)
+no_pair : (c : Child) (cs : Cases) → c ≡ child.Other → are_cases (with_child c cs) ≡ false
+no_pair c cs h = ap (λ (x : Child). are_cases (with_child x cs)) h
 
--- nor is one whose second element is none
-second_child : (c : Child) (ns : Nodes) → (c ≡ child.Quotation → ⊥) → array_child (cases_from (with_child OneQuotation c) ns) ≡ child.Other
-second_child child.Quotation ns h = absurd (h refl)
-second_child child.Pair ns h = ap array_child (others ns)
-second_child child.Other ns h = ap array_child (others ns)
-
-two_child : (n : Node) (ns : Nodes) → array_child (cases_from TwoQuotations (more n ns)) ≡ child.Other
-two_child n ns = ap array_child (behind_two n ns)
-
-not_quotation : (cs : Cases) → array_child cs ≡ child.Quotation → ⊥
-not_quotation Nothing h = cc
-not_quotation OneQuotation h = cc
-not_quotation TwoQuotations h = cc
-not_quotation Pairs h = cc
-not_quotation PairsAndLast h = cc
-not_quotation Other h = cc
-
-no_other : child.Other ≡ child.Quotation → ⊥
-no_other h = cc
-
-array_first : (cs : Cases) (ns : Nodes) → array_child (cases_from (with_child Nothing (array_child cs)) ns) ≡ child.Other
-array_first TwoQuotations ns = pairs_child ns
-array_first Nothing ns = ap array_child (others ns)
-array_first OneQuotation ns = ap array_child (others ns)
-array_first Pairs ns = ap array_child (others ns)
-array_first PairsAndLast ns = ap array_child (others ns)
-array_first Other ns = ap array_child (others ns)
-
--- an array behind pairs, where it is no pair
-no_pair : (c : Child) (es : Nodes) → c ≡ child.Other → are_cases (cases_from (with_child Pairs c) es) ≡ false
-no_pair c es h = ap (λ (x : Child). are_cases (cases_from (with_child Pairs x) es)) h ∙ ap are_cases (others es)
-
-array_cases : (ms : Nodes) (r : Place) (es : Nodes) → AreRaw ms → are_cases (cases_from Pairs es) ≡ are_pairs es → are_cases (cases_from (with_child Pairs (array_child (cases_from Nothing ms))) es) ≡ are_pairs (more (n_array ms r) es)
-array_cases nothing r es h is = ap are_cases (others es)
-array_cases (more (n_quot t p) nothing) r es h is = ap are_cases (others es)
-array_cases (more (n_quot t p) (more (n_quot b q) nothing)) r es h is = is
-array_cases (more (n_quot t p) (more (n_quot b q) (more n ns))) r es h is = no_pair _ es (two_child n ns)
-array_cases (more (n_quot t p) (more (n_array xs q) ns)) r es h is = no_pair _ es (second_child (array_child (cases_from Nothing xs)) ns (not_quotation (cases_from Nothing xs)))
-array_cases (more (n_quot t p) (more n ns)) r es h is = no_pair _ es (second_child child.Other ns no_other)
-array_cases (more (n_array xs q) ns) r es h is = no_pair _ es (array_first (cases_from Nothing xs) ns)
-array_cases (more n ns) r es h is = no_pair _ es (ap array_child (others ns))
-
-pub pairs_cases : (es : Nodes) → AreRaw es → are_cases (cases_from Pairs es) ≡ are_pairs es
-pairs_cases nothing h = refl
-pairs_cases (more (n_quot d p) nothing) h = refl
-pairs_cases (more (n_quot d p) (more n ns)) h = ap are_cases (behind_last n ns)
-pairs_cases (more (n_array ms r) es) h = array_cases ms r es h.0 (pairs_cases es h.1)
-pairs_cases (more n es) h = ap are_cases (others es)
-
-begin_array : (cs : Cases) → with_child Nothing (array_child cs) ≡ with_child Pairs (array_child cs)
-begin_array TwoQuotations = refl
-begin_array Nothing = refl
-begin_array OneQuotation = refl
-begin_array Pairs = refl
-begin_array PairsAndLast = refl
-begin_array Other = refl
-
-pub all_cases : (es : Nodes) → AreRaw es → are_cases (cases_from Nothing es) ≡ are_pairs es
-all_cases nothing h = refl
-all_cases (more (n_quot d p) nothing) h = refl
-all_cases (more (n_quot d p) (more n ns)) h = one_more (child_node n) ns
-all_cases (more (n_array ms r) es) h = ap (λ (c : Cases). are_cases (cases_from c es)) (begin_array (cases_from Nothing ms)) ∙ array_cases ms r es h.0 (pairs_cases es h.1)
-all_cases (more n es) h = ap are_cases (others es)
+pub all_cases : (es : Nodes) → are_cases (cases_in es) ≡ are_pairs es
+all_cases nothing = refl
+all_cases (more (n_quot d p) nothing) = refl
+all_cases (more (n_quot d p) (more n ns)) = quotation_last (cases_in (more n ns)) (some_nodes n ns)
+all_cases (more (n_array nothing r) es) = refl
+all_cases (more (n_array (more (n_quot t p) nothing) r) es) = refl
+all_cases (more (n_array (more (n_quot t p) (more (n_quot b q) nothing)) r) es) = pair_before (cases_in es) ∙ all_cases es
+all_cases (more (n_array (more (n_quot t p) (more (n_quot b q) (more n ns))) r) es) = no_pair _ (cases_in es) (third_child (cases_in (more n ns)) (some_nodes n ns))
+all_cases (more (n_array (more (n_quot t p) (more (n_array xs q) ns)) r) es) = no_pair _ (cases_in es) (array_second (cases_in xs) (cases_in ns))
+all_cases (more (n_array (more (n_quot t p) (more n ns)) r) es) = refl
+all_cases (more (n_array (more (n_array xs q) ns) r) es) = no_pair _ (cases_in es) (array_first (cases_in xs) (cases_in ns))
+all_cases (more (n_array (more n ns) r) es) = refl
+all_cases (more n es) = refl

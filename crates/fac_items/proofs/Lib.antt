@@ -1,9 +1,13 @@
 pub mod SearchLemmas
 pub mod KnownRowLemmas
+pub mod PhraseLemmas
 pub mod RawNodes
-pub mod SpellLemmas
 pub mod CaseLemmas
-pub mod PairLemmas
-pub mod ReadLemmas
+pub mod SpellLemmas
+pub mod LocalLemmas
+pub mod ReadingLemmas
 pub mod TakenLemmas
+pub mod CodeLemmas
 pub mod ArrayNumbers
+pub mod PlainNodes
+pub mod LocalNumbers

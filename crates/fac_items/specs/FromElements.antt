@@ -1,16 +1,16 @@
 -- Items as they stand in trees, which are flat, as nested nodes.
-use Rattle.std.specs.Prelude.{◌≡◌, ℕ, suc, ◌<◌, ◌-◌, List, [], ◌∷◌}
+use Rattle.std.specs.Prelude.{◌≡◌, List, [], ◌∷◌, map, false}
 use Rattle.fac_lang.specs.Phrases.{int, yes, no, str}
 use Rattle.fac_lang.specs.declared.phrase.Place.{Place}
 use Rattle.fac_lang.specs.declared.token.Token.{Token}
 use Rattle.fac_lang.specs.declared.tree.Bracket.{Bracket}
-use Rattle.fac_lang.specs.declared.tree.Bracket.TheVariants.{Quotation, Array}
+use Rattle.fac_lang.specs.declared.tree.Bracket.TheVariants.{Quotation, Array, Fry}
 use Rattle.fac_lang.specs.declared.tree.Element.{Element}
 use Rattle.fac_lang.specs.declared.tree.Element.TheVariants as element
 use Rattle.fac_lang.specs.declared.tree.Term.{Term}
 use Rattle.fac_lang.specs.declared.tree.Term.TheVariants as term
 use Rattle.fac_effect.specs.Spellings.{token_text}
-use Rattle.fac_items.specs.Written.{Tok, Node, n_lit, n_array, n_name, n_next, n_quot, Nodes, nothing, more}
+use Rattle.fac_items.specs.Written.{Tok, Node, n_lit, n_array, n_name, n_next, n_quot, n_fry, n_locals, n_bind, n_hole, n_at, Nodes, nothing, more}
 
 abbrev pub tok : Token → Tok
 tok t = record { text = token_text t.kind; place = t.place }
@@ -22,46 +22,80 @@ node (term.Text t) = n_lit (str (token_text t.kind)) t.place
 node (term.True place) = n_lit yes place
 node (term.False place) = n_lit no place
 node (term.NextMethod place) = n_next place
+node (term.Bind sign name) = n_bind (tok name) false sign
+node (term.Hole place) = n_hole place
+node (term.CalledHole place) = n_at place
 
--- What elements come to: those up to the bracket that closes the quotation or array in which they stand, and those of what is around it, from the inside out.
+-- What elements come to: those up to the bracket that closes the quotation, fry or array in which they stand, and those of what is around it, from the inside out.
 pub record Rests : Type 0 where
   pub here : Nodes
   pub around : List Nodes
 
--- a quotation or an array
+-- a quotation, a fry or an array
 abbrev pub bracketed : Bracket → Nodes → Place → Node
 bracketed Quotation items place = n_quot items place
+bracketed Fry items place = n_fry items place
 bracketed Array elements place = n_array elements place
 
--- one with these in it before what is around it; one that nothing closes reaches to the end
-abbrev pub opened : Bracket → Place → Nodes → List Nodes → Rests
-opened bracket place inner [] = record { here = more (bracketed bracket inner place) nothing; around = [] }
-opened bracket place inner (ns ∷ nss) = record { here = more (bracketed bracket inner place) ns; around = nss }
+-- one of them before what is around it; one that nothing closes reaches to the end
+abbrev pub opened : Node → List Nodes → Rests
+opened n [] = record { here = more n nothing; around = [] }
+opened n (ns ∷ nss) = record { here = more n ns; around = nss }
 
 abbrev pub rests : List Element → Rests
 rests [] = record { here = nothing; around = [] }
 rests (element.Item t ∷ es) = let r = rests es in record r { here = more (node t) r.here }
-rests (element.Opens bracket place ∷ es) = let r = rests es in opened bracket place r.here r.around
+rests (element.Opens bracket place ∷ es) = let r = rests es in opened (bracketed bracket r.here place) r.around
+rests (element.OpensLocals place names bar ∷ es) = let r = rests es in opened (n_locals (map tok names) r.here place) r.around
 rests (element.Closes bracket place ∷ es) = let r = rests es in record { here = nothing; around = r.here ∷ r.around }
 
 -- the items of elements whose brackets match
 abbrev pub nested : List Element → Nodes
 nested es = (rests es).here
 
--- Brackets.
+-- Where elements stand.
 
--- whether an element may stand where so many brackets are open
-abbrev pub IsClosable : ℕ → Element → Type 0
-IsClosable depth (element.Closes bracket place) = 0 < depth
-IsClosable depth _ = Unit {0}
+-- whether an item may stand in an array
+abbrev pub IsElement : Term → Type 0
+IsElement (term.Name t) = Unit {0}
+IsElement (term.Integer t value) = Unit {0}
+IsElement (term.Text t) = Unit {0}
+IsElement (term.True place) = Unit {0}
+IsElement (term.False place) = Unit {0}
+IsElement _ = ⊥
 
--- the number of open brackets behind an element
-abbrev pub level_behind : ℕ → Element → ℕ
-level_behind level (element.Item t) = level
-level_behind level (element.Opens bracket place) = suc level
-level_behind level (element.Closes bracket place) = level - 1
+-- whether a fry is around, where these brackets are open, the innermost first; a hole in an array isn't that of a fry around the array
+abbrev pub IsInFry : List Bracket → Type 0
+IsInFry [] = ⊥
+IsInFry (Quotation ∷ bs) = IsInFry bs
+IsInFry (Fry ∷ bs) = Unit {0}
+IsInFry (Array ∷ bs) = ⊥
 
--- elements that close so many open brackets and those that they open
-abbrev pub AreClosing : ℕ → List Element → Type 0
-AreClosing level [] = level ≡ 0
-AreClosing level (e ∷ es) = IsClosable level e × AreClosing (level_behind level e) es
+abbrev pub IsItem : List Bracket → Term → Type 0
+IsItem bs (term.Hole place) = IsInFry bs
+IsItem bs (term.CalledHole place) = IsInFry bs
+IsItem bs _ = Unit {0}
+
+-- whether an element may stand where these brackets are open
+abbrev pub MayStand : List Bracket → Element → Type 0
+MayStand [] (element.Item t) = IsItem [] t
+MayStand (Array ∷ bs) (element.Item t) = IsElement t
+MayStand (Quotation ∷ bs) (element.Item t) = IsItem (Quotation ∷ bs) t
+MayStand (Fry ∷ bs) (element.Item t) = IsItem (Fry ∷ bs) t
+MayStand (Array ∷ bs) (element.Opens Fry place) = ⊥
+MayStand (Array ∷ bs) (element.OpensLocals place names bar) = ⊥
+MayStand [] (element.Closes bracket place) = ⊥
+MayStand _ _ = Unit {0}
+
+-- the brackets that are open behind an element
+abbrev pub open_behind : List Bracket → Element → List Bracket
+open_behind bs (element.Item t) = bs
+open_behind bs (element.Opens bracket place) = bracket ∷ bs
+open_behind bs (element.OpensLocals place names bar) = Quotation ∷ bs
+open_behind [] (element.Closes bracket place) = []
+open_behind (b ∷ bs) (element.Closes bracket place) = bs
+
+-- elements that close these brackets and those that they open
+abbrev pub AreClosing : List Bracket → List Element → Type 0
+AreClosing bs [] = bs ≡ []
+AreClosing bs (e ∷ es) = MayStand bs e × AreClosing (open_behind bs e) es

@@ -19,6 +19,9 @@ abbrev pub bindings : List Tok → List (List ℕ) → Nodes → Nodes
 bindings [] earlier ns = ns
 bindings (t ∷ ts) earlier ns = bindings ts (t.text ∷ earlier) (more (n_bind t (is_among t.text earlier) t.place) ns)
 
+abbrev pub with_inputs : List Tok → Nodes → Nodes
+with_inputs ts ns = bindings ts [] ns
+
 -- whether the elements of an array are those of `{ { [ T ] [ B ] } .. [ D ] }`
 abbrev pub are_pairs : Nodes → Bool
 are_pairs nothing = true
@@ -75,7 +78,7 @@ abbrev mutual
 
 -- a form by itself
 abbrev pub read_form : Form → Form
-read_form (f_locals n inputs e ns inline recursive) = f_define n (given e) (bindings inputs [] ns) inline recursive
+read_form (f_locals n inputs e ns inline recursive) = f_define n (given e) (with_inputs inputs ns) inline recursive
 read_form (f_constant n literal) = f_define n (given (plain_effect [] (codes "value" ∷ []))) (more literal nothing) false false
 read_form (f_maker n c) = f_define n (makes c) (more (n_name c n.place) (more (n_full (codes "kernel") (codes "boa") n.place) nothing)) false false
 read_form form = form

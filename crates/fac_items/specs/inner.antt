@@ -2,6 +2,5 @@ pub mod Search
 pub mod KnownRows
 pub mod CaseLists
 pub mod Bits
-pub mod PairBits
-pub mod ReadBits
+pub mod Behind
 pub mod TakenBits

@@ -2,16 +2,14 @@
 ghost use Rattle.std.specs.Prelude.{◌≡◌};
 ghost use Rattle.fac_items.specs.inner.CaseLists.{are_cases, array_child, with_child};
 
-/// What the elements of an array are, as far as they were read.
+/// What the elements of an array are, as far as they were read, from the last one on.
 #[derive(Clone, Copy, Debug, PartialEq, Eq)]
 pub enum Cases {
     Nothing,
     OneQuotation,
     TwoQuotations,
-    /// Pairs of quotations, each in an array.
+    /// Pairs of quotations, each in an array, and perhaps a quotation behind them.
     Pairs,
-    /// Pairs, and a quotation behind them.
-    PairsAndLast,
     Other,
 }
 
@@ -24,25 +22,23 @@ pub enum Child {
     Other,
 }
 
-/// With one element more.
-pub fn with_child(cases: Cases, child: Child) -> Cases
-    ensures { result ≡ with_child cases child }
+/// With one element more before them.
+pub fn with_child(child: Child, cases: Cases) -> Cases
+    ensures { result ≡ with_child child cases }
 {
     match child {
         Child::Quotation => match cases {
             Cases::Nothing => Cases::OneQuotation,
             Cases::OneQuotation => Cases::TwoQuotations,
-            Cases::Pairs => Cases::PairsAndLast,
             Cases::TwoQuotations => Cases::Other,
-            Cases::PairsAndLast => Cases::Other,
+            Cases::Pairs => Cases::Other,
             Cases::Other => Cases::Other,
         },
         Child::Pair => match cases {
             Cases::Nothing => Cases::Pairs,
+            Cases::OneQuotation => Cases::Pairs,
             Cases::Pairs => Cases::Pairs,
-            Cases::OneQuotation => Cases::Other,
             Cases::TwoQuotations => Cases::Other,
-            Cases::PairsAndLast => Cases::Other,
             Cases::Other => Cases::Other,
         },
         Child::Other => Cases::Other,
@@ -57,7 +53,6 @@ pub fn are_cases(cases: Cases) -> bool
         Cases::Nothing => true,
         Cases::OneQuotation => true,
         Cases::Pairs => true,
-        Cases::PairsAndLast => true,
         Cases::TwoQuotations => false,
         Cases::Other => false,
     }
@@ -72,7 +67,6 @@ pub fn array_child(cases: Cases) -> Child
         Cases::Nothing => Child::Other,
         Cases::OneQuotation => Child::Other,
         Cases::Pairs => Child::Other,
-        Cases::PairsAndLast => Child::Other,
         Cases::Other => Child::Other,
     }
 }

@@ -19,6 +19,12 @@ pub const MOST_LEVELS: u32 = 256;
 /// The most names of an effect.
 pub const MOST_NAMES: u64 = 64;
 
+/// The most locals that are in scope, hidden ones counted, and in a literal array those that are bound outside of it too.
+pub const MOST_LOCALS: u32 = 64;
+
+/// The most holes of a fry.
+pub const MOST_HOLES: u32 = 64;
+
 /// The most slots of a tuple class that it has of its own, and with those of its parents.
 pub const MOST_SLOTS: u64 = 64;
 

@@ -3,7 +3,7 @@ use Rattle.std.proofs.Common.{◌≡◌, ◌<◌, ◌≤◌, ◌⊎◌, inl, inr
 use Rattle.std.specs.Prelude.{map, slice_get, nat_eq, nat_lt}
 use Rattle.std.specs.List.{list_all}
 use Rattle.std.proofs.lemmas.Bool.{cases_lt, cases_eq, eqb-true, ltb-true, and_parts}
-use Rattle.fac_lang.specs.Phrases.{Phrase, end, then, Item, lit, lit_arr, quot, word, next_method}
+use Rattle.fac_lang.specs.Phrases.{Phrase, end, then, Item, lit, lit_arr, quot, word, bind, local, fry, hole, next_method}
 use Rattle.fac_lang.specs.declared.phrase.Place.{Place}
 use Rattle.fac_lang.specs.declared.phrase.Template.{Template}
 use Rattle.fac_lang.specs.declared.program.Lit.{Lit}
@@ -13,7 +13,9 @@ use Rattle.fac_lang.specs.declared.program.Sort.{Sort}
 use Rattle.fac_lang.specs.declared.program.Sort.TheVariants.{Body as body, Past as past, Method as method}
 use Rattle.fac_lang.specs.Whole.{times_in, each_below, each_numbered, names_earlier, arrays_named, arrays_named_by, arrays_in, joined, word_phrases}
 use Rattle.fac_locals.specs.declared.closing.ArrayStart.{ArrayStart}
-use Rattle.fac_locals.specs.inner.Numbering.{template_of, plain_phrase, phrase_of, method_of, phrase_behind, item_behind, closed_phrase, phrase_templates, item_templates, phrase_starts, item_starts, words_behind, words_templates, words_starts}
+use Rattle.fac_captures.specs.declared.cell.Cell.{Cell}
+use Rattle.fac_captures.specs.Cells.{cells_behind, inner_cells}
+use Rattle.fac_locals.specs.inner.Numbering.{plain_phrase, phrase_of, method_of, phrase_behind, item_behind, closed_template, phrase_templates, item_templates, phrase_starts, item_starts, words_behind, words_templates, words_starts}
 use Rattle.fac_locals.proofs.LiteralArrays.{HasBuiltPhrase, HaveBuiltPhrases, IsClosable, IsClosableItem, AreClosable}
 use Rattle.fac_locals.proofs.Puts.{counted, keys, IsPut, IsEntry, put_left, put_right, times_both, keys_both}
 
@@ -65,26 +67,32 @@ first_covered counts k ts own rs (inl h) = inl (put_left k ts (own ∷ []) h)
 first_covered counts k ts own rs (inr h) = inr h
 
 module _ (counts : List ℕ) (k : ℕ) where
+  quotation_covers : (n : ℕ) (x : Template) (ts : List (ℕ × Template)) (rs : List (ℕ × ArrayStart)) → n ≤ k → (suc n ≤ k → Covered counts k ts rs) → Covered counts k (ts ++ (n, x) ∷ []) rs
+  quotation_covers n x ts rs le inside =
+      by_side (Covered counts k (ts ++ (n, x) ∷ []) rs) (suc n) k (λ (h : k < suc n). inl (put_right k ts ((n, x) ∷ []) (inl (omega (arith, h, le))))) (λ (h : suc n ≤ k). first_covered counts k ts (n, x) rs (inside h)) (cases_lt k (suc n))
+
   module _ (m : Option ℕ) where
     mutual
-      pub phrase_covers : (n : ℕ) (t : Phrase) → n ≤ k → k < phrase_behind counts n t → Covered counts k (phrase_templates counts m n t) (phrase_starts counts m n t)
-      phrase_covers n end le lt = outside _ n k le lt
-      phrase_covers n (then i p t) le lt =
+      pub phrase_covers : (cells : List Cell) (n : ℕ) (t : Phrase) → n ≤ k → k < phrase_behind counts n t → Covered counts k (phrase_templates counts m cells n t) (phrase_starts counts m n t)
+      phrase_covers cells n end le lt = outside _ n k le lt
+      phrase_covers cells n (then i p t) le lt =
           let j = item_behind counts n i in
-          let ts = item_templates counts m n p i in
-          let us = phrase_templates counts m j t in
+          let next = cells_behind cells i in
+          let ts = item_templates counts m cells n p i in
+          let us = phrase_templates counts m next j t in
           let ss = item_starts counts m n p i in
           let rs = phrase_starts counts m j t in
-          by_side (Covered counts k (ts ++ us) (ss ++ rs)) j k (λ (h : k < j). covered_left counts k ts us ss rs (item_covers n p i le h)) (λ (h : j ≤ k). covered_right counts k ts us ss rs (phrase_covers j t h lt)) (cases_lt k j)
+          by_side (Covered counts k (ts ++ us) (ss ++ rs)) j k (λ (h : k < j). covered_left counts k ts us ss rs (item_covers cells n p i le h)) (λ (h : j ≤ k). covered_right counts k ts us ss rs (phrase_covers next j t h lt)) (cases_lt k j)
 
-      item_covers : (n : ℕ) (p : Place) (i : Item) → n ≤ k → k < item_behind counts n i → Covered counts k (item_templates counts m n p i) (item_starts counts m n p i)
-      item_covers n p (quot t) le lt =
-          let own : ℕ × Template = (n, template_of p (closed_phrase counts m (suc n) t)) in
-          let ts = phrase_templates counts m (suc n) t in
-          let rs = phrase_starts counts m (suc n) t in
-          by_side (Covered counts k (ts ++ own ∷ []) rs) (suc n) k (λ (h : k < suc n). inl (put_right k ts (own ∷ []) (inl (omega (arith, h, le))))) (λ (h : suc n ≤ k). first_covered counts k ts own rs (phrase_covers (suc n) t h lt)) (cases_lt k (suc n))
-      item_covers n p (lit_arr a) le lt = inr (inl (le, lt))
-      item_covers n p _ le lt = outside _ n k le lt
+      item_covers : (cells : List Cell) (n : ℕ) (p : Place) (i : Item) → n ≤ k → k < item_behind counts n i → Covered counts k (item_templates counts m cells n p i) (item_starts counts m n p i)
+      item_covers cells n p (quot t) le lt =
+          let inner = inner_cells cells (quot t) in
+          quotation_covers n (closed_template counts m cells n p (quot t) t) (phrase_templates counts m inner (suc n) t) (phrase_starts counts m (suc n) t) le (λ (h : suc n ≤ k). phrase_covers inner (suc n) t h lt)
+      item_covers cells n p (fry t c) le lt =
+          let inner = inner_cells cells (fry t c) in
+          quotation_covers n (closed_template counts m cells n p (fry t c) t) (phrase_templates counts m inner (suc n) t) (phrase_starts counts m (suc n) t) le (λ (h : suc n ≤ k). phrase_covers inner (suc n) t h lt)
+      item_covers cells n p (lit_arr a) le lt = inr (inl (le, lt))
+      item_covers cells n p _ le lt = outside _ n k le lt
 
   pub words_cover : (w n : ℕ) (ds : List WordDef) → n ≤ k → k < words_behind counts n ds → Covered counts k (words_templates counts w n ds) (words_starts counts w n ds)
   words_cover w n [] le lt = outside _ n k le lt
@@ -92,11 +100,11 @@ module _ (counts : List ℕ) (k : ℕ) where
       let t = phrase_of d.sort in
       let m = method_of w d.sort in
       let j = phrase_behind counts n t in
-      let ts = phrase_templates counts m n t in
+      let ts = phrase_templates counts m [] n t in
       let us = words_templates counts (suc w) j ds in
       let ss = phrase_starts counts m n t in
       let rs = words_starts counts (suc w) j ds in
-      by_side (Covered counts k (ts ++ us) (ss ++ rs)) j k (λ (h : k < j). covered_left counts k ts us ss rs (phrase_covers m n t le h)) (λ (h : j ≤ k). covered_right counts k ts us ss rs (words_cover (suc w) j ds h lt)) (cases_lt k j)
+      by_side (Covered counts k (ts ++ us) (ss ++ rs)) j k (λ (h : k < j). covered_left counts k ts us ss rs (phrase_covers m [] n t le h)) (λ (h : j ≤ k). covered_right counts k ts us ss rs (words_cover (suc w) j ds h lt)) (cases_lt k j)
 
 -- a word's phrase before others
 abbrev pub with_phrase : Sort → List Phrase → List Phrase
@@ -112,6 +120,10 @@ module _ (counts : List ℕ) (bound : ℕ) where
 
       item_names_noted : (n : ℕ) (p : Place) (i : Item) → IsClosableItem bound i → keys (item_starts counts m n p i) ≡ arrays_named_by i
       item_names_noted n p (quot t) h = phrase_names_noted (suc n) t h
+      item_names_noted n p (bind x) h = refl
+      item_names_noted n p (local x) h = refl
+      item_names_noted n p (fry t c) h = phrase_names_noted (suc n) t h
+      item_names_noted n p (hole c) h = refl
       item_names_noted n p (lit_arr a) h = refl
       item_names_noted n p (lit q) h = refl
       item_names_noted n p (word w) h = refl
@@ -126,6 +138,10 @@ module _ (counts : List ℕ) (bound : ℕ) where
 
       item_noted_below : (n : ℕ) (p : Place) (i : Item) → IsClosableItem bound i → (b : ℕ) (x : ArrayStart) → IsEntry b x (item_starts counts m n p i) → b < bound
       item_noted_below n p (quot t) h b x e = phrase_noted_below (suc n) t h b x e
+      item_noted_below n p (bind y) h b x e = absurd e
+      item_noted_below n p (local y) h b x e = absurd e
+      item_noted_below n p (fry t c) h b x e = phrase_noted_below (suc n) t h b x e
+      item_noted_below n p (hole c) h b x e = absurd e
       item_noted_below n p (lit_arr a) h b x (inl e) = omega (arith, h, e.0)
       item_noted_below n p (lit_arr a) h b x (inr e) = absurd e
       item_noted_below n p (lit q) h b x e = absurd e

@@ -27,7 +27,7 @@ same_stage e f g = rw (e, f, g) refl
 
 module _ (counts : List ℕ) where
   -- a literal array whose elements were taken out, closed and put back
-  pub array_step : (a : ℕ) (arrays : List (List Lit)) (before moved behind : Closing) (start : ArrayStart) (taken elements nothing closed : List Lit) → start ≡ get_or before.starts.items a start → a < length before.starts.items → taken ≡ get_or arrays a taken → a < length arrays → elements ≡ taken → moved.next ≡ start.number → moved.templates.items ≡ before.templates.items → moved.starts.items ≡ before.starts.items → (closed ≡ closed_elements counts moved.next elements) × PhrasePassed counts start.method moved (plain_phrase start.place elements) behind → stage_of (set (set arrays a nothing) a closed) behind ≡ array_closed counts a (stage_of arrays before)
+  pub array_step : (a : ℕ) (arrays : List (List Lit)) (before moved behind : Closing) (start : ArrayStart) (taken elements nothing closed : List Lit) → start ≡ get_or before.starts.items a start → a < length before.starts.items → taken ≡ get_or arrays a taken → a < length arrays → elements ≡ taken → moved.next ≡ start.number → moved.templates.items ≡ before.templates.items → moved.starts.items ≡ before.starts.items → (closed ≡ closed_elements counts moved.next elements) × PhrasePassed counts start.method [] moved (plain_phrase start.place elements) behind → stage_of (set (set arrays a nothing) a closed) behind ≡ array_closed counts a (stage_of arrays before)
   array_step a arrays before moved behind start taken elements nothing closed is_start inside is_taken within is_elements next_is templates_stay starts_stay closes =
       let s = stage_of arrays before in
       let start_is : start ≡ start_at s a = is_start ∙ get_or_default before.starts.items a start (start_of 0 nowhere None) inside in
@@ -36,7 +36,7 @@ module _ (counts : List ℕ) where
       let passed = closes.1 in
       same_stage
       (set-set arrays a nothing closed ∙ ap (set arrays a) (closes.0 ∙ ap (λ (n : ℕ). closed_elements counts n elements) number_is ∙ ap (closed_elements counts (start_at s a).number) elements_are))
-      (passed.templates_are ∙ ap (λ (ts : List Template). put_all ts (phrase_templates counts start.method moved.next (plain_phrase start.place elements))) templates_stay ∙ ap (λ (n : ℕ). put_all before.templates.items (phrase_templates counts start.method n (plain_phrase start.place elements))) number_is ∙ ap (λ (x : ArrayStart). put_all before.templates.items (phrase_templates counts x.method (start_at s a).number (plain_phrase x.place elements))) start_is ∙ ap (λ (ls : List Lit). put_all before.templates.items (phrase_templates counts (start_at s a).method (start_at s a).number (plain_phrase (start_at s a).place ls))) elements_are)
+      (passed.templates_are ∙ ap (λ (ts : List Template). put_all ts (phrase_templates counts start.method [] moved.next (plain_phrase start.place elements))) templates_stay ∙ ap (λ (n : ℕ). put_all before.templates.items (phrase_templates counts start.method [] n (plain_phrase start.place elements))) number_is ∙ ap (λ (x : ArrayStart). put_all before.templates.items (phrase_templates counts x.method [] (start_at s a).number (plain_phrase x.place elements))) start_is ∙ ap (λ (ls : List Lit). put_all before.templates.items (phrase_templates counts (start_at s a).method [] (start_at s a).number (plain_phrase (start_at s a).place ls))) elements_are)
       (passed.starts_are ∙ ap (λ (ts : List ArrayStart). put_all ts (phrase_starts counts start.method moved.next (plain_phrase start.place elements))) starts_stay ∙ ap (λ (n : ℕ). put_all before.starts.items (phrase_starts counts start.method n (plain_phrase start.place elements))) number_is ∙ ap (λ (x : ArrayStart). put_all before.starts.items (phrase_starts counts x.method (start_at s a).number (plain_phrase x.place elements))) start_is ∙ ap (λ (ls : List Lit). put_all before.starts.items (phrase_starts counts (start_at s a).method (start_at s a).number (plain_phrase (start_at s a).place ls))) elements_are)
 
   -- the last of the arrays that are left

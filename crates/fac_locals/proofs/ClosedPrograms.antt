@@ -3,7 +3,7 @@ use Rattle.std.proofs.Common.{◌≡◌, ◌<◌, ◌≤◌, ◌⊎◌, inl, inr
 use Rattle.std.specs.Prelude.{map, slice_get}
 use Rattle.std.proofs.lemmas.Bool.{cases_eq, cases_lt}
 use Rattle.std.proofs.lemmas.Option.{get_or_from_slice_get, slice_get_within}
-use Rattle.fac_lang.specs.Phrases.{Literal, Phrase, end, then, Item, lit, lit_arr, quot, word, next_method}
+use Rattle.fac_lang.specs.Phrases.{Literal, Phrase, end, then, Item, lit, lit_arr, quot, word, bind, local, fry, hole, next_method}
 use Rattle.fac_lang.specs.Meaning.{nowhere, array_method}
 use Rattle.fac_lang.specs.declared.phrase.Place.{Place}
 use Rattle.fac_lang.specs.declared.phrase.Template.{Template}
@@ -15,12 +15,17 @@ use Rattle.fac_lang.specs.declared.program.Sort.{Sort}
 use Rattle.fac_lang.specs.declared.program.Sort.TheVariants.{Body as body, Past as past, Method as method}
 use Rattle.fac_lang.specs.Forms.{IsBuilt}
 use Rattle.fac_lang.specs.Whole.{IsWhole, times_in, each_numbered, names_earlier, arrays_named, arrays_named_by, arrays_in, joined, word_phrases, all_arrays_named}
+use Rattle.fac_captures.specs.declared.cell.Cell.{Cell}
+use Rattle.fac_captures.specs.declared.cell.Cell.TheVariants.{Local, Hole}
+use Rattle.fac_captures.specs.Cells.{cells_behind, captured, inner_phrase, inner_cells, hole_count}
 use Rattle.fac_locals.specs.declared.closing.ArrayStart.{ArrayStart}
 use Rattle.fac_locals.specs.Literals.{Quoted, element_item, first_of_word, first_of_literal, first_in_array, behind, literal_or, literal_numbered}
 use Rattle.fac_locals.specs.Closed.{IsMadeBy, Closes, CloseWords, ClosesSort, ClosesPhrase, ClosesItem, ClosesLiteral, CloseLiterals, ClosesElement, CloseElements, CloseArrays}
-use Rattle.fac_locals.specs.inner.Numbering.{put_all, template_of, start_of, plain_item, plain_phrase, phrase_of, method_of, next_in, phrase_behind, item_behind, closed_item, closed_phrase, phrase_templates, item_templates, phrase_starts, item_starts, closed_element, closed_elements, closed_sort, closed_word, closed_words, words_behind, words_templates, words_starts, counts_from, Stage, start_at, elements_at, array_closed, arrays_closed, PartsClosed}
+use Rattle.fac_locals.specs.inner.Numbering.{put_all, start_of, plain_item, plain_phrase, phrase_of, method_of, next_in, cell_or, phrase_behind, item_behind, closed_item, closed_phrase, closed_template, phrase_templates, item_templates, phrase_starts, item_starts, closed_element, closed_elements, closed_sort, closed_word, closed_words, words_behind, words_templates, words_starts, counts_from, Stage, start_at, elements_at, array_closed, arrays_closed, PartsClosed}
 use Rattle.fac_locals.proofs.LiteralArrays.{HasBuiltPhrase, HaveBuiltPhrases, built_phrases, IsClosable, IsClosableItem, AreClosable, program_closable, array_closable, closable_more, in_method, item_in, in_method_is, body_of}
-use Rattle.fac_locals.proofs.PlacedLiterals.{Placed, quoted_of, place_at, placed_in, placed_at, placed_words, array_placed, program_placed, placed_literals, placed_places, phrase_counted, item_counted, words_counted, array_unfolds, array_counted, found}
+use Rattle.fac_locals.proofs.AskedCells.{same_number, IsUnder, IsItemUnder, AreUnder, first_under, rest_under, quotation_under, fry_under, numbered_there, captured_in, quotation_cells_in, fry_cells_in, cells_behind_in, program_under, array_under}
+use Rattle.fac_locals.proofs.TemplateNumbers.{no_cells}
+use Rattle.fac_locals.proofs.PlacedLiterals.{Placed, placed_item, quoted_of, place_at, placed_in, placed_at, placed_words, array_placed, program_placed, placed_literals, placed_places, phrase_counted, item_counted, words_counted, array_unfolds, array_counted, found}
 use Rattle.fac_locals.proofs.Puts.{keys, AllOf, Has, all_both, set_here, set_other, put_keeps, put_there, put_elsewhere, named_put, entry_named, put_once, times_both}
 use Rattle.fac_locals.proofs.ArrayNames.{Covered, by_side, reserved_by, phrase_covers, words_cover, phrase_names_noted, phrase_noted_below, words_noted_below, words_names_noted, elements_names, names_below, names_all, names_step, names_fewer, not_named_below, below_once}
 use Rattle.fac_locals.proofs.ArrayMethods.{by_words, by_arrays, word_array, array_array}
@@ -66,70 +71,122 @@ module _ (P : Program) (counts : List ℕ) (X : ℕ → Literal → Place → Li
   second_part : (before xs ys after : List Placed) → all ≡ before ++ ((xs ++ ys) ++ after) → all ≡ (before ++ xs) ++ (ys ++ after)
   second_part before xs ys after is = first_part before xs ys after is ∙ sym (append_assoc before xs (ys ++ after))
 
-  next_closes : (at : Literal) (m : Option ℕ) → ClosesItem P at (next_in m) (next_in m)
-  next_closes at None = refl
-  next_closes at (Some m) = refl
+  next_closes : (cells : List Cell) (at : Literal) (m : Option ℕ) → ClosesItem P cells at (next_in m) (next_in m)
+  next_closes cells at None = refl
+  next_closes cells at (Some m) = refl
+
+  -- the same behind an item in a method
+  moved : (m : Option ℕ) (cells : List Cell) (before here after : List Placed) (at : Literal) (i : Item) (t : Phrase) → all ≡ before ++ ((here ++ placed_in X (cells_behind cells (item_in m i)) at t) ++ after) → all ≡ before ++ ((here ++ placed_in X (cells_behind cells i) at t) ++ after)
+  moved m cells before here after at i t is = is ∙ ap (λ (cs : List Cell). before ++ ((here ++ placed_in X cs at t) ++ after)) (cells_behind_in m cells i)
+
+  -- the number of a quotation or fry that comes next
+  made_next : (n : ℕ) (cells : List Cell) (before rest : List Placed) (at : Literal) (p : Place) (i : Item) → length before ≡ n → all ≡ before ++ (placed_item cells at p i ∷ rest) → IsMadeBy P cells at i n
+  made_next n cells before rest at p i e is = let x = placed_item cells at p i in numbers n x (ap (λ (ls : List Placed). slice_get ls n) is ∙ element_at before x rest n e)
 
   -- in the phrase of a method, or of none
   module _ (m : Option ℕ) where
     mutual
-      phrase_closes : (n : ℕ) (before after : List Placed) (at : Literal) (t : Phrase) → IsClosable (length P.arrays) t → length before ≡ n → all ≡ before ++ (placed_in X at (in_method m t) ++ after) → ClosesPhrase P at (in_method m t) (closed_phrase counts m n t)
-      phrase_closes n before after at end h e is = refl
-      phrase_closes n before after at (then i p t) h e is =
-          let here = placed_at X at p (item_in m i) in
-          let rest = placed_in X (behind at (item_in m i)) (in_method m t) in
-          (closed_item counts m n i, closed_phrase counts m (item_behind counts n i) t, refl, item_closes n before (rest ++ after) at p i h.0 e (first_part before here rest after is), phrase_closes (item_behind counts n i) (before ++ here) after (behind at (item_in m i)) t h.1 (item_counted X counts (length P.arrays) count m n before at p i h.0 e) (second_part before here rest after is))
+      phrase_closes : (n : ℕ) (cells : List Cell) (before after : List Placed) (at : Literal) (t : Phrase) → IsClosable (length P.arrays) t → IsUnder cells t → length before ≡ n → all ≡ before ++ (placed_in X cells at (in_method m t) ++ after) → ClosesPhrase P cells at (in_method m t) (closed_phrase counts m cells n t)
+      phrase_closes n cells before after at end h u e is = refl
+      phrase_closes n cells before after at (then i p t) h u e is =
+          let j = item_in m i in
+          let here = placed_at X cells at p j in
+          let next = cells_behind cells i in
+          let rest = placed_in X next (behind at j) (in_method m t) in
+          let split = moved m cells before here after (behind at j) i (in_method m t) is in
+          let later = closed_phrase counts m next (item_behind counts n i) t in
+          let closes = phrase_closes (item_behind counts n i) next (before ++ here) after (behind at j) t h.1 (rest_under cells i p t u) (item_counted X counts (length P.arrays) count m n before cells at p i h.0 e) (second_part before here rest after split) in
+          (closed_item counts m cells n i, later, refl, item_closes n cells before (rest ++ after) at p i h.0 (first_under cells i p t u) e (first_part before here rest after split), subst (λ (cs : List Cell). ClosesPhrase P cs (behind at j) (in_method m t) later) (sym (cells_behind_in m cells i)) closes)
 
-      item_closes : (n : ℕ) (before after : List Placed) (at : Literal) (p : Place) (i : Item) → IsClosableItem (length P.arrays) i → length before ≡ n → all ≡ before ++ (placed_at X at p (item_in m i) ++ after) → ClosesItem P at (item_in m i) (closed_item counts m n i)
-      item_closes n before after at p (quot t) h e is =
-          let x : Placed = ((at, in_method m t), p) in
-          (n, refl, numbers n x (ap (λ (ls : List Placed). slice_get ls n) is ∙ element_at before x (placed_in X (first_of_literal at) (in_method m t) ++ after) n e))
-      item_closes n before after at p (lit q) h e is = refl
-      item_closes n before after at p (word w) h e is = refl
-      item_closes n before after at p (lit_arr a) h e is = refl
-      item_closes n before after at p next_method h e is = next_closes at m
-      item_closes n before after at p _ h e is = absurd h
+      item_closes : (n : ℕ) (cells : List Cell) (before after : List Placed) (at : Literal) (p : Place) (i : Item) → IsClosableItem (length P.arrays) i → IsItemUnder cells i → length before ≡ n → all ≡ before ++ (placed_at X cells at p (item_in m i) ++ after) → ClosesItem P cells at (item_in m i) (closed_item counts m cells n i)
+      item_closes n cells before after at p (quot t) h u e is = let i = quot (in_method m t) in (n, refl, made_next n cells before (placed_in X (inner_cells cells i) (first_of_literal at) (in_method m t) ++ after) at p i e is)
+      item_closes n cells before after at p (fry t c) h u e is = let i = fry (in_method m t) c in (n, refl, made_next n cells before (placed_in X (inner_cells cells i) (first_of_literal at) (in_method m t) ++ after) at p i e is)
+      item_closes n cells before after at p (bind x) h u e is = refl
+      item_closes n cells before after at p (local x) h u e is = let found = numbered_there cells (Local x) (u.has (Local x) (same_number x)) in (found.0, ap (cell_or (local x)) found.1, found.1)
+      item_closes n cells before after at p (hole c) h u e is = let found = numbered_there cells (Hole c) (u.has (Hole c) (same_number c)) in (found.0, ap (cell_or (hole c)) found.1, found.1)
+      item_closes n cells before after at p (lit q) h u e is = refl
+      item_closes n cells before after at p (word w) h u e is = refl
+      item_closes n cells before after at p (lit_arr a) h u e is = refl
+      item_closes n cells before after at p next_method h u e is = next_closes cells at m
+      item_closes n cells before after at p _ h u e is = absurd h
+
+    -- the template of a quotation or fry
+    literal_fills :
+        (n : ℕ) (cells : List Cell) (before rest : List Placed) (at : Literal) (p : Place) (i o : Item) (t : Phrase) → inner_phrase i ≡ in_method m t → captured cells i ≡ captured cells o → inner_cells cells i ≡ inner_cells cells o → hole_count i ≡ hole_count o → length before ≡ n → all ≡ before ++ (placed_item cells at p i ∷ rest) →
+        ClosesPhrase P (inner_cells cells o) (first_of_literal at) (in_method m t) (closed_phrase counts m (inner_cells cells o) (suc n) t) → Fills n (closed_template counts m cells n p o t)
+    literal_fills n cells before rest at p i o t phrase_is captures_are cells_are holes_are e is closes =
+        let x = placed_item cells at p i in
+        let c = closed_phrase counts m (inner_cells cells o) (suc n) t in
+        let body : ClosesPhrase P (inner_cells cells i) (first_of_literal at) (inner_phrase i) c = subst (λ (u : Phrase). ClosesPhrase P (inner_cells cells i) (first_of_literal at) u c) (sym phrase_is) (subst (λ (cs : List Cell). ClosesPhrase P cs (first_of_literal at) (in_method m t) c) (sym cells_are) closes) in
+        (x, ap (λ (ls : List Placed). slice_get ls n) is ∙ element_at before x rest n e, record { body = body; captures = sym captures_are; holes = sym holes_are }, refl)
+
+    -- what is in it, under the cells that it has in no method
+    inside : (cells own : List Cell) (before after : List Placed) (at : Literal) (x : Placed) (t : Phrase) → cells ≡ own → all ≡ before ++ ((x ∷ placed_in X cells at t) ++ after) → all ≡ (before ++ x ∷ []) ++ (placed_in X own at t ++ after)
+    inside cells own before after at x t same is = second_part before (x ∷ []) (placed_in X own at t) after (is ∙ ap (λ (cs : List Cell). before ++ ((x ∷ placed_in X cs at t) ++ after)) same)
 
     -- the templates of a phrase
     mutual
-      templates_fill : (n : ℕ) (before after : List Placed) (at : Literal) (t : Phrase) → IsClosable (length P.arrays) t → length before ≡ n → all ≡ before ++ (placed_in X at (in_method m t) ++ after) → AllOf Fills (phrase_templates counts m n t)
-      templates_fill n before after at end h e is = tt
-      templates_fill n before after at (then i p t) h e is =
-          let here = placed_at X at p (item_in m i) in
-          let rest = placed_in X (behind at (item_in m i)) (in_method m t) in
-          all_both Fills (item_templates counts m n p i) (phrase_templates counts m (item_behind counts n i) t) (item_fills n before (rest ++ after) at p i h.0 e (first_part before here rest after is)) (templates_fill (item_behind counts n i) (before ++ here) after (behind at (item_in m i)) t h.1 (item_counted X counts (length P.arrays) count m n before at p i h.0 e) (second_part before here rest after is))
+      templates_fill : (n : ℕ) (cells : List Cell) (before after : List Placed) (at : Literal) (t : Phrase) → IsClosable (length P.arrays) t → IsUnder cells t → length before ≡ n → all ≡ before ++ (placed_in X cells at (in_method m t) ++ after) → AllOf Fills (phrase_templates counts m cells n t)
+      templates_fill n cells before after at end h u e is = tt
+      templates_fill n cells before after at (then i p t) h u e is =
+          let j = item_in m i in
+          let here = placed_at X cells at p j in
+          let next = cells_behind cells i in
+          let rest = placed_in X next (behind at j) (in_method m t) in
+          let split = moved m cells before here after (behind at j) i (in_method m t) is in
+          all_both Fills (item_templates counts m cells n p i) (phrase_templates counts m next (item_behind counts n i) t) (item_fills n cells before (rest ++ after) at p i h.0 (first_under cells i p t u) e (first_part before here rest after split)) (templates_fill (item_behind counts n i) next (before ++ here) after (behind at j) t h.1 (rest_under cells i p t u) (item_counted X counts (length P.arrays) count m n before cells at p i h.0 e) (second_part before here rest after split))
 
-      item_fills : (n : ℕ) (before after : List Placed) (at : Literal) (p : Place) (i : Item) → IsClosableItem (length P.arrays) i → length before ≡ n → all ≡ before ++ (placed_at X at p (item_in m i) ++ after) → AllOf Fills (item_templates counts m n p i)
-      item_fills n before after at p (quot t) h e is =
-          let x : Placed = ((at, in_method m t), p) in
-          let inner = placed_in X (first_of_literal at) (in_method m t) in
+      item_fills : (n : ℕ) (cells : List Cell) (before after : List Placed) (at : Literal) (p : Place) (i : Item) → IsClosableItem (length P.arrays) i → IsItemUnder cells i → length before ≡ n → all ≡ before ++ (placed_at X cells at p (item_in m i) ++ after) → AllOf Fills (item_templates counts m cells n p i)
+      item_fills n cells before after at p (quot t) h u e is =
+          let i = quot (in_method m t) in
+          let x = placed_item cells at p i in
+          let first = first_of_literal at in
+          let own = inner_cells cells (quot t) in
+          let same = quotation_cells_in m cells t in
           let long = one_more before x n e in
-          let split = second_part before (x ∷ []) inner after is in
-          let closed = closed_phrase counts m (suc n) t in
-          all_both Fills (phrase_templates counts m (suc n) t) ((n, template_of p closed) ∷ []) (templates_fill (suc n) (before ++ x ∷ []) after (first_of_literal at) t h long split) ((x, ap (λ (ls : List Placed). slice_get ls n) is ∙ element_at before x (inner ++ after) n e, record { body = phrase_closes (suc n) (before ++ x ∷ []) after (first_of_literal at) t h long split; captures = refl; holes = refl }, refl), tt)
-      item_fills n before after at p _ h e is = tt
+          let under = quotation_under cells t u in
+          let split = inside (inner_cells cells i) own before after first x (in_method m t) same is in
+          all_both Fills (phrase_templates counts m own (suc n) t) ((n, closed_template counts m cells n p (quot t) t) ∷ []) (templates_fill (suc n) own (before ++ x ∷ []) after first t h under long split) (literal_fills n cells before (placed_in X (inner_cells cells i) first (in_method m t) ++ after) at p i (quot t) t refl (captured_in m cells (quot t)) same refl e is (phrase_closes (suc n) own (before ++ x ∷ []) after first t h under long split), tt)
+      item_fills n cells before after at p (fry t c) h u e is =
+          let i = fry (in_method m t) c in
+          let x = placed_item cells at p i in
+          let first = first_of_literal at in
+          let own = inner_cells cells (fry t c) in
+          let same = fry_cells_in m cells t c in
+          let long = one_more before x n e in
+          let under = fry_under cells t c u in
+          let split = inside (inner_cells cells i) own before after first x (in_method m t) same is in
+          all_both Fills (phrase_templates counts m own (suc n) t) ((n, closed_template counts m cells n p (fry t c) t) ∷ []) (templates_fill (suc n) own (before ++ x ∷ []) after first t h under long split) (literal_fills n cells before (placed_in X (inner_cells cells i) first (in_method m t) ++ after) at p i (fry t c) t refl (captured_in m cells (fry t c)) same refl e is (phrase_closes (suc n) own (before ++ x ∷ []) after first t h under long split), tt)
+      item_fills n cells before after at p _ h u e is = tt
 
     -- the arrays that a phrase names
     mutual
-      starts_stand : (n : ℕ) (before after : List Placed) (at : Literal) (t : Phrase) → IsClosable (length P.arrays) t → ((b : ℕ) → b < length P.arrays → 0 < times_in b (arrays_named t) → m ≡ array_method P (length P.arrays) b) → length before ≡ n → all ≡ before ++ (placed_in X at (in_method m t) ++ after) → AllOf Stands (phrase_starts counts m n t)
-      starts_stand n before after at end h own e is = tt
-      starts_stand n before after at (then i p t) h own e is =
-          let here = placed_at X at p (item_in m i) in
-          let rest = placed_in X (behind at (item_in m i)) (in_method m t) in
-          all_both Stands (item_starts counts m n p i) (phrase_starts counts m (item_behind counts n i) t) (item_stands n before (rest ++ after) at p i h.0 (λ b low some. own b low (let sum = times_both b (arrays_named_by i) (arrays_named t) in omega (arith, sum, some))) e (first_part before here rest after is)) (starts_stand (item_behind counts n i) (before ++ here) after (behind at (item_in m i)) t h.1 (λ b low some. own b low (let sum = times_both b (arrays_named_by i) (arrays_named t) in omega (arith, sum, some))) (item_counted X counts (length P.arrays) count m n before at p i h.0 e) (second_part before here rest after is))
+      starts_stand : (n : ℕ) (cells : List Cell) (before after : List Placed) (at : Literal) (t : Phrase) → IsClosable (length P.arrays) t → ((b : ℕ) → b < length P.arrays → 0 < times_in b (arrays_named t) → m ≡ array_method P (length P.arrays) b) → length before ≡ n → all ≡ before ++ (placed_in X cells at (in_method m t) ++ after) → AllOf Stands (phrase_starts counts m n t)
+      starts_stand n cells before after at end h own e is = tt
+      starts_stand n cells before after at (then i p t) h own e is =
+          let j = item_in m i in
+          let here = placed_at X cells at p j in
+          let next = cells_behind cells j in
+          let rest = placed_in X next (behind at j) (in_method m t) in
+          all_both Stands (item_starts counts m n p i) (phrase_starts counts m (item_behind counts n i) t) (item_stands n cells before (rest ++ after) at p i h.0 (λ b low some. own b low (let sum = times_both b (arrays_named_by i) (arrays_named t) in omega (arith, sum, some))) e (first_part before here rest after is)) (starts_stand (item_behind counts n i) next (before ++ here) after (behind at j) t h.1 (λ b low some. own b low (let sum = times_both b (arrays_named_by i) (arrays_named t) in omega (arith, sum, some))) (item_counted X counts (length P.arrays) count m n before cells at p i h.0 e) (second_part before here rest after is))
 
-      item_stands : (n : ℕ) (before after : List Placed) (at : Literal) (p : Place) (i : Item) → IsClosableItem (length P.arrays) i → ((b : ℕ) → b < length P.arrays → 0 < times_in b (arrays_named_by i) → m ≡ array_method P (length P.arrays) b) → length before ≡ n → all ≡ before ++ (placed_at X at p (item_in m i) ++ after) → AllOf Stands (item_starts counts m n p i)
-      item_stands n before after at p (quot t) h own e is =
-          let x : Placed = ((at, in_method m t), p) in
-          starts_stand (suc n) (before ++ x ∷ []) after (first_of_literal at) t h own (one_more before x n e) (second_part before (x ∷ []) (placed_in X (first_of_literal at) (in_method m t)) after is)
-      item_stands n before after at p (lit_arr a) h own e is = (record { at = at; before = before; after = after; is = is; number_is = e; method_is = own a h (entry_named ((a, m) ∷ []) a m (inl (refl, refl))) }, tt)
-      item_stands n before after at p _ h own e is = tt
+      item_stands : (n : ℕ) (cells : List Cell) (before after : List Placed) (at : Literal) (p : Place) (i : Item) → IsClosableItem (length P.arrays) i → ((b : ℕ) → b < length P.arrays → 0 < times_in b (arrays_named_by i) → m ≡ array_method P (length P.arrays) b) → length before ≡ n → all ≡ before ++ (placed_at X cells at p (item_in m i) ++ after) → AllOf Stands (item_starts counts m n p i)
+      item_stands n cells before after at p (quot t) h own e is =
+          let i = quot (in_method m t) in
+          let x = placed_item cells at p i in
+          let inner = inner_cells cells i in
+          starts_stand (suc n) inner (before ++ x ∷ []) after (first_of_literal at) t h own (one_more before x n e) (second_part before (x ∷ []) (placed_in X inner (first_of_literal at) (in_method m t)) after is)
+      item_stands n cells before after at p (fry t c) h own e is =
+          let i = fry (in_method m t) c in
+          let x = placed_item cells at p i in
+          let inner = inner_cells cells i in
+          starts_stand (suc n) inner (before ++ x ∷ []) after (first_of_literal at) t h own (one_more before x n e) (second_part before (x ∷ []) (placed_in X inner (first_of_literal at) (in_method m t)) after is)
+      item_stands n cells before after at p (lit_arr a) h own e is = (record { at = at; before = before; after = after; is = is; number_is = e; method_is = own a h (entry_named ((a, m) ∷ []) a m (inl (refl, refl))) }, tt)
+      item_stands n cells before after at p _ h own e is = tt
 
     -- the elements of an array
-    element_closes : (n : ℕ) (before after : List Placed) (at : Literal) (p : Place) (l : Lit) → IsClosableItem (length P.arrays) (plain_item l) → length before ≡ n → all ≡ before ++ (placed_at X at p (item_in m (plain_item l)) ++ after) → ClosesElement P m at l (closed_element counts n l)
-    element_closes n before after at p (l_quot t) h e is =
-        let x : Placed = ((at, in_method m t), p) in
-        (n, refl, subst (λ (u : Phrase). IsMadeBy P at u n) (in_method_is (length P.arrays) m t h) (numbers n x (ap (λ (ls : List Placed). slice_get ls n) is ∙ element_at before x (placed_in X (first_of_literal at) (in_method m t) ++ after) n e)))
+    element_closes : (n : ℕ) (before after : List Placed) (at : Literal) (p : Place) (l : Lit) → IsClosableItem (length P.arrays) (plain_item l) → length before ≡ n → all ≡ before ++ (placed_at X [] at p (item_in m (plain_item l)) ++ after) → ClosesElement P m at l (closed_element counts n l)
+    element_closes n before after at p (l_quot t) h e is = (n, refl, subst (λ (u : Phrase). IsMadeBy P [] at (quot u) n) (in_method_is (length P.arrays) m t h) (made_next n [] before (placed_in X [] (first_of_literal at) (in_method m t) ++ after) at p (quot (in_method m t)) e is))
     element_closes n before after at p (l_made k) h e is = absurd h
     element_closes n before after at p (l_int z) h e is = refl
     element_closes n before after at p l_yes h e is = refl
@@ -149,42 +206,44 @@ module _ (P : Program) (counts : List ℕ) (X : ℕ → Literal → Place → Li
     same_behind at (l_arr a) h = refl
     same_behind at (l_word w) h = refl
 
-    elements_close : (n : ℕ) (before after : List Placed) (at : Literal) (p : Place) (ls : List Lit) → IsClosable (length P.arrays) (plain_phrase p ls) → length before ≡ n → all ≡ before ++ (placed_in X at (in_method m (plain_phrase p ls)) ++ after) → CloseElements P m at ls (closed_elements counts n ls)
+    elements_close : (n : ℕ) (before after : List Placed) (at : Literal) (p : Place) (ls : List Lit) → IsClosable (length P.arrays) (plain_phrase p ls) → length before ≡ n → all ≡ before ++ (placed_in X [] at (in_method m (plain_phrase p ls)) ++ after) → CloseElements P m at ls (closed_elements counts n ls)
     elements_close n before after at p [] h e is = refl
     elements_close n before after at p (l ∷ ls) h e is =
         let i = plain_item l in
-        let here = placed_at X at p (item_in m i) in
-        let rest = placed_in X (behind at (item_in m i)) (in_method m (plain_phrase p ls)) in
-        let more = elements_close (item_behind counts n i) (before ++ here) after (behind at (item_in m i)) p ls h.1 (item_counted X counts (length P.arrays) count m n before at p i h.0 e) (second_part before here rest after is) in
-        (closed_element counts n l, closed_elements counts (item_behind counts n i) ls, refl, element_closes n before (rest ++ after) at p l h.0 e (first_part before here rest after is), subst (λ (x : Literal). CloseElements P m x ls (closed_elements counts (item_behind counts n i) ls)) (same_behind at l h.0) more)
+        let j = item_in m i in
+        let here = placed_at X [] at p j in
+        let rest = placed_in X [] (behind at j) (in_method m (plain_phrase p ls)) in
+        let split = is ∙ ap (λ (cs : List Cell). before ++ ((here ++ placed_in X cs (behind at j) (in_method m (plain_phrase p ls))) ++ after)) (cells_behind_in m [] i ∙ no_cells l) in
+        let more = elements_close (item_behind counts n i) (before ++ here) after (behind at j) p ls h.1 (item_counted X counts (length P.arrays) count m n before [] at p i h.0 e) (second_part before here rest after split) in
+        (closed_element counts n l, closed_elements counts (item_behind counts n i) ls, refl, element_closes n before (rest ++ after) at p l h.0 e (first_part before here rest after split), subst (λ (x : Literal). CloseElements P m x ls (closed_elements counts (item_behind counts n i) ls)) (same_behind at l h.0) more)
 
   -- Words from word w on, whose literals are the last ones.
-  sort_closes : (top n w : ℕ) (before after : List Placed) (s : Sort) → HasBuiltPhrase top s → IsClosable (length P.arrays) (phrase_of s) → length before ≡ n → all ≡ before ++ (placed_in X (first_of_word w) (body_of w s) ++ after) → ClosesSort P w s (closed_sort counts w n s)
-  sort_closes top n w before after (body t) b h e is =
-      (closed_phrase counts None n t, refl, subst (λ (u : Phrase). ClosesPhrase P (first_of_word w) u (closed_phrase counts None n t)) (in_method_is (length P.arrays) None t h) (phrase_closes None n before after (first_of_word w) t h e is))
-  sort_closes top n w before after (past t) b h e is = absurd b
-  sort_closes top n w before after (method c g t) b h e is =
-      (closed_phrase counts (Some w) n t, refl, subst (λ (u : Phrase). ClosesPhrase P (first_of_word w) u (closed_phrase counts (Some w) n t)) (in_method_is (length P.arrays) (Some w) t h) (phrase_closes (Some w) n before after (first_of_word w) t h e is))
-  sort_closes top n w before after _ b h e is = refl
+  sort_closes : (top n w : ℕ) (before after : List Placed) (s : Sort) → HasBuiltPhrase top s → IsClosable (length P.arrays) (phrase_of s) → IsUnder [] (phrase_of s) → length before ≡ n → all ≡ before ++ (placed_in X [] (first_of_word w) (body_of w s) ++ after) → ClosesSort P w s (closed_sort counts w n s)
+  sort_closes top n w before after (body t) b h u e is =
+      (closed_phrase counts None [] n t, refl, subst (λ (v : Phrase). ClosesPhrase P [] (first_of_word w) v (closed_phrase counts None [] n t)) (in_method_is (length P.arrays) None t h) (phrase_closes None n [] before after (first_of_word w) t h u e is))
+  sort_closes top n w before after (past t) b h u e is = absurd b
+  sort_closes top n w before after (method c g t) b h u e is =
+      (closed_phrase counts (Some w) [] n t, refl, subst (λ (v : Phrase). ClosesPhrase P [] (first_of_word w) v (closed_phrase counts (Some w) [] n t)) (in_method_is (length P.arrays) (Some w) t h) (phrase_closes (Some w) n [] before after (first_of_word w) t h u e is))
+  sort_closes top n w before after _ b h u e is = refl
 
-  words_close : (top n w : ℕ) (before : List Placed) (ds : List WordDef) → HaveBuiltPhrases top ds → AreClosable (length P.arrays) ds → length before ≡ n → all ≡ before ++ placed_words X w ds → CloseWords P w ds (closed_words counts w n ds)
-  words_close top n w before [] b h e is = refl
-  words_close top n w before (d ∷ ds) b h e is =
+  words_close : (top n w : ℕ) (before : List Placed) (ds : List WordDef) → HaveBuiltPhrases top ds → AreClosable (length P.arrays) ds → AreUnder ds → length before ≡ n → all ≡ before ++ placed_words X w ds → CloseWords P w ds (closed_words counts w n ds)
+  words_close top n w before [] b h u e is = refl
+  words_close top n w before (d ∷ ds) b h u e is =
       let t = phrase_of d.sort in
-      let here = placed_in X (first_of_word w) (body_of w d.sort) in
+      let here = placed_in X [] (first_of_word w) (body_of w d.sort) in
       let rest = placed_words X (suc w) ds in
       let j = phrase_behind counts n t in
-      (closed_word counts w n d, closed_words counts (suc w) j ds, refl, record { name = refl; sort = sort_closes top n w before rest d.sort b.0 h.0 e is; effect = refl; inline = refl; recursive = refl; place = refl }, words_close top j (suc w) (before ++ here) ds b.1 h.1 (phrase_counted X counts (length P.arrays) count (method_of w d.sort) n before (first_of_word w) t h.0 e) (is ∙ sym (append_assoc before here rest)))
+      (closed_word counts w n d, closed_words counts (suc w) j ds, refl, record { name = refl; sort = sort_closes top n w before rest d.sort b.0 h.0 u.0 e is; effect = refl; inline = refl; recursive = refl; place = refl }, words_close top j (suc w) (before ++ here) ds b.1 h.1 u.1 (phrase_counted X counts (length P.arrays) count (method_of w d.sort) n before [] (first_of_word w) t h.0 e) (is ∙ sym (append_assoc before here rest)))
 
-  words_fill : (n w : ℕ) (before : List Placed) (ds : List WordDef) → AreClosable (length P.arrays) ds → length before ≡ n → all ≡ before ++ placed_words X w ds → AllOf Fills (words_templates counts w n ds)
-  words_fill n w before [] h e is = tt
-  words_fill n w before (d ∷ ds) h e is =
+  words_fill : (n w : ℕ) (before : List Placed) (ds : List WordDef) → AreClosable (length P.arrays) ds → AreUnder ds → length before ≡ n → all ≡ before ++ placed_words X w ds → AllOf Fills (words_templates counts w n ds)
+  words_fill n w before [] h u e is = tt
+  words_fill n w before (d ∷ ds) h u e is =
       let t = phrase_of d.sort in
       let m = method_of w d.sort in
-      let here = placed_in X (first_of_word w) (body_of w d.sort) in
+      let here = placed_in X [] (first_of_word w) (body_of w d.sort) in
       let rest = placed_words X (suc w) ds in
       let j = phrase_behind counts n t in
-      all_both Fills (phrase_templates counts m n t) (words_templates counts (suc w) j ds) (templates_fill m n before rest (first_of_word w) t h.0 e is) (words_fill j (suc w) (before ++ here) ds h.1 (phrase_counted X counts (length P.arrays) count m n before (first_of_word w) t h.0 e) (is ∙ sym (append_assoc before here rest)))
+      all_both Fills (phrase_templates counts m [] n t) (words_templates counts (suc w) j ds) (templates_fill m n [] before rest (first_of_word w) t h.0 u.0 e is) (words_fill j (suc w) (before ++ here) ds h.1 u.1 (phrase_counted X counts (length P.arrays) count m n before [] (first_of_word w) t h.0 e) (is ∙ sym (append_assoc before here rest)))
 
   -- the arrays that these words name stand in the methods that the words are
   abbrev OwnArrays : ℕ → List WordDef → Type 0
@@ -195,14 +254,14 @@ module _ (P : Program) (counts : List ℕ) (X : ℕ → Literal → Place → Li
   words_stand n w before (d ∷ ds) h own e is =
       let t = phrase_of d.sort in
       let m = method_of w d.sort in
-      let here = placed_in X (first_of_word w) (body_of w d.sort) in
+      let here = placed_in X [] (first_of_word w) (body_of w d.sort) in
       let rest = placed_words X (suc w) ds in
       let j = phrase_behind counts n t in
-      all_both Stands (phrase_starts counts m n t) (words_starts counts (suc w) j ds) (starts_stand m n before rest (first_of_word w) t h.0 (λ b low some. own 0 w b d (omega arith) refl low some) e is) (words_stand j (suc w) (before ++ here) ds h.1 (λ k v b x is at low some. own (suc k) v b x (omega (arith, is)) at low some) (phrase_counted X counts (length P.arrays) count m n before (first_of_word w) t h.0 e) (is ∙ sym (append_assoc before here rest)))
+      all_both Stands (phrase_starts counts m n t) (words_starts counts (suc w) j ds) (starts_stand m n [] before rest (first_of_word w) t h.0 (λ b low some. own 0 w b d (omega arith) refl low some) e is) (words_stand j (suc w) (before ++ here) ds h.1 (λ k v b x is at low some. own (suc k) v b x (omega (arith, is)) at low some) (phrase_counted X counts (length P.arrays) count m n before [] (first_of_word w) t h.0 e) (is ∙ sym (append_assoc before here rest)))
 
   -- a stage at which this array is closed, where it starts here and has these elements
   abbrev closed_with : ℕ → Stage → ArrayStart → List Lit → Stage
-  closed_with a s m ls = record { arrays = set s.arrays a (closed_elements counts m.number ls); templates = put_all s.templates (phrase_templates counts m.method m.number (plain_phrase m.place ls)); starts = put_all s.starts (phrase_starts counts m.method m.number (plain_phrase m.place ls)) }
+  closed_with a s m ls = record { arrays = set s.arrays a (closed_elements counts m.number ls); templates = put_all s.templates (phrase_templates counts m.method [] m.number (plain_phrase m.place ls)); starts = put_all s.starts (phrase_starts counts m.method m.number (plain_phrase m.place ls)) }
 
   -- This number is reserved for an array that is still to be closed, and that none of those which are still to be closed names.
   record Pending (a : ℕ) (s : Stage) (k : ℕ) : Type 0 where
@@ -226,7 +285,7 @@ module _ (P : Program) (counts : List ℕ) (X : ℕ → Literal → Place → Li
 
   module _ (once : (b : ℕ) → b < length P.arrays → by_words b P.words + by_arrays b P.arrays ≡ 1) (earlier : each_numbered names_earlier 0 P.arrays ≡ true) where
     -- One array more is closed.
-    module _ (a : ℕ) (s : Stage) (ls : List Lit) (m : ArrayStart) (is : slice_get P.arrays a ≡ Some ls) (within : a < length P.arrays) (closable : IsClosable a (plain_phrase m.place ls)) (stands_at : Stands a m) (unfolds : X a stands_at.at m.place ≡ placed_in X (first_in_array stands_at.at) (in_method m.method (plain_phrase m.place ls))) (noted : slice_get s.starts a ≡ Some m) (h : ClosedFrom (suc a) s) where
+    module _ (a : ℕ) (s : Stage) (ls : List Lit) (m : ArrayStart) (is : slice_get P.arrays a ≡ Some ls) (within : a < length P.arrays) (closable : IsClosable a (plain_phrase m.place ls)) (under : IsUnder [] (plain_phrase m.place ls)) (stands_at : Stands a m) (unfolds : X a stands_at.at m.place ≡ placed_in X [] (first_in_array stands_at.at) (in_method m.method (plain_phrase m.place ls))) (noted : slice_get s.starts a ≡ Some m) (h : ClosedFrom (suc a) s) where
       abbrev t : Phrase
       t = plain_phrase m.place ls
 
@@ -234,7 +293,7 @@ module _ (P : Program) (counts : List ℕ) (X : ℕ → Literal → Place → Li
       at = first_in_array stands_at.at
 
       abbrev ts : List (ℕ × Template)
-      ts = phrase_templates counts m.method m.number t
+      ts = phrase_templates counts m.method [] m.number t
 
       abbrev ss : List (ℕ × ArrayStart)
       ss = phrase_starts counts m.method m.number t
@@ -245,22 +304,22 @@ module _ (P : Program) (counts : List ℕ) (X : ℕ → Literal → Place → Li
       wide : IsClosable (length P.arrays) t
       wide = closable_more a (length P.arrays) t (omega (arith, within)) closable
 
-      split : all ≡ stands_at.before ++ (placed_in X at (in_method m.method t) ++ stands_at.after)
+      split : all ≡ stands_at.before ++ (placed_in X [] at (in_method m.method t) ++ stands_at.after)
       split = stands_at.is ∙ ap (λ (xs : List Placed). stands_at.before ++ (xs ++ stands_at.after)) unfolds
 
       fills : AllOf Fills ts
-      fills = templates_fill m.method m.number stands_at.before stands_at.after at t wide stands_at.number_is split
+      fills = templates_fill m.method m.number [] stands_at.before stands_at.after at t wide under stands_at.number_is split
 
       stands : AllOf Stands ss
-      stands = starts_stand m.method m.number stands_at.before stands_at.after at t wide (λ b low some. stands_at.method_is ∙ array_array P once earlier a b ls low is (let same = ap (times_in b) (elements_names m.place ls) in omega (arith, same, some))) stands_at.number_is split
+      stands = starts_stand m.method m.number [] stands_at.before stands_at.after at t wide (λ b low some. stands_at.method_is ∙ array_array P once earlier a b ls low is (let same = ap (times_in b) (elements_names m.place ls) in omega (arith, same, some))) stands_at.number_is split
 
       names : keys ss ≡ arrays_in ls
       names = phrase_names_noted counts a m.method m.number t closable ∙ elements_names m.place ls
 
       ends : phrase_behind counts m.number t ≡ m.number + get_or counts a 0
       ends =
-          let long = phrase_counted X counts (length P.arrays) count m.method m.number stands_at.before at t wide stands_at.number_is in
-          let sum = length-append stands_at.before (placed_in X at (in_method m.method t)) in
+          let long = phrase_counted X counts (length P.arrays) count m.method m.number stands_at.before [] at t wide stands_at.number_is in
+          let sum = length-append stands_at.before (placed_in X [] at (in_method m.method t)) in
           let own = ap length (sym unfolds) ∙ count a stands_at.at m.place within in
           omega (arith, long, sum, own, stands_at.number_is)
 
@@ -298,7 +357,7 @@ module _ (P : Program) (counts : List ℕ) (X : ℕ → Literal → Place → Li
       fill_pending k lt p (inl e) =
           let same = ap (λ (x : ArrayStart). x.number) (same_start p.start m p.number e p.noted noted) in
           let count_is = ap (λ (b : ℕ). get_or counts b 0) e in
-          covered k lt (phrase_covers counts k m.method m.number t (omega (arith, p.behind_start, same)) (omega (arith, p.before_end, same, count_is, ends)))
+          covered k lt (phrase_covers counts k m.method [] m.number t (omega (arith, p.behind_start, same)) (omega (arith, p.before_end, same, count_is, ends)))
       fill_pending k lt p (inr other) = inr (still_pending k p other)
 
       fill_either : (k : ℕ) → k < length all → Has Fills s.templates k ⊎ Pending (suc a) s k → Has Fills u.templates k ⊎ Pending a u k
@@ -331,14 +390,14 @@ module _ (P : Program) (counts : List ℕ) (X : ℕ → Literal → Place → Li
         done = λ (b : ℕ) (xs : List Lit) (le : a ≤ b) (is_b : slice_get P.arrays b ≡ Some xs). done_now b xs le is_b (cases_eq b a);
       }
 
-    module _ (built : IsBuilt P) (whole : IsWhole P) (unfolds : (a : ℕ) (at : Literal) (p : Place) (ls : List Lit) → slice_get P.arrays a ≡ Some ls → a < length P.arrays → X a at p ≡ placed_in X (first_in_array at) (in_method (array_method P (length P.arrays) a) (plain_phrase p ls))) where
+    module _ (built : IsBuilt P) (whole : IsWhole P) (unfolds : (a : ℕ) (at : Literal) (p : Place) (ls : List Lit) → slice_get P.arrays a ≡ Some ls → a < length P.arrays → X a at p ≡ placed_in X [] (first_in_array at) (in_method (array_method P (length P.arrays) a) (plain_phrase p ls))) where
       step : (a : ℕ) (s : Stage) → a < length P.arrays → ClosedFrom (suc a) s → ClosedFrom a (array_closed counts a s)
       step a s within h =
           let here = found P.arrays a within in
           let ls = here.0 in
           let start = h.stand a within (not_named_below a 0 (suc a) P.arrays whole.arrays_earlier (omega arith)) in
           let m = start.0 in
-          let one = one_closed a s ls m here.1 within (array_closable P built whole a m.place ls here.1) start.2 (unfolds a start.2.at m.place ls here.1 within ∙ ap (λ (o : Option ℕ). placed_in X (first_in_array start.2.at) (in_method o (plain_phrase m.place ls))) (sym start.2.method_is)) start.1 h in
+          let one = one_closed a s ls m here.1 within (array_closable P built whole a m.place ls here.1) (array_under P whole a m.place ls here.1) start.2 (unfolds a start.2.at m.place ls here.1 within ∙ ap (λ (o : Option ℕ). placed_in X [] (first_in_array start.2.at) (in_method o (plain_phrase m.place ls))) (sym start.2.method_is)) start.1 h in
           let start_is : start_at s a ≡ m = get_or_from_slice_get s.starts a m (start_of 0 nowhere None) start.1 in
           let elements_are : elements_at s a ≡ ls = get_or_from_slice_get s.arrays a ls [] (h.not_yet a (omega arith) ∙ here.1) in
           subst (ClosedFrom a) (sym (ap (λ (x : ArrayStart). closed_with a s x (elements_at s a)) start_is ∙ ap (closed_with a s m) elements_are)) one
@@ -365,7 +424,7 @@ module _ (P : Program) (counts : List ℕ) (X : ℕ → Literal → Place → Li
         words_end = sym (words_counted X counts (length P.arrays) count 0 0 [] P.words closable_words refl) ∙ sym (ap length all_is)
 
         words_filled : AllOf Fills word_templates
-        words_filled = words_fill 0 0 [] P.words closable_words refl all_is
+        words_filled = words_fill 0 0 [] P.words closable_words (program_under P (built_phrases P built) whole) refl all_is
 
         words_standing : AllOf Stands word_starts
         words_standing = words_stand 0 0 [] P.words closable_words (λ k v b d is at low some. let here : k ≡ v = omega (arith, is) in word_array P once earlier v b d low (ap (slice_get P.words) (sym here) ∙ at) some) refl all_is
@@ -452,7 +511,7 @@ module _ (P : Program) (b : IsBuilt P) (w : IsWhole P) where
       let h = subst (ClosedFrom P counts X every count numbered 0) (sym s_is) (everything_closed P counts X every count numbered named_once w.arrays_earlier b w (array_unfolds P b w) refl unfilled unmet many_unfilled many_unmet) in
       let both = literals_close P every s.templates h.many_templates (all_filled P counts X every count numbered s h) in
       record {
-        words = words_close P counts X every count numbered P.top 0 0 [] P.words (built_phrases P b) (program_closable P b w) refl refl;
+        words = words_close P counts X every count numbered P.top 0 0 [] P.words (built_phrases P b) (program_closable P b w) (program_under P (built_phrases P b) w) refl refl;
         templates_are = subst (λ (ls : List Quoted). CloseLiterals P ls s.templates) (placed_literals P b w) both.0;
         places = both.1 ∙ placed_places P b w;
         arrays = arrays_close P 0 P.arrays s.arrays h.many_arrays (λ (j a : ℕ) (ls : List Lit) (is : a ≡ 0 + j) (e : slice_get P.arrays j ≡ Some ls). let here : j ≡ a = omega (arith, is) in let found = h.done j ls (omega arith) e in (found.0, found.1, subst (λ (n : ℕ). IsClosedArray P n ls found.0) here found.2));

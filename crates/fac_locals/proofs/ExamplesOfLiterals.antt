@@ -30,7 +30,7 @@ program = record { words = words; arrays = []; classes = []; top = 1 }
 
 -- the quotation of a word with so many items before it, and its phrase
 abbrev literal : ℕ → ℕ → List Item → Quoted
-literal w index is = (record { word = w; around = []; index = index }, phrase is)
+literal w index is = record { at = record { word = w; around = []; index = index }; cells = []; item = quotation is }
 
 -- word by word, each as it is read, an outer quotation before those in it
 pub literals_are :
@@ -46,7 +46,7 @@ pub closed_are : made_words words [] ≡ written (number 1 ∷ made 0 ∷ made 2
 closed_are = refl
 
 abbrev template : List Item → Template
-template is = template_of nowhere (phrase is)
+template is = template_of [] nowhere (quotation is) (phrase is)
 
 -- also in the templates
 pub templates_are : made_templates words [] ≡ template (number 2 ∷ made 1 ∷ number 4 ∷ []) ∷ template (number 3 ∷ []) ∷ template [] ∷ template (made 4 ∷ word 0 ∷ []) ∷ template (word 0 ∷ []) ∷ []
@@ -93,7 +93,7 @@ array_program = record { words = with_arrays; arrays = four_arrays; classes = []
 
 -- the quotation of a word in these arrays with so many items before it, and its phrase
 abbrev in_arrays : ℕ → List ℕ → ℕ → List Item → Quoted
-in_arrays w around index is = (record { word = w; around = around; index = index }, phrase is)
+in_arrays w around index is = record { at = record { word = w; around = around; index = index }; cells = []; item = quotation is }
 
 -- Those of an array come where the array stands: also those of an array in a quotation in an array, and of an array in an array.
 pub array_literals_are :

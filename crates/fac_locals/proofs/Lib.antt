@@ -2,6 +2,7 @@ pub mod Puts
 pub mod TemplateNumbers
 pub mod ArraySteps
 pub mod LiteralArrays
+pub mod AskedCells
 pub mod PlacedLiterals
 pub mod ArrayNames
 pub mod ArrayMethods
@@ -10,4 +11,8 @@ pub mod Places
 pub mod RunningPhrases
 pub mod Lookups
 pub mod ClosedForms
+pub mod ExamplesOfCells
 pub mod ExamplesOfLiterals
+pub mod ExamplesOfLocals
+pub mod FrameLaws
+pub mod OpeningLaws

@@ -5,7 +5,7 @@ use Rattle.std.specs.List.{list_all}
 use Rattle.std.proofs.lemmas.List.{get_or_append_left, get_or_at}
 use Rattle.std.proofs.lemmas.List.Folds.{list_all-append}
 use Rattle.std.proofs.lemmas.Bool.{ltb-true, and_parts}
-use Rattle.fac_lang.specs.Phrases.{int, yes, no, str, wrd, Phrase, end, then, Item, lit, lit_arr, quot, word, next_method}
+use Rattle.fac_lang.specs.Phrases.{int, yes, no, str, wrd, Phrase, end, then, Item, lit, lit_arr, quot, word, bind, local, fry, hole, next_method}
 use Rattle.fac_lang.specs.Substitution.{of_method, of_method_item}
 use Rattle.fac_lang.specs.Meaning.{nowhere, of_method_if, array_method}
 use Rattle.fac_lang.specs.declared.phrase.Place.{Place}
@@ -57,6 +57,10 @@ abbrev mutual
   IsClosableItem a (lit_arr b) = b < a
   IsClosableItem a (word w) = Unit {0}
   IsClosableItem a (quot t) = IsClosable a t
+  IsClosableItem a (bind x) = Unit {0}
+  IsClosableItem a (local x) = Unit {0}
+  IsClosableItem a (fry t n) = IsClosable a t
+  IsClosableItem a (hole k) = Unit {0}
   IsClosableItem a next_method = Unit {0}
   IsClosableItem a _ = ⊥
 
@@ -68,6 +72,7 @@ abbrev mutual
 
   pub item_in : Option ℕ → Item → Item
   item_in m (quot t) = quot (in_method m t)
+  item_in m (fry t n) = fry (in_method m t) n
   item_in m next_method = next_in m
   item_in m i = i
 
@@ -84,6 +89,10 @@ mutual
   item_in_none a (lit_arr b) h = refl
   item_in_none a (word w) h = refl
   item_in_none a (quot t) h = ap quot (in_none a t h)
+  item_in_none a (bind x) h = refl
+  item_in_none a (local x) h = refl
+  item_in_none a (fry t n) h = ap (λ (u : Phrase). fry u n) (in_none a t h)
+  item_in_none a (hole k) h = refl
   item_in_none a next_method h = refl
   item_in_none a _ h = absurd h
 
@@ -97,6 +106,10 @@ mutual
   item_in_some a m (lit_arr b) h = refl
   item_in_some a m (word w) h = refl
   item_in_some a m (quot t) h = ap quot (in_some a m t h)
+  item_in_some a m (bind x) h = refl
+  item_in_some a m (local x) h = refl
+  item_in_some a m (fry t n) h = ap (λ (u : Phrase). fry u n) (in_some a m t h)
+  item_in_some a m (hole k) h = refl
   item_in_some a m next_method h = refl
   item_in_some a m _ h = absurd h
 
@@ -124,6 +137,10 @@ mutual
   closable_item_more a n (lit_arr b) le h = omega (arith, le, h)
   closable_item_more a n (word w) le h = tt
   closable_item_more a n (quot t) le h = closable_more a n t le h
+  closable_item_more a n (bind x) le h = tt
+  closable_item_more a n (local x) le h = tt
+  closable_item_more a n (fry t k) le h = closable_more a n t le h
+  closable_item_more a n (hole k) le h = tt
   closable_item_more a n next_method le h = tt
   closable_item_more a n _ le h = absurd h
 
@@ -140,6 +157,10 @@ mutual
   fitting_item P bound (lit_arr b) h e = ltb-true b (length P.arrays) (and_parts (nat_lt b (length P.arrays)) true e).0
   fitting_item P bound (word w) h e = tt
   fitting_item P bound (quot t) h e = fitting_closable P bound t h (and_parts true (each_item (item_fits P) t) e).1
+  fitting_item P bound (bind x) h e = tt
+  fitting_item P bound (local x) h e = tt
+  fitting_item P bound (fry t n) h e = fitting_closable P bound t h (and_parts true (each_item (item_fits P) t) e).1
+  fitting_item P bound (hole k) h e = tt
   fitting_item P bound next_method h e = tt
   fitting_item P bound _ h e = absurd h
 
@@ -170,6 +191,10 @@ mutual
   naming_item bound a (lit_arr b) h e = ltb-true b a (and_parts (nat_lt b a) true e).0
   naming_item bound a (word w) h e = tt
   naming_item bound a (quot t) h e = naming_closable bound a t h e
+  naming_item bound a (bind x) h e = tt
+  naming_item bound a (local x) h e = tt
+  naming_item bound a (fry t n) h e = naming_closable bound a t h e
+  naming_item bound a (hole k) h e = tt
   naming_item bound a next_method h e = tt
   naming_item bound a _ h e = absurd h
 
@@ -227,6 +252,10 @@ mutual
   item_behind_same cs ds a e n (lit_arr b) h = ap (λ (m : ℕ). n + m) (e b h)
   item_behind_same cs ds a e n (word w) h = refl
   item_behind_same cs ds a e n (quot t) h = behind_same cs ds a e (suc n) t h
+  item_behind_same cs ds a e n (bind x) h = refl
+  item_behind_same cs ds a e n (local x) h = refl
+  item_behind_same cs ds a e n (fry t k) h = behind_same cs ds a e (suc n) t h
+  item_behind_same cs ds a e n (hole k) h = refl
   item_behind_same cs ds a e n next_method h = refl
   item_behind_same cs ds a e n _ h = absurd h
 

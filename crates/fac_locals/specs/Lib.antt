@@ -1,3 +1,5 @@
 pub mod Literals
 pub mod Closed
+pub mod Frames
+pub mod OpenedPrograms
 pub mod inner

@@ -1,9 +1,11 @@
--- The literal quotations of a program: which literal each is, and the phrases that they have.
+-- The literal quotations and fries of a program: which literal each is, and under which cells it stands.
 use Rattle.std.specs.Prelude.{◌≡◌, ◌<◌, ◌⊎◌, ℕ, zero, suc, ◌+◌, List, [], ◌∷◌, ◌++◌, length, Option, Some, None, slice_get}
 use Rattle.fac_lang.specs.Phrases.{int, yes, no, str, wrd, Literal, Phrase, end, then, Item, lit, lit_arr, quot, fry, made}
 use Rattle.fac_lang.specs.Substitution.{of_method}
 use Rattle.fac_lang.specs.Meaning.{of_method_if, array_method, nowhere}
 use Rattle.fac_lang.specs.declared.phrase.Place.{Place}
+use Rattle.fac_captures.specs.declared.cell.Cell.{Cell}
+use Rattle.fac_captures.specs.Cells.{cells_behind, inner_cells, inner_phrase}
 use Rattle.fac_lang.specs.declared.program.Lit.{Lit}
 use Rattle.fac_lang.specs.declared.program.Lit.TheVariants.{Int as l_int, True as l_yes, False as l_no, Str as l_str, Arr as l_arr, Wref as l_word, Quot as l_quot, Made as l_made}
 use Rattle.fac_lang.specs.declared.program.Program.{Program}
@@ -54,9 +56,15 @@ NotBehind (i ∷ is) (j ∷ js) = (i < j) ⊎ ((i ≡ j) × NotBehind is js)
 abbrev pub NotBefore : Literal → Literal → Type 0
 NotBefore a b = (a.word < b.word) ⊎ ((a.word ≡ b.word) × NotBehind (path a) (path b))
 
--- A literal of a program, and its phrase.
-abbrev pub Quoted : Type 0
-Quoted = Literal × Phrase
+-- A literal of a program: which it is, the cells of the frame under which it stands, and the quotation or fry.
+pub record Quoted : Type 0 where
+  pub at : Literal
+  pub cells : List Cell
+  pub item : Item
+
+-- its phrase
+abbrev pub quoted_phrase : Quoted → Phrase
+quoted_phrase l = inner_phrase l.item
 
 -- An element of a literal array as an item, where the array stands in the phrase of this method, or in none.
 abbrev pub element_item : Option ℕ → Lit → Item
@@ -82,23 +90,24 @@ array_or_none (Some ls) = ls
 abbrev pub array_phrase : Program → ℕ → Place → Phrase
 array_phrase P a p = elements_phrase (array_method P (length P.arrays) a) p (array_or_none (slice_get P.arrays a))
 
--- The quotations of a phrase in reading order, an outer one before those in it, where the first item stands here, and `arrays` has those of a literal array that stands at a place.
+-- The quotations and fries of a phrase in reading order, an outer one before those in it, where the first item stands here under these cells, and `arrays` has those of a literal array that stands at a place.
 module _ (arrays : ℕ → Literal → List Quoted) where
   abbrev mutual
-    pub literals_in : Literal → Phrase → List Quoted
-    literals_in at end = []
-    literals_in at (then i p t) = literals_at at i ++ literals_in (behind at i) t
+    pub literals_in : List Cell → Literal → Phrase → List Quoted
+    literals_in cells at end = []
+    literals_in cells at (then i p t) = literals_at cells at i ++ literals_in (cells_behind cells i) (behind at i) t
 
-    pub literals_at : Literal → Item → List Quoted
-    literals_at at (quot t) = (at, t) ∷ literals_in (first_of_literal at) t
-    literals_at at (fry t n) = (at, t) ∷ literals_in (first_of_literal at) t
-    literals_at at (lit_arr a) = arrays a at
-    literals_at at _ = []
+    pub literals_at : List Cell → Literal → Item → List Quoted
+    literals_at cells at (quot t) = record { at = at; cells = cells; item = quot t } ∷ literals_in (inner_cells cells (quot t)) (first_of_literal at) t
+    literals_at cells at (fry t n) = record { at = at; cells = cells; item = fry t n } ∷ literals_in (inner_cells cells (fry t n)) (first_of_literal at) t
+    literals_at cells at (lit_arr a) = arrays a at
+    literals_at cells at _ = []
 
--- Those of the literal array with this number that stands here, where at most n arrays nest. Each array names only earlier ones, so as many as there are is enough.
+-- Those of the literal array with this number that stands here, where at most n arrays nest. Each array names only earlier ones, so as many as there are is enough. No
+-- local or hole of around is in scope in an array.
 abbrev pub array_literals : Program → ℕ → ℕ → Literal → List Quoted
 array_literals P zero a at = []
-array_literals P (suc n) a at = literals_in (array_literals P n) (first_in_array at) (array_phrase P a nowhere)
+array_literals P (suc n) a at = literals_in (array_literals P n) [] (first_in_array at) (array_phrase P a nowhere)
 
 -- The places of a phrase's quotations, in the order of its literals: a quotation is at the place of its item, and one that is an element of an array at that of the array.
 module _ (arrays : ℕ → Place → List Place) where
@@ -128,9 +137,9 @@ module _ (P : Program) where
 
   -- the quotations of a word's phrase, where it has one; in that of a method, `call-next-method` is the item "next after this method"
   abbrev pub sort_literals : ℕ → Sort → List Quoted
-  sort_literals w (body t) = literals_in arrays (first_of_word w) t
-  sort_literals w (past t) = literals_in arrays (first_of_word w) t
-  sort_literals w (method c g t) = literals_in arrays (first_of_word w) (of_method w t)
+  sort_literals w (body t) = literals_in arrays [] (first_of_word w) t
+  sort_literals w (past t) = literals_in arrays [] (first_of_word w) t
+  sort_literals w (method c g t) = literals_in arrays [] (first_of_word w) (of_method w t)
   sort_literals w _ = []
 
   -- those of words, from word w on
@@ -158,10 +167,10 @@ module _ (P : Program) where
   abbrev pub literal_places : List Place
   literal_places = word_places 0 P.words
 
--- The literal of this number. A number behind the last one names a literal with no items of a word that isn't there, so that no two numbers name the same literal.
+-- The literal of this number. A number behind the last one names a quotation with no items of a word that isn't there, so that no two numbers name the same literal.
 abbrev pub literal_or : Program → ℕ → Option Quoted → Quoted
 literal_or P k (Some l) = l
-literal_or P k None = (record { word = length P.words; around = []; index = k }, end)
+literal_or P k None = record { at = record { word = length P.words; around = []; index = k }; cells = []; item = quot end }
 
 abbrev pub literal_numbered : Program → ℕ → Quoted
 literal_numbered P k = literal_or P k (slice_get (literals P) k)

@@ -1,24 +1,27 @@
-//! Programs whose quotations are numbered templates.
-ghost use Rattle.std.specs.Prelude.{◌≡◌, ◌+◌, ◌<◌, [], length, set, suc, IfOk};
+//! Programs whose quotations and fries are numbered templates.
+ghost use Rattle.std.specs.Prelude.{◌≡◌, ◌+◌, ◌<◌, [], length, set, suc, IfOk, OnOk};
 ghost use Rattle.fac_lang.specs.Forms.{IsBuilt};
 ghost use Rattle.fac_lang.specs.Whole.{IsWhole};
 ghost use Rattle.fac_lang.specs.PhraseView.{what_item};
-ghost use Rattle.fac_lang.specs.Phrases.{lit_arr};
+ghost use Rattle.fac_lang.specs.Phrases.{bind};
 ghost use Rattle.fac_slots.specs.Slots.{slot_counts};
+ghost use Rattle.fac_captures.specs.Cells.{cell_number, cells_behind};
+ghost use Rattle.fac_captures.specs.Asked.{quotations_in, quotations_at};
 ghost use Rattle.fac_locals.specs.Closed.{Closes};
-ghost use Rattle.fac_locals.specs.inner.Numbering.{ItemPassed, PhrasePassed, WordsPassed, NumberTaken, PartsClosed, closed_what, closed_phrase, closed_element, closed_elements, closed_sort, closed_word, closed_words};
-ghost use Rattle.fac_locals.specs.inner.Numbering.{method_of, next_what, phrase_of, plain_item, plain_phrase, template_of, array_closed, arrays_closed, stage_of};
+ghost use Rattle.fac_locals.specs.inner.Numbering.{ItemPassed, PhrasePassed, ArrayPassed, WordsPassed, ClosesWhat, ClosesTree, IsAsked, AreAsked, NumberTaken, KeptTaken, PartsClosed, closed_phrase, closed_element, closed_elements, closed_sort, closed_word, closed_words};
+ghost use Rattle.fac_locals.specs.inner.Numbering.{method_of, next_what, cell_what, phrase_of, plain_item, plain_phrase, array_closed, arrays_closed, stage_of};
 
 use crate::counting::{behind_array, count_arrays, count_words, one_more};
+use fac_captures::{AllAsked, Cell, Kept, asked_in, keep, number_of};
 use fac_lang::{Item, List, Lit, Memory, Phrase, Place, Program, Sort, Template, What, WordDef};
 use fac_slots::slot_counts;
 use std::alloc::Global;
 use std::mem;
 
-/// A program whose quotations are numbered templates.
+/// A program whose quotations and fries are numbered templates.
 #[derive(Drop)]
 pub struct Closed {
-    /// The program, in which a quotation stands as the number of its template.
+    /// The program, in which a quotation or fry stands as the number of its template, and a local or hole as that of its cell.
     pub program: Program,
     /// The templates, by their numbers.
     pub templates: List<Template>,
@@ -47,18 +50,8 @@ struct Closing {
     templates: Vec<Template>,
     // For each literal array that was met, where it starts.
     starts: Vec<ArrayStart>,
-}
-
-// The template of a quotation that stands here, with this closed phrase.
-fn template(alloc: Global, place: Place, body: Phrase) -> Template
-    ensures { result ≡ template_of place body }
-{
-    Template {
-        body,
-        captures: List::new(alloc),
-        holes: 0,
-        place,
-    }
+    // What the quotations and fries of the phrase ask for that are still to be closed.
+    asked: AllAsked,
 }
 
 // So many templates, whose phrases are still to be put.
@@ -70,8 +63,12 @@ fn unfilled(alloc: Global, count: u32) -> Result<Vec<Template>, Memory>
         let nothing = Phrase {
             items: Vec::new(alloc),
         };
-        let place = Place { file: 0, token: 0 };
-        templates.push(template(alloc, place, nothing))?;
+        templates.push(Template {
+            body: nothing,
+            captures: List::new(alloc),
+            holes: 0,
+            place: Place { file: 0, token: 0 },
+        })?;
     }
     Ok(templates)
 }
@@ -97,13 +94,29 @@ fn put<T: Drop>(list: &mut Vec<T>, number: u32, value: T)
     }
 }
 
-// Gives the next number to a quotation.
+// Gives the next number to a quotation or fry.
 fn take_number(closing: &mut Closing) -> Result<u32, Memory>
     ensures { IfOk result (λ number. NumberTaken closing.old number closing.new) }
 {
     let number = closing.next;
     closing.next = one_more(number)?;
     Ok(number)
+}
+
+// What the next quotation or fry keeps of the cells under which it stands.
+fn take_kept(
+    alloc: Global,
+    closing: &mut Closing,
+    cells: &List<Cell>,
+    holes: u32,
+) -> Result<Kept, Memory>
+    requires { IsAsked closing.old.asked }
+    ensures { IfOk result (λ kept. KeptTaken cells.now holes closing.old kept closing.new) }
+{
+    match closing.asked.take_first() {
+        Some(asked) => keep(alloc, cells, asked, holes),
+        None => unreachable!(),
+    }
 }
 
 // Notes where a literal array starts, and goes behind its quotations.
@@ -114,7 +127,8 @@ fn pass_array(
     place: Place,
     method: Option<u32>,
 ) -> Result<(), Memory>
-    ensures { IfOk result (λ done. ItemPassed counts.now method closing.old place (lit_arr array) closing.new) }
+    ensures passed { IfOk result (λ done. ArrayPassed counts.now method closing.old place array closing.new) }
+    ensures asked { OnOk result (closing.new.asked ≡ closing.old.asked) }
 {
     let number = closing.next;
     closing.next = behind_array(array, counts, number)?;
@@ -137,7 +151,27 @@ fn next_method(method: Option<u32>) -> What
     }
 }
 
-// An item with a template in place of its quotation, in the phrase of this method or in none.
+// The number of the cell that holds this, or the item where there is none.
+fn in_cell(cells: &List<Cell>, cell: Cell, what: What) -> What
+    ensures { result ≡ cell_what what (cell_number cells.now cell) }
+{
+    match number_of(cells, cell) {
+        Some(number) => What::Local(number),
+        None => what,
+    }
+}
+
+// Binds a local, whose value gets the next cell.
+fn bind_cell(cells: &mut List<Cell>, local: u32) -> Result<u32, Memory>
+    ensures number { IfOk result (λ number. number ≡ length cells.old) }
+    ensures cells { OnOk result (cells.new ≡ cells_behind cells.old (bind local)) }
+{
+    let number = cells.len();
+    cells.push(Cell::Local(local))?;
+    Ok(number)
+}
+
+// An item under these cells with a template in place of its quotation or fry, in the phrase of this method or in none.
 #[cycle(closing)]
 fn close_what(
     what: What,
@@ -146,16 +180,48 @@ fn close_what(
     counts: &[u32],
     place: Place,
     method: Option<u32>,
+    cells: &mut List<Cell>,
 ) -> Result<What, Memory>
-    ensures { IfOk result (λ closed. (closed ≡ closed_what counts.now method closing.old.next what) × ItemPassed counts.now method closing.old place (what_item what) closing.new) }
+    requires { AreAsked (quotations_at (what_item what)) closing.old.asked }
+    ensures closed { IfOk result (λ closed. ClosesWhat counts.now method cells.old closing.old place what closed closing.new) }
+    ensures cells { OnOk result (cells.new ≡ cells_behind cells.old (what_item what)) }
 {
     match what {
         What::Quot(inner) => {
             let number = take_number(closing)?;
-            let body = close_phrase(inner, alloc, closing, counts, method)?;
-            put(&mut closing.templates, number, template(alloc, place, body));
+            let Kept {
+                captures,
+                cells: own,
+            } = take_kept(alloc, closing, cells, 0)?;
+            let body = close_phrase(inner, alloc, closing, counts, method, own)?;
+            let template = Template {
+                body,
+                captures,
+                holes: 0,
+                place,
+            };
+            put(&mut closing.templates, number, template);
             Ok(What::Made(number))
         }
+        What::Fry(inner, holes) => {
+            let number = take_number(closing)?;
+            let Kept {
+                captures,
+                cells: own,
+            } = take_kept(alloc, closing, cells, holes)?;
+            let body = close_phrase(inner, alloc, closing, counts, method, own)?;
+            let template = Template {
+                body,
+                captures,
+                holes,
+                place,
+            };
+            put(&mut closing.templates, number, template);
+            Ok(What::Made(number))
+        }
+        What::Bind(local) => Ok(What::Bind(bind_cell(cells, local)?)),
+        What::Local(local) => Ok(in_cell(cells, Cell::Local(local), What::Local(local))),
+        What::Hole(hole) => Ok(in_cell(cells, Cell::Hole(hole), What::Hole(hole))),
         What::Arr(array) => {
             pass_array(closing, counts, array, place, method)?;
             Ok(What::Arr(array))
@@ -165,7 +231,7 @@ fn close_what(
     }
 }
 
-// A phrase with templates in place of its quotations, which stands in this method or in none.
+// A phrase under these cells with templates in place of its quotations and fries, which stands in this method or in none.
 #[cycle(closing)]
 fn close_phrase(
     phrase: Phrase,
@@ -173,16 +239,34 @@ fn close_phrase(
     closing: &mut Closing,
     counts: &[u32],
     method: Option<u32>,
+    cells: List<Cell>,
 ) -> Result<Phrase, Memory>
-    ensures { IfOk result (λ closed. (closed ≡ closed_phrase counts.now method closing.old.next phrase) × PhrasePassed counts.now method closing.old phrase closing.new) }
+    requires { AreAsked (quotations_in phrase) closing.old.asked }
+    ensures { IfOk result (λ closed. ClosesTree counts.now method cells closing.old phrase closed closing.new) }
 {
+    let mut cells = cells;
     let mut items = Vec::new(alloc);
     for item in phrase.items {
         let Item { what, place } = item;
-        let what = close_what(what, alloc, closing, counts, place, method)?;
+        let what = close_what(what, alloc, closing, counts, place, method, &mut cells)?;
         items.push(Item { what, place })?;
     }
     Ok(Phrase { items })
+}
+
+// A phrase under no cells with templates in place of its quotations and fries.
+fn close_whole(
+    phrase: Phrase,
+    alloc: Global,
+    closing: &mut Closing,
+    counts: &[u32],
+    method: Option<u32>,
+) -> Result<Phrase, Memory>
+    ensures { IfOk result (λ closed. (closed ≡ closed_phrase counts.now method [] closing.old.next phrase) × PhrasePassed counts.now method [] closing.old phrase closing.new) }
+{
+    closing.asked = asked_in(alloc, &phrase)?;
+    let closed = close_phrase(phrase, alloc, closing, counts, method, List::new(alloc))?;
+    Ok(closed)
 }
 
 // What the word of this number is, with its phrase closed.
@@ -193,16 +277,16 @@ fn close_sort(
     number: u32,
     sort: Sort,
 ) -> Result<Sort, Memory>
-    ensures { IfOk result (λ closed. (closed ≡ closed_sort counts.now number closing.old.next sort) × PhrasePassed counts.now (method_of number sort) closing.old (phrase_of sort) closing.new) }
+    ensures { IfOk result (λ closed. (closed ≡ closed_sort counts.now number closing.old.next sort) × PhrasePassed counts.now (method_of number sort) [] closing.old (phrase_of sort) closing.new) }
 {
     match sort {
-        Sort::Body(phrase) => Ok(Sort::Body(close_phrase(phrase, alloc, closing, counts, None)?)),
+        Sort::Body(phrase) => Ok(Sort::Body(close_whole(phrase, alloc, closing, counts, None)?)),
         Sort::Method {
             class,
             generic,
             body,
         } => {
-            let body = close_phrase(body, alloc, closing, counts, Some(number))?;
+            let body = close_whole(body, alloc, closing, counts, Some(number))?;
             Ok(Sort::Method {
                 class,
                 generic,
@@ -221,7 +305,7 @@ fn close_word(
     number: u32,
     word: WordDef,
 ) -> Result<WordDef, Memory>
-    ensures { IfOk result (λ closed. (closed ≡ closed_word counts.now number closing.old.next word) × PhrasePassed counts.now (method_of number word.sort) closing.old (phrase_of word.sort) closing.new) }
+    ensures { IfOk result (λ closed. (closed ≡ closed_word counts.now number closing.old.next word) × PhrasePassed counts.now (method_of number word.sort) [] closing.old (phrase_of word.sort) closing.new) }
 {
     let WordDef {
         name,
@@ -268,13 +352,19 @@ fn close_element(
     place: Place,
     method: Option<u32>,
 ) -> Result<Lit, Memory>
-    ensures { IfOk result (λ closed. (closed ≡ closed_element counts.now closing.old.next element) × ItemPassed counts.now method closing.old place (plain_item element) closing.new) }
+    ensures { IfOk result (λ closed. (closed ≡ closed_element counts.now closing.old.next element) × ItemPassed counts.now method [] closing.old place (plain_item element) closing.new) }
 {
     match element {
         Lit::Quot(inner) => {
             let number = take_number(closing)?;
-            let body = close_phrase(inner, alloc, closing, counts, method)?;
-            put(&mut closing.templates, number, template(alloc, place, body));
+            let body = close_whole(inner, alloc, closing, counts, method)?;
+            let template = Template {
+                body,
+                captures: List::new(alloc),
+                holes: 0,
+                place,
+            };
+            put(&mut closing.templates, number, template);
             Ok(Lit::Made(number))
         }
         Lit::Arr(array) => {
@@ -293,7 +383,7 @@ fn close_elements(
     counts: &[u32],
     start: ArrayStart,
 ) -> Result<List<Lit>, Memory>
-    ensures { IfOk result (λ closed. (closed ≡ closed_elements counts.now closing.old.next elements.items) × PhrasePassed counts.now start.method closing.old (plain_phrase start.place elements.items) closing.new) }
+    ensures { IfOk result (λ closed. (closed ≡ closed_elements counts.now closing.old.next elements.items) × PhrasePassed counts.now start.method [] closing.old (plain_phrase start.place elements.items) closing.new) }
 {
     let mut closed = List::new(alloc);
     for element in elements {
@@ -355,6 +445,7 @@ fn close_parts(
         next: 0,
         templates: unfilled(alloc, count)?,
         starts: unmet(alloc, arrays.len())?,
+        asked: AllAsked::new(alloc),
     };
     let closed = close_words(alloc, &mut closing, counts.as_slice(), words)?;
     close_arrays(arrays, alloc, &mut closing, counts.as_slice())?;
@@ -362,9 +453,9 @@ fn close_parts(
     Ok((closed, List::from_vec(templates)?))
 }
 
-/// The program with each quotation replaced by the number of its template, and each `call-next-method` of a method by the next one after that
-/// method. Templates are numbered from 0, word by word, an outer quotation before those in it, and those of a literal array where the array
-/// stands. Want of memory is the one error.
+/// The program with each quotation and fry replaced by the number of its template, each local and hole by the number of its cell, and each
+/// `call-next-method` of a method by the next one after that method. Templates are numbered from 0, word by word, an outer quotation before
+/// those in it, and those of a literal array where the array stands. Want of memory is the one error.
 pub fn close(alloc: Global, program: Program, start: u64) -> Result<Closed, Memory>
     requires built { IsBuilt program }
     requires whole { IsWhole program }

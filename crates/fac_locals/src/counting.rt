@@ -1,4 +1,4 @@
-//! How many quotations there are.
+//! How many quotations and fries there are.
 ghost use Rattle.std.specs.Prelude.{◌≡◌, ◌+◌, [], suc, slice_index_or, IfOk};
 ghost use Rattle.fac_lang.specs.Meaning.{nowhere};
 ghost use Rattle.fac_lang.specs.PhraseView.{what_item};
@@ -37,6 +37,7 @@ fn behind_what(what: &What, counts: &[u32], number: u32) -> Result<u32, Memory>
 {
     match what {
         What::Quot(inner) => behind_phrase(inner, counts, one_more(number)?),
+        What::Fry(inner, _) => behind_phrase(inner, counts, one_more(number)?),
         What::Arr(array) => behind_array(*array, counts, number),
         _ => Ok(number),
     }

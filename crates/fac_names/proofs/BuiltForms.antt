@@ -18,8 +18,8 @@ use Rattle.fac_refusal.specs.Refusals.{fault, fault_if, sooner}
 use Rattle.fac_items.specs.Written.{Tok, Nodes, Declared, given, makes, Form, f_in, f_use, f_using, f_from, f_qualified, f_private, f_public, f_defer, f_symbol, f_main, f_define, f_tuple, f_union, f_single, f_generic, f_method, f_items}
 use Rattle.fac_items.specs.Readings.{read_items}
 use Rattle.fac_items.specs.Items.{is_cond, items_faults, phrase_of, ref, search_fault, search_faults}
-use Rattle.fac_items.specs.inner.Bits.{ArePlain}
 use Rattle.fac_items.proofs.ArrayNumbers.{Adds, adds_none, phrase_adds}
+use Rattle.fac_items.proofs.PlainNodes.{ArePlain}
 use Rattle.fac_endings.specs.Words.{no_effect}
 use Rattle.fac_endings.specs.declared.draft.Late.TheVariants.{Settled as settled, Method as method_of}
 use Rattle.fac_endings.specs.declared.draft.Named.{Named}
@@ -83,7 +83,7 @@ generic_built k c t e r few b =
 
 -- items whose readings are plain
 abbrev pub AreReadPlain : Nodes → Type 0
-AreReadPlain ns = (is_cond : List ℕ → Bool) → ArePlain (read_items is_cond [] ns)
+AreReadPlain ns = (is_cond : List ℕ → Bool) → ArePlain false (read_items is_cond [] ns)
 
 -- what a word has of its effect and its marks
 abbrev pub IsFewDeclared : Declared → Bool → Bool → Type 0
@@ -109,13 +109,13 @@ define_built k c t e ns inline recursive r plain few b =
     told_built k c n (body m.phrase) (declared_effect e) inline recursive (declared_late s e) m.arrays (fold sooner n.reading.first (items_faults s [] ms))
     (record {
       no_primitive = λ ks. refl;
-      built = λ bound within w. declared_built bound s e m.phrase inline recursive w few (phrase_built (length n.reading.words) bound s ms n.reading.arrays 0 d.built.some within d.built.scope whole (d.built.arrays bound within)).0;
+      built = λ bound within w. declared_built bound s e m.phrase inline recursive w few (phrase_built (length n.reading.words) bound s [] false ms n.reading.arrays 0 d.built.some within d.built.scope whole (d.built.arrays bound within)).0;
       ok = declared_ok k s e m.phrase inline recursive few;
       accessor = no_accessor s.table n.word (body m.phrase) refl;
     })
     (none_before n.reading.first (items_faults s [] ms))
-    (λ bound within. (phrase_built (length n.reading.words) bound s ms n.reading.arrays 0 d.built.some within d.built.scope whole (d.built.arrays bound within)).1)
-    (phrase_adds s ms n.reading.arrays 0 whole) d.begins d.built
+    (λ bound within. (phrase_built (length n.reading.words) bound s [] false ms n.reading.arrays 0 d.built.some within d.built.scope whole (d.built.arrays bound within)).1)
+    (phrase_adds s [] ms n.reading.arrays 0) d.begins d.built
 
 method_built : (k c : ℕ) (x g : Tok) (ns : Nodes) (r : Reading) → AreReadPlain ns → Built k c r → Built k c (take (f_method x g ns) r)
 method_built k c x g ns r plain b =
@@ -132,13 +132,13 @@ method_built k c x g ns r plain b =
     told_built k c n (body m.phrase) no_effect false false (method_of (ref s x) (ref s g)) m.arrays (fold sooner first (items_faults s [] ms))
     (record {
       no_primitive = λ ks. refl;
-      built = λ bound within w. record { built = (phrase_built (length n.reading.words) bound s ms r.arrays 0 mid.some within mid.scope whole (mid.arrays bound within)).0; not_inline = refl; not_recursive = refl };
+      built = λ bound within w. record { built = (phrase_built (length n.reading.words) bound s [] false ms r.arrays 0 mid.some within mid.scope whole (mid.arrays bound within)).0; not_inline = refl; not_recursive = refl };
       ok = refl;
       accessor = no_accessor s.table n.word (body m.phrase) refl;
     })
     (none_before first (items_faults s [] ms))
-    (λ bound within. (phrase_built (length n.reading.words) bound s ms r.arrays 0 mid.some within mid.scope whole (mid.arrays bound within)).1)
-    (phrase_adds s ms r.arrays 0 whole) begins mid
+    (λ bound within. (phrase_built (length n.reading.words) bound s [] false ms r.arrays 0 mid.some within mid.scope whole (mid.arrays bound within)).1)
+    (phrase_adds s [] ms r.arrays 0) begins mid
 
 items_built : (k c : ℕ) (ns : Nodes) (r : Reading) → AreReadPlain ns → Built k c r → Built k c (take (f_items ns) r)
 items_built k c ns r plain b =
@@ -147,9 +147,9 @@ items_built k c ns r plain b =
     let m = phrase_of s [] ms r.arrays 0 in
     let whole = plain (is_cond s) in
     with_top k c r m.phrase m.arrays (fold sooner r.first (items_faults s [] ms)) (none_before r.first (items_faults s [] ms))
-    (λ bound within. append_built bound r.top m.phrase (b.top bound within) (phrase_built (length r.words) bound s ms r.arrays 0 b.some within b.scope whole (b.arrays bound within)).0)
-    (λ bound within. (phrase_built (length r.words) bound s ms r.arrays 0 b.some within b.scope whole (b.arrays bound within)).1)
-    (phrase_adds s ms r.arrays 0 whole) b
+    (λ bound within. append_built bound r.top m.phrase (b.top bound within) (phrase_built (length r.words) bound s [] false ms r.arrays 0 b.some within b.scope whole (b.arrays bound within)).0)
+    (λ bound within. (phrase_built (length r.words) bound s [] false ms r.arrays 0 b.some within b.scope whole (b.arrays bound within)).1)
+    (phrase_adds s [] ms r.arrays 0) b
 
 main_built : (k c : ℕ) (n : Tok) (r : Reading) → Built k c r → Built k c (take (f_main n) r)
 main_built k c n r b = with_main k c r _ (fold sooner r.first (search_fault r.scope n)) (none_before r.first (search_fault r.scope n)) (λ bound within. (found_below (length r.words) bound r.scope n b.some within b.scope, tt)) refl b

@@ -4,11 +4,12 @@ use Rattle.std.specs.Prelude.{IfOk, nat_le, not}
 use Rattle.std.specs.List.{list_all}
 use Rattle.std.specs.Str.{bytes_eq}
 use Rattle.std.proofs.lemmas.List.{length-map}
+use Rattle.std.proofs.lemmas.List.Folds.{list_all-append}
 use Rattle.fac_lang.specs.Classes.{slots_within}
 use Rattle.fac_lang.specs.Forms.{IsBuilt, has_no_repeats}
 use Rattle.fac_lang.specs.Phrases.{Phrase}
 use Rattle.fac_lang.specs.RunningLaws.{append}
-use Rattle.fac_lang.specs.Whole.{IsWhole, all_arrays_named, arrays_in, arrays_named, has_generic_effect, joined, name_count, no_two, reaches, times_in, word_phrases}
+use Rattle.fac_lang.specs.Whole.{IsWhole, all_arrays_named, all_phrases, quotations, arrays_in, arrays_named, has_generic_effect, joined, name_count, no_two, reaches, times_in, word_phrases}
 use Rattle.fac_lang.specs.declared.program.ClassDef.{ClassDef}
 use Rattle.fac_lang.specs.declared.program.Program.{Program}
 use Rattle.fac_lang.specs.declared.program.Sort.{Sort}
@@ -39,18 +40,28 @@ use Rattle.fac_names.specs.Resolved.{answer, first_fault, program_of}
 use Rattle.fac_names.specs.Resolution.{Resolves, first_reading, program_alone, resolved}
 use Rattle.fac_names.specs.inner.Taking.{take_all}
 use Rattle.fac_names.proofs.ArrayReadings.{Counted, named_append}
+use Rattle.fac_names.proofs.ClosedForms.{Closed, begun_closed, take_closed, words_closed}
+use Rattle.fac_names.proofs.StandingHoles.{append_sound, are_sound, is_sound, sound_closed, sound_stands}
 use Rattle.fac_names.proofs.BuiltForms.{BuiltUp, begun_built, classes_in, take_built}
 use Rattle.fac_names.proofs.DefinedNames.{none_before}
 use Rattle.fac_names.proofs.BuiltReadings.{draft_ok}
 use Rattle.fac_names.proofs.BuiltPhrases.{append_built}
 use Rattle.fac_names.proofs.Distinct.{classes_differ, words_differ}
 use Rattle.fac_names.proofs.FileLemmas.{take_one}
-use Rattle.fac_names.proofs.KnownBuilt.{first_built}
+use Rattle.fac_names.proofs.KnownBuilt.{first_built, first_closed}
 use Rattle.fac_names.proofs.PlainForms.{form_plain}
 use Rattle.fac_names.proofs.Together.{GenericsStay, accessor_words, all_pass, effects_pass, few_pass, methods_differ, names_pass, names_same, numbers_same, words_built}
 use Rattle.fac_names.proofs.WholePrograms.{IsTogether, sort_named, whole}
 
 -- Files.
+
+forms_closed : (forms : List Flat) (r : Reading) → IsWellFormed forms → Closed r → Closed (take_all r (map form_of forms))
+forms_closed [] r h c = c
+forms_closed (f ∷ forms) r h c = subst Closed (sym (take_one r f forms h)) (forms_closed forms _ h.2 (take_closed (read_form (form_of f)) r (form_plain f h.0) c))
+
+files_closed : (files : List (List Flat)) (r : Reading) → AreWellFormed files → Closed r → Closed (fold (take_file false) r (map (map form_of) files))
+files_closed [] r h c = c
+files_closed (forms ∷ files) r h c = files_closed files _ h.1 (forms_closed forms (scoped begun r) h.0 (begun_closed r c))
 
 forms_built : (forms : List Flat) (r : Reading) → IsWellFormed forms → BuiltUp r → BuiltUp (take_all r (map form_of forms))
 forms_built [] r h b = b
@@ -129,8 +140,14 @@ phrase_in r = append r.top r.main
 abbrev words_in : Reading → List WordDef
 words_in r = map (finished r.words (all_classes r)) r.words
 
-is_built : (r : Reading) → BuiltUp r → IsEnded r → IsBuilt (program_of false r)
-is_built r b h =
+-- each local is bound, each hole stands in a fry, and each fry has its holes
+all_sound : (r : Reading) → Closed r → IsEnded r → list_all is_sound (all_phrases (program_of false r)) ≡ true
+all_sound r c h =
+    let words = words_closed r.words (all_classes r) r.words (top_word (phrase_in r)) h.finishes c.words (append_sound r.top r.main c.top c.main) in
+    list_all-append is_sound (word_phrases (program_of false r).words) (joined (map quotations r.arrays)) ∙ and_true (list_all is_sound (word_phrases (program_of false r).words)) (are_sound r.arrays) words c.arrays
+
+is_built : (r : Reading) → BuiltUp r → Closed r → IsEnded r → IsBuilt (program_of false r)
+is_built r b c h =
     let n = length r.words in
     record {
       words = words_in r;
@@ -142,6 +159,7 @@ is_built r b h =
       built = words_built n r.words (all_classes r) r.words h.finishes (b.words n (omega arith));
       distinct = ap has_no_repeats (numbers_same r.words (all_classes r) r.words h.finishes) ∙ b.distinct;
       arrays_built = b.arrays n (omega arith);
+      holes_stand = sound_stands (all_phrases (program_of false r)) (all_sound r c h);
     }
 
 -- The arrays that words name.
@@ -181,15 +199,16 @@ is_small a h = grind arith
 stay : (r : Reading) → IsEnded r → GenericsStay r.words (program_of false r)
 stay r h g d at is = generic_stays r.words (all_classes r) (top_word (phrase_in r) ∷ []) g d h.fits at is
 
-is_together : (r : Reading) → BuiltUp r → IsEnded r → IsTogether (program_of false r)
-is_together r b h =
+is_together : (r : Reading) → BuiltUp r → Closed r → IsEnded r → IsTogether (program_of false r)
+is_together r b c h =
     let P = program_of false r in
     let ds = r.words in
     let cs = all_classes r in
     let last = top_word (phrase_in r) in
     let held = b.held h.first in
-    let built = is_built r b h in
+    let built = is_built r b c h in
     record {
+      closed = sound_closed (all_phrases (program_of false r)) (all_sound r c h);
       few = all_pass ds cs (λ (d : WordDef). nat_le (name_count d.effect) 65) last (few_pass (length cs) ds h.ok) refl h.ok h.finishes;
       once = named_once r h.finishes b.counted;
       earlier = b.counted.earlier;
@@ -210,24 +229,24 @@ record IsSound (P : Program) : Type 0 where
   built : IsBuilt P
   whole : IsWhole P
 
-sound : (r : Reading) → BuiltUp r → first_fault r ≡ None → IsSound (program_of false r)
-sound r b h =
+sound : (r : Reading) → BuiltUp r → Closed r → first_fault r ≡ None → IsSound (program_of false r)
+sound r b c h =
     let end = ended r b h in
-    let built = is_built r b end in
-    record { built = built; whole = whole (program_of false r) built (is_together r b end) }
+    let built = is_built r b c end in
+    record { built = built; whole = whole (program_of false r) built (is_together r b c end) }
 
-answered : (r : Reading) (o : Option NameFault) (P : Program) → BuiltUp r → first_fault r ≡ o → program_alone (answer false r o) ≡ Ok P → IsSound P
-answered r (Some f) P b is h = absurd (err_ok f P h)
+answered : (r : Reading) (o : Option NameFault) (P : Program) → BuiltUp r → Closed r → first_fault r ≡ o → program_alone (answer false r o) ≡ Ok P → IsSound P
+answered r (Some f) P b c is h = absurd (err_ok f P h)
   where
     err_ok : (f : NameFault) (P : Program) → Err f ≡ Ok P → ⊥
     err_ok f P e = cc
-answered r None P b is h = subst IsSound (ap (λ (x : Result Program NameFault). elim x [ Ok Q ↦ Q | Err f ↦ P ]) h) (sound r b is)
+answered r None P b c is h = subst IsSound (ap (λ (x : Result Program NameFault). elim x [ Ok Q ↦ Q | Err f ↦ P ]) h) (sound r b c is)
 
 resolved_sound : (files : List (List Flat)) (P : Program) → AreWellFormed files → resolved files ≡ Ok P → IsSound P
 unfolding resolved
 resolved_sound files P fits h =
     let r = fold (take_file false) first_reading (map (map form_of) files) in
-    answered r (first_fault r) P (files_built files first_reading fits first_built) refl h
+    answered r (first_fault r) P (files_built files first_reading fits first_built) (files_closed files first_reading fits first_closed) refl h
 
 pub resolved_are_whole : (files : List (List Flat)) (P : Program) → AreWellFormed files → resolved files ≡ Ok P → IsWhole P
 resolved_are_whole files P fits h = (resolved_sound files P fits h).whole

@@ -3,7 +3,7 @@ use Rattle.std.proofs.Common.{◌≡◌, List, [], ◌∷◌, map, fold, false, 
 use Rattle.fac_lang.specs.declared.tree.Form.{Form as Flat}
 use Rattle.fac_lang.specs.declared.tree.Form.TheVariants.{Row, Items}
 use Rattle.fac_lang.specs.declared.tree.FormKind.{FormKind}
-use Rattle.fac_lang.specs.declared.tree.FormKind.TheVariants.{In, Use, Using, From, QualifiedWith, Defer, Symbol, Constant, Private, Public, Main, Define, Tuple, Union, Singleton, Generic, Method, Maker}
+use Rattle.fac_lang.specs.declared.tree.FormKind.TheVariants.{In, Use, Using, From, QualifiedWith, Defer, Symbol, Constant, Private, Public, Main, Define, DefineLocals, Tuple, Union, Singleton, Generic, Method, Maker}
 use Rattle.fac_lang.specs.declared.tree.Part.{Part}
 use Rattle.fac_lang.specs.declared.tree.Tree.{Tree}
 use Rattle.fac_parse.specs.Trees.{AreWellFormed, IsForm, IsWellFormed, MayStandBefore, forms_of}
@@ -33,6 +33,7 @@ row_read Private ps fs = refl
 row_read Public ps fs = refl
 row_read Main ps fs = refl
 row_read Define ps fs = refl
+row_read DefineLocals ps fs = refl
 row_read Tuple ps fs = refl
 row_read Union ps fs = refl
 row_read Singleton ps fs = refl
@@ -54,6 +55,7 @@ row_behind ns Private ps fs = refl
 row_behind ns Public ps fs = refl
 row_behind ns Main ps fs = refl
 row_behind ns Define ps fs = refl
+row_behind ns DefineLocals ps fs = refl
 row_behind ns Tuple ps fs = refl
 row_behind ns Union ps fs = refl
 row_behind ns Singleton ps fs = refl

@@ -20,6 +20,7 @@ use Rattle.fac_names.specs.KnownWords.{class_word, class_words_from, classes_fro
 use Rattle.fac_names.specs.Resolution.{first_reading, settled_draft}
 use Rattle.fac_names.proofs.ArrayReadings.{known_spared, named_in}
 use Rattle.fac_names.proofs.EntryLemmas.{known_ascending}
+use Rattle.fac_names.proofs.ClosedForms.{Closed, drafts_closed}
 use Rattle.fac_names.proofs.BuiltForms.{BuiltUp, up}
 use Rattle.fac_names.proofs.BuiltReadings.{DraftsBuilt, draft_ok}
 use Rattle.fac_names.proofs.PrimitiveNumbers.{words_in}
@@ -194,3 +195,10 @@ first_built =
         main_none = refl;
       };
     })
+
+known_closed : drafts_closed (map settled_draft known_words) ≡ true
+unfolding known_words built_primitive_words
+known_closed = refl
+
+pub first_closed : Closed first_reading
+first_closed = record { words = known_closed; top = refl; main = refl; arrays = refl }

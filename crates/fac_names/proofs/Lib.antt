@@ -5,6 +5,7 @@ pub mod ReadingLemmas
 pub mod ClassLemmas
 pub mod BracketLemmas
 pub mod FileLemmas
+pub mod InputLemmas
 pub mod KnownWordLemmas
 pub mod EndingLemmas
 pub mod EntryLemmas
@@ -16,6 +17,8 @@ pub mod PrimitiveNumbers
 pub mod BuiltReadings
 pub mod DefinedNames
 pub mod BuiltForms
+pub mod StandingHoles
+pub mod ClosedForms
 pub mod PlainForms
 pub mod KnownBuilt
 pub mod Distinct
@@ -25,4 +28,5 @@ pub mod BuiltPrograms
 pub mod WrittenSources
 pub mod ExamplesOfNames
 pub mod ExamplesOfClasses
+pub mod ExamplesOfLocals
 pub mod SignLemmas

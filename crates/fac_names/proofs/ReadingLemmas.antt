@@ -7,12 +7,10 @@ use Rattle.fac_lang.specs.RunningLaws.{append}
 use Rattle.fac_lang.specs.Signatures.{Signature}
 use Rattle.fac_lang.specs.declared.program.Sort.{Sort}
 use Rattle.fac_lang.specs.declared.program.Sort.TheVariants.{Body as body}
-use Rattle.fac_lang.specs.declared.tree.Element.{Element}
 use Rattle.fac_refusal.specs.declared.refusal.NameFault.{NameFault}
 use Rattle.fac_refusal.specs.Refusals.{sooner}
 use Rattle.fac_refusal.specs.Toks.{number}
 use Rattle.fac_vocab.specs.Scopes.{home, word_held}
-use Rattle.fac_items.specs.FromElements.{nested}
 use Rattle.fac_items.specs.Items.{ref, search_fault, search_faults}
 use Rattle.fac_items.specs.Made.{made}
 use Rattle.fac_items.specs.Readings.{read_form}
@@ -47,7 +45,7 @@ pub named_told : (s mid : SoFar) (vocab : List ℕ) (t : Tok) (number : ℕ) (so
 named_told s mid vocab t number sort e words owned more = ap (λ (ds : List Draft). record (reading_of mid) { words = ds }) more ∙ ap (told sort e false false settled) owned
 
 -- what is done with items that were read
-pub phrase_told : (mid after : SoFar) (es : List Element) (phrase : Phrase) (f : Phrase → Reading → Reading) → Reads mid es phrase after → f phrase (reading_of after) ≡ read_phrase (nested es) f (reading_of mid)
+pub phrase_told : (mid after : SoFar) (es : Nodes) (phrase : Phrase) (f : Phrase → Reading → Reading) → Reads mid es phrase after → f phrase (reading_of after) ≡ read_phrase es f (reading_of mid)
 phrase_told mid after es phrase f h = ap (λ (t : Phrase). f t (reading_of after)) h.phrase_is ∙ ap (f (made mid.scope es mid.arrays).phrase) h.reading_is
 
 -- what is told of a word whose items were read
@@ -57,24 +55,24 @@ telling e inline recursive late n t q = told (body t) e inline recursive late (r
 abbrev reads_told : Signature → Bool → Bool → Late → Nodes → Numbered → Reading
 reads_told e inline recursive late ns d = read_phrase ns (telling e inline recursive late d.word) d.reading
 
-body_told : (mid after : SoFar) (number : ℕ) (e : Signature) (es : List Element) (inline recursive : Bool) (late : Late) (phrase : Phrase) (words : List Draft) (d : Numbered) → record { word = number; reading = reading_of mid } ≡ d → Reads mid es phrase after →
-    words ≡ changed (with_told (body phrase) e inline recursive late) number after.drafts → record (reading_of after) { words = words } ≡ reads_told e inline recursive late (nested es) d
+body_told : (mid after : SoFar) (number : ℕ) (e : Signature) (es : Nodes) (inline recursive : Bool) (late : Late) (phrase : Phrase) (words : List Draft) (d : Numbered) → record { word = number; reading = reading_of mid } ≡ d → Reads mid es phrase after →
+    words ≡ changed (with_told (body phrase) e inline recursive late) number after.drafts → record (reading_of after) { words = words } ≡ reads_told e inline recursive late es d
 body_told mid after number e es inline recursive late phrase words d is h more =
     ap (λ (ds : List Draft). record (reading_of after) { words = ds }) more
     ∙ phrase_told mid after es phrase (telling e inline recursive late number) h
-    ∙ ap (reads_told e inline recursive late (nested es)) is
+    ∙ ap (reads_told e inline recursive late es) is
 
-pub define_taken : (s mid after : SoFar) (t : Tok) (number : ℕ) (e : Signature) (es : List Element) (inline recursive : Bool) (phrase : Phrase) (words : List Draft) → Owns s (home s.scope) t number mid → Reads mid es phrase after →
-    words ≡ changed (with_told (body phrase) e inline recursive settled) number after.drafts → record (reading_of after) { words = words } ≡ take (f_define t (given e) (nested es) inline recursive) (reading_of s)
+pub define_taken : (s mid after : SoFar) (t : Tok) (number : ℕ) (e : Signature) (es : Nodes) (inline recursive : Bool) (phrase : Phrase) (words : List Draft) → Owns s (home s.scope) t number mid → Reads mid es phrase after →
+    words ≡ changed (with_told (body phrase) e inline recursive settled) number after.drafts → record (reading_of after) { words = words } ≡ take (f_define t (given e) es inline recursive) (reading_of s)
 define_taken s mid after t number e es inline recursive phrase words owned h more = body_told mid after number e es inline recursive settled phrase words (own t (reading_of s)) owned h more
 
-pub method_taken : (s referred mid after : SoFar) (c g : Tok) (number : ℕ) (es : List Element) (phrase : Phrase) (words : List Draft) → reading_of referred ≡ refused (search_faults s.scope (c ∷ g ∷ [])) (reading_of s) →
+pub method_taken : (s referred mid after : SoFar) (c g : Tok) (number : ℕ) (es : Nodes) (phrase : Phrase) (words : List Draft) → reading_of referred ≡ refused (search_faults s.scope (c ∷ g ∷ [])) (reading_of s) →
     record { word = number; reading = reading_of mid } ≡ added [] g (reading_of referred) → Reads mid es phrase after → words ≡ changed (with_told (body phrase) no_effect false false (method_of (ref s.scope c) (ref s.scope g))) number after.drafts →
-    record (reading_of after) { words = words } ≡ take (f_method c g (nested es)) (reading_of s)
+    record (reading_of after) { words = words } ≡ take (f_method c g es) (reading_of s)
 method_taken s referred mid after c g number es phrase words both new h more =
     body_told mid after number no_effect es false false (method_of (ref s.scope c) (ref s.scope g)) phrase words (added [] g (refused (search_faults s.scope (c ∷ g ∷ [])) (reading_of s))) (new ∙ ap (added [] g) both) h more
 
-pub items_taken : (s after : SoFar) (es : List Element) (top phrase : Phrase) → Reads s es phrase after → top ≡ append (items_phrase after.items.items) phrase → record (reading_of after) { top = top } ≡ take (f_items (nested es)) (reading_of s)
+pub items_taken : (s after : SoFar) (es : Nodes) (top phrase : Phrase) → Reads s es phrase after → top ≡ append (items_phrase after.items.items) phrase → record (reading_of after) { top = top } ≡ take (f_items es) (reading_of s)
 items_taken s after es top phrase h more =
     ap (λ (t : Phrase). record (reading_of after) { top = t }) more
     ∙ phrase_told s after es phrase (λ t q. record q { top = append q.top t }) h

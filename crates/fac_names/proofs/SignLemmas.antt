@@ -1,27 +1,75 @@
 -- The phrase of items is written as the items are.
-use Rattle.std.proofs.Common.{◌≡◌, ◌+◌, ◌<◌, ℕ, suc, List, [], ◌∷◌, ◌++◌, map, length, Bool, true, false, Option, Some, None, cond, refl, ap, sym, ◌∙◌, subst, append_assoc, append-nil, arith}
-use Rattle.std.specs.Prelude.{nat_eq, nat_lt}
+use Rattle.std.proofs.Common.{◌≡◌, ◌+◌, ◌<◌, ℕ, suc, List, [], ◌∷◌, ◌++◌, length, Bool, true, false, Option, Some, None, cond, refl, ap, sym, ◌∙◌, subst, append_assoc, append-nil, arith}
+use Rattle.std.specs.Prelude.{nat_eq}
 use Rattle.fac_lang.specs.Phrases.{lit, int, yes, no, str, word, next_method}
 use Rattle.fac_lang.specs.declared.phrase.Place.{Place}
 use Rattle.fac_lang.specs.declared.program.Lit.{Lit}
 use Rattle.fac_lang.specs.declared.program.Lit.TheVariants as literal_is
 use Rattle.fac_lang.specs.declared.tree.Bracket.{Bracket}
-use Rattle.fac_lang.specs.declared.tree.Bracket.TheVariants.{Quotation, Array}
+use Rattle.fac_lang.specs.declared.tree.Bracket.TheVariants.{Quotation, Array, Fry}
 use Rattle.fac_lang.specs.declared.tree.Element.{Element}
 use Rattle.fac_lang.specs.declared.tree.Element.TheVariants as element
 use Rattle.fac_lang.specs.declared.tree.Term.{Term}
 use Rattle.fac_lang.specs.declared.tree.Term.TheVariants as term
 use Rattle.fac_parse.specs.declared.context.Context.{Context}
-use Rattle.fac_parse.specs.declared.context.Context.TheVariants as context
-use Rattle.fac_parse.specs.Trees.{Lead, closed, context_of, counted, counted_opened, item_behind, most_elements, most_levels, uncounted}
+use Rattle.fac_parse.specs.declared.context.Around.{Around}
+use Rattle.fac_parse.specs.declared.context.Around.TheVariants as stands_in
+use Rattle.fac_parse.specs.Contexts.{closed, closed_in, items_in}
+use Rattle.fac_parse.specs.Trees.{Lead}
 use Rattle.fac_vocab.specs.Scopes.{Scope}
 use Rattle.fac_items.specs.Written.{Node, n_lit, n_name, n_next, n_quot, n_array, Nodes, nothing, more}
 use Rattle.fac_items.specs.FromElements.{Rests, bracketed, nested, node, opened as open_before, rests}
 use Rattle.fac_items.specs.Items.{elements_of, literal, phrase_of, word_of}
 use Rattle.fac_names.specs.Laws.{Longer}
-use Rattle.fac_names.specs.Signs.{Sign, PhrasesAreWrittenAsItems, array_signs, element_signs, elements_signs, innermost, phrase_signs, place_in, term_signs, value, with_array_signs, with_arrays_signs, closes, one, opens, within}
+use Rattle.fac_names.specs.Signs.{Sign, AreOfWords, IsOfWords, PhrasesAreWrittenAsItems, array_signs, element_signs, elements_signs, innermost, phrase_signs, place_in, term_signs, value, with_array_signs, with_arrays_signs, closes, one, opens, within}
 use Rattle.fac_names.proofs.Growing.{and_then, elements_longer, phrase_longer, same}
-use Rattle.fac_items.proofs.RawNodes.{AreRaw, nested_raw}
+use Rattle.fac_items.proofs.RawNodes.{IsPlainLiteral}
+use Rattle.fac_names.proofs.BracketLemmas.{Stand, kind_of, seen_all, steps}
+
+-- Nodes of words: literals, names, next methods, quotations and arrays.
+abbrev mutual
+  AreWorded : Nodes → Type 0
+  AreWorded nothing = Unit {0}
+  AreWorded (more n ns) = IsWorded n × AreWorded ns
+
+  IsWorded : Node → Type 0
+  IsWorded (n_lit l p) = IsPlainLiteral l
+  IsWorded (n_name t p) = Unit {0}
+  IsWorded (n_next p) = Unit {0}
+  IsWorded (n_quot ns p) = AreWorded ns
+  IsWorded (n_array ns p) = AreWorded ns
+  IsWorded _ = ⊥
+
+abbrev AllWorded : List Nodes → Type 0
+AllWorded [] = Unit {0}
+AllWorded (ns ∷ nss) = AreWorded ns × AllWorded nss
+
+term_worded : (t : Term) → IsOfWords (element.Item t) → IsWorded (node t)
+term_worded (term.Name t) h = tt
+term_worded (term.Integer t z) h = tt
+term_worded (term.Text t) h = tt
+term_worded (term.True place) h = tt
+term_worded (term.False place) h = tt
+term_worded (term.NextMethod place) h = tt
+term_worded (term.Bind sign name) h = absurd h
+term_worded (term.Hole place) h = absurd h
+term_worded (term.CalledHole place) h = absurd h
+
+bracketed_worded : (b : Bracket) (p q : Place) (ns : Nodes) → IsOfWords (element.Opens b q) → AreWorded ns → IsWorded (bracketed b ns p)
+bracketed_worded Quotation p q ns w h = h
+bracketed_worded Array p q ns w h = h
+bracketed_worded Fry p q ns w h = absurd w
+
+opened_worded : (n : Node) (nss : List Nodes) → IsWorded n → AllWorded nss → AreWorded (open_before n nss).here × AllWorded (open_before n nss).around
+opened_worded n [] h k = ((h, tt), tt)
+opened_worded n (ms ∷ mss) h k = ((h, k.0), k.1)
+
+rests_worded : (es : List Element) → AreOfWords es → AreWorded (rests es).here × AllWorded (rests es).around
+rests_worded [] w = (tt, tt)
+rests_worded (element.Item t ∷ es) w = let h = rests_worded es w.1 in ((term_worded t w.0, h.0), h.1)
+rests_worded (element.Opens b p ∷ es) w = let h = rests_worded es w.1 in opened_worded (bracketed b (rests es).here p) (rests es).around (bracketed_worded b p p (rests es).here w.0 h.0) h.1
+rests_worded (element.OpensLocals p names bar ∷ es) w = absurd w.0
+rests_worded (element.Closes b p ∷ es) w = let h = rests_worded es w.1 in (tt, h)
 
 -- Nodes as they are written.
 
@@ -73,7 +121,7 @@ array_at xs ls all h =
 -- The phrase of nodes, and the elements, with any arrays behind theirs.
 
 mutual
-  phrase_written : (s : Scope) (ns : Nodes) (arrays : List (List Lit)) (holes : ℕ) (all : List (List Lit)) → AreRaw ns → Longer (phrase_of s [] ns arrays holes).arrays all → phrase_signs (array_signs all) (phrase_of s [] ns arrays holes).phrase ≡ nodes_signs s Quotation ns
+  phrase_written : (s : Scope) (ns : Nodes) (arrays : List (List Lit)) (holes : ℕ) (all : List (List Lit)) → AreWorded ns → Longer (phrase_of s [] ns arrays holes).arrays all → phrase_signs (array_signs all) (phrase_of s [] ns arrays holes).phrase ≡ nodes_signs s Quotation ns
   phrase_written s nothing arrays holes all plain h = refl
   phrase_written s (more (n_lit l p) ns) arrays holes all plain h = ap (λ (xs : List Sign). one (lit l) p ∷ xs) (phrase_written s ns arrays holes all plain.1 h)
   phrase_written s (more (n_name t p) ns) arrays holes all plain h = ap (λ (xs : List Sign). one (word (word_of s t)) p ∷ xs) (phrase_written s ns arrays holes all plain.1 h)
@@ -91,7 +139,7 @@ mutual
       ∙ ap (λ (xs : List Sign). within Array (Some p) (nodes_signs s Array ms) ++ xs) (phrase_written s ns more_arrays holes all plain.1 h)
   phrase_written s (more n ns) arrays holes all plain h = absurd plain.0
 
-  elements_written : (s : Scope) (ns : Nodes) (arrays : List (List Lit)) (all : List (List Lit)) → AreRaw ns → Longer (elements_of s ns arrays).arrays all → elements_signs (array_signs all) (elements_of s ns arrays).elements ≡ nodes_signs s Array ns
+  elements_written : (s : Scope) (ns : Nodes) (arrays : List (List Lit)) (all : List (List Lit)) → AreWorded ns → Longer (elements_of s ns arrays).arrays all → elements_signs (array_signs all) (elements_of s ns arrays).elements ≡ nodes_signs s Array ns
   elements_written s nothing arrays all plain h = refl
   elements_written s (more (n_lit (int z) p) ns) arrays all plain h = ap (λ (xs : List Sign). value (literal (int z)) ∷ xs) (elements_written s ns arrays all plain.1 h)
   elements_written s (more (n_lit yes p) ns) arrays all plain h = ap (λ (xs : List Sign). value (literal yes) ∷ xs) (elements_written s ns arrays all plain.1 h)
@@ -119,6 +167,7 @@ abbrev Matching : List Bracket → List Element → Type 0
 Matching brackets [] = brackets ≡ []
 Matching brackets (element.Item t ∷ es) = Matching brackets es
 Matching brackets (element.Opens b place ∷ es) = Matching (b ∷ brackets) es
+Matching brackets (element.OpensLocals place names bar ∷ es) = ⊥
 Matching [] (element.Closes b place ∷ es) = ⊥
 Matching (c ∷ brackets) (element.Closes b place ∷ es) = (c ≡ b) × Matching brackets es
 
@@ -136,127 +185,137 @@ record Spells (s : Scope) (brackets : List Bracket) (r : Rests) (signs : List Si
   around : length r.around ≡ length brackets
   written : all_signs s brackets r ≡ signs
 
-term_alone : (s : Scope) (b : Bracket) (t : Term) → node_signs s b (node t) ≡ term_signs s b t
-term_alone s Quotation (term.Name t) = refl
-term_alone s Quotation (term.Integer t z) = refl
-term_alone s Quotation (term.Text t) = refl
-term_alone s Quotation (term.True place) = refl
-term_alone s Quotation (term.False place) = refl
-term_alone s Quotation (term.NextMethod place) = refl
-term_alone s Array (term.Name t) = refl
-term_alone s Array (term.Integer t z) = refl
-term_alone s Array (term.Text t) = refl
-term_alone s Array (term.True place) = refl
-term_alone s Array (term.False place) = refl
-term_alone s Array (term.NextMethod place) = refl
+-- no fry is open
+abbrev AreOfItems : List Bracket → Type 0
+AreOfItems [] = Unit {0}
+AreOfItems (Fry ∷ bs) = ⊥
+AreOfItems (b ∷ bs) = AreOfItems bs
 
-bracket_signs : (s : Scope) (around b : Bracket) (ms : Nodes) (p : Place) → node_signs s around (bracketed b ms p) ≡ within b (place_in around p) (nodes_signs s b ms)
-bracket_signs s around Quotation ms p = refl
-bracket_signs s around Array ms p = refl
+abbrev IsNoFry : Bracket → Type 0
+IsNoFry Fry = ⊥
+IsNoFry _ = Unit {0}
+
+innermost_no_fry : (bs : List Bracket) → AreOfItems bs → IsNoFry (innermost bs)
+innermost_no_fry [] h = tt
+innermost_no_fry (Quotation ∷ bs) h = tt
+innermost_no_fry (Array ∷ bs) h = tt
+innermost_no_fry (Fry ∷ bs) h = absurd h
+
+term_alone : (s : Scope) (b : Bracket) (t : Term) → IsNoFry b → IsOfWords (element.Item t) → node_signs s b (node t) ≡ term_signs s b t
+term_alone s Quotation (term.Name t) h w = refl
+term_alone s Quotation (term.Integer t z) h w = refl
+term_alone s Quotation (term.Text t) h w = refl
+term_alone s Quotation (term.True place) h w = refl
+term_alone s Quotation (term.False place) h w = refl
+term_alone s Quotation (term.NextMethod place) h w = refl
+term_alone s Array (term.Name t) h w = refl
+term_alone s Array (term.Integer t z) h w = refl
+term_alone s Array (term.Text t) h w = refl
+term_alone s Array (term.True place) h w = refl
+term_alone s Array (term.False place) h w = refl
+term_alone s Array (term.NextMethod place) h w = refl
+term_alone s Quotation (term.Bind sign name) h w = absurd w
+term_alone s Quotation (term.Hole place) h w = absurd w
+term_alone s Quotation (term.CalledHole place) h w = absurd w
+term_alone s Array (term.Bind sign name) h w = absurd w
+term_alone s Array (term.Hole place) h w = absurd w
+term_alone s Array (term.CalledHole place) h w = absurd w
+term_alone s Fry t h w = absurd h
+
+bracket_signs : (s : Scope) (around b : Bracket) (ms : Nodes) (p : Place) → IsNoFry b → node_signs s around (bracketed b ms p) ≡ within b (place_in around p) (nodes_signs s b ms)
+bracket_signs s around Quotation ms p h = refl
+bracket_signs s around Array ms p h = refl
+bracket_signs s around Fry ms p h = absurd h
 
 within_spells : (b : Bracket) (o : Option Place) (xs ys zs : List Sign) → (within b o xs ++ ys) ++ zs ≡ opens b o ∷ (xs ++ (closes b ∷ (ys ++ zs)))
 within_spells b o xs ys zs = simp append_assoc
 
-bracket_spells : (s : Scope) (brackets : List Bracket) (b : Bracket) (p : Place) (ms : Nodes) (nss : List Nodes) → length nss ≡ suc (length brackets) →
-    Spells s brackets (open_before b p ms nss) (opens b (place_in (innermost brackets) p) ∷ nodes_signs s b ms ++ around_signs s (b ∷ brackets) nss)
-bracket_spells s brackets b p ms [] e = absurd (omega (arith, e))
-bracket_spells s brackets b p ms (ns ∷ nss) e =
+bracket_spells : (s : Scope) (brackets : List Bracket) (b : Bracket) (p : Place) (ms : Nodes) (nss : List Nodes) → IsNoFry b → length nss ≡ suc (length brackets) →
+    Spells s brackets (open_before (bracketed b ms p) nss) (opens b (place_in (innermost brackets) p) ∷ nodes_signs s b ms ++ around_signs s (b ∷ brackets) nss)
+bracket_spells s brackets b p ms [] f e = absurd (omega (arith, e))
+bracket_spells s brackets b p ms (ns ∷ nss) f e =
     record {
       around = omega (arith, e);
       written =
-          ap (λ (xs : List Sign). (xs ++ nodes_signs s (innermost brackets) ns) ++ around_signs s brackets nss) (bracket_signs s (innermost brackets) b ms p)
+          ap (λ (xs : List Sign). (xs ++ nodes_signs s (innermost brackets) ns) ++ around_signs s brackets nss) (bracket_signs s (innermost brackets) b ms p f)
           ∙ within_spells b (place_in (innermost brackets) p) (nodes_signs s b ms) (nodes_signs s (innermost brackets) ns) (around_signs s brackets nss);
     }
 
-elements_spell : (s : Scope) (brackets : List Bracket) (es : List Element) → Matching brackets es → Spells s brackets (rests es) (element_signs s brackets es)
-elements_spell s [] [] h = record { around = refl; written = refl }
-elements_spell s (b ∷ brackets) [] h = absurd (cc)
-elements_spell s brackets (element.Item t ∷ es) h =
-    let rest = elements_spell s brackets es h in
+no_fry : (b : Bracket) (p : Place) → IsOfWords (element.Opens b p) → IsNoFry b
+no_fry Quotation p w = tt
+no_fry Array p w = tt
+no_fry Fry p w = absurd w
+
+more_items : (b : Bracket) (p : Place) (bs : List Bracket) → IsOfWords (element.Opens b p) → AreOfItems bs → AreOfItems (b ∷ bs)
+more_items Quotation p bs w f = f
+more_items Array p bs w f = f
+more_items Fry p bs w f = absurd w
+
+less_items : (b : Bracket) (bs : List Bracket) → AreOfItems (b ∷ bs) → AreOfItems bs
+less_items Quotation bs f = f
+less_items Array bs f = f
+less_items Fry bs f = absurd f
+
+elements_spell : (s : Scope) (brackets : List Bracket) (es : List Element) → AreOfItems brackets → AreOfWords es → Matching brackets es → Spells s brackets (rests es) (element_signs s brackets es)
+elements_spell s [] [] f w h = record { around = refl; written = refl }
+elements_spell s (b ∷ brackets) [] f w h = absurd (cc)
+elements_spell s brackets (element.Item t ∷ es) f w h =
+    let rest = elements_spell s brackets es f w.1 h in
     record {
       around = rest.around;
       written =
-          ap (λ (xs : List Sign). (xs ++ nodes_signs s (innermost brackets) (rests es).here) ++ around_signs s brackets (rests es).around) (term_alone s (innermost brackets) t)
+          ap (λ (xs : List Sign). (xs ++ nodes_signs s (innermost brackets) (rests es).here) ++ around_signs s brackets (rests es).around) (term_alone s (innermost brackets) t (innermost_no_fry brackets f) w.0)
           ∙ append_assoc (term_signs s (innermost brackets) t) (nodes_signs s (innermost brackets) (rests es).here) (around_signs s brackets (rests es).around)
           ∙ ap (λ (xs : List Sign). term_signs s (innermost brackets) t ++ xs) rest.written;
     }
-elements_spell s brackets (element.Opens b place ∷ es) h =
-    let rest = elements_spell s (b ∷ brackets) es h in
-    let made = bracket_spells s brackets b place (rests es).here (rests es).around rest.around in
+elements_spell s brackets (element.Opens b place ∷ es) f w h =
+    let rest = elements_spell s (b ∷ brackets) es (more_items b place brackets w.0 f) w.1 h in
+    let made = bracket_spells s brackets b place (rests es).here (rests es).around (no_fry b place w.0) rest.around in
     record { around = made.around; written = made.written ∙ ap (λ (xs : List Sign). opens b (place_in (innermost brackets) place) ∷ xs) rest.written }
-elements_spell s [] (element.Closes b place ∷ es) h = absurd h
-elements_spell s (c ∷ brackets) (element.Closes b place ∷ es) h =
-    let rest = elements_spell s brackets es h.1 in
+elements_spell s brackets (element.OpensLocals place names bar ∷ es) f w h = absurd w.0
+elements_spell s [] (element.Closes b place ∷ es) f w h = absurd h
+elements_spell s (c ∷ brackets) (element.Closes b place ∷ es) f w h =
+    let rest = elements_spell s brackets es (less_items c brackets f) w.1 h.1 in
     record { around = ap suc rest.around; written = ap (λ (d : Bracket). closes d ∷ all_signs s brackets (rests es)) h.0 ∙ ap (λ (xs : List Sign). closes b ∷ xs) rest.written }
 
 -- Brackets that match.
 
-abbrev bracket_of : Context → Bracket
-bracket_of context.Quotation = Quotation
-bracket_of (context.Array n) = Array
+-- a bracket that closes is of the kind of the one that it closes, where that is no fry's
+closed_alike : (a : Around) (b d : Bracket) (inner c : Context) (cs next : List Context) → inner.around ≡ a → kind_of inner.around ≡ d → IsNoFry d → closed_in a b inner c cs ≡ Some next → d ≡ b
+closed_alike stands_in.Items Quotation d inner c cs next e k f h = sym k ∙ ap kind_of e
+closed_alike (stands_in.Array n) Array d inner c cs next e k f h = sym k ∙ ap kind_of e
+closed_alike stands_in.Fry Quotation d inner c cs next e k f h = absurd (subst IsNoFry (sym k ∙ ap kind_of e) f)
+closed_alike stands_in.Items Fry d inner c cs next e k f h = absurd (cc)
+closed_alike stands_in.Items Array d inner c cs next e k f h = absurd (cc)
+closed_alike stands_in.Fry Fry d inner c cs next e k f h = absurd (cc)
+closed_alike stands_in.Fry Array d inner c cs next e k f h = absurd (cc)
+closed_alike (stands_in.Array n) Quotation d inner c cs next e k f h = absurd (cc)
+closed_alike (stands_in.Array n) Fry d inner c cs next e k f h = absurd (cc)
 
-abbrev brackets_of : List Context → List Bracket
-brackets_of cs = map bracket_of cs
+first_no_fry : (b : Bracket) (bs : List Bracket) → AreOfItems (b ∷ bs) → IsNoFry b
+first_no_fry Quotation bs f = tt
+first_no_fry Array bs f = tt
+first_no_fry Fry bs f = absurd f
 
-counted_same : (cs next : List Context) → counted cs ≡ Some next → brackets_of next ≡ brackets_of cs
-counted_same [] next h = let alike : next ≡ [] = cc in ap brackets_of alike
-counted_same (context.Quotation ∷ cs) next h = let alike : next ≡ context.Quotation ∷ cs = cc in ap brackets_of alike
-counted_same (context.Array n ∷ cs) next h = one (nat_lt n most_elements) h
-  where
-    one : (b : Bool) → cond b (Some (context.Array (n + 1) ∷ cs)) None ≡ Some next → brackets_of next ≡ Array ∷ brackets_of cs
-    one true is = let alike : next ≡ context.Array (n + 1) ∷ cs = cc in ap brackets_of alike
-    one false is = absurd (cc)
+closes_alike : (cs next : List Context) (d b : Bracket) (bs : List Bracket) → Stand (seen_all cs) (d ∷ bs) → IsNoFry d → closed cs b ≡ Some next → d ≡ b
+closes_alike [] next d b bs s f h = absurd s
+closes_alike (c ∷ []) next d b bs s f h = absurd (cc)
+closes_alike (inner ∷ c ∷ cs) next d b bs s f h = closed_alike inner.around b d inner c cs next refl s.0 f h
 
-uncounted_same : (cs next : List Context) → uncounted cs ≡ Some next → brackets_of next ≡ brackets_of cs
-uncounted_same [] next h = let alike : next ≡ [] = cc in ap brackets_of alike
-uncounted_same (context.Quotation ∷ cs) next h = let alike : next ≡ context.Quotation ∷ cs = cc in ap brackets_of alike
-uncounted_same (context.Array n ∷ cs) next h = absurd (cc)
-
-item_same : (cs next : List Context) (t : Term) → item_behind cs t ≡ Some next → brackets_of next ≡ brackets_of cs
-item_same cs next (term.Name t) h = counted_same cs next h
-item_same cs next (term.Integer t z) h = counted_same cs next h
-item_same cs next (term.Text t) h = counted_same cs next h
-item_same cs next (term.True p) h = counted_same cs next h
-item_same cs next (term.False p) h = counted_same cs next h
-item_same cs next (term.NextMethod p) h = uncounted_same cs next h
-
-context_bracket : (b : Bracket) → bracket_of (context_of b) ≡ b
-context_bracket Quotation = refl
-context_bracket Array = refl
-
-opened_same : (o : Option (List Context)) (cs next : List Context) (b : Bracket) → counted cs ≡ o → counted_opened o b ≡ Some next → brackets_of next ≡ b ∷ brackets_of cs
-opened_same None cs next b e h = absurd (cc)
-opened_same (Some ds) cs next b e h = one (nat_lt (length ds) most_levels) h
-  where
-    one : (c : Bool) → cond c (Some (context_of b ∷ ds)) None ≡ Some next → brackets_of next ≡ b ∷ brackets_of cs
-    one true is =
-        let alike : next ≡ context_of b ∷ ds = cc in
-        ap brackets_of alike ∙ ap (λ (x : Bracket). x ∷ brackets_of ds) (context_bracket b) ∙ ap (λ (xs : List Bracket). b ∷ xs) (counted_same cs ds e)
-    one false is = absurd (cc)
-
-closed_same : (c : Context) (b : Bracket) (cs next : List Context) → closed (c ∷ cs) b ≡ Some next → (bracket_of c ≡ b) × (brackets_of next ≡ brackets_of cs)
-closed_same context.Quotation Quotation cs next h = let alike : next ≡ cs = cc in (refl, ap brackets_of alike)
-closed_same context.Quotation Array cs next h = absurd (cc)
-closed_same (context.Array n) Quotation cs next h = absurd (cc)
-closed_same (context.Array n) Array cs next h = let alike : next ≡ cs = cc in (refl, ap brackets_of alike)
-
-leads_matching : (cs : List Context) (es : List Element) → Lead cs es [] → Matching (brackets_of cs) es
-leads_matching cs [] h = ap brackets_of h
-leads_matching cs (element.Item t ∷ es) h = subst (λ (bs : List Bracket). Matching bs es) (item_same cs h.1 t h.2) (leads_matching h.1 es h.3)
-leads_matching cs (element.Opens b place ∷ es) h = subst (λ (bs : List Bracket). Matching bs es) (opened_same (counted cs) cs h.1 b refl h.2) (leads_matching h.1 es h.3)
-leads_matching [] (element.Closes b place ∷ es) h = absurd (no_bracket h.1 h.2)
-  where
-    no_bracket : (next : List Context) → closed [] b ≡ Some next → ⊥
-    no_bracket next e = cc
-leads_matching (c ∷ cs) (element.Closes b place ∷ es) h =
-    let one = closed_same c b cs h.1 h.2 in
-    (one.0, subst (λ (bs : List Bracket). Matching bs es) one.1 (leads_matching h.1 es h.3))
+leads_matching : (cs : List Context) (to : Context) (bs : List Bracket) (es : List Element) → Stand (seen_all cs) bs → AreOfItems bs → AreOfWords es → Lead cs es (to ∷ []) → Matching bs es
+leads_matching cs to bs [] s f w h = let t = subst (λ (xs : List Context). Stand (seen_all xs) bs) h s in t.0
+leads_matching cs to bs (element.Item t ∷ es) s f w h = let k = steps cs h.1 bs (element.Item t) s h.2 in leads_matching h.1 to bs es k.1 f w.1 h.3
+leads_matching cs to bs (element.Opens b p ∷ es) s f w h = let k = steps cs h.1 bs (element.Opens b p) s h.2 in leads_matching h.1 to (b ∷ bs) es k.1 (more_items b p bs w.0 f) w.1 h.3
+leads_matching cs to bs (element.OpensLocals p names bar ∷ es) s f w h = absurd w.0
+leads_matching cs to [] (element.Closes b p ∷ es) s f w h = (let k = steps cs h.1 [] (element.Closes b p) s h.2 in absurd k.0)
+leads_matching cs to (d ∷ bs) (element.Closes b p ∷ es) s f w h =
+    let k = steps cs h.1 (d ∷ bs) (element.Closes b p) s h.2 in (closes_alike cs h.1 d b bs s (first_no_fry d bs f) h.2, leads_matching h.1 to bs es k.1 (less_items d bs f) w.1 h.3)
 
 pub phrases_are_written : PhrasesAreWrittenAsItems
-phrases_are_written s arrays items h same_nodes =
-    let spelled = elements_spell s [] items (leads_matching [] items h) in
+phrases_are_written s arrays items h w same_nodes =
+    let spelled = elements_spell s [] items tt w (leads_matching (items_in None ∷ []) h.0 [] items (refl, refl, refl) tt w h.1) in
     let m = phrase_of s [] (nested items) arrays 0 in
     ap (λ (ns : Nodes). let q = phrase_of s [] ns arrays 0 in phrase_signs (array_signs q.arrays) q.phrase) same_nodes
-    ∙ phrase_written s (nested items) arrays 0 m.arrays (nested_raw items) (same m.arrays)
+    ∙ phrase_written s (nested items) arrays 0 m.arrays (rests_worded items w).0 (same m.arrays)
     ∙ sym (append-nil (nodes_signs s Quotation (nested items)))
     ∙ spelled.written

@@ -10,7 +10,7 @@ use Rattle.std.specs.Str.{bytes_eq}
 use Rattle.fac_lang.specs.Forms.{IsBuilt, IsBuiltPhrase, IsBuiltSort, AreBuiltArrays, AreBuiltElements, AreBuiltWords, IsTopPhrase}
 use Rattle.fac_lang.specs.Meaning.{sort_of, is_past}
 use Rattle.fac_lang.specs.PrimitiveWords.{PrimitiveWord, plain_inputs, plain_leaving, written_effect}
-use Rattle.fac_lang.specs.Phrases.{Phrase, end, then, Item, lit, int, yes, no, str, wrd, lit_arr, quot, word, next_method}
+use Rattle.fac_lang.specs.Phrases.{Phrase, end, then, Item, lit, int, yes, no, str, wrd, lit_arr, quot, word, bind, local, fry, hole, next_method}
 use Rattle.fac_lang.specs.Whole.{IsWhole, all_arrays_named, all_phrases, arrays_in, arrays_named, joined, literal_fits, literal_spares, names_earlier, quotations, times_in, each_item, each_numbered, locals_bound, holes_within, item_fits, item_spares, is_body, tests_small, word_phrases, sort_fits, has_written_effect, has_generic_effect, marks_fit, effect_eq, inputs_eq, leaving_eq, names_eq, name_count, no_two, same_word, same_method, is_class, is_generic, shape_fits, slots_of, reaches, same_class_name, each_below, plain_effect}
 use Rattle.fac_lang.specs.declared.program.ClassDef.{ClassDef}
 use Rattle.fac_lang.specs.declared.program.Lit.{Lit}
@@ -19,6 +19,7 @@ use Rattle.fac_lang.specs.declared.program.Program.{Program}
 use Rattle.fac_lang.specs.declared.program.Sort.{Sort}
 use Rattle.fac_lang.specs.declared.program.Sort.TheVariants.{Prim as prim, Core as core, Body as body, Past as past, Itself as itself, Class as class, Isa as isa, Getter as getter, Setter as setter, Putter as putter, Generic as generic, Method as method}
 use Rattle.fac_lang.specs.declared.program.WordDef.{WordDef}
+use Rattle.fac_items.proofs.LocalNumbers.{is_closed}
 use Rattle.fac_items.proofs.ArrayNumbers.{all_below, all_named_below, all_once, below}
 use Rattle.fac_lang.proofs.FormsLemmas.{word_below, sort_at, top_sort}
 
@@ -45,6 +46,10 @@ record Passes (bound count : ℕ) (f : Item → Bool) : Type 0 where
   quotations : (t : Phrase) → f (quot t) ≡ true
   words : (w : ℕ) → nat_lt w bound ≡ true → f (word w) ≡ true
   next : f next_method ≡ true
+  binds : (x : ℕ) → f (bind x) ≡ true
+  locals : (x : ℕ) → f (local x) ≡ true
+  fries : (t : Phrase) (n : ℕ) → f (fry t n) ≡ true
+  holes : (k : ℕ) → f (hole k) ≡ true
 
 split_below : (n : ℕ) (xs ys : List ℕ) → all_below n (xs ++ ys) ≡ true → (all_below n xs ≡ true) × (all_below n ys ≡ true)
 split_below n xs ys h = both_true (all_below n xs) (all_below n ys) (sym (list_all-append (λ (b : ℕ). nat_lt b n) xs ys) ∙ h)
@@ -62,33 +67,23 @@ items_pass bound count f p (then (quot u) place t) h k =
     let inside = split_below count (arrays_named u) (arrays_named t) k in three_true (f (quot u)) (each_item f u) (each_item f t) (p.quotations u) (items_pass bound count f p u h.0 inside.0) (items_pass bound count f p t h.1 inside.1)
 items_pass bound count f p (then (word w) place t) h k = three_true (f (word w)) true (each_item f t) (p.words w h.0) refl (items_pass bound count f p t h.1 k)
 items_pass bound count f p (then next_method place t) h k = three_true (f next_method) true (each_item f t) p.next refl (items_pass bound count f p t h.1 k)
+items_pass bound count f p (then (bind x) place t) h k = three_true (f (bind x)) true (each_item f t) (p.binds x) refl (items_pass bound count f p t h.1 k)
+items_pass bound count f p (then (local x) place t) h k = three_true (f (local x)) true (each_item f t) (p.locals x) refl (items_pass bound count f p t h.1 k)
+items_pass bound count f p (then (hole x) place t) h k = three_true (f (hole x)) true (each_item f t) (p.holes x) refl (items_pass bound count f p t h.1 k)
+items_pass bound count f p (then (fry u n) place t) h k =
+    let inside = split_below count (arrays_named u) (arrays_named t) k in three_true (f (fry u n)) (each_item f u) (each_item f t) (p.fries u n) (items_pass bound count f p u h.0 inside.0) (items_pass bound count f p t h.1 inside.1)
 items_pass bound count f p (then i place t) h k = absurd h.0
 
-phrase_bound : (bound : ℕ) (xs : List ℕ) (t : Phrase) → IsBuiltPhrase bound t → locals_bound xs t ≡ true
-phrase_bound bound xs end h = refl
-phrase_bound bound xs (then (lit (int z)) place t) h = phrase_bound bound xs t h.1
-phrase_bound bound xs (then (lit yes) place t) h = phrase_bound bound xs t h.1
-phrase_bound bound xs (then (lit no) place t) h = phrase_bound bound xs t h.1
-phrase_bound bound xs (then (lit (str cs)) place t) h = phrase_bound bound xs t h.1
-phrase_bound bound xs (then (lit (wrd w)) place t) h = phrase_bound bound xs t h.1
-phrase_bound bound xs (then (lit_arr a) place t) h = phrase_bound bound xs t h.1
-phrase_bound bound xs (then (quot u) place t) h = both_are (locals_bound xs u) (locals_bound xs t) (phrase_bound bound xs u h.0) (phrase_bound bound xs t h.1)
-phrase_bound bound xs (then (word w) place t) h = phrase_bound bound xs t h.1
-phrase_bound bound xs (then next_method place t) h = phrase_bound bound xs t h.1
-phrase_bound bound xs (then i place t) h = absurd h.0
+-- what holds of all phrases together
+closed_bound : (ts : List Phrase) → list_all is_closed ts ≡ true → list_all (locals_bound []) ts ≡ true
+closed_bound [] h = refl
+closed_bound (t ∷ ts) h =
+    let both = both_true (is_closed t) (list_all is_closed ts) h in both_are (locals_bound [] t) (list_all (locals_bound []) ts) (both_true (locals_bound [] t) (holes_within 0 t) both.0).0 (closed_bound ts both.1)
 
-phrase_without_holes : (bound : ℕ) (t : Phrase) → IsBuiltPhrase bound t → holes_within 0 t ≡ true
-phrase_without_holes bound end h = refl
-phrase_without_holes bound (then (lit (int z)) place t) h = phrase_without_holes bound t h.1
-phrase_without_holes bound (then (lit yes) place t) h = phrase_without_holes bound t h.1
-phrase_without_holes bound (then (lit no) place t) h = phrase_without_holes bound t h.1
-phrase_without_holes bound (then (lit (str cs)) place t) h = phrase_without_holes bound t h.1
-phrase_without_holes bound (then (lit (wrd w)) place t) h = phrase_without_holes bound t h.1
-phrase_without_holes bound (then (lit_arr a) place t) h = phrase_without_holes bound t h.1
-phrase_without_holes bound (then (quot u) place t) h = both_are (holes_within 0 u) (holes_within 0 t) (phrase_without_holes bound u h.0) (phrase_without_holes bound t h.1)
-phrase_without_holes bound (then (word w) place t) h = phrase_without_holes bound t h.1
-phrase_without_holes bound (then next_method place t) h = phrase_without_holes bound t h.1
-phrase_without_holes bound (then i place t) h = absurd h.0
+closed_holes : (ts : List Phrase) → list_all is_closed ts ≡ true → list_all (holes_within 0) ts ≡ true
+closed_holes [] h = refl
+closed_holes (t ∷ ts) h =
+    let both = both_true (is_closed t) (list_all is_closed ts) h in both_are (holes_within 0 t) (list_all (holes_within 0) ts) (both_true (locals_bound [] t) (holes_within 0 t) both.0).1 (closed_holes ts both.1)
 
 -- Words.
 
@@ -303,6 +298,7 @@ literal_word_spares P b w h = word_spares P b w h
 
 -- what holds of the classes and of all words together
 pub record IsTogether (P : Program) : Type 0 where
+  pub closed : list_all is_closed (all_phrases P) ≡ true
   pub few : list_all (λ (d : WordDef). nat_le (name_count d.effect) 65) P.words ≡ true
   pub once : (a : ℕ) → times_in a (all_arrays_named P) ≡ below (length P.arrays) a
   pub earlier : each_numbered names_earlier 0 P.arrays ≡ true
@@ -324,7 +320,7 @@ whole P b h =
     let named = split_below n (joined (map arrays_named (word_phrases P.words))) (joined (map arrays_in P.arrays)) (all_named_below n (all_arrays_named P) (all_arrays_named P) h.once (λ a. omega arith)) in
     let good = good_both top n (word_phrases P.words) (joined (map quotations P.arrays)) (good_words top n P.words all named.0) (good_arrays top n P.arrays b.arrays_built named.1) in
     record {
-      items_fit = all_items_pass top n (item_fits P) (record { ints = λ z. refl; truth = refl; falsity = refl; strings = λ cs. refl; references = word_fits P b; arrays = λ a k. k; quotations = λ t. refl; words = word_fits P b; next = refl }) (all_phrases P) good;
+      items_fit = all_items_pass top n (item_fits P) (record { ints = λ z. refl; truth = refl; falsity = refl; strings = λ cs. refl; references = word_fits P b; arrays = λ a k. k; quotations = λ t. refl; words = word_fits P b; next = refl; binds = λ x. refl; locals = λ x. refl; fries = λ t n. refl; holes = λ k. refl }) (all_phrases P) good;
       literals_fit = arrays_pass top n (literal_fits P) (record { ints = λ z. refl; truth = refl; falsity = refl; strings = λ cs. refl; arrays = λ a k. k; words = word_fits P b; quotations = λ t. refl }) P.arrays b.arrays_built named.1;
       sorts_fit = sorts_pass P top P.words all h.names_fit;
       shapes_fit = h.shapes_fit;
@@ -332,15 +328,15 @@ whole P b h =
       arrays_once = all_once n (all_arrays_named P) h.once;
       top_last = words_counted P b;
       top_phrase = ap is_body (top_sort P b);
-      items_spare = all_items_pass top n (item_spares P) (record { ints = λ z. refl; truth = refl; falsity = refl; strings = λ cs. refl; references = word_spares P b; arrays = λ a k. refl; quotations = λ t. refl; words = word_spares P b; next = refl }) (all_phrases P) good;
+      items_spare = all_items_pass top n (item_spares P) (record { ints = λ z. refl; truth = refl; falsity = refl; strings = λ cs. refl; references = word_spares P b; arrays = λ a k. refl; quotations = λ t. refl; words = word_spares P b; next = refl; binds = λ x. refl; locals = λ x. refl; fries = λ t n. refl; holes = λ k. refl }) (all_phrases P) good;
       literals_spare = arrays_pass top n (literal_spares P) (record { ints = λ z. refl; truth = refl; falsity = refl; strings = λ cs. refl; arrays = λ a k. refl; words = literal_word_spares P b; quotations = λ t. refl }) P.arrays b.arrays_built named.1;
-      bound = phrases_pass top n (locals_bound []) (λ t built inside. phrase_bound top [] t built) (all_phrases P) good;
-      holes_in_fries = phrases_pass top n (holes_within 0) (λ t built inside. phrase_without_holes top t built) (all_phrases P) good;
+      bound = closed_bound (all_phrases P) h.closed;
+      holes_in_fries = closed_holes (all_phrases P) h.closed;
       written_effects = words_pass top has_written_effect (λ d is. effect_passes top d d.sort refl is) P.words all;
       method_effects = h.method_effects;
       marks_of_bodies = all_marks P b;
       few_names = h.few;
-      small_tests = all_items_pass top n tests_small (record { ints = λ z. refl; truth = refl; falsity = refl; strings = λ cs. refl; references = λ w k. refl; arrays = λ a k. refl; quotations = λ t. refl; words = λ w k. refl; next = refl }) (all_phrases P) good;
+      small_tests = all_items_pass top n tests_small (record { ints = λ z. refl; truth = refl; falsity = refl; strings = λ cs. refl; references = λ w k. refl; arrays = λ a k. refl; quotations = λ t. refl; words = λ w k. refl; next = refl; binds = λ x. refl; locals = λ x. refl; fries = λ t n. refl; holes = λ k. refl }) (all_phrases P) good;
       slots_differ = h.slots_differ;
       few_slots = h.few_slots;
       class_names_differ = h.class_names_differ;

@@ -6,14 +6,15 @@ use Rattle.fac_lang.specs.declared.tree.Element.{Element}
 use Rattle.fac_lang.specs.declared.tree.Form.{Form as Flat}
 use Rattle.fac_lang.specs.declared.tree.Form.TheVariants.{Row, Items}
 use Rattle.fac_lang.specs.declared.tree.FormKind.{FormKind}
-use Rattle.fac_lang.specs.declared.tree.FormKind.TheVariants.{In, Use, Using, From, QualifiedWith, Defer, Symbol, Constant, Private, Public, Main, Define, Tuple, Union, Singleton, Generic, Method, Maker}
+use Rattle.fac_lang.specs.declared.tree.FormKind.TheVariants.{In, Use, Using, From, QualifiedWith, Defer, Symbol, Constant, Private, Public, Main, Define, DefineLocals, Tuple, Union, Singleton, Generic, Method, Maker}
 use Rattle.fac_lang.specs.declared.tree.Mark.{Mark}
 use Rattle.fac_lang.specs.declared.tree.Mark.TheVariants.{Inline, Recursive}
 use Rattle.fac_lang.specs.declared.tree.Parent.{Parent}
 use Rattle.fac_lang.specs.declared.tree.Part.{Part}
 use Rattle.fac_lang.specs.declared.tree.Part.TheVariants as part
 use Rattle.fac_items.specs.FromElements.{nested, tok}
-use Rattle.fac_items.specs.Written.{Tok, Node, n_part, Nodes, nothing, more, given, Form, f_in, f_use, f_using, f_from, f_qualified, f_private, f_public, f_defer, f_symbol, f_constant, f_main, f_define, f_tuple, f_union, f_single, f_maker, f_generic, f_method, f_items}
+use Rattle.fac_names.specs.WrittenInputs.{written_inputs}
+use Rattle.fac_items.specs.Written.{Tok, Node, n_part, Nodes, nothing, more, given, Form, f_in, f_use, f_using, f_from, f_qualified, f_private, f_public, f_defer, f_symbol, f_constant, f_main, f_define, f_locals, f_tuple, f_union, f_single, f_maker, f_generic, f_method, f_items}
 
 abbrev pub is_inline : List Mark → Bool
 is_inline [] = false
@@ -66,6 +67,12 @@ effect_in [] = signature None no_inputs (leaves None [])
 effect_in (part.Effect e ∷ parts) = e.effect
 effect_in (p ∷ parts) = effect_in parts
 
+-- the inputs of an effect, which are locals
+abbrev pub inputs_in : List Part → List Tok
+inputs_in [] = []
+inputs_in (part.Effect e ∷ parts) = written_inputs e.tokens
+inputs_in (p ∷ parts) = inputs_in parts
+
 abbrev pub elements_in : List Part → List Element
 elements_in [] = []
 elements_in (part.Items es ends ∷ parts) = es
@@ -91,6 +98,7 @@ row Private parts = f_private
 row Public parts = f_public
 row Main parts = f_main (first_name parts)
 row Define parts = f_define (first_name parts) (given (effect_in parts)) (nested (elements_in parts)) (is_inline (marks_in parts)) (is_recursive (marks_in parts))
+row DefineLocals parts = f_locals (first_name parts) (inputs_in parts) (effect_in parts) (nested (elements_in parts)) (is_inline (marks_in parts)) (is_recursive (marks_in parts))
 row Tuple parts = f_tuple (first_name parts) (parent_in parts) (slots_in parts)
 row Union parts = f_union (first_name parts) (names_in parts)
 row Singleton parts = f_single (first_name parts)

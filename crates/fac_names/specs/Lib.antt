@@ -1,5 +1,6 @@
 pub mod Forms
 pub mod Resolved
+pub mod WrittenInputs
 pub mod FromFlat
 pub mod KnownWords
 pub mod Resolution

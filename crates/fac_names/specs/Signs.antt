@@ -5,7 +5,7 @@ use Rattle.fac_lang.specs.declared.phrase.Place.{Place}
 use Rattle.fac_lang.specs.declared.program.Lit.{Lit}
 use Rattle.fac_lang.specs.declared.program.Lit.TheVariants as literal
 use Rattle.fac_lang.specs.declared.tree.Bracket.{Bracket}
-use Rattle.fac_lang.specs.declared.tree.Bracket.TheVariants.{Quotation, Array}
+use Rattle.fac_lang.specs.declared.tree.Bracket.TheVariants.{Quotation, Array, Fry}
 use Rattle.fac_lang.specs.declared.tree.Element.{Element}
 use Rattle.fac_lang.specs.declared.tree.Element.TheVariants as element
 use Rattle.fac_lang.specs.declared.tree.Term.{Term}
@@ -71,6 +71,7 @@ innermost (b ∷ bs) = b
 abbrev pub place_in : Bracket → Place → Option Place
 place_in Quotation place = Some place
 place_in Array place = None
+place_in Fry place = Some place
 
 -- an item of one token, by the word that its name finds; a next method is no value, so an array has none
 abbrev pub term_signs : Scope → Bracket → Term → List Sign
@@ -85,7 +86,7 @@ term_signs s Array (term.Integer t z) = value (literal.Int z) ∷ []
 term_signs s Array (term.Text t) = value (literal.Str (token_text t.kind)) ∷ []
 term_signs s Array (term.True place) = value literal.True ∷ []
 term_signs s Array (term.False place) = value literal.False ∷ []
-term_signs s Array (term.NextMethod place) = []
+term_signs s _ _ = []
 
 abbrev pub rest_of : List Bracket → List Bracket
 rest_of [] = []
@@ -96,10 +97,24 @@ abbrev pub element_signs : Scope → List Bracket → List Element → List Sign
 element_signs s brackets [] = []
 element_signs s brackets (element.Item t ∷ es) = term_signs s (innermost brackets) t ++ element_signs s brackets es
 element_signs s brackets (element.Opens bracket place ∷ es) = opens bracket (place_in (innermost brackets) place) ∷ element_signs s (bracket ∷ brackets) es
+element_signs s brackets (element.OpensLocals place names bar ∷ es) = element_signs s (Quotation ∷ brackets) es
 element_signs s brackets (element.Closes bracket place ∷ es) = closes bracket ∷ element_signs s (rest_of brackets) es
 
--- Items that their readings leave as they are: their phrase is written as they are, behind any arrays.
+-- Elements without locals, fries and holes.
+abbrev pub IsOfWords : Element → Type 0
+IsOfWords (element.Item (term.Bind sign name)) = ⊥
+IsOfWords (element.Item (term.Hole place)) = ⊥
+IsOfWords (element.Item (term.CalledHole place)) = ⊥
+IsOfWords (element.Opens Fry place) = ⊥
+IsOfWords (element.OpensLocals place names bar) = ⊥
+IsOfWords _ = Unit {0}
+
+abbrev pub AreOfWords : List Element → Type 0
+AreOfWords [] = Unit {0}
+AreOfWords (e ∷ es) = IsOfWords e × AreOfWords es
+
+-- Items of words that their readings leave as they are: their phrase is written as they are, behind any arrays.
 abbrev pub PhrasesAreWrittenAsItems : Type 0
 PhrasesAreWrittenAsItems =
-    (s : Scope) (arrays : List (List Lit)) (items : List Element) → AreItems items → nodes_read s items ≡ nested items →
-    (let m = made s items arrays in phrase_signs (array_signs m.arrays) m.phrase) ≡ element_signs s [] items
+    (s : Scope) (arrays : List (List Lit)) (items : List Element) → AreItems None items → AreOfWords items → nodes_read s (nested items) ≡ nested items →
+    (let m = made s (nested items) arrays in phrase_signs (array_signs m.arrays) m.phrase) ≡ element_signs s [] items

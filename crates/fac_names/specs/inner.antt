@@ -6,3 +6,4 @@ pub mod Named
 pub mod Tuples
 pub mod Accessors
 pub mod Ended
+pub mod Walks

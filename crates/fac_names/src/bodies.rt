@@ -1,5 +1,5 @@
 //! What forms with items define and do, and `C:`, whose items are made.
-ghost use Rattle.std.specs.Prelude.{◌≡◌, ◌∷◌, [], codes, false, IfOk, OnOk};
+ghost use Rattle.std.specs.Prelude.{◌≡◌, ◌∷◌, [], codes, false, map, IfOk, OnOk};
 ghost use Rattle.fac_lang.specs.PhraseView.{items_phrase};
 ghost use Rattle.fac_lang.specs.Phrases.{end, then, word};
 ghost use Rattle.fac_lang.specs.RunningLaws.{append};
@@ -9,7 +9,8 @@ ghost use Rattle.fac_refusal.specs.Toks.{number};
 ghost use Rattle.fac_endings.specs.Words.{no_effect};
 ghost use Rattle.fac_items.specs.FromElements.{AreClosing, nested, tok};
 ghost use Rattle.fac_items.specs.Items.{ref, search_faults};
-ghost use Rattle.fac_items.specs.Readings.{read_form};
+ghost use Rattle.fac_items.specs.Readings.{read_form, with_inputs};
+ghost use Rattle.fac_items.specs.inner.Behind.{name_tok};
 ghost use Rattle.fac_items.specs.Written.{f_define, f_items, f_maker, f_method, given};
 ghost use Rattle.fac_names.specs.Forms.{added, refused, take};
 ghost use Rattle.fac_names.specs.inner.State.{Reads, reading_of};
@@ -20,40 +21,55 @@ use crate::naming::own;
 use crate::so_far::SoFar;
 use fac_effect::text;
 use fac_endings::{Late, no_effect};
-use fac_items::{phrase_of, refer};
+use fac_items::{NameAt, phrase_of, refer};
 use fac_lang::{Effect, Element, Item, Memory, Name, Phrase, Place, Sort, Text, Token, What};
 use fac_refusal::Ref;
 use std::alloc::Global;
 
-// The phrase of items.
-fn read_phrase(alloc: Global, so_far: &mut SoFar, elements: &[Element]) -> Result<Phrase, Memory>
-    requires { AreClosing 0 elements.now }
-    ensures { IfOk result (λ phrase. Reads so_far.old elements.now phrase so_far.new) }
+// The phrase of items behind the bindings of inputs.
+fn read_phrase<'a>(
+    alloc: Global,
+    so_far: &mut SoFar,
+    inputs: &[NameAt<'a>],
+    elements: &'a [Element],
+) -> Result<Phrase, Memory>
+    requires { AreClosing [] elements.now }
+    ensures { IfOk result (λ phrase. Reads so_far.old (with_inputs (map name_tok inputs.now) (nested elements.now)) phrase so_far.new) }
 {
     phrase_of(
         alloc,
         &so_far.scope,
         &mut so_far.first,
         &mut so_far.arrays,
+        inputs,
         elements,
     )
 }
 
-/// Takes the definition of a word with this effect.
-pub fn define(
+// The phrase of items without inputs.
+fn read_items(alloc: Global, so_far: &mut SoFar, elements: &[Element]) -> Result<Phrase, Memory>
+    requires { AreClosing [] elements.now }
+    ensures { IfOk result (λ phrase. Reads so_far.old (nested elements.now) phrase so_far.new) }
+{
+    read_phrase(alloc, so_far, &[], elements)
+}
+
+/// Takes the definition of a word with this effect and these marks, `inline` and `recursive`. Its inputs are locals where there are any.
+pub fn define<'a>(
     alloc: Global,
     so_far: &mut SoFar,
     name: &Token,
     effect: Effect,
-    elements: &[Element],
-    inline: bool,
-    recursive: bool,
+    inputs: &[NameAt<'a>],
+    elements: &'a [Element],
+    marks: (bool, bool),
 ) -> Result<(), Memory>
-    requires { AreClosing 0 elements.now }
-    ensures { OnOk result (reading_of so_far.new ≡ take (f_define (tok name.now) (given effect) (nested elements.now) inline recursive) (reading_of so_far.old)) }
+    requires { AreClosing [] elements.now }
+    ensures { OnOk result (reading_of so_far.new ≡ take (f_define (tok name.now) (given effect) (with_inputs (map name_tok inputs.now) (nested elements.now)) marks.0 marks.1) (reading_of so_far.old)) }
 {
+    let (inline, recursive) = marks;
     let number = own(alloc, so_far, name)?;
-    let body = read_phrase(alloc, so_far, elements)?;
+    let body = read_phrase(alloc, so_far, inputs, elements)?;
     so_far.drafts.tell(
         number,
         Told {
@@ -130,12 +146,12 @@ pub fn method(
     generic: &Token,
     elements: &[Element],
 ) -> Result<(), Memory>
-    requires { AreClosing 0 elements.now }
+    requires { AreClosing [] elements.now }
     ensures { OnOk result (reading_of so_far.new ≡ take (f_method (tok class.now) (tok generic.now) (nested elements.now)) (reading_of so_far.old)) }
 {
     let (class, of) = refer_both(alloc, so_far, class, generic)?;
     let number = add_method(alloc, so_far, generic)?;
-    let body = read_phrase(alloc, so_far, elements)?;
+    let body = read_items(alloc, so_far, elements)?;
     so_far
         .drafts
         .tell(number, late_body(alloc, body, Late::Method(class, of)))
@@ -186,7 +202,7 @@ pub fn maker(alloc: Global, so_far: &mut SoFar, name: &Token, class: &Token) -> 
 }
 
 /// Adds items behind others.
-#[tactic(auto, using(fac_items::proofs::TakenLemmas::items_phrase_append))]
+#[tactic(auto, using(fac_items::proofs::PhraseLemmas::items_phrase_append))]
 pub fn add_items(items: &mut Vec<Item>, mut more: Vec<Item>) -> Result<(), Memory>
     ensures { OnOk result (items_phrase items.new.items ≡ append (items_phrase items.old.items) (items_phrase more.items)) }
 {
@@ -196,10 +212,10 @@ pub fn add_items(items: &mut Vec<Item>, mut more: Vec<Item>) -> Result<(), Memor
 
 /// Takes items at the top level.
 pub fn take_items(alloc: Global, so_far: &mut SoFar, elements: &[Element]) -> Result<(), Memory>
-    requires { AreClosing 0 elements.now }
+    requires { AreClosing [] elements.now }
     ensures { OnOk result (reading_of so_far.new ≡ take (f_items (nested elements.now)) (reading_of so_far.old)) }
 {
-    let phrase = read_phrase(alloc, so_far, elements)?;
+    let phrase = read_items(alloc, so_far, elements)?;
     add_items(&mut so_far.items, phrase.items)?;
     Ok(())
 }

@@ -1,6 +1,6 @@
 //! Forms and files, in order.
 ghost use Rattle.std.specs.Prelude.{◌≡◌, fold, map, false, OnOk};
-ghost use Rattle.fac_lang.specs.declared.tree.FormKind.TheVariants.{Constant, Define, Generic, Method, Tuple, Union};
+ghost use Rattle.fac_lang.specs.declared.tree.FormKind.TheVariants.{Constant, Define, DefineLocals, Generic, Method, Tuple, Union};
 ghost use Rattle.fac_parse.specs.Rows.{slots_of};
 ghost use Rattle.fac_parse.specs.Trees.{AreWellFormed, FillAll, IsForm, IsWellFormed, forms_of};
 ghost use Rattle.fac_items.specs.FromElements.{nested, tok};
@@ -20,9 +20,10 @@ use crate::forms::{
     begin_file, close_private, enter, from, generic, open_private, qualify, symbol, take_defer,
     take_main, use_all, use_vocab,
 };
+use crate::inputs::written_inputs;
 use crate::parts::{
-    all_names, brought, constant_parts, definition_parts, generic_parts, marks_inline,
-    marks_recursive, method_parts, sole_name, tuple_parts, two_names, union_parts,
+    all_names, brought, constant_parts, definition_parts, generic_parts, locals_parts,
+    marks_inline, marks_recursive, method_parts, sole_name, tuple_parts, two_names, union_parts,
 };
 use crate::so_far::SoFar;
 use fac_endings::plain_effect;
@@ -30,21 +31,48 @@ use fac_lang::{Form, FormKind, List, Memory, Parent, Part, Token, Tree};
 use std::alloc::Global;
 
 // Takes the definition of a word.
-#[tactic(auto, using(crate::proofs::BracketLemmas::items_closing))]
+#[tactic(auto, using(crate::proofs::BracketLemmas::plain_closing))]
 fn take_definition(alloc: Global, so_far: &mut SoFar, parts: &[Part]) -> Result<(), Memory>
     requires { FillAll (slots_of Define) parts.now }
     ensures { OnOk result (reading_of so_far.new ≡ take (row Define parts.now) (reading_of so_far.old)) }
 {
     let definition = definition_parts(parts);
     let effect = definition.written.effect.copy(alloc)?;
+    let marks = (
+        marks_inline(definition.marks),
+        marks_recursive(definition.marks),
+    );
     define(
         alloc,
         so_far,
         definition.name,
         effect,
+        &[],
         definition.elements,
+        marks,
+    )
+}
+
+// Takes the definition of a word whose inputs are locals.
+fn take_locals(alloc: Global, so_far: &mut SoFar, parts: &[Part]) -> Result<(), Memory>
+    requires { FillAll (slots_of DefineLocals) parts.now }
+    ensures { OnOk result (reading_of so_far.new ≡ take (read_form (row DefineLocals parts.now)) (reading_of so_far.old)) }
+{
+    let definition = locals_parts(parts);
+    let effect = definition.written.effect.copy(alloc)?;
+    let inputs = written_inputs(alloc, definition.written.tokens.as_slice())?;
+    let marks = (
         marks_inline(definition.marks),
         marks_recursive(definition.marks),
+    );
+    define(
+        alloc,
+        so_far,
+        definition.name,
+        effect,
+        inputs.as_slice(),
+        definition.elements,
+        marks,
     )
 }
 
@@ -56,7 +84,7 @@ fn take_constant(alloc: Global, so_far: &mut SoFar, parts: &[Part]) -> Result<()
 {
     let (name, literal) = constant_parts(parts);
     let effect = plain_effect(alloc, &[], &["value"])?;
-    define(alloc, so_far, name, effect, literal, false, false)
+    define(alloc, so_far, name, effect, &[], literal, (false, false))
 }
 
 // The name of a parent, where one is written.
@@ -105,7 +133,7 @@ fn take_generic(alloc: Global, so_far: &mut SoFar, parts: &[Part]) -> Result<(),
 }
 
 // Takes an `M:`.
-#[tactic(auto, using(crate::proofs::BracketLemmas::items_closing))]
+#[tactic(auto, using(crate::proofs::BracketLemmas::plain_closing))]
 fn take_method(alloc: Global, so_far: &mut SoFar, parts: &[Part]) -> Result<(), Memory>
     requires { FillAll (slots_of Method) parts.now }
     ensures { OnOk result (reading_of so_far.new ≡ take (row Method parts.now) (reading_of so_far.old)) }
@@ -144,6 +172,7 @@ fn take_row(alloc: Global, so_far: &mut SoFar, kind: FormKind, parts: &[Part]) -
         }
         FormKind::Main => take_main(alloc, so_far, sole_name(parts)),
         FormKind::Define => take_definition(alloc, so_far, parts),
+        FormKind::DefineLocals => take_locals(alloc, so_far, parts),
         FormKind::Tuple => take_tuple(alloc, so_far, parts),
         FormKind::Union => take_union(alloc, so_far, parts),
         FormKind::Singleton => singleton(alloc, so_far, sole_name(parts)),
@@ -157,7 +186,7 @@ fn take_row(alloc: Global, so_far: &mut SoFar, kind: FormKind, parts: &[Part]) -
 }
 
 // Takes a form.
-#[tactic(auto, using(crate::proofs::BracketLemmas::items_closing))]
+#[tactic(auto, using(crate::proofs::BracketLemmas::plain_closing))]
 fn take_form(alloc: Global, so_far: &mut SoFar, form: &Form) -> Result<(), Memory>
     requires { IsForm form.now }
     ensures { OnOk result (reading_of so_far.new ≡ take (read_form (form_of form.now)) (reading_of so_far.old)) }

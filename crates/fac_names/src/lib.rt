@@ -7,6 +7,7 @@ mod classes;
 mod drafts;
 mod files;
 mod forms;
+mod inputs;
 mod known_words;
 mod laws;
 mod naming;

@@ -5,7 +5,7 @@ ghost use Rattle.fac_lang.specs.declared.tree.Part.TheVariants as part;
 ghost use Rattle.fac_parse.specs.declared.rows.Slot.TheVariants as slot;
 ghost use Rattle.fac_parse.specs.Trees.{FillAll};
 ghost use Rattle.fac_names.specs.FromFlat.{is_inline, is_recursive};
-ghost use Rattle.fac_names.specs.inner.Parts.{AreBrought, IsConstant, IsDefinition, IsMethod, IsNamesPart, IsTuple, IsUnion};
+ghost use Rattle.fac_names.specs.inner.Parts.{AreBrought, IsConstant, IsDefinition, IsLocals, IsMethod, IsNamesPart, IsTuple, IsUnion};
 
 use fac_lang::{Element, Mark, Parent, Part, Token, WrittenEffect};
 
@@ -81,6 +81,27 @@ pub struct Definition<'a> {
 pub fn definition_parts(parts: &[Part]) -> Definition<'_>
     requires { FillAll (slot.Name ∷ slot.Effect ∷ slot.Items ∷ slot.Marks ∷ []) parts.now }
     ensures { IsDefinition parts.now result.name.now result.written.now result.elements.now result.marks.now }
+{
+    match parts {
+        [
+            Part::Name(name),
+            Part::Effect(written),
+            Part::Items { elements, .. },
+            Part::Marks(marks),
+        ] => Definition {
+            name,
+            written,
+            elements: elements.as_slice(),
+            marks: marks.as_slice(),
+        },
+        _ => unreachable!(),
+    }
+}
+
+/// The parts of a definition whose inputs are locals.
+pub fn locals_parts(parts: &[Part]) -> Definition<'_>
+    requires { FillAll (slot.Name ∷ slot.LocalsEffect ∷ slot.LocalsItems ∷ slot.Marks ∷ []) parts.now }
+    ensures { IsLocals parts.now result.name.now result.written.now result.elements.now result.marks.now }
 {
     match parts {
         [

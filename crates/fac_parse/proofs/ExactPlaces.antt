@@ -1,11 +1,11 @@
 -- What is read is a tree's tokens, and nothing else is refused, at the exact place.
-use Rattle.fac_parse.specs.inner.Reader.{literal, name, names, tuple_slots, tuple_parent, fixed, effect, items, marks, Open, top, row, row_form, more, with_run, State, start, steps, ended, ended_open, IsRead}
+use Rattle.fac_parse.specs.inner.Reader.{no_half, binding, heading, literal, name, names, tuple_slots, tuple_parent, fixed, effect, items, marks, Open, top, row, row_form, more, with_run, State, start, steps, ended, ended_open, IsRead}
 use Rattle.std.proofs.Common.{ℕ, ◌≡◌, ◌+◌, ◌<◌, ◌≤◌, List, [], ◌∷◌, ◌++◌, Option, Some, None, refl, sym, ◌∙◌, ap, subst, append_assoc, append-nil, arith, take, drop, length}
 use Rattle.std.proofs.lemmas.List.{take-append-drop, take-take, take_all}
 use Rattle.fac_lang.specs.declared.token.Token.{Token}
 use Rattle.fac_lang.specs.declared.tree.Part.TheVariants as part
 use Rattle.fac_lang.specs.declared.tree.Form.{Form}
-use Rattle.fac_parse.specs.Trees.{flatten, IsWellFormed, Reads, Begins, Refused}
+use Rattle.fac_parse.specs.Trees.{items_tokens, flatten, IsWellFormed, Reads, Begins, Refused}
 use Rattle.fac_parse.proofs.StateTokens.{state_tokens, tokens_of, run_fits, run_tokens, GoodOpen, Good}
 use Rattle.fac_parse.proofs.ReaderKeeps.{Known, steps_known, start_good, marked_gone, marked_tokens}
 use Rattle.fac_parse.proofs.ReaderReads.{steps-append, tree_read}
@@ -20,8 +20,12 @@ is_ended : (fs forms : List Form) (tokens : List Token) → Some fs ≡ Some for
 is_ended fs forms tokens e h = let same : fs ≡ forms = cc in subst (λ (x : List Form). Ended x tokens) same h
 
 open_ended : (before : List Form) (o : Open) (forms : List Form) → IsWellFormed before → GoodOpen before o → ended_open before o ≡ Some forms → Ended forms (tokens_of before o)
-open_ended before (top es []) forms fits g e = is_ended (with_run before es) forms _ e (record { fits = run_fits before es fits g.1 g.0; spelled = run_tokens before es })
-open_ended before (top es (c ∷ contexts)) forms fits g e = cc
+open_ended before (top es (c ∷ []) no_half) forms fits g e =
+    is_ended (with_run before es) forms _ e (record { fits = run_fits before es fits g.2 (c, g.0); spelled = run_tokens before es ∙ ap (λ (ts : List Token). flatten before ++ ts) (sym (append-nil (items_tokens es))) })
+open_ended before (top es (c ∷ []) (binding sign)) forms fits g e = cc
+open_ended before (top es (c ∷ []) (heading opens ns)) forms fits g e = cc
+open_ended before (top es [] h) forms fits g e = cc
+open_ended before (top es (c ∷ d ∷ contexts) h) forms fits g e = cc
 open_ended before (row b (marks k ms)) forms fits g e =
     is_ended (before ++ row_form (more b (part.Marks ms)) ∷ []) forms _ e (record {
       fits = (marked_gone before b k ms fits g).good.fits;
@@ -32,24 +36,24 @@ open_ended before (row b (names k ns)) forms fits g e = cc
 open_ended before (row b (tuple_slots p ns)) forms fits g e = cc
 open_ended before (row b (tuple_parent place)) forms fits g e = cc
 open_ended before (row b (fixed key)) forms fits g e = cc
-open_ended before (row b (effect ts r)) forms fits g e = cc
-open_ended before (row b (items es contexts)) forms fits g e = cc
-open_ended before (row b (literal es contexts)) forms fits g e = cc
+open_ended before (row b (effect k ts r)) forms fits g e = cc
+open_ended before (row b (items k es contexts h)) forms fits g e = cc
+open_ended before (row b (literal es contexts h)) forms fits g e = cc
 
 known : (ts : List Token) (s : State) → steps (Some start) ts ≡ Some s → Good s × (state_tokens s ≡ ts)
 known ts s h = subst (λ (o : Option State). Known o ts) h (steps_known (Some start) ts [] (start_good, refl))
 
 open_read : (forms : List Form) (o : Open) → GoodOpen forms o → IsRead o
-open_read forms (row b (effect ts r)) g = g.within
+open_read forms (row b (effect k ts r)) g = g.within.0
 open_read forms (row b (name k)) g = tt
 open_read forms (row b (names k ns)) g = tt
 open_read forms (row b (tuple_slots p ns)) g = tt
 open_read forms (row b (tuple_parent place)) g = tt
 open_read forms (row b (fixed key)) g = tt
-open_read forms (row b (items es contexts)) g = tt
-open_read forms (row b (literal es contexts)) g = tt
+open_read forms (row b (items k es contexts h)) g = tt
+open_read forms (row b (literal es contexts h)) g = tt
 open_read forms (row b (marks k ms)) g = tt
-open_read forms (top es contexts) g = tt
+open_read forms (top es contexts h) g = tt
 
 -- an effect that is open is read as far as its tokens
 pub is_read : (ts : List Token) (s : State) → steps (Some start) ts ≡ Some s → IsRead s.open_part

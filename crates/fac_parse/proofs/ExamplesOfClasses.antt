@@ -9,12 +9,11 @@ use Rattle.fac_lang.specs.declared.tree.FormKind.TheVariants.{Tuple, Union, Sing
 use Rattle.fac_lang.specs.declared.tree.Mark.TheVariants as mark
 use Rattle.fac_lang.specs.declared.tree.Part.TheVariants as part
 use Rattle.fac_lang.specs.declared.tree.Term.TheVariants as term
-use Rattle.fac_parse.specs.declared.context.Context.TheVariants.{Quotation, Array}
 use Rattle.fac_effect.specs.declared.spelling.Spelling.TheVariants as spelled
 use Rattle.fac_effect.specs.Spellings.{spelling_of, has_integer_form, word_spelling, sign_spelling, is_reserved, is_reserved_sign, is_reserved_form, is_reserved_word, is_left_out}
-use Rattle.fac_parse.specs.Trees.{behind}
+use Rattle.fac_parse.specs.Contexts.{behind}
 use Rattle.fac_parse.specs.inner.Reader.{begun, tuple_slots, row, in_state, slots_step}
-use Rattle.fac_parse.proofs.ExamplesOfArrays.{here, w, tree}
+use Rattle.fac_parse.proofs.ExamplesOfArrays.{here, w, tree, plain, array}
 
 -- the tree of tokens with these texts
 abbrev read : List (List ℕ) → Option (List Form)
@@ -80,8 +79,8 @@ unfolding spelling_of has_integer_form word_spelling sign_spelling is_reserved i
 method_not_recursive = refl
 
 -- An item that is no element stands in an array only inside a quotation.
-next_in_quotation : behind (Quotation ∷ Array 7 ∷ []) (element.Item (term.NextMethod here)) ≡ Some (Quotation ∷ Array 7 ∷ [])
+next_in_quotation : behind (plain ∷ array 7 ∷ []) (element.Item (term.NextMethod here)) ≡ Some (plain ∷ array 7 ∷ [])
 next_in_quotation = refl
 
-next_in_array : behind (Array 7 ∷ []) (element.Item (term.NextMethod here)) ≡ None
+next_in_array : behind (array 7 ∷ []) (element.Item (term.NextMethod here)) ≡ None
 next_in_array = refl

@@ -1,5 +1,6 @@
 pub mod HeldLemmas
 pub mod EffectTaken
+pub mod TokenTaken
 pub mod StateTokens
 pub mod ReaderKeeps
 pub mod ReaderReads
@@ -8,3 +9,4 @@ pub mod ExactPlaces
 pub mod ParseLemmas
 pub mod ExamplesOfArrays
 pub mod ExamplesOfClasses
+pub mod ExamplesOfLocals

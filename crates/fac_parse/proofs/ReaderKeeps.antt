@@ -1,7 +1,7 @@
 -- A token that is taken is behind those before it, and what is known stays known.
 use Rattle.fac_lang.specs.declared.tree.Element.TheVariants as element
 use Rattle.fac_lang.specs.declared.tree.Term.TheVariants as term
-use Rattle.std.proofs.Common.{◌≡◌, ℕ, ◌≤◌, Bool, true, false, cond, List, [], ◌∷◌, ◌++◌, Option, Some, None, refl, ap, sym, ◌∙◌, subst, append_assoc, append-nil, arith, length}
+use Rattle.std.proofs.Common.{◌≡◌, ℕ, ◌≤◌, Bool, true, false, cond, ◌&&◌, List, [], ◌∷◌, ◌++◌, Option, Some, None, refl, ap, sym, ◌∙◌, subst, append_assoc, append-nil, arith, length}
 use Rattle.std.proofs.lemmas.Bool.Decides.{Decides-ltb}
 use Rattle.std.proofs.lemmas.List.{length_push}
 use Rattle.std.proofs.lemmas.Slice.Eq.{bytes_eq-Decides}
@@ -10,6 +10,9 @@ use Rattle.fac_lang.specs.declared.phrase.Place.{Place}
 use Rattle.fac_lang.specs.declared.token.Token.{Token}
 use Rattle.fac_lang.specs.declared.tree.Element.{Element}
 use Rattle.fac_lang.specs.declared.tree.Bracket.{Bracket}
+use Rattle.fac_lang.specs.declared.tree.Bracket.TheVariants.{Quotation, Array, Fry}
+use Rattle.fac_parse.specs.declared.rows.Taking.{Taking}
+use Rattle.fac_parse.specs.declared.rows.Taking.TheVariants.{Values, Locals}
 use Rattle.fac_lang.specs.declared.tree.Mark.{Mark}
 use Rattle.fac_lang.specs.declared.tree.Mark.TheVariants as mark
 use Rattle.fac_lang.specs.declared.tree.FormKind.{FormKind}
@@ -21,21 +24,26 @@ use Rattle.fac_lang.specs.declared.tree.Parent.{Parent}
 use Rattle.fac_lang.specs.declared.tree.Form.{Form}
 use Rattle.fac_parse.specs.declared.context.Context.{Context}
 use Rattle.fac_parse.specs.declared.rows.Slot.{Slot}
+use Rattle.fac_parse.specs.declared.rows.Slot.TheVariants as slot
 use Rattle.fac_parse.specs.declared.rows.Naming.{Naming}
 use Rattle.fac_parse.specs.declared.rows.Naming.TheVariants as naming
 use Rattle.fac_parse.specs.declared.rows.Marked.{Marked}
 use Rattle.fac_parse.specs.declared.rows.Marked.TheVariants as marked
 use Rattle.fac_effect.specs.declared.spelling.Spelling.{Spelling}
-use Rattle.fac_effect.specs.declared.spelling.Spelling.TheVariants.{Begins, Fixed, Semi, OpensBracket, ClosesBracket, True, False, Inline, Recursive, NextMethod, Integer, String, Name}
+use Rattle.fac_effect.specs.declared.spelling.Spelling.TheVariants.{Begins, Fixed, Semi, OpensBracket, ClosesBracket, OpensLocals, Bar, Binds, Hole, CalledHole, True, False, Inline, Recursive, NextMethod, Integer, String, Name}
 use Rattle.fac_effect.specs.declared.effect_reader.EffectReader.{EffectReader}
 use Rattle.fac_effect.specs.EffectReading.{Progress, reads as reading, whole, refused, step as token_step, go_on, after}
 use Rattle.fac_effect.proofs.EffectLemmas.{whole_is_effect, after_more}
+use Rattle.fac_effect.specs.LocalNames.{all_may_stand}
+use Rattle.fac_effect.specs.SaidEffects.{effect_of}
+use Rattle.fac_effect.proofs.LocalNameLemmas.{inputs_are_named, names_append}
+use Rattle.fac_parse.specs.Contexts.{items_in, uncounted, bound, opened_locals, behind}
 use Rattle.fac_effect.specs.Spellings.{head_of, token_spelling, token_text, plain_token}
 use Rattle.fac_parse.specs.Rows.{slots_of}
-use Rattle.fac_parse.specs.Trees.{element_tokens, items_tokens, mark_token, marks_tokens, parent_tokens, part_tokens, parts_tokens, flatten, named, IsName, AreNames, most_slots, is_parent_sign, AreSlots, AreMarks, IsElement, behind, Lead, Encloses, Fills, IsWellFormed}
-use Rattle.fac_parse.specs.inner.Reader.{Within, name, names, tuple_slots, tuple_parent, fixed, effect, items, literal, marks, Begun, begun, Open, top, row, State, in_state, start, row_form, more, with_part, with_run, begin_row, element_of, with_element, add_element, begins, begin_or_add, top_step, name_step, names_step, sign_step, sign_or_slot, slots_step, parent_step, key_step, fixed_step, written, effect_with, effect_step, row_items, end_items, is_semi, end_or_add, goes_into, literal_with, add_literal, mark_of, may_follow, with_mark, mark_step, row_step, open_step, step, steps}
+use Rattle.fac_parse.specs.Trees.{element_tokens, items_tokens, mark_token, marks_tokens, parent_tokens, part_tokens, parts_tokens, flatten, named, IsName, AreNames, most_slots, is_parent_sign, AreSlots, AreLocalNames, IsLiteralBracket, AreMarks, IsElement, Lead, Encloses, Fills, IsWellFormed}
+use Rattle.fac_parse.specs.inner.Reader.{Half, no_half, binding, heading, Grown, stuck, begun_as, grown, Within, name, names, tuple_slots, tuple_parent, fixed, effect, items, literal, marks, Begun, begun, Open, top, row, State, in_state, outside, start, row_form, last_inputs, more, with_part, with_run, may_end, begin_row, element_of, grown_if, half_where, is_local, begin_element, bind_step, heading_step, grow, with_element, with_grown, begins, begin_or_add, top_step, name_step, names_step, sign_step, sign_or_slot, slots_step, parent_step, key_step, fixed_step, written, effect_with, may_take, effect_step, row_items, end_items, is_semi, end_or_add, is_open, literal_with, literal_grown, mark_of, may_follow, with_mark, mark_step, row_step, open_step, step, steps}
 use Rattle.fac_effect.proofs.SpellingLemmas.{sign_token, name_token}
-use Rattle.fac_parse.proofs.StateTokens.{within_tokens, tokens_of, state_tokens, element_behind, parts-last, Filled, filled_more, slot_of, Inside, open_inside, GoodWithin, GoodRow, NoRunLast, GoodOpen, Good, run_fits, run_tokens, Gone, ended_row_gone, gone_on}
+use Rattle.fac_parse.proofs.StateTokens.{half_tokens, within_tokens, tokens_of, state_tokens, element_behind, parts-last, Filled, filled_more, effect_slot, slot_of, Inside, open_inside, GoodHalf, locals_before, NamesLocals, GoodWithin, GoodRow, NoRunLast, GoodOpen, Good, run_fits, run_tokens, Gone, ended_row_gone, gone_on}
 
 -- a state is good, and has these tokens and this one
 pub record Taken (tokens : List Token) (t : Token) (s : State) : Type 0 where
@@ -56,9 +64,9 @@ front_tokens : (fs : List Token) (head : Token) (ps ws : List Token) (t : Token)
 front_tokens fs head ps ws t = ap (λ (ts : List Token). fs ++ (head ∷ ts)) (sym (append_assoc ps ws (t ∷ []))) ∙ sym (append_assoc fs (head ∷ (ps ++ ws)) (t ∷ []))
 
 -- a part that is whole
-part_taken : (forms : List Form) (b : Begun) (w : Within) (p : Part) (t : Token) → IsWellFormed forms → GoodRow b w → Fills (slot_of w) p → part_tokens p ≡ within_tokens w ++ t ∷ [] → Taken (tokens_of forms (row b w)) t (with_part forms b p)
+part_taken : (forms : List Form) (b : Begun) (w : Within) (p : Part) (t : Token) → IsWellFormed forms → GoodRow b w → Fills (last_inputs 0 b.parts) (slot_of w) p → part_tokens p ≡ within_tokens w ++ t ∷ [] → Taken (tokens_of forms (row b w)) t (with_part forms b p)
 part_taken forms b w p t fits g fills e =
-    let gone = gone_on forms (more b p) g.rest fits (filled_more (slots_of b.kind) b.parts (slot_of w) g.rest p g.filled fills) in
+    let gone = gone_on forms (more b p) g.rest fits (filled_more 0 (slots_of b.kind) b.parts (slot_of w) g.rest p g.filled fills) in
     let head = plain_token b.opens (head_of b.kind) in
     record {
       good = gone.good;
@@ -69,11 +77,11 @@ part_taken forms b w p t fits g fills e =
     }
 
 -- a part that goes on
-within_taken : (forms : List Form) (b : Begun) (w v : Within) (t : Token) → IsWellFormed forms → (g : GoodRow b w) → slot_of w ≡ slot_of v → GoodWithin g.rest v → within_tokens v ≡ within_tokens w ++ t ∷ [] → Taken (tokens_of forms (row b w)) t (in_state forms (row b v))
+within_taken : (forms : List Form) (b : Begun) (w v : Within) (t : Token) → IsWellFormed forms → (g : GoodRow b w) → slot_of w ≡ slot_of v → GoodWithin (last_inputs 0 b.parts) g.rest v → within_tokens v ≡ within_tokens w ++ t ∷ [] → Taken (tokens_of forms (row b w)) t (in_state forms (row b v))
 within_taken forms b w v t fits g same good e =
     let head = plain_token b.opens (head_of b.kind) in
     record {
-      good = record { fits = fits; opens = record { rest = g.rest; filled = subst (λ (s : Slot). Filled (slots_of b.kind) b.parts (s ∷ g.rest)) same g.filled; within = good } };
+      good = record { fits = fits; opens = record { rest = g.rest; filled = subst (λ (s : Slot). Filled 0 (slots_of b.kind) b.parts (s ∷ g.rest)) same g.filled; within = good } };
       tokens_are =
           ap (λ (ts : List Token). flatten forms ++ (head ∷ (parts_tokens b.parts ++ ts))) e
           ∙ front_tokens (flatten forms) head (parts_tokens b.parts) (within_tokens w) t;
@@ -87,16 +95,16 @@ named_sign naming.Class True h = cc
 named_sign naming.Class False h = cc
 named_sign naming.Class _ h = h
 
-pub name_fills : (k : Naming) (t : Token) → IsName k t → Fills (slot_of (name k)) (part.Name t)
-name_fills naming.Any t h = h
-name_fills naming.Class t h = h
+pub name_fills : (n : ℕ) (k : Naming) (t : Token) → IsName k t → Fills n (slot_of (name k)) (part.Name t)
+name_fills n naming.Any t h = h
+name_fills n naming.Class t h = h
 
-pub names_fill : (k : Naming) (ns : List Token) (ends : Place) → AreNames k ns → Fills (slot_of (names k ns)) (part.Names ns ends)
-names_fill naming.Any ns ends h = h
-names_fill naming.Class ns ends h = h
+pub names_fill : (n : ℕ) (k : Naming) (ns : List Token) (ends : Place) → AreNames k ns → Fills n (slot_of (names k ns)) (part.Names ns ends)
+names_fill n naming.Any ns ends h = h
+names_fill n naming.Class ns ends h = h
 
 name_keeps : (forms : List Form) (b : Begun) (k : Naming) (t : Token) (s : Spelling) → named k (token_spelling t.kind) ≡ s → IsWellFormed forms → GoodRow b (name k) → Keeps (tokens_of forms (row b (name k))) t (name_step forms b s t)
-name_keeps forms b k t Name h fits g = part_taken forms b (name k) (part.Name t) t fits g (name_fills k t h) refl
+name_keeps forms b k t Name h fits g = part_taken forms b (name k) (part.Name t) t fits g (name_fills (last_inputs 0 b.parts) k t h) refl
 name_keeps forms b k t _ h fits g = tt
 
 AreNames-more : (k : Naming) (ts : List Token) (t : Token) → AreNames k ts → IsName k t → AreNames k (ts ++ t ∷ [])
@@ -109,7 +117,7 @@ with_sign ts t u e = ap (λ (v : Token). ts ++ v ∷ []) (sym e)
 
 names_keeps : (forms : List Form) (b : Begun) (k : Naming) (ns : List Token) (t : Token) (s : Spelling) → named k (token_spelling t.kind) ≡ s → IsWellFormed forms → GoodRow b (names k ns) → Keeps (tokens_of forms (row b (names k ns))) t (names_step forms b k ns s t)
 names_keeps forms b k ns t Name h fits g = within_taken forms b (names k ns) (names k (ns ++ t ∷ [])) t fits g refl (AreNames-more k ns t g.within h) refl
-names_keeps forms b k ns t Semi h fits g = part_taken forms b (names k ns) (part.Names ns t.place) t fits g (names_fill k ns t.place g.within) (with_sign ns t _ (sign_token t Semi (named_sign k (token_spelling t.kind) h) tt))
+names_keeps forms b k ns t Semi h fits g = part_taken forms b (names k ns) (part.Names ns t.place) t fits g (names_fill (last_inputs 0 b.parts) k ns t.place g.within) (with_sign ns t _ (sign_token t Semi (named_sign k (token_spelling t.kind) h) tt))
 names_keeps forms b k ns t _ h fits g = tt
 
 -- Slots of a tuple class.
@@ -154,14 +162,28 @@ fixed_keeps forms b key t _ h fits g = tt
 
 -- Effects.
 
-effect_kept : (forms : List Form) (b : Begun) (ts : List Token) (r : EffectReader) (t : Token) (p : Progress) → after (ts ++ t ∷ []) ≡ p → IsWellFormed forms → GoodRow b (effect ts r) → Keeps (tokens_of forms (row b (effect ts r))) t (effect_with forms b (ts ++ t ∷ []) p)
-effect_kept forms b ts r t (reading next) e fits g = within_taken forms b (effect ts r) (effect (ts ++ t ∷ []) next) t fits g refl e refl
-effect_kept forms b ts r t whole e fits g = part_taken forms b (effect ts r) (part.Effect (written (ts ++ t ∷ []))) t fits g (whole_is_effect (ts ++ t ∷ []) e) refl
-effect_kept forms b ts r t (refused why) e fits g = tt
+pub effect_fills : (n : ℕ) (k : Taking) (ts : List Token) → after ts ≡ whole → NamesLocals k ts → Fills n (effect_slot k) (part.Effect (written ts))
+effect_fills n Values ts h named = whole_is_effect ts h
+effect_fills n Locals ts h named = let is = whole_is_effect ts h in (is, sym (inputs_are_named ts (effect_of ts) is) ∙ named)
 
-effect_keeps : (forms : List Form) (b : Begun) (ts : List Token) (r : EffectReader) (t : Token) (s : Spelling) → token_spelling t.kind ≡ s → IsWellFormed forms → GoodRow b (effect ts r) → Keeps (tokens_of forms (row b (effect ts r))) t (effect_step forms b ts r s t)
-effect_keeps forms b ts r t s h fits g =
-    effect_kept forms b ts r t (token_step r s t) (after_more ts t ∙ ap (λ (p : Progress). go_on p t) g.within ∙ ap (λ (x : Spelling). token_step r x t) h) fits g
+effect_kept : (forms : List Form) (b : Begun) (k : Taking) (ts : List Token) (r : EffectReader) (t : Token) (p : Progress) → after (ts ++ t ∷ []) ≡ p → NamesLocals k (ts ++ t ∷ []) → IsWellFormed forms → GoodRow b (effect k ts r) → Keeps (tokens_of forms (row b (effect k ts r))) t (effect_with forms b k (ts ++ t ∷ []) p)
+effect_kept forms b k ts r t (reading next) e named fits g = within_taken forms b (effect k ts r) (effect k (ts ++ t ∷ []) next) t fits g refl (e, named) refl
+effect_kept forms b k ts r t whole e named fits g = part_taken forms b (effect k ts r) (part.Effect (written (ts ++ t ∷ []))) t fits g (effect_fills (last_inputs 0 b.parts) k (ts ++ t ∷ []) e named) refl
+effect_kept forms b k ts r t (refused why) e named fits g = tt
+
+named_more : (k : Taking) (ts : List Token) (r : EffectReader) (t : Token) → after ts ≡ reading r → NamesLocals k ts → may_take k r (token_spelling t.kind) t ≡ true → NamesLocals k (ts ++ t ∷ [])
+named_more Values ts r t e named h = tt
+named_more Locals ts r t e named h =
+    names_append ts (t ∷ []) r e ∙ ap (λ (x : Bool). x && all_may_stand (reading r) (t ∷ [])) named ∙ ap (λ (x : Bool). x && true) h
+
+effect_kept_by : (forms : List Form) (b : Begun) (k : Taking) (ts : List Token) (r : EffectReader) (t : Token) (x : Bool) → may_take k r (token_spelling t.kind) t ≡ x → IsWellFormed forms → GoodRow b (effect k ts r) → Keeps (tokens_of forms (row b (effect k ts r))) t (cond x (effect_with forms b k (ts ++ t ∷ []) (token_step r (token_spelling t.kind) t)) None)
+effect_kept_by forms b k ts r t false h fits g = tt
+effect_kept_by forms b k ts r t true h fits g =
+    effect_kept forms b k ts r t (token_step r (token_spelling t.kind) t) (after_more ts t ∙ ap (λ (p : Progress). go_on p t) g.within.0) (named_more k ts r t g.within.0 g.within.1 h) fits g
+
+effect_keeps : (forms : List Form) (b : Begun) (k : Taking) (ts : List Token) (r : EffectReader) (t : Token) (s : Spelling) → token_spelling t.kind ≡ s → IsWellFormed forms → GoodRow b (effect k ts r) → Keeps (tokens_of forms (row b (effect k ts r))) t (effect_step forms b k ts r s t)
+effect_keeps forms b k ts r t s h fits g =
+    subst (λ (x : Spelling). Keeps (tokens_of forms (row b (effect k ts r))) t (effect_step forms b k ts r x t)) h (effect_kept_by forms b k ts r t (may_take k r (token_spelling t.kind) t) refl fits g)
 
 -- Items.
 
@@ -169,139 +191,239 @@ pub Lead-more : (from : List Context) (es : List Element) (to : List Context) (e
 Lead-more from [] to e next h is b = (is, next, subst (λ (x : List Context). behind x e ≡ Some next) (sym h) b, refl)
 Lead-more from (x ∷ es) to e next h is b = (h.0, h.1, h.2, Lead-more h.1 es to e next h.3 is b)
 
-abbrev pub IsElementOf : Token → Option Element → Type 0
-IsElementOf t None = Unit {0}
-IsElementOf t (Some e) = IsElement e × (element_tokens e ≡ t ∷ [])
-
 alone : (t u : Token) → t ≡ u → u ∷ [] ≡ t ∷ []
 alone t u e = ap (λ (v : Token). v ∷ []) (sym e)
 
-element_is : (t : Token) (s : Spelling) → token_spelling t.kind ≡ s → IsElementOf t (element_of s t)
-element_is t (Integer z) h = (h, refl)
-element_is t String h = (h, refl)
-element_is t Name h = (h, refl)
-element_is t True h = (tt, alone t _ (sign_token t True h tt))
-element_is t False h = (tt, alone t _ (sign_token t False h tt))
-element_is t NextMethod h = (tt, alone t _ (sign_token t NextMethod h tt))
-element_is t (OpensBracket bracket) h = (tt, alone t _ (sign_token t (OpensBracket bracket) h tt))
-element_is t (ClosesBracket bracket) h = (tt, alone t _ (sign_token t (ClosesBracket bracket) h tt))
-element_is t _ h = tt
+-- what is known where one more token of an element is taken
+abbrev IsGrown : List Context → Half → Token → Grown → Type 0
+IsGrown contexts h t stuck = Unit {0}
+IsGrown contexts h t (begun_as next) = GoodHalf contexts next × (half_tokens next ≡ half_tokens h ++ t ∷ [])
+IsGrown contexts h t (grown e) = IsElement e × (element_tokens e ≡ half_tokens h ++ t ∷ [])
+
+element_is : (contexts : List Context) (t : Token) (s : Spelling) → token_spelling t.kind ≡ s → IsGrown contexts no_half t (grown_if (element_of s t))
+element_is contexts t (Integer z) h = (h, refl)
+element_is contexts t String h = (h, refl)
+element_is contexts t Name h = (h, refl)
+element_is contexts t True h = (tt, alone t _ (sign_token t True h tt))
+element_is contexts t False h = (tt, alone t _ (sign_token t False h tt))
+element_is contexts t NextMethod h = (tt, alone t _ (sign_token t NextMethod h tt))
+element_is contexts t Hole h = (tt, alone t _ (sign_token t Hole h tt))
+element_is contexts t CalledHole h = (tt, alone t _ (sign_token t CalledHole h tt))
+element_is contexts t (OpensBracket bracket) h = (tt, alone t _ (sign_token t (OpensBracket bracket) h tt))
+element_is contexts t (ClosesBracket Quotation) h = (tt, alone t _ (sign_token t (ClosesBracket Quotation) h tt))
+element_is contexts t (ClosesBracket Array) h = (tt, alone t _ (sign_token t (ClosesBracket Array) h tt))
+element_is contexts t (ClosesBracket Fry) h = tt
+element_is contexts t _ h = tt
+
+binds_is : (contexts : List Context) (t : Token) (o : Option (List Context)) → bound (uncounted contexts) ≡ o → t ≡ plain_token t.place (codes ":>") → IsGrown contexts no_half t (half_where o (binding t.place))
+binds_is contexts t None e is = tt
+binds_is contexts t (Some next) e is = ((next, e), alone t _ is)
+
+opens_is : (contexts : List Context) (t : Token) (o : Option (List Context)) → opened_locals 0 (uncounted contexts) ≡ o → t ≡ plain_token t.place (codes "[|") → IsGrown contexts no_half t (half_where o (heading t.place []))
+opens_is contexts t None e is = tt
+opens_is contexts t (Some next) e is = ((tt, next, e), alone t _ is)
+
+begin_is : (contexts : List Context) (t : Token) (s : Spelling) → token_spelling t.kind ≡ s → IsGrown contexts no_half t (begin_element contexts s t)
+begin_is contexts t Binds h = binds_is contexts t (bound (uncounted contexts)) refl (sign_token t Binds h tt)
+begin_is contexts t OpensLocals h = opens_is contexts t (opened_locals 0 (uncounted contexts)) refl (sign_token t OpensLocals h tt)
+begin_is contexts t s h = element_is contexts t s h
+
+bound_is : (contexts : List Context) (sign : Place) (t : Token) (x : Bool) → token_spelling t.kind ≡ Name → is_local t ≡ x → IsGrown contexts (binding sign) t (cond x (grown (element.Item (term.Bind sign t))) stuck)
+bound_is contexts sign t true h e = ((h, e), refl)
+bound_is contexts sign t false h e = tt
+
+bind_is : (contexts : List Context) (sign : Place) (t : Token) (s : Spelling) → token_spelling t.kind ≡ s → IsGrown contexts (binding sign) t (bind_step sign s t)
+bind_is contexts sign t Name h = bound_is contexts sign t (is_local t) h refl
+bind_is contexts sign t _ h = tt
+
+AreLocalNames-more : (ts : List Token) (t : Token) → AreLocalNames ts → token_spelling t.kind ≡ Name → is_local t ≡ true → AreLocalNames (ts ++ t ∷ [])
+AreLocalNames-more [] t h e l = ((e, l), tt)
+AreLocalNames-more (u ∷ ts) t h e l = (h.0, AreLocalNames-more ts t h.1 e l)
+
+room_is : (contexts : List Context) (opens : Place) (ns : List Token) (t : Token) (o : Option (List Context)) → AreLocalNames (ns ++ t ∷ []) → opened_locals (length (ns ++ t ∷ [])) (uncounted contexts) ≡ o → IsGrown contexts (heading opens ns) t (half_where o (heading opens (ns ++ t ∷ [])))
+room_is contexts opens ns t None are e = tt
+room_is contexts opens ns t (Some next) are e = ((are, next, e), refl)
+
+named_is : (contexts : List Context) (opens : Place) (ns : List Token) (t : Token) (x : Bool) → AreLocalNames ns → token_spelling t.kind ≡ Name → is_local t ≡ x → IsGrown contexts (heading opens ns) t (cond x (half_where (opened_locals (length (ns ++ t ∷ [])) (uncounted contexts)) (heading opens (ns ++ t ∷ []))) stuck)
+named_is contexts opens ns t true are h e = room_is contexts opens ns t (opened_locals (length (ns ++ t ∷ [])) (uncounted contexts)) (AreLocalNames-more ns t are h e) refl
+named_is contexts opens ns t false are h e = tt
+
+heading_is : (contexts : List Context) (opens : Place) (ns : List Token) (t : Token) (s : Spelling) → AreLocalNames ns → token_spelling t.kind ≡ s → IsGrown contexts (heading opens ns) t (heading_step contexts opens ns s t)
+heading_is contexts opens ns t Name are h = named_is contexts opens ns t (is_local t) are h refl
+heading_is contexts opens ns t Bar are h = (are, with_sign (plain_token opens (codes "[|") ∷ ns) t _ (sign_token t Bar h tt))
+heading_is contexts opens ns t _ are h = tt
+
+grow_is : (contexts : List Context) (h : Half) (t : Token) (s : Spelling) → GoodHalf contexts h → token_spelling t.kind ≡ s → IsGrown contexts h t (grow contexts h s t)
+grow_is contexts no_half t s good e = begin_is contexts t s e
+grow_is contexts (binding sign) t s good e = bind_is contexts sign t s e
+grow_is contexts (heading opens ns) t s good e = heading_is contexts opens ns t s good.0 e
 
 -- items that are held somewhere are good there, and stand behind these tokens
-record Holds (held : List Element → List Context → Open) (forms : List Form) (front : List Token) : Type 0 where
-  good : (es : List Element) (contexts : List Context) → Lead [] es contexts → Good (in_state forms (held es contexts))
-  tokens : (es : List Element) (contexts : List Context) → tokens_of forms (held es contexts) ≡ front ++ items_tokens es
+record Holds (held : List Element → List Context → Half → Open) (forms : List Form) (front : List Token) (from : List Context) : Type 0 where
+  good : (es : List Element) (contexts : List Context) (h : Half) → Lead from es contexts → GoodHalf contexts h → Good (in_state forms (held es contexts h))
+  tokens : (es : List Element) (contexts : List Context) (h : Half) → tokens_of forms (held es contexts h) ≡ front ++ (items_tokens es ++ half_tokens h)
 
-element_kept : (held : List Element → List Context → Open) (forms : List Form) (front : List Token) → Holds held forms front → (es : List Element) (contexts : List Context) → Lead [] es contexts → (t : Token) (e : Element) → IsElement e → element_tokens e ≡ t ∷ [] → (next : Option (List Context)) → behind contexts e ≡ next → Keeps (tokens_of forms (held es contexts)) t (with_element held forms es e next)
-element_kept held forms front holds es contexts lead t e is spelled None b = tt
-element_kept held forms front holds es contexts lead t e is spelled (Some next) b = record {
-  good = holds.good (es ++ e ∷ []) next (Lead-more [] es contexts e next lead is b);
+last_out : (front is hs : List Token) (t : Token) → front ++ (is ++ (hs ++ t ∷ [])) ≡ (front ++ (is ++ hs)) ++ t ∷ []
+last_out front is hs t = ap (λ (ts : List Token). front ++ ts) (sym (append_assoc is hs (t ∷ []))) ∙ sym (append_assoc front (is ++ hs) (t ∷ []))
+
+element_kept : (held : List Element → List Context → Half → Open) (forms : List Form) (front : List Token) (from : List Context) → Holds held forms front from → (es : List Element) (contexts : List Context) (h : Half) → Lead from es contexts → (t : Token) (e : Element) → IsElement e → element_tokens e ≡ half_tokens h ++ t ∷ [] → (next : Option (List Context)) → behind contexts e ≡ next → Keeps (tokens_of forms (held es contexts h)) t (with_element held forms es e next)
+element_kept held forms front from holds es contexts h lead t e is spelled None b = tt
+element_kept held forms front from holds es contexts h lead t e is spelled (Some next) b = record {
+  good = holds.good (es ++ e ∷ []) next no_half (Lead-more from es contexts e next lead is b) tt;
   tokens_are =
-      holds.tokens (es ++ e ∷ []) next
-      ∙ ap (λ (ts : List Token). front ++ ts) (element_behind es e t spelled)
-      ∙ sym (append_assoc front (items_tokens es) (t ∷ []))
-      ∙ ap (λ (ts : List Token). ts ++ t ∷ []) (sym (holds.tokens es contexts));
+      holds.tokens (es ++ e ∷ []) next no_half
+      ∙ ap (λ (ts : List Token). front ++ ts) (append-nil (items_tokens (es ++ e ∷ [])) ∙ element_behind es e (half_tokens h ++ t ∷ []) spelled)
+      ∙ last_out front (items_tokens es) (half_tokens h) t
+      ∙ ap (λ (ts : List Token). ts ++ t ∷ []) (sym (holds.tokens es contexts h));
 }
 
-element_keeps : (held : List Element → List Context → Open) (forms : List Form) (front : List Token) → Holds held forms front → (es : List Element) (contexts : List Context) → Lead [] es contexts → (t : Token) (o : Option Element) → IsElementOf t o → Keeps (tokens_of forms (held es contexts)) t (add_element held forms es contexts o)
-element_keeps held forms front holds es contexts lead t None is = tt
-element_keeps held forms front holds es contexts lead t (Some e) is = element_kept held forms front holds es contexts lead t e is.0 is.1 (behind contexts e) refl
+grown_keeps : (held : List Element → List Context → Half → Open) (forms : List Form) (front : List Token) (from : List Context) → Holds held forms front from → (es : List Element) (contexts : List Context) (h : Half) → Lead from es contexts → (t : Token) (g : Grown) → IsGrown contexts h t g → Keeps (tokens_of forms (held es contexts h)) t (with_grown held forms es contexts g)
+grown_keeps held forms front from holds es contexts h lead t stuck is = tt
+grown_keeps held forms front from holds es contexts h lead t (begun_as next) is = record {
+  good = holds.good es contexts next lead is.0;
+  tokens_are =
+      holds.tokens es contexts next
+      ∙ ap (λ (ts : List Token). front ++ (items_tokens es ++ ts)) is.1
+      ∙ last_out front (items_tokens es) (half_tokens h) t
+      ∙ ap (λ (ts : List Token). ts ++ t ∷ []) (sym (holds.tokens es contexts h));
+}
+grown_keeps held forms front from holds es contexts h lead t (grown e) is = element_kept held forms front from holds es contexts h lead t e is.0 is.1 (behind contexts e) refl
 
-top_holds : (forms : List Form) → IsWellFormed forms → NoRunLast forms → Holds top forms (flatten forms)
-top_holds forms fits last = record { good = λ es contexts lead. record { fits = fits; opens = (lead, last) }; tokens = λ es contexts. refl }
+top_holds : (forms : List Form) → IsWellFormed forms → NoRunLast forms → Holds top forms (flatten forms) outside
+top_holds forms fits last = record { good = λ es contexts h lead half. record { fits = fits; opens = (lead, half, last) }; tokens = λ es contexts h. refl }
 
 begun_is : (s : Spelling) (kind : FormKind) → begins s ≡ Some kind → s ≡ Begins kind
 begun_is (Begins k) kind h = let same : k ≡ kind = cc in ap Begins same
 begun_is _ kind h = cc
 
-begin_keeps : (forms : List Form) (es : List Element) (contexts : List Context) (kind : FormKind) (t : Token) → token_spelling t.kind ≡ Begins kind → IsWellFormed forms → GoodOpen forms (top es contexts) → Keeps (tokens_of forms (top es contexts)) t (begin_row kind t.place forms es contexts)
-begin_keeps forms es [] kind t h fits g =
-    let gone = gone_on (with_run forms es) (begun kind t.place) (slots_of kind) (run_fits forms es fits g.1 g.0) refl in
+begin_keeps : (forms : List Form) (es : List Element) (contexts : List Context) (h : Half) (kind : FormKind) (t : Token) → token_spelling t.kind ≡ Begins kind → IsWellFormed forms → GoodOpen forms (top es contexts h) → Keeps (tokens_of forms (top es contexts h)) t (begin_row kind t.place forms es (may_end contexts h))
+begin_keeps forms es (c ∷ []) no_half kind t h fits g =
+    let gone = gone_on (with_run forms es) (begun kind t.place) (slots_of kind) (run_fits forms es fits g.2 (c, g.0)) refl in
     record {
       good = gone.good;
-      tokens_are = gone.tokens ∙ with_sign (flatten (with_run forms es)) t _ (sign_token t (Begins kind) h tt) ∙ ap (λ (ts : List Token). ts ++ t ∷ []) (run_tokens forms es);
+      tokens_are = gone.tokens ∙ with_sign (flatten (with_run forms es)) t _ (sign_token t (Begins kind) h tt) ∙ ap (λ (ts : List Token). ts ++ t ∷ []) (run_tokens forms es ∙ ap (λ (ts : List Token). flatten forms ++ ts) (sym (append-nil (items_tokens es))));
     }
-begin_keeps forms es (c ∷ contexts) kind t h fits g = tt
+begin_keeps forms es (c ∷ []) (binding sign) kind t h fits g = tt
+begin_keeps forms es (c ∷ []) (heading opens ns) kind t h fits g = tt
+begin_keeps forms es [] half kind t h fits g = tt
+begin_keeps forms es (c ∷ d ∷ contexts) half kind t h fits g = tt
 
-top_keeps_by : (forms : List Form) (es : List Element) (contexts : List Context) (o : Option FormKind) (s : Spelling) (t : Token) → begins s ≡ o → token_spelling t.kind ≡ s → IsWellFormed forms → GoodOpen forms (top es contexts) → Keeps (tokens_of forms (top es contexts)) t (begin_or_add forms es contexts o s t)
-top_keeps_by forms es contexts (Some kind) s t e h fits g = begin_keeps forms es contexts kind t (h ∙ begun_is s kind e) fits g
-top_keeps_by forms es contexts None s t e h fits g = element_keeps top forms (flatten forms) (top_holds forms fits g.1) es contexts g.0 t (element_of s t) (element_is t s h)
+top_keeps_by : (forms : List Form) (es : List Element) (contexts : List Context) (h : Half) (o : Option FormKind) (s : Spelling) (t : Token) → begins s ≡ o → token_spelling t.kind ≡ s → IsWellFormed forms → GoodOpen forms (top es contexts h) → Keeps (tokens_of forms (top es contexts h)) t (begin_or_add forms es contexts h o s t)
+top_keeps_by forms es contexts h (Some kind) s t e k fits g = begin_keeps forms es contexts h kind t (k ∙ begun_is s kind e) fits g
+top_keeps_by forms es contexts h None s t e k fits g = grown_keeps top forms (flatten forms) outside (top_holds forms fits g.2) es contexts h g.0 t (grow contexts h s t) (grow_is contexts h t s g.1 k)
 
-top_keeps : (forms : List Form) (es : List Element) (contexts : List Context) (s : Spelling) (t : Token) → token_spelling t.kind ≡ s → IsWellFormed forms → GoodOpen forms (top es contexts) → Keeps (tokens_of forms (top es contexts)) t (top_step forms es contexts s t)
-top_keeps forms es contexts s t h fits g = top_keeps_by forms es contexts (begins s) s t refl h fits g
+top_keeps : (forms : List Form) (es : List Element) (contexts : List Context) (h : Half) (s : Spelling) (t : Token) → token_spelling t.kind ≡ s → IsWellFormed forms → GoodOpen forms (top es contexts h) → Keeps (tokens_of forms (top es contexts h)) t (top_step forms es contexts h s t)
+top_keeps forms es contexts h s t k fits g = top_keeps_by forms es contexts h (begins s) s t refl k fits g
 
-row_holds : (forms : List Form) (b : Begun) (es : List Element) (contexts : List Context) → IsWellFormed forms → GoodRow b (items es contexts) → Holds (row_items b) forms (flatten forms ++ plain_token b.opens (head_of b.kind) ∷ parts_tokens b.parts)
-row_holds forms b es contexts fits g = record {
-  good = λ es contexts lead. record { fits = fits; opens = record { rest = g.rest; filled = g.filled; within = lead } };
-  tokens = λ es contexts. sym (append_assoc (flatten forms) (plain_token b.opens (head_of b.kind) ∷ parts_tokens b.parts) (items_tokens es));
+row_holds : (forms : List Form) (b : Begun) (k : Taking) (es : List Element) (contexts : List Context) (h : Half) → IsWellFormed forms → GoodRow b (items k es contexts h) → Holds (row_items b k) forms (flatten forms ++ plain_token b.opens (head_of b.kind) ∷ parts_tokens b.parts) (items_in (locals_before k (last_inputs 0 b.parts)) ∷ [])
+row_holds forms b k es contexts h fits g = record {
+  good = λ es contexts h lead half. record { fits = fits; opens = record { rest = g.rest; filled = g.filled; within = (lead, half) } };
+  tokens = λ es contexts h. sym (append_assoc (flatten forms) (plain_token b.opens (head_of b.kind) ∷ parts_tokens b.parts) (items_tokens es ++ half_tokens h));
 }
 
 semi_is : (s : Spelling) → is_semi s ≡ true → s ≡ Semi
 semi_is Semi h = refl
 semi_is _ h = cc
 
-end_keeps : (forms : List Form) (b : Begun) (es : List Element) (contexts : List Context) (t : Token) → token_spelling t.kind ≡ Semi → IsWellFormed forms → GoodRow b (items es contexts) → Keeps (tokens_of forms (row b (items es contexts))) t (end_items forms b es contexts t.place)
-end_keeps forms b es [] t h fits g = part_taken forms b (items es []) (part.Items es t.place) t fits g g.within (with_sign (items_tokens es) t _ (sign_token t Semi h tt))
-end_keeps forms b es (c ∷ contexts) t h fits g = tt
+pub items_fill : (n : ℕ) (k : Taking) (es : List Element) (to : Context) (ends : Place) → Lead (items_in (locals_before k n) ∷ []) es (to ∷ []) → Fills n (slot_of (items k es (to ∷ []) no_half)) (part.Items es ends)
+items_fill n Values es to ends h = (to, h)
+items_fill n Locals es to ends h = (to, h)
 
-items_keeps_by : (forms : List Form) (b : Begun) (es : List Element) (contexts : List Context) (o : Bool) (s : Spelling) (t : Token) → is_semi s ≡ o → token_spelling t.kind ≡ s → IsWellFormed forms → GoodRow b (items es contexts) → Keeps (tokens_of forms (row b (items es contexts))) t (end_or_add forms b es contexts o s t)
-items_keeps_by forms b es contexts true s t e h fits g = end_keeps forms b es contexts t (h ∙ semi_is s e) fits g
-items_keeps_by forms b es contexts false s t e h fits g = element_keeps (row_items b) forms _ (row_holds forms b es contexts fits g) es contexts g.within t (element_of s t) (element_is t s h)
+end_keeps : (forms : List Form) (b : Begun) (k : Taking) (es : List Element) (contexts : List Context) (h : Half) (t : Token) → token_spelling t.kind ≡ Semi → IsWellFormed forms → GoodRow b (items k es contexts h) → Keeps (tokens_of forms (row b (items k es contexts h))) t (end_items forms b es (may_end contexts h) t.place)
+end_keeps forms b k es (c ∷ []) no_half t e fits g =
+    part_taken forms b (items k es (c ∷ []) no_half) (part.Items es t.place) t fits g (items_fill (last_inputs 0 b.parts) k es c t.place g.within.0)
+    (with_sign (items_tokens es) t _ (sign_token t Semi e tt) ∙ ap (λ (ts : List Token). ts ++ t ∷ []) (sym (append-nil (items_tokens es))))
+end_keeps forms b k es (c ∷ []) (binding sign) t e fits g = tt
+end_keeps forms b k es (c ∷ []) (heading opens ns) t e fits g = tt
+end_keeps forms b k es [] half t e fits g = tt
+end_keeps forms b k es (c ∷ d ∷ contexts) half t e fits g = tt
+
+items_keeps_by : (forms : List Form) (b : Begun) (k : Taking) (es : List Element) (contexts : List Context) (h : Half) (o : Bool) (s : Spelling) (t : Token) → is_semi s ≡ o → token_spelling t.kind ≡ s → IsWellFormed forms → GoodRow b (items k es contexts h) → Keeps (tokens_of forms (row b (items k es contexts h))) t (end_or_add forms b k es contexts h o s t)
+items_keeps_by forms b k es contexts h true s t e l fits g = end_keeps forms b k es contexts h t (l ∙ semi_is s e) fits g
+items_keeps_by forms b k es contexts h false s t e l fits g = grown_keeps (row_items b k) forms _ _ (row_holds forms b k es contexts h fits g) es contexts h g.within.0 t (grow contexts h s t) (grow_is contexts h t s g.within.1 l)
 
 -- Literals.
 
-pub inside_more : (from : List Context) (es : List Element) (to : List Context) (e : Element) (c : Context) (next : List Context) → Inside from es to → IsElement e → behind to e ≡ Some (c ∷ next) → Inside from (es ++ e ∷ []) (c ∷ next)
-inside_more [] es to e c next h is b = absurd h
-inside_more (d ∷ from) [] to e c next h is b = (is, c ∷ next, subst (λ (x : List Context). behind x e ≡ Some (c ∷ next)) (sym h) b, refl)
-inside_more (d ∷ from) (x ∷ es) to e c next h is b = (h.0, h.1, h.2, inside_more h.1 es to e c next h.3 is b)
+pub inside_more : (from : List Context) (es : List Element) (to : List Context) (e : Element) (c d : Context) (next : List Context) → Inside from es to → IsElement e → behind to e ≡ Some (c ∷ d ∷ next) → Inside from (es ++ e ∷ []) (c ∷ d ∷ next)
+inside_more [] es to e c d next h is b = absurd h
+inside_more (x ∷ []) es to e c d next h is b = absurd h
+inside_more (x ∷ y ∷ from) [] to e c d next h is b = (is, c ∷ d ∷ next, subst (λ (z : List Context). behind z e ≡ Some (c ∷ d ∷ next)) (sym h) b, refl)
+inside_more (x ∷ y ∷ from) (z ∷ es) to e c d next h is b = (h.0, h.1, h.2, inside_more h.1 es to e c d next h.3 is b)
 
-pub inside_ends : (from : List Context) (es : List Element) (to : List Context) (e : Element) → Inside from es to → IsElement e → behind to e ≡ Some [] → Encloses from (es ++ e ∷ [])
-inside_ends [] es to e h is b = absurd h
-inside_ends (d ∷ from) [] to e h is b = (is, [], subst (λ (x : List Context). behind x e ≡ Some []) (sym h) b, tt)
-inside_ends (d ∷ from) (x ∷ es) to e h is b = (h.0, h.1, h.2, inside_ends h.1 es to e h.3 is b)
+pub inside_ends : (from : List Context) (es : List Element) (to : List Context) (e : Element) (c : Context) → Inside from es to → IsElement e → behind to e ≡ Some (c ∷ []) → Encloses from (es ++ e ∷ [])
+inside_ends [] es to e c h is b = absurd h
+inside_ends (x ∷ []) es to e c h is b = absurd h
+inside_ends (x ∷ y ∷ from) [] to e c h is b = (is, c ∷ [], subst (λ (z : List Context). behind z e ≡ Some (c ∷ [])) (sym h) b, tt)
+inside_ends (x ∷ y ∷ from) (z ∷ es) to e c h is b = (h.0, h.1, h.2, inside_ends h.1 es to e c h.3 is b)
 
-literal_goes : (forms : List Form) (b : Begun) (bracket : Bracket) (place : Place) (es : List Element) (to : List Context) (t : Token) (e : Element) (next : Option (List Context)) → IsWellFormed forms → GoodRow b (literal (element.Opens bracket place ∷ es) to) → IsElement e → element_tokens e ≡ t ∷ [] → behind to e ≡ next → Keeps (tokens_of forms (row b (literal (element.Opens bracket place ∷ es) to))) t (literal_with forms b (element.Opens bracket place ∷ (es ++ e ∷ [])) next)
-literal_goes forms b bracket place es to t e None fits g is spelled h = tt
-literal_goes forms b bracket place es to t e (Some []) fits g is spelled h =
-    part_taken forms b (literal (element.Opens bracket place ∷ es) to) (part.Literal (element.Opens bracket place ∷ (es ++ e ∷ []))) t fits g (inside_ends (open_inside bracket) es to e g.within is h) (element_behind (element.Opens bracket place ∷ es) e t spelled)
-literal_goes forms b bracket place es to t e (Some (c ∷ next)) fits g is spelled h =
-    within_taken forms b (literal (element.Opens bracket place ∷ es) to) (literal (element.Opens bracket place ∷ (es ++ e ∷ [])) (c ∷ next)) t fits g refl (inside_more (open_inside bracket) es to e c next g.within is h) (element_behind (element.Opens bracket place ∷ es) e t spelled)
+pub inside_open : (from : List Context) (es : List Element) (to : List Context) → Inside from es to → is_open to ≡ true
+inside_open [] es to h = absurd h
+inside_open (x ∷ []) es to h = absurd h
+inside_open (x ∷ y ∷ from) [] to h = ap is_open (sym h)
+inside_open (x ∷ y ∷ from) (e ∷ es) to h = inside_open h.1 es to h.3
 
-literal_begins : (forms : List Form) (b : Begun) (t : Token) (e : Element) → IsWellFormed forms → GoodRow b (literal [] []) → IsElement e → element_tokens e ≡ t ∷ [] → Keeps (tokens_of forms (row b (literal [] []))) t (cond (goes_into [] e) (literal_with forms b (e ∷ []) (behind [] e)) None)
+literal_goes : (forms : List Form) (b : Begun) (bracket : Bracket) (place : Place) (es : List Element) (to : List Context) (h : Half) (t : Token) (e : Element) (next : Option (List Context)) → IsWellFormed forms → GoodRow b (literal (element.Opens bracket place ∷ es) to h) → IsElement e → element_tokens e ≡ half_tokens h ++ t ∷ [] → behind to e ≡ next → Keeps (tokens_of forms (row b (literal (element.Opens bracket place ∷ es) to h))) t (literal_with forms b (element.Opens bracket place ∷ (es ++ e ∷ [])) next)
+literal_goes forms b bracket place es to h t e None fits g is spelled l = tt
+literal_goes forms b bracket place es to h t e (Some []) fits g is spelled l = tt
+literal_goes forms b bracket place es to h t e (Some (c ∷ [])) fits g is spelled l =
+    part_taken forms b (literal (element.Opens bracket place ∷ es) to h) (part.Literal (element.Opens bracket place ∷ (es ++ e ∷ []))) t fits g (g.within.0, inside_ends (open_inside bracket) es to e c g.within.1 is l)
+    (element_behind (element.Opens bracket place ∷ es) e (half_tokens h ++ t ∷ []) spelled ∙ sym (append_assoc (items_tokens (element.Opens bracket place ∷ es)) (half_tokens h) (t ∷ [])))
+literal_goes forms b bracket place es to h t e (Some (c ∷ d ∷ next)) fits g is spelled l =
+    within_taken forms b (literal (element.Opens bracket place ∷ es) to h) (literal (element.Opens bracket place ∷ (es ++ e ∷ [])) (c ∷ d ∷ next) no_half) t fits g refl (g.within.0, inside_more (open_inside bracket) es to e c d next g.within.1 is l, tt)
+    (append-nil (items_tokens (element.Opens bracket place ∷ (es ++ e ∷ []))) ∙ element_behind (element.Opens bracket place ∷ es) e (half_tokens h ++ t ∷ []) spelled ∙ sym (append_assoc (items_tokens (element.Opens bracket place ∷ es)) (half_tokens h) (t ∷ [])))
+
+-- a literal of one item
+literal_alone : (forms : List Form) (b : Begun) (t : Token) (e : Element) → IsWellFormed forms → GoodRow b (literal [] outside no_half) → Fills (last_inputs 0 b.parts) slot.Literal (part.Literal (e ∷ [])) → element_tokens e ≡ t ∷ [] → Taken (tokens_of forms (row b (literal [] outside no_half))) t (with_part forms b (part.Literal (e ∷ [])))
+literal_alone forms b t e fits g fills spelled = part_taken forms b (literal [] outside no_half) (part.Literal (e ∷ [])) t fits g fills (append-nil (element_tokens e) ∙ spelled)
+
+literal_opens : (forms : List Form) (b : Begun) (t : Token) (bracket : Bracket) (place : Place) → IsLiteralBracket bracket → IsWellFormed forms → GoodRow b (literal [] outside no_half) → element_tokens (element.Opens bracket place) ≡ t ∷ [] → Taken (tokens_of forms (row b (literal [] outside no_half))) t (in_state forms (row b (literal (element.Opens bracket place ∷ []) (open_inside bracket) no_half)))
+literal_opens forms b t bracket place is fits g spelled =
+    within_taken forms b (literal [] outside no_half) (literal (element.Opens bracket place ∷ []) (open_inside bracket) no_half) t fits g refl (is, refl, tt) spelled
+
+literal_begins : (forms : List Form) (b : Begun) (t : Token) (e : Element) → IsWellFormed forms → GoodRow b (literal [] outside no_half) → IsElement e → element_tokens e ≡ t ∷ [] → Keeps (tokens_of forms (row b (literal [] outside no_half))) t (literal_grown forms b [] outside (grown e))
 literal_begins forms b t (element.Item (term.Name n)) fits g is spelled = tt
-literal_begins forms b t (element.Item (term.Integer n z)) fits g is spelled = part_taken forms b (literal [] []) (part.Literal (element.Item (term.Integer n z) ∷ [])) t fits g is spelled
-literal_begins forms b t (element.Item (term.Text n)) fits g is spelled = part_taken forms b (literal [] []) (part.Literal (element.Item (term.Text n) ∷ [])) t fits g is spelled
-literal_begins forms b t (element.Item (term.True place)) fits g is spelled = part_taken forms b (literal [] []) (part.Literal (element.Item (term.True place) ∷ [])) t fits g is spelled
-literal_begins forms b t (element.Item (term.False place)) fits g is spelled = part_taken forms b (literal [] []) (part.Literal (element.Item (term.False place) ∷ [])) t fits g is spelled
+literal_begins forms b t (element.Item (term.Integer n z)) fits g is spelled = literal_alone forms b t (element.Item (term.Integer n z)) fits g is spelled
+literal_begins forms b t (element.Item (term.Text n)) fits g is spelled = literal_alone forms b t (element.Item (term.Text n)) fits g is spelled
+literal_begins forms b t (element.Item (term.True place)) fits g is spelled = literal_alone forms b t (element.Item (term.True place)) fits g is spelled
+literal_begins forms b t (element.Item (term.False place)) fits g is spelled = literal_alone forms b t (element.Item (term.False place)) fits g is spelled
 literal_begins forms b t (element.Item (term.NextMethod place)) fits g is spelled = tt
-literal_begins forms b t (element.Opens bracket place) fits g is spelled = within_taken forms b (literal [] []) (literal (element.Opens bracket place ∷ []) (open_inside bracket)) t fits g refl refl spelled
+literal_begins forms b t (element.Item (term.Bind sign n)) fits g is spelled = tt
+literal_begins forms b t (element.Item (term.Hole place)) fits g is spelled = tt
+literal_begins forms b t (element.Item (term.CalledHole place)) fits g is spelled = tt
+literal_begins forms b t (element.Opens Quotation place) fits g is spelled = literal_opens forms b t Quotation place tt fits g spelled
+literal_begins forms b t (element.Opens Array place) fits g is spelled = literal_opens forms b t Array place tt fits g spelled
+literal_begins forms b t (element.Opens Fry place) fits g is spelled = tt
+literal_begins forms b t (element.OpensLocals opens ns bar) fits g is spelled = tt
 literal_begins forms b t (element.Closes bracket place) fits g is spelled = tt
 
-pub into_open : (c : Context) (contexts : List Context) (e : Element) → goes_into (c ∷ contexts) e ≡ true
-into_open c contexts (element.Item (term.Name n)) = refl
-into_open c contexts (element.Item (term.Integer n z)) = refl
-into_open c contexts (element.Item (term.Text n)) = refl
-into_open c contexts (element.Item (term.True place)) = refl
-into_open c contexts (element.Item (term.False place)) = refl
-into_open c contexts (element.Item (term.NextMethod place)) = refl
-into_open c contexts (element.Opens bracket place) = refl
-into_open c contexts (element.Closes bracket place) = refl
+-- one more token at the beginning of a literal, and in a bracket of one
+literal_first : (forms : List Form) (b : Begun) (t : Token) (x : Grown) → IsGrown outside no_half t x → IsWellFormed forms → GoodRow b (literal [] outside no_half) → Keeps (tokens_of forms (row b (literal [] outside no_half))) t (literal_grown forms b [] outside x)
+literal_first forms b t stuck is fits g = tt
+literal_first forms b t (begun_as h) is fits g = tt
+literal_first forms b t (grown e) is fits g = literal_begins forms b t e fits g is.0 is.1
 
-pub never_out : (from : List Context) (es : List Element) → Inside from es [] → ⊥
-never_out [] es h = absurd h
-never_out (c ∷ from) [] h = cc
-never_out (c ∷ from) (e ∷ es) h = never_out h.1 es h.3
+literal_next : (forms : List Form) (b : Begun) (bracket : Bracket) (place : Place) (es : List Element) (c d : Context) (contexts : List Context) (h : Half) (t : Token) (x : Grown) → IsGrown (c ∷ d ∷ contexts) h t x → IsWellFormed forms → GoodRow b (literal (element.Opens bracket place ∷ es) (c ∷ d ∷ contexts) h) → Keeps (tokens_of forms (row b (literal (element.Opens bracket place ∷ es) (c ∷ d ∷ contexts) h))) t (literal_grown forms b (element.Opens bracket place ∷ es) (c ∷ d ∷ contexts) x)
+literal_next forms b bracket place es c d contexts h t stuck is fits g = tt
+literal_next forms b bracket place es c d contexts h t (begun_as next) is fits g =
+    within_taken forms b (literal (element.Opens bracket place ∷ es) (c ∷ d ∷ contexts) h) (literal (element.Opens bracket place ∷ es) (c ∷ d ∷ contexts) next) t fits g refl (g.within.0, g.within.1, is.0)
+    (ap (λ (ts : List Token). items_tokens (element.Opens bracket place ∷ es) ++ ts) is.1 ∙ sym (append_assoc (items_tokens (element.Opens bracket place ∷ es)) (half_tokens h) (t ∷ [])))
+literal_next forms b bracket place es c d contexts h t (grown e) is fits g = literal_goes forms b bracket place es (c ∷ d ∷ contexts) h t e (behind (c ∷ d ∷ contexts) e) fits g is.0 is.1 refl
 
-literal_keeps : (forms : List Form) (b : Begun) (es : List Element) (contexts : List Context) (o : Option Element) (t : Token) → IsElementOf t o → IsWellFormed forms → GoodRow b (literal es contexts) → Keeps (tokens_of forms (row b (literal es contexts))) t (add_literal forms b es contexts o)
-literal_keeps forms b es contexts None t is fits g = tt
-literal_keeps forms b [] [] (Some e) t is fits g = literal_begins forms b t e fits g is.0 is.1
-literal_keeps forms b [] (c ∷ contexts) (Some e) t is fits g = let d = g.within in cc
-literal_keeps forms b (element.Opens bracket place ∷ es) [] (Some e) t is fits g = absurd (never_out (open_inside bracket) es g.within)
-literal_keeps forms b (element.Opens bracket place ∷ es) (c ∷ contexts) (Some e) t is fits g =
-    subst (λ (x : Bool). Keeps (tokens_of forms (row b (literal (element.Opens bracket place ∷ es) (c ∷ contexts)))) t (cond x (literal_with forms b (element.Opens bracket place ∷ (es ++ e ∷ [])) (behind (c ∷ contexts) e)) None)) (sym (into_open c contexts e))
-    (literal_goes forms b bracket place es (c ∷ contexts) t e (behind (c ∷ contexts) e) fits g is.0 is.1 refl)
-literal_keeps forms b (element.Item item ∷ es) contexts (Some e) t is fits g = absurd g.within
-literal_keeps forms b (element.Closes bracket place ∷ es) contexts (Some e) t is fits g = absurd g.within
+literal_from : (forms : List Form) (b : Begun) (contexts : List Context) (h : Half) (s : Spelling) (t : Token) → token_spelling t.kind ≡ s → IsWellFormed forms → contexts ≡ outside → h ≡ no_half → GoodRow b (literal [] contexts h) → Keeps (tokens_of forms (row b (literal [] contexts h))) t (literal_grown forms b [] contexts (grow contexts h s t))
+literal_from forms b contexts h s t k fits e f g =
+    let good : GoodRow b (literal [] outside no_half) = subst (λ (x : List Context). GoodRow b (literal [] x no_half)) e (subst (λ (x : Half). GoodRow b (literal [] contexts x)) f g) in
+    subst (λ (x : List Context). Keeps (tokens_of forms (row b (literal [] x h))) t (literal_grown forms b [] x (grow x h s t))) (sym e)
+    (subst (λ (x : Half). Keeps (tokens_of forms (row b (literal [] outside x))) t (literal_grown forms b [] outside (grow outside x s t))) (sym f)
+    (literal_first forms b t (grow outside no_half s t) (grow_is outside no_half t s tt k) fits good))
+
+literal_keeps : (forms : List Form) (b : Begun) (es : List Element) (contexts : List Context) (h : Half) (s : Spelling) (t : Token) → token_spelling t.kind ≡ s → IsWellFormed forms → GoodRow b (literal es contexts h) → Keeps (tokens_of forms (row b (literal es contexts h))) t (literal_grown forms b es contexts (grow contexts h s t))
+literal_keeps forms b [] contexts h s t k fits g = literal_from forms b contexts h s t k fits g.within.0 g.within.1 g
+literal_keeps forms b (element.Opens bracket place ∷ es) (c ∷ d ∷ contexts) h s t k fits g = literal_next forms b bracket place es c d contexts h t (grow (c ∷ d ∷ contexts) h s t) (grow_is (c ∷ d ∷ contexts) h t s g.within.2 k) fits g
+literal_keeps forms b (element.Opens bracket place ∷ es) [] h s t k fits g = let o = inside_open (open_inside bracket) es [] g.within.1 in cc
+literal_keeps forms b (element.Opens bracket place ∷ es) (c ∷ []) h s t k fits g = let o = inside_open (open_inside bracket) es (c ∷ []) g.within.1 in cc
+literal_keeps forms b (element.Item item ∷ es) contexts h s t k fits g = absurd g.within
+literal_keeps forms b (element.OpensLocals opens ns bar ∷ es) contexts h s t k fits g = absurd g.within
+literal_keeps forms b (element.Closes bracket place ∷ es) contexts h s t k fits g = absurd g.within
 
 -- Marks.
 
@@ -326,9 +448,9 @@ AreMarks-more marked.Method [] (mark.Inline q) h f = tt
 AreMarks-more marked.Method [] (mark.Recursive q) h f = cc
 AreMarks-more marked.Method (n ∷ ms) m h f = cc
 
-pub marks_fill : (k : Marked) (ms : List Mark) → AreMarks k ms → Fills (slot_of (marks k ms)) (part.Marks ms)
-marks_fill marked.Word ms h = h
-marks_fill marked.Method ms h = h
+pub marks_fill : (n : ℕ) (k : Marked) (ms : List Mark) → AreMarks k ms → Fills n (slot_of (marks k ms)) (part.Marks ms)
+marks_fill n marked.Word ms h = h
+marks_fill n marked.Method ms h = h
 
 marks-last : (ms : List Mark) (m : Mark) → marks_tokens (ms ++ m ∷ []) ≡ marks_tokens ms ++ mark_token m ∷ []
 marks-last [] m = refl
@@ -340,11 +462,11 @@ mark_keeps forms b k ms t m e fits g =
     within_taken forms b (marks k ms) (marks k (ms ++ m ∷ [])) t fits g refl (AreMarks-more k ms m g.within.0 h, g.within.1) (marks-last ms m ∙ with_sign (marks_tokens ms) t (mark_token m) e))
 
 -- a row with its marks, which ends
-pub marked_gone : (forms : List Form) (b : Begun) (k : Marked) (ms : List Mark) → IsWellFormed forms → GoodRow b (marks k ms) → Gone forms (more b (part.Marks ms)) (in_state (forms ++ row_form (more b (part.Marks ms)) ∷ []) (top [] []))
+pub marked_gone : (forms : List Form) (b : Begun) (k : Marked) (ms : List Mark) → IsWellFormed forms → GoodRow b (marks k ms) → Gone forms (more b (part.Marks ms)) (in_state (forms ++ row_form (more b (part.Marks ms)) ∷ []) (top [] outside no_half))
 marked_gone forms b k ms fits g =
-    ended_row_gone forms (more b (part.Marks ms)) fits (filled_more (slots_of b.kind) b.parts (slot_of (marks k ms)) [] (part.Marks ms) (subst (λ (rest : List Slot). Filled (slots_of b.kind) b.parts (slot_of (marks k ms) ∷ rest)) g.within.1 g.filled) (marks_fill k ms g.within.0))
+    ended_row_gone forms (more b (part.Marks ms)) fits (filled_more 0 (slots_of b.kind) b.parts (slot_of (marks k ms)) [] (part.Marks ms) (subst (λ (rest : List Slot). Filled 0 (slots_of b.kind) b.parts (slot_of (marks k ms) ∷ rest)) g.within.1 g.filled) (marks_fill (last_inputs 0 b.parts) k ms g.within.0))
 
-pub marked_tokens : (forms : List Form) (b : Begun) (k : Marked) (ms : List Mark) → IsWellFormed forms → GoodRow b (marks k ms) → tokens_of (forms ++ row_form (more b (part.Marks ms)) ∷ []) (top [] []) ≡ tokens_of forms (row b (marks k ms))
+pub marked_tokens : (forms : List Form) (b : Begun) (k : Marked) (ms : List Mark) → IsWellFormed forms → GoodRow b (marks k ms) → tokens_of (forms ++ row_form (more b (part.Marks ms)) ∷ []) (top [] outside no_half) ≡ tokens_of forms (row b (marks k ms))
 marked_tokens forms b k ms fits g =
     (marked_gone forms b k ms fits g).tokens ∙ ap (λ (ts : List Token). flatten forms ++ plain_token b.opens (head_of b.kind) ∷ ts) (parts-last b.parts (part.Marks ms))
 
@@ -352,7 +474,7 @@ marks_keeps_by : (forms : List Form) (b : Begun) (k : Marked) (ms : List Mark) (
 marks_keeps_by forms b k ms (Some m) s t is h fits g = mark_keeps forms b k ms t m is fits g
 marks_keeps_by forms b k ms None s t is h fits g =
     let ended = (marked_gone forms b k ms fits g).good in
-    subst (λ (ts : List Token). Keeps ts t (mark_step forms b k ms None s t)) (marked_tokens forms b k ms fits g) (top_keeps (forms ++ row_form (more b (part.Marks ms)) ∷ []) [] [] s t h ended.fits ended.opens)
+    subst (λ (ts : List Token). Keeps ts t (mark_step forms b k ms None s t)) (marked_tokens forms b k ms fits g) (top_keeps (forms ++ row_form (more b (part.Marks ms)) ∷ []) [] outside no_half s t h ended.fits ended.opens)
 
 -- All.
 
@@ -362,13 +484,13 @@ row_keeps forms b (names k ns) s t h fits g = names_keeps forms b k ns t (named 
 row_keeps forms b (tuple_slots p ns) s t h fits g = slots_keeps forms b p ns t s h fits g
 row_keeps forms b (tuple_parent place) s t h fits g = parent_keeps forms b place t s h fits g
 row_keeps forms b (fixed key) s t h fits g = fixed_keeps forms b key t s h fits g
-row_keeps forms b (effect ts r) s t h fits g = effect_keeps forms b ts r t s h fits g
-row_keeps forms b (items es contexts) s t h fits g = items_keeps_by forms b es contexts (is_semi s) s t refl h fits g
-row_keeps forms b (literal es contexts) s t h fits g = literal_keeps forms b es contexts (element_of s t) t (element_is t s h) fits g
+row_keeps forms b (effect k ts r) s t h fits g = effect_keeps forms b k ts r t s h fits g
+row_keeps forms b (items k es contexts half) s t h fits g = items_keeps_by forms b k es contexts half (is_semi s) s t refl h fits g
+row_keeps forms b (literal es contexts half) s t h fits g = literal_keeps forms b es contexts half s t h fits g
 row_keeps forms b (marks k ms) s t h fits g = marks_keeps_by forms b k ms (mark_of s t.place) s t (mark_is t s h) h fits g
 
 open_keeps : (forms : List Form) (o : Open) (t : Token) → IsWellFormed forms → GoodOpen forms o → Keeps (tokens_of forms o) t (open_step forms o (token_spelling t.kind) t)
-open_keeps forms (top es contexts) t fits g = top_keeps forms es contexts (token_spelling t.kind) t refl fits g
+open_keeps forms (top es contexts h) t fits g = top_keeps forms es contexts h (token_spelling t.kind) t refl fits g
 open_keeps forms (row b w) t fits g = row_keeps forms b w (token_spelling t.kind) t refl fits g
 
 step_keeps : (s : State) (t : Token) → Good s → Keeps (state_tokens s) t (step s t)
@@ -390,4 +512,4 @@ steps_known (Some s) (t ∷ ts) tokens k =
     subst (Known (steps (step s t) ts)) (append_assoc tokens (t ∷ []) ts) (steps_known (step s t) ts (tokens ++ t ∷ []) (known_step (step s t) (state_tokens s) tokens t k.1 (step_keeps s t k.0)))
 
 pub start_good : Good start
-start_good = record { fits = tt; opens = (refl, tt) }
+start_good = record { fits = tt; opens = (refl, tt, tt) }

@@ -1,10 +1,10 @@
 -- The tokens of a well-formed tree are read, to that tree.
-use Rattle.fac_parse.specs.inner.Reader.{literal, goes_into, literal_with, add_literal, Within, name, names, tuple_slots, tuple_parent, fixed, effect, items, marks, Begun, begun, Open, top, row, State, in_state, start, row_form, row_ended, at_slot, go_on, more, with_part, name_step, names_step, sign_or_slot, element_of, with_element, add_element, begins, begin_or_add, top_step, written, effect_with, row_items, is_semi, end_or_add, mark_of, may_follow, mark_step, open_step, step, steps, ended}
-use Rattle.fac_parse.specs.Trees.{behind, IsLiteral, Encloses, element_tokens, items_tokens, mark_token, marks_tokens, part_tokens, parts_tokens, form_tokens, flatten, named, IsName, AreNames, most_slots, AreSlots, IsParent, IsElement, Lead, AreMarks, FillAll, IsWellFormed, Reads}
-use Rattle.fac_parse.proofs.ReaderKeeps.{into_open}
-use Rattle.fac_parse.proofs.StateTokens.{open_inside, Filled, filled_more, first_of, next_slot, MarksLast, marks_last}
-use Rattle.std.proofs.Common.{◌≡◌, ℕ, ◌≤◌, Bool, true, false, cond, List, [], ◌∷◌, ◌++◌, Option, Some, None, refl, ap, sym, ◌∙◌, subst, append_assoc, append-nil, arith, length, length-append}
-use Rattle.std.specs.Prelude.{codes, nat_lt}
+use Rattle.fac_parse.specs.inner.Reader.{Half, no_half, binding, heading, Grown, stuck, begun_as, grown, literal, literal_with, literal_grown, Within, name, names, tuple_slots, tuple_parent, fixed, effect, items, marks, Begun, begun, Open, top, row, State, in_state, outside, start, row_form, row_ended, last_inputs, at_slot, go_on, more, with_part, name_step, names_step, sign_or_slot, is_local, half_where, begin_element, grow, with_element, with_grown, begins, begin_or_add, top_step, written, effect_with, may_take, row_items, is_semi, end_or_add, mark_of, may_follow, mark_step, open_step, step, steps, ended}
+use Rattle.fac_parse.specs.Contexts.{items_in, inside, uncounted, bound, opened_locals, behind, locals_in, most_levels, most_locals}
+use Rattle.fac_parse.specs.Trees.{IsLiteral, Encloses, element_tokens, items_tokens, mark_token, marks_tokens, part_tokens, parts_tokens, form_tokens, flatten, named, IsName, AreNames, AreLocalNames, most_slots, AreSlots, IsParent, IsElement, Lead, AreMarks, inputs_of, Fills, FillFrom, FillAll, IsWellFormed, Reads}
+use Rattle.fac_parse.proofs.StateTokens.{open_inside, Filled, filled_more, inputs_last, first_of, next_slot, MarksLast, marks_last}
+use Rattle.std.proofs.Common.{◌≡◌, ℕ, ◌≤◌, Bool, true, false, cond, List, [], ◌∷◌, ◌++◌, Option, Some, None, refl, ap, sym, ◌∙◌, subst, append_assoc, append-nil, arith, length, length-append, le-leb, leb-true}
+use Rattle.std.specs.Prelude.{codes, nat_lt, nat_le, ◌&&◌, ◌+◌}
 use Rattle.std.proofs.lemmas.Bool.Decides.{Decides-ltb}
 use Rattle.fac_lang.specs.declared.phrase.Place.{Place}
 use Rattle.fac_lang.specs.declared.token.Token.{Token}
@@ -30,7 +30,7 @@ use Rattle.fac_parse.specs.declared.rows.Naming.TheVariants as naming
 use Rattle.fac_parse.specs.declared.rows.Marked.{Marked}
 use Rattle.fac_parse.specs.declared.rows.Marked.TheVariants as marked
 use Rattle.fac_effect.specs.declared.spelling.Spelling.{Spelling}
-use Rattle.fac_effect.specs.declared.spelling.Spelling.TheVariants.{Begins, Fixed, Semi, OpensBracket, ClosesBracket, True, False, Inline, Recursive, NextMethod, Name}
+use Rattle.fac_effect.specs.declared.spelling.Spelling.TheVariants.{Begins, Fixed, Semi, OpensBracket, ClosesBracket, OpensLocals, Bar, Binds, Hole, CalledHole, True, False, Inline, Recursive, NextMethod, Integer, String, Name}
 use Rattle.fac_lang.specs.Signatures.{Signature}
 use Rattle.fac_effect.specs.declared.effect_reader.EffectReader.{EffectReader}
 use Rattle.fac_effect.specs.declared.effect_reader.EffectWhy.{EffectWhy}
@@ -38,8 +38,14 @@ use Rattle.fac_effect.specs.declared.effect_reader.EffectWhy.TheVariants.{Form a
 use Rattle.fac_effect.specs.EffectReading.{Progress, reads as reading, whole as whole_effect, refused, start as no_tokens, step as token_step, run}
 use Rattle.fac_effect.proofs.EffectRuns.{refused_stays}
 use Rattle.fac_effect.proofs.EffectLemmas.{effect_is_whole}
+use Rattle.fac_effect.specs.LocalNames.{may_stand, all_may_stand}
+use Rattle.fac_effect.proofs.LocalNameLemmas.{inputs_are_named}
+use Rattle.fac_lang.specs.declared.tree.Bracket.{Bracket}
+use Rattle.fac_lang.specs.declared.tree.Bracket.TheVariants.{Quotation, Array, Fry}
+use Rattle.fac_parse.specs.declared.rows.Taking.{Taking}
+use Rattle.fac_parse.specs.declared.rows.Taking.TheVariants.{Values, Locals}
 use Rattle.fac_effect.specs.WrittenEffects.{IsEffect}
-use Rattle.fac_effect.specs.Spellings.{head_of, opening_text, closing_text, token_spelling, plain_token, spelling_of, has_integer_form, word_spelling, sign_spelling, is_reserved, is_reserved_sign, is_reserved_form, is_reserved_word, is_left_out}
+use Rattle.fac_effect.specs.Spellings.{head_of, opening_text, token_spelling, plain_token, spelling_of, has_integer_form, word_spelling, sign_spelling, is_reserved, is_reserved_sign, is_reserved_form, is_reserved_word, is_left_out}
 use Rattle.fac_parse.specs.Rows.{slots_of}
 use Rattle.fac_effect.proofs.SpellingLemmas.{sign_is}
 
@@ -126,93 +132,204 @@ slots_part_read forms b (Some q) ns ends i h few =
 never_whole : (why : EffectWhy) (ts : List Token) → run (refused why) ts ≡ whole_effect → ⊥
 never_whole why ts h = let same = refused_stays why ts in cc
 
-effect_next : (forms : List Form) (b : Begun) (ts us : List Token) (p : Progress) → run p us ≡ whole_effect → ((r : EffectReader) → run (reading r) us ≡ whole_effect → steps (Some (in_state forms (row b (effect ts r)))) us ≡ Some (with_part forms b (part.Effect (written (ts ++ us))))) → steps (effect_with forms b ts p) us ≡ Some (with_part forms b (part.Effect (written (ts ++ us))))
-effect_next forms b ts us (reading r) h later = later r h
-effect_next forms b ts [] whole_effect h later = ap (λ (x : List Token). Some (with_part forms b (part.Effect (written x)))) (sym (append-nil ts))
-effect_next forms b ts (u ∷ us) whole_effect h later = absurd (never_whole bad_form us h)
-effect_next forms b ts us (refused why) h later = absurd (never_whole why us h)
+-- whether all of these tokens may follow
+abbrev pub AllTaken : Taking → EffectReader → List Token → Type 0
+AllTaken Values r ts = Unit {0}
+AllTaken Locals r ts = all_may_stand (reading r) ts ≡ true
 
-pub effect_read : (forms : List Form) (b : Begun) (ts us : List Token) (r : EffectReader) → run (reading r) us ≡ whole_effect → steps (Some (in_state forms (row b (effect ts r)))) us ≡ Some (with_part forms b (part.Effect (written (ts ++ us))))
-effect_read forms b ts [] r h = cc
-effect_read forms b ts (u ∷ us) r h =
-    effect_next forms b (ts ++ u ∷ []) us (token_step r (token_spelling u.kind) u) h (λ next k. effect_read forms b (ts ++ u ∷ []) us next k)
+abbrev TakenFrom : Taking → Progress → List Token → Type 0
+TakenFrom k (reading r) ts = AllTaken k r ts
+TakenFrom k p ts = Unit {0}
+
+all_from : (p : Progress) (ts : List Token) → all_may_stand p ts ≡ true → TakenFrom Locals p ts
+all_from (reading r) ts h = h
+all_from whole_effect ts h = tt
+all_from (refused why) ts h = tt
+
+values_from : (p : Progress) (ts : List Token) → TakenFrom Values p ts
+values_from (reading r) ts = tt
+values_from whole_effect ts = tt
+values_from (refused why) ts = tt
+
+pub both : (a b : Bool) → (a && b) ≡ true → (a ≡ true) × (b ≡ true)
+both true b h = (refl, h)
+both false b h = cc
+
+taken_next : (k : Taking) (r : EffectReader) (t : Token) (ts : List Token) → AllTaken k r (t ∷ ts) → (may_take k r (token_spelling t.kind) t ≡ true) × TakenFrom k (token_step r (token_spelling t.kind) t) ts
+taken_next Values r t ts h = (refl, values_from (token_step r (token_spelling t.kind) t) ts)
+taken_next Locals r t ts h =
+    let all = both (may_stand r (token_spelling t.kind) t) (all_may_stand (token_step r (token_spelling t.kind) t) ts) h in
+    (all.0, all_from (token_step r (token_spelling t.kind) t) ts all.1)
+
+effect_next : (forms : List Form) (b : Begun) (k : Taking) (ts us : List Token) (p : Progress) → run p us ≡ whole_effect → TakenFrom k p us → ((r : EffectReader) → run (reading r) us ≡ whole_effect → AllTaken k r us → steps (Some (in_state forms (row b (effect k ts r)))) us ≡ Some (with_part forms b (part.Effect (written (ts ++ us))))) → steps (effect_with forms b k ts p) us ≡ Some (with_part forms b (part.Effect (written (ts ++ us))))
+effect_next forms b k ts us (reading r) h all later = later r h all
+effect_next forms b k ts [] whole_effect h all later = ap (λ (x : List Token). Some (with_part forms b (part.Effect (written x)))) (sym (append-nil ts))
+effect_next forms b k ts (u ∷ us) whole_effect h all later = absurd (never_whole bad_form us h)
+effect_next forms b k ts us (refused why) h all later = absurd (never_whole why us h)
+
+pub effect_read : (forms : List Form) (b : Begun) (k : Taking) (ts us : List Token) (r : EffectReader) → run (reading r) us ≡ whole_effect → AllTaken k r us → steps (Some (in_state forms (row b (effect k ts r)))) us ≡ Some (with_part forms b (part.Effect (written (ts ++ us))))
+effect_read forms b k ts [] r h all = cc
+effect_read forms b k ts (u ∷ us) r h all =
+    let next = taken_next k r u us all in
+    ap (λ (x : Bool). steps (cond x (effect_with forms b k (ts ++ u ∷ []) (token_step r (token_spelling u.kind) u)) None) us) next.0
+    ∙ effect_next forms b k (ts ++ u ∷ []) us (token_step r (token_spelling u.kind) u) h next.1 (λ r l all. effect_read forms b k (ts ++ u ∷ []) us r l all)
     ∙ ap (λ (x : List Token). Some (with_part forms b (part.Effect (written x)))) (append_assoc ts (u ∷ []) us)
 
-effect_part_read : (forms : List Form) (b : Begun) (ts : List Token) (e : Signature) → IsEffect ts e → steps (Some (in_state forms (row b (effect [] no_tokens)))) ts ≡ Some (with_part forms b (part.Effect (record { tokens = ts; effect = e })))
-effect_part_read forms b ts e h =
+effect_part_read : (forms : List Form) (b : Begun) (k : Taking) (ts : List Token) (e : Signature) → IsEffect ts e → AllTaken k no_tokens ts → steps (Some (in_state forms (row b (effect k [] no_tokens)))) ts ≡ Some (with_part forms b (part.Effect (record { tokens = ts; effect = e })))
+effect_part_read forms b k ts e h all =
     let is = effect_is_whole ts e h in
-    effect_read forms b [] ts no_tokens is.0 ∙ ap (λ (x : Signature). Some (with_part forms b (part.Effect (record { tokens = ts; effect = x })))) is.1
+    effect_read forms b k [] ts no_tokens is.0 all ∙ ap (λ (x : Signature). Some (with_part forms b (part.Effect (record { tokens = ts; effect = x })))) is.1
+
+-- Elements.
+
+-- no row begins with a token of this spelling, and it ends no row
+abbrev InItems : Spelling → Type 0
+InItems s = (begins s ≡ None) × (is_semi s ≡ false)
+
+-- what a token gives where an element is begun, by what one that is whole gives
+abbrev pub grown_to : (Half → State) → (Element → Option State) → Grown → Option State
+grown_to state put stuck = None
+grown_to state put (begun_as h) = Some (state h)
+grown_to state put (grown e) = put e
+
+-- where this is open, tokens are taken so
+pub record Takes (contexts : List Context) (state : Half → State) (put : Element → Option State) : Type 0 where
+  pub takes : (h : Half) (t : Token) → begins (token_spelling t.kind) ≡ None → is_semi (token_spelling t.kind) ≡ false → step (state h) t ≡ grown_to state put (grow contexts h (token_spelling t.kind) t)
+
+pub taken : (contexts : List Context) (state : Half → State) (put : Element → Option State) → Takes contexts state put → (h : Half) (t : Token) (s : Spelling) → token_spelling t.kind ≡ s → InItems s → step (state h) t ≡ grown_to state put (grow contexts h s t)
+taken contexts state put takes h t s e is =
+    takes.takes h t (ap begins e ∙ is.0) (ap is_semi e ∙ is.1) ∙ ap (λ (x : Spelling). grown_to state put (grow contexts h x t)) e
+
+test_true : (x : Bool) (y z : List Context) → cond x (Some y) None ≡ Some z → x ≡ true
+test_true true y z h = refl
+test_true false y z h = cc
+
+tested : (x : Bool) (y : List Context) → x ≡ true → (m : List Context) × (cond x (Some y) None ≡ Some m)
+tested true y h = (y, refl)
+tested false y h = cc
+
+both_true : (a b : Bool) → a ≡ true → b ≡ true → (a && b) ≡ true
+both_true true b h k = k
+both_true false b h k = cc
+
+fewer_fit : (n j k most : ℕ) → j ≤ k → nat_le (n + k) most ≡ true → nat_le (n + j) most ≡ true
+fewer_fit n j k most less h = let few = leb-true (n + k) most h in le-leb (n + j) most (omega (arith, few, less))
+
+-- where so many locals have room, fewer have
+opened_fewer : (j k : ℕ) (o : Option (List Context)) (next : List Context) → j ≤ k → opened_locals k o ≡ Some next → (m : List Context) × (opened_locals j o ≡ Some m)
+opened_fewer j k None next less h = cc
+opened_fewer j k (Some []) next less h = cc
+opened_fewer j k (Some (c ∷ cs)) next less h =
+    let deep = nat_lt (length cs) most_levels in
+    let fit = both deep (nat_le (locals_in c.locals + k) most_locals) (test_true (deep && nat_le (locals_in c.locals + k) most_locals) _ next h) in
+    tested (deep && nat_le (locals_in c.locals + j) most_locals) _ (both_true deep (nat_le (locals_in c.locals + j) most_locals) fit.0 (fewer_fit (locals_in c.locals) j k most_locals less fit.1))
+
+-- an element of one token
+alone_read : (contexts : List Context) (state : Half → State) (put : Element → Option State) → Takes contexts state put → (t : Token) (s : Spelling) (e : Element) → token_spelling t.kind ≡ s → InItems s → begin_element contexts s t ≡ grown e → steps (Some (state no_half)) (t ∷ []) ≡ put e
+alone_read contexts state put takes t s e h is makes = taken contexts state put takes no_half t s h is ∙ ap (grown_to state put) makes
+
+-- `:>` and a name
+bind_read : (contexts : List Context) (state : Half → State) (put : Element → Option State) → Takes contexts state put → (sign : Place) (t : Token) (next : List Context) → token_spelling t.kind ≡ Name → is_local t ≡ true → bound (uncounted contexts) ≡ Some next → steps (Some (state no_half)) (plain_token sign (codes ":>") ∷ t ∷ []) ≡ put (element.Item (term.Bind sign t))
+bind_read contexts state put takes sign t next h l e =
+    one (state no_half) (state (binding sign)) (plain_token sign (codes ":>")) (t ∷ []) _
+    (taken contexts state put takes no_half (plain_token sign (codes ":>")) Binds (sign_is Binds tt) (refl, refl) ∙ ap (λ (o : Option (List Context)). grown_to state put (half_where o (binding sign))) e)
+    (taken contexts state put takes (binding sign) t Name h (refl, refl) ∙ ap (λ (x : Bool). grown_to state put (cond x (grown (element.Item (term.Bind sign t))) stuck)) l)
+
+-- the names of a quotation with locals, and its bar
+pub heading_read : (contexts : List Context) (state : Half → State) (put : Element → Option State) → Takes contexts state put → (opens bar : Place) (ns ms : List Token) (next : List Context) → AreLocalNames ms → opened_locals (length (ns ++ ms)) (uncounted contexts) ≡ Some next → steps (Some (state (heading opens ns))) (ms ++ plain_token bar (codes "|") ∷ []) ≡ put (element.OpensLocals opens (ns ++ ms) bar)
+heading_read contexts state put takes opens bar ns [] next are e =
+    taken contexts state put takes (heading opens ns) (plain_token bar (codes "|")) Bar (sign_is Bar tt) (refl, refl) ∙ ap (λ (x : List Token). put (element.OpensLocals opens x bar)) (sym (append-nil ns))
+heading_read contexts state put takes opens bar ns (t ∷ ms) next are e =
+    let more_names = ns ++ t ∷ [] in
+    let same : more_names ++ ms ≡ ns ++ t ∷ ms = append_assoc ns (t ∷ []) ms in
+    let room_for : opened_locals (length (more_names ++ ms)) (uncounted contexts) ≡ Some next = ap (λ (x : List Token). opened_locals (length x) (uncounted contexts)) same ∙ e in
+    let longer = length-append more_names ms in
+    let room = opened_fewer (length more_names) (length (more_names ++ ms)) (uncounted contexts) next (omega (arith, longer)) room_for in
+    one (state (heading opens ns)) (state (heading opens more_names)) t (ms ++ plain_token bar (codes "|") ∷ []) _
+    (taken contexts state put takes (heading opens ns) t Name are.0.0 (refl, refl)
+    ∙ ap (λ (x : Bool). grown_to state put (cond x (half_where (opened_locals (length more_names) (uncounted contexts)) (heading opens more_names)) stuck)) are.0.1
+    ∙ ap (λ (o : Option (List Context)). grown_to state put (half_where o (heading opens more_names))) room.1)
+    (heading_read contexts state put takes opens bar more_names ms next are.1 room_for ∙ ap (λ (x : List Token). put (element.OpensLocals opens x bar)) same)
+
+locals_read : (contexts : List Context) (state : Half → State) (put : Element → Option State) → Takes contexts state put → (opens bar : Place) (ns : List Token) (next : List Context) → AreLocalNames ns → opened_locals (length ns) (uncounted contexts) ≡ Some next → steps (Some (state no_half)) (plain_token opens (codes "[|") ∷ ns ++ plain_token bar (codes "|") ∷ []) ≡ put (element.OpensLocals opens ns bar)
+locals_read contexts state put takes opens bar ns next are e =
+    let room = opened_fewer 0 (length ns) (uncounted contexts) next (omega arith) e in
+    one (state no_half) (state (heading opens [])) (plain_token opens (codes "[|")) (ns ++ plain_token bar (codes "|") ∷ []) _
+    (taken contexts state put takes no_half (plain_token opens (codes "[|")) OpensLocals (sign_is OpensLocals tt) (refl, refl) ∙ ap (λ (o : Option (List Context)). grown_to state put (half_where o (heading opens []))) room.1)
+    (heading_read contexts state put takes opens bar [] ns next are e)
+
+pub element_read : (contexts : List Context) (state : Half → State) (put : Element → Option State) → Takes contexts state put → (e : Element) (next : List Context) → IsElement e → behind contexts e ≡ Some next → steps (Some (state no_half)) (element_tokens e) ≡ put e
+element_read contexts state put takes (element.Item (term.Name t)) next h k = alone_read contexts state put takes t Name _ h (refl, refl) refl
+element_read contexts state put takes (element.Item (term.Integer t z)) next h k = alone_read contexts state put takes t (Integer z) _ h (refl, refl) refl
+element_read contexts state put takes (element.Item (term.Text t)) next h k = alone_read contexts state put takes t String _ h (refl, refl) refl
+element_read contexts state put takes (element.Item (term.Bind sign t)) next h k = bind_read contexts state put takes sign t next h.0 h.1 k
+element_read contexts state put takes (element.OpensLocals opens ns bar) next h k = locals_read contexts state put takes opens bar ns next h k
+element_read contexts state put takes (element.Item (term.True place)) next h k = alone_read contexts state put takes (plain_token place (codes "t")) True _ (sign_is True tt) (refl, refl) refl
+element_read contexts state put takes (element.Item (term.False place)) next h k = alone_read contexts state put takes (plain_token place (codes "f")) False _ (sign_is False tt) (refl, refl) refl
+element_read contexts state put takes (element.Item (term.NextMethod place)) next h k = alone_read contexts state put takes (plain_token place (codes "call-next-method")) NextMethod _ (sign_is NextMethod tt) (refl, refl) refl
+element_read contexts state put takes (element.Item (term.Hole place)) next h k = alone_read contexts state put takes (plain_token place (codes "_")) Hole _ (sign_is Hole tt) (refl, refl) refl
+element_read contexts state put takes (element.Item (term.CalledHole place)) next h k = alone_read contexts state put takes (plain_token place (codes "@")) CalledHole _ (sign_is CalledHole tt) (refl, refl) refl
+element_read contexts state put takes (element.Opens Quotation place) next h k = alone_read contexts state put takes (plain_token place (codes "[")) (OpensBracket Quotation) _ (sign_is (OpensBracket Quotation) tt) (refl, refl) refl
+element_read contexts state put takes (element.Opens Array place) next h k = alone_read contexts state put takes (plain_token place (codes "{")) (OpensBracket Array) _ (sign_is (OpensBracket Array) tt) (refl, refl) refl
+element_read contexts state put takes (element.Opens Fry place) next h k = alone_read contexts state put takes (plain_token place (codes "'[")) (OpensBracket Fry) _ (sign_is (OpensBracket Fry) tt) (refl, refl) refl
+element_read contexts state put takes (element.Closes Quotation place) next h k = alone_read contexts state put takes (plain_token place (codes "]")) (ClosesBracket Quotation) _ (sign_is (ClosesBracket Quotation) tt) (refl, refl) refl
+element_read contexts state put takes (element.Closes Array place) next h k = alone_read contexts state put takes (plain_token place (codes "}")) (ClosesBracket Array) _ (sign_is (ClosesBracket Array) tt) (refl, refl) refl
+element_read contexts state put takes (element.Closes Fry place) next h k = absurd h
+
+-- an element begins with a token that is no mark
+record BeginsUnmarked (e : Element) : Type 0 where
+  first : Token
+  rest : List Token
+  are : element_tokens e ≡ first ∷ rest
+  unmarked : mark_of (token_spelling first.kind) first.place ≡ None
+
+unmarked_by : (e : Element) (t : Token) (ts : List Token) (s : Spelling) → element_tokens e ≡ t ∷ ts → token_spelling t.kind ≡ s → mark_of s t.place ≡ None → BeginsUnmarked e
+unmarked_by e t ts s are h none = record { first = t; rest = ts; are = are; unmarked = ap (λ (x : Spelling). mark_of x t.place) h ∙ none }
+
+begins_unmarked : (e : Element) → IsElement e → BeginsUnmarked e
+begins_unmarked (element.Item (term.Name t)) h = unmarked_by (element.Item (term.Name t)) t [] Name refl h refl
+begins_unmarked (element.Item (term.Integer t z)) h = unmarked_by (element.Item (term.Integer t z)) t [] (Integer z) refl h refl
+begins_unmarked (element.Item (term.Text t)) h = unmarked_by (element.Item (term.Text t)) t [] String refl h refl
+begins_unmarked (element.Item (term.Bind sign t)) h = unmarked_by (element.Item (term.Bind sign t)) (plain_token sign (codes ":>")) (t ∷ []) Binds refl (sign_is Binds tt) refl
+begins_unmarked (element.OpensLocals opens ns bar) h = unmarked_by (element.OpensLocals opens ns bar) (plain_token opens (codes "[|")) (ns ++ plain_token bar (codes "|") ∷ []) OpensLocals refl (sign_is OpensLocals tt) refl
+begins_unmarked (element.Item (term.True place)) h = unmarked_by (element.Item (term.True place)) (plain_token place (codes "t")) [] True refl (sign_is True tt) refl
+begins_unmarked (element.Item (term.False place)) h = unmarked_by (element.Item (term.False place)) (plain_token place (codes "f")) [] False refl (sign_is False tt) refl
+begins_unmarked (element.Item (term.NextMethod place)) h = unmarked_by (element.Item (term.NextMethod place)) (plain_token place (codes "call-next-method")) [] NextMethod refl (sign_is NextMethod tt) refl
+begins_unmarked (element.Item (term.Hole place)) h = unmarked_by (element.Item (term.Hole place)) (plain_token place (codes "_")) [] Hole refl (sign_is Hole tt) refl
+begins_unmarked (element.Item (term.CalledHole place)) h = unmarked_by (element.Item (term.CalledHole place)) (plain_token place (codes "@")) [] CalledHole refl (sign_is CalledHole tt) refl
+begins_unmarked (element.Opens Quotation place) h = unmarked_by (element.Opens Quotation place) (plain_token place (codes "[")) [] (OpensBracket Quotation) refl (sign_is (OpensBracket Quotation) tt) refl
+begins_unmarked (element.Opens Array place) h = unmarked_by (element.Opens Array place) (plain_token place (codes "{")) [] (OpensBracket Array) refl (sign_is (OpensBracket Array) tt) refl
+begins_unmarked (element.Opens Fry place) h = unmarked_by (element.Opens Fry place) (plain_token place (codes "'[")) [] (OpensBracket Fry) refl (sign_is (OpensBracket Fry) tt) refl
+begins_unmarked (element.Closes Quotation place) h = unmarked_by (element.Closes Quotation place) (plain_token place (codes "]")) [] (ClosesBracket Quotation) refl (sign_is (ClosesBracket Quotation) tt) refl
+begins_unmarked (element.Closes Array place) h = unmarked_by (element.Closes Array place) (plain_token place (codes "}")) [] (ClosesBracket Array) refl (sign_is (ClosesBracket Array) tt) refl
+begins_unmarked (element.Closes Fry place) h = absurd h
 
 -- Items.
 
-abbrev pub term_token : Element → Token
-term_token (element.Item (term.Name t)) = t
-term_token (element.Item (term.Integer t z)) = t
-term_token (element.Item (term.Text t)) = t
-term_token (element.Item (term.True place)) = plain_token place (codes "t")
-term_token (element.Item (term.False place)) = plain_token place (codes "f")
-term_token (element.Item (term.NextMethod place)) = plain_token place (codes "call-next-method")
-term_token (element.Opens bracket place) = plain_token place (opening_text bracket)
-term_token (element.Closes bracket place) = plain_token place (closing_text bracket)
-
-token_alone : (e : Element) → element_tokens e ≡ term_token e ∷ []
-token_alone (element.Item (term.Name t)) = refl
-token_alone (element.Item (term.Integer t z)) = refl
-token_alone (element.Item (term.Text t)) = refl
-token_alone (element.Item (term.True place)) = refl
-token_alone (element.Item (term.False place)) = refl
-token_alone (element.Item (term.NextMethod place)) = refl
-token_alone (element.Opens bracket place) = refl
-token_alone (element.Closes bracket place) = refl
-
-pub element_spelled : (e : Element) → IsElement e → element_of (token_spelling (term_token e).kind) (term_token e) ≡ Some e
-element_spelled (element.Item (term.Name t)) h = ap (λ (s : Spelling). element_of s t) h
-element_spelled (element.Item (term.Integer t z)) h = ap (λ (s : Spelling). element_of s t) h
-element_spelled (element.Item (term.Text t)) h = ap (λ (s : Spelling). element_of s t) h
-element_spelled (element.Item (term.True place)) h = ap (λ (s : Spelling). element_of s (plain_token place (codes "t"))) (sign_is True tt)
-element_spelled (element.Item (term.False place)) h = ap (λ (s : Spelling). element_of s (plain_token place (codes "f"))) (sign_is False tt)
-element_spelled (element.Item (term.NextMethod place)) h = ap (λ (s : Spelling). element_of s (plain_token place (codes "call-next-method"))) (sign_is NextMethod tt)
-element_spelled (element.Opens bracket place) h = ap (λ (s : Spelling). element_of s (plain_token place (opening_text bracket))) (sign_is (OpensBracket bracket) tt)
-element_spelled (element.Closes bracket place) h = ap (λ (s : Spelling). element_of s (plain_token place (closing_text bracket))) (sign_is (ClosesBracket bracket) tt)
-
-no_row : (s : Spelling) (t : Token) (e : Element) → element_of s t ≡ Some e → begins s ≡ None
-no_row (Begins kind) t e h = cc
-no_row _ t e h = refl
-
-no_semi : (s : Spelling) (t : Token) (e : Element) → element_of s t ≡ Some e → is_semi s ≡ false
-no_semi Semi t e h = cc
-no_semi _ t e h = refl
-
-no_mark : (s : Spelling) (t : Token) (e : Element) → element_of s t ≡ Some e → mark_of s t.place ≡ None
-no_mark Inline t e h = cc
-no_mark Recursive t e h = cc
-no_mark _ t e h = refl
-
-top_element : (forms : List Form) (es : List Element) (contexts : List Context) (s : Spelling) (t : Token) (e : Element) → element_of s t ≡ Some e → top_step forms es contexts s t ≡ add_element top forms es contexts (Some e)
-top_element forms es contexts s t e h =
-    ap (λ (o : Option FormKind). begin_or_add forms es contexts o s t) (no_row s t e h) ∙ ap (add_element top forms es contexts) h
-
--- where items are held, a token of an element adds it
-pub record HoldsItems (held : List Element → List Context → Open) (forms : List Form) : Type 0 where
-  pub adds_element : (es : List Element) (contexts : List Context) (t : Token) (e : Element) → element_of (token_spelling t.kind) t ≡ Some e → step (in_state forms (held es contexts)) t ≡ add_element held forms es contexts (Some e)
+-- where items are held, tokens are taken as theirs
+pub record HoldsItems (held : List Element → List Context → Half → Open) (forms : List Form) : Type 0 where
+  pub adds : (es : List Element) (contexts : List Context) (h : Half) (t : Token) → begins (token_spelling t.kind) ≡ None → is_semi (token_spelling t.kind) ≡ false → step (in_state forms (held es contexts h)) t ≡ with_grown held forms es contexts (grow contexts h (token_spelling t.kind) t)
 
 pub top_holds_items : (forms : List Form) → HoldsItems top forms
-top_holds_items forms = record { adds_element = λ es contexts t e h. top_element forms es contexts (token_spelling t.kind) t e h }
+top_holds_items forms = record { adds = λ es contexts h t none no_semi. ap (λ (o : Option FormKind). begin_or_add forms es contexts h o (token_spelling t.kind) t) none }
 
-pub row_holds_items : (forms : List Form) (b : Begun) → HoldsItems (row_items b) forms
-row_holds_items forms b = record {
-  adds_element = λ es contexts t e h.
-      ap (λ (o : Bool). end_or_add forms b es contexts o (token_spelling t.kind) t) (no_semi (token_spelling t.kind) t e h) ∙ ap (add_element (row_items b) forms es contexts) h;
-}
+pub row_holds_items : (forms : List Form) (b : Begun) (k : Taking) → HoldsItems (row_items b k) forms
+row_holds_items forms b k = record { adds = λ es contexts h t none no_semi. ap (λ (o : Bool). end_or_add forms b k es contexts h o (token_spelling t.kind) t) no_semi }
 
-pub elements_read : (held : List Element → List Context → Open) (forms : List Form) → HoldsItems held forms → (es ms : List Element) (from to : List Context) → Lead from ms to → steps (Some (in_state forms (held es from))) (items_tokens ms) ≡ Some (in_state forms (held (es ++ ms) to))
-elements_read held forms holds es [] from to h = ap (λ (x : List Element). Some (in_state forms (held x from))) (sym (append-nil es)) ∙ ap (λ (x : List Context). Some (in_state forms (held (es ++ []) x))) h
+grown_held : (held : List Element → List Context → Half → Open) (forms : List Form) (es : List Element) (contexts : List Context) (g : Grown) → with_grown held forms es contexts g ≡ grown_to (λ h. in_state forms (held es contexts h)) (λ e. with_element held forms es e (behind contexts e)) g
+grown_held held forms es contexts stuck = refl
+grown_held held forms es contexts (begun_as h) = refl
+grown_held held forms es contexts (grown e) = refl
+
+pub held_takes : (held : List Element → List Context → Half → Open) (forms : List Form) → HoldsItems held forms → (es : List Element) (contexts : List Context) → Takes contexts (λ h. in_state forms (held es contexts h)) (λ e. with_element held forms es e (behind contexts e))
+held_takes held forms holds es contexts = record { takes = λ h t none no_semi. holds.adds es contexts h t none no_semi ∙ grown_held held forms es contexts (grow contexts h (token_spelling t.kind) t) }
+
+pub elements_read : (held : List Element → List Context → Half → Open) (forms : List Form) → HoldsItems held forms → (es ms : List Element) (from to : List Context) → Lead from ms to → steps (Some (in_state forms (held es from no_half))) (items_tokens ms) ≡ Some (in_state forms (held (es ++ ms) to no_half))
+elements_read held forms holds es [] from to h = ap (λ (x : List Element). Some (in_state forms (held x from no_half))) (sym (append-nil es)) ∙ ap (λ (x : List Context). Some (in_state forms (held (es ++ []) x no_half))) h
 elements_read held forms holds es (e ∷ ms) from to h =
-    let next = in_state forms (held (es ++ e ∷ []) h.1) in
-    ap (λ (ts : List Token). steps (Some (in_state forms (held es from))) (ts ++ items_tokens ms)) (token_alone e)
-    ∙ one (in_state forms (held es from)) next (term_token e) (items_tokens ms) _
-    (holds.adds_element es from (term_token e) e (element_spelled e h.0) ∙ ap (with_element held forms es e) h.2)
-    (elements_read held forms holds (es ++ e ∷ []) ms h.1 to h.3 ∙ ap (λ (x : List Element). Some (in_state forms (held x to))) (append_assoc es (e ∷ []) ms))
+    chain (in_state forms (held es from no_half)) (in_state forms (held (es ++ e ∷ []) h.1 no_half)) (element_tokens e) (items_tokens ms) _
+    (element_read from (λ half. in_state forms (held es from half)) (λ e. with_element held forms es e (behind from e)) (held_takes held forms holds es from) e h.1 h.0 h.2 ∙ ap (with_element held forms es e) h.2)
+    (elements_read held forms holds (es ++ e ∷ []) ms h.1 to h.3 ∙ ap (λ (x : List Element). Some (in_state forms (held x to no_half))) (append_assoc es (e ∷ []) ms))
 
 -- Parts.
 
@@ -247,58 +364,69 @@ names_part_read : (forms : List Form) (b : Begun) (k : Naming) (ns : List Token)
 names_part_read forms b k ns ends h =
     chain (in_state forms (row b (names k []))) (in_state forms (row b (names k ns))) ns (plain_token ends (codes ";") ∷ []) _ (names_read forms b k [] ns h) (names_end forms b k ns ends)
 
-items_part_read : (forms : List Form) (b : Begun) (es : List Element) (ends : Place) → Lead [] es [] → steps (Some (in_state forms (row b (items [] [])))) (part_tokens (part.Items es ends)) ≡ Some (with_part forms b (part.Items es ends))
-items_part_read forms b es ends h =
-    chain (in_state forms (row b (items [] []))) (in_state forms (row b (items es []))) (items_tokens es) (plain_token ends (codes ";") ∷ []) _ (elements_read (row_items b) forms (row_holds_items forms b) [] es [] [] h)
-    (by_spelling forms (row b (items es [])) (plain_token ends (codes ";")) Semi (sign_is Semi tt))
+items_part_read : (forms : List Form) (b : Begun) (k : Taking) (locals : Option ℕ) (es : List Element) (ends : Place) (to : Context) → Lead (items_in locals ∷ []) es (to ∷ []) → steps (Some (in_state forms (row b (items k [] (items_in locals ∷ []) no_half)))) (part_tokens (part.Items es ends)) ≡ Some (with_part forms b (part.Items es ends))
+items_part_read forms b k locals es ends to h =
+    chain (in_state forms (row b (items k [] (items_in locals ∷ []) no_half))) (in_state forms (row b (items k es (to ∷ []) no_half))) (items_tokens es) (plain_token ends (codes ";") ∷ []) _ (elements_read (row_items b k) forms (row_holds_items forms b k) [] es (items_in locals ∷ []) (to ∷ []) h)
+    (by_spelling forms (row b (items k es (to ∷ []) no_half)) (plain_token ends (codes ";")) Semi (sign_is Semi tt))
 
 -- Literals.
 
-term_read : (forms : List Form) (b : Begun) (e : Element) → IsElement e → cond (goes_into [] e) (literal_with forms b (e ∷ []) (behind [] e)) None ≡ Some (with_part forms b (part.Literal (e ∷ []))) → steps (Some (in_state forms (row b (literal [] [])))) (items_tokens (e ∷ [])) ≡ Some (with_part forms b (part.Literal (e ∷ [])))
-term_read forms b e is goes =
-    ap (λ (ts : List Token). steps (Some (in_state forms (row b (literal [] [])))) (ts ++ [])) (token_alone e)
-    ∙ ap (add_literal forms b [] []) (element_spelled e is) ∙ goes
+grown_literal : (forms : List Form) (b : Begun) (es : List Element) (c d : Context) (contexts : List Context) (g : Grown) → literal_grown forms b es (c ∷ d ∷ contexts) g ≡ grown_to (λ h. in_state forms (row b (literal es (c ∷ d ∷ contexts) h))) (λ e. literal_with forms b (es ++ e ∷ []) (behind (c ∷ d ∷ contexts) e)) g
+grown_literal forms b es c d contexts stuck = refl
+grown_literal forms b es c d contexts (begun_as h) = refl
+grown_literal forms b es c d contexts (grown e) = refl
 
--- one more element of a literal in which something is open
-pub adds_literal : (forms : List Form) (b : Begun) (es : List Element) (c : Context) (contexts : List Context) (e : Element) (next : List Context) → IsElement e → behind (c ∷ contexts) e ≡ Some next → step (in_state forms (row b (literal es (c ∷ contexts)))) (term_token e) ≡ literal_with forms b (es ++ e ∷ []) (Some next)
-adds_literal forms b es c contexts e next is h =
-    ap (add_literal forms b es (c ∷ contexts)) (element_spelled e is)
-    ∙ ap (λ (x : Bool). cond x (literal_with forms b (es ++ e ∷ []) (behind (c ∷ contexts) e)) None) (into_open c contexts e)
+pub literal_takes : (forms : List Form) (b : Begun) (es : List Element) (c d : Context) (contexts : List Context) → Takes (c ∷ d ∷ contexts) (λ h. in_state forms (row b (literal es (c ∷ d ∷ contexts) h))) (λ e. literal_with forms b (es ++ e ∷ []) (behind (c ∷ d ∷ contexts) e))
+literal_takes forms b es c d contexts = record { takes = λ h t none no_semi. grown_literal forms b es c d contexts (grow (c ∷ d ∷ contexts) h (token_spelling t.kind) t) }
+
+-- one more element of a literal in which a bracket is open
+pub adds_literal : (forms : List Form) (b : Begun) (es : List Element) (c d : Context) (contexts : List Context) (e : Element) (next : List Context) → IsElement e → behind (c ∷ d ∷ contexts) e ≡ Some next → steps (Some (in_state forms (row b (literal es (c ∷ d ∷ contexts) no_half)))) (element_tokens e) ≡ literal_with forms b (es ++ e ∷ []) (Some next)
+adds_literal forms b es c d contexts e next is h =
+    element_read (c ∷ d ∷ contexts) (λ half. in_state forms (row b (literal es (c ∷ d ∷ contexts) half))) (λ e. literal_with forms b (es ++ e ∷ []) (behind (c ∷ d ∷ contexts) e)) (literal_takes forms b es c d contexts) e next is h
     ∙ ap (literal_with forms b (es ++ e ∷ [])) h
 
-enclosed_next : (forms : List Form) (b : Begun) (es ms : List Element) (c : Context) (contexts : List Context) (e : Element) (next : List Context) → IsElement e → behind (c ∷ contexts) e ≡ Some next → Encloses next ms → ((d : Context) (less : List Context) → Encloses (d ∷ less) ms → steps (Some (in_state forms (row b (literal (es ++ e ∷ []) (d ∷ less))))) (items_tokens ms) ≡ Some (with_part forms b (part.Literal ((es ++ e ∷ []) ++ ms)))) → steps (Some (in_state forms (row b (literal es (c ∷ contexts))))) (term_token e ∷ items_tokens ms) ≡ Some (with_part forms b (part.Literal ((es ++ e ∷ []) ++ ms)))
-enclosed_next forms b es [] c contexts e [] is h k later =
-    one (in_state forms (row b (literal es (c ∷ contexts)))) (with_part forms b (part.Literal (es ++ e ∷ []))) (term_token e) [] _ (adds_literal forms b es c contexts e [] is h) (ap (λ (x : List Element). Some (with_part forms b (part.Literal x))) (sym (append-nil (es ++ e ∷ []))))
-enclosed_next forms b es (m ∷ ms) c contexts e [] is h k later = absurd k
-enclosed_next forms b es ms c contexts e (d ∷ less) is h k later =
-    one (in_state forms (row b (literal es (c ∷ contexts)))) (in_state forms (row b (literal (es ++ e ∷ []) (d ∷ less)))) (term_token e) (items_tokens ms) _ (adds_literal forms b es c contexts e (d ∷ less) is h) (later d less k)
+enclosed_next : (forms : List Form) (b : Begun) (es ms : List Element) (c d : Context) (contexts : List Context) (e : Element) (next : List Context) → IsElement e → behind (c ∷ d ∷ contexts) e ≡ Some next → Encloses next ms → ((x y : Context) (less : List Context) → Encloses (x ∷ y ∷ less) ms → steps (Some (in_state forms (row b (literal (es ++ e ∷ []) (x ∷ y ∷ less) no_half)))) (items_tokens ms) ≡ Some (with_part forms b (part.Literal ((es ++ e ∷ []) ++ ms)))) → steps (Some (in_state forms (row b (literal es (c ∷ d ∷ contexts) no_half)))) (element_tokens e ++ items_tokens ms) ≡ Some (with_part forms b (part.Literal ((es ++ e ∷ []) ++ ms)))
+enclosed_next forms b es ms c d contexts e [] is h k later = absurd k
+enclosed_next forms b es [] c d contexts e (x ∷ []) is h k later =
+    chain (in_state forms (row b (literal es (c ∷ d ∷ contexts) no_half))) (with_part forms b (part.Literal (es ++ e ∷ []))) (element_tokens e) [] _ (adds_literal forms b es c d contexts e (x ∷ []) is h) (ap (λ (x : List Element). Some (with_part forms b (part.Literal x))) (sym (append-nil (es ++ e ∷ []))))
+enclosed_next forms b es (m ∷ ms) c d contexts e (x ∷ []) is h k later = absurd k
+enclosed_next forms b es ms c d contexts e (x ∷ y ∷ less) is h k later =
+    chain (in_state forms (row b (literal es (c ∷ d ∷ contexts) no_half))) (in_state forms (row b (literal (es ++ e ∷ []) (x ∷ y ∷ less) no_half))) (element_tokens e) (items_tokens ms) _ (adds_literal forms b es c d contexts e (x ∷ y ∷ less) is h) (later x y less k)
 
-enclosed_read : (forms : List Form) (b : Begun) (es ms : List Element) (c : Context) (contexts : List Context) → Encloses (c ∷ contexts) ms → steps (Some (in_state forms (row b (literal es (c ∷ contexts))))) (items_tokens ms) ≡ Some (with_part forms b (part.Literal (es ++ ms)))
-enclosed_read forms b es [] c contexts h = absurd h
-enclosed_read forms b es (e ∷ ms) c contexts h =
-    ap (λ (ts : List Token). steps (Some (in_state forms (row b (literal es (c ∷ contexts))))) (ts ++ items_tokens ms)) (token_alone e)
-    ∙ enclosed_next forms b es ms c contexts e h.1 h.0 h.2 h.3 (λ d less k. enclosed_read forms b (es ++ e ∷ []) ms d less k)
+enclosed_read : (forms : List Form) (b : Begun) (es ms : List Element) (c d : Context) (contexts : List Context) → Encloses (c ∷ d ∷ contexts) ms → steps (Some (in_state forms (row b (literal es (c ∷ d ∷ contexts) no_half)))) (items_tokens ms) ≡ Some (with_part forms b (part.Literal (es ++ ms)))
+enclosed_read forms b es [] c d contexts h = absurd h
+enclosed_read forms b es (e ∷ ms) c d contexts h =
+    enclosed_next forms b es ms c d contexts e h.1 h.0 h.2 h.3 (λ x y less k. enclosed_read forms b (es ++ e ∷ []) ms x y less k)
     ∙ ap (λ (x : List Element). Some (with_part forms b (part.Literal x))) (append_assoc es (e ∷ []) ms)
 
-literal_part_read : (forms : List Form) (b : Begun) (es : List Element) → IsLiteral es → steps (Some (in_state forms (row b (literal [] [])))) (items_tokens es) ≡ Some (with_part forms b (part.Literal es))
+bracket_read : (forms : List Form) (b : Begun) (bracket : Bracket) (place : Place) (es : List Element) → step (in_state forms (row b (literal [] outside no_half))) (plain_token place (opening_text bracket)) ≡ Some (in_state forms (row b (literal (element.Opens bracket place ∷ []) (open_inside bracket) no_half))) → Encloses (open_inside bracket) es → steps (Some (in_state forms (row b (literal [] outside no_half)))) (items_tokens (element.Opens bracket place ∷ es)) ≡ Some (with_part forms b (part.Literal (element.Opens bracket place ∷ es)))
+bracket_read forms b bracket place es opens h =
+    one (in_state forms (row b (literal [] outside no_half))) (in_state forms (row b (literal (element.Opens bracket place ∷ []) (open_inside bracket) no_half))) (plain_token place (opening_text bracket)) (items_tokens es) _
+    opens (enclosed_read forms b (element.Opens bracket place ∷ []) es (inside bracket (items_in None)) (items_in None) [] h)
+
+pub literal_part_read : (forms : List Form) (b : Begun) (es : List Element) → IsLiteral es → steps (Some (in_state forms (row b (literal [] outside no_half)))) (items_tokens es) ≡ Some (with_part forms b (part.Literal es))
 literal_part_read forms b [] h = absurd h
 literal_part_read forms b (element.Item (term.Name t) ∷ []) h = absurd h
-literal_part_read forms b (element.Item (term.Integer t z) ∷ []) h = term_read forms b (element.Item (term.Integer t z)) h refl
-literal_part_read forms b (element.Item (term.Text t) ∷ []) h = term_read forms b (element.Item (term.Text t)) h refl
-literal_part_read forms b (element.Item (term.True place) ∷ []) h = term_read forms b (element.Item (term.True place)) h refl
-literal_part_read forms b (element.Item (term.False place) ∷ []) h = term_read forms b (element.Item (term.False place)) h refl
+literal_part_read forms b (element.Item (term.Integer t z) ∷ []) h = by_spelling forms (row b (literal [] outside no_half)) t (Integer z) h
+literal_part_read forms b (element.Item (term.Text t) ∷ []) h = by_spelling forms (row b (literal [] outside no_half)) t String h
+literal_part_read forms b (element.Item (term.True place) ∷ []) h = by_spelling forms (row b (literal [] outside no_half)) (plain_token place (codes "t")) True (sign_is True tt)
+literal_part_read forms b (element.Item (term.False place) ∷ []) h = by_spelling forms (row b (literal [] outside no_half)) (plain_token place (codes "f")) False (sign_is False tt)
 literal_part_read forms b (element.Item (term.NextMethod place) ∷ []) h = absurd h
+literal_part_read forms b (element.Item (term.Bind sign t) ∷ []) h = absurd h
+literal_part_read forms b (element.Item (term.Hole place) ∷ []) h = absurd h
+literal_part_read forms b (element.Item (term.CalledHole place) ∷ []) h = absurd h
 literal_part_read forms b (element.Item item ∷ e ∷ es) h = absurd h
+literal_part_read forms b (element.OpensLocals opens ns bar ∷ es) h = absurd h
 literal_part_read forms b (element.Closes bracket place ∷ es) h = absurd h
-literal_part_read forms b (element.Opens bracket place ∷ es) h =
-    one (in_state forms (row b (literal [] []))) (in_state forms (row b (literal (element.Opens bracket place ∷ []) (open_inside bracket)))) (plain_token place (opening_text bracket)) (items_tokens es) _
-    (ap (add_literal forms b [] []) (element_spelled (element.Opens bracket place) tt)) (enclosed_read forms b (element.Opens bracket place ∷ []) es _ [] h)
+literal_part_read forms b (element.Opens Quotation place ∷ es) h = bracket_read forms b Quotation place es (by_spelling forms (row b (literal [] outside no_half)) (plain_token place (codes "[")) (OpensBracket Quotation) (sign_is (OpensBracket Quotation) tt)) h.1
+literal_part_read forms b (element.Opens Array place ∷ es) h = bracket_read forms b Array place es (by_spelling forms (row b (literal [] outside no_half)) (plain_token place (codes "{")) (OpensBracket Array) (sign_is (OpensBracket Array) tt)) h.1
+literal_part_read forms b (element.Opens Fry place ∷ es) h = absurd h.0
 
 -- Where the tokens may end with these forms, a row may begin, and where none of the forms that follow is a run beside one, a run may.
 
 -- a run of items may begin here: each token that is no mark is taken as one at the top level
 abbrev pub Fresh : State → List Form → Type 0
-Fresh s forms = (t : Token) → mark_of (token_spelling t.kind) t.place ≡ None → step s t ≡ top_step forms [] [] (token_spelling t.kind) t
+Fresh s forms = (t : Token) → mark_of (token_spelling t.kind) t.place ≡ None → step s t ≡ top_step forms [] outside no_half (token_spelling t.kind) t
 
 abbrev pub BeginWithRun : List Form → Type 0
 BeginWithRun (Items es ∷ forms) = Unit {0}
@@ -319,7 +447,7 @@ fresh_ready s forms rest e h = record {
   whole = e;
   rows = λ kind opens.
       h (plain_token opens (head_of kind)) (ap (λ (x : Spelling). mark_of x opens) (sign_is (Begins kind) tt))
-      ∙ ap (λ (x : Spelling). top_step forms [] [] x (plain_token opens (head_of kind))) (sign_is (Begins kind) tt);
+      ∙ ap (λ (x : Spelling). top_step forms [] outside no_half x (plain_token opens (head_of kind))) (sign_is (Begins kind) tt);
   runs = λ b. h;
 }
 
@@ -336,10 +464,10 @@ marked_ready forms b k ms rest =
     ap (λ (o : Option Mark). mark_step forms b k ms o (token_spelling t.kind) t) h)
 
 -- behind a run
-run_ready : (forms : List Form) (e : Element) (es : List Element) (rest : List Form) → (BeginWithRun rest → ⊥) → Ready (in_state forms (top (e ∷ es) [])) (forms ++ Items (e ∷ es) ∷ []) rest
-run_ready forms e es rest none = record {
+run_ready : (forms : List Form) (e : Element) (es : List Element) (to : Context) (rest : List Form) → (BeginWithRun rest → ⊥) → Ready (in_state forms (top (e ∷ es) (to ∷ []) no_half)) (forms ++ Items (e ∷ es) ∷ []) rest
+run_ready forms e es to rest none = record {
   whole = refl;
-  rows = λ kind opens. by_spelling forms (top (e ∷ es) []) (plain_token opens (head_of kind)) (Begins kind) (sign_is (Begins kind) tt);
+  rows = λ kind opens. by_spelling forms (top (e ∷ es) (to ∷ []) no_half) (plain_token opens (head_of kind)) (Begins kind) (sign_is (Begins kind) tt);
   runs = λ b. absurd (none b);
 }
 
@@ -356,8 +484,14 @@ part_then forms b w p ps rest h later = record {
   ready = subst (λ (qs : List Part). Ready later.to (forms ++ Row b.kind b.opens qs ∷ []) rest) (append_assoc b.parts (p ∷ []) ps) later.ready;
 }
 
-to_slot : (forms : List Form) (b : Begun) (slots : List Slot) (ts : List Token) (fs rest : List Form) → Filled (slots_of b.kind) b.parts slots → Reaches (at_slot forms b (first_of slots)) ts fs rest → Reaches (go_on forms b) ts fs rest
-to_slot forms b slots ts fs rest h r = subst (λ (o : Option Slot). Reaches (at_slot forms b o) ts fs rest) (sym (next_slot (slots_of b.kind) b.parts slots h)) r
+to_slot : (forms : List Form) (b : Begun) (slots : List Slot) (ts : List Token) (fs rest : List Form) → Filled 0 (slots_of b.kind) b.parts slots → Reaches (at_slot forms b (first_of slots)) ts fs rest → Reaches (go_on forms b) ts fs rest
+to_slot forms b slots ts fs rest h r = subst (λ (o : Option Slot). Reaches (at_slot forms b o) ts fs rest) (sym (next_slot 0 (slots_of b.kind) b.parts slots h)) r
+
+-- a slot that is filled, and those behind it
+slot_read : (forms : List Form) (b : Begun) (w : Within) (s : Slot) (p : Part) (slots : List Slot) (ps : List Part) (rest : List Form) → Filled 0 (slots_of b.kind) b.parts (s ∷ slots) → Fills (last_inputs 0 b.parts) s p → steps (Some (in_state forms (row b w))) (part_tokens p) ≡ Some (with_part forms b p) → (Filled 0 (slots_of b.kind) (b.parts ++ p ∷ []) slots → Reaches (at_slot forms (more b p) (first_of slots)) (parts_tokens ps) (forms ++ row_with (more b p) ps ∷ []) rest) → Reaches (in_state forms (row b w)) (part_tokens p ++ parts_tokens ps) (forms ++ row_with b (p ∷ ps) ∷ []) rest
+slot_read forms b w s p slots ps rest h f reads later =
+    let filled = filled_more 0 (slots_of b.kind) b.parts s slots p h f in
+    part_then forms b w p ps rest reads (to_slot forms (more b p) slots _ _ rest filled (later filled))
 
 marks_reach : (forms : List Form) (b : Begun) (k : Marked) (ms : List Mark) (rest : List Form) → AreMarks k ms → Reaches (in_state forms (row b (marks k []))) (parts_tokens (part.Marks ms ∷ [])) (forms ++ row_with b (part.Marks ms ∷ []) ∷ []) rest
 marks_reach forms b k ms rest h = record {
@@ -366,63 +500,62 @@ marks_reach forms b k ms rest h = record {
   ready = marked_ready forms b k ms rest;
 }
 
-parts_read : (forms : List Form) (b : Begun) (slots : List Slot) (ps : List Part) (rest : List Form) → Filled (slots_of b.kind) b.parts slots → MarksLast slots → FillAll slots ps → Reaches (at_slot forms b (first_of slots)) (parts_tokens ps) (forms ++ row_with b ps ∷ []) rest
-parts_read forms b [] [] rest h l f = record {
+parts_read : (forms : List Form) (b : Begun) (n : ℕ) (slots : List Slot) (ps : List Part) (rest : List Form) → last_inputs 0 b.parts ≡ n → Filled 0 (slots_of b.kind) b.parts slots → MarksLast slots → FillFrom n slots ps → Reaches (at_slot forms b (first_of slots)) (parts_tokens ps) (forms ++ row_with b ps ∷ []) rest
+parts_read forms b n [] [] rest e h l f = record {
   to = row_ended forms b;
   reads = refl;
   ready = subst (λ (qs : List Part). Ready (row_ended forms b) (forms ++ Row b.kind b.opens qs ∷ []) rest) (sym (append-nil b.parts)) (ended_ready forms b rest);
 }
-parts_read forms b (slot.Marks ∷ []) (part.Marks ms ∷ []) rest h l f = marks_reach forms b marked.Word ms rest f.0
-parts_read forms b (slot.MethodMark ∷ []) (part.Marks ms ∷ []) rest h l f = marks_reach forms b marked.Method ms rest f.0
-parts_read forms b (slot.Marks ∷ s ∷ slots) (p ∷ ps) rest h l f = let e = l.0 in cc
-parts_read forms b (slot.MethodMark ∷ s ∷ slots) (p ∷ ps) rest h l f = let e = l.0 in cc
-parts_read forms b (slot.Name ∷ slots) (part.Name n ∷ ps) rest h l f =
-    let filled = filled_more (slots_of b.kind) b.parts slot.Name slots (part.Name n) h f.0 in
-    part_then forms b (name naming.Any) (part.Name n) ps rest (name_read forms b naming.Any n f.0) (to_slot forms (more b (part.Name n)) slots _ _ rest filled (parts_read forms (more b (part.Name n)) slots ps rest filled l.1 f.1))
-parts_read forms b (slot.Class ∷ slots) (part.Name n ∷ ps) rest h l f =
-    let filled = filled_more (slots_of b.kind) b.parts slot.Class slots (part.Name n) h f.0 in
-    part_then forms b (name naming.Class) (part.Name n) ps rest (name_read forms b naming.Class n f.0) (to_slot forms (more b (part.Name n)) slots _ _ rest filled (parts_read forms (more b (part.Name n)) slots ps rest filled l.1 f.1))
-parts_read forms b (slot.Names ∷ slots) (part.Names ns ends ∷ ps) rest h l f =
-    let filled = filled_more (slots_of b.kind) b.parts slot.Names slots (part.Names ns ends) h f.0 in
-    part_then forms b (names naming.Any []) (part.Names ns ends) ps rest (names_part_read forms b naming.Any ns ends f.0) (to_slot forms (more b (part.Names ns ends)) slots _ _ rest filled (parts_read forms (more b (part.Names ns ends)) slots ps rest filled l.1 f.1))
-parts_read forms b (slot.Classes ∷ slots) (part.Names ns ends ∷ ps) rest h l f =
-    let filled = filled_more (slots_of b.kind) b.parts slot.Classes slots (part.Names ns ends) h f.0 in
-    part_then forms b (names naming.Class []) (part.Names ns ends) ps rest (names_part_read forms b naming.Class ns ends f.0) (to_slot forms (more b (part.Names ns ends)) slots _ _ rest filled (parts_read forms (more b (part.Names ns ends)) slots ps rest filled l.1 f.1))
-parts_read forms b (slot.Slots ∷ slots) (part.Slots q ns ends ∷ ps) rest h l f =
-    let filled = filled_more (slots_of b.kind) b.parts slot.Slots slots (part.Slots q ns ends) h f.0 in
-    part_then forms b (tuple_slots None []) (part.Slots q ns ends) ps rest (slots_part_read forms b q ns ends f.0.0 f.0.1 f.0.2) (to_slot forms (more b (part.Slots q ns ends)) slots _ _ rest filled (parts_read forms (more b (part.Slots q ns ends)) slots ps rest filled l.1 f.1))
-parts_read forms b (slot.Fixed key ∷ slots) (part.Fixed other place ∷ ps) rest h l f =
-    let filled = filled_more (slots_of b.kind) b.parts (slot.Fixed key) slots (part.Fixed other place) h f.0 in
-    part_then forms b (fixed key) (part.Fixed other place) ps rest (fixed_read forms b key other place f.0) (to_slot forms (more b (part.Fixed other place)) slots _ _ rest filled (parts_read forms (more b (part.Fixed other place)) slots ps rest filled l.1 f.1))
-parts_read forms b (slot.Effect ∷ slots) (part.Effect e ∷ ps) rest h l f =
-    let filled = filled_more (slots_of b.kind) b.parts slot.Effect slots (part.Effect e) h f.0 in
-    part_then forms b (effect [] no_tokens) (part.Effect e) ps rest (effect_part_read forms b e.tokens e.effect f.0) (to_slot forms (more b (part.Effect e)) slots _ _ rest filled (parts_read forms (more b (part.Effect e)) slots ps rest filled l.1 f.1))
-parts_read forms b (slot.Items ∷ slots) (part.Items es ends ∷ ps) rest h l f =
-    let filled = filled_more (slots_of b.kind) b.parts slot.Items slots (part.Items es ends) h f.0 in
-    part_then forms b (items [] []) (part.Items es ends) ps rest (items_part_read forms b es ends f.0) (to_slot forms (more b (part.Items es ends)) slots _ _ rest filled (parts_read forms (more b (part.Items es ends)) slots ps rest filled l.1 f.1))
-parts_read forms b (slot.Literal ∷ slots) (part.Literal es ∷ ps) rest h l f =
-    let filled = filled_more (slots_of b.kind) b.parts slot.Literal slots (part.Literal es) h f.0 in
-    part_then forms b (literal [] []) (part.Literal es) ps rest (literal_part_read forms b es f.0) (to_slot forms (more b (part.Literal es)) slots _ _ rest filled (parts_read forms (more b (part.Literal es)) slots ps rest filled l.1 f.1))
-parts_read forms b (slot.Marks ∷ []) (part.Marks ms ∷ p ∷ ps) rest h l f = absurd f.1
-parts_read forms b (slot.MethodMark ∷ []) (part.Marks ms ∷ p ∷ ps) rest h l f = absurd f.1
-parts_read forms b [] (p ∷ ps) rest h l f = absurd f
-parts_read forms b (s ∷ slots) [] rest h l f = absurd f
-parts_read forms b (s ∷ slots) (p ∷ ps) rest h l f = absurd f.0
+parts_read forms b n (slot.Marks ∷ []) (part.Marks ms ∷ []) rest e h l f = marks_reach forms b marked.Word ms rest f.0
+parts_read forms b n (slot.MethodMark ∷ []) (part.Marks ms ∷ []) rest e h l f = marks_reach forms b marked.Method ms rest f.0
+parts_read forms b n (slot.Marks ∷ s ∷ slots) (p ∷ ps) rest e h l f = let d = l.0 in cc
+parts_read forms b n (slot.MethodMark ∷ s ∷ slots) (p ∷ ps) rest e h l f = let d = l.0 in cc
+parts_read forms b n (slot.Name ∷ slots) (part.Name t ∷ ps) rest e h l f =
+    slot_read forms b (name naming.Any) slot.Name (part.Name t) slots ps rest h f.0 (name_read forms b naming.Any t f.0) (λ k. parts_read forms (more b (part.Name t)) (0) slots ps rest (inputs_last 0 b.parts (part.Name t)) k l.1 f.1)
+parts_read forms b n (slot.Class ∷ slots) (part.Name t ∷ ps) rest e h l f =
+    slot_read forms b (name naming.Class) slot.Class (part.Name t) slots ps rest h f.0 (name_read forms b naming.Class t f.0) (λ k. parts_read forms (more b (part.Name t)) (0) slots ps rest (inputs_last 0 b.parts (part.Name t)) k l.1 f.1)
+parts_read forms b n (slot.Names ∷ slots) (part.Names ns ends ∷ ps) rest e h l f =
+    slot_read forms b (names naming.Any []) slot.Names (part.Names ns ends) slots ps rest h f.0 (names_part_read forms b naming.Any ns ends f.0) (λ k. parts_read forms (more b (part.Names ns ends)) (0) slots ps rest (inputs_last 0 b.parts (part.Names ns ends)) k l.1 f.1)
+parts_read forms b n (slot.Classes ∷ slots) (part.Names ns ends ∷ ps) rest e h l f =
+    slot_read forms b (names naming.Class []) slot.Classes (part.Names ns ends) slots ps rest h f.0 (names_part_read forms b naming.Class ns ends f.0) (λ k. parts_read forms (more b (part.Names ns ends)) (0) slots ps rest (inputs_last 0 b.parts (part.Names ns ends)) k l.1 f.1)
+parts_read forms b n (slot.Slots ∷ slots) (part.Slots q ns ends ∷ ps) rest e h l f =
+    slot_read forms b (tuple_slots None []) slot.Slots (part.Slots q ns ends) slots ps rest h f.0 (slots_part_read forms b q ns ends f.0.0 f.0.1 f.0.2) (λ k. parts_read forms (more b (part.Slots q ns ends)) (0) slots ps rest (inputs_last 0 b.parts (part.Slots q ns ends)) k l.1 f.1)
+parts_read forms b n ((slot.Fixed key) ∷ slots) (part.Fixed other place ∷ ps) rest e h l f =
+    slot_read forms b (fixed key) (slot.Fixed key) (part.Fixed other place) slots ps rest h f.0 (fixed_read forms b key other place f.0) (λ k. parts_read forms (more b (part.Fixed other place)) (0) slots ps rest (inputs_last 0 b.parts (part.Fixed other place)) k l.1 f.1)
+parts_read forms b n (slot.Effect ∷ slots) (part.Effect w ∷ ps) rest e h l f =
+    slot_read forms b (effect Values [] no_tokens) slot.Effect (part.Effect w) slots ps rest h f.0 (effect_part_read forms b Values w.tokens w.effect f.0 tt) (λ k. parts_read forms (more b (part.Effect w)) (inputs_of (part.Effect w)) slots ps rest (inputs_last 0 b.parts (part.Effect w)) k l.1 f.1)
+parts_read forms b n (slot.LocalsEffect ∷ slots) (part.Effect w ∷ ps) rest e h l f =
+    slot_read forms b (effect Locals [] no_tokens) slot.LocalsEffect (part.Effect w) slots ps rest h f.0 (effect_part_read forms b Locals w.tokens w.effect f.0.0 (inputs_are_named w.tokens w.effect f.0.0 ∙ f.0.1)) (λ k. parts_read forms (more b (part.Effect w)) (inputs_of (part.Effect w)) slots ps rest (inputs_last 0 b.parts (part.Effect w)) k l.1 f.1)
+parts_read forms b n (slot.Items ∷ slots) (part.Items es ends ∷ ps) rest e h l f =
+    slot_read forms b (items Values [] outside no_half) slot.Items (part.Items es ends) slots ps rest h f.0 (items_part_read forms b Values None es ends f.0.0 f.0.1) (λ k. parts_read forms (more b (part.Items es ends)) (0) slots ps rest (inputs_last 0 b.parts (part.Items es ends)) k l.1 f.1)
+parts_read forms b n (slot.Literal ∷ slots) (part.Literal es ∷ ps) rest e h l f =
+    slot_read forms b (literal [] outside no_half) slot.Literal (part.Literal es) slots ps rest h f.0 (literal_part_read forms b es f.0) (λ k. parts_read forms (more b (part.Literal es)) (0) slots ps rest (inputs_last 0 b.parts (part.Literal es)) k l.1 f.1)
+parts_read forms b n (slot.LocalsItems ∷ slots) (part.Items es ends ∷ ps) rest e h l f =
+    let m = last_inputs 0 b.parts in
+    let are : Fills m slot.LocalsItems (part.Items es ends) = subst (λ (x : ℕ). Fills x slot.LocalsItems (part.Items es ends)) (sym e) f.0 in
+    slot_read forms b (items Locals [] (items_in (Some m) ∷ []) no_half) slot.LocalsItems (part.Items es ends) slots ps rest h are (items_part_read forms b Locals (Some m) es ends are.0 are.1) (λ k. parts_read forms (more b (part.Items es ends)) 0 slots ps rest (inputs_last 0 b.parts (part.Items es ends)) k l.1 f.1)
+parts_read forms b n (slot.Marks ∷ []) (part.Marks ms ∷ p ∷ ps) rest e h l f = absurd f.1
+parts_read forms b n (slot.MethodMark ∷ []) (part.Marks ms ∷ p ∷ ps) rest e h l f = absurd f.1
+parts_read forms b n [] (p ∷ ps) rest e h l f = absurd f
+parts_read forms b n (s ∷ slots) [] rest e h l f = absurd f
+parts_read forms b n (s ∷ slots) (p ∷ ps) rest e h l f = absurd f.0
 
 -- Forms.
 
 -- a run of items
-run_read : (s : State) (forms : List Form) (e : Element) (es : List Element) (rest : List Form) → Fresh s forms → Lead [] (e ∷ es) [] → (BeginWithRun rest → ⊥) → Reaches s (items_tokens (e ∷ es)) (forms ++ Items (e ∷ es) ∷ []) rest
-run_read s forms e es rest fresh h none =
-    let t = term_token e in
-    let spelled = element_spelled e h.0 in
-    let first = fresh t (no_mark (token_spelling t.kind) t e spelled) ∙ top_element forms [] [] (token_spelling t.kind) t e spelled ∙ ap (with_element top forms [] e) h.2 in
+-- tokens are read as at the top level, where the first is no mark
+fresh_steps : (s : State) (forms : List Form) (t : Token) (ts : List Token) (o : Option State) → Fresh s forms → mark_of (token_spelling t.kind) t.place ≡ None → steps (Some (in_state forms (top [] outside no_half))) (t ∷ ts) ≡ o → steps (Some s) (t ∷ ts) ≡ o
+fresh_steps s forms t ts o fresh none h = ap (λ (x : Option State). steps x ts) (fresh t none) ∙ h
+
+run_read : (s : State) (forms : List Form) (e : Element) (es : List Element) (to : Context) (rest : List Form) → Fresh s forms → Lead outside (e ∷ es) (to ∷ []) → (BeginWithRun rest → ⊥) → Reaches s (items_tokens (e ∷ es)) (forms ++ Items (e ∷ es) ∷ []) rest
+run_read s forms e es to rest fresh h none =
+    let first = begins_unmarked e h.0 in
+    let all = elements_read top forms (top_holds_items forms) [] (e ∷ es) outside (to ∷ []) h in
+    let same : items_tokens (e ∷ es) ≡ first.first ∷ (first.rest ++ items_tokens es) = ap (λ (ts : List Token). ts ++ items_tokens es) first.are in
     record {
-      to = in_state forms (top (e ∷ es) []);
-      reads =
-          ap (λ (ts : List Token). steps (Some s) (ts ++ items_tokens es)) (token_alone e)
-          ∙ one s (in_state forms (top (e ∷ []) h.1)) t (items_tokens es) _ first (elements_read top forms (top_holds_items forms) (e ∷ []) es h.1 [] h.3);
-      ready = run_ready forms e es rest none;
+      to = in_state forms (top (e ∷ es) (to ∷ []) no_half);
+      reads = ap (steps (Some s)) same ∙ fresh_steps s forms first.first (first.rest ++ items_tokens es) _ fresh first.unmarked (ap (steps (Some (in_state forms (top [] outside no_half)))) (sym same) ∙ all);
+      ready = run_ready forms e es to rest none;
     }
 
 then_forms : (s : State) (ts us : List Token) (before behind_it forms rest : List Form) → Reaches s ts before behind_it → ((m : State) → Ready m before behind_it → Reaches m us forms rest) → Reaches s (ts ++ us) forms rest
@@ -432,7 +565,7 @@ then_forms s ts us before behind_it forms rest first later =
 
 row_read : (s : State) (forms : List Form) (kind : FormKind) (opens : Place) (ps : List Part) (rest : List Form) → Ready s forms (Row kind opens ps ∷ rest) → FillAll (slots_of kind) ps → Reaches s (form_tokens (Row kind opens ps)) (forms ++ Row kind opens ps ∷ []) rest
 row_read s forms kind opens ps rest ready f =
-    let read = to_slot forms (begun kind opens) (slots_of kind) (parts_tokens ps) (forms ++ Row kind opens ps ∷ []) rest refl (parts_read forms (begun kind opens) (slots_of kind) ps rest refl (marks_last kind) f) in
+    let read = to_slot forms (begun kind opens) (slots_of kind) (parts_tokens ps) (forms ++ Row kind opens ps ∷ []) rest refl (parts_read forms (begun kind opens) 0 (slots_of kind) ps rest refl refl (marks_last kind) f) in
     record { to = read.to; reads = one s (go_on forms (begun kind opens)) (plain_token opens (head_of kind)) (parts_tokens ps) _ (ready.rows kind opens) read.reads; ready = read.ready }
 
 pub forms_read : (rest : List Form) (s : State) (forms : List Form) → Ready s forms rest → IsWellFormed rest → Reaches s (flatten rest) (forms ++ rest) []
@@ -442,11 +575,11 @@ forms_read (Row kind opens ps ∷ rest) s forms ready fits =
     (then_forms s (form_tokens (Row kind opens ps)) (flatten rest) (forms ++ Row kind opens ps ∷ []) rest _ [] (row_read s forms kind opens ps rest ready fits.0) (λ m r. forms_read rest m (forms ++ Row kind opens ps ∷ []) r fits.2))
 forms_read (Items [] ∷ rest) s forms ready fits = absurd fits.0.0
 forms_read (Items (e ∷ es) ∷ []) s forms ready fits =
-    then_forms s (items_tokens (e ∷ es)) [] (forms ++ Items (e ∷ es) ∷ []) [] _ [] (run_read s forms e es [] (ready.runs tt) fits.0.1 (λ b. b)) (λ m r. record { to = m; reads = refl; ready = r })
+    then_forms s (items_tokens (e ∷ es)) [] (forms ++ Items (e ∷ es) ∷ []) [] _ [] (run_read s forms e es fits.0.1.0 [] (ready.runs tt) fits.0.1.1 (λ b. b)) (λ m r. record { to = m; reads = refl; ready = r })
 forms_read (Items (e ∷ es) ∷ Items xs ∷ rest) s forms ready fits = absurd fits.1
 forms_read (Items (e ∷ es) ∷ Row kind opens ps ∷ rest) s forms ready fits =
     subst (λ (fs : List Form). Reaches s (flatten (Items (e ∷ es) ∷ Row kind opens ps ∷ rest)) fs []) (append_assoc forms (Items (e ∷ es) ∷ []) (Row kind opens ps ∷ rest))
-    (then_forms s (items_tokens (e ∷ es)) (flatten (Row kind opens ps ∷ rest)) (forms ++ Items (e ∷ es) ∷ []) (Row kind opens ps ∷ rest) _ [] (run_read s forms e es (Row kind opens ps ∷ rest) (ready.runs tt) fits.0.1 (λ b. b)) (λ m r. forms_read (Row kind opens ps ∷ rest) m (forms ++ Items (e ∷ es) ∷ []) r fits.2))
+    (then_forms s (items_tokens (e ∷ es)) (flatten (Row kind opens ps ∷ rest)) (forms ++ Items (e ∷ es) ∷ []) (Row kind opens ps ∷ rest) _ [] (run_read s forms e es fits.0.1.0 (Row kind opens ps ∷ rest) (ready.runs tt) fits.0.1.1 (λ b. b)) (λ m r. forms_read (Row kind opens ps ∷ rest) m (forms ++ Items (e ∷ es) ∷ []) r fits.2))
 
 -- a well-formed tree's tokens are read, to where they may end with that tree
 pub record TreeRead (ts : List Token) (forms : List Form) : Type 0 where

@@ -1,7 +1,7 @@
 -- Trees, their tokens, and which trees are well-formed.
-use Rattle.std.specs.Prelude.{◌≡◌, ◌≤◌, ◌<◌, ◌+◌, ◌⊎◌, ℕ, nat_lt, Bool, false, Option, Some, None, List, [], ◌∷◌, ◌++◌, length, take, codes, Result, Ok, Err, if◌then◌else◌}
+use Rattle.std.specs.Prelude.{◌≡◌, ◌≤◌, ◌<◌, ◌+◌, ◌⊎◌, ℕ, Bool, true, false, Option, Some, None, List, [], ◌∷◌, ◌++◌, length, take, codes, Result, Ok, Err}
 use Rattle.std.specs.Str.{bytes_eq}
-use Rattle.fac_lang.specs.declared.limits.TheConstants.{MOST_LEVELS, MOST_ELEMENTS, MOST_SLOTS}
+use Rattle.fac_lang.specs.declared.limits.TheConstants.{MOST_SLOTS}
 use Rattle.fac_lang.specs.declared.token.Token.{Token}
 use Rattle.fac_lang.specs.declared.tree.Tree.{Tree}
 use Rattle.fac_lang.specs.declared.tree.Term.{Term}
@@ -9,7 +9,7 @@ use Rattle.fac_lang.specs.declared.tree.Term.TheVariants as term
 use Rattle.fac_lang.specs.declared.tree.Element.{Element}
 use Rattle.fac_lang.specs.declared.tree.Element.TheVariants as element
 use Rattle.fac_lang.specs.declared.tree.Bracket.{Bracket}
-use Rattle.fac_lang.specs.declared.tree.Bracket.TheVariants.{Quotation, Array}
+use Rattle.fac_lang.specs.declared.tree.Bracket.TheVariants.{Fry}
 use Rattle.fac_lang.specs.declared.tree.Mark.{Mark}
 use Rattle.fac_lang.specs.declared.tree.Mark.TheVariants.{Inline, Recursive}
 use Rattle.fac_lang.specs.declared.tree.Form.{Form}
@@ -24,16 +24,18 @@ use Rattle.fac_parse.specs.declared.reader.ParseFault.TheVariants.{Syntax, Memor
 use Rattle.fac_parse.specs.declared.reader.Why.{Why}
 use Rattle.fac_parse.specs.declared.reader.Why.TheVariants.{End, Other}
 use Rattle.fac_parse.specs.declared.context.Context.{Context}
-use Rattle.fac_parse.specs.declared.context.Context.TheVariants as context
 use Rattle.fac_parse.specs.declared.rows.Slot.{Slot}
 use Rattle.fac_parse.specs.declared.rows.Slot.TheVariants as slot
 use Rattle.fac_parse.specs.declared.rows.Naming.{Naming}
 use Rattle.fac_parse.specs.declared.rows.Naming.TheVariants as naming
 use Rattle.fac_parse.specs.declared.rows.Marked.{Marked}
 use Rattle.fac_parse.specs.declared.rows.Marked.TheVariants as marked
+use Rattle.fac_lang.specs.Effects.{effect_height}
 use Rattle.fac_effect.specs.Spellings.{head_of, key_text, opening_text, closing_text, plain_token, token_text, token_spelling}
 use Rattle.fac_effect.specs.WrittenEffects.{IsEffect}
+use Rattle.fac_effect.specs.LocalNames.{is_local_name, takes_locals}
 use Rattle.fac_parse.specs.Rows.{slots_of}
+use Rattle.fac_parse.specs.Contexts.{items_in, inside, behind}
 
 abbrev pub term_tokens : Term → List Token
 term_tokens (term.Name token) = token ∷ []
@@ -42,10 +44,14 @@ term_tokens (term.Text token) = token ∷ []
 term_tokens (term.True place) = plain_token place (codes "t") ∷ []
 term_tokens (term.False place) = plain_token place (codes "f") ∷ []
 term_tokens (term.NextMethod place) = plain_token place (codes "call-next-method") ∷ []
+term_tokens (term.Bind sign name) = plain_token sign (codes ":>") ∷ name ∷ []
+term_tokens (term.Hole place) = plain_token place (codes "_") ∷ []
+term_tokens (term.CalledHole place) = plain_token place (codes "@") ∷ []
 
 abbrev pub element_tokens : Element → List Token
 element_tokens (element.Item item) = term_tokens item
 element_tokens (element.Opens bracket place) = plain_token place (opening_text bracket) ∷ []
+element_tokens (element.OpensLocals opens names bar) = plain_token opens (codes "[|") ∷ names ++ plain_token bar (codes "|") ∷ []
 element_tokens (element.Closes bracket place) = plain_token place (closing_text bracket) ∷ []
 
 -- the tokens of items, in order
@@ -119,6 +125,14 @@ abbrev pub IsParent : Option Parent → Type 0
 IsParent None = Unit {0}
 IsParent (Some parent) = IsName naming.Any parent.class
 
+-- the name of a local
+abbrev pub IsLocalName : Token → Type 0
+IsLocalName token = IsName naming.Any token × (is_local_name (token_text token.kind) ≡ true)
+
+abbrev pub AreLocalNames : List Token → Type 0
+AreLocalNames [] = Unit {0}
+AreLocalNames (token ∷ tokens) = IsLocalName token × AreLocalNames tokens
+
 abbrev pub IsTerm : Term → Type 0
 IsTerm (term.Name token) = token_spelling token.kind ≡ spelled.Name
 IsTerm (term.Integer token value) = token_spelling token.kind ≡ spelled.Integer value
@@ -126,87 +140,49 @@ IsTerm (term.Text token) = token_spelling token.kind ≡ spelled.String
 IsTerm (term.True place) = Unit {0}
 IsTerm (term.False place) = Unit {0}
 IsTerm (term.NextMethod place) = Unit {0}
+IsTerm (term.Bind sign name) = IsLocalName name
+IsTerm (term.Hole place) = Unit {0}
+IsTerm (term.CalledHole place) = Unit {0}
 
+-- The bracket that closes a fry is that of a quotation.
 abbrev pub IsElement : Element → Type 0
 IsElement (element.Item item) = IsTerm item
+IsElement (element.OpensLocals opens names bar) = AreLocalNames names
+IsElement (element.Closes Fry place) = ⊥
 IsElement _ = Unit {0}
-
--- Brackets nest at most so deep.
-abbrev pub most_levels : ℕ
-most_levels = MOST_LEVELS
-
--- A literal array has at most so many elements.
-abbrev pub most_elements : ℕ
-most_elements = MOST_ELEMENTS
-
--- a quotation or an array before its first element
-abbrev pub context_of : Bracket → Context
-context_of Quotation = context.Quotation
-context_of Array = context.Array 0
-
--- What is open where one more element stands here. Where the innermost pair is an array, it has one element more.
-abbrev pub counted : List Context → Option (List Context)
-counted [] = Some []
-counted (context.Quotation ∷ contexts) = Some (context.Quotation ∷ contexts)
-counted (context.Array n ∷ contexts) = (if nat_lt n most_elements then Some (context.Array (n + 1) ∷ contexts) else None)
-
--- What is open behind an item that is no element: it stands in a quotation, or at the outside.
-abbrev pub uncounted : List Context → Option (List Context)
-uncounted [] = Some []
-uncounted (context.Quotation ∷ contexts) = Some (context.Quotation ∷ contexts)
-uncounted (context.Array n ∷ contexts) = None
-
-abbrev pub item_behind : List Context → Term → Option (List Context)
-item_behind contexts (term.NextMethod place) = uncounted contexts
-item_behind contexts item = counted contexts
-
--- what is open behind a bracket that opens
-abbrev pub opened : List Context → Bracket → Option (List Context)
-opened contexts bracket = (if nat_lt (length contexts) most_levels then Some (context_of bracket ∷ contexts) else None)
-
--- what is open behind a quotation or an array that begins here, as one element of what is around it
-abbrev pub counted_opened : Option (List Context) → Bracket → Option (List Context)
-counted_opened None bracket = None
-counted_opened (Some contexts) bracket = opened contexts bracket
-
--- what is open behind a bracket that closes the innermost pair, which is of its kind
-abbrev pub closed : List Context → Bracket → Option (List Context)
-closed [] bracket = None
-closed (context.Quotation ∷ contexts) Quotation = Some contexts
-closed (context.Quotation ∷ contexts) Array = None
-closed (context.Array n ∷ contexts) Quotation = None
-closed (context.Array n ∷ contexts) Array = Some contexts
-
--- What is open behind an element, the innermost first, where this is open before it. None where the element may not stand.
-abbrev pub behind : List Context → Element → Option (List Context)
-behind contexts (element.Item item) = item_behind contexts item
-behind contexts (element.Opens bracket place) = counted_opened (counted contexts) bracket
-behind contexts (element.Closes bracket place) = closed contexts bracket
 
 -- each of these elements may stand where it does, from where this is open to where that is
 abbrev pub Lead : List Context → List Element → List Context → Type 0
 Lead from [] to = from ≡ to
 Lead from (element ∷ elements) to = IsElement element × (next : List Context) × (behind from element ≡ Some next) × Lead next elements to
 
--- items whose brackets match
-abbrev pub AreItems : List Element → Type 0
-AreItems elements = Lead [] elements []
+-- items whose brackets match, with so many locals in scope before them, or where no local may be bound
+abbrev pub AreItems : Option ℕ → List Element → Type 0
+AreItems locals elements = (to : Context) × Lead (items_in locals ∷ []) elements (to ∷ [])
 
 abbrev pub IsLiteralTerm : Term → Type 0
 IsLiteralTerm (term.Name token) = ⊥
 IsLiteralTerm (term.NextMethod place) = ⊥
+IsLiteralTerm (term.Bind sign name) = ⊥
+IsLiteralTerm (term.Hole place) = ⊥
+IsLiteralTerm (term.CalledHole place) = ⊥
 IsLiteralTerm item = IsTerm item
 
--- Elements up to the one that closes the outermost of these brackets. Something is open before each of them.
+-- Elements up to the one that closes the outermost bracket. A bracket is open before each of them.
 abbrev pub Encloses : List Context → List Element → Type 0
-Encloses [] [] = Unit {0}
-Encloses (c ∷ contexts) (element ∷ elements) = IsElement element × (next : List Context) × (behind (c ∷ contexts) element ≡ Some next) × Encloses next elements
+Encloses (c ∷ []) [] = Unit {0}
+Encloses (c ∷ d ∷ contexts) (element ∷ elements) = IsElement element × (next : List Context) × (behind (c ∷ d ∷ contexts) element ≡ Some next) × Encloses next elements
 Encloses _ _ = ⊥
+
+-- a fry is no literal
+abbrev pub IsLiteralBracket : Bracket → Type 0
+IsLiteralBracket Fry = ⊥
+IsLiteralBracket _ = Unit {0}
 
 -- one item that is a literal
 abbrev pub IsLiteral : List Element → Type 0
 IsLiteral (element.Item item ∷ []) = IsLiteralTerm item
-IsLiteral (element.Opens bracket place ∷ elements) = Encloses (context_of bracket ∷ []) elements
+IsLiteral (element.Opens bracket place ∷ elements) = IsLiteralBracket bracket × Encloses (inside bracket (items_in None) ∷ items_in None ∷ []) elements
 IsLiteral _ = ⊥
 
 -- marks of one definition: of a word each of the two at most once, in any order, and of a method at most one `inline`
@@ -219,26 +195,36 @@ AreMarks marked.Method [] = Unit {0}
 AreMarks marked.Method (Inline place ∷ []) = Unit {0}
 AreMarks _ _ = ⊥
 
--- whether a part fills a slot
-abbrev pub Fills : Slot → Part → Type 0
-Fills slot.Name (part.Name name) = IsName naming.Any name
-Fills slot.Class (part.Name name) = IsName naming.Class name
-Fills slot.Names (part.Names names ends) = AreNames naming.Any names
-Fills slot.Classes (part.Names names ends) = AreNames naming.Class names
-Fills slot.Slots (part.Slots parent names ends) = IsParent parent × AreSlots names × (length names ≤ most_slots)
-Fills (slot.Fixed key) (part.Fixed other place) = key ≡ other
-Fills slot.Effect (part.Effect effect) = IsEffect effect.tokens effect.effect
-Fills slot.Items (part.Items elements ends) = AreItems elements
-Fills slot.Literal (part.Literal elements) = IsLiteral elements
-Fills slot.Marks (part.Marks marks) = AreMarks marked.Word marks
-Fills slot.MethodMark (part.Marks marks) = AreMarks marked.Method marks
-Fills _ _ = ⊥
+-- the inputs of an effect, and of no other part
+abbrev pub inputs_of : Part → ℕ
+inputs_of (part.Effect effect) = (effect_height effect.effect).ins
+inputs_of _ = 0
+
+-- Whether a part fills a slot. The part before it has so many inputs.
+abbrev pub Fills : ℕ → Slot → Part → Type 0
+Fills n slot.Name (part.Name name) = IsName naming.Any name
+Fills n slot.Class (part.Name name) = IsName naming.Class name
+Fills n slot.Names (part.Names names ends) = AreNames naming.Any names
+Fills n slot.Classes (part.Names names ends) = AreNames naming.Class names
+Fills n slot.Slots (part.Slots parent names ends) = IsParent parent × AreSlots names × (length names ≤ most_slots)
+Fills n (slot.Fixed key) (part.Fixed other place) = key ≡ other
+Fills n slot.Effect (part.Effect effect) = IsEffect effect.tokens effect.effect
+Fills n slot.LocalsEffect (part.Effect effect) = IsEffect effect.tokens effect.effect × (takes_locals effect.effect ≡ true)
+Fills n slot.Items (part.Items elements ends) = AreItems None elements
+Fills n slot.LocalsItems (part.Items elements ends) = AreItems (Some n) elements
+Fills n slot.Literal (part.Literal elements) = IsLiteral elements
+Fills n slot.Marks (part.Marks marks) = AreMarks marked.Word marks
+Fills n slot.MethodMark (part.Marks marks) = AreMarks marked.Method marks
+Fills n _ _ = ⊥
 
 -- these parts fill these slots, one each
+abbrev pub FillFrom : ℕ → List Slot → List Part → Type 0
+FillFrom n [] [] = Unit {0}
+FillFrom n (s ∷ ss) (p ∷ ps) = Fills n s p × FillFrom (inputs_of p) ss ps
+FillFrom n _ _ = ⊥
+
 abbrev pub FillAll : List Slot → List Part → Type 0
-FillAll [] [] = Unit {0}
-FillAll (s ∷ ss) (p ∷ ps) = Fills s p × FillAll ss ps
-FillAll _ _ = ⊥
+FillAll slots parts = FillFrom 0 slots parts
 
 -- a run of items has at least one
 abbrev pub AreSome : List Element → Type 0
@@ -247,7 +233,7 @@ AreSome (element ∷ elements) = Unit {0}
 
 abbrev pub IsForm : Form → Type 0
 IsForm (Row kind opens parts) = FillAll (slots_of kind) parts
-IsForm (Items elements) = AreSome elements × AreItems elements
+IsForm (Items elements) = AreSome elements × AreItems None elements
 
 -- no two runs of items stand beside one another
 abbrev pub MayStandBefore : Form → List Form → Type 0

@@ -4,8 +4,10 @@
 mod context;
 mod cut;
 mod laws;
+mod levels;
 mod reader;
 mod rows;
+mod run;
 
 pub use laws::{one_place, one_tree, some_place, tree_or_none};
 pub use reader::{ParseFault, Why, parse};

@@ -1,25 +1,25 @@
 //! The tree of a source's tokens.
 ghost use Rattle.std.specs.Prelude.{◌≡◌, ◌++◌, ◌∷◌, [], OnOk, IfOk};
-ghost use Rattle.fac_parse.specs.Trees.{Parses, behind, item_behind, context_of as starting, counted, uncounted as not_counted, opened, counted_opened, closed, file_of};
+ghost use Rattle.fac_parse.specs.Trees.{Parses, inputs_of, file_of};
 ghost use Rattle.fac_parse.specs.Trees.{named as is_named, is_parent_sign as is_sign};
-ghost use Rattle.fac_parse.specs.inner.Reader.{in_state, row, begin, begun_at, row_ended, go_on as goes_on, with_part, with_run, more, written};
-ghost use Rattle.fac_parse.specs.inner.Reader.{begin_row as row_begins, begins, is_semi, element_of, end_items as items_end, mark_of, goes_into};
+ghost use Rattle.fac_parse.specs.inner.Reader.{in_state, row, begin, begun_at, row_ended, go_on as goes_on, with_part, with_run, more, written, last_inputs};
+ghost use Rattle.fac_parse.specs.inner.Reader.{begin_row as row_begins, begins, is_semi, end_items as items_end, mark_of, begins_literal as literal_begins, grown, literal_grown};
 ghost use Rattle.fac_parse.specs.inner.Reader.{top_step, name_step, names_step, sign_step, add_slot as slot_added, slots_step, parent_step};
-ghost use Rattle.fac_parse.specs.inner.Reader.{key_step, fixed_step, effect_step, items_step, literal_step};
-ghost use Rattle.fac_parse.specs.inner.Reader.{add_literal as literal_added, may_follow as may_stand, with_mark, marks_step, step, ended, ended_top, start};
-ghost use Rattle.fac_parse.specs.inner.Reader.{open_of, state_of, IsRead, Goes, Passes, Adds, Finishes, IsSyntax, TakesAll, GivesForms};
+ghost use Rattle.fac_parse.specs.inner.Reader.{key_step, fixed_step, may_take as fits_taking, effect_step, items_step, literal_step};
+ghost use Rattle.fac_parse.specs.inner.Reader.{may_follow as may_stand_behind, with_mark, marks_step, step, ended, ended_top, start};
+ghost use Rattle.fac_parse.specs.inner.Reader.{contexts_of, half_of, run_ends, open_of, state_of, IsRead, Goes, Finishes, IsSyntax, TakesAll, GivesForms};
 ghost use Rattle.fac_lang.specs.declared.tree.Part.TheVariants as part;
 ghost use Rattle.fac_effect.specs.Spellings.{token_spelling};
 ghost use Rattle.fac_effect.specs.EffectReading.{reads as reading, whole, after};
 
-use crate::context::Context;
 use crate::cut::cut;
-use crate::rows::{Marked, Naming, Slot, slot_at};
-use fac_effect::{EffectReader, Spelling, Taken, classify, effect_from, text};
-use fac_lang::limits::{MOST_ELEMENTS, MOST_LEVELS, MOST_SLOTS};
+use crate::rows::{Marked, Naming, Slot, Taking, slot_at};
+use crate::run::{Growth, Run, Unfinished};
+use fac_effect::{EffectReader, Spelling, Taken, classify, effect_from, may_stand, text};
+use fac_lang::limits::MOST_SLOTS;
 use fac_lang::{
-    Bracket, Element, Form, FormKind, Key, List, Mark, Memory, Parent, Part, Place, Stack, Term,
-    Token, Tree, WrittenEffect,
+    Bracket, Element, Form, FormKind, Key, List, Mark, Memory, Parent, Part, Place, Term, Token,
+    Tree, WrittenEffect,
 };
 use std::alloc::Global;
 use std::mem;
@@ -77,9 +77,9 @@ pub enum At {
     /// Where a row has a fixed token.
     Fixed(Head, Key),
     /// In an effect, or before it.
-    Effect(Head),
+    Effect(Head, Taking),
     /// Among the items of a row.
-    Items(Head),
+    Items(Head, Taking),
     /// Where a row has a literal, or among its elements.
     Literal(Head),
     /// Behind the `;` of a row that may have marks.
@@ -100,9 +100,7 @@ pub struct Reader {
     /// How far the effect is read.
     pub effect: EffectReader,
     /// Items.
-    pub elements: List<Element>,
-    /// The brackets that are open among the items.
-    pub contexts: Stack<Context>,
+    pub run: Run,
     pub marks: List<Mark>,
     pub at: At,
 }
@@ -148,149 +146,54 @@ fn is_parent_sign(token: &Token) -> bool
     text(&token.kind) == "<"
 }
 
-// The element that a token of this spelling is.
-fn element(spelling: Spelling, token: Token) -> Option<Element>
-    ensures { result ≡ element_of spelling token }
+// Whether an element begins a literal.
+fn begins_literal(element: &Element) -> bool
+    ensures { result ≡ literal_begins element.now }
 {
-    match spelling {
-        Spelling::Integer(value) => Some(Element::Item(Term::Integer(token, value))),
-        Spelling::String => Some(Element::Item(Term::Text(token))),
-        Spelling::Name => Some(Element::Item(Term::Name(token))),
-        Spelling::True => Some(Element::Item(Term::True(token.place))),
-        Spelling::False => Some(Element::Item(Term::False(token.place))),
-        Spelling::NextMethod => Some(Element::Item(Term::NextMethod(token.place))),
-        Spelling::OpensBracket(bracket) => Some(Element::Opens(bracket, token.place)),
-        Spelling::ClosesBracket(bracket) => Some(Element::Closes(bracket, token.place)),
-        _ => None,
-    }
-}
-
-// A quotation or an array before its first element.
-fn context_of(bracket: Bracket) -> Context
-    ensures { result ≡ starting bracket }
-{
-    match bracket {
-        Bracket::Quotation => Context::Quotation,
-        Bracket::Array => Context::Array(0),
-    }
-}
-
-// Counts one more element. False where the innermost pair is an array that is full.
-fn count(contexts: &mut Stack<Context>) -> Result<bool, Memory>
-    ensures { Passes (counted contexts.old) contexts.new result }
-{
-    match contexts.pop() {
-        None => Ok(true),
-        Some(context) => match context {
-            Context::Quotation => {
-                contexts.push(context)?;
-                Ok(true)
-            }
-            Context::Array(elements) => {
-                if (elements as usize) < MOST_ELEMENTS {
-                    contexts.push(Context::Array(elements + 1))?;
-                    Ok(true)
-                } else {
-                    Ok(false)
-                }
-            }
-        },
-    }
-}
-
-// Goes on behind an item that is no element. False where the innermost pair is an array.
-fn uncounted(contexts: &mut Stack<Context>) -> Result<bool, Memory>
-    ensures { Passes (not_counted contexts.old) contexts.new result }
-{
-    match contexts.pop() {
-        None => Ok(true),
-        Some(context) => match context {
-            Context::Quotation => {
-                contexts.push(context)?;
-                Ok(true)
-            }
-            Context::Array(_) => Ok(false),
-        },
-    }
-}
-
-// Goes on behind an item. False where it may not stand.
-fn pass_item(contexts: &mut Stack<Context>, term: &Term) -> Result<bool, Memory>
-    ensures { Passes (item_behind contexts.old term.now) contexts.new result }
-{
-    match term {
-        Term::NextMethod(_) => uncounted(contexts),
-        _ => count(contexts),
-    }
-}
-
-// Opens a bracket. False where too many are open.
-fn open(contexts: &mut Stack<Context>, bracket: Bracket) -> Result<bool, Memory>
-    ensures { Passes (opened contexts.old bracket) contexts.new result }
-{
-    if contexts.len() < MOST_LEVELS as usize {
-        contexts.push(context_of(bracket))?;
-        Ok(true)
-    } else {
-        Ok(false)
-    }
-}
-
-// Counts a quotation or an array as one element, and opens it. False where it may not begin.
-fn begin_bracket(contexts: &mut Stack<Context>, bracket: Bracket) -> Result<bool, Memory>
-    ensures { Passes (counted_opened (counted contexts.old) bracket) contexts.new result }
-{
-    if count(contexts)? {
-        open(contexts, bracket)
-    } else {
-        Ok(false)
-    }
-}
-
-// Closes the innermost pair. False where there is none, or it is of the other kind.
-fn close(contexts: &mut Stack<Context>, bracket: Bracket) -> bool
-    ensures { Passes (closed contexts.old bracket) contexts.new (Ok result) }
-{
-    match contexts.pop() {
-        None => false,
-        Some(context) => match context {
-            Context::Quotation => match bracket {
-                Bracket::Quotation => true,
-                Bracket::Array => false,
-            },
-            Context::Array(_) => match bracket {
-                Bracket::Quotation => false,
-                Bracket::Array => true,
-            },
-        },
-    }
-}
-
-// Goes on behind an element with what is then open. False where it may not stand.
-fn pass(contexts: &mut Stack<Context>, element: &Element) -> Result<bool, Memory>
-    ensures { Passes (behind contexts.old element.now) contexts.new result }
-{
-    match element {
-        Element::Item(term) => pass_item(contexts, term),
-        Element::Opens(bracket, _) => begin_bracket(contexts, *bracket),
-        Element::Closes(bracket, _) => Ok(close(contexts, *bracket)),
-    }
-}
-
-// Whether an element goes on with a literal in which this is open. Neither a name nor `call-next-method` begins one.
-fn goes_on_with(contexts: &Stack<Context>, element: &Element) -> bool
-    ensures { result ≡ goes_into contexts.now element.now }
-{
-    if contexts.len() != 0 {
-        return true;
-    }
     match element {
         Element::Item(term) => match term {
-            Term::Name(_) => false,
-            Term::NextMethod(_) => false,
-            _ => true,
+            Term::Integer(..) => true,
+            Term::Text(_) => true,
+            Term::True(_) => true,
+            Term::False(_) => true,
+            _ => false,
         },
-        _ => true,
+        Element::Opens(bracket, _) => match bracket {
+            Bracket::Quotation => true,
+            Bracket::Array => true,
+            Bracket::Fry => false,
+        },
+        _ => false,
+    }
+}
+
+// The inputs of an effect, and of no other part.
+fn inputs(part: &Part) -> usize
+    ensures { result ≡ inputs_of part.now }
+{
+    match part {
+        Part::Effect(written) => written.effect.inputs(),
+        _ => 0,
+    }
+}
+
+// The inputs of the last of these parts.
+fn inputs_before(parts: &[Part]) -> usize
+    ensures { result ≡ last_inputs 0 parts.now }
+{
+    match parts.split_last() {
+        Some((part, _)) => inputs(part),
+        None => 0,
+    }
+}
+
+// Whether the inputs of an effect may be what they are taken for, behind one more token.
+fn may_take(taking: Taking, reader: &EffectReader, spelling: Spelling, token: &Token) -> bool
+    ensures { result ≡ fits_taking taking reader.now spelling token.now }
+{
+    match taking {
+        Taking::Values => true,
+        Taking::Locals => may_stand(reader, spelling, token),
     }
 }
 
@@ -307,7 +210,7 @@ fn mark(spelling: Spelling, place: Place) -> Option<Mark>
 
 // Whether a mark may stand behind these: none stands twice, and a method has only the one.
 fn may_follow(marked: Marked, marks: &List<Mark>, mark: Mark) -> bool
-    ensures { result ≡ may_stand marked marks.now mark }
+    ensures { result ≡ may_stand_behind marked marks.now mark }
 {
     match marked {
         Marked::Word => match marks.as_slice() {
@@ -334,37 +237,6 @@ fn may_follow(marked: Marked, marks: &List<Mark>, mark: Mark) -> bool
     }
 }
 
-// Adds the element that a token of this spelling is. False where it is none, or may not stand.
-fn add_element(
-    elements: &mut List<Element>,
-    contexts: &mut Stack<Context>,
-    spelling: Spelling,
-    token: Token,
-) -> Result<bool, Memory>
-    ensures { Adds (element_of spelling token) elements.old contexts.old elements.new contexts.new result }
-{
-    match element(spelling, token) {
-        Some(element) => push_element(elements, contexts, element),
-        None => Ok(false),
-    }
-}
-
-// Adds an element. False where it may not stand.
-fn push_element(
-    elements: &mut List<Element>,
-    contexts: &mut Stack<Context>,
-    element: Element,
-) -> Result<bool, Memory>
-    ensures { Adds (Some element) elements.old contexts.old elements.new contexts.new result }
-{
-    if pass(contexts, &element)? {
-        elements.push(element)?;
-        Ok(true)
-    } else {
-        Ok(false)
-    }
-}
-
 // A refusal behind so many tokens.
 fn syntax(count: usize, why: Why) -> ParseFault
     ensures { IsSyntax count why result }
@@ -386,8 +258,7 @@ impl Reader {
             names: List::new(alloc),
             parent: None,
             effect: EffectReader::new(alloc),
-            elements: List::new(alloc),
-            contexts: Stack::new(alloc),
+            run: Run::new(alloc, None),
             marks: List::new(alloc),
             at: At::Top,
         }
@@ -395,7 +266,7 @@ impl Reader {
 
     // Begins a slot of a row.
     fn begin_slot(&mut self, alloc: Global, head: Head, slot: Slot)
-        ensures { state_of self.new ≡ in_state self.old.forms (row (begun_at head self.old.parts) (begin slot)) }
+        ensures { state_of self.new ≡ in_state self.old.forms (row (begun_at head self.old.parts) (begin (last_inputs 0 self.old.parts) slot)) }
     {
         match slot {
             Slot::Name => {
@@ -423,16 +294,23 @@ impl Reader {
             Slot::Effect => {
                 self.names = List::new(alloc);
                 self.effect = EffectReader::new(alloc);
-                self.at = At::Effect(head);
+                self.at = At::Effect(head, Taking::Values);
+            }
+            Slot::LocalsEffect => {
+                self.names = List::new(alloc);
+                self.effect = EffectReader::new(alloc);
+                self.at = At::Effect(head, Taking::Locals);
             }
             Slot::Items => {
-                self.elements = List::new(alloc);
-                self.contexts = Stack::new(alloc);
-                self.at = At::Items(head);
+                self.run = Run::new(alloc, None);
+                self.at = At::Items(head, Taking::Values);
+            }
+            Slot::LocalsItems => {
+                self.run = Run::new(alloc, Some(inputs_before(self.parts.as_slice())));
+                self.at = At::Items(head, Taking::Locals);
             }
             Slot::Literal => {
-                self.elements = List::new(alloc);
-                self.contexts = Stack::new(alloc);
+                self.run = Run::new(alloc, None);
                 self.at = At::Literal(head);
             }
             Slot::Marks => {
@@ -451,8 +329,7 @@ impl Reader {
         ensures { OnOk result (state_of self.new ≡ row_ended self.old.forms (begun_at head self.old.parts)) }
     {
         let parts = cut(mem::replace(&mut self.parts, List::new(alloc)));
-        self.elements = List::new(alloc);
-        self.contexts = Stack::new(alloc);
+        self.run = Run::new(alloc, None);
         self.at = At::Top;
         self.forms.push(Form::Row {
             kind: head.kind,
@@ -484,21 +361,21 @@ impl Reader {
 
     // Ends a run of items, if there is one.
     fn end_run(&mut self, alloc: Global) -> Result<(), Memory>
-        ensures { OnOk result (self.new.forms ≡ with_run self.old.forms self.old.elements) }
+        ensures { OnOk result (self.new.forms ≡ with_run self.old.forms self.old.run.elements) }
     {
-        if self.elements.len() == 0 {
+        if self.run.elements.len() == 0 {
             Ok(())
         } else {
-            let elements = cut(mem::replace(&mut self.elements, List::new(alloc)));
+            let elements = self.run.take_elements(alloc);
             self.forms.push(Form::Items(elements))
         }
     }
 
-    // Begins a row. False where a bracket is open.
+    // Begins a row. False where the items before it may not end.
     fn begin_row(&mut self, alloc: Global, kind: FormKind, opens: Place) -> Result<bool, Memory>
-        ensures { Goes (row_begins kind opens self.old.forms self.old.elements self.old.contexts) (state_of self.new) result }
+        ensures { Goes (row_begins kind opens self.old.forms self.old.run.elements (run_ends self.old.run)) (state_of self.new) result }
     {
-        if self.contexts.len() != 0 {
+        if !self.run.may_end() {
             return Ok(false);
         }
         self.end_run(alloc)?;
@@ -515,11 +392,11 @@ impl Reader {
         token: Token,
     ) -> Result<bool, Memory>
         requires { self.now.at ≡ At.Top }
-        ensures { Goes (top_step self.old.forms self.old.elements self.old.contexts spelling token) (state_of self.new) result }
+        ensures { Goes (top_step self.old.forms self.old.run.elements (contexts_of self.old.run.levels) (half_of self.old.run.unfinished self.old.run.names) spelling token) (state_of self.new) result }
     {
         match row_begun(spelling) {
             Some(kind) => self.begin_row(alloc, kind, token.place),
-            None => add_element(&mut self.elements, &mut self.contexts, spelling, token),
+            None => self.run.take(alloc, spelling, token),
         }
     }
 
@@ -710,14 +587,18 @@ impl Reader {
         &mut self,
         alloc: Global,
         head: Head,
+        taking: Taking,
         spelling: Spelling,
         token: Token,
     ) -> Result<bool, Memory>
-        requires at { self.now.at ≡ At.Effect head }
+        requires at { self.now.at ≡ At.Effect head taking }
         requires read { after self.now.names ≡ reading self.now.effect }
         requires spelled { token_spelling token.kind ≡ spelling }
-        ensures { Goes (effect_step self.old.forms (begun_at head self.old.parts) self.old.names self.old.effect spelling token) (state_of self.new) result }
+        ensures { Goes (effect_step self.old.forms (begun_at head self.old.parts) taking self.old.names self.old.effect spelling token) (state_of self.new) result }
     {
+        if !may_take(taking, &self.effect, spelling, &token) {
+            return Ok(false);
+        }
         match self.effect.take(spelling, &token)? {
             Taken::More => {
                 self.names.push(token)?;
@@ -732,23 +613,23 @@ impl Reader {
         }
     }
 
-    // Ends the items of a row. False where a bracket is open.
+    // Ends the items of a row. False where they may not end.
     fn end_items(&mut self, alloc: Global, head: Head, ends: Place) -> Result<bool, Memory>
-        ensures { Goes (items_end self.old.forms (begun_at head self.old.parts) self.old.elements self.old.contexts ends) (state_of self.new) result }
+        ensures { Goes (items_end self.old.forms (begun_at head self.old.parts) self.old.run.elements (run_ends self.old.run) ends) (state_of self.new) result }
     {
-        if self.contexts.len() != 0 {
+        if !self.run.may_end() {
             return Ok(false);
         }
-        let elements = cut(mem::replace(&mut self.elements, List::new(alloc)));
+        let elements = self.run.take_elements(alloc);
         self.add_part(alloc, head, Part::Items { elements, ends })?;
         Ok(true)
     }
 
     // Ends a literal.
     fn end_literal(&mut self, alloc: Global, head: Head) -> Result<(), Memory>
-        ensures { OnOk result (state_of self.new ≡ with_part self.old.forms (begun_at head self.old.parts) (part.Literal self.old.elements)) }
+        ensures { OnOk result (state_of self.new ≡ with_part self.old.forms (begun_at head self.old.parts) (part.Literal self.old.run.elements)) }
     {
-        let elements = cut(mem::replace(&mut self.elements, List::new(alloc)));
+        let elements = self.run.take_elements(alloc);
         self.add_part(alloc, head, Part::Literal(elements))
     }
 
@@ -757,37 +638,38 @@ impl Reader {
         &mut self,
         alloc: Global,
         head: Head,
+        taking: Taking,
         spelling: Spelling,
         token: Token,
     ) -> Result<bool, Memory>
-        requires { self.now.at ≡ At.Items head }
-        ensures { Goes (items_step self.old.forms (begun_at head self.old.parts) self.old.elements self.old.contexts spelling token) (state_of self.new) result }
+        requires { self.now.at ≡ At.Items head taking }
+        ensures { Goes (items_step self.old.forms (begun_at head self.old.parts) taking self.old.run.elements (contexts_of self.old.run.levels) (half_of self.old.run.unfinished self.old.run.names) spelling token) (state_of self.new) result }
     {
         if is_semicolon(spelling) {
             self.end_items(alloc, head, token.place)
         } else {
-            add_element(&mut self.elements, &mut self.contexts, spelling, token)
+            self.run.take(alloc, spelling, token)
         }
     }
 
-    // Adds an element to a literal, which ends where nothing is open then. False where it may not stand.
+    // Adds an element to a literal, which ends where no bracket is open then. False where it may not stand.
     fn add_to_literal(
         &mut self,
         alloc: Global,
         head: Head,
         element: Element,
     ) -> Result<bool, Memory>
-        requires { self.now.at ≡ At.Literal head }
-        ensures { Goes (literal_added self.old.forms (begun_at head self.old.parts) self.old.elements self.old.contexts (Some element)) (state_of self.new) result }
+        requires at { self.now.at ≡ At.Literal head }
+        requires whole { self.now.run.unfinished ≡ Unfinished.Nothing }
+        ensures { Goes (literal_grown self.old.forms (begun_at head self.old.parts) self.old.run.elements (contexts_of self.old.run.levels) (grown element)) (state_of self.new) result }
     {
-        if !goes_on_with(&self.contexts, &element) {
+        if !self.run.levels.is_open() && !begins_literal(&element) {
             return Ok(false);
         }
-        if !pass(&mut self.contexts, &element)? {
+        if !self.run.push(element)? {
             return Ok(false);
         }
-        self.elements.push(element)?;
-        if self.contexts.len() == 0 {
+        if !self.run.levels.is_open() {
             self.end_literal(alloc, head)?;
         }
         Ok(true)
@@ -802,11 +684,12 @@ impl Reader {
         token: Token,
     ) -> Result<bool, Memory>
         requires { self.now.at ≡ At.Literal head }
-        ensures { Goes (literal_step self.old.forms (begun_at head self.old.parts) self.old.elements self.old.contexts spelling token) (state_of self.new) result }
+        ensures { Goes (literal_step self.old.forms (begun_at head self.old.parts) self.old.run.elements (contexts_of self.old.run.levels) (half_of self.old.run.unfinished self.old.run.names) spelling token) (state_of self.new) result }
     {
-        match element(spelling, token) {
-            Some(element) => self.add_to_literal(alloc, head, element),
-            None => Ok(false),
+        match self.run.grow(alloc, spelling, token)? {
+            Growth::Stuck => Ok(false),
+            Growth::More => Ok(self.run.levels.is_open()),
+            Growth::Whole(element) => self.add_to_literal(alloc, head, element),
         }
     }
 
@@ -868,18 +751,18 @@ impl Reader {
             At::Slots(head) => self.take_slot(alloc, head, spelling, token),
             At::Parent(head, sign) => Ok(self.take_parent(alloc, head, sign, spelling, token)),
             At::Fixed(head, key) => self.take_fixed(alloc, head, key, spelling, token),
-            At::Effect(head) => self.take_effect(alloc, head, spelling, token),
-            At::Items(head) => self.take_in_items(alloc, head, spelling, token),
+            At::Effect(head, taking) => self.take_effect(alloc, head, taking, spelling, token),
+            At::Items(head, taking) => self.take_in_items(alloc, head, taking, spelling, token),
             At::Literal(head) => self.take_in_literal(alloc, head, spelling, token),
             At::Marks(head, marked) => self.take_mark(alloc, head, marked, spelling, token),
         }
     }
 
-    // Ends a run of items where the tokens end. False where a bracket is open.
+    // Ends a run of items where the tokens end. False where it may not end.
     fn finish_top(&mut self, alloc: Global) -> Result<bool, Memory>
-        ensures { Finishes (ended_top self.old.forms self.old.elements self.old.contexts) self.new.forms result }
+        ensures { Finishes (ended_top self.old.forms self.old.run.elements (run_ends self.old.run)) self.new.forms result }
     {
-        if self.contexts.len() != 0 {
+        if !self.run.may_end() {
             return Ok(false);
         }
         self.end_run(alloc)?;
@@ -944,13 +827,21 @@ fn file(tokens: &[Token]) -> u32
 /// - `IN: v`, `USE: v`, `USING: v* ;`, `FROM: v => n* ;`, `QUALIFIED-WITH: v p`
 /// - `DEFER: n`, `SYMBOL: n`, `MAIN: n`, `<PRIVATE`, `PRIVATE>`
 /// - `CONSTANT: n` with a literal behind it: an integer, a string, `t`, `f`, a quotation or an array
-/// - `: n effect item* ;` with `inline` and `recursive` behind it, each at most once, in any order
+/// - `: n effect item* ;` and `:: n effect item* ;` with `inline` and `recursive` behind it, each at most once, in any order
 /// - `TUPLE: n s* ;`, `TUPLE: n < n s* ;` with at most 64 slots `s`, of which none is `<`
 /// - `UNION: n c* ;`, `SINGLETON: n`, `C: n n`
 /// - `GENERIC: n effect`, `M: c n item* ;` with at most one `inline` behind it
 ///
-/// An item is a name, an integer, a string, `t`, `f`, `call-next-method`, a quotation `[ item* ]`, or an array `{ element* }`, whose elements are literals
-/// and names. Quotations and arrays nest at most 256 deep, counted together. An array has at most 1,000,000 elements: those that stand directly in it.
+/// An item is a name, an integer, a string, `t`, `f`, `call-next-method`, a quotation `[ item* ]`, a quotation `[| n* | item* ]` whose inputs are
+/// locals, a fry `'[ item* ]`, `:> n`, which binds a local, a hole `_` or `@`, or an array `{ element* }`, whose elements are integers, strings, `t`,
+/// `f`, quotations `[ item* ]`, arrays and names. All brackets nest at most 256 deep, counted together. An array has at most 1,000,000 elements: those
+/// that stand directly in it.
+///
+/// `:> n` stands only in `::`, in a quotation with locals, and in what stands in one of these. The local is in scope to the end of what it stands
+/// directly in, and so are the inputs of `::` and of a quotation with locals. At most 64 are in scope, hidden ones and those around an array counted:
+/// where 64 are, `:>` stands nowhere, nor does a name before the `|`. The name of a local doesn't end in `!`; that of an input of `::` has no colon.
+///
+/// A hole stands only in a fry, in a quotation in one, and so on, and not in an array in it. A fry has at most 64 holes, those of a fry in it not counted.
 ///
 /// An effect is `( entry* -- entry* )`. An entry is a name that ends in no colon, or a name that ends in one and what describes it: a name that ends in
 /// no colon, or an effect. A name that begins with two dots is only the first entry of its side. An effect has at most 64 names, with those of the

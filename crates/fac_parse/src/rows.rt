@@ -22,8 +22,12 @@ pub enum Slot {
     Fixed(Key),
     /// An effect.
     Effect,
+    /// An effect whose inputs are locals.
+    LocalsEffect,
     /// Items, and `;`.
     Items,
+    /// Items in which the inputs before them are locals, and `;`.
+    LocalsItems,
     /// One item that is a literal.
     Literal,
     /// Marks of a word, or none.
@@ -39,6 +43,15 @@ pub enum Naming {
     Any,
     /// Of a class: `t` and `f` are names there.
     Class,
+}
+
+/// What the inputs of an effect are, where it stands.
+#[derive(Clone, Copy, Debug)]
+pub enum Taking {
+    /// Values.
+    Values,
+    /// Locals, whose names don't end in `!`.
+    Locals,
 }
 
 /// What marks are of.
@@ -67,6 +80,12 @@ fn slots(kind: FormKind) -> &'static [Slot]
         FormKind::Public => &[],
         FormKind::Main => &[Slot::Name],
         FormKind::Define => &[Slot::Name, Slot::Effect, Slot::Items, Slot::Marks],
+        FormKind::DefineLocals => &[
+            Slot::Name,
+            Slot::LocalsEffect,
+            Slot::LocalsItems,
+            Slot::Marks,
+        ],
         FormKind::Tuple => &[Slot::Name, Slot::Slots],
         FormKind::Union => &[Slot::Name, Slot::Classes],
         FormKind::Singleton => &[Slot::Name],

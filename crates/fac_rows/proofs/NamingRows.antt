@@ -133,7 +133,7 @@ own_apart N (Some e) j k q = numbers_apart (sides e) j k q
 
 -- with the literals of a naming
 abbrev pub naming_for : Naming → Option Signature → Naming
-naming_for N o = record { literal = N.literal; apart = N.apart; unmarked = N.unmarked; row = own_row N o; rows_apart = own_apart N o }
+naming_for N o = record { literal = N.literal; apart = N.apart; phrase = N.phrase; cells_apart = N.cells_apart; marked = N.marked; row = own_row N o; rows_apart = own_apart N o }
 
 pub naming_for_names : (N : Naming) (o : Option Signature) → NamesOwn (naming_for N o) o
 naming_for_names N None = tt

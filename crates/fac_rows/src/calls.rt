@@ -28,7 +28,7 @@ fn is_input(marks: &Marks, mark: u32, number: u32) -> bool
     match marks.node(mark) {
         MarkNode::Par(input) => input == number,
         MarkNode::Any => false,
-        MarkNode::Lit(_) => false,
+        MarkNode::Lit(_, _) => false,
         MarkNode::Cur(_, _) => false,
         MarkNode::Com(_, _) => false,
         MarkNode::Wrd(_) => false,

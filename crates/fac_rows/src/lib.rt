@@ -17,4 +17,4 @@ pub use called::Called;
 pub use calls::{own_call, par, par_rule};
 pub use numbers::{outer_in, outer_out};
 pub use taken::Taken;
-pub use taking::{inputs_marks, known_inputs, take_inputs};
+pub use taking::{inputs_marks, known_inputs, take, take_inputs};

@@ -14,8 +14,8 @@ use crate::numbers::count_inputs;
 use fac_abs::Marks;
 use fac_lang::{Effect, Input, Memory};
 
-// Takes so many values off a stack.
-fn take(marks: &mut Marks, stack: u32, count: usize) -> Result<Option<Taken>, Memory>
+/// Takes so many values off a stack. None where there are fewer.
+pub fn take(marks: &mut Marks, stack: u32, count: usize) -> Result<Option<Taken>, Memory>
     requires { IsStack marks.old stack }
     ensures grows { Grows marks.old marks.new }
     ensures taken { IfOk result (λ o. IsTaken marks.old marks.new count stack o) }

@@ -8,7 +8,7 @@ use Rattle.fac_lang.specs.declared.program.Program.{Program}
 use Rattle.fac_lang.specs.declared.tree.Form.{Form}
 use Rattle.fac_lang.specs.declared.tree.Form.TheVariants as form
 use Rattle.fac_lang.specs.declared.tree.FormKind.{FormKind}
-use Rattle.fac_lang.specs.declared.tree.FormKind.TheVariants.{Constant, Define, Method, Maker}
+use Rattle.fac_lang.specs.declared.tree.FormKind.TheVariants.{Constant, Define, DefineLocals, Method, Maker}
 use Rattle.fac_lang.specs.Phrases.{Value}
 use Rattle.fac_lang.specs.World.{World, Error}
 use Rattle.fac_lang.specs.Printed.{printed}
@@ -115,6 +115,7 @@ stack_answer P budget = with_lines (run_answer P budget)
 abbrev pub gives_phrase : FormKind → Bool
 gives_phrase Constant = true
 gives_phrase Define = true
+gives_phrase DefineLocals = true
 gives_phrase Method = true
 gives_phrase Maker = true
 gives_phrase _ = false

@@ -30,6 +30,7 @@ fn has_phrase(kind: FormKind) -> bool
         FormKind::Public => false,
         FormKind::Main => false,
         FormKind::Define => true,
+        FormKind::DefineLocals => true,
         FormKind::Tuple => false,
         FormKind::Union => false,
         FormKind::Singleton => false,

@@ -10,7 +10,7 @@ use Rattle.fac_abs.specs.declared.rule.Rule.TheVariants.{TooLarge}
 use Rattle.fac_rows.specs.RowBinding.{row_binding}
 use Rattle.fac_check.specs.Flow.{Walked, found, refused, and_then, Doing, breaks, gives, names_local, expands, walks, forks, again, uses, Walk, counted, join, marks_back, walk_phrase, walk_mark, walk_use, phrase_rule, first_rule, use_rule, unless_broken}
 
--- whether the rest of the phrase has no part in what an item does, and no other item
+-- whether what an item does leaves the rest of the phrase as it is, and is no other item's
 abbrev pub IsAlone : Doing → Type 0
 IsAlone (breaks r) = Unit {0}
 IsAlone (gives A) = Unit {0}
@@ -37,7 +37,7 @@ module _ (own : Option Signature) where
   abbrev pub counted_item : Walk → Doing → Place → ℕ → ℕ → Walked AbstractStack
   counted_item go (breaks r) p d n = refused r p
   counted_item go (gives A) p d n = found A n
-  counted_item go (names_local x m b ms) p d n = refused TooLarge p
+  counted_item go (names_local x m b ms) p d n = found (on b ms) n
   counted_item go (expands w u b ms) p d n = walk_phrase own go (first_of_word w) u p d b ms n
   counted_item go (walks m b ms back) p d n = and_then (walk_mark own go m p d b ms n) (λ A k. found (marks_back back A) k)
   counted_item go (forks l r b ms) p d n = and_then (walk_mark own go l p d b ms n) (λ A k. and_then (walk_mark own go r p d b ms k) (λ B j. join A B p j))

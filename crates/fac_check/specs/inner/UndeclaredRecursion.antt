@@ -6,7 +6,8 @@ use Rattle.fac_lang.specs.declared.program.Program.{Program}
 use Rattle.fac_lang.specs.declared.program.WordDef.{WordDef}
 use Rattle.fac_lang.specs.declared.program.Sort.{Sort}
 use Rattle.fac_lang.specs.declared.program.Sort.TheVariants.{Body as body}
-use Rattle.fac_locals.specs.Literals.{literal_numbered, first_of_word, NotBefore}
+use Rattle.fac_captures.specs.declared.cell.Cell.{Cell}
+use Rattle.fac_locals.specs.Literals.{quoted_phrase, literal_numbered, first_of_word, NotBefore}
 use Rattle.fac_locals.specs.Closed.{Closes, ClosesWord, ClosesPhrase, ClosesItem}
 use Rattle.fac_check.specs.Verdicts.{without, inline_words, item_words}
 
@@ -70,30 +71,31 @@ module _ (P : Program) where
 
   -- no literal that stands here or behind has a lower number
   abbrev pub NumbersFrom : Literal → ℕ → Type 0
-  NumbersFrom at from = (k : ℕ) → NotBefore at (literal_numbered P k).0 → from ≤ k
+  NumbersFrom at from = (k : ℕ) → NotBefore at (literal_numbered P k).at → from ≤ k
 
   -- What is left of a closed phrase, the names of which are added to those so far.
   pub record NamesLeft (from : ℕ) (left : Phrase) (whole named : List ℕ) : Type 0 where
+    pub cells : List Cell
     pub at : Literal
     pub phrase : Phrase
-    pub closes : ClosesPhrase P at phrase left
+    pub closes : ClosesPhrase P cells at phrase left
     pub numbers : NumbersFrom at from
     pub so_far : whole ≡ named ++ inline_words P phrase
 
 -- the names of a phrase are added to these, for each program that the closed one stands for
 abbrev pub AddsNames : Program → List Template → ℕ → Phrase → List ℕ → List ℕ → Type 0
 AddsNames C templates from closed before after =
-    (P : Program) → Closes P C templates → (at : Literal) (t : Phrase) → ClosesPhrase P at t closed → NumbersFrom P at from → after ≡ before ++ inline_words P t
+    (P : Program) → Closes P C templates → (cells : List Cell) (at : Literal) (t : Phrase) → ClosesPhrase P cells at t closed → NumbersFrom P at from → after ≡ before ++ inline_words P t
 
 -- likewise those of an item
 abbrev pub AddsItemNames : Program → List Template → ℕ → Item → List ℕ → List ℕ → Type 0
 AddsItemNames C templates from closed before after =
-    (P : Program) → Closes P C templates → (at : Literal) (i : Item) → ClosesItem P at i closed → NumbersFrom P at from → after ≡ before ++ item_words P i
+    (P : Program) → Closes P C templates → (cells : List Cell) (at : Literal) (i : Item) → ClosesItem P cells at i closed → NumbersFrom P at from → after ≡ before ++ item_words P i
 
--- likewise those of a template, where an item makes its quotation
+-- likewise those of a template, where an item makes its quotation or fry
 abbrev pub AddsMadeNames : Program → List Template → ℕ → ℕ → List ℕ → List ℕ → Type 0
 AddsMadeNames C templates from k before after =
-    (P : Program) → Closes P C templates → (at : Literal) → at ≡ (literal_numbered P k).0 → NumbersFrom P at from → after ≡ before ++ inline_words P (literal_numbered P k).1
+    (P : Program) → Closes P C templates → (at : Literal) → at ≡ (literal_numbered P k).at → NumbersFrom P at from → after ≡ before ++ inline_words P (quoted_phrase (literal_numbered P k))
 
 -- the words that a word leads to
 abbrev pub LedBy : Program → List Template → ℕ → WordDef → List ℕ → Type 0
@@ -101,7 +103,7 @@ LedBy C templates w c vs = (P : Program) → Closes P C templates → (d : WordD
 
 -- likewise a word with this phrase
 abbrev pub LedByPhrase : Program → List Template → ℕ → Bool → Phrase → List ℕ → Type 0
-LedByPhrase C templates w recursive closed vs = (P : Program) → Closes P C templates → (t : Phrase) → ClosesPhrase P (first_of_word w) t closed → vs ≡ phrase_edges P w recursive t
+LedByPhrase C templates w recursive closed vs = (P : Program) → Closes P C templates → (t : Phrase) → ClosesPhrase P [] (first_of_word w) t closed → vs ≡ phrase_edges P w recursive t
 
 -- those of all words
 abbrev pub AreEdges : Program → List Template → List (List ℕ) → Type 0

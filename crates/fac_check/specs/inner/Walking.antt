@@ -1,5 +1,5 @@
 -- What the walker's numbers stand for.
-use Rattle.std.specs.Prelude.{◌≡◌, ◌<◌, ◌≤◌, ℕ, suc, List, [], ◌∷◌, Bool, true, false, Some, None, slice_get, nat_eq, nat_lt, length, Result, Ok, Err}
+use Rattle.std.specs.Prelude.{◌≡◌, ◌<◌, ◌≤◌, ◌+◌, ℕ, suc, map, List, [], ◌∷◌, Bool, true, false, Some, None, slice_get, nat_eq, nat_lt, length, Result, Ok, Err}
 use Rattle.std.specs.declared.option.Option.{Option}
 use Rattle.fac_lang.specs.declared.program.Program.{Program}
 use Rattle.fac_lang.specs.declared.program.WordDef.{WordDef}
@@ -8,7 +8,7 @@ use Rattle.fac_lang.specs.declared.program.Sort.TheVariants.{Body as body}
 use Rattle.fac_lang.specs.declared.phrase.Template.{Template}
 use Rattle.fac_lang.specs.declared.phrase.Place.{Place}
 use Rattle.fac_lang.specs.declared.phrase.Height.{Height}
-use Rattle.fac_lang.specs.Phrases.{Literal, Phrase, end, Item, Mark, cur_mark, com_mark}
+use Rattle.fac_lang.specs.Phrases.{Literal, Phrase, end, then, Item, bind, made, known, Mark, lit_mark, cur_mark, com_mark}
 use Rattle.fac_lang.specs.Signatures.{Signature, signature, Inputs, no_inputs, never}
 use Rattle.fac_lang.specs.declared.effect.Input.{Input}
 use Rattle.fac_lang.specs.Effects.{inputs_count}
@@ -16,21 +16,24 @@ use Rattle.fac_lang.specs.PrimitiveWords.{outputs_of}
 use Rattle.fac_lang.specs.Primitives.{Primitive, prim_numbered}
 use Rattle.fac_lang.specs.Forms.{IsBuilt}
 use Rattle.fac_locals.specs.Literals.{literal_numbered, first_of_word, first_of_literal}
-use Rattle.fac_locals.specs.Closed.{Closes, ClosesPhrase, ClosesItem, ClosesWord}
+use Rattle.fac_locals.specs.Frames.{items_at, template_phrase, Opens, OpensItem}
+use Rattle.fac_locals.specs.OpenedPrograms.{OpensProgram}
+use Rattle.fac_lang.specs.Meaning.{nowhere}
+use Rattle.fac_locals.specs.Closed.{Closes, ClosesWord}
 use Rattle.fac_locals.specs.declared.closing.Closed.{Closed}
 use Rattle.fac_lang.specs.RowVariables.{Row, row_name, effect_inputs, effect_leaving, outer_in}
-use Rattle.fac_abs.specs.Marks.{AbstractStack, dead, on}
+use Rattle.fac_abs.specs.Marks.{AbstractStack, dead, on, limited, piled}
 use Rattle.fac_abs.specs.declared.rule.Rule.{Rule}
 use Rattle.fac_abs.specs.declared.rule.Rule.TheVariants.{Underflow}
 use Rattle.fac_abs.specs.MarkTrees.{Naming}
-use Rattle.fac_abs.specs.SeenMarks.{MarksSeen, mark_of, stack_of, base_seen, reached_seen, IsMark, IsStack, IsReached}
+use Rattle.fac_abs.specs.SeenMarks.{MarksSeen, mark_of, frame_of, stack_of, base_seen, reached_seen, IsMark, IsFrame, IsStack, IsReached}
 use Rattle.fac_abs.specs.declared.reached.Reached.{Reached}
 use Rattle.fac_rows.specs.RowBinding.{Binding, tie, start_row, calls_own, row_binding}
 use Rattle.fac_rows.specs.RowNumbers.{NamesRows, NamesOwn}
 use Rattle.fac_rows.specs.SeenBindings.{IsBinding, binding_seen}
-use Rattle.fac_check.specs.Flow.{Walked as WalkedPhrase, found, refused, Doing as DoingAtOnce, breaks, gives, expands, walks, forks, uses, and_then, living, called, started, tied_on, first_rule, start_rule, use_rule, unless_broken, counted, inside, join, marks_back, Walk, walk, walk_phrase, walk_mark, walk_from, walk_inputs, walk_use, prim_doing, own_doing, row_doing, inline_doing, array_doing, word_doing, doing}
+use Rattle.fac_check.specs.Flow.{Walked as WalkedPhrase, found, refused, Doing as DoingAtOnce, breaks, gives, expands, walks, forks, uses, and_then, living, called, started, tied_on, first_rule, start_rule, use_rule, unless_broken, counted, inside, join, marks_back, Walk, walk, walk_phrase, walk_mark, walk_from, walk_inputs, walk_use, prim_doing, needing, own_doing, row_doing, inline_doing, array_doing, word_doing, doing}
 use Rattle.fac_check.specs.inner.OwnEffects.{own_effect}
-use Rattle.fac_check.specs.inner.ItemWalk.{item_rule, counted_item, item_walk}
+use Rattle.fac_check.specs.inner.ItemWalk.{IsAlone, item_rule, counted_item, item_walk}
 use Rattle.fac_check.specs.declared.doing.Doing.{Doing}
 use Rattle.fac_check.specs.declared.doing.Doing.TheVariants.{Breaks, Ends, Gives, Leaves, Expands, Walks, Forks, Uses}
 use Rattle.fac_check.specs.declared.subject.Subject.{Subject}
@@ -175,13 +178,24 @@ abbrev pub Enters : Mark → ℕ → Result ℕ Rule → Type 0
 Enters m nested (Ok d) = (p : Place) (go : ℕ → WalkedPhrase AbstractStack) → inside m p nested go ≡ go d
 Enters m nested (Err r) = (p : Place) (go : ℕ → WalkedPhrase AbstractStack) → inside m p nested go ≡ refused r p
 
--- A program for which a closed program stands, which literals its templates make, and, where a row word is checked, which it is, its effect, and which rows the numbers of bases name.
+-- A frame's marks, given from the last cell on, as the items that are put for its cells.
+abbrev pub items_of : List Mark → List Item
+items_of ms = map known (piled ms [])
+
+-- What a template's literal is named, and its phrase. Where there aren't as many marks as cells, it begins with an item that no program has.
+pub record NamesTemplate (P : Program) (N : Naming) (k : ℕ) (t : Template) : Type 0 where
+  pub phrase_is : (ms : List Mark) → length ms ≡ length t.captures + t.holes → N.phrase k ms ≡ template_phrase P k (items_of ms)
+  pub other_is : (ms : List Mark) → (length ms ≡ length t.captures + t.holes → ⊥) → (rest : Phrase) × (N.phrase k ms ≡ then (made 0) nowhere rest)
+
+-- A program for which a closed program stands and opens, which literals its templates make, and, where a row word is checked, which it is, its effect, and which rows the numbers of bases name.
 pub record Opened (C : Program) (templates : List Template) (own : Option ℕ) : Type 0 where
   pub program : Program
   pub closes : Closes program C templates
   pub built : IsBuilt program
+  pub opens : OpensProgram program C templates
   pub naming : Naming
-  pub naming_is : (k : ℕ) → naming.literal k ≡ literal_numbered program k
+  pub literal_is : (k : ℕ) → naming.literal k ≡ (literal_numbered program k).at
+  pub template_is : (k : ℕ) (t : Template) → slice_get templates k ≡ Some t → NamesTemplate program naming k t
   pub word : Option ℕ
   pub word_is : word ≡ own
   pub effect : Option Signature
@@ -198,8 +212,9 @@ module _ {C : Program} {templates : List Template} {own : Option ℕ} (M : Marks
   abbrev pub phrase_walk : Literal → Phrase → Opened C templates own → Walk → WalkedPhrase AbstractStack
   phrase_walk at t O go = walk_phrase O.effect go at t s.place s.nested (base_seen O.naming s.base) (stack_of O.naming M s.stack) s.left
 
-  abbrev pub literal_walk : ℕ → Opened C templates own → Walk → WalkedPhrase AbstractStack
-  literal_walk k O go = phrase_walk (first_of_literal (O.naming.literal k).0) (O.naming.literal k).1 O go
+  -- of a literal, by the numbers of its template and frame
+  abbrev pub literal_walk : ℕ → ℕ → Opened C templates own → Walk → WalkedPhrase AbstractStack
+  literal_walk k f O go = phrase_walk (first_of_literal (O.naming.literal k)) (O.naming.phrase k (frame_of O.naming M f)) O go
 
   abbrev pub word_walk : ℕ → Opened C templates own → Walk → WalkedPhrase AbstractStack
   word_walk w O go = phrase_walk (first_of_word w) (body_phrase O.program w) O go
@@ -295,10 +310,11 @@ abbrev pub IsWalkedQuotation : (subject : Subject) → MarksSeen → MarksSeen �
 IsWalkedQuotation subject M L s k e m bs cs W =
     (O : Opened subject.closed.now.program subject.closed.now.templates subject.own) (f : ℕ) (more : Binding → ℕ → WalkedPhrase Binding) → s.left < f → and_then (inputs_seen O.naming L cs W) more ≡ quotation_walk M s k e m bs more O (go_at O f)
 
--- likewise the walk of a phrase, for each that this closed one stands for
+-- likewise the walk of a phrase, for each to which this closed one opens under the frame
 abbrev pub IsWalkOfPhrase : Subject → MarksSeen → MarksSeen → Phrase → Step → Walked → Type 0
 IsWalkOfPhrase subject M L c s W =
-    (O : Opened subject.closed.now.program subject.closed.now.templates subject.own) (at : Literal) (t : Phrase) (f : ℕ) → ClosesPhrase O.program at t c → s.left < f → walked_seen O.naming L W ≡ go_at O f at s.nested t (base_seen O.naming s.base) (stack_of O.naming M s.stack) s.left
+    (O : Opened subject.closed.now.program subject.closed.now.templates subject.own) (at : Literal) (t : Phrase) (f : ℕ) →
+    Opens O.program subject.closed.now.templates (items_of (frame_of O.naming M s.frame)) at c t → s.left < f → walked_seen O.naming L W ≡ go_at O f at s.nested t (base_seen O.naming s.base) (stack_of O.naming M s.stack) s.left
 
 -- likewise the walk of what an item does
 abbrev pub IsWalkOfItem : Subject → MarksSeen → MarksSeen → Doing → Step → Walked → Type 0
@@ -314,10 +330,52 @@ abbrev pub IsWalkOfCounted : Subject → MarksSeen → MarksSeen → Doing → S
 IsWalkOfCounted subject M L D s W =
     (O : Opened subject.closed.now.program subject.closed.now.templates subject.own) (f : ℕ) → s.left < f → walked_seen O.naming L W ≡ counted_item O.effect (go_at O f) (doing_seen O.naming M (slice_get O.program.words) (base_seen O.naming s.base) D) s.place s.nested s.left
 
--- what a closed item does to a stack on a base, as each item does that it stands for
-abbrev pub DoesItem : Subject → MarksSeen → MarksSeen → Option ℕ → ℕ → Item → Doing → Type 0
-DoesItem subject M L b s c D =
-    (O : Opened subject.closed.now.program subject.closed.now.templates subject.own) (at : Literal) (i : Item) → ClosesItem O.program at i c → doing_seen O.naming L (slice_get O.program.words) (base_seen O.naming b) D ≡ doing O.program O.word at i (base_seen O.naming b) (stack_of O.naming M s)
+-- What an item breaks or leaves, apart from the rest of its phrase, is this; and it leaves that rest as it is.
+pub record IsItemsWalk {C : Program} {templates : List Template} {own : Option ℕ} (O : Opened C templates own) (M L : MarksSeen) (at : Literal) (i : Item) (s : Step) (f : ℕ) (W : Walked) : Type 0 where
+  pub is_alone : IsAlone (doing O.program O.word at i (base_seen O.naming s.base) (stack_of O.naming M s.stack))
+  pub walks : walked_seen O.naming L W ≡ item_walk O.effect (go_at O f) (doing O.program O.word at i (base_seen O.naming s.base) (stack_of O.naming M s.stack)) s.place s.nested s.left
+
+-- likewise of a closed item: for one that binds a local, whichever it is, and else for each to which it opens under the frame
+abbrev pub IsWalkOfOne : Subject → MarksSeen → MarksSeen → Item → Step → Walked → Type 0
+IsWalkOfOne subject M L (bind k) s W =
+    (O : Opened subject.closed.now.program subject.closed.now.templates subject.own) (at : Literal) (x f : ℕ) → s.left ≤ f →
+    walked_seen O.naming L W ≡ item_walk O.effect (go_at O f) (doing O.program O.word at (bind x) (base_seen O.naming s.base) (stack_of O.naming M s.stack)) s.place s.nested s.left
+IsWalkOfOne subject M L c s W =
+    (O : Opened subject.closed.now.program subject.closed.now.templates subject.own) (at : Literal) (i : Item) (f : ℕ) →
+    OpensItem O.program subject.closed.now.templates (items_of (frame_of O.naming M s.frame)) at c i → s.left ≤ f → IsItemsWalk O M L at i s f W
+
+-- an item that names a local, whichever it is
+abbrev pub NamesLocal : MarksSeen → Step → Walked → Type 0
+NamesLocal M s W =
+    (N : Naming) (own : Option Signature) (go : Walk) (P : Program) (word : Option ℕ) (at : Literal) (x : ℕ) →
+    walked_seen N M W ≡ item_walk own go (doing P word at (bind x) (base_seen N s.base) (stack_of N M s.stack)) s.place s.nested s.left
+
+-- the frame behind an item: one that binds a local adds the top mark as the last cell
+abbrev pub frame_behind : Item → List Mark → List Mark → List Mark
+frame_behind (bind k) [] fs = fs
+frame_behind (bind k) (m ∷ ms) fs = m ∷ fs
+frame_behind _ ms fs = fs
+
+-- what a closed item does to a stack on a base under a frame, as each item does to which it opens
+abbrev pub DoesItem : Subject → MarksSeen → MarksSeen → Option ℕ → ℕ → ℕ → Item → Doing → Type 0
+DoesItem subject M L b s g c D =
+    (O : Opened subject.closed.now.program subject.closed.now.templates subject.own) (at : Literal) (i : Item) → OpensItem O.program subject.closed.now.templates (items_of (frame_of O.naming M g)) at c i → doing_seen O.naming L (slice_get O.program.words) (base_seen O.naming b) D ≡ doing O.program O.word at i (base_seen O.naming b) (stack_of O.naming M s)
+
+-- whether an item binds a local
+abbrev pub binds : Item → Bool
+binds (bind k) = true
+binds _ = false
+
+-- A literal of this template is made of the cells of a frame and of so many marks from the stack, the deepest for the first hole.
+abbrev pub MakesLiteral : MarksSeen → MarksSeen → ℕ → ℕ → ℕ → ℕ → Doing → Type 0
+MakesLiteral M L s k g n D =
+    (N : Naming) (words : ℕ → Option WordDef) (b : Option Row) →
+    doing_seen N L words b D ≡ needing n (stack_of N M s) (λ taken rest. gives (on b (limited (lit_mark (N.literal k) (N.phrase k (piled taken (frame_of N M g)))) ∷ rest)))
+
+-- the cells that a template captures make this frame; where one isn't there, they make none
+abbrev pub Captures : MarksSeen → MarksSeen → ℕ → List ℕ → Option ℕ → Type 0
+Captures M L g ks None = (N : Naming) → items_at ks (items_of (frame_of N M g)) ≡ None
+Captures M L g ks (Some h) = IsFrame L h × ((N : Naming) → items_at ks (items_of (frame_of N M g)) ≡ Some (items_of (frame_of N L h)))
 
 -- likewise a literal array, by its number
 abbrev pub DoesArray : Subject → MarksSeen → MarksSeen → ℕ → ℕ → Doing → Type 0

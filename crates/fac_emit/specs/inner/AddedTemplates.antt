@@ -8,11 +8,11 @@ use Rattle.fac_emit.specs.declared.emitter.Piece.{Piece}
 use Rattle.fac_emit.specs.ProgramCode.{phrase_code, phrase_texts, row_at, templates_code, templates_texts, template_rows}
 
 -- the code of a template with its texts stands behind the others, and its row
-abbrev pub AddsTemplate : Program → Template → Piece → Piece → List TemplateRow → List TemplateRow → Type 0
-AddsTemplate C template old new rows rows_then =
-    (new.code ≡ old.code ++ phrase_code C Ret old.texts template.body) × (new.texts ≡ phrase_texts old.texts template.body) × (rows_then ≡ rows ++ row_at (length old.code) template ∷ [])
+abbrev pub AddsTemplate : Program → List Template → Template → Piece → Piece → List TemplateRow → List TemplateRow → Type 0
+AddsTemplate C templates template old new rows rows_then =
+    (new.code ≡ old.code ++ phrase_code C templates Ret old.texts template.body) × (new.texts ≡ phrase_texts old.texts template.body) × (rows_then ≡ rows ++ row_at (length old.code) template ∷ [])
 
 -- that of these templates, and their rows, in their order
 abbrev pub AddsTemplates : Program → List Template → Piece → Piece → List TemplateRow → List TemplateRow → Type 0
 AddsTemplates C templates old new rows rows_then =
-    (new.code ≡ old.code ++ templates_code C old.texts templates) × (new.texts ≡ templates_texts old.texts templates) × (rows_then ≡ rows ++ template_rows C old.texts (length old.code) templates)
+    (new.code ≡ old.code ++ templates_code C templates old.texts templates) × (new.texts ≡ templates_texts old.texts templates) × (rows_then ≡ rows ++ template_rows C templates old.texts (length old.code) templates)

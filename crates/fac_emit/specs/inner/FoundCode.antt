@@ -13,9 +13,9 @@ abbrev pub IsCodeOf : List Instr → List (List ℕ) → Piece → Type 0
 IsCodeOf code texts piece = (piece.code ≡ code) × (piece.texts ≡ texts)
 
 -- a number that no word has has no code
-abbrev pub found_code : Program → ℕ → Option WordDef → List Instr
-found_code C w None = []
-found_code C w (Some d) = word_code C [] w d
+abbrev pub found_code : Program → List Template → ℕ → Option WordDef → List Instr
+found_code C templates w None = []
+found_code C templates w (Some d) = word_code C templates [] w d
 
 -- its texts
 abbrev pub found_texts : Option WordDef → List (List ℕ)
@@ -23,9 +23,9 @@ found_texts None = []
 found_texts (Some d) = sort_texts [] d.sort
 
 -- likewise for templates
-abbrev pub found_template : Program → Option Template → List Instr
-found_template C None = []
-found_template C (Some t) = phrase_code C Ret [] t.body
+abbrev pub found_template : Program → List Template → Option Template → List Instr
+found_template C templates None = []
+found_template C templates (Some t) = phrase_code C templates Ret [] t.body
 
 abbrev pub found_template_texts : Option Template → List (List ℕ)
 found_template_texts None = []

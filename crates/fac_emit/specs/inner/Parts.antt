@@ -12,7 +12,7 @@ pub record AreParts (C : Program) (templates : List Template) (p : Parts) : Type
   pub arrays : p.arrays ≡ arrays_of (program_texts C templates) C.arrays
   pub code : p.piece.code ≡ program_code C templates
   pub texts : p.piece.texts ≡ arrays_texts (program_texts C templates) C.arrays
-  pub template_rows_are : p.templates ≡ template_rows C (table_texts C) 0 templates
+  pub template_rows_are : p.templates ≡ template_rows C templates (table_texts C) 0 templates
   pub word_rows : p.words ≡ program_words C templates
 
 -- the tables that no phrase is in
@@ -22,11 +22,11 @@ pub record AreTables (C : Program) (templates : List Template) (t : ClassTables)
   pub generics : t.generics ≡ program_generics C templates
 
 -- the code and the row of the word with this number and of this sort were added behind those that stood
-abbrev pub PlacesWord : Program → ℕ → Bool → Sort → Parts → Parts → Type 0
-PlacesWord C w is_top s old new =
-    (new.piece.code ≡ old.piece.code ++ sort_code C is_top old.piece.texts s) × (new.piece.texts ≡ sort_texts old.piece.texts s) × (new.templates ≡ old.templates) × (new.arrays ≡ old.arrays) × (new.words ≡ old.words ++ word_row C (length old.piece.code) w s ∷ [])
+abbrev pub PlacesWord : Program → List Template → ℕ → Bool → Sort → Parts → Parts → Type 0
+PlacesWord C templates w is_top s old new =
+    (new.piece.code ≡ old.piece.code ++ sort_code C templates is_top old.piece.texts s) × (new.piece.texts ≡ sort_texts old.piece.texts s) × (new.templates ≡ old.templates) × (new.arrays ≡ old.arrays) × (new.words ≡ old.words ++ word_row C (length old.piece.code) w s ∷ [])
 
 -- the code and the rows of all words were added
-abbrev pub PlacesWords : Program → Parts → Parts → Type 0
-PlacesWords C old new =
-    (new.piece.code ≡ old.piece.code ++ code_from C old.piece.texts 0 C.words) × (new.piece.texts ≡ words_texts old.piece.texts C.words) × (new.words ≡ old.words ++ words_from C old.piece.texts (length old.piece.code) 0 C.words) × (new.templates ≡ old.templates) × (new.arrays ≡ old.arrays)
+abbrev pub PlacesWords : Program → List Template → Parts → Parts → Type 0
+PlacesWords C templates old new =
+    (new.piece.code ≡ old.piece.code ++ code_from C templates old.piece.texts 0 C.words) × (new.piece.texts ≡ words_texts old.piece.texts C.words) × (new.words ≡ old.words ++ words_from C templates old.piece.texts (length old.piece.code) 0 C.words) × (new.templates ≡ old.templates) × (new.arrays ≡ old.arrays)

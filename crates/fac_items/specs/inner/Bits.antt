@@ -1,100 +1,51 @@
--- Items as they stand one behind another: each of one token or added by a reading, or a bracket.
-use Rattle.std.specs.Prelude.{◌≡◌, ℕ, List, [], ◌∷◌, ◌++◌, map, codes}
-use Rattle.fac_lang.specs.Phrases.{Plain, int, yes, no, str}
+-- Items as they stand one behind another: each of one token, or a bracket.
+use Rattle.std.specs.Prelude.{List, [], ◌∷◌, map, Option, None}
 use Rattle.fac_lang.specs.declared.phrase.Place.{Place}
 use Rattle.fac_lang.specs.declared.tree.Bracket.{Bracket}
-use Rattle.fac_lang.specs.declared.tree.Bracket.TheVariants.{Quotation, Array}
+use Rattle.fac_lang.specs.declared.tree.Bracket.TheVariants.{Quotation, Array, Fry}
 use Rattle.fac_lang.specs.declared.tree.Element.{Element}
 use Rattle.fac_lang.specs.declared.tree.Element.TheVariants as element
-use Rattle.fac_items.specs.declared.piece.Added.{Added}
-use Rattle.fac_items.specs.declared.piece.Added.TheVariants as add
-use Rattle.fac_items.specs.declared.piece.Piece.{Piece}
-use Rattle.fac_items.specs.declared.piece.Piece.TheVariants as piece
-use Rattle.fac_items.specs.Written.{Node, n_lit, n_array, n_quot, n_name, n_next, n_full, n_part, Nodes, nothing, more}
-use Rattle.fac_items.specs.FromElements.{node}
+use Rattle.fac_items.specs.Written.{Tok, Node}
+use Rattle.fac_items.specs.FromElements.{node, tok}
 
+-- An array comes with the name behind it, where the array is one that `cond` could read and the search takes the name to `cond`.
 pub data Bit : Type 0 where
   leaf : Node → Bit
   opens : Bracket → Place → Bit
+  opens_locals : List Tok → Place → Bit
+  opens_array : Option Tok → Place → Bit
   closes : Bit
 
-abbrev pub element_bit : Element → Bit
-element_bit (element.Item t) = leaf (node t)
-element_bit (element.Opens b p) = opens b p
-element_bit (element.Closes b p) = closes
+-- Elements, where each array takes the next one of these names.
 
-abbrev pub element_bits : List Element → List Bit
-element_bits es = map element_bit es
+abbrev pub next_name : List (Option Tok) → Option Tok
+next_name [] = None
+next_name (o ∷ os) = o
 
-abbrev pub added_vocab : Added → List ℕ
-added_vocab add.Call = codes "kernel"
-added_vocab add.If = codes "kernel"
-added_vocab add.NoCond = codes "combinators.private"
+abbrev pub later_names : List (Option Tok) → List (Option Tok)
+later_names [] = []
+later_names (o ∷ os) = os
 
-abbrev pub added_name : Added → List ℕ
-added_name add.Call = codes "call"
-added_name add.If = codes "if"
-added_name add.NoCond = codes "(no-cond)"
+abbrev pub opens_bit : Bracket → Place → List (Option Tok) → Bit
+opens_bit Quotation p os = opens Quotation p
+opens_bit Fry p os = opens Fry p
+opens_bit Array p os = opens_array (next_name os) p
 
-abbrev pub added_node : Added → Place → Node
-added_node a p = n_full (added_vocab a) (added_name a) p
+abbrev pub names_within : Bracket → List (Option Tok) → List (Option Tok)
+names_within Quotation os = os
+names_within Fry os = os
+names_within Array os = later_names os
 
-abbrev pub piece_bit : Piece → Bit
-piece_bit (piece.Item t) = leaf (node t.now)
-piece_bit (piece.Opens b p) = opens b p
-piece_bit piece.Closes = closes
-piece_bit (piece.Full a p) = leaf (added_node a p)
+abbrev pub element_bit : List (Option Tok) → Element → Bit
+element_bit os (element.Item t) = leaf (node t)
+element_bit os (element.Opens b p) = opens_bit b p os
+element_bit os (element.OpensLocals p names bar) = opens_locals (map tok names) p
+element_bit os (element.Closes b p) = closes
 
-abbrev pub piece_bits : List Piece → List Bit
-piece_bits ps = map piece_bit ps
+abbrev pub names_behind : Element → List (Option Tok) → List (Option Tok)
+names_behind (element.Opens b p) os = names_within b os
+names_behind _ os = os
 
--- nodes, one behind another; items whose locals end with them stand as they are
-abbrev pub spell : Nodes → List Bit
-spell nothing = []
-spell (more (n_quot ms p) ns) = opens Quotation p ∷ (spell ms ++ closes ∷ spell ns)
-spell (more (n_array ms p) ns) = opens Array p ∷ (spell ms ++ closes ∷ spell ns)
-spell (more (n_part ms) ns) = spell ms ++ spell ns
-spell (more n ns) = leaf n ∷ spell ns
-
--- Nodes of the forms that are built.
-
-abbrev pub IsPlainLiteral : Plain → Type 0
-IsPlainLiteral (int z) = Unit {0}
-IsPlainLiteral yes = Unit {0}
-IsPlainLiteral no = Unit {0}
-IsPlainLiteral (str bs) = Unit {0}
-IsPlainLiteral _ = ⊥
-
--- items, and elements of arrays
-abbrev mutual
-  pub ArePlain : Nodes → Type 0
-  ArePlain nothing = Unit {0}
-  ArePlain (more n ns) = IsPlain n × ArePlain ns
-
-  pub IsPlain : Node → Type 0
-  IsPlain (n_lit l p) = IsPlainLiteral l
-  IsPlain (n_name t p) = Unit {0}
-  IsPlain (n_next p) = Unit {0}
-  IsPlain (n_full vocab name p) = Unit {0}
-  IsPlain (n_quot ns p) = ArePlain ns
-  IsPlain (n_array es p) = AreElements es
-  IsPlain (n_part ns) = ArePlain ns
-  IsPlain _ = ⊥
-
-  pub AreElements : Nodes → Type 0
-  AreElements nothing = Unit {0}
-  AreElements (more n ns) = IsElement n × AreElements ns
-
-  pub IsElement : Node → Type 0
-  IsElement (n_lit l p) = IsPlainLiteral l
-  IsElement (n_name t p) = Unit {0}
-  IsElement (n_next p) = Unit {0}
-  IsElement (n_quot ns p) = ArePlain ns
-  IsElement (n_array es p) = AreElements es
-  IsElement _ = ⊥
-
--- these are the bits of such nodes
-pub record AreSpelled (bits : List Bit) : Type 0 where
-  pub nodes : Nodes
-  pub plain : ArePlain nodes
-  pub is : bits ≡ spell nodes
+abbrev pub all_bits : List (Option Tok) → List Element → List Bit
+all_bits os [] = []
+all_bits os (e ∷ es) = element_bit os e ∷ all_bits (names_behind e os) es

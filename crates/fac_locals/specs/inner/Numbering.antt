@@ -1,18 +1,24 @@
--- How closing goes through a program: the numbers that its templates get, word by word, an outer quotation before those in it and those of a literal array where the array stands. The words come first, and then the arrays from the last one to the first: what names an array comes before it.
+-- How closing goes through a program: the numbers that its templates get, word by word, an outer quotation or fry before those in it and those of a literal array where the array stands, and the cells of their frames. The words come first, and then the arrays from the last one to the first: what names an array comes before it.
 use Rattle.std.specs.Prelude.{◌≡◌, ℕ, zero, suc, ◌+◌, List, [], ◌∷◌, ◌++◌, length, set, slice_index_or, Option, Some, None}
-use Rattle.fac_lang.specs.Phrases.{Phrase, end, then, Item, lit_arr, quot, next_method, made, next_after}
+use Rattle.fac_lang.specs.Phrases.{Phrase, end, then, Item, lit_arr, quot, bind, local, fry, hole, next_method, made, next_after}
 use Rattle.fac_lang.specs.Meaning.{nowhere}
 use Rattle.fac_lang.specs.declared.phrase.Place.{Place}
 use Rattle.fac_lang.specs.declared.phrase.Item.{Item as PlacedItem}
 use Rattle.fac_lang.specs.declared.phrase.What.{What}
-use Rattle.fac_lang.specs.declared.phrase.What.TheVariants.{Quot, NextMethod, NextAfter, Made}
+use Rattle.fac_lang.specs.declared.phrase.What.TheVariants.{Quot, Bind, Local as LocalValue, Fry, Hole as HoleValue, NextMethod, NextAfter, Made}
 use Rattle.fac_lang.specs.declared.phrase.Template.{Template}
 use Rattle.fac_lang.specs.declared.program.WordDef.{WordDef}
 use Rattle.fac_lang.specs.declared.program.Sort.{Sort}
 use Rattle.fac_lang.specs.declared.program.Sort.TheVariants.{Body as body, Method as method}
 use Rattle.fac_lang.specs.declared.program.Lit.{Lit}
 use Rattle.fac_lang.specs.declared.program.Lit.TheVariants.{Quot as l_quot, Made as l_made}
-use Rattle.fac_lang.specs.PhraseView.{what_item}
+use Rattle.fac_lang.specs.PhraseView.{what_item, items_phrase}
+use Rattle.fac_captures.specs.declared.cell.Cell.{Cell}
+use Rattle.fac_captures.specs.declared.cell.Cell.TheVariants.{Local, Hole}
+use Rattle.fac_captures.specs.declared.asking.Asked.{Asked}
+use Rattle.fac_captures.specs.declared.keeping.Kept.{Kept}
+use Rattle.fac_captures.specs.Cells.{cell_number, cells_behind, captured, inner_cells, hole_count}
+use Rattle.fac_captures.specs.Asked.{AreAskedBy, quotations_in, quotations_at}
 use Rattle.fac_locals.specs.Literals.{element_item, elements_phrase}
 use Rattle.fac_locals.specs.declared.closing.ArrayStart.{ArrayStart}
 use Rattle.fac_locals.specs.declared.closing.Closing.{Closing}
@@ -22,9 +28,9 @@ abbrev pub put_all : {A : Type 0} → List A → List (ℕ × A) → List A
 put_all xs [] = xs
 put_all xs (w ∷ ws) = put_all (set xs w.0 w.1) ws
 
--- the template of a quotation that stands here, with this closed phrase
-abbrev pub template_of : Place → Phrase → Template
-template_of p t = record { body = t; captures = []; holes = 0; place = p }
+-- the template of a quotation or fry that stands here under these cells, with this closed phrase
+abbrev pub template_of : List Cell → Place → Item → Phrase → Template
+template_of cells p i t = record { body = t; captures = captured cells i; holes = hole_count i; place = p }
 
 -- a literal array that stands here, in the phrase of this method or in none, whose first quotation gets this number
 abbrev pub start_of : ℕ → Place → Option ℕ → ArrayStart
@@ -58,6 +64,16 @@ abbrev pub next_what : Option ℕ → What
 next_what None = NextMethod
 next_what (Some m) = NextAfter m
 
+-- an item for the cell of this number, or another where there is none
+abbrev pub cell_or : Item → Option ℕ → Item
+cell_or i None = i
+cell_or i (Some k) = local k
+
+-- likewise in a list of items
+abbrev pub cell_what : What → Option ℕ → What
+cell_what w None = w
+cell_what w (Some k) = LocalValue k
+
 -- Arrays have so many quotations, those of the arrays in them included.
 module _ (counts : List ℕ) where
   -- The number behind those of a phrase's quotations, where the first of them gets this number.
@@ -68,6 +84,7 @@ module _ (counts : List ℕ) where
 
     pub item_behind : ℕ → Item → ℕ
     item_behind n (quot t) = phrase_behind (suc n) t
+    item_behind n (fry t k) = phrase_behind (suc n) t
     item_behind n (lit_arr a) = n + slice_index_or counts a 0
     item_behind n _ = n
 
@@ -82,26 +99,35 @@ module _ (counts : List ℕ) where
 
   -- This is in the phrase of a method, or in none.
   module _ (m : Option ℕ) where
-    -- an item, where a quotation gets this number
-    abbrev pub closed_item : ℕ → Item → Item
-    closed_item n (quot t) = made n
-    closed_item n next_method = next_in m
-    closed_item n i = i
+    -- an item that stands under these cells, where a quotation or fry gets this number
+    abbrev pub closed_item : List Cell → ℕ → Item → Item
+    closed_item cells n (quot t) = made n
+    closed_item cells n (fry t k) = made n
+    closed_item cells n (bind x) = bind (length cells)
+    closed_item cells n (local x) = cell_or (local x) (cell_number cells (Local x))
+    closed_item cells n (hole h) = cell_or (hole h) (cell_number cells (Hole h))
+    closed_item cells n next_method = next_in m
+    closed_item cells n i = i
 
-    -- a phrase, where its first quotation gets this number
-    abbrev pub closed_phrase : ℕ → Phrase → Phrase
-    closed_phrase n end = end
-    closed_phrase n (then i p t) = then (closed_item n i) p (closed_phrase (item_behind n i) t)
+    -- a phrase under these cells, where its first quotation gets this number
+    abbrev pub closed_phrase : List Cell → ℕ → Phrase → Phrase
+    closed_phrase cells n end = end
+    closed_phrase cells n (then i p t) = then (closed_item cells n i) p (closed_phrase (cells_behind cells i) (item_behind n i) t)
+
+    -- the template of a quotation or fry with this number and phrase
+    abbrev pub closed_template : List Cell → ℕ → Place → Item → Phrase → Template
+    closed_template cells n p i t = template_of cells p i (closed_phrase (inner_cells cells i) (suc n) t)
 
     -- the templates of a phrase's quotations with their numbers, where the first quotation gets this number, in the order in which they are closed
     abbrev mutual
-      pub phrase_templates : ℕ → Phrase → List (ℕ × Template)
-      phrase_templates n end = []
-      phrase_templates n (then i p t) = item_templates n p i ++ phrase_templates (item_behind n i) t
+      pub phrase_templates : List Cell → ℕ → Phrase → List (ℕ × Template)
+      phrase_templates cells n end = []
+      phrase_templates cells n (then i p t) = item_templates cells n p i ++ phrase_templates (cells_behind cells i) (item_behind n i) t
 
-      pub item_templates : ℕ → Place → Item → List (ℕ × Template)
-      item_templates n p (quot t) = phrase_templates (suc n) t ++ (n, template_of p (closed_phrase (suc n) t)) ∷ []
-      item_templates n p _ = []
+      pub item_templates : List Cell → ℕ → Place → Item → List (ℕ × Template)
+      item_templates cells n p (quot t) = phrase_templates (inner_cells cells (quot t)) (suc n) t ++ (n, closed_template cells n p (quot t) t) ∷ []
+      item_templates cells n p (fry t k) = phrase_templates (inner_cells cells (fry t k)) (suc n) t ++ (n, closed_template cells n p (fry t k) t) ∷ []
+      item_templates cells n p _ = []
 
     -- the literal arrays that a phrase names, each with where its quotations start
     abbrev mutual
@@ -111,23 +137,28 @@ module _ (counts : List ℕ) where
 
       pub item_starts : ℕ → Place → Item → List (ℕ × ArrayStart)
       item_starts n p (quot t) = phrase_starts (suc n) t
+      item_starts n p (fry t k) = phrase_starts (suc n) t
       item_starts n p (lit_arr a) = (a, start_of n p m) ∷ []
       item_starts n p _ = []
 
     -- the same item in a list of items
-    abbrev pub closed_what : ℕ → What → What
-    closed_what n (Quot t) = Made n
-    closed_what n NextMethod = next_what m
-    closed_what n w = w
+    abbrev pub closed_what : List Cell → ℕ → What → What
+    closed_what cells n (Quot t) = Made n
+    closed_what cells n (Fry t k) = Made n
+    closed_what cells n (Bind x) = Bind (length cells)
+    closed_what cells n (LocalValue x) = cell_what (LocalValue x) (cell_number cells (Local x))
+    closed_what cells n (HoleValue h) = cell_what (HoleValue h) (cell_number cells (Hole h))
+    closed_what cells n NextMethod = next_what m
+    closed_what cells n w = w
 
-    abbrev pub closed_items : ℕ → List PlacedItem → List PlacedItem
-    closed_items n [] = []
-    closed_items n (i ∷ is) = record { what = closed_what n i.what; place = i.place } ∷ closed_items (item_behind n (what_item i.what)) is
+    abbrev pub closed_items : List Cell → ℕ → List PlacedItem → List PlacedItem
+    closed_items cells n [] = []
+    closed_items cells n (i ∷ is) = record { what = closed_what cells n i.what; place = i.place } ∷ closed_items (cells_behind cells (what_item i.what)) (item_behind n (what_item i.what)) is
 
   -- what word w is, where the first quotation of its phrase gets this number
   abbrev pub closed_sort : ℕ → ℕ → Sort → Sort
-  closed_sort w n (body t) = body (closed_phrase None n t)
-  closed_sort w n (method c g t) = method c g (closed_phrase (Some w) n t)
+  closed_sort w n (body t) = body (closed_phrase None [] n t)
+  closed_sort w n (method c g t) = method c g (closed_phrase (Some w) [] n t)
   closed_sort w n s = s
 
   -- the words of a program from word w on, where the first quotation in them gets this number
@@ -144,7 +175,7 @@ module _ (counts : List ℕ) where
 
   abbrev pub words_templates : ℕ → ℕ → List WordDef → List (ℕ × Template)
   words_templates w n [] = []
-  words_templates w n (d ∷ ds) = phrase_templates (method_of w d.sort) n (phrase_of d.sort) ++ words_templates (suc w) (phrase_behind n (phrase_of d.sort)) ds
+  words_templates w n (d ∷ ds) = phrase_templates (method_of w d.sort) [] n (phrase_of d.sort) ++ words_templates (suc w) (phrase_behind n (phrase_of d.sort)) ds
 
   abbrev pub words_starts : ℕ → ℕ → List WordDef → List (ℕ × ArrayStart)
   words_starts w n [] = []
@@ -177,7 +208,7 @@ abbrev pub array_closed : List ℕ → ℕ → Stage → Stage
 array_closed counts a s =
     record {
       arrays = set s.arrays a (closed_elements counts (start_at s a).number (elements_at s a));
-      templates = put_all s.templates (phrase_templates counts (start_at s a).method (start_at s a).number (plain_phrase (start_at s a).place (elements_at s a)));
+      templates = put_all s.templates (phrase_templates counts (start_at s a).method [] (start_at s a).number (plain_phrase (start_at s a).place (elements_at s a)));
       starts = put_all s.starts (phrase_starts counts (start_at s a).method (start_at s a).number (plain_phrase (start_at s a).place (elements_at s a)));
     }
 
@@ -186,17 +217,59 @@ abbrev pub arrays_closed : List ℕ → ℕ → Stage → Stage
 arrays_closed counts zero s = s
 arrays_closed counts (suc a) s = arrays_closed counts a (array_closed counts a s)
 
--- What closing has made before an item that stands here, in the phrase of a method or in none, and behind it.
-pub record ItemPassed (counts : List ℕ) (m : Option ℕ) (before : Closing) (p : Place) (i : Item) (behind : Closing) : Type 0 where
+-- What closing has made before an item that stands here under these cells, in the phrase of a method or in none, and behind it.
+pub record ItemPassed (counts : List ℕ) (m : Option ℕ) (cells : List Cell) (before : Closing) (p : Place) (i : Item) (behind : Closing) : Type 0 where
   pub next_is : behind.next ≡ item_behind counts before.next i
-  pub templates_are : behind.templates.items ≡ put_all before.templates.items (item_templates counts m before.next p i)
+  pub templates_are : behind.templates.items ≡ put_all before.templates.items (item_templates counts m cells before.next p i)
   pub starts_are : behind.starts.items ≡ put_all before.starts.items (item_starts counts m before.next p i)
 
+-- An array is passed under any cells, since no local or hole of around is in scope in it.
+abbrev pub ArrayPassed : List ℕ → Option ℕ → Closing → Place → ℕ → Closing → Type 0
+ArrayPassed counts m before p a behind = (cells : List Cell) → ItemPassed counts m cells before p (lit_arr a) behind
+
 -- likewise a phrase
-pub record PhrasePassed (counts : List ℕ) (m : Option ℕ) (before : Closing) (t : Phrase) (behind : Closing) : Type 0 where
+pub record PhrasePassed (counts : List ℕ) (m : Option ℕ) (cells : List Cell) (before : Closing) (t : Phrase) (behind : Closing) : Type 0 where
   pub next_is : behind.next ≡ phrase_behind counts before.next t
-  pub templates_are : behind.templates.items ≡ put_all before.templates.items (phrase_templates counts m before.next t)
+  pub templates_are : behind.templates.items ≡ put_all before.templates.items (phrase_templates counts m cells before.next t)
   pub starts_are : behind.starts.items ≡ put_all before.starts.items (phrase_starts counts m before.next t)
+
+-- An item is closed, and what the quotations behind it ask for, which are these, is left.
+pub record ItemClosed (counts : List ℕ) (m : Option ℕ) (cells : List Cell) (before : Closing) (p : Place) (w closed : What) (behind : Closing) (is : List Item) : Type 0 where
+  pub closed_is : closed ≡ closed_what counts m cells before.next w
+  pub passed : ItemPassed counts m cells before p (what_item w) behind
+  pub left : AreAskedBy is behind.asked
+
+-- likewise a phrase
+pub record PhraseClosed (counts : List ℕ) (m : Option ℕ) (cells : List Cell) (before : Closing) (t closed : Phrase) (behind : Closing) (is : List Item) : Type 0 where
+  pub closed_is : closed ≡ closed_phrase counts m cells before.next t
+  pub passed : PhrasePassed counts m cells before t behind
+  pub left : AreAskedBy is behind.asked
+
+-- what the next quotation asks for comes first, or what these do
+abbrev pub IsAsked : List Asked → Type 0
+IsAsked all = (i : Item) × (is : List Item) × AreAskedBy (i ∷ is) all
+
+abbrev pub AreAsked : List Item → List Asked → Type 0
+AreAsked own all = (is : List Item) × AreAskedBy (own ++ is) all
+
+-- where what its own quotations ask for comes first
+abbrev pub ClosesWhat : List ℕ → Option ℕ → List Cell → Closing → Place → What → What → Closing → Type 0
+ClosesWhat counts m cells before p w closed behind = (is : List Item) → AreAskedBy (quotations_at (what_item w) ++ is) before.asked → ItemClosed counts m cells before p w closed behind is
+
+abbrev pub ClosesTree : List ℕ → Option ℕ → List Cell → Closing → Phrase → Phrase → Closing → Type 0
+ClosesTree counts m cells before t closed behind = (is : List Item) → AreAskedBy (quotations_in t ++ is) before.asked → PhraseClosed counts m cells before t closed behind is
+
+-- What a quotation or fry with so many holes that stands under these cells keeps, where what it asks for comes first.
+pub record KeptIs (cells : List Cell) (i : Item) (kept : Kept) (behind : Closing) (is : List Item) : Type 0 where
+  pub captures_are : kept.captures ≡ captured cells i
+  pub cells_are : kept.cells ≡ inner_cells cells i
+  pub left : AreAskedBy is behind.asked
+
+pub record KeptTaken (cells : List Cell) (holes : ℕ) (before : Closing) (kept : Kept) (behind : Closing) : Type 0 where
+  pub next_stays : behind.next ≡ before.next
+  pub templates_stay : behind.templates.items ≡ before.templates.items
+  pub starts_stay : behind.starts.items ≡ before.starts.items
+  pub kept_is : (i : Item) (is : List Item) → hole_count i ≡ holes → AreAskedBy (i ∷ is) before.asked → KeptIs cells i kept behind is
 
 -- likewise words, from word w on
 pub record WordsPassed (counts : List ℕ) (w : ℕ) (before : Closing) (ds : List WordDef) (behind : Closing) : Type 0 where
@@ -204,11 +277,17 @@ pub record WordsPassed (counts : List ℕ) (w : ℕ) (before : Closing) (ds : Li
   pub templates_are : behind.templates.items ≡ put_all before.templates.items (words_templates counts w before.next ds)
   pub starts_are : behind.starts.items ≡ put_all before.starts.items (words_starts counts w before.next ds)
 
--- A loop over the items of a phrase: what comes of the whole phrase from the start comes of what is left of it now.
-pub record Passing (counts : List ℕ) (m : Option ℕ) (start : Closing) (t : Phrase) (now : Closing) (left : Phrase) : Type 0 where
+-- A loop over the items of a phrase: what comes of the whole phrase from the start under its cells comes of what is left of it now under those that are there.
+pub record Passing (counts : List ℕ) (m : Option ℕ) (first : List Cell) (start : Closing) (t : Phrase) (cells : List Cell) (now : Closing) (left : Phrase) : Type 0 where
   pub next_is : phrase_behind counts start.next t ≡ phrase_behind counts now.next left
-  pub templates_are : put_all start.templates.items (phrase_templates counts m start.next t) ≡ put_all now.templates.items (phrase_templates counts m now.next left)
+  pub templates_are : put_all start.templates.items (phrase_templates counts m first start.next t) ≡ put_all now.templates.items (phrase_templates counts m cells now.next left)
   pub starts_are : put_all start.starts.items (phrase_starts counts m start.next t) ≡ put_all now.starts.items (phrase_starts counts m now.next left)
+
+-- The items so far are closed, and what the quotations of those that are left and behind them ask for is left.
+pub record ItemsClosed (counts : List ℕ) (m : Option ℕ) (first : List Cell) (start : Closing) (whole : List PlacedItem) (items : List PlacedItem) (cells : List Cell) (now : Closing) (rest : List PlacedItem) (is : List Item) : Type 0 where
+  pub items_are : closed_items counts m first start.next whole ≡ items ++ closed_items counts m cells now.next rest
+  pub passing : Passing counts m first start (items_phrase whole) cells now (items_phrase rest)
+  pub left : AreAskedBy (quotations_in (items_phrase rest) ++ is) now.asked
 
 -- likewise over all words, of which those from word w on are left
 pub record WordsPassing (counts : List ℕ) (start : Closing) (ds : List WordDef) (w : ℕ) (now : Closing) (left : List WordDef) : Type 0 where
@@ -222,6 +301,7 @@ pub record NumberTaken (before : Closing) (number : ℕ) (behind : Closing) : Ty
   pub next_is : behind.next ≡ suc before.next
   pub templates_stay : behind.templates.items ≡ before.templates.items
   pub starts_stay : behind.starts.items ≡ before.starts.items
+  pub asked_stay : behind.asked ≡ before.asked
 
 abbrev pub stage_of : List (List Lit) → Closing → Stage
 stage_of arrays c = record { arrays = arrays; templates = c.templates.items; starts = c.starts.items }

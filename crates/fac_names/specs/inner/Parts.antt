@@ -1,5 +1,5 @@
 -- The parts of rows.
-use Rattle.std.specs.Prelude.{◌≡◌, List, [], ◌∷◌, Option}
+use Rattle.std.specs.Prelude.{◌≡◌, List, [], ◌∷◌, Option, None, Some}
 use Rattle.fac_lang.specs.declared.phrase.Place.{Place}
 use Rattle.fac_lang.specs.declared.token.Token.{Token}
 use Rattle.fac_lang.specs.declared.tree.Element.{Element}
@@ -9,7 +9,8 @@ use Rattle.fac_lang.specs.declared.tree.Parent.{Parent}
 use Rattle.fac_lang.specs.declared.tree.Part.{Part}
 use Rattle.fac_lang.specs.declared.tree.Part.TheVariants as part
 use Rattle.fac_lang.specs.declared.tree.WrittenEffect.{WrittenEffect}
-use Rattle.fac_parse.specs.Trees.{AreItems, IsLiteral}
+use Rattle.fac_parse.specs.Trees.{AreItems, IsLiteral, inputs_of}
+use Rattle.fac_effect.specs.WrittenEffects.{IsEffect}
 
 -- these names are the one part
 pub record IsNamesPart (parts : List Part) (names : List Token) : Type 0 where
@@ -32,7 +33,14 @@ pub record IsConstant (parts : List Part) (name : Token) (elements : List Elemen
 pub record IsDefinition (parts : List Part) (name : Token) (written : WrittenEffect) (elements : List Element) (marks : List Mark) : Type 0 where
   pub ends : Place
   pub are : parts ≡ part.Name name ∷ part.Effect written ∷ part.Items elements ends ∷ part.Marks marks ∷ []
-  pub items : AreItems elements
+  pub items : AreItems None elements
+
+-- and of one whose inputs are locals
+pub record IsLocals (parts : List Part) (name : Token) (written : WrittenEffect) (elements : List Element) (marks : List Mark) : Type 0 where
+  pub ends : Place
+  pub are : parts ≡ part.Name name ∷ part.Effect written ∷ part.Items elements ends ∷ part.Marks marks ∷ []
+  pub effect : IsEffect written.tokens written.effect
+  pub items : AreItems (Some (inputs_of (part.Effect written))) elements
 
 -- the name, the parent and the slots of a tuple class
 pub record IsTuple (parts : List Part) (name : Token) (parent : Option Parent) (slots : List Token) : Type 0 where
@@ -49,4 +57,4 @@ pub record IsMethod (parts : List Part) (class : Token) (generic : Token) (eleme
   pub ends : Place
   pub marks : List Mark
   pub are : parts ≡ part.Name class ∷ part.Name generic ∷ part.Items elements ends ∷ part.Marks marks ∷ []
-  pub items : AreItems elements
+  pub items : AreItems None elements

@@ -6,10 +6,9 @@ use Rattle.fac_lang.specs.Phrases.{Phrase}
 use Rattle.fac_lang.specs.declared.phrase.Place.{Place}
 use Rattle.fac_lang.specs.declared.program.Name.{Name as FullName}
 use Rattle.fac_lang.specs.declared.program.Sort.TheVariants.{Class as class}
-use Rattle.fac_lang.specs.declared.tree.Element.{Element}
 use Rattle.fac_vocab.specs.declared.entry.Entry.{Entry}
 use Rattle.fac_vocab.specs.Scopes.{Scope, holders, now_defined}
-use Rattle.fac_items.specs.Written.{Tok}
+use Rattle.fac_items.specs.Written.{Tok, Nodes}
 use Rattle.fac_names.specs.declared.so_far.SoFar.{SoFar}
 use Rattle.fac_items.specs.Items.{items_faults}
 use Rattle.fac_items.specs.Made.{made, nodes_read}
@@ -35,10 +34,10 @@ pub record Settles (s : Scope) (name : FullName) (number : ℕ) (s_then : Scope)
   pub is_word : entry.word ≡ number
   pub scope_is : s_then ≡ record s { table = now_defined entry.vocab entry.name s.table }
 
--- the items of elements are read, and come to this phrase
-pub record Reads (s : SoFar) (es : List Element) (phrase : Phrase) (s_then : SoFar) : Type 0 where
-  pub phrase_is : phrase ≡ (made s.scope es s.arrays).phrase
-  pub reading_is : reading_of s_then ≡ refused (items_faults s.scope [] (nodes_read s.scope es)) (record (reading_of s) { arrays = (made s.scope es s.arrays).arrays })
+-- items are read, and come to this phrase
+pub record Reads (s : SoFar) (ns : Nodes) (phrase : Phrase) (s_then : SoFar) : Type 0 where
+  pub phrase_is : phrase ≡ (made s.scope ns s.arrays).phrase
+  pub reading_is : reading_of s_then ≡ refused (items_faults s.scope [] (nodes_read s.scope ns)) (record (reading_of s) { arrays = (made s.scope ns s.arrays).arrays })
 
 -- the word of this number is that of a class
 abbrev pub IsClassWord : SoFar → Tok → ℕ → ℕ → SoFar → Type 0

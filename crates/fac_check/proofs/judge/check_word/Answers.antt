@@ -1,6 +1,7 @@
 use Rattle.std.proofs.Common.{◌≡◌, sym, ap, subst}
 use Rattle.fac_locals.specs.Closed.{ClosesWord}
 use Rattle.fac_locals.proofs.Lookups.{word_open}
+use Rattle.fac_locals.proofs.OpeningLaws.{programs_open}
 use Rattle.fac_check.specs.Judged.{breach_seen, numbered}
 use Rattle.fac_check.specs.Verdicts.{word_verdict}
 use Rattle.fac_check.proofs.JudgeLemmas.{flag_is, flag_exists}
@@ -31,7 +32,7 @@ returns-in-Some-2 c = λ P closes built d at.
     let w = c.args.number in
     let there = word_open P C.program C.templates closes w c.in-Some.word.now (sym c.in-Some.ensures) in
     let same : there.def ≡ d = (let e = there.at in cc) in
-    let breach = c.in_ok-place.ensures P closes built d at (subst (λ x. ClosesWord P w x c.in-Some.word.now) same there.closes) (flag_is P C.program C.templates closes c.args.undeclared.now c.requires.undeclared w d c.flag.result at c.flag.ensures) in
+    let breach = c.in_ok-place.ensures P closes built d at (subst (λ x. ClosesWord P w x c.in-Some.word.now) same there.closes) ((programs_open P C.program C.templates closes).words w d c.in-Some.word.now at (sym c.in-Some.ensures)) (flag_is P C.program C.templates closes c.args.undeclared.now c.requires.undeclared w d c.flag.result at c.flag.ensures) in
     ap (numbered w) (subst (λ b. breach_seen b ≡ word_verdict P C.start w d) c.in-Some-2.is breach)
 
 pub returns-in-None : goal.returns-in-None
@@ -40,5 +41,5 @@ returns-in-None c = λ P closes built d at.
     let w = c.args.number in
     let there = word_open P C.program C.templates closes w c.in-Some.word.now (sym c.in-Some.ensures) in
     let same : there.def ≡ d = (let e = there.at in cc) in
-    let breach = c.in_ok-place.ensures P closes built d at (subst (λ x. ClosesWord P w x c.in-Some.word.now) same there.closes) (flag_is P C.program C.templates closes c.args.undeclared.now c.requires.undeclared w d c.flag.result at c.flag.ensures) in
+    let breach = c.in_ok-place.ensures P closes built d at (subst (λ x. ClosesWord P w x c.in-Some.word.now) same there.closes) ((programs_open P C.program C.templates closes).words w d c.in-Some.word.now at (sym c.in-Some.ensures)) (flag_is P C.program C.templates closes c.args.undeclared.now c.requires.undeclared w d c.flag.result at c.flag.ensures) in
     ap (numbered w) (subst (λ b. breach_seen b ≡ word_verdict P C.start w d) c.in-None.is breach)

@@ -52,7 +52,7 @@ add_phrase-loop-item-init t c =
     let seen : c.args.phrase.now ≡ items_phrase items = cc in
     record {
       taken = subst (λ x. takes_phrase c.args.closed.now.program.top (length c.args.closed.now.templates) x ≡ true) seen c.requires.phrase;
-      names = λ P h at u closes numbers. names_begin P c.args.from at u (items_phrase items) c.args.named.now (subst (λ x. ClosesPhrase P at u x) seen closes) numbers;
+      names = λ P h cells at u closes numbers. names_begin P c.args.from cells at u (items_phrase items) c.args.named.now (subst (λ x. ClosesPhrase P cells at u x) seen closes) numbers;
     }
 
 pub add_phrase-add_item-requires : goal.add_phrase-add_item-requires
@@ -71,9 +71,9 @@ add_phrase-loop-item-preserved t c =
     let next : drop k items ≡ c.item-item.result ∷ drop (k + 1) items = drop_more items k c.item-item.result c.loop-item-test.true ∙ ap (λ (i : PlacedItem). i ∷ drop (k + 1) items) (sym c.item-item.is) in
     record {
       taken = others_taken C.program.top (length C.templates) c.item-item.result (drop (k + 1) items) (subst (λ (q : List PlacedItem). takes_phrase C.program.top (length C.templates) (items_phrase q) ≡ true) next c.loop-item.invariant.taken);
-      names = λ P h at u closes numbers.
-          names_step P _ _ h _ (items_phrase (drop k items)) (what_item c.item-item.result.what) c.item-item.result.place _ _ _ _ (c.loop-item.invariant.names P h at u closes numbers) (ap items_phrase (drop_more items k c.item-item.result c.loop-item-test.true) ∙ ap (λ (i : PlacedItem). then (what_item i.what) i.place (items_phrase (drop (k + 1) items))) (sym c.item-item.is)) c.in-Ok.ensures;
+      names = λ P h cells at u closes numbers.
+          names_step P _ _ h _ (items_phrase (drop k items)) (what_item c.item-item.result.what) c.item-item.result.place _ _ _ _ (c.loop-item.invariant.names P h cells at u closes numbers) (ap items_phrase (drop_more items k c.item-item.result c.loop-item-test.true) ∙ ap (λ (i : PlacedItem). then (what_item i.what) i.place (items_phrase (drop (k + 1) items))) (sym c.item-item.is)) c.in-Ok.ensures;
     }
 
 pub add_phrase-returns : goal.add_phrase-returns
-add_phrase-returns t c = λ P h at u closes numbers. names_end P _ (items_phrase (drop c.loop-item.item-index c.deref-item-items.result.now)) _ _ (c.loop-item.invariant.names P h at u closes numbers) (ap items_phrase (drop_all c.loop-item.item-index c.deref-item-items.result.now c.loop-item-test.false))
+add_phrase-returns t c = λ P h cells at u closes numbers. names_end P _ (items_phrase (drop c.loop-item.item-index c.deref-item-items.result.now)) _ _ (c.loop-item.invariant.names P h cells at u closes numbers) (ap items_phrase (drop_all c.loop-item.item-index c.deref-item-items.result.now c.loop-item-test.false))

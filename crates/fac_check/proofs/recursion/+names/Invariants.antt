@@ -1,7 +1,8 @@
-use Rattle.std.proofs.Common.{◌≡◌, true, ◌+◌, ◌-◌, ◌*◌, ◌++◌, length, drop}
+use Rattle.std.proofs.Common.{◌≡◌, true, ◌+◌, ◌-◌, ◌*◌, ◌++◌, List, length, drop}
 use Rattle.fac_lang.specs.Phrases.{Literal, Phrase}
 use Rattle.fac_lang.specs.PhraseView.{items_phrase}
 use Rattle.fac_lang.specs.declared.program.Program.{Program}
+use Rattle.fac_captures.specs.declared.cell.Cell.{Cell}
 use Rattle.fac_locals.specs.Closed.{Closes, ClosesPhrase}
 use Rattle.fac_check.specs.Verdicts.{inline_words}
 use Rattle.fac_check.specs.inner.Taken.{takes_phrase}
@@ -21,5 +22,5 @@ abbrev pub invariant-add_phrase-loop-item : goal.invariant-add_phrase-loop-item
 invariant-add_phrase-loop-item l =
     record {
       taken : takes_phrase l.closed.program.top (length l.closed.templates) (items_phrase (drop l.item-index l.item-items)) ≡ true;
-      names : (P : Program) → Closes P l.closed.program l.closed.templates → (at : Literal) (t : Phrase) → ClosesPhrase P at t l.phrase → NumbersFrom P at l.from → NamesLeft P l.from (items_phrase (drop l.item-index l.item-items)) (l.initial.named ++ inline_words P t) l.named;
+      names : (P : Program) → Closes P l.closed.program l.closed.templates → (cells : List Cell) (at : Literal) (t : Phrase) → ClosesPhrase P cells at t l.phrase → NumbersFrom P at l.from → NamesLeft P l.from (items_phrase (drop l.item-index l.item-items)) (l.initial.named ++ inline_words P t) l.named;
     }

@@ -10,6 +10,7 @@ loop-word-preserved c =
     let at = c.loop-word in
     let items = c.as_slice-word-items in
     let C = c.args.program.now in
+    let ts = c.args.templates.now in
     let words = C.words in
     let inv = at.invariant in
     let lt = c.loop-word-test.true in
@@ -17,9 +18,9 @@ loop-word-preserved c =
     let added = c.in_ok-place_word.ensures in
     record {
       count = omega (arith, inv.count);
-      code_is = word_code_step C words at.number at.word-index c.word-item.result items.result.now items.ensures lt c.word-item.is texts _ added.1 _ _ _ inv.code_is added.0;
-      texts_are = word_texts_step C words at.number at.word-index c.word-item.result items.result.now items.ensures lt c.word-item.is texts _ added.1 _ inv.texts_are;
-      words_are = word_rows_step C words at.number at.word-index c.word-item.result items.result.now items.ensures lt c.word-item.is texts _ added.1 _ _ _ _ _ inv.words_are added.0 added.4;
+      code_is = word_code_step C ts words at.number at.word-index c.word-item.result items.result.now items.ensures lt c.word-item.is texts _ added.1 _ _ _ inv.code_is added.0;
+      texts_are = word_texts_step C ts words at.number at.word-index c.word-item.result items.result.now items.ensures lt c.word-item.is texts _ added.1 _ inv.texts_are;
+      words_are = word_rows_step C ts words at.number at.word-index c.word-item.result items.result.now items.ensures lt c.word-item.is texts _ added.1 _ _ _ _ _ inv.words_are added.0 added.4;
       templates_are = added.2 ∙ inv.templates_are;
       arrays_are = added.3 ∙ inv.arrays_are;
     }

@@ -6,7 +6,7 @@ use Rattle.fac_emit.proofs.emitter.add_phrase.Given as goal
 
 abbrev pub invariant-loop-item : goal.invariant-loop-item
 invariant-loop-item l = record {
-  code_is : l.initial.piece.code ++ phrase_code l.program l.last l.initial.piece.texts l.phrase ≡ l.piece.code ++ phrase_code l.program l.last l.piece.texts (items_phrase (drop l.item-index l.item-items));
+  code_is : l.initial.piece.code ++ phrase_code l.program l.templates l.last l.initial.piece.texts l.phrase ≡ l.piece.code ++ phrase_code l.program l.templates l.last l.piece.texts (items_phrase (drop l.item-index l.item-items));
   texts_are : phrase_texts l.initial.piece.texts l.phrase ≡ phrase_texts l.piece.texts (items_phrase (drop l.item-index l.item-items));
   coded : phrase_is_coded l.program (items_phrase (drop l.item-index l.item-items)) ≡ true;
 }

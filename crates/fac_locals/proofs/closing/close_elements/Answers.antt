@@ -1,7 +1,7 @@
 use Rattle.std.proofs.Common.{length, ap, arith}
 use Rattle.std.specs.Vec.Iter.{into_iter_items}
-use Rattle.fac_locals.specs.inner.Numbering.{plain_item, plain_phrase}
-use Rattle.fac_locals.proofs.TemplateNumbers.{step_elements, pass_on}
+use Rattle.fac_locals.specs.inner.Numbering.{plain_phrase}
+use Rattle.fac_locals.proofs.TemplateNumbers.{step_elements, pass_element}
 use Rattle.fac_locals.proofs.closing.close_elements.Goals as goal
 
 pub loop-element-preserved : goal.loop-element-preserved
@@ -17,6 +17,6 @@ loop-element-preserved c =
     let behind = c.close_element.new.closing in
     record {
       elements_are = step_elements counts m _ at.closed _ rest left at.closing behind place c.in-Some.element _ at.invariant.elements_are next.0 closes.0 closes.1 c.in_ok-push.ensures.ok;
-      passing = pass_on counts m c.args.closing.now (plain_phrase place (into_iter_items c.into_iter-element-iterator.result)) at.closing (plain_phrase place rest) behind (plain_item c.in-Some.element) place (plain_phrase place left) at.invariant.passing (ap (plain_phrase place) next.0) closes.1;
+      passing = pass_element counts m c.args.closing.now (plain_phrase place (into_iter_items c.into_iter-element-iterator.result)) at.closing (plain_phrase place rest) behind c.in-Some.element place (plain_phrase place left) at.invariant.passing (ap (plain_phrase place) next.0) closes.1;
       count = omega (arith, ap length next.0, at.invariant.count, next.1);
     }

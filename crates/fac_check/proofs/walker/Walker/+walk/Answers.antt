@@ -1,10 +1,13 @@
 use Rattle.std.proofs.Common.{◌≡◌, ◌≤◌, ◌+◌, ◌-◌, suc, true, [], ◌∷◌, List, length, refl, sym, ap, subst, ◌∙◌, arith, drop, drop-cons, add-one}
 use Rattle.std.specs.Prelude.{slice_get}
+use Rattle.std.specs.Option.{option_copied}
+use Rattle.fac_check.proofs.NamedWords.{some_below}
 use Rattle.std.proofs.lemmas.Grind.{common_steps}
 use Rattle.fac_lang.specs.declared.phrase.Item.{Item as PlacedItem}
-use Rattle.fac_lang.specs.PhraseView.{items_phrase}
+use Rattle.fac_lang.specs.declared.phrase.What.{What}
+use Rattle.fac_lang.specs.PhraseView.{what_item, items_phrase}
 use Rattle.fac_locals.specs.Literals.{first_of_word, first_of_literal}
-use Rattle.fac_locals.specs.Closed.{ClosesPhrase}
+use Rattle.fac_locals.specs.Frames.{Opens}
 use Rattle.fac_check.specs.declared.subject.Subject.{Subject}
 use Rattle.fac_abs.proofs.SeenLemmas.{grows_refl, grows_trans}
 use Rattle.fac_lang.specs.Signatures.{signature}
@@ -15,16 +18,17 @@ use Rattle.fac_lang.proofs.EffectLemmas.{inputs_counted}
 use Rattle.fac_rows.specs.SeenBindings.{binding_seen, IsStart, IsTie}
 use Rattle.fac_rows.proofs.BindingLemmas.{binding_later}
 use Rattle.fac_check.proofs.UseWalks.{inputs_next, quotation_refused, quotation_tied, quotation_untied, used_effect}
-use Rattle.fac_abs.specs.SeenMarks.{mark_of, stack_of, base_seen, reached_seen}
-use Rattle.fac_check.specs.Flow.{and_then, walk_mark, walk_inputs, walk_use, inside, join, counted, unless_broken}
+use Rattle.fac_abs.specs.SeenMarks.{mark_of, frame_of, stack_of, base_seen, reached_seen}
+use Rattle.fac_abs.specs.declared.rule.Rule.TheVariants.{NotKnown}
+use Rattle.fac_check.specs.Flow.{refused, and_then, walk_mark, walk_inputs, walk_use, inside, join, counted, unless_broken}
 use Rattle.fac_check.specs.inner.ItemWalk.{counted_item}
 use Rattle.fac_check.specs.inner.Taken.{takes_phrase}
-use Rattle.fac_check.specs.inner.Walking.{go_at, body_phrase, doing_seen, walked_seen, IsDoingOf, IsWithin, IsBelow, AreBound, AreWithin, IsWalked, IsWalkOfPhrase}
+use Rattle.fac_check.specs.inner.Walking.{go_at, body_phrase, doing_seen, walked_seen, IsDoingOf, IsWithin, IsBelow, AreBound, AreWithin, IsWalked, IsWalkOfOne, IsWalkOfPhrase, items_of}
 use Rattle.fac_check.specs.declared.walker.Step.{Step}
 use Rattle.fac_check.specs.declared.walker.Walked.TheVariants.{Found}
-use Rattle.fac_check.proofs.MarkWalks.{carried, curried_counts, composed_ends, phrase_entered, literal_closed, word_phrase_closed, forked, reached_stays}
+use Rattle.fac_check.proofs.MarkWalks.{carried, curried_counts, composed_ends, phrase_entered, literal_opens, word_phrase_opens, misfit_walks, forked, reached_stays}
 use Rattle.fac_check.proofs.TakenPrograms.{word_taken, inputs_below, template_taken, phrase_taken, first_taken, others_taken}
-use Rattle.fac_check.proofs.WalkLemmas.{Onward, onward_start, onward_end, behind_from}
+use Rattle.fac_check.proofs.WalkLemmas.{Onward, onward_start, onward_end, behind_from, no_bind, one_walks}
 use Rattle.fac_check.proofs.WordItems.{ok_maps}
 use Rattle.fac_check.proofs.LaterDoings.{doing_later, doing_stays}
 use Rattle.fac_check.proofs.walker.Walker.+walk.Goals as goal
@@ -34,30 +38,47 @@ walk_literal-walk_phrase-requires t c =
     let C = c.args.self.now.subject.closed.now in
     let deeper : c.entered.result.nested ≡ c.args.step.nested - 1 = ap (λ (s : Step). s.nested) c.entered.ensures in
     let same : c.entered.result.stack ≡ c.args.step.stack = ap (λ (s : Step). s.stack) c.entered.ensures in
-    (omega (arith, c.decreases, c.if-step-eq0.false, deeper), (rw same c.requires.stack, template_taken C.program C.templates c.args.self.now.taken c.args.template c.in-Some.found.now (sym c.in-Some.ensures)))
+    (omega (arith, c.decreases, c.if-step-eq0.false, deeper), (rw same c.requires.stack, (c.requires.frame, template_taken C.program C.templates c.args.self.now.taken c.args.template c.in-Some.found.now (sym c.in-Some.ensures))))
 
 pub walk_word-walk_phrase-requires : goal.walk_word-walk_phrase-requires
 walk_word-walk_phrase-requires t c =
     let C = c.args.self.now.subject.closed.now in
     let deeper : c.entered.result.nested ≡ c.args.step.nested - 1 = ap (λ (s : Step). s.nested) c.entered.ensures in
     let same : c.entered.result.stack ≡ c.args.step.stack = ap (λ (s : Step). s.stack) c.entered.ensures in
-    (omega (arith, c.decreases, c.if-step-eq0.false, deeper), (rw same c.requires.stack, phrase_taken C.program C.templates c.args.self.now.taken c.args.word c.in-Some.found.now _ (sym c.in-Some.ensures) c.in-Body.is))
+    (omega (arith, c.decreases, c.if-step-eq0.false, deeper), (rw same c.requires.stack, (c.no_cells-frame.ensures.valid, phrase_taken C.program C.templates c.args.self.now.taken c.args.word c.in-Some.found.now _ (sym c.in-Some.ensures) c.in-Body.is)))
 
 pub walk_literal-returns-clause-walks : goal.walk_literal-returns-clause-walks
 walk_literal-returns-clause-walks t c =
     ok_maps c.walk_phrase.result
     (λ r walks O f l.
-    let literal = O.naming.literal c.args.template in
-    subst (λ (s : Step). IsWalkOfPhrase c.args.self.now.subject c.args.self.now.marks c.walk_phrase.new.self.marks c.in-Some.found.now.body s r) c.entered.ensures walks O (first_of_literal literal.0) literal.1 f (literal_closed O c.args.template c.in-Some.found.now (sym c.in-Some.ensures)) l
-    ∙ sym (phrase_entered O.effect (go_at O f) (first_of_literal literal.0) literal.1 c.args.step.place c.args.step.nested (base_seen O.naming c.args.step.base) (stack_of O.naming c.args.self.now.marks c.args.step.stack) c.args.step.left c.if-step-eq0.false))
+    let M = c.args.self.now.marks in
+    let literal = first_of_literal (O.naming.literal c.args.template) in
+    let phrase = O.naming.phrase c.args.template (frame_of O.naming M c.args.frame) in
+    let many = sym (c.cells.ensures O.naming) ∙ c.if-cells-cells_of.false ∙ c.cells_of.ensures in
+    subst (λ (s : Step). IsWalkOfPhrase c.args.self.now.subject M c.walk_phrase.new.self.marks c.in-Some.found.now.body (record { place = s.place; nested = s.nested; base = s.base; stack = s.stack; frame = c.args.frame; left = s.left }) r) c.entered.ensures walks O literal phrase f (literal_opens O c.args.template c.in-Some.found.now (frame_of O.naming M c.args.frame) (sym c.in-Some.ensures) many) l
+    ∙ sym (phrase_entered O.effect (go_at O f) literal phrase c.args.step.place c.args.step.nested (base_seen O.naming c.args.step.base) (stack_of O.naming M c.args.step.stack) c.args.step.left c.if-step-eq0.false))
     c.walk_phrase.ensures.walks
+
+pub walk_literal-unreachable-requires : goal.walk_literal-unreachable-requires
+walk_literal-unreachable-requires t c = some_below c.args.self.now.subject.closed.now.templates c.args.template (omega (arith, c.requires.template, c.args.self.now.templates)) (sym c.get.ensures ∙ ap option_copied c.in-None.is)
+
+pub walk_literal-returns-then-cells-cells_of-clause-walks : goal.walk_literal-returns-then-cells-cells_of-clause-walks
+walk_literal-returns-then-cells-cells_of-clause-walks t c = λ O f l.
+    let N = O.naming in
+    let M = c.args.self.now.marks in
+    let s = c.args.step in
+    ap (λ p. refused NotKnown p) c.nowhere.ensures
+    ∙ misfit_walks O c.args.template c.in-Some.found.now (frame_of N M c.args.frame) (sym c.in-Some.ensures) (λ many. c.if-cells-cells_of.true (c.cells.ensures N ∙ many ∙ sym c.cells_of.ensures)) f s.left l s.place s.nested c.if-step-eq0.false (base_seen N s.base) (stack_of N M s.stack)
 
 pub walk_word-returns-clause-walks : goal.walk_word-returns-clause-walks
 walk_word-returns-clause-walks t c =
     ok_maps c.walk_phrase.result
     (λ r walks O f l.
-    subst (λ (s : Step). IsWalkOfPhrase c.args.self.now.subject c.args.self.now.marks c.walk_phrase.new.self.marks c.in-Body.phrase s r) c.entered.ensures walks O (first_of_word c.args.word) (body_phrase O.program c.args.word) f (word_phrase_closed O c.args.word c.in-Some.found.now _ (sym c.in-Some.ensures) c.in-Body.is) l
-    ∙ sym (phrase_entered O.effect (go_at O f) (first_of_word c.args.word) (body_phrase O.program c.args.word) c.args.step.place c.args.step.nested (base_seen O.naming c.args.step.base) (stack_of O.naming c.args.self.now.marks c.args.step.stack) c.args.step.left c.if-step-eq0.false))
+    let M = c.args.self.now.marks in
+    let phrase = body_phrase O.program c.args.word in
+    let opens = subst (λ fs. Opens O.program c.args.self.now.subject.closed.now.templates (items_of fs) (first_of_word c.args.word) c.in-Body.phrase phrase) (sym (c.no_cells-frame.ensures.is O.naming)) (word_phrase_opens O c.args.word c.in-Some.found.now _ (sym c.in-Some.ensures) c.in-Body.is) in
+    subst (λ (s : Step). IsWalkOfPhrase c.args.self.now.subject M c.walk_phrase.new.self.marks c.in-Body.phrase (record { place = s.place; nested = s.nested; base = s.base; stack = s.stack; frame = c.no_cells-frame.result; left = s.left }) r) c.entered.ensures walks O (first_of_word c.args.word) phrase f opens l
+    ∙ sym (phrase_entered O.effect (go_at O f) (first_of_word c.args.word) phrase c.args.step.place c.args.step.nested (base_seen O.naming c.args.step.base) (stack_of O.naming M c.args.step.stack) c.args.step.left c.if-step-eq0.false))
     c.walk_phrase.ensures.walks
 
 pub walk_mark-returns-in-Cur-clause-walks : goal.walk_mark-returns-in-Cur-clause-walks
@@ -112,6 +133,17 @@ walk_composed-returns-in-Found-On-default-clause-walks t c =
     ∙ sym (composed_ends O.effect (go_at O f) c.args.step.place c.args.step.nested (base_seen O.naming c.args.step.base) ms c.args.step.left c.in-Some.rest c.in-Some.ensures N c.walk_part.new.self.marks (mark_of N M c.args.first) (mark_of N M c.args.second) _ _ is (c.in_ok-rule-in-Some.ensures.walks O f (omega (arith, c.in-Some.ensures, l)))))
     c.walk_part-in-Found-On-default.ensures.walks
 
+pub walk_one-returns-in-Bind-clause-walks : goal.walk_one-returns-in-Bind-clause-walks
+walk_one-returns-in-Bind-clause-walks t c =
+    subst (λ (w : What). IsWalkOfOne c.args.self.now.subject c.args.self.now.marks c.args.self.now.marks (what_item w) c.args.step c.named.result) (sym c.in-Bind.is)
+    (λ O at x f l. c.named.ensures.walks O.naming O.effect (go_at O f) O.program O.word at x)
+
+pub walk_one-returns-in_ok-doing-in_default-clause-walks : goal.walk_one-returns-in_ok-doing-in_default-clause-walks
+walk_one-returns-in_ok-doing-in_default-clause-walks t c =
+    ok_maps c.walk_item.result
+    (λ r walks. one_walks c.args.self.now.subject c.args.self.now.marks c.item_doing.new.marks c.walk_item.new.self.marks (what_item c.args.what.now) c.args.step c.in_ok-doing-in_default.doing r (no_bind c.args.what.now c.in_default.not-Bind) c.in_ok-doing-in_default.ensures.does walks)
+    c.walk_item.ensures.walks
+
 pub walk_phrase-loop-item-init : goal.walk_phrase-loop-item-init
 walk_phrase-loop-item-init t c =
     let items = c.deref-item-items.result.now in
@@ -120,58 +152,48 @@ walk_phrase-loop-item-init t c =
       same = refl;
       grows = grows_refl c.args.self.now.marks;
       stack = c.requires.stack;
+      frame = c.requires.frame;
       within = omega arith;
       taken = subst (λ x. takes_phrase c.args.self.now.subject.closed.now.program.top (length c.args.self.now.subject.closed.now.templates) x ≡ true) seen c.requires.taken;
-      onward = λ O at u f closes l. onward_start O at u f c.args.step.nested c.args.step.left c.args.self.now.marks c.args.step.base c.args.step.stack items (subst (λ x. ClosesPhrase O.program at u x) seen closes) l;
+      onward = λ O at u f opens l. onward_start O at u f c.args.step.nested c.args.step.left c.args.self.now.marks c.args.step.base c.args.step.stack c.args.step.frame items (subst (λ x. Opens O.program c.args.self.now.subject.closed.now.templates (items_of (frame_of O.naming c.args.self.now.marks c.args.step.frame)) at x u) seen opens) l;
     }
 
-pub walk_phrase-item_doing-requires-clause-item : goal.walk_phrase-item_doing-requires-clause-item
-walk_phrase-item_doing-requires-clause-item t c =
-    let items = c.deref-item-items.result.now in
-    let i = c.loop-item.item-index in
-    let next : drop i items ≡ c.item-item.result ∷ drop (suc i) items = drop-cons items i c.item-item.result c.loop-item-test.true ∙ ap (λ (x : PlacedItem). x ∷ drop (suc i) items) (sym c.item-item.is) in
-    first_taken c.args.self.now.subject.closed.now.program.top (length c.args.self.now.subject.closed.now.templates) c.item-item.result (drop (suc i) items) (subst (λ (q : List PlacedItem). takes_phrase c.args.self.now.subject.closed.now.program.top (length c.args.self.now.subject.closed.now.templates) (items_phrase q) ≡ true) next c.loop-item.invariant.taken)
-
-pub walk_phrase-walk_item-requires : goal.walk_phrase-walk_item-requires
-walk_phrase-walk_item-requires t c = (omega (arith, c.decreases), subst (λ (b : Subject). IsDoingOf (slice_get b.closed.now.program.words) c.item_doing.new.marks c.in_ok-doing.doing) (sym c.loop-item.invariant.same) c.in_ok-doing.ensures.there)
-
 pub walk_phrase-returns-clause-walks : goal.walk_phrase-returns-clause-walks
-walk_phrase-returns-clause-walks t c = λ O at u f closes l.
+walk_phrase-returns-clause-walks t c = λ O at u f opens l.
     let items = c.deref-item-items.result.now in
     let none : drop c.loop-item.item-index items ≡ [] = grind (arith, common_steps) in
-    onward_end O at u f c.args.step.nested (base_seen O.naming c.args.step.base) (stack_of O.naming c.args.self.now.marks c.args.step.stack) c.args.step.left c.loop-item.self.marks c.loop-item.base c.loop-item.stack c.loop-item.left
-    (subst (λ is. Onward O at u f c.args.step.nested (base_seen O.naming c.args.step.base) (stack_of O.naming c.args.self.now.marks c.args.step.stack) c.args.step.left c.loop-item.self.marks c.loop-item.base c.loop-item.stack is c.loop-item.left) none (c.loop-item.invariant.onward O at u f closes l))
+    onward_end O at u f c.args.step.nested (base_seen O.naming c.args.step.base) (stack_of O.naming c.args.self.now.marks c.args.step.stack) c.args.step.left c.loop-item.self.marks c.loop-item.base c.loop-item.stack c.loop-item.frame c.loop-item.left
+    (subst (λ is. Onward O at u f c.args.step.nested (base_seen O.naming c.args.step.base) (stack_of O.naming c.args.self.now.marks c.args.step.stack) c.args.step.left c.loop-item.self.marks c.loop-item.base c.loop-item.stack c.loop-item.frame is c.loop-item.left) none (c.loop-item.invariant.onward O at u f opens l))
 
 pub walk_phrase-returns-in-Refused-clause-walks : goal.walk_phrase-returns-in-Refused-clause-walks
-walk_phrase-returns-in-Refused-clause-walks t c = λ O at u f closes l.
+walk_phrase-returns-in-Refused-clause-walks t c = λ O at u f opens l.
     let items = c.deref-item-items.result.now in
     let i = c.loop-item.item-index in
     let next : drop i items ≡ c.item-item.result ∷ drop (suc i) items = drop-cons items i c.item-item.result c.loop-item-test.true ∙ ap (λ (x : PlacedItem). x ∷ drop (suc i) items) (sym c.item-item.is) in
-    sym (behind_from O at u f c.args.step.nested (base_seen O.naming c.args.step.base) (stack_of O.naming c.args.self.now.marks c.args.step.stack) c.args.step.left c.loop-item.self.marks c.item_doing.new.marks c.walk_item.new.self.marks c.loop-item.base c.loop-item.stack c.loop-item.left c.item-item.result _ (drop (suc i) items) c.in_ok-doing.doing c.in_ok-rule.field-0 _ next c.in-Refused.is (c.loop-item.invariant.onward O at u f closes l) (c.in_ok-doing.ensures.does O) (λ g. c.in_ok-rule.ensures.walks (carried c.loop-item.invariant.same O) g) c.in_ok-rule.ensures.below)
+    sym (behind_from c.args.self.now.subject O at u f c.args.step.nested (base_seen O.naming c.args.step.base) (stack_of O.naming c.args.self.now.marks c.args.step.stack) c.args.step.left c.loop-item.self.marks c.frame_behind.new.self.marks c.walk_one.new.self.marks c.loop-item.base c.loop-item.stack c.loop-item.frame c.in_ok-behind.behind c.loop-item.left c.item-item.result (drop i items) (drop (suc i) items) c.in_ok-rule.field-0 _ next c.in-Refused.is c.in_ok-behind.ensures.grows c.in_ok-rule.ensures.grows c.loop-item.invariant.stack c.loop-item.invariant.frame c.in_ok-behind.ensures.made (subst (λ (x : Subject). IsWalkOfOne x c.frame_behind.new.self.marks c.walk_one.new.self.marks (what_item c.item-item.result.what) (record { place = c.item-item.result.place; nested = c.args.step.nested; base = c.loop-item.base; stack = c.loop-item.stack; frame = c.loop-item.frame; left = c.loop-item.left }) c.in_ok-rule.field-0) (c.in_ok-behind.ensures.subject ∙ c.loop-item.invariant.same) c.in_ok-rule.ensures.walks) c.in_ok-rule.ensures.below (c.loop-item.invariant.onward O at u f opens l))
 
 pub walk_phrase-returns-in-Found-Dead-default-clause-walks : goal.walk_phrase-returns-in-Found-Dead-default-clause-walks
-walk_phrase-returns-in-Found-Dead-default-clause-walks t c = λ O at u f closes l.
+walk_phrase-returns-in-Found-Dead-default-clause-walks t c = λ O at u f opens l.
     let items = c.deref-item-items.result.now in
     let i = c.loop-item.item-index in
     let next : drop i items ≡ c.item-item.result ∷ drop (suc i) items = drop-cons items i c.item-item.result c.loop-item-test.true ∙ ap (λ (x : PlacedItem). x ∷ drop (suc i) items) (sym c.item-item.is) in
-    sym (behind_from O at u f c.args.step.nested (base_seen O.naming c.args.step.base) (stack_of O.naming c.args.self.now.marks c.args.step.stack) c.args.step.left c.loop-item.self.marks c.item_doing.new.marks c.walk_item.new.self.marks c.loop-item.base c.loop-item.stack c.loop-item.left c.item-item.result _ (drop (suc i) items) c.in_ok-doing.doing c.in_ok-rule.field-0 _ next (c.in-Found-Dead-default.is ∙ ap (λ A. Found A c.in-Found-Dead-default.rest) c.in-Found-Dead-default.field-0-is) (c.loop-item.invariant.onward O at u f closes l) (c.in_ok-doing.ensures.does O) (λ g. c.in_ok-rule.ensures.walks (carried c.loop-item.invariant.same O) g) c.in_ok-rule.ensures.below)
+    sym (behind_from c.args.self.now.subject O at u f c.args.step.nested (base_seen O.naming c.args.step.base) (stack_of O.naming c.args.self.now.marks c.args.step.stack) c.args.step.left c.loop-item.self.marks c.frame_behind.new.self.marks c.walk_one.new.self.marks c.loop-item.base c.loop-item.stack c.loop-item.frame c.in_ok-behind.behind c.loop-item.left c.item-item.result (drop i items) (drop (suc i) items) c.in_ok-rule.field-0 _ next (c.in-Found-Dead-default.is ∙ ap (λ A. Found A c.in-Found-Dead-default.rest) c.in-Found-Dead-default.field-0-is) c.in_ok-behind.ensures.grows c.in_ok-rule.ensures.grows c.loop-item.invariant.stack c.loop-item.invariant.frame c.in_ok-behind.ensures.made (subst (λ (x : Subject). IsWalkOfOne x c.frame_behind.new.self.marks c.walk_one.new.self.marks (what_item c.item-item.result.what) (record { place = c.item-item.result.place; nested = c.args.step.nested; base = c.loop-item.base; stack = c.loop-item.stack; frame = c.loop-item.frame; left = c.loop-item.left }) c.in_ok-rule.field-0) (c.in_ok-behind.ensures.subject ∙ c.loop-item.invariant.same) c.in_ok-rule.ensures.walks) c.in_ok-rule.ensures.below (c.loop-item.invariant.onward O at u f opens l))
 
 pub walk_phrase-loop-item-preserved : goal.walk_phrase-loop-item-preserved
 walk_phrase-loop-item-preserved t c =
     let items = c.deref-item-items.result.now in
     let i = c.loop-item.item-index in
     let is = c.in-Found-On-default.is ∙ ap (λ A. Found A c.in-Found-On-default.rest) c.in-Found-On-default.field-0-is in
+    let next : drop i items ≡ c.item-item.result ∷ drop (i + 1) items = rw add-one (drop-cons items i c.item-item.result c.loop-item-test.true ∙ ap (λ (x : PlacedItem). x ∷ drop (suc i) items) (sym c.item-item.is)) in
     record {
-      same = c.in_ok-rule.ensures.subject ∙ c.loop-item.invariant.same;
-      grows = grows_trans _ _ _ c.loop-item.invariant.grows (grows_trans _ _ _ c.in_ok-doing.ensures.grows c.in_ok-rule.ensures.grows);
-      stack = subst (IsWalked c.walk_item.new.self.marks) is c.in_ok-rule.ensures.there;
+      same = c.in_ok-rule.ensures.subject ∙ c.in_ok-behind.ensures.subject ∙ c.loop-item.invariant.same;
+      grows = grows_trans _ _ _ c.loop-item.invariant.grows (grows_trans _ _ _ c.in_ok-behind.ensures.grows c.in_ok-rule.ensures.grows);
+      stack = subst (IsWalked c.walk_one.new.self.marks) is c.in_ok-rule.ensures.there;
+      frame = c.in_ok-rule.ensures.grows.frames c.in_ok-behind.behind c.in_ok-behind.ensures.made.valid;
       within = omega (arith, c.loop-item.invariant.within, subst (IsBelow c.loop-item.left) is c.in_ok-rule.ensures.below);
-      taken =
-          let next : drop i items ≡ c.item-item.result ∷ drop (i + 1) items = rw add-one (drop-cons items i c.item-item.result c.loop-item-test.true ∙ ap (λ (x : PlacedItem). x ∷ drop (suc i) items) (sym c.item-item.is)) in
-          others_taken c.args.self.now.subject.closed.now.program.top (length c.args.self.now.subject.closed.now.templates) c.item-item.result (drop (i + 1) items) (subst (λ (q : List PlacedItem). takes_phrase c.args.self.now.subject.closed.now.program.top (length c.args.self.now.subject.closed.now.templates) (items_phrase q) ≡ true) next c.loop-item.invariant.taken);
-      onward = λ O at u f closes l.
-          let next : drop i items ≡ c.item-item.result ∷ drop (i + 1) items = rw add-one (drop-cons items i c.item-item.result c.loop-item-test.true ∙ ap (λ (x : PlacedItem). x ∷ drop (suc i) items) (sym c.item-item.is)) in
-          behind_from O at u f c.args.step.nested (base_seen O.naming c.args.step.base) (stack_of O.naming c.args.self.now.marks c.args.step.stack) c.args.step.left c.loop-item.self.marks c.item_doing.new.marks c.walk_item.new.self.marks c.loop-item.base c.loop-item.stack c.loop-item.left c.item-item.result _ (drop (i + 1) items) c.in_ok-doing.doing c.in_ok-rule.field-0 _ next is (c.loop-item.invariant.onward O at u f closes l) (c.in_ok-doing.ensures.does O) (λ g. c.in_ok-rule.ensures.walks (carried c.loop-item.invariant.same O) g) c.in_ok-rule.ensures.below;
+      taken = others_taken c.args.self.now.subject.closed.now.program.top (length c.args.self.now.subject.closed.now.templates) c.item-item.result (drop (i + 1) items) (subst (λ (q : List PlacedItem). takes_phrase c.args.self.now.subject.closed.now.program.top (length c.args.self.now.subject.closed.now.templates) (items_phrase q) ≡ true) next c.loop-item.invariant.taken);
+      onward = λ O at u f opens l.
+          behind_from c.args.self.now.subject O at u f c.args.step.nested (base_seen O.naming c.args.step.base) (stack_of O.naming c.args.self.now.marks c.args.step.stack) c.args.step.left c.loop-item.self.marks c.frame_behind.new.self.marks c.walk_one.new.self.marks c.loop-item.base c.loop-item.stack c.loop-item.frame c.in_ok-behind.behind c.loop-item.left c.item-item.result (drop i items) (drop (i + 1) items) c.in_ok-rule.field-0 _ next is c.in_ok-behind.ensures.grows c.in_ok-rule.ensures.grows c.loop-item.invariant.stack c.loop-item.invariant.frame c.in_ok-behind.ensures.made (subst (λ (x : Subject). IsWalkOfOne x c.frame_behind.new.self.marks c.walk_one.new.self.marks (what_item c.item-item.result.what) (record { place = c.item-item.result.place; nested = c.args.step.nested; base = c.loop-item.base; stack = c.loop-item.stack; frame = c.loop-item.frame; left = c.loop-item.left }) c.in_ok-rule.field-0) (c.in_ok-behind.ensures.subject ∙ c.loop-item.invariant.same) c.in_ok-rule.ensures.walks) c.in_ok-rule.ensures.below (c.loop-item.invariant.onward O at u f opens l);
     }
 
 pub walk_fork-returns-in-Refused-2-clause-walks : goal.walk_fork-returns-in-Refused-2-clause-walks
@@ -241,7 +263,7 @@ walk_inputs-returns-in-Broken-clause-walks t c = λ O f l.
     let K = c.walk_input.new.self.marks in
     let list = c.args.list.now in
     let i = c.loop-input.input-index in
-    let step : Step = record { place = c.args.step.place; nested = c.args.step.nested; base = c.args.step.base; stack = c.args.step.stack; left = c.loop-input.left } in
+    let step : Step = record { place = c.args.step.place; nested = c.args.step.nested; base = c.args.step.base; stack = c.args.step.stack; frame = c.args.step.frame; left = c.loop-input.left } in
     let next : drop i list ≡ c.input-item.result ∷ drop (suc i) list = drop-cons list i c.input-item.result c.loop-input-test.true ∙ ap (λ (x : Input). x ∷ drop (suc i) list) (sym c.input-item.is) in
     let number : c.loop-input.number + 1 ≡ suc i = omega (arith, c.loop-input.invariant.number) in
     inputs_next O (go_at O f) M K step (suc i) (c.loop-input.number + 1) c.input-item.result (drop i list) (drop (suc i) list) c.loop-input.marks c.in-Some.mark c.in-Some.rest c.loop-input.binding c.walk_input.new.binding _ _ next c.in-Some.ensures number c.in-Broken.is (λ more. c.in_ok-rule.ensures.walks (carried c.loop-input.invariant.same O) f more (omega (arith, c.loop-input.invariant.within, l)))
@@ -262,7 +284,7 @@ walk_inputs-loop-input-preserved t c =
           let K = c.walk_input.new.self.marks in
           let list = c.args.list.now in
           let i = c.loop-input.input-index in
-          let step : Step = record { place = c.args.step.place; nested = c.args.step.nested; base = c.args.step.base; stack = c.args.step.stack; left = c.loop-input.left } in
+          let step : Step = record { place = c.args.step.place; nested = c.args.step.nested; base = c.args.step.base; stack = c.args.step.stack; frame = c.args.step.frame; left = c.loop-input.left } in
           let next : drop i list ≡ c.input-item.result ∷ drop (i + 1) list = rw add-one (drop-cons list i c.input-item.result c.loop-input-test.true ∙ ap (λ (x : Input). x ∷ drop (suc i) list) (sym c.input-item.is)) in
           let one : suc i ≡ i + 1 = omega arith in
           c.loop-input.invariant.onward O f l

@@ -1,22 +1,25 @@
 use Rattle.std.proofs.Common.{◌≡◌, ◌<◌, ◌≤◌, ◌+◌, ◌*◌, ℕ, suc, true, length, drop}
 use Rattle.fac_lang.specs.PhraseView.{items_phrase}
 use Rattle.fac_lang.specs.Phrases.{Literal, Phrase}
-use Rattle.fac_locals.specs.Closed.{ClosesPhrase}
-use Rattle.fac_abs.specs.SeenMarks.{Grows, IsStack, stack_of, base_seen}
+use Rattle.fac_locals.specs.Frames.{Opens}
+use Rattle.fac_abs.specs.SeenMarks.{Grows, IsFrame, IsStack, frame_of, stack_of, base_seen}
 use Rattle.fac_check.specs.inner.Taken.{takes_phrase}
 use Rattle.fac_lang.specs.EffectView.{inputs_tree}
 use Rattle.fac_rows.specs.SeenBindings.{IsBinding, binding_seen}
 use Rattle.fac_check.specs.Flow.{walk_inputs}
-use Rattle.fac_check.specs.inner.Walking.{Opened, go_at, inputs_walk}
+use Rattle.fac_check.specs.inner.Walking.{Opened, go_at, items_of, inputs_walk}
 use Rattle.fac_check.proofs.WalkLemmas.{Onward}
 use Rattle.fac_check.proofs.walker.Walker.+walk.Given as goal
 
 -- A phrase takes more than its items, these more than the callables that they walk, and those more than their parts; and all of it more than a phrase that is one application deeper.
 abbrev pub decreases-walk_phrase : goal.decreases-walk_phrase
-decreases-walk_phrase l = l.step.nested * 12884901910 + 12884901903
+decreases-walk_phrase l = l.step.nested * 12884901910 + 12884901904
 
 abbrev pub decreases-walk_item : goal.decreases-walk_item
 decreases-walk_item l = l.step.nested * 12884901910 + 12884901902
+
+abbrev pub decreases-walk_one : goal.decreases-walk_one
+decreases-walk_one l = l.step.nested * 12884901910 + 12884901903
 
 abbrev pub decreases-walk_counted : goal.decreases-walk_counted
 decreases-walk_counted l = l.step.nested * 12884901910 + 12884901901
@@ -68,11 +71,12 @@ invariant-walk_phrase-loop-item l = record {
   same : l.self.subject ≡ l.initial.self.subject;
   grows : Grows l.initial.self.marks l.self.marks;
   stack : IsStack l.self.marks l.stack;
+  frame : IsFrame l.self.marks l.frame;
   within : l.left ≤ l.step.left;
   taken : takes_phrase l.initial.self.subject.closed.now.program.top (length l.initial.self.subject.closed.now.templates) (items_phrase (drop l.item-index l.item-items)) ≡ true;
   onward :
-      (O : Opened l.initial.self.subject.closed.now.program l.initial.self.subject.closed.now.templates l.initial.self.subject.own) (at : Literal) (t : Phrase) (f : ℕ) → ClosesPhrase O.program at t l.phrase → l.step.left < f →
-      Onward O at t f l.step.nested (base_seen O.naming l.step.base) (stack_of O.naming l.initial.self.marks l.step.stack) l.step.left l.self.marks l.base l.stack (drop l.item-index l.item-items) l.left;
+      (O : Opened l.initial.self.subject.closed.now.program l.initial.self.subject.closed.now.templates l.initial.self.subject.own) (at : Literal) (t : Phrase) (f : ℕ) → Opens O.program l.initial.self.subject.closed.now.templates (items_of (frame_of O.naming l.initial.self.marks l.step.frame)) at l.phrase t → l.step.left < f →
+      Onward O at t f l.step.nested (base_seen O.naming l.step.base) (stack_of O.naming l.initial.self.marks l.step.stack) l.step.left l.self.marks l.base l.stack l.frame (drop l.item-index l.item-items) l.left;
 }
 
 abbrev pub invariant-walk_inputs-loop-input : goal.invariant-walk_inputs-loop-input

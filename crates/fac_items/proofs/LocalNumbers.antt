@@ -1,0 +1,266 @@
+-- The numbers of locals and holes: each local of a phrase is bound before it, and each hole is one of the fry around.
+use Rattle.std.proofs.Common.{◌≡◌, ◌≤◌, ◌<◌, ℕ, suc, List, [], ◌∷◌, ◌++◌, length, map, Option, Some, None, Bool, true, false, cond, refl, sym, ◌∙◌, arith}
+use Rattle.std.specs.Prelude.{◌&&◌, ◌||◌, nat_eq, nat_lt}
+use Rattle.std.specs.List.{list_all, list_any}
+use Rattle.std.specs.Str.{bytes_eq}
+use Rattle.std.proofs.lemmas.Bool.Decides.{Decides-ltb}
+use Rattle.std.proofs.lemmas.List.Folds.{list_all-append}
+use Rattle.fac_lang.specs.Phrases.{int, yes, no, str, Phrase, end, then, Item, quot, word, bind, local, fry as fry_item}
+use Rattle.fac_lang.specs.RunningLaws.{append}
+use Rattle.fac_lang.specs.Whole.{holes_within, holes_within_item, joined, locals_bound, locals_bound_in, quotations}
+use Rattle.fac_lang.specs.declared.program.Lit.{Lit}
+use Rattle.fac_vocab.specs.Scopes.{Scope}
+use Rattle.fac_items.specs.Written.{Tok, n_lit, n_array, n_quot, n_name, n_fry, n_bind, n_hole, n_next, n_full, n_part, Nodes, nothing, more}
+use Rattle.fac_items.specs.Items.{elements_of, local_of, phrase_of, word_of}
+use Rattle.fac_items.proofs.PlainNodes.{AreElements, ArePlain}
+
+both_are : (a b : Bool) → a ≡ true → b ≡ true → (a && b) ≡ true
+both_are a b h k = rw (h, k) refl
+
+-- Locals.
+
+-- each number below n is among these
+abbrev Has : ℕ → List ℕ → Type 0
+Has n xs = (x : ℕ) → x < n → list_any (nat_eq x) xs ≡ true
+
+-- and so among more of them
+abbrev Within : List ℕ → List ℕ → Type 0
+Within xs ys = (x : ℕ) → list_any (nat_eq x) xs ≡ true → list_any (nat_eq x) ys ≡ true
+
+or_right : (a b : Bool) → b ≡ true → (a || b) ≡ true
+or_right true b h = refl
+or_right false b h = h
+
+or_left : (a b : Bool) → a ≡ true → (a || b) ≡ true
+or_left a b h = rw h refl
+
+-- what is bound behind a phrase
+abbrev behind_item : List ℕ → Item → List ℕ
+behind_item xs i = elim i [ bind x ↦ x ∷ xs | _ ↦ xs ]
+
+more_bound : (x : ℕ) (xs : List ℕ) → Within xs (x ∷ xs)
+more_bound x xs y h = or_right (nat_eq y x) (list_any (nat_eq y) xs) h
+
+local_less : (xs : List (List ℕ)) (name : List ℕ) (x : ℕ) → local_of xs name ≡ Some x → x < length xs
+local_less [] name x h = absurd (cc)
+local_less (y ∷ ys) name x h = one (bytes_eq y name) h (λ k. local_less ys name x k)
+  where
+    one : (b : Bool) → cond b (Some (length ys)) (local_of ys name) ≡ Some x → (local_of ys name ≡ Some x → x < length ys) → x < suc (length ys)
+    one true k rest = let same : length ys ≡ x = cc in omega (arith, same)
+    one false k rest = let less = rest k in omega (arith, less)
+
+-- each local of a phrase is bound, whichever more are
+abbrev IsBound : ℕ → Phrase → Type 0
+IsBound n t = (xs : List ℕ) → Has n xs → locals_bound xs t ≡ true
+
+both_true : (a b : Bool) → (a && b) ≡ true → (a ≡ true) × (b ≡ true)
+both_true true b h = (refl, h)
+both_true false b h = cc
+
+behind_more : (i : Item) (xs : List ℕ) → Within xs (behind_item xs i)
+behind_more (bind x) xs = more_bound x xs
+behind_more i xs = λ x h. h
+
+behind_within : (i : Item) (xs ys : List ℕ) → Within xs ys → Within (behind_item xs i) (behind_item ys i)
+behind_within (bind x) xs ys h = λ y k. kept_or (nat_eq y x) (list_any (nat_eq y) xs) (list_any (nat_eq y) ys) (h y) k
+  where
+    kept_or : (a b c : Bool) → (b ≡ true → c ≡ true) → (a || b) ≡ true → (a || c) ≡ true
+    kept_or true b c f k = refl
+    kept_or false b c f k = f k
+behind_within i xs ys h = h
+
+-- more locals may be bound around a phrase
+mutual
+  pub bound_more : (t : Phrase) (xs ys : List ℕ) → Within xs ys → locals_bound xs t ≡ true → locals_bound ys t ≡ true
+  bound_more end xs ys w h = refl
+  bound_more (then i p t) xs ys w h =
+      let both = both_true (locals_bound_in xs i) (locals_bound (behind_item xs i) t) h in
+      both_are (locals_bound_in ys i) (locals_bound (behind_item ys i) t) (item_more i xs ys w both.0) (bound_more t (behind_item xs i) (behind_item ys i) (behind_within i xs ys w) both.1)
+
+  item_more : (i : Item) (xs ys : List ℕ) → Within xs ys → locals_bound_in xs i ≡ true → locals_bound_in ys i ≡ true
+  item_more (local x) xs ys w h = w x h
+  item_more (quot t) xs ys w h = bound_more t xs ys w h
+  item_more (fry_item t n) xs ys w h = bound_more t xs ys w h
+  item_more i xs ys w h = refl
+
+joined_bound : (t u : Phrase) (xs : List ℕ) → locals_bound xs t ≡ true → ((ys : List ℕ) → Within xs ys → locals_bound ys u ≡ true) → locals_bound xs (append t u) ≡ true
+joined_bound end u xs h k = k xs (λ x is. is)
+joined_bound (then i p t) u xs h k =
+    let both = both_true (locals_bound_in xs i) (locals_bound (behind_item xs i) t) h in
+    both_are (locals_bound_in xs i) (locals_bound (behind_item xs i) (append t u)) both.0 (joined_bound t u (behind_item xs i) both.1 (λ ys within. k ys (λ x is. within x (behind_more i xs x is))))
+
+append_bound : (n : ℕ) (t u : Phrase) → IsBound n t → IsBound n u → IsBound n (append t u)
+append_bound n t u h k xs has = joined_bound t u xs (h xs has) (λ ys within. k ys (λ x less. within x (has x less)))
+
+bound_next : (k : ℕ) (xs : List ℕ) → Has k xs → Has (suc k) (k ∷ xs)
+bound_next k xs has x less = one (nat_eq x k) refl
+  where
+    other : (x k : ℕ) → nat_eq x k ≡ false → x < suc k → x < k
+    other x k e less = grind arith
+
+    one : (b : Bool) → nat_eq x k ≡ b → (nat_eq x k || list_any (nat_eq x) xs) ≡ true
+    one true e = or_left (nat_eq x k) (list_any (nat_eq x) xs) e
+    one false e = or_right (nat_eq x k) (list_any (nat_eq x) xs) (has x (other x k e less))
+
+name_bound : (s : Scope) (locals : List (List ℕ)) (t : Tok) (o : Option ℕ) (xs : List ℕ) → local_of locals t.text ≡ o → Has (length locals) xs → locals_bound_in xs (elim o [ Some x ↦ local x | None ↦ word (word_of s t) ]) ≡ true
+name_bound s locals t (Some x) xs e has = has x (local_less locals t.text x e)
+name_bound s locals t None xs e has = refl
+
+-- a name binds nothing
+name_behind : (s : Scope) (t : Tok) (o : Option ℕ) (xs : List ℕ) (u : Phrase) → locals_bound xs u ≡ true → locals_bound (behind_item xs (elim o [ Some x ↦ local x | None ↦ word (word_of s t) ])) u ≡ true
+name_behind s t (Some x) xs u h = h
+name_behind s t None xs u h = h
+
+pub phrase_bound : (s : Scope) (locals : List (List ℕ)) (ns : Nodes) (arrays : List (List Lit)) (holes : ℕ) → IsBound (length locals) (phrase_of s locals ns arrays holes).phrase
+phrase_bound s locals nothing arrays holes xs has = refl
+phrase_bound s locals (more (n_name t p) ns) arrays holes xs has =
+    let o = local_of locals t.text in
+    let r = phrase_of s locals ns arrays holes in
+    both_are (locals_bound_in xs (elim o [ Some x ↦ local x | None ↦ word (word_of s t) ])) (locals_bound (behind_item xs (elim o [ Some x ↦ local x | None ↦ word (word_of s t) ])) r.phrase) (name_bound s locals t o xs refl has)
+    (name_behind s t o xs r.phrase (phrase_bound s locals ns arrays holes xs has))
+phrase_bound s locals (more (n_bind t twice p) ns) arrays holes xs has = phrase_bound s (t.text ∷ locals) ns arrays holes (length locals ∷ xs) (bound_next (length locals) xs has)
+phrase_bound s locals (more (n_hole p) ns) arrays holes xs has = phrase_bound s locals ns arrays (suc holes) xs has
+phrase_bound s locals (more (n_quot ms p) ns) arrays holes xs has =
+    let m = phrase_of s locals ms arrays holes in
+    let r = phrase_of s locals ns m.arrays m.holes in
+    both_are (locals_bound xs m.phrase) (locals_bound xs r.phrase) (phrase_bound s locals ms arrays holes xs has) (phrase_bound s locals ns m.arrays m.holes xs has)
+phrase_bound s locals (more (n_fry ms p) ns) arrays holes xs has =
+    let m = phrase_of s locals ms arrays 0 in
+    let r = phrase_of s locals ns m.arrays holes in
+    both_are (locals_bound xs m.phrase) (locals_bound xs r.phrase) (phrase_bound s locals ms arrays 0 xs has) (phrase_bound s locals ns m.arrays holes xs has)
+phrase_bound s locals (more (n_array ms p) ns) arrays holes xs has = let m = elements_of s ms arrays in phrase_bound s locals ns (m.arrays ++ m.elements ∷ []) holes xs has
+phrase_bound s locals (more (n_part ms) ns) arrays holes xs has =
+    let m = phrase_of s locals ms arrays holes in
+    let r = phrase_of s locals ns m.arrays m.holes in
+    append_bound (length locals) m.phrase r.phrase (phrase_bound s locals ms arrays holes) (phrase_bound s locals ns m.arrays m.holes) xs has
+phrase_bound s locals (more n ns) arrays holes xs has = phrase_bound s locals ns arrays holes xs has
+
+-- Holes.
+
+append_holes : (n : ℕ) (t u : Phrase) → holes_within n t ≡ true → holes_within n u ≡ true → holes_within n (append t u) ≡ true
+append_holes n end u h k = k
+append_holes n (then i p t) u h k = let both = both_true (holes_within_item n i) (holes_within n t) h in both_are (holes_within_item n i) (holes_within n (append t u)) both.0 (append_holes n t u both.1 k)
+
+-- the holes of a phrase that is made: those of the fry around are below their number, and there are none where no fry is around
+pub record HolesFit (fry : Bool) (before after : ℕ) (t : Phrase) : Type 0 where
+  pub grown : before ≤ after
+  pub within : (n : ℕ) → (fry ≡ true → after ≤ n) → holes_within n t ≡ true
+
+name_holes : (s : Scope) (t : Tok) (o : Option ℕ) (n : ℕ) (u : Phrase) → holes_within n u ≡ true → (holes_within_item n (elim o [ Some x ↦ local x | None ↦ word (word_of s t) ]) && holes_within n u) ≡ true
+name_holes s t (Some x) n u h = h
+name_holes s t None n u h = h
+
+pub holes_fit : (s : Scope) (locals : List (List ℕ)) (fry : Bool) (ns : Nodes) (arrays : List (List Lit)) (holes : ℕ) → ArePlain fry ns → HolesFit fry holes (phrase_of s locals ns arrays holes).holes (phrase_of s locals ns arrays holes).phrase
+holes_fit s locals fry nothing arrays holes h = record { grown = omega arith; within = λ n k. refl }
+holes_fit s locals fry (more (n_name t p) ns) arrays holes h =
+    let r = holes_fit s locals fry ns arrays holes h.1 in
+    record { grown = r.grown; within = λ n k. name_holes s t (local_of locals t.text) n (phrase_of s locals ns arrays holes).phrase (r.within n k) }
+holes_fit s locals fry (more (n_bind t twice p) ns) arrays holes h = let r = holes_fit s (t.text ∷ locals) fry ns arrays holes h.1 in record { grown = r.grown; within = r.within }
+holes_fit s locals fry (more (n_lit l p) ns) arrays holes h = let r = holes_fit s locals fry ns arrays holes h.1 in record { grown = r.grown; within = r.within }
+holes_fit s locals fry (more (n_next p) ns) arrays holes h = let r = holes_fit s locals fry ns arrays holes h.1 in record { grown = r.grown; within = r.within }
+holes_fit s locals fry (more (n_full v x p) ns) arrays holes h = let r = holes_fit s locals fry ns arrays holes h.1 in record { grown = r.grown; within = r.within }
+holes_fit s locals fry (more (n_hole p) ns) arrays holes h =
+    let r = holes_fit s locals fry ns arrays (suc holes) h.1 in
+    let m = phrase_of s locals ns arrays (suc holes) in
+    record {
+      grown = (let one = r.grown in omega (arith, one));
+      within = λ n k. both_are (nat_lt holes n) (holes_within n m.phrase) ((Decides-ltb holes n).1 (let one = r.grown in let few = k h.0 in omega (arith, one, few))) (r.within n k);
+    }
+holes_fit s locals fry (more (n_quot ms p) ns) arrays holes h =
+    let m = phrase_of s locals ms arrays holes in
+    let r = phrase_of s locals ns m.arrays m.holes in
+    let inner = holes_fit s locals fry ms arrays holes h.0 in
+    let rest = holes_fit s locals fry ns m.arrays m.holes h.1 in
+    record {
+      grown = (let one = inner.grown in let two = rest.grown in omega (arith, one, two));
+      within = λ n k. both_are (holes_within n m.phrase) (holes_within n r.phrase) (inner.within n (λ is. let two = rest.grown in let few = k is in omega (arith, two, few))) (rest.within n k);
+    }
+holes_fit s locals fry (more (n_fry ms p) ns) arrays holes h =
+    let m = phrase_of s locals ms arrays 0 in
+    let r = phrase_of s locals ns m.arrays holes in
+    let inner = holes_fit s locals true ms arrays 0 h.0 in
+    let rest = holes_fit s locals fry ns m.arrays holes h.1 in
+    record { grown = rest.grown; within = λ n k. both_are (holes_within m.holes m.phrase) (holes_within n r.phrase) (inner.within m.holes (λ is. omega arith)) (rest.within n k) }
+holes_fit s locals fry (more (n_array ms p) ns) arrays holes h =
+    let m = elements_of s ms arrays in let r = holes_fit s locals fry ns (m.arrays ++ m.elements ∷ []) holes h.1 in record { grown = r.grown; within = r.within }
+holes_fit s locals fry (more (n_part ms) ns) arrays holes h =
+    let m = phrase_of s locals ms arrays holes in
+    let r = phrase_of s locals ns m.arrays m.holes in
+    let inner = holes_fit s locals fry ms arrays holes h.0 in
+    let rest = holes_fit s locals fry ns m.arrays m.holes h.1 in
+    record {
+      grown = (let one = inner.grown in let two = rest.grown in omega (arith, one, two));
+      within = λ n k. append_holes n m.phrase r.phrase (inner.within n (λ is. let two = rest.grown in let few = k is in omega (arith, two, few))) (rest.within n k);
+    }
+holes_fit s locals fry (more n ns) arrays holes h = absurd h.0
+
+-- Phrases that stand by themselves.
+
+-- whether each local is bound in a phrase, and each hole stands in a fry in it
+abbrev pub is_closed : Phrase → Bool
+is_closed t = locals_bound [] t && holes_within 0 t
+
+none_below : (xs : List ℕ) → Has 0 xs
+none_below xs x less = absurd (omega (arith, less))
+
+false_fry : (n : ℕ) → false ≡ true → n ≤ 0
+false_fry n h = absurd (cc)
+
+pub made_closed : (s : Scope) (ns : Nodes) (arrays : List (List Lit)) → ArePlain false ns → is_closed (phrase_of s [] ns arrays 0).phrase ≡ true
+made_closed s ns arrays h =
+    let m = phrase_of s [] ns arrays 0 in
+    let fit = holes_fit s [] false ns arrays 0 h in
+    both_are (locals_bound [] m.phrase) (holes_within 0 m.phrase) (phrase_bound s [] ns arrays 0 [] (none_below [])) (fit.within 0 (false_fry m.holes))
+
+pub append_closed : (t u : Phrase) → is_closed t ≡ true → is_closed u ≡ true → is_closed (append t u) ≡ true
+append_closed t u h k =
+    let one = both_true (locals_bound [] t) (holes_within 0 t) h in
+    let two = both_true (locals_bound [] u) (holes_within 0 u) k in
+    both_are (locals_bound [] (append t u)) (holes_within 0 (append t u)) (joined_bound t u [] one.0 (λ ys within. bound_more u [] ys within two.0)) (append_holes 0 t u one.1 two.1)
+
+-- The quotations of arrays stand by themselves.
+
+abbrev pub are_closed : List (List Lit) → Bool
+are_closed arrays = list_all is_closed (joined (map quotations arrays))
+
+array_closed : (arrays : List (List Lit)) (ls : List Lit) → are_closed arrays ≡ true → list_all is_closed (quotations ls) ≡ true → are_closed (arrays ++ ls ∷ []) ≡ true
+array_closed [] ls h k = list_all-append is_closed (quotations ls) [] ∙ both_are (list_all is_closed (quotations ls)) true k refl
+array_closed (xs ∷ arrays) ls h k =
+    let both = both_true (list_all is_closed (quotations xs)) (are_closed arrays) (sym (list_all-append is_closed (quotations xs) (joined (map quotations arrays))) ∙ h) in
+    list_all-append is_closed (quotations xs) (joined (map quotations (arrays ++ ls ∷ []))) ∙ both_are (list_all is_closed (quotations xs)) (are_closed (arrays ++ ls ∷ [])) both.0 (array_closed arrays ls both.1 k)
+
+mutual
+  pub arrays_closed : (s : Scope) (locals : List (List ℕ)) (fry : Bool) (ns : Nodes) (arrays : List (List Lit)) (holes : ℕ) → ArePlain fry ns → are_closed arrays ≡ true → are_closed (phrase_of s locals ns arrays holes).arrays ≡ true
+  arrays_closed s locals fry nothing arrays holes h k = k
+  arrays_closed s locals fry (more (n_lit l p) ns) arrays holes h k = arrays_closed s locals fry ns arrays holes h.1 k
+  arrays_closed s locals fry (more (n_name t p) ns) arrays holes h k = arrays_closed s locals fry ns arrays holes h.1 k
+  arrays_closed s locals fry (more (n_next p) ns) arrays holes h k = arrays_closed s locals fry ns arrays holes h.1 k
+  arrays_closed s locals fry (more (n_full v x p) ns) arrays holes h k = arrays_closed s locals fry ns arrays holes h.1 k
+  arrays_closed s locals fry (more (n_bind t twice p) ns) arrays holes h k = arrays_closed s (t.text ∷ locals) fry ns arrays holes h.1 k
+  arrays_closed s locals fry (more (n_hole p) ns) arrays holes h k = arrays_closed s locals fry ns arrays (suc holes) h.1 k
+  arrays_closed s locals fry (more (n_quot ms p) ns) arrays holes h k = let m = phrase_of s locals ms arrays holes in arrays_closed s locals fry ns m.arrays m.holes h.1 (arrays_closed s locals fry ms arrays holes h.0 k)
+  arrays_closed s locals fry (more (n_fry ms p) ns) arrays holes h k = let m = phrase_of s locals ms arrays 0 in arrays_closed s locals fry ns m.arrays holes h.1 (arrays_closed s locals true ms arrays 0 h.0 k)
+  arrays_closed s locals fry (more (n_part ms) ns) arrays holes h k = let m = phrase_of s locals ms arrays holes in arrays_closed s locals fry ns m.arrays m.holes h.1 (arrays_closed s locals fry ms arrays holes h.0 k)
+  arrays_closed s locals fry (more (n_array ms p) ns) arrays holes h k =
+      let m = elements_of s ms arrays in
+      let e = elements_closed s ms arrays h.0 k in
+      arrays_closed s locals fry ns (m.arrays ++ m.elements ∷ []) holes h.1 (array_closed m.arrays m.elements e.0 e.1)
+  arrays_closed s locals fry (more n ns) arrays holes h k = absurd h.0
+
+  elements_closed : (s : Scope) (es : Nodes) (arrays : List (List Lit)) → AreElements es → are_closed arrays ≡ true → (are_closed (elements_of s es arrays).arrays ≡ true) × (list_all is_closed (quotations (elements_of s es arrays).elements) ≡ true)
+  elements_closed s nothing arrays h k = (k, refl)
+  elements_closed s (more (n_lit (int z) p) es) arrays h k = elements_closed s es arrays h.1 k
+  elements_closed s (more (n_lit yes p) es) arrays h k = elements_closed s es arrays h.1 k
+  elements_closed s (more (n_lit no p) es) arrays h k = elements_closed s es arrays h.1 k
+  elements_closed s (more (n_lit (str bs) p) es) arrays h k = elements_closed s es arrays h.1 k
+  elements_closed s (more (n_lit l p) es) arrays h k = absurd h.0
+  elements_closed s (more (n_name t p) es) arrays h k = elements_closed s es arrays h.1 k
+  elements_closed s (more (n_quot ms p) es) arrays h k =
+      let m = phrase_of s [] ms arrays 0 in
+      let rest = elements_closed s es m.arrays h.1 (arrays_closed s [] false ms arrays 0 h.0 k) in
+      (rest.0, both_are (is_closed m.phrase) (list_all is_closed (quotations (elements_of s es m.arrays).elements)) (made_closed s ms arrays h.0) rest.1)
+  elements_closed s (more (n_array ms p) es) arrays h k =
+      let m = elements_of s ms arrays in
+      let e = elements_closed s ms arrays h.0 k in
+      elements_closed s es (m.arrays ++ m.elements ∷ []) h.1 (array_closed m.arrays m.elements e.0 e.1)
+  elements_closed s (more n es) arrays h k = absurd h.0
