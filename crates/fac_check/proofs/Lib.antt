@@ -48,5 +48,3 @@ pub mod EdgesOfWords
 pub mod UndeclaredWords
 pub mod JudgeLemmas
 pub mod ExamplesOfRecursion
-pub mod ClosedItems
-pub mod OneProgramLemmas

@@ -187,7 +187,7 @@ behind_from subject O at t f nested e ms most M L K b s g g' n i whole items W V
     let N = O.naming in
     let c = what_item i.what in
     let behind_is : frame_of N K g' ≡ frame_behind c (stack_of N L s) (frame_of N L g) =
-        later.same_frame N g' made.valid ∙ made.is N ∙ ap (λ xs. frame_behind c xs (frame_of N M g)) (sym (grows.same_stack N s stack)) ∙ ap (λ fs. frame_behind c (stack_of N L s) fs) (sym (grows.same_frame N g frame)) in
+    later.same_frame N g' made.valid ∙ made.is N ∙ ap (λ xs. frame_behind c xs (frame_of N M g)) (sym (grows.same_stack N s stack)) ∙ ap (λ fs. frame_behind c (stack_of N L s) fs) (sym (grows.same_frame N g frame)) in
     let here = subst (λ (xs : List PlacedItem). Onward O at t f nested e ms most M b s g xs n) next o in
     subst (λ (X : Walked). Behind O at t f nested e ms most K g' items X) is
     (onward subject O at t f nested e ms most L K b s g g' n i items W walks below behind_is (onward_later O at t f nested e ms most M L b s g (i ∷ items) n grows stack frame here))

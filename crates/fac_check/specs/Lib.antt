@@ -4,5 +4,4 @@ pub mod CallableEffects
 pub mod Promises
 pub mod Judged
 pub mod Checks
-pub mod OneProgram
 pub mod inner

@@ -607,7 +607,13 @@ fn fill(marks: &mut Marks, frame: u32, holes: u32) -> Result<u32, Memory>
 
 // The literal of a template with these captured cells, and the values that it takes off the stack for its holes.
 #[tactic(auto, using(fac_abs::proofs::SeenLemmas::grows_trans))]
-fn fry(marks: &mut Marks, stack: u32, template: u32, frame: u32, holes: u32) -> Result<Doing, Memory>
+fn fry(
+    marks: &mut Marks,
+    stack: u32,
+    template: u32,
+    frame: u32,
+    holes: u32,
+) -> Result<Doing, Memory>
     requires stack { IsStack marks.old stack }
     requires template { template < marks.old.templates }
     requires frame { IsFrame marks.old frame }
@@ -627,7 +633,13 @@ fn fry(marks: &mut Marks, stack: u32, template: u32, frame: u32, holes: u32) -> 
 
 // A quotation or fry, by its template, under a frame. A cell that isn't there is that of no program.
 #[tactic(auto, using(fac_abs::proofs::SeenLemmas::grows_trans))]
-fn made(subject: Subject<'_>, marks: &mut Marks, stack: u32, frame: u32, template: u32) -> Result<Doing, Memory>
+fn made(
+    subject: Subject<'_>,
+    marks: &mut Marks,
+    stack: u32,
+    frame: u32,
+    template: u32,
+) -> Result<Doing, Memory>
     requires stack { IsStack marks.old stack }
     requires frame { IsFrame marks.old frame }
     requires template { template < marks.old.templates }

@@ -1,6 +1,5 @@
 //! Laws of the definitions, each on the contract of a function that does nothing.
 ghost use Rattle.fac_check.specs.Judged.{FirstRefusalIsVerdict};
-ghost use Rattle.fac_check.specs.OneProgram.{StandsForOne};
 ghost use Rattle.fac_check.specs.Promises.{AcceptedAreSafe, SafeAreNotStuck};
 
 /// What the checker of the whole language accepts is safe: by its definitions a whole program with an accepted verdict never finds too
@@ -19,10 +18,4 @@ pub fn safe_programs_are_not_stuck()
 /// The first refusal among the verdicts on all words, in their order, is the verdict on the program, which is accepted where there is none.
 pub fn first_refusal_is_verdict()
     ensures { FirstRefusalIsVerdict }
-{}
-
-/// A closed program stands for at most one built program. So what the calls of this crate say of each program for which one stands, they say
-/// of that one.
-pub fn closed_stands_for_one()
-    ensures { StandsForOne }
 {}

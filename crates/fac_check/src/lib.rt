@@ -16,9 +16,6 @@ pub use accepted::Checked;
 pub use checker::Verdict;
 pub use fac_abs::Rule;
 pub use judge::{accept, check, check_word, check_words, first_refused, gather};
-pub use laws::{
-    accepted_programs_are_safe, closed_stands_for_one, first_refusal_is_verdict,
-    safe_programs_are_not_stuck,
-};
+pub use laws::{accepted_programs_are_safe, first_refusal_is_verdict, safe_programs_are_not_stuck};
 pub use recursion::undeclared_words;
 pub use refusal::{CheckFault, Refusal};
