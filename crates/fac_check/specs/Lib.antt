@@ -1,8 +1,6 @@
 pub mod Flow
 pub mod Verdicts
 pub mod CallableEffects
-pub mod MarksBelow
-pub mod TemplateWalks
 pub mod Promises
 pub mod Judged
 pub mod Checks

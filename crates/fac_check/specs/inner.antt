@@ -5,5 +5,4 @@ pub mod OwnEffects
 pub mod KnownClasses
 pub mod Walking
 pub mod UndeclaredRecursion
-pub mod Alone
 pub mod Breaches

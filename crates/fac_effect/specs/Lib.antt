@@ -3,7 +3,6 @@ pub mod WrittenEffects
 pub mod EffectReading
 pub mod SaidEffects
 pub mod LocalNames
-pub mod RowlessEffects
 pub mod EffectLaws
 pub mod ParsedEffects
 pub mod inner

@@ -1,7 +1,6 @@
--- Whole values of the machine.
+-- Values of the machine whose callables are of an image's templates.
 use Rattle.std.proofs.Common.{◌≡◌, ℕ, zero, suc, ◌+◌, List, [], ◌∷◌, ◌++◌, length, Bool, true, false, Option, Some, None, refl, ap, subst, ◌∙◌}
 use Rattle.std.specs.Prelude.{slice_get}
-use Rattle.fac_lang.specs.declared.program.Program.{Program}
 use Rattle.fac_lang.specs.Phrases.{fun, of_phrase}
 use Rattle.fac_lang.specs.World.{pile}
 use Rattle.fac_code.specs.declared.image.Image.{Image}
@@ -23,18 +22,18 @@ kept_views T (v ∷ vs) = ap (λ xs. value_view T v ∷ xs) (kept_views T vs)
 pub made_view : (T : Templates) (q : ℕ) (vs : List MValue) → value_view T (made q vs) ≡ fun (of_phrase (T q (values_view T vs)))
 made_view T q vs = ap (λ xs. fun (of_phrase (T q xs))) (kept_views T vs)
 
-module _ (P : Program) (M : Image) where
+module _ (M : Image) where
   abbrev Whole : MValue → Type 0
-  Whole = whole.Whole P M
+  Whole = whole.Whole M
 
   abbrev WholeCallable : MCallable → Type 0
-  WholeCallable = whole.WholeCallable P M
+  WholeCallable = whole.WholeCallable M
 
   abbrev WholeKept : Kept → Type 0
-  WholeKept = whole.WholeKept P M
+  WholeKept = whole.WholeKept M
 
   abbrev AllWhole : List MValue → Type 0
-  AllWhole = whole.AllWhole P M
+  AllWhole = whole.AllWhole M
 
   pub get_whole : (F : List MValue) (k : ℕ) (v : MValue) → AllWhole F → slice_get F k ≡ Some v → Whole v
   get_whole [] k v h e = absurd (cc)

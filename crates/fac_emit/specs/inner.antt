@@ -6,4 +6,3 @@ pub mod Coded
 pub mod Numbered
 pub mod OwnRows
 pub mod Dispatch
-pub mod Promised

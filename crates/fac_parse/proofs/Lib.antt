@@ -10,4 +10,3 @@ pub mod ParseLemmas
 pub mod ExamplesOfArrays
 pub mod ExamplesOfClasses
 pub mod ExamplesOfLocals
-pub mod ExamplesOfCalls
