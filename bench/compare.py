@@ -34,6 +34,7 @@ from dataclasses import dataclass
 import examples
 import model
 import speed
+from call_kinds import CALL_KINDS
 from class_kinds import CLASS_KINDS
 from kinds import KINDS, Case, happens, run_of
 from local_kinds import LOCAL_KINDS
@@ -217,7 +218,7 @@ def main():
     print(f"{len(list(examples.all_examples()))} worked examples, of which the model answers {len(failed)} otherwise")
     if failed:
         return speed.finish(failed)
-    kinds = [(kind, share) for kind, share, needs in KINDS + CLASS_KINDS + LOCAL_KINDS if model.BUILT.issuperset(needs)]
+    kinds = [(kind, share) for kind, share, needs in KINDS + CLASS_KINDS + LOCAL_KINDS + CALL_KINDS if model.BUILT.issuperset(needs)]
     if words.kinds is not None:
         kinds = [(kind, share) for kind, share in kinds if kind.__name__ in words.kinds]
     shares = sum(share for _, share in kinds)

@@ -19,8 +19,13 @@ hold closures, and in CPython objects of four classes. `slots` reads two slots o
 `captures` makes a quotation that keeps three locals of its word and calls it, a million times; in Lua and CPython it is a closure over
 three names. `fry` fills two holes and calls what that made as often; the others make a closure over the two arguments of a function.
 
+`called` makes a quotation by `curry` and calls it five million times by `call`, and `tested` by `call( )`; in Lua and CPython it is a
+closure over one name. `chain` makes a callable of a million others by `compose`, and calls it once by `call( )`, which tests it; such a
+closure would be too deep for the others.
+
 The script prints the shortest of several times and, of factorc, the ticks per second in it. It ends with status 1 where a program
-answers wrongly, also where it takes other ticks than are told here.
+answers wrongly, also where it takes other ticks than are told here, and where `tested` takes more than one and a half times as long as
+`called`.
 """
 
 import shutil
@@ -38,6 +43,8 @@ STEPS = (3, 7, 11)
 CALLS = 3_000_000
 CLASSES = "abcd"
 CLOSURES = 1_000_000
+PARTS = 1_000_000
+MOST_RATIO_OF_TESTS = 1.5
 
 
 def fibonacci(number):
@@ -88,6 +95,14 @@ CAPTURES_TICKS = 5 + 4 + 4 + 7 + 38 * CLOSURES + 7 + 1
 
 # As `times`, with eight items in each turn, of which three are those of the fry.
 FRY_TICKS = 5 + 7 + 38 * CLOSURES + 7
+
+# Three items at the top level; one input is bound, and eight items stand in the word; then as `times`, with four items in each turn, of
+# which one is the value of the callable. A call that is tested takes as many.
+CALLED_TICKS = 3 + 1 + 8 + 7 + 34 * TURNS + 7
+
+# Five items at the top level; five in the word and three in `first`; then as `times`, with two items in each turn. The callable takes a tick
+# for each part that was composed, and two for the items of each literal.
+CHAIN_TICKS = 5 + 5 + 3 + 7 + 32 * PARTS + 7 + PARTS + 2 * (PARTS + 1)
 
 TIMES = {
     "factorc": f"USING: math prettyprint ; 7 {TURNS:,} [ ] times .",
@@ -362,6 +377,50 @@ main()
 """,
 }
 
+LUA_OF_CALLED = f"""
+local function times(n, f) for i = 1, n do f() end end
+local function curry(x, f) return function(y) return f(y, x) end end
+local q = curry(1, function(a, b) return a + b end)
+local s = 0
+times({TURNS}, function() s = q(s) end)
+print(s)
+"""
+
+PYTHON_OF_CALLED = f"""
+def times(n, f):
+    for _ in range(n):
+        f()
+
+def curry(x, f):
+    return lambda y: f(y, x)
+
+def main():
+    q = curry(1, lambda a, b: a + b)
+    s = 0
+    def turn():
+        nonlocal s
+        s = q(s)
+    times({TURNS}, turn)
+    print(s)
+
+main()
+"""
+
+ADDING = "USING: kernel math prettyprint ; :: adding ( n -- sum ) 1 [ + ] curry :> q 0 n [ q CALL ] times ; NUMBER adding ."
+ADDING = ADDING.replace("NUMBER", f"{TURNS:,}")
+
+CALLED = {"factorc": ADDING.replace("CALL", "call"), "lua5.4": LUA_OF_CALLED, "python3": PYTHON_OF_CALLED}
+
+TESTED = {"factorc": ADDING.replace("CALL", "call( x -- y )")}
+
+CHAIN = {
+    "factorc": f"""
+USING: kernel math prettyprint sequences ;
+: chain ( n -- quot ) {{ [ 1 + ] }} first swap [ [ 1 + ] compose ] times ;
+0 {PARTS:,} chain call( x -- y ) .
+""",
+}
+
 # The programs that run the same work, and where they are.
 OTHERS = {"gforth": shutil.which("gforth"), "lua5.4": shutil.which("lua5.4"), "python3": sys.executable}
 
@@ -377,6 +436,9 @@ PROGRAMS = [
     ("slots", 3 * CALLS, SLOTS_TICKS, SLOTS),
     ("captures", 6 * CLOSURES, CAPTURES_TICKS, CAPTURES),
     ("fry", 7 * CLOSURES, FRY_TICKS, FRY),
+    ("called", TURNS, CALLED_TICKS, CALLED),
+    ("tested", TURNS, CALLED_TICKS, TESTED),
+    ("chain", PARTS + 1, CHAIN_TICKS, CHAIN),
 ]
 
 
@@ -410,10 +472,11 @@ def shortest(words, make, folder):
 def main():
     program = speed.program_or(speed.DEFAULT)
     print(f"{'program':<12}{'in':<10}{'shortest':>12}{'ticks':>14}{'ticks per second':>20}")
+    took = {}
     with tempfile.TemporaryDirectory() as folder:
         for name, answer, ticks, texts in PROGRAMS:
             text = texts["factorc"]
-            seconds = shortest([program, "run", "--steps", str(ticks)], printing(text, answer), folder)
+            took[name] = seconds = shortest([program, "run", "--steps", str(ticks)], printing(text, answer), folder)
             shortest([program, "run", "--steps", str(ticks - 1)], spent_one_before(text, ticks), folder)
             print(f"{name:<12}{'factorc':<10}{seconds:>10.3f} s{ticks:>14,}{ticks / seconds:>20,.0f}")
             for other, path in OTHERS.items():
@@ -423,7 +486,10 @@ def main():
                     print(f"{name:<12}{other:<10}{shortest([path], printing(texts[other], answer), folder):>10.3f} s")
                 else:
                     print(f"{name:<12}{other:<10}{'not installed':>12}")
-    return speed.finish([])
+    ratio = took["tested"] / took["called"]
+    print(f"calls that are tested take {ratio:.2f} times as long as others")
+    told = f"tested: {ratio:.2f} times as long as called, more than {MOST_RATIO_OF_TESTS:g}"
+    return speed.finish([told] if ratio > MOST_RATIO_OF_TESTS else [])
 
 
 if __name__ == "__main__":

@@ -334,6 +334,40 @@ def chain_of_closures(path, count):
     return 0, b"[ ... ]\n", b""
 
 
+LITERALS_IN_A_WORD = 1_000
+MOST_INPUTS = model.MOST_EFFECT_NAMES
+
+
+def write_literals(path, count):
+    """Writes a file of so many literals that take from 1 to 1,024 values in turn, a thousand in each word. A literal names some words of 64
+    inputs and perhaps one of fewer. At the end one is called, and 7 printed."""
+    with open(path, "wb") as file:
+        file.write(b"USING: kernel prettyprint ;\n")
+        for inputs in range(1, MOST_INPUTS + 1):
+            names, drops = b"a " * inputs, b"3drop " * (inputs // 3) + b"drop " * (inputs % 3)
+            file.write(b": d%d ( %s-- ) %s;\n" % (inputs, names, drops))
+        file.write(b": d ( %s-- ) d%d ;\n" % (b"a " * MOST_INPUTS, MOST_INPUTS))
+        for first in range(0, count, LITERALS_IN_A_WORD):
+            file.write(b": w%d ( -- )\n" % (first // LITERALS_IN_A_WORD))
+            for number in range(first, min(count, first + LITERALS_IN_A_WORD)):
+                whole, rest = divmod(number % model.MOST_TRIED_INPUTS + 1, MOST_INPUTS)
+                file.write(b"[ %s%s] drop\n" % (b"d " * whole, b"d%d " % rest if rest else b""))
+            file.write(b";\n")
+        file.write(b"1 2 3 [ d3 ] call( x y z -- ) 7 .\n")
+
+
+def effects_of_literals(path, count):
+    """So many literals, of each of which the effect is found before the program runs."""
+    write_literals(path, count)
+    return 0, b"7\n", b""
+
+
+def checked_literals(path, count):
+    """So many literals. Checks the file."""
+    write_literals(path, count)
+    return 0, b"checked %d definitions\n" % (MOST_INPUTS + 1 - -count // LITERALS_IN_A_WORD), b""
+
+
 def first_example(path, _):
     """The first example of README."""
     with open(path, "wb") as file:
@@ -388,6 +422,8 @@ SORTS = [
     ("words with locals", words_with_locals, (2_500, 10_000), words, 1.0, ["::", "'[", "check"]),
     ("kept callables", kept_callables, (250, 1_000), words, 2.0, ["::"]),
     ("chain of closures", chain_of_closures, (250_000, 1_000_000), words, 4.0, ["::"]),
+    ("effects", effects_of_literals, (25_000, 100_000), words, 2.0, ["call("]),
+    ("literals", checked_literals, (25_000, 100_000), words, 1.0, ["call(", "check"]),
     ("first example", first_example, (1,), words, 0.004, ["prelude"]),
     ("recursion, if", spending(RECURSION_THROUGH_IF), (20_000_000,), words, 20.0, []),
     ("composing", spending(COMPOSING), (25_000_000,), words, 20.0, []),

@@ -18,7 +18,7 @@ use Rattle.fac_abs.specs.InTurn.{under, taken, moved}
 use Rattle.fac_abs.specs.SeenMarks.{MarksSeen}
 use Rattle.fac_check.specs.inner.Walking.{IsDoing, IsDoingOf, is_defined, only}
 use Rattle.fac_check.specs.declared.doing.Doing.{Doing}
-use Rattle.fac_check.specs.declared.doing.Doing.TheVariants.{Breaks, Ends, Gives, Leaves, Expands, Walks, Forks, Uses}
+use Rattle.fac_check.specs.declared.doing.Doing.TheVariants.{Breaks, Ends, Gives, Leaves, Expands, Again, Walks, Forks, Uses}
 use Rattle.fac_check.specs.Flow.{Doing as DoingAtOnce, breaks, gives, forks, uses, callable_or, by_height, marks_moved, mark_made, core_doing, row_doing}
 
 -- what expands and uses none of some words is of any others
@@ -28,6 +28,7 @@ doing_of words M Ends h = tt
 doing_of words M (Gives s) h = h
 doing_of words M (Leaves b s) h = h
 doing_of words M (Expands w s) h = absurd (let e = h.0 in cc)
+doing_of words M (Again w s) h = h
 doing_of words M (Walks m s back) h = h
 doing_of words M (Forks m n s) h = h
 doing_of words M (Uses w s r) h = absurd (let e = h.0 in cc)
@@ -46,6 +47,7 @@ doing_of_one w d words M Ends e h = tt
 doing_of_one w d words M (Gives s) e h = h
 doing_of_one w d words M (Leaves b s) e h = h
 doing_of_one w d words M (Expands v s) e h = (subst (λ o. is_defined o ≡ true) (only_word w v d words e h.0) h.0, h.1)
+doing_of_one w d words M (Again v s) e h = h
 doing_of_one w d words M (Walks m s back) e h = h
 doing_of_one w d words M (Forks m n s) e h = h
 doing_of_one w d words M (Uses v s r) e h =

@@ -11,11 +11,11 @@ use Rattle.fac_lang.specs.declared.program.ClassDef.{ClassDef}
 use Rattle.fac_lang.specs.declared.program.Sort.TheVariants.{Body as body, Past as past, Method as method, Generic as generic}
 use Rattle.fac_lang.specs.Signatures.{Signature, signature, Inputs, no_inputs, value, quoted, never, leaves}
 use Rattle.fac_lang.specs.PrimitiveWords.{x}
-use Rattle.fac_lang.specs.Phrases.{int, wrd, Phrase, end, then, Item, lit, lit_arr, quot, bind, local, fry, hole, next_method, held, known, Value, plain, Callable, of_phrase, cur, both, Mark, any, lit_mark}
+use Rattle.fac_lang.specs.Phrases.{int, wrd, Phrase, end, then, Item, lit, lit_arr, quot, bind, local, fry, hole, call_eff, next_method, held, known, Value, plain, Callable, of_phrase, cur, both, Mark, any, lit_mark}
 use Rattle.fac_lang.specs.Primitives.{prim_numbered}
 use Rattle.fac_lang.specs.Meaning.{core_numbered}
 use Rattle.fac_lang.proofs.DemoPrelude.{word_of, shared_words, built_in_classes}
-use Rattle.fac_lang.proofs.DemoWords.{phrase, number, quotation, fried, itself, tested-call, own, t as yes, drop, dup, swap, over, pick, rot, -rot, nip, dupd, swapd, 2drop, 2dup, 3drop, 3dup, 2over, 2nip, choose, + as plus, /i, <, nth, curry, compose, throw, call, dip, if, execute, boa, cond, sq, times}
+use Rattle.fac_lang.proofs.DemoWords.{phrase, number, quotation, fried, itself, tested-call, tested-execute, own, t as yes, drop, dup, swap, over, pick, rot, -rot, nip, dupd, swapd, 2drop, 2dup, 3drop, 3dup, 2over, 2nip, choose, + as plus, /i, <, nth, curry, compose, throw, call, dip, if, execute, boa, cond, sq, times}
 use Rattle.fac_lang.proofs.Demo.{program, tuple_words, tuple_of}
 use Rattle.fac_abs.specs.Marks.{AbstractStack, dead, on, mark_eq}
 use Rattle.fac_abs.specs.declared.rule.Rule.{Rule}
@@ -25,6 +25,7 @@ use Rattle.fac_check.specs.Flow.{Walked, found, refused, walk, doing, most_neste
 use Rattle.fac_check.specs.Verdicts.{Refusal, verdict, verdict_from}
 use Rattle.fac_lang.specs.HeightArithmetic.{curried_height, composed_height, fits}
 use Rattle.fac_check.specs.CallableEffects.{least_height, callable_height}
+use Rattle.fac_check.specs.TemplateWalks.{walked_alone, found_height}
 
 -- The tokens of a phrase in order, so that each item has its place. A quotation stands at its opening bracket.
 abbrev mutual
@@ -133,6 +134,26 @@ one_there = refl
 pub input_there : verdict_of (defined (takes 1 1) false false (plus ∷ []) ∷ []) ([]) ≡ refuses 0 (Underflow 2 1) 10
 unfolding prim_numbered core_numbered mark_eq
 input_there = refl
+
+-- 1 '[ _ _ ]
+pub holes_lack : verdict_of [] (number 1 ∷ fried 2 (hole 0 ∷ hole 1 ∷ []) ∷ []) ≡ refuses 0 (Underflow 2 1) 2
+unfolding prim_numbered core_numbered mark_eq
+holes_lack = refl
+
+-- 1 call( x -- ): what is called is no input
+pub tested_lacks : verdict_of [] (number 1 ∷ tested-call 1 0 ∷ []) ≡ refuses 0 (Underflow 2 1) 2
+unfolding prim_numbered core_numbered mark_eq
+tested_lacks = refl
+
+-- execute( -- )
+pub none_to_execute : verdict_of [] (tested-execute 0 0 ∷ []) ≡ refuses 0 (Underflow 1 0) 1
+unfolding prim_numbered core_numbered mark_eq
+none_to_execute = refl
+
+-- execute
+pub no_word_to_execute : verdict_of [] (execute ∷ []) ≡ refuses 0 (Underflow 1 0) 1
+unfolding prim_numbered core_numbered mark_eq
+no_word_to_execute = refl
 
 -- call
 pub none_to_call : verdict_of [] (call ∷ []) ≡ refuses 0 (Underflow 1 0) 1
@@ -290,6 +311,80 @@ fried_known = refl
 pub local_known : verdict_of [] (quotation (drop ∷ []) ∷ bind 0 ∷ number 1 ∷ quotation (local 0 ∷ call ∷ []) ∷ call ∷ []) ≡ None
 unfolding prim_numbered core_numbered mark_eq
 local_known = refl
+
+-- [ + ] 5 '[ 1 2 _ call _ ] call: the first hole has the deepest value
+pub first_hole_deepest : verdict_of [] (quotation (plus ∷ []) ∷ number 5 ∷ fried 2 (number 1 ∷ number 2 ∷ hole 0 ∷ call ∷ hole 1 ∷ []) ∷ call ∷ []) ≡ None
+unfolding prim_numbered core_numbered mark_eq
+first_hole_deepest = refl
+
+-- 5 [ + ] '[ 1 2 _ call _ ] call
+pub first_hole_not_top : verdict_of [] (number 5 ∷ quotation (plus ∷ []) ∷ fried 2 (number 1 ∷ number 2 ∷ hole 0 ∷ call ∷ hole 1 ∷ []) ∷ call ∷ []) ≡ refuses 0 NotKnown 9
+unfolding prim_numbered core_numbered mark_eq
+first_hole_not_top = refl
+
+-- 1 [ drop ] '[ [ _ call ] call ] call: a hole in a quotation of a fry
+pub hole_in_quotation : verdict_of [] (number 1 ∷ quotation (drop ∷ []) ∷ fried 1 (quotation (hole 0 ∷ call ∷ []) ∷ call ∷ []) ∷ call ∷ []) ≡ None
+unfolding prim_numbered core_numbered mark_eq
+hole_in_quotation = refl
+
+-- [ ] :> q 1 [ :> q q call ] call: an inner local hides an outer one
+pub hidden_local : verdict_of [] (quotation ([]) ∷ bind 0 ∷ number 1 ∷ quotation (bind 0 ∷ local 0 ∷ call ∷ []) ∷ call ∷ []) ≡ refuses 0 NotKnown 10
+unfolding prim_numbered core_numbered mark_eq
+hidden_local = refl
+
+-- [ ] :> q 1 [ :> q ] call q call: and behind it the outer one is there
+pub shown_local : verdict_of [] (quotation ([]) ∷ bind 0 ∷ number 1 ∷ quotation (bind 0 ∷ []) ∷ call ∷ local 0 ∷ call ∷ []) ≡ None
+unfolding prim_numbered core_numbered mark_eq
+shown_local = refl
+
+-- Calls that are tested when they run.
+
+-- 1 2 [ + ] call( x x -- x ) drop
+pub tested_call : verdict_of [] (number 1 ∷ number 2 ∷ quotation (plus ∷ []) ∷ tested-call 2 1 ∷ drop ∷ []) ≡ None
+unfolding prim_numbered core_numbered mark_eq
+tested_call = refl
+
+-- [ ] call( -- q ) call: nothing is known of what it leaves
+pub tested_leaves_unknown : verdict_of [] (quotation ([]) ∷ tested-call 0 1 ∷ call ∷ []) ≡ refuses 0 NotKnown 4
+unfolding prim_numbered core_numbered mark_eq
+tested_leaves_unknown = refl
+
+-- 1 call( -- * ) +: nothing is walked behind it
+pub tested_never_returns : verdict_of [] (number 1 ∷ call_eff (record { ins = 0; outs = None }) ∷ plus ∷ []) ≡ None
+unfolding prim_numbered core_numbered mark_eq
+tested_never_returns = refl
+
+-- 2 \ sq execute( x -- x ) drop
+pub tested_word : verdict_of [] (number 2 ∷ itself sq ∷ tested-execute 1 1 ∷ drop ∷ []) ≡ None
+unfolding prim_numbered core_numbered mark_eq
+tested_word = refl
+
+-- Words that are executed.
+
+-- \ execute execute: it finds `execute`, which needs a word
+pub executes_itself : verdict_of [] (itself execute ∷ execute ∷ []) ≡ refuses 0 (Underflow 1 0) 3
+unfolding prim_numbered core_numbered mark_eq
+executes_itself = refl
+
+-- 2 \ sq \ execute execute drop
+pub executes_twice : verdict_of [] (number 2 ∷ itself sq ∷ itself execute ∷ execute ∷ drop ∷ []) ≡ None
+unfolding prim_numbered core_numbered mark_eq
+executes_twice = refl
+
+-- [ ] \ call execute
+pub executes_call : verdict_of [] (quotation ([]) ∷ itself call ∷ execute ∷ []) ≡ None
+unfolding prim_numbered core_numbered mark_eq
+executes_call = refl
+
+-- 1 \ call execute: the place is that of `execute`
+pub executes_call_unknown : verdict_of [] (number 1 ∷ itself call ∷ execute ∷ []) ≡ refuses 0 NotKnown 4
+unfolding prim_numbered core_numbered mark_eq
+executes_call_unknown = refl
+
+-- : name ( -- q ) [ ] ; inline \ name execute call: an inline word is expanded
+pub executes_expanded : verdict_of (defined (takes 0 1) true false (quotation ([]) ∷ []) ∷ []) (itself (own 0) ∷ execute ∷ call ∷ []) ≡ None
+unfolding prim_numbered core_numbered mark_eq
+executes_expanded = refl
 
 -- The identity of literals.
 
@@ -558,6 +653,11 @@ pub declared : verdict_of (defined (takes 0 0) true true (own 0 ∷ []) ∷ []) 
 unfolding prim_numbered core_numbered mark_eq
 declared = refl
 
+-- also by \: : name ( -- ) \ name execute ; inline recursive
+pub declared_by_name : verdict_of (defined (takes 0 0) true true (itself (own 0) ∷ execute ∷ []) ∷ []) ([]) ≡ None
+unfolding prim_numbered core_numbered mark_eq
+declared_by_name = refl
+
 -- Declarations of rows.
 
 -- : name ( ..a q: ( ..a -- ..a ) -- ..a ) drop ;
@@ -729,6 +829,16 @@ composed_too_many = refl
 pub executed_counts : walk_of ([]) 5 (number 2 ∷ itself sq ∷ execute ∷ drop ∷ []) ≡ found (on None []) 0
 unfolding prim_numbered core_numbered mark_eq
 executed_counts = refl
+
+-- 2 \ sq \ execute execute drop: both, and the word
+pub executed_twice_counts : walk_of ([]) 7 (number 2 ∷ itself sq ∷ itself execute ∷ execute ∷ drop ∷ []) ≡ found (on None []) 0
+unfolding prim_numbered core_numbered mark_eq
+executed_twice_counts = refl
+
+-- with two items less too-large is at `execute`
+pub executed_too_many : walk_of ([]) 5 (number 2 ∷ itself sq ∷ itself execute ∷ execute ∷ drop ∷ []) ≡ refused TooLarge (token 6)
+unfolding prim_numbered core_numbered mark_eq
+executed_too_many = refl
 
 -- an expanded word of two items
 pub expanded_counts : walk_of (defined (takes 0 0) true false (number 1 ∷ drop ∷ []) ∷ []) 3 (own 0 ∷ []) ≡ found (on None []) 0
@@ -950,6 +1060,16 @@ pub of_choice : effect_of (literal (quotation (number 1 ∷ []) ∷ quotation (n
 unfolding prim_numbered core_numbered mark_eq
 of_choice = refl
 
+-- [ call( x -- x ) ]
+pub of_tested : effect_of (literal (tested-call 1 1 ∷ [])) ≡ height 2 1
+unfolding prim_numbered core_numbered mark_eq
+of_tested = refl
+
+-- [ execute ] has none
+pub of_execute : least_height (program_of [] [] []) 5 0 (phrase (execute ∷ [])) ≡ None
+unfolding prim_numbered core_numbered mark_eq
+of_execute = refl
+
 -- [ throw ] never returns
 pub of_throw : effect_of (literal (throw ∷ [])) ≡ stopping 1
 unfolding prim_numbered core_numbered mark_eq
@@ -969,6 +1089,21 @@ of_captured = refl
 pub of_called_capture : least_height (program_of [] [] []) 5 0 (phrase (known any ∷ call ∷ [])) ≡ None
 unfolding prim_numbered core_numbered mark_eq
 of_called_capture = refl
+
+-- [ + ] from two unknown values
+pub two_taken : found_height 2 (walked_alone (program_of [] [] []) 2 (phrase (plus ∷ []))) ≡ height 2 1
+unfolding prim_numbered core_numbered mark_eq
+two_taken = refl
+
+-- and from one
+pub one_missing : found_height 1 (walked_alone (program_of [] [] []) 1 (phrase (plus ∷ []))) ≡ None
+unfolding prim_numbered core_numbered mark_eq
+one_missing = refl
+
+-- [ throw ] from two
+pub none_returned : found_height 2 (walked_alone (program_of [] [] []) 2 (phrase (throw ∷ []))) ≡ stopping 2
+unfolding prim_numbered core_numbered mark_eq
+none_returned = refl
 
 -- 1 [ + ] curry
 pub of_curried : effect_of (cur one (literal (plus ∷ []))) ≡ height 1 1

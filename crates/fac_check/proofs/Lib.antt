@@ -1,6 +1,8 @@
 pub mod ValuesOfMarks
 pub mod StandingLaws
 pub mod WalksFit
+pub mod RaisedWalks
+pub mod MarksBelowStay
 pub mod ItemsFit
 pub mod SoundWalks
 pub mod SoundPrograms
@@ -22,6 +24,8 @@ pub mod CountedValues
 pub mod RowPromises
 pub mod Promised
 pub mod StepByStep
+pub mod ExecutedItems
+pub mod StandingItems
 pub mod BuiltWords
 pub mod PrimitiveDoings
 pub mod BuiltMarks
@@ -39,6 +43,7 @@ pub mod MarkWalks
 pub mod UseWalks
 pub mod VerdictLemmas
 pub mod NamedLiterals
+pub mod TemplatesAlone
 pub mod ShownCells
 pub mod AskedCells
 pub mod ShownLiterals
@@ -48,3 +53,4 @@ pub mod EdgesOfWords
 pub mod UndeclaredWords
 pub mod JudgeLemmas
 pub mod ExamplesOfRecursion
+pub mod ExamplesOfAlone

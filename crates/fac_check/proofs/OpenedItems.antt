@@ -1,5 +1,5 @@
 -- Which item a closed one opens to under a frame, and what a literal with marks in its cells does.
-use Rattle.std.proofs.Common.{◌≡◌, ℕ, zero, suc, ◌+◌, List, [], ◌∷◌, ◌++◌, Option, Some, None, length, map, refl, sym, ap, subst, ◌∙◌, arith, append-nil, append_assoc}
+use Rattle.std.proofs.Common.{◌≡◌, ℕ, zero, suc, ◌+◌, List, [], ◌∷◌, ◌++◌, Bool, Option, Some, None, length, map, refl, sym, ap, subst, ◌∙◌, arith, append-nil, append_assoc}
 use Rattle.std.specs.Prelude.{slice_get, option_map}
 use Rattle.std.proofs.Math.ListN.{length-map}
 use Rattle.std.proofs.lemmas.Option.{slice_get-map}
@@ -16,9 +16,11 @@ use Rattle.fac_abs.specs.MarkTrees.{Naming}
 use Rattle.fac_abs.specs.SeenMarks.{MarksSeen, Grows, IsFrame, IsStack, mark_of, frame_of, stack_of, base_seen}
 use Rattle.fac_abs.specs.declared.rule.Rule.TheVariants.{Underflow}
 use Rattle.fac_check.specs.Flow.{Doing as DoingAtOnce, breaks, gives, needing, doing}
-use Rattle.fac_check.specs.inner.Walking.{Opened, Captures, MakesLiteral, PutsMark, doing_seen, items_of}
+use Rattle.fac_check.specs.inner.Alone.{literal_number, StandsAt}
+use Rattle.fac_check.specs.inner.Walking.{Opened, NamesTemplate, Captures, MakesLiteral, PutsMark, doing_seen, items_of}
 use Rattle.fac_abs.specs.MarkPromises.{IsMarkOf, IsFrameOf}
 use Rattle.fac_check.specs.declared.doing.Doing.{Doing}
+use Rattle.fac_check.proofs.StandingItems.{made_literal, made_template}
 
 -- An item that a frame changes nothing of opens to itself.
 module _ {P : Program} {templates : List Template} {frame : List Item} {at : Literal} where
@@ -33,9 +35,9 @@ module _ {P : Program} {templates : List Template} {frame : List Item} {at : Lit
   opens_local k i (o_local j l e g) = e
 
 -- what a plain closed item does, each item does to which it opens
-module _ {C : Program} {templates : List Template} {own : Option ℕ} (O : Opened C templates own) (frame : List Item) (c : Item) (h : IsPlain O.program c) (b : Option Row) (ms : List Mark) (X : DoingAtOnce) where
-  pub plain_does : (at : Literal) (i : Item) → X ≡ doing O.program O.word at c b ms → OpensItem O.program templates frame at c i → X ≡ doing O.program O.word at i b ms
-  plain_does at i e opens = e ∙ ap (λ j. doing O.program O.word at j b ms) (sym (opens_same c i h opens))
+module _ {C : Program} {templates : List Template} {own : Option ℕ} {inner : ℕ} (O : Opened C templates own inner) (frame : List Item) (c : Item) (h : IsPlain O.program c) (b : Option Row) (ms : List Mark) (X : DoingAtOnce) where
+  pub plain_does : (at here : Literal) (i : Item) → X ≡ doing O.program O.word here c b ms → OpensItem O.program templates frame at c i → X ≡ doing O.program O.word here i b ms
+  plain_does at here i e opens = e ∙ ap (λ j. doing O.program O.word here j b ms) (sym (opens_same c i h opens))
 
 -- The items of a frame.
 
@@ -155,21 +157,24 @@ fry_makes M L C T K s k g n inputs rest cells mark D first second third frame be
     ∙ needing_takes n (stack_of N M s) (stack_of N L inputs) (stack_of N L rest) (λ taken rest. gives (on b (limited (lit_mark (N.literal k) (N.phrase k (piled taken (frame_of N M g)))) ∷ rest))) (takes N)
 
 -- The value of a cell.
-module _ {C : Program} {templates : List Template} {own : Option ℕ} (O : Opened C templates own) (M L : MarksSeen) (b : Option ℕ) (s g k : ℕ) (D : Doing) where
-  pub local_does : (m : ℕ) → slice_get (piled (frame_of O.naming M g) []) k ≡ Some (mark_of O.naming M m) → PutsMark M L s (λ N. mark_of N M m) D → (at : Literal) (i : Item) → OpensItem O.program templates (items_of (frame_of O.naming M g)) at (local k) i → doing_seen O.naming L (slice_get O.program.words) (base_seen O.naming b) D ≡ doing O.program O.word at i (base_seen O.naming b) (stack_of O.naming M s)
-  local_does m cell puts at i opens =
+module _ {C : Program} {templates : List Template} {own : Option ℕ} {inner : ℕ} (O : Opened C templates own inner) (M L : MarksSeen) (b : Option ℕ) (s g k : ℕ) (D : Doing) where
+  pub local_does : (m : ℕ) → slice_get (piled (frame_of O.naming M g) []) k ≡ Some (mark_of O.naming M m) → PutsMark M L s (λ N. mark_of N M m) D → (at here : Literal) (i : Item) → OpensItem O.program templates (items_of (frame_of O.naming M g)) at (local k) i → doing_seen O.naming L (slice_get O.program.words) (base_seen O.naming b) D ≡ doing O.program O.word here i (base_seen O.naming b) (stack_of O.naming M s)
+  local_does m cell puts at here i opens =
       let there : Some i ≡ Some (known (mark_of O.naming M m)) = sym (opens_local k i opens) ∙ item_there (frame_of O.naming M g) k ∙ ap (option_map known) cell in
       let same : i ≡ known (mark_of O.naming M m) = cc in
-      puts O.naming (slice_get O.program.words) (base_seen O.naming b) ∙ ap (λ j. doing O.program O.word at j (base_seen O.naming b) (stack_of O.naming M s)) (sym same)
+      puts O.naming (slice_get O.program.words) (base_seen O.naming b) ∙ ap (λ j. doing O.program O.word here j (base_seen O.naming b) (stack_of O.naming M s)) (sym same)
 
 -- a cell that isn't there opens to nothing
-pub no_local : {C : Program} {templates : List Template} {own : Option ℕ} (O : Opened C templates own) (M : MarksSeen) (g k : ℕ) → slice_get (piled (frame_of O.naming M g) []) k ≡ None → (at : Literal) (i : Item) → OpensItem O.program templates (items_of (frame_of O.naming M g)) at (local k) i → ⊥
+pub no_local : {C : Program} {templates : List Template} {own : Option ℕ} {inner : ℕ} (O : Opened C templates own inner) (M : MarksSeen) (g k : ℕ) → slice_get (piled (frame_of O.naming M g) []) k ≡ None → (at : Literal) (i : Item) → OpensItem O.program templates (items_of (frame_of O.naming M g)) at (local k) i → ⊥
 no_local O M g k cell at i opens = (let clash : Some i ≡ None = sym (opens_local k i opens) ∙ item_there (frame_of O.naming M g) k ∙ ap (option_map known) cell in absurd (cc))
 
 -- A literal with the marks of its captures and holes does what each does that a template opens to.
-module _ {C : Program} {templates : List Template} {own : Option ℕ} (O : Opened C templates own) (M L K : MarksSeen) (k : ℕ) (t : Template) (there : slice_get templates k ≡ Some t) (b : Option ℕ) (s g h : ℕ) (grows : Grows M L) (stack : IsStack M s) (captures : Captures M L g t.captures (Some h)) (D : Doing) (makes : MakesLiteral L K s k h t.holes D) where
+module _ {C : Program} {templates : List Template} {own : Option ℕ} {inner : ℕ} (O : Opened C templates own inner) (M L K : MarksSeen) (alone : Bool) (k : ℕ) (t : Template) (there : slice_get templates k ≡ Some t) (b : Option ℕ) (s g h : ℕ) (grows : Grows M L) (stack : IsStack M s) (captures : Captures M L g t.captures (Some h)) (D : Doing) (makes : MakesLiteral L K s (literal_number (length templates) alone k) h t.holes D) where
   abbrev N : Naming
   N = O.naming
+
+  abbrev n : ℕ
+  n = literal_number (length templates) alone k
 
   abbrev fs : List Mark
   fs = frame_of N L h
@@ -183,8 +188,8 @@ module _ {C : Program} {templates : List Template} {own : Option ℕ} (O : Opene
   abbrev puts : Literal → (List Mark → Phrase) → List Mark → List Mark → DoingAtOnce
   puts l u taken rest = gives (on base (limited (lit_mark l (u taken)) ∷ rest))
 
-  is_made : doing_seen N K (slice_get O.program.words) base D ≡ needing t.holes ms (puts (N.literal k) (λ taken. N.phrase k (piled taken fs)))
-  is_made = makes N (slice_get O.program.words) base ∙ ap (λ xs. needing t.holes xs (puts (N.literal k) (λ taken. N.phrase k (piled taken fs)))) (grows.same_stack N s stack)
+  is_made : doing_seen N K (slice_get O.program.words) base D ≡ needing t.holes ms (puts (N.literal n) (λ taken. N.phrase n (piled taken fs)))
+  is_made = makes N (slice_get O.program.words) base ∙ ap (λ xs. needing t.holes xs (puts (N.literal n) (λ taken. N.phrase n (piled taken fs)))) (grows.same_stack N s stack)
 
   -- the captured cells
   captured : (is : List Item) → items_at t.captures (items_of (frame_of N M g)) ≡ Some is → is ≡ items_of fs
@@ -195,40 +200,48 @@ module _ {C : Program} {templates : List Template} {own : Option ℕ} (O : Opene
       let kept = O.opens.captured k t (items_of (frame_of N M g)) is there e (known_put (piled (frame_of N M g) [])) in
       sym (items_length fs) ∙ ap length (sym (captured is e)) ∙ kept.1
 
-  -- the phrase with as many marks as cells
-  filled_phrase : (is : List Item) → items_at t.captures (items_of (frame_of N M g)) ≡ Some is → (taken : List Mark) → length taken ≡ t.holes → N.phrase k (piled taken fs) ≡ template_phrase O.program k (is ++ map known taken)
-  filled_phrase is e taken many =
-      (O.template_is k t there).phrase_is (piled taken fs) (omega (arith, piled_length taken fs, captured_count is e, many))
-      ∙ ap (template_phrase O.program k) (items_piled taken fs ∙ ap (λ xs. xs ++ map known taken) (sym (captured is e)))
+  module _ (at here : Literal) (stands : StandsAt O.program inner O.first alone at here) (place : (literal_numbered O.program k).at ≡ at) where
+    names : NamesTemplate O.program N n k t
+    names = made_template O k t there alone at here stands place
+
+    literal : N.literal n ≡ here
+    literal = made_literal O k t there alone at here stands place
+
+    -- the phrase with as many marks as cells
+    filled_phrase : (is : List Item) → items_at t.captures (items_of (frame_of N M g)) ≡ Some is → (taken : List Mark) → length taken ≡ t.holes → N.phrase n (piled taken fs) ≡ template_phrase O.program k (is ++ map known taken)
+    filled_phrase is e taken many =
+        names.phrase_is (piled taken fs) (omega (arith, piled_length taken fs, captured_count is e, many))
+        ∙ ap (template_phrase O.program k) (items_piled taken fs ∙ ap (λ xs. xs ++ map known taken) (sym (captured is e)))
+
+    quotation_does : (is : List Item) → t.holes ≡ 0 → items_at t.captures (items_of (frame_of N M g)) ≡ Some is → doing_seen N K (slice_get O.program.words) base D ≡ doing O.program O.word here (quot (template_phrase O.program k is)) base ms
+    quotation_does is none e =
+        is_made
+        ∙ ap (λ m. needing m ms (puts (N.literal n) (λ taken. N.phrase n (piled taken fs)))) none
+        ∙ ap (λ u. gives (on base (limited (lit_mark (N.literal n) u) ∷ ms))) (filled_phrase is e [] (sym none) ∙ ap (template_phrase O.program k) (append-nil is))
+        ∙ ap (λ l. gives (on base (limited (lit_mark l (template_phrase O.program k is)) ∷ ms))) literal
+
+    fry_does : (is : List Item) (u : Phrase) → items_at t.captures (items_of (frame_of N M g)) ≡ Some is → ((js : List Item) → ArePut js → length js ≡ t.holes → put_holes js u ≡ template_phrase O.program k (is ++ js)) → doing_seen N K (slice_get O.program.words) base D ≡ doing O.program O.word here (fry u t.holes) base ms
+    fry_does is u e opens =
+        is_made
+        ∙ needing_same t.holes ms (puts (N.literal n) (λ taken. N.phrase n (piled taken fs))) (puts here (λ taken. put_holes (map known taken) u))
+        (λ taken rest p.
+        let many : length taken ≡ t.holes = omega (arith, popped_length t.holes [] ms taken rest p) in
+        ap (λ x. gives (on base (limited (lit_mark (N.literal n) x) ∷ rest))) (filled_phrase is e taken many ∙ sym (opens (map known taken) (known_put taken) (length-map taken known ∙ many)))
+        ∙ ap (λ l. gives (on base (limited (lit_mark l (put_holes (map known taken) u)) ∷ rest))) literal)
 
   same_template : (u : Template) → slice_get templates k ≡ Some u → u ≡ t
   same_template u e = (let f : Some u ≡ Some t = sym e ∙ there in cc)
 
-  quotation_does : (at : Literal) (is : List Item) → t.holes ≡ 0 → (literal_numbered O.program k).at ≡ at → items_at t.captures (items_of (frame_of N M g)) ≡ Some is → doing_seen N K (slice_get O.program.words) base D ≡ doing O.program O.word at (quot (template_phrase O.program k is)) base ms
-  quotation_does at is none place e =
-      is_made
-      ∙ ap (λ n. needing n ms (puts (N.literal k) (λ taken. N.phrase k (piled taken fs)))) none
-      ∙ ap (λ u. gives (on base (limited (lit_mark (N.literal k) u) ∷ ms))) (filled_phrase is e [] (sym none) ∙ ap (template_phrase O.program k) (append-nil is))
-      ∙ ap (λ l. gives (on base (limited (lit_mark l (template_phrase O.program k is)) ∷ ms))) (O.literal_is k ∙ place)
-
-  fry_does : (at : Literal) (is : List Item) (u : Phrase) → (literal_numbered O.program k).at ≡ at → items_at t.captures (items_of (frame_of N M g)) ≡ Some is → ((js : List Item) → ArePut js → length js ≡ t.holes → put_holes js u ≡ template_phrase O.program k (is ++ js)) → doing_seen N K (slice_get O.program.words) base D ≡ doing O.program O.word at (fry u t.holes) base ms
-  fry_does at is u place e opens =
-      is_made
-      ∙ needing_same t.holes ms (puts (N.literal k) (λ taken. N.phrase k (piled taken fs))) (puts at (λ taken. put_holes (map known taken) u))
-      (λ taken rest p.
-      let many : length taken ≡ t.holes = omega (arith, popped_length t.holes [] ms taken rest p) in
-      ap (λ x. gives (on base (limited (lit_mark (N.literal k) x) ∷ rest))) (filled_phrase is e taken many ∙ sym (opens (map known taken) (known_put taken) (length-map taken known ∙ many)))
-      ∙ ap (λ l. gives (on base (limited (lit_mark l (put_holes (map known taken) u)) ∷ rest))) (O.literal_is k ∙ place))
-
-  pub literal_does : (at : Literal) (i : Item) → OpensItem O.program templates (items_of (frame_of N M g)) at (made k) i → doing_seen N K (slice_get O.program.words) base D ≡ doing O.program O.word at i base ms
-  literal_does at i (o_plain j p) = absurd p
-  literal_does at i (o_quotation j u is e none place f) = (let same = same_template u e in quotation_does at is (ap (λ (x : Template). x.holes) (sym same) ∙ none) place (subst (λ (x : Template). items_at x.captures (items_of (frame_of N M g)) ≡ Some is) same f))
-  literal_does at i (o_fry j u is v e place f opens) =
+  pub literal_does : (at here : Literal) (i : Item) → StandsAt O.program inner O.first alone at here → OpensItem O.program templates (items_of (frame_of N M g)) at (made k) i → doing_seen N K (slice_get O.program.words) base D ≡ doing O.program O.word here i base ms
+  literal_does at here i stands (o_plain j p) = absurd p
+  literal_does at here i stands (o_quotation j u is e none place f) =
+      (let same = same_template u e in quotation_does at here stands place is (ap (λ (x : Template). x.holes) (sym same) ∙ none) (subst (λ (x : Template). items_at x.captures (items_of (frame_of N M g)) ≡ Some is) same f))
+  literal_does at here i stands (o_fry j u is v e place f opens) =
       let same = same_template u e in
-      let here = subst (λ (x : Template). items_at x.captures (items_of (frame_of N M g)) ≡ Some is) same f in
-      fry_does at is v place here (subst (λ (x : Template). (js : List Item) → ArePut js → length js ≡ x.holes → put_holes js v ≡ template_phrase O.program k (is ++ js)) same opens) ∙ ap (λ n. doing O.program O.word at (fry v n) base ms) (ap (λ (x : Template). x.holes) (sym same))
+      let found = subst (λ (x : Template). items_at x.captures (items_of (frame_of N M g)) ≡ Some is) same f in
+      fry_does at here stands place is v found (subst (λ (x : Template). (js : List Item) → ArePut js → length js ≡ x.holes → put_holes js v ≡ template_phrase O.program k (is ++ js)) same opens) ∙ ap (λ m. doing O.program O.word here (fry v m) base ms) (ap (λ (x : Template). x.holes) (sym same))
 
-no_items : {C : Program} {templates : List Template} {own : Option ℕ} (O : Opened C templates own) (M L : MarksSeen) (k : ℕ) (t : Template) → slice_get templates k ≡ Some t → (g : ℕ) → Captures M L g t.captures None → (u : Template) (is : List Item) → slice_get templates k ≡ Some u → items_at u.captures (items_of (frame_of O.naming M g)) ≡ Some is → ⊥
+no_items : {C : Program} {templates : List Template} {own : Option ℕ} {inner : ℕ} (O : Opened C templates own inner) (M L : MarksSeen) (k : ℕ) (t : Template) → slice_get templates k ≡ Some t → (g : ℕ) → Captures M L g t.captures None → (u : Template) (is : List Item) → slice_get templates k ≡ Some u → items_at u.captures (items_of (frame_of O.naming M g)) ≡ Some is → ⊥
 no_items O M L k t there g none u is e f =
     let both : Some u ≡ Some t = sym e ∙ there in
     let same : u ≡ t = cc in
@@ -236,7 +249,7 @@ no_items O M L k t there g none u is e f =
     absurd (cc)
 
 -- where a captured cell isn't there, a template opens to nothing
-pub no_captures : {C : Program} {templates : List Template} {own : Option ℕ} (O : Opened C templates own) (M L : MarksSeen) (k : ℕ) (t : Template) → slice_get templates k ≡ Some t → (g : ℕ) → Captures M L g t.captures None → (at : Literal) (i : Item) → OpensItem O.program templates (items_of (frame_of O.naming M g)) at (made k) i → ⊥
+pub no_captures : {C : Program} {templates : List Template} {own : Option ℕ} {inner : ℕ} (O : Opened C templates own inner) (M L : MarksSeen) (k : ℕ) (t : Template) → slice_get templates k ≡ Some t → (g : ℕ) → Captures M L g t.captures None → (at : Literal) (i : Item) → OpensItem O.program templates (items_of (frame_of O.naming M g)) at (made k) i → ⊥
 no_captures {C} {templates} O M L k t there g none at i (o_plain j p) = p
 no_captures {C} {templates} O M L k t there g none at i (o_quotation j u is e holes place f) = no_items O M L k t there g none u is e f
 no_captures {C} {templates} O M L k t there g none at i (o_fry j u is v e place f opens) = no_items O M L k t there g none u is e f

@@ -1,14 +1,14 @@
 -- The walk of a phrase is the walk of its first item, and then that of the rest.
-use Rattle.std.proofs.Common.{◌≡◌, ℕ, zero, suc, List, Option, Some, None, refl}
+use Rattle.std.proofs.Common.{◌≡◌, ℕ, zero, suc, List, Option, Some, None, refl, sym, ap, ◌∙◌}
 use Rattle.fac_lang.specs.declared.phrase.Place.{Place}
 use Rattle.fac_lang.specs.Signatures.{Signature}
-use Rattle.fac_lang.specs.Phrases.{Literal, Phrase, Mark}
-use Rattle.fac_lang.specs.RowVariables.{effect_inputs, outer_in}
-use Rattle.fac_abs.specs.Marks.{AbstractStack, on}
+use Rattle.fac_lang.specs.Phrases.{Literal, Phrase, end, then, word, Mark}
+use Rattle.fac_lang.specs.RowVariables.{Row, effect_inputs, outer_in}
+use Rattle.fac_abs.specs.Marks.{AbstractStack, dead, on}
 use Rattle.fac_abs.specs.declared.rule.Rule.{Rule}
 use Rattle.fac_rows.specs.RowBinding.{row_binding}
 use Rattle.fac_check.specs.Flow.{Walked, found, refused, and_then, living, Doing, breaks, gives, names_local, expands, walks, forks, again, uses, Walk, counted, join, marks_back, walk_mark, phrase_rule, first_rule, use_rule, unless_broken, walk_on}
-use Rattle.fac_check.specs.inner.ItemWalk.{IsAlone, item_walk}
+use Rattle.fac_check.specs.inner.ItemWalk.{IsAlone, NamesNone, item_walk}
 
 -- what follows a walk that goes on
 pub and_then_each : {A B C : Type 0} (W : Walked A) (f : A → ℕ → Walked B) (g : B → ℕ → Walked C) → and_then (and_then W f) g ≡ and_then W (λ a n. and_then (f a n) g)
@@ -51,3 +51,30 @@ module _ (own : Option Signature) (go : Walk) (d : ℕ) (next : Literal) (t : Ph
   walk_on_item (forks l r b ms) p n alone = broken_first (first_rule own l d b ms) p _ _ (counted_first p n _ _ (λ k. joined_first p (walk_mark own go l p d b ms k) (λ j. walk_mark own go r p d b ms j)))
   walk_on_item (again w b ms) p n alone = absurd alone
   walk_on_item (uses e is b ms) p n alone = broken_first (use_rule own (row_binding (outer_in e) (on b ms)) (effect_inputs e) is d) p _ _ (counted_first p n _ _ (λ k. refl))
+
+-- The walk of the phrase that has an item alone, and then that of the rest.
+module _ (own : Option Signature) (go : Walk) (d : ℕ) (next : Literal) (ends : (b : Option Row) (ms : List Mark) (k : ℕ) → go next d end b ms k ≡ found (on b ms) k) where
+  -- nothing comes behind the end
+  pub nothing_behind : (W : Walked AbstractStack) → and_then W (rest own go d next end) ≡ W
+  nothing_behind (found dead n) = refl
+  nothing_behind (found (on b ms) n) = ends b ms n
+  nothing_behind (refused r p) = refl
+
+  -- an item that is no other's
+  pub walk_of_item : (D : Doing) (p : Place) (n : ℕ) → IsAlone D → walk_on own go D p d next end n ≡ item_walk own go D p d n
+  walk_of_item D p n alone = walk_on_item own go d next end D p n alone ∙ nothing_behind (item_walk own go D p d n)
+
+  module _ (t : Phrase) where
+    split : (D : Doing) (p : Place) (n : ℕ) → IsAlone D → walk_on own go D p d next t n ≡ and_then (walk_on own go D p d next end n) (rest own go d next t)
+    split D p n alone = walk_on_item own go d next t D p n alone ∙ ap (λ W. and_then W (rest own go d next t)) (sym (walk_of_item D p n alone))
+
+    pub walk_on_rest : (D : Doing) (p : Place) (n : ℕ) → NamesNone D → walk_on own go D p d next t n ≡ and_then (walk_on own go D p d next end n) (rest own go d next t)
+    walk_on_rest (breaks r) p n none = split (breaks r) p n tt
+    walk_on_rest (gives A) p n none = split (gives A) p n tt
+    walk_on_rest (names_local x m b ms) p n none = absurd none
+    walk_on_rest (expands w u b ms) p n none = split (expands w u b ms) p n tt
+    walk_on_rest (walks m b ms back) p n none = split (walks m b ms back) p n tt
+    walk_on_rest (forks l r b ms) p n none = split (forks l r b ms) p n tt
+    walk_on_rest (again w b ms) p zero none = refl
+    walk_on_rest (again w b ms) p (suc k) none = ap (λ W. and_then W (rest own go d next t)) (sym (nothing_behind (go next d (then (word w) p end) b ms k)))
+    walk_on_rest (uses e is b ms) p n none = split (uses e is b ms) p n tt

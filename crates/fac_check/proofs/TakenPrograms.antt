@@ -64,6 +64,8 @@ module _ (P : Program) (count : ℕ) (numbered : (cells : List Cell) (at : Liter
   taken_item cells at (hole k) j l c h = rw c.1 refl
   taken_item cells at (word w) j l c h = rw c (below_is w P.top h)
   taken_item cells at (lit_arr a) j l c h = rw c refl
+  taken_item cells at (call_eff f) j l c h = rw c refl
+  taken_item cells at (exec_eff f) j l c h = rw c refl
   taken_item cells at next_method j l c h = rw c refl
   taken_item cells at (next_after m) j l c h = rw c refl
   taken_item cells at _ j l c h = absurd h

@@ -27,7 +27,7 @@ use Rattle.fac_check.specs.declared.walker.InputsWalked.{InputsWalked}
 use Rattle.fac_check.specs.Flow.{Walked, refused, and_then, started, tied_on, Walk, walk_mark, walk_from, walk_inputs, start_rule, use_rule}
 use Rattle.fac_check.specs.inner.Walking.{Opened, walked_seen, inputs_seen, is_defined, effect_of, start_walk, quotation_walk, input_walk}
 
-module _ {C : Program} {templates : List Template} {own : Option ℕ} (O : Opened C templates own) (M : MarksSeen) (s : Step) where
+module _ {C : Program} {templates : List Template} {own : Option ℕ} {inner : ℕ} (O : Opened C templates own inner) (M : MarksSeen) (s : Step) where
   -- the rule that a use breaks by an input with this quotation and mark, or by the inputs after it
   abbrev pub rule_of_input : Input → List Input → ℕ → ℕ → List (Row × Reached) → Option Rule
   rule_of_input i is m r bs =
@@ -50,7 +50,7 @@ module _ {C : Program} {templates : List Template} {own : Option ℕ} (O : Opene
       by_input None = refl
       by_input (Some e) = refl
 
-module _ {C : Program} {templates : List Template} {own : Option ℕ} (O : Opened C templates own) (go : Walk) where
+module _ {C : Program} {templates : List Template} {own : Option ℕ} {inner : ℕ} (O : Opened C templates own inner) (go : Walk) where
   -- an input and its mark, and then the others
   pub input_step :
       (M : MarksSeen) (s : Step) (k : ℕ) (i : Input) (left is : List Input) (marks m r : ℕ) (bs : List (Row × Reached)) → left ≡ i ∷ is → HasTop M marks m r →
@@ -80,7 +80,7 @@ module _ {C : Program} {templates : List Template} {own : Option ℕ} (O : Opene
       ∙ ap (λ l. input_walk M s l i m bs more O go) number
       ∙ sym (input_step M s k i left is marks m r bs next top)
 
-module _ {C : Program} {templates : List Template} {own : Option ℕ} (O : Opened C templates own) (go : Walk) (M L K : MarksSeen) (s : Step) (k : ℕ) (e : Signature) (m : ℕ) (bs : List (Row × Reached)) (more : Binding → ℕ → Walked Binding) where
+module _ {C : Program} {templates : List Template} {own : Option ℕ} {inner : ℕ} (O : Opened C templates own inner) (go : Walk) (M L K : MarksSeen) (s : Step) (k : ℕ) (e : Signature) (m : ℕ) (bs : List (Row × Reached)) (more : Binding → ℕ → Walked Binding) where
   -- what follows the walk of a quotation input
   abbrev tied_after : AbstractStack → ℕ → Walked Binding
   tied_after B n = tied_on (tie k (row_name e) (effect_leaving e) B (binding_seen O.naming M bs)) s.place n more
@@ -116,7 +116,7 @@ module _ {C : Program} {templates : List Template} {own : Option ℕ} (O : Opene
       quotation_untied r h = ap (λ x. tied_on x s.place n more) (sym (h.1 O.naming) ∙ same_rows) ∙ ended (Found B n) is
 
 -- a word that is used has the effect of the closed one
-module _ {C : Program} {templates : List Template} {own : Option ℕ} (O : Opened C templates own) (w : ℕ) where
+module _ {C : Program} {templates : List Template} {own : Option ℕ} {inner : ℕ} (O : Opened C templates own inner) (w : ℕ) where
   pub used_effect : is_defined (slice_get C.words w) ≡ true → effect_of (slice_get O.program.words w) ≡ effect_of (slice_get C.words w)
   used_effect h = by_word (slice_get C.words w) refl h
     where

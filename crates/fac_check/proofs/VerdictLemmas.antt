@@ -1,5 +1,5 @@
 -- The verdict on a word, from the walk of its closed phrase.
-use Rattle.std.proofs.Common.{◌≡◌, ◌≢◌, ◌<◌, ℕ, List, [], ◌∷◌, Bool, true, false, Option, Some, None, refl, sym, ap, subst, ◌∙◌, arith}
+use Rattle.std.proofs.Common.{◌≡◌, ◌≢◌, ◌<◌, ◌≤◌, ◌+◌, ℕ, List, [], ◌∷◌, length, Bool, true, false, Option, Some, None, refl, sym, ap, subst, ◌∙◌, arith}
 use Rattle.std.specs.Prelude.{nat_eq, not, ◌&&◌, slice_get}
 use Rattle.std.proofs.lemmas.Bool.{ne_eqb}
 use Rattle.fac_lang.specs.declared.phrase.Place.{Place}
@@ -8,7 +8,8 @@ use Rattle.fac_lang.specs.declared.program.Program.{Program}
 use Rattle.fac_lang.specs.declared.program.WordDef.{WordDef}
 use Rattle.fac_lang.specs.declared.program.Sort.{Sort}
 use Rattle.fac_lang.specs.declared.program.Sort.TheVariants.{Body as body, Past as past, Generic as generic, Method as method}
-use Rattle.fac_lang.specs.Phrases.{Literal, Phrase, Mark}
+use Rattle.fac_lang.specs.Phrases.{Literal, Phrase, then, made, Mark}
+use Rattle.fac_lang.specs.Meaning.{nowhere}
 use Rattle.fac_lang.specs.Signatures.{Signature, signature}
 use Rattle.fac_lang.specs.Effects.{effect_height, inputs_count}
 use Rattle.fac_lang.specs.Substitution.{of_method}
@@ -31,22 +32,28 @@ use Rattle.fac_check.specs.declared.walker.Walked.{Walked}
 use Rattle.fac_check.specs.Flow.{Walked as WalkedPhrase, most_steps, walk, doing, walked}
 use Rattle.fac_check.specs.Verdicts.{Refusal, refusal, end_of, kept_word, ordinary_verdict, row_verdict, top_verdict, inline_verdict, body_verdict, phrase_verdict, sort_verdict, ruled_verdict, word_verdict, undeclared, bad_rows, bad_generic, no_generic_effect}
 use Rattle.fac_check.specs.inner.Walking.{Opened, NamesTemplate, items_of, walked_seen, go_at}
+use Rattle.fac_check.specs.inner.Alone.{placed_alone}
 use Rattle.fac_check.specs.inner.OwnEffects.{effect_where, own_effect}
-use Rattle.fac_check.specs.inner.UndeclaredRecursion.{inline_phrase}
+use Rattle.fac_check.specs.inner.UndeclaredRecursion.{NumbersFrom, inline_phrase}
 use Rattle.fac_check.specs.inner.Breaches.{bad_rows_so, is_past_sort, generic_refusal}
 use Rattle.fac_check.specs.Judged.{breach_seen}
 use Rattle.fac_check.proofs.ClosedSorts.{past_same}
 use Rattle.fac_check.proofs.NamedWords.{closes_inline}
 
--- A naming of a program's literals by the numbers of their templates.
-pub record NamesLiterals (P : Program) (templates : List Template) : Type 0 where
+-- A naming of a program's literals by the numbers of their templates, and of those in a phrase that is walked by itself.
+pub record NamesLiterals (P : Program) (templates : List Template) (inner : ℕ) (first : Literal) : Type 0 where
   pub naming : Naming
-  pub literal_is : (k : ℕ) → naming.literal k ≡ (literal_numbered P k).at
-  pub template_is : (k : ℕ) (t : Template) → slice_get templates k ≡ Some t → NamesTemplate P naming k t
+  pub literal_is : (k : ℕ) → k < length templates → naming.literal k ≡ (literal_numbered P k).at
+  pub template_is : (k : ℕ) (t : Template) → slice_get templates k ≡ Some t → NamesTemplate P naming k k t
+  pub first_is : (at : Literal) → NumbersFrom P at inner → first.word ≡ at.word → first.around ≡ at.around → first.index ≤ at.index
+  pub literals_behind : (k : ℕ) → inner ≤ k → k < length templates → first.word ≡ (literal_numbered P k).at.word → first.around ≡ (literal_numbered P k).at.around → first.index ≤ (literal_numbered P k).at.index
+  pub apart_is : (k : ℕ) → inner ≤ k → k < length templates → naming.literal (length templates + k) ≡ placed_alone P first (literal_numbered P k).at
+  pub template_apart_is : (k : ℕ) (t : Template) → inner ≤ k → slice_get templates k ≡ Some t → NamesTemplate P naming (length templates + k) k t
+  pub none_is : (n : ℕ) → length templates ≤ n → n < length templates + inner → (ms : List Mark) → (rest : Phrase) × (naming.phrase n ms ≡ then (made 0) nowhere rest)
 
 -- The templates of a built program's closed one name its literals, and the bases of a walk name the rows of the word that is checked.
-abbrev pub opened : (P C : Program) (templates : List Template) (own : Option ℕ) → Closes P C templates → IsBuilt P → NamesLiterals P templates → Opened C templates own
-opened P C templates own closes built names = record {
+abbrev pub opened : (P C : Program) (templates : List Template) (own : Option ℕ) (inner : ℕ) (first : Literal) → Closes P C templates → IsBuilt P → NamesLiterals P templates inner first → Opened C templates own inner
+opened P C templates own inner first closes built names = record {
   program = P;
   closes = closes;
   built = built;
@@ -54,6 +61,12 @@ opened P C templates own closes built names = record {
   naming = naming_for names.naming (own_effect C own);
   literal_is = names.literal_is;
   template_is = λ k t e. let n = names.template_is k t e in record { phrase_is = n.phrase_is; other_is = n.other_is };
+  first = first;
+  first_is = names.first_is;
+  literals_behind = names.literals_behind;
+  apart_is = names.apart_is;
+  template_apart_is = λ k t ge e. let n = names.template_apart_is k t ge e in record { phrase_is = n.phrase_is; other_is = n.other_is };
+  none_is = names.none_is;
   word = own;
   word_is = refl;
   effect = own_effect C own;
@@ -65,15 +78,15 @@ height_inputs : (e : Signature) → (effect_height e).ins ≡ inputs_count (effe
 height_inputs (signature r is l) = refl
 
 -- a walk of a whole phrase from a stack on a base, as the code's calls tell it
-abbrev pub WalksWhole : Program → List Template → Option ℕ → Phrase → MarksSeen → MarksSeen → Option ℕ → ℕ → Walked → Type 0
-WalksWhole C templates own phrase M K base s W =
-    (O : Opened C templates own) (at : Literal) (t : Phrase) (f : ℕ) → Opens O.program templates (items_of (frame_of O.naming M 0)) at phrase t → 200000 < f → walked_seen O.naming K W ≡ go_at O f at 64 t (base_seen O.naming base) (stack_of O.naming M s) 200000
+abbrev pub WalksWhole : Program → List Template → Option ℕ → ℕ → Phrase → MarksSeen → MarksSeen → Option ℕ → ℕ → Walked → Type 0
+WalksWhole C templates own inner phrase M K base s W =
+    (O : Opened C templates own inner) (at here : Literal) (t : Phrase) (f : ℕ) → here ≡ at → Opens O.program templates (items_of (frame_of O.naming M 0)) at phrase t → 200000 < f → walked_seen O.naming K W ≡ go_at O f here 64 t (base_seen O.naming base) (stack_of O.naming M s) 200000
 
 -- what a word breaks whose walk ends so, and that must leave its outputs on this row, as the code's calls tell it
 abbrev pub IsKeptOn : WordDef → MarksSeen → Walked → Option ℕ → Option (Place × Rule) → Type 0
 IsKeptOn c K W row b = (Q : Program) (N : Naming) → breach_seen b ≡ end_of Q (walked_seen N K W) (kept_word Q (effect_leaving c.effect) (base_seen N row) c.place)
 
-module _ (P C : Program) (templates : List Template) (closes : Closes P C templates) (built : IsBuilt P) (names : NamesLiterals P templates) where
+module _ (P C : Program) (templates : List Template) (closes : Closes P C templates) (built : IsBuilt P) (inner : ℕ) (first : Literal) (names : NamesLiterals P templates inner first) where
   -- a phrase that opens under the empty frame does under one with no marks
   under : {at : Literal} {c t : Phrase} (fs : List Mark) → fs ≡ [] → Opens P templates [] at c t → Opens P templates (items_of fs) at c t
   under {at} {c} {t} fs e h = subst (λ (xs : List Mark). Opens P templates (items_of xs) at c t) (sym e) h
@@ -82,26 +95,26 @@ module _ (P C : Program) (templates : List Template) (closes : Closes P C templa
       (w : ℕ) (d c : WordDef) (t phrase : Phrase) (M K : MarksSeen) (s ins : ℕ) (W : Walked) (b : Option (Place × Rule)) →
       ClosesWord P w d c → Opens P templates [] (first_of_word w) phrase t →
       IsKeptOn c K W None b →
-      WalksWhole C templates None phrase M K None s W → ((N : Naming) → frame_of N M 0 ≡ []) → ((N : Naming) → stack_of N M s ≡ unknowns ins []) → ins ≡ (effect_height c.effect).ins →
+      WalksWhole C templates None inner phrase M K None s W → ((N : Naming) → frame_of N M 0 ≡ []) → ((N : Naming) → stack_of N M s ≡ unknowns ins []) → ins ≡ (effect_height c.effect).ins →
       breach_seen b ≡ ordinary_verdict P w t d
   ordinary_is w d c t phrase M K s ins W b word text kept walks empty stack many =
-      let O = opened P C templates None closes built names in
+      let O = opened P C templates None inner first closes built names in
       let N = O.naming in
       let count : ins ≡ inputs_count (effect_inputs d.effect) = many ∙ ap (λ e. (effect_height e).ins) word.effect ∙ height_inputs d.effect in
       kept P N
-      ∙ ap (λ x. end_of P x (kept_word P (effect_leaving c.effect) None c.place)) (walks O (first_of_word w) t most_steps (under (frame_of N M 0) (empty N) text) (omega arith) ∙ ap (λ ms. go_at O most_steps (first_of_word w) 64 t None ms 200000) (stack N ∙ ap (λ n. unknowns n []) count))
+      ∙ ap (λ x. end_of P x (kept_word P (effect_leaving c.effect) None c.place)) (walks O (first_of_word w) (first_of_word w) t most_steps refl (under (frame_of N M 0) (empty N) text) (omega arith) ∙ ap (λ ms. go_at O most_steps (first_of_word w) 64 t None ms 200000) (stack N ∙ ap (λ n. unknowns n []) count))
       ∙ ap (λ e. end_of P (go_at O most_steps (first_of_word w) 64 t None (unknowns (inputs_count (effect_inputs d.effect)) []) 200000) (kept_word P (effect_leaving e) None c.place)) word.effect
       ∙ ap (λ p. end_of P (go_at O most_steps (first_of_word w) 64 t None (unknowns (inputs_count (effect_inputs d.effect)) []) 200000) (kept_word P (effect_leaving d.effect) None p)) word.place
 
   pub top_is :
       (w : ℕ) (t phrase : Phrase) (M K : MarksSeen) (s start : ℕ) (W : Walked) (b : Option (Place × Rule)) →
       Opens P templates [] (first_of_word w) phrase t → ((Q : Program) (N : Naming) (L : MarksSeen) → breach_seen b ≡ end_of Q (walked_seen N L W) (λ A. None)) →
-      WalksWhole C templates None phrase M K None s W → ((N : Naming) → frame_of N M 0 ≡ []) → ((N : Naming) → stack_of N M s ≡ unknowns start []) →
+      WalksWhole C templates None inner phrase M K None s W → ((N : Naming) → frame_of N M 0 ≡ []) → ((N : Naming) → stack_of N M s ≡ unknowns start []) →
       breach_seen b ≡ top_verdict P start w t
   top_is w t phrase M K s start W b text kept walks empty stack =
-      let O = opened P C templates None closes built names in
+      let O = opened P C templates None inner first closes built names in
       let N = O.naming in
-      kept P N K ∙ ap (λ x. end_of P x (λ A. None)) (walks O (first_of_word w) t most_steps (under (frame_of N M 0) (empty N) text) (omega arith) ∙ ap (λ ms. go_at O most_steps (first_of_word w) 64 t None ms 200000) (stack N))
+      kept P N K ∙ ap (λ x. end_of P x (λ A. None)) (walks O (first_of_word w) (first_of_word w) t most_steps refl (under (frame_of N M 0) (empty N) text) (omega arith) ∙ ap (λ ms. go_at O most_steps (first_of_word w) 64 t None ms 200000) (stack N))
 
   -- the effect of a word is that of its closed one
   own_is : (w : ℕ) (d : WordDef) → slice_get P.words w ≡ Some d → own_effect C (Some w) ≡ Some d.effect
@@ -111,11 +124,11 @@ module _ (P C : Program) (templates : List Template) (closes : Closes P C templa
       (w : ℕ) (d c : WordDef) (t phrase : Phrase) (M K : MarksSeen) (base row : Option ℕ) (s : ℕ) (W : Walked) (b : Option (Place × Rule)) →
       slice_get P.words w ≡ Some d → ClosesWord P w d c → Opens P templates [] (first_of_word w) phrase t →
       IsKeptOn c K W row b →
-      WalksWhole C templates (Some w) phrase M K base s W → ((N : Naming) → frame_of N M 0 ≡ []) → ((N : Naming) → stack_of N M s ≡ inputs_marks 1 (effect_inputs c.effect) []) →
+      WalksWhole C templates (Some w) inner phrase M K base s W → ((N : Naming) → frame_of N M 0 ≡ []) → ((N : Naming) → stack_of N M s ≡ inputs_marks 1 (effect_inputs c.effect) []) →
       ((N : Naming) → NamesRows N c.effect → base_seen N base ≡ outer_in c.effect) → ((N : Naming) → NamesRows N c.effect → base_seen N row ≡ outer_out c.effect) →
       breach_seen b ≡ row_verdict P w t d
   row_is w d c t phrase M K base row s W b at word text kept walks empty stack begins ends =
-      let O = opened P C templates (Some w) closes built names in
+      let O = opened P C templates (Some w) inner first closes built names in
       let N = O.naming in
       let own = own_is w d at in
       let names : NamesRows N c.effect = subst (λ e. NamesRows N e) (sym word.effect) (subst (λ o. NamesOwn N o) own O.rows) in
@@ -124,7 +137,7 @@ module _ (P C : Program) (templates : List Template) (closes : Closes P C templa
       let go : WalkedPhrase AbstractStack = walked P (Some d.effect) (Some w) w t (outer_in d.effect) (inputs_marks 1 (effect_inputs d.effect) []) in
       kept P N
       ∙ ap (λ x. end_of P x (kept_word P (effect_leaving c.effect) (base_seen N row) c.place))
-      (walks O (first_of_word w) t most_steps (under (frame_of N M 0) (empty N) text) (omega arith)
+      (walks O (first_of_word w) (first_of_word w) t most_steps refl (under (frame_of N M 0) (empty N) text) (omega arith)
       ∙ ap (λ o. walk o (doing P (Some w)) most_steps (first_of_word w) 64 t (base_seen N base) (stack_of N M s) 200000) own
       ∙ ap (λ r. walked P (Some d.effect) (Some w) w t r (stack_of N M s)) at_base
       ∙ ap (λ ms. walked P (Some d.effect) (Some w) w t (outer_in d.effect) ms) at_stack)

@@ -1,6 +1,6 @@
 -- What the items of a built program's words do in the checker's walk.
-use Rattle.std.proofs.Common.{◌≡◌, ◌≢◌, ℕ, List, length, Bool, true, false, Option, Some, None, refl, sym, ap, subst, ◌∙◌, Result, Ok, Err}
-use Rattle.std.specs.Prelude.{not, slice_get, IfOk}
+use Rattle.std.proofs.Common.{◌≡◌, ◌≢◌, ℕ, List, [], ◌∷◌, ◌++◌, length, Bool, true, false, Option, Some, None, refl, sym, ap, subst, ◌∙◌, arith, Result, Ok, Err}
+use Rattle.std.specs.Prelude.{not, nat_eq, slice_get, IfOk}
 use Rattle.std.proofs.lemmas.Bool.{ne_eqb}
 use Rattle.fac_lang.specs.declared.phrase.Height.{Height}
 use Rattle.fac_lang.specs.declared.program.Program.{Program}
@@ -13,11 +13,13 @@ use Rattle.fac_lang.specs.Signatures.{Signature}
 use Rattle.fac_lang.specs.Effects.{effect_height}
 use Rattle.fac_lang.specs.PrimitiveWords.{outputs_of, written_effect}
 use Rattle.fac_lang.specs.Primitives.{Primitive, prim_numbered}
-use Rattle.fac_lang.specs.Meaning.{core_numbered, c_call, c_dip, c_if, c_boa}
-use Rattle.fac_locals.specs.Closed.{ClosesWord}
+use Rattle.fac_lang.specs.Meaning.{core_numbered, c_call, c_dip, c_if, c_execute, c_boa}
+use Rattle.fac_lang.specs.Forms.{IsBuilt}
+use Rattle.fac_locals.specs.Closed.{Closes, ClosesWord}
+use Rattle.fac_locals.proofs.Lookups.{word_open_none}
 use Rattle.fac_lang.specs.RowVariables.{Row, is_row}
 use Rattle.fac_abs.specs.declared.rule.Rule.TheVariants.{NotKnown}
-use Rattle.fac_check.specs.Flow.{Doing, by_height, callable_or, prim_doing, is_own, sort_doing, inline_doing, row_or_phrase}
+use Rattle.fac_check.specs.Flow.{Doing, breaks, word_doing, by_height, callable_or, prim_doing, is_own, sort_doing, inline_doing, row_or_phrase}
 use Rattle.fac_check.specs.inner.Walking.{Opened, NamesWhereOwn, body_phrase, phrase_of, sort_phrase}
 use Rattle.fac_check.specs.inner.OwnEffects.{own_effect, effect_where}
 use Rattle.fac_rows.specs.RowNumbers.{NamesOwn}
@@ -41,6 +43,10 @@ pub core_2 : core_numbered 2 ≡ Some c_if
 unfolding core_numbered
 core_2 = refl
 
+pub core_3 : core_numbered 3 ≡ Some c_execute
+unfolding core_numbered
+core_3 = refl
+
 pub core_4 : core_numbered 4 ≡ Some c_boa
 unfolding core_numbered
 core_4 = refl
@@ -49,8 +55,29 @@ pub core_9 : core_numbered 9 ≡ None
 unfolding core_numbered
 core_9 = refl
 
+-- the last element of a list
+last_at : {A : Type 0} (xs : List A) (y : A) → slice_get (xs ++ y ∷ []) (length xs) ≡ Some y
+last_at [] y = refl
+last_at (x ∷ xs) y = last_at xs y
+
+itself : (n : ℕ) → nat_eq n n ≡ true
+itself n = grind arith
+
+-- the top-level phrase is never an item
+pub top_item : (P : Program) → IsBuilt P → (own : Option ℕ) (b : Option Row) (ms : List Mark) → breaks NotKnown ≡ word_doing P own P.top (slice_get P.words P.top) b ms
+top_item P built own b ms =
+    let d = built.last_word in
+    let at : slice_get P.words P.top ≡ Some d = ap (λ (k : ℕ). slice_get P.words k) built.top_is ∙ ap (λ (ws : List WordDef). slice_get ws (length built.words)) built.words_are ∙ last_at built.words d in
+    ap (λ (q : Bool). callable_or (not q) NotKnown (inline_doing P own d.inline P.top d built.phrase b ms)) (sym (itself P.top))
+    ∙ ap (λ (s : Sort). sort_doing P own P.top d s b ms) (sym built.last_word_is.sort_is)
+    ∙ ap (λ (o : Option WordDef). word_doing P own P.top o b ms) (sym at)
+
+-- and neither is a word that isn't there
+pub no_word : (P C : Program) (templates : List Template) → Closes P C templates → (own : Option ℕ) (w : ℕ) (b : Option Row) (ms : List Mark) → slice_get C.words w ≡ None → breaks NotKnown ≡ word_doing P own w (slice_get P.words w) b ms
+no_word P C templates closes own w b ms none = ap (λ (o : Option WordDef). word_doing P own w o b ms) (sym (word_open_none P C templates closes w none))
+
 -- the rows of the word that is checked
-module _ {C : Program} {templates : List Template} {own : Option ℕ} (O : Opened C templates own) where
+module _ {C : Program} {templates : List Template} {own : Option ℕ} {inner : ℕ} (O : Opened C templates own inner) where
   pub named_own : (w : ℕ) (c : WordDef) → slice_get C.words w ≡ Some c → NamesWhereOwn O.naming own w c.effect
   named_own w c at e = subst (λ (o : Option WordDef). NamesOwn O.naming (effect_where o)) at (subst (λ (o : Option Signature). NamesOwn O.naming o) (O.effect_is ∙ ap (own_effect C) e) O.rows)
 

@@ -1,6 +1,8 @@
 pub mod Flow
 pub mod Verdicts
 pub mod CallableEffects
+pub mod MarksBelow
+pub mod TemplateWalks
 pub mod Promises
 pub mod Judged
 pub mod Checks

@@ -5,4 +5,5 @@ pub mod OwnEffects
 pub mod KnownClasses
 pub mod Walking
 pub mod UndeclaredRecursion
+pub mod Alone
 pub mod Breaches

@@ -1,5 +1,5 @@
 //! The verdict on each word.
-ghost use Rattle.std.specs.Prelude.{◌≡◌, ◌≤◌, true, length, None, IfOk};
+ghost use Rattle.std.specs.Prelude.{◌≡◌, ◌≤◌, true, false, length, None, IfOk};
 ghost use Rattle.fac_lang.specs.declared.program.Program.{Program as ProgramSeen};
 ghost use Rattle.fac_abs.specs.Marks.{on};
 ghost use Rattle.fac_abs.specs.SeenMarks.{MarksSeen, IsStack, stack_of, base_seen};
@@ -73,7 +73,7 @@ fn kept_outputs(
 
 // Where the walk of a word begins, with all that a word may enter and walk, under the frame with no cells.
 fn first_step(place: Place, base: Option<u32>, stack: u32) -> Step
-    ensures { result ≡ record { place = place; nested = 64; base = base; stack = stack; frame = 0; left = 200000 } }
+    ensures { result ≡ record { place = place; nested = 64; base = base; stack = stack; frame = 0; left = 200000; alone = false } }
 {
     Step {
         place,
@@ -82,6 +82,7 @@ fn first_step(place: Place, base: Option<u32>, stack: u32) -> Step
         stack,
         frame: 0,
         left: MOST_ITEMS,
+        alone: false,
     }
 }
 
@@ -106,7 +107,9 @@ fn ordinary_breach(
     requires phrase { takes_phrase closed.now.program.top (length closed.now.templates) phrase.now ≡ true }
     ensures { IfOk result (λ breach. IsOrdinaryBreach closed.now word.now phrase.now breach) }
 {
-    let mut walker = Walker::new(alloc, Subject { closed, own: None })?;
+    let own = None;
+    let inner = closed.templates.len();
+    let mut walker = Walker::new(alloc, Subject { closed, own, inner })?;
     let stack = walker.marks.unknowns(0, word.effect.inputs() as u64)?;
     let step = first_step(word.place, None, stack);
     let walked = walker.walk_phrase(phrase, step)?;
@@ -128,7 +131,8 @@ fn row_breach(
     ensures { IfOk result (λ breach. IsRowBreach closed.now number word.now phrase.now breach) }
 {
     let own = Some(number);
-    let mut walker = Walker::new(alloc, Subject { closed, own })?;
+    let inner = closed.templates.len();
+    let mut walker = Walker::new(alloc, Subject { closed, own, inner })?;
     let stack = inputs_marks(&mut walker.marks, &word.effect)?;
     let step = first_step(word.place, outer_in(&word.effect), stack);
     let walked = walker.walk_phrase(phrase, step)?;
@@ -146,7 +150,9 @@ fn top_breach(
     requires phrase { takes_phrase closed.now.program.top (length closed.now.templates) phrase.now ≡ true }
     ensures { IfOk result (λ breach. IsTopBreach closed.now phrase.now breach) }
 {
-    let mut walker = Walker::new(alloc, Subject { closed, own: None })?;
+    let own = None;
+    let inner = closed.templates.len();
+    let mut walker = Walker::new(alloc, Subject { closed, own, inner })?;
     let stack = walker.marks.unknowns(0, closed.start)?;
     let step = first_step(place, None, stack);
     let walked = walker.walk_phrase(phrase, step)?;

@@ -1,10 +1,10 @@
 //! What an item does to a stack at once.
 ghost use Rattle.std.specs.declared.option.Option.{Option};
-ghost use Rattle.std.specs.Prelude.{◌≡◌, ◌<◌, ◌≤◌, ◌∷◌, ℕ, suc, true, false, length, nat_lt, slice_get, Some, IfOk, option_copied};
+ghost use Rattle.std.specs.Prelude.{◌≡◌, ◌<◌, ◌≤◌, ◌+◌, ◌∷◌, ℕ, suc, Bool, true, false, length, slice_get, Some, IfOk, MatchOption, option_copied};
 ghost use Rattle.fac_lang.specs.declared.program.Program.{Program as ProgramSeen};
 ghost use Rattle.fac_lang.specs.Effects.{effect_height};
 ghost use Rattle.fac_lang.specs.CoreWords.{is_built_core};
-ghost use Rattle.fac_lang.specs.Meaning.{c_boa, c_call, c_dip, c_if, class_of_word, core_numbered, sort_of};
+ghost use Rattle.fac_lang.specs.Meaning.{c_boa, c_call, c_dip, c_execute, c_if, class_of_word, core_numbered, sort_of};
 ghost use Rattle.fac_lang.specs.Primitives.{built_count};
 ghost use Rattle.fac_lang.specs.Phrases.{any, wrd_mark, made as made_item, local as local_item};
 ghost use Rattle.fac_lang.specs.PhraseView.{what_item};
@@ -17,7 +17,8 @@ ghost use Rattle.fac_locals.specs.Closed.{Closes};
 ghost use Rattle.fac_check.specs.Flow.{by_height as takes_and_leaves, marks_moved, mark_made, core_doing, next_doing, is_own, gives};
 ghost use Rattle.fac_check.specs.inner.KnownClasses.{IsTupleWord, generic_word, makes_counted, tuple_slots, word_in};
 ghost use Rattle.fac_check.specs.inner.Taken.{takes_all, takes_item, takes_word};
-ghost use Rattle.fac_check.specs.inner.Walking.{IsDoing, IsDoingOf, only, has_phrase, Captures, MakesLiteral, binds, DoesAs, PutsMark, DoesArray, PopsTwo, PopsBranches, lacks};
+ghost use Rattle.fac_check.specs.inner.Alone.{literal_number};
+ghost use Rattle.fac_check.specs.inner.Walking.{IsDoing, IsDoingOf, IsExecuted, FollowsExecuted, only, has_phrase, Captures, MakesLiteral, binds, DoesAs, PutsMark, DoesArray, PopsTwo, PopsBranches, lacks};
 ghost use Rattle.fac_check.specs.inner.Walking.{DoesIn, DoesItem, DoesWord, DoesWordSo, DoesDefined, DoesUse, DoesOwnCall, DoesPrimitive};
 
 use crate::subject::Subject;
@@ -55,6 +56,11 @@ pub enum Doing {
         stack: u32,
         back: Option<u32>,
     },
+    /// The item of a word is to be walked.
+    Again {
+        word: u32,
+        stack: u32,
+    },
     /// Two callables are to be walked from one stack, and joined.
     Forks {
         first: u32,
@@ -67,6 +73,15 @@ pub enum Doing {
         inputs: u32,
         rest: u32,
     },
+}
+
+/// What an item comes to, where it may be the item of a word that `execute` finds.
+#[derive(Clone, Copy)]
+pub enum Executed {
+    /// It does this, and so many items may be walked then.
+    Does(Doing, u32),
+    /// It breaks this rule.
+    Stops(Rule),
 }
 
 // An item that needs more values than there are.
@@ -260,6 +275,21 @@ fn word_of(marks: &Marks, mark: u32) -> Option<u32>
     }
 }
 
+// `execute`
+fn execute(marks: &Marks, stack: u32) -> Doing
+    requires { IsStack marks.now stack }
+    ensures there { IsDoing marks.now result }
+    ensures does { (P : ProgramSeen) → DoesAs marks.now marks.now stack result (core_doing P (Some c_execute)) }
+{
+    match marks.pop(stack) {
+        Some((mark, rest)) => match word_of(marks, mark) {
+            Some(word) => Doing::Again { word, stack: rest },
+            None => Doing::Breaks(Rule::NotKnown),
+        },
+        None => underflow(marks, stack, 1),
+    }
+}
+
 // The class whose word this is.
 fn class_of(closed: &Closed, word: u32) -> Option<u32>
     ensures { result ≡ class_of_word closed.now.program word }
@@ -358,6 +388,7 @@ fn core(closed: &Closed, marks: &mut Marks, stack: u32, number: u32) -> Result<D
         0 => Ok(call(marks, stack)),
         1 => Ok(dip(marks, stack)),
         2 => Ok(branch(marks, stack)),
+        3 => Ok(execute(marks, stack)),
         4 => boa(closed, marks, stack),
         9 => Ok(Doing::Breaks(Rule::NotKnown)),
         _ => unreachable!(),
@@ -520,7 +551,7 @@ fn word_item(
     }
 }
 
-// The item of the word with this number.
+// The item of the word with this number. The top-level phrase is never an item, and a number that `execute` finds may be that of no word.
 fn word(
     subject: Subject<'_>,
     marks: &mut Marks,
@@ -530,15 +561,29 @@ fn word(
 ) -> Result<Doing, Memory>
     requires stack { IsStack marks.old stack }
     requires program { takes_all subject.closed.now.program subject.closed.now.templates ≡ true }
-    requires number { nat_lt number subject.closed.now.program.top ≡ true }
     ensures grows { Grows marks.old marks.new }
     ensures there { IfOk result (λ doing. IsDoingOf (slice_get subject.entry.closed.now.program.words) marks.new doing) }
     ensures does { IfOk result (λ doing. DoesWord subject.entry marks.old marks.new base stack number doing) }
 {
+    if number == subject.closed.program.top {
+        return Ok(Doing::Breaks(Rule::NotKnown));
+    }
     match subject.closed.program.words.get(number as usize) {
         Some(word) => word_item(subject, marks, base, stack, number, word),
-        None => unreachable!(),
+        None => Ok(Doing::Breaks(Rule::NotKnown)),
     }
+}
+
+// `call( )` or `execute( )`, which takes what is called on top of the inputs of its effect.
+fn effect_call(marks: &mut Marks, stack: u32, height: Height) -> Result<Doing, Memory>
+    requires { IsStack marks.old stack }
+    ensures grows { Grows marks.old marks.new }
+    ensures there { IfOk result (λ doing. IsDoing marks.new doing) }
+    ensures does { IfOk result (λ doing. DoesAs marks.old marks.new stack doing (takes_and_leaves (suc height.ins) height.outs)) }
+{
+    let ins = one_more(height.ins)?;
+    let outs = height.outs;
+    by_height(marks, stack, Height { ins, outs })
 }
 
 // A value of which nothing is known.
@@ -605,52 +650,65 @@ fn fill(marks: &mut Marks, frame: u32, holes: u32) -> Result<u32, Memory>
     Ok(made)
 }
 
-// The literal of a template with these captured cells, and the values that it takes off the stack for its holes.
+// The literal of this number with these captured cells, and the values that it takes off the stack for its holes.
 #[tactic(auto, using(fac_abs::proofs::SeenLemmas::grows_trans))]
-fn fry(
-    marks: &mut Marks,
-    stack: u32,
-    template: u32,
-    frame: u32,
-    holes: u32,
-) -> Result<Doing, Memory>
+fn fry(marks: &mut Marks, stack: u32, literal: u32, frame: u32, holes: u32) -> Result<Doing, Memory>
     requires stack { IsStack marks.old stack }
-    requires template { template < marks.old.templates }
+    requires literal { literal < marks.old.templates }
     requires frame { IsFrame marks.old frame }
     ensures grows { Grows marks.old marks.new }
     ensures there { IfOk result (λ doing. IsDoing marks.new doing) }
-    ensures does { IfOk result (λ doing. MakesLiteral marks.old marks.new stack template frame holes doing) }
+    ensures does { IfOk result (λ doing. MakesLiteral marks.old marks.new stack literal frame holes doing) }
 {
     match take(marks, stack, holes as usize)? {
         None => Ok(underflow(marks, stack, holes)),
         Some(taken) => {
             let cells = fill(marks, frame, taken.inputs)?;
-            let mark = marks.lit(template, cells)?;
+            let mark = marks.lit(literal, cells)?;
             put(marks, taken.rest, mark)
         }
     }
 }
 
+// The number of the literal of a template that is apart from those of the program.
+fn number_apart(closed: &Closed, template: u32) -> Result<u32, Memory>
+    ensures { IfOk result (λ literal. literal ≡ length closed.now.templates + template) }
+{
+    match closed.templates.len().checked_add(template) {
+        Some(literal) => Ok(literal),
+        None => Err(Memory),
+    }
+}
+
+// The number of the literal of a template.
+fn number_of(closed: &Closed, alone: bool, template: u32) -> Result<u32, Memory>
+    requires { template < length closed.now.templates }
+    ensures number { IfOk result (λ literal. literal ≡ literal_number (length closed.now.templates) alone template) }
+    ensures below { IfOk result (λ literal. literal < length closed.now.templates + length closed.now.templates) }
+{
+    if alone {
+        return number_apart(closed, template);
+    }
+    Ok(template)
+}
+
 // A quotation or fry, by its template, under a frame. A cell that isn't there is that of no program.
 #[tactic(auto, using(fac_abs::proofs::SeenLemmas::grows_trans))]
-fn made(
-    subject: Subject<'_>,
-    marks: &mut Marks,
-    stack: u32,
-    frame: u32,
-    template: u32,
-) -> Result<Doing, Memory>
-    requires stack { IsStack marks.old stack }
-    requires frame { IsFrame marks.old frame }
-    requires template { template < marks.old.templates }
-    requires templates { marks.old.templates ≡ length subject.closed.now.templates }
+fn made(subject: Subject<'_>, marks: &mut Marks, step: Step, template: u32) -> Result<Doing, Memory>
+    requires stack { IsStack marks.old step.stack }
+    requires frame { IsFrame marks.old step.frame }
+    requires template { template < length subject.closed.now.templates }
+    requires templates { marks.old.templates ≡ length subject.closed.now.templates + length subject.closed.now.templates }
     ensures grows { Grows marks.old marks.new }
     ensures there { IfOk result (λ doing. IsDoing marks.new doing) }
-    ensures does { IfOk result (λ doing. (b : Option ℕ) → DoesItem subject.entry marks.old marks.new b stack frame (made_item template) doing) }
+    ensures does { IfOk result (λ doing. (b : Option ℕ) → DoesItem subject.entry marks.old marks.new step.alone b step.stack step.frame (made_item template) doing) }
 {
     match subject.closed.templates.get(template as usize) {
-        Some(found) => match capture(marks, frame, found.captures.as_slice())? {
-            Some(cells) => fry(marks, stack, template, cells, found.holes),
+        Some(found) => match capture(marks, step.frame, found.captures.as_slice())? {
+            Some(cells) => {
+                let literal = number_of(subject.closed, step.alone, template)?;
+                fry(marks, step.stack, literal, cells, found.holes)
+            }
             None => Ok(Doing::Breaks(Rule::NotKnown)),
         },
         None => unreachable!(),
@@ -663,7 +721,7 @@ fn local(marks: &mut Marks, stack: u32, frame: u32, cell: u32) -> Result<Doing, 
     requires frame { IsFrame marks.old frame }
     ensures grows { Grows marks.old marks.new }
     ensures there { IfOk result (λ doing. IsDoing marks.new doing) }
-    ensures does { IfOk result (λ doing. (subject : Subject) (b : Option ℕ) → DoesItem subject marks.old marks.new b stack frame (local_item cell) doing) }
+    ensures does { IfOk result (λ doing. (subject : Subject) (alone : Bool) (b : Option ℕ) → DoesItem subject marks.old marks.new alone b stack frame (local_item cell) doing) }
 {
     match marks.cell(frame, cell) {
         Some(mark) => put(marks, stack, mark),
@@ -707,29 +765,64 @@ pub fn item_doing(
 ) -> Result<Doing, Memory>
     requires stack { IsStack marks.old step.stack }
     requires frame { IsFrame marks.old step.frame }
-    requires templates { marks.old.templates ≡ length subject.closed.now.templates }
+    requires templates { marks.old.templates ≡ length subject.closed.now.templates + length subject.closed.now.templates }
     requires program { takes_all subject.closed.now.program subject.closed.now.templates ≡ true }
     requires item { takes_item subject.closed.now.program.top (length subject.closed.now.templates) (what_item what.now) ≡ true }
     requires binds { binds (what_item what.now) ≡ false }
     ensures grows { Grows marks.old marks.new }
     ensures there { IfOk result (λ doing. IsDoingOf (slice_get subject.entry.closed.now.program.words) marks.new doing) }
-    ensures does { IfOk result (λ doing. DoesItem subject.entry marks.old marks.new step.base step.stack step.frame (what_item what.now) doing) }
+    ensures does { IfOk result (λ doing. DoesItem subject.entry marks.old marks.new step.alone step.base step.stack step.frame (what_item what.now) doing) }
 {
     let stack = step.stack;
     match what {
         What::Int(_) | What::True | What::False | What::Str(_) => unknown(marks, stack),
         What::Word(number) => word(subject, marks, step.base, stack, *number),
         What::Wref(number) => reference(marks, stack, *number),
-        What::Made(template) => made(subject, marks, stack, step.frame, *template),
+        What::Made(template) => made(subject, marks, step, *template),
         What::Local(cell) => local(marks, stack, step.frame, *cell),
         What::Arr(number) => array(subject, marks, stack, *number),
         What::NextMethod => Ok(Doing::Breaks(Rule::MethodEffect)),
         What::NextAfter(method) => next_after(subject.closed, marks, stack, *method),
-        What::Bind(_)
-        | What::Quot(_)
-        | What::Fry(_, _)
-        | What::Hole(_)
-        | What::CallEff(_)
-        | What::ExecEff(_) => unreachable!(),
+        What::CallEff(height) => effect_call(marks, stack, *height),
+        What::ExecEff(height) => effect_call(marks, stack, *height),
+        What::Bind(_) | What::Quot(_) | What::Fry(_, _) | What::Hole(_) => unreachable!(),
     }
+}
+
+/// Counts an item: how many may still be walked then.
+pub fn count(left: u32) -> Option<u32>
+    ensures { MatchOption result (left ≡ 0) (λ rest. left ≡ suc rest) }
+{
+    left.checked_sub(1)
+}
+
+/// Follows what an item does to what the item of the last word does that `execute` finds. Each of these items counts.
+pub fn follow(
+    subject: Subject<'_>,
+    marks: &mut Marks,
+    doing: Doing,
+    step: Step,
+) -> Result<Executed, Memory>
+    requires doing { IsDoingOf (slice_get subject.closed.now.program.words) marks.old doing }
+    requires program { takes_all subject.closed.now.program subject.closed.now.templates ≡ true }
+    ensures grows { Grows marks.old marks.new }
+    ensures there { IfOk result (λ executed. IsExecuted (slice_get subject.entry.closed.now.program.words) marks.new step.left executed) }
+    ensures follows { IfOk result (λ executed. FollowsExecuted subject.entry marks.old marks.new doing step executed) }
+{
+    let mut last = doing;
+    let mut left = step.left;
+    'following: while let Doing::Again {
+        word: number,
+        stack,
+    } = last
+    {
+        match count(left) {
+            None => return Ok(Executed::Stops(Rule::TooLarge)),
+            Some(rest) => {
+                left = rest;
+                last = word(subject, marks, step.base, stack, number)?;
+            }
+        }
+    }
+    Ok(Executed::Does(last, left))
 }

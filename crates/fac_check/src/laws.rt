@@ -1,5 +1,6 @@
 //! Laws of the definitions, each on the contract of a function that does nothing.
 ghost use Rattle.fac_check.specs.Judged.{FirstRefusalIsVerdict};
+ghost use Rattle.fac_check.specs.MarksBelow.{MarksBelowStay};
 ghost use Rattle.fac_check.specs.Promises.{AcceptedAreSafe, SafeAreNotStuck};
 
 /// What the checker of the whole language accepts is safe: by its definitions a whole program with an accepted verdict never finds too
@@ -18,4 +19,10 @@ pub fn safe_programs_are_not_stuck()
 /// The first refusal among the verdicts on all words, in their order, is the verdict on the program, which is accepted where there is none.
 pub fn first_refusal_is_verdict()
     ensures { FirstRefusalIsVerdict }
+{}
+
+/// What a walk finds from some marks, where no word is being checked, it finds from them with others below, which stay below it; and as many
+/// items may be walked then. So a phrase that breaks no rule with some inputs breaks none with more.
+pub fn marks_below_stay()
+    ensures { MarksBelowStay }
 {}

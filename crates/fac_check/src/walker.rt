@@ -9,17 +9,19 @@ ghost use Rattle.fac_abs.specs.MarkTrees.{Naming};
 ghost use Rattle.fac_lang.specs.Phrases.{any};
 ghost use Rattle.fac_check.specs.Flow.{phrase_rule as rule_of_phrase, join, marks_on, marks_back};
 ghost use Rattle.fac_check.specs.inner.Taken.{takes_all, takes_item, takes_phrase};
-ghost use Rattle.fac_check.specs.inner.Walking.{IsDoingOf, is_defined, IsWalked, IsWithin, IsBelow, AreMarks, Admits, Enters, IsItemRule, IsWalkOfCounted, walked_seen, marks_of_option};
-ghost use Rattle.fac_check.specs.inner.Walking.{IsWalkOf, IsWalkOfPhrase, IsWalkOfItem, IsWalkOfOne, NamesLocal, frame_behind, literal_walk, word_walk, curried_walk, part_walk, composed_walk, mark_walk, callable_walk, fork_walk};
+ghost use Rattle.fac_check.specs.inner.Alone.{TellsLiteral};
+ghost use Rattle.fac_check.specs.inner.Walking.{IsDoingOf, IsActOf, is_defined, IsWalked, IsWithin, IsBelow, AreMarks, Admits, Enters, IsItemRule, IsWalkOfCounted, walked_seen, marks_of_option};
+ghost use Rattle.fac_check.specs.inner.Walking.{IsWalkOf, IsWalkOfPhrase, IsWalkOfItem, IsWalkOfDoing, IsWalkOfOne, NamesLocal, frame_behind, literal_walk, word_walk, curried_walk, part_walk, composed_walk, mark_walk, callable_walk, fork_walk};
 ghost use Rattle.fac_check.specs.inner.Walking.{IsFirstRule, IsInputRule, IsInputsRule, IsUseRule, effect_of, called_walk, use_walk, effect_walk, start_walk, AreWithin, AreBound, AreWalkedInputs, IsWalkedInput, IsWalkedQuotation};
 ghost use Rattle.fac_lang.specs.EffectView.{inputs_tree};
 ghost use Rattle.fac_lang.specs.Effects.{effect_height};
 ghost use Rattle.fac_rows.specs.SeenBindings.{IsBinding};
 
-use crate::doing::{Doing, item_doing};
+use crate::doing::{Doing, Executed, count, follow, item_doing};
 use crate::subject::Subject;
 use fac_abs::{MarkNode, Marks, Reached, Rule};
 use fac_lang::{Effect, Input, Memory, Phrase, Place, Sort, Template, What};
+use fac_locals::Closed;
 use fac_rows::{Binding, Called, par, par_rule};
 use std::alloc::Global;
 
@@ -31,7 +33,7 @@ pub struct Walker<'a> {
     /// The marks and stacks that the walk has come to.
     pub marks: Marks,
     ghost taken: { takes_all subject.closed.now.program subject.closed.now.templates ≡ true },
-    ghost templates: { marks.templates ≡ length subject.closed.now.templates },
+    ghost templates: { marks.templates ≡ length subject.closed.now.templates + length subject.closed.now.templates },
 }
 
 /// Where a walk stands.
@@ -49,13 +51,15 @@ pub struct Step {
     pub frame: u32,
     /// The items that may still be walked.
     pub left: u32,
+    /// Whether a phrase is walked as that of no word. Its literals are apart from those of the program.
+    pub alone: bool,
 }
 
 impl Step {
     // The step inside of one nested application more.
     fn entered(self) -> Step
         requires { 0 < self.nested }
-        ensures { result ≡ record { place = self.place; nested = self.nested - 1; base = self.base; stack = self.stack; frame = self.frame; left = self.left } }
+        ensures { result ≡ record { place = self.place; nested = self.nested - 1; base = self.base; stack = self.stack; frame = self.frame; left = self.left; alone = self.alone } }
     {
         Step {
             nested: self.nested - 1,
@@ -90,13 +94,6 @@ fn phrase_rule(nested: u32) -> Option<Rule>
         return Some(Rule::TooDeep);
     }
     None
-}
-
-// Counts an item: how many may still be walked then.
-fn count(left: u32) -> Option<u32>
-    ensures { MatchOption result (left ≡ 0) (λ rest. left ≡ suc rest) }
-{
-    left.checked_sub(1)
 }
 
 // Counts an item, unless it broke a rule before: how many items may still be walked then.
@@ -217,11 +214,38 @@ fn named(marks: &Marks, step: Step) -> Walked
     }
 }
 
-// How many cells the frame of a template has.
-fn cells_of(template: &Template) -> u64
+/// How many cells the frame of a template has.
+pub fn cells_of(template: &Template) -> u64
     ensures { result ≡ length template.now.captures + template.now.holes }
 {
     template.captures.len() as u64 + template.holes as u64
+}
+
+// How many numbers literals have: two for each template, of which one is for a phrase that is walked by itself.
+fn literals_of(closed: &Closed) -> Result<u32, Memory>
+    ensures { IfOk result (λ count. count ≡ length closed.now.templates + length closed.now.templates) }
+{
+    let count = closed.templates.len();
+    match count.checked_add(count) {
+        Some(literals) => Ok(literals),
+        None => Err(Memory),
+    }
+}
+
+// The template of a literal, and whether the literal is apart from those of the program. None where no phrase has it.
+fn template_of(subject: Subject<'_>, literal: u32) -> Option<(u32, bool)>
+    requires { literal < length subject.closed.now.templates + length subject.closed.now.templates }
+    ensures { TellsLiteral (length subject.entry.closed.now.templates) subject.entry.inner literal result }
+{
+    let count = subject.closed.templates.len();
+    if literal < count {
+        return Some((literal, false));
+    }
+    let template = literal - count;
+    if template < subject.inner {
+        return None;
+    }
+    Some((template, true))
 }
 
 // The place of what no source has.
@@ -240,7 +264,8 @@ impl<'a> Walker<'a> {
         ensures frame { IfOk result (λ walker. IsFrameOf walker.marks 0 (λ N. [])) }
         ensures stack { IfOk result (λ walker. IsStackOf walker.marks 0 (λ N. [])) }
     {
-        let marks = Marks::new(alloc, subject.closed.templates.len())?;
+        let literals = literals_of(subject.closed)?;
+        let marks = Marks::new(alloc, literals)?;
         Ok(Walker {
             alloc,
             subject,
@@ -380,19 +405,49 @@ impl<'a> Walker<'a> {
     // Walks the phrase of a literal, which is one nested application, under the frame with its marks. One that hasn't a mark for each cell of its
     // template would have no phrase of the program.
     #[cycle(walk)]
-    fn walk_literal(&mut self, template: u32, frame: u32, step: Step) -> Result<Walked, Memory>
-        requires template { template < self.old.marks.templates }
+    fn walk_literal(&mut self, literal: u32, frame: u32, step: Step) -> Result<Walked, Memory>
+        requires literal { literal < self.old.marks.templates }
         requires frame { IsFrame self.old.marks frame }
         requires stack { IsStack self.old.marks step.stack }
         ensures subject { self.new.subject ≡ self.old.subject }
         ensures grows { Grows self.old.marks self.new.marks }
         ensures there { IfOk result (λ walked. IsWalked self.new.marks walked) }
         ensures within { IfOk result (λ walked. IsWithin step.left walked) }
-        ensures walks { IfOk result (λ walked. IsWalkOf self.old.subject self.new.marks step walked (literal_walk self.old.marks step template frame)) }
+        ensures walks { IfOk result (λ walked. IsWalkOf self.old.subject self.new.marks step walked (literal_walk self.old.marks step literal frame)) }
     {
         if step.nested == 0 {
             return Ok(Walked::Refused(Rule::TooDeep, step.place));
         }
+        match template_of(self.subject, literal) {
+            None => Ok(Walked::Refused(Rule::NotKnown, nowhere())),
+            Some((template, alone)) => self.walk_body(
+                literal,
+                template,
+                frame,
+                Step { alone, ..step },
+            ),
+        }
+    }
+
+    // Walks the phrase of the literal with this number and template, likewise.
+    #[cycle(walk)]
+    fn walk_body(
+        &mut self,
+        literal: u32,
+        template: u32,
+        frame: u32,
+        step: Step,
+    ) -> Result<Walked, Memory>
+        requires literal { TellsLiteral (length self.old.subject.closed.now.templates) self.old.subject.inner literal (Some (template, step.alone)) }
+        requires nested { 0 < step.nested }
+        requires frame { IsFrame self.old.marks frame }
+        requires stack { IsStack self.old.marks step.stack }
+        ensures subject { self.new.subject ≡ self.old.subject }
+        ensures grows { Grows self.old.marks self.new.marks }
+        ensures there { IfOk result (λ walked. IsWalked self.new.marks walked) }
+        ensures within { IfOk result (λ walked. IsWithin step.left walked) }
+        ensures walks { IfOk result (λ walked. IsWalkOf self.old.subject self.new.marks step walked (literal_walk self.old.marks step literal frame)) }
+    {
         let closed = self.subject.closed;
         match closed.templates.get(template as usize) {
             Some(found) => {
@@ -430,6 +485,7 @@ impl<'a> Walker<'a> {
                     let frame = self.marks.no_cells();
                     let inner = Step {
                         frame,
+                        alone: false,
                         ..step.entered()
                     };
                     self.walk_phrase(phrase, inner)
@@ -554,7 +610,7 @@ impl<'a> Walker<'a> {
         ensures walks { IfOk result (λ walked. IsWalkOf self.old.subject self.new.marks step walked (mark_walk self.old.marks step mark)) }
     {
         match self.marks.node(mark) {
-            MarkNode::Lit(template, frame) => self.walk_literal(template, frame, step),
+            MarkNode::Lit(literal, frame) => self.walk_literal(literal, frame, step),
             MarkNode::Cur(value, callable) => self.walk_curried(mark, value, callable, step),
             MarkNode::Com(first, second) => self.walk_composed(mark, first, second, step),
             MarkNode::Par(input) => self.call_input(input, step),
@@ -782,7 +838,7 @@ impl<'a> Walker<'a> {
 
     // What an item breaks before it counts. The stack is that of what the item does, not the step's.
     fn item_rule(&mut self, doing: Doing, step: Step) -> Result<Option<Rule>, Memory>
-        requires { IsDoingOf (slice_get self.old.subject.closed.now.program.words) self.old.marks doing }
+        requires { IsActOf (slice_get self.old.subject.closed.now.program.words) self.old.marks doing }
         ensures subject { self.new.subject ≡ self.old.subject }
         ensures grows { Grows self.old.marks self.new.marks }
         ensures rule { IfOk result (λ rule. IsItemRule self.old.subject self.old.marks doing step rule) }
@@ -793,6 +849,7 @@ impl<'a> Walker<'a> {
             Doing::Gives { stack: _ } => Ok(None),
             Doing::Leaves { base: _, stack: _ } => Ok(None),
             Doing::Expands { word: _, stack: _ } => Ok(phrase_rule(step.nested)),
+            Doing::Again { word: _, stack: _ } => unreachable!(),
             Doing::Walks {
                 mark,
                 stack,
@@ -817,7 +874,7 @@ impl<'a> Walker<'a> {
     // Walks an item that is counted. The stack is that of what the item does, not the step's.
     #[cycle(walk)]
     fn walk_counted(&mut self, doing: Doing, step: Step) -> Result<Walked, Memory>
-        requires { IsDoingOf (slice_get self.old.subject.closed.now.program.words) self.old.marks doing }
+        requires { IsActOf (slice_get self.old.subject.closed.now.program.words) self.old.marks doing }
         ensures subject { self.new.subject ≡ self.old.subject }
         ensures grows { Grows self.old.marks self.new.marks }
         ensures there { IfOk result (λ walked. IsWalked self.new.marks walked) }
@@ -838,6 +895,7 @@ impl<'a> Walker<'a> {
                 Ok(Walked::Found(Reached::On { base, stack }, step.left))
             }
             Doing::Expands { word, stack } => self.walk_word(word, Step { stack, ..step }),
+            Doing::Again { word: _, stack: _ } => unreachable!(),
             Doing::Walks { mark, stack, back } => {
                 self.walk_callable(mark, back, Step { stack, ..step })
             }
@@ -860,7 +918,7 @@ impl<'a> Walker<'a> {
     // Walks an item, apart from the rest of its phrase. The stack is that of what the item does, not the step's.
     #[cycle(walk)]
     fn walk_item(&mut self, doing: Doing, step: Step) -> Result<Walked, Memory>
-        requires { IsDoingOf (slice_get self.old.subject.closed.now.program.words) self.old.marks doing }
+        requires { IsActOf (slice_get self.old.subject.closed.now.program.words) self.old.marks doing }
         ensures subject { self.new.subject ≡ self.old.subject }
         ensures grows { Grows self.old.marks self.new.marks }
         ensures there { IfOk result (λ walked. IsWalked self.new.marks walked) }
@@ -870,6 +928,23 @@ impl<'a> Walker<'a> {
         match admitted(self.item_rule(doing, step)?, step.left) {
             Ok(left) => self.walk_counted(doing, Step { left, ..step }),
             Err(rule) => Ok(Walked::Refused(rule, step.place)),
+        }
+    }
+
+    // Walks what an item does at first, apart from the rest of its phrase.
+    #[cycle(walk)]
+    fn walk_doing(&mut self, doing: Doing, step: Step) -> Result<Walked, Memory>
+        requires { IsDoingOf (slice_get self.old.subject.closed.now.program.words) self.old.marks doing }
+        ensures subject { self.new.subject ≡ self.old.subject }
+        ensures grows { Grows self.old.marks self.new.marks }
+        ensures there { IfOk result (λ walked. IsWalked self.new.marks walked) }
+        ensures below { IfOk result (λ walked. IsBelow step.left walked) }
+        ensures walks { IfOk result (λ walked. IsWalkOfDoing self.old.subject self.old.marks self.new.marks doing step walked) }
+    {
+        let subject = self.subject;
+        match follow(subject, &mut self.marks, doing, step)? {
+            Executed::Does(last, left) => self.walk_item(last, Step { left, ..step }),
+            Executed::Stops(rule) => Ok(Walked::Refused(rule, step.place)),
         }
     }
 
@@ -907,7 +982,7 @@ impl<'a> Walker<'a> {
             _ => {
                 let subject = self.subject;
                 let doing = item_doing(subject, &mut self.marks, step, what)?;
-                self.walk_item(doing, step)
+                self.walk_doing(doing, step)
             }
         }
     }
@@ -936,6 +1011,7 @@ impl<'a> Walker<'a> {
                 stack,
                 frame,
                 left,
+                alone: step.alone,
             };
             let behind = self.frame_behind(&item.what, here)?;
             match self.walk_one(&item.what, here)? {

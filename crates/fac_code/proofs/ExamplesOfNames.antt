@@ -8,7 +8,7 @@ use Rattle.fac_code.specs.ImageNames.{names_in}
 use Rattle.fac_code.specs.ClassSets.{set_has}
 
 abbrev named : ℕ → Option ℕ → WordRow
-named name kind = record { name = name; action = Itself; kind = kind }
+named name kind = record { name = name; action = Itself; kind = kind; height = None }
 
 -- word 0 is of no class, word 1 of the tuple class `point` with slots `x` and `y`, and word 2 of the singleton `origin`
 abbrev names : Names

@@ -3,7 +3,7 @@ use Rattle.std.proofs.Common.{◌≡◌, ℕ, List, [], ◌∷◌, Bool, true, f
 use Rattle.std.specs.Prelude.{codes}
 use Rattle.fac_lang.specs.Primitives.{built_count}
 use Rattle.fac_code.specs.declared.image.Instr.{Instr}
-use Rattle.fac_code.specs.declared.image.Instr.TheVariants.{Halt, Text, Array, Word, Quot, Prim, Callw, Ret, Generic, Next, Isa}
+use Rattle.fac_code.specs.declared.image.Instr.TheVariants.{Halt, Text, Array, Word, Quot, Prim, Callw, CallEffect, Ret, Generic, Next, Isa}
 use Rattle.fac_code.specs.declared.image.Elem.{Elem}
 use Rattle.fac_code.specs.declared.image.Elem.TheVariants as elem
 use Rattle.fac_code.specs.declared.image.Action.{Action}
@@ -15,10 +15,10 @@ use Rattle.fac_code.specs.References.{is_image}
 
 -- a template whose code begins here, with so many holes; its cell has no bound
 abbrev template : ℕ → ℕ → TemplateRow
-template entry holes = record { entry = entry; cells = 99 ∷ []; holes = holes }
+template entry holes = record { entry = entry; cells = 99 ∷ []; holes = holes; height = None }
 
 abbrev does : Action → WordRow
-does a = record { name = 0; action = a; kind = None }
+does a = record { name = 0; action = a; kind = None; height = None }
 
 -- tables without classes
 abbrev plain_tables : List (List Elem) → List TemplateRow → List WordRow → List (List ℕ) → Tables
@@ -107,9 +107,18 @@ no_primitive : with_parts (Prim 60) 3 (code_action 0) 0 ≡ false
 unfolding built_count
 no_primitive = refl
 
-word_of_no_core_word : with_parts (Quot 0) 3 (core_action 3) 0 ≡ false
+word_of_a_core_word : with_parts (Quot 0) 3 (core_action 3) 0 ≡ true
+unfolding built_count
+word_of_a_core_word = refl
+
+word_of_no_core_word : with_parts (Quot 0) 3 (core_action 5) 0 ≡ false
 unfolding built_count
 word_of_no_core_word = refl
+
+-- a height has no bound
+heights : with_parts (CallEffect (record { ins = 4000000000; outs = None }) true) 3 (code_action 0) 0 ≡ true
+unfolding built_count
+heights = refl
 
 -- no image is without code
 no_code : is_image (plain_tables [] [] [] []) [] 0 ≡ false
@@ -118,7 +127,7 @@ no_code = refl
 
 -- with these literal arrays, of which the code names one; template 0 keeps a value and template 1 keeps none
 abbrev with_arrays : List (List Elem) → ℕ → Bool
-with_arrays arrays k = is_image (plain_tables arrays (template 0 0 ∷ record { entry = 0; cells = []; holes = 0 } ∷ []) (does itself_action ∷ []) (codes "a" ∷ [])) (Array k ∷ Halt ∷ []) 0
+with_arrays arrays k = is_image (plain_tables arrays (template 0 0 ∷ record { entry = 0; cells = []; holes = 0; height = None } ∷ []) (does itself_action ∷ []) (codes "a" ∷ [])) (Array k ∷ Halt ∷ []) 0
 
 -- all that an element can be
 pub with_elements : with_arrays ([] ∷ (elem.Text 0 ∷ elem.Array 0 ∷ elem.Word 0 ∷ elem.Template 1 ∷ elem.True ∷ []) ∷ []) 1 ≡ true
@@ -146,7 +155,7 @@ with_classes slots sets kind set i =
       kinds = record { name = 0; slots = Some slots } ∷ record { name = 0; slots = None } ∷ [];
       sets = sets;
       templates = [];
-      words = record { name = 0; action = itself_action; kind = kind } ∷ does (generic_action 0) ∷ [];
+      words = record { name = 0; action = itself_action; kind = kind; height = None } ∷ does (generic_action 0) ∷ [];
       generics = record { word = 1; methods = record { set = set; entry = 1 } ∷ [] } ∷ [];
       texts = codes "a" ∷ [];
     }) (i ∷ Halt ∷ []) 0

@@ -3,7 +3,7 @@ ghost use Rattle.std.specs.Prelude.{◌≡◌, true};
 ghost use Rattle.fac_code.specs.Code.{has_built_code};
 ghost use Rattle.fac_code.specs.References.{refers as all_refer};
 
-use fac_lang::{List, Text};
+use fac_lang::{Height, List, Text};
 
 /// An instruction.
 #[derive(Clone, Copy, Debug, PartialEq, Eq)]
@@ -55,6 +55,26 @@ pub enum Instr {
         /// As that of `Callw`.
         tail: bool,
     },
+    /// Takes a word and does what the word does, at a tick. What it does costs as its own instruction would. Where no code is entered then,
+    /// the run goes on as at `Ret`.
+    Execute {
+        /// As that of `Callw`.
+        tail: bool,
+    },
+    /// Takes a value and enters it where it is a callable whose effect fits, at a tick.
+    CallEffect {
+        /// How many values such a callable takes and leaves.
+        height: Height,
+        /// As that of `Callw`.
+        tail: bool,
+    },
+    /// Takes a value and does what it does where it is a word whose effect fits, as `Execute`, at a tick.
+    ExecuteEffect {
+        /// How many values such a word takes and leaves.
+        height: Height,
+        /// As that of `Callw`.
+        tail: bool,
+    },
     /// Takes the next return entry and goes on there. It costs no tick.
     Ret,
     /// Takes a word and below it a value for each slot of its tuple class, the first slot's the deepest, and pushes a new tuple, at a
@@ -93,7 +113,7 @@ pub enum Instr {
 pub enum Action {
     /// The primitive of this number.
     Prim(u32),
-    /// The core word of this number: 0 is `call`, 1 is `dip`, 2 is `if` and 4 is `boa`. Nothing does `cond`, which is number 9.
+    /// The core word of this number: 0 is `call`, 1 is `dip`, 2 is `if`, 3 is `execute` and 4 is `boa`. Nothing does `cond`, which is number 9.
     Core(u32),
     /// The code at this place.
     Code(u32),
@@ -120,6 +140,8 @@ pub struct WordRow {
     pub action: Action,
     /// Of the word of a tuple class or a singleton its kind.
     pub kind: Option<u32>,
+    /// How many values it takes and leaves. None where that isn't known, and then it fits no effect.
+    pub height: Option<Height>,
 }
 
 /// A kind: a tuple class or a singleton. The eight kinds from 0 on, of integers, `t`, `f`, strings, iotas, words, arrays and callables, have no
@@ -159,6 +181,8 @@ pub struct TemplateRow {
     pub cells: List<u32>,
     /// How many values a callable of it takes from the stack, to be kept behind those of the frame.
     pub holes: u32,
+    /// How many values a callable of it takes and leaves when it is called. None where that isn't known, and then it fits no effect.
+    pub height: Option<Height>,
 }
 
 /// An element of a literal array.

@@ -131,6 +131,9 @@ fn refers_instr(tables: &Tables, instr: Instr) -> bool
         | Instr::Call { .. }
         | Instr::Dip
         | Instr::If { .. }
+        | Instr::Execute { .. }
+        | Instr::CallEffect { .. }
+        | Instr::ExecuteEffect { .. }
         | Instr::Ret
         | Instr::Boa
         | Instr::Bind
@@ -346,6 +349,9 @@ fn is_built(instr: Instr) -> bool
         | Instr::Call { .. }
         | Instr::Dip
         | Instr::If { .. }
+        | Instr::Execute { .. }
+        | Instr::CallEffect { .. }
+        | Instr::ExecuteEffect { .. }
         | Instr::Ret
         | Instr::Boa
         | Instr::Get(_)

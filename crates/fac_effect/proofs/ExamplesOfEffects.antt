@@ -11,7 +11,7 @@ use Rattle.fac_effect.specs.EffectReading.{reads, whole, refused, after}
 use Rattle.fac_effect.specs.SaidEffects.{effect_of}
 use Rattle.fac_effect.specs.ParsedEffects.{reason}
 
-abbrev w : List ℕ → Token
+abbrev pub w : List ℕ → Token
 w text = plain_token (record { file = 1; token = 1 }) text
 
 abbrev opens : Token

@@ -4,7 +4,10 @@ pub mod EffectRuns
 pub mod EffectsReadBack
 pub mod WholeEffects
 pub mod EffectLemmas
+pub mod PassLemmas
 pub mod PartLemmas
 pub mod EffectEndLemmas
 pub mod ExamplesOfEffects
 pub mod LocalNameLemmas
+pub mod RowlessLemmas
+pub mod ExamplesOfCalls

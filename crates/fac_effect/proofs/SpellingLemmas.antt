@@ -9,9 +9,10 @@ use Rattle.fac_lang.specs.declared.token.TokKind.{TokKind}
 use Rattle.fac_lang.specs.declared.token.TokKind.TheVariants.{Plain, Str}
 use Rattle.fac_lang.specs.declared.tree.FormKind.TheVariants.{In, Use, Using, From, QualifiedWith, Defer, Symbol, Constant, Private, Public, Main, Define, DefineLocals, Tuple, Union, Singleton, Generic, Method, Maker}
 use Rattle.fac_lang.specs.declared.tree.Bracket.TheVariants.{Quotation, Array, Fry}
+use Rattle.fac_lang.specs.declared.tree.Callee.TheVariants.{Callable, Word}
 use Rattle.fac_lang.specs.declared.tree.Key.TheVariants.{Arrow}
 use Rattle.fac_effect.specs.declared.spelling.Spelling.{Spelling}
-use Rattle.fac_effect.specs.declared.spelling.Spelling.TheVariants.{Begins, Fixed, Semi, Opens, Closes, Dashes, OpensBracket, ClosesBracket, OpensLocals, Bar, Binds, Hole, CalledHole, True, False, Inline, Recursive, NextMethod, Integer, String, Name, Other}
+use Rattle.fac_effect.specs.declared.spelling.Spelling.TheVariants.{Begins, Fixed, Semi, Opens, Closes, Dashes, OpensBracket, ClosesBracket, OpensLocals, Bar, Binds, Hole, CalledHole, True, False, Inline, Recursive, NextMethod, Wraps, Calls, Integer, String, Name, Other}
 use Rattle.fac_lang.specs.Numbers.{signed_in, integer_in, in_range}
 use Rattle.fac_effect.specs.Spellings.{has_integer_form, is_reserved, sign_text, signs, sign_among, with_text, sign_spelling, word_spelling, integer_spelling, spelling_of, string_spelling, token_spelling, token_text, plain_token}
 
@@ -67,6 +68,9 @@ sign_is False h = refl
 sign_is Inline h = refl
 sign_is Recursive h = refl
 sign_is NextMethod h = refl
+sign_is Wraps h = refl
+sign_is (Calls Callable) h = refl
+sign_is (Calls Word) h = refl
 sign_is (Integer z) h = absurd h
 sign_is String h = absurd h
 sign_is Name h = absurd h

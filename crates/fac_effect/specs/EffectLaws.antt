@@ -1,5 +1,6 @@
 -- Laws of reading effects. Each is the contract of a function that does nothing.
 use Rattle.std.specs.Prelude.{◌≡◌, List, ◌++◌, true}
+use Rattle.fac_lang.specs.declared.phrase.Place.{Place}
 use Rattle.fac_lang.specs.declared.token.Token.{Token}
 use Rattle.fac_lang.specs.Signatures.{Signature}
 use Rattle.fac_effect.specs.declared.effect_reader.EffectReader.{EffectReader}
@@ -8,6 +9,7 @@ use Rattle.fac_effect.specs.WrittenEffects.{IsEffect, BeginsEffect, IsUnfinished
 use Rattle.fac_effect.specs.EffectReading.{reads, whole, refused, after}
 use Rattle.fac_effect.specs.SaidEffects.{effect_of}
 use Rattle.fac_effect.specs.LocalNames.{takes_locals, name_locals}
+use Rattle.fac_effect.specs.RowlessEffects.{opened_tokens, IsRowless, IsUnfinishedRowless, behind_opens, have_no_row}
 
 -- Tokens are whole exactly where they are those of an effect, and then they say one thing.
 abbrev pub WholeIsEffect : Type 0
@@ -35,3 +37,16 @@ InputsAreNamed = (tokens : List Token) (effect : Signature) → IsEffect tokens 
 -- Tokens whose inputs may be locals go on to an effect whose inputs may.
 abbrev pub LocalsGoOn : Type 0
 LocalsGoOn = (tokens : List Token) (r : EffectReader) → after tokens ≡ reads r → name_locals tokens ≡ true → (u : IsUnfinished tokens) × (takes_locals u.effect ≡ true)
+
+-- Tokens behind a `(` are whole and have no row variable exactly where they are those of an effect without row variables.
+abbrev pub WholeIsRowless : Type 0
+WholeIsRowless = (opens : Place) (tokens : List Token) → behind_opens tokens ≡ whole → have_no_row tokens ≡ true → IsRowless opens tokens (effect_of (opened_tokens opens tokens))
+
+abbrev pub RowlessIsWhole : Type 0
+RowlessIsWhole =
+    (opens : Place) (tokens : List Token) (effect : Signature) → IsRowless opens tokens effect →
+    (behind_opens tokens ≡ whole) × (have_no_row tokens ≡ true) × (effect_of (opened_tokens opens tokens) ≡ effect)
+
+-- Tokens behind a `(` that are read, are not whole and have no row variable go on to an effect without row variables.
+abbrev pub RowlessGoesOn : Type 0
+RowlessGoesOn = (opens : Place) (tokens : List Token) (r : EffectReader) → behind_opens tokens ≡ reads r → have_no_row tokens ≡ true → IsUnfinishedRowless opens tokens

@@ -26,6 +26,10 @@ pub data Progress : Type 0 where
 abbrev pub start : EffectReader
 start = record { side = Inputs; spot = Start; outer = []; names = 0 }
 
+-- behind the `(` of the whole effect
+abbrev pub opened : EffectReader
+opened = record { side = Inputs; spot = First; outer = []; names = 0 }
+
 -- behind the name of an entry, which ends in a colon or doesn't
 abbrev pub behind_name : Bool → Spot
 behind_name true = Described
@@ -87,6 +91,12 @@ go_on (refused why) t = refused why
 abbrev pub run : Progress → List Token → Progress
 run p [] = p
 run p (t ∷ ts) = run (go_on p t) ts
+
+-- whether each of these tokens passes a test where it is read
+abbrev pub all_pass : (EffectReader → Spelling → Token → Bool) → Progress → List Token → Bool
+all_pass test p [] = true
+all_pass test (reads r) (t ∷ ts) = test r (token_spelling t.kind) t && all_pass test (step r (token_spelling t.kind) t) ts
+all_pass test _ (t ∷ ts) = true
 
 -- how far these tokens are read
 abbrev pub after : List Token → Progress

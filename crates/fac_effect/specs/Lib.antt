@@ -3,6 +3,7 @@ pub mod WrittenEffects
 pub mod EffectReading
 pub mod SaidEffects
 pub mod LocalNames
+pub mod RowlessEffects
 pub mod EffectLaws
 pub mod ParsedEffects
 pub mod inner

@@ -1,5 +1,5 @@
 -- Names of locals, and the effects whose inputs are locals.
-use Rattle.std.specs.Prelude.{ℕ, List, [], ◌∷◌, Bool, true, false, not, ◌&&◌, ◌||◌, drop, length, ◌-◌, codes, if◌then◌else◌}
+use Rattle.std.specs.Prelude.{ℕ, List, [], Bool, true, false, not, ◌&&◌, ◌||◌, drop, length, ◌-◌, codes, if◌then◌else◌}
 use Rattle.std.specs.Str.{bytes_eq}
 use Rattle.fac_lang.specs.declared.token.Token.{Token}
 use Rattle.fac_lang.specs.Signatures.{Signature, signature, Inputs, no_inputs, value, quoted}
@@ -8,9 +8,8 @@ use Rattle.fac_effect.specs.declared.spelling.Spelling.TheVariants as spelled
 use Rattle.fac_effect.specs.declared.effect_reader.Side.{Side}
 use Rattle.fac_effect.specs.declared.effect_reader.Side.TheVariants as side
 use Rattle.fac_effect.specs.declared.effect_reader.EffectReader.{EffectReader}
-use Rattle.fac_effect.specs.Spellings.{token_spelling}
 use Rattle.fac_effect.specs.WrittenEffects.{is_row, is_colon, plain_name, colon_name}
-use Rattle.fac_effect.specs.EffectReading.{Progress, reads, start, may_end, step}
+use Rattle.fac_effect.specs.EffectReading.{Progress, reads, start, may_end, all_pass}
 
 -- the name of a local doesn't end in `!`
 abbrev pub is_local_name : List ℕ → Bool
@@ -46,9 +45,7 @@ may_stand r spelled.Name t = may_name (input_at r.outer r.side (may_end r.spot))
 may_stand r _ t = true
 
 abbrev pub all_may_stand : Progress → List Token → Bool
-all_may_stand p [] = true
-all_may_stand (reads r) (t ∷ ts) = may_stand r (token_spelling t.kind) t && all_may_stand (step r (token_spelling t.kind) t) ts
-all_may_stand _ (t ∷ ts) = true
+all_may_stand p tokens = all_pass may_stand p tokens
 
 -- whether the inputs among these tokens, which begin an effect, may be locals
 abbrev pub name_locals : List Token → Bool

@@ -12,10 +12,12 @@ use Rattle.fac_lang.specs.declared.tree.FormKind.{FormKind}
 use Rattle.fac_lang.specs.declared.tree.FormKind.TheVariants.{In, Use, Using, From, QualifiedWith, Defer, Symbol, Constant, Private, Public, Main, Define, DefineLocals, Tuple, Union, Singleton, Generic, Method, Maker}
 use Rattle.fac_lang.specs.declared.tree.Bracket.{Bracket}
 use Rattle.fac_lang.specs.declared.tree.Bracket.TheVariants.{Quotation, Array, Fry}
+use Rattle.fac_lang.specs.declared.tree.Callee.{Callee}
+use Rattle.fac_lang.specs.declared.tree.Callee.TheVariants.{Callable, Word}
 use Rattle.fac_lang.specs.declared.tree.Key.{Key}
 use Rattle.fac_lang.specs.declared.tree.Key.TheVariants.{Arrow}
 use Rattle.fac_effect.specs.declared.spelling.Spelling.{Spelling}
-use Rattle.fac_effect.specs.declared.spelling.Spelling.TheVariants.{Begins, Fixed, Semi, Opens, Closes, OpensBracket, ClosesBracket, OpensLocals, Bar, Binds, Hole, CalledHole, True, False, Inline, Recursive, NextMethod, Integer, String, Name, Other, Dashes}
+use Rattle.fac_effect.specs.declared.spelling.Spelling.TheVariants.{Begins, Fixed, Semi, Opens, Closes, OpensBracket, ClosesBracket, OpensLocals, Bar, Binds, Hole, CalledHole, True, False, Inline, Recursive, NextMethod, Wraps, Calls, Integer, String, Name, Other, Dashes}
 
 -- a plain token at a place
 abbrev pub plain_token : Place → List ℕ → Token
@@ -63,6 +65,15 @@ closing_text Quotation = codes "]"
 closing_text Array = codes "}"
 closing_text Fry = codes "]"
 
+-- the token in front of the name of a word that is a value
+abbrev pub wrap_text : List ℕ
+wrap_text = 92 ∷ []
+
+-- the token in front of the rest of the effect of a call
+abbrev pub call_text : Callee → List ℕ
+call_text Callable = codes "call("
+call_text Word = codes "execute("
+
 -- a text in one of the integer forms, in range or not
 unfoldable pub has_integer_form : List ℕ → Bool
 has_integer_form text = is_some (signed_in text)
@@ -72,7 +83,7 @@ unfoldable pub is_reserved_sign : List ℕ → Bool
 is_reserved_sign text =
     list_any (bytes_eq text) (
     codes ";" ∷ codes "[" ∷ codes "]" ∷ codes "{" ∷ codes "}" ∷ codes "(" ∷ codes ")" ∷ codes "--" ∷ codes "|" ∷ codes "=>" ∷
-    codes ":" ∷ codes "::" ∷ codes ":>" ∷ (92 ∷ []) ∷ codes "t" ∷ codes "f" ∷ codes "_" ∷ codes "@" ∷ codes "[|" ∷ codes "'[" ∷ [])
+    codes ":" ∷ codes "::" ∷ codes ":>" ∷ wrap_text ∷ codes "t" ∷ codes "f" ∷ codes "_" ∷ codes "@" ∷ codes "[|" ∷ codes "'[" ∷ [])
 
 unfoldable pub is_reserved_form : List ℕ → Bool
 is_reserved_form text =
@@ -117,6 +128,8 @@ sign_text False = codes "f"
 sign_text Inline = codes "inline"
 sign_text Recursive = codes "recursive"
 sign_text NextMethod = codes "call-next-method"
+sign_text Wraps = wrap_text
+sign_text (Calls callee) = call_text callee
 sign_text _ = []
 
 -- the tokens that forms are made of
@@ -125,7 +138,7 @@ signs =
     Begins In ∷ Begins Use ∷ Begins Using ∷ Begins From ∷ Begins QualifiedWith ∷ Begins Defer ∷ Begins Symbol ∷ Begins Constant ∷
     Begins Private ∷ Begins Public ∷ Begins Main ∷ Begins Define ∷ Begins DefineLocals ∷
     Begins Tuple ∷ Begins Union ∷ Begins Singleton ∷ Begins Generic ∷ Begins Method ∷ Begins Maker ∷ Semi ∷ Opens ∷ Closes ∷ Dashes ∷
-    OpensBracket Quotation ∷ ClosesBracket Quotation ∷ OpensBracket Array ∷ ClosesBracket Array ∷ OpensBracket Fry ∷ OpensLocals ∷ Bar ∷ Binds ∷ Hole ∷ CalledHole ∷ True ∷ False ∷ Inline ∷ Recursive ∷ NextMethod ∷ Fixed Arrow ∷ []
+    OpensBracket Quotation ∷ ClosesBracket Quotation ∷ OpensBracket Array ∷ ClosesBracket Array ∷ OpensBracket Fry ∷ OpensLocals ∷ Bar ∷ Binds ∷ Hole ∷ CalledHole ∷ True ∷ False ∷ Inline ∷ Recursive ∷ NextMethod ∷ Wraps ∷ Calls Callable ∷ Calls Word ∷ Fixed Arrow ∷ []
 
 -- the first of these that is of this text
 abbrev pub sign_among : List (List ℕ × Spelling) → List ℕ → Option Spelling

@@ -8,11 +8,14 @@ ghost use Rattle.fac_effect.specs.Spellings.{token_text, is_described_name};
 ghost use Rattle.fac_effect.specs.WrittenEffects.{without_colon};
 ghost use Rattle.fac_effect.specs.EffectReading.{after, whole};
 ghost use Rattle.fac_effect.specs.SaidEffects.{effect_of};
+ghost use Rattle.fac_effect.specs.RowlessEffects.{opened_tokens, behind_opens};
+ghost use Rattle.fac_lang.specs.declared.phrase.Place.{Place};
+ghost use Rattle.fac_lang.specs.Effects.{effect_height};
 ghost use Rattle.fac_effect.specs.inner.EffectParts.{first_row, without_row, names_of, leaving_of, behind_first, is_text, first_unless, begins_with, begins_never};
-ghost use Rattle.fac_effect.specs.inner.EffectParts.{GivesDescribed, GivesEntry, GivesEntries, GivesOuts, GivesEffect};
+ghost use Rattle.fac_effect.specs.inner.EffectParts.{GivesDescribed, GivesEntry, GivesEntries, GivesOuts, GivesOpened, GivesEffect};
 
 use crate::spelling::{begins_with_dots, text};
-use fac_lang::{Effect, Input, List, Memory, Outs, Text, Token};
+use fac_lang::{Effect, Height, Input, List, Memory, Outs, Text, Token};
 use std::alloc::Global;
 
 // Whether a token is of this text.
@@ -221,6 +224,15 @@ impl<'a> Tokens<'a> {
         ensures shorter { length self.new.tokens.now ≤ length self.old.tokens.now }
     {
         self.skip();
+        self.opened(alloc)
+    }
+
+    // The effect whose `(` was passed.
+    #[cycle(parts)]
+    fn opened(&mut self, alloc: Global) -> Result<Effect, Memory>
+        ensures gives { GivesOpened self.old.tokens.now self.new.tokens.now result }
+        ensures shorter { length self.new.tokens.now ≤ length self.old.tokens.now }
+    {
         let inputs = self.entries(alloc, "--")?;
         let outs = self.outs(alloc)?;
         Ok(effect_with(inputs, outs))
@@ -233,4 +245,32 @@ pub fn effect_from(alloc: Global, tokens: &[Token]) -> Result<Effect, Memory>
     ensures { IfOk result (λ effect. effect ≡ effect_of tokens.now) }
 {
     Tokens { tokens }.effect(alloc)
+}
+
+// The effect whose tokens behind its `(` are these.
+fn effect_behind(alloc: Global, tokens: &[Token]) -> Result<Effect, Memory>
+    requires { behind_opens tokens.now ≡ whole }
+    ensures { IfOk result (λ effect. (opens : Place) → effect ≡ effect_of (opened_tokens opens tokens.now)) }
+{
+    Tokens { tokens }.opened(alloc)
+}
+
+// How many values an effect takes and leaves.
+fn height_of(effect: &Effect) -> Height
+    requires { (effect_height effect.now).ins ≤ 64 }
+    ensures { result ≡ effect_height effect.now }
+{
+    Height {
+        ins: effect.inputs() as u32,
+        outs: effect.outputs(),
+    }
+}
+
+/// How many values an effect declares to be taken and left whose tokens behind its `(` are these. Want of memory is the one error.
+pub fn declared_height(alloc: Global, tokens: &[Token]) -> Result<Height, Memory>
+    requires { behind_opens tokens.now ≡ whole }
+    ensures { IfOk result (λ height. (opens : Place) → height ≡ effect_height (effect_of (opened_tokens opens tokens.now))) }
+{
+    let effect = effect_behind(alloc, tokens)?;
+    Ok(height_of(&effect))
 }

@@ -1,7 +1,8 @@
 //! How the tokens of an effect are read, one behind the other, by what stands open.
 ghost use Rattle.std.specs.Prelude.{◌≡◌, ◌<◌, suc};
 ghost use Rattle.fac_effect.specs.EffectReading.{start, place_name as name_placed, behind_name as spot_behind_name, is_behind as stands_behind, may_end as ends_at};
-ghost use Rattle.fac_effect.specs.EffectReading.{name_step, opens_step, dashes_step, closed, closes_step, step, Takes};
+ghost use Rattle.fac_effect.specs.EffectReading.{opened as opens_passed, name_step, opens_step, dashes_step, closed, closes_step, step, Takes};
+ghost use Rattle.fac_effect.specs.RowlessEffects.{is_no_row as names_no_row};
 
 use crate::spelling::{Spelling, begins_with_dots, ends_with_colon, text};
 use fac_lang::limits::MOST_NAMES;
@@ -70,6 +71,18 @@ impl EffectReader {
         EffectReader {
             side: Side::Inputs,
             spot: Spot::Start,
+            outer: Stack::new(alloc),
+            names: 0,
+        }
+    }
+
+    /// Behind the `(` of an effect.
+    pub fn opened(alloc: Global) -> Self
+        ensures { result ≡ opens_passed }
+    {
+        EffectReader {
+            side: Side::Inputs,
+            spot: Spot::First,
             outer: Stack::new(alloc),
             names: 0,
         }
@@ -228,5 +241,15 @@ pub fn may_end(spot: Spot) -> bool
         Spot::Behind => true,
         Spot::Start => false,
         Spot::Described => false,
+    }
+}
+
+/// Whether a token of this spelling is no row variable where it goes on with an effect.
+pub fn is_no_row(reader: &EffectReader, spelling: Spelling, token: &Token) -> bool
+    ensures { result ≡ names_no_row reader.now spelling token.now }
+{
+    match spelling {
+        Spelling::Name => !(may_end(reader.spot) && begins_with_dots(text(&token.kind))),
+        _ => true,
     }
 }

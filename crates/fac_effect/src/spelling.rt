@@ -6,7 +6,7 @@ ghost use Rattle.fac_effect.specs.Spellings.{is_reserved_sign, is_reserved_form,
 ghost use Rattle.fac_effect.specs.Spellings.{word_spelling, spelling_of, string_spelling, token_spelling, is_row_name, is_described_name, token_text};
 
 use fac_lang::limits::MOST_ELEMENTS;
-use fac_lang::{Bracket, FormKind, Key, TokKind};
+use fac_lang::{Bracket, Callee, FormKind, Key, TokKind};
 use fac_num::{NumFault, read_int};
 
 /// What a token is to the grammar, by how it is spelled.
@@ -48,6 +48,10 @@ pub enum Spelling {
     Recursive,
     /// `call-next-method`
     NextMethod,
+    /// `\`
+    Wraps,
+    /// `call(` or `execute(`, behind which the rest of an effect stands.
+    Calls(Callee),
     /// A token in one of the integer forms, in range.
     Integer(i128),
     /// A string of at most 1,000,000 characters.
@@ -135,7 +139,7 @@ fn reserved(text: &str) -> bool
 
 // The tokens that forms are made of, each with its text.
 #[rattlefmt::skip]
-static FORM_SIGNS: [(&str, Spelling); 39] = [
+static FORM_SIGNS: [(&str, Spelling); 42] = [
     ("IN:", Spelling::Begins(FormKind::In)),
     ("USE:", Spelling::Begins(FormKind::Use)),
     ("USING:", Spelling::Begins(FormKind::Using)),
@@ -174,6 +178,9 @@ static FORM_SIGNS: [(&str, Spelling); 39] = [
     ("inline", Spelling::Inline),
     ("recursive", Spelling::Recursive),
     ("call-next-method", Spelling::NextMethod),
+    ("\\", Spelling::Wraps),
+    ("call(", Spelling::Calls(Callee::Callable)),
+    ("execute(", Spelling::Calls(Callee::Word)),
     ("=>", Spelling::Fixed(Key::Arrow)),
 ];
 

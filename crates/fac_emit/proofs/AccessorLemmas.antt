@@ -4,6 +4,7 @@ use Rattle.std.specs.Prelude.{map, set, slice_get}
 use Rattle.std.proofs.lemmas.List.{length-map}
 use Rattle.std.proofs.lemmas.Option.{slice_get-map}
 use Rattle.std.specs.Option.{option_map}
+use Rattle.fac_lang.specs.declared.program.Program.{Program}
 use Rattle.fac_lang.specs.Phrases.{Plain, int, yes, no, str, iota, wrd, arr, tup, Value}
 use Rattle.fac_lang.specs.World.{Object, array, tuple, World}
 use Rattle.fac_lang.specs.declared.error_name.ErrorName.{ErrorName}
@@ -128,46 +129,46 @@ module _ (T : Templates) (N : Names) where
   tuple_made_same k vs w = rw (length-map w.objects (object_view T), map_more (object_view T) w.objects (tuple k vs ∷ [])) refl
 
 -- They make whole values of whole ones.
-module _ (M : Image) (N : Names) where
-  or_bad_keeps : {A : Type 0} (o : Option A) (e : ErrorName) (v : Option MValue) (w : World MValue) (go : A → Gives MValue) → ((y : A) → o ≡ Some y → WholeGives M (go y)) → WholeGives M (or_bad machine_values o e v w go)
+module _ (P : Program) (M : Image) (N : Names) where
+  or_bad_keeps : {A : Type 0} (o : Option A) (e : ErrorName) (v : Option MValue) (w : World MValue) (go : A → Gives MValue) → ((y : A) → o ≡ Some y → WholeGives P M (go y)) → WholeGives P M (or_bad machine_values o e v w go)
   or_bad_keeps None e v w go h = tt
   or_bad_keeps (Some y) e v w go h = h y refl
 
   abbrev WholeTuple : Option (ℕ × List MValue) → Type 0
   WholeTuple None = Unit {0}
-  WholeTuple (Some t) = AllWhole M t.1
+  WholeTuple (Some t) = AllWhole P M t.1
 
-  tuple_of_object : (o : Object MValue) → WholeObject M o → WholeTuple (tuple_of machine_values (Some o))
+  tuple_of_object : (o : Object MValue) → WholeObject P M o → WholeTuple (tuple_of machine_values (Some o))
   tuple_of_object (array vs) h = tt
   tuple_of_object (tuple k vs) h = h
 
-  tuple_whole : (os : List (Object MValue)) (a : ℕ) → WholeObjects M os → WholeTuple (tuple_of machine_values (slice_get os a))
+  tuple_whole : (os : List (Object MValue)) (a : ℕ) → WholeObjects P M os → WholeTuple (tuple_of machine_values (slice_get os a))
   tuple_whole [] a h = tt
   tuple_whole (x ∷ os) zero h = tuple_of_object x h.0
   tuple_whole (x ∷ os) (suc a) h = tuple_whole os a h.1
 
   place_keeps :
-      (s : List ℕ) (v : MValue) (w : World MValue) (a : ℕ) (t : Option (ℕ × List MValue)) (go : Slot machine_values N → Gives MValue) → WholeTuple t → ((p : Slot machine_values N) → AllWhole M p.values → WholeGives M (go p)) →
-      WholeGives M (slot_place machine_values N s v w a t go)
+      (s : List ℕ) (v : MValue) (w : World MValue) (a : ℕ) (t : Option (ℕ × List MValue)) (go : Slot machine_values N → Gives MValue) → WholeTuple t → ((p : Slot machine_values N) → AllWhole P M p.values → WholeGives P M (go p)) →
+      WholeGives P M (slot_place machine_values N s v w a t go)
   place_keeps s v w a None go whole h = tt
   place_keeps s v w a (Some t) go whole h =
       or_bad_keeps (name_at 0 s (N.kind_slots t.0)) NoSlot (Some v) w (λ k. go (record { address = a; kind = t.0; values = t.1; place = k })) (λ k e. h (record { address = a; kind = t.0; values = t.1; place = k }) whole)
 
   slot_keeps :
-      (s : List ℕ) (v : MValue) (w : World MValue) (go : Slot machine_values N → Gives MValue) → WholeObjects M w.objects → ((p : Slot machine_values N) → AllWhole M p.values → WholeGives M (go p)) → WholeGives M (want_slot machine_values N s v w go)
+      (s : List ℕ) (v : MValue) (w : World MValue) (go : Slot machine_values N → Gives MValue) → WholeObjects P M w.objects → ((p : Slot machine_values N) → AllWhole P M p.values → WholeGives P M (go p)) → WholeGives P M (want_slot machine_values N s v w go)
   slot_keeps s v w go os h =
       or_bad_keeps (seen_tuple (m_seen v)) NotTuple (Some v) w (λ a. slot_place machine_values N s v w a (tuple_of machine_values (slice_get w.objects a)) go)
       (λ a e. place_keeps s v w a (tuple_of machine_values (slice_get w.objects a)) go (tuple_whole w.objects a os) h)
 
-  put_keeps : (p : Slot machine_values N) (y : MValue) (w : World MValue) → AllWhole M p.values → Whole M y → WholeObjects M w.objects → WholeObjects M (with_slot machine_values N p y w).objects
-  put_keeps p y w h g os = object_set M w.objects p.address (tuple p.kind (set p.values p.place y)) os (set_whole M p.values p.place y h g)
+  put_keeps : (p : Slot machine_values N) (y : MValue) (w : World MValue) → AllWhole P M p.values → Whole P M y → WholeObjects P M w.objects → WholeObjects P M (with_slot machine_values N p y w).objects
+  put_keeps p y w h g os = object_set P M w.objects p.address (tuple p.kind (set p.values p.place y)) os (set_whole P M p.values p.place y h g)
 
-  pub accessor_keeps : (x : Accessor) (s : List ℕ) → Keeps M (accessor_fn machine_values N x s)
+  pub accessor_keeps : (x : Accessor) (s : List ℕ) → Keeps P M (accessor_fn machine_values N x s)
   accessor_keeps getting s = λ v w hv os.
       slot_keeps s v w (λ p. or_bad machine_values (slice_get p.values p.place) NoSlot (Some v) w (λ y. gives (y ∷ []) w)) os
-      (λ p h. or_bad_keeps (slice_get p.values p.place) NoSlot (Some v) w (λ y. gives (y ∷ []) w) (λ y e. ((get_whole M p.values p.place y h e, tt), os)))
+      (λ p h. or_bad_keeps (slice_get p.values p.place) NoSlot (Some v) w (λ y. gives (y ∷ []) w) (λ y e. ((get_whole P M p.values p.place y h e, tt), os)))
   accessor_keeps setting s = λ v y w hv hy os. slot_keeps s v w (λ p. gives (v ∷ []) (with_slot machine_values N p y w)) os (λ p h. ((hv, tt), put_keeps p y w h hy os))
   accessor_keeps putting s = λ y v w hy hv os. slot_keeps s v w (λ p. gives [] (with_slot machine_values N p y w)) os (λ p h. (tt, put_keeps p y w h hy os))
 
-  pub tuple_keeps : (k : ℕ) (vs : List MValue) (w : World MValue) → AllWhole M vs → WholeObjects M w.objects → WholeGives M (made_tuple machine_values N k vs w)
-  tuple_keeps k vs w h os = ((tt, tt), object_added M w.objects (tuple k vs) os h)
+  pub tuple_keeps : (k : ℕ) (vs : List MValue) (w : World MValue) → AllWhole P M vs → WholeObjects P M w.objects → WholeGives P M (made_tuple machine_values N k vs w)
+  tuple_keeps k vs w h os = ((tt, tt), object_added P M w.objects (tuple k vs) os h)

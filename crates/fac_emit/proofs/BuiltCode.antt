@@ -67,7 +67,8 @@ core_built : (k : ℕ) → is_built_instr (core_instr k) ≡ true
 core_built zero = refl
 core_built (suc zero) = refl
 core_built (suc (suc zero)) = refl
-core_built (suc (suc (suc k))) = refl
+core_built (suc (suc (suc zero))) = refl
+core_built (suc (suc (suc (suc k)))) = refl
 
 sort_built : (C : Program) (w : ℕ) (s : Sort) → Fits s → is_built_instr (sort_instr C w s) ≡ true
 sort_built C w (prim k) h = h

@@ -5,10 +5,11 @@ use Rattle.fac_lang.specs.declared.phrase.Place.{Place}
 use Rattle.fac_lang.specs.declared.program.Program.{Program}
 use Rattle.fac_lang.specs.declared.program.Sort.{Sort}
 use Rattle.fac_lang.specs.declared.program.Sort.TheVariants.{Core as core_sort, Body as body, Method as method}
-use Rattle.fac_lang.specs.Phrases.{Phrase, then, Item, word, Value, fun, of_phrase}
+use Rattle.fac_lang.specs.Phrases.{Phrase, then, Item, word, Value, fun, Callable, of_phrase}
 use Rattle.fac_lang.specs.World.{World, State, pile, push_each}
 use Rattle.fac_lang.specs.Primitives.{seen_no}
 use Rattle.fac_lang.specs.Eval.{Result, Stuck, then_do, Act, runs, Run, run_callable}
+use Rattle.fac_lang.specs.HeightArithmetic.{fits}
 use Rattle.fac_lang.specs.Meaning.{sort_of, sort_phrase, word_phrase, Core, core_numbered, c_call as w_call, c_dip as w_dip, c_if as w_if, core_act, sort_act, act}
 use Rattle.fac_lang.proofs.Laws.{Within, within_call}
 use Rattle.fac_code.specs.declared.image.Instr.{Instr}
@@ -43,7 +44,7 @@ module _ (Y : Setting) where
   T = Y.texts
 
   abbrev A : Item → State Value → Act
-  A = act P Y.fits Y.callable_height
+  A = act P fits Y.callable_height
 
   abbrev run : Run
   run = free A
@@ -55,16 +56,16 @@ module _ (Y : Setting) where
   V = world_view T
 
   abbrev AllWhole : List MValue → Type 0
-  AllWhole = whole.AllWhole M
+  AllWhole = whole.AllWhole P M
 
   abbrev Fine : List MValue → List MValue → List MValue → World MValue → Type 0
-  Fine = whole.Fine M
+  Fine = whole.Fine P M
 
   abbrev Whole : MValue → Type 0
-  Whole = whole.Whole M
+  Whole = whole.Whole P M
 
   abbrev WholeCallable : MCallable → Type 0
-  WholeCallable = whole.WholeCallable M
+  WholeCallable = whole.WholeCallable P M
 
   pub pile_views : (put ms : List MValue) → values_view T (pile put ms) ≡ pile (values_view T put) (values_view T ms)
   pile_views [] ms = refl
@@ -73,29 +74,28 @@ module _ (Y : Setting) where
   -- What runs behind a run that a step entered: at its `ret` the machine goes on behind the instruction, where values are put back.
   behind : (f : ℕ) (F : List MValue) (last : Option Instr) (t : Phrase) (K : List Task) (pc : ℕ) → Go Y f F last zero [] (do_phrase t ∷ K) (pc + 1) → (R own : List Entry) → HasNoGuard own → (base rs : List MValue) (L : List Left) →
       Keeps T base K rs L → AllWhole F → AllWhole rs → (put : List MValue) → AllWhole put →
-      ((G : List MValue) (pc2 : ℕ) (ms2 : List MValue) (w2 : World MValue) (m : ℕ) → slice_get M.code pc2 ≡ Some Ret → stepping (at G pc2 ms2 rs (own ++ R) w2) m ≡ goes_on (at F (pc + 1) (pile put ms2) rs R w2) m) → (X : ℕ → Result) →
+      ((G : List MValue) (pc2 : ℕ) (ms2 : List MValue) (w2 : World MValue) (m : ℕ) → fetched M (Some Ret) (at G pc2 ms2 rs (own ++ R) w2) m ≡ goes_on (at F (pc + 1) (pile put ms2) rs R w2) m) → (X : ℕ → Result) →
       Stays X → (s : Machine) (N n : ℕ) → n ≤ f → Within n (X n) → ((m : ℕ) → then_do (X m) (λ st k. left Y (l_phrase t ∷ L) (push_each (values_view T put) st) k) ≢ Stuck) → Follows Y (Some Ret) (own ++ R) rs s N (X n) →
       Follows Y last R base s N (then_do (X n) (λ st k. left Y (l_phrase t ∷ L) (push_each (values_view T put) st) k))
   behind f F last t K pc go R own none base rs L h hf hr put hp back_step X stays s N n le within lv first =
       let rest = λ (st : State Value) (k : ℕ). left Y (l_phrase t ∷ L) (push_each (values_view T put) st) k in
       let rest_stays = λ (st : State Value). stays_left Y (l_phrase t ∷ L) (push_each (values_view T put) st) in
-      then_follows Y n last R own none base rs s N (X n) rest within first (λ G pc2 ms2 w2 m lem ok is code.
+      then_follows Y n last R own none base rs s N (X n) rest within first (λ x j G pc2 ms2 w2 m lem ok is does.
       let live = live_rest X rest stays rest_stays lv n m (state_view T ms2 w2) is in
       let same = pile_views put ms2 in
-      let ok1 : Fine F rs (pile put ms2) w2 = record { cells = hf; held = hr; values = pile_whole M put ms2 hp ok.values; objects = ok.objects } in
-      step_before Y last R base (at G pc2 ms2 rs (own ++ R) w2) (at F (pc + 1) (pile put ms2) rs R w2) m m _ (back_step G pc2 ms2 w2 m code)
+      let ok1 : Fine F rs (pile put ms2) w2 = record { cells = hf; held = hr; values = pile_whole P M put ms2 hp ok.values; objects = ok.objects } in
+      step_before Y last R base x (at F (pc + 1) (pile put ms2) rs R w2) j m _ (does ∙ back_step G pc2 ms2 w2 m)
       (subst (λ (us : List Value). Follows Y last R base (at F (pc + 1) (pile put ms2) rs R w2) m (left Y (l_phrase t ∷ L) (state us (V w2)) m)) same
       (go R base (pile put ms2) rs (values_view T (pile put ms2)) (l_phrase t ∷ L) w2 m (omega (arith, lem, le)) ok1 (λ k. subst (λ (us : List Value). left Y (l_phrase t ∷ L) (state us (V w2)) k ≢ Stuck) (sym same) (live k)) lies_none (keeps_phrase h))))
 
   -- a `ret` goes on behind the call
-  ret_resume : (F : List MValue) (pc : ℕ) (R : List Entry) (rs G : List MValue) (pc2 : ℕ) (ms2 : List MValue) (w2 : World MValue) (m : ℕ) → slice_get M.code pc2 ≡ Some Ret →
-      stepping (at G pc2 ms2 rs (resume (pc + 1) F ∷ R) w2) m ≡ goes_on (at F (pc + 1) ms2 rs R w2) m
-  ret_resume F pc R rs G pc2 ms2 w2 m e = fetch Y (at G pc2 ms2 rs (resume (pc + 1) F ∷ R) w2) m Ret e
+  pub ret_resume : (F : List MValue) (pc : ℕ) (R : List Entry) (rs G : List MValue) (pc2 : ℕ) (ms2 : List MValue) (w2 : World MValue) (m : ℕ) → fetched M (Some Ret) (at G pc2 ms2 rs (resume (pc + 1) F ∷ R) w2) m ≡ goes_on (at F (pc + 1) ms2 rs R w2) m
+  ret_resume F pc R rs G pc2 ms2 w2 m = refl
 
   -- and behind a `dip` it first puts the value back
-  ret_put : (x : MValue) (F : List MValue) (pc : ℕ) (R : List Entry) (rs G : List MValue) (pc2 : ℕ) (ms2 : List MValue) (w2 : World MValue) (m : ℕ) → slice_get M.code pc2 ≡ Some Ret →
-      stepping (at G pc2 ms2 rs (put_back x ∷ resume (pc + 1) F ∷ R) w2) m ≡ goes_on (at F (pc + 1) (x ∷ ms2) rs R w2) m
-  ret_put x F pc R rs G pc2 ms2 w2 m e = fetch Y (at G pc2 ms2 rs (put_back x ∷ resume (pc + 1) F ∷ R) w2) m Ret e
+  ret_put : (x : MValue) (F : List MValue) (pc : ℕ) (R : List Entry) (rs G : List MValue) (pc2 : ℕ) (ms2 : List MValue) (w2 : World MValue) (m : ℕ) →
+      fetched M (Some Ret) (at G pc2 ms2 rs (put_back x ∷ resume (pc + 1) F ∷ R) w2) m ≡ goes_on (at F (pc + 1) (x ∷ ms2) rs R w2) m
+  ret_put x F pc R rs G pc2 ms2 w2 m = refl
 
   -- a phrase whose code is called at a place under a frame, and the rest behind the instruction
   pub called_at : (f : ℕ) (F : List MValue) (last : Option Instr) (x : Instr) (i : Item) (b : Phrase) (p : Place) (t : Phrase) (G : List MValue) (a : ℕ) (S : List Sym) (K : List Task) (pc : ℕ) → AllWhole G → slice_get M.code pc ≡ Some x →
@@ -114,7 +114,7 @@ module _ (Y : Setting) where
       (behind f F last t K pc go R (entry ∷ []) (tt, tt) base rs L h ok.cells ok.held [] tt (ret_resume F pc R rs) (run b st) (stays_phrase A b st) s (suc n) n (omega (arith, le)) (spares A n b st n (omega arith)) live first)
 
   -- what the item of a word does that runs a phrase
-  phrase_runs : (wd : ℕ) (o : Option Sort) (st : State Value) → RunsPhrase o → sort_act P wd o st ≡ runs (of_phrase (sort_phrase P wd o)) st []
+  pub phrase_runs : (wd : ℕ) (o : Option Sort) (st : State Value) → RunsPhrase o → sort_act P wd o st ≡ runs (of_phrase (sort_phrase P wd o)) st []
   phrase_runs wd (Some (body b)) st h = refl
   phrase_runs wd (Some (method c g b)) st h = refl
   phrase_runs wd (Some _) st h = absurd h
@@ -135,12 +135,12 @@ module _ (Y : Setting) where
       called_at f F last (Callw wd false) (word wd) (word_phrase P wd) p t [] a S K pc tt e calls go R base ms rs vs L1 w n le ok lv l h (phrase_runs wd (sort_of P wd) (state vs (V w)) hc.runs) (word_goes wd a hc.row F pc hc.there hc.does ms rs R w n)
 
   -- A callable that a step enters. What `compose` made leaves an entry for its second part, which is entered at the `ret` of the first.
-  enters : (f : ℕ) → Templated Y f → (c : MCallable) → WholeCallable c → (F : List MValue) (pc : ℕ) (R : List Entry) (base ms : List MValue) (w : World MValue) (n : ℕ) → n < f → Fine [] base ms w →
+  pub enters : (f : ℕ) → Templated Y f → (c : MCallable) → WholeCallable c → (F : List MValue) (pc : ℕ) (R : List Entry) (base ms : List MValue) (w : World MValue) (n : ℕ) → n < f → Fine [] base ms w →
       ((m : ℕ) → run_callable run (callable_view T c) (state_view T ms w) m ≢ Stuck) → (s : Machine) (k : ℕ) → stepping s k ≡ entering M c (at F pc ms base R w) n →
       Follows Y (Some Ret) R base s k (run_callable run (callable_view T c) (state_view T ms w) n)
   enters f tpl (m_lit q vs) h F pc R base ms w n lt ok lv s k e =
       let go = ap (λ o. or_trap o t_kind (at F pc ms base R w) n (λ u. goes_on (at (kept_list vs) u.entry ms base R w) n)) h.1 in
-      let ok1 : Fine (kept_list vs) base ms w = record { cells = kept_whole M vs h.3; held = ok.held; values = ok.values; objects = ok.objects } in
+      let ok1 : Fine (kept_list vs) base ms w = record { cells = kept_whole P M vs h.3; held = ok.held; values = ok.values; objects = ok.objects } in
       step_before Y (Some Ret) R base s (at (kept_list vs) h.0.entry ms base R w) k n _ (e ∙ go) (tpl q h.0 vs h.1 h.2 h.3 R base ms (values_view T ms) w n lt ok1 lv lies_none)
   enters f tpl (m_cur v c) h F pc R base ms w zero lt ok lv s k e = (at F pc ms base R w, ends_step M s k _ e, refl)
   enters f tpl (m_cur v c) h F pc R base ms w (suc n) lt ok lv s k e =
@@ -152,27 +152,32 @@ module _ (Y : Setting) where
       let go = run_callable run (callable_view T d) in
       let live = λ (m : ℕ). lv (suc m) in
       then_follows Y n (Some Ret) R (enter d ∷ []) (tt, tt) base base s k (X n) go (within_call run (spares A) n (callable_view T c) st n (omega arith))
-      (enters f tpl c h.0 F pc (enter d ∷ R) base ms w n (omega (arith, lt)) ok (live_first X go live) s k e) (λ G pc2 ms2 w2 m lem ok2 is code.
+      (enters f tpl c h.0 F pc (enter d ∷ R) base ms w n (omega (arith, lt)) ok (live_first X go live) s k e) (λ x j G pc2 ms2 w2 m lem ok2 is does.
       let ok3 : Fine [] base ms2 w2 = record { cells = tt; held = ok.held; values = ok2.values; objects = ok2.objects } in
-      enters f tpl d h.1 G pc2 R base ms2 w2 m (omega (arith, lem, lt)) ok3 (live_rest X go (stays_call A (callable_view T c) st) (stays_call A (callable_view T d)) live n m (state_view T ms2 w2) is) (at G pc2 ms2 base (enter d ∷ R) w2) m
-      (fetch Y (at G pc2 ms2 base (enter d ∷ R) w2) m Ret code))
+      enters f tpl d h.1 G pc2 R base ms2 w2 m (omega (arith, lem, lt)) ok3 (live_rest X go (stays_call A (callable_view T c) st) (stays_call A (callable_view T d)) live n m (state_view T ms2 w2) is) x j does)
+
+  -- an instruction that runs a callable of the meaning, and the rest behind it
+  pub g_ran : (f : ℕ) (F : List MValue) (last : Option Instr) (i : Item) (p : Place) (t : Phrase) (K : List Task) (pc : ℕ) → Go Y f F last zero [] (do_phrase t ∷ K) (pc + 1) → (R own : List Entry) → HasNoGuard own → (base rs : List MValue) (L : List Left) (n : ℕ) →
+      suc n ≤ f → AllWhole F → AllWhole rs → Keeps T base K rs L → (st st' : State Value) (c : Callable) (put : List MValue) → AllWhole put → A i st ≡ runs c st' (values_view T put) →
+      ((G : List MValue) (pc2 : ℕ) (ms2 : List MValue) (w2 : World MValue) (m : ℕ) → fetched M (Some Ret) (at G pc2 ms2 rs (own ++ R) w2) m ≡ goes_on (at F (pc + 1) (pile put ms2) rs R w2) m) → Live Y (l_phrase (then i p t) ∷ L) st → (s : Machine) (N : ℕ) →
+      (((m : ℕ) → run_callable run c st' m ≢ Stuck) → Follows Y (Some Ret) (own ++ R) rs s N (run_callable run c st' n)) → Follows Y last R base s N (left Y (l_phrase (then i p t) ∷ L) st (suc n))
+  g_ran f F last i p t K pc go R own none base rs L n le hf hr h st st' c put hp acts back_step lv s N first =
+      let rest = λ (st : State Value) (k : ℕ). left Y (l_phrase t ∷ L) (push_each (values_view T put) st) k in
+      let live = live_runs Y i p t L st st' c (values_view T put) acts lv in
+      subst (λ (r : Result). Follows Y last R base s N r) (sym (first_runs Y i p t L st st' c (values_view T put) n acts))
+      (behind f F last t K pc go R own none base rs L h hf hr put hp back_step (run_callable run c st') (stays_call A c st') s N n (omega (arith, le)) (within_call run (spares A) n c st' n (omega arith)) live
+      (first (live_first (run_callable run c st') rest live)))
 
   -- an instruction that enters a callable of the machine, and the rest behind it
   pub g_entered : (f : ℕ) (F : List MValue) → Templated Y f → (last : Option Instr) (i : Item) (p : Place) (t : Phrase) (K : List Task) (pc : ℕ) → Go Y f F last zero [] (do_phrase t ∷ K) (pc + 1) → (R own : List Entry) → HasNoGuard own →
       (base all ms rs : List MValue) (vs : List Value) (L : List Left) (w : World MValue) (n : ℕ) → suc n ≤ f → AllWhole F → Fine [] rs ms w → Keeps T base K rs L → (c : MCallable) → WholeCallable c → (put : List MValue) → AllWhole put →
       A i (state vs (V w)) ≡ runs (callable_view T c) (state_view T ms w) (values_view T put) → stepping (at F pc all rs R w) (suc n) ≡ entering M c (at F pc ms rs (own ++ R) w) n →
-      ((G : List MValue) (pc2 : ℕ) (ms2 : List MValue) (w2 : World MValue) (m : ℕ) → slice_get M.code pc2 ≡ Some Ret → stepping (at G pc2 ms2 rs (own ++ R) w2) m ≡ goes_on (at F (pc + 1) (pile put ms2) rs R w2) m) →
+      ((G : List MValue) (pc2 : ℕ) (ms2 : List MValue) (w2 : World MValue) (m : ℕ) → fetched M (Some Ret) (at G pc2 ms2 rs (own ++ R) w2) m ≡ goes_on (at F (pc + 1) (pile put ms2) rs R w2) m) →
       Live Y (l_phrase (then i p t) ∷ L) (state vs (V w)) → Follows Y last R base (at F pc all rs R w) (suc n) (left Y (l_phrase (then i p t) ∷ L) (state vs (V w)) (suc n))
   g_entered f F tpl last i p t K pc go R own none base all ms rs vs L w n le hf ok h c hc put hp acts e back_step lv =
       let s = at F pc all rs R w in
-      let st = state vs (V w) in
-      let st' = state_view T ms w in
-      let v = callable_view T c in
-      let rest = λ (st : State Value) (k : ℕ). left Y (l_phrase t ∷ L) (push_each (values_view T put) st) k in
-      let live = live_runs Y i p t L st st' v (values_view T put) acts lv in
-      let first = enters f tpl c hc F pc (own ++ R) rs ms w n (omega (arith, le)) ok (live_first (run_callable run v st') rest live) s (suc n) e in
-      subst (λ (r : Result). Follows Y last R base s (suc n) r) (sym (first_runs Y i p t L st st' v (values_view T put) n acts))
-      (behind f F last t K pc go R own none base rs L h hf ok.held put hp back_step (run_callable run v st') (stays_call A v st') s (suc n) n (omega (arith, le)) (within_call run (spares A) n v st' n (omega arith)) live first)
+      g_ran f F last i p t K pc go R own none base rs L n le hf ok.held h (state vs (V w)) (state_view T ms w) (callable_view T c) put hp acts back_step lv s (suc n)
+      (λ live. enters f tpl c hc F pc (own ++ R) rs ms w n (omega (arith, le)) ok live s (suc n) e)
 
   -- `call`, `dip` and `if` of values
   pub core_is : (wd k : ℕ) (c : Core) (st : State Value) → sort_of P wd ≡ Some (core_sort k) → core_numbered k ≡ Some c → A (word wd) st ≡ core_act P (Some c) st
@@ -208,7 +213,7 @@ module _ (Y : Setting) where
           (record { cells = tt; held = ok.held; values = ok.values.1.1; objects = ok.objects }) h c ok.values.0 (x ∷ []) (ok.values.1.0, tt) (core_is wd k w_dip (state vs (V w)) es en ∙ rw is refl) (fetch Y s (suc n) Dip e) (ret_put x F pc R rs) lv
 
   -- which of two callables `if` runs: the second exactly for `f`
-  chosen : (m : MValue) (c d : MCallable) (us : List Value) (w : World Value) →
+  pub chosen : (m : MValue) (c d : MCallable) (us : List Value) (w : World Value) →
       core_act P (Some w_if) (state (fun (callable_view T d) ∷ fun (callable_view T c) ∷ value_view T m ∷ us) w) ≡ runs (callable_view T (branch (seen_no (m_seen m)) c d)) (state us w) []
   chosen m c d us w = rw (seen_same T m) (choose (seen_no (m_seen m)))
     where
@@ -233,4 +238,4 @@ module _ (Y : Setting) where
           let b = seen_no (m_seen x) in
           let acts : A (word wd) (state vs (V w)) ≡ runs (callable_view T (branch b c d)) (state_view T ms w) [] = core_is wd k w_if (state vs (V w)) es en ∙ rw is (chosen x c d (values_view T ms) (V w)) in
           g_entered f F tpl last (word wd) p t K pc go R (resume (pc + 1) F ∷ []) (tt, tt) base (m_fun d ∷ m_fun c ∷ x ∷ ms) ms rs vs L1 w n le ok.cells
-          (record { cells = tt; held = ok.held; values = ok.values.1.1.1; objects = ok.objects }) h (branch b c d) (branch_whole M b c d ok.values.1.0 ok.values.0) [] tt acts (fetch Y s (suc n) (If false) e) (ret_resume F pc R rs) lv
+          (record { cells = tt; held = ok.held; values = ok.values.1.1.1; objects = ok.objects }) h (branch b c d) (branch_whole P M b c d ok.values.1.0 ok.values.0) [] tt acts (fetch Y s (suc n) (If false) e) (ret_resume F pc R rs) lv

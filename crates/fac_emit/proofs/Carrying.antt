@@ -1,5 +1,5 @@
 -- The image of plain code carries its program.
-use Rattle.std.proofs.Common.{◌≢◌, ℕ, List, Option, Bool}
+use Rattle.std.proofs.Common.{◌≢◌, ℕ, List, Option}
 use Rattle.fac_lang.specs.declared.phrase.Height.{Height}
 use Rattle.fac_lang.specs.declared.phrase.Template.{Template}
 use Rattle.fac_lang.specs.declared.program.Program.{Program}
@@ -13,12 +13,15 @@ use Rattle.fac_locals.specs.Closed.{Closes}
 use Rattle.fac_code.specs.declared.image.Image.{Image}
 use Rattle.fac_emit.specs.MachineView.{template_phrases, values_view, world_view}
 use Rattle.fac_emit.specs.Carries.{Carries, top_run}
+use Rattle.fac_emit.specs.Heights.{HasHeights}
 use Rattle.fac_emit.specs.ProgramCode.{IsPlain}
+use Rattle.fac_emit.proofs.Following.{Setting}
 use Rattle.fac_emit.proofs.Simulation.{carried}
 use Rattle.fac_emit.proofs.PlainIsCode.{plain_code_is_code}
 use Rattle.fac_generic.specs.Methods.{MethodLaws}
 use Rattle.fac_emit.proofs.PlainStands.{plain_code}
 use Rattle.fac_emit.proofs.NamedImages.{image_named}
+use Rattle.fac_emit.proofs.TestedHeights.{words_tested, literals_tested}
 use Rattle.fac_emit.proofs.MadeArrays.{arrays_made}
 
 not_stuck : (r : Result) → IsNotStuck r → r ≢ Stuck
@@ -28,18 +31,29 @@ not_stuck (Spent st i) h e = cc
 not_stuck Stuck h e = absurd h
 
 pub carries :
-    (P C : Program) (templates : List Template) (M : Image) (fits : Height → Height → Bool) (callable_height : Callable → Option Height) (count : ℕ) →
-    IsBuilt P → IsWhole P → MethodLaws P → Closes P C templates → IsPlain C templates M → Carries P fits callable_height count M
-carries P C templates M fits callable_height count b whole laws closes is_plain =
-    let made = arrays_made P C templates M b closes is_plain in
-    let named = image_named P C templates M b closes is_plain in
+    (P C : Program) (templates : List Template) (heights : List (Option Height)) (M : Image) (callable_height : Callable → Option Height) (count : ℕ) →
+    IsBuilt P → IsWhole P → MethodLaws P → Closes P C templates → IsPlain C templates heights M → HasHeights P templates heights callable_height → Carries P callable_height count M
+carries P C templates heights M callable_height count b whole laws closes is_plain effects =
+    let made = arrays_made P C templates heights M b closes is_plain in
+    let named = image_named P C templates heights M b closes is_plain in
     record {
       same_end = λ stack w many values objects never n.
           let phrase = word_phrase P P.top in
           let T = template_phrases P in
-          let code = plain_code_is_code P M (plain_code P C templates M b whole laws closes is_plain) in
-          let going = λ (m : ℕ). not_stuck (top_run P fits callable_height (values_view T stack) (world_view T w) m) (never m) in
-          carried (record { program = P; fits = fits; callable_height = callable_height; image = M; texts = T; named = named }) code.called M.start phrase code.phrase stack w (record { cells = tt; held = tt; values = values; objects = objects }) going n;
+          let code = plain_code_is_code P M (plain_code P C templates heights M b whole laws closes is_plain) in
+          let going = λ (m : ℕ). not_stuck (top_run P callable_height (values_view T stack) (world_view T w) m) (never m) in
+          let setting : Setting = record {
+            program = P;
+            callable_height = callable_height;
+            image = M;
+            texts = T;
+            named = named;
+            words = words_tested P C templates heights M b closes is_plain;
+            literals = literals_tested P C templates heights M b closes is_plain callable_height effects;
+            curried = effects.curried;
+            composed = effects.composed;
+          } in
+          carried setting code.called M.start phrase code.phrase stack w (record { cells = tt; held = tt; values = values; objects = objects }) going n;
       same_first = λ input. (made input).same;
       first_whole = λ input. (made input).whole;
       same_names = named;

@@ -1,6 +1,7 @@
 -- The step of each case of the relation, from what stands behind it to the case itself: values, quotations and primitives.
 use Rattle.std.proofs.Common.{◌≡◌, ◌≢◌, ℕ, zero, suc, ◌+◌, ◌≤◌, ◌<◌, List, [], ◌∷◌, ◌++◌, length, Option, Some, None, refl, ap, sym, subst, ◌∙◌, arith}
 use Rattle.std.specs.Prelude.{slice_get}
+use Rattle.fac_lang.specs.declared.error_name.ErrorName.{ErrorName}
 use Rattle.fac_lang.specs.declared.phrase.Place.{Place}
 use Rattle.fac_lang.specs.declared.program.Program.{Program}
 use Rattle.fac_lang.specs.declared.program.Sort.{Sort}
@@ -11,7 +12,8 @@ use Rattle.fac_lang.specs.Printed.{Names}
 use Rattle.fac_lang.specs.PrimitiveWords.{outputs_of}
 use Rattle.fac_lang.specs.Procedures.{Gives, gives, bad, Fn, fn0, fn1, fn2, fn3}
 use Rattle.fac_lang.specs.Primitives.{Primitive, prim_numbered, prim_fn}
-use Rattle.fac_lang.specs.Eval.{Result, Stuck, then_do, Act, wrong, goes, Run, go_on}
+use Rattle.fac_lang.specs.Eval.{Result, Stuck, then_do, Act, wrong, fails, goes, Run, go_on}
+use Rattle.fac_lang.specs.HeightArithmetic.{fits}
 use Rattle.fac_lang.specs.Meaning.{meaning_values, names, sort_of, does, given, prim_act, sort_act, pushes_array, act}
 use Rattle.fac_code.specs.declared.image.Instr.{Instr}
 use Rattle.fac_code.specs.declared.image.Instr.TheVariants.{Array, Quot, Prim as prim_instr}
@@ -21,7 +23,7 @@ use Rattle.fac_code.specs.ImageNames.{image_names}
 use Rattle.fac_code.specs.declared.image.Action.TheVariants as action
 use Rattle.fac_code.specs.declared.names.TrapWhy.TheVariants.{Kind as t_kind, Frame as t_frame}
 use Rattle.fac_store.specs.MachineValues.{MValue, m_plain, MCallable, machine_values, cells_at}
-use Rattle.fac_vm.specs.Machine.{Machine, Entry, spent, Step, goes_on, ends, after, given as machine_given, does as machine_does, word_with, or_trap, fetched, step}
+use Rattle.fac_vm.specs.Machine.{Machine, Entry, failed, spent, Step, goes_on, ends, after, given as machine_given, does as machine_does, does_prim, word_with, or_trap, fetched, step}
 use Rattle.fac_vm.proofs.Leading.{leads_none}
 use Rattle.fac_emit.specs.MachineView.{Templates, value_view, values_view, world_view, gives_view}
 use Rattle.fac_emit.specs.WholeValues as whole
@@ -32,7 +34,7 @@ use Rattle.fac_emit.proofs.GivenValues.{IsLong, IsCounted, prim_counted}
 use Rattle.fac_emit.proofs.WholeValueLemmas.{pile_whole, cells_whole, made, made_view, made_whole}
 use Rattle.fac_emit.proofs.SamePrimitives.{Same, prim_same}
 use Rattle.fac_emit.proofs.KeptPrimitives.{prim_keeps}
-use Rattle.fac_emit.proofs.Following.{Setting, owing, state, at, left, Follows, step_before, fetch, spent_here, owe, Live, Go}
+use Rattle.fac_emit.proofs.Following.{Setting, HasNoGuard, owing, state, at, left, Follows, step_before, fetch, spent_here, owe, Live, Go, Behind}
 use Rattle.fac_emit.proofs.Following.{first_is, first_goes, live_is, live_goes, wrong_here}
 
 module _ (Y : Setting) where
@@ -47,7 +49,7 @@ module _ (Y : Setting) where
   T = Y.texts
 
   abbrev A : Item → State Value → Act
-  A = act P Y.fits Y.callable_height
+  A = act P fits Y.callable_height
 
   abbrev run : Run
   run = free A
@@ -59,20 +61,32 @@ module _ (Y : Setting) where
   V = world_view T
 
   abbrev AllWhole : List MValue → Type 0
-  AllWhole = whole.AllWhole M
+  AllWhole = whole.AllWhole P M
 
   abbrev Fine : List MValue → List MValue → List MValue → World MValue → Type 0
-  Fine = whole.Fine M
+  Fine = whole.Fine P M
 
   abbrev Whole : MValue → Type 0
-  Whole = whole.Whole M
+  Whole = whole.Whole P M
 
   abbrev WholeCallable : MCallable → Type 0
-  WholeCallable = whole.WholeCallable M
+  WholeCallable = whole.WholeCallable P M
 
   pub g_last : (f : ℕ) (F : List MValue) (last : Instr) (S : List Sym) (pc : ℕ) → AllHere S → slice_get M.code pc ≡ Some last → Go Y f F (Some last) zero S [] pc
   g_last f F last S pc a e R base ms rs vs L w n le ok lv l keeps_none =
-      record { pc = pc; frame = F; stack = ms; world = w; same = ap (λ xs. state xs (V w)) (all_here T S ms vs a l); fine = record { cells = tt; held = tt; values = ok.values; objects = ok.objects }; there = e; leads = leads_none M _ n }
+      let s = at F pc ms base R w in
+      record {
+        stood = s;
+        ticks = n;
+        leads = leads_none M s n;
+        pc = pc;
+        frame = F;
+        stack = ms;
+        world = w;
+        does = fetch Y s n last e;
+        same = ap (λ xs. state xs (V w)) (all_here T S ms vs a l);
+        fine = record { cells = tt; held = tt; values = ok.values; objects = ok.objects };
+      }
 
   pub g_trim : (f : ℕ) (F : List MValue) (last : Option Instr) (d : ℕ) (S H : List Sym) (K : List Task) (pc : ℕ) → AllHere H → Go Y f F last d S K pc → Go Y f F last d (S ++ H) K pc
   g_trim f F last d S H K pc a go R base ms rs vs L w n le ok lv l k = go R base ms rs vs L w n le ok lv (trim T S H a ms vs l) k
@@ -91,9 +105,9 @@ module _ (Y : Setting) where
           let m = made q ks in
           let row = ap (λ o. or_trap o t_kind s n (λ u. or_trap (cells_at u.cells F) t_frame s n (λ ws. goes_on (at F (pc + 1) (made q ws ∷ ms) rs R w) n))) et in
           let there = ap (λ o. or_trap o t_frame s n (λ ws. goes_on (at F (pc + 1) (made q ws ∷ ms) rs R w) n)) ec in
-          let c = cells_whole M r.cells F ks ok.cells ec in
+          let c = cells_whole P M r.cells F ks ok.cells ec in
           let size : length ks ≡ length r.cells + r.holes = omega (arith, c.1, eh) in
-          let ok1 : Fine F rs (m ∷ ms) w = record { cells = ok.cells; held = ok.held; values = (made_whole M q r ks et size c.0, ok.values); objects = ok.objects } in
+          let ok1 : Fine F rs (m ∷ ms) w = record { cells = ok.cells; held = ok.held; values = (made_whole P M q r ks et size c.0, ok.values); objects = ok.objects } in
           let named : Lies T (here ∷ S) (m ∷ ms) (fun (of_phrase (T q (values_view T ks))) ∷ us) = subst (λ (v : Value). Lies T (here ∷ S) (m ∷ ms) (v ∷ us)) (made_view T q ks) (lies_more r_here l) in
           step_before Y last R base s (at F (pc + 1) (m ∷ ms) rs R w) (suc n) n _ (fetch Y s (suc n) (Quot q) e ∙ row ∙ there) (go R base (m ∷ ms) rs (fun (of_phrase (T q (values_view T ks))) ∷ us) L w n (omega (arith, le)) ok1 lv named h)
 
@@ -124,8 +138,8 @@ module _ (Y : Setting) where
   g_stuck f F last i p t S K pc acts R base ms rs vs L w n le ok lv l (keeps_phrase {L = L1} h) = wrong_here Y i p t L1 (state vs (V w)) (acts (state vs (V w))) lv
 
   -- a literal array, whose address is the world's
-  array_is : (a : ℕ) (st : State Value) (o : Option ℕ) → slice_get st.world.literals a ≡ o → A (lit_arr a) st ≡ pushes_array P Y.fits Y.callable_height o st
-  array_is a st o e = ap (λ (o : Option ℕ). pushes_array P Y.fits Y.callable_height o st) e
+  array_is : (a : ℕ) (st : State Value) (o : Option ℕ) → slice_get st.world.literals a ≡ o → A (lit_arr a) st ≡ pushes_array P fits Y.callable_height o st
+  array_is a st o e = ap (λ (o : Option ℕ). pushes_array P fits Y.callable_height o st) e
 
   array_goes : (F : List MValue) (pc a : ℕ) (o : Option ℕ) (ms rs : List MValue) (R : List Entry) (w : World MValue) (n : ℕ) → slice_get w.literals a ≡ o →
       fetched M (Some (Array a)) (at F pc ms rs R w) (suc n) ≡ or_trap o t_kind (at F pc ms rs R w) n (λ k. goes_on (at F (pc + 1) (m_plain (arr k) ∷ ms) rs R w) n)
@@ -148,30 +162,33 @@ module _ (Y : Setting) where
           rw (first_goes Y (lit_arr a) p t L1 st st' n acts) (step_before Y last R base s (at F (pc + 1) (m ∷ ms) rs R w) (suc n) n _ (fetch Y s (suc n) (Array a) e ∙ array_goes F pc a (Some k) ms rs R w n is)
           (go R base (m ∷ ms) rs (value_view T m ∷ vs) (l_phrase t ∷ L1) w n (omega (arith, le)) ok1 (live_goes Y (lit_arr a) p t L1 st st' acts lv) (lies_more r_here l) (keeps_phrase h)))
 
+  -- code behind an instruction that calls nothing
+  pub behind_instr : (f : ℕ) (F : List MValue) (last : Option Instr) (S : List Sym) (t : Phrase) (K : List Task) (pc : ℕ) → Go Y f F last zero S (do_phrase t ∷ K) (pc + 1) → (R : List Entry) (base rs : List MValue) (L : List Left) (n : ℕ) → n ≤ f → Keeps T base K rs L →
+      Behind Y (λ s m. goes_on (after s) m) F last R base rs pc S t L n
+  behind_instr f F last S t K pc go R base rs L n le h s k ms vs w e ok lv l = step_before Y last R base s (at F (pc + 1) ms rs R w) k n _ e (go R base ms rs vs (l_phrase t ∷ L) w n le ok lv l (keeps_phrase h))
+
   -- what a primitive gives
-  pub gave : (f : ℕ) (F : List MValue) (last : Option Instr) (o : Option ℕ) (t : Phrase) (S1 : List Sym) (K : List Task) (pc : ℕ) → Go Y f F last zero (heres (count o) S1) (do_phrase t ∷ K) (pc + 1) →
-      (R : List Entry) (base rs : List MValue) (L : List Left) (n : ℕ) → n ≤ f → Keeps T base K rs L → (all ms : List MValue) (us : List Value) (w0 w : World MValue) (a : ℕ) → AllWhole F → AllWhole rs → AllWhole ms → Lies T S1 ms us →
-      (g : Gives MValue) (g' : Gives Value) → g' ≡ gives_view T g → whole.WholeGives M g → IsLong o g → ((m : ℕ) → then_do (go_on run (given a us g') t m) (left Y L) ≢ Stuck) →
-      stepping (at F pc all rs R w0) (suc n) ≡ machine_given a (at F pc ms rs R w) n (λ s'. goes_on (after s') n) g → Follows Y last R base (at F pc all rs R w0) (suc n) (then_do (go_on run (given a us g') t n) (left Y L))
-  gave f F last o t S1 K pc go R base rs L n le h all ms us w0 w a hf hr hs l (gives vs w') g' same hg long lv e =
+  pub gave : (next : Machine → ℕ → Step) (F : List MValue) (last : Option Instr) (o : Option ℕ) (t : Phrase) (S1 : List Sym) (pc : ℕ) (R : List Entry) (base rs : List MValue) (L : List Left) (n : ℕ) →
+      Behind Y next F last R base rs pc (heres (count o) S1) t L n → (s : Machine) (k : ℕ) (ms : List MValue) (us : List Value) (w : World MValue) (a : ℕ) → AllWhole F → AllWhole rs → AllWhole ms → Lies T S1 ms us →
+      (g : Gives MValue) (g' : Gives Value) → g' ≡ gives_view T g → whole.WholeGives P M g → IsLong o g → ((m : ℕ) → then_do (go_on run (given a us g') t m) (left Y L) ≢ Stuck) →
+      stepping s k ≡ machine_given a (at F pc ms rs R w) n (λ s'. next s' n) g → Follows Y last R base s k (then_do (go_on run (given a us g') t n) (left Y L))
+  gave next F last o t S1 pc R base rs L n on s k ms us w a hf hr hs l (gives vs w') g' same hg long lv e =
       let us' = pile (values_view T vs) us in
       let size : count o ≡ length vs = ap count long in
       let named : Lies T (heres (count o) S1) (pile vs ms) us' = subst (λ (k : ℕ). Lies T (heres k S1) (pile vs ms) us') (sym size) (lies_pile T vs S1 ms us l) in
-      let ok : Fine F rs (pile vs ms) w' = record { cells = hf; held = hr; values = pile_whole M vs ms hg.0 hs; objects = hg.1 } in
-      rw same (step_before Y last R base (at F pc all rs R w0) (at F (pc + 1) (pile vs ms) rs R w') (suc n) n _ e
-      (go R base (pile vs ms) rs us' (l_phrase t ∷ L) w' n le ok (λ m is. lv m (ap (λ x. then_do (go_on run (given a us x) t m) (left Y L)) same ∙ is)) named (keeps_phrase h)))
-  gave f F last o t S1 K pc go R base rs L n le h all ms us w0 w a hf hr hs l (bad x v w') g' same hg long lv e =
+      let ok : Fine F rs (pile vs ms) w' = record { cells = hf; held = hr; values = pile_whole P M vs ms hg.0 hs; objects = hg.1 } in
+      rw same (on s k (pile vs ms) us' w' e ok (λ m is. lv m (ap (λ x. then_do (go_on run (given a us x) t m) (left Y L)) same ∙ is)) named)
+  gave next F last o t S1 pc R base rs L n on s k ms us w a hf hr hs l (bad x v w') g' same hg long lv e =
       rw same (record {
-        stood = at F pc all rs R w0;
-        ticks = suc n;
-        leads = leads_none M _ (suc n);
+        stood = s;
+        ticks = k;
+        leads = leads_none M s k;
         error = record { name = x; value = v; word = a };
         fallen = at F pc ms rs R w';
         fails = e;
         above = [];
         entries = refl;
-        uncaught =
-            tt;
+        uncaught = tt;
         same = refl;
         world = refl;
       })
@@ -191,58 +208,78 @@ module _ (Y : Setting) where
   short_wrong a N o mf tf c h vs w lt = absurd h
 
   -- what it does with what is there
-  pub prim_done : (f : ℕ) (F : List MValue) (last : Option Instr) (i : Item) (p : Place) (t : Phrase) (a N : ℕ) (o : Option ℕ) (S1 : List Sym) (K : List Task) (pc : ℕ) → Go Y f F last zero (heres (count o) S1) (do_phrase t ∷ K) (pc + 1) →
-      (R : List Entry) (base rs : List MValue) (L : List Left) (w : World MValue) (n : ℕ) → n ≤ f → Keeps T base K rs L → AllWhole F → AllWhole rs → whole.WholeObjects M w.objects → (mf : Fn MValue) (tf : Fn Value) → IsCounted N o mf →
-      Same T mf tf → whole.Keeps M mf → ((st : State Value) → A i st ≡ does a tf st) → ((ms : List MValue) → stepping (at F pc ms rs R w) (suc n) ≡ machine_does a mf (at F pc ms rs R w) n (λ s'. goes_on (after s') n)) →
-      (ms : List MValue) (vs : List Value) → AllWhole ms → Live Y (l_phrase (then i p t) ∷ L) (state vs (V w)) → Has T N S1 ms vs → Follows Y last R base (at F pc ms rs R w) (suc n) (left Y (l_phrase (then i p t) ∷ L) (state vs (V w)) (suc n))
-  prim_done f F last i p t a N o S1 K pc go R base rs L w n le h hf hr hw (fn0 mf) (fn0 tf) c same kp acts steps ms vs hs lv (has [] {vs = us} e l) =
+  pub prim_done : (next : Machine → ℕ → Step) (F : List MValue) (last : Option Instr) (i : Item) (p : Place) (t : Phrase) (a N : ℕ) (o : Option ℕ) (S1 : List Sym) (pc : ℕ) (R : List Entry) (base rs : List MValue) (L : List Left) (w : World MValue) (n : ℕ) →
+      Behind Y next F last R base rs pc (heres (count o) S1) t L n → AllWhole F → AllWhole rs → whole.WholeObjects P M w.objects → (mf : Fn MValue) (tf : Fn Value) → IsCounted N o mf →
+      Same T mf tf → whole.Keeps P M mf → ((st : State Value) → A i st ≡ does a tf st) → (s : Machine) (k : ℕ) (ms : List MValue) (vs : List Value) → stepping s k ≡ machine_does a mf (at F pc ms rs R w) n (λ s'. next s' n) → AllWhole ms →
+      Live Y (l_phrase (then i p t) ∷ L) (state vs (V w)) → Has T N S1 ms vs → Follows Y last R base s k (left Y (l_phrase (then i p t) ∷ L) (state vs (V w)) (suc n))
+  prim_done next F last i p t a N o S1 pc R base rs L w n on hf hr hw (fn0 mf) (fn0 tf) c same kp acts s k ms vs steps hs lv (has [] {vs = us} e l) =
       let st = state us (V w) in
       let act = acts st in
-      subst (λ (r : Result). Follows Y last R base (at F pc ms rs R w) (suc n) r) (sym (first_is Y i p t L st n _ act))
-      (gave f F last o t S1 K pc go R base rs L n le h ms ms us w w a hf hr hs l (mf w) (tf (V w)) (same w) (kp w hw) (c.1 w) (live_is Y i p t L st _ act lv) (steps ms))
-  prim_done f F last i p t a N o S1 K pc go R base rs L w n le h hf hr hw (fn0 mf) (fn0 tf) c same kp acts steps ms vs hs lv (has (x ∷ xs) e l) = absurd (omega (arith, e, c.0))
-  prim_done f F last i p t a N o S1 K pc go R base rs L w n le h hf hr hw (fn1 mf) (fn1 tf) c same kp acts steps ms vs hs lv (has [] e l) = absurd (omega (arith, e, c.0))
-  prim_done f F last i p t a N o S1 K pc go R base rs L w n le h hf hr hw (fn1 mf) (fn1 tf) c same kp acts steps ms vs hs lv (has (x ∷ []) {ms = ms1} {vs = us} e l) =
+      subst (λ (r : Result). Follows Y last R base s k r) (sym (first_is Y i p t L st n _ act))
+      (gave next F last o t S1 pc R base rs L n on s k ms us w a hf hr hs l (mf w) (tf (V w)) (same w) (kp w hw) (c.1 w) (live_is Y i p t L st _ act lv) steps)
+  prim_done next F last i p t a N o S1 pc R base rs L w n on hf hr hw (fn0 mf) (fn0 tf) c same kp acts s k ms vs steps hs lv (has (x ∷ xs) e l) = absurd (omega (arith, e, c.0))
+  prim_done next F last i p t a N o S1 pc R base rs L w n on hf hr hw (fn1 mf) (fn1 tf) c same kp acts s k ms vs steps hs lv (has [] e l) = absurd (omega (arith, e, c.0))
+  prim_done next F last i p t a N o S1 pc R base rs L w n on hf hr hw (fn1 mf) (fn1 tf) c same kp acts s k ms vs steps hs lv (has (x ∷ []) {ms = ms1} {vs = us} e l) =
       let st = state (value_view T x ∷ us) (V w) in
       let act = acts st in
-      subst (λ (r : Result). Follows Y last R base (at F pc (x ∷ ms1) rs R w) (suc n) r) (sym (first_is Y i p t L st n _ act))
-      (gave f F last o t S1 K pc go R base rs L n le h (x ∷ ms1) ms1 us w w a hf hr hs.1 l (mf x w) (tf (value_view T x) (V w)) (same x w) (kp x w hs.0 hw) (c.1 x w) (live_is Y i p t L st _ act lv) (steps (x ∷ ms1)))
-  prim_done f F last i p t a N o S1 K pc go R base rs L w n le h hf hr hw (fn1 mf) (fn1 tf) c same kp acts steps ms vs hs lv (has (x ∷ y ∷ xs) e l) = absurd (omega (arith, e, c.0))
-  prim_done f F last i p t a N o S1 K pc go R base rs L w n le h hf hr hw (fn2 mf) (fn2 tf) c same kp acts steps ms vs hs lv (has [] e l) = absurd (omega (arith, e, c.0))
-  prim_done f F last i p t a N o S1 K pc go R base rs L w n le h hf hr hw (fn2 mf) (fn2 tf) c same kp acts steps ms vs hs lv (has (y ∷ []) e l) = absurd (omega (arith, e, c.0))
-  prim_done f F last i p t a N o S1 K pc go R base rs L w n le h hf hr hw (fn2 mf) (fn2 tf) c same kp acts steps ms vs hs lv (has (y ∷ x ∷ []) {ms = ms1} {vs = us} e l) =
+      subst (λ (r : Result). Follows Y last R base s k r) (sym (first_is Y i p t L st n _ act))
+      (gave next F last o t S1 pc R base rs L n on s k ms1 us w a hf hr hs.1 l (mf x w) (tf (value_view T x) (V w)) (same x w) (kp x w hs.0 hw) (c.1 x w) (live_is Y i p t L st _ act lv) steps)
+  prim_done next F last i p t a N o S1 pc R base rs L w n on hf hr hw (fn1 mf) (fn1 tf) c same kp acts s k ms vs steps hs lv (has (x ∷ y ∷ xs) e l) = absurd (omega (arith, e, c.0))
+  prim_done next F last i p t a N o S1 pc R base rs L w n on hf hr hw (fn2 mf) (fn2 tf) c same kp acts s k ms vs steps hs lv (has [] e l) = absurd (omega (arith, e, c.0))
+  prim_done next F last i p t a N o S1 pc R base rs L w n on hf hr hw (fn2 mf) (fn2 tf) c same kp acts s k ms vs steps hs lv (has (y ∷ []) e l) = absurd (omega (arith, e, c.0))
+  prim_done next F last i p t a N o S1 pc R base rs L w n on hf hr hw (fn2 mf) (fn2 tf) c same kp acts s k ms vs steps hs lv (has (y ∷ x ∷ []) {ms = ms1} {vs = us} e l) =
       let st = state (value_view T y ∷ value_view T x ∷ us) (V w) in
       let act = acts st in
-      subst (λ (r : Result). Follows Y last R base (at F pc (y ∷ x ∷ ms1) rs R w) (suc n) r) (sym (first_is Y i p t L st n _ act))
-      (gave f F last o t S1 K pc go R base rs L n le h (y ∷ x ∷ ms1) ms1 us w w a hf hr hs.1.1 l (mf x y w) (tf (value_view T x) (value_view T y) (V w)) (same x y w) (kp x y w hs.1.0 hs.0 hw) (c.1 x y w) (live_is Y i p t L st _ act lv) (steps (y ∷ x ∷ ms1)))
-  prim_done f F last i p t a N o S1 K pc go R base rs L w n le h hf hr hw (fn2 mf) (fn2 tf) c same kp acts steps ms vs hs lv (has (z ∷ y ∷ x ∷ xs) e l) = absurd (omega (arith, e, c.0))
-  prim_done f F last i p t a N o S1 K pc go R base rs L w n le h hf hr hw (fn3 mf) (fn3 tf) c same kp acts steps ms vs hs lv (has [] e l) = absurd (omega (arith, e, c.0))
-  prim_done f F last i p t a N o S1 K pc go R base rs L w n le h hf hr hw (fn3 mf) (fn3 tf) c same kp acts steps ms vs hs lv (has (z ∷ []) e l) = absurd (omega (arith, e, c.0))
-  prim_done f F last i p t a N o S1 K pc go R base rs L w n le h hf hr hw (fn3 mf) (fn3 tf) c same kp acts steps ms vs hs lv (has (z ∷ y ∷ []) e l) = absurd (omega (arith, e, c.0))
-  prim_done f F last i p t a N o S1 K pc go R base rs L w n le h hf hr hw (fn3 mf) (fn3 tf) c same kp acts steps ms vs hs lv (has (z ∷ y ∷ x ∷ []) {ms = ms1} {vs = us} e l) =
+      subst (λ (r : Result). Follows Y last R base s k r) (sym (first_is Y i p t L st n _ act))
+      (gave next F last o t S1 pc R base rs L n on s k ms1 us w a hf hr hs.1.1 l (mf x y w) (tf (value_view T x) (value_view T y) (V w)) (same x y w) (kp x y w hs.1.0 hs.0 hw) (c.1 x y w) (live_is Y i p t L st _ act lv) steps)
+  prim_done next F last i p t a N o S1 pc R base rs L w n on hf hr hw (fn2 mf) (fn2 tf) c same kp acts s k ms vs steps hs lv (has (z ∷ y ∷ x ∷ xs) e l) = absurd (omega (arith, e, c.0))
+  prim_done next F last i p t a N o S1 pc R base rs L w n on hf hr hw (fn3 mf) (fn3 tf) c same kp acts s k ms vs steps hs lv (has [] e l) = absurd (omega (arith, e, c.0))
+  prim_done next F last i p t a N o S1 pc R base rs L w n on hf hr hw (fn3 mf) (fn3 tf) c same kp acts s k ms vs steps hs lv (has (z ∷ []) e l) = absurd (omega (arith, e, c.0))
+  prim_done next F last i p t a N o S1 pc R base rs L w n on hf hr hw (fn3 mf) (fn3 tf) c same kp acts s k ms vs steps hs lv (has (z ∷ y ∷ []) e l) = absurd (omega (arith, e, c.0))
+  prim_done next F last i p t a N o S1 pc R base rs L w n on hf hr hw (fn3 mf) (fn3 tf) c same kp acts s k ms vs steps hs lv (has (z ∷ y ∷ x ∷ []) {ms = ms1} {vs = us} e l) =
       let st = state (value_view T z ∷ value_view T y ∷ value_view T x ∷ us) (V w) in
       let act = acts st in
-      subst (λ (r : Result). Follows Y last R base (at F pc (z ∷ y ∷ x ∷ ms1) rs R w) (suc n) r) (sym (first_is Y i p t L st n _ act))
-      (gave f F last o t S1 K pc go R base rs L n le h (z ∷ y ∷ x ∷ ms1) ms1 us w w a hf hr hs.1.1.1 l (mf x y z w) (tf (value_view T x) (value_view T y) (value_view T z) (V w)) (same x y z w) (kp x y z w hs.1.1.0 hs.1.0 hs.0 hw)
-      (c.1 x y z w) (live_is Y i p t L st _ act lv) (steps (z ∷ y ∷ x ∷ ms1)))
-  prim_done f F last i p t a N o S1 K pc go R base rs L w n le h hf hr hw (fn3 mf) (fn3 tf) c same kp acts steps ms vs hs lv (has (z ∷ y ∷ x ∷ u ∷ xs) e l) = absurd (omega (arith, e, c.0))
-  prim_done f F last i p t a N o S1 K pc go R base rs L w n le h hf hr hw mf tf c same kp acts steps ms vs hs lv (too_short lt) = wrong_here Y i p t L (state vs (V w)) (acts (state vs (V w)) ∙ short_wrong a N o mf tf c same vs (V w) lt) lv
-  prim_done f F last i p t a N o S1 K pc go R base rs L w n le h hf hr hw mf tf c same kp acts steps ms vs hs lv x = absurd same
+      subst (λ (r : Result). Follows Y last R base s k r) (sym (first_is Y i p t L st n _ act))
+      (gave next F last o t S1 pc R base rs L n on s k ms1 us w a hf hr hs.1.1.1 l (mf x y z w) (tf (value_view T x) (value_view T y) (value_view T z) (V w)) (same x y z w) (kp x y z w hs.1.1.0 hs.1.0 hs.0 hw)
+      (c.1 x y z w) (live_is Y i p t L st _ act lv) steps)
+  prim_done next F last i p t a N o S1 pc R base rs L w n on hf hr hw (fn3 mf) (fn3 tf) c same kp acts s k ms vs steps hs lv (has (z ∷ y ∷ x ∷ u ∷ xs) e l) = absurd (omega (arith, e, c.0))
+  prim_done next F last i p t a N o S1 pc R base rs L w n on hf hr hw mf tf c same kp acts s k ms vs steps hs lv (too_short lt) = wrong_here Y i p t L (state vs (V w)) (acts (state vs (V w)) ∙ short_wrong a N o mf tf c same vs (V w) lt) lv
+  prim_done next F last i p t a N o S1 pc R base rs L w n on hf hr hw mf tf c same kp acts s k ms vs steps hs lv x = absurd same
+
+  -- the item of a primitive's word, and the machine's primitive
+  pub prim_acts : (wd k : ℕ) (q : Primitive) (st : State Value) → sort_of P wd ≡ Some (prim_sort k) → prim_numbered k ≡ Some q → A (word wd) st ≡ does wd (prim_fn meaning_values (names P) q) st
+  prim_acts wd k q st es en = ap (λ (o : Option Sort). sort_act P wd o st) es ∙ ap (λ (o : Option Primitive). prim_act P wd o st) en
+
+  pub prim_goes : (wd k : ℕ) (q : Primitive) (s : Machine) (n : ℕ) → prim_numbered k ≡ Some q → word_with (action.Prim k) 0 M.words ≡ wd → does_prim M k s n ≡ machine_does wd (prim_fn machine_values (names P) q) s n (λ s'. goes_on (after s') n)
+  prim_goes wd k q s n en ew =
+      let one = ap (λ (v : ℕ). or_trap (prim_numbered k) t_kind s n (λ q. machine_does v (prim_fn machine_values (image_names M) q) s n (λ s'. goes_on (after s') n))) ew in
+      let two = ap (λ (o : Option Primitive). or_trap o t_kind s n (λ q. machine_does wd (prim_fn machine_values (image_names M) q) s n (λ s'. goes_on (after s') n))) en in
+      let three = ap (λ (N : Names). machine_does wd (prim_fn machine_values N q) s n (λ s'. goes_on (after s') n)) Y.named in
+      one ∙ two ∙ three
+
+  -- an item that fails with a value as a step fails, which left these entries
+  pub fails_so : (F : List MValue) (last : Option Instr) (i : Item) (p : Place) (t : Phrase) (L : List Left) (R own : List Entry) → HasNoGuard own → (base rs ms : List MValue) (st : State Value) (w : World MValue) (pc n : ℕ) (name : ErrorName) (v : MValue) (a : ℕ) →
+      A i st ≡ fails (record { name = name; value = Some (value_view T v); word = a }) (state (values_view T ms) (V w)) → (s : Machine) (k : ℕ) → stepping s k ≡ ends (failed (record { name = name; value = Some v; word = a }) (at F pc ms rs (own ++ R) w) n) →
+      Follows Y last R base s k (left Y (l_phrase (then i p t) ∷ L) st (suc n))
+  fails_so F last i p t L R own none base rs ms st w pc n name v a acts s k e =
+      subst (λ (r : Result). Follows Y last R base s k r) (sym (first_is Y i p t L st n (fails (record { name = name; value = Some (value_view T v); word = a }) (state (values_view T ms) (V w))) acts)) (record {
+        stood = s;
+        ticks = k;
+        leads = leads_none M s k;
+        error = record { name = name; value = Some v; word = a };
+        fallen = at F pc ms rs (own ++ R) w;
+        fails = e;
+        above = own;
+        entries = refl;
+        uncaught = none;
+        same = refl;
+        world = refl;
+      })
 
   pub g_prim : (f : ℕ) (F : List MValue) (last : Option Instr) (wd k : ℕ) (q : Primitive) (p : Place) (t : Phrase) (S S1 : List Sym) (K : List Task) (pc : ℕ) → sort_of P wd ≡ Some (prim_sort k) → prim_numbered k ≡ Some q →
       word_with (action.Prim k) 0 M.words ≡ wd → Needs (ins q) S S1 → slice_get M.code pc ≡ Some (prim_instr k) → Go Y f F last zero (heres (outs q) S1) (do_phrase t ∷ K) (pc + 1) → Go Y f F last zero S (do_phrase (then (word wd) p t) ∷ K) pc
   g_prim f F last wd k q p t S S1 K pc es en ew needs e go R base ms rs vs L w zero le ok lv l (keeps_phrase h) = spent_here Y last R base (at F pc ms rs R w) (state vs (V w)) (Some (word wd)) (prim_instr k) e refl refl
   g_prim f F last wd k q p t S S1 K pc es en ew needs e go R base ms rs vs L w (suc n) le ok lv l (keeps_phrase {L = L1} h) =
-      prim_done f F last (word wd) p t wd (ins q) (outputs_of q.word) S1 K pc go R base rs L1 w n (omega (arith, le)) h ok.cells ok.held ok.objects (prim_fn machine_values (names P) q) (prim_fn meaning_values (names P) q) (prim_counted (names P) q)
-      (prim_same T (names P) q) (prim_keeps M (names P) q) acts steps ms vs ok.values lv (needed T (ins q) S S1 needs ms vs l)
-    where
-      acts : (st : State Value) → A (word wd) st ≡ does wd (prim_fn meaning_values (names P) q) st
-      acts st = ap (λ (o : Option Sort). sort_act P wd o st) es ∙ ap (λ (o : Option Primitive). prim_act P wd o st) en
-
-      steps : (ms : List MValue) → stepping (at F pc ms rs R w) (suc n) ≡ machine_does wd (prim_fn machine_values (names P) q) (at F pc ms rs R w) n (λ s'. goes_on (after s') n)
-      steps ms =
-          let s = at F pc ms rs R w in
-          let one = ap (λ (v : ℕ). or_trap (prim_numbered k) t_kind s n (λ q. machine_does v (prim_fn machine_values (image_names M) q) s n (λ s'. goes_on (after s') n))) ew in
-          let two = ap (λ (o : Option Primitive). or_trap o t_kind s n (λ q. machine_does wd (prim_fn machine_values (image_names M) q) s n (λ s'. goes_on (after s') n))) en in
-          let three = ap (λ (N : Names). machine_does wd (prim_fn machine_values N q) s n (λ s'. goes_on (after s') n)) Y.named in
-          fetch Y s (suc n) (prim_instr k) e ∙ one ∙ two ∙ three
+      prim_done (λ s m. goes_on (after s) m) F last (word wd) p t wd (ins q) (outputs_of q.word) S1 pc R base rs L1 w n (behind_instr f F last (heres (outs q) S1) t K pc go R base rs L1 n (omega (arith, le)) h) ok.cells ok.held ok.objects
+      (prim_fn machine_values (names P) q) (prim_fn meaning_values (names P) q) (prim_counted (names P) q) (prim_same T (names P) q) (prim_keeps P M (names P) k q en) (λ st. prim_acts wd k q st es en) (at F pc ms rs R w) (suc n) ms vs
+      (fetch Y (at F pc ms rs R w) (suc n) (prim_instr k) e ∙ prim_goes wd k q (at F pc ms rs R w) n en ew) ok.values lv (needed T (ins q) S S1 needs ms vs l)

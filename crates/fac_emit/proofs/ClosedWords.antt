@@ -70,7 +70,8 @@ pub core_refers : (T : Tables) (k : ℕ) → instr_refers T (core_instr k) ≡ t
 core_refers T zero = refl
 core_refers T (suc zero) = refl
 core_refers T (suc (suc zero)) = refl
-core_refers T (suc (suc (suc k))) = refl
+core_refers T (suc (suc (suc zero))) = refl
+core_refers T (suc (suc (suc (suc k)))) = refl
 
 pub last_refers : (T : Tables) (is_top : Bool) → instr_refers T (last_instr is_top) ≡ true
 last_refers T true = refl

@@ -1,6 +1,7 @@
 -- Each item of a closed program that stands for a built one can be coded.
-use Rattle.std.proofs.Common.{◌≡◌, ◌<◌, ℕ, zero, suc, ◌+◌, List, [], ◌∷◌, length, drop, get_or, Bool, true, false, Option, Some, refl, ap, subst, ◌∙◌}
-use Rattle.std.specs.Prelude.{◌&&◌, slice_get}
+use Rattle.std.proofs.Common.{◌≡◌, ◌<◌, ◌≤◌, ℕ, zero, suc, ◌+◌, List, [], ◌∷◌, length, drop, get_or, Bool, true, false, Option, Some, refl, ap, sym, subst, ◌∙◌, arith}
+use Rattle.std.proofs.lemmas.Bool.{leb-true, le-leb}
+use Rattle.std.specs.Prelude.{◌&&◌, nat_le, slice_get}
 use Rattle.std.specs.List.{list_all}
 use Rattle.fac_lang.specs.declared.phrase.Template.{Template}
 use Rattle.fac_lang.specs.declared.program.Lit.{Lit}
@@ -12,8 +13,10 @@ use Rattle.fac_lang.specs.declared.program.Sort.TheVariants.{Body as body, Gener
 use Rattle.fac_lang.specs.declared.phrase.Item.{Item}
 use Rattle.fac_lang.specs.PhraseView.{what_item, items_phrase}
 use Rattle.fac_lang.specs.Phrases.{Literal, Phrase}
+use Rattle.fac_lang.specs.Signatures.{Signature, signature, Inputs, no_inputs, value, quoted}
+use Rattle.fac_lang.specs.Effects.{inputs_count, effect_height}
 use Rattle.fac_lang.specs.Forms.{IsBuilt}
-use Rattle.fac_lang.specs.Whole.{IsWhole, is_generic}
+use Rattle.fac_lang.specs.Whole.{IsWhole, is_generic, name_count, inputs_name_count}
 use Rattle.fac_lang.specs.Meaning.{sort_of, array_method}
 use Rattle.fac_lang.proofs.FormsLemmas.{sort_at}
 use Rattle.fac_captures.specs.declared.cell.Cell.{Cell}
@@ -22,13 +25,22 @@ use Rattle.fac_locals.specs.Literals.{Quoted, quoted_phrase, behind, first_of_wo
 use Rattle.fac_locals.specs.Closed.{Closes, ClosesSort, ClosesElement, CloseElements, CloseArrays}
 use Rattle.fac_locals.proofs.Lookups.{word_closed, word_open, template_closed}
 use Rattle.fac_emit.specs.inner.Coded as Coded
-use Rattle.fac_emit.specs.inner.Coded.{item_is_coded, phrase_is_coded, template_is_coded, body_is_coded, word_body_is_coded, element_is_coded, array_is_coded}
-use Rattle.fac_emit.proofs.Closings.{Closing, c_end, c_int, c_true, c_false, c_text, c_array, c_ref, c_word, c_quot, c_fry, c_bind, c_local, c_hole, c_outside, c_next, closing}
+use Rattle.fac_emit.specs.inner.Coded.{item_is_coded, phrase_is_coded, template_is_coded, body_is_coded, word_body_is_coded, has_few_inputs, element_is_coded, array_is_coded}
+use Rattle.fac_emit.proofs.Closings.{Closing, c_end, c_int, c_true, c_false, c_text, c_array, c_ref, c_word, c_quot, c_fry, c_bind, c_local, c_hole, c_call_effect, c_execute_effect, c_outside, c_next, closing}
 use Rattle.fac_emit.proofs.BuiltCode.{and_true}
 use Rattle.fac_emit.proofs.EmitLemmas.{next_element}
-use Rattle.fac_emit.proofs.NextMethods.{is_method, method_fits}
+use Rattle.fac_emit.proofs.NextMethods.{all_at, is_method, method_fits}
 use Rattle.fac_emit.proofs.PlacedWords.{word_there}
 use Rattle.fac_emit.proofs.RunningPhrases.{IsMethod, RunsAs, word_runs, literal_runs}
+
+-- no more inputs than names
+inputs_named : (is : Inputs) → inputs_count is ≤ inputs_name_count is
+inputs_named no_inputs = omega arith
+inputs_named (value x is) = let l = inputs_named is in omega (arith, l)
+inputs_named (quoted x e is) = let l = inputs_named is in omega (arith, l)
+
+few_inputs : (e : Signature) → nat_le (name_count e) 65 ≡ true → nat_le (effect_height e).ins 65 ≡ true
+few_inputs (signature r is l) h = let most = leb-true _ _ h in let least = inputs_named is in le-leb _ _ (omega (arith, most, least))
 
 pub and_first : (a b : Bool) → (a && b) ≡ true → a ≡ true
 and_first true b e = refl
@@ -88,6 +100,8 @@ module _ (P C : Program) (templates : List Template) (b : IsBuilt P) (whole : Is
   phrase_coded cells at t c (c_bind x h) = phrase_coded _ _ _ _ h
   phrase_coded cells at t c (c_local x k is h) = phrase_coded _ _ _ _ h
   phrase_coded cells at t c (c_hole j k is h) = phrase_coded _ _ _ _ h
+  phrase_coded cells at t c (c_call_effect k h) = phrase_coded _ _ _ _ h
+  phrase_coded cells at t c (c_execute_effect k h) = phrase_coded _ _ _ _ h
   phrase_coded cells at t c (c_outside h) = phrase_coded _ _ _ _ h
   phrase_coded cells at t c (c_next {c = c'} m is h) = and_true (Coded.is_method C (sort_of C m)) (phrase_is_coded C c') (next_coded m is) (phrase_coded _ _ _ _ h)
 
@@ -114,6 +128,15 @@ module _ (P C : Program) (templates : List Template) (b : IsBuilt P) (whole : Is
 
   pub words_coded : list_all (word_body_is_coded C) C.words ≡ true
   words_coded = each_passes (word_body_is_coded C) C.words word_body_coded
+
+  -- the effect of each word has few inputs
+  word_few : (w : ℕ) (c : WordDef) → slice_get C.words w ≡ Some c → has_few_inputs c ≡ true
+  word_few w c at =
+      let found = word_open P C templates closes w c at in
+      subst (λ (e : Signature). nat_le (effect_height e).ins 65 ≡ true) (sym found.closes.effect) (few_inputs found.def.effect (all_at (λ (d : WordDef). nat_le (name_count d.effect) 65) P.words w found.def whole.few_names found.at))
+
+  pub words_few : list_all has_few_inputs C.words ≡ true
+  words_few = each_passes has_few_inputs C.words word_few
 
 -- each element of a closed program's literal arrays has an element of an image
 element_coded : (P : Program) (m : Option ℕ) (at : Literal) (l c : Lit) → ClosesElement P m at l c → element_is_coded c ≡ true

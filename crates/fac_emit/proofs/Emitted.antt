@@ -1,5 +1,5 @@
 -- The code of a word and of a template, as it is made, is what they emit.
-use Rattle.std.proofs.Common.{◌≡◌, ◌<◌, ℕ, zero, suc, List, [], ◌∷◌, ◌++◌, length, Bool, true, false, Option, Some, None, refl, ap, sym, subst, ◌∙◌, Result, Ok, Err, IfOk, true≢false}
+use Rattle.std.proofs.Common.{◌≡◌, ◌<◌, ℕ, zero, suc, List, [], ◌∷◌, ◌++◌, length, Bool, true, Option, Some, None, refl, ap, sym, subst, ◌∙◌, Result, Ok, Err, IfOk}
 use Rattle.std.specs.Prelude.{nat_eq, slice_get}
 use Rattle.fac_lang.specs.declared.memory.Memory.{Memory}
 use Rattle.fac_lang.specs.declared.phrase.Template.{Template}
@@ -25,17 +25,14 @@ use Rattle.fac_emit.specs.ProgramCode.{core_instr, sort_instr, word_instr, item_
 use Rattle.fac_emit.specs.Stands.{RunsPhrase}
 use Rattle.fac_emit.specs.inner.FoundCode.{IsCodeOf, found_code, found_texts, found_template, found_template_texts}
 use Rattle.fac_emit.specs.declared.emitter.Piece.{Piece}
-use Rattle.fac_emit.specs.Emits.{ItemEmits, e_int, e_true, e_false, e_text, e_array, e_reference, e_symbol, e_quot, e_fry, e_bind, e_local, e_hole, e_prim, e_accessor, e_isa, e_word, e_generic, e_next, e_call, e_dip, e_if, e_boa, e_stuck, PhraseEmits, e_end, e_item, Emits, e_phrase, e_no_phrase, TemplateEmits}
-use Rattle.fac_emit.proofs.Closings.{Closing, c_end, c_int, c_true, c_false, c_text, c_array, c_ref, c_word, c_quot, c_fry, c_bind, c_local, c_hole, c_outside, c_next, closing}
+use Rattle.fac_emit.specs.Emits.{ItemEmits, e_int, e_true, e_false, e_text, e_array, e_reference, e_symbol, e_quot, e_fry, e_bind, e_local, e_hole, e_prim, e_accessor, e_isa, e_word, e_generic, e_next, e_call, e_dip, e_if, e_execute, e_call_effect, e_execute_effect, e_boa, e_stuck, PhraseEmits, e_end, e_item, Emits, e_phrase, e_no_phrase, TemplateEmits}
+use Rattle.fac_emit.proofs.Closings.{Closing, c_end, c_int, c_true, c_false, c_text, c_array, c_ref, c_word, c_quot, c_fry, c_bind, c_local, c_hole, c_call_effect, c_execute_effect, c_outside, c_next, closing}
 use Rattle.fac_emit.proofs.NextMethods.{is_method}
 use Rattle.fac_emit.proofs.Placed.{literal_of, literal_instr}
 use Rattle.fac_emit.proofs.PlacedWords.{element_at, found_below, ran}
 use Rattle.fac_emit.proofs.RunningPhrases.{IsMethod, RunsAs, word_runs, literal_runs}
 use Rattle.fac_emit.proofs.TableNumbers.{slot_same, generic_same, generic_of_same, method_same}
 use Rattle.fac_emit.proofs.TextLists.{Begins, begins_same, text_there}
-
-never_true : {A : Type 0} → false ≡ true → A
-never_true h = absurd (true≢false (sym h))
 
 module _ (P C : Program) (templates : List Template) (b : IsBuilt P) (closes : Closes P C templates) where
   -- the instruction of a word
@@ -44,7 +41,7 @@ module _ (P C : Program) (templates : List Template) (b : IsBuilt P) (closes : C
   core_emits pool cells at w zero h e = e_call w 0 e refl
   core_emits pool cells at w (suc zero) h e = e_dip w 1 e refl
   core_emits pool cells at w (suc (suc zero)) h e = e_if w 2 e refl
-  core_emits pool cells at w (suc (suc (suc zero))) h e = never_true h
+  core_emits pool cells at w (suc (suc (suc zero))) h e = e_execute w 3 e refl
   core_emits pool cells at w (suc (suc (suc (suc zero)))) h e = e_boa w 4 e refl
   core_emits pool cells at w (suc (suc (suc (suc (suc k))))) h e = e_stuck tt (λ fits callable_height st. ap (λ (o : Option Sort). sort_act P w o st) e)
 
@@ -98,6 +95,8 @@ module _ (P C : Program) (templates : List Template) (b : IsBuilt P) (closes : C
   phrase_emits pool last cells at texts t c (c_bind x h) lt b = e_item (e_bind x) (phrase_emits pool last _ _ texts _ _ h lt b)
   phrase_emits pool last cells at texts t c (c_local x k is h) lt b = e_item (e_local x k is) (phrase_emits pool last _ _ texts _ _ h lt b)
   phrase_emits pool last cells at texts t c (c_hole j k is h) lt b = e_item (e_hole j k is) (phrase_emits pool last _ _ texts _ _ h lt b)
+  phrase_emits pool last cells at texts t c (c_call_effect k h) lt b = e_item (e_call_effect k) (phrase_emits pool last _ _ texts _ _ h lt b)
+  phrase_emits pool last cells at texts t c (c_execute_effect k h) lt b = e_item (e_execute_effect k) (phrase_emits pool last _ _ texts _ _ h lt b)
   phrase_emits pool last cells at texts t c (c_outside h) lt b = e_item (e_stuck tt (λ fits callable_height st. refl)) (phrase_emits pool last _ _ texts _ _ h lt b)
   phrase_emits pool last cells at texts t c (c_next m is h) lt b = e_item (next_emits pool cells at (length texts) m is) (phrase_emits pool last _ _ texts _ _ h lt b)
 

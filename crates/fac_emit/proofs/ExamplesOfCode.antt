@@ -1,7 +1,10 @@
 -- Plain code, computed: that of a small program, what the machine does with it, and its code as a case of the relation.
-use Rattle.std.proofs.Common.{◌≡◌, ℕ, List, [], ◌∷◌, ◌++◌, length, map, true, false, refl, Option, Some, None, arith}
+use Rattle.std.proofs.Common.{◌≡◌, ℕ, zero, suc, List, [], ◌∷◌, ◌++◌, length, map, true, false, refl, Option, Some, None, arith}
 use Rattle.std.specs.Prelude.{pos, codes}
-use Rattle.fac_lang.specs.Signatures.{signature, no_inputs, never}
+use Rattle.fac_lang.specs.Signatures.{signature, Inputs, no_inputs, value, never, leaves}
+use Rattle.fac_lang.specs.declared.error_name.ErrorName.{ErrorName}
+use Rattle.fac_lang.specs.declared.error_name.ErrorName.TheVariants.{WrongValues}
+use Rattle.fac_lang.specs.declared.phrase.Height.{Height}
 use Rattle.fac_lang.specs.declared.phrase.Template.{Template}
 use Rattle.fac_lang.specs.declared.program.Lit.TheVariants.{Int as l_int, True as l_yes, Str as l_str, Arr as l_arr, Wref as l_word, Made as l_made}
 use Rattle.fac_lang.specs.declared.program.Program.{Program}
@@ -11,21 +14,22 @@ use Rattle.fac_lang.specs.declared.program.Shape.TheVariants.{Kind as built_in, 
 use Rattle.fac_lang.specs.declared.program.WordDef.{WordDef}
 use Rattle.fac_lang.specs.declared.program.Sort.{Sort}
 use Rattle.fac_lang.specs.declared.program.Sort.TheVariants.{Prim as prim, Core as core, Body as body, Itself as itself, Class as class, Isa as isa, Getter as getter, Generic as generic, Method as method}
-use Rattle.fac_lang.specs.Phrases.{int, str, wrd, Phrase, end, then, Item, lit, lit_arr, quot, word, bind, local, fry, hole, next_method, held}
+use Rattle.fac_lang.specs.Phrases.{int, str, wrd, Phrase, end, then, Item, lit, lit_arr, quot, word, bind, local, fry, hole, call_eff, exec_eff, next_method, held}
 use Rattle.fac_lang.specs.Substitution.{put_holes}
 use Rattle.fac_lang.specs.Primitives.{built_count, prim_numbered, prim_fn}
 use Rattle.fac_code.specs.Code.{has_built_code}
 use Rattle.fac_code.specs.References.{refers}
 use Rattle.fac_lang.specs.Meaning.{nowhere, core_numbered}
 use Rattle.fac_locals.proofs.ClosedForms.{made_words, made_templates}
-use Rattle.fac_code.specs.declared.image.Instr.TheVariants.{Halt, Int, Text, Array, Word, Quot, Fry, Bind, Local, Prim, Callw, Call, Dip, Ret, Boa, Generic, Next}
+use Rattle.fac_code.specs.declared.image.Instr.TheVariants.{Halt, Int, Text, Array, Word, Quot, Fry, Bind, Local, Prim, Callw, Call, Dip, Execute, CallEffect, ExecuteEffect, Ret, Boa, Generic, Next}
 use Rattle.fac_code.specs.declared.image.Elem.TheVariants as elem
 use Rattle.fac_code.specs.declared.image.Action.TheVariants as action
 use Rattle.fac_code.specs.declared.image.Action.{Action}
+use Rattle.fac_code.specs.declared.image.TemplateRow.{TemplateRow}
 use Rattle.fac_code.specs.declared.image.WordRow.{WordRow}
 use Rattle.fac_code.specs.declared.image.Image.{Image}
 use Rattle.fac_store.specs.MachineValues.{MValue, m_plain}
-use Rattle.fac_vm.specs.Machine.{End, done, steps, first_world, starting}
+use Rattle.fac_vm.specs.Machine.{End, done, failed, steps, first_world, starting}
 use Rattle.fac_emit.specs.ProgramTables.{table_texts, program_kinds, program_sets}
 use Rattle.fac_emit.specs.ProgramCode.{program_code, program_texts, template_rows, program_words, program_generics, program_tables, arrays_of, arrays_texts}
 use Rattle.fac_emit.specs.MachineView.{template_phrases, value_view, values_view}
@@ -58,25 +62,39 @@ templates = made_templates source []
 pub code_is : program_code closed templates ≡ Int (pos 2) ∷ Ret ∷ Quot 2 ∷ Call false ∷ Prim 26 ∷ Ret ∷ Int (pos 3) ∷ Ret ∷ Int (pos 4) ∷ Ret ∷ Quot 0 ∷ Quot 1 ∷ Prim 17 ∷ Ret ∷ Int (pos 1) ∷ Callw 4 false ∷ Quot 3 ∷ Dip ∷ Call false ∷ Halt ∷ []
 code_is = refl
 
-pub template_rows_are : template_rows closed templates (table_texts closed) 0 templates ≡ record { entry = 0; cells = []; holes = 0 } ∷ record { entry = 2; cells = []; holes = 0 } ∷ record { entry = 6; cells = []; holes = 0 } ∷ record { entry = 8; cells = []; holes = 0 } ∷ []
+-- what takes and leaves so many values
+abbrev from : ℕ → ℕ → Height
+from i o = record { ins = i; outs = Some o }
+
+abbrev heights : List (Option Height)
+heights = Some (from 0 1) ∷ Some (from 1 1) ∷ Some (from 0 1) ∷ Some (from 0 1) ∷ []
+
+abbrev quotation_row : ℕ → Option Height → TemplateRow
+quotation_row at h = record { entry = at; cells = []; holes = 0; height = h }
+
+pub template_rows_are : template_rows closed templates heights (table_texts closed) 0 0 templates ≡ quotation_row 0 (Some (from 0 1)) ∷ quotation_row 2 (Some (from 1 1)) ∷ quotation_row 6 (Some (from 0 1)) ∷ quotation_row 8 (Some (from 0 1)) ∷ []
 template_rows_are = refl
 
+-- The words here are declared never to return. A core word and the top-level phrase promise nothing.
 abbrev plain_row : ℕ → Action → WordRow
-plain_row w a = record { name = w; action = a; kind = None }
+plain_row w a = record { name = w; action = a; kind = None; height = Some (record { ins = 0; outs = None }) }
 
-pub word_rows_are : program_words closed templates ≡ plain_row 0 (action.Prim 26) ∷ plain_row 1 (action.Core 0) ∷ plain_row 2 (action.Core 1) ∷ plain_row 3 (action.Prim 17) ∷ plain_row 4 (action.Code 10) ∷ plain_row 5 (action.Code 14) ∷ []
+abbrev bare_row : ℕ → Action → WordRow
+bare_row w a = record { name = w; action = a; kind = None; height = None }
+
+pub word_rows_are : program_words closed templates ≡ plain_row 0 (action.Prim 26) ∷ bare_row 1 (action.Core 0) ∷ bare_row 2 (action.Core 1) ∷ plain_row 3 (action.Prim 17) ∷ plain_row 4 (action.Code 10) ∷ bare_row 5 (action.Code 14) ∷ []
 word_rows_are = refl
 
 pub is_built : has_built_code (program_code closed templates) ≡ true
 unfolding built_count
 is_built = refl
 
-pub words_built : refers (program_tables closed templates) (program_code closed templates) 14 ≡ true
+pub words_built : refers (program_tables closed templates heights) (program_code closed templates) 14 ≡ true
 unfolding built_count
 words_built = refl
 
 abbrev image : Image
-image = record { arrays = []; kinds = []; sets = []; generics = []; templates = template_rows closed templates (table_texts closed) 0 templates; words = program_words closed templates; texts = program_texts closed templates; code = program_code closed templates; start = 14; built = is_built; refers = words_built }
+image = record { arrays = []; kinds = []; sets = []; generics = []; templates = template_rows closed templates heights (table_texts closed) 0 0 templates; words = program_words closed templates; texts = program_texts closed templates; code = program_code closed templates; start = 14; built = is_built; refers = words_built }
 
 -- the stack and the ticks left where it is done
 abbrev ended : Option End → Option (List MValue × ℕ)
@@ -100,8 +118,8 @@ cells_are = refl
 pub word_code : Code opened image (template_phrases opened) [] (Some Ret) [] 0 [] (do_phrase (items (quot (items (number 2 ∷ [])) ∷ quot (items (quot (items (number 3 ∷ [])) ∷ word 1 ∷ word 0 ∷ [])) ∷ word 3 ∷ [])) ∷ []) 10
 unfolding template_phrases prim_numbered
 word_code =
-    c_off (c_make 0 (record { entry = 0; cells = []; holes = 0 }) [] refl refl refl refl
-    (c_off (c_make 1 (record { entry = 2; cells = []; holes = 0 }) [] refl refl refl refl
+    c_off (c_make 0 (quotation_row 0 (Some (from 0 1))) [] refl refl refl refl
+    (c_off (c_make 1 (quotation_row 2 (Some (from 1 1))) [] refl refl refl refl
     (c_prim 3 17 _ refl refl refl (needs_more top_is (needs_more top_is needs_none)) refl
     (c_end (c_last (all_more all_none) refl))))))
 
@@ -111,7 +129,7 @@ unfolding template_phrases core_numbered
 phrase_code =
     c_int (pos 1) refl
     (c_word 4 10 (record { below = omega arith; runs = tt; row = plain_row 4 (action.Code 10); there = refl; does = refl }) (all_more all_none) refl
-    (c_off (c_make 3 (record { entry = 8; cells = []; holes = 0 }) [] refl refl refl refl
+    (c_off (c_make 3 (quotation_row 8 (Some (from 0 1))) [] refl refl refl refl
     (c_dip 2 1 refl refl (all_more all_none) refl
     (c_call 1 0 refl refl all_none refl
     (c_end (c_last all_none refl)))))))
@@ -133,14 +151,14 @@ capturing_templates = made_templates capturing_source []
 capturing_code : program_code capturing_closed capturing_templates ≡ Local 0 ∷ Int (pos 2) ∷ Prim 26 ∷ Ret ∷ Local 1 ∷ Local 0 ∷ Prim 26 ∷ Ret ∷ Int (pos 1) ∷ Bind ∷ Quot 0 ∷ Call false ∷ Int (pos 5) ∷ Fry 1 ∷ Call false ∷ Halt ∷ []
 capturing_code = refl
 
-capturing_rows : template_rows capturing_closed capturing_templates (table_texts capturing_closed) 0 capturing_templates ≡ record { entry = 0; cells = 0 ∷ []; holes = 0 } ∷ record { entry = 4; cells = 0 ∷ []; holes = 1 } ∷ []
+capturing_rows : template_rows capturing_closed capturing_templates [] (table_texts capturing_closed) 0 0 capturing_templates ≡ record { entry = 0; cells = 0 ∷ []; holes = 0; height = None } ∷ record { entry = 4; cells = 0 ∷ []; holes = 1; height = None } ∷ []
 capturing_rows = refl
 
 pub capturing_built : has_built_code (program_code capturing_closed capturing_templates) ≡ true
 unfolding built_count
 capturing_built = refl
 
-pub capturing_refers : refers (program_tables capturing_closed capturing_templates) (program_code capturing_closed capturing_templates) 8 ≡ true
+pub capturing_refers : refers (program_tables capturing_closed capturing_templates []) (program_code capturing_closed capturing_templates) 8 ≡ true
 unfolding built_count
 capturing_refers = refl
 
@@ -151,7 +169,7 @@ capturing_image =
       kinds = [];
       sets = [];
       generics = [];
-      templates = template_rows capturing_closed capturing_templates (table_texts capturing_closed) 0 capturing_templates;
+      templates = template_rows capturing_closed capturing_templates [] (table_texts capturing_closed) 0 0 capturing_templates;
       words = program_words capturing_closed capturing_templates;
       texts = program_texts capturing_closed capturing_templates;
       code = program_code capturing_closed capturing_templates;
@@ -182,10 +200,10 @@ unfolding template_phrases core_numbered
 capturing_stands =
     c_int (pos 1) refl
     (c_bind (needs_more top_is needs_none) refl (λ v whole.
-    c_off (c_make 0 (record { entry = 0; cells = 0 ∷ []; holes = 0 }) (v ∷ []) refl refl refl refl
+    c_off (c_make 0 (record { entry = 0; cells = 0 ∷ []; holes = 0; height = None }) (v ∷ []) refl refl refl refl
     (c_call 1 0 refl refl (all_more all_none) refl
     (c_int (pos 5) refl
-    (c_fry 1 (record { entry = 4; cells = 0 ∷ []; holes = 1 }) (v ∷ []) _ refl refl refl (fried v) (needs_more top_is needs_none)
+    (c_fry 1 (record { entry = 4; cells = 0 ∷ []; holes = 1; height = None }) (v ∷ []) _ refl refl refl (fried v) (needs_more top_is needs_none)
     (c_call 1 0 refl refl (all_more all_none) refl
     (c_end (c_last all_none refl)))))))))
 
@@ -205,7 +223,7 @@ written_code = refl
 written_texts : program_texts written [] ≡ codes "red" ∷ [] ∷ codes "a" ∷ codes "a" ∷ []
 written_texts = refl
 
-written_rows : program_words written [] ≡ plain_row 0 action.Itself ∷ plain_row 1 (action.Code 0) ∷ []
+written_rows : program_words written [] ≡ plain_row 0 action.Itself ∷ bare_row 1 (action.Code 0) ∷ []
 written_rows = refl
 
 -- A literal array, closed: `{ { t } 1 "b" [ .. ] red }`, whose quotation is template 0. Its string is a text behind those of the code.
@@ -245,7 +263,7 @@ figure_code : program_code figure [] ≡ Prim 0 ∷ Int (pos 1) ∷ Ret ∷ Next
 figure_code = refl
 
 figure_rows :
-    program_words figure [] ≡ plain_row 0 (action.Core 4) ∷ plain_row 1 (action.Prim 0) ∷ plain_row 2 (action.Prim 26) ∷ record { name = 3; action = action.Itself; kind = Some 8 } ∷ plain_row 4 (action.Isa 1) ∷ plain_row 5 (action.Get 10) ∷ plain_row 6 (action.Generic 0) ∷ plain_row 7 (action.Code 0) ∷ plain_row 8 (action.Code 3) ∷ plain_row 9 (action.Code 7) ∷ []
+    program_words figure [] ≡ bare_row 0 (action.Core 4) ∷ plain_row 1 (action.Prim 0) ∷ plain_row 2 (action.Prim 26) ∷ record (plain_row 3 action.Itself) { kind = Some 8 } ∷ plain_row 4 (action.Isa 1) ∷ plain_row 5 (action.Get 10) ∷ plain_row 6 (action.Generic 0) ∷ plain_row 7 (action.Code 0) ∷ plain_row 8 (action.Code 3) ∷ bare_row 9 (action.Code 7) ∷ []
 figure_rows = refl
 
 figure_texts : program_texts figure [] ≡ [] ∷ [] ∷ [] ∷ [] ∷ [] ∷ [] ∷ [] ∷ [] ∷ [] ∷ [] ∷ codes "x" ∷ codes "point" ∷ []
@@ -264,7 +282,7 @@ figure_built : has_built_code (program_code figure []) ≡ true
 unfolding built_count
 figure_built = refl
 
-figure_refers : refers (program_tables figure []) (program_code figure []) 7 ≡ true
+figure_refers : refers (program_tables figure [] []) (program_code figure []) 7 ≡ true
 unfolding built_count
 figure_refers = refl
 
@@ -288,3 +306,76 @@ figure_image =
 figure_ends : ended (steps figure_image 40 (starting figure_image [] (first_world figure_image [])) 20) ≡ Some (m_plain (int (pos 8)) ∷ [], 11)
 unfolding prim_fn prim_numbered
 figure_ends = refl
+
+-- Calls that are tested, and words that are executed, one of them a primitive:
+-- : w ( x -- y ) 1 + ;   3 [ 1 + ] call( x -- y ) \ w execute( x -- y ) 4 \ + execute( x y -- z ) \ w execute
+abbrev taking : ℕ → Inputs
+taking zero = no_inputs
+taking (suc n) = value (codes "x") (taking n)
+
+-- a word with one output
+abbrev declared : ℕ → Sort → WordDef
+declared ins s = record (named s) { effect = signature None (taking ins) (leaves None (codes "y" ∷ [])) }
+
+abbrev tested_source : List WordDef
+tested_source =
+    declared 2 (prim 26) ∷ named (core 3) ∷ declared 1 (body (items (number 1 ∷ word 0 ∷ []))) ∷ named
+    (body (items (number 3 ∷ quot (items (number 1 ∷ word 0 ∷ [])) ∷ call_eff (from 1 1) ∷ lit (wrd 2) ∷ exec_eff (from 1 1) ∷ number 4 ∷ lit (wrd 0) ∷ exec_eff (from 2 1) ∷ lit (wrd 2) ∷ word 1 ∷ []))) ∷ []
+
+abbrev tested : Program
+tested = record { words = made_words tested_source []; arrays = []; classes = []; top = 3 }
+
+abbrev tested_templates : List Template
+tested_templates = made_templates tested_source []
+
+abbrev tested_heights : List (Option Height)
+tested_heights = Some (from 1 1) ∷ []
+
+tested_code : program_code tested tested_templates ≡
+    Int (pos 1) ∷ Prim 26 ∷ Ret ∷ Int (pos 1) ∷ Prim 26 ∷ Ret ∷ Int (pos 3) ∷ Quot 0 ∷ CallEffect (from 1 1) false ∷ Word 2 ∷ ExecuteEffect (from 1 1) false ∷ Int (pos 4) ∷ Word 0 ∷ ExecuteEffect (from 2 1) false ∷ Word 2 ∷ Execute false ∷ Halt ∷ []
+tested_code = refl
+
+tested_rows : program_words tested tested_templates ≡ record (bare_row 0 (action.Prim 26)) { height = Some (from 2 1) } ∷ bare_row 1 (action.Core 3) ∷ record (bare_row 2 (action.Code 3)) { height = Some (from 1 1) } ∷ bare_row 3 (action.Code 6) ∷ []
+tested_rows = refl
+
+tested_built : has_built_code (program_code tested tested_templates) ≡ true
+unfolding built_count
+tested_built = refl
+
+tested_refers : (hs : List (Option Height)) → refers (program_tables tested tested_templates hs) (program_code tested tested_templates) 6 ≡ true
+unfolding built_count
+tested_refers hs = refl
+
+-- with these effects of the templates
+abbrev tested_image : List (Option Height) → Image
+tested_image hs =
+    record {
+      arrays = [];
+      kinds = [];
+      sets = [];
+      generics = [];
+      templates = template_rows tested tested_templates hs (table_texts tested) 0 0 tested_templates;
+      words = program_words tested tested_templates;
+      texts = program_texts tested tested_templates;
+      code = program_code tested tested_templates;
+      start = 6;
+      built = tested_built;
+      refers = tested_refers hs;
+    }
+
+-- a word that is executed takes a tick of its own
+tested_ends : ended (steps (tested_image tested_heights) 60 (starting (tested_image tested_heights) [] (first_world (tested_image tested_heights) [])) 20) ≡ Some (m_plain (int (pos 10)) ∷ [], 1)
+unfolding prim_fn prim_numbered core_numbered
+tested_ends = refl
+
+-- the name and the word of an error, with the ticks left
+abbrev failing : Option End → Option (ErrorName × ℕ × ℕ)
+failing (Some (failed e s n)) = Some (e.name, e.word, n)
+failing _ = None
+
+-- a quotation of another effect, and one of none: `call(` fails at its own tick
+unfit_ends : failing (steps (tested_image (Some (from 0 1) ∷ [])) 60 (starting (tested_image (Some (from 0 1) ∷ [])) [] (first_world (tested_image (Some (from 0 1) ∷ [])) [])) 20) ≡ Some (WrongValues, 4294967294, 17)
+unfit_ends = refl
+
+unknown_ends : failing (steps (tested_image []) 60 (starting (tested_image []) [] (first_world (tested_image []) [])) 20) ≡ Some (WrongValues, 4294967294, 17)
+unknown_ends = refl

@@ -3,15 +3,16 @@
 -- The letters: P, M and T are the program, its image and the phrases of the templates. F is the frame, d the ticks that are owed, S what the code knows
 -- of the stack, K what is left to do; R are the return entries, base the values held before, ms the machine's stack, rs what it holds, vs the
 -- meaning's list, L what is left of the meaning, w the machine's world, n its ticks and f a bound on them.
-use Rattle.std.proofs.Common.{◌≡◌, ◌≢◌, ℕ, zero, suc, ◌+◌, ◌≤◌, ◌<◌, List, [], ◌∷◌, ◌++◌, length, Bool, Option, Some, None, refl, ap, sym, subst, ◌∙◌, append_assoc}
+use Rattle.std.proofs.Common.{◌≡◌, ◌≢◌, ℕ, zero, suc, ◌+◌, ◌≤◌, ◌<◌, List, [], ◌∷◌, ◌++◌, length, Option, Some, None, refl, ap, sym, subst, ◌∙◌, append_assoc}
 use Rattle.std.specs.Prelude.{slice_get}
 use Rattle.fac_lang.specs.declared.phrase.Height.{Height}
 use Rattle.fac_lang.specs.declared.phrase.Place.{Place}
 use Rattle.fac_lang.specs.declared.program.Program.{Program}
-use Rattle.fac_lang.specs.Phrases.{Phrase, then, Item, Value, plain, fun, Callable}
+use Rattle.fac_lang.specs.Phrases.{Phrase, then, Item, Value, plain, fun, Callable, of_phrase, cur, both}
 use Rattle.fac_lang.specs.World.{World, State, Error, push, push_each}
 use Rattle.fac_lang.specs.Eval.{Result, Done, Failed, Spent, Stuck, then_do, Act, wrong, goes, runs, Run, run_callable, go_on}
-use Rattle.fac_lang.specs.Meaning.{names, act}
+use Rattle.fac_lang.specs.HeightArithmetic.{curried_height, composed_height, fits}
+use Rattle.fac_lang.specs.Meaning.{names, word_fits, act}
 use Rattle.fac_lang.proofs.Laws.{Within}
 use Rattle.fac_code.specs.declared.image.Instr.{Instr}
 use Rattle.fac_code.specs.declared.image.Instr.TheVariants.{Ret}
@@ -19,7 +20,7 @@ use Rattle.fac_code.specs.declared.image.Image.{Image}
 use Rattle.fac_code.specs.declared.image.TemplateRow.{TemplateRow}
 use Rattle.fac_code.specs.ImageNames.{image_names}
 use Rattle.fac_store.specs.MachineValues.{MValue, Kept, kept_list}
-use Rattle.fac_vm.specs.Machine.{Machine, Leads, Entry, resume, put_back, enter, failed, spent, Step, goes_on, ends, fetched, step, Ends}
+use Rattle.fac_vm.specs.Machine.{Machine, Leads, Entry, resume, put_back, enter, failed, spent, Step, goes_on, ends, fits_in, row_height, fetched, step, Ends}
 use Rattle.fac_vm.proofs.Leading.{leads_on, leads_step, ends_after, ends_step}
 use Rattle.fac_emit.specs.MachineView.{Templates, kept_view, world_view, state_view, error_view}
 use Rattle.fac_emit.specs.WholeValues as whole
@@ -27,15 +28,19 @@ use Rattle.fac_emit.specs.Symbols.{Sym, Task, Special}
 use Rattle.fac_emit.proofs.RunLaws.{free, unfolds, then_again, Stays, stays_then, stays_phrase, stays_call}
 use Rattle.fac_emit.proofs.SymbolicStacks.{Left, l_phrase, l_back, l_call, Lies, Keeps}
 
--- A program, with a test of effects and the effects of callables; its image, and the phrases of the templates.
+-- A program, with the effects of callables; its image, and the phrases of the templates.
 pub record Setting : Type 0 where
   pub program : Program
-  pub fits : Height → Height → Bool
   pub callable_height : Callable → Option Height
   pub image : Image
   pub texts : Templates
   -- the image says of words and kinds what the program says
   pub named : image_names image ≡ names program
+  -- the image tests words as the program does, and has the effects of literals, and those of other callables go by arithmetic
+  pub words : (w : ℕ) (h : Height) → fits_in h (row_height (slice_get image.words w)) ≡ word_fits program fits h w
+  pub literals : (q : ℕ) (r : TemplateRow) (vs : List Value) → slice_get image.templates q ≡ Some r → length vs ≡ length r.cells + r.holes → callable_height (of_phrase (texts q vs)) ≡ r.height
+  pub curried : (v : Value) (c : Callable) → callable_height (cur v c) ≡ curried_height (callable_height c)
+  pub composed : (c d : Callable) → callable_height (both c d) ≡ composed_height (callable_height c) (callable_height d)
 
 -- d ticks are owed: with fewer than these the meaning is spent already, in the same world
 abbrev pub owing : World Value → ℕ → ℕ → (ℕ → Result) → Result
@@ -60,9 +65,9 @@ pub no_guard_more : (xs ys : List Entry) → HasNoGuard xs → HasNoGuard ys →
 no_guard_more [] ys h g = g
 no_guard_more (x ∷ xs) ys h g = (h.0, no_guard_more xs ys h.1 g)
 
--- a machine, by the frame, the place and what changes while a phrase runs
+-- a machine with no job, by the frame, the place and what changes while a phrase runs
 abbrev pub at : List MValue → ℕ → List MValue → List MValue → List Entry → World MValue → Machine
-at F pc ms rs R w = record { pc = pc; stack = ms; retain = rs; returns = R; frame = F; world = w }
+at F pc ms rs R w = record { pc = pc; job = None; stack = ms; retain = rs; returns = R; frame = F; world = w }
 
 module _ (Y : Setting) where
   abbrev P : Program
@@ -75,7 +80,7 @@ module _ (Y : Setting) where
   T = Y.texts
 
   abbrev A : Item → State Value → Act
-  A = act P Y.fits Y.callable_height
+  A = act P fits Y.callable_height
 
   abbrev run : Run
   run = free A
@@ -87,10 +92,10 @@ module _ (Y : Setting) where
   V = world_view T
 
   abbrev Fine : List MValue → List MValue → List MValue → World MValue → Type 0
-  Fine = whole.Fine M
+  Fine = whole.Fine P M
 
   abbrev WholeKept : Kept → Type 0
-  WholeKept = whole.WholeKept M
+  WholeKept = whole.WholeKept P M
 
   -- what is left of the meaning
   abbrev called : List Value → World Value → ℕ → (State Value → ℕ → Result) → Result
@@ -104,17 +109,19 @@ module _ (Y : Setting) where
   left (l_back v ∷ L) st n = left L (push v st) n
   left (l_call ∷ L) st n = called st.stack st.world n (left L)
 
-  -- The machine comes to the last instruction, with the return entries R and what was held before, as the meaning comes to its end. The frame there
-  -- is free.
+  -- The machine comes to a step that is that of the last instruction, with the return entries R and what was held before, as the meaning comes to its end. The
+  -- place and the frame there are free.
   pub record Arrives (last : Instr) (R : List Entry) (base : List MValue) (s : Machine) (n : ℕ) (st : State Value) (m : ℕ) : Type 0 where
+    pub stood : Machine
+    pub ticks : ℕ
+    pub leads : Leads M s n stood ticks
     pub pc : ℕ
     pub frame : List MValue
     pub stack : List MValue
     pub world : World MValue
+    pub does : stepping stood ticks ≡ fetched M (Some last) (at frame pc stack base R world) m
     pub same : state_view T stack world ≡ st
     pub fine : Fine [] [] stack world
-    pub there : slice_get M.code pc ≡ Some last
-    pub leads : Leads M s n (at frame pc stack base R world) m
 
   abbrev ArrivesIf : Option Instr → List Entry → List MValue → Machine → ℕ → State Value → ℕ → Type 0
   ArrivesIf None R base s n st m = ⊥
@@ -129,7 +136,7 @@ module _ (Y : Setting) where
     pub fallen : Machine
     pub fails : stepping stood ticks ≡ ends (failed error fallen m)
     pub above : List Entry
-    pub entries : stood.returns ≡ above ++ R
+    pub entries : fallen.returns ≡ above ++ R
     pub uncaught : HasNoGuard above
     pub same : error_view T error ≡ e
     pub world : V fallen.world ≡ w
@@ -144,7 +151,8 @@ module _ (Y : Setting) where
   -- a way before
   pub way_before : (last : Option Instr) (R : List Entry) (base : List MValue) (s s' : Machine) (n n' : ℕ) (r : Result) → Leads M s n s' n' → Follows last R base s' n' r → Follows last R base s n r
   way_before None R base s s' n n' (Done st m) l h = h
-  way_before (Some last) R base s s' n n' (Done st m) l h = record { pc = h.pc; frame = h.frame; stack = h.stack; world = h.world; same = h.same; fine = h.fine; there = h.there; leads = leads_on M s s' _ n n' m l h.leads }
+  way_before (Some last) R base s s' n n' (Done st m) l h =
+      record { stood = h.stood; ticks = h.ticks; leads = leads_on M s s' h.stood n n' h.ticks l h.leads; pc = h.pc; frame = h.frame; stack = h.stack; world = h.world; does = h.does; same = h.same; fine = h.fine }
   way_before last R base s s' n n' (Failed e st m) l h = record {
     stood = h.stood;
     ticks = h.ticks;
@@ -165,20 +173,24 @@ module _ (Y : Setting) where
   pub step_before : (last : Option Instr) (R : List Entry) (base : List MValue) (s s' : Machine) (n n' : ℕ) (r : Result) → stepping s n ≡ goes_on s' n' → Follows last R base s' n' r → Follows last R base s n r
   step_before last R base s s' n n' r e h = way_before last R base s s' n n' r (leads_step M s s' n n' e) h
 
-  pub fetch : (s : Machine) (n : ℕ) (x : Instr) → slice_get M.code s.pc ≡ Some x → stepping s n ≡ fetched M (Some x) s n
-  fetch s n x e = ap (λ o. fetched M o s n) e
+  -- without a job
+  abbrev pub bare : Machine → Machine
+  bare s = record s { job = None }
 
-  pub spent_here : (last : Option Instr) (R : List Entry) (base : List MValue) (s : Machine) (st : State Value) (i : Option Item) (x : Instr) → slice_get M.code s.pc ≡ Some x → fetched M (Some x) s zero ≡ ends (spent s) →
-      V s.world ≡ st.world → Follows last R base s zero (Spent st i)
-  spent_here last R base s st i x e none same = (s, ends_step M s 0 (spent s) (fetch s 0 x e ∙ none), same)
+  pub fetch : (s : Machine) (n : ℕ) (x : Instr) → slice_get M.code s.pc ≡ Some x → stepping (bare s) n ≡ fetched M (Some x) (bare s) n
+  fetch s n x e = ap (λ o. fetched M o (bare s) n) e
+
+  pub spent_here : (last : Option Instr) (R : List Entry) (base : List MValue) (s : Machine) (st : State Value) (i : Option Item) (x : Instr) → slice_get M.code s.pc ≡ Some x → fetched M (Some x) (bare s) zero ≡ ends (spent (bare s)) →
+      V s.world ≡ st.world → Follows last R base (bare s) zero (Spent st i)
+  spent_here last R base s st i x e none same = (bare s, ends_step M (bare s) 0 (spent (bare s)) (fetch s 0 x e ∙ none), same)
 
   -- what runs after a run that arrived at a `ret`, with more entries
   pub then_follows : (b : ℕ) (last : Option Instr) (R own : List Entry) → HasNoGuard own → (base base' : List MValue) (s : Machine) (n : ℕ) (r : Result) (go : State Value → ℕ → Result) → Within b r → Follows (Some Ret) (own ++ R) base' s n r →
-      ((F : List MValue) (pc : ℕ) (ms : List MValue) (w : World MValue) (m : ℕ) → m ≤ b → Fine [] [] ms w → r ≡ Done (state_view T ms w) m → slice_get M.code pc ≡ Some Ret →
-      Follows last R base (at F pc ms base' (own ++ R) w) m (go (state_view T ms w) m)) → Follows last R base s n (then_do r go)
+      ((x : Machine) (k : ℕ) (F : List MValue) (pc : ℕ) (ms : List MValue) (w : World MValue) (m : ℕ) → m ≤ b → Fine [] [] ms w → r ≡ Done (state_view T ms w) m → stepping x k ≡ fetched M (Some Ret) (at F pc ms base' (own ++ R) w) m →
+      Follows last R base x k (go (state_view T ms w) m)) → Follows last R base s n (then_do r go)
   then_follows b last R own none base base' s n (Done st m) go w h next =
-      subst (λ s2. Follows last R base s n (go s2 m)) h.same (way_before last R base s (at h.frame h.pc h.stack base' (own ++ R) h.world) n m (go (state_view T h.stack h.world) m) h.leads
-      (next h.frame h.pc h.stack h.world m w h.fine (ap (λ s2. Done s2 m) (sym h.same)) h.there))
+      subst (λ s2. Follows last R base s n (go s2 m)) h.same (way_before last R base s h.stood n h.ticks (go (state_view T h.stack h.world) m) h.leads
+      (next h.stood h.ticks h.frame h.pc h.stack h.world m w h.fine (ap (λ s2. Done s2 m) (sym h.same)) h.does))
   then_follows b last R own none base base' s n (Failed e st m) go w h next =
       record {
         stood = h.stood;
@@ -211,12 +223,27 @@ module _ (Y : Setting) where
   abbrev pub LivePhrase : Phrase → State Value → Type 0
   LivePhrase b st = (m : ℕ) → run b st m ≢ Stuck
 
+  pub then_done : (r : Result) → then_do r (left []) ≡ r
+  then_done (Done st m) = refl
+  then_done (Failed e st m) = refl
+  then_done (Spent st i) = refl
+  then_done Stuck = refl
+
+  pub live_phrase : (b : Phrase) (st : State Value) → LivePhrase b st → Live (l_phrase b ∷ []) st
+  live_phrase b st lv m is = lv m (sym (then_done (run b st m)) ∙ is)
+
   -- What stands at a place, with at most f ticks: from there the machine follows what is left of the meaning, which has the ticks that the machine has,
   -- less those that are owed. So it does whatever the return entries and the values held before are.
   abbrev pub Go : ℕ → List MValue → Option Instr → ℕ → List Sym → List Task → ℕ → Type 0
   Go f F last d S K pc =
       (R : List Entry) (base ms rs : List MValue) (vs : List Value) (L : List Left) (w : World MValue) (n : ℕ) → n ≤ f → Fine F rs ms w → Live L (state vs (V w)) → Lies T S ms vs → Keeps T base K rs L →
       Follows last R base (at F pc ms rs R w) n (owing (V w) d n (left L (state vs (V w))))
+
+  -- What stands behind an item that calls nothing, with n ticks: from a step that goes on so, the machine follows what is left behind the item.
+  abbrev pub Behind : (Machine → ℕ → Step) → List MValue → Option Instr → List Entry → List MValue → List MValue → ℕ → List Sym → Phrase → List Left → ℕ → Type 0
+  Behind next F last R base rs pc S t L n =
+      (s : Machine) (k : ℕ) (ms : List MValue) (vs : List Value) (w : World MValue) → stepping s k ≡ next (at F pc ms rs R w) n → Fine F rs ms w → Live (l_phrase t ∷ L) (state vs (V w)) → Lies T S ms vs →
+      Follows last R base s k (left (l_phrase t ∷ L) (state vs (V w)) n)
 
   -- a phrase that is called at a place with fewer than f ticks
   abbrev pub CallsTo : Option Instr → ℕ → List MValue → ℕ → List Sym → Phrase → Type 0

@@ -8,6 +8,7 @@ use Rattle.fac_lang.specs.Phrases.{Phrase, then, Item, bind, fry, held, Value, f
 use Rattle.fac_lang.specs.Substitution.{put_local, put_holes}
 use Rattle.fac_lang.specs.World.{World, State, pile, push}
 use Rattle.fac_lang.specs.Eval.{Result, Act, wrong, goes, binds}
+use Rattle.fac_lang.specs.HeightArithmetic.{fits}
 use Rattle.fac_lang.specs.Meaning.{taking, act}
 use Rattle.fac_code.specs.declared.image.Instr.{Instr}
 use Rattle.fac_code.specs.declared.image.Instr.TheVariants.{Bind, Local}
@@ -68,19 +69,19 @@ module _ (Y : Setting) where
   T = Y.texts
 
   abbrev A : Item → State Value → Act
-  A = act P Y.fits Y.callable_height
+  A = act P fits Y.callable_height
 
   abbrev V : World MValue → World Value
   V = world_view T
 
   abbrev AllWhole : List MValue → Type 0
-  AllWhole = whole.AllWhole M
+  AllWhole = whole.AllWhole P M
 
   abbrev Fine : List MValue → List MValue → List MValue → World MValue → Type 0
-  Fine = whole.Fine M
+  Fine = whole.Fine P M
 
   abbrev Whole : MValue → Type 0
-  Whole = whole.Whole M
+  Whole = whole.Whole P M
 
   -- a cell of the frame
   held_goes : (F : List MValue) (pc k : ℕ) (v : MValue) → slice_get F k ≡ Some v → (ms rs : List MValue) (R : List Entry) (w : World MValue) (n : ℕ) → fetched M (Some (Local k)) (at F pc ms rs R w) (suc n) ≡ goes_on (at F (pc + 1) (v ∷ ms) rs R w) n
@@ -88,7 +89,7 @@ module _ (Y : Setting) where
 
   pub g_held : (f : ℕ) (F : List MValue) (last : Option Instr) (k : ℕ) (v : MValue) (p : Place) (t : Phrase) (S : List Sym) (K : List Task) (pc : ℕ) → slice_get M.code pc ≡ Some (Local k) → slice_get F k ≡ Some v →
       Go Y f F last zero (here ∷ S) (do_phrase t ∷ K) (pc + 1) → Go Y f F last zero S (do_phrase (then (held (value_view T v)) p t) ∷ K) pc
-  g_held f F last k v p t S K pc e ek go = g_push Y f F last (held (value_view T v)) p t S K pc (Local k) v (λ h. get_whole M F k v h ek) e (λ s. refl) (held_goes F pc k v ek) (λ st. refl) go
+  g_held f F last k v p t S K pc e ek go = g_push Y f F last (held (value_view T v)) p t S K pc (Local k) v (λ h. get_whole P M F k v h ek) e (λ s. refl) (held_goes F pc k v ek) (λ st. refl) go
 
   bind_none : (y : ℕ) (vs : List Value) (w : World Value) → length vs < 1 → A (bind y) (state vs w) ≡ wrong
   bind_none y [] w lt = refl
@@ -107,7 +108,7 @@ module _ (Y : Setting) where
           let s = at F pc (v ∷ ms1) rs R w in
           let st = state (value_view T v ∷ us) (V w) in
           let a = binds y (value_view T v) (state us (V w)) in
-          let ok1 : Fine (F ++ v ∷ []) rs ms1 w = record { cells = more_whole M F (v ∷ []) ok.cells (hs.0, tt); held = ok.held; values = hs.1; objects = ok.objects } in
+          let ok1 : Fine (F ++ v ∷ []) rs ms1 w = record { cells = more_whole P M F (v ∷ []) ok.cells (hs.0, tt); held = ok.held; values = hs.1; objects = ok.objects } in
           subst (λ (r : Result). Follows Y last R base s (suc n) r) (sym (first_is Y (bind y) p t L1 st n a refl))
           (step_before Y last R base s (at (F ++ v ∷ []) (pc + 1) ms1 rs R w) (suc n) n _ (fetch Y s (suc n) Bind e)
           (go v hs.0 R base ms1 rs us (l_phrase (put_local y (held (value_view T v)) t) ∷ L1) w n (omega (arith, le)) ok1 (live_is Y (bind y) p t L1 st a refl lv) l1 (keeps_phrase h)))
@@ -154,10 +155,10 @@ module _ (Y : Setting) where
           let acts : A (fry b r.holes) st ≡ goes st' =
           subst (λ (j : ℕ). taking j [] (values_view T xs ++ us) (V w) (fried b) ≡ fried b (pile (values_view T xs) []) (state us (V w))) (views_length T xs ∙ e1) (takes_all (values_view T xs) [] us (V w) (fried b)) ∙
           ap (λ (hs : List Value). fried b hs (state us (V w))) (sym (pile_views Y xs [])) in
-          let whole_parts = parts_whole M xs ms1 hs in
-          let captured = cells_whole M r.cells F ks ok.cells ec in
+          let whole_parts = parts_whole P M xs ms1 hs in
+          let captured = cells_whole P M r.cells F ks ok.cells ec in
           let total : length ks + length hs1 ≡ length r.cells + r.holes = let many = captured.1 in omega (arith, many, size) in
-          let hm = made_whole M q r (ks ++ hs1) et (both_long ks hs1 ∙ total) (more_whole M ks hs1 captured.0 (pile_whole M xs [] whole_parts.0 tt)) in
+          let hm = made_whole P M q r (ks ++ hs1) et (both_long ks hs1 ∙ total) (more_whole P M ks hs1 captured.0 (pile_whole P M xs [] whole_parts.0 tt)) in
           let ok1 : Fine F rs (m ∷ ms1) w = record { cells = ok.cells; held = ok.held; values = (hm, whole_parts.1); objects = ok.objects } in
           let named : Lies T (here ∷ S1) (m ∷ ms1) (v ∷ us) = subst (λ (u : Value). Lies T (here ∷ S1) (m ∷ ms1) (u ∷ us)) same (lies_more r_here l1) in
           subst (λ (x : Result). Follows Y last R base s (suc n) x) (sym (first_goes Y (fry b r.holes) p t L1 st st' n acts))

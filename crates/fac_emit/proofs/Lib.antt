@@ -1,4 +1,5 @@
 pub mod SamePrimitives
+pub mod NoWords
 pub mod KeptPrimitives
 pub mod RunLaws
 pub mod GivenValues
@@ -10,6 +11,7 @@ pub mod CaseLemmas
 pub mod CallLemmas
 pub mod FrameCases
 pub mod ClassCases
+pub mod ActionCases
 pub mod Simulation
 pub mod PlainIsCode
 pub mod RunningPhrases
@@ -22,10 +24,12 @@ pub mod FirstWords
 pub mod LiteralWords
 pub mod Placed
 pub mod PlacedWords
+pub mod TopPhrases
 pub mod HeldFrames
 pub mod PlainStands
 pub mod KindRows
 pub mod NamedImages
+pub mod TestedHeights
 pub mod MadeArrays
 pub mod Carrying
 pub mod BuiltCode
@@ -39,6 +43,7 @@ pub mod Emitted
 pub mod CodedItems
 pub mod ArrayLemmas
 pub mod NumberLemmas
+pub mod PromisedLemmas
 pub mod MethodPlaces
 pub mod SlotLemmas
 pub mod CountLemmas

@@ -1,7 +1,9 @@
 -- The literal arrays of an image of plain code are made as those of its program.
 use Rattle.std.proofs.Common.{◌≡◌, ℕ, suc, List, [], ◌∷◌, ◌++◌, length, Option, refl, ap, sym, subst, ◌∙◌, arith}
+use Rattle.std.proofs.lemmas.Bool.{ltb-true}
 use Rattle.std.proofs.lemmas.List.{length-map}
 use Rattle.std.specs.Prelude.{map}
+use Rattle.fac_lang.specs.declared.phrase.Height.{Height}
 use Rattle.fac_lang.specs.declared.phrase.Template.{Template}
 use Rattle.fac_lang.specs.declared.program.Program.{Program}
 use Rattle.fac_lang.specs.declared.program.Lit.{Lit}
@@ -9,7 +11,7 @@ use Rattle.fac_lang.specs.declared.program.Lit.TheVariants.{Int as l_int, True a
 use Rattle.fac_lang.specs.Phrases.{str, Literal, Phrase, quot, Value, plain, fun, of_phrase}
 use Rattle.fac_lang.specs.World.{Object, array, World}
 use Rattle.fac_lang.specs.Printed.{or_empty}
-use Rattle.fac_lang.specs.Forms.{IsBuilt}
+use Rattle.fac_lang.specs.Forms.{IsBuilt, IsBuiltElement, AreBuiltElements, AreBuiltArrays}
 use Rattle.fac_lang.specs.Meaning.{array_method, of_method_if, literal_value, with_arrays as meaning_arrays, start}
 use Rattle.fac_locals.specs.Literals.{Quoted, behind, first_in_array, element_item}
 use Rattle.fac_locals.specs.Closed.{IsMadeBy, Closes, ClosesElement, CloseElements, CloseArrays}
@@ -25,6 +27,7 @@ use Rattle.fac_emit.proofs.KeptPrimitives.{object_added}
 use Rattle.fac_emit.proofs.LiteralWords.{is_listed_in_array}
 use Rattle.fac_emit.proofs.Placed.{listed_row}
 use Rattle.fac_emit.proofs.PlacedWords.{texts_begin}
+use Rattle.fac_emit.proofs.TopPhrases.{no_top}
 use Rattle.fac_emit.proofs.SamePrimitives.{map_more}
 use Rattle.fac_emit.proofs.TextLists.{Begins, begins_same, begins_on, arrays_behind, element_there}
 
@@ -32,7 +35,7 @@ pub has_first : (xs : List ℕ) (x : ℕ) → (i : ℕ) × (is : List ℕ) × (x
 has_first [] x = (x, [], refl)
 has_first (y ∷ xs) x = (y, xs ++ x ∷ [], refl)
 
-module _ (P C : Program) (templates : List Template) (M : Image) (b : IsBuilt P) (closes : Closes P C templates) (is_plain : IsPlain C templates M) where
+module _ (P C : Program) (templates : List Template) (heights : List (Option Height)) (M : Image) (b : IsBuilt P) (closes : Closes P C templates) (is_plain : IsPlain C templates heights M) where
   abbrev T : Templates
   T = template_phrases P
 
@@ -77,42 +80,43 @@ module _ (P C : Program) (templates : List Template) (M : Image) (b : IsBuilt P)
       rw h.3 (same_made (suc a) next lss h.2 h.5 is w' ∙ ap (meaning_arrays P (suc a) lss) view)
 
   -- callables in arrays are of the image's templates
-  template_whole : (i : ℕ) (is : List ℕ) (at : Literal) (u : Phrase) (q : ℕ) → at.around ≡ i ∷ is → IsMadeBy P [] at (quot u) q → Whole M (m_fun (m_lit q none_kept))
+  template_whole : (i : ℕ) (is : List ℕ) (at : Literal) (u : Phrase) (q : ℕ) → at.around ≡ i ∷ is → IsMadeBy P [] at (quot u) q → Whole P M (m_fun (m_lit q none_kept))
   template_whole i is at u q around e =
       let l : Quoted = record { at = at; cells = []; item = quot u } in
-      let row = listed_row P C templates closes M.code M.texts M.templates is_plain.code (texts_begin P C templates M b closes is_plain) is_plain.template_rows_are q l (is_listed_in_array P q l i is around e) in
+      let row = listed_row P C templates closes heights M.code M.texts M.templates is_plain.code (texts_begin P C templates heights M b closes is_plain) is_plain.template_rows_are q l (is_listed_in_array P q l i is around e) in
       let cells : length row.row.cells ≡ 0 = ap length row.cells in
       let holes : row.row.holes ≡ 0 = row.holes in
       (row.row, row.there, omega (arith, cells, holes), tt)
 
-  element_whole : (m : Option ℕ) (addresses : List ℕ) (i : ℕ) (is : List ℕ) (at : Literal) (n : ℕ) (l c : Lit) → at.around ≡ i ∷ is → ClosesElement P m at l c → Whole M (element_value M addresses (elem_of n c))
-  element_whole m addresses i is at n (l_int z) c around h = rw h tt
-  element_whole m addresses i is at n l_yes c around h = rw h tt
-  element_whole m addresses i is at n l_no c around h = rw h tt
-  element_whole m addresses i is at n (l_str bs) c around h = rw h tt
-  element_whole m addresses i is at n (l_arr a) c around h = rw h tt
-  element_whole m addresses i is at n (l_word w) c around h = rw h tt
-  element_whole m addresses i is at n (l_quot t) c around h = rw h.1 (template_whole i is at _ h.0 around h.2)
-  element_whole m addresses i is at n (l_made k) c around h = absurd h
+  element_whole : (m : Option ℕ) (addresses : List ℕ) (i : ℕ) (is : List ℕ) (at : Literal) (n : ℕ) (l c : Lit) → at.around ≡ i ∷ is → IsBuiltElement P.top l → ClosesElement P m at l c → Whole P M (element_value M addresses (elem_of n c))
+  element_whole m addresses i is at n (l_int z) c around g h = rw h tt
+  element_whole m addresses i is at n l_yes c around g h = rw h tt
+  element_whole m addresses i is at n l_no c around g h = rw h tt
+  element_whole m addresses i is at n (l_str bs) c around g h = rw h tt
+  element_whole m addresses i is at n (l_arr a) c around g h = rw h tt
+  element_whole m addresses i is at n (l_word w) c around g h = rw h (no_top P b w (ltb-true w P.top g))
+  element_whole m addresses i is at n (l_quot t) c around g h = rw h.1 (template_whole i is at _ h.0 around h.2)
+  element_whole m addresses i is at n (l_made k) c around g h = absurd h
 
-  elements_whole : (m : Option ℕ) (addresses : List ℕ) (i : ℕ) (is : List ℕ) (at : Literal) (texts : List (List ℕ)) (ls cs : List Lit) → at.around ≡ i ∷ is → CloseElements P m at ls cs → AllWhole M (map (element_value M addresses) (elems_of texts cs))
-  elements_whole m addresses i is at texts [] cs around h = rw h tt
-  elements_whole m addresses i is at texts (l ∷ ls) cs around h =
-      rw h.2 (element_whole m addresses i is at (length texts) l h.0 around h.3, elements_whole m addresses i is (behind at (element_item m l)) (with_element_text texts h.0) ls h.1 around h.4)
+  elements_whole :
+      (m : Option ℕ) (addresses : List ℕ) (i : ℕ) (is : List ℕ) (at : Literal) (texts : List (List ℕ)) (ls cs : List Lit) → at.around ≡ i ∷ is → AreBuiltElements P.top ls → CloseElements P m at ls cs → AllWhole P M (map (element_value M addresses) (elems_of texts cs))
+  elements_whole m addresses i is at texts [] cs around g h = rw h tt
+  elements_whole m addresses i is at texts (l ∷ ls) cs around g h =
+      rw h.2 (element_whole m addresses i is at (length texts) l h.0 around g.0 h.3, elements_whole m addresses i is (behind at (element_item m l)) (with_element_text texts h.0) ls h.1 around g.1 h.4)
 
-  all_whole : (a : ℕ) (texts : List (List ℕ)) (lss css : List (List Lit)) → CloseArrays P a lss css → (w : World MValue) → WholeObjects M w.objects → WholeObjects M (with_arrays M (arrays_of texts css) w).objects
-  all_whole a texts [] css h w os = rw h os
-  all_whole a texts (ls ∷ lss) css h w os =
+  all_whole : (a : ℕ) (texts : List (List ℕ)) (lss css : List (List Lit)) → AreBuiltArrays P.top lss → CloseArrays P a lss css → (w : World MValue) → WholeObjects P M w.objects → WholeObjects P M (with_arrays M (arrays_of texts css) w).objects
+  all_whole a texts [] css g h w os = rw h os
+  all_whole a texts (ls ∷ lss) css g h w os =
       let m = array_method P (length P.arrays) a in
       let first = has_first h.0.around h.0.index in
-      let own = elements_whole m w.literals first.0 first.1 (first_in_array h.0) texts ls h.1 first.2 h.4 in
+      let own = elements_whole m w.literals first.0 first.1 (first_in_array h.0) texts ls h.1 first.2 g.0 h.4 in
       let made : Object MValue = array (map (element_value M w.literals) (elems_of texts h.1)) in
-      rw h.3 (all_whole (suc a) (elements_texts texts h.1) lss h.2 h.5 (record { objects = w.objects ++ made ∷ []; literals = w.literals ++ length w.objects ∷ []; input = w.input; output = w.output }) (object_added M w.objects made os own))
+      rw h.3 (all_whole (suc a) (elements_texts texts h.1) lss h.2 g.1 h.5 (record { objects = w.objects ++ made ∷ []; literals = w.literals ++ length w.objects ∷ []; input = w.input; output = w.output }) (object_added P M w.objects made os own))
 
   -- The world before the first item.
   pub record FirstWorld (input : List ℕ) : Type 0 where
     pub same : world_view T (first_world M input) ≡ (start P input).world
-    pub whole : WholeObjects M (first_world M input).objects
+    pub whole : WholeObjects P M (first_world M input).objects
 
   pub arrays_made : (input : List ℕ) → FirstWorld input
   arrays_made input =
@@ -121,5 +125,5 @@ module _ (P C : Program) (templates : List Template) (M : Image) (b : IsBuilt P)
       let empty : World MValue = record { objects = []; literals = []; input = input; output = [] } in
       record {
         same = ap (λ (ess : List (List Elem)). world_view T (with_arrays M ess empty)) is_plain.arrays ∙ same_made 0 texts P.arrays C.arrays closes.arrays begins empty;
-        whole = subst (λ (ess : List (List Elem)). WholeObjects M (with_arrays M ess empty).objects) (sym is_plain.arrays) (all_whole 0 texts P.arrays C.arrays closes.arrays empty tt);
+        whole = subst (λ (ess : List (List Elem)). WholeObjects P M (with_arrays M ess empty).objects) (sym is_plain.arrays) (all_whole 0 texts P.arrays C.arrays b.arrays_built closes.arrays empty tt);
       }

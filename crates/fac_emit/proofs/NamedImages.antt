@@ -5,6 +5,7 @@ use Rattle.std.proofs.lemmas.List.{length-map}
 use Rattle.std.proofs.lemmas.Option.{slice_get-map}
 use Rattle.std.specs.Prelude.{nat_lt, slice_get}
 use Rattle.std.specs.Option.{option_map}
+use Rattle.fac_lang.specs.declared.phrase.Height.{Height}
 use Rattle.fac_lang.specs.declared.phrase.Template.{Template}
 use Rattle.fac_lang.specs.declared.program.ClassDef.{ClassDef}
 use Rattle.fac_lang.specs.declared.program.Program.{Program}
@@ -57,19 +58,19 @@ kind_alike C s c (a_body t u) = refl
 kind_alike C s c (a_past t u) = refl
 kind_alike C s c (a_method n g t u) = refl
 
-no_rows : (C : Program) (templates : List Template) (texts : List (List ℕ)) (at v : ℕ) (ds : List WordDef) (w : ℕ) → slice_get ds w ≡ None → slice_get (words_from C templates texts at v ds) w ≡ None
+pub no_rows : (C : Program) (templates : List Template) (texts : List (List ℕ)) (at v : ℕ) (ds : List WordDef) (w : ℕ) → slice_get ds w ≡ None → slice_get (words_from C templates texts at v ds) w ≡ None
 no_rows C templates texts at v [] w e = refl
 no_rows C templates texts at v (d ∷ ds) zero e = absurd (cc)
 no_rows C templates texts at v (d ∷ ds) (suc w) e = no_rows C templates (sort_texts texts d.sort) (at + length (word_code C templates texts v d)) (suc v) ds w e
 
-module _ (P C : Program) (templates : List Template) (M : Image) (b : IsBuilt P) (closes : Closes P C templates) (is_plain : IsPlain C templates M) where
+module _ (P C : Program) (templates : List Template) (heights : List (Option Height)) (M : Image) (b : IsBuilt P) (closes : Closes P C templates) (is_plain : IsPlain C templates heights M) where
   abbrev T : Tables
   T = tables_of M
 
   -- texts
   text_there : (k : ℕ) (cs : List ℕ) → slice_get (table_texts P) k ≡ Some cs → text_of T k ≡ cs
   text_there k cs e =
-      ap or_empty (front_there (table_texts C) M.texts k cs (tables_begin P C templates M b closes is_plain) (ap (λ (ts : List (List ℕ)). slice_get ts k) (texts_same P C templates closes) ∙ e))
+      ap or_empty (front_there (table_texts C) M.texts k cs (tables_begin P C templates heights M b closes is_plain) (ap (λ (ts : List (List ℕ)). slice_get ts k) (texts_same P C templates closes) ∙ e))
 
   word_text : (w : ℕ) (d : WordDef) → slice_get P.words w ≡ Some d → text_of T w ≡ d.name.name
   word_text w d e =
@@ -97,7 +98,7 @@ module _ (P C : Program) (templates : List Template) (M : Image) (b : IsBuilt P)
           ap (λ (rs : List WordRow). elim (slice_get rs w) [ Some r ↦ r.kind | None ↦ None ]) is_plain.word_rows_are
           ∙ ap (λ (o : Option WordRow). elim o [ Some r ↦ r.kind | None ↦ None ]) (no_rows C templates _ _ 0 C.words w (word_closed_none P C templates closes w e))
       by (Some d) e =
-          let p = word_put P C templates M b closes is_plain w d e in
+          let p = word_put P C templates heights M b closes is_plain w d e in
           ap (λ (o : Option WordRow). elim o [ Some r ↦ r.kind | None ↦ None ]) p.row ∙ kind_alike C d.sort p.closed.sort (alike P w d.sort p.closed.sort p.closes_word.sort) ∙ ap (λ (cs : List ClassDef). kind_if cs (Some d.sort)) closes.classes
 
   word_named : (w : ℕ) → (image_names M).word_name w ≡ (names P).word_name w
@@ -107,7 +108,7 @@ module _ (P C : Program) (templates : List Template) (M : Image) (b : IsBuilt P)
       by None e =
           ap (λ (rs : List WordRow). elim (slice_get rs w) [ Some r ↦ text_of T r.name | None ↦ [] ]) is_plain.word_rows_are
           ∙ ap (λ (o : Option WordRow). elim o [ Some r ↦ text_of T r.name | None ↦ [] ]) (no_rows C templates _ _ 0 C.words w (word_closed_none P C templates closes w e))
-      by (Some d) e = let p = word_put P C templates M b closes is_plain w d e in ap (λ (o : Option WordRow). elim o [ Some r ↦ text_of T r.name | None ↦ [] ]) p.row ∙ word_text w d e
+      by (Some d) e = let p = word_put P C templates heights M b closes is_plain w d e in ap (λ (o : Option WordRow). elim o [ Some r ↦ text_of T r.name | None ↦ [] ]) p.row ∙ word_text w d e
 
   -- Kinds.
   abbrev first_name : ℕ

@@ -1,6 +1,7 @@
 -- Where the code of templates and words stands in plain code, and their rows.
 use Rattle.std.proofs.Common.{◌≡◌, ◌<◌, ℕ, zero, suc, ◌+◌, List, [], ◌∷◌, ◌++◌, length, drop, Option, Some, None, refl, ap, sym, subst, ◌∙◌, arith, append_assoc}
 use Rattle.std.specs.Prelude.{slice_get}
+use Rattle.fac_lang.specs.declared.phrase.Height.{Height}
 use Rattle.fac_lang.specs.declared.phrase.Template.{Template}
 use Rattle.fac_lang.specs.declared.program.Program.{Program}
 use Rattle.fac_lang.specs.declared.program.WordDef.{WordDef}
@@ -12,6 +13,7 @@ use Rattle.fac_code.specs.declared.image.Instr.{Instr}
 use Rattle.fac_code.specs.declared.image.Instr.TheVariants.{Ret}
 use Rattle.fac_code.specs.declared.image.TemplateRow.{TemplateRow}
 use Rattle.fac_code.specs.declared.image.WordRow.{WordRow}
+use Rattle.fac_store.specs.CallableHeights.{height_there}
 use Rattle.fac_emit.specs.ProgramTables.{table_texts}
 use Rattle.fac_emit.specs.ProgramCode.{made_instr, phrase_code, phrase_texts, templates_code, templates_texts, row_at, template_rows, sort_texts, words_texts, word_row, word_code, code_from, words_from, program_code, program_texts, program_words}
 use Rattle.fac_emit.specs.Stands.{making}
@@ -36,7 +38,8 @@ regroup code xs ys zs e = e ∙ append_assoc xs ys zs
 module _ (C : Program) (templates : List Template) (code : List Instr) (pool : List (List ℕ)) where
   pub record IsRowOf (r : TemplateRow) (t : Template) : Type 0 where
     pub at : ℕ
-    pub row : r ≡ row_at at t
+    pub height : Option Height
+    pub row : r ≡ row_at height at t
     pub texts : List (List ℕ)
     pub begins : Begins (phrase_texts texts t.body) pool
     pub more : List Instr
@@ -72,21 +75,21 @@ module _ (C : Program) (templates : List Template) (code : List Instr) (pool : L
   template_at (q ∷ rs) (u ∷ ts) (suc k) r h e = let later = template_at rs ts k r h.1 e in record { template = later.template; there = later.there; of = later.of }
 
   -- templates whose code stands one behind the other
-  pub rows_placed : (texts : List (List ℕ)) (at : ℕ) (ts : List Template) (more : List Instr) → Begins (templates_texts texts ts) pool → drop at code ≡ templates_code C templates texts ts ++ more → Rows (template_rows C templates texts at ts) ts
-  rows_placed texts at [] more b e = tt
-  rows_placed texts at (t ∷ ts) more b e =
+  pub rows_placed : (heights : List (Option Height)) (texts : List (List ℕ)) (at q : ℕ) (ts : List Template) (more : List Instr) → Begins (templates_texts texts ts) pool → drop at code ≡ templates_code C templates texts ts ++ more → Rows (template_rows C templates heights texts at q ts) ts
+  rows_placed heights texts at q [] more b e = tt
+  rows_placed heights texts at q (t ∷ ts) more b e =
       let own = phrase_code C templates Ret texts t.body in
       let next = phrase_texts texts t.body in
       let there = regroup (drop at code) own (templates_code C templates next ts) more e in (
-        record { at = at; row = refl; texts = texts; begins = begins_on next (templates_texts next ts) pool (templates_behind next ts) b; more = templates_code C templates next ts ++ more; there = there },
-        rows_placed next (at + length own) ts more b (drop_behind code at own (templates_code C templates next ts ++ more) there),
+        record { at = at; height = height_there (slice_get heights q); row = refl; texts = texts; begins = begins_on next (templates_texts next ts) pool (templates_behind next ts) b; more = templates_code C templates next ts ++ more; there = there },
+        rows_placed heights next (at + length own) (suc q) ts more b (drop_behind code at own (templates_code C templates next ts ++ more) there),
       )
 
 module _ (C : Program) (templates : List Template) (code : List Instr) (pool : List (List ℕ)) where
   -- a word's row, and the place of its code
   pub record Placed (rows : List WordRow) (w v : ℕ) (d : WordDef) : Type 0 where
     pub at : ℕ
-    pub row : slice_get rows w ≡ Some (word_row C at v d.sort)
+    pub row : slice_get rows w ≡ Some (word_row C at v d)
     pub texts : List (List ℕ)
     pub begins : Begins (sort_texts texts d.sort) pool
     pub more : List Instr
@@ -101,7 +104,7 @@ module _ (C : Program) (templates : List Template) (code : List Instr) (pool : L
       let others = code_from C templates next (suc v) ds in
       record {
         at = at;
-        row = ap (λ (d : WordDef). Some (word_row C at v d.sort)) same ∙ ap (λ (k : ℕ). Some (word_row C at k d.sort)) (sym number);
+        row = ap (λ (d : WordDef). Some (word_row C at v d)) same ∙ ap (λ (k : ℕ). Some (word_row C at k d)) (sym number);
         texts = texts;
         begins = subst (λ (d : WordDef). Begins (sort_texts texts d.sort) pool) same (begins_on next (words_texts next ds) pool (words_behind next ds) b);
         more = others;
@@ -112,7 +115,7 @@ module _ (C : Program) (templates : List Template) (code : List Instr) (pool : L
       let next = sort_texts texts x.sort in
       let later = placed next (at + length own) (suc v) ds w d b (drop_behind code at own (code_from C templates next (suc v) ds) e) found in
       let number : suc v + w ≡ v + suc w = omega arith in
-      record { at = later.at; row = later.row ∙ ap (λ (k : ℕ). Some (word_row C later.at k d.sort)) number; texts = later.texts; begins = later.begins; more = later.more; there = later.there ∙ ap (λ (k : ℕ). word_code C templates later.texts k d ++ later.more) number }
+      record { at = later.at; row = later.row ∙ ap (λ (k : ℕ). Some (word_row C later.at k d)) number; texts = later.texts; begins = later.begins; more = later.more; there = later.there ∙ ap (λ (k : ℕ). word_code C templates later.texts k d ++ later.more) number }
 
 -- all words, behind the templates
 pub behind_templates : (C : Program) (templates : List Template) (code : List Instr) → code ≡ program_code C templates → drop (length (templates_code C templates (table_texts C) templates)) code ≡ code_from C templates (templates_texts (table_texts C) templates) 0 C.words
@@ -126,18 +129,30 @@ words_placed C templates w d found =
     let texts = templates_texts (table_texts C) templates in
     placed C templates (program_code C templates) (program_texts C templates) texts (length (templates_code C templates (table_texts C) templates)) 0 C.words w d (begins_same (program_texts C templates)) (behind_templates C templates (program_code C templates) refl) found
 
+-- The effect in the row of each template.
+pub row_height_is :
+    (C : Program) (templates : List Template) (heights : List (Option Height)) (texts : List (List ℕ)) (at q : ℕ) (ts : List Template) (k : ℕ) (r : TemplateRow) → slice_get (template_rows C templates heights texts at q ts) k ≡ Some r → r.height ≡ height_there (slice_get heights (q + k))
+row_height_is C templates heights texts at q [] k r e = absurd (cc)
+row_height_is C templates heights texts at q (t ∷ ts) zero r e =
+    let same : row_at (height_there (slice_get heights q)) at t ≡ r = cc in
+    let number : q ≡ q + 0 = omega arith in
+    sym (ap (λ (x : TemplateRow). x.height) same) ∙ ap (λ (j : ℕ). height_there (slice_get heights j)) number
+row_height_is C templates heights texts at q (t ∷ ts) (suc k) r e =
+    let number : suc q + k ≡ q + suc k = omega arith in
+    row_height_is C templates heights (phrase_texts texts t.body) (at + length (phrase_code C templates Ret texts t.body)) (suc q) ts k r e ∙ ap (λ (j : ℕ). height_there (slice_get heights j)) number
+
 -- The rows of the templates of a closed program.
 module _ (P C : Program) (templates : List Template) (closes : Closes P C templates) where
   -- each template is that of a literal in a word
   pub literal_of : (q : ℕ) (t : Template) → slice_get templates q ≡ Some t → (literal_numbered P q).at.word < length P.words
   literal_of q t e = let found = get_other templates (literals P) q t (templates_count P C templates closes) e in subst (λ (l : Quoted). l.at.word < length P.words) (sym (ap (literal_or P q) found.1)) (in_a_word P q found.0 found.1)
 
-  module _ (code : List Instr) (pool : List (List ℕ)) (rows : List TemplateRow) (code_is : code ≡ program_code C templates) (pool_begins : Begins (program_texts C templates) pool) (rows_are : rows ≡ template_rows C templates (table_texts C) 0 templates) where
+  module _ (heights : List (Option Height)) (code : List Instr) (pool : List (List ℕ)) (rows : List TemplateRow) (code_is : code ≡ program_code C templates) (pool_begins : Begins (program_texts C templates) pool) (rows_are : rows ≡ template_rows C templates heights (table_texts C) 0 0 templates) where
     pub all_rows : Rows C templates code pool rows templates
     all_rows =
         let texts = templates_texts (table_texts C) templates in
         let begins : Begins texts pool = begins_on texts (program_texts C templates) pool (words_behind texts C.words) pool_begins in
-        subst (λ (rs : List TemplateRow). Rows C templates code pool rs templates) (sym rows_are) (rows_placed C templates code pool (table_texts C) 0 templates (code_from C templates texts 0 C.words) begins code_is)
+        subst (λ (rs : List TemplateRow). Rows C templates code pool rs templates) (sym rows_are) (rows_placed C templates code pool heights (table_texts C) 0 0 templates (code_from C templates texts 0 C.words) begins code_is)
 
     -- the template of a literal, and its row
     pub record RowFor (q : ℕ) (l : Quoted) : Type 0 where

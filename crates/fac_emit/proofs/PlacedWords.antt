@@ -2,6 +2,7 @@
 use Rattle.std.proofs.Common.{◌≡◌, ◌<◌, ℕ, zero, suc, ◌+◌, List, [], ◌∷◌, ◌++◌, length, drop, map, Bool, true, false, Option, Some, None, refl, ap, sym, subst, ◌∙◌, arith, length-append}
 use Rattle.std.specs.Prelude.{nat_eq, take, slice_get}
 use Rattle.std.specs.Option.{option_map}
+use Rattle.fac_lang.specs.declared.phrase.Height.{Height}
 use Rattle.fac_lang.specs.declared.phrase.Template.{Template}
 use Rattle.fac_lang.specs.declared.program.Program.{Program}
 use Rattle.fac_lang.specs.declared.program.WordDef.{WordDef}
@@ -63,7 +64,7 @@ get_dropped (x ∷ xs) (suc i) j = let n : suc i + j ≡ suc (i + j) = omega ari
 
 -- a word of a built program by its sort
 module _ (P : Program) (b : IsBuilt P) where
-  word_count : length P.words ≡ suc P.top
+  pub word_count : length P.words ≡ suc P.top
   word_count = let n = ap length b.words_are ∙ length-append b.words (b.last_word ∷ []) in let top = b.top_is in omega (arith, n, top)
 
   pub word_there : (w : ℕ) (s : Sort) → sort_of P w ≡ Some s → (d : WordDef) × (slice_get P.words w ≡ Some d) × (d.sort ≡ s)
@@ -131,7 +132,7 @@ ran P C templates w (body t) c h cl r = record { phrase = cl.0; code_is = λ is_
 ran P C templates w (method n g t) c h cl r = record { phrase = cl.0; code_is = λ is_top texts. ap (sort_code C templates is_top texts) cl.1; texts_are = λ texts. ap (sort_texts texts) cl.1; sort_is = cl.1; closes = closing P [] (first_of_word w) _ cl.0 cl.2 r }
 ran P C templates w _ c h cl r = absurd h
 
-module _ (P C : Program) (templates : List Template) (M : Image) (b : IsBuilt P) (closes : Closes P C templates) (is_plain : IsPlain C templates M) where
+module _ (P C : Program) (templates : List Template) (heights : List (Option Height)) (M : Image) (b : IsBuilt P) (closes : Closes P C templates) (is_plain : IsPlain C templates heights M) where
   pub texts_begin : Begins (program_texts C templates) M.texts
   texts_begin = rw is_plain.texts (arrays_behind (program_texts C templates) C.arrays)
 
@@ -147,7 +148,7 @@ module _ (P C : Program) (templates : List Template) (M : Image) (b : IsBuilt P)
     pub at : slice_get C.words w ≡ Some closed
     pub closes_word : ClosesWord P w d closed
     pub place : ℕ
-    pub row : slice_get M.words w ≡ Some (word_row C place w closed.sort)
+    pub row : slice_get M.words w ≡ Some (word_row C place w closed)
     pub texts : List (List ℕ)
     pub begins : Begins (sort_texts texts closed.sort) M.texts
     pub more : List Instr
@@ -164,7 +165,7 @@ module _ (P C : Program) (templates : List Template) (M : Image) (b : IsBuilt P)
         at = found.at;
         closes_word = found.closes;
         place = put.at;
-        row = ap (λ (rs : List WordRow). slice_get rs w) is_plain.word_rows_are ∙ put.row ∙ ap (λ (k : ℕ). Some (word_row C put.at k found.closed.sort)) n;
+        row = ap (λ (rs : List WordRow). slice_get rs w) is_plain.word_rows_are ∙ put.row ∙ ap (λ (k : ℕ). Some (word_row C put.at k found.closed)) n;
         texts = put.texts;
         begins = put.begins;
         more = put.more;
@@ -172,16 +173,16 @@ module _ (P C : Program) (templates : List Template) (M : Image) (b : IsBuilt P)
       }
 
   -- it does what its sort says
-  pub word_does : (w : ℕ) (d : WordDef) (p : WordPut w d) → (word_row C p.place w p.closed.sort).action ≡ sort_action C w p.place d.sort
+  pub word_does : (w : ℕ) (d : WordDef) (p : WordPut w d) → (word_row C p.place w p.closed).action ≡ sort_action C w p.place d.sort
   word_does w d p = action_alike C w p.place d.sort p.closed.sort (alike P w d.sort p.closed.sort p.closes_word.sort)
 
   pub has_code : (w : ℕ) (d : WordDef) (p : WordPut w d) → slice_get P.words w ≡ Some d → w < P.top → RunsPhrase (Some d.sort) → HasCode P M w p.place
-  has_code w d p e lt runs = record { below = lt; runs = subst RunsPhrase (sym (sort_at P w d e)) runs; row = word_row C p.place w p.closed.sort; there = p.row; does = word_does w d p ∙ does_code C w p.place d.sort runs }
+  has_code w d p e lt runs = record { below = lt; runs = subst RunsPhrase (sym (sort_at P w d e)) runs; row = word_row C p.place w p.closed; there = p.row; does = word_does w d p ∙ does_code C w p.place d.sort runs }
 
   -- the one place at which a word has its code
   pub one_place : (w a : ℕ) (d : WordDef) (p : WordPut w d) → RunsPhrase (Some d.sort) → HasCode P M w a → p.place ≡ a
   one_place w a d p runs h =
-      let same : word_row C p.place w p.closed.sort ≡ h.row = let one = p.row in let two = h.there in cc in
+      let same : word_row C p.place w p.closed ≡ h.row = let one = p.row in let two = h.there in cc in
       let does : action.Code p.place ≡ action.Code a = sym (word_does w d p ∙ does_code C w p.place d.sort runs) ∙ ap (λ (r : WordRow). r.action) same ∙ h.does in
       cc
 

@@ -13,17 +13,10 @@ use Rattle.fac_code.specs.declared.image.Image.{Image}
 use Rattle.fac_store.specs.MachineValues.{MValue}
 use Rattle.fac_emit.specs.Accessors.{accessor_ins, accessor_outs}
 use Rattle.fac_emit.specs.MachineView.{Templates, template_phrases, value_view, kept_view}
-use Rattle.fac_emit.specs.Symbols.{Sym, here, Task, do_phrase, top_none, Needs, needs_none, needs_more, heres, AllHere, all_none, all_more, ins, outs, Special}
-use Rattle.fac_emit.specs.Expanded.{Code, c_last, c_make, c_trim, c_end, c_off, c_int, c_true, c_false, c_text, c_array, c_reference, c_symbol, c_prim, c_accessor, c_isa, c_boa, c_held, c_bind, c_fry, c_stuck, c_word, c_call, c_dip, c_if, c_generic, c_next, EachCalled, ExpandedCode}
-use Rattle.fac_emit.specs.Stands.{Calling, l_word, l_call, l_if, l_generic, l_next, Translates, t_int, t_true, t_false, t_text, t_array, t_reference, t_symbol, t_held, t_quot, t_fry, t_prim, t_accessor, t_isa, t_dip, t_boa, t_stuck, t_calling, Stands, s_end, s_item, s_bind, Coded, PlainCode}
-
-needs_any : (n : ℕ) → Needs n [] []
-needs_any zero = needs_none
-needs_any (suc n) = needs_more top_none (needs_any n)
-
-all_heres : (n : ℕ) (S : List Sym) → AllHere S → AllHere (heres n S)
-all_heres zero S a = a
-all_heres (suc n) S a = all_heres n (here ∷ S) (all_more a)
+use Rattle.fac_emit.specs.Symbols.{Sym, here, Task, do_phrase, heres, AllHere, all_none, all_more, ins, outs, Special}
+use Rattle.fac_emit.specs.Expanded.{Code, c_last, c_make, c_trim, c_end, c_off, c_int, c_true, c_false, c_text, c_array, c_reference, c_symbol, c_prim, c_accessor, c_isa, c_boa, c_held, c_bind, c_fry, c_stuck, c_word, c_call, c_dip, c_if, c_execute, c_call_effect, c_execute_effect, c_generic, c_next, EachCalled, ExpandedCode}
+use Rattle.fac_emit.specs.Stands.{Calling, l_word, l_call, l_if, l_execute, l_call_effect, l_execute_effect, l_generic, l_next, Translates, t_int, t_true, t_false, t_text, t_array, t_reference, t_symbol, t_held, t_quot, t_fry, t_prim, t_accessor, t_isa, t_dip, t_boa, t_stuck, t_calling, Stands, s_end, s_item, s_bind, Coded, PlainCode}
+use Rattle.fac_emit.proofs.SymbolicStacks.{needs_any, all_heres}
 
 in_front : {A : Type 0} (xs ys : List A) (k : ℕ) → k < length xs → (x : A) × (slice_get (xs ++ ys) k ≡ Some x)
 in_front [] ys k lt = absurd (omega (arith, lt))
@@ -31,7 +24,7 @@ in_front (x ∷ xs) ys zero lt = (x, refl)
 in_front (x ∷ xs) ys (suc k) lt = in_front xs ys k (omega (arith, lt))
 
 -- a primitive that is built
-built_there : (k : ℕ) → is_built_primitive k ≡ true → (q : Primitive) × (prim_numbered k ≡ Some q)
+pub built_there : (k : ℕ) → is_built_primitive k ≡ true → (q : Primitive) × (prim_numbered k ≡ Some q)
 unfolding prim_numbered built_count
 built_there k h = in_front built_primitives later_primitives k (ltb-true k (length built_primitives) h)
 
@@ -41,6 +34,9 @@ module _ (P : Program) (M : Image) (T : Templates) where
   calling_code Γ last F i x p t K pc e (l_word w a code) rest = c_word w a code all_none e rest
   calling_code Γ last F i x p t K pc e (l_call w k es en) rest = c_call w k es en all_none e rest
   calling_code Γ last F i x p t K pc e (l_if w k es en) rest = c_if w k es en all_none e rest
+  calling_code Γ last F i x p t K pc e (l_execute w k es en) rest = c_execute w k es en all_none e rest
+  calling_code Γ last F i x p t K pc e (l_call_effect h) rest = c_call_effect h all_none e rest
+  calling_code Γ last F i x p t K pc e (l_execute_effect h) rest = c_execute_effect h all_none e rest
   calling_code Γ last F i x p t K pc e (l_generic w n r es er ew same) rest = c_generic w n r es er ew same all_none e rest
   calling_code Γ last F i x p t K pc e (l_next m n j r er ew same) rest = c_next m n j r er ew same all_none e rest
 
@@ -52,8 +48,8 @@ module _ (P : Program) (M : Image) (T : Templates) where
   item_code Γ last F i x p t K pc e t_false rest = c_false e (rest (here ∷ []) (all_more all_none))
   item_code Γ last F i x p t K pc e (t_text cs k ek) rest = c_text cs k e ek (rest (here ∷ []) (all_more all_none))
   item_code Γ last F i x p t K pc e (t_array a) rest = c_array a e (rest (here ∷ []) (all_more all_none))
-  item_code Γ last F i x p t K pc e (t_reference w r ew) rest = c_reference w r e ew (rest (here ∷ []) (all_more all_none))
-  item_code Γ last F i x p t K pc e (t_symbol w r es ew) rest = c_symbol w r es e ew (rest (here ∷ []) (all_more all_none))
+  item_code Γ last F i x p t K pc e (t_reference w r none ew) rest = c_reference w r none e ew (rest (here ∷ []) (all_more all_none))
+  item_code Γ last F i x p t K pc e (t_symbol w r es none ew) rest = c_symbol w r es none e ew (rest (here ∷ []) (all_more all_none))
   item_code Γ last F i x p t K pc e (t_quot q r vs et eh ec) rest = c_off (c_make q r vs e et eh ec (rest (here ∷ []) (all_more all_none)))
   item_code Γ last F i x p t K pc e (t_held k v ek) rest = c_held k v e ek (rest (here ∷ []) (all_more all_none))
   item_code Γ last F i x p t K pc e (t_fry q r vs b et ec eh) rest = c_fry q r vs b e et ec eh (needs_any r.holes) (rest (here ∷ []) (all_more all_none))
@@ -75,6 +71,7 @@ module _ (P : Program) (M : Image) (T : Templates) where
   pub each_called : Coded P M T → EachCalled P M T
   each_called coded = record {
     words = λ w a code. plain_is_code Ret [] a _ (coded.words w a code);
+    actions = coded.actions;
     templates = λ q r k e size whole. plain_is_code Ret _ r.entry (T q (kept_view T k)) (coded.templates q r k e size whole);
   }
 

@@ -1,7 +1,8 @@
 -- The plain code of a closed program stands for the phrases of its program.
-use Rattle.std.proofs.Common.{◌≡◌, ◌<◌, ℕ, zero, suc, ◌+◌, List, [], ◌∷◌, ◌++◌, length, drop, map, Bool, true, false, Option, Some, None, refl, ap, sym, subst, ◌∙◌, arith, true≢false}
+use Rattle.std.proofs.Common.{◌≡◌, ◌<◌, ℕ, zero, suc, ◌+◌, List, [], ◌∷◌, ◌++◌, length, drop, map, Bool, true, false, Option, Some, None, refl, ap, sym, subst, ◌∙◌, arith}
 use Rattle.std.proofs.lemmas.Bool.{ne_eqb}
 use Rattle.std.specs.Prelude.{nat_eq, slice_get}
+use Rattle.fac_lang.specs.declared.phrase.Height.{Height}
 use Rattle.fac_lang.specs.declared.phrase.Template.{Template}
 use Rattle.fac_lang.specs.declared.program.Program.{Program}
 use Rattle.fac_lang.specs.declared.program.WordDef.{WordDef}
@@ -30,12 +31,12 @@ use Rattle.fac_code.specs.declared.image.TemplateRow.{TemplateRow}
 use Rattle.fac_code.specs.declared.image.WordRow.{WordRow}
 use Rattle.fac_generic.specs.Methods.{methods_in_order}
 use Rattle.fac_store.specs.MachineValues.{MValue, kept_list, cells_at}
-use Rattle.fac_emit.specs.Accessors.{Accessor, getting, setting, putting, accessor_sort, accessor_instr}
+use Rattle.fac_emit.specs.Accessors.{Accessor, getting, setting, putting, accessor_sort, accessor_instr, accessor_action}
 use Rattle.fac_emit.specs.MachineView.{Templates, template_phrases, value_view, values_view}
 use Rattle.fac_vm.specs.Machine.{method_after}
 use Rattle.fac_emit.specs.ProgramTables.{table_texts, slot_names, slot_number, accessed, generic_number, method_number, method_row}
 use Rattle.fac_emit.specs.ProgramCode.{core_instr, sort_instr, made_instr, item_instr, with_text, phrase_code, phrase_texts, last_instr, sort_action, sort_code, sort_texts, word_row, code_place, program_words, IsPlain}
-use Rattle.fac_emit.specs.Stands.{RunsPhrase, making, SameMethod, l_word, l_call, l_if, l_generic, l_next, Translates, t_int, t_true, t_false, t_text, t_array, t_reference, t_symbol, t_held, t_quot, t_fry, t_prim, t_accessor, t_isa, t_dip, t_boa, t_stuck, t_calling, Stands, s_end, s_item, s_bind, Coded, PlainCode}
+use Rattle.fac_emit.specs.Stands.{RunsPhrase, making, SameMethod, l_word, l_call, l_if, l_execute, l_call_effect, l_execute_effect, l_generic, l_next, Acting, a_itself, a_prim, a_accessor, a_isa, a_core, a_code, a_generic, HasAction, Translates, t_int, t_true, t_false, t_text, t_array, t_reference, t_symbol, t_held, t_quot, t_fry, t_prim, t_accessor, t_isa, t_dip, t_boa, t_stuck, t_calling, Stands, s_end, s_item, s_bind, Coded, PlainCode}
 use Rattle.fac_emit.proofs.Closings.{closing, closed_runs}
 use Rattle.fac_emit.proofs.HeldFrames.{helds, helds_put, helds_count, helds_more, held_at, captured_values, kept_list_view}
 use Rattle.fac_emit.proofs.FirstWords.{DoAsSorts, first_prim, first_accessor}
@@ -43,32 +44,30 @@ use Rattle.fac_generic.specs.Methods.{MethodLaws}
 use Rattle.fac_emit.proofs.NextMethods.{method_found}
 use Rattle.fac_emit.proofs.Placed.{Rows, code_at, row_of, template_at, all_rows}
 use Rattle.fac_emit.proofs.PlacedWords.{found_below, element_at, Ran, ran, texts_begin, tables_begin, WordPut, word_put, word_does, has_code, one_place, in_set, picked_same, next_same, generic_row}
+use Rattle.fac_emit.proofs.TopPhrases.{no_top, before_top}
 use Rattle.fac_emit.proofs.RunningPhrases.{IsMethod, IsRun, IsRunItem, word_runs, literal_runs}
 use Rattle.fac_emit.proofs.TableLemmas.{IsAmong, AreAmong, accessor_named, slot_text}
 use Rattle.fac_emit.proofs.TableNumbers.{slot_same, texts_same, generic_of_same, method_same}
 use Rattle.fac_emit.proofs.TextLists.{Begins, front_there, text_there}
 
-never_true : {A : Type 0} → false ≡ true → A
-never_true h = absurd (true≢false (sym h))
-
 -- A plain image of a closed program that stands for a built one.
-module _ (P C : Program) (templates : List Template) (M : Image) (b : IsBuilt P) (whole : IsWhole P) (laws : MethodLaws P) (closes : Closes P C templates) (is_plain : IsPlain C templates M) where
-  abbrev put : (w : ℕ) (d : WordDef) → slice_get P.words w ≡ Some d → WordPut P C templates M b closes is_plain w d
-  put w d e = word_put P C templates M b closes is_plain w d e
+module _ (P C : Program) (templates : List Template) (heights : List (Option Height)) (M : Image) (b : IsBuilt P) (whole : IsWhole P) (laws : MethodLaws P) (closes : Closes P C templates) (is_plain : IsPlain C templates heights M) where
+  abbrev put : (w : ℕ) (d : WordDef) → slice_get P.words w ≡ Some d → WordPut P C templates heights M b closes is_plain w d
+  put w d e = word_put P C templates heights M b closes is_plain w d e
 
   abbrev row_place : ℕ → ℕ
   row_place = code_place (program_words C templates)
 
   -- what each word does, by its row
   does : DoAsSorts P C M.words
-  does w d e = let p = put w d e in (word_row C p.place w p.closed.sort, p.place, p.row, word_does P C templates M b closes is_plain w d p)
+  does w d e = let p = put w d e in (word_row C p.place w p.closed, p.place, p.row, word_does P C templates heights M b closes is_plain w d p)
 
   present : (j w : ℕ) (d : WordDef) → j < w → slice_get P.words w ≡ Some d → (x : WordDef) × (slice_get P.words j ≡ Some x)
   present j w d lt e = let below = found_below P.words w d e in element_at P.words j (omega (arith, lt, below))
 
   slot_there : (s : List ℕ) → IsAmong (slot_names P) s → slice_get M.texts (slot_number C s) ≡ Some s
   slot_there s h =
-      front_there (table_texts C) M.texts (slot_number C s) s (tables_begin P C templates M b closes is_plain)
+      front_there (table_texts C) M.texts (slot_number C s) s (tables_begin P C templates heights M b closes is_plain)
       (ap (slice_get (table_texts C)) (slot_same P C templates closes s) ∙ ap (λ (ts : List (List ℕ)). slice_get ts (slot_number P s)) (texts_same P C templates closes) ∙ slot_text P s h)
 
   -- The instruction of a word's item.
@@ -80,7 +79,7 @@ module _ (P C : Program) (templates : List Template) (M : Image) (b : IsBuilt P)
   core_does F w zero h e = t_calling (l_call w 0 e refl)
   core_does F w (suc zero) h e = t_dip w 1 e refl
   core_does F w (suc (suc zero)) h e = t_calling (l_if w 2 e refl)
-  core_does F w (suc (suc (suc zero))) h e = never_true h
+  core_does F w (suc (suc (suc zero))) h e = t_calling (l_execute w 3 e refl)
   core_does F w (suc (suc (suc (suc zero)))) h e = t_boa w 4 e refl
   core_does F w (suc (suc (suc (suc (suc k))))) h e = t_stuck Boa (λ fits callable_height st. ap (λ (o : Option Sort). sort_act P w o st) e)
 
@@ -97,21 +96,21 @@ module _ (P C : Program) (templates : List Template) (M : Image) (b : IsBuilt P)
   slot_of x w s d at is = subst (AreAmong (slot_names P)) (ap accessed is ∙ accessed_slot x s) (accessor_named P w d at)
 
   phrase_does : (F : List MValue) (w : ℕ) (d : WordDef) → w < P.top → (e : slice_get P.words w ≡ Some d) → RunsPhrase (Some d.sort) → Does F w (Callw w false)
-  phrase_does F w d lt e runs = let p = put w d e in t_calling (l_word w p.place (has_code P C templates M b closes is_plain w d p e lt runs))
+  phrase_does F w d lt e runs = let p = put w d e in t_calling (l_word w p.place (has_code P C templates heights M b closes is_plain w d p e lt runs))
 
   sort_does : (F : List MValue) (w : ℕ) (d c : WordDef) (s : Sort) → w < P.top → (e : slice_get P.words w ≡ Some d) → slice_get C.words w ≡ Some c → d.sort ≡ s → ClosesSort P w s c.sort → IsBuiltSort P.top d s → Does F w (sort_instr C w c.sort)
   sort_does F w d c (prim_sort k) lt e at is h built = rw h (t_prim w k (sort_at P w d e ∙ ap Some is) built.is_built (first_prim P C M.words whole.words_differ does present w k d e is))
   sort_does F w d c (core_sort k) lt e at is h built = rw h (core_does F w k built.is_built (sort_at P w d e ∙ ap Some is))
   sort_does F w d c (body t) lt e at is h built = rw h.1 (phrase_does F w d lt e (subst (λ (s : Sort). RunsPhrase (Some s)) (sym is) tt))
   sort_does F w d c (method n g t) lt e at is h built = rw h.1 (phrase_does F w d lt e (subst (λ (s : Sort). RunsPhrase (Some s)) (sym is) tt))
-  sort_does F w d c itself lt e at is h built = let p = put w d e in rw h (t_symbol w (word_row C p.place w p.closed.sort) (rw (sort_at P w d e ∙ ap Some is) tt) p.row)
-  sort_does F w d c (class n) lt e at is h built = let p = put w d e in rw h (t_symbol w (word_row C p.place w p.closed.sort) (rw (sort_at P w d e ∙ ap Some is) tt) p.row)
-  sort_does F w d c (isa n) lt e at is h built = rw h (t_isa w n n (sort_at P w d e ∙ ap Some is) (in_set P C templates M b closes is_plain n))
+  sort_does F w d c itself lt e at is h built = let p = put w d e in rw h (t_symbol w (word_row C p.place w p.closed) (rw (sort_at P w d e ∙ ap Some is) tt) (no_top P b w lt) p.row)
+  sort_does F w d c (class n) lt e at is h built = let p = put w d e in rw h (t_symbol w (word_row C p.place w p.closed) (rw (sort_at P w d e ∙ ap Some is) tt) (no_top P b w lt) p.row)
+  sort_does F w d c (isa n) lt e at is h built = rw h (t_isa w n n (sort_at P w d e ∙ ap Some is) (in_set P C templates heights M b closes is_plain n))
   sort_does F w d c (getter s) lt e at is h built = rw h (accessor_does F getting w s d e is (slot_of getting w s d e is))
   sort_does F w d c (setter s) lt e at is h built = rw h (accessor_does F setting w s d e is (slot_of setting w s d e is))
   sort_does F w d c (putter s) lt e at is h built = rw h (accessor_does F putting w s d e is (slot_of putting w s d e is))
   sort_does F w d c generic lt e at is h built =
-      rw h (t_calling (l_generic w (generic_number C w) _ (sort_at P w d e ∙ ap Some is) (generic_row P C templates M b closes is_plain w c at h) refl (picked_same P C templates M b closes is_plain laws w)))
+      rw h (t_calling (l_generic w (generic_number C w) _ (sort_at P w d e ∙ ap Some is) (generic_row P C templates heights M b closes is_plain w c at h) refl (picked_same P C templates heights M b closes is_plain laws w)))
   sort_does F w d c _ lt e at is h built = absurd built
 
   word_does_so : (F : List MValue) (n w : ℕ) → w < P.top → Does F w (item_instr C templates n (word w))
@@ -122,7 +121,37 @@ module _ (P C : Program) (templates : List Template) (M : Image) (b : IsBuilt P)
 
   -- the row of a word, whatever it does
   row_there : (w : ℕ) → w < P.top → (r : WordRow) × (slice_get M.words w ≡ Some r)
-  row_there w lt = let found = word_below P b w lt in let p = put w found.def found.at in (word_row C p.place w p.closed.sort, p.row)
+  row_there w lt = let found = word_below P b w lt in let p = put w found.def found.at in (word_row C p.place w p.closed, p.row)
+
+  -- What a word does is what its row says.
+  accessor_acts : (x : Accessor) (w : ℕ) (s : List ℕ) (d : WordDef) → slice_get P.words w ≡ Some d → d.sort ≡ accessor_sort x s → Acting P M w (accessor_action x (slot_number C s))
+  accessor_acts x w s d at is =
+      let named = slot_of x w s d at is in
+      a_accessor x (slot_number C s) s (sort_at P w d at ∙ ap Some is) (slot_there s named.0) (first_accessor P C M.words whole.words_differ does present (slot_same P C templates closes) x s w d at is)
+
+  phrase_acts : (w : ℕ) (d : WordDef) → w < P.top → (e : slice_get P.words w ≡ Some d) → RunsPhrase (Some d.sort) → Acting P M w (action.Code (put w d e).place)
+  phrase_acts w d lt e runs = let p = put w d e in a_code p.place (has_code P C templates heights M b closes is_plain w d p e lt runs)
+
+  sort_acts : (w : ℕ) (d c : WordDef) (s : Sort) → w < P.top → (e : slice_get P.words w ≡ Some d) → slice_get C.words w ≡ Some c → d.sort ≡ s → ClosesSort P w s c.sort → IsBuiltSort P.top d s → Acting P M w (sort_action C w (put w d e).place c.sort)
+  sort_acts w d c (prim_sort k) lt e at is h built = rw h (a_prim k (sort_at P w d e ∙ ap Some is) built.is_built (first_prim P C M.words whole.words_differ does present w k d e is))
+  sort_acts w d c (core_sort k) lt e at is h built = rw h (a_core k (sort_at P w d e ∙ ap Some is))
+  sort_acts w d c (body t) lt e at is h built = rw h.1 (phrase_acts w d lt e (subst (λ (s : Sort). RunsPhrase (Some s)) (sym is) tt))
+  sort_acts w d c (method n g t) lt e at is h built = rw h.1 (phrase_acts w d lt e (subst (λ (s : Sort). RunsPhrase (Some s)) (sym is) tt))
+  sort_acts w d c itself lt e at is h built = rw h (a_itself (rw (sort_at P w d e ∙ ap Some is) tt))
+  sort_acts w d c (class n) lt e at is h built = rw h (a_itself (rw (sort_at P w d e ∙ ap Some is) tt))
+  sort_acts w d c (isa n) lt e at is h built = rw h (a_isa n n (sort_at P w d e ∙ ap Some is) (in_set P C templates heights M b closes is_plain n))
+  sort_acts w d c (getter s) lt e at is h built = rw h (accessor_acts getting w s d e is)
+  sort_acts w d c (setter s) lt e at is h built = rw h (accessor_acts setting w s d e is)
+  sort_acts w d c (putter s) lt e at is h built = rw h (accessor_acts putting w s d e is)
+  sort_acts w d c generic lt e at is h built =
+      rw h (a_generic (generic_number C w) _ (sort_at P w d e ∙ ap Some is) (generic_row P C templates heights M b closes is_plain w c at h) refl (picked_same P C templates heights M b closes is_plain laws w))
+  sort_acts w d c _ lt e at is h built = absurd built
+
+  action_there : (w : ℕ) → w < P.top → HasAction P M w
+  action_there w lt =
+      let found = word_below P b w lt in
+      let p = put w found.def found.at in
+      record { row = word_row C p.place w p.closed; there = p.row; acts = sort_acts w found.def p.closed found.def.sort lt found.at p.at refl p.closes_word.sort found.built }
 
   -- That of a next method.
   abbrev NextSame : ℕ → ℕ → ℕ → ℕ → Type 0
@@ -132,15 +161,15 @@ module _ (P C : Program) (templates : List Template) (M : Image) (b : IsBuilt P)
   next_does F n m is =
       let found = method_found P C templates b whole laws closes m is in
       let g = generic_of P (sort_of P m) in
-      let row = ap (λ (g : ℕ). slice_get M.generics (generic_number C g)) (generic_of_same P C templates closes m) ∙ generic_row P C templates M b closes is_plain g found.closed found.at found.is_generic_word in
+      let row = ap (λ (g : ℕ). slice_get M.generics (generic_number C g)) (generic_of_same P C templates closes m) ∙ generic_row P C templates heights M b closes is_plain g found.closed found.at found.is_generic_word in
       t_calling (l_next m (generic_number C (generic_of C (sort_of C m))) (method_number C m) _ row refl
-      (λ k. subst (λ (j : ℕ). NextSame g m k j) (sym (method_same P C templates closes m)) (next_same P C templates M b closes is_plain laws g (method_number P m) m found.class_of k found.there)))
+      (λ k. subst (λ (j : ℕ). NextSame g m k j) (sym (method_same P C templates closes m)) (next_same P C templates heights M b closes is_plain laws g (method_number P m) m found.class_of k found.there)))
 
   abbrev T : Templates
   T = template_phrases P
 
   rows : Rows C templates M.code M.texts M.templates templates
-  rows = all_rows P C templates closes M.code M.texts M.templates is_plain.code (texts_begin P C templates M b closes is_plain) is_plain.template_rows_are
+  rows = all_rows P C templates closes heights M.code M.texts M.templates is_plain.code (texts_begin P C templates heights M b closes is_plain) is_plain.template_rows_are
 
   opens : OpensProgram P C templates
   opens = programs_open P C templates closes
@@ -179,14 +208,14 @@ module _ (P C : Program) (templates : List Template) (M : Image) (b : IsBuilt P)
   plain_does F texts (lit yes) c h r begins = t_true
   plain_does F texts (lit no) c h r begins = t_false
   plain_does F texts (lit (str cs)) c h r begins = t_text cs (length texts) (text_there texts M.texts cs c begins)
-  plain_does F texts (lit (wrd w)) c h r begins = let there = row_there w r in t_reference w there.0 there.1
+  plain_does F texts (lit (wrd w)) c h r begins = let there = row_there w r in t_reference w there.0 (no_top P b w r) there.1
   plain_does F texts (lit_arr a) c h r begins = t_array a
   plain_does F texts (word w) c h r begins = word_does_so F (length texts) w r
   plain_does F texts next_method c h r begins = t_stuck Boa (λ fits callable_height st. refl)
   plain_does F texts (next_after m) c h r begins = next_does F (length texts) m r
   plain_does F texts (lit _) c h r begins = absurd r
-  plain_does F texts (call_eff k) c h r begins = absurd r
-  plain_does F texts (exec_eff k) c h r begins = absurd r
+  plain_does F texts (call_eff k) c h r begins = t_calling (l_call_effect k)
+  plain_does F texts (exec_eff k) c h r begins = t_calling (l_execute_effect k)
   plain_does F texts _ c h r begins = absurd h
 
   local_does : (F : List MValue) (k : ℕ) (i : Item) → slice_get (helds T F) k ≡ Some i → Translates P M T F i (Local k)
@@ -273,8 +302,9 @@ module _ (P C : Program) (templates : List Template) (M : Image) (b : IsBuilt P)
         let stands = word_stands w found.def false (ne_eqb w C.top (λ same. let top = closes.top in let lt = code.below in omega (arith, lt, same, top))) found.at runs in
         let p = put w found.def found.at in
         subst (λ (t : Phrase). Stands P M (template_phrases P) Ret [] a t) (ap (sort_phrase P w) (sym (sort_at P w found.def found.at)))
-        (subst (λ (at : ℕ). Stands P M (template_phrases P) Ret [] at (sort_phrase P w (Some found.def.sort))) (one_place P C templates M b closes is_plain w a found.def p runs code) stands);
+        (subst (λ (at : ℕ). Stands P M (template_phrases P) Ret [] at (sort_phrase P w (Some found.def.sort))) (one_place P C templates heights M b closes is_plain w a found.def p runs code) stands);
     templates = λ q r k e n whole. subst (λ (vs : List Value). Stands P M T Ret (kept_list k) r.entry (T q vs)) (sym (kept_list_view T k)) (template_stands q r (kept_list k) e n);
+    actions = λ w d e none. action_there w (before_top P b w d e none);
   }
 
   -- that of the top-level phrase
@@ -286,9 +316,9 @@ module _ (P C : Program) (templates : List Template) (M : Image) (b : IsBuilt P)
       let runs = subst (λ (s : Sort). RunsPhrase (Some s)) (sym b.last_word_is.sort_is) tt in
       let stands = word_stands P.top b.last_word true same at runs in
       let p = put P.top b.last_word at in
-      let begins : slice_get M.words P.top ≡ Some (record { name = C.top; action = action.Code M.start; kind = None }) = ap (slice_get M.words) (sym closes.top) ∙ is_plain.begins in
-      let row : word_row C p.place P.top p.closed.sort ≡ record { name = C.top; action = action.Code M.start; kind = None } = let one = p.row in cc in
-      let code : action.Code p.place ≡ action.Code M.start = sym (word_does P C templates M b closes is_plain P.top b.last_word p ∙ ap (λ (s : Sort). sort_action C P.top p.place s) b.last_word_is.sort_is) ∙ ap (λ (r : WordRow). r.action) row in
+      let begins : slice_get M.words P.top ≡ Some (record { name = C.top; action = action.Code M.start; kind = None; height = None }) = ap (slice_get M.words) (sym closes.top) ∙ is_plain.begins in
+      let row : word_row C p.place P.top p.closed ≡ record { name = C.top; action = action.Code M.start; kind = None; height = None } = let one = p.row in cc in
+      let code : action.Code p.place ≡ action.Code M.start = sym (word_does P C templates heights M b closes is_plain P.top b.last_word p ∙ ap (λ (s : Sort). sort_action C P.top p.place s) b.last_word_is.sort_is) ∙ ap (λ (r : WordRow). r.action) row in
       let place : p.place ≡ M.start = cc in
       subst (λ (t : Phrase). Stands P M (template_phrases P) Halt [] M.start t) (ap (sort_phrase P P.top) (sym (sort_at P P.top b.last_word at)))
       (subst (λ (a : ℕ). Stands P M (template_phrases P) Halt [] a (sort_phrase P P.top (Some b.last_word.sort))) place stands)

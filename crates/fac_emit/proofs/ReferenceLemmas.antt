@@ -5,6 +5,7 @@ use Rattle.std.proofs.lemmas.List.{length-map, append-nil}
 use Rattle.std.proofs.lemmas.List.Folds.{list_all-append}
 use Rattle.std.specs.Prelude.{nat_eq, nat_lt, slice_get}
 use Rattle.std.specs.List.{list_all}
+use Rattle.fac_lang.specs.declared.phrase.Height.{Height}
 use Rattle.fac_lang.specs.declared.phrase.Template.{Template}
 use Rattle.fac_lang.specs.declared.program.ClassDef.{ClassDef}
 use Rattle.fac_lang.specs.declared.program.Lit.{Lit}
@@ -32,13 +33,13 @@ use Rattle.fac_code.specs.declared.image.MethodRow.{MethodRow}
 use Rattle.fac_code.specs.declared.image.Tables.{Tables}
 use Rattle.fac_code.specs.declared.image.TemplateRow.{TemplateRow}
 use Rattle.fac_code.specs.declared.image.WordRow.{WordRow}
-use Rattle.fac_code.specs.References.{names_code, names_method, names_constant, elem_refers, arrays_refer, instr_refers, action_refers, own_refers, word_refers, template_refers, kind_refers, set_refers, method_refers, generic_refers, tables_refer, refers}
+use Rattle.fac_code.specs.References.{is_code, names_code, names_method, names_constant, elem_refers, arrays_refer, instr_refers, action_refers, own_refers, word_refers, template_refers, kind_refers, set_refers, method_refers, generic_refers, tables_refer, refers}
 use Rattle.fac_generic.specs.Methods.{methods_in_order}
 use Rattle.fac_emit.specs.ProgramTables.{word_names, kind_names, slot_names, slot_number, table_texts, generic_number, method_number, method_row, generics_from, program_kinds}
 use Rattle.fac_emit.specs.ProgramCode.{sort_instr, word_instr, made_instr, phrase_code, phrase_texts, templates_code, templates_texts, last_instr, sort_action, sort_kind, word_row, sort_code, sort_texts, words_texts, word_code, code_from, words_from, program_code, program_texts, program_tables, elem_of, with_element_text, elems_of, elements_texts, arrays_of, arrays_texts}
 use Rattle.fac_emit.specs.Stands.{making}
 use Rattle.fac_emit.proofs.BuiltCode.{and_true}
-use Rattle.fac_emit.proofs.Closings.{drop_behind, Closing, c_end, c_int, c_true, c_false, c_text, c_array, c_ref, c_word, c_quot, c_fry, c_bind, c_local, c_hole, c_outside, c_next, closing}
+use Rattle.fac_emit.proofs.Closings.{drop_behind, Closing, c_end, c_int, c_true, c_false, c_text, c_array, c_ref, c_word, c_quot, c_fry, c_bind, c_local, c_hole, c_call_effect, c_execute_effect, c_outside, c_next, closing}
 use Rattle.fac_emit.proofs.MadeArrays.{has_first}
 use Rattle.fac_generic.specs.Methods.{MethodLaws}
 use Rattle.fac_emit.proofs.NamedArrays.{NamesArrays, word_names_arrays, literal_names_arrays}
@@ -53,12 +54,12 @@ use Rattle.fac_emit.proofs.TableNumbers.{slot_same, texts_same, kind_rows_same, 
 use Rattle.fac_emit.proofs.TableReferences.{sets_many, kinds_refer, own_refers_so, sets_refer}
 use Rattle.fac_emit.proofs.ClosedWords.{found_within, both_pass, first_true, one_passes, begins_within, core_refers, last_refers, word_doable, ClosedAs, closed_as}
 
-module _ (P C : Program) (templates : List Template) (built : IsBuilt P) (whole : IsWhole P) (laws : MethodLaws P) (closes : Closes P C templates) where
+module _ (P C : Program) (templates : List Template) (heights : List (Option Height)) (built : IsBuilt P) (whole : IsWhole P) (laws : MethodLaws P) (closes : Closes P C templates) where
   abbrev code : List Instr
   code = program_code C templates
 
   abbrev T : Tables
-  T = program_tables C templates
+  T = program_tables C templates heights
 
   pool_begins : Begins (program_texts C templates) T.texts
   pool_begins = arrays_behind (program_texts C templates) C.arrays
@@ -106,8 +107,8 @@ module _ (P C : Program) (templates : List Template) (built : IsBuilt P) (whole 
   generic_below g c e is = lt-ltb (generic_number C g) (length T.generics) (found_within T.generics (generic_number C g) (row_of C templates g) (generic_at C templates g c e is))
 
   -- instructions
-  code_named : (w : ℕ) (c : WordDef) (s : Sort) → slice_get C.words w ≡ Some c → c.sort ≡ s → ((at : ℕ) → names_code (Some (word_row C at (0 + w) s)) ≡ true) → names_code (slice_get T.words w) ≡ true
-  code_named w c s e is h = let put = words_placed C templates w c e in ap names_code (put.row ∙ ap (λ (s : Sort). Some (word_row C put.at (0 + w) s)) is) ∙ h put.at
+  code_named : (w : ℕ) (c : WordDef) (s : Sort) → slice_get C.words w ≡ Some c → c.sort ≡ s → ((at : ℕ) → is_code (sort_action C (0 + w) at s) ≡ true) → names_code (slice_get T.words w) ≡ true
+  code_named w c s e is h = let put = words_placed C templates w c e in ap names_code put.row ∙ ap (λ (s : Sort). is_code (sort_action C (0 + w) put.at s)) is ∙ h put.at
 
   sort_refers : (w : ℕ) (c : WordDef) (s : Sort) → slice_get C.words w ≡ Some c → c.sort ≡ s → ClosedAs P w s → instr_refers T (sort_instr C w s) ≡ true
   sort_refers w c (prim_sort k) e is h = refl
@@ -146,7 +147,7 @@ module _ (P C : Program) (templates : List Template) (built : IsBuilt P) (whole 
 
   literal_refers : (q : ℕ) (l : Quoted) → l.at.word < length P.words → literal_numbered P q ≡ l → instr_refers T (made_instr q (slice_get templates q)) ≡ true
   literal_refers q l lt e =
-      let found = literal_row P C templates closes code T.texts T.templates refl pool_begins refl q l lt e in rw (literal_instr P C templates closes q l lt e) (making_refers q (hole_count l.item) found.row found.there found.holes)
+      let found = literal_row P C templates closes heights code T.texts T.templates refl pool_begins refl q l lt e in rw (literal_instr P C templates closes q l lt e) (making_refers q (hole_count l.item) found.row found.there found.holes)
 
   abbrev Refers : List Instr → Type 0
   Refers is = list_all (instr_refers T) is ≡ true
@@ -175,6 +176,8 @@ module _ (P C : Program) (templates : List Template) (built : IsBuilt P) (whole 
   phrase_refers last cells at texts t c l (c_bind x h) lt b f = phrase_refers last _ _ texts _ _ l h lt b f.1
   phrase_refers last cells at texts t c l (c_local x k is h) lt b f = phrase_refers last _ _ texts _ _ l h lt b f.1
   phrase_refers last cells at texts t c l (c_hole j k is h) lt b f = phrase_refers last _ _ texts _ _ l h lt b f.1
+  phrase_refers last cells at texts t c l (c_call_effect k h) lt b f = phrase_refers last _ _ texts _ _ l h lt b f.1
+  phrase_refers last cells at texts t c l (c_execute_effect k h) lt b f = phrase_refers last _ _ texts _ _ l h lt b f.1
   phrase_refers last cells at texts t c l (c_outside h) lt b f = phrase_refers last _ _ texts _ _ l h lt b f.1
   phrase_refers last cells at texts t c l (c_next {c = d} m is h) lt b f =
       and_true (names_method (slice_get T.generics (generic_number C (generic_of C (sort_of C m)))) (method_number C m)) (list_all (instr_refers T) (phrase_code C templates last texts d)) (next_refers 0 m is) (phrase_refers last _ _ texts _ d l h lt b f.1)
@@ -280,11 +283,12 @@ module _ (P C : Program) (templates : List Template) (built : IsBuilt P) (whole 
       let closed = word_closed P C templates closes m found.0 found.1 in
       let sort = subst (λ (s : Sort). ClosesSort P m s closed.closed.sort) found.2 closed.closes.sort in
       let put = words_placed C templates m closed.closed closed.at in
-      let row : slice_get T.words m ≡ Some (word_row C put.at (0 + m) (method c g sort.0)) = put.row ∙ ap (λ (s : Sort). Some (word_row C put.at (0 + m) s)) sort.1 in
-      let refers = one_passes (word_refers T (length code)) T.words m (word_row C put.at (0 + m) (method c g sort.0)) all_words_within row in
+      let row : slice_get T.words m ≡ Some (word_row C put.at (0 + m) closed.closed) = put.row in
+      let passes = one_passes (word_refers T (length code)) T.words m (word_row C put.at (0 + m) closed.closed) all_words_within row in
+      let refers = ap (λ (s : Sort). nat_lt (0 + m) (length T.texts) && (action_refers T (length code) (sort_action C (0 + m) put.at s) && own_refers T (sort_kind C s))) (sym sort.1) ∙ passes in
       let parts = first_true (nat_lt (0 + m) (length T.texts)) (nat_lt put.at (length code) && true) refers in
       let within_code = first_true (nat_lt put.at (length code)) true parts.1 in
-      let place : place_of m ≡ put.at = ap (λ (o : Option WordRow). elim o [ Some r ↦ elim r.action [ action.Code a ↦ a | _ ↦ 0 ] | None ↦ 0 ]) row in
+      let place : place_of m ≡ put.at = ap (λ (o : Option WordRow). elim o [ Some r ↦ elim r.action [ action.Code a ↦ a | _ ↦ 0 ] | None ↦ 0 ]) row ∙ ap (λ (s : Sort). elim (sort_action C (0 + m) put.at s) [ action.Code a ↦ a | _ ↦ 0 ]) sort.1 in
       ap (λ (a : ℕ). nat_lt a (length code)) place ∙ within_code.0
 
   rows_pass : (test : MethodRow → Bool) (ms : List (ℕ × ℕ)) → ((j : ℕ) (m : ℕ × ℕ) → slice_get ms j ≡ Some m → test (method_row place_of m) ≡ true) → list_all test (map (method_row place_of) ms) ≡ true
@@ -321,7 +325,7 @@ module _ (P C : Program) (templates : List Template) (built : IsBuilt P) (whole 
   template_constant m q i is at u around e =
       let l : Quoted = record { at = at; cells = []; item = quot u } in
       let listed = is_listed_in_array P q l i is around e in
-      let found = listed_row P C templates closes code T.texts T.templates refl pool_begins refl q l listed in
+      let found = listed_row P C templates closes heights code T.texts T.templates refl pool_begins refl q l listed in
       rw found.there (and_true (nat_eq (length found.row.cells) 0) (nat_eq found.row.holes 0) (rw found.cells refl) (rw found.holes refl))
 
   abbrev Earlier : ℕ → List Lit → Type 0
@@ -380,7 +384,7 @@ module _ (P C : Program) (templates : List Template) (built : IsBuilt P) (whole 
       (arrays_refer_so (suc a) next lss h.2 h.5 ok.1 parts.1 begins))
 
   -- the plain code, which starts at a word's place
-  pub plain_refers : (start : ℕ) → slice_get T.words C.top ≡ Some (record { name = C.top; action = action.Code start; kind = None }) → refers T code start ≡ true
+  pub plain_refers : (start : ℕ) → slice_get T.words C.top ≡ Some (record { name = C.top; action = action.Code start; kind = None; height = None }) → refers T code start ≡ true
   plain_refers start e =
       let first = table_texts C in
       let own = templates_code C templates first templates in
@@ -388,12 +392,12 @@ module _ (P C : Program) (templates : List Template) (built : IsBuilt P) (whole 
       let size = length code in
       let of_words = begins_on texts (program_texts C templates) T.texts (words_behind texts C.words) pool_begins in
       let instrs = both_pass (instr_refers T) own (code_from C templates texts 0 C.words) (templates_refer first templates of_words template_refers_to) (words_refer texts 0 C.words all_closed pool_begins) in
-      let top = one_passes (word_refers T size) T.words C.top (record { name = C.top; action = action.Code start; kind = None }) all_words_within e in
+      let top = one_passes (word_refers T size) T.words C.top (record { name = C.top; action = action.Code start; kind = None; height = None }) all_words_within e in
       let started = first_true (nat_lt start size) true (first_true (nat_lt C.top (length T.texts)) (nat_lt start size && true) top).1 in
       let arrays = arrays_refer_so 0 (program_texts C templates) P.arrays C.arrays closes.arrays built.arrays_built whole.arrays_earlier (begins_same T.texts) in
       let kinds = kinds_refer P T kinds_are texts_long in
       let sets = ap (list_all (set_refers T 0)) (sets_same P C templates closes) ∙ sets_refer P T kinds_are texts_long in
-      let rows = rows_within T.templates templates (all_rows P C templates closes code T.texts T.templates refl pool_begins refl) in
+      let rows = rows_within T.templates templates (all_rows P C templates closes heights code T.texts T.templates refl pool_begins refl) in
       let generics = generics_within 0 C.words all_closed in
       let last = and_true (list_all (word_refers T size) T.words) (list_all (generic_refers T size) T.generics) all_words_within generics in
       let behind_sets = and_true (list_all (template_refers T size) T.templates) (list_all (word_refers T size) T.words && list_all (generic_refers T size) T.generics) rows last in

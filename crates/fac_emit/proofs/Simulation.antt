@@ -1,14 +1,13 @@
 -- The machine follows the meaning, tick for tick.
-use Rattle.std.proofs.Common.{◌≡◌, ◌≢◌, ℕ, zero, suc, ◌+◌, ◌<◌, List, [], ◌∷◌, ◌++◌, Option, Some, None, refl, ap, sym, subst, ◌∙◌, arith}
+use Rattle.std.proofs.Common.{◌≡◌, ◌≢◌, ℕ, zero, suc, ◌+◌, ◌<◌, List, [], ◌∷◌, ◌++◌, Option, Some, refl, ap, subst, arith}
 use Rattle.std.specs.Prelude.{slice_get}
 use Rattle.fac_lang.specs.declared.program.Program.{Program}
-use Rattle.fac_lang.specs.declared.program.Sort.{Sort}
-use Rattle.fac_lang.specs.declared.program.Sort.TheVariants.{Itself as itself, Class as class}
-use Rattle.fac_lang.specs.Phrases.{int, yes, no, str, wrd, Phrase, Item, lit, word, held, Value, plain}
+use Rattle.fac_lang.specs.Phrases.{int, yes, no, str, wrd, Phrase, Item, lit, word, held, Value}
 use Rattle.fac_lang.specs.Substitution.{put_local}
-use Rattle.fac_lang.specs.World.{World, State, push}
-use Rattle.fac_lang.specs.Eval.{Result, Done, Failed, Spent, Stuck, then_do, Act, goes, Run}
-use Rattle.fac_lang.specs.Meaning.{word_phrase, sort_of, sort_act, act}
+use Rattle.fac_lang.specs.World.{World, State}
+use Rattle.fac_lang.specs.Eval.{Result, Done, Failed, Spent, Stuck, Act, Run}
+use Rattle.fac_lang.specs.HeightArithmetic.{fits}
+use Rattle.fac_lang.specs.Meaning.{word_phrase, sort_of, act}
 use Rattle.fac_code.specs.declared.image.Instr.{Instr}
 use Rattle.fac_code.specs.declared.image.Instr.TheVariants.{Halt, Int, True, False, Text, Word, Ret}
 use Rattle.fac_code.specs.declared.image.Image.{Image}
@@ -21,16 +20,17 @@ use Rattle.fac_emit.specs.MachineView.{Templates, value_view, values_view, kept_
 use Rattle.fac_emit.specs.Carries.{SameEnd}
 use Rattle.fac_emit.specs.WholeValues as whole
 use Rattle.fac_emit.specs.Accessors.{accessor_outs}
-use Rattle.fac_emit.specs.Stands.{PushesItself, HasCode}
-use Rattle.fac_emit.specs.Symbols.{Sym, here, off, k_phrase, Task, do_phrase, heres, AllHere, outs, Special}
-use Rattle.fac_emit.specs.Expanded.{Code, c_last, c_make, c_trim, c_end, c_off, c_int, c_true, c_false, c_text, c_array, c_reference, c_symbol, c_prim, c_accessor, c_isa, c_boa, c_held, c_bind, c_fry, c_stuck, c_word, c_call, c_dip, c_if, c_generic, c_next, EachCalled}
+use Rattle.fac_emit.specs.Stands.{HasCode}
+use Rattle.fac_emit.specs.Symbols.{Sym, here, off, k_phrase, Task, do_phrase, heres, AllHere, all_none, outs, Special}
+use Rattle.fac_emit.specs.Expanded.{Code, c_last, c_make, c_trim, c_end, c_off, c_int, c_true, c_false, c_text, c_array, c_reference, c_symbol, c_prim, c_accessor, c_isa, c_boa, c_held, c_bind, c_fry, c_stuck, c_word, c_call, c_dip, c_if, c_execute, c_call_effect, c_execute_effect, c_generic, c_next, EachCalled}
 use Rattle.fac_emit.proofs.RunLaws.{free}
 use Rattle.fac_emit.proofs.SymbolicStacks.{l_phrase, Lies, lies_none, keeps_none, keeps_phrase, all_here}
-use Rattle.fac_emit.proofs.Following.{Setting, state, at, left, Follows, fetch, Live, LivePhrase, Go, CallsTo, Templated, Valid}
+use Rattle.fac_emit.proofs.Following.{Setting, state, at, Follows, LivePhrase, Go, CallsTo, Templated, Valid, then_done, live_phrase}
 use Rattle.fac_emit.proofs.CaseLemmas.{g_array, g_end, g_last, g_make, g_off, g_prim, g_push, g_stuck, g_trim}
 use Rattle.fac_emit.proofs.CallLemmas.{g_call, g_dip, g_if, g_word}
 use Rattle.fac_emit.proofs.FrameCases.{g_held, g_bind, g_fry}
 use Rattle.fac_emit.proofs.ClassCases.{g_accessor, g_boa, g_generic, g_isa, g_next}
+use Rattle.fac_emit.proofs.ActionCases.{itself_pushed, g_execute, g_call_effect, g_execute_effect}
 
 module _ (Y : Setting) where
   -- short names of what a setting has, as in Following: names under a module's argument aren't handed on without it
@@ -44,7 +44,7 @@ module _ (Y : Setting) where
   T = Y.texts
 
   abbrev A : Item → State Value → Act
-  A = act P Y.fits Y.callable_height
+  A = act P fits Y.callable_height
 
   abbrev run : Run
   run = free A
@@ -53,7 +53,7 @@ module _ (Y : Setting) where
   V = world_view T
 
   abbrev Fine : List MValue → List MValue → List MValue → World MValue → Type 0
-  Fine = whole.Fine M
+  Fine = whole.Fine P M
 
   -- The induction on the ticks, and inside on the derivation.
   abbrev Main : ℕ → Type 0
@@ -62,20 +62,11 @@ module _ (Y : Setting) where
   abbrev Below : ℕ → Type 0
   Below f = (g : ℕ) → g < f → Main g
 
-  then_done : (r : Result) → then_do r (left Y []) ≡ r
-  then_done (Done st m) = refl
-  then_done (Failed e st m) = refl
-  then_done (Spent st i) = refl
-  then_done Stuck = refl
-
-  live_phrase : (b : Phrase) (st : State Value) → LivePhrase Y b st → Live Y (l_phrase b ∷ []) st
-  live_phrase b st lv m is = lv m (sym (then_done (run b st m)) ∙ is)
-
   -- a phrase whose code stands at a place, at fewer ticks
   called_phrase : (last : Option Instr) (f : ℕ) → Below f → (Γ : List Special) (F : List MValue) (a : ℕ) (S : List Sym) (b : Phrase) → Code P M T Γ last F zero S (do_phrase b ∷ []) a → ((g : ℕ) → g < f → Valid Y g Γ) → CallsTo Y last f F a S b
   called_phrase last f below Γ F a S b code v R base ms vs w n lt ok lv l =
-      subst (λ (r : Result). Follows Y last R base (at F a ms base R w) n r) (then_done (run b (state vs (V w)) n))
-      (below n lt Γ last F zero S (do_phrase b ∷ []) a code (v n lt) R base ms base vs (l_phrase b ∷ []) w n (omega arith) ok (live_phrase b (state vs (V w)) lv) l (keeps_phrase keeps_none))
+      subst (λ (r : Result). Follows Y last R base (at F a ms base R w) n r) (then_done Y (run b (state vs (V w)) n))
+      (below n lt Γ last F zero S (do_phrase b ∷ []) a code (v n lt) R base ms base vs (l_phrase b ∷ []) w n (omega arith) ok (live_phrase Y b (state vs (V w)) lv) l (keeps_phrase keeps_none))
 
   -- a stack on which nothing is put off needs no names
   on_all : (S : List Sym) (F : List MValue) (a : ℕ) (b : Phrase) (f : ℕ) → AllHere S → CallsTo Y (Some Ret) f F a [] b → CallsTo Y (Some Ret) f F a S b
@@ -86,13 +77,6 @@ module _ (Y : Setting) where
 
   push_goes : (F : List MValue) (pc a : ℕ) (r : WordRow) → slice_get M.words a ≡ Some r → (ms rs : List MValue) (R : List Entry) (w : World MValue) (n : ℕ) → fetched M (Some (Word a)) (at F pc ms rs R w) (suc n) ≡ goes_on (at F (pc + 1) (m_plain (wrd a) ∷ ms) rs R w) n
   push_goes F pc a r er ms rs R w n = ap (λ (o : Option WordRow). or_trap o t_kind (at F pc ms rs R w) n (λ r. goes_on (at F (pc + 1) (m_plain (wrd a) ∷ ms) rs R w) n)) er
-
-  -- what a word does that pushes itself
-  itself_pushed : (wd : ℕ) (o : Option Sort) → PushesItself o → (st : State Value) → sort_act P wd o st ≡ goes (push (plain (wrd wd)) st)
-  itself_pushed wd (Some itself) h st = refl
-  itself_pushed wd (Some (class c)) h st = refl
-  itself_pushed wd (Some _) h st = absurd h
-  itself_pushed wd None h st = absurd h
 
   -- the code of a word that runs a phrase, or of a method, at fewer ticks
   word_called : (f : ℕ) → Below f → EachCalled P M T → (S : List Sym) → AllHere S → (wd a : ℕ) → HasCode P M wd a → CallsTo Y (Some Ret) f [] a S (word_phrase P wd)
@@ -113,9 +97,9 @@ module _ (Y : Setting) where
   main f below each tpl Γ last F d S K pc (c_text {p = p} {t = t} {K = K1} cs k e ek c) v = g_push Y f F last (lit (str cs)) p t S K1 pc (Text k) (m_plain (str cs)) (λ h. tt) e (λ s. refl) (text_goes F pc k cs ek) (λ st. refl)
       (main f below each tpl Γ last F zero (here ∷ S) (do_phrase t ∷ K1) (pc + 1) c v)
   main f below each tpl Γ last F d S K pc (c_array {p = p} {t = t} {K = K1} a e c) v = g_array Y f F last a p t S K1 pc e (main f below each tpl Γ last F zero (here ∷ S) (do_phrase t ∷ K1) (pc + 1) c v)
-  main f below each tpl Γ last F d S K pc (c_reference {p = p} {t = t} {K = K1} wd r e er c) v = g_push Y f F last (lit (wrd wd)) p t S K1 pc (Word wd) (m_plain (wrd wd)) (λ h. tt) e (λ s. refl) (push_goes F pc wd r er) (λ st. refl)
+  main f below each tpl Γ last F d S K pc (c_reference {p = p} {t = t} {K = K1} wd r none e er c) v = g_push Y f F last (lit (wrd wd)) p t S K1 pc (Word wd) (m_plain (wrd wd)) (λ h. none) e (λ s. refl) (push_goes F pc wd r er) (λ st. refl)
       (main f below each tpl Γ last F zero (here ∷ S) (do_phrase t ∷ K1) (pc + 1) c v)
-  main f below each tpl Γ last F d S K pc (c_symbol {p = p} {t = t} {K = K1} wd r es e er c) v = g_push Y f F last (word wd) p t S K1 pc (Word wd) (m_plain (wrd wd)) (λ h. tt) e (λ s. refl) (push_goes F pc wd r er) (itself_pushed wd (sort_of P wd) es)
+  main f below each tpl Γ last F d S K pc (c_symbol {p = p} {t = t} {K = K1} wd r es none e er c) v = g_push Y f F last (word wd) p t S K1 pc (Word wd) (m_plain (wrd wd)) (λ h. none) e (λ s. refl) (push_goes F pc wd r er) (itself_pushed Y wd (sort_of P wd) es)
       (main f below each tpl Γ last F zero (here ∷ S) (do_phrase t ∷ K1) (pc + 1) c v)
   main f below each tpl Γ last F d S K pc (c_prim {p = p} {t = t} {S1 = S1} {K = K1} wd k q es en ew needs e c) v = g_prim Y f F last wd k q p t S S1 K1 pc es en ew needs e (main f below each tpl Γ last F zero (heres (outs q) S1) (do_phrase t ∷ K1) (pc + 1) c v)
   main f below each tpl Γ last F d S K pc (c_accessor {p = p} {t = t} {S1 = S1} {K = K1} x wd k cs es et ew needs e c) v =
@@ -127,11 +111,16 @@ module _ (Y : Setting) where
       g_bind Y f F last y p t S S1 K1 pc needs e (λ m h. main f below each tpl Γ last (F ++ m ∷ []) zero S1 (do_phrase (put_local y (held (value_view T m)) t) ∷ K1) (pc + 1) (c m h) v)
   main f below each tpl Γ last F d S K pc (c_fry {p = p} {t = t} {S1 = S1} {K = K1} q r ks b e et ec eh needs c) v =
       g_fry Y f F last q r ks b p t S S1 K1 pc e et ec eh needs (main f below each tpl Γ last F zero (here ∷ S1) (do_phrase t ∷ K1) (pc + 1) c v)
-  main f below each tpl Γ last F d S K pc (c_stuck {p = p} {t = t} {i = i} {K = K1} stuck) v = g_stuck Y f F last i p t S K1 pc (stuck Y.fits Y.callable_height)
+  main f below each tpl Γ last F d S K pc (c_stuck {p = p} {t = t} {i = i} {K = K1} stuck) v = g_stuck Y f F last i p t S K1 pc (stuck fits Y.callable_height)
   main f below each tpl Γ last F d S K pc (c_word {p = p} {t = t} {K = K1} wd at code a e c) v = g_word Y f F last wd at p t S K1 pc code e (word_called f below each S a wd at code) (main f below each tpl Γ last F zero [] (do_phrase t ∷ K1) (pc + 1) c v)
   main f below each tpl Γ last F d S K pc (c_call {p = p} {t = t} {K = K1} wd k es en a e c) v = g_call Y f F tpl last wd k p t S K1 pc es en a e (main f below each tpl Γ last F zero [] (do_phrase t ∷ K1) (pc + 1) c v)
   main f below each tpl Γ last F d S K pc (c_dip {p = p} {t = t} {K = K1} wd k es en a e c) v = g_dip Y f F tpl last wd k p t S K1 pc es en a e (main f below each tpl Γ last F zero [] (do_phrase t ∷ K1) (pc + 1) c v)
   main f below each tpl Γ last F d S K pc (c_if {p = p} {t = t} {K = K1} wd k es en a e c) v = g_if Y f F tpl last wd k p t S K1 pc es en a e (main f below each tpl Γ last F zero [] (do_phrase t ∷ K1) (pc + 1) c v)
+  main f below each tpl Γ last F d S K pc (c_execute {p = p} {t = t} {K = K1} wd k es en a e c) v =
+      g_execute Y f F tpl (word_called f below each [] all_none) each.actions last wd k p t S K1 pc es en a e (main f below each tpl Γ last F zero [] (do_phrase t ∷ K1) (pc + 1) c v)
+  main f below each tpl Γ last F d S K pc (c_call_effect {p = p} {t = t} {K = K1} h a e c) v = g_call_effect Y f F tpl last h p t S K1 pc a e (main f below each tpl Γ last F zero [] (do_phrase t ∷ K1) (pc + 1) c v)
+  main f below each tpl Γ last F d S K pc (c_execute_effect {p = p} {t = t} {K = K1} h a e c) v =
+      g_execute_effect Y f F tpl (word_called f below each [] all_none) each.actions last h p t S K1 pc a e (main f below each tpl Γ last F zero [] (do_phrase t ∷ K1) (pc + 1) c v)
   main f below each tpl Γ last F d S K pc (c_generic {p = p} {t = t} {K = K1} wd n r es er ew same a e c) v =
       g_generic Y f F last wd n r p t S K1 pc es er ew same a e (word_called f below each S a) (main f below each tpl Γ last F zero [] (do_phrase t ∷ K1) (pc + 1) c v)
   main f below each tpl Γ last F d S K pc (c_next {p = p} {t = t} {K = K1} m n j r er ew same a e c) v =
@@ -149,7 +138,7 @@ module _ (Y : Setting) where
 
   ending : (s : Machine) (n : ℕ) (r : Result) → r ≢ Stuck → Follows Y (Some Halt) [] [] s n r → (e : End) × Ends M s n e × SameEnd T r e
   ending s n (Done st m) ns h =
-      let last = at h.frame h.pc h.stack [] [] h.world in (done last m, ends_after M s last n m (done last m) h.leads (ends_step M last m (done last m) (fetch Y last m Halt h.there)), (h.same, refl))
+      let last = at h.frame h.pc h.stack [] [] h.world in (done last m, ends_after M s h.stood n h.ticks (done last m) h.leads (ends_step M h.stood h.ticks (done last m) h.does), (h.same, refl))
   ending s n (Failed e st m) ns h = (failed h.error h.fallen m, ends_after M s h.stood n h.ticks _ h.leads (ends_step M h.stood h.ticks _ h.fails), (h.same, h.world, refl))
   ending s n (Spent st i) ns h = (spent h.0, h.1, h.2)
   ending s n Stuck ns h = absurd (ns refl)
@@ -160,5 +149,5 @@ module _ (Y : Setting) where
       (e : End) × Ends M (at [] pc stack [] [] world) n e × SameEnd T (run t (state_view T stack world) n) e
   carried each pc t code stack world ok lv n =
       let st = state_view T stack world in
-      ending (at [] pc stack [] [] world) n (run t st n) (lv n) (subst (λ (r : Result). Follows Y (Some Halt) [] [] (at [] pc stack [] [] world) n r) (then_done (run t st n))
-      (follows each n [] (Some Halt) [] zero [] (do_phrase t ∷ []) pc code tt [] [] stack [] (values_view T stack) (l_phrase t ∷ []) world n (omega arith) ok (live_phrase t st lv) lies_none (keeps_phrase keeps_none)))
+      ending (at [] pc stack [] [] world) n (run t st n) (lv n) (subst (λ (r : Result). Follows Y (Some Halt) [] [] (at [] pc stack [] [] world) n r) (then_done Y (run t st n))
+      (follows each n [] (Some Halt) [] zero [] (do_phrase t ∷ []) pc code tt [] [] stack [] (values_view T stack) (l_phrase t ∷ []) world n (omega arith) ok (live_phrase Y t st lv) lies_none (keeps_phrase keeps_none)))

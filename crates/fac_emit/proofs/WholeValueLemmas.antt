@@ -1,6 +1,7 @@
--- Values of the machine whose callables are of an image's templates.
+-- Whole values of the machine.
 use Rattle.std.proofs.Common.{◌≡◌, ℕ, zero, suc, ◌+◌, List, [], ◌∷◌, ◌++◌, length, Bool, true, false, Option, Some, None, refl, ap, subst, ◌∙◌}
 use Rattle.std.specs.Prelude.{slice_get}
+use Rattle.fac_lang.specs.declared.program.Program.{Program}
 use Rattle.fac_lang.specs.Phrases.{fun, of_phrase}
 use Rattle.fac_lang.specs.World.{pile}
 use Rattle.fac_code.specs.declared.image.Image.{Image}
@@ -22,18 +23,18 @@ kept_views T (v ∷ vs) = ap (λ xs. value_view T v ∷ xs) (kept_views T vs)
 pub made_view : (T : Templates) (q : ℕ) (vs : List MValue) → value_view T (made q vs) ≡ fun (of_phrase (T q (values_view T vs)))
 made_view T q vs = ap (λ xs. fun (of_phrase (T q xs))) (kept_views T vs)
 
-module _ (M : Image) where
+module _ (P : Program) (M : Image) where
   abbrev Whole : MValue → Type 0
-  Whole = whole.Whole M
+  Whole = whole.Whole P M
 
   abbrev WholeCallable : MCallable → Type 0
-  WholeCallable = whole.WholeCallable M
+  WholeCallable = whole.WholeCallable P M
 
   abbrev WholeKept : Kept → Type 0
-  WholeKept = whole.WholeKept M
+  WholeKept = whole.WholeKept P M
 
   abbrev AllWhole : List MValue → Type 0
-  AllWhole = whole.AllWhole M
+  AllWhole = whole.AllWhole P M
 
   pub get_whole : (F : List MValue) (k : ℕ) (v : MValue) → AllWhole F → slice_get F k ≡ Some v → Whole v
   get_whole [] k v h e = absurd (cc)

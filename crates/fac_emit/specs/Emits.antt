@@ -1,19 +1,20 @@
 -- The code of a word and of a template, by cases: which instructions stand for which phrase of the program.
 use Rattle.std.specs.Prelude.{◌≡◌, ℕ, ℤ, List, [], ◌∷◌, nat_eq, true, false, Option, Some, slice_get}
+use Rattle.fac_lang.specs.declared.phrase.Height.{Height}
 use Rattle.fac_lang.specs.declared.phrase.Place.{Place}
 use Rattle.fac_lang.specs.declared.program.Program.{Program}
 use Rattle.fac_lang.specs.declared.program.Sort.{Sort}
 use Rattle.fac_lang.specs.declared.program.Sort.TheVariants.{Prim as prim_sort, Core as core_sort, Body as body, Past as past, Isa as isa, Generic as generic, Method as method}
-use Rattle.fac_lang.specs.Phrases.{int, yes, no, str, wrd, Literal, Phrase, end, then, Item, lit, lit_arr, quot, word, bind, local, fry, hole, next_after}
+use Rattle.fac_lang.specs.Phrases.{int, yes, no, str, wrd, Literal, Phrase, end, then, Item, lit, lit_arr, quot, word, bind, local, fry, hole, call_eff, exec_eff, next_after}
 use Rattle.fac_lang.specs.Primitives.{is_built_primitive}
-use Rattle.fac_lang.specs.Meaning.{sort_of, sort_phrase, core_numbered, c_call, c_dip, c_if, c_boa}
+use Rattle.fac_lang.specs.Meaning.{sort_of, sort_phrase, core_numbered, c_call, c_dip, c_if, c_execute, c_boa}
 use Rattle.fac_captures.specs.declared.cell.Cell.{Cell}
 use Rattle.fac_captures.specs.declared.cell.Cell.TheVariants.{Local, Hole}
 use Rattle.fac_captures.specs.Cells.{cell_number, cells_behind, inner_cells}
 use Rattle.fac_locals.specs.Literals.{Quoted, first_of_word, first_of_literal, quoted_phrase, behind, literal_numbered}
 use Rattle.fac_locals.specs.Closed.{IsMadeBy}
 use Rattle.fac_code.specs.declared.image.Instr.{Instr}
-use Rattle.fac_code.specs.declared.image.Instr.TheVariants.{Int, True, False, Text, Array, Word, Quot, Bind, Prim, Callw, Call, Dip, If, Ret, Boa, Isa, Generic, Next}
+use Rattle.fac_code.specs.declared.image.Instr.TheVariants.{Int, True, False, Text, Array, Word, Quot, Bind, Prim, Callw, Call, Dip, If, Execute, CallEffect, ExecuteEffect, Ret, Boa, Isa, Generic, Next}
 use Rattle.fac_code.specs.declared.image.Instr.TheVariants as instr
 use Rattle.fac_emit.specs.Accessors.{Accessor, accessor_sort, accessor_instr}
 use Rattle.fac_emit.specs.ProgramTables.{slot_number, generic_number, method_number}
@@ -57,6 +58,9 @@ module _ (P : Program) (texts : List (List ℕ)) where
     e_call : (w k : ℕ) → sort_of P w ≡ Some (core_sort k) → core_numbered k ≡ Some c_call → ItemEmits cells at (word w) (Call false)
     e_dip : (w k : ℕ) → sort_of P w ≡ Some (core_sort k) → core_numbered k ≡ Some c_dip → ItemEmits cells at (word w) Dip
     e_if : (w k : ℕ) → sort_of P w ≡ Some (core_sort k) → core_numbered k ≡ Some c_if → ItemEmits cells at (word w) (If false)
+    e_execute : (w k : ℕ) → sort_of P w ≡ Some (core_sort k) → core_numbered k ≡ Some c_execute → ItemEmits cells at (word w) (Execute false)
+    e_call_effect : (h : Height) → ItemEmits cells at (call_eff h) (CallEffect h false)
+    e_execute_effect : (h : Height) → ItemEmits cells at (exec_eff h) (ExecuteEffect h false)
     e_boa : (w k : ℕ) → sort_of P w ≡ Some (core_sort k) → core_numbered k ≡ Some c_boa → ItemEmits cells at (word w) Boa
     e_stuck : {i : Item} → HasNoCell i → IsStuck P i → ItemEmits cells at i stuck_instr
 

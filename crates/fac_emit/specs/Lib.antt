@@ -1,6 +1,7 @@
 pub mod MachineView
 pub mod Carries
 pub mod WholeValues
+pub mod Heights
 pub mod Accessors
 pub mod Stands
 pub mod Symbols

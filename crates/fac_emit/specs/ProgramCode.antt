@@ -1,6 +1,7 @@
 -- The plain code of a closed program. That of a phrase is an instruction for each item and one behind them. First stands the code of the templates, by
 -- their numbers, and behind it that of the words, by theirs. So the code of a word ends where that of the next one begins.
 use Rattle.std.specs.Prelude.{◌≡◌, ℕ, zero, suc, ◌+◌, List, [], ◌∷◌, ◌++◌, length, nat_eq, Bool, true, false, Option, Some, None, slice_get}
+use Rattle.fac_lang.specs.declared.phrase.Height.{Height}
 use Rattle.fac_lang.specs.declared.phrase.Template.{Template}
 use Rattle.fac_lang.specs.declared.program.Lit.{Lit}
 use Rattle.fac_lang.specs.declared.program.Lit.TheVariants.{Int as l_int, True as l_yes, False as l_no, Str as l_str, Arr as l_arr, Wref as l_word, Quot as l_quot, Made as l_made}
@@ -8,13 +9,13 @@ use Rattle.fac_lang.specs.declared.program.Program.{Program}
 use Rattle.fac_lang.specs.declared.program.WordDef.{WordDef}
 use Rattle.fac_lang.specs.declared.program.Sort.{Sort}
 use Rattle.fac_lang.specs.declared.program.Sort.TheVariants.{Prim as prim_sort, Core as core_sort, Body as body, Itself as itself, Class as class, Isa as isa, Getter as getter, Setter as setter, Putter as putter, Generic as generic, Method as method}
-use Rattle.fac_lang.specs.Phrases.{int, yes, no, str, wrd, Phrase, end, then, Item, lit, lit_arr, word, bind, local, made, next_after}
+use Rattle.fac_lang.specs.Phrases.{int, yes, no, str, wrd, Phrase, end, then, Item, lit, lit_arr, word, bind, local, call_eff, exec_eff, made, next_after}
 use Rattle.fac_lang.specs.Classes.{own_kind}
 use Rattle.fac_lang.specs.Meaning.{sort_of, generic_of}
 use Rattle.fac_code.specs.declared.image.Elem.{Elem}
 use Rattle.fac_code.specs.declared.image.Elem.TheVariants as elem
 use Rattle.fac_code.specs.declared.image.Instr.{Instr}
-use Rattle.fac_code.specs.declared.image.Instr.TheVariants.{Halt, Int, True, False, Text, Array, Word, Bind, Local, Prim, Callw, Call, Dip, If, Ret, Boa, Get, Set, Put, Isa, Generic, Next}
+use Rattle.fac_code.specs.declared.image.Instr.TheVariants.{Halt, Int, True, False, Text, Array, Word, Bind, Local, Prim, Callw, Call, Dip, If, Execute, CallEffect, ExecuteEffect, Ret, Boa, Get, Set, Put, Isa, Generic, Next}
 use Rattle.fac_code.specs.declared.image.Action.{Action}
 use Rattle.fac_code.specs.declared.image.Action.TheVariants as action
 use Rattle.fac_code.specs.declared.image.Tables.{Tables}
@@ -22,19 +23,22 @@ use Rattle.fac_code.specs.declared.image.TemplateRow.{TemplateRow}
 use Rattle.fac_code.specs.declared.image.WordRow.{WordRow}
 use Rattle.fac_code.specs.declared.image.GenericRow.{GenericRow}
 use Rattle.fac_code.specs.declared.image.Image.{Image}
+use Rattle.fac_store.specs.CallableHeights.{height_there}
 use Rattle.fac_emit.specs.Stands.{making}
+use Rattle.fac_emit.specs.Heights.{tested_height}
 use Rattle.fac_emit.specs.ProgramTables.{table_texts, slot_number, program_kinds, program_sets, generic_number, method_number, generics_from}
 
 -- An item that nothing can do. No run comes to it, so its instruction is any; this one takes nothing but the word of a tuple class.
 abbrev pub stuck_instr : Instr
 stuck_instr = Boa
 
--- The core words `call`, `dip`, `if` and, with the number 4, `boa`. That of `cond` stands nowhere but in a phrase that nothing can do.
+-- The core words `call`, `dip`, `if`, `execute` and `boa`, from 0 on. That of `cond` stands nowhere but in a phrase that nothing can do.
 abbrev pub core_instr : ℕ → Instr
 core_instr zero = Call false
 core_instr (suc zero) = Dip
 core_instr (suc (suc zero)) = If false
-core_instr (suc (suc (suc k))) = Boa
+core_instr (suc (suc (suc zero))) = Execute false
+core_instr (suc (suc (suc (suc k)))) = Boa
 
 -- the texts with that of an item, where it is a string
 abbrev pub with_text : List (List ℕ) → Item → List (List ℕ)
@@ -70,7 +74,7 @@ made_instr q (Some t) = making q t.holes
 -- for a closed program with these templates
 module _ (C : Program) (templates : List Template) where
   -- A string is the text with this number, a quotation or fry is made by its template, a local that is bound gets a cell of the frame, and behind a method comes the
-  -- next of its generic; `call-next-method` outside of a method is nothing that can be done, and the other items aren't built yet.
+  -- next of its generic; `call-next-method` outside of a method is nothing that can be done.
   abbrev pub item_instr : ℕ → Item → Instr
   item_instr k (lit (int z)) = Int z
   item_instr k (lit yes) = True
@@ -82,6 +86,8 @@ module _ (C : Program) (templates : List Template) where
   item_instr k (made q) = made_instr q (slice_get templates q)
   item_instr k (bind x) = Bind
   item_instr k (local x) = Local x
+  item_instr k (call_eff h) = CallEffect h false
+  item_instr k (exec_eff h) = ExecuteEffect h false
   item_instr k (next_after m) = Next (generic_number C (generic_of C (sort_of C m))) (method_number C m) false
   item_instr k _ = stuck_instr
 
@@ -100,9 +106,9 @@ abbrev pub templates_texts : List (List ℕ) → List Template → List (List �
 templates_texts texts [] = texts
 templates_texts texts (t ∷ ts) = templates_texts (phrase_texts texts t.body) ts
 
--- the row of a template whose code stands at a place
-abbrev pub row_at : ℕ → Template → TemplateRow
-row_at at t = record { entry = at; cells = t.captures; holes = t.holes }
+-- the row of a template with this effect, whose code stands at a place
+abbrev pub row_at : Option Height → ℕ → Template → TemplateRow
+row_at h at t = record { entry = at; cells = t.captures; holes = t.holes; height = h }
 
 module _ (C : Program) (templates : List Template) where
   -- the code of templates, one behind the other
@@ -110,10 +116,10 @@ module _ (C : Program) (templates : List Template) where
   templates_code texts [] = []
   templates_code texts (t ∷ ts) = phrase_code C templates Ret texts t.body ++ templates_code (phrase_texts texts t.body) ts
 
-  -- the rows of templates, whose code stands from a place on
-  abbrev pub template_rows : List (List ℕ) → ℕ → List Template → List TemplateRow
-  template_rows texts at [] = []
-  template_rows texts at (t ∷ ts) = row_at at t ∷ template_rows (phrase_texts texts t.body) (at + length (phrase_code C templates Ret texts t.body)) ts
+  -- The rows of the templates from number q on, whose code stands from a place on. The list has the effects of all templates.
+  abbrev pub template_rows : List (Option Height) → List (List ℕ) → ℕ → ℕ → List Template → List TemplateRow
+  template_rows heights texts at q [] = []
+  template_rows heights texts at q (t ∷ ts) = row_at (height_there (slice_get heights q)) at t ∷ template_rows heights (phrase_texts texts t.body) (at + length (phrase_code C templates Ret texts t.body)) (suc q) ts
 
 -- the top-level phrase ends the run, and each other phrase goes back to where it was called
 abbrev pub last_instr : Bool → Instr
@@ -152,8 +158,8 @@ module _ (C : Program) where
   sort_kind _ = None
 
   -- a word's row. Its name is the text of its number
-  abbrev pub word_row : ℕ → ℕ → Sort → WordRow
-  word_row at w s = record { name = w; action = sort_action w at s; kind = sort_kind s }
+  abbrev pub word_row : ℕ → ℕ → WordDef → WordRow
+  word_row at w d = record { name = w; action = sort_action w at d.sort; kind = sort_kind d.sort; height = tested_height C w d }
 
 -- and with these templates
 module _ (C : Program) (templates : List Template) where
@@ -175,7 +181,7 @@ module _ (C : Program) (templates : List Template) where
   -- the rows of the words from number w on, whose code stands from a place on
   abbrev pub words_from : List (List ℕ) → ℕ → ℕ → List WordDef → List WordRow
   words_from texts at w [] = []
-  words_from texts at w (d ∷ ds) = word_row C at w d.sort ∷ words_from (sort_texts texts d.sort) (at + length (word_code texts w d)) (suc w) ds
+  words_from texts at w (d ∷ ds) = word_row C at w d ∷ words_from (sort_texts texts d.sort) (at + length (word_code texts w d)) (suc w) ds
 
 -- all code
 abbrev pub program_code : Program → List Template → List Instr
@@ -233,28 +239,28 @@ abbrev pub arrays_texts : List (List ℕ) → List (List Lit) → List (List ℕ
 arrays_texts texts [] = texts
 arrays_texts texts (ls ∷ lss) = arrays_texts (elements_texts texts ls) lss
 
--- all tables of its image
-abbrev pub program_tables : Program → List Template → Tables
-program_tables C ts =
+-- all tables of its image, where its templates have these effects
+abbrev pub program_tables : Program → List Template → List (Option Height) → Tables
+program_tables C ts heights =
     record {
       arrays = arrays_of (program_texts C ts) C.arrays;
       kinds = program_kinds C;
       sets = program_sets C;
-      templates = template_rows C ts (table_texts C) 0 ts;
+      templates = template_rows C ts heights (table_texts C) 0 0 ts;
       words = program_words C ts;
       generics = program_generics C ts;
       texts = arrays_texts (program_texts C ts) C.arrays;
     }
 
--- The image is the plain code of the closed program with these templates, with its literal arrays and texts. It has the rows of its kinds and generics, a class set for each class
--- and a row for each template and each word under its number, and starts at the top-level phrase's place.
-pub record IsPlain (C : Program) (templates : List Template) (M : Image) : Type 0 where
+-- The image is the plain code of the closed program with these templates, which have these effects, with its literal arrays and texts. It has the rows of its kinds and generics, a class
+-- set for each class and a row for each template and each word under its number, and starts at the top-level phrase's place.
+pub record IsPlain (C : Program) (templates : List Template) (heights : List (Option Height)) (M : Image) : Type 0 where
   pub code : M.code ≡ program_code C templates
   pub arrays : M.arrays ≡ arrays_of (program_texts C templates) C.arrays
   pub texts : M.texts ≡ arrays_texts (program_texts C templates) C.arrays
-  pub template_rows_are : M.templates ≡ template_rows C templates (table_texts C) 0 templates
+  pub template_rows_are : M.templates ≡ template_rows C templates heights (table_texts C) 0 0 templates
   pub word_rows_are : M.words ≡ program_words C templates
   pub kinds : M.kinds ≡ program_kinds C
   pub sets : M.sets ≡ program_sets C
   pub generics : M.generics ≡ program_generics C templates
-  pub begins : slice_get M.words C.top ≡ Some (record { name = C.top; action = action.Code M.start; kind = None })
+  pub begins : slice_get M.words C.top ≡ Some (record { name = C.top; action = action.Code M.start; kind = None; height = None })

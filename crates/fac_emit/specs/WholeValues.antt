@@ -1,16 +1,24 @@
--- Values of the machine whose callables are of an image's templates.
-use Rattle.std.specs.Prelude.{◌+◌, ◌≡◌, List, [], ◌∷◌, length, Some, slice_get}
+-- Values of the machine whose callables are of an image's templates, and whose words are no top-level phrases of its program.
+use Rattle.std.specs.Prelude.{◌+◌, ◌≡◌, List, [], ◌∷◌, length, false, Some, slice_get}
+use Rattle.fac_lang.specs.declared.program.Program.{Program}
+use Rattle.fac_lang.specs.Phrases.{Plain, wrd}
 use Rattle.fac_lang.specs.World.{Object, array, tuple, World}
+use Rattle.fac_lang.specs.Meaning.{is_top_phrase}
 use Rattle.fac_lang.specs.Procedures.{Gives, gives, bad, Fn, fn0, fn1, fn2, fn3}
 use Rattle.fac_code.specs.declared.image.TemplateRow.{TemplateRow}
 use Rattle.fac_code.specs.declared.image.Image.{Image}
 use Rattle.fac_store.specs.MachineValues.{MValue, m_plain, m_fun, MCallable, m_lit, m_cur, m_com, Kept, none_kept, kept, kept_list}
 
-module _ (M : Image) where
+module _ (P : Program) (M : Image) where
+  -- a plain value that is no word of a top-level phrase
+  abbrev pub WholePlain : Plain → Type 0
+  WholePlain (wrd w) = is_top_phrase P w ≡ false
+  WholePlain _ = Unit {0}
+
   -- each literal callable in it is of a template, and keeps as many values as that captures and takes
   abbrev mutual
     pub Whole : MValue → Type 0
-    Whole (m_plain p) = Unit {0}
+    Whole (m_plain p) = WholePlain p
     Whole (m_fun c) = WholeCallable c
 
     pub WholeCallable : MCallable → Type 0

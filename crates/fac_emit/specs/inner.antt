@@ -6,3 +6,4 @@ pub mod Coded
 pub mod Numbered
 pub mod OwnRows
 pub mod Dispatch
+pub mod Promised

@@ -8,6 +8,7 @@ ghost use Rattle.fac_lang.specs.Whole.{IsWhole};
 ghost use Rattle.fac_lang.specs.Meaning.{sort_of, generic_of};
 ghost use Rattle.fac_locals.specs.Closed.{Closes};
 ghost use Rattle.fac_code.specs.declared.image.Instr.TheVariants as instr;
+ghost use Rattle.fac_store.specs.CallableHeights.{height_there};
 ghost use Rattle.fac_emit.specs.ProgramTables.{generic_number, method_number, word_numbers};
 ghost use Rattle.fac_emit.specs.Stands.{making};
 ghost use Rattle.fac_emit.specs.ProgramCode.{core_instr, word_instr, made_instr, item_instr, with_text, phrase_code, phrase_texts, last_instr, sort_code, sort_texts};
@@ -19,7 +20,7 @@ ghost use Rattle.fac_emit.specs.Emits.{Emits, TemplateEmits};
 
 use crate::numbers::number_of;
 use fac_code::{Instr, TemplateRow};
-use fac_lang::{Duplicate, List, Memory, Phrase, Program, Sort, Template, Text, What};
+use fac_lang::{Duplicate, Height, List, Memory, Phrase, Program, Sort, Template, Text, What};
 use fac_locals::Closed;
 use std::alloc::Global;
 
@@ -40,6 +41,7 @@ fn instr_of_core(number: u32) -> Instr
         0 => Instr::Call { tail: false },
         1 => Instr::Dip,
         2 => Instr::If { tail: false },
+        3 => Instr::Execute { tail: false },
         _ => Instr::Boa,
     }
 }
@@ -141,6 +143,14 @@ fn instr_of(
         What::Made(number) => instr_of_made(templates, *number),
         What::Bind(_) => Instr::Bind,
         What::Local(cell) => Instr::Local(*cell),
+        What::CallEff(height) => Instr::CallEffect {
+            height: *height,
+            tail: false,
+        },
+        What::ExecEff(height) => Instr::ExecuteEffect {
+            height: *height,
+            tail: false,
+        },
         _ => Instr::Boa,
     }
 }
@@ -195,7 +205,17 @@ fn add_phrase(
     piece.code.push(last)
 }
 
-// Adds a template: its code with its texts, and its row.
+// The effect of the template with this number.
+fn height_of(heights: &[Option<Height>], template: u32) -> Option<Height>
+    ensures { result ≡ height_there (slice_get heights.now template) }
+{
+    match heights.get(template as usize) {
+        Some(height) => *height,
+        None => None,
+    }
+}
+
+// Adds a template with this effect: its code with its texts, and its row.
 fn add_template(
     alloc: Global,
     piece: &mut Piece,
@@ -203,11 +223,12 @@ fn add_template(
     program: &Program,
     templates: &List<Template>,
     numbers: &List<u32>,
+    height: Option<Height>,
     template: &Template,
 ) -> Result<(), Memory>
     requires numbers { numbers.now ≡ word_numbers program.now }
     requires coded { template_is_coded program.now template.now ≡ true }
-    ensures { OnOk result (AddsTemplate program.now templates.now template.now piece.old piece.new rows.old rows.new) }
+    ensures { OnOk result (AddsTemplate program.now templates.now height template.now piece.old piece.new rows.old rows.new) }
 {
     let entry = piece.code.len();
     let cells = template.captures.copy(alloc)?;
@@ -215,6 +236,7 @@ fn add_template(
         entry,
         cells,
         holes: template.holes,
+        height,
     })?;
     add_phrase(
         alloc,
@@ -227,7 +249,7 @@ fn add_template(
     )
 }
 
-/// Adds the code of these templates with its texts, and their rows, in their order.
+/// Adds the code of these templates with its texts, and their rows with these effects, in their order.
 pub fn add_templates(
     alloc: Global,
     piece: &mut Piece,
@@ -235,13 +257,20 @@ pub fn add_templates(
     program: &Program,
     templates: &List<Template>,
     numbers: &List<u32>,
+    heights: &[Option<Height>],
 ) -> Result<(), Memory>
     requires numbers { numbers.now ≡ word_numbers program.now }
     requires coded { list_all (template_is_coded program.now) templates.now ≡ true }
-    ensures { OnOk result (AddsTemplates program.now templates.now piece.old piece.new rows.old rows.new) }
+    ensures { OnOk result (AddsTemplates program.now templates.now heights.now piece.old piece.new rows.old rows.new) }
 {
+    let _count = templates.len();
+    let mut number = 0u32;
     for template in templates.as_slice() {
-        add_template(alloc, piece, rows, program, templates, numbers, template)?;
+        let height = height_of(heights, number);
+        add_template(
+            alloc, piece, rows, program, templates, numbers, height, template,
+        )?;
+        number += 1;
     }
     Ok(())
 }

@@ -5,6 +5,7 @@
 //!     @about TEXT             what the cases from here on show
 //!     @array E, E ..          a literal array of these elements: an integer, a truth value, or a text, an array, a word or a template
 //!     @template N M K ..      a template whose code begins at the place N, with M holes and these cells
+//!     @template-height I O    how many values the last template takes and leaves, with `*` where it never returns
 //!     @word prim NAME         a word that does this primitive, by its name or its number
 //!     @word core N            a word that does this core word
 //!     @word code N            a word with the code at this place
@@ -12,6 +13,7 @@
 //!     @word get N             a word that does this accessor of the slot whose name is text N; also with set and put
 //!     @word isa N             a word that tells whether a value is in class set N
 //!     @word generic N         a word that does this generic. The last part of each of these lines is the word's name
+//!     @word-height I O        how many values the last word takes and leaves
 //!     @class K NAME           a word that pushes itself and is that of the class with kind K
 //!     @singleton NAME         the next kind, that of a singleton
 //!     @tuple NAME SLOT ..     the next kind, that of a tuple class with these slots

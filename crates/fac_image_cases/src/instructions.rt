@@ -1,6 +1,6 @@
 //! Instructions, elements of literal arrays and what words do, as texts tell them.
 use fac_code::{Action, Elem, Instr, MethodRow};
-use fac_lang::primitives;
+use fac_lang::{Height, primitives};
 
 // The number of the primitive with this name.
 fn numbered(name: &str) -> Option<u32> {
@@ -31,6 +31,8 @@ fn plain(name: &str) -> Option<Instr> {
         "dip" => Some(Instr::Dip),
         "if" => Some(Instr::If { tail: false }),
         "tail-if" => Some(Instr::If { tail: true }),
+        "execute" => Some(Instr::Execute { tail: false }),
+        "tail-execute" => Some(Instr::Execute { tail: true }),
         "ret" => Some(Instr::Ret),
         "boa" => Some(Instr::Boa),
         "bind" => Some(Instr::Bind),
@@ -82,6 +84,39 @@ fn next(text: &str, tail: bool) -> Option<Instr> {
     })
 }
 
+// How many values are left, or a `*` where that never comes.
+fn outs(text: &str) -> Option<Option<u32>> {
+    if text == "*" {
+        return Some(None);
+    }
+    Some(Some(text.parse::<u32>().ok()?))
+}
+
+/// How many values are taken and left.
+pub fn height(text: &str) -> Option<Height> {
+    let (ins, left) = text.split_once(' ')?;
+    Some(Height {
+        ins: ins.parse::<u32>().ok()?,
+        outs: outs(left)?,
+    })
+}
+
+// A tested call.
+fn call_effect(text: &str, tail: bool) -> Option<Instr> {
+    Some(Instr::CallEffect {
+        height: height(text)?,
+        tail,
+    })
+}
+
+// A tested word.
+fn execute_effect(text: &str, tail: bool) -> Option<Instr> {
+    Some(Instr::ExecuteEffect {
+        height: height(text)?,
+        tail,
+    })
+}
+
 /// The instruction that a text tells.
 pub fn instr(text: &str) -> Option<Instr> {
     match text.split_once(' ') {
@@ -90,6 +125,10 @@ pub fn instr(text: &str) -> Option<Instr> {
         Some(("prim", name)) => Some(Instr::Prim(primitive(name)?)),
         Some(("next", numbers)) => next(numbers, false),
         Some(("tail-next", numbers)) => next(numbers, true),
+        Some(("call-effect", told)) => call_effect(told, false),
+        Some(("tail-call-effect", told)) => call_effect(told, true),
+        Some(("execute-effect", told)) => execute_effect(told, false),
+        Some(("tail-execute-effect", told)) => execute_effect(told, true),
         Some((name, number)) => with_number(name, number.parse::<u32>().ok()?),
     }
 }

@@ -1,7 +1,7 @@
 //! The rows of an image's tables, as the lines of a case tell them.
-use crate::instructions::{action, class, elem, method};
+use crate::instructions::{action, class, elem, height, method};
 use fac_code::{Action, Elem, MethodRow, WordRow};
-use fac_lang::{List, Memory, Text};
+use fac_lang::{Height, List, Memory, Text};
 use std::alloc::Global;
 
 /// A kind, with the numbers of its name and of its slots' names.
@@ -35,6 +35,8 @@ pub struct Rows {
     pub generics: Vec<Generic>,
     /// The numbers of each template: its place, its holes, its cells.
     pub templates: Vec<Vec<u32>>,
+    /// How many values each template takes and leaves.
+    pub heights: Vec<Option<Height>>,
     /// The words.
     pub words: Vec<WordRow>,
     /// The names of words, kinds and slots.
@@ -94,6 +96,7 @@ impl Rows {
             sets: Vec::new(alloc),
             generics: Vec::new(alloc),
             templates: Vec::new(alloc),
+            heights: Vec::new(alloc),
             words: Vec::new(alloc),
             names: List::new(alloc),
             texts: List::new(alloc),
@@ -105,6 +108,8 @@ impl Rows {
         match name {
             "array" => self.add_array(alloc, text),
             "template" => self.add_template(alloc, text),
+            "template-height" => Ok(self.set_template(text)),
+            "word-height" => Ok(self.set_word(text)),
             "word" => self.add_word(alloc, text),
             "class" => self.add_class(alloc, text),
             "singleton" => self.add_singleton(alloc, text),
@@ -134,10 +139,29 @@ impl Rows {
         match numbers(alloc, text)? {
             Some(numbers) => {
                 self.templates.push(numbers)?;
+                self.heights.push(None)?;
                 Ok(true)
             }
             None => Ok(false),
         }
+    }
+
+    // Sets the height of the last template. False where there is none.
+    fn set_template(&mut self, text: &str) -> bool {
+        let (Some(told), Some(last)) = (height(text), self.heights.last_mut()) else {
+            return false;
+        };
+        *last = Some(told);
+        true
+    }
+
+    // Sets the height of the last word. False where there is none.
+    fn set_word(&mut self, text: &str) -> bool {
+        let (Some(told), Some(row)) = (height(text), self.words.last_mut()) else {
+            return false;
+        };
+        row.height = Some(told);
+        true
     }
 
     // Adds a name and answers its number.
@@ -156,7 +180,12 @@ impl Rows {
         kind: Option<u32>,
     ) -> Result<bool, Memory> {
         let name = self.add_name(alloc, name)?;
-        self.words.push(WordRow { name, action, kind })?;
+        self.words.push(WordRow {
+            name,
+            action,
+            kind,
+            height: None,
+        })?;
         Ok(true)
     }
 

@@ -1,7 +1,7 @@
 //! The tables of an image, made of rows.
 use crate::told_rows::{Generic, Kind, Rows};
 use fac_code::{Elem, GenericRow, KindRow, Tables, TemplateRow, WordRow};
-use fac_lang::{Duplicate, List, Memory, Text};
+use fac_lang::{Duplicate, Height, List, Memory, Text};
 use std::alloc::Global;
 
 // Literal arrays of these elements.
@@ -13,8 +13,8 @@ fn arrays(alloc: Global, rows: &[Vec<Elem>]) -> Result<List<List<Elem>>, Memory>
     Ok(arrays)
 }
 
-// The template that numbers tell.
-fn template(alloc: Global, numbers: &[u32]) -> Result<TemplateRow, Memory> {
+// The template that numbers tell, with its height.
+fn template(alloc: Global, numbers: &[u32], height: Option<Height>) -> Result<TemplateRow, Memory> {
     let cells = match numbers {
         [_, _, cells @ ..] => List::from_vec(Vec::from_slice(alloc, cells)?)?,
         _ => List::new(alloc),
@@ -23,14 +23,20 @@ fn template(alloc: Global, numbers: &[u32]) -> Result<TemplateRow, Memory> {
         entry: numbers.first().copied().unwrap_or(0),
         cells,
         holes: numbers.get(1).copied().unwrap_or(0),
+        height,
     })
 }
 
-// The templates that numbers tell.
-fn templates(alloc: Global, rows: &[Vec<u32>]) -> Result<List<TemplateRow>, Memory> {
+// The templates that numbers tell, with their heights.
+fn templates(
+    alloc: Global,
+    rows: &[Vec<u32>],
+    heights: &[Option<Height>],
+) -> Result<List<TemplateRow>, Memory> {
     let mut templates = List::new(alloc);
-    for numbers in rows {
-        templates.push(template(alloc, numbers.as_slice())?)?;
+    for (number, numbers) in rows.iter().enumerate() {
+        let height = heights.get(number).copied().unwrap_or(None);
+        templates.push(template(alloc, numbers.as_slice(), height)?)?;
     }
     Ok(templates)
 }
@@ -43,6 +49,7 @@ fn words(alloc: Global, told: &[WordRow], first: u32) -> Result<List<WordRow>, M
             name: first.saturating_add(row.name),
             action: row.action,
             kind: row.kind,
+            height: row.height,
         })?;
     }
     Ok(words)
@@ -119,7 +126,7 @@ pub fn tables(alloc: Global, rows: &Rows) -> Result<Tables, Memory> {
         arrays: arrays(alloc, rows.arrays.as_slice())?,
         kinds: kinds(alloc, rows.kinds.as_slice(), first)?,
         sets: sets(alloc, rows.sets.as_slice())?,
-        templates: templates(alloc, rows.templates.as_slice())?,
+        templates: templates(alloc, rows.templates.as_slice(), rows.heights.as_slice())?,
         words: words(alloc, rows.words.as_slice(), first)?,
         generics: generics(alloc, rows.generics.as_slice())?,
         texts: texts(alloc, &rows.texts, &rows.names)?,

@@ -1,4 +1,4 @@
--- The numbers of locals and holes: each local of a phrase is bound before it, and each hole is one of the fry around.
+-- The numbers in phrases: each local is bound before it, each hole is one of the fry around, and no effect that is tested has a number above 64.
 use Rattle.std.proofs.Common.{◌≡◌, ◌≤◌, ◌<◌, ℕ, suc, List, [], ◌∷◌, ◌++◌, length, map, Option, Some, None, Bool, true, false, cond, refl, sym, ◌∙◌, arith}
 use Rattle.std.specs.Prelude.{◌&&◌, ◌||◌, nat_eq, nat_lt}
 use Rattle.std.specs.List.{list_all, list_any}
@@ -7,10 +7,10 @@ use Rattle.std.proofs.lemmas.Bool.Decides.{Decides-ltb}
 use Rattle.std.proofs.lemmas.List.Folds.{list_all-append}
 use Rattle.fac_lang.specs.Phrases.{int, yes, no, str, Phrase, end, then, Item, quot, word, bind, local, fry as fry_item}
 use Rattle.fac_lang.specs.RunningLaws.{append}
-use Rattle.fac_lang.specs.Whole.{holes_within, holes_within_item, joined, locals_bound, locals_bound_in, quotations}
+use Rattle.fac_lang.specs.Whole.{each_inner, each_item, holes_within, holes_within_item, is_small, joined, locals_bound, locals_bound_in, quotations, tests_small}
 use Rattle.fac_lang.specs.declared.program.Lit.{Lit}
 use Rattle.fac_vocab.specs.Scopes.{Scope}
-use Rattle.fac_items.specs.Written.{Tok, n_lit, n_array, n_quot, n_name, n_fry, n_bind, n_hole, n_next, n_full, n_part, Nodes, nothing, more}
+use Rattle.fac_items.specs.Written.{Tok, n_lit, n_array, n_quot, n_ref, n_name, n_fry, n_call, n_execute, n_bind, n_hole, n_next, n_full, n_part, Nodes, nothing, more}
 use Rattle.fac_items.specs.Items.{elements_of, local_of, phrase_of, word_of}
 use Rattle.fac_items.proofs.PlainNodes.{AreElements, ArePlain}
 
@@ -157,6 +157,9 @@ holes_fit s locals fry (more (n_name t p) ns) arrays holes h =
     record { grown = r.grown; within = λ n k. name_holes s t (local_of locals t.text) n (phrase_of s locals ns arrays holes).phrase (r.within n k) }
 holes_fit s locals fry (more (n_bind t twice p) ns) arrays holes h = let r = holes_fit s (t.text ∷ locals) fry ns arrays holes h.1 in record { grown = r.grown; within = r.within }
 holes_fit s locals fry (more (n_lit l p) ns) arrays holes h = let r = holes_fit s locals fry ns arrays holes h.1 in record { grown = r.grown; within = r.within }
+holes_fit s locals fry (more (n_ref t p) ns) arrays holes h = let r = holes_fit s locals fry ns arrays holes h.1 in record { grown = r.grown; within = r.within }
+holes_fit s locals fry (more (n_call e p) ns) arrays holes h = let r = holes_fit s locals fry ns arrays holes h.1 in record { grown = r.grown; within = r.within }
+holes_fit s locals fry (more (n_execute e p) ns) arrays holes h = let r = holes_fit s locals fry ns arrays holes h.1 in record { grown = r.grown; within = r.within }
 holes_fit s locals fry (more (n_next p) ns) arrays holes h = let r = holes_fit s locals fry ns arrays holes h.1 in record { grown = r.grown; within = r.within }
 holes_fit s locals fry (more (n_full v x p) ns) arrays holes h = let r = holes_fit s locals fry ns arrays holes h.1 in record { grown = r.grown; within = r.within }
 holes_fit s locals fry (more (n_hole p) ns) arrays holes h =
@@ -194,11 +197,53 @@ holes_fit s locals fry (more (n_part ms) ns) arrays holes h =
     }
 holes_fit s locals fry (more n ns) arrays holes h = absurd h.0
 
+-- Effects that are tested.
+
+abbrev is_tested : Phrase → Bool
+is_tested t = each_item tests_small t
+
+append_tested : (t u : Phrase) → is_tested t ≡ true → is_tested u ≡ true → is_tested (append t u) ≡ true
+append_tested end u h k = k
+append_tested (then i p t) u h k =
+    let both = both_true (tests_small i && each_inner tests_small i) (is_tested t) h in both_are (tests_small i && each_inner tests_small i) (is_tested (append t u)) both.0 (append_tested t u both.1 k)
+
+-- a name tests nothing
+name_tested : (s : Scope) (t : Tok) (o : Option ℕ) (u : Phrase) → is_tested u ≡ true →
+    (tests_small (elim o [ Some x ↦ local x | None ↦ word (word_of s t) ]) && each_inner tests_small (elim o [ Some x ↦ local x | None ↦ word (word_of s t) ]) && is_tested u) ≡ true
+name_tested s t (Some x) u h = h
+name_tested s t None u h = h
+
+phrase_tested : (s : Scope) (locals : List (List ℕ)) (fry : Bool) (ns : Nodes) (arrays : List (List Lit)) (holes : ℕ) → ArePlain fry ns → is_tested (phrase_of s locals ns arrays holes).phrase ≡ true
+phrase_tested s locals fry nothing arrays holes h = refl
+phrase_tested s locals fry (more (n_lit l p) ns) arrays holes h = phrase_tested s locals fry ns arrays holes h.1
+phrase_tested s locals fry (more (n_ref t p) ns) arrays holes h = phrase_tested s locals fry ns arrays holes h.1
+phrase_tested s locals fry (more (n_name t p) ns) arrays holes h =
+    name_tested s t (local_of locals t.text) (phrase_of s locals ns arrays holes).phrase (phrase_tested s locals fry ns arrays holes h.1)
+phrase_tested s locals fry (more (n_call e p) ns) arrays holes h =
+    both_are (is_small e && true) (is_tested (phrase_of s locals ns arrays holes).phrase) (both_are (is_small e) true h.0 refl) (phrase_tested s locals fry ns arrays holes h.1)
+phrase_tested s locals fry (more (n_execute e p) ns) arrays holes h =
+    both_are (is_small e && true) (is_tested (phrase_of s locals ns arrays holes).phrase) (both_are (is_small e) true h.0 refl) (phrase_tested s locals fry ns arrays holes h.1)
+phrase_tested s locals fry (more (n_next p) ns) arrays holes h = phrase_tested s locals fry ns arrays holes h.1
+phrase_tested s locals fry (more (n_full v x p) ns) arrays holes h = phrase_tested s locals fry ns arrays holes h.1
+phrase_tested s locals fry (more (n_bind t twice p) ns) arrays holes h = phrase_tested s (t.text ∷ locals) fry ns arrays holes h.1
+phrase_tested s locals fry (more (n_hole p) ns) arrays holes h = phrase_tested s locals fry ns arrays (suc holes) h.1
+phrase_tested s locals fry (more (n_quot ms p) ns) arrays holes h =
+    let m = phrase_of s locals ms arrays holes in
+    both_are (is_tested m.phrase) (is_tested (phrase_of s locals ns m.arrays m.holes).phrase) (phrase_tested s locals fry ms arrays holes h.0) (phrase_tested s locals fry ns m.arrays m.holes h.1)
+phrase_tested s locals fry (more (n_fry ms p) ns) arrays holes h =
+    let m = phrase_of s locals ms arrays 0 in
+    both_are (is_tested m.phrase) (is_tested (phrase_of s locals ns m.arrays holes).phrase) (phrase_tested s locals true ms arrays 0 h.0) (phrase_tested s locals fry ns m.arrays holes h.1)
+phrase_tested s locals fry (more (n_array ms p) ns) arrays holes h = let m = elements_of s ms arrays in phrase_tested s locals fry ns (m.arrays ++ m.elements ∷ []) holes h.1
+phrase_tested s locals fry (more (n_part ms) ns) arrays holes h =
+    let m = phrase_of s locals ms arrays holes in
+    append_tested m.phrase (phrase_of s locals ns m.arrays m.holes).phrase (phrase_tested s locals fry ms arrays holes h.0) (phrase_tested s locals fry ns m.arrays m.holes h.1)
+phrase_tested s locals fry (more n ns) arrays holes h = absurd h.0
+
 -- Phrases that stand by themselves.
 
--- whether each local is bound in a phrase, and each hole stands in a fry in it
+-- whether each local is bound in a phrase, each hole stands in a fry in it, and no effect that is tested has a number above 64
 abbrev pub is_closed : Phrase → Bool
-is_closed t = locals_bound [] t && holes_within 0 t
+is_closed t = locals_bound [] t && holes_within 0 t && each_item tests_small t
 
 none_below : (xs : List ℕ) → Has 0 xs
 none_below xs x less = absurd (omega (arith, less))
@@ -210,13 +255,17 @@ pub made_closed : (s : Scope) (ns : Nodes) (arrays : List (List Lit)) → ArePla
 made_closed s ns arrays h =
     let m = phrase_of s [] ns arrays 0 in
     let fit = holes_fit s [] false ns arrays 0 h in
-    both_are (locals_bound [] m.phrase) (holes_within 0 m.phrase) (phrase_bound s [] ns arrays 0 [] (none_below [])) (fit.within 0 (false_fry m.holes))
+    let numbered = both_are (locals_bound [] m.phrase) (holes_within 0 m.phrase) (phrase_bound s [] ns arrays 0 [] (none_below [])) (fit.within 0 (false_fry m.holes)) in
+    both_are (locals_bound [] m.phrase && holes_within 0 m.phrase) (is_tested m.phrase) numbered (phrase_tested s [] false ns arrays 0 h)
 
 pub append_closed : (t u : Phrase) → is_closed t ≡ true → is_closed u ≡ true → is_closed (append t u) ≡ true
 append_closed t u h k =
-    let one = both_true (locals_bound [] t) (holes_within 0 t) h in
-    let two = both_true (locals_bound [] u) (holes_within 0 u) k in
-    both_are (locals_bound [] (append t u)) (holes_within 0 (append t u)) (joined_bound t u [] one.0 (λ ys within. bound_more u [] ys within two.0)) (append_holes 0 t u one.1 two.1)
+    let first = both_true (locals_bound [] t && holes_within 0 t) (is_tested t) h in
+    let second = both_true (locals_bound [] u && holes_within 0 u) (is_tested u) k in
+    let one = both_true (locals_bound [] t) (holes_within 0 t) first.0 in
+    let two = both_true (locals_bound [] u) (holes_within 0 u) second.0 in
+    let numbered = both_are (locals_bound [] (append t u)) (holes_within 0 (append t u)) (joined_bound t u [] one.0 (λ ys within. bound_more u [] ys within two.0)) (append_holes 0 t u one.1 two.1) in
+    both_are (locals_bound [] (append t u) && holes_within 0 (append t u)) (is_tested (append t u)) numbered (append_tested t u first.1 second.1)
 
 -- The quotations of arrays stand by themselves.
 
@@ -234,6 +283,9 @@ mutual
   arrays_closed s locals fry nothing arrays holes h k = k
   arrays_closed s locals fry (more (n_lit l p) ns) arrays holes h k = arrays_closed s locals fry ns arrays holes h.1 k
   arrays_closed s locals fry (more (n_name t p) ns) arrays holes h k = arrays_closed s locals fry ns arrays holes h.1 k
+  arrays_closed s locals fry (more (n_ref t p) ns) arrays holes h k = arrays_closed s locals fry ns arrays holes h.1 k
+  arrays_closed s locals fry (more (n_call e p) ns) arrays holes h k = arrays_closed s locals fry ns arrays holes h.1 k
+  arrays_closed s locals fry (more (n_execute e p) ns) arrays holes h k = arrays_closed s locals fry ns arrays holes h.1 k
   arrays_closed s locals fry (more (n_next p) ns) arrays holes h k = arrays_closed s locals fry ns arrays holes h.1 k
   arrays_closed s locals fry (more (n_full v x p) ns) arrays holes h k = arrays_closed s locals fry ns arrays holes h.1 k
   arrays_closed s locals fry (more (n_bind t twice p) ns) arrays holes h k = arrays_closed s (t.text ∷ locals) fry ns arrays holes h.1 k
@@ -254,6 +306,7 @@ mutual
   elements_closed s (more (n_lit no p) es) arrays h k = elements_closed s es arrays h.1 k
   elements_closed s (more (n_lit (str bs) p) es) arrays h k = elements_closed s es arrays h.1 k
   elements_closed s (more (n_lit l p) es) arrays h k = absurd h.0
+  elements_closed s (more (n_ref t p) es) arrays h k = elements_closed s es arrays h.1 k
   elements_closed s (more (n_name t p) es) arrays h k = elements_closed s es arrays h.1 k
   elements_closed s (more (n_quot ms p) es) arrays h k =
       let m = phrase_of s [] ms arrays 0 in

@@ -1,14 +1,15 @@
 -- What readings make of the items of trees.
 use Rattle.std.proofs.Common.{◌≡◌, List, [], ◌∷◌, ◌++◌, Option, Some, None, Bool, true, false}
 use Rattle.std.specs.Prelude.{ℕ, if◌then◌else◌}
+use Rattle.fac_lang.specs.Whole.{is_small}
 use Rattle.fac_lang.specs.declared.phrase.Place.{Place}
 use Rattle.fac_refusal.specs.Toks.{is_among, texts_of}
-use Rattle.fac_items.specs.Written.{Tok, Node, n_lit, n_array, n_quot, n_name, n_locals, n_fry, n_bind, n_hole, n_at, n_next, n_full, n_part, Nodes, nothing, more}
+use Rattle.fac_items.specs.Written.{Tok, Node, n_lit, n_array, n_quot, n_ref, n_name, n_locals, n_fry, n_call, n_execute, n_bind, n_hole, n_at, n_next, n_full, n_part, Nodes, nothing, more}
 use Rattle.fac_items.specs.Readings.{are_pairs, before, behind_first, bindings, cond_first, joined, read_elements, read_items, read_pairs}
 use Rattle.fac_items.proofs.RawNodes.{AreRaw, AreRawElements, IsPlainLiteral, IsRawElement, raw_more}
 use Rattle.fac_items.proofs.ReadingLemmas.{with_pairs}
 
--- items and elements of arrays behind their readings; holes stand where a fry is around
+-- Items and elements of arrays behind their readings. Holes stand where a fry is around, and no effect that is tested has a number above 64.
 abbrev mutual
   pub ArePlain : Bool → Nodes → Type 0
   ArePlain fry nothing = Unit {0}
@@ -16,7 +17,10 @@ abbrev mutual
 
   pub IsPlain : Bool → Node → Type 0
   IsPlain fry (n_lit l p) = IsPlainLiteral l
+  IsPlain fry (n_ref t p) = Unit {0}
   IsPlain fry (n_name t p) = Unit {0}
+  IsPlain fry (n_call h p) = is_small h ≡ true
+  IsPlain fry (n_execute h p) = is_small h ≡ true
   IsPlain fry (n_next p) = Unit {0}
   IsPlain fry (n_bind t twice p) = Unit {0}
   IsPlain fry (n_full vocab name p) = Unit {0}
@@ -33,6 +37,7 @@ abbrev mutual
 
   pub IsElement : Node → Type 0
   IsElement (n_lit l p) = IsPlainLiteral l
+  IsElement (n_ref t p) = Unit {0}
   IsElement (n_name t p) = Unit {0}
   IsElement (n_quot ns p) = ArePlain false ns
   IsElement (n_array es p) = AreElements es
@@ -58,7 +63,10 @@ mutual
   pub reads_plain : (c : List ℕ → Bool) (locals : List (List ℕ)) (fry : Bool) (ns : Nodes) → AreRaw fry ns → ArePlain fry (read_items c locals ns)
   reads_plain c locals fry nothing h = tt
   reads_plain c locals fry (more (n_lit l p) ns) h = (h.0, reads_plain c locals fry ns h.1)
+  reads_plain c locals fry (more (n_ref t p) ns) h = (tt, reads_plain c locals fry ns h.1)
   reads_plain c locals fry (more (n_name t p) ns) h = (tt, reads_plain c locals fry ns h.1)
+  reads_plain c locals fry (more (n_call e p) ns) h = (h.0, reads_plain c locals fry ns h.1)
+  reads_plain c locals fry (more (n_execute e p) ns) h = (h.0, reads_plain c locals fry ns h.1)
   reads_plain c locals fry (more (n_next p) ns) h = (tt, reads_plain c locals fry ns h.1)
   reads_plain c locals fry (more (n_bind t twice p) ns) h = (tt, reads_plain c (t.text ∷ locals) fry ns h.1)
   reads_plain c locals fry (more (n_hole p) ns) h = (h.0, reads_plain c locals fry ns h.1)
@@ -75,6 +83,7 @@ mutual
   elements_plain : (c : List ℕ → Bool) (es : Nodes) → AreRawElements es → AreElements (read_elements c es)
   elements_plain c nothing h = tt
   elements_plain c (more (n_lit l p) ns) h = (h.0, elements_plain c ns h.1)
+  elements_plain c (more (n_ref t p) ns) h = (tt, elements_plain c ns h.1)
   elements_plain c (more (n_name t p) ns) h = (tt, elements_plain c ns h.1)
   elements_plain c (more (n_quot ms p) ns) h = (reads_plain c [] false ms h.0, elements_plain c ns h.1)
   elements_plain c (more (n_array es q) ns) h = (elements_plain c es h.0, elements_plain c ns h.1)
@@ -82,6 +91,7 @@ mutual
 
   element_plain : (c : List ℕ → Bool) (locals : List (List ℕ)) (fry : Bool) (n : Node) → IsRawElement n → (rest : Nodes) → ArePlain fry rest → ArePlain fry (before c locals n rest)
   element_plain c locals fry (n_lit l p) h rest r = (h, r)
+  element_plain c locals fry (n_ref t p) h rest r = (tt, r)
   element_plain c locals fry (n_name t p) h rest r = (tt, r)
   element_plain c locals fry (n_quot ms p) h rest r = (reads_plain c locals fry ms (raw_more fry ms h), r)
   element_plain c locals fry (n_array es q) h rest r =

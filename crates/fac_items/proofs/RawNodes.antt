@@ -2,18 +2,22 @@
 use Rattle.std.proofs.Common.{◌≡◌, List, [], ◌∷◌, map, Bool, true, false, refl}
 use Rattle.std.specs.Prelude.{ℕ}
 use Rattle.fac_lang.specs.Phrases.{Plain, int, yes, no, str}
+use Rattle.fac_lang.specs.Whole.{is_small}
+use Rattle.fac_lang.specs.declared.phrase.Height.{Height}
 use Rattle.fac_lang.specs.declared.phrase.Place.{Place}
 use Rattle.fac_lang.specs.declared.token.Token.{Token}
 use Rattle.fac_lang.specs.declared.tree.Bracket.{Bracket}
 use Rattle.fac_lang.specs.declared.tree.Bracket.TheVariants.{Quotation, Array, Fry}
+use Rattle.fac_lang.specs.declared.tree.Callee.{Callee}
+use Rattle.fac_lang.specs.declared.tree.Callee.TheVariants.{Callable, Word}
 use Rattle.fac_lang.specs.declared.tree.Element.{Element}
 use Rattle.fac_lang.specs.declared.tree.Element.TheVariants as element
 use Rattle.fac_lang.specs.declared.tree.Term.{Term}
 use Rattle.fac_lang.specs.declared.tree.Term.TheVariants as term
 use Rattle.fac_refusal.specs.Toks.{is_among}
-use Rattle.fac_items.specs.Written.{Tok, Node, n_lit, n_array, n_quot, n_name, n_locals, n_fry, n_bind, n_hole, n_at, n_next, Nodes, nothing, more}
+use Rattle.fac_items.specs.Written.{Tok, Node, n_lit, n_array, n_quot, n_ref, n_name, n_locals, n_fry, n_call, n_execute, n_bind, n_hole, n_at, n_next, Nodes, nothing, more}
 use Rattle.fac_items.specs.Readings.{bindings}
-use Rattle.fac_items.specs.FromElements.{AreClosing, IsElement as MayBeElement, IsInFry, IsItem, MayStand, bracketed, nested, node, opened, rests, tok}
+use Rattle.fac_items.specs.FromElements.{AreClosing, IsElement as MayBeElement, IsInFry, IsItem, MayStand, bracketed, nested, node, opened, rests, tested_call, tok}
 
 abbrev pub IsPlainLiteral : Plain → Type 0
 IsPlainLiteral (int z) = Unit {0}
@@ -22,7 +26,7 @@ IsPlainLiteral no = Unit {0}
 IsPlainLiteral (str bs) = Unit {0}
 IsPlainLiteral _ = ⊥
 
--- Items of trees, and elements of arrays. Holes stand where a fry is around.
+-- Items of trees, and elements of arrays. Holes stand where a fry is around, and no effect that is tested has a number above 64.
 abbrev mutual
   pub AreRaw : Bool → Nodes → Type 0
   AreRaw fry nothing = Unit {0}
@@ -30,7 +34,10 @@ abbrev mutual
 
   pub IsRaw : Bool → Node → Type 0
   IsRaw fry (n_lit l p) = IsPlainLiteral l
+  IsRaw fry (n_ref t p) = Unit {0}
   IsRaw fry (n_name t p) = Unit {0}
+  IsRaw fry (n_call h p) = is_small h ≡ true
+  IsRaw fry (n_execute h p) = is_small h ≡ true
   IsRaw fry (n_next p) = Unit {0}
   IsRaw fry (n_bind t twice p) = Unit {0}
   IsRaw fry (n_hole p) = fry ≡ true
@@ -47,6 +54,7 @@ abbrev mutual
 
   pub IsRawElement : Node → Type 0
   IsRawElement (n_lit l p) = IsPlainLiteral l
+  IsRawElement (n_ref t p) = Unit {0}
   IsRawElement (n_name t p) = Unit {0}
   IsRawElement (n_quot ns p) = AreRaw false ns
   IsRawElement (n_array es p) = AreRawElements es
@@ -79,8 +87,14 @@ is_in_fry (Quotation ∷ bs) h = is_in_fry bs h
 is_in_fry (Fry ∷ bs) h = refl
 is_in_fry (Array ∷ bs) h = absurd h
 
+call_raw : (fry : Bool) (callee : Callee) (h : Height) (p : Place) → is_small h ≡ true → IsRaw fry (tested_call callee h p)
+call_raw fry Callable h p small = small
+call_raw fry Word h p small = small
+
 term_raw : (bs : List Bracket) (fry : Bool) → (IsInFry bs → fry ≡ true) → (t : Term) → IsItem bs t → IsRaw fry (node t)
 term_raw bs fry k (term.Name t) h = tt
+term_raw bs fry k (term.Wrapped sign name) h = tt
+term_raw bs fry k (term.EffectCall callee sign tokens height) h = call_raw fry callee height sign h
 term_raw bs fry k (term.Integer t z) h = tt
 term_raw bs fry k (term.Text t) h = tt
 term_raw bs fry k (term.True place) h = tt
@@ -92,6 +106,8 @@ term_raw bs fry k (term.CalledHole place) h = k h
 
 term_element : (t : Term) → MayBeElement t → IsRawElement (node t)
 term_element (term.Name t) h = tt
+term_element (term.Wrapped sign name) h = tt
+term_element (term.EffectCall callee sign tokens height) h = absurd h
 term_element (term.Integer t z) h = tt
 term_element (term.Text t) h = tt
 term_element (term.True place) h = tt
@@ -167,7 +183,10 @@ bindings_raw fry (t ∷ ts) earlier ns h = bindings_raw fry ts (t.text ∷ earli
 pub raw_more : (fry : Bool) (ns : Nodes) → AreRaw false ns → AreRaw fry ns
 raw_more fry nothing h = tt
 raw_more fry (more (n_lit l p) ns) h = (h.0, raw_more fry ns h.1)
+raw_more fry (more (n_ref t p) ns) h = (tt, raw_more fry ns h.1)
 raw_more fry (more (n_name t p) ns) h = (tt, raw_more fry ns h.1)
+raw_more fry (more (n_call e p) ns) h = (h.0, raw_more fry ns h.1)
+raw_more fry (more (n_execute e p) ns) h = (h.0, raw_more fry ns h.1)
 raw_more fry (more (n_next p) ns) h = (tt, raw_more fry ns h.1)
 raw_more fry (more (n_bind t twice p) ns) h = (tt, raw_more fry ns h.1)
 raw_more fry (more (n_hole p) ns) h = absurd (cc)

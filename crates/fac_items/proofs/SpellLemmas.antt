@@ -1,8 +1,11 @@
 -- Elements are their nodes, one behind another.
 use Rattle.std.proofs.Common.{◌≡◌, ℕ, suc, List, [], ◌∷◌, ◌++◌, length, map, Option, None, Bool, refl, ap, sym, ◌∙◌, arith, append_assoc, append-nil}
+use Rattle.fac_lang.specs.declared.phrase.Height.{Height}
 use Rattle.fac_lang.specs.declared.phrase.Place.{Place}
 use Rattle.fac_lang.specs.declared.tree.Bracket.{Bracket}
 use Rattle.fac_lang.specs.declared.tree.Bracket.TheVariants.{Quotation, Array, Fry}
+use Rattle.fac_lang.specs.declared.tree.Callee.{Callee}
+use Rattle.fac_lang.specs.declared.tree.Callee.TheVariants.{Callable, Word}
 use Rattle.fac_lang.specs.declared.tree.Element.{Element}
 use Rattle.fac_lang.specs.declared.tree.Element.TheVariants as element
 use Rattle.fac_lang.specs.declared.tree.Term.{Term}
@@ -10,7 +13,7 @@ use Rattle.fac_lang.specs.declared.tree.Term.TheVariants as term
 use Rattle.fac_items.specs.declared.cases.Child.{Child}
 use Rattle.fac_items.specs.declared.cases.Child.TheVariants as child
 use Rattle.fac_items.specs.Written.{Tok, Node, n_array, n_fry, n_locals, n_quot, Nodes, nothing, more}
-use Rattle.fac_items.specs.FromElements.{AreClosing, Rests, bracketed, nested, node, opened, rests, tok}
+use Rattle.fac_items.specs.FromElements.{AreClosing, Rests, bracketed, nested, node, opened, rests, tested_call, tok}
 use Rattle.fac_items.specs.inner.Behind.{Level, Scanned, all_scanned, child_of, inner_level, leaf_name, name_behind, names_with, none_scanned, outer_levels, with_element}
 use Rattle.fac_items.specs.inner.Bits.{Bit, all_bits, closes, leaf, names_within, opens, opens_array, opens_bit, opens_locals}
 use Rattle.fac_items.proofs.CaseLemmas.{cases_in, child_node}
@@ -38,8 +41,18 @@ spell c (more n ns) = leaf n ∷ spell c ns
 abbrev level_of : Nodes → Level
 level_of ns = record { cases = cases_in ns; first = first_name ns }
 
+pub call_name : (callee : Callee) (h : Height) (p : Place) → None ≡ leaf_name (tested_call callee h p)
+call_name Callable h p = refl
+call_name Word h p = refl
+
+call_child : (callee : Callee) (h : Height) (p : Place) → child_node (tested_call callee h p) ≡ child.Other
+call_child Callable h p = refl
+call_child Word h p = refl
+
 term_child : (t : Term) → child_node (node t) ≡ child.Other
 term_child (term.Name t) = refl
+term_child (term.Wrapped sign name) = refl
+term_child (term.EffectCall callee sign tokens height) = call_child callee height sign
 term_child (term.Integer t z) = refl
 term_child (term.Text t) = refl
 term_child (term.True place) = refl
@@ -127,8 +140,14 @@ spell_around c (ns ∷ nss) = closes ∷ (spell c ns ++ spell_around c nss)
 abbrev spell_rests : (List ℕ → Bool) → Rests → List Bit
 spell_rests c r = spell c r.here ++ spell_around c r.around
 
+spell_call : (c : List ℕ → Bool) (callee : Callee) (h : Height) (p : Place) (ns : Nodes) → spell c (more (tested_call callee h p) ns) ≡ leaf (tested_call callee h p) ∷ spell c ns
+spell_call c Callable h p ns = refl
+spell_call c Word h p ns = refl
+
 spell_term : (c : List ℕ → Bool) (t : Term) (ns : Nodes) → spell c (more (node t) ns) ≡ leaf (node t) ∷ spell c ns
 spell_term c (term.Name t) ns = refl
+spell_term c (term.Wrapped sign name) ns = refl
+spell_term c (term.EffectCall callee sign tokens height) ns = spell_call c callee height sign ns
 spell_term c (term.Integer t z) ns = refl
 spell_term c (term.Text t) ns = refl
 spell_term c (term.True place) ns = refl

@@ -2,7 +2,7 @@
 use Rattle.std.proofs.Common.{◌≡◌, ℕ, suc, List, [], ◌∷◌, ◌++◌, length, fold, Option, Some, None, Bool, true, false, refl, ap, sym, ◌∙◌, subst, append_assoc, append-nil}
 use Rattle.std.specs.Prelude.{is_some, if◌then◌else◌}
 use Rattle.std.proofs.lemmas.List.Sums.{fold-append}
-use Rattle.fac_lang.specs.Phrases.{Phrase, end, then as placed, Item, lit, lit_arr, quot, word, bind, local, fry as fry_item, hole, next_method}
+use Rattle.fac_lang.specs.Phrases.{wrd, Phrase, end, then as placed, Item, lit, lit_arr, quot, word, bind, local, fry as fry_item, hole, call_eff, exec_eff, next_method}
 use Rattle.fac_lang.specs.RunningLaws.{append}
 use Rattle.fac_lang.specs.declared.phrase.Place.{Place}
 use Rattle.fac_lang.specs.declared.program.Lit.{Lit}
@@ -18,7 +18,7 @@ use Rattle.fac_items.specs.declared.added.Added.TheVariants as add
 use Rattle.fac_items.specs.declared.nest.At.{At}
 use Rattle.fac_items.specs.declared.nest.At.TheVariants.{Inside, Cases}
 use Rattle.fac_items.specs.declared.nest.Spot.TheVariants.{Between, BeforeSecond, BehindSecond, BehindLast}
-use Rattle.fac_items.specs.Written.{Tok, Node, n_lit, n_array, n_quot, n_name, n_locals, n_fry, n_bind, n_hole, n_at, n_next, Nodes, nothing, more}
+use Rattle.fac_items.specs.Written.{Tok, Node, n_lit, n_array, n_quot, n_ref, n_name, n_locals, n_fry, n_call, n_execute, n_bind, n_hole, n_at, n_next, Nodes, nothing, more}
 use Rattle.fac_items.specs.Readings.{are_pairs, behind_first, bindings, bound, joined, read_elements, read_items, read_pairs}
 use Rattle.fac_items.specs.Items.{Made, behind_phrase, elements_of, is_cond, item_faults, item_of, items_faults, literal, local_of, phrase_of, search_fault, word_of}
 use Rattle.fac_items.specs.inner.Bits.{Bit, closes, leaf, opens}
@@ -343,6 +343,13 @@ mutual
   items_taken s fry (more (n_lit l p) ns) h =
       let both = items_taken s fry ns h.1 in record { here = λ outer t locals holes arrays first. item_before s (lit l) p ns both.here outer t locals holes arrays first []; behind = both.here }
   items_taken s fry (more (n_name x p) ns) h = let both = items_taken s fry ns h.1 in record { here = name_before_items s x p ns both.here; behind = both.here }
+  items_taken s fry (more (n_ref x p) ns) h =
+      let both = items_taken s fry ns h.1 in
+      record { here = λ outer t locals holes arrays first. item_before s (lit (wrd (word_of s x))) p ns both.here outer t locals holes arrays first (search_fault s x); behind = both.here }
+  items_taken s fry (more (n_call e p) ns) h =
+      let both = items_taken s fry ns h.1 in record { here = λ outer t locals holes arrays first. item_before s (call_eff e) p ns both.here outer t locals holes arrays first []; behind = both.here }
+  items_taken s fry (more (n_execute e p) ns) h =
+      let both = items_taken s fry ns h.1 in record { here = λ outer t locals holes arrays first. item_before s (exec_eff e) p ns both.here outer t locals holes arrays first []; behind = both.here }
   items_taken s fry (more (n_next p) ns) h =
       let both = items_taken s fry ns h.1 in record { here = λ outer t locals holes arrays first. item_before s next_method p ns both.here outer t locals holes arrays first []; behind = both.here }
   items_taken s fry (more (n_bind x twice p) ns) h = let both = items_taken s fry ns h.1 in record { here = bound_before_items s x twice p ns both.here; behind = both.here }
@@ -359,6 +366,7 @@ mutual
   elements_taken : (s : Scope) (es : Nodes) → AreRawElements es → ElementsTaken s es
   elements_taken s nothing h outer ls holes arrays first = ap (λ (xs : List Lit). taken_at outer Inside (some_elements xs) [] holes arrays first) (sym (append-nil ls))
   elements_taken s (more (n_lit l p) es) h outer ls holes arrays first = element_before s (literal l) es (elements_taken s es h.1) outer ls holes arrays first []
+  elements_taken s (more (n_ref x p) es) h outer ls holes arrays first = element_before s (literal_is.Wref (word_of s x)) es (elements_taken s es h.1) outer ls holes arrays first (search_fault s x)
   elements_taken s (more (n_name x p) es) h outer ls holes arrays first = element_before s (literal_is.Wref (word_of s x)) es (elements_taken s es h.1) outer ls holes arrays first (search_fault s x)
   elements_taken s (more (n_quot ms p) es) h outer ls holes arrays first =
       let inner = items_taken s false ms h.0 in

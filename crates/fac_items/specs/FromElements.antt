@@ -1,22 +1,33 @@
 -- Items as they stand in trees, which are flat, as nested nodes.
-use Rattle.std.specs.Prelude.{◌≡◌, List, [], ◌∷◌, map, false}
+use Rattle.std.specs.Prelude.{◌≡◌, List, [], ◌∷◌, map, true, false}
 use Rattle.fac_lang.specs.Phrases.{int, yes, no, str}
+use Rattle.fac_lang.specs.Whole.{is_small}
+use Rattle.fac_lang.specs.declared.phrase.Height.{Height}
 use Rattle.fac_lang.specs.declared.phrase.Place.{Place}
 use Rattle.fac_lang.specs.declared.token.Token.{Token}
 use Rattle.fac_lang.specs.declared.tree.Bracket.{Bracket}
 use Rattle.fac_lang.specs.declared.tree.Bracket.TheVariants.{Quotation, Array, Fry}
+use Rattle.fac_lang.specs.declared.tree.Callee.{Callee}
+use Rattle.fac_lang.specs.declared.tree.Callee.TheVariants.{Callable, Word}
 use Rattle.fac_lang.specs.declared.tree.Element.{Element}
 use Rattle.fac_lang.specs.declared.tree.Element.TheVariants as element
 use Rattle.fac_lang.specs.declared.tree.Term.{Term}
 use Rattle.fac_lang.specs.declared.tree.Term.TheVariants as term
 use Rattle.fac_effect.specs.Spellings.{token_text}
-use Rattle.fac_items.specs.Written.{Tok, Node, n_lit, n_array, n_name, n_next, n_quot, n_fry, n_locals, n_bind, n_hole, n_at, Nodes, nothing, more}
+use Rattle.fac_items.specs.Written.{Tok, Node, n_lit, n_array, n_ref, n_name, n_next, n_quot, n_fry, n_locals, n_call, n_execute, n_bind, n_hole, n_at, Nodes, nothing, more}
 
 abbrev pub tok : Token → Tok
 tok t = record { text = token_text t.kind; place = t.place }
 
+-- `call( )` or `execute( )`
+abbrev pub tested_call : Callee → Height → Place → Node
+tested_call Callable h place = n_call h place
+tested_call Word h place = n_execute h place
+
 abbrev pub node : Term → Node
 node (term.Name t) = n_name (tok t) t.place
+node (term.Wrapped sign name) = n_ref (tok name) sign
+node (term.EffectCall callee sign tokens height) = tested_call callee height sign
 node (term.Integer t value) = n_lit (int value) t.place
 node (term.Text t) = n_lit (str (token_text t.kind)) t.place
 node (term.True place) = n_lit yes place
@@ -58,6 +69,7 @@ nested es = (rests es).here
 -- whether an item may stand in an array
 abbrev pub IsElement : Term → Type 0
 IsElement (term.Name t) = Unit {0}
+IsElement (term.Wrapped sign name) = Unit {0}
 IsElement (term.Integer t value) = Unit {0}
 IsElement (term.Text t) = Unit {0}
 IsElement (term.True place) = Unit {0}
@@ -71,7 +83,9 @@ IsInFry (Quotation ∷ bs) = IsInFry bs
 IsInFry (Fry ∷ bs) = Unit {0}
 IsInFry (Array ∷ bs) = ⊥
 
+-- Holes stand in a fry, and no effect that is tested has a number above 64.
 abbrev pub IsItem : List Bracket → Term → Type 0
+IsItem bs (term.EffectCall callee sign tokens height) = is_small height ≡ true
 IsItem bs (term.Hole place) = IsInFry bs
 IsItem bs (term.CalledHole place) = IsInFry bs
 IsItem bs _ = Unit {0}

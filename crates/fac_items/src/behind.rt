@@ -52,11 +52,14 @@ fn with_element<'a>(child: Child, first: Option<NameAt<'a>>, level: Level<'a>) -
 }
 
 // The name that an item is.
+#[tactic(auto, using(crate::proofs::SpellLemmas::call_name))]
 fn leaf_name(term: &Term) -> Option<NameAt<'_>>
     ensures { option_map name_tok result ≡ leaf_name (node term.now) }
 {
     match term {
         Term::Name(token) => Some(name_at(token)),
+        Term::Wrapped { .. } => None,
+        Term::EffectCall { .. } => None,
         Term::Integer(_, _) => None,
         Term::Text(_) => None,
         Term::True(_) => None,

@@ -220,7 +220,7 @@ fn end_cases(
     close_times(alloc, scope, nest, pairs)
 }
 
-/// Takes an item of one token. Behind the cases of a `cond` it is the `cond`.
+/// Takes an item without a bracket. Behind the cases of a `cond` it is the `cond`.
 pub fn take_term<'a>(
     alloc: Global,
     scope: &Scope,

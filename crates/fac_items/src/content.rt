@@ -3,7 +3,7 @@ ghost use Rattle.std.specs.Prelude.{◌≡◌, ◌++◌, ◌∷◌, [], length, 
 ghost use Rattle.fac_lang.specs.Phrases.{end, int, no, str, then, yes};
 ghost use Rattle.fac_lang.specs.PhraseView.{items_phrase, what_item};
 ghost use Rattle.fac_lang.specs.RunningLaws.{append};
-ghost use Rattle.fac_items.specs.inner.TakenBits.{content_seen, elements_in, phrase_in, with_array, with_fresh, with_item, with_literal};
+ghost use Rattle.fac_items.specs.inner.TakenBits.{content_seen, elements_in, phrase_in, with_array, with_fresh, with_item, with_literal, with_reference};
 
 use fac_lang::{Item, List, Lit, Memory, Phrase, Place, Text, What};
 use std::alloc::Global;
@@ -135,6 +135,16 @@ pub fn add_text(
     match content {
         Content::Items(items) => add_item(items, What::Str(text), place),
         Content::Elements(elements) => add_element(elements, Lit::Str(text)),
+    }
+}
+
+/// Adds a word as a value, by its number.
+pub fn add_reference(content: &mut Content, word: u32, place: Place) -> Result<(), Memory>
+    ensures { OnOk result (content_seen content.new ≡ with_reference word place (content_seen content.old)) }
+{
+    match content {
+        Content::Items(items) => add_item(items, What::Wref(word), place),
+        Content::Elements(elements) => add_element(elements, Lit::Wref(word)),
     }
 }
 

@@ -5,18 +5,21 @@ ghost use Rattle.fac_lang.specs.PhraseView.{what_item};
 ghost use Rattle.fac_lang.specs.declared.program.Lit.TheVariants.{Wref};
 ghost use Rattle.fac_lang.specs.declared.tree.Bracket.TheVariants.{Quotation};
 ghost use Rattle.fac_refusal.specs.Refusals.{sooner};
-ghost use Rattle.fac_items.specs.FromElements.{node, tok};
+ghost use Rattle.fac_vocab.specs.Scopes.{Scope};
+ghost use Rattle.fac_items.specs.FromElements.{node, tested_call, tok};
 ghost use Rattle.fac_items.specs.Items.{local_of, search_fault, word_of};
 ghost use Rattle.fac_items.specs.inner.Behind.{name_tok};
-ghost use Rattle.fac_items.specs.inner.TakenBits.{added_taken, all_bound, array_in, array_opened, array_or_cases, array_taken, begun, bound_taken, bracket_opened, case_opened, cond_place, fresh_opened, hole_taken, item_taken, last_opened, leaf_inside, locals_at, locals_seen, name_as, name_in, nest_seen, opened_inside, quotation_opened};
+ghost use Rattle.fac_items.specs.inner.TakenBits.{added_taken, all_bound, array_in, array_opened, array_or_cases, array_taken, begun, bound_taken, bracket_opened, case_opened, cond_place, fresh_opened, hole_taken, item_taken, last_opened, leaf_inside, locals_at, locals_seen, name_as, name_in, nest_seen, opened_inside, quotation_opened, reference_taken};
 
 use crate::added::{Added, number_of};
-use crate::content::{Content, add_element, add_false, add_int, add_text, add_true, add_what};
+use crate::content::{
+    Content, add_element, add_false, add_int, add_reference, add_text, add_true, add_what,
+};
 use crate::locals::{is_among, local_number, local_of};
 use crate::search::word_of;
 use crate::spelled::{NameAt, name_at};
 use fac_effect::text;
-use fac_lang::{Bracket, List, Lit, Memory, Place, Stack, Term, Token, What};
+use fac_lang::{Bracket, Callee, Height, List, Lit, Memory, Place, Stack, Term, Token, What};
 use fac_refusal::{NameFault, NameKind, refuse_name};
 use fac_vocab::Scope;
 use std::alloc::Global;
@@ -173,6 +176,35 @@ fn take_name(alloc: Global, scope: &Scope, nest: &mut Nest<'_>, token: &Token) -
     }
 }
 
+// Takes a word as a value, which stands at a place before its name.
+fn take_reference(
+    alloc: Global,
+    scope: &Scope,
+    nest: &mut Nest<'_>,
+    name: &Token,
+    place: Place,
+) -> Result<(), Memory>
+    ensures { OnOk result (nest_seen nest.new ≡ reference_taken scope.now (tok name.now) place (nest_seen nest.old)) }
+{
+    let number = word_of(alloc, scope, &mut nest.first, name)?;
+    add_reference(&mut nest.content, number, place)
+}
+
+// Takes a call with a declared effect.
+fn take_call(
+    nest: &mut Nest<'_>,
+    callee: Callee,
+    height: Height,
+    place: Place,
+) -> Result<(), Memory>
+    ensures { (s : Scope) → OnOk result (nest_seen nest.new ≡ leaf_inside s (tested_call callee height place) (nest_seen nest.old)) }
+{
+    match callee {
+        Callee::Callable => add(nest, What::CallEff(height), place),
+        Callee::Word => add(nest, What::ExecEff(height), place),
+    }
+}
+
 // Binds a local. It is refused where it repeats a name of its list.
 fn bind<'a>(
     alloc: Global,
@@ -228,7 +260,7 @@ fn take_hole(nest: &mut Nest<'_>, place: Place) -> Result<(), Memory>
     }
 }
 
-// Takes an item of one token.
+// Takes an item without a bracket.
 pub fn take_inside<'a>(
     alloc: Global,
     scope: &Scope,
@@ -240,6 +272,13 @@ pub fn take_inside<'a>(
     match term {
         Term::Integer(token, value) => add_int(&mut nest.content, *value, token.place),
         Term::Name(token) => take_name(alloc, scope, nest, token),
+        Term::Wrapped { sign, name } => take_reference(alloc, scope, nest, name, *sign),
+        Term::EffectCall {
+            callee,
+            sign,
+            tokens: _,
+            height,
+        } => take_call(nest, *callee, *height, *sign),
         Term::Text(token) => add_text(alloc, &mut nest.content, text(&token.kind), token.place),
         Term::True(place) => add_true(&mut nest.content, *place),
         Term::False(place) => add_false(&mut nest.content, *place),

@@ -15,10 +15,11 @@ pub struct CoreRow {
 }
 
 #[rattlefmt::skip]
-static CORE_WORDS: [CoreRow; 5] = [
+static CORE_WORDS: [CoreRow; 6] = [
     CoreRow { number: 0, word: WordRow { vocab: "kernel", name: "call", ins: &["quot"], outs: Some(&[]) } },
     CoreRow { number: 1, word: WordRow { vocab: "kernel", name: "dip", ins: &["x", "quot"], outs: Some(&["x"]) } },
     CoreRow { number: 2, word: WordRow { vocab: "kernel", name: "if", ins: &["?", "true", "false"], outs: Some(&[]) } },
+    CoreRow { number: 3, word: WordRow { vocab: "kernel", name: "execute", ins: &["word"], outs: Some(&[]) } },
     CoreRow { number: 4, word: WordRow { vocab: "kernel", name: "boa", ins: &["class"], outs: Some(&["tuple"]) } },
     CoreRow { number: 9, word: WordRow { vocab: "combinators", name: "cond", ins: &["pairs"], outs: Some(&[]) } },
 ];

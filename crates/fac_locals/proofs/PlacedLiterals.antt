@@ -191,6 +191,8 @@ module _ (X : ℕ → Literal → Place → List Placed) (counts : List ℕ) (bo
     item_counted m n ls cells at p (lit_arr a) h e = more ls (X a at p) n (get_or counts a 0) e (count a at p h)
     item_counted None n ls cells at p next_method h e = no_more ls n e
     item_counted (Some m) n ls cells at p next_method h e = no_more ls n e
+    item_counted m n ls cells at p (call_eff g) h e = no_more ls n e
+    item_counted m n ls cells at p (exec_eff g) h e = no_more ls n e
     item_counted m n ls cells at p _ h e = absurd h
 
   pub words_counted : (n w : ℕ) (ls : List Placed) (ds : List WordDef) → AreClosable bound ds → length ls ≡ n → length (ls ++ placed_words X w ds) ≡ words_behind counts n ds
@@ -217,6 +219,8 @@ module _ (X Y : ℕ → Literal → Place → List Placed) (bound : ℕ) (same :
     item_same m cells at p (lit_arr a) h = same a at p h
     item_same None cells at p next_method h = refl
     item_same (Some m) cells at p next_method h = refl
+    item_same m cells at p (call_eff g) h = refl
+    item_same m cells at p (exec_eff g) h = refl
     item_same m cells at p _ h = absurd h
 
 -- what a list has below its length

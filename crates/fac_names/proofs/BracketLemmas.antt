@@ -1,24 +1,29 @@
 -- Elements whose brackets match.
 use Rattle.std.proofs.Common.{◌≡◌, ◌+◌, ℕ, nat_lt, Option, List, [], ◌∷◌, length, map, Some, None, Bool, true, false, cond, refl, ap, sym, ◌∙◌, subst}
 use Rattle.std.specs.Prelude.{◌&&◌, ℤ, is_some, nat_le}
+use Rattle.fac_lang.specs.Whole.{is_small}
+use Rattle.fac_lang.specs.declared.phrase.Height.{Height}
 use Rattle.fac_lang.specs.declared.phrase.Place.{Place}
 use Rattle.fac_lang.specs.declared.token.Token.{Token}
 use Rattle.fac_lang.specs.declared.tree.Element.{Element}
 use Rattle.fac_lang.specs.declared.tree.Element.TheVariants as element
 use Rattle.fac_lang.specs.declared.tree.Bracket.{Bracket}
 use Rattle.fac_lang.specs.declared.tree.Bracket.TheVariants.{Quotation, Array, Fry}
+use Rattle.fac_lang.specs.declared.tree.Callee.{Callee}
 use Rattle.fac_lang.specs.declared.tree.Part.TheVariants as part
 use Rattle.fac_lang.specs.declared.tree.WrittenEffect.{WrittenEffect}
 use Rattle.fac_lang.specs.declared.tree.Term.{Term}
 use Rattle.fac_lang.specs.declared.tree.Term.TheVariants as term
+use Rattle.fac_effect.specs.RowlessEffects.{opened_tokens}
 use Rattle.fac_parse.specs.declared.context.Around.{Around}
 use Rattle.fac_parse.specs.declared.context.Around.TheVariants as stands_in
 use Rattle.fac_parse.specs.declared.context.Context.{Context}
 use Rattle.fac_parse.specs.Contexts.{behind, bound, bound_in, closed, closed_in, counted, counted_in, holed, holed_in, inside, item_behind, items_in, locals_in, most_elements, most_holes, most_levels, most_locals, opened, opened_locals, opens_in, uncounted, uncounted_in}
-use Rattle.fac_parse.specs.Trees.{Lead, AreItems, Encloses, IsLiteral, inputs_of}
+use Rattle.fac_parse.specs.Trees.{Lead, AreItems, Encloses, IsElement, IsLiteral, IsTerm, inputs_of}
 use Rattle.fac_items.specs.Written.{Node, n_locals, Nodes, nothing, more}
 use Rattle.fac_items.specs.FromElements.{AreClosing, IsInFry, MayStand, bracketed, nested, node, open_behind, opened as open_before, rests, tok}
 use Rattle.fac_names.specs.FromFlat.{first_node}
+use Rattle.fac_names.proofs.EffectCounts.{small_height}
 
 -- What counts of a context here: its bracket, where items as a whole stand as those of a quotation do, and whether it counts holes.
 pub record Seen : Type 0 where
@@ -154,6 +159,22 @@ may_name (Quotation ∷ bs) t = tt
 may_name (Fry ∷ bs) t = tt
 may_name (Array ∷ bs) t = tt
 
+may_wrapped : (bs : List Bracket) (p : Place) (t : Token) → MayStand bs (element.Item (term.Wrapped p t))
+may_wrapped [] p t = tt
+may_wrapped (Quotation ∷ bs) p t = tt
+may_wrapped (Fry ∷ bs) p t = tt
+may_wrapped (Array ∷ bs) p t = tt
+
+may_test : (bs : List Bracket) (callee : Callee) (p : Place) (ts : List Token) (h : Height) → NoArray bs → is_small h ≡ true → MayStand bs (element.Item (term.EffectCall callee p ts h))
+may_test [] callee p ts h none small = small
+may_test (Quotation ∷ bs) callee p ts h none small = small
+may_test (Fry ∷ bs) callee p ts h none small = small
+may_test (Array ∷ bs) callee p ts h none small = absurd none
+
+-- an effect has few names, so what it declares is small
+test_small : (callee : Callee) (p : Place) (ts : List Token) (h : Height) → IsTerm (term.EffectCall callee p ts h) → is_small h ≡ true
+test_small callee p ts h fits = ap is_small fits.2 ∙ small_height (opened_tokens p ts) fits.0 fits.1.is
+
 may_integer : (bs : List Bracket) (t : Token) (z : ℤ) → MayStand bs (element.Item (term.Integer t z))
 may_integer [] t z = tt
 may_integer (Quotation ∷ bs) t z = tt
@@ -202,16 +223,19 @@ may_call (Quotation ∷ bs) p h = h
 may_call (Fry ∷ bs) p h = tt
 may_call (Array ∷ bs) p h = absurd h
 
-item_steps : (cs next : List Context) (bs : List Bracket) (t : Term) → Stand (seen_all cs) bs → item_behind cs t ≡ Some next → Steps bs (element.Item t) next
-item_steps cs next bs (term.Name t) s h = same_steps cs next bs (term.Name t) (may_name bs t) s (all_counted cs next h)
-item_steps cs next bs (term.Integer t z) s h = same_steps cs next bs (term.Integer t z) (may_integer bs t z) s (all_counted cs next h)
-item_steps cs next bs (term.Text t) s h = same_steps cs next bs (term.Text t) (may_text bs t) s (all_counted cs next h)
-item_steps cs next bs (term.True p) s h = same_steps cs next bs (term.True p) (may_true bs p) s (all_counted cs next h)
-item_steps cs next bs (term.False p) s h = same_steps cs next bs (term.False p) (may_false bs p) s (all_counted cs next h)
-item_steps cs next bs (term.NextMethod p) s h = let u = all_uncounted cs next bs s h in same_steps cs next bs (term.NextMethod p) (may_next bs p u.no_array) s (ap seen_all u.same)
-item_steps cs next bs (term.Bind p t) s h = let u = all_bound (uncounted cs) cs next bs s refl h in same_steps cs next bs (term.Bind p t) (may_bind bs p t u.no_array) s u.same
-item_steps cs next bs (term.Hole p) s h = let u = all_holed cs next bs s h in same_steps cs next bs (term.Hole p) (may_hole bs p u.fry) s u.same
-item_steps cs next bs (term.CalledHole p) s h = let u = all_holed cs next bs s h in same_steps cs next bs (term.CalledHole p) (may_call bs p u.fry) s u.same
+item_steps : (cs next : List Context) (bs : List Bracket) (t : Term) → IsTerm t → Stand (seen_all cs) bs → item_behind cs t ≡ Some next → Steps bs (element.Item t) next
+item_steps cs next bs (term.Name t) fits s h = same_steps cs next bs (term.Name t) (may_name bs t) s (all_counted cs next h)
+item_steps cs next bs (term.Wrapped p t) fits s h = same_steps cs next bs (term.Wrapped p t) (may_wrapped bs p t) s (all_counted cs next h)
+item_steps cs next bs (term.EffectCall callee p ts e) fits s h =
+    let u = all_uncounted cs next bs s h in same_steps cs next bs (term.EffectCall callee p ts e) (may_test bs callee p ts e u.no_array (test_small callee p ts e fits)) s (ap seen_all u.same)
+item_steps cs next bs (term.Integer t z) fits s h = same_steps cs next bs (term.Integer t z) (may_integer bs t z) s (all_counted cs next h)
+item_steps cs next bs (term.Text t) fits s h = same_steps cs next bs (term.Text t) (may_text bs t) s (all_counted cs next h)
+item_steps cs next bs (term.True p) fits s h = same_steps cs next bs (term.True p) (may_true bs p) s (all_counted cs next h)
+item_steps cs next bs (term.False p) fits s h = same_steps cs next bs (term.False p) (may_false bs p) s (all_counted cs next h)
+item_steps cs next bs (term.NextMethod p) fits s h = let u = all_uncounted cs next bs s h in same_steps cs next bs (term.NextMethod p) (may_next bs p u.no_array) s (ap seen_all u.same)
+item_steps cs next bs (term.Bind p t) fits s h = let u = all_bound (uncounted cs) cs next bs s refl h in same_steps cs next bs (term.Bind p t) (may_bind bs p t u.no_array) s u.same
+item_steps cs next bs (term.Hole p) fits s h = let u = all_holed cs next bs s h in same_steps cs next bs (term.Hole p) (may_hole bs p u.fry) s u.same
+item_steps cs next bs (term.CalledHole p) fits s h = let u = all_holed cs next bs s h in same_steps cs next bs (term.CalledHole p) (may_call bs p u.fry) s u.same
 
 -- Brackets that open.
 
@@ -329,17 +353,17 @@ closes_steps (inner ∷ c ∷ cs) next (Quotation ∷ bs) b p s h = (tt, closed_
 closes_steps (inner ∷ c ∷ cs) next (Fry ∷ bs) b p s h = (tt, closed_stand inner.around b inner c cs next Fry bs refl s h)
 closes_steps (inner ∷ c ∷ cs) next (Array ∷ bs) b p s h = (tt, closed_stand inner.around b inner c cs next Array bs refl s h)
 
-pub steps : (cs next : List Context) (bs : List Bracket) (e : Element) → Stand (seen_all cs) bs → behind cs e ≡ Some next → Steps bs e next
-steps cs next bs (element.Item t) s h = item_steps cs next bs t s h
-steps cs next bs (element.Opens b p) s h = opens_steps cs next bs b p s h
-steps cs next bs (element.OpensLocals p names bar) s h = locals_steps (uncounted cs) cs next bs p bar names s refl h
-steps cs next bs (element.Closes b p) s h = closes_steps cs next bs b p s h
+pub steps : (cs next : List Context) (bs : List Bracket) (e : Element) → IsElement e → Stand (seen_all cs) bs → behind cs e ≡ Some next → Steps bs e next
+steps cs next bs (element.Item t) fits s h = item_steps cs next bs t fits s h
+steps cs next bs (element.Opens b p) fits s h = opens_steps cs next bs b p s h
+steps cs next bs (element.OpensLocals p names bar) fits s h = locals_steps (uncounted cs) cs next bs p bar names s refl h
+steps cs next bs (element.Closes b p) fits s h = closes_steps cs next bs b p s h
 
 -- All elements.
 
 leads_closing : (cs : List Context) (to : Context) (bs : List Bracket) (es : List Element) → Stand (seen_all cs) bs → Lead cs es (to ∷ []) → AreClosing bs es
 leads_closing cs to bs [] s h = let t = subst (λ (xs : List Context). Stand (seen_all xs) bs) h s in t.0
-leads_closing cs to bs (e ∷ es) s h = let k = steps cs h.1 bs e s h.2 in (k.0, leads_closing h.1 to (open_behind bs e) es k.1 h.3)
+leads_closing cs to bs (e ∷ es) s h = let k = steps cs h.1 bs e h.0 s h.2 in (k.0, leads_closing h.1 to (open_behind bs e) es k.1 h.3)
 
 pub items_closing : (locals : Option ℕ) (es : List Element) → AreItems locals es → AreClosing [] es
 items_closing locals es h = leads_closing (items_in locals ∷ []) h.0 [] es (refl, refl, refl) h.1
@@ -367,7 +391,7 @@ encloses_closing (c ∷ []) bs (e ∷ es) s h = absurd h
 encloses_closing (c ∷ d ∷ cs) bs [] s h = absurd h
 encloses_closing (c ∷ d ∷ cs) [] (e ∷ es) s h = absurd s
 encloses_closing (c ∷ d ∷ cs) (b ∷ bs) (e ∷ es) s h =
-    let k = steps (c ∷ d ∷ cs) h.1 (b ∷ bs) e s h.2 in
+    let k = steps (c ∷ d ∷ cs) h.1 (b ∷ bs) e h.0 s h.2 in
     let rest = encloses_closing h.1 (open_behind (b ∷ bs) e) es k.1 h.3 in
     ((k.0, rest.0), rest.1)
 
@@ -380,6 +404,8 @@ literal_closing (element.Item t ∷ []) h = one t h
   where
     one : (t : Term) → IsLiteral (element.Item t ∷ []) → AreClosing [] (element.Item t ∷ [])
     one (term.Name t) k = absurd k
+    one (term.Wrapped p t) k = (tt, refl)
+    one (term.EffectCall callee p ts h) k = absurd k
     one (term.Integer t z) k = (tt, refl)
     one (term.Text t) k = (tt, refl)
     one (term.True p) k = (tt, refl)

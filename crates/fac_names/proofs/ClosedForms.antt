@@ -1,4 +1,4 @@
--- Each local of what was read is bound, each of its holes stands in a fry, and each fry has its holes: each phrase stands by itself, and every form keeps that.
+-- Each local of what was read is bound, each of its holes stands in a fry, each fry has its holes, and no effect that is tested is large: each phrase stands by itself, and every form keeps that.
 use Rattle.std.proofs.Common.{◌≡◌, ℕ, zero, suc, List, [], ◌∷◌, ◌++◌, map, fold, Option, Some, None, Bool, true, false, refl, ap, sym, ◌∙◌}
 use Rattle.std.specs.Prelude.{◌&&◌, ◌+◌, if◌then◌else◌, codes, length, nat_le, nat_lt}
 use Rattle.std.specs.List.{list_all, list_any}

@@ -80,7 +80,7 @@ known_built : (bound : ℕ) → AreBuiltWords bound known_words
 unfolding known_words built_primitive_words
 known_built bound =
     built_with bound (primitives_from 0 built_primitive_words ++ core_words_of built_core_words) (class_words_from 0 built_in_classes)
-    (built_with bound (primitives_from 0 built_primitive_words) (core_words_of built_core_words) (primitives_built bound 0 [] built_primitives refl refl) (cores_built bound built_core_words (refl, refl, (refl, refl, (refl, refl, (refl, refl, (refl, refl, tt)))))))
+    (built_with bound (primitives_from 0 built_primitive_words) (core_words_of built_core_words) (primitives_built bound 0 [] built_primitives refl refl) (cores_built bound built_core_words (refl, refl, (refl, refl, (refl, refl, (refl, refl, (refl, refl, (refl, refl, tt))))))))
     (classes_built bound 0 built_in_classes)
 
 known_distinct : has_no_repeats (primitive_numbers known_words) ≡ true

@@ -3,6 +3,7 @@ pub mod Staying
 pub mod DraftLemmas
 pub mod ReadingLemmas
 pub mod ClassLemmas
+pub mod EffectCounts
 pub mod BracketLemmas
 pub mod FileLemmas
 pub mod InputLemmas
@@ -29,4 +30,5 @@ pub mod WrittenSources
 pub mod ExamplesOfNames
 pub mod ExamplesOfClasses
 pub mod ExamplesOfLocals
+pub mod ExamplesOfCalls
 pub mod SignLemmas

@@ -1,12 +1,15 @@
 -- The phrase of items is written as the items are.
 use Rattle.std.proofs.Common.{◌≡◌, ◌+◌, ◌<◌, ℕ, suc, List, [], ◌∷◌, ◌++◌, length, Bool, true, false, Option, Some, None, cond, refl, ap, sym, ◌∙◌, subst, append_assoc, append-nil, arith}
 use Rattle.std.specs.Prelude.{nat_eq}
-use Rattle.fac_lang.specs.Phrases.{lit, int, yes, no, str, word, next_method}
+use Rattle.fac_lang.specs.Phrases.{lit, int, yes, no, str, wrd, word, call_eff, exec_eff, next_method}
+use Rattle.fac_lang.specs.declared.phrase.Height.{Height}
 use Rattle.fac_lang.specs.declared.phrase.Place.{Place}
 use Rattle.fac_lang.specs.declared.program.Lit.{Lit}
 use Rattle.fac_lang.specs.declared.program.Lit.TheVariants as literal_is
 use Rattle.fac_lang.specs.declared.tree.Bracket.{Bracket}
 use Rattle.fac_lang.specs.declared.tree.Bracket.TheVariants.{Quotation, Array, Fry}
+use Rattle.fac_lang.specs.declared.tree.Callee.{Callee}
+use Rattle.fac_lang.specs.declared.tree.Callee.TheVariants.{Callable, Word}
 use Rattle.fac_lang.specs.declared.tree.Element.{Element}
 use Rattle.fac_lang.specs.declared.tree.Element.TheVariants as element
 use Rattle.fac_lang.specs.declared.tree.Term.{Term}
@@ -17,16 +20,16 @@ use Rattle.fac_parse.specs.declared.context.Around.TheVariants as stands_in
 use Rattle.fac_parse.specs.Contexts.{closed, closed_in, items_in}
 use Rattle.fac_parse.specs.Trees.{Lead}
 use Rattle.fac_vocab.specs.Scopes.{Scope}
-use Rattle.fac_items.specs.Written.{Node, n_lit, n_name, n_next, n_quot, n_array, Nodes, nothing, more}
-use Rattle.fac_items.specs.FromElements.{Rests, bracketed, nested, node, opened as open_before, rests}
+use Rattle.fac_items.specs.Written.{Node, n_lit, n_ref, n_name, n_call, n_execute, n_next, n_quot, n_array, Nodes, nothing, more}
+use Rattle.fac_items.specs.FromElements.{Rests, bracketed, nested, node, opened as open_before, rests, tested_call}
 use Rattle.fac_items.specs.Items.{elements_of, literal, phrase_of, word_of}
 use Rattle.fac_names.specs.Laws.{Longer}
-use Rattle.fac_names.specs.Signs.{Sign, AreOfWords, IsOfWords, PhrasesAreWrittenAsItems, array_signs, element_signs, elements_signs, innermost, phrase_signs, place_in, term_signs, value, with_array_signs, with_arrays_signs, closes, one, opens, within}
+use Rattle.fac_names.specs.Signs.{Sign, AreOfWords, IsOfWords, PhrasesAreWrittenAsItems, array_signs, element_signs, elements_signs, innermost, phrase_signs, place_in, term_signs, tested_item, value, with_array_signs, with_arrays_signs, closes, one, opens, within}
 use Rattle.fac_names.proofs.Growing.{and_then, elements_longer, phrase_longer, same}
 use Rattle.fac_items.proofs.RawNodes.{IsPlainLiteral}
 use Rattle.fac_names.proofs.BracketLemmas.{Stand, kind_of, seen_all, steps}
 
--- Nodes of words: literals, names, next methods, quotations and arrays.
+-- Nodes of words: literals, names, calls with a declared effect, next methods, quotations and arrays.
 abbrev mutual
   AreWorded : Nodes → Type 0
   AreWorded nothing = Unit {0}
@@ -34,7 +37,10 @@ abbrev mutual
 
   IsWorded : Node → Type 0
   IsWorded (n_lit l p) = IsPlainLiteral l
+  IsWorded (n_ref t p) = Unit {0}
   IsWorded (n_name t p) = Unit {0}
+  IsWorded (n_call h p) = Unit {0}
+  IsWorded (n_execute h p) = Unit {0}
   IsWorded (n_next p) = Unit {0}
   IsWorded (n_quot ns p) = AreWorded ns
   IsWorded (n_array ns p) = AreWorded ns
@@ -44,8 +50,14 @@ abbrev AllWorded : List Nodes → Type 0
 AllWorded [] = Unit {0}
 AllWorded (ns ∷ nss) = AreWorded ns × AllWorded nss
 
+call_worded : (callee : Callee) (h : Height) (p : Place) → IsWorded (tested_call callee h p)
+call_worded Callable h p = tt
+call_worded Word h p = tt
+
 term_worded : (t : Term) → IsOfWords (element.Item t) → IsWorded (node t)
 term_worded (term.Name t) h = tt
+term_worded (term.Wrapped sign name) h = tt
+term_worded (term.EffectCall callee sign tokens height) h = call_worded callee height sign
 term_worded (term.Integer t z) h = tt
 term_worded (term.Text t) h = tt
 term_worded (term.True place) h = tt
@@ -82,9 +94,13 @@ abbrev mutual
   node_signs s b (n_quot ms p) = within Quotation (place_in b p) (nodes_signs s Quotation ms)
   node_signs s b (n_array ms p) = within Array (place_in b p) (nodes_signs s Array ms)
   node_signs s Quotation (n_lit l p) = one (lit l) p ∷ []
+  node_signs s Quotation (n_ref t p) = one (lit (wrd (word_of s t))) p ∷ []
   node_signs s Quotation (n_name t p) = one (word (word_of s t)) p ∷ []
+  node_signs s Quotation (n_call h p) = one (call_eff h) p ∷ []
+  node_signs s Quotation (n_execute h p) = one (exec_eff h) p ∷ []
   node_signs s Quotation (n_next p) = one next_method p ∷ []
   node_signs s Array (n_lit l p) = value (literal l) ∷ []
+  node_signs s Array (n_ref t p) = value (literal_is.Wref (word_of s t)) ∷ []
   node_signs s Array (n_name t p) = value (literal_is.Wref (word_of s t)) ∷ []
   node_signs s b _ = []
 
@@ -124,7 +140,10 @@ mutual
   phrase_written : (s : Scope) (ns : Nodes) (arrays : List (List Lit)) (holes : ℕ) (all : List (List Lit)) → AreWorded ns → Longer (phrase_of s [] ns arrays holes).arrays all → phrase_signs (array_signs all) (phrase_of s [] ns arrays holes).phrase ≡ nodes_signs s Quotation ns
   phrase_written s nothing arrays holes all plain h = refl
   phrase_written s (more (n_lit l p) ns) arrays holes all plain h = ap (λ (xs : List Sign). one (lit l) p ∷ xs) (phrase_written s ns arrays holes all plain.1 h)
+  phrase_written s (more (n_ref t p) ns) arrays holes all plain h = ap (λ (xs : List Sign). one (lit (wrd (word_of s t))) p ∷ xs) (phrase_written s ns arrays holes all plain.1 h)
   phrase_written s (more (n_name t p) ns) arrays holes all plain h = ap (λ (xs : List Sign). one (word (word_of s t)) p ∷ xs) (phrase_written s ns arrays holes all plain.1 h)
+  phrase_written s (more (n_call e p) ns) arrays holes all plain h = ap (λ (xs : List Sign). one (call_eff e) p ∷ xs) (phrase_written s ns arrays holes all plain.1 h)
+  phrase_written s (more (n_execute e p) ns) arrays holes all plain h = ap (λ (xs : List Sign). one (exec_eff e) p ∷ xs) (phrase_written s ns arrays holes all plain.1 h)
   phrase_written s (more (n_next p) ns) arrays holes all plain h = ap (λ (xs : List Sign). one next_method p ∷ xs) (phrase_written s ns arrays holes all plain.1 h)
   phrase_written s (more (n_quot ms p) ns) arrays holes all plain h =
       let m = phrase_of s [] ms arrays holes in
@@ -146,7 +165,10 @@ mutual
   elements_written s (more (n_lit no p) ns) arrays all plain h = ap (λ (xs : List Sign). value (literal no) ∷ xs) (elements_written s ns arrays all plain.1 h)
   elements_written s (more (n_lit (str cs) p) ns) arrays all plain h = ap (λ (xs : List Sign). value (literal (str cs)) ∷ xs) (elements_written s ns arrays all plain.1 h)
   elements_written s (more (n_lit l p) ns) arrays all plain h = absurd plain.0
+  elements_written s (more (n_ref t p) ns) arrays all plain h = ap (λ (xs : List Sign). value (literal_is.Wref (word_of s t)) ∷ xs) (elements_written s ns arrays all plain.1 h)
   elements_written s (more (n_name t p) ns) arrays all plain h = ap (λ (xs : List Sign). value (literal_is.Wref (word_of s t)) ∷ xs) (elements_written s ns arrays all plain.1 h)
+  elements_written s (more (n_call e p) ns) arrays all plain h = elements_written s ns arrays all plain.1 h
+  elements_written s (more (n_execute e p) ns) arrays all plain h = elements_written s ns arrays all plain.1 h
   elements_written s (more (n_next p) ns) arrays all plain h = elements_written s ns arrays all plain.1 h
   elements_written s (more (n_quot ms p) ns) arrays all plain h =
       let m = phrase_of s [] ms arrays 0 in
@@ -201,14 +223,26 @@ innermost_no_fry (Quotation ∷ bs) h = tt
 innermost_no_fry (Array ∷ bs) h = tt
 innermost_no_fry (Fry ∷ bs) h = absurd h
 
+call_alone : (s : Scope) (callee : Callee) (h : Height) (p : Place) → node_signs s Quotation (tested_call callee h p) ≡ one (tested_item callee h) p ∷ []
+call_alone s Callable h p = refl
+call_alone s Word h p = refl
+
+call_in_array : (s : Scope) (callee : Callee) (h : Height) (p : Place) → node_signs s Array (tested_call callee h p) ≡ []
+call_in_array s Callable h p = refl
+call_in_array s Word h p = refl
+
 term_alone : (s : Scope) (b : Bracket) (t : Term) → IsNoFry b → IsOfWords (element.Item t) → node_signs s b (node t) ≡ term_signs s b t
 term_alone s Quotation (term.Name t) h w = refl
+term_alone s Quotation (term.Wrapped sign name) h w = refl
+term_alone s Quotation (term.EffectCall callee sign tokens height) h w = call_alone s callee height sign
 term_alone s Quotation (term.Integer t z) h w = refl
 term_alone s Quotation (term.Text t) h w = refl
 term_alone s Quotation (term.True place) h w = refl
 term_alone s Quotation (term.False place) h w = refl
 term_alone s Quotation (term.NextMethod place) h w = refl
 term_alone s Array (term.Name t) h w = refl
+term_alone s Array (term.Wrapped sign name) h w = refl
+term_alone s Array (term.EffectCall callee sign tokens height) h w = call_in_array s callee height sign
 term_alone s Array (term.Integer t z) h w = refl
 term_alone s Array (term.Text t) h w = refl
 term_alone s Array (term.True place) h w = refl
@@ -304,12 +338,12 @@ closes_alike (inner ∷ c ∷ cs) next d b bs s f h = closed_alike inner.around 
 
 leads_matching : (cs : List Context) (to : Context) (bs : List Bracket) (es : List Element) → Stand (seen_all cs) bs → AreOfItems bs → AreOfWords es → Lead cs es (to ∷ []) → Matching bs es
 leads_matching cs to bs [] s f w h = let t = subst (λ (xs : List Context). Stand (seen_all xs) bs) h s in t.0
-leads_matching cs to bs (element.Item t ∷ es) s f w h = let k = steps cs h.1 bs (element.Item t) s h.2 in leads_matching h.1 to bs es k.1 f w.1 h.3
-leads_matching cs to bs (element.Opens b p ∷ es) s f w h = let k = steps cs h.1 bs (element.Opens b p) s h.2 in leads_matching h.1 to (b ∷ bs) es k.1 (more_items b p bs w.0 f) w.1 h.3
+leads_matching cs to bs (element.Item t ∷ es) s f w h = let k = steps cs h.1 bs (element.Item t) h.0 s h.2 in leads_matching h.1 to bs es k.1 f w.1 h.3
+leads_matching cs to bs (element.Opens b p ∷ es) s f w h = let k = steps cs h.1 bs (element.Opens b p) h.0 s h.2 in leads_matching h.1 to (b ∷ bs) es k.1 (more_items b p bs w.0 f) w.1 h.3
 leads_matching cs to bs (element.OpensLocals p names bar ∷ es) s f w h = absurd w.0
-leads_matching cs to [] (element.Closes b p ∷ es) s f w h = (let k = steps cs h.1 [] (element.Closes b p) s h.2 in absurd k.0)
+leads_matching cs to [] (element.Closes b p ∷ es) s f w h = (let k = steps cs h.1 [] (element.Closes b p) h.0 s h.2 in absurd k.0)
 leads_matching cs to (d ∷ bs) (element.Closes b p ∷ es) s f w h =
-    let k = steps cs h.1 (d ∷ bs) (element.Closes b p) s h.2 in (closes_alike cs h.1 d b bs s (first_no_fry d bs f) h.2, leads_matching h.1 to bs es k.1 (less_items d bs f) w.1 h.3)
+    let k = steps cs h.1 (d ∷ bs) (element.Closes b p) h.0 s h.2 in (closes_alike cs h.1 d b bs s (first_no_fry d bs f) h.2, leads_matching h.1 to bs es k.1 (less_items d bs f) w.1 h.3)
 
 pub phrases_are_written : PhrasesAreWrittenAsItems
 phrases_are_written s arrays items h w same_nodes =

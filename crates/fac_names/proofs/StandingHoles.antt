@@ -9,7 +9,7 @@ use Rattle.fac_lang.specs.RunningLaws.{append}
 use Rattle.fac_lang.specs.Whole.{each_inner, each_item, joined, quotations}
 use Rattle.fac_lang.specs.declared.program.Lit.{Lit}
 use Rattle.fac_vocab.specs.Scopes.{Scope}
-use Rattle.fac_items.specs.Written.{Tok, n_lit, n_array, n_quot, n_name, n_fry, n_bind, n_hole, n_next, n_full, n_part, Nodes, nothing, more}
+use Rattle.fac_items.specs.Written.{Tok, n_lit, n_array, n_quot, n_ref, n_name, n_fry, n_call, n_execute, n_bind, n_hole, n_next, n_full, n_part, Nodes, nothing, more}
 use Rattle.fac_items.specs.Items.{elements_of, local_of, phrase_of, word_of}
 use Rattle.fac_items.proofs.LocalNumbers.{append_closed, arrays_closed, is_closed, made_closed}
 use Rattle.fac_items.proofs.PlainNodes.{AreElements, ArePlain}
@@ -160,6 +160,9 @@ mutual
   arrays_stand s locals fry nothing arrays holes h k = k
   arrays_stand s locals fry (more (n_lit l p) ns) arrays holes h k = arrays_stand s locals fry ns arrays holes h.1 k
   arrays_stand s locals fry (more (n_name t p) ns) arrays holes h k = arrays_stand s locals fry ns arrays holes h.1 k
+  arrays_stand s locals fry (more (n_ref t p) ns) arrays holes h k = arrays_stand s locals fry ns arrays holes h.1 k
+  arrays_stand s locals fry (more (n_call e p) ns) arrays holes h k = arrays_stand s locals fry ns arrays holes h.1 k
+  arrays_stand s locals fry (more (n_execute e p) ns) arrays holes h k = arrays_stand s locals fry ns arrays holes h.1 k
   arrays_stand s locals fry (more (n_next p) ns) arrays holes h k = arrays_stand s locals fry ns arrays holes h.1 k
   arrays_stand s locals fry (more (n_full v x p) ns) arrays holes h k = arrays_stand s locals fry ns arrays holes h.1 k
   arrays_stand s locals fry (more (n_bind t twice p) ns) arrays holes h k = arrays_stand s (t.text ∷ locals) fry ns arrays holes h.1 k
@@ -180,6 +183,7 @@ mutual
   elements_stand s (more (n_lit no p) es) arrays h k = elements_stand s es arrays h.1 k
   elements_stand s (more (n_lit (str bs) p) es) arrays h k = elements_stand s es arrays h.1 k
   elements_stand s (more (n_lit l p) es) arrays h k = absurd h.0
+  elements_stand s (more (n_ref t p) es) arrays h k = elements_stand s es arrays h.1 k
   elements_stand s (more (n_name t p) es) arrays h k = elements_stand s es arrays h.1 k
   elements_stand s (more (n_quot ms p) es) arrays h k =
       let m = phrase_of s [] ms arrays 0 in

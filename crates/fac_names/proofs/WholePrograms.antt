@@ -10,8 +10,9 @@ use Rattle.std.specs.Str.{bytes_eq}
 use Rattle.fac_lang.specs.Forms.{IsBuilt, IsBuiltPhrase, IsBuiltSort, AreBuiltArrays, AreBuiltElements, AreBuiltWords, IsTopPhrase}
 use Rattle.fac_lang.specs.Meaning.{sort_of, is_past}
 use Rattle.fac_lang.specs.PrimitiveWords.{PrimitiveWord, plain_inputs, plain_leaving, written_effect}
-use Rattle.fac_lang.specs.Phrases.{Phrase, end, then, Item, lit, int, yes, no, str, wrd, lit_arr, quot, word, bind, local, fry, hole, next_method}
+use Rattle.fac_lang.specs.Phrases.{Phrase, end, then, Item, lit, int, yes, no, str, wrd, lit_arr, quot, word, bind, local, fry, hole, call_eff, exec_eff, next_method}
 use Rattle.fac_lang.specs.Whole.{IsWhole, all_arrays_named, all_phrases, arrays_in, arrays_named, joined, literal_fits, literal_spares, names_earlier, quotations, times_in, each_item, each_numbered, locals_bound, holes_within, item_fits, item_spares, is_body, tests_small, word_phrases, sort_fits, has_written_effect, has_generic_effect, marks_fit, effect_eq, inputs_eq, leaving_eq, names_eq, name_count, no_two, same_word, same_method, is_class, is_generic, shape_fits, slots_of, reaches, same_class_name, each_below, plain_effect}
+use Rattle.fac_lang.specs.declared.phrase.Height.{Height}
 use Rattle.fac_lang.specs.declared.program.ClassDef.{ClassDef}
 use Rattle.fac_lang.specs.declared.program.Lit.{Lit}
 use Rattle.fac_lang.specs.declared.program.Lit.TheVariants.{Int as l_int, True as l_yes, False as l_no, Str as l_str, Arr as l_arr, Wref as l_word, Quot as l_quot, Made as l_made}
@@ -45,6 +46,8 @@ record Passes (bound count : ℕ) (f : Item → Bool) : Type 0 where
   arrays : (a : ℕ) → nat_lt a count ≡ true → f (lit_arr a) ≡ true
   quotations : (t : Phrase) → f (quot t) ≡ true
   words : (w : ℕ) → nat_lt w bound ≡ true → f (word w) ≡ true
+  calls : (h : Height) → f (call_eff h) ≡ true
+  executes : (h : Height) → f (exec_eff h) ≡ true
   next : f next_method ≡ true
   binds : (x : ℕ) → f (bind x) ≡ true
   locals : (x : ℕ) → f (local x) ≡ true
@@ -66,6 +69,8 @@ items_pass bound count f p (then (lit_arr a) place t) h k =
 items_pass bound count f p (then (quot u) place t) h k =
     let inside = split_below count (arrays_named u) (arrays_named t) k in three_true (f (quot u)) (each_item f u) (each_item f t) (p.quotations u) (items_pass bound count f p u h.0 inside.0) (items_pass bound count f p t h.1 inside.1)
 items_pass bound count f p (then (word w) place t) h k = three_true (f (word w)) true (each_item f t) (p.words w h.0) refl (items_pass bound count f p t h.1 k)
+items_pass bound count f p (then (call_eff e) place t) h k = three_true (f (call_eff e)) true (each_item f t) (p.calls e) refl (items_pass bound count f p t h.1 k)
+items_pass bound count f p (then (exec_eff e) place t) h k = three_true (f (exec_eff e)) true (each_item f t) (p.executes e) refl (items_pass bound count f p t h.1 k)
 items_pass bound count f p (then next_method place t) h k = three_true (f next_method) true (each_item f t) p.next refl (items_pass bound count f p t h.1 k)
 items_pass bound count f p (then (bind x) place t) h k = three_true (f (bind x)) true (each_item f t) (p.binds x) refl (items_pass bound count f p t h.1 k)
 items_pass bound count f p (then (local x) place t) h k = three_true (f (local x)) true (each_item f t) (p.locals x) refl (items_pass bound count f p t h.1 k)
@@ -78,12 +83,22 @@ items_pass bound count f p (then i place t) h k = absurd h.0
 closed_bound : (ts : List Phrase) → list_all is_closed ts ≡ true → list_all (locals_bound []) ts ≡ true
 closed_bound [] h = refl
 closed_bound (t ∷ ts) h =
-    let both = both_true (is_closed t) (list_all is_closed ts) h in both_are (locals_bound [] t) (list_all (locals_bound []) ts) (both_true (locals_bound [] t) (holes_within 0 t) both.0).0 (closed_bound ts both.1)
+    let both = both_true (is_closed t) (list_all is_closed ts) h in
+    let numbered = both_true (locals_bound [] t && holes_within 0 t) (each_item tests_small t) both.0 in
+    both_are (locals_bound [] t) (list_all (locals_bound []) ts) (both_true (locals_bound [] t) (holes_within 0 t) numbered.0).0 (closed_bound ts both.1)
 
 closed_holes : (ts : List Phrase) → list_all is_closed ts ≡ true → list_all (holes_within 0) ts ≡ true
 closed_holes [] h = refl
 closed_holes (t ∷ ts) h =
-    let both = both_true (is_closed t) (list_all is_closed ts) h in both_are (holes_within 0 t) (list_all (holes_within 0) ts) (both_true (locals_bound [] t) (holes_within 0 t) both.0).1 (closed_holes ts both.1)
+    let both = both_true (is_closed t) (list_all is_closed ts) h in
+    let numbered = both_true (locals_bound [] t && holes_within 0 t) (each_item tests_small t) both.0 in
+    both_are (holes_within 0 t) (list_all (holes_within 0) ts) (both_true (locals_bound [] t) (holes_within 0 t) numbered.0).1 (closed_holes ts both.1)
+
+closed_tests : (ts : List Phrase) → list_all is_closed ts ≡ true → list_all (each_item tests_small) ts ≡ true
+closed_tests [] h = refl
+closed_tests (t ∷ ts) h =
+    let both = both_true (is_closed t) (list_all is_closed ts) h in
+    both_are (each_item tests_small t) (list_all (each_item tests_small) ts) (both_true (locals_bound [] t && holes_within 0 t) (each_item tests_small t) both.0).1 (closed_tests ts both.1)
 
 -- Words.
 
@@ -320,7 +335,7 @@ whole P b h =
     let named = split_below n (joined (map arrays_named (word_phrases P.words))) (joined (map arrays_in P.arrays)) (all_named_below n (all_arrays_named P) (all_arrays_named P) h.once (λ a. omega arith)) in
     let good = good_both top n (word_phrases P.words) (joined (map quotations P.arrays)) (good_words top n P.words all named.0) (good_arrays top n P.arrays b.arrays_built named.1) in
     record {
-      items_fit = all_items_pass top n (item_fits P) (record { ints = λ z. refl; truth = refl; falsity = refl; strings = λ cs. refl; references = word_fits P b; arrays = λ a k. k; quotations = λ t. refl; words = word_fits P b; next = refl; binds = λ x. refl; locals = λ x. refl; fries = λ t n. refl; holes = λ k. refl }) (all_phrases P) good;
+      items_fit = all_items_pass top n (item_fits P) (record { ints = λ z. refl; truth = refl; falsity = refl; strings = λ cs. refl; references = word_fits P b; arrays = λ a k. k; quotations = λ t. refl; words = word_fits P b; calls = λ h. refl; executes = λ h. refl; next = refl; binds = λ x. refl; locals = λ x. refl; fries = λ t n. refl; holes = λ k. refl }) (all_phrases P) good;
       literals_fit = arrays_pass top n (literal_fits P) (record { ints = λ z. refl; truth = refl; falsity = refl; strings = λ cs. refl; arrays = λ a k. k; words = word_fits P b; quotations = λ t. refl }) P.arrays b.arrays_built named.1;
       sorts_fit = sorts_pass P top P.words all h.names_fit;
       shapes_fit = h.shapes_fit;
@@ -328,7 +343,7 @@ whole P b h =
       arrays_once = all_once n (all_arrays_named P) h.once;
       top_last = words_counted P b;
       top_phrase = ap is_body (top_sort P b);
-      items_spare = all_items_pass top n (item_spares P) (record { ints = λ z. refl; truth = refl; falsity = refl; strings = λ cs. refl; references = word_spares P b; arrays = λ a k. refl; quotations = λ t. refl; words = word_spares P b; next = refl; binds = λ x. refl; locals = λ x. refl; fries = λ t n. refl; holes = λ k. refl }) (all_phrases P) good;
+      items_spare = all_items_pass top n (item_spares P) (record { ints = λ z. refl; truth = refl; falsity = refl; strings = λ cs. refl; references = word_spares P b; arrays = λ a k. refl; quotations = λ t. refl; words = word_spares P b; calls = λ h. refl; executes = λ h. refl; next = refl; binds = λ x. refl; locals = λ x. refl; fries = λ t n. refl; holes = λ k. refl }) (all_phrases P) good;
       literals_spare = arrays_pass top n (literal_spares P) (record { ints = λ z. refl; truth = refl; falsity = refl; strings = λ cs. refl; arrays = λ a k. refl; words = literal_word_spares P b; quotations = λ t. refl }) P.arrays b.arrays_built named.1;
       bound = closed_bound (all_phrases P) h.closed;
       holes_in_fries = closed_holes (all_phrases P) h.closed;
@@ -336,7 +351,7 @@ whole P b h =
       method_effects = h.method_effects;
       marks_of_bodies = all_marks P b;
       few_names = h.few;
-      small_tests = all_items_pass top n tests_small (record { ints = λ z. refl; truth = refl; falsity = refl; strings = λ cs. refl; references = λ w k. refl; arrays = λ a k. refl; quotations = λ t. refl; words = λ w k. refl; next = refl; binds = λ x. refl; locals = λ x. refl; fries = λ t n. refl; holes = λ k. refl }) (all_phrases P) good;
+      small_tests = closed_tests (all_phrases P) h.closed;
       slots_differ = h.slots_differ;
       few_slots = h.few_slots;
       class_names_differ = h.class_names_differ;

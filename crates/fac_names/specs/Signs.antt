@@ -1,11 +1,14 @@
 -- Phrases as they are written: a resolved phrase, printed again, is the elements that it was made of.
 use Rattle.std.specs.Prelude.{◌≡◌, ℕ, suc, nat_eq, List, [], ◌∷◌, ◌++◌, Option, Some, None, if◌then◌else◌}
-use Rattle.fac_lang.specs.Phrases.{Phrase, end, then as placed, Item, lit, lit_arr, int, yes, no, str, quot, word, next_method}
+use Rattle.fac_lang.specs.Phrases.{Phrase, end, then as placed, Item, lit, lit_arr, int, yes, no, str, wrd, quot, word, call_eff, exec_eff, next_method}
+use Rattle.fac_lang.specs.declared.phrase.Height.{Height}
 use Rattle.fac_lang.specs.declared.phrase.Place.{Place}
 use Rattle.fac_lang.specs.declared.program.Lit.{Lit}
 use Rattle.fac_lang.specs.declared.program.Lit.TheVariants as literal
 use Rattle.fac_lang.specs.declared.tree.Bracket.{Bracket}
 use Rattle.fac_lang.specs.declared.tree.Bracket.TheVariants.{Quotation, Array, Fry}
+use Rattle.fac_lang.specs.declared.tree.Callee.{Callee}
+use Rattle.fac_lang.specs.declared.tree.Callee.TheVariants.{Callable, Word}
 use Rattle.fac_lang.specs.declared.tree.Element.{Element}
 use Rattle.fac_lang.specs.declared.tree.Element.TheVariants as element
 use Rattle.fac_lang.specs.declared.tree.Term.{Term}
@@ -73,15 +76,22 @@ place_in Quotation place = Some place
 place_in Array place = None
 place_in Fry place = Some place
 
--- an item of one token, by the word that its name finds; a next method is no value, so an array has none
+abbrev pub tested_item : Callee → Height → Item
+tested_item Callable h = call_eff h
+tested_item Word h = exec_eff h
+
+-- an item without a bracket, by the word that its name finds; a next method and a call with a declared effect are no values, so an array has none
 abbrev pub term_signs : Scope → Bracket → Term → List Sign
 term_signs s Quotation (term.Name t) = one (word (word_of s (tok t))) t.place ∷ []
+term_signs s Quotation (term.Wrapped sign name) = one (lit (wrd (word_of s (tok name)))) sign ∷ []
+term_signs s Quotation (term.EffectCall callee sign tokens height) = one (tested_item callee height) sign ∷ []
 term_signs s Quotation (term.Integer t z) = one (lit (int z)) t.place ∷ []
 term_signs s Quotation (term.Text t) = one (lit (str (token_text t.kind))) t.place ∷ []
 term_signs s Quotation (term.True place) = one (lit yes) place ∷ []
 term_signs s Quotation (term.False place) = one (lit no) place ∷ []
 term_signs s Quotation (term.NextMethod place) = one next_method place ∷ []
 term_signs s Array (term.Name t) = value (literal.Wref (word_of s (tok t))) ∷ []
+term_signs s Array (term.Wrapped sign name) = value (literal.Wref (word_of s (tok name))) ∷ []
 term_signs s Array (term.Integer t z) = value (literal.Int z) ∷ []
 term_signs s Array (term.Text t) = value (literal.Str (token_text t.kind)) ∷ []
 term_signs s Array (term.True place) = value literal.True ∷ []

@@ -6,7 +6,9 @@ use Rattle.fac_effect.specs.declared.effect_reader.EffectReader.{EffectReader}
 use Rattle.fac_effect.specs.declared.effect_reader.Taken.{Taken}
 use Rattle.fac_effect.specs.declared.effect_reader.Taken.TheVariants.{Whole}
 use Rattle.fac_effect.specs.Spellings.{token_spelling}
-use Rattle.fac_effect.specs.EffectReading.{Progress, reads, whole, refused, step, go_on, after, Takes}
+use Rattle.fac_effect.specs.EffectReading.{Progress, reads, whole, refused, opened, step, go_on, after, Takes}
+use Rattle.fac_effect.specs.RowlessEffects.{behind_opens}
+use Rattle.fac_effect.proofs.EffectRuns.{run_append}
 use Rattle.fac_effect.proofs.EffectLemmas.{after_more}
 
 taken_whole : (p : Progress) (r next : EffectReader) → Takes p r next (Ok Whole) → p ≡ whole
@@ -19,3 +21,9 @@ pub effect_ends : (ts now : List Token) (r next : EffectReader) (s : Spelling) (
 effect_ends ts now r next s t answer read spelled takes is more =
     let all : step r s t ≡ whole = taken_whole (step r s t) r next (subst (λ (x : Taken). Takes (step r s t) r next (Ok x)) is takes) in
     ap after more ∙ after_more ts t ∙ ap (λ (p : Progress). go_on p t) read ∙ ap (λ (x : Spelling). step r x t) spelled ∙ all
+
+-- likewise the effect of a call
+pub call_ends : (ts now : List Token) (r next : EffectReader) (s : Spelling) (t : Token) (answer : Taken) → behind_opens ts ≡ reads r → token_spelling t.kind ≡ s → Takes (step r s t) r next (Ok answer) → answer ≡ Whole → now ≡ ts ++ t ∷ [] → behind_opens now ≡ whole
+call_ends ts now r next s t answer read spelled takes is more =
+    let all : step r s t ≡ whole = taken_whole (step r s t) r next (subst (λ (x : Taken). Takes (step r s t) r next (Ok x)) is takes) in
+    ap behind_opens more ∙ run_append (reads opened) ts (t ∷ []) ∙ ap (λ (p : Progress). go_on p t) read ∙ ap (λ (x : Spelling). step r x t) spelled ∙ all

@@ -1,12 +1,15 @@
 -- What is read is a tree's tokens, and nothing else is refused, at the exact place.
-use Rattle.fac_parse.specs.inner.Reader.{no_half, binding, heading, literal, name, names, tuple_slots, tuple_parent, fixed, effect, items, marks, Open, top, row, row_form, more, with_run, State, start, steps, ended, ended_open, IsRead}
+use Rattle.fac_parse.specs.inner.Reader.{Half, no_half, binding, heading, wrapping, calling, literal, name, names, tuple_slots, tuple_parent, fixed, effect, items, marks, Open, top, row, row_form, more, with_run, State, start, steps, ended, ended_open, IsHalfRead, IsRead}
 use Rattle.std.proofs.Common.{ℕ, ◌≡◌, ◌+◌, ◌<◌, ◌≤◌, List, [], ◌∷◌, ◌++◌, Option, Some, None, refl, sym, ◌∙◌, ap, subst, append_assoc, append-nil, arith, take, drop, length}
 use Rattle.std.proofs.lemmas.List.{take-append-drop, take-take, take_all}
 use Rattle.fac_lang.specs.declared.token.Token.{Token}
+use Rattle.fac_lang.specs.declared.tree.Element.{Element}
+use Rattle.fac_lang.specs.declared.tree.Element.TheVariants as element
 use Rattle.fac_lang.specs.declared.tree.Part.TheVariants as part
+use Rattle.fac_parse.specs.declared.context.Context.{Context}
 use Rattle.fac_lang.specs.declared.tree.Form.{Form}
 use Rattle.fac_parse.specs.Trees.{items_tokens, flatten, IsWellFormed, Reads, Begins, Refused}
-use Rattle.fac_parse.proofs.StateTokens.{state_tokens, tokens_of, run_fits, run_tokens, GoodOpen, Good}
+use Rattle.fac_parse.proofs.StateTokens.{state_tokens, tokens_of, run_fits, run_tokens, GoodHalf, BeginsLiteral, GoodLiteral, GoodOpen, Good}
 use Rattle.fac_parse.proofs.ReaderKeeps.{Known, steps_known, start_good, marked_gone, marked_tokens}
 use Rattle.fac_parse.proofs.ReaderReads.{steps-append, tree_read}
 use Rattle.fac_parse.proofs.ReaderCompletes.{completes}
@@ -24,6 +27,8 @@ open_ended before (top es (c ∷ []) no_half) forms fits g e =
     is_ended (with_run before es) forms _ e (record { fits = run_fits before es fits g.2 (c, g.0); spelled = run_tokens before es ∙ ap (λ (ts : List Token). flatten before ++ ts) (sym (append-nil (items_tokens es))) })
 open_ended before (top es (c ∷ []) (binding sign)) forms fits g e = cc
 open_ended before (top es (c ∷ []) (heading opens ns)) forms fits g e = cc
+open_ended before (top es (c ∷ []) (wrapping sign)) forms fits g e = cc
+open_ended before (top es (c ∷ []) (calling callee sign ts r)) forms fits g e = cc
 open_ended before (top es [] h) forms fits g e = cc
 open_ended before (top es (c ∷ d ∷ contexts) h) forms fits g e = cc
 open_ended before (row b (marks k ms)) forms fits g e =
@@ -43,6 +48,27 @@ open_ended before (row b (literal es contexts h)) forms fits g e = cc
 known : (ts : List Token) (s : State) → steps (Some start) ts ≡ Some s → Good s × (state_tokens s ≡ ts)
 known ts s h = subst (λ (o : Option State). Known o ts) h (steps_known (Some start) ts [] (start_good, refl))
 
+half_read : (contexts : List Context) (h : Half) → GoodHalf contexts h → IsHalfRead h
+half_read contexts no_half g = tt
+half_read contexts (binding sign) g = tt
+half_read contexts (heading opens ns) g = tt
+half_read contexts (wrapping sign) g = tt
+half_read contexts (calling callee sign ts r) g = g.0
+
+first_read : (h : Half) → BeginsLiteral h → IsHalfRead h
+first_read no_half g = tt
+first_read (wrapping sign) g = tt
+first_read (binding sign) g = absurd g
+first_read (heading opens ns) g = absurd g
+first_read (calling callee sign ts r) g = absurd g
+
+literal_read : (es : List Element) (contexts : List Context) (h : Half) → GoodLiteral es contexts h → IsHalfRead h
+literal_read [] contexts h g = first_read h g.1
+literal_read (element.Opens bracket place ∷ es) contexts h g = half_read contexts h g.2
+literal_read (element.Item item ∷ es) contexts h g = absurd g
+literal_read (element.OpensLocals opens ns bar ∷ es) contexts h g = absurd g
+literal_read (element.Closes bracket place ∷ es) contexts h g = absurd g
+
 open_read : (forms : List Form) (o : Open) → GoodOpen forms o → IsRead o
 open_read forms (row b (effect k ts r)) g = g.within.0
 open_read forms (row b (name k)) g = tt
@@ -50,10 +76,10 @@ open_read forms (row b (names k ns)) g = tt
 open_read forms (row b (tuple_slots p ns)) g = tt
 open_read forms (row b (tuple_parent place)) g = tt
 open_read forms (row b (fixed key)) g = tt
-open_read forms (row b (items k es contexts h)) g = tt
-open_read forms (row b (literal es contexts h)) g = tt
+open_read forms (row b (items k es contexts h)) g = half_read contexts h g.within.1
+open_read forms (row b (literal es contexts h)) g = literal_read es contexts h g.within
 open_read forms (row b (marks k ms)) g = tt
-open_read forms (top es contexts h) g = tt
+open_read forms (top es contexts h) g = half_read contexts h g.1
 
 -- an effect that is open is read as far as its tokens
 pub is_read : (ts : List Token) (s : State) → steps (Some start) ts ≡ Some s → IsRead s.open_part

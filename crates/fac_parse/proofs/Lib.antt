@@ -10,3 +10,4 @@ pub mod ParseLemmas
 pub mod ExamplesOfArrays
 pub mod ExamplesOfClasses
 pub mod ExamplesOfLocals
+pub mod ExamplesOfCalls

@@ -1,9 +1,9 @@
 -- Whatever is open can be closed.
-use Rattle.fac_parse.specs.inner.Reader.{Half, no_half, binding, heading, stuck, grown, literal, literal_with, is_local, Within, name, names, tuple_slots, tuple_parent, fixed, effect, items, marks, Begun, Open, top, row, State, in_state, outside, begin, last_inputs, row_form, at_slot, go_on, more, with_part, with_run, with_element, written, row_items, steps, ended}
+use Rattle.fac_parse.specs.inner.Reader.{Half, no_half, binding, heading, wrapping, calling, call_of, stuck, grown, literal, literal_with, is_local, Within, name, names, tuple_slots, tuple_parent, fixed, effect, items, marks, Begun, Open, top, row, State, in_state, outside, begin, last_inputs, row_form, at_slot, go_on, more, with_part, with_run, with_element, written, row_items, steps, ended}
 use Rattle.fac_parse.specs.Contexts.{items_in, most_levels, most_elements, most_locals, most_holes, counted_in, counted, uncounted_in, uncounted, bound_in, bound, holed_in, holed, item_behind, opened, opens_in, locals_in, opened_locals, closed_in, closed, behind}
 use Rattle.fac_parse.proofs.ReaderKeeps.{name_fills, names_fill, effect_fills, items_fill, inside_more, inside_ends, inside_open, Lead-more}
-use Rattle.fac_parse.proofs.StateTokens.{Inside, open_inside, GoodHalf, GoodLiteral, NamesLocals, locals_before, Filled, filled_more, first_of, next_slot, slot_of, GoodWithin, GoodOpen, Good}
-use Rattle.fac_parse.proofs.ReaderReads.{AllTaken, both, literal_part_read, adds_literal, grown_to, Takes, taken, heading_read, element_read, held_takes, literal_takes, named_name, name_read, names_end, slots_end, chain, effect_read, one, by_spelling, HoldsItems, top_holds_items, row_holds_items}
+use Rattle.fac_parse.proofs.StateTokens.{Inside, open_inside, GoodHalf, BeginsLiteral, GoodLiteral, NamesLocals, locals_before, Filled, filled_more, first_of, next_slot, slot_of, GoodWithin, GoodOpen, Good}
+use Rattle.fac_parse.proofs.ReaderReads.{AllTaken, both, literal_part_read, adds_literal, grown_to, Takes, taken, heading_read, declared_read, element_read, held_takes, literal_takes, named_name, name_read, names_end, slots_end, chain, effect_read, one, by_spelling, HoldsItems, top_holds_items, row_holds_items}
 use Rattle.fac_lang.specs.declared.tree.Term.TheVariants as term
 use Rattle.std.proofs.Common.{◌≡◌, ◌≤◌, ℕ, ◌+◌, Bool, true, false, cond, ◌&&◌, List, [], ◌∷◌, ◌++◌, length, Option, Some, None, refl, ap, sym, ◌∙◌, subst, append-nil, arith}
 use Rattle.std.specs.Prelude.{codes, nat_lt, nat_le}
@@ -34,7 +34,10 @@ use Rattle.fac_parse.specs.declared.rows.Naming.TheVariants as naming
 use Rattle.fac_parse.specs.declared.rows.Marked.TheVariants as marked
 use Rattle.fac_effect.specs.declared.spelling.Spelling.TheVariants.{Fixed, Semi, Name}
 use Rattle.fac_effect.specs.declared.effect_reader.EffectReader.{EffectReader}
-use Rattle.fac_effect.specs.EffectReading.{Progress, reads as reading, whole, start as no_tokens, run, after}
+use Rattle.fac_effect.specs.EffectReading.{Progress, reads as reading, whole, start as no_tokens, opened as opened_effect, all_pass, run, after}
+use Rattle.fac_effect.specs.SaidEffects.{effect_of}
+use Rattle.fac_effect.specs.RowlessEffects.{opened_tokens, is_no_row, have_no_row}
+use Rattle.fac_effect.proofs.RowlessLemmas.{whole_is_rowless, completes_rowless, none_append}
 use Rattle.fac_effect.proofs.EffectRuns.{run_append}
 use Rattle.fac_effect.proofs.EffectLemmas.{effect_is_whole, read_goes_on}
 use Rattle.fac_parse.specs.Rows.{slots_of}
@@ -99,6 +102,27 @@ finishes_begun contexts state put takes (heading opens ns) good is = record {
       heading_read contexts state put takes opens somewhere ns [] good.1 tt (ap (λ (x : List Token). opened_locals (length x) (uncounted contexts)) (append-nil ns) ∙ good.2)
       ∙ ap (λ (x : List Token). put (element.OpensLocals opens x somewhere)) (append-nil ns);
 }
+finishes_begun contexts state put takes (wrapping sign) good is = record {
+  tokens = some_name ∷ [];
+  whole = element.Item (term.Wrapped sign some_name);
+  next = good.0;
+  is = is_name;
+  stands = good.1;
+  reads = taken contexts state put takes (wrapping sign) some_name Name is_name (refl, refl);
+}
+finishes_begun contexts state put takes (calling callee sign ts r) good is =
+    let c = completes_rowless ts r good.0 good.1 in
+    let us = c.next ∷ c.rest in
+    record {
+      tokens = us;
+      whole = call_of callee sign (ts ++ us);
+      next = good.2;
+      is = (effect_of (opened_tokens sign (ts ++ us)), whole_is_rowless sign (ts ++ us) c.ends c.none, refl);
+      stands = good.3;
+      reads =
+          declared_read contexts state put takes callee sign ts us r (ap (λ (p : Progress). run p us) (sym good.0) ∙ sym (run_append (reading opened_effect) ts us) ∙ c.ends)
+          (both (have_no_row ts) (all_pass is_no_row (reading r) us) (sym (none_append ts us r good.0) ∙ c.none)).1;
+    }
 
 record ClosesAll (held : List Element → List Context → Half → Open) (forms : List Form) (from : List Context) (s : State) : Type 0 where
   tokens : List Token
@@ -196,6 +220,7 @@ holed_never (c ∷ cs) h = holed_in_never c.holes c cs h
 
 item_never : (contexts : List Context) (item : Term) → item_behind contexts item ≡ Some [] → ⊥
 item_never contexts (term.NextMethod place) h = uncounted_never contexts h
+item_never contexts (term.EffectCall callee sign ts height) h = uncounted_never contexts h
 item_never contexts (term.Bind sign t) h = bound_never (uncounted contexts) h
 item_never contexts (term.Hole place) h = holed_never contexts h
 item_never contexts (term.CalledHole place) h = holed_never contexts h
@@ -256,6 +281,8 @@ closes_all : (held : List Element → List Context → Half → Open) (forms : L
 closes_all held forms holds from es contexts no_half some lead good = closes_next held forms holds from es contexts lead (λ k. lead_never from es some (subst (Lead from es) k lead))
 closes_all held forms holds from es contexts (binding sign) some lead good = closes_begun held forms holds from es contexts (binding sign) lead (finishes_begun contexts _ _ (held_takes held forms holds es contexts) (binding sign) good (λ k. cc))
 closes_all held forms holds from es contexts (heading opens ns) some lead good = closes_begun held forms holds from es contexts (heading opens ns) lead (finishes_begun contexts _ _ (held_takes held forms holds es contexts) (heading opens ns) good (λ k. cc))
+closes_all held forms holds from es contexts (wrapping sign) some lead good = closes_begun held forms holds from es contexts (wrapping sign) lead (finishes_begun contexts _ _ (held_takes held forms holds es contexts) (wrapping sign) good (λ k. cc))
+closes_all held forms holds from es contexts (calling callee sign ts r) some lead good = closes_begun held forms holds from es contexts (calling callee sign ts r) lead (finishes_begun contexts _ _ (held_takes held forms holds es contexts) (calling callee sign ts r) good (λ k. cc))
 
 -- Parts.
 
@@ -396,16 +423,31 @@ closes_literal_in forms b bracket place es c d contexts (binding sign) g =
     closes_literal_begun forms b bracket place es c d contexts (binding sign) g.0 g.1 (finishes_begun (c ∷ d ∷ contexts) _ _ (literal_takes forms b (element.Opens bracket place ∷ es) c d contexts) (binding sign) g.2 (λ k. cc))
 closes_literal_in forms b bracket place es c d contexts (heading opens ns) g =
     closes_literal_begun forms b bracket place es c d contexts (heading opens ns) g.0 g.1 (finishes_begun (c ∷ d ∷ contexts) _ _ (literal_takes forms b (element.Opens bracket place ∷ es) c d contexts) (heading opens ns) g.2 (λ k. cc))
+closes_literal_in forms b bracket place es c d contexts (wrapping sign) g =
+    closes_literal_begun forms b bracket place es c d contexts (wrapping sign) g.0 g.1 (finishes_begun (c ∷ d ∷ contexts) _ _ (literal_takes forms b (element.Opens bracket place ∷ es) c d contexts) (wrapping sign) g.2 (λ k. cc))
+closes_literal_in forms b bracket place es c d contexts (calling callee sign ts r) g =
+    closes_literal_begun forms b bracket place es c d contexts (calling callee sign ts r) g.0 g.1 (finishes_begun (c ∷ d ∷ contexts) _ _ (literal_takes forms b (element.Opens bracket place ∷ es) c d contexts) (calling callee sign ts r) g.2 (λ k. cc))
+
+-- likewise where no bracket is open
+closes_literal_outside : (forms : List Form) (b : Begun) (h : Half) → BeginsLiteral h → ClosesPart forms b (literal [] outside h)
+closes_literal_outside forms b no_half begins = record {
+  tokens = plain_token somewhere (codes "t") ∷ [];
+  whole = part.Literal (element.Item (term.True somewhere) ∷ []);
+  fills = tt;
+  reads = literal_part_read forms b (element.Item (term.True somewhere) ∷ []) tt;
+}
+closes_literal_outside forms b (wrapping sign) begins = record {
+  tokens = some_name ∷ [];
+  whole = part.Literal (element.Item (term.Wrapped sign some_name) ∷ []);
+  fills = is_name;
+  reads = by_spelling forms (row b (literal [] outside (wrapping sign))) some_name Name is_name;
+}
+closes_literal_outside forms b (binding sign) begins = absurd begins
+closes_literal_outside forms b (heading opens ns) begins = absurd begins
+closes_literal_outside forms b (calling callee sign ts r) begins = absurd begins
 
 closes_literal : (forms : List Form) (b : Begun) (es : List Element) (contexts : List Context) (h : Half) → GoodLiteral es contexts h → ClosesPart forms b (literal es contexts h)
-closes_literal forms b [] contexts h g =
-    subst (λ (x : List Context). ClosesPart forms b (literal [] x h)) (sym g.0)
-    (subst (λ (x : Half). ClosesPart forms b (literal [] outside x)) (sym g.1) (record {
-      tokens = plain_token somewhere (codes "t") ∷ [];
-      whole = part.Literal (element.Item (term.True somewhere) ∷ []);
-      fills = tt;
-      reads = literal_part_read forms b (element.Item (term.True somewhere) ∷ []) tt;
-    }))
+closes_literal forms b [] contexts h g = subst (λ (x : List Context). ClosesPart forms b (literal [] x h)) (sym g.0) (closes_literal_outside forms b h g.1)
 closes_literal forms b (element.Opens bracket place ∷ es) (c ∷ d ∷ contexts) h g = closes_literal_in forms b bracket place es c d contexts h g
 closes_literal forms b (element.Opens bracket place ∷ es) [] h g = let o = inside_open (open_inside bracket) es [] g.1 in cc
 closes_literal forms b (element.Opens bracket place ∷ es) (c ∷ []) h g = let o = inside_open (open_inside bracket) es (c ∷ []) g.1 in cc
@@ -456,7 +498,7 @@ begun_completes forms b slot.Effect later = part_completes forms b (effect Value
 begun_completes forms b slot.LocalsEffect later = part_completes forms b (effect Locals [] no_tokens) later (closes_effect forms b Locals [] no_tokens (refl, refl))
 begun_completes forms b slot.Items later = part_completes forms b (items Values [] outside no_half) later (closes_items forms b Values [] outside no_half (refl, tt))
 begun_completes forms b slot.LocalsItems later = part_completes forms b (items Locals [] (items_in (Some (last_inputs 0 b.parts)) ∷ []) no_half) later (closes_items forms b Locals [] (items_in (Some (last_inputs 0 b.parts)) ∷ []) no_half (refl, tt))
-begun_completes forms b slot.Literal later = part_completes forms b (literal [] outside no_half) later (closes_literal forms b [] outside no_half (refl, refl))
+begun_completes forms b slot.Literal later = part_completes forms b (literal [] outside no_half) later (closes_literal forms b [] outside no_half (refl, tt))
 begun_completes forms b slot.Marks later = record { tokens = []; to = in_state forms (row b (marks marked.Word [])); forms = _; reads = refl; whole = refl }
 begun_completes forms b slot.MethodMark later = record { tokens = []; to = in_state forms (row b (marks marked.Method [])); forms = _; reads = refl; whole = refl }
 

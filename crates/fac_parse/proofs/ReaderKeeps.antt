@@ -13,6 +13,7 @@ use Rattle.fac_lang.specs.declared.tree.Bracket.{Bracket}
 use Rattle.fac_lang.specs.declared.tree.Bracket.TheVariants.{Quotation, Array, Fry}
 use Rattle.fac_parse.specs.declared.rows.Taking.{Taking}
 use Rattle.fac_parse.specs.declared.rows.Taking.TheVariants.{Values, Locals}
+use Rattle.fac_lang.specs.declared.tree.Callee.{Callee}
 use Rattle.fac_lang.specs.declared.tree.Mark.{Mark}
 use Rattle.fac_lang.specs.declared.tree.Mark.TheVariants as mark
 use Rattle.fac_lang.specs.declared.tree.FormKind.{FormKind}
@@ -30,20 +31,23 @@ use Rattle.fac_parse.specs.declared.rows.Naming.TheVariants as naming
 use Rattle.fac_parse.specs.declared.rows.Marked.{Marked}
 use Rattle.fac_parse.specs.declared.rows.Marked.TheVariants as marked
 use Rattle.fac_effect.specs.declared.spelling.Spelling.{Spelling}
-use Rattle.fac_effect.specs.declared.spelling.Spelling.TheVariants.{Begins, Fixed, Semi, OpensBracket, ClosesBracket, OpensLocals, Bar, Binds, Hole, CalledHole, True, False, Inline, Recursive, NextMethod, Integer, String, Name}
+use Rattle.fac_effect.specs.declared.spelling.Spelling.TheVariants.{Begins, Fixed, Semi, OpensBracket, ClosesBracket, OpensLocals, Bar, Binds, Hole, CalledHole, True, False, Inline, Recursive, NextMethod, Wraps, Calls, Integer, String, Name}
 use Rattle.fac_effect.specs.declared.effect_reader.EffectReader.{EffectReader}
-use Rattle.fac_effect.specs.EffectReading.{Progress, reads as reading, whole, refused, step as token_step, go_on, after}
+use Rattle.fac_effect.specs.EffectReading.{Progress, reads as reading, whole, refused, opened, step as token_step, all_pass, go_on, after}
 use Rattle.fac_effect.proofs.EffectLemmas.{whole_is_effect, after_more}
 use Rattle.fac_effect.specs.LocalNames.{all_may_stand}
 use Rattle.fac_effect.specs.SaidEffects.{effect_of}
+use Rattle.fac_effect.specs.RowlessEffects.{opened_tokens, behind_opens, is_no_row, have_no_row}
+use Rattle.fac_effect.proofs.EffectRuns.{run_append}
+use Rattle.fac_effect.proofs.RowlessLemmas.{whole_is_rowless, none_append}
 use Rattle.fac_effect.proofs.LocalNameLemmas.{inputs_are_named, names_append}
-use Rattle.fac_parse.specs.Contexts.{items_in, uncounted, bound, opened_locals, behind}
-use Rattle.fac_effect.specs.Spellings.{head_of, token_spelling, token_text, plain_token}
+use Rattle.fac_parse.specs.Contexts.{items_in, counted, uncounted, bound, opened_locals, behind}
+use Rattle.fac_effect.specs.Spellings.{head_of, wrap_text, call_text, token_spelling, token_text, plain_token}
 use Rattle.fac_parse.specs.Rows.{slots_of}
 use Rattle.fac_parse.specs.Trees.{element_tokens, items_tokens, mark_token, marks_tokens, parent_tokens, part_tokens, parts_tokens, flatten, named, IsName, AreNames, most_slots, is_parent_sign, AreSlots, AreLocalNames, IsLiteralBracket, AreMarks, IsElement, Lead, Encloses, Fills, IsWellFormed}
-use Rattle.fac_parse.specs.inner.Reader.{Half, no_half, binding, heading, Grown, stuck, begun_as, grown, Within, name, names, tuple_slots, tuple_parent, fixed, effect, items, literal, marks, Begun, begun, Open, top, row, State, in_state, outside, start, row_form, last_inputs, more, with_part, with_run, may_end, begin_row, element_of, grown_if, half_where, is_local, begin_element, bind_step, heading_step, grow, with_element, with_grown, begins, begin_or_add, top_step, name_step, names_step, sign_step, sign_or_slot, slots_step, parent_step, key_step, fixed_step, written, effect_with, may_take, effect_step, row_items, end_items, is_semi, end_or_add, is_open, literal_with, literal_grown, mark_of, may_follow, with_mark, mark_step, row_step, open_step, step, steps}
+use Rattle.fac_parse.specs.inner.Reader.{Half, no_half, binding, heading, wrapping, calling, Grown, stuck, begun_as, grown, Within, name, names, tuple_slots, tuple_parent, fixed, effect, items, literal, marks, Begun, begun, Open, top, row, State, in_state, outside, start, row_form, last_inputs, more, with_part, with_run, may_end, begin_row, element_of, grown_if, half_where, is_local, begin_element, bind_step, heading_step, wrap_step, call_with, call_step, grow, with_element, with_grown, begins, begin_or_add, top_step, name_step, names_step, sign_step, sign_or_slot, slots_step, parent_step, key_step, fixed_step, written, effect_with, may_take, effect_step, row_items, end_items, is_semi, end_or_add, is_open, literal_with, literal_grown, mark_of, may_follow, with_mark, mark_step, row_step, open_step, step, steps}
 use Rattle.fac_effect.proofs.SpellingLemmas.{sign_token, name_token}
-use Rattle.fac_parse.proofs.StateTokens.{half_tokens, within_tokens, tokens_of, state_tokens, element_behind, parts-last, Filled, filled_more, effect_slot, slot_of, Inside, open_inside, GoodHalf, locals_before, NamesLocals, GoodWithin, GoodRow, NoRunLast, GoodOpen, Good, run_fits, run_tokens, Gone, ended_row_gone, gone_on}
+use Rattle.fac_parse.proofs.StateTokens.{half_tokens, within_tokens, tokens_of, state_tokens, element_behind, parts-last, Filled, filled_more, effect_slot, slot_of, Inside, open_inside, GoodHalf, BeginsLiteral, locals_before, NamesLocals, GoodWithin, GoodRow, NoRunLast, GoodOpen, Good, run_fits, run_tokens, Gone, ended_row_gone, gone_on}
 
 -- a state is good, and has these tokens and this one
 pub record Taken (tokens : List Token) (t : Token) (s : State) : Type 0 where
@@ -223,9 +227,19 @@ opens_is : (contexts : List Context) (t : Token) (o : Option (List Context)) →
 opens_is contexts t None e is = tt
 opens_is contexts t (Some next) e is = ((tt, next, e), alone t _ is)
 
+wraps_is : (contexts : List Context) (t : Token) (o : Option (List Context)) → counted contexts ≡ o → t ≡ plain_token t.place wrap_text → IsGrown contexts no_half t (half_where o (wrapping t.place))
+wraps_is contexts t None e is = tt
+wraps_is contexts t (Some next) e is = ((next, e), alone t _ is)
+
+calls_is : (contexts : List Context) (callee : Callee) (t : Token) (o : Option (List Context)) → uncounted contexts ≡ o → t ≡ plain_token t.place (call_text callee) → IsGrown contexts no_half t (half_where o (calling callee t.place [] opened))
+calls_is contexts callee t None e is = tt
+calls_is contexts callee t (Some next) e is = ((refl, refl, next, e), alone t _ is)
+
 begin_is : (contexts : List Context) (t : Token) (s : Spelling) → token_spelling t.kind ≡ s → IsGrown contexts no_half t (begin_element contexts s t)
 begin_is contexts t Binds h = binds_is contexts t (bound (uncounted contexts)) refl (sign_token t Binds h tt)
 begin_is contexts t OpensLocals h = opens_is contexts t (opened_locals 0 (uncounted contexts)) refl (sign_token t OpensLocals h tt)
+begin_is contexts t Wraps h = wraps_is contexts t (counted contexts) refl (sign_token t Wraps h tt)
+begin_is contexts t (Calls callee) h = calls_is contexts callee t (uncounted contexts) refl (sign_token t (Calls callee) h tt)
 begin_is contexts t s h = element_is contexts t s h
 
 bound_is : (contexts : List Context) (sign : Place) (t : Token) (x : Bool) → token_spelling t.kind ≡ Name → is_local t ≡ x → IsGrown contexts (binding sign) t (cond x (grown (element.Item (term.Bind sign t))) stuck)
@@ -253,10 +267,32 @@ heading_is contexts opens ns t Name are h = named_is contexts opens ns t (is_loc
 heading_is contexts opens ns t Bar are h = (are, with_sign (plain_token opens (codes "[|") ∷ ns) t _ (sign_token t Bar h tt))
 heading_is contexts opens ns t _ are h = tt
 
+wrap_is : (contexts : List Context) (sign : Place) (t : Token) (s : Spelling) → token_spelling t.kind ≡ s → IsGrown contexts (wrapping sign) t (wrap_step sign s t)
+wrap_is contexts sign t Name h = (h, refl)
+wrap_is contexts sign t _ h = tt
+
+-- one more token of the effect of a call
+declared_is : (contexts : List Context) (callee : Callee) (sign : Place) (ts : List Token) (r : EffectReader) (t : Token) (next : List Context) (p : Progress) → uncounted contexts ≡ Some next → behind_opens (ts ++ t ∷ []) ≡ p → have_no_row (ts ++ t ∷ []) ≡ true → IsGrown contexts (calling callee sign ts r) t (call_with callee sign (ts ++ t ∷ []) p)
+declared_is contexts callee sign ts r t next (reading q) b e none = ((e, none, next, b), refl)
+declared_is contexts callee sign ts r t next whole b e none = ((effect_of (opened_tokens sign (ts ++ t ∷ [])), whole_is_rowless sign (ts ++ t ∷ []) e none, refl), refl)
+declared_is contexts callee sign ts r t next (refused why) b e none = tt
+
+call_tested : (contexts : List Context) (callee : Callee) (sign : Place) (ts : List Token) (r : EffectReader) (t : Token) (x : Bool) → is_no_row r (token_spelling t.kind) t ≡ x → GoodHalf contexts (calling callee sign ts r) → IsGrown contexts (calling callee sign ts r) t (cond x (call_with callee sign (ts ++ t ∷ []) (token_step r (token_spelling t.kind) t)) stuck)
+call_tested contexts callee sign ts r t false h good = tt
+call_tested contexts callee sign ts r t true h good =
+    declared_is contexts callee sign ts r t good.2 (token_step r (token_spelling t.kind) t) good.3 (run_append (reading opened) ts (t ∷ []) ∙ ap (λ (p : Progress). go_on p t) good.0)
+    (none_append ts (t ∷ []) r good.0 ∙ ap (λ (x : Bool). x && all_pass is_no_row (reading r) (t ∷ [])) good.1 ∙ ap (λ (x : Bool). x && true) h)
+
+call_is : (contexts : List Context) (callee : Callee) (sign : Place) (ts : List Token) (r : EffectReader) (t : Token) (s : Spelling) → GoodHalf contexts (calling callee sign ts r) → token_spelling t.kind ≡ s → IsGrown contexts (calling callee sign ts r) t (call_step callee sign ts r s t)
+call_is contexts callee sign ts r t s good h =
+    subst (λ (x : Spelling). IsGrown contexts (calling callee sign ts r) t (call_step callee sign ts r x t)) h (call_tested contexts callee sign ts r t (is_no_row r (token_spelling t.kind) t) refl good)
+
 grow_is : (contexts : List Context) (h : Half) (t : Token) (s : Spelling) → GoodHalf contexts h → token_spelling t.kind ≡ s → IsGrown contexts h t (grow contexts h s t)
 grow_is contexts no_half t s good e = begin_is contexts t s e
 grow_is contexts (binding sign) t s good e = bind_is contexts sign t s e
 grow_is contexts (heading opens ns) t s good e = heading_is contexts opens ns t s good.0 e
+grow_is contexts (wrapping sign) t s good e = wrap_is contexts sign t s e
+grow_is contexts (calling callee sign ts r) t s good e = call_is contexts callee sign ts r t s good e
 
 -- items that are held somewhere are good there, and stand behind these tokens
 record Holds (held : List Element → List Context → Half → Open) (forms : List Form) (front : List Token) (from : List Context) : Type 0 where
@@ -305,6 +341,8 @@ begin_keeps forms es (c ∷ []) no_half kind t h fits g =
     }
 begin_keeps forms es (c ∷ []) (binding sign) kind t h fits g = tt
 begin_keeps forms es (c ∷ []) (heading opens ns) kind t h fits g = tt
+begin_keeps forms es (c ∷ []) (wrapping sign) kind t h fits g = tt
+begin_keeps forms es (c ∷ []) (calling callee sign ts r) kind t h fits g = tt
 begin_keeps forms es [] half kind t h fits g = tt
 begin_keeps forms es (c ∷ d ∷ contexts) half kind t h fits g = tt
 
@@ -335,6 +373,8 @@ end_keeps forms b k es (c ∷ []) no_half t e fits g =
     (with_sign (items_tokens es) t _ (sign_token t Semi e tt) ∙ ap (λ (ts : List Token). ts ++ t ∷ []) (sym (append-nil (items_tokens es))))
 end_keeps forms b k es (c ∷ []) (binding sign) t e fits g = tt
 end_keeps forms b k es (c ∷ []) (heading opens ns) t e fits g = tt
+end_keeps forms b k es (c ∷ []) (wrapping sign) t e fits g = tt
+end_keeps forms b k es (c ∷ []) (calling callee sign ts r) t e fits g = tt
 end_keeps forms b k es [] half t e fits g = tt
 end_keeps forms b k es (c ∷ d ∷ contexts) half t e fits g = tt
 
@@ -382,6 +422,8 @@ literal_opens forms b t bracket place is fits g spelled =
 
 literal_begins : (forms : List Form) (b : Begun) (t : Token) (e : Element) → IsWellFormed forms → GoodRow b (literal [] outside no_half) → IsElement e → element_tokens e ≡ t ∷ [] → Keeps (tokens_of forms (row b (literal [] outside no_half))) t (literal_grown forms b [] outside (grown e))
 literal_begins forms b t (element.Item (term.Name n)) fits g is spelled = tt
+literal_begins forms b t (element.Item (term.Wrapped sign n)) fits g is spelled = literal_alone forms b t (element.Item (term.Wrapped sign n)) fits g is spelled
+literal_begins forms b t (element.Item (term.EffectCall callee sign ts height)) fits g is spelled = tt
 literal_begins forms b t (element.Item (term.Integer n z)) fits g is spelled = literal_alone forms b t (element.Item (term.Integer n z)) fits g is spelled
 literal_begins forms b t (element.Item (term.Text n)) fits g is spelled = literal_alone forms b t (element.Item (term.Text n)) fits g is spelled
 literal_begins forms b t (element.Item (term.True place)) fits g is spelled = literal_alone forms b t (element.Item (term.True place)) fits g is spelled
@@ -399,7 +441,11 @@ literal_begins forms b t (element.Closes bracket place) fits g is spelled = tt
 -- one more token at the beginning of a literal, and in a bracket of one
 literal_first : (forms : List Form) (b : Begun) (t : Token) (x : Grown) → IsGrown outside no_half t x → IsWellFormed forms → GoodRow b (literal [] outside no_half) → Keeps (tokens_of forms (row b (literal [] outside no_half))) t (literal_grown forms b [] outside x)
 literal_first forms b t stuck is fits g = tt
-literal_first forms b t (begun_as h) is fits g = tt
+literal_first forms b t (begun_as no_half) is fits g = tt
+literal_first forms b t (begun_as (binding sign)) is fits g = tt
+literal_first forms b t (begun_as (heading opens ns)) is fits g = tt
+literal_first forms b t (begun_as (wrapping sign)) is fits g = within_taken forms b (literal [] outside no_half) (literal [] outside (wrapping sign)) t fits g refl (refl, tt) is.1
+literal_first forms b t (begun_as (calling callee sign ts r)) is fits g = tt
 literal_first forms b t (grown e) is fits g = literal_begins forms b t e fits g is.0 is.1
 
 literal_next : (forms : List Form) (b : Begun) (bracket : Bracket) (place : Place) (es : List Element) (c d : Context) (contexts : List Context) (h : Half) (t : Token) (x : Grown) → IsGrown (c ∷ d ∷ contexts) h t x → IsWellFormed forms → GoodRow b (literal (element.Opens bracket place ∷ es) (c ∷ d ∷ contexts) h) → Keeps (tokens_of forms (row b (literal (element.Opens bracket place ∷ es) (c ∷ d ∷ contexts) h))) t (literal_grown forms b (element.Opens bracket place ∷ es) (c ∷ d ∷ contexts) x)
@@ -409,12 +455,22 @@ literal_next forms b bracket place es c d contexts h t (begun_as next) is fits g
     (ap (λ (ts : List Token). items_tokens (element.Opens bracket place ∷ es) ++ ts) is.1 ∙ sym (append_assoc (items_tokens (element.Opens bracket place ∷ es)) (half_tokens h) (t ∷ [])))
 literal_next forms b bracket place es c d contexts h t (grown e) is fits g = literal_goes forms b bracket place es (c ∷ d ∷ contexts) h t e (behind (c ∷ d ∷ contexts) e) fits g is.0 is.1 refl
 
-literal_from : (forms : List Form) (b : Begun) (contexts : List Context) (h : Half) (s : Spelling) (t : Token) → token_spelling t.kind ≡ s → IsWellFormed forms → contexts ≡ outside → h ≡ no_half → GoodRow b (literal [] contexts h) → Keeps (tokens_of forms (row b (literal [] contexts h))) t (literal_grown forms b [] contexts (grow contexts h s t))
-literal_from forms b contexts h s t k fits e f g =
-    let good : GoodRow b (literal [] outside no_half) = subst (λ (x : List Context). GoodRow b (literal [] x no_half)) e (subst (λ (x : Half). GoodRow b (literal [] contexts x)) f g) in
+-- the name of a word that is a value, and is the literal
+literal_wraps : (forms : List Form) (b : Begun) (sign : Place) (s : Spelling) (t : Token) → token_spelling t.kind ≡ s → IsWellFormed forms → GoodRow b (literal [] outside (wrapping sign)) → Keeps (tokens_of forms (row b (literal [] outside (wrapping sign)))) t (literal_grown forms b [] outside (wrap_step sign s t))
+literal_wraps forms b sign Name t k fits g = part_taken forms b (literal [] outside (wrapping sign)) (part.Literal (element.Item (term.Wrapped sign t) ∷ [])) t fits g k refl
+literal_wraps forms b sign _ t k fits g = tt
+
+literal_outside : (forms : List Form) (b : Begun) (h : Half) (s : Spelling) (t : Token) → token_spelling t.kind ≡ s → IsWellFormed forms → BeginsLiteral h → GoodRow b (literal [] outside h) → Keeps (tokens_of forms (row b (literal [] outside h))) t (literal_grown forms b [] outside (grow outside h s t))
+literal_outside forms b no_half s t k fits begins g = literal_first forms b t (grow outside no_half s t) (grow_is outside no_half t s tt k) fits g
+literal_outside forms b (wrapping sign) s t k fits begins g = literal_wraps forms b sign s t k fits g
+literal_outside forms b (binding sign) s t k fits begins g = absurd begins
+literal_outside forms b (heading opens ns) s t k fits begins g = absurd begins
+literal_outside forms b (calling callee sign ts r) s t k fits begins g = absurd begins
+
+literal_from : (forms : List Form) (b : Begun) (contexts : List Context) (h : Half) (s : Spelling) (t : Token) → token_spelling t.kind ≡ s → IsWellFormed forms → contexts ≡ outside → BeginsLiteral h → GoodRow b (literal [] contexts h) → Keeps (tokens_of forms (row b (literal [] contexts h))) t (literal_grown forms b [] contexts (grow contexts h s t))
+literal_from forms b contexts h s t k fits e begins g =
     subst (λ (x : List Context). Keeps (tokens_of forms (row b (literal [] x h))) t (literal_grown forms b [] x (grow x h s t))) (sym e)
-    (subst (λ (x : Half). Keeps (tokens_of forms (row b (literal [] outside x))) t (literal_grown forms b [] outside (grow outside x s t))) (sym f)
-    (literal_first forms b t (grow outside no_half s t) (grow_is outside no_half t s tt k) fits good))
+    (literal_outside forms b h s t k fits begins (subst (λ (x : List Context). GoodRow b (literal [] x h)) e g))
 
 literal_keeps : (forms : List Form) (b : Begun) (es : List Element) (contexts : List Context) (h : Half) (s : Spelling) (t : Token) → token_spelling t.kind ≡ s → IsWellFormed forms → GoodRow b (literal es contexts h) → Keeps (tokens_of forms (row b (literal es contexts h))) t (literal_grown forms b es contexts (grow contexts h s t))
 literal_keeps forms b [] contexts h s t k fits g = literal_from forms b contexts h s t k fits g.within.0 g.within.1 g

@@ -1,7 +1,7 @@
 -- The tokens of a well-formed tree are read, to that tree.
-use Rattle.fac_parse.specs.inner.Reader.{Half, no_half, binding, heading, Grown, stuck, begun_as, grown, literal, literal_with, literal_grown, Within, name, names, tuple_slots, tuple_parent, fixed, effect, items, marks, Begun, begun, Open, top, row, State, in_state, outside, start, row_form, row_ended, last_inputs, at_slot, go_on, more, with_part, name_step, names_step, sign_or_slot, is_local, half_where, begin_element, grow, with_element, with_grown, begins, begin_or_add, top_step, written, effect_with, may_take, row_items, is_semi, end_or_add, mark_of, may_follow, mark_step, open_step, step, steps, ended}
-use Rattle.fac_parse.specs.Contexts.{items_in, inside, uncounted, bound, opened_locals, behind, locals_in, most_levels, most_locals}
-use Rattle.fac_parse.specs.Trees.{IsLiteral, Encloses, element_tokens, items_tokens, mark_token, marks_tokens, part_tokens, parts_tokens, form_tokens, flatten, named, IsName, AreNames, AreLocalNames, most_slots, AreSlots, IsParent, IsElement, Lead, AreMarks, inputs_of, Fills, FillFrom, FillAll, IsWellFormed, Reads}
+use Rattle.fac_parse.specs.inner.Reader.{Half, no_half, binding, heading, wrapping, calling, Grown, stuck, begun_as, grown, literal, literal_with, literal_grown, Within, name, names, tuple_slots, tuple_parent, fixed, effect, items, marks, Begun, begun, Open, top, row, State, in_state, outside, start, row_form, row_ended, last_inputs, at_slot, go_on, more, with_part, name_step, names_step, sign_or_slot, is_local, half_where, begin_element, call_of, call_with, grow, with_element, with_grown, begins, begin_or_add, top_step, written, effect_with, may_take, row_items, is_semi, end_or_add, mark_of, may_follow, mark_step, open_step, step, steps, ended}
+use Rattle.fac_parse.specs.Contexts.{items_in, inside, counted, uncounted, bound, opened_locals, behind, locals_in, most_levels, most_locals}
+use Rattle.fac_parse.specs.Trees.{IsLiteral, Encloses, element_tokens, items_tokens, mark_token, marks_tokens, part_tokens, parts_tokens, form_tokens, flatten, named, IsName, AreNames, AreLocalNames, most_slots, AreSlots, IsParent, IsDeclared, IsElement, Lead, AreMarks, inputs_of, Fills, FillFrom, FillAll, IsWellFormed, Reads}
 use Rattle.fac_parse.proofs.StateTokens.{open_inside, Filled, filled_more, inputs_last, first_of, next_slot, MarksLast, marks_last}
 use Rattle.std.proofs.Common.{◌≡◌, ℕ, ◌≤◌, Bool, true, false, cond, List, [], ◌∷◌, ◌++◌, Option, Some, None, refl, ap, sym, ◌∙◌, subst, append_assoc, append-nil, arith, length, length-append, le-leb, leb-true}
 use Rattle.std.specs.Prelude.{codes, nat_lt, nat_le, ◌&&◌, ◌+◌}
@@ -30,22 +30,27 @@ use Rattle.fac_parse.specs.declared.rows.Naming.TheVariants as naming
 use Rattle.fac_parse.specs.declared.rows.Marked.{Marked}
 use Rattle.fac_parse.specs.declared.rows.Marked.TheVariants as marked
 use Rattle.fac_effect.specs.declared.spelling.Spelling.{Spelling}
-use Rattle.fac_effect.specs.declared.spelling.Spelling.TheVariants.{Begins, Fixed, Semi, OpensBracket, ClosesBracket, OpensLocals, Bar, Binds, Hole, CalledHole, True, False, Inline, Recursive, NextMethod, Integer, String, Name}
+use Rattle.fac_effect.specs.declared.spelling.Spelling.TheVariants.{Begins, Fixed, Semi, OpensBracket, ClosesBracket, OpensLocals, Bar, Binds, Hole, CalledHole, True, False, Inline, Recursive, NextMethod, Wraps, Calls, Integer, String, Name}
+use Rattle.fac_lang.specs.declared.phrase.Height.{Height}
+use Rattle.fac_lang.specs.declared.tree.Callee.{Callee}
+use Rattle.fac_lang.specs.Effects.{effect_height}
 use Rattle.fac_lang.specs.Signatures.{Signature}
 use Rattle.fac_effect.specs.declared.effect_reader.EffectReader.{EffectReader}
 use Rattle.fac_effect.specs.declared.effect_reader.EffectWhy.{EffectWhy}
 use Rattle.fac_effect.specs.declared.effect_reader.EffectWhy.TheVariants.{Form as bad_form}
-use Rattle.fac_effect.specs.EffectReading.{Progress, reads as reading, whole as whole_effect, refused, start as no_tokens, step as token_step, run}
+use Rattle.fac_effect.specs.EffectReading.{Progress, reads as reading, whole as whole_effect, refused, start as no_tokens, opened as opened_effect, step as token_step, all_pass, run}
 use Rattle.fac_effect.proofs.EffectRuns.{refused_stays}
 use Rattle.fac_effect.proofs.EffectLemmas.{effect_is_whole}
 use Rattle.fac_effect.specs.LocalNames.{may_stand, all_may_stand}
+use Rattle.fac_effect.specs.RowlessEffects.{is_no_row}
+use Rattle.fac_effect.proofs.RowlessLemmas.{rowless_is_whole}
 use Rattle.fac_effect.proofs.LocalNameLemmas.{inputs_are_named}
 use Rattle.fac_lang.specs.declared.tree.Bracket.{Bracket}
 use Rattle.fac_lang.specs.declared.tree.Bracket.TheVariants.{Quotation, Array, Fry}
 use Rattle.fac_parse.specs.declared.rows.Taking.{Taking}
 use Rattle.fac_parse.specs.declared.rows.Taking.TheVariants.{Values, Locals}
 use Rattle.fac_effect.specs.WrittenEffects.{IsEffect}
-use Rattle.fac_effect.specs.Spellings.{head_of, opening_text, token_spelling, plain_token, spelling_of, has_integer_form, word_spelling, sign_spelling, is_reserved, is_reserved_sign, is_reserved_form, is_reserved_word, is_left_out}
+use Rattle.fac_effect.specs.Spellings.{head_of, wrap_text, call_text, opening_text, token_spelling, plain_token, spelling_of, has_integer_form, word_spelling, sign_spelling, is_reserved, is_reserved_sign, is_reserved_form, is_reserved_word, is_left_out}
 use Rattle.fac_parse.specs.Rows.{slots_of}
 use Rattle.fac_effect.proofs.SpellingLemmas.{sign_is}
 
@@ -258,11 +263,51 @@ locals_read contexts state put takes opens bar ns next are e =
     (taken contexts state put takes no_half (plain_token opens (codes "[|")) OpensLocals (sign_is OpensLocals tt) (refl, refl) ∙ ap (λ (o : Option (List Context)). grown_to state put (half_where o (heading opens []))) room.1)
     (heading_read contexts state put takes opens bar [] ns next are e)
 
+-- `\` and a name
+wrap_read : (contexts : List Context) (state : Half → State) (put : Element → Option State) → Takes contexts state put → (sign : Place) (t : Token) (next : List Context) → token_spelling t.kind ≡ Name → counted contexts ≡ Some next → steps (Some (state no_half)) (plain_token sign wrap_text ∷ t ∷ []) ≡ put (element.Item (term.Wrapped sign t))
+wrap_read contexts state put takes sign t next h e =
+    one (state no_half) (state (wrapping sign)) (plain_token sign wrap_text) (t ∷ []) _
+    (taken contexts state put takes no_half (plain_token sign wrap_text) Wraps (sign_is Wraps tt) (refl, refl) ∙ ap (λ (o : Option (List Context)). grown_to state put (half_where o (wrapping sign))) e)
+    (taken contexts state put takes (wrapping sign) t Name h (refl, refl))
+
+-- a token of an effect begins and ends no row
+in_effect : (s : Spelling) (r : EffectReader) (t : Token) (us : List Token) → run (token_step r s t) us ≡ whole_effect → InItems s
+in_effect (Begins kind) r t us h = absurd (never_whole bad_form us h)
+in_effect Semi r t us h = absurd (never_whole bad_form us h)
+in_effect _ r t us h = (refl, refl)
+
+declared_next : (state : Half → State) (put : Element → Option State) (callee : Callee) (sign : Place) (ts us : List Token) (p : Progress) → run p us ≡ whole_effect → all_pass is_no_row p us ≡ true → ((r : EffectReader) → run (reading r) us ≡ whole_effect → all_pass is_no_row (reading r) us ≡ true → steps (Some (state (calling callee sign ts r))) us ≡ put (call_of callee sign (ts ++ us))) → steps (grown_to state put (call_with callee sign ts p)) us ≡ put (call_of callee sign (ts ++ us))
+declared_next state put callee sign ts us (reading r) h none later = later r h none
+declared_next state put callee sign ts [] whole_effect h none later = ap (λ (x : List Token). put (call_of callee sign x)) (sym (append-nil ts))
+declared_next state put callee sign ts (u ∷ us) whole_effect h none later = absurd (never_whole bad_form us h)
+declared_next state put callee sign ts us (refused why) h none later = absurd (never_whole why us h)
+
+-- tokens of the effect of a call behind others
+pub declared_read : (contexts : List Context) (state : Half → State) (put : Element → Option State) → Takes contexts state put → (callee : Callee) (sign : Place) (ts us : List Token) (r : EffectReader) → run (reading r) us ≡ whole_effect → all_pass is_no_row (reading r) us ≡ true → steps (Some (state (calling callee sign ts r))) us ≡ put (call_of callee sign (ts ++ us))
+declared_read contexts state put takes callee sign ts [] r h none = cc
+declared_read contexts state put takes callee sign ts (u ∷ us) r h none =
+    let s = token_spelling u.kind in
+    let next = token_step r s u in
+    let tests = both (is_no_row r s u) (all_pass is_no_row next us) none in
+    ap (λ (o : Option State). steps o us) (taken contexts state put takes (calling callee sign ts r) u s refl (in_effect s r u us h) ∙ ap (λ (x : Bool). grown_to state put (cond x (call_with callee sign (ts ++ u ∷ []) next) stuck)) tests.0)
+    ∙ declared_next state put callee sign (ts ++ u ∷ []) us next h tests.1 (λ r h none. declared_read contexts state put takes callee sign (ts ++ u ∷ []) us r h none)
+    ∙ ap (λ (x : List Token). put (call_of callee sign x)) (append_assoc ts (u ∷ []) us)
+
+-- `call(` or `execute(` and the rest of an effect
+call_read : (contexts : List Context) (state : Half → State) (put : Element → Option State) → Takes contexts state put → (callee : Callee) (sign : Place) (ts : List Token) (height : Height) (next : List Context) → IsDeclared sign ts height → uncounted contexts ≡ Some next → steps (Some (state no_half)) (plain_token sign (call_text callee) ∷ ts) ≡ put (element.Item (term.EffectCall callee sign ts height))
+call_read contexts state put takes callee sign ts height next h e =
+    let all = rowless_is_whole sign ts h.0 h.1 in
+    one (state no_half) (state (calling callee sign [] opened_effect)) (plain_token sign (call_text callee)) ts _
+    (taken contexts state put takes no_half (plain_token sign (call_text callee)) (Calls callee) (sign_is (Calls callee) tt) (refl, refl) ∙ ap (λ (o : Option (List Context)). grown_to state put (half_where o (calling callee sign [] opened_effect))) e)
+    (declared_read contexts state put takes callee sign [] ts opened_effect all.0 all.1 ∙ ap (λ (x : Height). put (element.Item (term.EffectCall callee sign ts x))) (ap effect_height all.2 ∙ sym h.2))
+
 pub element_read : (contexts : List Context) (state : Half → State) (put : Element → Option State) → Takes contexts state put → (e : Element) (next : List Context) → IsElement e → behind contexts e ≡ Some next → steps (Some (state no_half)) (element_tokens e) ≡ put e
 element_read contexts state put takes (element.Item (term.Name t)) next h k = alone_read contexts state put takes t Name _ h (refl, refl) refl
 element_read contexts state put takes (element.Item (term.Integer t z)) next h k = alone_read contexts state put takes t (Integer z) _ h (refl, refl) refl
 element_read contexts state put takes (element.Item (term.Text t)) next h k = alone_read contexts state put takes t String _ h (refl, refl) refl
 element_read contexts state put takes (element.Item (term.Bind sign t)) next h k = bind_read contexts state put takes sign t next h.0 h.1 k
+element_read contexts state put takes (element.Item (term.Wrapped sign t)) next h k = wrap_read contexts state put takes sign t next h k
+element_read contexts state put takes (element.Item (term.EffectCall callee sign ts height)) next h k = call_read contexts state put takes callee sign ts height next h k
 element_read contexts state put takes (element.OpensLocals opens ns bar) next h k = locals_read contexts state put takes opens bar ns next h k
 element_read contexts state put takes (element.Item (term.True place)) next h k = alone_read contexts state put takes (plain_token place (codes "t")) True _ (sign_is True tt) (refl, refl) refl
 element_read contexts state put takes (element.Item (term.False place)) next h k = alone_read contexts state put takes (plain_token place (codes "f")) False _ (sign_is False tt) (refl, refl) refl
@@ -291,6 +336,8 @@ begins_unmarked (element.Item (term.Name t)) h = unmarked_by (element.Item (term
 begins_unmarked (element.Item (term.Integer t z)) h = unmarked_by (element.Item (term.Integer t z)) t [] (Integer z) refl h refl
 begins_unmarked (element.Item (term.Text t)) h = unmarked_by (element.Item (term.Text t)) t [] String refl h refl
 begins_unmarked (element.Item (term.Bind sign t)) h = unmarked_by (element.Item (term.Bind sign t)) (plain_token sign (codes ":>")) (t ∷ []) Binds refl (sign_is Binds tt) refl
+begins_unmarked (element.Item (term.Wrapped sign t)) h = unmarked_by (element.Item (term.Wrapped sign t)) (plain_token sign wrap_text) (t ∷ []) Wraps refl (sign_is Wraps tt) refl
+begins_unmarked (element.Item (term.EffectCall callee sign ts height)) h = unmarked_by (element.Item (term.EffectCall callee sign ts height)) (plain_token sign (call_text callee)) ts (Calls callee) refl (sign_is (Calls callee) tt) refl
 begins_unmarked (element.OpensLocals opens ns bar) h = unmarked_by (element.OpensLocals opens ns bar) (plain_token opens (codes "[|")) (ns ++ plain_token bar (codes "|") ∷ []) OpensLocals refl (sign_is OpensLocals tt) refl
 begins_unmarked (element.Item (term.True place)) h = unmarked_by (element.Item (term.True place)) (plain_token place (codes "t")) [] True refl (sign_is True tt) refl
 begins_unmarked (element.Item (term.False place)) h = unmarked_by (element.Item (term.False place)) (plain_token place (codes "f")) [] False refl (sign_is False tt) refl
@@ -407,6 +454,10 @@ bracket_read forms b bracket place es opens h =
 pub literal_part_read : (forms : List Form) (b : Begun) (es : List Element) → IsLiteral es → steps (Some (in_state forms (row b (literal [] outside no_half)))) (items_tokens es) ≡ Some (with_part forms b (part.Literal es))
 literal_part_read forms b [] h = absurd h
 literal_part_read forms b (element.Item (term.Name t) ∷ []) h = absurd h
+literal_part_read forms b (element.Item (term.EffectCall callee sign ts height) ∷ []) h = absurd h
+literal_part_read forms b (element.Item (term.Wrapped sign t) ∷ []) h =
+    one (in_state forms (row b (literal [] outside no_half))) (in_state forms (row b (literal [] outside (wrapping sign)))) (plain_token sign wrap_text) (t ∷ []) _
+    (by_spelling forms (row b (literal [] outside no_half)) (plain_token sign wrap_text) Wraps (sign_is Wraps tt)) (by_spelling forms (row b (literal [] outside (wrapping sign))) t Name h)
 literal_part_read forms b (element.Item (term.Integer t z) ∷ []) h = by_spelling forms (row b (literal [] outside no_half)) t (Integer z) h
 literal_part_read forms b (element.Item (term.Text t) ∷ []) h = by_spelling forms (row b (literal [] outside no_half)) t String h
 literal_part_read forms b (element.Item (term.True place) ∷ []) h = by_spelling forms (row b (literal [] outside no_half)) (plain_token place (codes "t")) True (sign_is True tt)

@@ -1,5 +1,5 @@
 -- The tokens of what was read so far, and what is known of it.
-use Rattle.fac_parse.specs.Contexts.{items_in, uncounted, bound, inside, opened_locals, behind}
+use Rattle.fac_parse.specs.Contexts.{items_in, counted, uncounted, bound, inside, opened_locals, behind}
 use Rattle.fac_parse.specs.Trees.{IsElement, element_tokens, items_tokens, marks_tokens, parent_tokens, part_tokens, parts_tokens, form_tokens, flatten, most_slots, AreNames, AreSlots, IsParent, AreLocalNames, Lead, AreItems, IsLiteralBracket, AreMarks, inputs_of, Fills, FillFrom, IsForm, MayStandBefore, IsWellFormed}
 use Rattle.fac_parse.specs.declared.context.Context.{Context}
 use Rattle.std.proofs.Common.{◌≡◌, ◌≤◌, ℕ, true, List, [], ◌∷◌, ◌++◌, length, Option, Some, None, refl, ap, sym, ◌∙◌, subst, append_assoc, append-nil, arith}
@@ -22,11 +22,12 @@ use Rattle.fac_parse.specs.declared.rows.Marked.{Marked}
 use Rattle.fac_parse.specs.declared.rows.Marked.TheVariants as marked
 use Rattle.fac_effect.specs.EffectReading.{reads as reading, after}
 use Rattle.fac_effect.specs.LocalNames.{name_locals}
+use Rattle.fac_effect.specs.RowlessEffects.{behind_opens, have_no_row}
 use Rattle.fac_parse.specs.declared.rows.Taking.{Taking}
 use Rattle.fac_parse.specs.declared.rows.Taking.TheVariants.{Values, Locals}
-use Rattle.fac_effect.specs.Spellings.{head_of, plain_token}
+use Rattle.fac_effect.specs.Spellings.{head_of, wrap_text, call_text, plain_token}
 use Rattle.fac_parse.specs.Rows.{slots_of}
-use Rattle.fac_parse.specs.inner.Reader.{Half, no_half, binding, heading, Within, name, names, tuple_slots, tuple_parent, fixed, effect, items, literal, marks, Begun, Open, top, row, State, outside, begin, last_inputs, row_form, row_ended, at_slot, go_on, with_run}
+use Rattle.fac_parse.specs.inner.Reader.{Half, no_half, binding, heading, wrapping, calling, Within, name, names, tuple_slots, tuple_parent, fixed, effect, items, literal, marks, Begun, Open, top, row, State, outside, begin, last_inputs, row_form, row_ended, at_slot, go_on, with_run}
 
 -- The tokens of what is open.
 
@@ -34,6 +35,8 @@ abbrev pub half_tokens : Half → List Token
 half_tokens no_half = []
 half_tokens (binding sign) = plain_token sign (codes ":>") ∷ []
 half_tokens (heading opens ns) = plain_token opens (codes "[|") ∷ ns
+half_tokens (wrapping sign) = plain_token sign wrap_text ∷ []
+half_tokens (calling callee sign ts r) = plain_token sign (call_text callee) ∷ ts
 
 abbrev pub within_tokens : Within → List Token
 within_tokens (name k) = []
@@ -196,10 +199,18 @@ abbrev pub GoodHalf : List Context → Half → Type 0
 GoodHalf contexts no_half = Unit {0}
 GoodHalf contexts (binding sign) = (next : List Context) × (bound (uncounted contexts) ≡ Some next)
 GoodHalf contexts (heading opens ns) = AreLocalNames ns × (next : List Context) × (opened_locals (length ns) (uncounted contexts) ≡ Some next)
+GoodHalf contexts (wrapping sign) = (next : List Context) × (counted contexts ≡ Some next)
+GoodHalf contexts (calling callee sign ts r) = (behind_opens ts ≡ reading r) × (have_no_row ts ≡ true) × (next : List Context) × (uncounted contexts ≡ Some next)
+
+-- what may be begun at the beginning of a literal
+abbrev pub BeginsLiteral : Half → Type 0
+BeginsLiteral no_half = Unit {0}
+BeginsLiteral (wrapping sign) = Unit {0}
+BeginsLiteral _ = ⊥
 
 -- a literal as far as some of its elements
 abbrev pub GoodLiteral : List Element → List Context → Half → Type 0
-GoodLiteral [] contexts h = (contexts ≡ outside) × (h ≡ no_half)
+GoodLiteral [] contexts h = (contexts ≡ outside) × BeginsLiteral h
 GoodLiteral (element.Opens bracket place ∷ es) contexts h = IsLiteralBracket bracket × Inside (open_inside bracket) es contexts × GoodHalf contexts h
 GoodLiteral _ contexts h = ⊥
 
@@ -307,7 +318,7 @@ begun_row b slot.Effect rest h l = record { rest = rest; filled = h; within = (r
 begun_row b slot.LocalsEffect rest h l = record { rest = rest; filled = h; within = (refl, refl) }
 begun_row b slot.Items rest h l = record { rest = rest; filled = h; within = (refl, tt) }
 begun_row b slot.LocalsItems rest h l = record { rest = rest; filled = h; within = (refl, tt) }
-begun_row b slot.Literal rest h l = record { rest = rest; filled = h; within = (refl, refl) }
+begun_row b slot.Literal rest h l = record { rest = rest; filled = h; within = (refl, tt) }
 begun_row b slot.Marks rest h l = record { rest = rest; filled = h; within = (tt, l) }
 begun_row b slot.MethodMark rest h l = record { rest = rest; filled = h; within = (tt, l) }
 

@@ -16,7 +16,7 @@ effect_token head k r now s t answer is spelled h =
     subst (λ (a : At). Goes (open_step r.forms (open_of a r) (token_spelling t.kind) t) (state_of now) answer) (sym is)
     (subst (λ (x : Spelling). Goes (effect_step r.forms (begun_at head r.parts) k r.names r.effect x t) (state_of now) answer) spelled h)
 
-pub items_token : (head : Head) (k : Taking) (r now : Reader) (s : Spelling) (t : Token) (answer : Result Bool Memory) → r.at ≡ at.Items head k → s ≡ token_spelling t.kind → Goes (items_step r.forms (begun_at head r.parts) k r.run.elements (contexts_of r.run.levels) (half_of r.run.unfinished r.run.names) s t) (state_of now) answer → Goes (step (state_of r) t) (state_of now) answer
+pub items_token : (head : Head) (k : Taking) (r now : Reader) (s : Spelling) (t : Token) (answer : Result Bool Memory) → r.at ≡ at.Items head k → s ≡ token_spelling t.kind → Goes (items_step r.forms (begun_at head r.parts) k r.run.elements (contexts_of r.run.levels) (half_of r.run) s t) (state_of now) answer → Goes (step (state_of r) t) (state_of now) answer
 items_token head k r now s t answer is spelled h =
     subst (λ (a : At). Goes (open_step r.forms (open_of a r) (token_spelling t.kind) t) (state_of now) answer) (sym is)
-    (subst (λ (x : Spelling). Goes (items_step r.forms (begun_at head r.parts) k r.run.elements (contexts_of r.run.levels) (half_of r.run.unfinished r.run.names) x t) (state_of now) answer) spelled h)
+    (subst (λ (x : Spelling). Goes (items_step r.forms (begun_at head r.parts) k r.run.elements (contexts_of r.run.levels) (half_of r.run) x t) (state_of now) answer) spelled h)

@@ -69,6 +69,7 @@ holed (c ∷ cs) = holed_in c.holes c cs
 -- what is open behind an item
 abbrev pub item_behind : List Context → Term → Option (List Context)
 item_behind contexts (term.NextMethod place) = uncounted contexts
+item_behind contexts (term.EffectCall callee sign tokens height) = uncounted contexts
 item_behind contexts (term.Bind sign name) = bound (uncounted contexts)
 item_behind contexts (term.Hole place) = holed contexts
 item_behind contexts (term.CalledHole place) = holed contexts

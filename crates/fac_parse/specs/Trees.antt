@@ -2,6 +2,8 @@
 use Rattle.std.specs.Prelude.{◌≡◌, ◌≤◌, ◌<◌, ◌+◌, ◌⊎◌, ℕ, Bool, true, false, Option, Some, None, List, [], ◌∷◌, ◌++◌, length, take, codes, Result, Ok, Err}
 use Rattle.std.specs.Str.{bytes_eq}
 use Rattle.fac_lang.specs.declared.limits.TheConstants.{MOST_SLOTS}
+use Rattle.fac_lang.specs.declared.phrase.Place.{Place}
+use Rattle.fac_lang.specs.declared.phrase.Height.{Height}
 use Rattle.fac_lang.specs.declared.token.Token.{Token}
 use Rattle.fac_lang.specs.declared.tree.Tree.{Tree}
 use Rattle.fac_lang.specs.declared.tree.Term.{Term}
@@ -30,15 +32,19 @@ use Rattle.fac_parse.specs.declared.rows.Naming.{Naming}
 use Rattle.fac_parse.specs.declared.rows.Naming.TheVariants as naming
 use Rattle.fac_parse.specs.declared.rows.Marked.{Marked}
 use Rattle.fac_parse.specs.declared.rows.Marked.TheVariants as marked
+use Rattle.fac_lang.specs.Signatures.{Signature}
 use Rattle.fac_lang.specs.Effects.{effect_height}
-use Rattle.fac_effect.specs.Spellings.{head_of, key_text, opening_text, closing_text, plain_token, token_text, token_spelling}
+use Rattle.fac_effect.specs.Spellings.{head_of, key_text, wrap_text, call_text, opening_text, closing_text, plain_token, token_text, token_spelling}
 use Rattle.fac_effect.specs.WrittenEffects.{IsEffect}
 use Rattle.fac_effect.specs.LocalNames.{is_local_name, takes_locals}
+use Rattle.fac_effect.specs.RowlessEffects.{IsRowless}
 use Rattle.fac_parse.specs.Rows.{slots_of}
 use Rattle.fac_parse.specs.Contexts.{items_in, inside, behind}
 
 abbrev pub term_tokens : Term → List Token
 term_tokens (term.Name token) = token ∷ []
+term_tokens (term.Wrapped sign name) = plain_token sign wrap_text ∷ name ∷ []
+term_tokens (term.EffectCall callee sign tokens height) = plain_token sign (call_text callee) ∷ tokens
 term_tokens (term.Integer token value) = token ∷ []
 term_tokens (term.Text token) = token ∷ []
 term_tokens (term.True place) = plain_token place (codes "t") ∷ []
@@ -133,8 +139,14 @@ abbrev pub AreLocalNames : List Token → Type 0
 AreLocalNames [] = Unit {0}
 AreLocalNames (token ∷ tokens) = IsLocalName token × AreLocalNames tokens
 
+-- The tokens behind a `(` of an effect without row variables, and how many values it declares to be taken and left.
+abbrev pub IsDeclared : Place → List Token → Height → Type 0
+IsDeclared opens tokens height = (effect : Signature) × IsRowless opens tokens effect × (height ≡ effect_height effect)
+
 abbrev pub IsTerm : Term → Type 0
 IsTerm (term.Name token) = token_spelling token.kind ≡ spelled.Name
+IsTerm (term.Wrapped sign name) = token_spelling name.kind ≡ spelled.Name
+IsTerm (term.EffectCall callee sign tokens height) = IsDeclared sign tokens height
 IsTerm (term.Integer token value) = token_spelling token.kind ≡ spelled.Integer value
 IsTerm (term.Text token) = token_spelling token.kind ≡ spelled.String
 IsTerm (term.True place) = Unit {0}
@@ -162,6 +174,7 @@ AreItems locals elements = (to : Context) × Lead (items_in locals ∷ []) eleme
 
 abbrev pub IsLiteralTerm : Term → Type 0
 IsLiteralTerm (term.Name token) = ⊥
+IsLiteralTerm (term.EffectCall callee sign tokens height) = ⊥
 IsLiteralTerm (term.NextMethod place) = ⊥
 IsLiteralTerm (term.Bind sign name) = ⊥
 IsLiteralTerm (term.Hole place) = ⊥

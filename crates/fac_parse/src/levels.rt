@@ -90,8 +90,19 @@ impl Levels {
         }
     }
 
-    // Whether an item that is no element may stand here: not directly in an array.
-    fn takes_items(&self) -> bool
+    /// Whether one more element may stand here: not where the innermost pair is an array that is full.
+    pub fn may_count(&self) -> bool
+        ensures { result ≡ is_there (counted (contexts_of self.now)) }
+    {
+        match self.here.around {
+            Around::Array(elements) => (elements as usize) < MOST_ELEMENTS,
+            Around::Items => true,
+            Around::Fry => true,
+        }
+    }
+
+    /// Whether an item that is no element may stand here: not directly in an array.
+    pub fn takes_items(&self) -> bool
         ensures { Passes (uncounted (contexts_of self.now)) (contexts_of self.now) (Ok result) }
     {
         match self.here.around {
@@ -157,6 +168,7 @@ impl Levels {
     {
         match term {
             Term::NextMethod(_) => self.takes_items(),
+            Term::EffectCall { .. } => self.takes_items(),
             Term::Bind { .. } => self.bind(),
             Term::Hole(_) => self.add_hole(),
             Term::CalledHole(_) => self.add_hole(),

@@ -7,7 +7,7 @@ ghost use Rattle.fac_parse.specs.inner.Reader.{begin_row as row_begins, begins, 
 ghost use Rattle.fac_parse.specs.inner.Reader.{top_step, name_step, names_step, sign_step, add_slot as slot_added, slots_step, parent_step};
 ghost use Rattle.fac_parse.specs.inner.Reader.{key_step, fixed_step, may_take as fits_taking, effect_step, items_step, literal_step};
 ghost use Rattle.fac_parse.specs.inner.Reader.{may_follow as may_stand_behind, with_mark, marks_step, step, ended, ended_top, start};
-ghost use Rattle.fac_parse.specs.inner.Reader.{contexts_of, half_of, run_ends, open_of, state_of, IsRead, Goes, Finishes, IsSyntax, TakesAll, GivesForms};
+ghost use Rattle.fac_parse.specs.inner.Reader.{contexts_of, half_of, run_ends, open_of, state_of, IsHalfRead, IsRead, Goes, Finishes, IsSyntax, TakesAll, GivesForms};
 ghost use Rattle.fac_lang.specs.declared.tree.Part.TheVariants as part;
 ghost use Rattle.fac_effect.specs.Spellings.{token_spelling};
 ghost use Rattle.fac_effect.specs.EffectReading.{reads as reading, whole, after};
@@ -156,6 +156,7 @@ fn begins_literal(element: &Element) -> bool
             Term::Text(_) => true,
             Term::True(_) => true,
             Term::False(_) => true,
+            Term::Wrapped { .. } => true,
             _ => false,
         },
         Element::Opens(bracket, _) => match bracket {
@@ -326,7 +327,8 @@ impl Reader {
 
     // Ends a row.
     fn end_row(&mut self, alloc: Global, head: Head) -> Result<(), Memory>
-        ensures { OnOk result (state_of self.new ≡ row_ended self.old.forms (begun_at head self.old.parts)) }
+        ensures ended { OnOk result (state_of self.new ≡ row_ended self.old.forms (begun_at head self.old.parts)) }
+        ensures none_begun { OnOk result (self.new.run.unfinished ≡ Unfinished.Nothing) }
     {
         let parts = cut(mem::replace(&mut self.parts, List::new(alloc)));
         self.run = Run::new(alloc, None);
@@ -391,8 +393,10 @@ impl Reader {
         spelling: Spelling,
         token: Token,
     ) -> Result<bool, Memory>
-        requires { self.now.at ≡ At.Top }
-        ensures { Goes (top_step self.old.forms self.old.run.elements (contexts_of self.old.run.levels) (half_of self.old.run.unfinished self.old.run.names) spelling token) (state_of self.new) result }
+        requires at { self.now.at ≡ At.Top }
+        requires read { IsHalfRead (half_of self.now.run) }
+        requires spelled { token_spelling token.kind ≡ spelling }
+        ensures { Goes (top_step self.old.forms self.old.run.elements (contexts_of self.old.run.levels) (half_of self.old.run) spelling token) (state_of self.new) result }
     {
         match row_begun(spelling) {
             Some(kind) => self.begin_row(alloc, kind, token.place),
@@ -642,8 +646,10 @@ impl Reader {
         spelling: Spelling,
         token: Token,
     ) -> Result<bool, Memory>
-        requires { self.now.at ≡ At.Items head taking }
-        ensures { Goes (items_step self.old.forms (begun_at head self.old.parts) taking self.old.run.elements (contexts_of self.old.run.levels) (half_of self.old.run.unfinished self.old.run.names) spelling token) (state_of self.new) result }
+        requires at { self.now.at ≡ At.Items head taking }
+        requires read { IsHalfRead (half_of self.now.run) }
+        requires spelled { token_spelling token.kind ≡ spelling }
+        ensures { Goes (items_step self.old.forms (begun_at head self.old.parts) taking self.old.run.elements (contexts_of self.old.run.levels) (half_of self.old.run) spelling token) (state_of self.new) result }
     {
         if is_semicolon(spelling) {
             self.end_items(alloc, head, token.place)
@@ -683,12 +689,20 @@ impl Reader {
         spelling: Spelling,
         token: Token,
     ) -> Result<bool, Memory>
-        requires { self.now.at ≡ At.Literal head }
-        ensures { Goes (literal_step self.old.forms (begun_at head self.old.parts) self.old.run.elements (contexts_of self.old.run.levels) (half_of self.old.run.unfinished self.old.run.names) spelling token) (state_of self.new) result }
+        requires at { self.now.at ≡ At.Literal head }
+        requires read { IsHalfRead (half_of self.now.run) }
+        requires spelled { token_spelling token.kind ≡ spelling }
+        ensures { Goes (literal_step self.old.forms (begun_at head self.old.parts) self.old.run.elements (contexts_of self.old.run.levels) (half_of self.old.run) spelling token) (state_of self.new) result }
     {
         match self.run.grow(alloc, spelling, token)? {
             Growth::Stuck => Ok(false),
-            Growth::More => Ok(self.run.levels.is_open()),
+            Growth::More => {
+                if self.run.levels.is_open() {
+                    Ok(true)
+                } else {
+                    Ok(self.run.begins_literal())
+                }
+            }
             Growth::Whole(element) => self.add_to_literal(alloc, head, element),
         }
     }
@@ -708,7 +722,8 @@ impl Reader {
 
     // Ends a row with its marks.
     fn end_marks(&mut self, alloc: Global, head: Head) -> Result<(), Memory>
-        ensures { OnOk result (state_of self.new ≡ row_ended self.old.forms (more (begun_at head self.old.parts) (part.Marks self.old.marks))) }
+        ensures ended { OnOk result (state_of self.new ≡ row_ended self.old.forms (more (begun_at head self.old.parts) (part.Marks self.old.marks))) }
+        ensures none_begun { OnOk result (self.new.run.unfinished ≡ Unfinished.Nothing) }
     {
         let marks = cut(mem::replace(&mut self.marks, List::new(alloc)));
         self.parts.push(Part::Marks(marks))?;
@@ -724,7 +739,8 @@ impl Reader {
         spelling: Spelling,
         token: Token,
     ) -> Result<bool, Memory>
-        requires { self.now.at ≡ At.Marks head marked }
+        requires at { self.now.at ≡ At.Marks head marked }
+        requires spelled { token_spelling token.kind ≡ spelling }
         ensures { Goes (marks_step self.old.forms (begun_at head self.old.parts) marked self.old.marks spelling token) (state_of self.new) result }
     {
         match mark(spelling, token.place) {
@@ -826,16 +842,16 @@ fn file(tokens: &[Token]) -> u32
 ///
 /// - `IN: v`, `USE: v`, `USING: v* ;`, `FROM: v => n* ;`, `QUALIFIED-WITH: v p`
 /// - `DEFER: n`, `SYMBOL: n`, `MAIN: n`, `<PRIVATE`, `PRIVATE>`
-/// - `CONSTANT: n` with a literal behind it: an integer, a string, `t`, `f`, a quotation or an array
+/// - `CONSTANT: n` with a literal behind it: an integer, a string, `t`, `f`, `\ n`, a quotation or an array
 /// - `: n effect item* ;` and `:: n effect item* ;` with `inline` and `recursive` behind it, each at most once, in any order
 /// - `TUPLE: n s* ;`, `TUPLE: n < n s* ;` with at most 64 slots `s`, of which none is `<`
 /// - `UNION: n c* ;`, `SINGLETON: n`, `C: n n`
 /// - `GENERIC: n effect`, `M: c n item* ;` with at most one `inline` behind it
 ///
 /// An item is a name, an integer, a string, `t`, `f`, `call-next-method`, a quotation `[ item* ]`, a quotation `[| n* | item* ]` whose inputs are
-/// locals, a fry `'[ item* ]`, `:> n`, which binds a local, a hole `_` or `@`, or an array `{ element* }`, whose elements are integers, strings, `t`,
-/// `f`, quotations `[ item* ]`, arrays and names. All brackets nest at most 256 deep, counted together. An array has at most 1,000,000 elements: those
-/// that stand directly in it.
+/// locals, a fry `'[ item* ]`, `:> n`, which binds a local, a hole `_` or `@`, `\ n`, which is a word as a value, `call( entry* -- entry* )` or
+/// `execute( entry* -- entry* )`, or an array `{ element* }`, whose elements are integers, strings, `t`, `f`, `\ n`, quotations `[ item* ]`, arrays and
+/// names. All brackets nest at most 256 deep, counted together. An array has at most 1,000,000 elements: those that stand directly in it.
 ///
 /// `:> n` stands only in `::`, in a quotation with locals, and in what stands in one of these. The local is in scope to the end of what it stands
 /// directly in, and so are the inputs of `::` and of a quotation with locals. At most 64 are in scope, hidden ones and those around an array counted:
@@ -845,7 +861,7 @@ fn file(tokens: &[Token]) -> u32
 ///
 /// An effect is `( entry* -- entry* )`. An entry is a name that ends in no colon, or a name that ends in one and what describes it: a name that ends in
 /// no colon, or an effect. A name that begins with two dots is only the first entry of its side. An effect has at most 64 names, with those of the
-/// effects in it.
+/// effects in it. Behind `call(` and `execute(` no entry is a name that begins with two dots, nor is one of the effects in it.
 ///
 /// No tokens make the empty tree of file 0.
 pub fn parse(alloc: Global, tokens: List<Token>) -> Result<Tree, ParseFault>

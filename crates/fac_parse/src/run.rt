@@ -1,14 +1,18 @@
 //! Items as far as they are read.
-ghost use Rattle.std.specs.Prelude.{◌≡◌, ◌∷◌, [], Ok};
+ghost use Rattle.std.specs.Prelude.{◌≡◌, ◌∷◌, [], Ok, IfOk, OnOk};
 ghost use Rattle.fac_parse.specs.Contexts.{behind, items_in};
 ghost use Rattle.fac_lang.specs.declared.tree.Element.TheVariants.{OpensLocals};
 ghost use Rattle.fac_effect.specs.declared.spelling.Spelling.TheVariants.{Name};
-ghost use Rattle.fac_parse.specs.inner.Reader.{element_of, grown, grown_if, is_local as local_there, begin_element, bind_step, heading_step, grow as grown_by, may_end as ends_there, contexts_of, half_of, IsGrowth, Grows, Adds, Holds};
+ghost use Rattle.fac_effect.specs.Spellings.{token_spelling};
+ghost use Rattle.fac_effect.specs.EffectReading.{reads as reading, whole as whole_effect};
+ghost use Rattle.fac_effect.specs.RowlessEffects.{behind_opens};
+ghost use Rattle.fac_parse.specs.inner.Reader.{element_of, grown, grown_if, is_local as local_there, begin_element, bind_step, heading_step, wrap_step, call_of, call_step, grow as grown_by};
+ghost use Rattle.fac_parse.specs.inner.Reader.{may_end as ends_there, is_literal_half, contexts_of, half_of, IsHalfRead, IsGrowth, Grows, Adds, Holds};
 
 use crate::cut::cut;
 use crate::levels::Levels;
-use fac_effect::{Spelling, is_local_name, text};
-use fac_lang::{Bracket, Element, List, Memory, Place, Term, Token};
+use fac_effect::{EffectReader, Spelling, Taken, declared_height, is_local_name, is_no_row, text};
+use fac_lang::{Bracket, Callee, Element, List, Memory, Place, Term, Token};
 use std::alloc::Global;
 use std::mem;
 
@@ -21,6 +25,10 @@ pub enum Unfinished {
     Bind(Place),
     /// Behind a `[|`, which stands here, and names.
     Heading(Place),
+    /// Behind a `\`, which stands here.
+    Wrap(Place),
+    /// Behind a `call(` or `execute(`, which stands here, and tokens of its effect.
+    Call(Callee, Place),
 }
 
 /// What one more token makes of the element that is begun.
@@ -43,8 +51,10 @@ pub struct Run {
     pub levels: Levels,
     /// The element that is begun.
     pub unfinished: Unfinished,
-    /// The names of locals of the element that is begun.
+    /// The names of locals, or the tokens of the effect, of the element that is begun.
     pub names: List<Token>,
+    /// How far the effect of the element that is begun is read.
+    pub effect: EffectReader,
 }
 
 // The element that a token of this spelling is.
@@ -99,12 +109,13 @@ impl Run {
             levels: Levels::new(alloc, locals),
             unfinished: Unfinished::Nothing,
             names: List::new(alloc),
+            effect: EffectReader::new(alloc),
         }
     }
 
     /// Whether the items may end here: no bracket is open, and no element is begun.
     pub fn may_end(&self) -> bool
-        ensures { result ≡ ends_there (contexts_of self.now.levels) (half_of self.now.unfinished self.now.names) }
+        ensures { result ≡ ends_there (contexts_of self.now.levels) (half_of self.now) }
     {
         if self.levels.is_open() {
             return false;
@@ -113,6 +124,21 @@ impl Run {
             Unfinished::Nothing => true,
             Unfinished::Bind(_) => false,
             Unfinished::Heading(_) => false,
+            Unfinished::Wrap(_) => false,
+            Unfinished::Call(..) => false,
+        }
+    }
+
+    /// Whether the element that is begun is a literal.
+    pub fn begins_literal(&self) -> bool
+        ensures { result ≡ is_literal_half (half_of self.now) }
+    {
+        match self.unfinished {
+            Unfinished::Nothing => false,
+            Unfinished::Bind(_) => false,
+            Unfinished::Heading(_) => false,
+            Unfinished::Wrap(_) => true,
+            Unfinished::Call(..) => false,
         }
     }
 
@@ -134,6 +160,24 @@ impl Run {
                 if self.levels.may_open_locals(0) {
                     self.names = List::new(alloc);
                     self.unfinished = Unfinished::Heading(token.place);
+                    Growth::More
+                } else {
+                    Growth::Stuck
+                }
+            }
+            Spelling::Wraps => {
+                if self.levels.may_count() {
+                    self.unfinished = Unfinished::Wrap(token.place);
+                    Growth::More
+                } else {
+                    Growth::Stuck
+                }
+            }
+            Spelling::Calls(callee) => {
+                if self.levels.takes_items() {
+                    self.names = List::new(alloc);
+                    self.effect = EffectReader::opened(alloc);
+                    self.unfinished = Unfinished::Call(callee, token.place);
                     Growth::More
                 } else {
                     Growth::Stuck
@@ -203,6 +247,68 @@ impl Run {
         }
     }
 
+    // Takes the name of a word that is a value.
+    fn take_wrapped(&mut self, sign: Place, spelling: Spelling, token: Token) -> Growth
+        ensures { Grows (wrap_step sign spelling token) self.old self.new (Ok result) }
+    {
+        match spelling {
+            Spelling::Name => {
+                self.unfinished = Unfinished::Nothing;
+                Growth::Whole(Element::Item(Term::Wrapped { sign, name: token }))
+            }
+            _ => Growth::Stuck,
+        }
+    }
+
+    // Ends a call, whose effect has all of its tokens.
+    fn end_call(&mut self, alloc: Global, callee: Callee, sign: Place) -> Result<Element, Memory>
+        requires { behind_opens self.now.names ≡ whole_effect }
+        ensures element { IfOk result (λ element. element ≡ call_of callee sign self.old.names) }
+        ensures whole { OnOk result (self.new.unfinished ≡ Unfinished.Nothing) }
+        ensures kept { (self.new.elements ≡ self.old.elements) × (self.new.levels ≡ self.old.levels) }
+    {
+        let height = declared_height(alloc, self.names.as_slice())?;
+        let tokens = cut(mem::replace(&mut self.names, List::new(alloc)));
+        self.unfinished = Unfinished::Nothing;
+        Ok(Element::Item(Term::EffectCall {
+            callee,
+            sign,
+            tokens,
+            height,
+        }))
+    }
+
+    // Takes a token of the effect of a call.
+    fn take_in_call(
+        &mut self,
+        alloc: Global,
+        callee: Callee,
+        sign: Place,
+        spelling: Spelling,
+        token: Token,
+    ) -> Result<Growth, Memory>
+        requires begun { self.now.unfinished ≡ Unfinished.Call callee sign }
+        requires read { behind_opens self.now.names ≡ reading self.now.effect }
+        requires spelled { token_spelling token.kind ≡ spelling }
+        ensures { Grows (call_step callee sign self.old.names self.old.effect spelling token) self.old self.new result }
+    {
+        if !is_no_row(&self.effect, spelling, &token) {
+            return Ok(Growth::Stuck);
+        }
+        match self.effect.take(spelling, &token)? {
+            Taken::More => {
+                self.names.push(token)?;
+                Ok(Growth::More)
+            }
+            Taken::Whole => {
+                self.names.push(token)?;
+                let element = self.end_call(alloc, callee, sign)?;
+                Ok(Growth::Whole(element))
+            }
+            Taken::Refused(_) => Ok(Growth::Stuck),
+        }
+    }
+
     /// Takes one more token of an element, or its first.
     pub fn grow(
         &mut self,
@@ -210,12 +316,18 @@ impl Run {
         spelling: Spelling,
         token: Token,
     ) -> Result<Growth, Memory>
-        ensures { Grows (grown_by (contexts_of self.old.levels) (half_of self.old.unfinished self.old.names) spelling token) self.old self.new result }
+        requires read { IsHalfRead (half_of self.now) }
+        requires spelled { token_spelling token.kind ≡ spelling }
+        ensures { Grows (grown_by (contexts_of self.old.levels) (half_of self.old) spelling token) self.old self.new result }
     {
         match self.unfinished {
             Unfinished::Nothing => Ok(self.begin_element(alloc, spelling, token)),
             Unfinished::Bind(sign) => Ok(self.take_bound(sign, spelling, token)),
             Unfinished::Heading(opens) => self.take_local(alloc, opens, spelling, token),
+            Unfinished::Wrap(sign) => Ok(self.take_wrapped(sign, spelling, token)),
+            Unfinished::Call(callee, sign) => {
+                self.take_in_call(alloc, callee, sign, spelling, token)
+            }
         }
     }
 
@@ -233,7 +345,9 @@ impl Run {
 
     /// Takes a token. False where no items go on with it.
     pub fn take(&mut self, alloc: Global, spelling: Spelling, token: Token) -> Result<bool, Memory>
-        ensures { Holds (grown_by (contexts_of self.old.levels) (half_of self.old.unfinished self.old.names) spelling token) self.old self.new result }
+        requires read { IsHalfRead (half_of self.now) }
+        requires spelled { token_spelling token.kind ≡ spelling }
+        ensures { Holds (grown_by (contexts_of self.old.levels) (half_of self.old) spelling token) self.old self.new result }
     {
         match self.grow(alloc, spelling, token)? {
             Growth::Stuck => Ok(false),

@@ -13,6 +13,7 @@ use fac_lang::{Duplicate, List, Program, Tree};
 use fac_locals::{Closed, close};
 use fac_names::resolve;
 use fac_parse::parse;
+use fac_qeff::effects;
 use fac_token::tokens;
 use std::alloc::Global;
 use std::test::Fail;
@@ -115,7 +116,8 @@ fn the_checker_alone(rt: HostRuntime) -> Result<(), Fail> {
 // The image of a text.
 fn image_of(alloc: Global, text: &str) -> Result<Image, Fail> {
     let closed = closed_text(alloc, text)?;
-    Ok(compile(alloc, &closed)?)
+    let heights = effects(alloc, &closed)?;
+    Ok(compile(alloc, &closed, heights.as_slice())?)
 }
 
 // Whether the last words and the run begin where they should.

@@ -1,6 +1,8 @@
 -- What a closed program keeps of the one for which it stands, and the checker's refusals both ways.
-use Rattle.std.proofs.Common.{◌≡◌, ℕ, zero, suc, List, [], ◌∷◌, Result, Ok, Err, IfOk, refl, ap, subst, ◌∙◌}
-use Rattle.std.specs.Prelude.{slice_get}
+use Rattle.std.proofs.Common.{◌≡◌, ℕ, zero, suc, List, [], ◌∷◌, Result, Ok, Err, IfOk, refl, ap, sym, subst, ◌∙◌, ◌<◌}
+use Rattle.std.proofs.lemmas.Option.{slice_get_within, slice_get-get_or}
+use Rattle.std.specs.Prelude.{None, slice_get}
+use Rattle.std.specs.declared.option.Option.{Option}
 use Rattle.fac_lang.specs.declared.memory.Memory.{Memory}
 use Rattle.fac_lang.specs.declared.phrase.Template.{Template}
 use Rattle.fac_lang.specs.declared.program.Name.{Name}
@@ -12,7 +14,10 @@ use Rattle.fac_lang.specs.Meaning.{start}
 use Rattle.fac_locals.specs.Closed.{Closes, CloseWords, ClosesSort}
 use Rattle.fac_locals.specs.declared.closing.Closed.{Closed}
 use Rattle.fac_check.specs.CallableEffects.{callable_height}
-use Rattle.fac_lang.specs.HeightArithmetic.{fits}
+use Rattle.fac_lang.specs.declared.phrase.Height.{Height}
+use Rattle.fac_qeff.specs.TemplateEffects.{AreEffects}
+use Rattle.fac_store.specs.CallableHeights.{height_there}
+use Rattle.fac_emit.specs.Heights.{HasHeights}
 use Rattle.fac_check.specs.Checks.{IsKept}
 use Rattle.fac_check.specs.Judged.{refusal_seen}
 use Rattle.fac_check.specs.declared.refusal.Refusal.{Refusal}
@@ -71,16 +76,26 @@ pub safe_one : (closed : Closed) (P : Program) → IsKept closed → closed.star
 safe_one closed P kept start stands = record { closes = stands.closes; built = stands.built; whole = stands.whole; safe = subst (λ count. IsSafe P count) start (kept P stands.closes stands.built stands.whole); start = start }
 
 -- so its image carries it with the checker's test of effects, and it isn't stuck
-carried_by : SafeAreNotStuck → (P : Program) (M : Image) (count : ℕ) → IsSafe P 0 → count ≡ 0 → Carries P fits (callable_height P) count M → Carried P M
+carried_by : SafeAreNotStuck → (P : Program) (M : Image) (count : ℕ) → IsSafe P 0 → count ≡ 0 → Carries P (callable_height P) count M → Carried P M
 carried_by never P M count safe none carries = record {
-  carries = subst (λ k. Carries P fits (callable_height P) k M) none carries;
+  carries = subst (λ k. Carries P (callable_height P) k M) none carries;
   not_stuck = λ n. never P 0 safe n (start P []) refl (safe.begins []);
 }
 
+-- the effects of a closed program's templates are those of its callables
+pub has_heights : (closed : Closed) (heights : List (Option Height)) (P : Program) → AreEffects closed heights → StandsForSafe closed P → HasHeights P closed.templates heights (callable_height P)
+has_heights closed heights P effects stands = record {
+  literal = λ q t vs found count.
+      let there = slice_get-get_or heights q None (subst (λ n. q < n) (sym effects.count) (slice_get_within closed.templates q t found)) in
+      sym (effects.each q _ there P stands.closes stands.built t vs found count) ∙ sym (ap height_there there);
+  curried = λ v c. refl;
+  composed = λ c d. refl;
+}
+
 pub if_carried :
-    SafeAreNotStuck → (closed : Closed) (r : Result Image Memory) →
-    IfOk r (CarriesEach closed) →
+    SafeAreNotStuck → (closed : Closed) (heights : List (Option Height)) (r : Result Image Memory) → AreEffects closed heights →
+    IfOk r (CarriesEach closed heights) →
     IfOk r (λ image. (P : Program) → StandsForSafe closed P → Carried P image)
-if_carried never closed (Ok image) h =
-    λ P stands. carried_by never P image closed.start stands.safe stands.start (h P fits (callable_height P) stands.closes stands.built stands.whole)
-if_carried never closed (Err e) h = tt
+if_carried never closed heights (Ok image) effects h =
+    λ P stands. carried_by never P image closed.start stands.safe stands.start (h P (callable_height P) stands.closes stands.built stands.whole (has_heights closed heights P effects stands))
+if_carried never closed heights (Err e) effects h = tt

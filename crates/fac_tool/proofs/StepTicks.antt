@@ -1,8 +1,10 @@
 -- A step of the machine with other ticks: with those that it took it goes to the same state, and with fewer it is spent there and writes nothing.
-use Rattle.std.proofs.Common.{◌≡◌, ◌<◌, ℕ, zero, suc, ◌+◌, List, [], ◌∷◌, ◌++◌, Bool, true, false, Some, None, refl, ◌∙◌, arith}
+use Rattle.std.proofs.Common.{◌≡◌, ◌<◌, ℕ, zero, suc, ◌+◌, List, [], ◌∷◌, ◌++◌, Bool, true, false, Some, None, refl, ap, ◌∙◌, arith}
 use Rattle.std.specs.Prelude.{slice_get, drop, ⊤}
 use Rattle.std.specs.declared.option.Option.{Option}
 use Rattle.fac_lang.specs.Phrases.{str, wrd, arr}
+use Rattle.fac_lang.specs.Meaning.{Core, c_call, c_dip, c_if, c_execute, c_boa, core_numbered}
+use Rattle.fac_lang.specs.declared.phrase.Height.{Height}
 use Rattle.fac_lang.specs.Procedures.{Gives, gives, bad, Fn, fn0, fn1, fn2, fn3}
 use Rattle.fac_lang.specs.Primitives.{Primitive, prim_numbered, prim_fn, seen_no, seen_word}
 use Rattle.fac_lang.specs.Objects.{get_slot, set_slot, put_slot, made_tuple}
@@ -14,13 +16,16 @@ use Rattle.fac_code.specs.declared.image.WordRow.{WordRow}
 use Rattle.fac_code.specs.declared.image.TemplateRow.{TemplateRow}
 use Rattle.fac_code.specs.declared.image.GenericRow.{GenericRow}
 use Rattle.fac_code.specs.declared.image.MethodRow.{MethodRow}
+use Rattle.fac_code.specs.declared.image.Action.{Action}
 use Rattle.fac_code.specs.declared.image.Action.TheVariants as action
-use Rattle.fac_code.specs.declared.image.Instr.TheVariants.{Halt, Int, True, False, Text, Array, Word, Quot, Fry, Bind, Local, Unbind, Prim as prim, Callw, Call, Dip, If, Ret, Boa, Get, Set, Put, Isa, Generic, Next}
+use Rattle.fac_code.specs.declared.image.Instr.TheVariants.{Halt, Int, True, False, Text, Array, Word, Quot, Fry, Bind, Local, Unbind, Prim as prim, Callw, Call, Dip, If, Execute, CallEffect, ExecuteEffect, Ret, Boa, Get, Set, Put, Isa, Generic, Next}
 use Rattle.fac_code.specs.ImageNames.{image_names}
 use Rattle.fac_code.specs.ClassSets.{set_has}
 use Rattle.fac_code.specs.declared.names.TrapWhy.TheVariants.{Kind as t_kind, Frame as t_frame}
 use Rattle.fac_store.specs.MachineValues.{MValue, m_plain, m_fun, MCallable, m_lit, m_cur, m_com, Kept, kept_list, keep_list, m_seen, machine_values, cells_at}
-use Rattle.fac_vm.specs.Machine.{Entry, resume, put_back, enter, Machine, spent, Step, goes_on, ends, after, push, waiting, paying, popping1, popping2, popping3}
+use Rattle.fac_store.specs.CallableHeights.{callable_height}
+use Rattle.fac_vm.specs.Machine.{Entry, resume, put_back, enter, Job, instr, acts as acts_of, Machine, spent, Step, goes_on, ends, after, next_job, push, waiting, paying, popping1, popping2, popping3}
+use Rattle.fac_vm.specs.Machine.{fits_in, row_height, template_heights, want_word, back, does_prim, accesses, makes_tuple, tells_class, executes, enters_if, tested_call, executes_if, tested_word, does_core, does_action, does_job, job_or_fetched}
 use Rattle.fac_vm.specs.Machine.{given, does, word_with, or_trap, code_of, leaving, going, want_callable, branch, popping, without_last, method_for, method_after, truth}
 use Rattle.fac_vm.specs.Machine.{kind_in, entering, returning, makes, fries, enters_method, enters_for, does_instr, fetched, step}
 use Rattle.fac_vm.specs.Runs.{end_world}
@@ -88,13 +93,20 @@ module _ (M : Image) where
   call_at (m_plain p ∷ r) s n = λ c none. refl
   call_at (m_fun c ∷ r) s n = enter_at c (record s { stack = r }) n
 
+  -- the output of a state that left an entry
+  leaving_at : (Free : Type 0) (t : Bool) (s : Machine) (f : ℕ → Step) (n : ℕ) (x : Step) → StepsAt Free f (leaving t s).world.output n x → StepsAt Free f s.world.output n x
+  leaving_at Free true s f n x h = h
+  leaving_at Free false s f n x h = h
+
   dip_at :
-      (stack : List MValue) (s : Machine) (n : ℕ) →
-      Ticks ⊤ (λ n. popping2 stack s n (λ x q t. want_callable q t n (λ c. entering M c (waiting (put_back x) (leaving false t)) n))) s.world.output n
-  dip_at [] s n = λ c none. refl
-  dip_at (y ∷ []) s n = λ c none. refl
-  dip_at (m_plain p ∷ x ∷ r) s n = λ c none. refl
-  dip_at (m_fun c ∷ x ∷ r) s n = enter_at c (waiting (put_back x) (leaving false (record s { stack = r }))) n
+      (u : Bool) (stack : List MValue) (s : Machine) (n : ℕ) →
+      Ticks ⊤ (λ n. popping2 stack s n (λ x q t. want_callable q t n (λ c. entering M c (waiting (put_back x) (leaving u t)) n))) s.world.output n
+  dip_at u [] s n = λ c none. refl
+  dip_at u (y ∷ []) s n = λ c none. refl
+  dip_at u (m_plain p ∷ x ∷ r) s n = λ c none. refl
+  dip_at u (m_fun c ∷ x ∷ r) s n =
+      let t : Machine = record s { stack = r } in
+      leaving_at ⊤ u t (entering M c (waiting (put_back x) (leaving u t))) n (entering M c (waiting (put_back x) (leaving u t)) n) (enter_at c (waiting (put_back x) (leaving u t)) n)
 
   if_at :
       (stack : List MValue) (s : Machine) (n : ℕ) →
@@ -240,10 +252,57 @@ module _ (M : Image) where
   generic_at : (pick : GenericRow → ℕ → Option MethodRow) (e : ErrorName) (g : ℕ) (s t : Machine) (out : List ℕ) (n : ℕ) → Ticks ⊥ (λ n. or_trap (slice_get M.generics g) t_kind s n (λ r. enters_for M (pick r) e r.word t n)) out n
   generic_at pick e g s t out n = found_at GenericRow (slice_get M.generics g) s out (λ r. enters_for M (pick r) e r.word t) (λ r. kind_at (pick r) e r.word t out) n
 
-  -- the output of a state that left an entry
-  leaving_at : (Free : Type 0) (t : Bool) (s : Machine) (f : ℕ → Step) (n : ℕ) (x : Step) → StepsAt Free f (leaving t s).world.output n x → StepsAt Free f s.world.output n x
-  leaving_at Free true s f n x h = h
-  leaving_at Free false s f n x h = h
+  -- a word that is taken, and what it does comes next
+  next_at : (w : ℕ) (s : Machine) (out : List ℕ) (n : ℕ) → Ticks ⊥ (λ n. goes_on (next_job (acts_of w) s) n) out n
+  next_at w s out n = goes ⊥ _ (next_job (acts_of w) s) out (λ n. refl) (λ c. absurd c) n
+
+  wanted_at : (o : Option ℕ) (s : Machine) (out : List ℕ) (n : ℕ) → Ticks ⊥ (λ n. want_word o s n (λ w. goes_on (next_job (acts_of w) s) n)) out n
+  wanted_at None s out n = λ c none. absurd c
+  wanted_at (Some w) s out n = next_at w s out n
+
+  execute_at : (s : Machine) (out : List ℕ) (n : ℕ) → Ticks ⊥ (executes M s) out n
+  execute_at s out n = popped_at s.stack s out (λ v t n. want_word (seen_word (m_seen v)) t n (λ w. goes_on (next_job (acts_of w) t) n)) (λ v t. wanted_at (seen_word (m_seen v)) t out) n
+
+  -- a callable that is tested
+  enter_if_at : (b : Bool) (c : MCallable) (s : Machine) (n : ℕ) → Ticks ⊤ (enters_if M b c s) s.world.output n
+  enter_if_at true c s n = enter_at c s n
+  enter_if_at false c s n = λ c none. refl
+
+  tested_at : (h : Height) (v : MValue) (s : Machine) (n : ℕ) → Ticks ⊤ (tested_call M h v s) s.world.output n
+  tested_at h (m_plain p) s n = λ c none. refl
+  tested_at h (m_fun c) s n = enter_if_at (fits_in h (callable_height (template_heights M) c)) c s n
+
+  call_tested_at : (h : Height) (stack : List MValue) (s : Machine) (n : ℕ) → Ticks ⊤ (λ n. popping1 stack s n (λ v t. tested_call M h v t n)) s.world.output n
+  call_tested_at h [] s n = λ c none. refl
+  call_tested_at h (v ∷ r) s n = tested_at h v (record s { stack = r }) n
+
+  -- a word that is tested
+  execute_if_at : (b : Bool) (v : MValue) (w : ℕ) (s : Machine) (out : List ℕ) (n : ℕ) → Ticks ⊥ (executes_if M b v w s) out n
+  execute_if_at true v w s out n = next_at w s out n
+  execute_if_at false v w s out n = λ c none. absurd c
+
+  tested_word_at : (h : Height) (v : MValue) (o : Option ℕ) (s : Machine) (out : List ℕ) (n : ℕ) → Ticks ⊥ (tested_word M h v o s) out n
+  tested_word_at h v None s out n = λ c none. absurd c
+  tested_word_at h v (Some w) s out n = execute_if_at (fits_in h (row_height (slice_get M.words w))) v w s out n
+
+  -- what says nothing of steps without a tick
+  loosely : (f : ℕ → Step) (out : List ℕ) (n : ℕ) (x : Step) → StepsAt ⊤ f out n x → StepsAt ⊥ f out n x
+  loosely f out n (goes_on s m) h = record { took = h.took; sum = h.sum; later = h.later; sooner = h.sooner; free = λ c. absurd c }
+  loosely f out n (ends e) h = λ c. absurd c
+
+  -- what goes on as at `ret`
+  back_by : (pc : ℕ) (f : ℕ → Step) (out : List ℕ) (n : ℕ) (x : Step) → StepsAt ⊥ f out n x → StepsAt ⊥ (λ n. back pc (f n)) out n (back pc x)
+  back_by pc f out n (goes_on s m) h = record {
+    took = h.took;
+    sum = h.sum;
+    later = λ k. ap (back pc) (h.later k);
+    sooner = λ k lt. let was = h.sooner k lt in (was.0, ap (back pc) was.1, was.2);
+    free = λ c. absurd c;
+  }
+  back_by pc f out n (ends e) h = λ c. absurd c
+
+  back_at : (pc : ℕ) (f : ℕ → Step) (out : List ℕ) (n : ℕ) → Ticks ⊥ f out n → Ticks ⊥ (λ n. back pc (f n)) out n
+  back_at pc f out n h = back_by pc f out n (f n) h
 
   -- an instruction that costs a tick
   paid_at : (Free : Type 0) (g : ℕ → Step) (s : Machine) → ((n : ℕ) → StepsAt Free g s.world.output n (g n)) → (n : ℕ) → Ticks ⊤ (λ n. paying 1 s n g) s.world.output n
@@ -267,8 +326,12 @@ module _ (M : Image) where
   fetched_at (Some (prim p)) s n = paid_at ⊥ (does_instr M (prim p) s) s (prim_at (word_with (action.Prim p) 0 M.words) (prim_numbered p) s s.world.output) n
   fetched_at (Some (Callw w t)) s n = paid_at ⊥ (does_instr M (Callw w t) s) s (λ n. word_at (slice_get M.words w) (leaving t s) s.world.output n) n
   fetched_at (Some (Call t)) s n = paid_at ⊤ (does_instr M (Call t) s) s (λ n. leaving_at ⊤ t s _ n _ (call_at (leaving t s).stack (leaving t s) n)) n
-  fetched_at (Some Dip) s n = paid_at ⊤ (does_instr M Dip s) s (dip_at s.stack s) n
+  fetched_at (Some Dip) s n = paid_at ⊤ (does_instr M Dip s) s (dip_at false s.stack s) n
   fetched_at (Some (If t)) s n = paid_at ⊤ (does_instr M (If t) s) s (λ n. leaving_at ⊤ t s _ n _ (if_at (leaving t s).stack (leaving t s) n)) n
+  fetched_at (Some (Execute t)) s n = paid_at ⊥ (does_instr M (Execute t) s) s (execute_at (leaving t s) s.world.output) n
+  fetched_at (Some (CallEffect h t)) s n = paid_at ⊤ (does_instr M (CallEffect h t) s) s (λ n. leaving_at ⊤ t s _ n _ (call_tested_at h (leaving t s).stack (leaving t s) n)) n
+  fetched_at (Some (ExecuteEffect h t)) s n =
+      paid_at ⊥ (does_instr M (ExecuteEffect h t) s) s (popped_at (leaving t s).stack (leaving t s) s.world.output (λ v u. tested_word M h v (seen_word (m_seen v)) u) (λ v u. tested_word_at h v (seen_word (m_seen v)) u s.world.output)) n
   fetched_at (Some Ret) s n = return_at s.returns s n
   fetched_at (Some Boa) s n = paid_at ⊥ (does_instr M Boa s) s (tuple_at s s.world.output) n
   fetched_at (Some (Get k)) s n = paid_at ⊥ (does_instr M (Get k) s) s (slot_at (word_with (action.Get k) 0 M.words) k (get_slot machine_values (image_names M)) s s.world.output) n
@@ -278,5 +341,36 @@ module _ (M : Image) where
   fetched_at (Some (Generic g t)) s n = paid_at ⊥ (does_instr M (Generic g t) s) s (generic_at (λ r k. method_for M.sets k r.methods) NoMethod g s (leaving t s) s.world.output) n
   fetched_at (Some (Next g m t)) s n = paid_at ⊥ (does_instr M (Next g m t) s) s (generic_at (λ r k. method_after M.sets k (drop m r.methods)) NoNextMethod g s (leaving t s) s.world.output) n
 
+  -- what a core word does
+  core_at : (o : Option Core) (s : Machine) (n : ℕ) → Ticks ⊥ (does_core M o s) s.world.output n
+  core_at None s n = λ c none. absurd c
+  core_at (Some c_call) s n = loosely _ s.world.output n _ (call_at s.stack s n)
+  core_at (Some c_dip) s n = loosely _ s.world.output n _ (dip_at true s.stack s n)
+  core_at (Some c_if) s n = loosely _ s.world.output n _ (if_at s.stack s n)
+  core_at (Some c_execute) s n = execute_at s s.world.output n
+  core_at (Some c_boa) s n = back_at s.pc (makes_tuple M s) s.world.output n (tuple_at s s.world.output n)
+
+  -- what a word does
+  action_at : (w : ℕ) (a : Action) (s : Machine) (n : ℕ) → Ticks ⊥ (does_action M w a s) s.world.output n
+  action_at w (action.Prim p) s n = back_at s.pc (does_prim M p s) s.world.output n (prim_at (word_with (action.Prim p) 0 M.words) (prim_numbered p) s s.world.output n)
+  action_at w (action.Core k) s n = core_at (core_numbered k) s n
+  action_at w (action.Code a) s n = goes ⊥ _ (going a [] s) s.world.output (λ n. refl) (λ c. absurd c) n
+  action_at w action.Itself s n = goes ⊥ _ (next_job (instr Ret) (push (m_plain (wrd w)) s)) s.world.output (λ n. refl) (λ c. absurd c) n
+  action_at w (action.Generic g) s n = generic_at (λ r k. method_for M.sets k r.methods) NoMethod g s s s.world.output n
+  action_at w (action.Get k) s n = back_at s.pc (accesses M (action.Get k) k (get_slot machine_values (image_names M)) s) s.world.output n (slot_at (word_with (action.Get k) 0 M.words) k (get_slot machine_values (image_names M)) s s.world.output n)
+  action_at w (action.Set k) s n = back_at s.pc (accesses M (action.Set k) k (set_slot machine_values (image_names M)) s) s.world.output n (slot_at (word_with (action.Set k) 0 M.words) k (set_slot machine_values (image_names M)) s s.world.output n)
+  action_at w (action.Put k) s n = back_at s.pc (accesses M (action.Put k) k (put_slot machine_values (image_names M)) s) s.world.output n (slot_at (word_with (action.Put k) 0 M.words) k (put_slot machine_values (image_names M)) s s.world.output n)
+  action_at w (action.Isa c) s n = back_at s.pc (tells_class M (slice_get M.sets c) s) s.world.output n (told_at (λ t v. set_has (slice_get M.sets c) (kind_in M t v)) s s.world.output n)
+
+  row_at : (w : ℕ) (o : Option WordRow) (s : Machine) (n : ℕ) → Ticks ⊥ (λ n. or_trap o t_kind s n (λ r. does_action M w r.action s n)) s.world.output n
+  row_at w None s n = λ c none. absurd c
+  row_at w (Some r) s n = action_at w r.action s n
+
+  -- a job that comes before the instruction, or the instruction
+  job_at : (o : Option Job) (s : Machine) (n : ℕ) → Ticks ⊤ (job_or_fetched M o s) s.world.output n
+  job_at None s n = fetched_at (slice_get M.code s.pc) s n
+  job_at (Some (instr i)) s n = fetched_at (Some i) (record s { job = None }) n
+  job_at (Some (acts_of w)) s n = let t : Machine = record s { job = None } in paid_at ⊥ (does_job M (acts_of w) t) t (row_at w (slice_get M.words w) t) n
+
   pub step_at : (s : Machine) (n : ℕ) → Ticks ⊤ (step M s) s.world.output n
-  step_at s n = fetched_at (slice_get M.code s.pc) s n
+  step_at s n = job_at s.job s n

@@ -8,7 +8,6 @@ use Rattle.fac_lang.specs.World.{World, State}
 use Rattle.fac_lang.specs.declared.memory.Memory.{Memory}
 use Rattle.fac_lang.specs.Eval.{Result as Run, Done, Failed, Spent, Stuck}
 use Rattle.fac_lang.specs.RunningLaws.{IsNotStuck}
-use Rattle.fac_lang.specs.HeightArithmetic.{fits}
 use Rattle.fac_locals.specs.declared.closing.Closed.{Closed}
 use Rattle.fac_check.specs.CallableEffects.{callable_height}
 use Rattle.fac_code.specs.declared.image.Elem.{Elem}
@@ -36,7 +35,7 @@ EndsSame P r e = SameEnd (template_phrases P) r e
 
 -- the top-level phrase from no value in this world
 abbrev from_world : Program → World Value → ℕ → Run
-from_world P w n = top_run P fits (callable_height P) [] w n
+from_world P w n = top_run P (callable_height P) [] w n
 
 -- the machine of the image ends as the meaning
 pub carried_end : (P : Program) (M : Image) (n : ℕ) → Carried P M → (e : End) × Ends M (first_state M) n e × EndsSame P (meaning P n) e

@@ -19,6 +19,7 @@ use fac_io::Sink;
 use fac_lang::limits::MOST_SHOWN_BYTES;
 use fac_lang::{List, Memory, Program, Text};
 use fac_notes::name_of_word;
+use fac_qeff::effects;
 use fac_show::{ShowFault, show};
 use fac_store::{Store, Value};
 use fac_vm::{Machine, RunError, Stop, StopKind, runs_have_one_end};
@@ -144,7 +145,8 @@ fn image_of(alloc: Global, checked: &Checked) -> Result<Image, Memory>
     ensures { IfOk result (λ image. (P : Source) → StandsForSafe checked.now.closed P → Carried P image) }
 {
     safe_programs_are_not_stuck();
-    compile(alloc, &checked.closed)
+    let heights = effects(alloc, &checked.closed)?;
+    compile(alloc, &checked.closed, heights.as_slice())
 }
 
 // A fresh machine for an accepted program.

@@ -21,6 +21,11 @@ IsAlone (forks l r b ms) = Unit {0}
 IsAlone (again w b ms) = ⊥
 IsAlone (uses e is b ms) = Unit {0}
 
+-- whether it puts nothing for a local in the rest of the phrase
+abbrev pub NamesNone : Doing → Type 0
+NamesNone (names_local x m b ms) = ⊥
+NamesNone _ = Unit {0}
+
 module _ (own : Option Signature) where
   -- the rule that an item breaks before it counts
   abbrev pub item_rule : Doing → ℕ → Option Rule

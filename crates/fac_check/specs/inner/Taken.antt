@@ -1,4 +1,4 @@
--- Which closed programs the walk takes: numbers, truth values, strings, words as values, literal arrays, quotations, fries, locals, words and next methods in phrases, and words of all sorts but earlier top-level phrases, with built primitives and core words.
+-- Which closed programs the walk takes: numbers, truth values, strings, words as values, literal arrays, quotations, fries, locals, words, next methods and calls with a declared effect in phrases, and words of all sorts but earlier top-level phrases, with built primitives and core words.
 use Rattle.std.specs.Prelude.{ℕ, List, Bool, true, false, ◌&&◌, nat_lt, nat_le, length}
 use Rattle.std.specs.List.{list_all}
 use Rattle.fac_lang.specs.declared.phrase.Template.{Template}
@@ -8,7 +8,7 @@ use Rattle.fac_lang.specs.declared.program.Sort.{Sort}
 use Rattle.fac_lang.specs.declared.program.Sort.TheVariants.{Prim as prim, Core as core, Body as body, Past as past, Method as method}
 use Rattle.fac_lang.specs.Primitives.{is_built_primitive}
 use Rattle.fac_lang.specs.CoreWords.{is_built_core}
-use Rattle.fac_lang.specs.Phrases.{int, yes, no, str, wrd, Phrase, end, then, Item, lit, lit_arr, word, bind, local, next_method, made, next_after}
+use Rattle.fac_lang.specs.Phrases.{int, yes, no, str, wrd, Phrase, end, then, Item, lit, lit_arr, word, bind, local, call_eff, exec_eff, next_method, made, next_after}
 use Rattle.fac_lang.specs.Effects.{effect_height}
 
 -- whether the walk takes an item, where words that phrases may name have numbers below the first number, and templates below the second
@@ -23,6 +23,8 @@ takes_item top count (word w) = nat_lt w top
 takes_item top count (made k) = nat_lt k count
 takes_item top count (bind k) = true
 takes_item top count (local k) = true
+takes_item top count (call_eff h) = true
+takes_item top count (exec_eff h) = true
 takes_item top count next_method = true
 takes_item top count (next_after m) = true
 takes_item top count _ = false

@@ -91,3 +91,7 @@ GivesOuts before now (Err memory) = Unit {0}
 abbrev pub GivesEffect : List Token → List Token → Result Signature Memory → Type 0
 GivesEffect before now (Ok effect) = (w : Written) (rest : List Token) → IsWritten w → before ≡ written_tokens w ++ rest → (effect ≡ said w) × (now ≡ rest)
 GivesEffect before now (Err memory) = Unit {0}
+
+-- likewise where the first of its tokens was passed
+abbrev pub GivesOpened : List Token → List Token → Result Signature Memory → Type 0
+GivesOpened left now answer = (before : List Token) → left ≡ behind_first before → GivesEffect before now answer

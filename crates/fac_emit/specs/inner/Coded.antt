@@ -1,6 +1,6 @@
 -- Which items and elements have their place in an image, as inner functions ask for it.
 use Rattle.std.specs.List.{list_all}
-use Rattle.std.specs.Prelude.{List, ◌&&◌, Bool, true, false, Option, Some}
+use Rattle.std.specs.Prelude.{List, ◌&&◌, nat_le, Bool, true, false, Option, Some}
 use Rattle.fac_lang.specs.declared.phrase.Template.{Template}
 use Rattle.fac_lang.specs.declared.program.Lit.{Lit}
 use Rattle.fac_lang.specs.declared.program.Lit.TheVariants.{Quot as l_quot}
@@ -8,6 +8,7 @@ use Rattle.fac_lang.specs.declared.program.Program.{Program}
 use Rattle.fac_lang.specs.declared.program.WordDef.{WordDef}
 use Rattle.fac_lang.specs.declared.program.Sort.{Sort}
 use Rattle.fac_lang.specs.declared.program.Sort.TheVariants.{Body as body, Method as method}
+use Rattle.fac_lang.specs.Effects.{effect_height}
 use Rattle.fac_lang.specs.Phrases.{Phrase, end, then, Item, next_after}
 use Rattle.fac_lang.specs.Meaning.{sort_of}
 use Rattle.fac_lang.specs.Whole.{is_generic}
@@ -41,6 +42,10 @@ module _ (C : Program) where
 
   abbrev pub word_body_is_coded : WordDef → Bool
   word_body_is_coded d = body_is_coded d.sort
+
+-- whether a word's effect has few inputs
+abbrev pub has_few_inputs : WordDef → Bool
+has_few_inputs d = nat_le (effect_height d.effect).ins 65
 
 -- whether an element of a literal array has an element of an image: each but a quotation that isn't closed
 abbrev pub element_is_coded : Lit → Bool

@@ -1,4 +1,4 @@
--- Items as they stand one behind another: each of one token, or a bracket.
+-- Items as they stand one behind another: each without a bracket, or a bracket.
 use Rattle.std.specs.Prelude.{List, [], ◌∷◌, map, Option, None}
 use Rattle.fac_lang.specs.declared.phrase.Place.{Place}
 use Rattle.fac_lang.specs.declared.tree.Bracket.{Bracket}

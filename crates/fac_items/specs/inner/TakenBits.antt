@@ -1,7 +1,7 @@
 -- What bits come to, one after another, and the first refusal in them.
 use Rattle.std.specs.Prelude.{ℕ, zero, suc, ◌-◌, List, [], ◌∷◌, ◌++◌, length, drop, fold, map, reverse, Option, Some, None, codes, Bool}
 use Rattle.fac_lang.specs.PhraseView.{items_phrase}
-use Rattle.fac_lang.specs.Phrases.{Plain, Phrase, end, then, Item, lit, lit_arr, quot, word, bind, local, fry, hole, next_method}
+use Rattle.fac_lang.specs.Phrases.{Plain, wrd, Phrase, end, then, Item, lit, lit_arr, quot, word, bind, local, fry, hole, call_eff, exec_eff, next_method}
 use Rattle.fac_lang.specs.RunningLaws.{append}
 use Rattle.fac_lang.specs.declared.phrase.Place.{Place}
 use Rattle.fac_lang.specs.declared.program.Lit.{Lit}
@@ -26,7 +26,7 @@ use Rattle.fac_items.specs.declared.nest.At.TheVariants.{Inside, Cases}
 use Rattle.fac_items.specs.declared.nest.Spot.{Spot}
 use Rattle.fac_items.specs.declared.nest.Spot.TheVariants.{Between, BeforeFirst, BeforeSecond, BehindSecond, BehindLast}
 use Rattle.fac_items.specs.declared.nest.Nest.{Nest}
-use Rattle.fac_items.specs.Written.{Tok, Node, n_lit, n_name, n_next, n_bind, n_hole, n_at}
+use Rattle.fac_items.specs.Written.{Tok, Node, n_lit, n_ref, n_name, n_call, n_execute, n_next, n_bind, n_hole, n_at}
 use Rattle.fac_items.specs.Items.{is_cond, literal, local_of, search_fault, word_of}
 use Rattle.fac_items.specs.inner.Behind.{all_scanned, none_scanned}
 use Rattle.fac_items.specs.inner.Bits.{Bit, all_bits, leaf, opens, opens_array, opens_locals, closes}
@@ -74,7 +74,7 @@ pub record Taken : Type 0 where
 abbrev pub nest_seen : Nest → Taken
 nest_seen n = record { outer = map around_seen n.outer; at = n.at; content = content_seen n.content; locals = locals_seen n.locals.items; holes = n.holes; arrays = n.arrays; first = n.first }
 
--- Items of one token.
+-- Items without a bracket.
 
 -- an item, which stands in no array
 abbrev pub with_item : Item → Place → Kept → Kept
@@ -84,6 +84,11 @@ with_item i p (some_elements ls) = some_elements ls
 abbrev pub with_literal : Plain → Place → Kept → Kept
 with_literal l p (a_phrase t) = a_phrase (append t (then (lit l) p end))
 with_literal l p (some_elements ls) = some_elements (ls ++ literal l ∷ [])
+
+-- a word as a value
+abbrev pub with_reference : ℕ → Place → Kept → Kept
+with_reference w p (a_phrase t) = a_phrase (append t (then (lit (wrd w)) p end))
+with_reference w p (some_elements ls) = some_elements (ls ++ literal_is.Wref w ∷ [])
 
 abbrev pub item_taken : Item → Place → Taken → Taken
 item_taken i p n = record n { content = with_item i p n.content }
@@ -99,6 +104,9 @@ name_as s t p None n = item_taken (word (word_of s t)) p (searched s t n)
 abbrev pub name_in : Scope → Tok → Place → Kept → Taken → Taken
 name_in s t p (a_phrase u) n = name_as s t p (local_of n.locals t.text) n
 name_in s t p (some_elements ls) n = searched s t (record n { content = some_elements (ls ++ literal_is.Wref (word_of s t) ∷ []) })
+
+abbrev pub reference_taken : Scope → Tok → Place → Taken → Taken
+reference_taken s t p n = searched s t (record n { content = with_reference (word_of s t) p n.content })
 
 abbrev pub bound_taken : Tok → Bool → Place → Taken → Taken
 bound_taken t twice p n = record n { content = with_item (bind (length n.locals)) p n.content; locals = t.text ∷ n.locals; first = fold sooner n.first (fault_if twice Twice t) }
@@ -132,6 +140,9 @@ added_taken s a p n = item_taken (added_item s a) p n
 abbrev pub leaf_inside : Scope → Node → Taken → Taken
 leaf_inside s (n_lit l p) n = record n { content = with_literal l p n.content }
 leaf_inside s (n_name t p) n = name_in s t p n.content n
+leaf_inside s (n_ref t p) n = reference_taken s t p n
+leaf_inside s (n_call h p) n = item_taken (call_eff h) p n
+leaf_inside s (n_execute h p) n = item_taken (exec_eff h) p n
 leaf_inside s (n_next p) n = item_taken next_method p n
 leaf_inside s (n_bind t twice p) n = bound_taken t twice p n
 leaf_inside s (n_hole p) n = hole_taken p n

@@ -9,6 +9,7 @@ use Rattle.fac_lang.specs.declared.tree.Element.TheVariants as element
 use Rattle.fac_lang.specs.declared.tree.Mark.{Mark}
 use Rattle.fac_lang.specs.declared.tree.Mark.TheVariants as mark
 use Rattle.fac_lang.specs.declared.tree.Bracket.TheVariants as bracket
+use Rattle.fac_lang.specs.declared.tree.Callee.{Callee}
 use Rattle.fac_lang.specs.declared.tree.FormKind.{FormKind}
 use Rattle.fac_lang.specs.declared.tree.Key.{Key}
 use Rattle.fac_lang.specs.declared.tree.Key.TheVariants.{Arrow}
@@ -26,13 +27,13 @@ use Rattle.fac_parse.specs.declared.rows.Naming.TheVariants as naming
 use Rattle.fac_parse.specs.declared.rows.Marked.{Marked}
 use Rattle.fac_parse.specs.declared.rows.Marked.TheVariants as marked
 use Rattle.fac_effect.specs.declared.spelling.Spelling.{Spelling}
-use Rattle.fac_effect.specs.declared.spelling.Spelling.TheVariants.{Begins, Fixed, Semi, OpensBracket, ClosesBracket, True, False, Inline, Recursive, NextMethod, OpensLocals, Bar, Binds, Hole, CalledHole, Integer, String, Name}
+use Rattle.fac_effect.specs.declared.spelling.Spelling.TheVariants.{Begins, Fixed, Semi, OpensBracket, ClosesBracket, True, False, Inline, Recursive, NextMethod, OpensLocals, Bar, Binds, Hole, CalledHole, Wraps, Calls, Integer, String, Name}
 use Rattle.fac_parse.specs.declared.rows.Taking.{Taking}
 use Rattle.fac_parse.specs.declared.rows.Taking.TheVariants.{Values, Locals}
 use Rattle.fac_parse.specs.declared.levels.Levels.{Levels}
 use Rattle.fac_parse.specs.declared.run.Run.{Run}
 use Rattle.fac_parse.specs.declared.run.Unfinished.{Unfinished}
-use Rattle.fac_parse.specs.declared.run.Unfinished.TheVariants.{Nothing, Bind, Heading}
+use Rattle.fac_parse.specs.declared.run.Unfinished.TheVariants.{Nothing, Bind, Heading, Wrap, Call}
 use Rattle.fac_parse.specs.declared.run.Growth.{Growth}
 use Rattle.fac_parse.specs.declared.run.Growth.TheVariants.{Stuck, More, Whole}
 use Rattle.fac_parse.specs.declared.reader.Head.{Head}
@@ -47,9 +48,11 @@ use Rattle.fac_parse.specs.Rows.{slots_of}
 use Rattle.fac_effect.specs.declared.effect_reader.EffectReader.{EffectReader}
 use Rattle.fac_effect.specs.Spellings.{token_spelling, token_text}
 use Rattle.fac_effect.specs.LocalNames.{is_local_name, may_stand}
-use Rattle.fac_effect.specs.EffectReading.{Progress, reads as reading, whole, refused, start as no_tokens, step as token_step, after}
+use Rattle.fac_effect.specs.EffectReading.{Progress, reads as reading, whole, refused, start as no_tokens, opened, step as token_step, after}
 use Rattle.fac_effect.specs.SaidEffects.{effect_of}
-use Rattle.fac_parse.specs.Contexts.{items_in, uncounted, bound, opened_locals, behind}
+use Rattle.fac_effect.specs.RowlessEffects.{opened_tokens, behind_opens, is_no_row}
+use Rattle.fac_lang.specs.Effects.{effect_height}
+use Rattle.fac_parse.specs.Contexts.{items_in, counted, uncounted, bound, opened_locals, behind}
 use Rattle.fac_parse.specs.Trees.{named, most_slots, is_parent_sign, inputs_of, Parses}
 
 -- how far an element is read that has several tokens
@@ -59,6 +62,10 @@ pub data Half : Type 0 where
   binding : Place → Half
   -- the first of a quotation with locals, and their names so far
   heading : Place → List Token → Half
+  -- the first of a word that is a value
+  wrapping : Place → Half
+  -- the first of a call with a declared effect, and the tokens of the effect so far
+  calling : Callee → Place → List Token → EffectReader → Half
 
 -- what is being read of a row
 pub data Within : Type 0 where
@@ -194,6 +201,8 @@ is_local t = is_local_name (token_text t.kind)
 
 -- the first token of an element
 abbrev pub begin_element : List Context → Spelling → Token → Grown
+begin_element contexts Wraps t = half_where (counted contexts) (wrapping t.place)
+begin_element contexts (Calls callee) t = half_where (uncounted contexts) (calling callee t.place [] opened)
 begin_element contexts Binds t = half_where (bound (uncounted contexts)) (binding t.place)
 begin_element contexts OpensLocals t = half_where (opened_locals 0 (uncounted contexts)) (heading t.place [])
 begin_element contexts s t = grown_if (element_of s t)
@@ -209,10 +218,31 @@ heading_step contexts opens ns Name t = (if is_local t then half_where (opened_l
 heading_step contexts opens ns Bar t = grown (element.OpensLocals opens ns t.place)
 heading_step contexts opens ns _ t = stuck
 
+-- behind `\`
+abbrev pub wrap_step : Place → Spelling → Token → Grown
+wrap_step sign Name t = grown (element.Item (term.Wrapped sign t))
+wrap_step sign _ t = stuck
+
+-- a call whose effect has these tokens
+abbrev pub call_of : Callee → Place → List Token → Element
+call_of callee sign ts = element.Item (term.EffectCall callee sign ts (effect_height (effect_of (opened_tokens sign ts))))
+
+-- a call whose effect has these tokens, by how far it is read
+abbrev pub call_with : Callee → Place → List Token → Progress → Grown
+call_with callee sign ts (reading r) = begun_as (calling callee sign ts r)
+call_with callee sign ts whole = grown (call_of callee sign ts)
+call_with callee sign ts (refused why) = stuck
+
+-- behind `call(` or `execute(` and tokens of its effect
+abbrev pub call_step : Callee → Place → List Token → EffectReader → Spelling → Token → Grown
+call_step callee sign ts r s t = (if is_no_row r s t then call_with callee sign (ts ++ t ∷ []) (token_step r s t) else stuck)
+
 abbrev pub grow : List Context → Half → Spelling → Token → Grown
 grow contexts no_half s t = begin_element contexts s t
 grow contexts (binding sign) s t = bind_step sign s t
 grow contexts (heading opens ns) s t = heading_step contexts opens ns s t
+grow contexts (wrapping sign) s t = wrap_step sign s t
+grow contexts (calling callee sign ts r) s t = call_step callee sign ts r s t
 
 -- one more element, where this is then open
 abbrev pub with_element : (List Element → List Context → Half → Open) → List Form → List Element → Element → Option (List Context) → Option State
@@ -319,11 +349,17 @@ is_open _ = false
 abbrev pub begins_literal : Element → Bool
 begins_literal (element.Item (term.Integer t z)) = true
 begins_literal (element.Item (term.Text t)) = true
+begins_literal (element.Item (term.Wrapped sign t)) = true
 begins_literal (element.Item (term.True place)) = true
 begins_literal (element.Item (term.False place)) = true
 begins_literal (element.Opens bracket.Quotation place) = true
 begins_literal (element.Opens bracket.Array place) = true
 begins_literal _ = false
+
+-- whether an element that is begun is a literal
+abbrev pub is_literal_half : Half → Bool
+is_literal_half (wrapping sign) = true
+is_literal_half _ = false
 
 -- a literal with one more element, which is whole where no bracket is open then
 abbrev pub literal_with : List Form → Begun → List Element → Option (List Context) → Option State
@@ -333,7 +369,7 @@ literal_with forms b es _ = None
 
 abbrev pub literal_grown : List Form → Begun → List Element → List Context → Grown → Option State
 literal_grown forms b elements contexts stuck = None
-literal_grown forms b elements contexts (begun_as h) = (if is_open contexts then Some (in_state forms (row b (literal elements contexts h))) else None)
+literal_grown forms b elements contexts (begun_as h) = (if is_open contexts || is_literal_half h then Some (in_state forms (row b (literal elements contexts h))) else None)
 literal_grown forms b elements contexts (grown e) = (if is_open contexts || begins_literal e then literal_with forms b (elements ++ e ∷ []) (behind contexts e) else None)
 
 abbrev pub literal_step : List Form → Begun → List Element → List Context → Half → Spelling → Token → Option State
@@ -410,18 +446,23 @@ begun_at head parts = record { kind = head.kind; opens = head.opens; parts = par
 abbrev pub contexts_of : Levels → List Context
 contexts_of l = l.here ∷ l.outer
 
-abbrev pub half_of : Unfinished → List Token → Half
-half_of Nothing ns = no_half
-half_of (Bind sign) ns = binding sign
-half_of (Heading opens) ns = heading opens ns
+abbrev pub half_by : Unfinished → List Token → EffectReader → Half
+half_by Nothing ns r = no_half
+half_by (Bind sign) ns r = binding sign
+half_by (Heading opens) ns r = heading opens ns
+half_by (Wrap sign) ns r = wrapping sign
+half_by (Call callee sign) ns r = calling callee sign ns r
+
+abbrev pub half_of : Run → Half
+half_of run = half_by run.unfinished run.names run.effect
 
 -- whether items may end
 abbrev pub run_ends : Run → Bool
-run_ends run = may_end (contexts_of run.levels) (half_of run.unfinished run.names)
+run_ends run = may_end (contexts_of run.levels) (half_of run)
 
 -- items that are held somewhere
 abbrev pub held_of : (List Element → List Context → Half → Open) → Run → Open
-held_of held run = held run.elements (contexts_of run.levels) (half_of run.unfinished run.names)
+held_of held run = held run.elements (contexts_of run.levels) (half_of run)
 
 abbrev pub open_of : At → Reader → Open
 open_of at.Top r = held_of top r.run
@@ -432,16 +473,26 @@ open_of (at.Parent head sign) r = row (begun_at head r.parts) (tuple_parent sign
 open_of (at.Fixed head key) r = row (begun_at head r.parts) (fixed key)
 open_of (at.Effect head k) r = row (begun_at head r.parts) (effect k r.names r.effect)
 open_of (at.Items head k) r = held_of (row_items (begun_at head r.parts) k) r.run
-open_of (at.Literal head) r = row (begun_at head r.parts) (literal r.run.elements (contexts_of r.run.levels) (half_of r.run.unfinished r.run.names))
+open_of (at.Literal head) r = row (begun_at head r.parts) (literal r.run.elements (contexts_of r.run.levels) (half_of r.run))
 open_of (at.Marks head k) r = row (begun_at head r.parts) (marks k r.marks)
 
 abbrev pub state_of : Reader → State
 state_of r = in_state r.forms (open_of r.at r)
 
 -- an effect that is open is read as far as its tokens
+abbrev pub IsHalfRead : Half → Type 0
+IsHalfRead (calling callee sign ts r) = behind_opens ts ≡ reading r
+IsHalfRead _ = Unit {0}
+
+abbrev pub IsWithinRead : Within → Type 0
+IsWithinRead (effect k ts r) = after ts ≡ reading r
+IsWithinRead (items k elements contexts h) = IsHalfRead h
+IsWithinRead (literal elements contexts h) = IsHalfRead h
+IsWithinRead _ = Unit {0}
+
 abbrev pub IsRead : Open → Type 0
-IsRead (row b (effect k ts r)) = after ts ≡ reading r
-IsRead _ = Unit {0}
+IsRead (top elements contexts h) = IsHalfRead h
+IsRead (row b w) = IsWithinRead w
 
 -- what taking a token answers: whether it goes on, and then the state behind it
 abbrev pub Goes : Option State → State → Result Bool Memory → Type 0
@@ -469,7 +520,7 @@ IsGrowth g (Whole e) = g ≡ grown e
 -- what growing the element that is begun answers, with the items before and after
 abbrev pub Grows : Grown → Run → Run → Result Growth Memory → Type 0
 Grows g run now (Ok Stuck) = g ≡ stuck
-Grows g run now (Ok More) = (g ≡ begun_as (half_of now.unfinished now.names)) × (now.elements ≡ run.elements) × (now.levels ≡ run.levels)
+Grows g run now (Ok More) = (g ≡ begun_as (half_of now)) × (now.elements ≡ run.elements) × (now.levels ≡ run.levels)
 Grows g run now (Ok (Whole e)) = (g ≡ grown e) × (now.elements ≡ run.elements) × (now.levels ≡ run.levels) × (now.unfinished ≡ Nothing)
 Grows g run now (Err e) = Unit {0}
 

@@ -14,7 +14,6 @@ use Rattle.fac_lang.specs.Whole.{IsWhole}
 use Rattle.fac_locals.specs.Closed.{Closes}
 use Rattle.fac_locals.specs.declared.closing.Closed.{Closed}
 use Rattle.fac_check.specs.CallableEffects.{callable_height}
-use Rattle.fac_lang.specs.HeightArithmetic.{fits}
 use Rattle.fac_check.specs.Promises.{IsSafe}
 use Rattle.fac_code.specs.declared.image.Image.{Image}
 use Rattle.fac_code.specs.ImageNames.{image_names}
@@ -56,7 +55,7 @@ SameNames P C = (w : ℕ) → word_name C w ≡ word_name P w
 
 -- with the checker's test of effects the image carries the program, whose top-level phrase isn't stuck from no value
 pub record Carried (P : Program) (M : Image) : Type 0 where
-  pub carries : Carries P fits (callable_height P) 0 M
+  pub carries : Carries P (callable_height P) 0 M
   pub not_stuck : (n : ℕ) → IsNotStuck (meaning P n)
 
 -- a machine that holds no value, and no objects but the literal arrays of its image as they were made

@@ -1,6 +1,7 @@
 use Rattle.std.proofs.Common.{◌≡◌, inl, inr, ℕ, refl, ap, subst, ◌∙◌}
 use Rattle.std.specs.Prelude.{nat_lt, slice_get}
-use Rattle.fac_lang.specs.Phrases.{lit, wrd, lit_arr, word, next_method, next_after}
+use Rattle.fac_lang.specs.declared.phrase.Height.{Height}
+use Rattle.fac_lang.specs.Phrases.{lit, wrd, lit_arr, word, call_eff, exec_eff, next_method, next_after}
 use Rattle.fac_lang.specs.PhraseView.{what_item}
 use Rattle.fac_lang.specs.declared.phrase.What.{What}
 use Rattle.fac_lang.specs.declared.phrase.What.TheVariants.{Int as w_int, True as w_true, False as w_false, Str as w_str}
@@ -25,63 +26,87 @@ returns-in-Wref-clause-there c = ok_maps c.reference.result (λ r there. doing_o
 
 pub returns-in-Arr-clause-does : goal.returns-in-Arr-clause-does
 returns-in-Arr-clause-does c =
-    ok_maps c.array.result (λ r does. λ O at i opens.
+    ok_maps c.array.result (λ r does. λ O at here i stands opens.
     let number : ℕ = c.in-Arr.number in
     let base = base_seen O.naming c.args.step.base in
     let marks = stack_of O.naming c.args.marks.now c.args.step.stack in
     let frame = items_of (frame_of O.naming c.args.marks.now c.args.step.frame) in
-    plain_does O frame (lit_arr number) tt base marks _ at i (does O.naming (slice_get O.program.words) base ∙ ap (λ n. array_doing (nat_lt number n) base marks) (arrays_closed_count O.program _ _ O.closes)) (subst (λ (w : What). OpensItem O.program c.args.subject.closed.now.templates frame at (what_item w) i) c.in-Arr.is opens)) c.array.ensures.does
+    plain_does O frame (lit_arr number) tt base marks _ at here i (does O.naming (slice_get O.program.words) base ∙ ap (λ n. array_doing (nat_lt number n) base marks) (arrays_closed_count O.program _ _ O.closes)) (subst (λ (w : What). OpensItem O.program c.args.subject.closed.now.templates frame at (what_item w) i) c.in-Arr.is opens)) c.array.ensures.does
 
 pub returns-in-NextMethod-clause-does : goal.returns-in-NextMethod-clause-does
-returns-in-NextMethod-clause-does c = λ O at i opens.
+returns-in-NextMethod-clause-does c = λ O at here i stands opens.
     let frame = items_of (frame_of O.naming c.args.marks.now c.args.step.frame) in
-    plain_does O frame next_method tt (base_seen O.naming c.args.step.base) (stack_of O.naming c.args.marks.now c.args.step.stack) _ at i refl (subst (λ (w : What). OpensItem O.program c.args.subject.closed.now.templates frame at (what_item w) i) c.in-NextMethod.is opens)
+    plain_does O frame next_method tt (base_seen O.naming c.args.step.base) (stack_of O.naming c.args.marks.now c.args.step.stack) _ at here i refl (subst (λ (w : What). OpensItem O.program c.args.subject.closed.now.templates frame at (what_item w) i) c.in-NextMethod.is opens)
 
 pub returns-in-NextAfter-clause-there : goal.returns-in-NextAfter-clause-there
 returns-in-NextAfter-clause-there c = ok_maps c.next_after.result (λ r there. doing_of (slice_get c.args.subject.closed.now.program.words) _ r there) c.next_after.ensures.there
 
 pub returns-in-NextAfter-clause-does : goal.returns-in-NextAfter-clause-does
 returns-in-NextAfter-clause-does c =
-    ok_maps c.next_after.result (λ r does. λ O at i opens.
+    ok_maps c.next_after.result (λ r does. λ O at here i stands opens.
     let method : ℕ = c.in-NextAfter.method in
     let base = base_seen O.naming c.args.step.base in
     let marks = stack_of O.naming c.args.marks.now c.args.step.stack in
     let frame = items_of (frame_of O.naming c.args.marks.now c.args.step.frame) in
-    plain_does O frame (next_after method) tt base marks _ at i (does O.word O.program O.closes O.naming (slice_get O.program.words) base) (subst (λ (w : What). OpensItem O.program c.args.subject.closed.now.templates frame at (what_item w) i) c.in-NextAfter.is opens)) c.next_after.ensures.does
+    plain_does O frame (next_after method) tt base marks _ at here i (does O.word O.program O.closes O.naming (slice_get O.program.words) base) (subst (λ (w : What). OpensItem O.program c.args.subject.closed.now.templates frame at (what_item w) i) c.in-NextAfter.is opens)) c.next_after.ensures.does
 
 pub returns-in-Word-clause-does : goal.returns-in-Word-clause-does
 returns-in-Word-clause-does c =
-    ok_maps c.word.result (λ r does. λ O at i opens.
+    ok_maps c.word.result (λ r does. λ O at here i stands opens.
     let number : ℕ = c.in-Word.number in
     let base = base_seen O.naming c.args.step.base in
     let marks = stack_of O.naming c.args.marks.now c.args.step.stack in
     let frame = items_of (frame_of O.naming c.args.marks.now c.args.step.frame) in
-    plain_does O frame (word number) tt base marks _ at i (does O) (subst (λ (w : What). OpensItem O.program c.args.subject.closed.now.templates frame at (what_item w) i) c.in-Word.is opens)) c.word.ensures.does
+    plain_does O frame (word number) tt base marks _ at here i (does O) (subst (λ (w : What). OpensItem O.program c.args.subject.closed.now.templates frame at (what_item w) i) c.in-Word.is opens)) c.word.ensures.does
 
 pub returns-in-Wref-clause-does : goal.returns-in-Wref-clause-does
 returns-in-Wref-clause-does c =
-    ok_maps c.reference.result (λ r does. λ O at i opens.
+    ok_maps c.reference.result (λ r does. λ O at here i stands opens.
     let number : ℕ = c.in-Wref.number in
     let base = base_seen O.naming c.args.step.base in
     let marks = stack_of O.naming c.args.marks.now c.args.step.stack in
     let frame = items_of (frame_of O.naming c.args.marks.now c.args.step.frame) in
-    plain_does O frame (lit (wrd number)) tt base marks _ at i (does O.naming (slice_get O.program.words) base) (subst (λ (w : What). OpensItem O.program c.args.subject.closed.now.templates frame at (what_item w) i) c.in-Wref.is opens)) c.reference.ensures.does
+    plain_does O frame (lit (wrd number)) tt base marks _ at here i (does O.naming (slice_get O.program.words) base) (subst (λ (w : What). OpensItem O.program c.args.subject.closed.now.templates frame at (what_item w) i) c.in-Wref.is opens)) c.reference.ensures.does
 
 pub returns-in-Int-clause-does : goal.returns-in-Int-clause-does
 returns-in-Int-clause-does c =
-    ok_maps c.unknown.result (λ r does. λ O at i opens.
+    ok_maps c.unknown.result (λ r does. λ O at here i stands opens.
     let base = base_seen O.naming c.args.step.base in
     let marks = stack_of O.naming c.args.marks.now c.args.step.stack in
     let frame = items_of (frame_of O.naming c.args.marks.now c.args.step.frame) in
     let puts = does O.naming (slice_get O.program.words) base in
     let as_is : (v : What) → c.args.what.now ≡ v → OpensItem O.program c.args.subject.closed.now.templates frame at (what_item v) i = λ v e. subst (λ (w : What). OpensItem O.program c.args.subject.closed.now.templates frame at (what_item w) i) e opens in
     elim c.in-Int.is [
-      | inl p ↦ plain_does O frame (what_item (w_int p.0)) tt base marks _ at i puts (as_is (w_int p.0) p.1)
+      | inl p ↦ plain_does O frame (what_item (w_int p.0)) tt base marks _ at here i puts (as_is (w_int p.0) p.1)
       | inr q ↦ elim q [
-        | inl e ↦ plain_does O frame (what_item w_true) tt base marks _ at i puts (as_is w_true e)
+        | inl e ↦ plain_does O frame (what_item w_true) tt base marks _ at here i puts (as_is w_true e)
         | inr o ↦ elim o [
-          | inl e ↦ plain_does O frame (what_item w_false) tt base marks _ at i puts (as_is w_false e)
-          | inr p ↦ plain_does O frame (what_item (w_str p.0)) tt base marks _ at i puts (as_is (w_str p.0) p.1)
+          | inl e ↦ plain_does O frame (what_item w_false) tt base marks _ at here i puts (as_is w_false e)
+          | inr p ↦ plain_does O frame (what_item (w_str p.0)) tt base marks _ at here i puts (as_is (w_str p.0) p.1)
         ]
       ]
     ]) c.unknown.ensures.does
+
+pub returns-in-CallEff-clause-there : goal.returns-in-CallEff-clause-there
+returns-in-CallEff-clause-there c = ok_maps c.effect_call.result (λ r there. doing_of (slice_get c.args.subject.closed.now.program.words) _ r there) c.effect_call.ensures.there
+
+pub returns-in-CallEff-clause-does : goal.returns-in-CallEff-clause-does
+returns-in-CallEff-clause-does c =
+    ok_maps c.effect_call.result (λ r does. λ O at here i stands opens.
+    let height : Height = c.in-CallEff.height in
+    let base = base_seen O.naming c.args.step.base in
+    let marks = stack_of O.naming c.args.marks.now c.args.step.stack in
+    let frame = items_of (frame_of O.naming c.args.marks.now c.args.step.frame) in
+    plain_does O frame (call_eff height) tt base marks _ at here i (does O.naming (slice_get O.program.words) base) (subst (λ (w : What). OpensItem O.program c.args.subject.closed.now.templates frame at (what_item w) i) c.in-CallEff.is opens)) c.effect_call.ensures.does
+
+pub returns-in-ExecEff-clause-there : goal.returns-in-ExecEff-clause-there
+returns-in-ExecEff-clause-there c = ok_maps c.effect_call-in-ExecEff.result (λ r there. doing_of (slice_get c.args.subject.closed.now.program.words) _ r there) c.effect_call-in-ExecEff.ensures.there
+
+pub returns-in-ExecEff-clause-does : goal.returns-in-ExecEff-clause-does
+returns-in-ExecEff-clause-does c =
+    ok_maps c.effect_call-in-ExecEff.result (λ r does. λ O at here i stands opens.
+    let height : Height = c.in-ExecEff.height in
+    let base = base_seen O.naming c.args.step.base in
+    let marks = stack_of O.naming c.args.marks.now c.args.step.stack in
+    let frame = items_of (frame_of O.naming c.args.marks.now c.args.step.frame) in
+    plain_does O frame (exec_eff height) tt base marks _ at here i (does O.naming (slice_get O.program.words) base) (subst (λ (w : What). OpensItem O.program c.args.subject.closed.now.templates frame at (what_item w) i) c.in-ExecEff.is opens)) c.effect_call-in-ExecEff.ensures.does

@@ -1,4 +1,4 @@
-use Rattle.std.proofs.Common.{refl, sym, ap, ◌∙◌, arith}
+use Rattle.std.proofs.Common.{refl, sym, ap, ◌∙◌}
 use Rattle.std.specs.Prelude.{slice_get}
 use Rattle.fac_lang.specs.declared.phrase.Height.{Height}
 use Rattle.fac_lang.specs.declared.program.Sort.TheVariants.{Core as core, Prim as prim}
@@ -54,5 +54,5 @@ returns-in-Body-clause-does c =
     ok_maps c.defined.result
     (λ r does P d whole low at built closes N own.
     let sort = is_body P c.args.number d w closes _ c.in-Body.is in
-    body_item P c.args.subject.own c.args.number d w closes sort.0 _ (base_seen N c.args.base) (stack_of N c.args.marks.now c.args.stack) at sort.1 (λ e. omega (arith, low, e)) (does P N (slice_get P.words) (ap effect_of at ∙ sym closes.effect) own))
+    body_item P c.args.subject.own c.args.number d w closes sort.0 _ (base_seen N c.args.base) (stack_of N c.args.marks.now c.args.stack) at sort.1 low (does P N (slice_get P.words) (ap effect_of at ∙ sym closes.effect) own))
     c.defined.ensures.does

@@ -1,5 +1,5 @@
 use Rattle.std.proofs.Common.{arith, ◌∙◌}
-use Rattle.fac_emit.specs.inner.Coded.{word_body_is_coded}
+use Rattle.fac_emit.specs.inner.Coded.{word_body_is_coded, has_few_inputs}
 use Rattle.fac_emit.proofs.CountLemmas.{sort_there}
 use Rattle.fac_emit.proofs.EmitLemmas.{word_code_step, word_texts_step, word_rows_step}
 use Rattle.fac_emit.proofs.CodedItems.{item_passes}
@@ -36,4 +36,5 @@ place_word-requires c =
       classes = c.requires.classes;
       sort = sort_there C at.word-index c.word-item.result items.result.now items.ensures lt c.word-item.is at.number at.invariant.count;
       coded = item_passes (word_body_is_coded C) C.words at.word-index c.word-item.result items.result.now items.ensures lt c.word-item.is c.requires.coded;
+      few = item_passes has_few_inputs C.words at.word-index c.word-item.result items.result.now items.ensures lt c.word-item.is c.requires.few;
     }

@@ -20,10 +20,11 @@ pub returns-clause-carries : goal.returns-clause-carries
 returns-clause-carries c =
     let closed = c.args.closed.now in
     let laws = c.methods_are_lawful.ensures in
-    IfOk-weaker c.plain_image.result (IsPlain closed.program closed.templates) _ (λ image plain P fits callable_height closes built whole. carries P closed.program closed.templates image fits callable_height closed.start built whole (laws P (whole_has P whole)) closes plain) c.plain_image.ensures
+    IfOk-weaker c.plain_image.result (IsPlain closed.program closed.templates c.args.heights.now) _
+    (λ image plain P callable_height closes built whole effects. carries P closed.program closed.templates c.args.heights.now image callable_height closed.start built whole (laws P (whole_has P whole)) closes plain effects) c.plain_image.ensures
 
 pub returns-clause-stands : goal.returns-clause-stands
 returns-clause-stands c =
     let closed = c.args.closed.now in
     let laws = c.methods_are_lawful.ensures in
-    IfOk-weaker c.plain_image.result (IsPlain closed.program closed.templates) _ (λ image plain P closes built whole. plain_code P closed.program closed.templates image built whole (laws P (whole_has P whole)) closes plain) c.plain_image.ensures
+    IfOk-weaker c.plain_image.result (IsPlain closed.program closed.templates c.args.heights.now) _ (λ image plain P closes built whole. plain_code P closed.program closed.templates c.args.heights.now image built whole (laws P (whole_has P whole)) closes plain) c.plain_image.ensures

@@ -16,7 +16,7 @@ invariant_of-result c =
     record {
       built = rw parts.code (code_built given.0 closed.program closed.templates given.2 given.1);
       refers = rw (parts.arrays, tables.kinds, tables.sets, parts.template_rows_are, parts.word_rows, tables.generics, parts.texts, parts.code)
-          (plain_refers given.0 closed.program closed.templates given.2 given.3 given.4 given.1 c.place_of-start.result (ap (λ (rs : List WordRow). slice_get rs closed.program.top) (sym parts.word_rows) ∙ top));
+          (plain_refers given.0 closed.program closed.templates c.args.heights.now given.2 given.3 given.4 given.1 c.place_of-start.result (ap (λ (rs : List WordRow). slice_get rs closed.program.top) (sym parts.word_rows) ∙ top));
     }
 
 pub returns : goal.returns

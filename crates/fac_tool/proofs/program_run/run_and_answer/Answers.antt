@@ -35,7 +35,7 @@ pub returns-in-Spent-clause-ends : goal.returns-in-Spent-clause-ends
 returns-in-Spent-clause-ends g c P named carries =
     let stops = rw c.in-Spent.is at (c.run_machine-stop.ensures.stops P carries) in
     let pieces = rw c.in-Spent.is at (c.run_machine-stop.ensures.pieces P carries) in
-    rw c.reported-in-Spent.ensures (spent_matches P c.args.budget (record { callables = []; texts = [] }) (record { stack = []; objects = []; literals = [] }) c.run_machine-stop.result.ticks _ stops, pieces)
+    rw c.reported-in-Spent.ensures (spent_matches P c.args.budget (record { heights = []; callables = []; texts = [] }) (record { stack = []; objects = []; literals = [] }) c.run_machine-stop.result.ticks _ stops, pieces)
 
 pub unreachable-requires : goal.unreachable-requires
 unreachable-requires g c = rw c.in-Trap.is at (c.run_machine-stop.ensures.stops c.requires.carries.0 c.requires.carries.1)

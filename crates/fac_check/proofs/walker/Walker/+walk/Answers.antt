@@ -1,4 +1,4 @@
-use Rattle.std.proofs.Common.{◌≡◌, ◌≤◌, ◌+◌, ◌-◌, suc, true, [], ◌∷◌, List, length, refl, sym, ap, subst, ◌∙◌, arith, drop, drop-cons, add-one}
+use Rattle.std.proofs.Common.{◌≡◌, ◌≤◌, ◌+◌, ◌-◌, suc, true, false, [], ◌∷◌, List, length, refl, sym, ap, subst, ◌∙◌, arith, drop, drop-cons, add-one}
 use Rattle.std.specs.Prelude.{slice_get}
 use Rattle.std.specs.Option.{option_copied}
 use Rattle.fac_check.proofs.NamedWords.{some_below}
@@ -6,7 +6,7 @@ use Rattle.std.proofs.lemmas.Grind.{common_steps}
 use Rattle.fac_lang.specs.declared.phrase.Item.{Item as PlacedItem}
 use Rattle.fac_lang.specs.declared.phrase.What.{What}
 use Rattle.fac_lang.specs.PhraseView.{what_item, items_phrase}
-use Rattle.fac_locals.specs.Literals.{first_of_word, first_of_literal}
+use Rattle.fac_locals.specs.Literals.{first_of_word, first_of_literal, literal_numbered}
 use Rattle.fac_locals.specs.Frames.{Opens}
 use Rattle.fac_check.specs.declared.subject.Subject.{Subject}
 use Rattle.fac_abs.proofs.SeenLemmas.{grows_refl, grows_trans}
@@ -23,22 +23,30 @@ use Rattle.fac_abs.specs.declared.rule.Rule.TheVariants.{NotKnown}
 use Rattle.fac_check.specs.Flow.{refused, and_then, walk_mark, walk_inputs, walk_use, inside, join, counted, unless_broken}
 use Rattle.fac_check.specs.inner.ItemWalk.{counted_item}
 use Rattle.fac_check.specs.inner.Taken.{takes_phrase}
-use Rattle.fac_check.specs.inner.Walking.{go_at, body_phrase, doing_seen, walked_seen, IsDoingOf, IsWithin, IsBelow, AreBound, AreWithin, IsWalked, IsWalkOfOne, IsWalkOfPhrase, items_of}
+use Rattle.fac_check.specs.inner.Walking.{go_at, body_phrase, doing_seen, walked_seen, IsActOf, IsExecuted, FollowsExecuted, IsWithin, IsBelow, AreBound, AreWithin, IsWalked, IsWalkOfOne, IsWalkOfPhrase, items_of}
 use Rattle.fac_check.specs.declared.walker.Step.{Step}
 use Rattle.fac_check.specs.declared.walker.Walked.TheVariants.{Found}
-use Rattle.fac_check.proofs.MarkWalks.{carried, curried_counts, composed_ends, phrase_entered, literal_opens, word_phrase_opens, misfit_walks, forked, reached_stays}
+use Rattle.fac_check.proofs.MarkWalks.{carried, curried_counts, composed_ends, phrase_entered, some_left, literal_opens, word_phrase_opens, misfit_walks, forked, reached_stays}
 use Rattle.fac_check.proofs.TakenPrograms.{word_taken, inputs_below, template_taken, phrase_taken, first_taken, others_taken}
 use Rattle.fac_check.proofs.WalkLemmas.{Onward, onward_start, onward_end, behind_from, no_bind, one_walks}
+use Rattle.fac_check.proofs.StandingItems.{told_template, told_stands, told_below}
 use Rattle.fac_check.proofs.WordItems.{ok_maps}
-use Rattle.fac_check.proofs.LaterDoings.{doing_later, doing_stays}
+use Rattle.fac_check.proofs.LaterDoings.{act_later, act_is_doing, doing_stays}
+use Rattle.fac_check.proofs.ExecutedItems.{act_walks, below_more}
 use Rattle.fac_check.proofs.walker.Walker.+walk.Goals as goal
 
-pub walk_literal-walk_phrase-requires : goal.walk_literal-walk_phrase-requires
-walk_literal-walk_phrase-requires t c =
+pub walk_literal-template_of-requires : goal.walk_literal-template_of-requires
+walk_literal-template_of-requires t c = omega (arith, c.requires.literal, c.args.self.now.templates)
+
+pub walk_literal-walk_body-requires : goal.walk_literal-walk_body-requires
+walk_literal-walk_body-requires t c = (omega (arith, c.decreases), (c.in-Some.ensures, (omega (arith, c.if-step-eq0.false), (c.requires.frame, c.requires.stack))))
+
+pub walk_body-walk_phrase-requires : goal.walk_body-walk_phrase-requires
+walk_body-walk_phrase-requires t c =
     let C = c.args.self.now.subject.closed.now in
     let deeper : c.entered.result.nested ≡ c.args.step.nested - 1 = ap (λ (s : Step). s.nested) c.entered.ensures in
     let same : c.entered.result.stack ≡ c.args.step.stack = ap (λ (s : Step). s.stack) c.entered.ensures in
-    (omega (arith, c.decreases, c.if-step-eq0.false, deeper), (rw same c.requires.stack, (c.requires.frame, template_taken C.program C.templates c.args.self.now.taken c.args.template c.in-Some.found.now (sym c.in-Some.ensures))))
+    (omega (arith, c.decreases, c.requires.nested, deeper), (rw same c.requires.stack, (c.requires.frame, template_taken C.program C.templates c.args.self.now.taken c.args.template c.in-Some.found.now (sym c.in-Some.ensures))))
 
 pub walk_word-walk_phrase-requires : goal.walk_word-walk_phrase-requires
 walk_word-walk_phrase-requires t c =
@@ -47,28 +55,44 @@ walk_word-walk_phrase-requires t c =
     let same : c.entered.result.stack ≡ c.args.step.stack = ap (λ (s : Step). s.stack) c.entered.ensures in
     (omega (arith, c.decreases, c.if-step-eq0.false, deeper), (rw same c.requires.stack, (c.no_cells-frame.ensures.valid, phrase_taken C.program C.templates c.args.self.now.taken c.args.word c.in-Some.found.now _ (sym c.in-Some.ensures) c.in-Body.is)))
 
-pub walk_literal-returns-clause-walks : goal.walk_literal-returns-clause-walks
-walk_literal-returns-clause-walks t c =
+pub walk_body-returns-clause-walks : goal.walk_body-returns-clause-walks
+walk_body-returns-clause-walks t c =
     ok_maps c.walk_phrase.result
     (λ r walks O f l.
     let M = c.args.self.now.marks in
-    let literal = first_of_literal (O.naming.literal c.args.template) in
-    let phrase = O.naming.phrase c.args.template (frame_of O.naming M c.args.frame) in
+    let step = c.args.step in
+    let n = c.args.literal in
+    let k = c.args.template in
+    let made = c.in-Some.found.now in
+    let there = sym c.in-Some.ensures in
+    let fs = frame_of O.naming M c.args.frame in
+    let here = first_of_literal (O.naming.literal n) in
+    let phrase = O.naming.phrase n fs in
     let many = sym (c.cells.ensures O.naming) ∙ c.if-cells-cells_of.false ∙ c.cells_of.ensures in
-    subst (λ (s : Step). IsWalkOfPhrase c.args.self.now.subject M c.walk_phrase.new.self.marks c.in-Some.found.now.body (record { place = s.place; nested = s.nested; base = s.base; stack = s.stack; frame = c.args.frame; left = s.left }) r) c.entered.ensures walks O literal phrase f (literal_opens O c.args.template c.in-Some.found.now (frame_of O.naming M c.args.frame) (sym c.in-Some.ensures) many) l
-    ∙ sym (phrase_entered O.effect (go_at O f) literal phrase c.args.step.place c.args.step.nested (base_seen O.naming c.args.step.base) (stack_of O.naming M c.args.step.stack) c.args.step.left c.if-step-eq0.false))
+    subst (λ (s : Step). IsWalkOfPhrase c.args.self.now.subject M c.walk_phrase.new.self.marks made.body (record { place = s.place; nested = s.nested; base = s.base; stack = s.stack; frame = c.args.frame; left = s.left; alone = s.alone }) r) c.entered.ensures walks O (first_of_literal (literal_numbered O.program k).at) here phrase f
+    (told_stands O k made there step.alone n c.requires.literal) (literal_opens O n k made fs there (told_template O k made there step.alone n c.requires.literal) many) l
+    ∙ sym (phrase_entered O.effect (go_at O f) here phrase step.place step.nested (base_seen O.naming step.base) (stack_of O.naming M step.stack) step.left (some_left step.nested c.requires.nested)))
     c.walk_phrase.ensures.walks
 
-pub walk_literal-unreachable-requires : goal.walk_literal-unreachable-requires
-walk_literal-unreachable-requires t c = some_below c.args.self.now.subject.closed.now.templates c.args.template (omega (arith, c.requires.template, c.args.self.now.templates)) (sym c.get.ensures ∙ ap option_copied c.in-None.is)
+pub walk_body-unreachable-requires : goal.walk_body-unreachable-requires
+walk_body-unreachable-requires t c = some_below c.args.self.now.subject.closed.now.templates c.args.template (told_below _ _ c.args.literal c.args.template c.args.step.alone c.requires.literal) (sym c.get.ensures ∙ ap option_copied c.in-None.is)
 
-pub walk_literal-returns-then-cells-cells_of-clause-walks : goal.walk_literal-returns-then-cells-cells_of-clause-walks
-walk_literal-returns-then-cells-cells_of-clause-walks t c = λ O f l.
+pub walk_body-returns-then-cells-cells_of-clause-walks : goal.walk_body-returns-then-cells-cells_of-clause-walks
+walk_body-returns-then-cells-cells_of-clause-walks t c = λ O f l.
     let N = O.naming in
-    let M = c.args.self.now.marks in
     let s = c.args.step in
+    let fs = frame_of N c.args.self.now.marks c.args.frame in
+    let names = told_template O c.args.template c.in-Some.found.now (sym c.in-Some.ensures) s.alone c.args.literal c.requires.literal in
     ap (λ p. refused NotKnown p) c.nowhere.ensures
-    ∙ misfit_walks O c.args.template c.in-Some.found.now (frame_of N M c.args.frame) (sym c.in-Some.ensures) (λ many. c.if-cells-cells_of.true (c.cells.ensures N ∙ many ∙ sym c.cells_of.ensures)) f s.left l s.place s.nested c.if-step-eq0.false (base_seen N s.base) (stack_of N M s.stack)
+    ∙ misfit_walks O c.args.literal fs (names.other_is fs (λ many. c.if-cells-cells_of.true (c.cells.ensures N ∙ many ∙ sym c.cells_of.ensures))) f s.left l s.place s.nested (some_left s.nested c.requires.nested) (base_seen N s.base) (stack_of N c.args.self.now.marks s.stack)
+
+pub walk_literal-returns-in-None-clause-walks : goal.walk_literal-returns-in-None-clause-walks
+walk_literal-returns-in-None-clause-walks t c = λ O f l.
+    let N = O.naming in
+    let s = c.args.step in
+    let fs = frame_of N c.args.self.now.marks c.args.frame in
+    ap (λ p. refused NotKnown p) c.nowhere.ensures
+    ∙ misfit_walks O c.args.literal fs (O.none_is c.args.literal c.in-None.ensures.0 c.in-None.ensures.1 fs) f s.left l s.place s.nested c.if-step-eq0.false (base_seen N s.base) (stack_of N c.args.self.now.marks s.stack)
 
 pub walk_word-returns-clause-walks : goal.walk_word-returns-clause-walks
 walk_word-returns-clause-walks t c =
@@ -77,7 +101,7 @@ walk_word-returns-clause-walks t c =
     let M = c.args.self.now.marks in
     let phrase = body_phrase O.program c.args.word in
     let opens = subst (λ fs. Opens O.program c.args.self.now.subject.closed.now.templates (items_of fs) (first_of_word c.args.word) c.in-Body.phrase phrase) (sym (c.no_cells-frame.ensures.is O.naming)) (word_phrase_opens O c.args.word c.in-Some.found.now _ (sym c.in-Some.ensures) c.in-Body.is) in
-    subst (λ (s : Step). IsWalkOfPhrase c.args.self.now.subject M c.walk_phrase.new.self.marks c.in-Body.phrase (record { place = s.place; nested = s.nested; base = s.base; stack = s.stack; frame = c.no_cells-frame.result; left = s.left }) r) c.entered.ensures walks O (first_of_word c.args.word) phrase f opens l
+    subst (λ (s : Step). IsWalkOfPhrase c.args.self.now.subject M c.walk_phrase.new.self.marks c.in-Body.phrase (record { place = s.place; nested = s.nested; base = s.base; stack = s.stack; frame = c.no_cells-frame.result; left = s.left; alone = false }) r) c.entered.ensures walks O (first_of_word c.args.word) (first_of_word c.args.word) phrase f refl opens l
     ∙ sym (phrase_entered O.effect (go_at O f) (first_of_word c.args.word) phrase c.args.step.place c.args.step.nested (base_seen O.naming c.args.step.base) (stack_of O.naming M c.args.step.stack) c.args.step.left c.if-step-eq0.false))
     c.walk_phrase.ensures.walks
 
@@ -140,9 +164,36 @@ walk_one-returns-in-Bind-clause-walks t c =
 
 pub walk_one-returns-in_ok-doing-in_default-clause-walks : goal.walk_one-returns-in_ok-doing-in_default-clause-walks
 walk_one-returns-in_ok-doing-in_default-clause-walks t c =
+    ok_maps c.walk_doing.result
+    (λ r walks. one_walks c.args.self.now.subject c.args.self.now.marks c.item_doing.new.marks c.walk_doing.new.self.marks (what_item c.args.what.now) c.args.step c.in_ok-doing-in_default.doing r (no_bind c.args.what.now c.in_default.not-Bind) c.in_ok-doing-in_default.ensures.does walks)
+    c.walk_doing.ensures.walks
+
+pub walk_doing-walk_item-requires : goal.walk_doing-walk_item-requires
+walk_doing-walk_item-requires t c =
+    let there = subst (IsExecuted (slice_get c.args.self.now.subject.closed.now.program.words) c.follow.new.marks c.args.step.left) c.in-Does.is c.in_ok-last.ensures.there in
+    (omega (arith, c.decreases), there.0)
+
+pub walk_doing-returns-in-Does-clause-below : goal.walk_doing-returns-in-Does-clause-below
+walk_doing-returns-in-Does-clause-below t c =
+    let there = subst (IsExecuted (slice_get c.args.self.now.subject.closed.now.program.words) c.follow.new.marks c.args.step.left) c.in-Does.is c.in_ok-last.ensures.there in
+    ok_maps c.walk_item.result (λ r below. below_more c.in-Does.left c.args.step.left r there.1 below) c.walk_item.ensures.below
+
+pub walk_doing-returns-in-Does-clause-walks : goal.walk_doing-returns-in-Does-clause-walks
+walk_doing-returns-in-Does-clause-walks t c =
+    let subject = c.args.self.now.subject in
+    let words = slice_get subject.closed.now.program.words in
+    let M = c.args.self.now.marks in
+    let L = c.follow.new.marks in
+    let there = subst (IsExecuted words L c.args.step.left) c.in-Does.is c.in_ok-last.ensures.there in
+    let follows = subst (FollowsExecuted subject M L c.args.doing c.args.step) c.in-Does.is c.in_ok-last.ensures.follows in
     ok_maps c.walk_item.result
-    (λ r walks. one_walks c.args.self.now.subject c.args.self.now.marks c.item_doing.new.marks c.walk_item.new.self.marks (what_item c.args.what.now) c.args.step c.in_ok-doing-in_default.doing r (no_bind c.args.what.now c.in_default.not-Bind) c.in_ok-doing-in_default.ensures.does walks)
+    (λ r walks O next f l.
+    let comes = follows O next f l in
+    act_walks O M c.args.step c.args.doing next f L c.walk_item.new.self.marks c.in-Does.last c.in-Does.left r words there.0 comes (walks O comes.steps comes.enough))
     c.walk_item.ensures.walks
+
+pub walk_doing-returns-in-Stops-clause-walks : goal.walk_doing-returns-in-Stops-clause-walks
+walk_doing-returns-in-Stops-clause-walks t c = subst (FollowsExecuted c.args.self.now.subject c.args.self.now.marks c.follow.new.marks c.args.doing c.args.step) c.in-Stops.is c.in_ok-last.ensures.follows
 
 pub walk_phrase-loop-item-init : goal.walk_phrase-loop-item-init
 walk_phrase-loop-item-init t c =
@@ -155,29 +206,29 @@ walk_phrase-loop-item-init t c =
       frame = c.requires.frame;
       within = omega arith;
       taken = subst (λ x. takes_phrase c.args.self.now.subject.closed.now.program.top (length c.args.self.now.subject.closed.now.templates) x ≡ true) seen c.requires.taken;
-      onward = λ O at u f opens l. onward_start O at u f c.args.step.nested c.args.step.left c.args.self.now.marks c.args.step.base c.args.step.stack c.args.step.frame items (subst (λ x. Opens O.program c.args.self.now.subject.closed.now.templates (items_of (frame_of O.naming c.args.self.now.marks c.args.step.frame)) at x u) seen opens) l;
+      onward = λ O at here u f stands opens l. onward_start O c.args.step.alone here u f c.args.step.nested at c.args.step.left c.args.self.now.marks c.args.step.base c.args.step.stack c.args.step.frame items stands (subst (λ x. Opens O.program c.args.self.now.subject.closed.now.templates (items_of (frame_of O.naming c.args.self.now.marks c.args.step.frame)) at x u) seen opens) l;
     }
 
 pub walk_phrase-returns-clause-walks : goal.walk_phrase-returns-clause-walks
-walk_phrase-returns-clause-walks t c = λ O at u f opens l.
+walk_phrase-returns-clause-walks t c = λ O at here u f stands opens l.
     let items = c.deref-item-items.result.now in
     let none : drop c.loop-item.item-index items ≡ [] = grind (arith, common_steps) in
-    onward_end O at u f c.args.step.nested (base_seen O.naming c.args.step.base) (stack_of O.naming c.args.self.now.marks c.args.step.stack) c.args.step.left c.loop-item.self.marks c.loop-item.base c.loop-item.stack c.loop-item.frame c.loop-item.left
-    (subst (λ is. Onward O at u f c.args.step.nested (base_seen O.naming c.args.step.base) (stack_of O.naming c.args.self.now.marks c.args.step.stack) c.args.step.left c.loop-item.self.marks c.loop-item.base c.loop-item.stack c.loop-item.frame is c.loop-item.left) none (c.loop-item.invariant.onward O at u f opens l))
+    onward_end O c.args.step.alone here u f c.args.step.nested (base_seen O.naming c.args.step.base) (stack_of O.naming c.args.self.now.marks c.args.step.stack) c.args.step.left c.loop-item.self.marks c.loop-item.base c.loop-item.stack c.loop-item.frame c.loop-item.left
+    (subst (λ is. Onward O c.args.step.alone here u f c.args.step.nested (base_seen O.naming c.args.step.base) (stack_of O.naming c.args.self.now.marks c.args.step.stack) c.args.step.left c.loop-item.self.marks c.loop-item.base c.loop-item.stack c.loop-item.frame is c.loop-item.left) none (c.loop-item.invariant.onward O at here u f stands opens l))
 
 pub walk_phrase-returns-in-Refused-clause-walks : goal.walk_phrase-returns-in-Refused-clause-walks
-walk_phrase-returns-in-Refused-clause-walks t c = λ O at u f opens l.
+walk_phrase-returns-in-Refused-clause-walks t c = λ O at here u f stands opens l.
     let items = c.deref-item-items.result.now in
     let i = c.loop-item.item-index in
     let next : drop i items ≡ c.item-item.result ∷ drop (suc i) items = drop-cons items i c.item-item.result c.loop-item-test.true ∙ ap (λ (x : PlacedItem). x ∷ drop (suc i) items) (sym c.item-item.is) in
-    sym (behind_from c.args.self.now.subject O at u f c.args.step.nested (base_seen O.naming c.args.step.base) (stack_of O.naming c.args.self.now.marks c.args.step.stack) c.args.step.left c.loop-item.self.marks c.frame_behind.new.self.marks c.walk_one.new.self.marks c.loop-item.base c.loop-item.stack c.loop-item.frame c.in_ok-behind.behind c.loop-item.left c.item-item.result (drop i items) (drop (suc i) items) c.in_ok-rule.field-0 _ next c.in-Refused.is c.in_ok-behind.ensures.grows c.in_ok-rule.ensures.grows c.loop-item.invariant.stack c.loop-item.invariant.frame c.in_ok-behind.ensures.made (subst (λ (x : Subject). IsWalkOfOne x c.frame_behind.new.self.marks c.walk_one.new.self.marks (what_item c.item-item.result.what) (record { place = c.item-item.result.place; nested = c.args.step.nested; base = c.loop-item.base; stack = c.loop-item.stack; frame = c.loop-item.frame; left = c.loop-item.left }) c.in_ok-rule.field-0) (c.in_ok-behind.ensures.subject ∙ c.loop-item.invariant.same) c.in_ok-rule.ensures.walks) c.in_ok-rule.ensures.below (c.loop-item.invariant.onward O at u f opens l))
+    sym (behind_from c.args.self.now.subject O c.args.step.alone here u f c.args.step.nested (base_seen O.naming c.args.step.base) (stack_of O.naming c.args.self.now.marks c.args.step.stack) c.args.step.left c.loop-item.self.marks c.frame_behind.new.self.marks c.walk_one.new.self.marks c.loop-item.base c.loop-item.stack c.loop-item.frame c.in_ok-behind.behind c.loop-item.left c.item-item.result (drop i items) (drop (suc i) items) c.in_ok-rule.field-0 _ next c.in-Refused.is c.in_ok-behind.ensures.grows c.in_ok-rule.ensures.grows c.loop-item.invariant.stack c.loop-item.invariant.frame c.in_ok-behind.ensures.made (subst (λ (x : Subject). IsWalkOfOne x c.frame_behind.new.self.marks c.walk_one.new.self.marks (what_item c.item-item.result.what) (record { place = c.item-item.result.place; nested = c.args.step.nested; base = c.loop-item.base; stack = c.loop-item.stack; frame = c.loop-item.frame; left = c.loop-item.left; alone = c.args.step.alone }) c.in_ok-rule.field-0) (c.in_ok-behind.ensures.subject ∙ c.loop-item.invariant.same) c.in_ok-rule.ensures.walks) c.in_ok-rule.ensures.below (c.loop-item.invariant.onward O at here u f stands opens l))
 
 pub walk_phrase-returns-in-Found-Dead-default-clause-walks : goal.walk_phrase-returns-in-Found-Dead-default-clause-walks
-walk_phrase-returns-in-Found-Dead-default-clause-walks t c = λ O at u f opens l.
+walk_phrase-returns-in-Found-Dead-default-clause-walks t c = λ O at here u f stands opens l.
     let items = c.deref-item-items.result.now in
     let i = c.loop-item.item-index in
     let next : drop i items ≡ c.item-item.result ∷ drop (suc i) items = drop-cons items i c.item-item.result c.loop-item-test.true ∙ ap (λ (x : PlacedItem). x ∷ drop (suc i) items) (sym c.item-item.is) in
-    sym (behind_from c.args.self.now.subject O at u f c.args.step.nested (base_seen O.naming c.args.step.base) (stack_of O.naming c.args.self.now.marks c.args.step.stack) c.args.step.left c.loop-item.self.marks c.frame_behind.new.self.marks c.walk_one.new.self.marks c.loop-item.base c.loop-item.stack c.loop-item.frame c.in_ok-behind.behind c.loop-item.left c.item-item.result (drop i items) (drop (suc i) items) c.in_ok-rule.field-0 _ next (c.in-Found-Dead-default.is ∙ ap (λ A. Found A c.in-Found-Dead-default.rest) c.in-Found-Dead-default.field-0-is) c.in_ok-behind.ensures.grows c.in_ok-rule.ensures.grows c.loop-item.invariant.stack c.loop-item.invariant.frame c.in_ok-behind.ensures.made (subst (λ (x : Subject). IsWalkOfOne x c.frame_behind.new.self.marks c.walk_one.new.self.marks (what_item c.item-item.result.what) (record { place = c.item-item.result.place; nested = c.args.step.nested; base = c.loop-item.base; stack = c.loop-item.stack; frame = c.loop-item.frame; left = c.loop-item.left }) c.in_ok-rule.field-0) (c.in_ok-behind.ensures.subject ∙ c.loop-item.invariant.same) c.in_ok-rule.ensures.walks) c.in_ok-rule.ensures.below (c.loop-item.invariant.onward O at u f opens l))
+    sym (behind_from c.args.self.now.subject O c.args.step.alone here u f c.args.step.nested (base_seen O.naming c.args.step.base) (stack_of O.naming c.args.self.now.marks c.args.step.stack) c.args.step.left c.loop-item.self.marks c.frame_behind.new.self.marks c.walk_one.new.self.marks c.loop-item.base c.loop-item.stack c.loop-item.frame c.in_ok-behind.behind c.loop-item.left c.item-item.result (drop i items) (drop (suc i) items) c.in_ok-rule.field-0 _ next (c.in-Found-Dead-default.is ∙ ap (λ A. Found A c.in-Found-Dead-default.rest) c.in-Found-Dead-default.field-0-is) c.in_ok-behind.ensures.grows c.in_ok-rule.ensures.grows c.loop-item.invariant.stack c.loop-item.invariant.frame c.in_ok-behind.ensures.made (subst (λ (x : Subject). IsWalkOfOne x c.frame_behind.new.self.marks c.walk_one.new.self.marks (what_item c.item-item.result.what) (record { place = c.item-item.result.place; nested = c.args.step.nested; base = c.loop-item.base; stack = c.loop-item.stack; frame = c.loop-item.frame; left = c.loop-item.left; alone = c.args.step.alone }) c.in_ok-rule.field-0) (c.in_ok-behind.ensures.subject ∙ c.loop-item.invariant.same) c.in_ok-rule.ensures.walks) c.in_ok-rule.ensures.below (c.loop-item.invariant.onward O at here u f stands opens l))
 
 pub walk_phrase-loop-item-preserved : goal.walk_phrase-loop-item-preserved
 walk_phrase-loop-item-preserved t c =
@@ -192,8 +243,8 @@ walk_phrase-loop-item-preserved t c =
       frame = c.in_ok-rule.ensures.grows.frames c.in_ok-behind.behind c.in_ok-behind.ensures.made.valid;
       within = omega (arith, c.loop-item.invariant.within, subst (IsBelow c.loop-item.left) is c.in_ok-rule.ensures.below);
       taken = others_taken c.args.self.now.subject.closed.now.program.top (length c.args.self.now.subject.closed.now.templates) c.item-item.result (drop (i + 1) items) (subst (λ (q : List PlacedItem). takes_phrase c.args.self.now.subject.closed.now.program.top (length c.args.self.now.subject.closed.now.templates) (items_phrase q) ≡ true) next c.loop-item.invariant.taken);
-      onward = λ O at u f opens l.
-          behind_from c.args.self.now.subject O at u f c.args.step.nested (base_seen O.naming c.args.step.base) (stack_of O.naming c.args.self.now.marks c.args.step.stack) c.args.step.left c.loop-item.self.marks c.frame_behind.new.self.marks c.walk_one.new.self.marks c.loop-item.base c.loop-item.stack c.loop-item.frame c.in_ok-behind.behind c.loop-item.left c.item-item.result (drop i items) (drop (i + 1) items) c.in_ok-rule.field-0 _ next is c.in_ok-behind.ensures.grows c.in_ok-rule.ensures.grows c.loop-item.invariant.stack c.loop-item.invariant.frame c.in_ok-behind.ensures.made (subst (λ (x : Subject). IsWalkOfOne x c.frame_behind.new.self.marks c.walk_one.new.self.marks (what_item c.item-item.result.what) (record { place = c.item-item.result.place; nested = c.args.step.nested; base = c.loop-item.base; stack = c.loop-item.stack; frame = c.loop-item.frame; left = c.loop-item.left }) c.in_ok-rule.field-0) (c.in_ok-behind.ensures.subject ∙ c.loop-item.invariant.same) c.in_ok-rule.ensures.walks) c.in_ok-rule.ensures.below (c.loop-item.invariant.onward O at u f opens l);
+      onward = λ O at here u f stands opens l.
+          behind_from c.args.self.now.subject O c.args.step.alone here u f c.args.step.nested (base_seen O.naming c.args.step.base) (stack_of O.naming c.args.self.now.marks c.args.step.stack) c.args.step.left c.loop-item.self.marks c.frame_behind.new.self.marks c.walk_one.new.self.marks c.loop-item.base c.loop-item.stack c.loop-item.frame c.in_ok-behind.behind c.loop-item.left c.item-item.result (drop i items) (drop (i + 1) items) c.in_ok-rule.field-0 _ next is c.in_ok-behind.ensures.grows c.in_ok-rule.ensures.grows c.loop-item.invariant.stack c.loop-item.invariant.frame c.in_ok-behind.ensures.made (subst (λ (x : Subject). IsWalkOfOne x c.frame_behind.new.self.marks c.walk_one.new.self.marks (what_item c.item-item.result.what) (record { place = c.item-item.result.place; nested = c.args.step.nested; base = c.loop-item.base; stack = c.loop-item.stack; frame = c.loop-item.frame; left = c.loop-item.left; alone = c.args.step.alone }) c.in_ok-rule.field-0) (c.in_ok-behind.ensures.subject ∙ c.loop-item.invariant.same) c.in_ok-rule.ensures.walks) c.in_ok-rule.ensures.below (c.loop-item.invariant.onward O at here u f stands opens l);
     }
 
 pub walk_fork-returns-in-Refused-2-clause-walks : goal.walk_fork-returns-in-Refused-2-clause-walks
@@ -263,7 +314,7 @@ walk_inputs-returns-in-Broken-clause-walks t c = λ O f l.
     let K = c.walk_input.new.self.marks in
     let list = c.args.list.now in
     let i = c.loop-input.input-index in
-    let step : Step = record { place = c.args.step.place; nested = c.args.step.nested; base = c.args.step.base; stack = c.args.step.stack; frame = c.args.step.frame; left = c.loop-input.left } in
+    let step : Step = record { place = c.args.step.place; nested = c.args.step.nested; base = c.args.step.base; stack = c.args.step.stack; frame = c.args.step.frame; left = c.loop-input.left; alone = c.args.step.alone } in
     let next : drop i list ≡ c.input-item.result ∷ drop (suc i) list = drop-cons list i c.input-item.result c.loop-input-test.true ∙ ap (λ (x : Input). x ∷ drop (suc i) list) (sym c.input-item.is) in
     let number : c.loop-input.number + 1 ≡ suc i = omega (arith, c.loop-input.invariant.number) in
     inputs_next O (go_at O f) M K step (suc i) (c.loop-input.number + 1) c.input-item.result (drop i list) (drop (suc i) list) c.loop-input.marks c.in-Some.mark c.in-Some.rest c.loop-input.binding c.walk_input.new.binding _ _ next c.in-Some.ensures number c.in-Broken.is (λ more. c.in_ok-rule.ensures.walks (carried c.loop-input.invariant.same O) f more (omega (arith, c.loop-input.invariant.within, l)))
@@ -284,7 +335,7 @@ walk_inputs-loop-input-preserved t c =
           let K = c.walk_input.new.self.marks in
           let list = c.args.list.now in
           let i = c.loop-input.input-index in
-          let step : Step = record { place = c.args.step.place; nested = c.args.step.nested; base = c.args.step.base; stack = c.args.step.stack; frame = c.args.step.frame; left = c.loop-input.left } in
+          let step : Step = record { place = c.args.step.place; nested = c.args.step.nested; base = c.args.step.base; stack = c.args.step.stack; frame = c.args.step.frame; left = c.loop-input.left; alone = c.args.step.alone } in
           let next : drop i list ≡ c.input-item.result ∷ drop (i + 1) list = rw add-one (drop-cons list i c.input-item.result c.loop-input-test.true ∙ ap (λ (x : Input). x ∷ drop (suc i) list) (sym c.input-item.is)) in
           let one : suc i ≡ i + 1 = omega arith in
           c.loop-input.invariant.onward O f l
@@ -296,7 +347,7 @@ walk_inputs-loop-input-preserved t c =
 pub walk_counted-returns-in-Uses-clause-walks : goal.walk_counted-returns-in-Uses-clause-walks
 walk_counted-returns-in-Uses-clause-walks t c =
     let M = c.args.self.now.marks in
-    let there = subst (IsDoingOf (slice_get c.args.self.now.subject.closed.now.program.words) M) c.in-Uses.is c.requires in
+    let there = subst (IsActOf (slice_get c.args.self.now.subject.closed.now.program.words) M) c.in-Uses.is c.requires in
     ok_maps c.walk_use.result
     (λ r walks O f l.
     let N = O.naming in
@@ -306,10 +357,13 @@ walk_counted-returns-in-Uses-clause-walks t c =
     ∙ ap (λ D. counted_item O.effect (go_at O f) (doing_seen N M (slice_get O.program.words) (base_seen N s.base) D) s.place s.nested s.left) (sym c.in-Uses.is))
     c.walk_use.ensures.walks
 
+pub walk_counted-unreachable-requires : goal.walk_counted-unreachable-requires
+walk_counted-unreachable-requires t c = subst (IsActOf (slice_get c.args.self.now.subject.closed.now.program.words) c.args.self.now.marks) c.in-Again.is c.requires
+
 pub walk_item-walk_counted-requires : goal.walk_item-walk_counted-requires
 walk_item-walk_counted-requires t c =
     let rule = c.in_ok-item_rule.ensures in
-    (omega (arith, c.decreases), subst (λ (b : Subject). IsDoingOf (slice_get b.closed.now.program.words) c.item_rule.new.self.marks c.args.doing) (sym rule.subject) (doing_later (slice_get c.args.self.now.subject.closed.now.program.words) c.args.self.now.marks c.item_rule.new.self.marks c.args.doing rule.grows c.requires))
+    (omega (arith, c.decreases), subst (λ (b : Subject). IsActOf (slice_get b.closed.now.program.words) c.item_rule.new.self.marks c.args.doing) (sym rule.subject) (act_later (slice_get c.args.self.now.subject.closed.now.program.words) c.args.self.now.marks c.item_rule.new.self.marks c.args.doing rule.grows c.requires))
 
 pub walk_item-returns-in-Ok-clause-walks : goal.walk_item-returns-in-Ok-clause-walks
 walk_item-returns-in-Ok-clause-walks t c =
@@ -325,7 +379,7 @@ walk_item-returns-in-Ok-clause-walks t c =
     let D = doing_seen N M words b c.args.doing in
     let left = c.in-Ok.left in
     walks (carried rule.subject O) f (omega (arith, c.in-Ok.ensures.0, l))
-    ∙ ap (λ x. counted_item O.effect (go_at O f) x s.place s.nested left) (doing_stays N words b M L _ c.args.doing rule.grows c.requires)
+    ∙ ap (λ x. counted_item O.effect (go_at O f) x s.place s.nested left) (doing_stays N words b M L (slice_get c.args.self.now.subject.closed.now.program.words) c.args.doing rule.grows (act_is_doing (slice_get c.args.self.now.subject.closed.now.program.words) M c.args.doing c.requires))
     ∙ sym (c.in-Ok.ensures.1 s.place (λ k. counted_item O.effect (go_at O f) D s.place s.nested k))
     ∙ ap (λ x. unless_broken x s.place (counted s.place s.left (λ k. counted_item O.effect (go_at O f) D s.place s.nested k))) (rule.rule O))
     c.walk_counted.ensures.walks

@@ -11,7 +11,7 @@ invariant-loop-input l = record {
   same : l.self ≡ l.initial.self;
   marks : IsStack l.self.marks l.below;
   onward :
-      (O : Opened l.initial.self.subject.closed.now.program l.initial.self.subject.closed.now.templates l.initial.self.subject.own) →
+      (O : Opened l.initial.self.subject.closed.now.program l.initial.self.subject.closed.now.templates l.initial.self.subject.own l.initial.self.subject.inner) →
       use_rule O.effect (binding_seen O.naming l.initial.self.marks l.binding) (inputs_tree l.list) (stack_of O.naming l.initial.self.marks l.inputs) l.step.nested
       ≡ use_rule O.effect (binding_seen O.naming l.initial.self.marks l.binding) (inputs_tree (drop l.input-index l.list)) (stack_of O.naming l.initial.self.marks l.below) l.step.nested;
 }

@@ -14,8 +14,11 @@ described-returns-else-begin_with-clause-gives t c =
     lemma.by_class c.args.name.now c.args.self.now.tokens.now c.skip.new.self.tokens.now c.plain_input.result (sym c.if-begin_with.ensures) c.skip.ensures c.plain_input.ensures
 
 pub effect-returns-clause-gives : goal.effect-returns-clause-gives
-effect-returns-clause-gives t c =
-    lemma.effect_given c.args.self.now.tokens.now c.skip.new.self.tokens.now c.entries.new.self.tokens.now c.outs.new.self.tokens.now c.in_ok-inputs.inputs c.in_ok-outs.outs c.effect_with.result c.skip.ensures c.in_ok-inputs.ensures.gives c.in_ok-outs.ensures.gives c.effect_with.ensures
+effect-returns-clause-gives t c = c.opened.ensures.gives c.args.self.now.tokens.now c.skip.ensures
+
+pub opened-returns-clause-gives : goal.opened-returns-clause-gives
+opened-returns-clause-gives t c = λ before p.
+    lemma.effect_given before c.args.self.now.tokens.now c.entries.new.self.tokens.now c.outs.new.self.tokens.now c.in_ok-inputs.inputs c.in_ok-outs.outs c.effect_with.result p c.in_ok-inputs.ensures.gives c.in_ok-outs.ensures.gives c.effect_with.ensures
 
 pub entries-loop-token-init : goal.entries-loop-token-init
 entries-loop-token-init t c = (

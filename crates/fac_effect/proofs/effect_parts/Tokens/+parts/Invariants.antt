@@ -10,19 +10,22 @@ use Rattle.fac_effect.proofs.effect_parts.Tokens.+parts.Given as goal
 
 -- Entries go on behind their first token; an entry, the effect behind its name and the parts of that one begin where it does.
 abbrev pub decreases-described : goal.decreases-described
-decreases-described l = length l.self.now.tokens.now * 5 + 3
+decreases-described l = length l.self.now.tokens.now * 6 + 4
 
 abbrev pub decreases-effect : goal.decreases-effect
-decreases-effect l = length l.self.now.tokens.now * 5 + 2
+decreases-effect l = length l.self.now.tokens.now * 6 + 3
 
 abbrev pub decreases-entries : goal.decreases-entries
-decreases-entries l = length l.self.now.tokens.now * 5
+decreases-entries l = length l.self.now.tokens.now * 6
 
 abbrev pub decreases-entry : goal.decreases-entry
-decreases-entry l = length l.self.now.tokens.now * 5 + 4
+decreases-entry l = length l.self.now.tokens.now * 6 + 5
+
+abbrev pub decreases-opened : goal.decreases-opened
+decreases-opened l = length l.self.now.tokens.now * 6 + 2
 
 abbrev pub decreases-outs : goal.decreases-outs
-decreases-outs l = length l.self.now.tokens.now * 5 + 1
+decreases-outs l = length l.self.now.tokens.now * 6 + 1
 
 abbrev pub invariant-entries-loop-token : goal.invariant-entries-loop-token
 invariant-entries-loop-token l =
