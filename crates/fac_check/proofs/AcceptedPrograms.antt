@@ -3,7 +3,7 @@ use Rattle.std.proofs.Common.{◌≡◌, ◌+◌, ℕ, zero, suc, List, [], ◌�
 use Rattle.std.specs.Prelude.{nat_eq, nat_lt, not, ◌&&◌, ◌||◌, slice_get, is_some, codes}
 use Rattle.std.specs.List.{list_all}
 use Rattle.std.proofs.lemmas.Bool.{eqb-true, eq-eqb, leb-true, le-leb}
-use Rattle.fac_lang.specs.Phrases.{Phrase, end, then, Item, lit, lit_arr, quot, word, bind, local, fry, hole, call_eff, exec_eff, next_method, made, next_after, held, known, Value}
+use Rattle.fac_lang.specs.Phrases.{Phrase, end, then, Item, lit, lit_arr, quot, word, bind, local, fry, hole, call_eff, exec_eff, next_method, made, next_after, held, known, Value, Callable}
 use Rattle.fac_lang.specs.World.{World, State, array}
 use Rattle.fac_lang.specs.declared.program.Lit.{Lit}
 use Rattle.fac_lang.specs.Signatures.{Signature, signature}
@@ -19,7 +19,8 @@ use Rattle.fac_lang.specs.declared.program.ClassDef.{ClassDef}
 use Rattle.fac_lang.specs.declared.program.WordDef.{WordDef}
 use Rattle.fac_lang.specs.declared.program.Sort.{Sort}
 use Rattle.fac_lang.specs.declared.program.Sort.TheVariants.{Prim as prim, Body as body, Past as past, Itself as itself, Class as class, Isa as isa, Getter as getter, Setter as setter, Putter as putter, Generic as generic, Method as method}
-use Rattle.fac_lang.specs.Meaning.{meaning_values, names, sort_of, word_phrase, with_arrays, literal_value, array_method, start, run, is_top_phrase, one_item}
+use Rattle.fac_lang.specs.Eval.{run_callable, eval}
+use Rattle.fac_lang.specs.Meaning.{meaning_values, names, sort_of, word_phrase, with_arrays, literal_value, array_method, start, run, act, is_top_phrase, one_item, word_fits, callable_fits}
 use Rattle.fac_lang.specs.Whole.{IsWhole, each_item, each_inner, item_fits, word_phrases, joined, quotations, has_written_effect, effect_written, is_effect, plain_effect, has_generic_effect, effect_of, sort_fits, is_generic, is_class, is_body, each_numbered, marks_fit}
 use Rattle.fac_lang.proofs.WholeLemmas.{same_effect}
 use Rattle.fac_lang.specs.RowVariables.{has_rows, bindable, is_row, outer_in, outer_out, effect_inputs, effect_leaving}
@@ -34,7 +35,7 @@ use Rattle.fac_check.proofs.ValuesOfMarks.{EndsSo}
 use Rattle.fac_check.proofs.WalksFit.{Context, OnState, StackState}
 use Rattle.fac_check.proofs.ItemsFit.{Over, Leaves}
 use Rattle.fac_check.proofs.PrimitivesKeep.{RegularFn, prim_regular, getter_regular, setter_regular, putter_regular, word_numbers, written_height, prim_found}
-use Rattle.fac_check.proofs.SoundPrograms.{Accepted, AcceptedMethod, height_of, Good, item_sound, row_word_sound, top_sound}
+use Rattle.fac_check.proofs.SoundPrograms.{Accepted, AcceptedMethod, height_of, Good, item_sound, executed_sound, callable_sound, row_word_sound, top_sound}
 
 -- One of a list, of which all pass a test, passes it.
 one_passes : {X : Type 0} (test : X → Bool) (xs : List X) → list_all test xs ≡ true → (k : ℕ) (x : X) → slice_get xs k ≡ Some x → test x ≡ true
@@ -419,6 +420,13 @@ module _ (P : Program) where
     -- Of a whole program that is accepted, with k values on the list before its top-level phrase: the item of a word that has an effect by itself, from every state with its declared inputs on any values, at every budget, isn't stuck, and where it is done exactly its declared outputs stand on those values.
     pub word_sound : (w : ℕ) (d : WordDef) (h : Height) → slice_get P.words w ≡ Some d → word_height d ≡ Some h → is_top_phrase P w ≡ false → (below : List Value) (st : State Value) (n : ℕ) → Over h.ins below st.stack → Valid P st.world → EndsSo (Leaves P h.outs below) (run P fits (callable_height P) n (one_item (word w)) st)
     word_sound w d h e q z below st n o v = item_sound P (accepted_program P whole k accepted) w d h e q z below st n o v
+
+    -- Likewise the item of a word that fits what a call declares, and a callable that does, wherever it came from.
+    pub fitting_word_sound : (h : Height) (w : ℕ) → word_fits P fits h w ≡ true → (below : List Value) (st : State Value) (n : ℕ) → Over h.ins below st.stack → Valid P st.world → EndsSo (Leaves P h.outs below) (run P fits (callable_height P) n (one_item (word w)) st)
+    fitting_word_sound h w e below st n o v = executed_sound P (accepted_program P whole k accepted) h w e below st n o v
+
+    pub fitting_callable_sound : (h : Height) (c : Callable) → callable_fits P fits (callable_height P) h c ≡ true → (below : List Value) (st : State Value) (n : ℕ) → Over h.ins below st.stack → Valid P st.world → EndsSo (Leaves P h.outs below) (run_callable (eval (act P fits (callable_height P)) n) c st n)
+    fitting_callable_sound h c e below st n o v = callable_sound P (accepted_program P whole k accepted) h c e below st n o v
 
     -- Likewise a row word, in every context in which what may be handed in for its inputs does what its effect says.
     pub row_sound : (w : ℕ) (d : WordDef) → slice_get P.words w ≡ Some d → d.inline ≡ true → is_row d.recursive d.effect ≡ true → (C : Context) → C.own ≡ Some d.effect → C.word ≡ Some w → (n : ℕ) → Good P n C → (st : State Value) → OnState P C (outer_in d.effect) (inputs_marks 1 (effect_inputs d.effect) []) st → EndsSo (StackState P C (leaving_on (effect_leaving d.effect) (outer_out d.effect) [])) (run P fits (callable_height P) n (one_item (word w)) st)

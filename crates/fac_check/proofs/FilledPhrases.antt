@@ -1,10 +1,10 @@
 -- What is put for the cells of a phrase shows in it: which items these are, and how deep their marks are.
-use Rattle.std.proofs.Common.{◌≡◌, ◌≤◌, ◌⊎◌, inl, inr, ℕ, suc, Bool, true, false, refl, sym, subst, ◌∙◌, arith}
-use Rattle.std.specs.Prelude.{◌&&◌, ◌||◌, not, max}
+use Rattle.std.proofs.Common.{◌≡◌, ◌≤◌, ◌⊎◌, inl, inr, ℕ, Bool, true, false, sym, subst, arith}
+use Rattle.std.specs.Prelude.{◌&&◌, not, max}
 use Rattle.std.proofs.lemmas.Bool.{or_cases}
 use Rattle.std.proofs.Math.Nat.{le-max_left, le-max_right, max-le}
 use Rattle.fac_lang.specs.declared.phrase.Place.{Place}
-use Rattle.fac_lang.specs.Phrases.{Phrase, end, then, Item, lit, lit_arr, quot, word, bind, local, fry, hole, call_eff, exec_eff, next_method, made, next_after, held, known}
+use Rattle.fac_lang.specs.Phrases.{Phrase, end, then, Item, quot, local, fry, hole, made, known}
 use Rattle.fac_lang.specs.declared.program.Program.{Program}
 use Rattle.fac_captures.specs.declared.cell.Cell.{Cell}
 use Rattle.fac_captures.specs.declared.cell.Cell.TheVariants.{Local, Hole}

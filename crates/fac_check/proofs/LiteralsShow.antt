@@ -1,5 +1,5 @@
 -- Each literal of a built program shows the cells under which it begins.
-use Rattle.std.proofs.Common.{◌≡◌, ◌<◌, ℕ, zero, suc, List, [], ◌∷◌, ◌++◌, length, map, Bool, true, false, ◌&&◌, Option, Some, None, refl, sym, ap, subst, ◌∙◌}
+use Rattle.std.proofs.Common.{◌≡◌, ℕ, zero, suc, List, [], ◌∷◌, ◌++◌, length, map, Bool, true, ◌&&◌, Option, Some, None, refl, sym, ap, ◌∙◌}
 use Rattle.std.proofs.lemmas.List.Folds.{list_all-append}
 use Rattle.std.specs.Prelude.{slice_get, ◌||◌}
 use Rattle.std.specs.List.{list_all}
@@ -10,7 +10,7 @@ use Rattle.fac_lang.specs.declared.program.Lit.{Lit}
 use Rattle.fac_lang.specs.declared.program.Lit.TheVariants.{Int as l_int, True as l_yes, False as l_no, Str as l_str, Arr as l_arr, Wref as l_word, Quot as l_quot, Made as l_made}
 use Rattle.fac_lang.specs.declared.program.Sort.{Sort}
 use Rattle.fac_lang.specs.declared.program.Sort.TheVariants.{Body as body, Past as past, Method as method}
-use Rattle.fac_lang.specs.Phrases.{Literal, Phrase, end, then, Item, lit_arr, quot, fry, hole}
+use Rattle.fac_lang.specs.Phrases.{Literal, Phrase, end, then, Item, lit_arr, quot, fry}
 use Rattle.fac_lang.specs.Substitution.{of_method, of_method_item}
 use Rattle.fac_lang.specs.Forms.{IsBuilt, has_hole, item_has_hole, has_holes, has_its_holes}
 use Rattle.fac_lang.specs.Meaning.{of_method_if, array_method, nowhere}

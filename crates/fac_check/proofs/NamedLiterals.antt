@@ -1,5 +1,5 @@
 -- The naming of a program's literals by the numbers of their templates, and behind these of those in a phrase that is walked by itself: the phrase of each with marks in its cells, and one that no program has where there are more or fewer marks.
-use Rattle.std.proofs.Common.{◌≡◌, ◌≢◌, ◌<◌, ◌≤◌, ◌⊎◌, inl, inr, ◌+◌, ◌-◌, ℕ, zero, suc, List, [], ◌∷◌, ◌++◌, length, Bool, true, false, Option, Some, refl, sym, ap, subst, ◌∙◌, arith}
+use Rattle.std.proofs.Common.{◌≡◌, ◌<◌, ◌≤◌, ◌⊎◌, inl, inr, ◌+◌, ◌-◌, ℕ, suc, List, [], ◌∷◌, ◌++◌, length, Bool, true, false, Some, refl, sym, ap, subst, ◌∙◌, arith}
 use Rattle.std.specs.Prelude.{◌&&◌, nat_eq, nat_lt, nat_le, max, slice_get}
 use Rattle.std.proofs.Math.Nat.{max-eq_right}
 use Rattle.std.proofs.lemmas.Bool.{ne_eqb, ltb-false, le-ltb, lt-leb, leb-true, le-leb, cases_lt}
@@ -18,7 +18,7 @@ use Rattle.fac_locals.proofs.OpeningLaws.{inner_count}
 use Rattle.fac_locals.proofs.Places.{literal_apart, literal_behind}
 use Rattle.fac_locals.proofs.PlacedLiterals.{found}
 use Rattle.fac_abs.specs.MarkTrees.{Naming}
-use Rattle.fac_abs.specs.Marks.{phrase_marks, item_marks, mark_depth, deepest}
+use Rattle.fac_abs.specs.Marks.{phrase_marks, mark_depth, deepest}
 use Rattle.fac_abs.proofs.EqualMarks.{and_first, and_second}
 use Rattle.fac_abs.proofs.SeenLemmas.{both, is_below, below_is}
 use Rattle.fac_check.specs.inner.Alone.{in_one_phrase, placed_by, placed_alone}

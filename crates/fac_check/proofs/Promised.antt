@@ -17,9 +17,9 @@ use Rattle.fac_rows.specs.RowBinding.{leaving_on}
 use Rattle.fac_check.proofs.WalksFit.{StackState}
 use Rattle.fac_check.proofs.ItemsFit.{Over, Leaves}
 use Rattle.fac_check.proofs.CountedValues.{inputs_over, outputs_over}
-use Rattle.fac_check.proofs.RowPromises.{handed, handed_good, inputs_stand, outputs_left}
-use Rattle.fac_check.proofs.LiteralsStay.{Stays, literals_stay}
-use Rattle.fac_check.proofs.AcceptedPrograms.{word_sound, row_sound, phrase_sound, start_valid}
+use Rattle.fac_check.proofs.RowPromises.{same_call, handed, handed_good, inputs_stand, outputs_left}
+use Rattle.fac_check.proofs.LiteralsStay.{Stays, literals_stay, literals_stay_in_call}
+use Rattle.fac_check.proofs.AcceptedPrograms.{word_sound, fitting_word_sound, fitting_callable_sound, row_sound, phrase_sound, start_valid}
 
 whole_over : (n : ℕ) (values : List Value) → length values ≡ n → Over n [] values
 whole_over zero [] e = refl
@@ -59,6 +59,11 @@ accepted_are_safe P count whole accepted = record {
       ends_valid P (Leaves P h.outs below) (LeftOn h.outs (Exactly below)) st.world _ valid (literals_stay P fits (callable_height P) n (one_item (word w)) st) (left_on P h.outs below) (word_sound P count whole accepted w d h e q z below st n (subst (λ r. Over h.ins r st.stack) on.4 (inputs_over h.ins on.0 on.1 st.stack on.2 on.3)) valid);
   row_words = λ w d e i x tests budget st n le on valid.
       ends_valid P (StackState P (handed P tests budget w d) (leaving_on (effect_leaving d.effect) (outer_out d.effect) [])) (LeftOn (effect_height d.effect).outs (OfRow P tests (outer_out d.effect))) st.world _ valid (literals_stay P fits (callable_height P) n (one_item (word w)) st) (outputs_left P tests budget w d) (row_sound P count whole accepted w d e i x (handed P tests budget w d) refl refl n (handed_good P tests budget w d e n le) st (inputs_stand P tests budget w d st on.0 on.1 on.2 on.3 on.4 valid));
+  callables = λ c h e budget below st n le on valid.
+      subst (λ r. Ends P (LeftOn h.outs (Exactly below)) r) (sym (same_call P n n c st (omega arith)))
+      (ends_valid P (Leaves P h.outs below) (LeftOn h.outs (Exactly below)) st.world _ valid (literals_stay_in_call P fits (callable_height P) n c st n) (left_on P h.outs below) (fitting_callable_sound P count whole accepted h c e below st n (subst (λ r. Over h.ins r st.stack) on.4 (inputs_over h.ins on.0 on.1 st.stack on.2 on.3)) valid));
+  executed_words = λ w h e budget below st n le on valid.
+      ends_valid P (Leaves P h.outs below) (LeftOn h.outs (Exactly below)) st.world _ valid (literals_stay P fits (callable_height P) n (one_item (word w)) st) (left_on P h.outs below) (fitting_word_sound P count whole accepted h w e below st n (subst (λ r. Over h.ins r st.stack) on.4 (inputs_over h.ins on.0 on.1 st.stack on.2 on.3)) valid);
   phrase = λ budget st n le many valid.
       ends_valid P (λ st'. Unit {0}) (λ list. Unit {0}) st.world _ valid (literals_stay P fits (callable_height P) n (word_phrase P P.top) st) (λ st' u. tt) (phrase_sound P count whole accepted st n (whole_over count st.stack many) valid);
   begins = start_valid P;

@@ -26,6 +26,11 @@ use Rattle.fac_check.proofs.SoundPrograms.{Good}
 use Rattle.fac_check.proofs.RowsFit.{split_marks}
 use Rattle.fac_check.proofs.CountedValues.{inputs_over, outputs_over}
 
+-- the run of a callable by itself is that inside a run with as many ticks or more
+pub same_call : (P : Program) (g n : ℕ) (c : Callable) (st : State Value) → n ≤ g → callable_run P c st n ≡ run_callable (eval (A P) g) c st n
+same_call P g n c st le =
+    agree_call (phrase_run P) (eval (A P) g) n (λ b t s m le'. within (A P) m b t s m le') (λ t s m le'. same_run (A P) m g m (omega arith) (omega (arith, le, le')) t s m (omega arith)) c st n (omega arith)
+
 module _ (P : Program) (tests : Row → List Value → Bool) (budget : ℕ) (w : ℕ) (d : WordDef) where
   abbrev ins : Inputs
   ins = effect_inputs d.effect
@@ -37,10 +42,6 @@ module _ (P : Program) (tests : Row → List Value → Bool) (budget : ℕ) (w :
   -- where no base is one of these lists
   abbrev pub in_rows : Lists → Context
   in_rows none = record { own = Some d.effect; word = Some w; inputs = Handed; row = λ b s. elim b [ None ↦ none s | Some r ↦ tests r s ≡ true ] }
-
-  same_call : (g n : ℕ) (c : Callable) (st : State Value) → n ≤ g → callable_run P c st n ≡ run_callable (eval (A P) g) c st n
-  same_call g n c st le =
-      agree_call (phrase_run P) (eval (A P) g) n (λ b t s m le'. within (A P) m b t s m le') (λ t s m le'. same_run (A P) m g m (omega arith) (omega (arith, le, le')) t s m (omega arith)) c st n (omega arith)
 
   ends_so : (after : Lists) (good : State Value → Type 0) (r : Result) → ((st : State Value) → after st.stack → Valid P st.world → good st) → Ends P after r → EndsSo good r
   ends_so after good (Done st m) f h = f st h.0 h.1
@@ -86,7 +87,7 @@ module _ (P : Program) (tests : Row → List Value → Bool) (budget : ℕ) (w :
 
     inputs_fit : (g : ℕ) → g ≤ budget → InputsFit P K (eval (A P) g) g
     inputs_fit g le k c h b ms p left st n le' o =
-        subst (λ r. Fits P K (called (calling k (input_effect k ins) b ms) p left) r) (same_call g n c st le') (subst (λ x. Fits P K (called (calling k x b ms) p left) (callable_run P c st n)) (sym h.1) (input_fits g n le le' h.0 c h.2 k b ms p left st o))
+        subst (λ r. Fits P K (called (calling k (input_effect k ins) b ms) p left) r) (same_call P g n c st le') (subst (λ x. Fits P K (called (calling k x b ms) p left) (callable_run P c st n)) (sym h.1) (input_fits g n le le' h.0 c h.2 k b ms p left st o))
 
   -- where no base is no list
   abbrev pub handed : Context

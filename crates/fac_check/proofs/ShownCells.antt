@@ -1,6 +1,6 @@
 -- Where a phrase asks for each cell of its frame, and no cell hides another, frames of other marks make another phrase.
-use Rattle.std.proofs.Common.{◌≡◌, ◌≤◌, ℕ, zero, suc, List, [], ◌∷◌, ◌++◌, length, map, true, Option, Some, None, refl, sym, ap, subst, ◌∙◌, arith, append-nil}
-use Rattle.std.specs.Prelude.{slice_get, option_map, max}
+use Rattle.std.proofs.Common.{◌≡◌, ◌≤◌, ℕ, zero, suc, List, [], ◌∷◌, length, map, true, Option, Some, None, refl, sym, ap, subst, ◌∙◌, arith, append-nil}
+use Rattle.std.specs.Prelude.{slice_get, option_map}
 use Rattle.std.proofs.Math.Nat.{le-max_left, le-max_right, max-le}
 use Rattle.fac_lang.specs.Phrases.{Phrase, Item, known, Mark}
 use Rattle.fac_lang.specs.Forms.{IsBuilt}

@@ -4,7 +4,7 @@ use Rattle.std.specs.Prelude.{slice_get, nat_eq, nat_le, not, ◌&&◌, ◌||◌
 use Rattle.std.proofs.lemmas.Slice.Eq.{bytes_eq-Decides}
 use Rattle.std.proofs.lemmas.Bool.{eqb-true, eq-eqb, le-leb}
 use Rattle.fac_lang.specs.declared.phrase.Height.{Height}
-use Rattle.fac_lang.specs.Phrases.{Phrase, end, Value, of_phrase, word, Mark, any, par_mark}
+use Rattle.fac_lang.specs.Phrases.{Phrase, end, Value, Callable, of_phrase, word, Mark, any, par_mark}
 use Rattle.fac_lang.specs.World.{State, pile}
 use Rattle.fac_lang.specs.Signatures.{Signature, signature, Inputs, no_inputs, value, quoted, never, leaves}
 use Rattle.fac_lang.specs.Primitives.{Primitive, prim_numbered, prim_fn}
@@ -15,8 +15,8 @@ use Rattle.fac_lang.specs.declared.program.Program.{Program}
 use Rattle.fac_lang.specs.declared.program.WordDef.{WordDef}
 use Rattle.fac_lang.specs.declared.program.Sort.{Sort}
 use Rattle.fac_lang.specs.declared.program.Sort.TheVariants.{Prim as prim, Core as core, Body as body, Past as past, Itself as itself, Class as class, Isa as isa, Getter as getter, Setter as setter, Putter as putter, Generic as generic, Method as method}
-use Rattle.fac_lang.specs.Eval.{Result, Done, Failed, Spent, Stuck, then_do, Act, go_on, eval}
-use Rattle.fac_lang.specs.Meaning.{meaning_values, names, sort_of, is_past, is_top_phrase, word_phrase, word_fits, one_item, run_phrase, sort_act, nowhere}
+use Rattle.fac_lang.specs.Eval.{Result, Done, Failed, Spent, Stuck, then_do, Act, run_callable, go_on, eval}
+use Rattle.fac_lang.specs.Meaning.{meaning_values, names, sort_of, is_past, is_top_phrase, word_phrase, word_fits, callable_fits, one_item, run_phrase, sort_act, nowhere}
 use Rattle.fac_lang.specs.Effects.{effect_height, inputs_count, word_height}
 use Rattle.fac_lang.specs.RowVariables.{Row, hidden, named_row, row_eq, is_row, bindable, inputs_rows, nested_one_sided, bound_all, bound_rows, outer_in, outer_out, effect_inputs, effect_leaving}
 use Rattle.fac_abs.specs.Marks.{AbstractStack, dead, on, base_eq, mark_eq, popped, unknowns}
@@ -26,6 +26,7 @@ use Rattle.fac_rows.specs.RowBinding.{Binding, stack_or_dead, row_bound, row_bin
 use Rattle.fac_locals.specs.Literals.{first_of_word}
 use Rattle.fac_check.specs.Flow.{Walked, found, refused, and_then, Walk, walk_on, Doing, breaks, gives, uses, by_height, callable_or, walk_inputs, is_own, own_doing, row_doing, row_or_phrase}
 use Rattle.fac_lang.specs.HeightArithmetic.{fits, fits_outs}
+use Rattle.fac_check.specs.CallableEffects.{callable_height}
 use Rattle.fac_check.specs.Verdicts.{ordinary_verdict, row_verdict, top_verdict}
 use Rattle.fac_check.specs.Promises.{Valid}
 use Rattle.fac_check.proofs.ValuesOfMarks.{Stands, StandsOn, StandsStack, EndsSo}
@@ -407,6 +408,13 @@ module _ (P : Program) where
     -- The item of a word that has an effect by itself takes and leaves what it declares, and touches nothing below.
     pub item_sound : (w : ℕ) (d : WordDef) (h : Height) → slice_get P.words w ≡ Some d → word_height d ≡ Some h → is_top_phrase P w ≡ false → (s : List Value) (st : State Value) (n : ℕ) → Over h.ins s st.stack → Valid P st.world → EndsSo (Leaves P h.outs s) (eval (A P) n (one_item (word w)) st n)
     item_sound w d h e q z s st n o v = executed_at n (all_known n) h w (word_tested (is_top_phrase P w) (slice_get P.words w) d h z e q) s st n (omega arith) o v
+
+    -- So does the item of a word that fits, and every callable that does.
+    pub executed_sound : (h : Height) (w : ℕ) → word_fits P fits h w ≡ true → (s : List Value) (st : State Value) (n : ℕ) → Over h.ins s st.stack → Valid P st.world → EndsSo (Leaves P h.outs s) (eval (A P) n (one_item (word w)) st n)
+    executed_sound h w e s st n o v = executed_at n (all_known n) h w e s st n (omega arith) o v
+
+    pub callable_sound : (h : Height) (c : Callable) → callable_fits P fits (callable_height P) h c ≡ true → (s : List Value) (st : State Value) (n : ℕ) → Over h.ins s st.stack → Valid P st.world → EndsSo (Leaves P h.outs s) (run_callable (eval (A P) n) c st n)
+    callable_sound h c e s st n o v = fitting_keeps P n (all_of n (all_known n)) h c e s st n (omega arith) o v
 
     -- The phrase of a row word, in every context in which what may be handed in for its inputs does what its effect says: on a list for its input row with its inputs on it, it leaves its outputs on a list for its output row.
     row_phrase_sound : (w : ℕ) (d : WordDef) (t : Phrase) → slice_get P.words w ≡ Some d → d.sort ≡ body t → not (nat_eq w P.top) ≡ true → d.inline ≡ true → is_row d.recursive d.effect ≡ true → (C : Context) → C.own ≡ Some d.effect → C.word ≡ Some w → (n : ℕ) → Good n C → (st : State Value) → OnState P C (outer_in d.effect) (inputs_marks 1 (effect_inputs d.effect) []) st → EndsSo (StackState P C (leaving_on (effect_leaving d.effect) (outer_out d.effect) [])) (eval (A P) n t st n)

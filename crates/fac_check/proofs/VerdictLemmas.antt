@@ -1,5 +1,5 @@
 -- The verdict on a word, from the walk of its closed phrase.
-use Rattle.std.proofs.Common.{◌≡◌, ◌≢◌, ◌<◌, ◌≤◌, ◌+◌, ℕ, List, [], ◌∷◌, length, Bool, true, false, Option, Some, None, refl, sym, ap, subst, ◌∙◌, arith}
+use Rattle.std.proofs.Common.{◌≡◌, ◌≢◌, ◌<◌, ◌≤◌, ◌+◌, ℕ, List, [], length, Bool, true, false, Option, Some, None, refl, sym, ap, subst, ◌∙◌, arith}
 use Rattle.std.specs.Prelude.{nat_eq, not, ◌&&◌, slice_get}
 use Rattle.std.proofs.lemmas.Bool.{ne_eqb}
 use Rattle.fac_lang.specs.declared.phrase.Place.{Place}
@@ -19,7 +19,7 @@ use Rattle.fac_locals.specs.Closed.{Closes, ClosesSort, ClosesWord}
 use Rattle.fac_locals.specs.Frames.{Opens}
 use Rattle.fac_locals.proofs.OpeningLaws.{programs_open}
 use Rattle.fac_locals.proofs.Lookups.{word_closed}
-use Rattle.fac_lang.specs.RowVariables.{Row, effect_inputs, effect_leaving, outer_in, outer_out, has_rows, bindable, is_row}
+use Rattle.fac_lang.specs.RowVariables.{effect_inputs, effect_leaving, outer_in, outer_out, has_rows, bindable, is_row}
 use Rattle.fac_abs.specs.Marks.{AbstractStack, unknowns}
 use Rattle.fac_abs.specs.MarkTrees.{Naming}
 use Rattle.fac_abs.specs.SeenMarks.{MarksSeen, frame_of, stack_of, base_seen}

@@ -7,7 +7,6 @@ use Rattle.fac_lang.specs.declared.phrase.Item.{Item as PlacedItem}
 use Rattle.fac_lang.specs.declared.phrase.What.{What}
 use Rattle.fac_lang.specs.declared.phrase.What.TheVariants.{Bind as w_bind}
 use Rattle.fac_lang.specs.declared.program.Program.{Program}
-use Rattle.fac_lang.specs.declared.program.WordDef.{WordDef}
 use Rattle.fac_lang.specs.Phrases.{Literal, Phrase, end, then, Item, bind, known, Mark}
 use Rattle.fac_lang.specs.PhraseView.{what_item, items_phrase}
 use Rattle.fac_locals.specs.Literals.{behind}

@@ -8,7 +8,7 @@ use Rattle.fac_lang.specs.World.{World, State, pile}
 use Rattle.fac_lang.specs.Signatures.{Signature, signature, Inputs, no_inputs, value, quoted}
 use Rattle.fac_lang.specs.Effects.{inputs_count, leaving_outs, effect_height, word_height}
 use Rattle.fac_lang.specs.Eval.{Result, Done, Failed, Spent, Stuck, run_callable}
-use Rattle.fac_lang.specs.Meaning.{run, start, word_phrase, one_item, is_top_phrase}
+use Rattle.fac_lang.specs.Meaning.{run, start, word_phrase, one_item, is_top_phrase, callable_fits, word_fits}
 use Rattle.fac_lang.specs.RunningLaws.{IsNotStuck}
 use Rattle.fac_lang.specs.Whole.{IsWhole}
 use Rattle.fac_lang.specs.RowVariables.{Row, named_row, leaving_row, effect_inputs, outer_in, outer_out, is_row}
@@ -96,6 +96,14 @@ pub record IsSafe (P : Program) (count : ℕ) : Type 0 where
   pub row_words :
       (w : ℕ) (d : WordDef) → slice_get P.words w ≡ Some d → d.inline ≡ true → is_row d.recursive d.effect ≡ true →
       (rows : Row → List Value → Bool) (budget : ℕ) → Behaves P budget (word_run P w) (InputsOn P rows budget (effect_inputs d.effect) (OfRow P rows (outer_in d.effect))) (LeftOn (effect_height d.effect).outs (OfRow P rows (outer_out d.effect)))
+  -- Each callable that fits what a call declares, wherever it came from: it takes the declared inputs and leaves the declared outputs, and touches no value below.
+  pub callables :
+      (c : Callable) (h : Height) → callable_fits P fits (callable_height P) h c ≡ true →
+      (budget : ℕ) (below : List Value) → Behaves P budget (callable_run P c) (On h.ins (Exactly below)) (LeftOn h.outs (Exactly below))
+  -- So does the item of each word that fits.
+  pub executed_words :
+      (w : ℕ) (h : Height) → word_fits P fits h w ≡ true →
+      (budget : ℕ) (below : List Value) → Behaves P budget (word_run P w) (On h.ins (Exactly below)) (LeftOn h.outs (Exactly below))
   -- the top-level phrase, from each list of so many values
   pub phrase : (budget : ℕ) → Behaves P budget (phrase_run P (word_phrase P P.top)) (AnyOf count) (λ list. Unit {0})
   -- the state before the first item has a valid world, with every input

@@ -6,7 +6,8 @@ ghost use Rattle.fac_check.specs.Promises.{AcceptedAreSafe, SafeAreNotStuck};
 /// What the checker of the whole language accepts is safe: by its definitions a whole program with an accepted verdict never finds too
 /// few values or a value that an item can't take, on whatever values it starts of the number that it was judged for. Each of its words but
 /// inline ones, `call`, `dip`, `if`, `execute`, `boa` and `cond` leaves what it declares, and so does each row word with whatever does as
-/// its effect says handed in. Behind every run the world is valid again.
+/// its effect says handed in. A callable or a word that fits what a call declares, wherever it came from, takes and leaves what is declared.
+/// Behind every run the world is valid again.
 pub fn accepted_programs_are_safe()
     ensures { AcceptedAreSafe }
 {}

@@ -1,5 +1,4 @@
 use Rattle.std.proofs.Common.{ℕ, Some, sym, ap, ◌∙◌}
-use Rattle.std.specs.declared.option.Option.{Option}
 use Rattle.fac_lang.specs.declared.phrase.Height.{Height}
 use Rattle.fac_check.specs.TemplateWalks.{found_height}
 use Rattle.fac_check.specs.declared.walker.Walked.TheVariants.{Found}

@@ -27,7 +27,7 @@ use Rattle.fac_check.specs.inner.Walking.{go_at, body_phrase, doing_seen, walked
 use Rattle.fac_check.specs.declared.walker.Step.{Step}
 use Rattle.fac_check.specs.declared.walker.Walked.TheVariants.{Found}
 use Rattle.fac_check.proofs.MarkWalks.{carried, curried_counts, composed_ends, phrase_entered, some_left, literal_opens, word_phrase_opens, misfit_walks, forked, reached_stays}
-use Rattle.fac_check.proofs.TakenPrograms.{word_taken, inputs_below, template_taken, phrase_taken, first_taken, others_taken}
+use Rattle.fac_check.proofs.TakenPrograms.{word_taken, inputs_below, template_taken, phrase_taken, others_taken}
 use Rattle.fac_check.proofs.WalkLemmas.{Onward, onward_start, onward_end, behind_from, no_bind, one_walks}
 use Rattle.fac_check.proofs.StandingItems.{told_template, told_stands, told_below}
 use Rattle.fac_check.proofs.WordItems.{ok_maps}
