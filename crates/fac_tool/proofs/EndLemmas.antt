@@ -12,7 +12,7 @@ use Rattle.fac_lang.specs.declared.memory.Memory.{Memory}
 use Rattle.fac_lang.specs.declared.program.Name.{Name}
 use Rattle.fac_lang.specs.declared.program.Program.{Program}
 use Rattle.fac_lang.specs.Phrases.{Value}
-use Rattle.fac_lang.specs.World.{World, State, Error}
+use Rattle.fac_lang.specs.World.{World, State}
 use Rattle.fac_lang.specs.Printed.{Names, printed}
 use Rattle.fac_lang.specs.Meaning.{meaning_values, names}
 use Rattle.fac_lang.specs.Eval.{Done, Failed, Spent}

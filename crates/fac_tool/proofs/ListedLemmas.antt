@@ -1,7 +1,7 @@
 -- The lines of a stack behind a run.
 use Rattle.std.proofs.Common.{◌≡◌, ◌≤◌, ℕ, List, [], ◌++◌, Some, None, inl, inr, refl, ap, sym, subst, ◌∙◌, arith}
 use Rattle.std.proofs.lemmas.List.{append-nil, append_assoc}
-use Rattle.std.specs.Prelude.{take, map, reverse, ◌-◌}
+use Rattle.std.specs.Prelude.{take, map, reverse}
 use Rattle.std.specs.declared.option.Option.{Option}
 use Rattle.fac_io.specs.Faults.{Rose}
 use Rattle.fac_io.specs.Told.{Grows, SinkTold, one_piece, TookWhole}
