@@ -422,7 +422,7 @@ SORTS = [
     ("words with locals", words_with_locals, (2_500, 10_000), words, 1.0, ["::", "'[", "check"]),
     ("kept callables", kept_callables, (250, 1_000), words, 2.0, ["::"]),
     ("chain of closures", chain_of_closures, (250_000, 1_000_000), words, 4.0, ["::"]),
-    ("effects", effects_of_literals, (25_000, 100_000), words, 2.0, ["call("]),
+    ("effects", effects_of_literals, (25_000, 100_000), words, 5.0, ["call("]),
     ("literals", checked_literals, (25_000, 100_000), words, 1.0, ["call(", "check"]),
     ("first example", first_example, (1,), words, 0.004, ["prelude"]),
     ("recursion, if", spending(RECURSION_THROUGH_IF), (20_000_000,), words, 20.0, []),
