@@ -28,7 +28,7 @@ fn read_line<S: Source>(
     'reading: loop {
         match piece.fill(alloc, source) {
             Ok(0) => return Ok(cut_rest(alloc, front)),
-            Err(fault) => return Err(fault),
+            Err(unread) => return Err(unread),
             Ok(_) => match cut_line(alloc, front, piece) {
                 Ok(Some(line)) => return Ok(Some(line)),
                 Err(fault) => return Err(fault),
