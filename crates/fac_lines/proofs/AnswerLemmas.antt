@@ -1,16 +1,16 @@
 -- What reading comes to.
-use Rattle.std.proofs.Common.{◌≡◌, ℕ, ◌+◌, ◌<◌, ◌≤◌, List, [], ◌∷◌, ◌++◌, length, take, refl, ap, sym, ◌∙◌, subst, arith, Some, None, Result, Ok, Err, IfSome, length-append, append_assoc, append-nil}
+use Rattle.std.proofs.Common.{◌≡◌, ℕ, ◌<◌, List, [], ◌∷◌, ◌++◌, length, take, refl, ap, sym, ◌∙◌, subst, arith, Some, None, Result, Ok, Err, IfSome, length-append, append_assoc, append-nil}
 use Rattle.std.specs.declared.option.Option.{Option}
-use Rattle.std.specs.Io.KnownBytes.{Keeps, Consumes, IsAtEnd}
-use Rattle.std.proofs.KnownBytes.{Consumes-nil, Consumes-trans, Consumes-kept}
+use Rattle.std.specs.Io.KnownBytes.{Consumes}
+use Rattle.std.proofs.KnownBytes.{Consumes-trans}
 use Rattle.std.proofs.Math.Seq.{take-append_seam}
 use Rattle.fac_io.specs.Told.{Told}
 use Rattle.fac_lines.specs.declared.line_fault.LineFault.{LineFault}
 use Rattle.fac_lines.specs.declared.line_fault.LineFault.TheVariants as fault
-use Rattle.fac_lines.specs.LineReads.{NoLine, Line, LineTooLong, line_of, IsFront}
-use Rattle.fac_lines.specs.LineAnswers.{bytes_left, LineAnswers, AreWanted, AnswersFrom, FrontWhereFailed, LineCounts, LineFalls}
-use Rattle.fac_lines.specs.inner.Cutting.{Cuts, CutsRest}
-use Rattle.fac_lines.specs.inner.Reading.{Fills, FillCounts, FillFalls, ReadsOn, ReadsLine}
+use Rattle.fac_lines.specs.LineReads.{IsFront}
+use Rattle.fac_lines.specs.LineAnswers.{bytes_left, LineAnswers, AreWanted, AnswersFrom, FrontWhereFailed}
+use Rattle.fac_lines.specs.inner.Cutting.{Cuts}
+use Rattle.fac_lines.specs.inner.Reading.{ReadsOn, ReadsLine}
 
 if_some : (left : Option (List ℕ)) (P : List ℕ → Type 0) → ((behind : List ℕ) → P behind) → IfSome left P
 if_some None P h = tt

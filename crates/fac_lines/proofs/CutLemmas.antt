@@ -1,9 +1,9 @@
 -- Lines that are cut out of a front and a piece.
-use Rattle.std.proofs.Common.{◌≡◌, ℕ, ◌+◌, ◌-◌, ◌<◌, ◌≤◌, List, [], ◌∷◌, ◌++◌, length, take, drop, refl, ap, sym, ◌∙◌, subst, arith, Some, None, Ok, Err, length-append, length-drop, append_assoc, append-nil}
+use Rattle.std.proofs.Common.{◌≡◌, ℕ, ◌+◌, ◌-◌, ◌<◌, ◌≤◌, List, [], ◌∷◌, ◌++◌, length, take, drop, refl, ap, sym, ◌∙◌, subst, arith, Some, None, Ok, Err, length-append, length-drop}
 use Rattle.std.proofs.Math.Seq.{take-append-add, drop-append-add, take-length}
 use Rattle.std.proofs.lemmas.List.{take-append-le, drop-append-le, length-take-le}
 use Rattle.fac_lines.specs.declared.line_fault.LineFault.TheVariants as fault
-use Rattle.fac_lines.specs.LineReads.{line_length, Line, LineTooLong, NoLine, line_within, line_of, IsFront}
+use Rattle.fac_lines.specs.LineReads.{line_length, Line, LineTooLong, line_within, line_of, IsFront}
 use Rattle.fac_lines.specs.inner.Cutting.{Cuts, CutsRest}
 use Rattle.fac_lines.proofs.LineLemmas.{length_most, length_joined, length_cut, length_before, no_line, short_line, long_line, more_behind, drop_past}
 

@@ -1,13 +1,12 @@
 -- The first line of bytes that are put together.
-use Rattle.std.proofs.Common.{◌≡◌, ℕ, ◌+◌, ◌-◌, ◌<◌, ◌≤◌, Bool, true, false, cond, List, [], ◌∷◌, ◌++◌, length, take, drop, refl, ap, sym, ◌∙◌, arith, Some, None, nat_le, not, suc}
-use Rattle.std.specs.declared.option.Option.{Option}
-use Rattle.std.specs.List.{position, prefix_len, position_or_len}
+use Rattle.std.proofs.Common.{◌≡◌, ℕ, ◌+◌, ◌-◌, ◌<◌, ◌≤◌, Bool, true, false, cond, List, [], ◌∷◌, ◌++◌, length, take, drop, refl, ap, sym, ◌∙◌, arith, Some, None, not, suc}
+use Rattle.std.specs.List.{position}
 use Rattle.std.proofs.lemmas.List.{drop-take, drop-drop}
 use Rattle.std.proofs.lemmas.List.Folds.{prefix_len-append}
 use Rattle.std.proofs.lemmas.List.Sums.{prefix_len-le-length}
 use Rattle.std.proofs.lemmas.Grind.{common_steps}
 use Rattle.std.proofs.lemmas.Bool.Decides.{nat_tests}
-use Rattle.fac_lines.specs.LineReads.{is_newline, line_length, LineRead, NoLine, Line, LineTooLong, line_within}
+use Rattle.fac_lines.specs.LineReads.{is_newline, line_length, NoLine, Line, LineTooLong, line_within}
 
 pub length_most : (bytes : List ℕ) → line_length bytes ≤ length bytes
 length_most bytes = prefix_len-le-length _ bytes

@@ -1,11 +1,11 @@
 -- What a call for a line answers and leaves.
-use Rattle.std.specs.Prelude.{◌≡◌, ◌≤◌, ◌<◌, ◌+◌, ℕ, List, [], ◌∷◌, ◌++◌, length, take, None, Some, Result, Ok, Err, ⊤}
+use Rattle.std.specs.Prelude.{◌≡◌, ◌≤◌, ◌<◌, ℕ, List, [], ◌∷◌, ◌++◌, length, take, None, Some, Result, Ok, Err, ⊤}
 use Rattle.std.specs.declared.option.Option.{Option}
 use Rattle.std.specs.Io.KnownBytes.{prepend_known, Consumes}
 use Rattle.fac_io.specs.Faults.{Rose}
 use Rattle.fac_lines.specs.declared.line_fault.LineFault.{LineFault}
 use Rattle.fac_lines.specs.declared.line_fault.LineFault.TheVariants as fault
-use Rattle.fac_lines.specs.LineReads.{LineRead, NoLine, Line, LineTooLong, line_of, IsFront}
+use Rattle.fac_lines.specs.LineReads.{NoLine, Line, LineTooLong, line_of, IsFront}
 
 -- the bytes left: those that are kept, and then those of the source, where it tells them
 abbrev pub bytes_left : List ℕ → Option (List ℕ) → Option (List ℕ)

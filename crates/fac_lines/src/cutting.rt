@@ -4,9 +4,9 @@ ghost use Rattle.std.specs.List.{position};
 ghost use Rattle.fac_lines.specs.LineReads.{is_newline, line_length, IsFront};
 ghost use Rattle.fac_lines.specs.inner.Cutting.{Cuts, CutsRest};
 
+use crate::LineFault;
 use crate::lines::MOST_LINE_BYTES;
 use crate::piece::Piece;
-use crate::LineFault;
 use fac_lang::Bytes;
 use std::alloc::Global;
 use std::mem;

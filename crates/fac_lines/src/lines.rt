@@ -4,9 +4,9 @@ ghost use Rattle.fac_io.specs.Told.{Told};
 ghost use Rattle.fac_lines.specs.LineReads.{IsFront};
 ghost use Rattle.fac_lines.specs.LineAnswers.{bytes_left, LineAnswers, AnswersFrom, LineCounts, LineFalls, FrontWhereFailed};
 
+use crate::LineFault;
 use crate::piece::Piece;
 use crate::reading::next_line;
-use crate::LineFault;
 use fac_io::Source;
 use fac_lang::Bytes;
 use std::alloc::Global;

@@ -56,11 +56,7 @@ impl Piece {
     }
 
     // The bytes of one read, where none is left here: none exactly at the end of the source.
-    pub fn fill<S: Source>(
-        &mut self,
-        alloc: Global,
-        source: &mut S,
-    ) -> Result<usize, LineFault>
+    pub fn fill<S: Source>(&mut self, alloc: Global, source: &mut S) -> Result<usize, LineFault>
         requires { self.old ≡ [] }
         ensures bytes { Fills (S.left source.old) (S.left source.new) result self.new }
         ensures counts { FillCounts (S.faults source.old) (S.faults source.new) result }

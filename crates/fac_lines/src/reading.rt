@@ -4,9 +4,9 @@ ghost use Rattle.fac_lines.specs.LineReads.{IsFront};
 ghost use Rattle.fac_lines.specs.LineAnswers.{LineCounts, LineFalls};
 ghost use Rattle.fac_lines.specs.inner.Reading.{ReadsLine};
 
+use crate::LineFault;
 use crate::cutting::{cut_line, cut_rest};
 use crate::piece::Piece;
-use crate::LineFault;
 use fac_io::Source;
 use fac_lang::Bytes;
 use std::alloc::Global;

@@ -5,7 +5,6 @@ use Rattle.std.specs.Io.KnownBytes.{Consumes, Keeps, IsAtEnd}
 use Rattle.fac_io.specs.Faults.{Rose}
 use Rattle.fac_lines.specs.declared.line_fault.LineFault.{LineFault}
 use Rattle.fac_lines.specs.declared.line_fault.LineFault.TheVariants as fault
-use Rattle.fac_lines.specs.LineReads.{IsFront}
 use Rattle.fac_lines.specs.LineAnswers.{LineAnswers, AreWanted, FrontWhereFailed}
 
 -- a piece has the bytes of one read

@@ -1,4 +1,4 @@
-use Rattle.std.proofs.Common.{◌≡◌, ◌<◌, ◌∙◌, sym, arith}
+use Rattle.std.proofs.Common.{◌∙◌, arith}
 use Rattle.fac_lines.proofs.CutLemmas.{rest_none, rest_some}
 use Rattle.fac_lines.proofs.cutting.cut_rest.Goals as goal
 

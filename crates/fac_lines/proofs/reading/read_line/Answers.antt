@@ -1,4 +1,4 @@
-use Rattle.std.proofs.Common.{◌++◌, ◌<◌, arith, length}
+use Rattle.std.proofs.Common.{◌++◌, arith}
 use Rattle.fac_lines.specs.inner.Reading.{ReadsOn}
 use Rattle.fac_lines.proofs.AnswerLemmas.{more_on, cut_answer, cut_fault}
 use Rattle.fac_lines.proofs.reading.read_line.Goals as goal

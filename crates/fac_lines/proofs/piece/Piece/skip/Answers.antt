@@ -1,7 +1,5 @@
-use Rattle.std.proofs.Common.{arith, length-take, length-drop, ap, length, drop, ◌-◌}
+use Rattle.std.proofs.Common.{arith, length-take, ap, length, drop, ◌-◌}
 use Rattle.fac_lines.proofs.LineLemmas.{skipped}
-use Rattle.fac_lines.proofs.CutLemmas
-use Rattle.fac_lines.proofs.AnswerLemmas
 use Rattle.fac_lines.proofs.piece.Piece.skip.Goals as goal
 
 pub returns : goal.returns
