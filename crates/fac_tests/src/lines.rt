@@ -44,11 +44,13 @@ fn has_lines(alloc: Global, text: &str, each: &[&str]) -> Result<bool, Memory> {
 
 // Whether small texts have the lines that they should.
 fn small(alloc: Global) -> Result<bool, Memory> {
-    Ok(has_lines(alloc, "", &[])?
-        && has_lines(alloc, "a", &["a"])?
-        && has_lines(alloc, "a\n", &["a"])?
-        && has_lines(alloc, "\n\n", &["", ""])?
-        && has_lines(alloc, "ab\n\nc", &["ab", "", "c"])?)
+    Ok(
+        has_lines(alloc, "", &[])?
+            && has_lines(alloc, "a", &["a"])?
+            && has_lines(alloc, "a\n", &["a"])?
+            && has_lines(alloc, "\n\n", &["", ""])?
+            && has_lines(alloc, "ab\n\nc", &["ab", "", "c"])?,
+    )
 }
 
 // So many `a`, and a text behind them.
@@ -75,9 +77,11 @@ fn too_long(alloc: Global) -> Result<bool, Memory> {
 fn goes_on(alloc: Global) -> Result<bool, Memory> {
     let line = many(alloc, 65_536, "bc")?;
     let mut lines = lines_of(alloc, many(alloc, 65_536, "bc\nd")?, &[2])?;
-    Ok(gives(&mut lines, b"".as_slice()) == "failed"
-        && gives(&mut lines, line.as_slice()) == "this"
-        && gives_all(&mut lines, &["d"]))
+    Ok(
+        gives(&mut lines, b"".as_slice()) == "failed"
+            && gives(&mut lines, line.as_slice()) == "this"
+            && gives_all(&mut lines, &["d"]),
+    )
 }
 
 #[test]
