@@ -3,12 +3,13 @@ use Rattle.std.proofs.Common.{◌≡◌, ℕ, ◌+◌, ◌-◌, ◌<◌, ◌≤�
 use Rattle.std.proofs.Math.Seq.{take-append-add, drop-append-add, take-length}
 use Rattle.std.proofs.lemmas.List.{take-append-le, drop-append-le, length-take-le}
 use Rattle.fac_lines.specs.declared.line_fault.LineFault.TheVariants as fault
+use Rattle.fac_lines.specs.declared.lines.TheConstants.{MOST_LINE_BYTES}
 use Rattle.fac_lines.specs.LineReads.{line_length, Line, LineTooLong, line_within, line_of, IsFront}
 use Rattle.fac_lines.specs.inner.Cutting.{Cuts, CutsRest}
 use Rattle.fac_lines.proofs.LineLemmas.{length_most, length_joined, length_cut, length_before, no_line, short_line, long_line, more_behind, drop_past}
 
 -- the front with what stands before the first newline of a piece
-pub front_joined : (front piece joined : List ℕ) (count : ℕ) → IsFront front → count ≡ line_length piece → length front + count ≤ 4000000 → joined ≡ front ++ take count piece → IsFront joined
+pub front_joined : (front piece joined : List ℕ) (count : ℕ) → IsFront front → count ≡ line_length piece → length front + count ≤ MOST_LINE_BYTES → joined ≡ front ++ take count piece → IsFront joined
 front_joined front piece joined count f e l j =
     let size : length (take (line_length piece) piece) ≡ line_length piece = length-take-le (line_length piece) piece (length_most piece) in
     let part : line_length (take (line_length piece) piece) ≡ length (take (line_length piece) piece) = length_before piece ∙ sym size in
@@ -42,27 +43,27 @@ line_over most front piece behind f s h =
     let some : 0 < length ((front ++ piece) ++ behind) = omega (arith, length-append (front ++ piece) behind) in
     long_line most ((front ++ piece) ++ behind) some long ∙ ap LineTooLong left
 
-pub cut_found : (front piece line front' piece' : List ℕ) (count : ℕ) → IsFront front → count ≡ line_length piece → count < length piece → length front + count ≤ 4000000 → line ≡ front ++ take count piece → front' ≡ [] → piece' ≡ drop (count + 1) piece → Cuts front piece (Ok (Some line)) front' piece'
+pub cut_found : (front piece line front' piece' : List ℕ) (count : ℕ) → IsFront front → count ≡ line_length piece → count < length piece → length front + count ≤ MOST_LINE_BYTES → line ≡ front ++ take count piece → front' ≡ [] → piece' ≡ drop (count + 1) piece → Cuts front piece (Ok (Some line)) front' piece'
 cut_found front piece line front' piece' count f e h l line_is none left =
     rw (line_is, none, left, e) (
-      (λ (behind : List ℕ). line_found 4000000 front piece behind f.no_newline (rw (← e) h) (rw (← e) l)),
+      (λ (behind : List ℕ). line_found MOST_LINE_BYTES front piece behind f.no_newline (rw (← e) h) (rw (← e) l)),
       omega (arith, length-append front piece, length-drop (line_length piece + 1) piece, e, h),
     )
 
-pub cut_long : (front piece front' piece' : List ℕ) (count : ℕ) → IsFront front → count ≡ line_length piece → 4000000 < length front + count → front' ≡ [] → piece' ≡ drop (4000000 - length front + 1) piece → Cuts front piece (Err fault.TooLong) front' piece'
+pub cut_long : (front piece front' piece' : List ℕ) (count : ℕ) → IsFront front → count ≡ line_length piece → MOST_LINE_BYTES < length front + count → front' ≡ [] → piece' ≡ drop (MOST_LINE_BYTES - length front + 1) piece → Cuts front piece (Err fault.TooLong) front' piece'
 cut_long front piece front' piece' count f e h none left =
     rw (none, left) (
-      (λ (behind : List ℕ). line_over 4000000 front piece behind f.no_newline f.most (rw (← e) h)),
-      omega (arith, length-append front piece, length-drop (4000000 - length front + 1) piece, e, h, length_most piece, f.most),
+      (λ (behind : List ℕ). line_over MOST_LINE_BYTES front piece behind f.no_newline f.most (rw (← e) h)),
+      omega (arith, length-append front piece, length-drop (MOST_LINE_BYTES - length front + 1) piece, e, h, length_most piece, f.most),
     )
 
 pub rest_none : (front : List ℕ) → length front ≡ 0 → CutsRest front None front
-rest_none [] h = (no_line 4000000, refl, omega arith)
+rest_none [] h = (no_line MOST_LINE_BYTES, refl, omega arith)
 rest_none (b ∷ bs) h = absurd (omega arith)
 
 pub rest_some : (front line front' : List ℕ) → IsFront front → 0 < length front → line ≡ front → front' ≡ [] → CutsRest front (Some line) front'
 rest_some front line front' f h line_is none =
-    let read : line_of front ≡ Line (take (line_length front) front) (drop (line_length front + 1) front) = short_line 4000000 front h (rw f.no_newline f.most) in
+    let read : line_of front ≡ Line (take (line_length front) front) (drop (line_length front + 1) front) = short_line MOST_LINE_BYTES front h (rw f.no_newline f.most) in
     let whole : take (line_length front) front ≡ front = rw f.no_newline (take-length front) in
     let nothing : drop (line_length front + 1) front ≡ [] = rw f.no_newline (drop_past front) in
     rw (line_is, none) (rw (read, whole, nothing) refl, refl, h)

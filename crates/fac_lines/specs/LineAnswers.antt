@@ -19,7 +19,7 @@ LineAnswers before (Err fault.TooLong) now = line_of before ≡ LineTooLong now
 LineAnswers before (Err fault.Failed) now = now ≡ before
 LineAnswers before (Err fault.Memory) now = now ≡ before
 
--- the source was read for these bytes behind those that are kept: before the last read the front of a line was kept
+-- bytes that the source gave behind those that were kept: before the last of them came there was a time when the front of a line was kept
 abbrev pub AreWanted : List ℕ → List ℕ → Type 0
 AreWanted kept [] = ⊤
 AreWanted kept (b ∷ bs) = (n : ℕ) × (n < length (b ∷ bs)) × IsFront (kept ++ take n (b ∷ bs))

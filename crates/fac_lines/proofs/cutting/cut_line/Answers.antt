@@ -1,4 +1,5 @@
 use Rattle.std.proofs.Common.{◌+◌, ◌-◌, ◌∙◌, arith, ap, length, drop, take, ◌++◌, List, ℕ}
+use Rattle.fac_lines.specs.declared.lines.TheConstants.{MOST_LINE_BYTES}
 use Rattle.fac_lines.specs.LineReads.{line_length}
 use Rattle.fac_lines.proofs.CutLemmas.{front_joined, cut_found, cut_long}
 use Rattle.fac_lines.proofs.cutting.cut_line.Goals as goal
@@ -8,7 +9,7 @@ skip-requires c = omega (arith, c.length_of_line-count.ensures.most, ap length c
 
 pub returns-then-count-room-clause-cuts : goal.returns-then-count-room-clause-cuts
 returns-then-count-room-clause-cuts c =
-    cut_long c.args.front.now c.args.piece.now _ _ c.length_of_line-count.result c.requires (c.length_of_line-count.ensures.length ∙ ap line_length c.as_slice.ensures) (omega (arith, c.if-count-room.true, c.len-room.ensures, c.requires.most)) c.new.ensures (c.skip.ensures ∙ ap (λ n. drop (4000000 - n + 1) c.args.piece.now) c.len-room.ensures)
+    cut_long c.args.front.now c.args.piece.now _ _ c.length_of_line-count.result c.requires (c.length_of_line-count.ensures.length ∙ ap line_length c.as_slice.ensures) (omega (arith, c.if-count-room.true, c.len-room.ensures, c.requires.most)) c.new.ensures (c.skip.ensures ∙ ap (λ n. drop (MOST_LINE_BYTES - n + 1) c.args.piece.now) c.len-room.ensures)
 
 pub returns-then-count-as_slice-clause-front : goal.returns-then-count-as_slice-clause-front
 returns-then-count-as_slice-clause-front c =
