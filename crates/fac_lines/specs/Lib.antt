@@ -1,0 +1,4 @@
+pub mod LineReads
+pub mod LineAnswers
+pub mod SeenLines
+pub mod inner

@@ -1,0 +1,41 @@
+-- Reading for a line.
+use Rattle.std.specs.Prelude.{◌≡◌, ◌≤◌, ◌+◌, ℕ, List, [], ◌++◌, length, Result, Ok, Err, IfSome}
+use Rattle.std.specs.declared.option.Option.{Option}
+use Rattle.std.specs.Io.KnownBytes.{Consumes, Keeps, IsAtEnd}
+use Rattle.fac_io.specs.Faults.{Rose}
+use Rattle.fac_lines.specs.declared.line_fault.LineFault.{LineFault}
+use Rattle.fac_lines.specs.declared.line_fault.LineFault.TheVariants as fault
+use Rattle.fac_lines.specs.LineAnswers.{LineAnswers, AreWanted, FrontWhereFailed}
+
+-- a piece has the bytes of one read
+abbrev pub Fills : Option (List ℕ) → Option (List ℕ) → Result ℕ LineFault → List ℕ → Type 0
+Fills before after (Ok count) piece = Consumes before after piece × (length piece ≡ count) × (count ≡ 0 → IsAtEnd after)
+Fills before after (Err fault.TooLong) piece = ⊥
+Fills before after (Err fault.Failed) piece = Keeps before after × (piece ≡ [])
+Fills before after (Err fault.Memory) piece = Keeps before after × (piece ≡ [])
+
+abbrev pub FillCounts : ℕ → ℕ → Result ℕ LineFault → Type 0
+FillCounts before now (Ok count) = now ≡ before
+FillCounts before now (Err fault.TooLong) = ⊥
+FillCounts before now (Err fault.Failed) = (before ≤ now) × Rose before now
+FillCounts before now (Err fault.Memory) = now ≡ before
+
+abbrev pub FillFalls : ℕ → ℕ → Result ℕ LineFault → Type 0
+FillFalls before now (Ok count) = now + count ≤ before
+FillFalls before now (Err fault) = now ≤ before
+
+-- what was read so far behind the front of a line, all of which is the front of a line now
+pub record ReadsOn (before after : Option (List ℕ)) (front front' : List ℕ) : Type 0 where
+  pub given : List ℕ
+  pub consumed : Consumes before after given
+  pub wanted : AreWanted front given
+  pub all : front' ≡ front ++ given
+
+-- the answer where bytes were read behind the front of a line, and the bytes that are kept then
+pub record ReadsLine (before after : Option (List ℕ)) (front : List ℕ) (answer : Result (Option (List ℕ)) LineFault) (now : List ℕ) : Type 0 where
+  pub given : List ℕ
+  pub consumed : Consumes before after given
+  pub wanted : AreWanted front given
+  pub answers : LineAnswers (front ++ given) answer now
+  pub further : IfSome after (λ behind. LineAnswers ((front ++ given) ++ behind) answer (now ++ behind))
+  pub failed : FrontWhereFailed now answer
