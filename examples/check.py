@@ -1,20 +1,29 @@
 #!/usr/bin/env python3
-"""Runs the programs of this folder and the tests of the library, and tells whether each writes what the file with its name and `.out` has.
+"""Runs the programs of this folder, the tests of the library and the listings of the tutorial, and tells whether each writes what it should.
 
     python3 examples/check.py [PROGRAM]         on the built program, by default crates/factorc/out/factorc
     python3 examples/check.py --model           on the model of the language, bench/model.py
 
 Each program is run by itself, as `PROGRAM run NAME.factor`, and each test of the library behind the files that it needs, as
-`PROGRAM run lib/NAME.factor lib/NAME-tests.factor`. It has to end with status 0 and without a note. The script ends with status 1 where
-one doesn't, or writes something else.
+`PROGRAM run lib/NAME.factor lib/NAME-tests.factor`. It has to write what the file with its name and `.out` has, and to end with status 0 and
+without a note.
+
+A listing of docs/TUTORIAL.md is a block that begins with "```factor", perhaps with the names of files of the library that it needs behind
+that. It is run as `a.factor`, behind these. The next block, which begins with "```text", has what it writes, with its note at the end, and
+behind that word `status=N` where it ends with another status than 0.
+
+The script ends with status 1 where one ends otherwise or writes something else.
 """
 
 import difflib
 import os
+import re
 import subprocess
 import sys
+import tempfile
+from dataclasses import dataclass
 
-TOP = os.path.join(os.path.dirname(os.path.abspath(__file__)), "..")
+TOP = os.path.realpath(os.path.join(os.path.dirname(os.path.abspath(__file__)), ".."))
 sys.path.insert(0, os.path.join(TOP, "bench"))
 
 # The modules of the folder bench.
@@ -26,16 +35,19 @@ MOST_SECONDS = 20.0
 # The files of the library that others need before them.
 NEEDS = {"assocs": ["sequences"], "text": ["sequences"]}
 
+TUTORIAL = "docs/TUTORIAL.md"
+LISTING = re.compile(rb"^```factor([^\n]*)\n(.*?)^```\n+```text([^\n]*)\n(.*?)^```", re.DOTALL | re.MULTILINE)
 
-def programs():
-    """The files of each program, by their names from the top of the repository. The last one is the program itself."""
-    for folder in ("examples", "lib"):
-        for name in sorted(os.listdir(os.path.join(TOP, folder))):
-            tested = name.removesuffix("-tests.factor")
-            if folder == "lib" and tested != name:
-                yield [f"lib/{needed}.factor" for needed in NEEDS.get(tested, []) + [tested]] + [f"lib/{name}"]
-            elif folder == "examples" and name.endswith(".factor"):
-                yield [f"examples/{name}"]
+
+@dataclass
+class Program:
+    """A program: what it is called here, the names of its files and their texts, and the status and the text that it ends with."""
+
+    title: str
+    names: list
+    texts: dict
+    status: int
+    wanted: bytes
 
 
 def read(name):
@@ -44,46 +56,73 @@ def read(name):
         return file.read()
 
 
-def run_built(program, names):
-    """The status, the output and the note of the built program on these files."""
-    ended = subprocess.run(
-        [program, "run", *names], cwd=TOP, stdin=subprocess.DEVNULL, capture_output=True, timeout=MOST_SECONDS, check=False
-    )
-    return ended.returncode, ended.stdout, ended.stderr
+def stored(names):
+    """The program of these files of the repository, of which the last one is the program itself."""
+    wanted = read(names[-1].removesuffix(".factor") + ".out")
+    return Program(names[-1], names, {name: read(name) for name in names}, 0, wanted)
 
 
-def run_model(names):
-    """The status, the output and the note of the model on these files."""
-    answer = model.answer(["run", *names], {name: read(name) for name in names})
-    return answer.status, answer.output.encode(), answer.note.encode()
+def programs():
+    """The programs of this folder, the tests of the library and the listings of the tutorial."""
+    for folder in ("examples", "lib"):
+        for name in sorted(os.listdir(os.path.join(TOP, folder))):
+            tested = name.removesuffix("-tests.factor")
+            if folder == "lib" and tested != name:
+                yield stored([f"lib/{needed}.factor" for needed in NEEDS.get(tested, []) + [tested]] + [f"lib/{name}"])
+            elif folder == "examples" and name.endswith(".factor"):
+                yield stored([f"examples/{name}"])
+    for number, found in enumerate(LISTING.finditer(read(TUTORIAL)), 1):
+        library, text, status, wanted = found.groups()
+        names = library.decode().split()
+        texts = {name: read(name) for name in names} | {"a.factor": text}
+        status = int(status.partition(b"status=")[2] or 0)
+        yield Program(f"listing {number} of {TUTORIAL}", [*names, "a.factor"], texts, status, wanted)
 
 
-def difference(got, wanted):
-    """What is wrong with a status, an output and a note, in some lines; nothing where this output is wanted."""
-    status, output, note = got
-    if (status, note) != (0, b""):
-        return f"ends with status {status} and the note {note.decode(errors='replace')!r}"
-    if output == wanted:
-        return ""
-    texts = [text.decode(errors="replace").splitlines() for text in (wanted, output)]
-    lines = difflib.unified_diff(*texts, "wanted", "written", lineterm="", n=1)
-    return "writes something else:\n" + "\n".join(list(lines)[:20])
+def run_built(built, program):
+    """The status of the built program on these files, and what it writes, with its note at the end."""
+    with tempfile.TemporaryDirectory() as folder:
+        for name, text in program.texts.items():
+            path = os.path.join(folder, name)
+            os.makedirs(os.path.dirname(path), exist_ok=True)
+            with open(path, "wb") as file:
+                file.write(text)
+        words = [os.path.abspath(built), "run", *program.names]
+        ended = subprocess.run(
+            words, cwd=folder, stdin=subprocess.DEVNULL, capture_output=True, timeout=MOST_SECONDS, check=False
+        )
+    return ended.returncode, ended.stdout + ended.stderr
+
+
+def run_model(program):
+    """The same of the model."""
+    answer = model.answer(["run", *program.names], program.texts)
+    return answer.status, answer.output.encode() + answer.note.encode()
+
+
+def difference(got, program):
+    """What is wrong with a status and what was written, in some lines; nothing where these are wanted."""
+    status, text = got
+    if text != program.wanted:
+        texts = [each.decode(errors="replace").splitlines() for each in (program.wanted, text)]
+        lines = difflib.unified_diff(*texts, "wanted", "written", lineterm="", n=1)
+        return "writes something else:\n" + "\n".join(list(lines)[:20])
+    return "" if status == program.status else f"ends with status {status} and not {program.status}"
 
 
 def main():
     on_model = sys.argv[1:] == ["--model"]
-    program = None if on_model else speed.program_or(speed.DEFAULT)
+    built = None if on_model else speed.program_or(speed.DEFAULT)
     failed = []
     count = 0
-    for names in programs():
+    for program in programs():
         count += 1
-        wanted = read(names[-1].removesuffix(".factor") + ".out")
         try:
-            told = difference(run_model(names) if on_model else run_built(program, names), wanted)
+            told = difference(run_model(program) if on_model else run_built(built, program), program)
         except subprocess.TimeoutExpired:
             told = f"takes more than {MOST_SECONDS:g} seconds"
         if told:
-            failed.append(f"{names[-1]} {told}")
+            failed.append(f"{program.title} {told}")
     print(f"{count} programs run, of which {len(failed)} failed")
     return speed.finish(failed)
 
