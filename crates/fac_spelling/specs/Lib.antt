@@ -1,0 +1,13 @@
+pub mod Formats
+pub mod Numbers
+pub mod Integers
+pub mod Lists
+pub mod Choices
+pub mod TestedNumbers
+pub mod Bytes
+pub mod Texts
+pub mod Reads
+pub mod Whole
+pub mod Answers
+pub mod Laws
+pub mod inner

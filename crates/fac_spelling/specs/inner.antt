@@ -1,0 +1,4 @@
+-- What only the contracts of inner functions cite.
+pub mod CharacterSteps
+pub mod TakenBehind
+pub mod WholeReading
