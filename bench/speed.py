@@ -418,7 +418,7 @@ SORTS = [
     ("classes", classes_with_methods, (250, 1_000), words, 1.0, ["TUPLE:", "prelude"]),
     ("deep hierarchy", deep_hierarchy, (1_024,), words, 0.3, ["TUPLE:", "prelude"]),
     ("wide unions", wide_unions, (1_024,), words, 0.3, ["TUPLE:", "prelude"]),
-    ("captures, levels", captures_in_levels, (100, 400), words, 2.0, ["::"]),
+    ("captures, levels", captures_in_levels, (100, 400), words, 8.0, ["::"]),
     ("words with locals", words_with_locals, (2_500, 10_000), words, 1.0, ["::", "'[", "check"]),
     ("kept callables", kept_callables, (250, 1_000), words, 2.0, ["::"]),
     ("chain of closures", chain_of_closures, (250_000, 1_000_000), words, 4.0, ["::"]),
