@@ -4,7 +4,6 @@
 mod image;
 mod lookups;
 mod making;
-mod method_numbers;
 mod names;
 mod references;
 

@@ -16,7 +16,8 @@ pub mod Simulation
 pub mod PlainIsCode
 pub mod RunningPhrases
 pub mod Closings
-pub mod TextLemmas
+pub mod TextLists
+pub mod TableLemmas
 pub mod ClassSets
 pub mod TableNumbers
 pub mod FirstWords
@@ -40,11 +41,13 @@ pub mod ReferenceLemmas
 pub mod EmitLemmas
 pub mod Emitted
 pub mod CodedItems
+pub mod ArrayLemmas
 pub mod NumberLemmas
 pub mod PromisedLemmas
-pub mod MethodRows
-pub mod KeyLemmas
+pub mod MethodPlaces
+pub mod SlotLemmas
 pub mod CountLemmas
 pub mod SetLemmas
 pub mod ClosedTables
+pub mod TopRow
 pub mod ExamplesOfCode

@@ -1,6 +1,4 @@
 pub mod LineLemmas
 pub mod CutLemmas
 pub mod AnswerLemmas
-pub mod MeantLemmas
-pub mod InputLemmas
 pub mod ExamplesOfLines

@@ -1,6 +1,4 @@
 pub mod LineReads
 pub mod LineAnswers
-pub mod MeantLines
 pub mod SeenLines
-pub mod Inputs
 pub mod inner

@@ -1,7 +1,6 @@
 mod Causes
 pub mod EarlyEnds
 pub mod EndLemmas
-pub mod InputLemmas
 pub mod LoadLemmas
 pub mod ReadingLemmas
 pub mod CheckedLemmas
@@ -13,6 +12,4 @@ pub mod NoteLemmas
 pub mod ClosedLemmas
 pub mod ListedLemmas
 pub mod Composing
-pub mod ExecutedLemmas
-pub mod SavedLemmas
-pub mod ListingLemmas
+pub mod CommandLemmas

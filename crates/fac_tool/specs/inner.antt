@@ -1,5 +1,4 @@
 -- What only the contracts of inner functions cite.
 pub mod Stops
 pub mod StepEnds
-pub mod ImageSteps
 pub mod ListedStacks
