@@ -6,7 +6,7 @@
 PROGRAM is the built program, by default crates/factorc/out/factorc. First the model alone has to answer worked examples, which
 are written by hand, and the program has to answer them as the model does. Then each kind of case has its share of the N seconds,
 60 by default: cases of the kind are made, run by the program and by the model, and status, output and note are compared byte for
-byte. A case is a command line with its files. A kind makes the same cases in the same order from the same seed S, 1 by default; how
+byte. A case is a command line with its files and its input. A kind makes the same cases in the same order from the same seed S, 1 by default; how
 many depends on the time.
 
 `--built` says what the program can do, by the names of model.PIECES and of what is in them: a program that was built from a part of
@@ -36,8 +36,11 @@ import model
 import speed
 from call_kinds import CALL_KINDS
 from class_kinds import CLASS_KINDS
+from input_kinds import INPUT_KINDS
 from kinds import KINDS, Case, happens, run_of
 from local_kinds import LOCAL_KINDS
+
+ALL_KINDS = KINDS + CLASS_KINDS + LOCAL_KINDS + CALL_KINDS + INPUT_KINDS
 
 # The most ticks that the model takes for a program.
 MOST_TICKS = 200_000
@@ -84,7 +87,7 @@ class Comparison:
         words = [self.program, *case.words]
         try:
             ended = subprocess.run(
-                words, cwd=self.folder, stdin=subprocess.DEVNULL, capture_output=True, timeout=MOST_SECONDS, check=False
+                words, cwd=self.folder, input=case.given, capture_output=True, timeout=MOST_SECONDS, check=False
             )
         finally:
             for name in case.files:
@@ -109,6 +112,8 @@ class Comparison:
         path = os.path.join(self.kept, name)
         os.mkdir(path)
         write_files(path, case.files)
+        if case.given:
+            write_files(path, {"input": case.given})
         return path
 
     def compare(self, kind, seconds):
@@ -126,14 +131,14 @@ class Comparison:
     def compare_examples(self):
         """Compares the worked examples."""
         tally = tally_of("worked examples")
-        for words, files, _ in examples.all_examples():
-            self.compare_with(model.answer(words, files, MOST_TICKS), Case(words, files), tally)
+        for words, files, given, _ in examples.all_examples():
+            self.compare_with(model.answer(words, files, MOST_TICKS, given), Case(words, files, given), tally)
         return tally
 
     def compare_one(self, case, chance, tally):
         """Compares one case, and a run sometimes with a small budget too."""
         try:
-            answer = model.answer(case.words, case.files, MOST_TICKS)
+            answer = model.answer(case.words, case.files, MOST_TICKS, case.given)
         except model.Stuck:
             self.fail(case, "is stuck in the model, which accepted it", tally)
             return
@@ -149,7 +154,7 @@ class Comparison:
         if ran and budgets and happens(chance, SMALL_BUDGETS):
             most = chance.choice([answer.ticks, max(0, answer.ticks - 1), chance.randint(0, answer.ticks)])
             case = with_budget(case, command, most)
-            self.compare_with(model.answer(case.words, case.files), case, tally)
+            self.compare_with(model.answer(case.words, case.files, given=case.given), case, tally)
 
     def compare_with(self, answer, case, tally):
         """Compares the program's answer to a case with this one."""
@@ -175,7 +180,7 @@ def write_files(folder, files):
 
 def with_budget(case, command, ticks):
     """The case that runs the same files with so many ticks."""
-    return Case(["run", "--steps", str(ticks), *command.files], case.files)
+    return Case(["run", "--steps", str(ticks), *command.files], case.files, case.given)
 
 
 def shortened(ended):
@@ -218,7 +223,7 @@ def main():
     print(f"{len(list(examples.all_examples()))} worked examples, of which the model answers {len(failed)} otherwise")
     if failed:
         return speed.finish(failed)
-    kinds = [(kind, share) for kind, share, needs in KINDS + CLASS_KINDS + LOCAL_KINDS + CALL_KINDS if model.BUILT.issuperset(needs)]
+    kinds = [(kind, share) for kind, share, needs in ALL_KINDS if model.BUILT.issuperset(needs)]
     if words.kinds is not None:
         kinds = [(kind, share) for kind, share in kinds if kind.__name__ in words.kinds]
     shares = sum(share for _, share in kinds)

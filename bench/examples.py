@@ -1741,35 +1741,80 @@ def counted(text):
     return f"checked {definitions} definitions\n"
 
 
+# Texts of a program that uses all vocabularies, the input, and the status, the ticks, the output and the note.
+TOO_LONG_LINE = "error: text-too-long in io:readln\n"
+NO_TEXT = "error: bad-text in io:readln\n"
+EXAMPLES_OF_INPUT = [
+    # lines, and the end of the input
+    ("readln print readln .", b"hi\n", 0, 4, "hi\nf\n", ""),
+    ("readln .", b"", 0, 2, "f\n", ""),
+    ("readln . readln .", b"", 0, 4, "f\nf\n", ""),
+    ("readln . readln .", b"\n", 0, 4, '""\nf\n', ""),
+    ("readln . readln . readln . readln .", b"a\n\nb", 0, 8, '"a"\n""\n"b"\nf\n', ""),
+    ("readln . readln .", b"a\nb\n", 0, 4, '"a"\n"b"\n', ""),
+    ("readln .", b"not asked for\nnor this \xff", 0, 2, '"not asked for"\n', ""),
+    ("readln . readln .", b" a\tb \r\n\x0b\x0c\r", 0, 4, '" a\\tb \\r"\n"\x0b\x0c\\r"\n', ""),
+    ("readln length .", "\u00e9\u20ac\U0001f600\0\u2028".encode(), 0, 3, "5\n", ""),
+    ('readln string>number 1 + . "x" print', b"41", 0, 7, "42\nx\n", ""),
+    ("1 .", b"never read", 0, 2, "1\n", ""),
+    # loops over all lines
+    ("0 [ readln dup ] [ string>number + ] while drop .", b"1\n-2\n30", 0, None, "29\n", ""),
+    ("0 [ readln ] [ 1 + ] while .", b"a\n\n\nb\n", 0, None, "4\n", ""),
+    # as a value, in a tested call, in a callable and in a word
+    ("\\ readln execute .", b"a", 0, 4, '"a"\n', ""),
+    ("\\ readln execute( -- x ) .", b"a", 0, 4, '"a"\n', ""),
+    ("[ readln ] call( -- x ) .", b"a", 0, 4, '"a"\n', ""),
+    ("\\ readln .", b"a", 0, 2, "readln\n", ""),
+    (": w ( -- x ) readln ; w w append .", b"a\nb\n", 0, 6, '"ab"\n', ""),
+    ("1 \\ readln execute( x -- x )", b"a", 1, 3, "", "error: wrong-values in execute(: readln\n"),
+    # lines that are no text, and the order of the tests
+    ("readln .", b"\xff\n", 1, 1, "", NO_TEXT),
+    ('"a" print readln .', b"ab\xc3\n\xa9", 1, 3, "a\n", NO_TEXT),
+    ("readln .", b"\xed\xa0\x80", 1, 1, "", NO_TEXT),
+    ("readln .", b"\xc0\x80", 1, 1, "", NO_TEXT),
+    ("readln length .", b"a" * 1_000_000, 0, 3, "1000000\n", ""),
+    ("readln length .", b"a" * 1_000_001, 1, 1, "", TOO_LONG_LINE),
+    ("readln length . readln .", "\U0001f600".encode() * 1_000_000 + b"\nb", 0, 5, '1000000\n"b"\n', ""),
+    ("readln length .", "\U0001f600".encode() * 1_000_000 + b"b", 1, 1, "", TOO_LONG_LINE),
+    ("readln length .", b"\xff" * 4_000_000, 1, 1, "", NO_TEXT),
+    ("readln length .", b"\xff" * 4_000_001, 1, 1, "", TOO_LONG_LINE),
+    ("readln length .", b"a" * 2_000_000 + b"\xff", 1, 1, "", NO_TEXT),
+    # refusals
+    (": w ( -- ) readln ; w", b"", 5, 0, "", "check: scratchpad:w, a token 13: outputs, declared 0, found 1\n"),
+]
+
+
 def all_examples():
-    """Every example: words, files by their names, and the status, ticks, output and note that are wanted. Of few the ticks aren't told,
-    which are None."""
+    """Every example: words, files by their names, the input, and the status, ticks, output and note that are wanted. Of few the ticks
+    aren't told, which are None."""
     for source, *wanted in EXAMPLES:
-        yield ["run", "a"], {"a": source.encode()}, wanted
+        yield ["run", "a"], {"a": source.encode()}, b"", wanted
     small = "USING: kernel math io prettyprint ;"
     for head, (text, ticks, output) in [(small, one) for one in EXAMPLES_OF_PRELUDE] + [(H, one) for one in EXAMPLES_OF_TICKS]:
         files = {"a": f"{head} {text}".encode()}
-        yield ["run", "--steps", str(ticks), "a"], files, [model.DONE, ticks, output, ""]
+        yield ["run", "--steps", str(ticks), "a"], files, b"", [model.DONE, ticks, output, ""]
         before = "".join(output.splitlines(True)[:-1]) if text.endswith(" .") else output
-        yield ["run", "--steps", str(ticks - 1), "a"], files, [model.SPENT, ticks - 1, before, f"spent: {ticks - 1} ticks\n"]
+        yield ["run", "--steps", str(ticks - 1), "a"], files, b"", [model.SPENT, ticks - 1, before, f"spent: {ticks - 1} ticks\n"]
     for text, told in EXAMPLES_OF_ROWS:
         wanted = [model.CHECKER, 0, "", f"check: {told}\n"] if told else [model.DONE, 0, counted(text), ""]
-        yield ["check", "a"], {"a": f"USING: kernel math io ; {text}".encode()}, wanted
+        yield ["check", "a"], {"a": f"USING: kernel math io ; {text}".encode()}, b"", wanted
     head = f"{H} SYMBOL: s"
     objects = [(head, one) for one in EXAMPLES_OF_OBJECTS + EXAMPLES_OF_CALLS]
     for head, (text, told) in objects + [(H, one) for one in EXAMPLES_OF_CLASSES]:
         output, _, error = told.rpartition("\n")
         wanted = [model.ERROR, None, output and output + "\n", f"error: {error}\n"] if error else [model.DONE, None, told, ""]
-        yield ["run", "a"], {"a": f"{head} {text}".encode()}, wanted
+        yield ["run", "a"], {"a": f"{head} {text}".encode()}, b"", wanted
     for text, told in EXAMPLES_OF_CLASS_NOTES + EXAMPLES_OF_CALL_NOTES:
         status = {"": model.DONE, "name": model.NAME, "check": model.CHECKER}[told.partition(":")[0]]
-        yield ["check", "a"], {"a": f"{H} {text}".encode()}, [status, 0, "" if told else counted(text), told and told + "\n"]
+        yield ["check", "a"], {"a": f"{H} {text}".encode()}, b"", [status, 0, "" if told else counted(text), told and told + "\n"]
     for text, note in EXAMPLES_OF_CLASS_FORMS + EXAMPLES_OF_CALL_FORMS:
-        yield ["check", "a"], {"a": text.encode()}, [model.SYNTAX if note else model.DONE, 0, "" if note else counted(text), note]
+        yield ["check", "a"], {"a": text.encode()}, b"", [model.SYNTAX if note else model.DONE, 0, "" if note else counted(text), note]
     for source, byte in EXAMPLES_OF_BYTES:
-        yield ["run", "a"], {"a": source}, [model.SYNTAX, 0, "", f"syntax: a byte {byte}: not UTF-8\n"]
+        yield ["run", "a"], {"a": source}, b"", [model.SYNTAX, 0, "", f"syntax: a byte {byte}: not UTF-8\n"]
     for words, files, *wanted in EXAMPLES_OF_COMMANDS:
-        yield words.split(" ") if words else [], {name: text.encode() for name, text in files.items()}, wanted
+        yield words.split(" ") if words else [], {name: text.encode() for name, text in files.items()}, b"", wanted
+    for text, given, *wanted in EXAMPLES_OF_INPUT:
+        yield ["run", "a"], {"a": f"{H} {text}".encode()}, given, wanted
 
 
 def wrong_examples():
@@ -1777,8 +1822,8 @@ def wrong_examples():
     built = set(model.BUILT)
     model.build(model.PIECES)
     wrong = []
-    for words, files, wanted in all_examples():
-        answer = model.answer(words, files)
+    for words, files, given, wanted in all_examples():
+        answer = model.answer(words, files, given=given)
         got = [answer.status, None if wanted[1] is None else answer.ticks, answer.output, answer.note]
         if got != wanted:
             told = [(field[:80] if isinstance(field, str) else field) for field in got]

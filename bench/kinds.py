@@ -12,10 +12,11 @@ FILE = "source.factor"
 
 @dataclass
 class Case:
-    """The words of a command line, and the files that it may find: their bytes, by their names."""
+    """The words of a command line, the files that it may find, their bytes by their names, and the bytes of its input."""
 
     words: list
     files: dict
+    given: bytes = b""
 
 
 def run_of(*sources):
@@ -1803,7 +1804,7 @@ def scopes(chance):
 def within(case, ticks):
     """A case with a budget of so many ticks, where a run may have one."""
     if case.words[0] == "run" and is_built("--steps"):
-        return Case(["run", "--steps", str(ticks), *case.words[1:]], case.files)
+        return Case(["run", "--steps", str(ticks), *case.words[1:]], case.files, case.given)
     return case
 
 

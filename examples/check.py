@@ -5,12 +5,13 @@
     python3 examples/check.py --model           on the model of the language, bench/model.py
 
 Each program is run by itself, as `PROGRAM run NAME.factor`, and each test of the library behind the files that it needs, as
-`PROGRAM run lib/NAME.factor lib/NAME-tests.factor`. It has to write what the file with its name and `.out` has, and to end with status 0 and
-without a note.
+`PROGRAM run lib/NAME.factor lib/NAME-tests.factor`. Its input is the file with its name and `.in`, or nothing where there is none. It has to
+write what the file with its name and `.out` has, and to end with status 0 and without a note.
 
 A listing of docs/TUTORIAL.md is a block that begins with "```factor", perhaps with the names of files of the library that it needs behind
-that. It is run as `a.factor`, behind these. The next block, which begins with "```text", has what it writes, with its note at the end, and
-behind that word `status=N` where it ends with another status than 0.
+that, and with the word `image` before them where it is built as an image too, which is executed then. It is run as `a.factor`, behind these.
+A block behind it that begins with "```input" is its input. The next block, which begins with "```text", has what it writes, with its note at
+the end, and behind that word `status=N` where it ends with another status than 0.
 
 The script ends with status 1 where one ends otherwise or writes something else.
 """
@@ -36,18 +37,25 @@ MOST_SECONDS = 20.0
 NEEDS = {"assocs": ["sequences"], "text": ["sequences"]}
 
 TUTORIAL = "docs/TUTORIAL.md"
-LISTING = re.compile(rb"^```factor([^\n]*)\n(.*?)^```\n+```text([^\n]*)\n(.*?)^```", re.DOTALL | re.MULTILINE)
+# The words behind `factor`, the text, the input, the words behind `text`, and what is written. None of the texts has a line that ends a block.
+BLOCK = rb"((?:(?!```)[^\n]*\n)*)```\n"
+LISTING = re.compile(
+    rb"^```factor([^\n]*)\n" + BLOCK + rb"\n+(?:```input\n" + BLOCK + rb"\n+)?```text([^\n]*)\n" + BLOCK, re.MULTILINE
+)
 
 
 @dataclass
 class Program:
-    """A program: what it is called here, the names of its files and their texts, and the status and the text that it ends with."""
+    """A program: what it is called here, the names of its files and their texts, the status and the text that it ends with, its input, and
+    whether it is built as an image too."""
 
     title: str
     names: list
     texts: dict
     status: int
     wanted: bytes
+    given: bytes = b""
+    image: bool = False
 
 
 def read(name):
@@ -58,8 +66,9 @@ def read(name):
 
 def stored(names):
     """The program of these files of the repository, of which the last one is the program itself."""
-    wanted = read(names[-1].removesuffix(".factor") + ".out")
-    return Program(names[-1], names, {name: read(name) for name in names}, 0, wanted)
+    own = names[-1].removesuffix(".factor")
+    given = read(own + ".in") if os.path.exists(os.path.join(TOP, own + ".in")) else b""
+    return Program(names[-1], names, {name: read(name) for name in names}, 0, read(own + ".out"), given)
 
 
 def programs():
@@ -72,31 +81,40 @@ def programs():
             elif folder == "examples" and name.endswith(".factor"):
                 yield stored([f"examples/{name}"])
     for number, found in enumerate(LISTING.finditer(read(TUTORIAL)), 1):
-        library, text, status, wanted = found.groups()
+        library, text, given, status, wanted = found.groups()
         names = library.decode().split()
+        image = names[:1] == ["image"]
+        names = names[image:]
         texts = {name: read(name) for name in names} | {"a.factor": text}
         status = int(status.partition(b"status=")[2] or 0)
-        yield Program(f"listing {number} of {TUTORIAL}", [*names, "a.factor"], texts, status, wanted)
+        yield Program(f"listing {number} of {TUTORIAL}", [*names, "a.factor"], texts, status, wanted, given or b"", image)
 
 
 def run_built(built, program):
-    """The status of the built program on these files, and what it writes, with its note at the end."""
+    """The status of the built program on these files, and what it writes, with its note at the end. Where an image is wanted too and the
+    run ends as it should, these are of the image: of its build where that says anything, and else of its run."""
     with tempfile.TemporaryDirectory() as folder:
         for name, text in program.texts.items():
             path = os.path.join(folder, name)
             os.makedirs(os.path.dirname(path), exist_ok=True)
             with open(path, "wb") as file:
                 file.write(text)
-        words = [os.path.abspath(built), "run", *program.names]
-        ended = subprocess.run(
-            words, cwd=folder, stdin=subprocess.DEVNULL, capture_output=True, timeout=MOST_SECONDS, check=False
-        )
-    return ended.returncode, ended.stdout + ended.stderr
+
+        def ended(*words):
+            command = [os.path.abspath(built), *words]
+            found = subprocess.run(command, cwd=folder, input=program.given, capture_output=True, timeout=MOST_SECONDS, check=False)
+            return found.returncode, found.stdout + found.stderr
+
+        ran = ended("run", *program.names)
+        if not program.image or ran != (program.status, program.wanted):
+            return ran
+        saved = ended("build", *program.names, "-o", "a.image")
+        return ended("exec", "a.image") if saved == (0, b"") else saved
 
 
 def run_model(program):
     """The same of the model."""
-    answer = model.answer(["run", *program.names], program.texts)
+    answer = model.answer(["run", *program.names], program.texts, given=program.given)
     return answer.status, answer.output.encode() + answer.note.encode()
 
 

@@ -7,15 +7,24 @@
 //!     @times N TEXT     the text N times, as a part of the source
 //!     @bytes N N ..     these bytes, as a part of the source
 //!     @words W W ..     the words of the command line, where `''` is an empty one; they are `run a` where no line says otherwise
-//!     @loads N N ..     the numbers of the loads that fail
-//!     @output N M       the write of this number to the output fails after M bytes
-//!     @note N M         the write of this number to the notes fails after M bytes
+//!     @then W W ..      one more call, on these words and on the files that the calls before left; with the same input from its start
+//!     @input TEXT       a line of the input; `@input` alone is an empty one
+//!     @part TEXT        the text, as a part of the input without a line's end
+//!     @repeat N TEXT    the text N times, as a part of the input
+//!     @codes N N ..     these bytes, as a part of the input
+//!     @reads N N ..     the numbers of the reads of the input that fail, in each call
+//!     @loads N N ..     the numbers of the loads and saves that fail, counted over all calls of the case
+//!     @output N M       the write of this number to the output fails after M bytes, in each call
+//!     @note N M         the write of this number to the notes fails after M bytes, in each call
 //!     @tokens N         no call: the source is a file of this number, and its tokens are told
 //!
-//! There are the files of these sources and no others.
-use crate::telling::{tell_bytes, tell_end, tell_loads, tell_stack, tell_tokens};
-use fac_io::{Files, MemFiles, MemSink, Sink};
+//! There are the files of these sources and no others. What a call left of its input is told too.
+ghost use Rattle.fac_lines.specs.LineAnswers.{AtEnd};
+
+use crate::telling::{tell_bytes, tell_end, tell_left, tell_loads, tell_stack, tell_tokens};
+use fac_io::{Files, MemFiles, MemSink, MemSource, Sink, Source};
 use fac_lang::{Bytes, Duplicate, List, Memory, Text};
+use fac_lines::Lines;
 use fac_tool::{Ended, factor_top};
 use std::alloc::Global;
 use std::mem;
@@ -27,6 +36,10 @@ const ROOM: u64 = 1000;
 #[derive(Drop)]
 pub struct Case {
     words: Vec<String>,
+    // The words of the calls that come then.
+    others: Vec<Vec<String>>,
+    input: Bytes,
+    reads: List<u64>,
     // The files before the one whose lines come, and the name and the source of that one.
     held: List<(Text, Bytes)>,
     name: Text,
@@ -97,27 +110,31 @@ fn push_times(bytes: &mut Bytes, text: &str) -> Result<bool, Memory> {
 }
 
 // Makes the call.
-fn call<F: Files, K: Sink, N: Sink>(
+fn call<F: Files, S: Source, K: Sink, N: Sink>(
     alloc: Global,
     words: &[String],
     files: &mut F,
+    input: &mut Lines<S>,
     output: &mut K,
     note: &mut N,
-) -> Ended {
-    factor_top(alloc, words, files, output, note)
+) -> Ended
+    requires { AtEnd input.old.ended (S.left input.old.source) }
+{
+    factor_top(alloc, words, files, input, output, note)
 }
 
-// Tells how a call ended.
+// Tells how a call ended, before which so much was asked of the files.
 fn tell_call(
     alloc: Global,
     told: &mut Text,
     ended: &Ended,
     files: &MemFiles,
+    before: usize,
     output: &MemSink,
     note: &MemSink,
 ) -> Result<(), Memory> {
     tell_end(alloc, told, ended.status, ended.ticks)?;
-    tell_loads(told, files.asked().as_slice())?;
+    tell_loads(told, files.asked().as_slice(), before)?;
     if ended.refusal.is_some() {
         told.push_str(", refused")?;
     }
@@ -132,15 +149,19 @@ fn tell_call(
 // Makes the call, and tells how it ended.
 fn called(
     alloc: Global,
+    told: &mut Text,
     words: &[String],
     files: &mut MemFiles,
+    input: &mut Lines<MemSource>,
     output: &mut MemSink,
     note: &mut MemSink,
-) -> Result<Text, Memory> {
-    let ended = call(alloc, words, files, output, note);
-    let mut told = Text::new(alloc);
-    tell_call(alloc, &mut told, &ended, files, output, note)?;
-    Ok(told)
+) -> Result<(), Memory>
+    requires { AtEnd input.old.ended (⟦<MemSource as Source>⟧.left input.old.source) }
+{
+    let before = files.asked().as_slice().len();
+    let ended = call(alloc, words, files, input, output, note);
+    tell_call(alloc, told, &ended, files, before, output, note)?;
+    tell_left(alloc, told, input)
 }
 
 // A sink whose listed writes fail.
@@ -153,6 +174,9 @@ impl Case {
     pub fn new(alloc: Global) -> Result<Self, Memory> {
         Ok(Case {
             words: split(alloc, "run a")?,
+            others: Vec::new(alloc),
+            input: Bytes::new(alloc),
+            reads: List::new(alloc),
             held: List::new(alloc),
             name: Text::from_str(alloc, "a")?,
             source: Bytes::new(alloc),
@@ -176,6 +200,10 @@ impl Case {
                 self.words = Vec::new(alloc);
                 Ok(true)
             }
+            None if set == "input" => {
+                self.input.push(b'\n')?;
+                Ok(true)
+            }
             None => Ok(false),
         }
     }
@@ -194,6 +222,22 @@ impl Case {
                 self.words = split(alloc, text)?;
                 Ok(true)
             }
+            "then" => {
+                self.others.push(split(alloc, text)?)?;
+                Ok(true)
+            }
+            "input" => {
+                self.input.extend(text.as_bytes())?;
+                self.input.push(b'\n')?;
+                Ok(true)
+            }
+            "part" => {
+                self.input.extend(text.as_bytes())?;
+                Ok(true)
+            }
+            "repeat" => push_times(&mut self.input, text),
+            "codes" => push_bytes(&mut self.input, text),
+            "reads" => push_numbers(&mut self.reads, text),
             "loads" => push_numbers(&mut self.loads, text),
             "output" => push_pair(&mut self.output, text),
             "note" => push_pair(&mut self.note, text),
@@ -231,17 +275,37 @@ impl Case {
         }
     }
 
-    // Makes the call, and tells how it ended.
-    fn called(&mut self, alloc: Global) -> Result<Text, Memory> {
-        let mut files = self.files(alloc)?;
+    // Makes one of the calls, and tells how it ended.
+    fn call(
+        &self,
+        alloc: Global,
+        told: &mut Text,
+        words: &[String],
+        files: &mut MemFiles,
+    ) -> Result<(), Memory> {
+        let source = MemSource::new(self.input.copy(alloc)?, self.reads.copy(alloc)?);
+        let mut input = Lines::new(alloc, source);
         let mut output = sink(alloc, &self.output)?;
         let mut note = sink(alloc, &self.note)?;
         called(
             alloc,
-            self.words.as_slice(),
-            &mut files,
+            told,
+            words,
+            files,
+            &mut input,
             &mut output,
             &mut note,
         )
+    }
+
+    // Makes the calls, and tells how each ended.
+    fn called(&mut self, alloc: Global) -> Result<Text, Memory> {
+        let mut files = self.files(alloc)?;
+        let mut told = Text::new(alloc);
+        self.call(alloc, &mut told, self.words.as_slice(), &mut files)?;
+        for words in self.others.as_slice() {
+            self.call(alloc, &mut told, words.as_slice(), &mut files)?;
+        }
+        Ok(told)
     }
 }

@@ -10,7 +10,8 @@
 //! - definitions mean what was meant: each word, each form, each rule of names and of the checker, each run error, each limit and the first
 //!   source past it, ticks, the tokens of the whole language and their faults;
 //! - printed text: values, and the note of each status but 12, which comes where memory is short;
-//! - faults: a file, an output and a note that fail at each place, and that nothing else is asked for;
+//! - faults: a file, a save, an input, an output and a note that fail at each place, and that nothing else is asked for;
+//! - the input: which lines are taken, and what is left;
 //! - large sources take little time: 4 MiB, 200,000 items, a million digits, 100,000,000 ticks.
 #![tactic(auto)]
 

@@ -1,9 +1,13 @@
 //! How the end of a call and the tokens of a file are told.
-use fac_io::Asked;
-use fac_lang::{Memory, Text, TokKind, Token};
+use fac_io::{Asked, MemSource};
+use fac_lang::{Bytes, Memory, Text, TokKind, Token};
+use fac_lines::Lines;
 use fac_token::{TokenFault, tokens};
 use std::alloc::Global;
 use std::str;
+
+// The most lines of an input that are told.
+const MOST_LINES: u32 = 10;
 
 /// Tells a status and ticks.
 pub fn tell_end(alloc: Global, told: &mut Text, status: u8, ticks: u64) -> Result<(), Memory> {
@@ -11,18 +15,28 @@ pub fn tell_end(alloc: Global, told: &mut Text, status: u8, ticks: u64) -> Resul
     told.push_str(line.as_str())
 }
 
-/// Tells which files were asked for.
-pub fn tell_loads(told: &mut Text, asked: &[Asked]) -> Result<(), Memory> {
+// Tells a call of the files.
+fn tell_asked(told: &mut Text, call: &Asked) -> Result<(), Memory> {
+    match call {
+        Asked::Load(name) => {
+            told.push_str(", loads ")?;
+            told.push_str(name.as_str())
+        }
+        Asked::Save(name) => {
+            told.push_str(", saves ")?;
+            told.push_str(name.as_str())
+        }
+    }
+}
+
+/// Tells what the files were asked for, but for the first calls, so many.
+pub fn tell_loads(told: &mut Text, asked: &[Asked], before: usize) -> Result<(), Memory> {
+    let mut passed = 0;
     for call in asked {
-        match call {
-            Asked::Load(name) => {
-                told.push_str(", loads ")?;
-                told.push_str(name.as_str())?;
-            }
-            Asked::Save(name) => {
-                told.push_str(", saves ")?;
-                told.push_str(name.as_str())?;
-            }
+        if passed < before {
+            passed += 1;
+        } else {
+            tell_asked(told, call)?;
         }
     }
     Ok(())
@@ -63,6 +77,23 @@ pub fn tell_bytes(told: &mut Text, what: &str, bytes: &[u8]) -> Result<(), Memor
         Err(_) => told.push_str("no text")?,
     }
     told.push_str("\n")
+}
+
+/// Tells the lines that are left of an input, each with a newline, up to one that can't be had.
+pub fn tell_left(
+    alloc: Global,
+    told: &mut Text,
+    input: &mut Lines<MemSource>,
+) -> Result<(), Memory> {
+    let mut left = Bytes::new(alloc);
+    for _ in 0..MOST_LINES {
+        let Ok(Some(line)) = input.line() else {
+            return tell_bytes(told, "  left ", left.as_slice());
+        };
+        left.extend(line.as_slice())?;
+        left.push(b'\n')?;
+    }
+    tell_bytes(told, "  left ", left.as_slice())
 }
 
 // Tells a token with its file and its number, a string between angle brackets.

@@ -405,13 +405,13 @@ module _ (P : Program) where
   arrays_made : (k : ℕ) (lss : List (List Lit)) (w : World Value) → length (with_arrays P k lss w).literals ≡ length w.literals + length lss
   arrays_made k [] w = omega arith
   arrays_made k (ls ∷ lss) w =
-      made (record { objects = w.objects ++ array (map (literal_value P w.literals (array_method P (length P.arrays) k)) ls) ∷ []; literals = w.literals ++ length w.objects ∷ []; input = w.input; output = w.output }) (one_longer w.literals (length w.objects)) (λ w'. arrays_made (suc k) lss w')
+      made (record { objects = w.objects ++ array (map (literal_value P w.literals (array_method P (length P.arrays) k)) ls) ∷ []; literals = w.literals ++ length w.objects ∷ []; input = w.input; asked = w.asked; output = w.output }) (one_longer w.literals (length w.objects)) (λ w'. arrays_made (suc k) lss w')
     where
       made : (w' : World Value) → length w'.literals ≡ suc (length w.literals) → ((v : World Value) → length (with_arrays P (suc k) lss v).literals ≡ length v.literals + length lss) → length (with_arrays P (suc k) lss w').literals ≡ length w.literals + length (ls ∷ lss)
       made w' y go = (let z = go w' in omega (arith, z, y))
 
   pub start_valid : (input : List ℕ) → Valid P (start P input).world
-  start_valid input a h = there_is (start P input).world.literals a (length P.arrays) (let z = arrays_made 0 P.arrays (record { objects = []; literals = []; input = input; output = [] }) in z ∙ omega arith) h
+  start_valid input a h = there_is (start P input).world.literals a (length P.arrays) (let z = arrays_made 0 P.arrays (record { objects = []; literals = []; input = input; asked = 0; output = [] }) in z ∙ omega arith) h
 
   phrase_there : (w : ℕ) (t : Phrase) → sort_of P w ≡ Some (body t) → word_phrase P w ≡ t
   phrase_there w t e = ap (λ o. elim o [ Some x ↦ elim x [ body u ↦ u | past u ↦ u | method k g u ↦ of_method w u | _ ↦ end ] | None ↦ end ]) e

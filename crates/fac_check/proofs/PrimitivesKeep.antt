@@ -13,7 +13,7 @@ use Rattle.fac_lang.specs.Equality.{equal_pairs}
 use Rattle.fac_lang.specs.Printed.{Names, printed}
 use Rattle.fac_lang.specs.PrimitiveWords.{PrimitiveWord, outputs_of, plain_inputs, plain_leaving, written_effect}
 use Rattle.fac_lang.specs.Procedures.{Procedure, leaves, answers, answers_array, answers_tuple, curries, composes, fails, looks, adds, opens, puts, compares, prints, asks, writes, reads, Gives, gives, bad, Fn, fn0, fn1, fn2, fn3, followed, by_inputs, picked, places_from, value_at, array_in, opened, opened_places, with_element, made_or, line_in, behind_line}
-use Rattle.fac_lang.specs.Primitives.{Primitive, built_primitives, later_primitives, prim_numbered, primitive_word, prim_fn}
+use Rattle.fac_lang.specs.Primitives.{Primitive, built_primitives, prim_numbered, primitive_word, prim_fn}
 use Rattle.fac_lang.specs.Objects.{Slot, or_bad, name_at, seen_tuple, slot_place, want_slot, with_slot, get_slot, set_slot, put_slot, tuple_of}
 use Rattle.fac_lang.specs.Meaning.{meaning_values, seen}
 use Rattle.std.proofs.lemmas.Bool.{leb-true}
@@ -57,7 +57,7 @@ module _ (N : Names) where
   followed_regular (prints k go) vs w = followed_regular (go (printed meaning_values N w (value_at meaning_values vs k))) vs w
   followed_regular (asks a go) vs w = followed_regular (go (N.tuple_class a)) vs w
   followed_regular (writes bs p) vs w = followed_regular p vs (record w { output = w.output ++ bs })
-  followed_regular (reads go) vs w = followed_regular (go (line_in w.input)) vs (record w { input = behind_line w.input })
+  followed_regular (reads go) vs w = followed_regular (go (line_in w.input)) vs (record w { input = behind_line w.input; asked = suc w.asked })
 
   -- as a function of no more than three inputs
   pub inputs_regular : {o : Option ℕ} (n : ℕ) (p : Procedure o) → n ≤ 3 → RegularFn n o (by_inputs meaning_values N n p)
@@ -78,7 +78,7 @@ one_passes (q ∷ ps) h (suc k) p e = one_passes ps (and_second (takes_few q) (l
 
 pub few_inputs : (k : ℕ) (p : Primitive) → prim_numbered k ≡ Some p → length p.word.ins ≤ 3
 unfolding prim_numbered
-few_inputs k p e = leb-true _ _ (one_passes (built_primitives ++ later_primitives) refl k p e)
+few_inputs k p e = leb-true _ _ (one_passes built_primitives refl k p e)
 
 -- so each primitive takes and gives as many values as its word is written to
 pub prim_regular : (N : Names) (k : ℕ) (p : Primitive) → prim_numbered k ≡ Some p → RegularFn (length p.word.ins) (outputs_of p.word) (prim_fn meaning_values N p)

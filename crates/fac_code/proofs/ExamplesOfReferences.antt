@@ -3,7 +3,7 @@ use Rattle.std.proofs.Common.{◌≡◌, ℕ, List, [], ◌∷◌, Bool, true, f
 use Rattle.std.specs.Prelude.{codes}
 use Rattle.fac_lang.specs.Primitives.{built_count}
 use Rattle.fac_code.specs.declared.image.Instr.{Instr}
-use Rattle.fac_code.specs.declared.image.Instr.TheVariants.{Halt, Text, Array, Word, Quot, Prim, Callw, CallEffect, Ret, Generic, Next, Isa}
+use Rattle.fac_code.specs.declared.image.Instr.TheVariants.{Halt, Text, Array, Word, Quot, Prim, Callw, CallEffect, Callp, Jump, Branch, Ret, Generic, Next, Isa}
 use Rattle.fac_code.specs.declared.image.Elem.{Elem}
 use Rattle.fac_code.specs.declared.image.Elem.TheVariants as elem
 use Rattle.fac_code.specs.declared.image.Action.{Action}
@@ -18,11 +18,11 @@ abbrev template : ℕ → ℕ → TemplateRow
 template entry holes = record { entry = entry; cells = 99 ∷ []; holes = holes; height = None }
 
 abbrev does : Action → WordRow
-does a = record { name = 0; action = a; kind = None; height = None }
+does a = record { vocab = 0; name = 0; action = a; height = None }
 
 -- tables without classes
 abbrev plain_tables : List (List Elem) → List TemplateRow → List WordRow → List (List ℕ) → Tables
-plain_tables arrays templates words texts = record { arrays = arrays; kinds = []; sets = []; templates = templates; words = words; generics = []; texts = texts }
+plain_tables arrays templates words texts = record { texts = texts; arrays = arrays; kinds = []; sets = []; templates = templates; words = words; generics = []; pairs = [] }
 
 -- with a first instruction, a template's place, a word's action and a start; word 0 is `+`, word 1 is `if`, word 2 is the code at 3
 abbrev with_parts : Instr → ℕ → Action → ℕ → Bool
@@ -95,15 +95,15 @@ unfolding built_count
 call_of_no_word = refl
 
 -- primitives and core words that the machine has
-a_primitive : with_parts (Prim 59) 3 (prim_action 22) 0 ≡ true
+a_primitive : with_parts (Prim 60) 3 (prim_action 22) 0 ≡ true
 unfolding built_count
 a_primitive = refl
 
-word_of_no_primitive : with_parts (Quot 0) 3 (prim_action 60) 0 ≡ false
+word_of_no_primitive : with_parts (Quot 0) 3 (prim_action 61) 0 ≡ false
 unfolding built_count
 word_of_no_primitive = refl
 
-no_primitive : with_parts (Prim 60) 3 (code_action 0) 0 ≡ false
+no_primitive : with_parts (Prim 61) 3 (code_action 0) 0 ≡ false
 unfolding built_count
 no_primitive = refl
 
@@ -147,52 +147,84 @@ element_that_keeps : with_arrays ((elem.Template 0 ∷ []) ∷ []) 0 ≡ false
 unfolding built_count
 element_that_keeps = refl
 
--- Classes: kind 8 has these slots, and kind 9 is a singleton; the sets are these; word 0 is of this kind, and word 1 the generic, whose method has this set
-abbrev with_classes : List ℕ → List (List ℕ) → Option ℕ → ℕ → Instr → Bool
-with_classes slots sets kind set i =
+-- Classes: kind 8 has these slots, and kind 9 is a singleton; the sets are these; words stand with kinds so, and word 1 is the generic, whose method has number 7 and this set
+abbrev with_classes : List ℕ → List (List ℕ) → List (ℕ × ℕ) → ℕ → Instr → Bool
+with_classes slots sets pairs set i =
     is_image (record {
+      texts = codes "a" ∷ [];
       arrays = [];
-      kinds = record { name = 0; slots = Some slots } ∷ record { name = 0; slots = None } ∷ [];
+      kinds = record { vocab = 0; name = 0; slots = Some slots } ∷ record { vocab = 0; name = 0; slots = None } ∷ [];
       sets = sets;
       templates = [];
-      words = record { name = 0; action = itself_action; kind = kind; height = None } ∷ does (generic_action 0) ∷ [];
-      generics = record { word = 1; methods = record { set = set; entry = 1 } ∷ [] } ∷ [];
-      texts = codes "a" ∷ [];
+      words = does itself_action ∷ does (generic_action 0) ∷ [];
+      generics = record { word = 1; methods = record { number = 7; set = set; entry = 1 } ∷ [] } ∷ [];
+      pairs = pairs;
     }) (i ∷ Halt ∷ []) 0
 
-pub classes : with_classes (0 ∷ 0 ∷ []) ((0 ∷ 8 ∷ 9 ∷ []) ∷ [] ∷ []) (Some 9) 1 (Next 0 0 true) ≡ true
+pub classes : with_classes (0 ∷ 0 ∷ []) ((0 ∷ 8 ∷ 9 ∷ []) ∷ [] ∷ []) ((0, 9) ∷ (1, 8) ∷ []) 1 (Next 7 true) ≡ true
 unfolding built_count
 classes = refl
 
-slot_without_name : with_classes (0 ∷ 1 ∷ []) ([] ∷ []) None 0 Halt ≡ false
+slot_without_name : with_classes (0 ∷ 1 ∷ []) ([] ∷ []) [] 0 Halt ≡ false
 unfolding built_count
 slot_without_name = refl
 
-kind_past_the_last : with_classes [] ((10 ∷ []) ∷ []) None 0 Halt ≡ false
+kind_past_the_last : with_classes [] ((10 ∷ []) ∷ []) [] 0 Halt ≡ false
 unfolding built_count
 kind_past_the_last = refl
 
-kind_twice : with_classes [] ((3 ∷ 3 ∷ []) ∷ []) None 0 Halt ≡ false
+kind_twice : with_classes [] ((3 ∷ 3 ∷ []) ∷ []) [] 0 Halt ≡ false
 unfolding built_count
 kind_twice = refl
 
--- no word is of a kind that every program has
-kind_without_row : with_classes [] ([] ∷ []) (Some 7) 0 Halt ≡ false
+-- no word stands with a kind that every program has
+kind_without_row : with_classes [] ([] ∷ []) ((0, 7) ∷ []) 0 Halt ≡ false
 unfolding built_count
 kind_without_row = refl
 
-no_set : with_classes [] ([] ∷ []) None 1 Halt ≡ false
+-- words that stand with kinds ascend
+words_descend : with_classes [] ([] ∷ []) ((1, 8) ∷ (0, 9) ∷ []) 0 Halt ≡ false
+unfolding built_count
+words_descend = refl
+
+no_word_with_a_kind : with_classes [] ([] ∷ []) ((2, 8) ∷ []) 0 Halt ≡ false
+unfolding built_count
+no_word_with_a_kind = refl
+
+no_set : with_classes [] ([] ∷ []) [] 1 Halt ≡ false
 unfolding built_count
 no_set = refl
 
-no_method : with_classes [] ([] ∷ []) None 0 (Next 0 1 true) ≡ false
+-- a method is named by its number, and not by its place
+no_method : with_classes [] ([] ∷ []) [] 0 (Next 0 true) ≡ false
 unfolding built_count
 no_method = refl
 
-no_generic : with_classes [] ([] ∷ []) None 0 (Generic 1 true) ≡ false
+no_generic : with_classes [] ([] ∷ []) [] 0 (Generic 1 true) ≡ false
 unfolding built_count
 no_generic = refl
 
-set_past_the_last : with_classes [] ([] ∷ []) None 0 (Isa 1) ≡ false
+set_past_the_last : with_classes [] ([] ∷ []) [] 0 (Isa 1) ≡ false
 unfolding built_count
 set_past_the_last = refl
+
+-- a call goes to any place of the code, and a jump to one behind its own
+call_backward : with_parts (Callp 0 true) 3 (code_action 0) 0 ≡ true
+unfolding built_count
+call_backward = refl
+
+call_behind : with_parts (Callp 4 false) 3 (code_action 0) 0 ≡ false
+unfolding built_count
+call_behind = refl
+
+jump_forward : with_parts (Jump 1) 3 (code_action 0) 0 ≡ true
+unfolding built_count
+jump_forward = refl
+
+jump_to_itself : with_parts (Jump 0) 3 (code_action 0) 0 ≡ false
+unfolding built_count
+jump_to_itself = refl
+
+branch_behind : with_parts (Branch 4) 3 (code_action 0) 0 ≡ false
+unfolding built_count
+branch_behind = refl

@@ -3,3 +3,4 @@ pub mod References
 pub mod Images
 pub mod ImageNames
 pub mod ClassSets
+pub mod inner

@@ -10,6 +10,8 @@ use fac_lang::{Height, List, Text};
 pub enum Instr {
     /// The run is done. It costs no tick.
     Halt,
+    /// Does nothing. It costs so many ticks.
+    Tick(u32),
     /// Pushes an integer, at a tick.
     Int(i128),
     /// Pushes `t`, at a tick.
@@ -27,12 +29,6 @@ pub enum Instr {
     /// Takes a value for each hole of the template with this number, the first hole's the deepest, and pushes a callable of it, at a tick. It
     /// keeps the values that the template names in the frame, and behind them those of the holes.
     Fry(u32),
-    /// Takes a value and puts it behind those of the frame, at a tick.
-    Bind,
-    /// Pushes the value of the cell of the frame with this number, at a tick.
-    Local(u32),
-    /// Drops so many cells of the frame, the last ones. It costs no tick.
-    Unbind(u32),
     /// Does the primitive of this number, at a tick.
     Prim(u32),
     /// Goes to the code of a word, at a tick.
@@ -75,8 +71,43 @@ pub enum Instr {
         /// As that of `Callw`.
         tail: bool,
     },
+    /// Goes to a place and keeps the frame, at a tick.
+    Callp {
+        /// The place.
+        place: u32,
+        /// As that of `Callw`.
+        tail: bool,
+    },
+    /// Enters the method of a generic for the kind of the top value, which stays, at a tick.
+    Generic {
+        /// The number of the generic.
+        generic: u32,
+        /// As that of `Callw`.
+        tail: bool,
+    },
+    /// Enters the method after one of its generic, for the kind of the top value, which stays, at a tick.
+    Next {
+        /// The method's number.
+        method: u32,
+        /// As that of `Callw`.
+        tail: bool,
+    },
     /// Takes the next return entry and goes on there. It costs no tick.
     Ret,
+    /// Takes the top value and holds it, above those that are held. It costs no tick.
+    Hold,
+    /// Takes the value that was held last and pushes it. It costs no tick.
+    Back,
+    /// Goes to a place farther on. It costs no tick.
+    Jump(u32),
+    /// Takes a value and goes to a place farther on where it is `f`. It costs no tick.
+    Branch(u32),
+    /// Takes a value and puts it behind those of the frame, at a tick.
+    Bind,
+    /// Pushes the value of the cell of the frame with this number, at a tick.
+    Local(u32),
+    /// Drops so many cells of the frame, the last ones. It costs no tick.
+    Unbind(u32),
     /// Takes a word and below it a value for each slot of its tuple class, the first slot's the deepest, and pushes a new tuple, at a
     /// tick.
     Boa,
@@ -90,22 +121,6 @@ pub enum Instr {
     Put(u32),
     /// Takes a value and pushes whether its kind is in the class set with this number, at a tick.
     Isa(u32),
-    /// Enters the method of a generic for the kind of the top value, which stays, at a tick.
-    Generic {
-        /// The number of the generic.
-        generic: u32,
-        /// As that of `Callw`.
-        tail: bool,
-    },
-    /// Enters the method after one of a generic, for the kind of the top value, which stays, at a tick.
-    Next {
-        /// The number of the generic.
-        generic: u32,
-        /// The place of the method among those of the generic.
-        method: u32,
-        /// As that of `Callw`.
-        tail: bool,
-    },
 }
 
 /// What a word does.
@@ -113,7 +128,7 @@ pub enum Instr {
 pub enum Action {
     /// The primitive of this number.
     Prim(u32),
-    /// The core word of this number: 0 is `call`, 1 is `dip`, 2 is `if`, 3 is `execute` and 4 is `boa`. Nothing does `cond`, which is number 9.
+    /// The core word of this number: 0 is `call`, 1 is `dip`, 2 is `if`, 3 is `execute` and 4 is `boa`.
     Core(u32),
     /// The code at this place.
     Code(u32),
@@ -134,12 +149,12 @@ pub enum Action {
 /// A word of an image.
 #[derive(Clone, Copy, Debug, PartialEq, Eq)]
 pub struct WordRow {
+    /// The number of the text that is its vocabulary's name.
+    pub vocab: u32,
     /// The number of the text that is its name, without its vocabulary.
     pub name: u32,
     /// What it does. Only code can be gone to by a call.
     pub action: Action,
-    /// Of the word of a tuple class or a singleton its kind.
-    pub kind: Option<u32>,
     /// How many values it takes and leaves. None where that isn't known, and then it fits no effect.
     pub height: Option<Height>,
 }
@@ -148,6 +163,8 @@ pub struct WordRow {
 /// rows, so the first row is kind 8.
 #[derive(Drop)]
 pub struct KindRow {
+    /// The number of the text that is the name of its class's vocabulary.
+    pub vocab: u32,
     /// The number of the text that is its class's name, without its vocabulary.
     pub name: u32,
     /// The numbers of the texts that are the names of all slots of a tuple class, its parents' first. None for a singleton.
@@ -157,6 +174,8 @@ pub struct KindRow {
 /// A method of a generic.
 #[derive(Clone, Copy, Debug, PartialEq, Eq)]
 pub struct MethodRow {
+    /// Its number. No other method of the image has it.
+    pub number: u32,
     /// The number of the class set of its class.
     pub set: u32,
     /// The place of its first instruction.
@@ -207,6 +226,8 @@ pub enum Elem {
 /// The tables of an image.
 #[derive(Drop)]
 pub struct Tables {
+    /// The texts that instructions and rows name by their numbers. One text may stand several times.
+    pub texts: List<Text>,
     /// The literal arrays, by their numbers. A machine makes them in this order, before its first run.
     pub arrays: List<List<Elem>>,
     /// One row for each kind, from kind 8 on.
@@ -219,13 +240,15 @@ pub struct Tables {
     pub words: List<WordRow>,
     /// One row for each generic, by its number.
     pub generics: List<GenericRow>,
-    /// The texts that instructions and rows name by their numbers. One text may stand several times.
-    pub texts: List<Text>,
+    /// The words of tuple classes and singletons, ascending, each with its kind.
+    pub pairs: List<(u32, u32)>,
 }
 
 /// The code of a program. Its words have the numbers of the program's words.
 #[derive(Drop)]
 pub struct Image {
+    /// The texts that instructions and rows name by their numbers. One text may stand several times.
+    pub texts: List<Text>,
     /// The literal arrays, by their numbers. A machine makes them in this order, before its first run.
     pub arrays: List<List<Elem>>,
     /// One row for each kind, from kind 8 on.
@@ -238,8 +261,8 @@ pub struct Image {
     pub words: List<WordRow>,
     /// One row for each generic, by its number.
     pub generics: List<GenericRow>,
-    /// The texts that instructions and rows name by their numbers. One text may stand several times.
-    pub texts: List<Text>,
+    /// The words of tuple classes and singletons, ascending, each with its kind.
+    pub pairs: List<(u32, u32)>,
     /// The instructions, at places from 0.
     pub code: List<Instr>,
     /// The place of the first instruction.
@@ -247,5 +270,5 @@ pub struct Image {
     // Each primitive in the code is one that the machine has.
     ghost built: { has_built_code code ≡ true },
     // Each number in the tables and the code names something of its kind.
-    ghost refers: { all_refer (record { arrays = arrays; kinds = kinds; sets = sets; templates = templates; words = words; generics = generics; texts = texts }) code start ≡ true },
+    ghost refers: { all_refer (record { texts = texts; arrays = arrays; kinds = kinds; sets = sets; templates = templates; words = words; generics = generics; pairs = pairs }) code start ≡ true },
 }

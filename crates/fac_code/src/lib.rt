@@ -4,6 +4,7 @@
 mod image;
 mod lookups;
 mod making;
+mod method_numbers;
 mod names;
 mod references;
 

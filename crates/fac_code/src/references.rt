@@ -1,11 +1,14 @@
 //! Whether the numbers in tables and code name something.
-ghost use Rattle.std.specs.Prelude.{◌≡◌, length, slice_get};
+ghost use Rattle.std.specs.Prelude.{◌≡◌, ◌&&◌, length, nat_le, nat_lt, slice_get};
 ghost use Rattle.std.specs.List.{list_all};
 ghost use Rattle.fac_code.specs.Code.{is_built_instr, has_built_code};
-ghost use Rattle.fac_code.specs.References.{is_code as does_code, names_code, names_quotation, names_method, names_constant, instr_refers, elem_refers, arrays_refer, action_refers, own_refers, word_refers, template_refers, texts_refer, slots_refer, kind_refers, set_refers, method_refers, generic_refers, tables_refer, refers as all_refer};
+ghost use Rattle.fac_code.specs.References.{is_code as does_code, names_code, names_quotation, names_constant, instr_refers, place_refers, places_refer, elem_refers, arrays_refer, action_refers, word_refers, template_refers, texts_refer, slots_refer, kind_refers, is_kind, set_refers, method_refers, generic_refers, pairs_refer, tables_refer, refers as all_refer};
+ghost use Rattle.fac_code.specs.inner.MethodNumbers.{AreNumbersOf};
 
+use crate::method_numbers::MethodNumbers;
 use crate::{Action, Elem, GenericRow, Instr, KindRow, MethodRow, Tables, WordRow};
-use fac_lang::{List, is_core_word, is_primitive};
+use fac_lang::{List, is_primitive};
+use std::alloc::Global;
 
 // Whether a word does code.
 fn is_code(action: Action) -> bool
@@ -54,16 +57,6 @@ fn is_constant(tables: &Tables, template: u32) -> bool
     }
 }
 
-// Whether a number names a generic that has a method at this place.
-fn is_method(tables: &Tables, generic: u32, method: u32) -> bool
-    ensures { result ≡ names_method (slice_get tables.now.generics generic) method }
-{
-    match tables.generics.get(generic as usize) {
-        Some(row) => method < row.methods.len(),
-        None => false,
-    }
-}
-
 // Whether what an element of the literal array with this number names is there.
 fn refers_elem(tables: &Tables, array: usize, element: Elem) -> bool
     ensures { result ≡ elem_refers tables.now array element }
@@ -103,8 +96,9 @@ fn all_arrays_refer(tables: &Tables, arrays: &[List<Elem>]) -> bool
     true
 }
 
-// Whether what an instruction names is there.
-fn refers_instr(tables: &Tables, instr: Instr) -> bool
+// Whether what an instruction names is there, where these are the numbers of the methods.
+fn refers_instr(tables: &Tables, numbers: &MethodNumbers, instr: Instr) -> bool
+    requires { AreNumbersOf tables.now.generics numbers.now }
     ensures { result ≡ instr_refers tables.now instr }
 {
     match instr {
@@ -118,12 +112,9 @@ fn refers_instr(tables: &Tables, instr: Instr) -> bool
         Instr::Word(number) => number < tables.words.len(),
         Instr::Isa(set) => set < tables.sets.len(),
         Instr::Generic { generic, .. } => generic < tables.generics.len(),
-        Instr::Next {
-            generic,
-            method,
-            ..
-        } => is_method(tables, generic, method),
+        Instr::Next { method, .. } => numbers.has(tables.generics.as_slice(), method),
         Instr::Halt
+        | Instr::Tick(_)
         | Instr::Int(_)
         | Instr::True
         | Instr::False
@@ -134,11 +125,27 @@ fn refers_instr(tables: &Tables, instr: Instr) -> bool
         | Instr::Execute { .. }
         | Instr::CallEffect { .. }
         | Instr::ExecuteEffect { .. }
+        | Instr::Callp { .. }
         | Instr::Ret
+        | Instr::Hold
+        | Instr::Back
+        | Instr::Jump(_)
+        | Instr::Branch(_)
         | Instr::Boa
         | Instr::Bind
         | Instr::Local(_)
         | Instr::Unbind(_) => true,
+    }
+}
+
+// Whether the place that an instruction at a place names is there, and behind it where it is that of a jump.
+fn refers_place(size: usize, at: usize, instr: Instr) -> bool
+    ensures { result ≡ place_refers size at instr }
+{
+    match instr {
+        Instr::Callp { place, .. } => (place as usize) < size,
+        Instr::Jump(place) | Instr::Branch(place) => at < place as usize && (place as usize) < size,
+        _ => true,
     }
 }
 
@@ -148,7 +155,7 @@ fn refers_action(tables: &Tables, size: usize, action: Action) -> bool
 {
     match action {
         Action::Prim(number) => is_primitive(number),
-        Action::Core(number) => is_core_word(number),
+        Action::Core(number) => number < 5,
         Action::Code(place) => (place as usize) < size,
         Action::Itself => true,
         Action::Generic(generic) => generic < tables.generics.len(),
@@ -159,23 +166,13 @@ fn refers_action(tables: &Tables, size: usize, action: Action) -> bool
     }
 }
 
-// Whether the own kind of a word's class is one of the rows.
-fn refers_own(tables: &Tables, kind: Option<u32>) -> bool
-    ensures { result ≡ own_refers tables.now kind }
-{
-    match kind {
-        Some(kind) => 8 <= kind && (kind as u64) < 8 + tables.kinds.len() as u64,
-        None => true,
-    }
-}
-
-// Whether the name of a word is there, what it does and its kind.
+// Whether the names of a word are there, and what it does.
 fn refers_word(tables: &Tables, size: usize, row: WordRow) -> bool
     ensures { result ≡ word_refers tables.now size row }
 {
-    row.name < tables.texts.len()
+    row.vocab < tables.texts.len()
+        && row.name < tables.texts.len()
         && refers_action(tables, size, row.action)
-        && refers_own(tables, row.kind)
 }
 
 // Whether that is so of each word of the tables.
@@ -214,11 +211,11 @@ fn refers_texts(tables: &Tables, numbers: &[u32]) -> bool
     true
 }
 
-// Whether the name and the slots of a kind are there.
+// Whether the names and the slots of a kind are there.
 fn refers_kind(tables: &Tables, row: &KindRow) -> bool
     ensures { result ≡ kind_refers tables.now row.now }
 {
-    if row.name >= tables.texts.len() {
+    if row.vocab >= tables.texts.len() || row.name >= tables.texts.len() {
         return false;
     }
     match &row.slots {
@@ -296,6 +293,30 @@ fn generics_refer(tables: &Tables, size: usize) -> bool
     true
 }
 
+// Whether a word is none below this one, is there, and stands with a kind that has a row.
+fn refers_pair(tables: &Tables, least: u64, pair: (u32, u32)) -> bool
+    ensures { result ≡ (nat_le least pair.0 && (nat_lt pair.0 (length tables.now.words) && (nat_le 8 pair.1 && is_kind tables.now pair.1))) }
+{
+    least <= pair.0 as u64
+        && pair.0 < tables.words.len()
+        && 8 <= pair.1
+        && (pair.1 as u64) < 8 + tables.kinds.len() as u64
+}
+
+// Whether words ascend, each with a kind that has a row.
+fn refers_pairs(tables: &Tables) -> bool
+    ensures { result ≡ pairs_refer tables.now 0 tables.now.pairs }
+{
+    let mut least: u64 = 0;
+    for pair in tables.pairs.as_slice() {
+        if !refers_pair(tables, least, *pair) {
+            return false;
+        }
+        least = pair.0 as u64 + 1;
+    }
+    true
+}
+
 // Whether that is so of all tables, where there are so many instructions.
 fn refers_tables(tables: &Tables, size: usize) -> bool
     ensures { result ≡ tables_refer tables.now size }
@@ -306,25 +327,52 @@ fn refers_tables(tables: &Tables, size: usize) -> bool
         && templates_refer(tables, size)
         && words_refer(tables, size)
         && generics_refer(tables, size)
+        && refers_pairs(tables)
 }
 
-// Whether what each instruction names is there.
-fn instrs_refer(tables: &Tables, code: &[Instr]) -> bool
+// Whether what each instruction names is there, where these are the numbers of the methods.
+fn instrs_refer(tables: &Tables, numbers: &MethodNumbers, code: &[Instr]) -> bool
+    requires { AreNumbersOf tables.now.generics numbers.now }
     ensures { result ≡ list_all (instr_refers tables.now) code.now }
 {
     for instr in code {
-        if !refers_instr(tables, *instr) {
+        if !refers_instr(tables, numbers, *instr) {
             return false;
         }
     }
     true
 }
 
+// Whether what each instruction names is there. The methods are gone through once.
+fn refers_code(alloc: Global, tables: &Tables, code: &[Instr]) -> bool
+    ensures { result ≡ list_all (instr_refers tables.now) code.now }
+{
+    let numbers = MethodNumbers::of(alloc, tables.generics.as_slice());
+    instrs_refer(tables, &numbers, code)
+}
+
+// Whether the place that each instruction names is there, and behind it where it is that of a jump.
+fn refers_places(code: &[Instr]) -> bool
+    ensures { result ≡ places_refer (length code.now) 0 code.now }
+{
+    let mut at = 0;
+    for instr in code {
+        if !refers_place(code.len(), at, *instr) {
+            return false;
+        }
+        at += 1;
+    }
+    true
+}
+
 /// Whether each number in the tables and the code names something of its kind, and the start is a place in the code.
-pub fn refers(tables: &Tables, code: &[Instr], start: u32) -> bool
+pub fn refers(alloc: Global, tables: &Tables, code: &[Instr], start: u32) -> bool
     ensures { result ≡ all_refer tables.now code.now start }
 {
-    refers_tables(tables, code.len()) && instrs_refer(tables, code) && (start as usize) < code.len()
+    refers_tables(tables, code.len())
+        && refers_code(alloc, tables, code)
+        && refers_places(code)
+        && (start as usize) < code.len()
 }
 
 // Whether the machine has the primitive of an instruction, where it is one.
@@ -334,6 +382,7 @@ fn is_built(instr: Instr) -> bool
     match instr {
         Instr::Prim(number) => is_primitive(number),
         Instr::Halt
+        | Instr::Tick(_)
         | Instr::Int(_)
         | Instr::True
         | Instr::False
@@ -352,7 +401,12 @@ fn is_built(instr: Instr) -> bool
         | Instr::Execute { .. }
         | Instr::CallEffect { .. }
         | Instr::ExecuteEffect { .. }
+        | Instr::Callp { .. }
         | Instr::Ret
+        | Instr::Hold
+        | Instr::Back
+        | Instr::Jump(_)
+        | Instr::Branch(_)
         | Instr::Boa
         | Instr::Get(_)
         | Instr::Set(_)

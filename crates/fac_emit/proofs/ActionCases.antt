@@ -38,7 +38,7 @@ use Rattle.fac_vm.specs.Machine.{Machine, Entry, resume, put_back, enter, Job, i
 use Rattle.fac_vm.proofs.Leading.{leads_none, leads_step, ends_step}
 use Rattle.fac_emit.specs.Accessors.{Accessor, getting, setting, putting, accessor_action, accessor_ins, accessor_outs, accessor_fn}
 use Rattle.fac_emit.specs.MachineView.{Templates, value_view, callable_view, values_view, kept_view, world_view, state_view}
-use Rattle.fac_emit.specs.Stands.{PushesItself, HasCode, SameMethod, Acting, a_itself, a_prim, a_accessor, a_isa, a_core, a_code, a_generic, HasAction}
+use Rattle.fac_emit.specs.Stands.{PushesItself, HasCode, SameMethod, Acting, a_itself, a_prim, a_accessor, a_isa, a_core, a_stuck, a_code, a_generic, HasAction}
 use Rattle.fac_emit.specs.Symbols.{Sym, here, Task, do_phrase, heres, AllHere, all_none, all_more, ins, outs}
 use Rattle.fac_emit.specs.WholeValues as whole
 use Rattle.fac_emit.proofs.RunLaws.{free, spares, live_first}
@@ -268,6 +268,7 @@ module _ (Y : Setting) where
       isa_done Y (to_ret pc) F (Some Ret) wd c kinds nowhere end [] pc R base base [] w n (behind_action F pc R base (here ∷ []) n (all_more all_none)) es same s j ms (values_view T ms)
       (e ∙ back_does pc wd (m_isa Y kinds) F ms base R w n (λ s'. goes_on (after s') n)) ok lv (needed T 1 [] [] (needs_any 1) ms (values_view T ms) lies_none)
   acted_by f tpl words n lt wd none x (a_core k es) F pc R base w again ms s j e ok lv = core_acted f tpl n lt wd k es (core_numbered k) refl F pc R base w again ms s j e ok lv
+  acted_by f tpl words n lt wd none x (a_stuck y stuck) F pc R base w again ms s j e ok lv = no_act wd (state_view T ms w) (stuck fits Y.callable_height (state_view T ms w)) lv
   acted_by f tpl words n lt wd none x (a_code a code) F pc R base w again ms s j e ok lv =
       let st = state_view T ms w in
       acted_runs wd R [] tt base st st (of_phrase (word_phrase P wd)) [] tt (phrase_runs Y wd (sort_of P wd) st code.runs) n (λ G pc2 ms2 w2 m. refl) lv s j

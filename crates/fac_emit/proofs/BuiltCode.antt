@@ -1,6 +1,8 @@
--- The plain code of a closed program has built primitives alone.
-use Rattle.std.proofs.Common.{◌≡◌, ℕ, zero, suc, List, [], ◌∷◌, ◌++◌, Option, Some, None, Bool, true, false, ◌&&◌, refl, subst, sym, arith}
-use Rattle.std.specs.Prelude.{length, nat_eq, slice_get}
+-- The plain code of a closed program has built primitives alone, and no instruction that names a place in the code.
+use Rattle.std.proofs.Common.{◌≡◌, ℕ, zero, suc, List, [], ◌∷◌, ◌++◌, Option, Some, None, Bool, true, false, ◌&&◌, refl, subst, sym, ◌∙◌}
+use Rattle.std.specs.Prelude.{nat_eq, slice_get, not}
+use Rattle.std.specs.List.{list_all}
+use Rattle.std.proofs.lemmas.List.Folds.{list_all-append}
 use Rattle.fac_lang.specs.declared.phrase.Template.{Template}
 use Rattle.fac_lang.specs.declared.program.Program.{Program}
 use Rattle.fac_lang.specs.declared.program.WordDef.{WordDef}
@@ -11,10 +13,10 @@ use Rattle.fac_lang.specs.Forms.{IsBuilt, IsBuiltSort, AreBuiltWords}
 use Rattle.fac_lang.specs.Primitives.{is_built_primitive}
 use Rattle.fac_locals.specs.Closed.{Closes}
 use Rattle.fac_code.specs.declared.image.Instr.{Instr}
-use Rattle.fac_code.specs.declared.image.Instr.TheVariants.{Ret}
+use Rattle.fac_code.specs.declared.image.Instr.TheVariants.{Ret, Callp, Jump, Branch}
 use Rattle.fac_code.specs.Code.{is_built_instr, has_built_code}
-use Rattle.fac_emit.specs.ProgramTables.{table_texts}
-use Rattle.fac_emit.specs.ProgramCode.{core_instr, sort_instr, word_instr, made_instr, item_instr, with_text, phrase_code, phrase_texts, templates_code, templates_texts, last_instr, sort_code, sort_texts, code_from, program_code}
+use Rattle.fac_code.specs.References.{place_refers, places_refer}
+use Rattle.fac_emit.specs.ProgramCode.{core_instr, sort_instr, word_instr, made_instr, item_instr, phrase_code, templates_code, last_instr, sort_code, code_from, program_code}
 use Rattle.fac_emit.specs.Stands.{making}
 use Rattle.fac_emit.proofs.Closings.{Alike, a_same, a_body, a_past, a_method, AlikeWords, alike_words}
 
@@ -55,76 +57,109 @@ pub and_true : (b c : Bool) → b ≡ true → c ≡ true → (b && c) ≡ true
 and_true true c e h = h
 and_true false c e h = absurd (cc)
 
-both_built : (xs ys : List Instr) → has_built_code xs ≡ true → has_built_code ys ≡ true → has_built_code (xs ++ ys) ≡ true
-both_built [] ys h k = k
-both_built (x ∷ xs) ys h k = let later = both_built xs ys in grind (arith, later)
+-- an instruction of plain code
+abbrev names_place : Instr → Bool
+names_place (Callp a t) = true
+names_place (Jump a) = true
+names_place (Branch a) = true
+names_place _ = false
 
-last_built : (is_top : Bool) → is_built_instr (last_instr is_top) ≡ true
-last_built true = refl
-last_built false = refl
+abbrev is_plain : Instr → Bool
+is_plain i = is_built_instr i && not (names_place i)
 
-core_built : (k : ℕ) → is_built_instr (core_instr k) ≡ true
-core_built zero = refl
-core_built (suc zero) = refl
-core_built (suc (suc zero)) = refl
-core_built (suc (suc (suc zero))) = refl
-core_built (suc (suc (suc (suc k)))) = refl
+abbrev ArePlain : List Instr → Type 0
+ArePlain is = list_all is_plain is ≡ true
 
-sort_built : (C : Program) (w : ℕ) (s : Sort) → Fits s → is_built_instr (sort_instr C w s) ≡ true
-sort_built C w (prim k) h = h
-sort_built C w (core k) h = core_built k
-sort_built C w _ h = refl
+both_plain : (xs ys : List Instr) → ArePlain xs → ArePlain ys → ArePlain (xs ++ ys)
+both_plain xs ys h k = list_all-append is_plain xs ys ∙ and_true (list_all is_plain xs) (list_all is_plain ys) h k
 
-word_built : (C : Program) (ds : List WordDef) (w k : ℕ) → AllFit ds → is_built_instr (word_instr C w (slice_get ds k)) ≡ true
-word_built C [] w k h = refl
-word_built C (d ∷ ds) w zero h = sort_built C w d.sort h.0
-word_built C (d ∷ ds) w (suc k) h = word_built C ds w k h.1
+last_plain : (is_top : Bool) → is_plain (last_instr is_top) ≡ true
+last_plain true = refl
+last_plain false = refl
+
+core_plain : (k : ℕ) → is_plain (core_instr k) ≡ true
+core_plain zero = refl
+core_plain (suc zero) = refl
+core_plain (suc (suc zero)) = refl
+core_plain (suc (suc (suc zero))) = refl
+core_plain (suc (suc (suc (suc k)))) = refl
 
 -- the instruction of a quotation or fry
-made_built : (q : ℕ) (o : Option Template) → is_built_instr (made_instr q o) ≡ true
-made_built q None = refl
-made_built q (Some t) = by t.holes
+made_plain : (q : ℕ) (o : Option Template) → is_plain (made_instr q o) ≡ true
+made_plain q None = refl
+made_plain q (Some t) = by t.holes
   where
-    by : (n : ℕ) → is_built_instr (making q n) ≡ true
+    by : (n : ℕ) → is_plain (making q n) ≡ true
     by zero = refl
     by (suc n) = refl
 
-module _ (C : Program) (templates : List Template) (fit : AllFit C.words) where
-  item_built : (k : ℕ) (i : Item) → is_built_instr (item_instr C templates k i) ≡ true
-  item_built k (lit (int z)) = refl
-  item_built k (lit yes) = refl
-  item_built k (lit no) = refl
-  item_built k (lit (str cs)) = refl
-  item_built k (lit (wrd w)) = refl
-  item_built k (lit_arr a) = refl
-  item_built k (word w) = word_built C C.words w w fit
-  item_built k (made q) = made_built q (slice_get templates q)
-  item_built k _ = refl
+module _ (C : Program) (templates : List Template) where
+  sort_plain : (w : ℕ) (s : Sort) → Fits s → is_plain (sort_instr C templates w s) ≡ true
+  sort_plain w (prim k) h = and_true (is_built_primitive k) true h refl
+  sort_plain w (core k) h = core_plain k
+  sort_plain w _ h = refl
 
-  phrase_built : (last : Instr) (texts : List (List ℕ)) (t : Phrase) → is_built_instr last ≡ true → has_built_code (phrase_code C templates last texts t) ≡ true
-  phrase_built last texts end l = and_true (is_built_instr last) true l refl
-  phrase_built last texts (then i p t) l =
-      and_true (is_built_instr (item_instr C templates (length texts) i)) (has_built_code (phrase_code C templates last (with_text texts i) t)) (item_built (length texts) i) (phrase_built last (with_text texts i) t l)
+  word_plain : (ds : List WordDef) (w k : ℕ) → AllFit ds → is_plain (word_instr C templates w (slice_get ds k)) ≡ true
+  word_plain [] w k h = refl
+  word_plain (d ∷ ds) w zero h = sort_plain w d.sort h.0
+  word_plain (d ∷ ds) w (suc k) h = word_plain ds w k h.1
 
-  templates_built : (texts : List (List ℕ)) (ts : List Template) → has_built_code (templates_code C templates texts ts) ≡ true
-  templates_built texts [] = refl
-  templates_built texts (t ∷ ts) =
-      let next = phrase_texts texts t.body in both_built (phrase_code C templates Ret texts t.body) (templates_code C templates next ts) (phrase_built Ret texts t.body refl) (templates_built next ts)
+  module _ (fit : AllFit C.words) where
+    item_plain : (i : Item) → is_plain (item_instr C templates i) ≡ true
+    item_plain (lit (int z)) = refl
+    item_plain (lit yes) = refl
+    item_plain (lit no) = refl
+    item_plain (lit (str cs)) = refl
+    item_plain (lit (wrd w)) = refl
+    item_plain (lit_arr a) = refl
+    item_plain (word w) = word_plain C.words w w fit
+    item_plain (made q) = made_plain q (slice_get templates q)
+    item_plain _ = refl
 
-  sort_code_built : (is_top : Bool) (texts : List (List ℕ)) (s : Sort) → has_built_code (sort_code C templates is_top texts s) ≡ true
-  sort_code_built is_top texts (body t) = phrase_built (last_instr is_top) texts t (last_built is_top)
-  sort_code_built is_top texts (method c g t) = phrase_built (last_instr is_top) texts t (last_built is_top)
-  sort_code_built is_top texts _ = refl
+    phrase_plain : (last : Instr) (t : Phrase) → is_plain last ≡ true → ArePlain (phrase_code C templates last t)
+    phrase_plain last end l = and_true (is_plain last) true l refl
+    phrase_plain last (then i p t) l = and_true (is_plain (item_instr C templates i)) (list_all is_plain (phrase_code C templates last t)) (item_plain i) (phrase_plain last t l)
 
-  words_built : (texts : List (List ℕ)) (w : ℕ) (ds : List WordDef) → has_built_code (code_from C templates texts w ds) ≡ true
-  words_built texts w [] = refl
-  words_built texts w (d ∷ ds) =
-      let next = sort_texts texts d.sort in
-      both_built (sort_code C templates (nat_eq w C.top) texts d.sort) (code_from C templates next (suc w) ds) (sort_code_built (nat_eq w C.top) texts d.sort) (words_built next (suc w) ds)
+    templates_plain : (ts : List Template) → ArePlain (templates_code C templates ts)
+    templates_plain [] = refl
+    templates_plain (t ∷ ts) = both_plain (phrase_code C templates Ret t.body) (templates_code C templates ts) (phrase_plain Ret t.body refl) (templates_plain ts)
+
+    sort_code_plain : (is_top : Bool) (s : Sort) → ArePlain (sort_code C templates is_top s)
+    sort_code_plain is_top (body t) = phrase_plain (last_instr is_top) t (last_plain is_top)
+    sort_code_plain is_top (method c g t) = phrase_plain (last_instr is_top) t (last_plain is_top)
+    sort_code_plain is_top _ = refl
+
+    words_plain : (w : ℕ) (ds : List WordDef) → ArePlain (code_from C templates w ds)
+    words_plain w [] = refl
+    words_plain w (d ∷ ds) = both_plain (sort_code C templates (nat_eq w C.top) d.sort) (code_from C templates (suc w) ds) (sort_code_plain (nat_eq w C.top) d.sort) (words_plain (suc w) ds)
+
+pub code_plain : (P C : Program) (templates : List Template) → IsBuilt P → Closes P C templates → ArePlain (program_code C templates)
+code_plain P C templates b closes =
+    let fit = all_fit P C templates b closes in
+    both_plain (templates_code C templates templates) (code_from C templates 0 C.words) (templates_plain C templates fit templates) (words_plain C templates fit 0 C.words)
+
+both_true : (b c : Bool) → (b && c) ≡ true → (b ≡ true) × (c ≡ true)
+both_true true c e = (refl, e)
+both_true false c e = absurd (cc)
+
+-- so it is built, and each place that it names is fit
+built_of : (is : List Instr) → ArePlain is → has_built_code is ≡ true
+built_of [] h = refl
+built_of (i ∷ is) h =
+    let parts = both_true (is_plain i) (list_all is_plain is) h in
+    and_true (is_built_instr i) (has_built_code is) (both_true (is_built_instr i) (not (names_place i)) parts.0).0 (built_of is parts.1)
+
+placed_by : (size at : ℕ) (i : Instr) → not (names_place i) ≡ true → place_refers size at i ≡ true
+placed_by size at (Callp a t) h = absurd (cc)
+placed_by size at (Jump a) h = absurd (cc)
+placed_by size at (Branch a) h = absurd (cc)
+placed_by size at _ h = refl
+
+pub places_of : (size at : ℕ) (is : List Instr) → ArePlain is → places_refer size at is ≡ true
+places_of size at [] h = refl
+places_of size at (i ∷ is) h =
+    let parts = both_true (is_plain i) (list_all is_plain is) h in
+    and_true (place_refers size at i) (places_refer size (suc at) is) (placed_by size at i (both_true (is_built_instr i) (not (names_place i)) parts.0).1) (places_of size (suc at) is parts.1)
 
 pub code_built : (P C : Program) (templates : List Template) → IsBuilt P → Closes P C templates → has_built_code (program_code C templates) ≡ true
-code_built P C templates b closes =
-    let fit = all_fit P C templates b closes in
-    let first = table_texts C in
-    let texts = templates_texts first templates in
-    both_built (templates_code C templates first templates) (code_from C templates texts 0 C.words) (templates_built C templates fit first templates) (words_built C templates fit texts 0 C.words)
+code_built P C templates b closes = built_of (program_code C templates) (code_plain P C templates b closes)

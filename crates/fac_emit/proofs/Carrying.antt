@@ -20,7 +20,7 @@ use Rattle.fac_emit.proofs.Simulation.{carried}
 use Rattle.fac_emit.proofs.PlainIsCode.{plain_code_is_code}
 use Rattle.fac_generic.specs.Methods.{MethodLaws}
 use Rattle.fac_emit.proofs.PlainStands.{plain_code}
-use Rattle.fac_emit.proofs.NamedImages.{image_named}
+use Rattle.fac_emit.proofs.NamedImages.{word_fully_named, image_named}
 use Rattle.fac_emit.proofs.TestedHeights.{words_tested, literals_tested}
 use Rattle.fac_emit.proofs.MadeArrays.{arrays_made}
 
@@ -57,4 +57,5 @@ carries P C templates heights M callable_height count b whole laws closes is_pla
       same_first = λ input. (made input).same;
       first_whole = λ input. (made input).whole;
       same_names = named;
+      same_full_names = word_fully_named P C templates heights M b closes is_plain;
     }

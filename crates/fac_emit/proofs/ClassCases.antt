@@ -26,7 +26,7 @@ use Rattle.fac_code.specs.declared.image.MethodRow.{MethodRow}
 use Rattle.fac_code.specs.ImageNames.{image_names}
 use Rattle.fac_code.specs.declared.names.TrapWhy.TheVariants.{Kind as t_kind}
 use Rattle.fac_store.specs.MachineValues.{MValue, m_plain, m_fun, machine_values}
-use Rattle.fac_vm.specs.Machine.{Machine, Entry, resume, spent, Step, goes_on, ends, after, given as machine_given, does as machine_does, word_with, or_trap, popping, set_has, method_for, method_after, truth, accesses, makes_tuple as machine_makes_tuple, kind_in, enters_method, enters_for, fetched, step}
+use Rattle.fac_vm.specs.Machine.{Machine, Entry, resume, spent, Step, goes_on, ends, after, given as machine_given, does as machine_does, word_with, or_trap, popping, set_has, method_for, method_after, method_place, goes_on_from, truth, accesses, makes_tuple as machine_makes_tuple, kind_in, enters_method, enters_for, fetched, step}
 use Rattle.fac_emit.specs.Accessors.{Accessor, getting, setting, putting, accessor_sort, accessor_instr, accessor_action, accessor_ins, accessor_outs, accessor_fn}
 use Rattle.fac_emit.specs.MachineView.{Templates, value_view, values_view, world_view}
 use Rattle.fac_emit.specs.Stands.{HasCode, SameMethod}
@@ -290,9 +290,10 @@ module _ (Y : Setting) where
       (λ ms rs R w m. row_goes n r (λ r k. method_for M.sets k r.methods) NoMethod wd (at F pc ms rs R w) (at F pc ms rs (resume (pc + 1) F ∷ R) w) m er ew) go
 
   pub g_next :
-      (f : ℕ) (F : List MValue) (last : Option Instr) (d n j : ℕ) (r : GenericRow) (p : Place) (t : Phrase) (S : List Sym) (K : List Task) (pc : ℕ) → slice_get M.generics n ≡ Some r → r.word ≡ generic_of P (sort_of P d) →
-      ((k : ℕ) → SameMethod P M (method_after M.sets k (drop j r.methods)) (next P d k)) → AllHere S → slice_get M.code pc ≡ Some (Next n j false) → ((m a : ℕ) → HasCode P M m a → CallsTo Y (Some Ret) f [] a S (word_phrase P m)) →
+      (f : ℕ) (F : List MValue) (last : Option Instr) (d n j : ℕ) (r : GenericRow) (p : Place) (t : Phrase) (S : List Sym) (K : List Task) (pc : ℕ) → method_place d M.generics ≡ Some (n, j) → slice_get M.generics n ≡ Some r → r.word ≡ generic_of P (sort_of P d) →
+      ((k : ℕ) → SameMethod P M (method_after M.sets k (drop j r.methods)) (next P d k)) → AllHere S → slice_get M.code pc ≡ Some (Next d false) → ((m a : ℕ) → HasCode P M m a → CallsTo Y (Some Ret) f [] a S (word_phrase P m)) →
       Go Y f F last zero [] (do_phrase t ∷ K) (pc + 1) → Go Y f F last zero S (do_phrase (then (next_after d) p t) ∷ K) pc
-  g_next f F last d n j r p t S K pc er ew same a e calls go =
-      g_dispatched f F last (Next n j false) (next_after d) p t S K pc NoNextMethod (generic_of P (sort_of P d)) (λ k. method_after M.sets k (drop j r.methods)) (next P d) a e (λ s. refl) same calls (λ st. refl)
-      (λ ms rs R w m. row_goes n r (λ r k. method_after M.sets k (drop j r.methods)) NoNextMethod (generic_of P (sort_of P d)) (at F pc ms rs R w) (at F pc ms rs (resume (pc + 1) F ∷ R) w) m er ew) go
+  g_next f F last d n j r p t S K pc em er ew same a e calls go =
+      g_dispatched f F last (Next d false) (next_after d) p t S K pc NoNextMethod (generic_of P (sort_of P d)) (λ k. method_after M.sets k (drop j r.methods)) (next P d) a e (λ s. refl) same calls (λ st. refl)
+      (λ ms rs R w m. ap (λ (o : Option (ℕ × ℕ)). or_trap o t_kind (at F pc ms rs R w) m (λ x. goes_on_from M x.0 x.1 (at F pc ms rs R w) (at F pc ms rs (resume (pc + 1) F ∷ R) w) m)) em
+      ∙ row_goes n r (λ r k. method_after M.sets k (drop j r.methods)) NoNextMethod (generic_of P (sort_of P d)) (at F pc ms rs R w) (at F pc ms rs (resume (pc + 1) F ∷ R) w) m er ew) go

@@ -1,6 +1,5 @@
--- The closed program of a whole one has classes that can be built and methods of which tables can be made, and few words and slots beside its texts.
-use Rattle.std.proofs.Common.{◌≡◌, ◌<◌, ℕ, zero, suc, ◌+◌, List, [], ◌∷◌, ◌++◌, length, Bool, true, false, Some, None, refl, ap, ◌∙◌, arith, length-append}
-use Rattle.std.proofs.lemmas.List.{length-map}
+-- The closed program of a whole one has classes that can be built and methods of which tables can be made.
+use Rattle.std.proofs.Common.{◌≡◌, ℕ, zero, suc, List, [], ◌∷◌, length, Bool, true, false, Some, None, refl, ap, ◌∙◌}
 use Rattle.std.specs.Prelude.{◌&&◌, not, nat_eq, nat_lt, slice_get}
 use Rattle.std.specs.List.{list_all, list_any}
 use Rattle.fac_lang.specs.declared.phrase.Template.{Template}
@@ -17,7 +16,6 @@ use Rattle.fac_lang.specs.Whole.{IsWhole, no_two, each_below, is_class, is_gener
 use Rattle.fac_locals.specs.Closed.{Closes}
 use Rattle.fac_classes.specs.ClassKinds.{CanBeBuilt}
 use Rattle.fac_generic.specs.Methods.{HasMethods}
-use Rattle.fac_emit.specs.ProgramTables.{word_names, slot_names, kind_names, table_texts}
 use Rattle.fac_emit.proofs.Closings.{Alike, a_same, a_body, a_past, a_method, AlikeWords, alike_words}
 
 -- whether a word is generic, which both programs say
@@ -118,11 +116,3 @@ module _ (P C : Program) (templates : List Template) (closes : Closes P C templa
         shapes_fit = ap (list_all (λ (c : ClassDef). shape_fits C c.shape)) closes.classes ∙ shapes_same P.classes ∙ whole.shapes_fit;
         classes_end = ap (λ (cs : List ClassDef). each_below (λ c. not (reaches (length cs) cs c c)) (length cs)) closes.classes ∙ whole.classes_end;
       }
-
--- its words and slots are no more than its texts
-pub few_words : (C : Program) (n : ℕ) → length (table_texts C) < n → length C.words + length (slot_names C) < n
-few_words C n short =
-    let all = length-append (word_names C.words ++ slot_names C) (kind_names C.classes) in
-    let first = length-append (word_names C.words) (slot_names C) in
-    let words = length-map C.words (λ d. d.name.name) in
-    omega (arith, short, all, first, words)

@@ -8,7 +8,7 @@ use Rattle.fac_lang.specs.declared.phrase.Template.{Template}
 use Rattle.fac_lang.specs.declared.program.Program.{Program}
 use Rattle.fac_lang.specs.declared.program.WordDef.{WordDef}
 use Rattle.fac_lang.specs.declared.program.Sort.{Sort}
-use Rattle.fac_lang.specs.declared.program.Sort.TheVariants.{Prim as prim_sort, Core as core_sort, Body as body, Past as past, Itself as itself, Class as class, Isa as isa, Getter as getter, Setter as setter, Putter as putter, Generic as generic, Method as method}
+use Rattle.fac_lang.specs.declared.program.Sort.TheVariants.{Prim as prim_sort, Core as core_sort, Body as body, Past as past, Isa as isa, Method as method}
 use Rattle.fac_lang.specs.Phrases.{Phrase, end, then}
 use Rattle.fac_lang.specs.Substitution.{of_method}
 use Rattle.fac_lang.specs.Forms.{IsBuilt, IsBuiltSort, AreBuiltWords}
@@ -20,13 +20,11 @@ use Rattle.fac_locals.specs.Closed.{ClosesSort}
 use Rattle.fac_code.specs.declared.image.Instr.{Instr}
 use Rattle.fac_code.specs.declared.image.Tables.{Tables}
 use Rattle.fac_code.specs.References.{instr_refers}
-use Rattle.fac_emit.specs.ProgramTables.{slot_names, accessed}
-use Rattle.fac_emit.specs.ProgramCode.{core_instr, item_instr, with_text, phrase_code, last_instr}
+use Rattle.fac_emit.specs.ProgramCode.{core_instr, item_instr, phrase_code, last_instr}
 use Rattle.fac_emit.proofs.BuiltCode.{and_true}
 use Rattle.fac_emit.proofs.Closings.{Closing, closing}
 use Rattle.fac_emit.proofs.NamedArrays.{NamesArrays, SortNames}
 use Rattle.fac_emit.proofs.RunningPhrases.{RunsAs}
-use Rattle.fac_emit.proofs.TableLemmas.{IsAmong, AreAmong}
 
 -- a place from which something stands is in the list
 within : {A : Type 0} (xs : List A) (at : ℕ) (y : A) (ys : List A) → drop at xs ≡ y ∷ ys → at < length xs
@@ -54,14 +52,14 @@ one_passes test (y ∷ xs) zero x h e = let same : y ≡ x = cc in subst (λ (z 
 one_passes test (y ∷ xs) (suc k) x h e = one_passes test xs k x (first_true (test y) (list_all test xs) h).1 e
 
 -- code of a phrase isn't empty
-phrase_first : (C : Program) (templates : List Template) (last : Instr) (texts : List (List ℕ)) (t : Phrase) → (x : Instr) × (more : List Instr) × (phrase_code C templates last texts t ≡ x ∷ more)
-phrase_first C templates last texts end = (last, [], refl)
-phrase_first C templates last texts (then i p t) = (item_instr C templates (length texts) i, phrase_code C templates last (with_text texts i) t, refl)
+phrase_first : (C : Program) (templates : List Template) (last : Instr) (t : Phrase) → (x : Instr) × (more : List Instr) × (phrase_code C templates last t ≡ x ∷ more)
+phrase_first C templates last end = (last, [], refl)
+phrase_first C templates last (then i p t) = (item_instr C templates i, phrase_code C templates last t, refl)
 
 -- so it begins at a place in the code
-pub begins_within : (code : List Instr) (C : Program) (templates : List Template) (last : Instr) (texts : List (List ℕ)) (t : Phrase) (at : ℕ) (more : List Instr) → drop at code ≡ phrase_code C templates last texts t ++ more → nat_lt at (length code) ≡ true
-begins_within code C templates last texts t at more e =
-    let first = phrase_first C templates last texts t in lt-ltb at (length code) (within code at first.0 (first.1 ++ more) (e ∙ ap (λ (is : List Instr). is ++ more) first.2))
+pub begins_within : (code : List Instr) (C : Program) (templates : List Template) (last : Instr) (t : Phrase) (at : ℕ) (more : List Instr) → drop at code ≡ phrase_code C templates last t ++ more → nat_lt at (length code) ≡ true
+begins_within code C templates last t at more e =
+    let first = phrase_first C templates last t in lt-ltb at (length code) (within code at first.0 (first.1 ++ more) (e ∙ ap (λ (is : List Instr). is ++ more) first.2))
 
 never_true : {A : Type 0} → false ≡ true → A
 never_true h = absurd (true≢false (sym h))
@@ -117,21 +115,13 @@ module _ (P : Program) where
   ClosedAs w (past c) = ⊥
   ClosedAs w (method n g c) = RunsIn w c
   ClosedAs w (isa n) = nat_lt n (length P.classes) ≡ true
-  ClosedAs w (getter s) = IsAmong (slot_names P) s
-  ClosedAs w (setter s) = IsAmong (slot_names P) s
-  ClosedAs w (putter s) = IsAmong (slot_names P) s
   ClosedAs w _ = Unit {0}
 
-  pub closed_as : (w : ℕ) (s c : Sort) → ClosesSort P w s c → Doable s → RunsAs P w s → w < length P.words → SortNames P w s → sort_fits P s ≡ true → AreAmong (slot_names P) (accessed s) → ClosedAs w c
-  closed_as w (prim_sort k) c h d r lt n f a = rw h d
-  closed_as w (core_sort k) c h d r lt n f a = rw h d
-  closed_as w (body t) c h d r lt n f a = rw h.1 (record { phrase = t; closes = closing P [] (first_of_word w) t h.0 h.2 r; below = lt; names = n })
-  closed_as w (past t) c h d r lt n f a = absurd d
-  closed_as w (method k g t) c h d r lt n f a = rw h.1 (record { phrase = of_method w t; closes = closing P [] (first_of_word w) (of_method w t) h.0 h.2 r; below = lt; names = n })
-  closed_as w itself c h d r lt n f a = rw h tt
-  closed_as w (class k) c h d r lt n f a = rw h tt
-  closed_as w (isa k) c h d r lt n f a = rw h f
-  closed_as w (getter s) c h d r lt n f a = rw h a.0
-  closed_as w (setter s) c h d r lt n f a = rw h a.0
-  closed_as w (putter s) c h d r lt n f a = rw h a.0
-  closed_as w generic c h d r lt n f a = rw h tt
+  pub closed_as : (w : ℕ) (s c : Sort) → ClosesSort P w s c → Doable s → RunsAs P w s → w < length P.words → SortNames P w s → sort_fits P s ≡ true → ClosedAs w c
+  closed_as w (prim_sort k) c h d r lt n f = rw h d
+  closed_as w (core_sort k) c h d r lt n f = rw h d
+  closed_as w (body t) c h d r lt n f = rw h.1 (record { phrase = t; closes = closing P [] (first_of_word w) t h.0 h.2 r; below = lt; names = n })
+  closed_as w (past t) c h d r lt n f = absurd d
+  closed_as w (method k g t) c h d r lt n f = rw h.1 (record { phrase = of_method w t; closes = closing P [] (first_of_word w) (of_method w t) h.0 h.2 r; below = lt; names = n })
+  closed_as w (isa k) c h d r lt n f = rw h f
+  closed_as w s c h d r lt n f = rw h tt

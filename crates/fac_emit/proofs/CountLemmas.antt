@@ -1,6 +1,7 @@
 -- Generics and numbers, word by word.
-use Rattle.std.proofs.Common.{◌≡◌, ◌<◌, ◌≤◌, ℕ, zero, suc, ◌+◌, List, [], ◌∷◌, ◌++◌, length, drop, get_or, Some, refl, ap, sym, subst, ◌∙◌, arith, append_assoc, add-one}
+use Rattle.std.proofs.Common.{◌≡◌, ◌<◌, ◌≤◌, ℕ, zero, suc, ◌+◌, List, [], ◌∷◌, ◌++◌, length, drop, get_or, Some, refl, ap, sym, ◌∙◌, arith, append_assoc, add-one}
 use Rattle.std.specs.Prelude.{take, slice_get, if◌then◌else◌}
+use Rattle.fac_lang.specs.declared.phrase.Template.{Template}
 use Rattle.fac_lang.specs.declared.program.Program.{Program}
 use Rattle.fac_lang.specs.declared.program.WordDef.{WordDef}
 use Rattle.fac_lang.specs.declared.program.Sort.{Sort}
@@ -10,7 +11,7 @@ use Rattle.fac_lang.specs.Whole.{is_generic}
 use Rattle.fac_lang.proofs.FormsLemmas.{sort_at}
 use Rattle.fac_emit.specs.ProgramTables.{generics_among, generic_number, sort_number, numbers_from}
 use Rattle.fac_emit.proofs.Closings.{get_at}
-use Rattle.fac_emit.proofs.EmitLemmas.{next_element}
+use Rattle.fac_emit.proofs.EmitLemmas.{next_of}
 
 -- how many generics are among words
 more_by : (s : Sort) (n : ℕ) → ◌≡◌ {A = ℕ} (elim s [ generic ↦ suc n | _ ↦ n ]) (n + (if is_generic (Some s) then 1 else 0))
@@ -40,7 +41,7 @@ few (x ∷ ds) (suc w) = few_by x.sort (generics_among (take w ds)) w (few ds w)
 -- a loop over the words
 module _ (C : Program) (i : ℕ) (word : WordDef) (items : List WordDef) (are : items ≡ C.words) (lt : i < length items) (is : word ≡ get_or items i word) where
   next_word : drop i C.words ≡ word ∷ drop (i + 1) C.words
-  next_word = subst (λ (ds : List WordDef). drop i ds ≡ word ∷ drop (i + 1) ds) are (next_element items i word lt is)
+  next_word = next_of C.words i word items are lt is
 
   pub word_at : slice_get C.words i ≡ Some word
   word_at = get_at C.words i word (drop (i + 1) C.words) next_word
@@ -52,9 +53,9 @@ module _ (C : Program) (i : ℕ) (word : WordDef) (items : List WordDef) (are : 
   generics_step n g m e h is_more =
       rw (e, add-one i) (is_more ∙ ap (λ (k : ℕ). k + (if is_generic (Some word.sort) then 1 else 0)) (h ∙ ap (generic_number C) e) ∙ sym (one_more C.words i word word_at))
 
-  pub numbers_step : (n x : ℕ) (whole numbers pushed : List ℕ) → n ≡ i → whole ≡ numbers ++ numbers_from C n (drop i C.words) → x ≡ sort_number C n word.sort → pushed ≡ numbers ++ x ∷ [] → whole ≡ pushed ++ numbers_from C (n + 1) (drop (i + 1) C.words)
-  numbers_step n x whole numbers pushed e all is_x is_pushed =
-      rw (is_pushed, is_x, add-one n) (all ∙ ap (λ (ds : List WordDef). numbers ++ numbers_from C n ds) next_word ∙ sym (append_assoc numbers (sort_number C n word.sort ∷ []) (numbers_from C (suc n) (drop (i + 1) C.words))))
+  pub numbers_step : (templates : List Template) (n x : ℕ) (whole numbers pushed : List ℕ) → n ≡ i → whole ≡ numbers ++ numbers_from C templates n (drop i C.words) → x ≡ sort_number C templates n word.sort → pushed ≡ numbers ++ x ∷ [] → whole ≡ pushed ++ numbers_from C templates (n + 1) (drop (i + 1) C.words)
+  numbers_step templates n x whole numbers pushed e all is_x is_pushed =
+      rw (is_pushed, is_x, add-one n) (all ∙ ap (λ (ds : List WordDef). numbers ++ numbers_from C templates n ds) next_word ∙ sym (append_assoc numbers (sort_number C templates n word.sort ∷ []) (numbers_from C templates (suc n) (drop (i + 1) C.words))))
 
 pub few_generics : (C : Program) (w : ℕ) → generic_number C w ≤ w
 few_generics C w = few C.words w

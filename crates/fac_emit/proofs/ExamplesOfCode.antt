@@ -30,8 +30,9 @@ use Rattle.fac_code.specs.declared.image.WordRow.{WordRow}
 use Rattle.fac_code.specs.declared.image.Image.{Image}
 use Rattle.fac_store.specs.MachineValues.{MValue, m_plain}
 use Rattle.fac_vm.specs.Machine.{End, done, failed, steps, first_world, starting}
-use Rattle.fac_emit.specs.ProgramTables.{table_texts, program_kinds, program_sets}
-use Rattle.fac_emit.specs.ProgramCode.{program_code, program_texts, template_rows, program_words, program_generics, program_tables, arrays_of, arrays_texts}
+use Rattle.fac_emit.specs.ProgramTexts.{text_levels, program_texts}
+use Rattle.fac_emit.specs.ProgramTables.{program_kinds, program_sets, program_pairs}
+use Rattle.fac_emit.specs.ProgramCode.{core_action, program_code, program_templates, program_words, program_generics, program_arrays, program_tables}
 use Rattle.fac_emit.specs.MachineView.{template_phrases, value_view, values_view}
 use Rattle.fac_emit.specs.Symbols.{here, off, cells, k_phrase, k_cur, k_com, do_phrase, top_is, needs_none, needs_more, all_none, all_more}
 use Rattle.fac_emit.specs.Expanded.{Code, c_last, c_make, c_end, c_off, c_int, c_prim, c_bind, c_fry, c_word, c_call, c_dip}
@@ -72,17 +73,18 @@ heights = Some (from 0 1) ∷ Some (from 1 1) ∷ Some (from 0 1) ∷ Some (from
 abbrev quotation_row : ℕ → Option Height → TemplateRow
 quotation_row at h = record { entry = at; cells = []; holes = 0; height = h }
 
-pub template_rows_are : template_rows closed templates heights (table_texts closed) 0 0 templates ≡ quotation_row 0 (Some (from 0 1)) ∷ quotation_row 2 (Some (from 1 1)) ∷ quotation_row 6 (Some (from 0 1)) ∷ quotation_row 8 (Some (from 0 1)) ∷ []
+pub template_rows_are : program_templates closed templates heights ≡ quotation_row 0 (Some (from 0 1)) ∷ quotation_row 2 (Some (from 1 1)) ∷ quotation_row 6 (Some (from 0 1)) ∷ quotation_row 8 (Some (from 0 1)) ∷ []
 template_rows_are = refl
 
--- The words here are declared never to return. A core word and the top-level phrase promise nothing.
-abbrev plain_row : ℕ → Action → WordRow
-plain_row w a = record { name = w; action = a; kind = None; height = Some (record { ins = 0; outs = None }) }
+-- The words here have the empty text, which is number 0, as their vocabularies and names, and are declared never to return. A core word and the top-level phrase promise nothing.
+abbrev plain_row : Action → WordRow
+plain_row a = record { vocab = 0; name = 0; action = a; height = Some (record { ins = 0; outs = None }) }
 
-abbrev bare_row : ℕ → Action → WordRow
-bare_row w a = record { name = w; action = a; kind = None; height = None }
+abbrev bare_row : Action → WordRow
+bare_row a = record { vocab = 0; name = 0; action = a; height = None }
 
-pub word_rows_are : program_words closed templates ≡ plain_row 0 (action.Prim 26) ∷ bare_row 1 (action.Core 0) ∷ bare_row 2 (action.Core 1) ∷ plain_row 3 (action.Prim 17) ∷ plain_row 4 (action.Code 10) ∷ bare_row 5 (action.Code 14) ∷ []
+pub word_rows_are : program_words closed templates ≡ plain_row (action.Prim 26) ∷ bare_row (action.Core 0) ∷ bare_row (action.Core 1) ∷ plain_row (action.Prim 17) ∷ plain_row (action.Code 10) ∷ bare_row (action.Code 14) ∷ []
+unfolding program_texts text_levels
 word_rows_are = refl
 
 pub is_built : has_built_code (program_code closed templates) ≡ true
@@ -90,11 +92,11 @@ unfolding built_count
 is_built = refl
 
 pub words_built : refers (program_tables closed templates heights) (program_code closed templates) 14 ≡ true
-unfolding built_count
+unfolding built_count program_texts text_levels
 words_built = refl
 
 abbrev image : Image
-image = record { arrays = []; kinds = []; sets = []; generics = []; templates = template_rows closed templates heights (table_texts closed) 0 0 templates; words = program_words closed templates; texts = program_texts closed templates; code = program_code closed templates; start = 14; built = is_built; refers = words_built }
+image = record { arrays = []; kinds = []; sets = []; generics = []; pairs = []; templates = program_templates closed templates heights; words = program_words closed templates; texts = program_texts closed templates; code = program_code closed templates; start = 14; built = is_built; refers = words_built }
 
 -- the stack and the ticks left where it is done
 abbrev ended : Option End → Option (List MValue × ℕ)
@@ -125,10 +127,10 @@ word_code =
 
 -- 1 w [ 4 ] dip call, from its place: behind a call nothing of the stack is known
 pub phrase_code : Code opened image (template_phrases opened) [] (Some Halt) [] 0 [] (do_phrase (items (number 1 ∷ word 4 ∷ quot (items (number 4 ∷ [])) ∷ word 2 ∷ word 1 ∷ [])) ∷ []) 14
-unfolding template_phrases core_numbered
+unfolding template_phrases core_numbered program_texts text_levels
 phrase_code =
     c_int (pos 1) refl
-    (c_word 4 10 (record { below = omega arith; runs = tt; row = plain_row 4 (action.Code 10); there = refl; does = refl }) (all_more all_none) refl
+    (c_word 4 10 (record { below = omega arith; runs = tt; row = plain_row (action.Code 10); there = refl; does = refl }) (all_more all_none) refl
     (c_off (c_make 3 (quotation_row 8 (Some (from 0 1))) [] refl refl refl refl
     (c_dip 2 1 refl refl (all_more all_none) refl
     (c_call 1 0 refl refl all_none refl
@@ -151,7 +153,7 @@ capturing_templates = made_templates capturing_source []
 capturing_code : program_code capturing_closed capturing_templates ≡ Local 0 ∷ Int (pos 2) ∷ Prim 26 ∷ Ret ∷ Local 1 ∷ Local 0 ∷ Prim 26 ∷ Ret ∷ Int (pos 1) ∷ Bind ∷ Quot 0 ∷ Call false ∷ Int (pos 5) ∷ Fry 1 ∷ Call false ∷ Halt ∷ []
 capturing_code = refl
 
-capturing_rows : template_rows capturing_closed capturing_templates [] (table_texts capturing_closed) 0 0 capturing_templates ≡ record { entry = 0; cells = 0 ∷ []; holes = 0; height = None } ∷ record { entry = 4; cells = 0 ∷ []; holes = 1; height = None } ∷ []
+capturing_rows : program_templates capturing_closed capturing_templates [] ≡ record { entry = 0; cells = 0 ∷ []; holes = 0; height = None } ∷ record { entry = 4; cells = 0 ∷ []; holes = 1; height = None } ∷ []
 capturing_rows = refl
 
 pub capturing_built : has_built_code (program_code capturing_closed capturing_templates) ≡ true
@@ -159,7 +161,7 @@ unfolding built_count
 capturing_built = refl
 
 pub capturing_refers : refers (program_tables capturing_closed capturing_templates []) (program_code capturing_closed capturing_templates) 8 ≡ true
-unfolding built_count
+unfolding built_count program_texts text_levels
 capturing_refers = refl
 
 abbrev capturing_image : Image
@@ -169,7 +171,8 @@ capturing_image =
       kinds = [];
       sets = [];
       generics = [];
-      templates = template_rows capturing_closed capturing_templates [] (table_texts capturing_closed) 0 0 capturing_templates;
+      pairs = [];
+      templates = program_templates capturing_closed capturing_templates [];
       words = program_words capturing_closed capturing_templates;
       texts = program_texts capturing_closed capturing_templates;
       code = program_code capturing_closed capturing_templates;
@@ -207,7 +210,7 @@ capturing_stands =
     (c_call 1 0 refl refl (all_more all_none) refl
     (c_end (c_last all_none refl)))))))))
 
--- Strings and words as values, where word 0 is a symbol: `"a" red \ red "a"`. The texts are the names of the two words, and behind them those of the strings, each with its own number.
+-- Strings and words as values, where word 0 is a symbol: `"a" red \ red "a"`. The texts are the words' vocabularies and names, and the string, each once.
 abbrev written : Program
 written =
     record {
@@ -217,16 +220,30 @@ written =
       top = 1;
     }
 
-written_code : program_code written [] ≡ Text 2 ∷ Word 0 ∷ Word 0 ∷ Text 3 ∷ Halt ∷ []
+written_code : program_code written [] ≡ Text 2 ∷ Word 0 ∷ Word 0 ∷ Text 2 ∷ Halt ∷ []
+unfolding program_texts text_levels
 written_code = refl
 
-written_texts : program_texts written [] ≡ codes "red" ∷ [] ∷ codes "a" ∷ codes "a" ∷ []
+written_texts : program_texts written [] ≡ [] ∷ codes "red" ∷ codes "a" ∷ []
+unfolding program_texts text_levels
 written_texts = refl
 
-written_rows : program_words written [] ≡ plain_row 0 action.Itself ∷ bare_row 1 (action.Code 0) ∷ []
+written_rows : program_words written [] ≡ record (plain_row action.Itself) { name = 1 } ∷ bare_row (action.Code 0) ∷ []
+unfolding program_texts text_levels
 written_rows = refl
 
--- A literal array, closed: `{ { t } 1 "b" [ .. ] red }`, whose quotation is template 0. Its string is a text behind those of the code.
+-- A quotation's strings stand where it does: "a" [ "b" [ "c" ] "a" ] "d"
+abbrev quoting_source : List WordDef
+quoting_source = named (body (items (lit (str (codes "a")) ∷ quot (items (lit (str (codes "b")) ∷ quot (items (lit (str (codes "c")) ∷ [])) ∷ lit (str (codes "a")) ∷ [])) ∷ lit (str (codes "d")) ∷ []))) ∷ []
+
+abbrev quoting : Program
+quoting = record { words = made_words quoting_source []; arrays = []; classes = []; top = 0 }
+
+quoting_texts : program_texts quoting (made_templates quoting_source []) ≡ [] ∷ codes "a" ∷ codes "b" ∷ codes "c" ∷ codes "d" ∷ []
+unfolding program_texts text_levels
+quoting_texts = refl
+
+-- A literal array, closed: `{ { t } 1 "b" [ .. ] red }`, whose quotation is template 0. Its string is a text where the array stands.
 abbrev boxed : Program
 boxed =
     record {
@@ -237,17 +254,20 @@ boxed =
     }
 
 boxed_code : program_code boxed [] ≡ Text 2 ∷ Array 1 ∷ Halt ∷ []
+unfolding program_texts text_levels
 boxed_code = refl
 
-boxed_arrays : arrays_of (program_texts boxed []) boxed.arrays ≡ (elem.True ∷ []) ∷ (elem.Array 0 ∷ elem.Int (pos 1) ∷ elem.Text 3 ∷ elem.Template 0 ∷ elem.Word 0 ∷ []) ∷ []
+boxed_arrays : program_arrays boxed [] ≡ (elem.True ∷ []) ∷ (elem.Array 0 ∷ elem.Int (pos 1) ∷ elem.Text 3 ∷ elem.Template 0 ∷ elem.Word 0 ∷ []) ∷ []
+unfolding program_texts text_levels
 boxed_arrays = refl
 
-boxed_texts : arrays_texts (program_texts boxed []) boxed.arrays ≡ codes "red" ∷ [] ∷ codes "a" ∷ codes "b" ∷ []
+boxed_texts : program_texts boxed [] ≡ [] ∷ codes "red" ∷ codes "a" ∷ codes "b" ∷ []
+unfolding program_texts text_levels
 boxed_texts = refl
 
 -- A tuple class and a generic with two methods, on `object`, which has all kinds, and on `point`, which has one and so stands first:
 -- TUPLE: point x ;   GENERIC: size   M: object size drop 1 ;   M: point size call-next-method 7 + ;   5 point boa size
--- The words have no names here; text 10 is the slot's name, and text 11 the class's.
+-- Text 1 is the name of the class, and text 2 that of its slot.
 abbrev figures : List WordDef
 figures =
     named (core 4) ∷ named (prim 0) ∷ named (prim 26) ∷ named (class 1) ∷ named (isa 1) ∷ named (getter (codes "x")) ∷ named generic ∷ named (method 0 6 (items (word 1 ∷ number 1 ∷ []))) ∷ named
@@ -259,23 +279,29 @@ class_named name shape = record { name = record { vocab = []; name = name }; sha
 abbrev figure : Program
 figure = record { words = made_words figures []; arrays = []; classes = class_named (codes "object") (built_in 11) ∷ class_named (codes "point") (tuple_class None (codes "x" ∷ [])) ∷ []; top = 9 }
 
-figure_code : program_code figure [] ≡ Prim 0 ∷ Int (pos 1) ∷ Ret ∷ Next 0 0 false ∷ Int (pos 7) ∷ Prim 26 ∷ Ret ∷ Int (pos 5) ∷ Word 3 ∷ Boa ∷ Generic 0 false ∷ Halt ∷ []
+figure_code : program_code figure [] ≡ Prim 0 ∷ Int (pos 1) ∷ Ret ∷ Next 8 false ∷ Int (pos 7) ∷ Prim 26 ∷ Ret ∷ Int (pos 5) ∷ Word 3 ∷ Boa ∷ Generic 0 false ∷ Halt ∷ []
 figure_code = refl
 
 figure_rows :
-    program_words figure [] ≡ bare_row 0 (action.Core 4) ∷ plain_row 1 (action.Prim 0) ∷ plain_row 2 (action.Prim 26) ∷ record (plain_row 3 action.Itself) { kind = Some 8 } ∷ plain_row 4 (action.Isa 1) ∷ plain_row 5 (action.Get 10) ∷ plain_row 6 (action.Generic 0) ∷ plain_row 7 (action.Code 0) ∷ plain_row 8 (action.Code 3) ∷ bare_row 9 (action.Code 7) ∷ []
+    program_words figure [] ≡ bare_row (action.Core 4) ∷ plain_row (action.Prim 0) ∷ plain_row (action.Prim 26) ∷ plain_row action.Itself ∷ plain_row (action.Isa 1) ∷ plain_row (action.Get 2) ∷ plain_row (action.Generic 0) ∷ plain_row (action.Code 0) ∷ plain_row (action.Code 3) ∷ bare_row (action.Code 7) ∷ []
+unfolding program_texts text_levels
 figure_rows = refl
 
-figure_texts : program_texts figure [] ≡ [] ∷ [] ∷ [] ∷ [] ∷ [] ∷ [] ∷ [] ∷ [] ∷ [] ∷ [] ∷ codes "x" ∷ codes "point" ∷ []
+figure_texts : program_texts figure [] ≡ [] ∷ codes "point" ∷ codes "x" ∷ codes "object" ∷ []
+unfolding program_texts text_levels
 figure_texts = refl
 
-figure_kinds : program_kinds figure ≡ record { name = 11; slots = Some (10 ∷ []) } ∷ []
+figure_kinds : program_kinds figure [] ≡ record { vocab = 0; name = 1; slots = Some (2 ∷ []) } ∷ []
+unfolding program_texts text_levels
 figure_kinds = refl
+
+figure_pairs : program_pairs figure ≡ (3, 8) ∷ []
+figure_pairs = refl
 
 figure_sets : program_sets figure ≡ (0 ∷ 1 ∷ 2 ∷ 3 ∷ 4 ∷ 5 ∷ 6 ∷ 7 ∷ 8 ∷ []) ∷ (8 ∷ []) ∷ []
 figure_sets = refl
 
-figure_generics : program_generics figure [] ≡ record { word = 6; methods = record { set = 1; entry = 3 } ∷ record { set = 0; entry = 0 } ∷ [] } ∷ []
+figure_generics : program_generics figure [] ≡ record { word = 6; methods = record { number = 8; set = 1; entry = 3 } ∷ record { number = 7; set = 0; entry = 0 } ∷ [] } ∷ []
 figure_generics = refl
 
 figure_built : has_built_code (program_code figure []) ≡ true
@@ -283,18 +309,19 @@ unfolding built_count
 figure_built = refl
 
 figure_refers : refers (program_tables figure [] []) (program_code figure []) 7 ≡ true
-unfolding built_count
+unfolding built_count program_texts text_levels
 figure_refers = refl
 
 abbrev figure_image : Image
 figure_image =
     record {
       arrays = [];
-      kinds = program_kinds figure;
+      kinds = program_kinds figure [];
       sets = program_sets figure;
       templates = [];
       words = program_words figure [];
       generics = program_generics figure [];
+      pairs = program_pairs figure;
       texts = program_texts figure [];
       code = program_code figure [];
       start = 7;
@@ -306,6 +333,10 @@ figure_image =
 figure_ends : ended (steps figure_image 40 (starting figure_image [] (first_world figure_image [])) 20) ≡ Some (m_plain (int (pos 8)) ∷ [], 11)
 unfolding prim_fn prim_numbered
 figure_ends = refl
+
+-- `cond` as a word
+cond_acts : core_action 9 ≡ action.Itself
+cond_acts = refl
 
 -- Calls that are tested, and words that are executed, one of them a primitive:
 -- : w ( x -- y ) 1 + ;   3 [ 1 + ] call( x -- y ) \ w execute( x -- y ) 4 \ + execute( x y -- z ) \ w execute
@@ -335,7 +366,8 @@ tested_code : program_code tested tested_templates ≡
     Int (pos 1) ∷ Prim 26 ∷ Ret ∷ Int (pos 1) ∷ Prim 26 ∷ Ret ∷ Int (pos 3) ∷ Quot 0 ∷ CallEffect (from 1 1) false ∷ Word 2 ∷ ExecuteEffect (from 1 1) false ∷ Int (pos 4) ∷ Word 0 ∷ ExecuteEffect (from 2 1) false ∷ Word 2 ∷ Execute false ∷ Halt ∷ []
 tested_code = refl
 
-tested_rows : program_words tested tested_templates ≡ record (bare_row 0 (action.Prim 26)) { height = Some (from 2 1) } ∷ bare_row 1 (action.Core 3) ∷ record (bare_row 2 (action.Code 3)) { height = Some (from 1 1) } ∷ bare_row 3 (action.Code 6) ∷ []
+tested_rows : program_words tested tested_templates ≡ record (bare_row (action.Prim 26)) { height = Some (from 2 1) } ∷ bare_row (action.Core 3) ∷ record (bare_row (action.Code 3)) { height = Some (from 1 1) } ∷ bare_row (action.Code 6) ∷ []
+unfolding program_texts text_levels
 tested_rows = refl
 
 tested_built : has_built_code (program_code tested tested_templates) ≡ true
@@ -343,7 +375,7 @@ unfolding built_count
 tested_built = refl
 
 tested_refers : (hs : List (Option Height)) → refers (program_tables tested tested_templates hs) (program_code tested tested_templates) 6 ≡ true
-unfolding built_count
+unfolding built_count program_texts text_levels
 tested_refers hs = refl
 
 -- with these effects of the templates
@@ -354,7 +386,8 @@ tested_image hs =
       kinds = [];
       sets = [];
       generics = [];
-      templates = template_rows tested tested_templates hs (table_texts tested) 0 0 tested_templates;
+      pairs = [];
+      templates = program_templates tested tested_templates hs;
       words = program_words tested tested_templates;
       texts = program_texts tested tested_templates;
       code = program_code tested tested_templates;

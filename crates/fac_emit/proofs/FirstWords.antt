@@ -4,19 +4,22 @@ use Rattle.std.proofs.lemmas.Slice.Eq.{bytes_eq-Decides}
 use Rattle.std.specs.Prelude.{nat_eq, slice_get}
 use Rattle.std.specs.List.{list_any}
 use Rattle.std.specs.Str.{bytes_eq}
+use Rattle.fac_lang.specs.declared.phrase.Template.{Template}
 use Rattle.fac_lang.specs.declared.program.Program.{Program}
 use Rattle.fac_lang.specs.declared.program.WordDef.{WordDef}
 use Rattle.fac_lang.specs.declared.program.Sort.{Sort}
-use Rattle.fac_lang.specs.declared.program.Sort.TheVariants.{Prim as prim, Getter as getter, Setter as setter, Putter as putter}
+use Rattle.fac_lang.specs.declared.program.Sort.TheVariants.{Prim as prim, Core as core, Getter as getter, Setter as setter, Putter as putter}
 use Rattle.fac_lang.specs.Whole.{no_two, same_word}
+use Rattle.fac_code.specs.Code.{is_core_action}
 use Rattle.fac_code.specs.declared.image.Action.{Action}
 use Rattle.fac_code.specs.declared.image.Action.TheVariants as action
 use Rattle.fac_code.specs.declared.image.WordRow.{WordRow}
 use Rattle.fac_vm.specs.Machine.{word_with, same_action}
 use Rattle.fac_emit.specs.Accessors.{Accessor, getting, setting, putting, accessor_sort, accessor_action}
-use Rattle.fac_emit.specs.ProgramTables.{slot_names, slot_number, table_texts, accessed}
+use Rattle.fac_emit.specs.ProgramTexts.{sort_texts, program_texts, text_number}
 use Rattle.fac_emit.specs.ProgramCode.{sort_action}
-use Rattle.fac_emit.proofs.TableLemmas.{IsAmong, AreAmong, accessor_named, slot_text}
+use Rattle.fac_emit.proofs.Closings.{Alike, a_same, a_body, a_past, a_method}
+use Rattle.fac_emit.proofs.TextLemmas.{IsAmong, AreAmong, text_there, word_named}
 
 never_true : {A : Type 0} → false ≡ true → A
 never_true h = absurd (true≢false (sym h))
@@ -92,87 +95,112 @@ other_number j k h = not_alike (nat_eq k j) (λ e. let same : k ≡ j = grind ar
     itself : (j : ℕ) → nat_eq j j ≡ true
     itself j = grind arith
 
-module _ (P : Program) where
-  prim_other : (C : Program) (v at k : ℕ) (s : Sort) → same_sort s (prim k) ≡ false → same_action (action.Prim k) (sort_action C v at s) ≡ false
-  prim_other C v at k (prim j) h = other_number j k h
-  prim_other C v at k _ h = refl
-
-  -- slots with one number have one name
-  same_slot : (s u : List ℕ) → IsAmong (slot_names P) s → IsAmong (slot_names P) u → slot_number P s ≡ slot_number P u → u ≡ s
-  same_slot s u hs hu e =
-      let one = slot_text P s hs in
-      let two : slice_get (table_texts P) (slot_number P s) ≡ Some u = ap (slice_get (table_texts P)) e ∙ slot_text P u hu in
-      cc
-
-  slot_other : (C : Program) → ((s : List ℕ) → slot_number C s ≡ slot_number P s) → (s u : List ℕ) → IsAmong (slot_names P) s → IsAmong (slot_names P) u → bytes_eq u s ≡ false → nat_eq (slot_number C s) (slot_number C u) ≡ false
-  slot_other C numbers s u hs hu h =
-      not_alike (nat_eq (slot_number C s) (slot_number C u)) (λ e.
-      let same : slot_number C s ≡ slot_number C u = grind arith in
-      let names = same_slot s u hs hu (sym (numbers s) ∙ same ∙ numbers u) in
-      let is : bytes_eq u s ≡ true = (bytes_eq-Decides u s).1 names in
-      never_true (sym h ∙ is))
-
-  -- where each slot of an accessor is named
-  abbrev Named : Sort → Type 0
-  Named (getter u) = IsAmong (slot_names P) u
-  Named (setter u) = IsAmong (slot_names P) u
-  Named (putter u) = IsAmong (slot_names P) u
+-- where each slot of an accessor is among the texts
+module _ (C : Program) (templates : List Template) where
+  abbrev pub Named : Sort → Type 0
+  Named (getter u) = IsAmong (program_texts C templates) u
+  Named (setter u) = IsAmong (program_texts C templates) u
+  Named (putter u) = IsAmong (program_texts C templates) u
   Named _ = Unit {0}
 
-  named_by : (s : Sort) → AreAmong (slot_names P) (accessed s) → Named s
-  named_by (getter u) h = h.0
-  named_by (setter u) h = h.0
-  named_by (putter u) h = h.0
-  named_by _ h = tt
+  -- so it is of each accessor
+  pub sort_slot : (s : Sort) → AreAmong (program_texts C templates) (sort_texts C templates s) → Named s
+  sort_slot (getter u) h = h.0
+  sort_slot (setter u) h = h.0
+  sort_slot (putter u) h = h.0
+  sort_slot _ h = tt
 
-  accessor_other :
-      (C : Program) → ((s : List ℕ) → slot_number C s ≡ slot_number P s) → (x : Accessor) (u : List ℕ) (v at : ℕ) (s : Sort) → IsAmong (slot_names P) u → Named s → same_sort s (accessor_sort x u) ≡ false →
-      same_action (accessor_action x (slot_number C u)) (sort_action C v at s) ≡ false
-  accessor_other C numbers getting u v at (getter y) hu hy h = slot_other C numbers u y hu hy h
-  accessor_other C numbers getting u v at _ hu hy h = refl
-  accessor_other C numbers setting u v at (setter y) hu hy h = slot_other C numbers u y hu hy h
-  accessor_other C numbers setting u v at _ hu hy h = refl
-  accessor_other C numbers putting u v at (putter y) hu hy h = slot_other C numbers u y hu hy h
-  accessor_other C numbers putting u v at _ hu hy h = refl
+  pub named_alike : (s c : Sort) → Alike s c → Named c → Named s
+  named_alike s c (a_same t) h = h
+  named_alike s c (a_body t u) h = tt
+  named_alike s c (a_past t u) h = tt
+  named_alike s c (a_method n g t u) h = tt
+
+  pub word_slot : (w : ℕ) (d : WordDef) → slice_get C.words w ≡ Some d → Named d.sort
+  word_slot w d e = sort_slot d.sort (word_named C templates w d e).1.1
+
+  prim_other : (v at k : ℕ) (s : Sort) → same_sort s (prim k) ≡ false → same_action (action.Prim k) (sort_action C templates v at s) ≡ false
+  prim_other v at k (prim j) h = other_number j k h
+  prim_other v at k (core j) h = core_other (is_core_action j)
+    where
+      core_other : (b : Bool) → same_action (action.Prim k) (elim b [ true ↦ action.Core j | false ↦ action.Itself ]) ≡ false
+      core_other true = refl
+      core_other false = refl
+  prim_other v at k _ h = refl
+
+  -- slots with one number have one name
+  same_slot : (s u : List ℕ) → IsAmong (program_texts C templates) s → IsAmong (program_texts C templates) u → text_number C templates s ≡ text_number C templates u → u ≡ s
+  same_slot s u hs hu e =
+      let one = text_there C templates s hs in
+      let two : slice_get (program_texts C templates) (text_number C templates s) ≡ Some u = ap (slice_get (program_texts C templates)) e ∙ text_there C templates u hu in
+      cc
+
+  slot_other : (s u : List ℕ) → IsAmong (program_texts C templates) s → IsAmong (program_texts C templates) u → bytes_eq u s ≡ false → nat_eq (text_number C templates s) (text_number C templates u) ≡ false
+  slot_other s u hs hu h =
+      not_alike (nat_eq (text_number C templates s) (text_number C templates u)) (λ e.
+      let names = same_slot s u hs hu (same_number (text_number C templates s) (text_number C templates u) e) in
+      let is : bytes_eq u s ≡ true = (bytes_eq-Decides u s).1 names in
+      never_true (sym h ∙ is))
+    where
+      same_number : (j k : ℕ) → nat_eq j k ≡ true → j ≡ k
+      same_number j k h = grind arith
+
+  core_row : (x : Accessor) (u : List ℕ) (b : Bool) (j : ℕ) → same_action (accessor_action x (text_number C templates u)) (elim b [ true ↦ action.Core j | false ↦ action.Itself ]) ≡ false
+  core_row getting u true j = refl
+  core_row getting u false j = refl
+  core_row setting u true j = refl
+  core_row setting u false j = refl
+  core_row putting u true j = refl
+  core_row putting u false j = refl
+
+  accessor_other : (x : Accessor) (u : List ℕ) (v at : ℕ) (s : Sort) → IsAmong (program_texts C templates) u → Named s → same_sort s (accessor_sort x u) ≡ false → same_action (accessor_action x (text_number C templates u)) (sort_action C templates v at s) ≡ false
+  accessor_other x u v at (core j) hu hy h = core_row x u (is_core_action j) j
+  accessor_other getting u v at (getter y) hu hy h = slot_other u y hu hy h
+  accessor_other getting u v at _ hu hy h = refl
+  accessor_other setting u v at (setter y) hu hy h = slot_other u y hu hy h
+  accessor_other setting u v at _ hu hy h = refl
+  accessor_other putting u v at (putter y) hu hy h = slot_other u y hu hy h
+  accessor_other putting u v at _ hu hy h = refl
 
   itself : (k : ℕ) → nat_eq k k ≡ true
   itself k = grind arith
 
-  accessor_own : (C : Program) (x : Accessor) (u : List ℕ) (v at : ℕ) → same_action (accessor_action x (slot_number C u)) (sort_action C v at (accessor_sort x u)) ≡ true
-  accessor_own C getting u v at = itself (slot_number C u)
-  accessor_own C setting u v at = itself (slot_number C u)
-  accessor_own C putting u v at = itself (slot_number C u)
+  accessor_own : (x : Accessor) (u : List ℕ) (v at : ℕ) → same_action (accessor_action x (text_number C templates u)) (sort_action C templates v at (accessor_sort x u)) ≡ true
+  accessor_own getting u v at = itself (text_number C templates u)
+  accessor_own setting u v at = itself (text_number C templates u)
+  accessor_own putting u v at = itself (text_number C templates u)
 
-  accessor_slot : (x : Accessor) (u : List ℕ) → AreAmong (slot_names P) (accessed (accessor_sort x u)) → IsAmong (slot_names P) u
-  accessor_slot getting u h = h.0
-  accessor_slot setting u h = h.0
-  accessor_slot putting u h = h.0
+  pub accessor_slot : (x : Accessor) (u : List ℕ) → Named (accessor_sort x u) → IsAmong (program_texts C templates) u
+  accessor_slot getting u h = h
+  accessor_slot setting u h = h
+  accessor_slot putting u h = h
 
-  -- the rows of the words of an image, each of which does what its word's sort says
-  abbrev pub DoAsSorts : Program → List WordRow → Type 0
-  DoAsSorts C rows = (w : ℕ) (d : WordDef) → slice_get P.words w ≡ Some d → (r : WordRow) × (at : ℕ) × (slice_get rows w ≡ Some r) × (r.action ≡ sort_action C w at d.sort)
+  module _ (P : Program) where
+    -- the rows of the words of an image, each of which does what its word's sort says
+    abbrev pub DoAsSorts : List WordRow → Type 0
+    DoAsSorts rows = (w : ℕ) (d : WordDef) → slice_get P.words w ≡ Some d → (r : WordRow) × (at : ℕ) × (slice_get rows w ≡ Some r) × (r.action ≡ sort_action C templates w at d.sort)
 
-  module _ (C : Program) (rows : List WordRow) (distinct : no_two same_word P.words ≡ true) (does : DoAsSorts C rows) (present : (j w : ℕ) (d : WordDef) → j < w → slice_get P.words w ≡ Some d → (x : WordDef) × (slice_get P.words j ≡ Some x)) where
-    pub first_prim : (w k : ℕ) (d : WordDef) → slice_get P.words w ≡ Some d → d.sort ≡ prim k → word_with (action.Prim k) 0 rows ≡ w
-    first_prim w k d at is =
-        let row = does w d at in
-        let own : same_action (action.Prim k) row.0.action ≡ true = ap (same_action (action.Prim k)) row.3 ∙ ap (λ (s : Sort). same_action (action.Prim k) (sort_action C w row.1 s)) is ∙ itself k in
-        let n : 0 + w ≡ w = omega arith in
-        first_row (action.Prim k) rows 0 w row.0 row.2 own (λ j lt.
-        let x = present j w d lt at in
-        let before = does j x.0 x.1 in
-        let other : same_sort x.0.sort (prim k) ≡ false = ap (same_sort x.0.sort) (sym is) ∙ differ same_word P.words j w x.0 d distinct lt x.1 at in
-        (before.0, before.2, ap (same_action (action.Prim k)) before.3 ∙ prim_other C j before.1 k x.0.sort other)) ∙ n
+    module _ (rows : List WordRow) (distinct : no_two same_word P.words ≡ true) (does : DoAsSorts rows) (present : (j w : ℕ) (d : WordDef) → j < w → slice_get P.words w ≡ Some d → (x : WordDef) × (slice_get P.words j ≡ Some x)) where
+      pub first_prim : (w k : ℕ) (d : WordDef) → slice_get P.words w ≡ Some d → d.sort ≡ prim k → word_with (action.Prim k) 0 rows ≡ w
+      first_prim w k d at is =
+          let row = does w d at in
+          let own : same_action (action.Prim k) row.0.action ≡ true = ap (same_action (action.Prim k)) row.3 ∙ ap (λ (s : Sort). same_action (action.Prim k) (sort_action C templates w row.1 s)) is ∙ itself k in
+          let n : 0 + w ≡ w = omega arith in
+          first_row (action.Prim k) rows 0 w row.0 row.2 own (λ j lt.
+          let x = present j w d lt at in
+          let before = does j x.0 x.1 in
+          let other : same_sort x.0.sort (prim k) ≡ false = ap (same_sort x.0.sort) (sym is) ∙ differ same_word P.words j w x.0 d distinct lt x.1 at in
+          (before.0, before.2, ap (same_action (action.Prim k)) before.3 ∙ prim_other j before.1 k x.0.sort other)) ∙ n
 
-    pub first_accessor : ((s : List ℕ) → slot_number C s ≡ slot_number P s) → (x : Accessor) (u : List ℕ) (w : ℕ) (d : WordDef) → slice_get P.words w ≡ Some d → d.sort ≡ accessor_sort x u → word_with (accessor_action x (slot_number C u)) 0 rows ≡ w
-    first_accessor numbers x u w d at is =
-        let row = does w d at in
-        let a = accessor_action x (slot_number C u) in
-        let own : same_action a row.0.action ≡ true = ap (same_action a) row.3 ∙ ap (λ (s : Sort). same_action a (sort_action C w row.1 s)) is ∙ accessor_own C x u w row.1 in
-        let named = accessor_slot x u (subst (λ (s : Sort). AreAmong (slot_names P) (accessed s)) is (accessor_named P w d at)) in
-        let n : 0 + w ≡ w = omega arith in
-        first_row a rows 0 w row.0 row.2 own (λ j lt.
-        let y = present j w d lt at in
-        let before = does j y.0 y.1 in
-        let other : same_sort y.0.sort (accessor_sort x u) ≡ false = ap (same_sort y.0.sort) (sym is) ∙ differ same_word P.words j w y.0 d distinct lt y.1 at in
-        (before.0, before.2, ap (same_action a) before.3 ∙ accessor_other C numbers x u j before.1 y.0.sort named (named_by y.0.sort (accessor_named P j y.0 y.1)) other)) ∙ n
+      pub first_accessor : ((w : ℕ) (d : WordDef) → slice_get P.words w ≡ Some d → Named d.sort) → (x : Accessor) (u : List ℕ) (w : ℕ) (d : WordDef) → slice_get P.words w ≡ Some d → d.sort ≡ accessor_sort x u → word_with (accessor_action x (text_number C templates u)) 0 rows ≡ w
+      first_accessor named x u w d at is =
+          let row = does w d at in
+          let a = accessor_action x (text_number C templates u) in
+          let own : same_action a row.0.action ≡ true = ap (same_action a) row.3 ∙ ap (λ (s : Sort). same_action a (sort_action C templates w row.1 s)) is ∙ accessor_own x u w row.1 in
+          let slot = accessor_slot x u (subst Named is (named w d at)) in
+          let n : 0 + w ≡ w = omega arith in
+          first_row a rows 0 w row.0 row.2 own (λ j lt.
+          let y = present j w d lt at in
+          let before = does j y.0 y.1 in
+          let other : same_sort y.0.sort (accessor_sort x u) ≡ false = ap (same_sort y.0.sort) (sym is) ∙ differ same_word P.words j w y.0 d distinct lt y.1 at in
+          (before.0, before.2, ap (same_action a) before.3 ∙ accessor_other x u j before.1 y.0.sort slot (named j y.0 y.1) other)) ∙ n

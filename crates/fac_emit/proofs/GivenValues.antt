@@ -47,7 +47,7 @@ module _ (N : Names) where
   followed_long (prints k go) vs w = followed_long (go (printed machine_values N w (value_at machine_values vs k))) vs w
   followed_long (asks a go) vs w = followed_long (go (N.tuple_class a)) vs w
   followed_long (writes bs p) vs w = followed_long p vs (record w { output = w.output ++ bs })
-  followed_long (reads go) vs w = followed_long (go (line_in w.input)) vs (record w { input = behind_line w.input })
+  followed_long (reads go) vs w = followed_long (go (line_in w.input)) vs (record w { input = behind_line w.input; asked = suc w.asked })
 
   inputs_counted : {o : Option ℕ} (n : ℕ) (p : Procedure o) → IsCounted (at_most_three n) o (by_inputs machine_values N n p)
   inputs_counted zero p = (refl, λ w. followed_long p [] w)

@@ -125,7 +125,7 @@ module _ (P : Program) (M : Image) where
     followed_keeps (prints k go) g vs w h os = let bs = printed machine_values N w (value_at machine_values vs k) in followed_keeps (go bs) (g bs) vs w h os
     followed_keeps (asks a go) g vs w h os = followed_keeps (go (N.tuple_class a)) (g (N.tuple_class a)) vs w h os
     followed_keeps (writes bs p) g vs w h os = followed_keeps p g vs (record w { output = w.output ++ bs }) h os
-    followed_keeps (reads go) g vs w h os = followed_keeps (go (line_in w.input)) (g (line_in w.input)) vs (record w { input = behind_line w.input }) h os
+    followed_keeps (reads go) g vs w h os = followed_keeps (go (line_in w.input)) (g (line_in w.input)) vs (record w { input = behind_line w.input; asked = suc w.asked }) h os
 
     inputs_keep : {o : Option ℕ} (n : ℕ) (p : Procedure o) → MakesNoWord p → Keeps P M (by_inputs machine_values N n p)
     inputs_keep zero p g = λ w os. followed_keeps p g [] w tt os

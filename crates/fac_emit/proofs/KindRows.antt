@@ -2,9 +2,11 @@
 use Rattle.std.proofs.Common.{◌≡◌, ◌<◌, ℕ, zero, suc, ◌+◌, ◌-◌, List, [], ◌∷◌, Bool, true, false, Option, Some, None, refl, ap, sym, ◌∙◌, arith, true≢false}
 use Rattle.std.specs.Prelude.{nat_eq, slice_get}
 use Rattle.fac_lang.specs.declared.program.ClassDef.{ClassDef}
+use Rattle.fac_lang.specs.declared.phrase.Template.{Template}
 use Rattle.fac_lang.specs.declared.program.Program.{Program}
 use Rattle.fac_lang.specs.Classes.{has_own, own_kind, class_with}
-use Rattle.fac_emit.specs.ProgramTables.{kind_names, slot_numbers, kinds_from}
+use Rattle.fac_code.specs.declared.image.KindRow.{KindRow}
+use Rattle.fac_emit.specs.ProgramTables.{kind_row_of, kinds_from}
 
 never_true : {A : Type 0} → false ≡ true → A
 never_true h = absurd (true≢false (sym h))
@@ -20,32 +22,38 @@ pub no_class : (c k : ℕ) (ds : List ClassDef) → k < 8 → class_with c ds k 
 no_class c k [] lt = refl
 no_class c k (d ∷ ds) lt = first_by c k ds (has_own d.shape) (nat_eq k 8) refl lt (λ j less. no_class (suc c) j ds less)
 
-module _ (P : Program) where
+module _ (C : Program) (templates : List Template) where
+  abbrev row : ℕ → ClassDef → KindRow
+  row c d = kind_row_of C templates c d
+
+  abbrev rows : ℕ → List ClassDef → List KindRow
+  rows c ds = kinds_from C templates c ds
+
   -- the row of a kind, and the class whose own kind it is
-  pub record KindOf (at c : ℕ) (ds : List ClassDef) (j : ℕ) : Type 0 where
+  pub record KindOf (c : ℕ) (ds : List ClassDef) (j : ℕ) : Type 0 where
     pub def : ClassDef
     pub place : ℕ
     pub there : slice_get ds place ≡ Some def
-    pub named : slice_get (kind_names ds) j ≡ Some def.name.name
-    pub row : slice_get (kinds_from P at c ds) j ≡ Some (record { name = at + j; slots = slot_numbers P (c + place) def.shape })
+    pub row_is : slice_get (rows c ds) j ≡ Some (row (c + place) def)
     pub owner : class_with c ds (8 + j) ≡ Some (c + place)
 
   -- or there is neither
-  pub data FindsKind (at c : ℕ) (ds : List ClassDef) (j : ℕ) : Type 0 where
-    k_found : KindOf at c ds j → FindsKind at c ds j
-    k_none : slice_get (kinds_from P at c ds) j ≡ None → class_with c ds (8 + j) ≡ None → FindsKind at c ds j
+  pub data FindsKind (c : ℕ) (ds : List ClassDef) (j : ℕ) : Type 0 where
+    k_found : KindOf c ds j → FindsKind c ds j
+    k_none : slice_get (rows c ds) j ≡ None → class_with c ds (8 + j) ≡ None → FindsKind c ds j
 
-  own_row : (at c : ℕ) (d : ClassDef) (ds : List ClassDef) → has_own d.shape ≡ true → KindOf at c (d ∷ ds) 0
-  own_row at c d ds own =
+  -- the rows of classes from one on, by whether that has a kind of its own
+  abbrev rows_by : ℕ → ClassDef → List ClassDef → Bool → List KindRow
+  rows_by c d ds b = elim b [ true ↦ row c d ∷ rows (suc c) ds | false ↦ rows (suc c) ds ]
+
+  own_row : (c : ℕ) (d : ClassDef) (ds : List ClassDef) → has_own d.shape ≡ true → KindOf c (d ∷ ds) 0
+  own_row c d ds own =
       let n : c + 0 ≡ c = omega arith in
-      let a : at + 0 ≡ at = omega arith in
       record {
         def = d;
         place = 0;
         there = refl;
-        named = ap (λ (b : Bool). slice_get (elim b [ true ↦ d.name.name ∷ kind_names ds | false ↦ kind_names ds ]) 0) own;
-        row = ap (λ (b : Bool). slice_get (elim b [ true ↦ record { name = at; slots = slot_numbers P c d.shape } ∷ kinds_from P (suc at) (suc c) ds | false ↦ kinds_from P at (suc c) ds ]) 0) own
-            ∙ ap (λ (x : ℕ). Some (record { name = x; slots = slot_numbers P c d.shape })) (sym a) ∙ ap (λ (x : ℕ). Some (record { name = at + 0; slots = slot_numbers P x d.shape })) (sym n);
+        row_is = ap (λ (b : Bool). slice_get (rows_by c d ds b) 0) own ∙ ap (λ (x : ℕ). Some (row x d)) (sym n);
         owner = ap (λ (b : Bool). elim b [ true ↦ Some c | false ↦ class_with (suc c) ds 8 ]) own ∙ ap Some (sym n);
       }
 
@@ -59,94 +67,75 @@ module _ (P : Program) where
       other : (j : ℕ) → nat_eq (8 + suc j) 8 ≡ false
       other j = grind arith
 
-  later_own : (at c j : ℕ) (d : ClassDef) (ds : List ClassDef) → has_own d.shape ≡ true → FindsKind (suc at) (suc c) ds j → FindsKind at c (d ∷ ds) (suc j)
-  later_own at c j d ds own (k_none e f) =
-      k_none (ap (λ (b : Bool). slice_get (elim b [ true ↦ record { name = at; slots = slot_numbers P c d.shape } ∷ kinds_from P (suc at) (suc c) ds | false ↦ kinds_from P at (suc c) ds ]) (suc j)) own ∙ e) (next_own c j d ds own ∙ f)
-  later_own at c j d ds own (k_found k) =
+  later_own : (c j : ℕ) (d : ClassDef) (ds : List ClassDef) → has_own d.shape ≡ true → FindsKind (suc c) ds j → FindsKind c (d ∷ ds) (suc j)
+  later_own c j d ds own (k_none e f) = k_none (ap (λ (b : Bool). slice_get (rows_by c d ds b) (suc j)) own ∙ e) (next_own c j d ds own ∙ f)
+  later_own c j d ds own (k_found k) =
       let n : suc c + k.place ≡ c + suc k.place = omega arith in
-      let a : suc at + j ≡ at + suc j = omega arith in
       k_found (record {
         def = k.def;
         place = suc k.place;
         there = k.there;
-        named = ap (λ (b : Bool). slice_get (elim b [ true ↦ d.name.name ∷ kind_names ds | false ↦ kind_names ds ]) (suc j)) own ∙ k.named;
-        row = ap (λ (b : Bool). slice_get (elim b [ true ↦ record { name = at; slots = slot_numbers P c d.shape } ∷ kinds_from P (suc at) (suc c) ds | false ↦ kinds_from P at (suc c) ds ]) (suc j)) own ∙ k.row
-            ∙ ap (λ (x : ℕ). Some (record { name = x; slots = slot_numbers P (suc c + k.place) k.def.shape })) a ∙ ap (λ (x : ℕ). Some (record { name = at + suc j; slots = slot_numbers P x k.def.shape })) n;
+        row_is = ap (λ (b : Bool). slice_get (rows_by c d ds b) (suc j)) own ∙ k.row_is ∙ ap (λ (x : ℕ). Some (row x k.def)) n;
         owner = next_own c j d ds own ∙ k.owner ∙ ap Some n;
       })
 
-  without_own : (at c j : ℕ) (d : ClassDef) (ds : List ClassDef) → has_own d.shape ≡ false → FindsKind at (suc c) ds j → FindsKind at c (d ∷ ds) j
-  without_own at c j d ds own (k_none e f) =
-      k_none (ap (λ (b : Bool). slice_get (elim b [ true ↦ record { name = at; slots = slot_numbers P c d.shape } ∷ kinds_from P (suc at) (suc c) ds | false ↦ kinds_from P at (suc c) ds ]) j) own ∙ e)
-      (ap (λ (b : Bool). elim b [ true ↦ elim (nat_eq (8 + j) 8) [ true ↦ Some c | false ↦ class_with (suc c) ds (8 + j - 1) ] | false ↦ class_with (suc c) ds (8 + j) ]) own ∙ f)
-  without_own at c j d ds own (k_found k) =
+  without_own : (c j : ℕ) (d : ClassDef) (ds : List ClassDef) → has_own d.shape ≡ false → FindsKind (suc c) ds j → FindsKind c (d ∷ ds) j
+  without_own c j d ds own (k_none e f) =
+      k_none (ap (λ (b : Bool). slice_get (rows_by c d ds b) j) own ∙ e) (ap (λ (b : Bool). elim b [ true ↦ elim (nat_eq (8 + j) 8) [ true ↦ Some c | false ↦ class_with (suc c) ds (8 + j - 1) ] | false ↦ class_with (suc c) ds (8 + j) ]) own ∙ f)
+  without_own c j d ds own (k_found k) =
       let n : suc c + k.place ≡ c + suc k.place = omega arith in
       k_found (record {
         def = k.def;
         place = suc k.place;
         there = k.there;
-        named = ap (λ (b : Bool). slice_get (elim b [ true ↦ d.name.name ∷ kind_names ds | false ↦ kind_names ds ]) j) own ∙ k.named;
-        row = ap (λ (b : Bool). slice_get (elim b [ true ↦ record { name = at; slots = slot_numbers P c d.shape } ∷ kinds_from P (suc at) (suc c) ds | false ↦ kinds_from P at (suc c) ds ]) j) own ∙ k.row
-            ∙ ap (λ (x : ℕ). Some (record { name = at + j; slots = slot_numbers P x k.def.shape })) n;
+        row_is = ap (λ (b : Bool). slice_get (rows_by c d ds b) j) own ∙ k.row_is ∙ ap (λ (x : ℕ). Some (row x k.def)) n;
         owner = ap (λ (b : Bool). elim b [ true ↦ elim (nat_eq (8 + j) 8) [ true ↦ Some c | false ↦ class_with (suc c) ds (8 + j - 1) ] | false ↦ class_with (suc c) ds (8 + j) ]) own ∙ k.owner ∙ ap Some n;
       })
 
-  finds_by : (at c j : ℕ) (d : ClassDef) (ds : List ClassDef) (b : Bool) → has_own d.shape ≡ b → ((at j : ℕ) → FindsKind at (suc c) ds j) → FindsKind at c (d ∷ ds) j
-  finds_by at c zero d ds true own more = k_found (own_row at c d ds own)
-  finds_by at c (suc j) d ds true own more = later_own at c j d ds own (more (suc at) j)
-  finds_by at c j d ds false own more = without_own at c j d ds own (more at j)
+  finds_by : (c j : ℕ) (d : ClassDef) (ds : List ClassDef) (b : Bool) → has_own d.shape ≡ b → ((j : ℕ) → FindsKind (suc c) ds j) → FindsKind c (d ∷ ds) j
+  finds_by c zero d ds true own more = k_found (own_row c d ds own)
+  finds_by c (suc j) d ds true own more = later_own c j d ds own (more j)
+  finds_by c j d ds false own more = without_own c j d ds own (more j)
 
-  pub finds_kind : (at c : ℕ) (ds : List ClassDef) (j : ℕ) → FindsKind at c ds j
-  finds_kind at c [] j = k_none refl refl
-  finds_kind at c (d ∷ ds) j = finds_by at c j d ds (has_own d.shape) refl (λ at j. finds_kind at (suc c) ds j)
+  pub finds_kind : (c : ℕ) (ds : List ClassDef) (j : ℕ) → FindsKind c ds j
+  finds_kind c [] j = k_none refl refl
+  finds_kind c (d ∷ ds) j = finds_by c j d ds (has_own d.shape) refl (finds_kind (suc c) ds)
 
   -- The kind of a class as its own.
-  pub record OwnOf (at c : ℕ) (ds : List ClassDef) (i n k : ℕ) : Type 0 where
+  pub record OwnOf (c : ℕ) (ds : List ClassDef) (i n k : ℕ) : Type 0 where
     pub place : ℕ
     pub number : k ≡ n + place
     pub def : ClassDef
     pub there : slice_get ds i ≡ Some def
     pub owns : has_own def.shape ≡ true
-    pub row : slice_get (kinds_from P at c ds) place ≡ Some (record { name = at + place; slots = slot_numbers P (c + i) def.shape })
+    pub row_is : slice_get (rows c ds) place ≡ Some (row (c + i) def)
 
-  own_first : (at c n k : ℕ) (d : ClassDef) (ds : List ClassDef) (b : Bool) → has_own d.shape ≡ b → (let o : Option ℕ = elim b [ true ↦ Some n | false ↦ None ] in o ≡ Some k) → OwnOf at c (d ∷ ds) 0 n k
-  unfolding own_row
-  own_first at c n k d ds true own e =
-      let first = own_row at c d ds own in
+  own_first : (c n k : ℕ) (d : ClassDef) (ds : List ClassDef) (b : Bool) → has_own d.shape ≡ b → (let o : Option ℕ = elim b [ true ↦ Some n | false ↦ None ] in o ≡ Some k) → OwnOf c (d ∷ ds) 0 n k
+  own_first c n k d ds true own e =
       let same : n ≡ k = cc in
-      record { place = 0; number = omega (arith, same); def = d; there = refl; owns = own; row = first.row }
-  own_first at c n k d ds false own e = absurd (cc)
+      let m : c + 0 ≡ c = omega arith in
+      record { place = 0; number = omega (arith, same); def = d; there = refl; owns = own; row_is = ap (λ (b : Bool). slice_get (rows_by c d ds b) 0) own ∙ ap (λ (x : ℕ). Some (row x d)) (sym m) }
+  own_first c n k d ds false own e = absurd (cc)
 
-  own_later : (at c i n k : ℕ) (d : ClassDef) (ds : List ClassDef) (b : Bool) → has_own d.shape ≡ b → ((at n : ℕ) → own_kind n ds i ≡ Some k → OwnOf at (suc c) ds i n k) →
-      elim b [ true ↦ own_kind (suc n) ds i | false ↦ own_kind n ds i ] ≡ Some k → OwnOf at c (d ∷ ds) (suc i) n k
-  own_later at c i n k d ds true own more e =
-      let o = more (suc at) (suc n) e in
+  own_later : (c i n k : ℕ) (d : ClassDef) (ds : List ClassDef) (b : Bool) → has_own d.shape ≡ b → ((n : ℕ) → own_kind n ds i ≡ Some k → OwnOf (suc c) ds i n k) → elim b [ true ↦ own_kind (suc n) ds i | false ↦ own_kind n ds i ] ≡ Some k → OwnOf c (d ∷ ds) (suc i) n k
+  own_later c i n k d ds true own more e =
+      let o = more (suc n) e in
       let number = o.number in
       let m : suc c + i ≡ c + suc i = omega arith in
-      let a : suc at + o.place ≡ at + suc o.place = omega arith in
       record {
         place = suc o.place;
         number = omega (arith, number);
         def = o.def;
         there = o.there;
         owns = o.owns;
-        row = ap (λ (b : Bool). slice_get (elim b [ true ↦ record { name = at; slots = slot_numbers P c d.shape } ∷ kinds_from P (suc at) (suc c) ds | false ↦ kinds_from P at (suc c) ds ]) (suc o.place)) own ∙ o.row
-            ∙ ap (λ (x : ℕ). Some (record { name = x; slots = slot_numbers P (suc c + i) o.def.shape })) a ∙ ap (λ (x : ℕ). Some (record { name = at + suc o.place; slots = slot_numbers P x o.def.shape })) m;
+        row_is = ap (λ (b : Bool). slice_get (rows_by c d ds b) (suc o.place)) own ∙ o.row_is ∙ ap (λ (x : ℕ). Some (row x o.def)) m;
       }
-  own_later at c i n k d ds false own more e =
-      let o = more at n e in
+  own_later c i n k d ds false own more e =
+      let o = more n e in
       let m : suc c + i ≡ c + suc i = omega arith in
-      record {
-        place = o.place;
-        number = o.number;
-        def = o.def;
-        there = o.there;
-        owns = o.owns;
-        row = ap (λ (b : Bool). slice_get (elim b [ true ↦ record { name = at; slots = slot_numbers P c d.shape } ∷ kinds_from P (suc at) (suc c) ds | false ↦ kinds_from P at (suc c) ds ]) o.place) own ∙ o.row
-            ∙ ap (λ (x : ℕ). Some (record { name = at + o.place; slots = slot_numbers P x o.def.shape })) m;
-      }
+      record { place = o.place; number = o.number; def = o.def; there = o.there; owns = o.owns; row_is = ap (λ (b : Bool). slice_get (rows_by c d ds b) o.place) own ∙ o.row_is ∙ ap (λ (x : ℕ). Some (row x o.def)) m }
 
-  pub own_of : (at c : ℕ) (ds : List ClassDef) (i n k : ℕ) → own_kind n ds i ≡ Some k → OwnOf at c ds i n k
-  own_of at c [] i n k e = absurd (cc)
-  own_of at c (d ∷ ds) zero n k e = own_first at c n k d ds (has_own d.shape) refl e
-  own_of at c (d ∷ ds) (suc i) n k e = own_later at c i n k d ds (has_own d.shape) refl (λ at n h. own_of at (suc c) ds i n k h) e
+  pub own_of : (c : ℕ) (ds : List ClassDef) (i n k : ℕ) → own_kind n ds i ≡ Some k → OwnOf c ds i n k
+  own_of c [] i n k e = absurd (cc)
+  own_of c (d ∷ ds) zero n k e = own_first c n k d ds (has_own d.shape) refl e
+  own_of c (d ∷ ds) (suc i) n k e = own_later c i n k d ds (has_own d.shape) refl (λ n h. own_of (suc c) ds i n k h) e

@@ -16,8 +16,7 @@ pub mod Simulation
 pub mod PlainIsCode
 pub mod RunningPhrases
 pub mod Closings
-pub mod TextLists
-pub mod TableLemmas
+pub mod TextLemmas
 pub mod ClassSets
 pub mod TableNumbers
 pub mod FirstWords
@@ -41,13 +40,11 @@ pub mod ReferenceLemmas
 pub mod EmitLemmas
 pub mod Emitted
 pub mod CodedItems
-pub mod ArrayLemmas
 pub mod NumberLemmas
 pub mod PromisedLemmas
-pub mod MethodPlaces
-pub mod SlotLemmas
+pub mod MethodRows
+pub mod KeyLemmas
 pub mod CountLemmas
 pub mod SetLemmas
 pub mod ClosedTables
-pub mod TopRow
 pub mod ExamplesOfCode

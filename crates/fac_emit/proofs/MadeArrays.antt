@@ -22,14 +22,15 @@ use Rattle.fac_store.specs.MachineValues.{MValue, m_fun, m_lit, none_kept}
 use Rattle.fac_vm.specs.Machine.{element_value, with_arrays, first_world}
 use Rattle.fac_emit.specs.MachineView.{Templates, template_phrases, value_view, values_view, object_view, world_view}
 use Rattle.fac_emit.specs.WholeValues.{Whole, AllWhole, WholeObjects}
-use Rattle.fac_emit.specs.ProgramCode.{program_texts, elem_of, with_element_text, elems_of, elements_texts, arrays_of, arrays_texts, IsPlain}
+use Rattle.fac_emit.specs.ProgramTexts.{own_elements_texts, arrays_texts, program_texts}
+use Rattle.fac_emit.specs.ProgramCode.{elem_of, elems_of, IsPlain}
 use Rattle.fac_emit.proofs.KeptPrimitives.{object_added}
 use Rattle.fac_emit.proofs.LiteralWords.{is_listed_in_array}
 use Rattle.fac_emit.proofs.Placed.{listed_row}
-use Rattle.fac_emit.proofs.PlacedWords.{texts_begin}
+use Rattle.fac_emit.proofs.PlacedWords.{text_in}
 use Rattle.fac_emit.proofs.TopPhrases.{no_top}
 use Rattle.fac_emit.proofs.SamePrimitives.{map_more}
-use Rattle.fac_emit.proofs.TextLists.{Begins, begins_same, begins_on, arrays_behind, element_there}
+use Rattle.fac_emit.proofs.TextLemmas.{AreAmong, both_among, first_element, all_arrays_named}
 
 pub has_first : (xs : List ℕ) (x : ℕ) → (i : ℕ) × (is : List ℕ) × (xs ++ x ∷ [] ≡ i ∷ is)
 has_first [] x = (x, [], refl)
@@ -43,75 +44,70 @@ module _ (P C : Program) (templates : List Template) (heights : List (Option Hei
   unfolding template_phrases
   phrase_made m q at t e = (programs_open P C templates closes).alone at (of_method_if m t) q e
 
-  element_made : (m : Option ℕ) (addresses : List ℕ) (at : Literal) (texts : List (List ℕ)) (l c : Lit) (ls : List Lit) → ClosesElement P m at l c → Begins (elements_texts (with_element_text texts c) ls) M.texts →
-      value_view T (element_value M addresses (elem_of (length texts) c)) ≡ literal_value P addresses m l
-  element_made m addresses at texts (l_int z) c ls h begins = rw h refl
-  element_made m addresses at texts l_yes c ls h begins = rw h refl
-  element_made m addresses at texts l_no c ls h begins = rw h refl
-  element_made m addresses at texts (l_str bs) c ls h begins =
-      let is : Begins (elements_texts (texts ++ bs ∷ []) ls) M.texts = subst (λ (l : Lit). Begins (elements_texts (with_element_text texts l) ls) M.texts) h begins in
-      rw h (ap (λ (o : Option (List ℕ)). plain (str (or_empty o))) (element_there texts M.texts bs ls is))
-  element_made m addresses at texts (l_arr a) c ls h begins = rw h refl
-  element_made m addresses at texts (l_word w) c ls h begins = rw h refl
-  element_made m addresses at texts (l_quot t) c ls h begins = rw h.1 (ap (λ (u : Phrase). fun (of_phrase u)) (phrase_made m h.0 at t h.2))
-  element_made m addresses at texts (l_made k) c ls h begins = absurd h
+  element_made : (m : Option ℕ) (addresses : List ℕ) (at : Literal) (l c : Lit) → ClosesElement P m at l c → AreAmong (program_texts C templates) (own_elements_texts (c ∷ [])) → value_view T (element_value M addresses (elem_of C templates c)) ≡ literal_value P addresses m l
+  element_made m addresses at (l_int z) c h named = rw h refl
+  element_made m addresses at l_yes c h named = rw h refl
+  element_made m addresses at l_no c h named = rw h refl
+  element_made m addresses at (l_str bs) c h named =
+      let own = subst (λ (l : Lit). AreAmong (program_texts C templates) (own_elements_texts (l ∷ []))) h named in
+      rw h (ap (λ (o : Option (List ℕ)). plain (str (or_empty o))) (text_in P C templates heights M b closes is_plain bs own.0))
+  element_made m addresses at (l_arr a) c h named = rw h refl
+  element_made m addresses at (l_word w) c h named = rw h refl
+  element_made m addresses at (l_quot t) c h named = rw h.1 (ap (λ (u : Phrase). fun (of_phrase u)) (phrase_made m h.0 at t h.2))
+  element_made m addresses at (l_made k) c h named = absurd h
 
-  elements_made : (m : Option ℕ) (addresses : List ℕ) (at : Literal) (texts : List (List ℕ)) (ls cs : List Lit) → CloseElements P m at ls cs → Begins (elements_texts texts cs) M.texts →
-      values_view T (map (element_value M addresses) (elems_of texts cs)) ≡ map (literal_value P addresses m) ls
-  elements_made m addresses at texts [] cs h begins = rw h refl
-  elements_made m addresses at texts (l ∷ ls) cs h begins =
-      let is : Begins (elements_texts (with_element_text texts h.0) h.1) M.texts = subst (λ (xs : List Lit). Begins (elements_texts texts xs) M.texts) h.2 begins in
-      rw h.2 (rw (element_made m addresses at texts l h.0 h.1 h.3 is, elements_made m addresses (behind at (element_item m l)) (with_element_text texts h.0) ls h.1 h.4 is) refl)
+  elements_made : (m : Option ℕ) (addresses : List ℕ) (at : Literal) (ls cs : List Lit) → CloseElements P m at ls cs → AreAmong (program_texts C templates) (own_elements_texts cs) → values_view T (map (element_value M addresses) (elems_of C templates cs)) ≡ map (literal_value P addresses m) ls
+  elements_made m addresses at [] cs h named = rw h refl
+  elements_made m addresses at (l ∷ ls) cs h named =
+      let parts = first_element C templates h.0 h.1 (subst (λ (xs : List Lit). AreAmong (program_texts C templates) (own_elements_texts xs)) h.2 named) in
+      rw h.2 (rw (element_made m addresses at l h.0 h.3 parts.0, elements_made m addresses (behind at (element_item m l)) ls h.1 h.4 parts.1) refl)
 
-  same_made : (a : ℕ) (texts : List (List ℕ)) (lss css : List (List Lit)) → CloseArrays P a lss css → Begins (arrays_texts texts css) M.texts → (w : World MValue) → world_view T (with_arrays M (arrays_of texts css) w) ≡ meaning_arrays P a lss (world_view T w)
-  same_made a texts [] css h begins w = rw h refl
-  same_made a texts (ls ∷ lss) css h begins w =
+  same_made : (a : ℕ) (lss css : List (List Lit)) → CloseArrays P a lss css → AreAmong (program_texts C templates) (arrays_texts css) → (w : World MValue) → world_view T (with_arrays M (map (elems_of C templates) css) w) ≡ meaning_arrays P a lss (world_view T w)
+  same_made a [] css h named w = rw h refl
+  same_made a (ls ∷ lss) css h named w =
       let m = array_method P (length P.arrays) a in
-      let next = elements_texts texts h.1 in
-      let is : Begins (arrays_texts next h.2) M.texts = subst (λ (xss : List (List Lit)). Begins (arrays_texts texts xss) M.texts) h.3 begins in
-      let own = elements_made m w.literals (first_in_array h.0) texts ls h.1 h.4 (begins_on next (arrays_texts next h.2) M.texts (arrays_behind next h.2) is) in
-      let made : Object MValue = array (map (element_value M w.literals) (elems_of texts h.1)) in
-      let w' : World MValue = record { objects = w.objects ++ made ∷ []; literals = w.literals ++ length w.objects ∷ []; input = w.input; output = w.output } in
+      let parts = both_among (program_texts C templates) (own_elements_texts h.1) (arrays_texts h.2) (subst (λ (xss : List (List Lit)). AreAmong (program_texts C templates) (arrays_texts xss)) h.3 named) in
+      let own = elements_made m w.literals (first_in_array h.0) ls h.1 h.4 parts.0 in
+      let made : Object MValue = array (map (element_value M w.literals) (elems_of C templates h.1)) in
+      let w' : World MValue = record w { objects = w.objects ++ made ∷ []; literals = w.literals ++ length w.objects ∷ [] } in
       let objects : map (object_view T) (w.objects ++ made ∷ []) ≡ map (object_view T) w.objects ++ array (map (literal_value P w.literals m) ls) ∷ [] = map_more (object_view T) w.objects (made ∷ []) ∙ ap (λ (vs : List Value). map (object_view T) w.objects ++ array vs ∷ []) own in
       let count : length w.objects ≡ length (map (object_view T) w.objects) = sym (length-map w.objects (object_view T)) in
-      let view : world_view T w' ≡ record { objects = map (object_view T) w.objects ++ array (map (literal_value P w.literals m) ls) ∷ []; literals = w.literals ++ length (map (object_view T) w.objects) ∷ []; input = w.input; output = w.output } =
-      ap (λ (os : List (Object Value)). record { objects = os; literals = w.literals ++ length w.objects ∷ []; input = w.input; output = w.output }) objects
-      ∙ ap (λ (n : ℕ). record { objects = map (object_view T) w.objects ++ array (map (literal_value P w.literals m) ls) ∷ []; literals = w.literals ++ n ∷ []; input = w.input; output = w.output }) count in
-      rw h.3 (same_made (suc a) next lss h.2 h.5 is w' ∙ ap (meaning_arrays P (suc a) lss) view)
+      let view : world_view T w' ≡ record (world_view T w) { objects = map (object_view T) w.objects ++ array (map (literal_value P w.literals m) ls) ∷ []; literals = w.literals ++ length (map (object_view T) w.objects) ∷ [] } =
+      ap (λ (os : List (Object Value)). record (world_view T w) { objects = os; literals = w.literals ++ length w.objects ∷ [] }) objects
+      ∙ ap (λ (n : ℕ). record (world_view T w) { objects = map (object_view T) w.objects ++ array (map (literal_value P w.literals m) ls) ∷ []; literals = w.literals ++ n ∷ [] }) count in
+      rw h.3 (same_made (suc a) lss h.2 h.5 parts.1 w' ∙ ap (meaning_arrays P (suc a) lss) view)
 
   -- callables in arrays are of the image's templates
   template_whole : (i : ℕ) (is : List ℕ) (at : Literal) (u : Phrase) (q : ℕ) → at.around ≡ i ∷ is → IsMadeBy P [] at (quot u) q → Whole P M (m_fun (m_lit q none_kept))
   template_whole i is at u q around e =
       let l : Quoted = record { at = at; cells = []; item = quot u } in
-      let row = listed_row P C templates closes heights M.code M.texts M.templates is_plain.code (texts_begin P C templates heights M b closes is_plain) is_plain.template_rows_are q l (is_listed_in_array P q l i is around e) in
+      let row = listed_row P C templates closes heights M.code M.templates is_plain.code is_plain.template_rows_are q l (is_listed_in_array P q l i is around e) in
       let cells : length row.row.cells ≡ 0 = ap length row.cells in
       let holes : row.row.holes ≡ 0 = row.holes in
       (row.row, row.there, omega (arith, cells, holes), tt)
 
-  element_whole : (m : Option ℕ) (addresses : List ℕ) (i : ℕ) (is : List ℕ) (at : Literal) (n : ℕ) (l c : Lit) → at.around ≡ i ∷ is → IsBuiltElement P.top l → ClosesElement P m at l c → Whole P M (element_value M addresses (elem_of n c))
-  element_whole m addresses i is at n (l_int z) c around g h = rw h tt
-  element_whole m addresses i is at n l_yes c around g h = rw h tt
-  element_whole m addresses i is at n l_no c around g h = rw h tt
-  element_whole m addresses i is at n (l_str bs) c around g h = rw h tt
-  element_whole m addresses i is at n (l_arr a) c around g h = rw h tt
-  element_whole m addresses i is at n (l_word w) c around g h = rw h (no_top P b w (ltb-true w P.top g))
-  element_whole m addresses i is at n (l_quot t) c around g h = rw h.1 (template_whole i is at _ h.0 around h.2)
-  element_whole m addresses i is at n (l_made k) c around g h = absurd h
+  element_whole : (m : Option ℕ) (addresses : List ℕ) (i : ℕ) (is : List ℕ) (at : Literal) (l c : Lit) → at.around ≡ i ∷ is → IsBuiltElement P.top l → ClosesElement P m at l c → Whole P M (element_value M addresses (elem_of C templates c))
+  element_whole m addresses i is at (l_int z) c around g h = rw h tt
+  element_whole m addresses i is at l_yes c around g h = rw h tt
+  element_whole m addresses i is at l_no c around g h = rw h tt
+  element_whole m addresses i is at (l_str bs) c around g h = rw h tt
+  element_whole m addresses i is at (l_arr a) c around g h = rw h tt
+  element_whole m addresses i is at (l_word w) c around g h = rw h (no_top P b w (ltb-true w P.top g))
+  element_whole m addresses i is at (l_quot t) c around g h = rw h.1 (template_whole i is at _ h.0 around h.2)
+  element_whole m addresses i is at (l_made k) c around g h = absurd h
 
-  elements_whole :
-      (m : Option ℕ) (addresses : List ℕ) (i : ℕ) (is : List ℕ) (at : Literal) (texts : List (List ℕ)) (ls cs : List Lit) → at.around ≡ i ∷ is → AreBuiltElements P.top ls → CloseElements P m at ls cs → AllWhole P M (map (element_value M addresses) (elems_of texts cs))
-  elements_whole m addresses i is at texts [] cs around g h = rw h tt
-  elements_whole m addresses i is at texts (l ∷ ls) cs around g h =
-      rw h.2 (element_whole m addresses i is at (length texts) l h.0 around g.0 h.3, elements_whole m addresses i is (behind at (element_item m l)) (with_element_text texts h.0) ls h.1 around g.1 h.4)
+  elements_whole : (m : Option ℕ) (addresses : List ℕ) (i : ℕ) (is : List ℕ) (at : Literal) (ls cs : List Lit) → at.around ≡ i ∷ is → AreBuiltElements P.top ls → CloseElements P m at ls cs → AllWhole P M (map (element_value M addresses) (elems_of C templates cs))
+  elements_whole m addresses i is at [] cs around g h = rw h tt
+  elements_whole m addresses i is at (l ∷ ls) cs around g h = rw h.2 (element_whole m addresses i is at l h.0 around g.0 h.3, elements_whole m addresses i is (behind at (element_item m l)) ls h.1 around g.1 h.4)
 
-  all_whole : (a : ℕ) (texts : List (List ℕ)) (lss css : List (List Lit)) → AreBuiltArrays P.top lss → CloseArrays P a lss css → (w : World MValue) → WholeObjects P M w.objects → WholeObjects P M (with_arrays M (arrays_of texts css) w).objects
-  all_whole a texts [] css g h w os = rw h os
-  all_whole a texts (ls ∷ lss) css g h w os =
+  all_whole : (a : ℕ) (lss css : List (List Lit)) → AreBuiltArrays P.top lss → CloseArrays P a lss css → (w : World MValue) → WholeObjects P M w.objects → WholeObjects P M (with_arrays M (map (elems_of C templates) css) w).objects
+  all_whole a [] css g h w os = rw h os
+  all_whole a (ls ∷ lss) css g h w os =
       let m = array_method P (length P.arrays) a in
       let first = has_first h.0.around h.0.index in
-      let own = elements_whole m w.literals first.0 first.1 (first_in_array h.0) texts ls h.1 first.2 g.0 h.4 in
-      let made : Object MValue = array (map (element_value M w.literals) (elems_of texts h.1)) in
-      rw h.3 (all_whole (suc a) (elements_texts texts h.1) lss h.2 g.1 h.5 (record { objects = w.objects ++ made ∷ []; literals = w.literals ++ length w.objects ∷ []; input = w.input; output = w.output }) (object_added P M w.objects made os own))
+      let own = elements_whole m w.literals first.0 first.1 (first_in_array h.0) ls h.1 first.2 g.0 h.4 in
+      let made : Object MValue = array (map (element_value M w.literals) (elems_of C templates h.1)) in
+      rw h.3 (all_whole (suc a) lss h.2 g.1 h.5 (record w { objects = w.objects ++ made ∷ []; literals = w.literals ++ length w.objects ∷ [] }) (object_added P M w.objects made os own))
 
   -- The world before the first item.
   pub record FirstWorld (input : List ℕ) : Type 0 where
@@ -120,10 +116,8 @@ module _ (P C : Program) (templates : List Template) (heights : List (Option Hei
 
   pub arrays_made : (input : List ℕ) → FirstWorld input
   arrays_made input =
-      let texts = program_texts C templates in
-      let begins : Begins (arrays_texts texts C.arrays) M.texts = rw is_plain.texts (begins_same (arrays_texts texts C.arrays)) in
-      let empty : World MValue = record { objects = []; literals = []; input = input; output = [] } in
+      let empty : World MValue = record { objects = []; literals = []; input = input; asked = 0; output = [] } in
       record {
-        same = ap (λ (ess : List (List Elem)). world_view T (with_arrays M ess empty)) is_plain.arrays ∙ same_made 0 texts P.arrays C.arrays closes.arrays begins empty;
-        whole = subst (λ (ess : List (List Elem)). WholeObjects P M (with_arrays M ess empty).objects) (sym is_plain.arrays) (all_whole 0 texts P.arrays C.arrays b.arrays_built closes.arrays empty tt);
+        same = ap (λ (ess : List (List Elem)). world_view T (with_arrays M ess empty)) is_plain.arrays ∙ same_made 0 P.arrays C.arrays closes.arrays (all_arrays_named C templates) empty;
+        whole = subst (λ (ess : List (List Elem)). WholeObjects P M (with_arrays M ess empty).objects) (sym is_plain.arrays) (all_whole 0 P.arrays C.arrays b.arrays_built closes.arrays empty tt);
       }

@@ -1,13 +1,12 @@
 -- What an image of plain code says of words and kinds is what its program says.
-use Rattle.std.proofs.Common.{◌≡◌, ◌≤◌, ℕ, zero, suc, ◌+◌, ◌-◌, List, [], ◌∷◌, ◌++◌, length, map, Bool, true, false, Option, Some, None, refl, ap, sym, ◌∙◌, arith, true≢false, length-append, inl, inr}
-use Rattle.std.proofs.lemmas.Bool.{lt-ltb, cases_lt}
+use Rattle.std.proofs.Common.{◌≡◌, ◌<◌, ◌≤◌, ℕ, zero, suc, ◌+◌, ◌-◌, List, [], ◌∷◌, ◌++◌, length, map, Bool, true, false, Option, Some, None, refl, ap, sym, ◌∙◌, arith, true≢false, inl, inr}
+use Rattle.std.proofs.lemmas.Bool.{lt-ltb, ne_eqb, cases_lt}
 use Rattle.std.proofs.lemmas.List.{length-map}
-use Rattle.std.proofs.lemmas.Option.{slice_get-map}
-use Rattle.std.specs.Prelude.{nat_lt, slice_get}
-use Rattle.std.specs.Option.{option_map}
+use Rattle.std.specs.Prelude.{nat_eq, nat_lt, slice_get}
 use Rattle.fac_lang.specs.declared.phrase.Height.{Height}
 use Rattle.fac_lang.specs.declared.phrase.Template.{Template}
 use Rattle.fac_lang.specs.declared.program.ClassDef.{ClassDef}
+use Rattle.fac_lang.specs.declared.program.Name.{Name}
 use Rattle.fac_lang.specs.declared.program.Program.{Program}
 use Rattle.fac_lang.specs.declared.program.WordDef.{WordDef}
 use Rattle.fac_lang.specs.declared.program.Shape.{Shape}
@@ -19,21 +18,21 @@ use Rattle.fac_lang.specs.Forms.{IsBuilt}
 use Rattle.fac_lang.specs.Meaning.{sort_of, own_or_word, names}
 use Rattle.fac_lang.specs.Printed.{or_empty}
 use Rattle.fac_locals.specs.Closed.{Closes}
-use Rattle.fac_locals.proofs.Lookups.{word_closed_none}
+use Rattle.fac_locals.proofs.Lookups.{word_closed, word_closed_none}
 use Rattle.fac_code.specs.declared.image.Image.{Image}
 use Rattle.fac_code.specs.declared.image.KindRow.{KindRow}
 use Rattle.fac_code.specs.declared.image.Tables.{Tables}
 use Rattle.fac_code.specs.declared.image.WordRow.{WordRow}
 use Rattle.fac_code.specs.Images.{tables_of}
-use Rattle.fac_code.specs.ImageNames.{text_of, kind_row, row_slots, own_kind_of, with_count, single_kind, image_names}
-use Rattle.fac_emit.specs.ProgramTables.{word_names, slot_names, slot_number, kind_names, table_texts, slot_numbers, kinds_from}
-use Rattle.fac_emit.specs.ProgramCode.{sort_texts, word_code, sort_kind, words_from, IsPlain}
+use Rattle.fac_code.specs.ImageNames.{kind_beside, text_of, kind_row, row_slots, own_kind_of, with_count, single_kind, image_names}
+use Rattle.fac_emit.specs.Carries.{image_full_name, full_name_of}
+use Rattle.fac_emit.specs.ProgramTexts.{program_texts, text_number}
+use Rattle.fac_emit.specs.ProgramTables.{slot_numbers, kind_row_of, kinds_from, sort_kind, pairs_from, program_pairs}
+use Rattle.fac_emit.specs.ProgramCode.{word_code, words_from, IsPlain}
 use Rattle.fac_emit.proofs.Closings.{Alike, a_same, a_body, a_past, a_method, alike}
 use Rattle.fac_emit.proofs.KindRows.{no_class, KindOf, FindsKind, k_found, k_none, finds_kind, own_of}
-use Rattle.fac_emit.proofs.PlacedWords.{word_put, tables_begin}
-use Rattle.fac_emit.proofs.TableLemmas.{AreAmong, class_named, slot_text}
-use Rattle.fac_emit.proofs.TableNumbers.{texts_same, kind_rows_same}
-use Rattle.fac_emit.proofs.TextLists.{front_there, get_front, get_more}
+use Rattle.fac_emit.proofs.PlacedWords.{text_in, word_put}
+use Rattle.fac_emit.proofs.TextLemmas.{IsAmong, AreAmong, word_named, class_named, slots_named}
 
 never_true : {A : Type 0} → false ≡ true → A
 never_true h = absurd (true≢false (sym h))
@@ -41,86 +40,114 @@ never_true h = absurd (true≢false (sym h))
 -- the kind of a word by its sort
 abbrev kind_if : List ClassDef → Option Sort → Option ℕ
 kind_if cs None = None
-kind_if cs (Some (class c)) = own_kind 8 cs c
-kind_if cs (Some _) = None
+kind_if cs (Some s) = sort_kind cs s
 
 -- the class of a word by its sort
 abbrev class_if : Option Sort → Option ℕ
 class_if o = elim o [ Some s ↦ elim s [ class c ↦ Some c | _ ↦ None ] | None ↦ None ]
 
-kind_alike : (C : Program) (s c : Sort) → Alike s c → sort_kind C c ≡ kind_if C.classes (Some s)
-kind_alike C s c (a_same t) = by t
-  where
-    by : (t : Sort) → sort_kind C t ≡ kind_if C.classes (Some t)
-    by (class n) = refl
-    by _ = refl
-kind_alike C s c (a_body t u) = refl
-kind_alike C s c (a_past t u) = refl
-kind_alike C s c (a_method n g t u) = refl
+kind_alike : (cs : List ClassDef) (s c : Sort) → Alike s c → sort_kind cs c ≡ sort_kind cs s
+kind_alike cs s c (a_same t) = refl
+kind_alike cs s c (a_body t u) = refl
+kind_alike cs s c (a_past t u) = refl
+kind_alike cs s c (a_method n g t u) = refl
 
-pub no_rows : (C : Program) (templates : List Template) (texts : List (List ℕ)) (at v : ℕ) (ds : List WordDef) (w : ℕ) → slice_get ds w ≡ None → slice_get (words_from C templates texts at v ds) w ≡ None
-no_rows C templates texts at v [] w e = refl
-no_rows C templates texts at v (d ∷ ds) zero e = absurd (cc)
-no_rows C templates texts at v (d ∷ ds) (suc w) e = no_rows C templates (sort_texts texts d.sort) (at + length (word_code C templates texts v d)) (suc v) ds w e
+pub no_rows : (C : Program) (templates : List Template) (at v : ℕ) (ds : List WordDef) (w : ℕ) → slice_get ds w ≡ None → slice_get (words_from C templates at v ds) w ≡ None
+no_rows C templates at v [] w e = refl
+no_rows C templates at v (d ∷ ds) zero e = absurd (cc)
+no_rows C templates at v (d ∷ ds) (suc w) e = no_rows C templates (at + length (word_code C templates v d)) (suc v) ds w e
+
+-- the kind beside a word among pairs
+abbrev beside_by : ℕ → ℕ → List (ℕ × ℕ) → Option ℕ → Option ℕ
+beside_by w v ps o = kind_beside w (elim o [ Some k ↦ (v, k) ∷ ps | None ↦ ps ])
+
+other_beside : (w v : ℕ) (ps : List (ℕ × ℕ)) (o : Option ℕ) → (v ≡ w → ⊥) → beside_by w v ps o ≡ kind_beside w ps
+other_beside w v ps None other = refl
+other_beside w v ps (Some k) other = ap (λ (q : Bool). elim q [ true ↦ Some k | false ↦ kind_beside w ps ]) (ne_eqb v w other)
+
+beside_below : (cs : List ClassDef) (v w : ℕ) (ds : List WordDef) → w < v → kind_beside w (pairs_from cs v ds) ≡ None
+beside_below cs v w [] lt = refl
+beside_below cs v w (d ∷ ds) lt = other_beside w v (pairs_from cs (suc v) ds) (sort_kind cs d.sort) (λ e. omega (arith, e, lt)) ∙ beside_below cs (suc v) w ds (omega (arith, lt))
+
+itself : (k : ℕ) → nat_eq k k ≡ true
+itself k = grind arith
+
+abbrev kind_by : List ClassDef → Option WordDef → Option ℕ
+kind_by cs o = elim o [ Some d ↦ sort_kind cs d.sort | None ↦ None ]
+
+own_beside : (v : ℕ) (ps : List (ℕ × ℕ)) (o : Option ℕ) → kind_beside v ps ≡ None → beside_by v v ps o ≡ o
+own_beside v ps None none = none
+own_beside v ps (Some k) none = ap (λ (q : Bool). elim q [ true ↦ Some k | false ↦ kind_beside v ps ]) (itself v)
+
+beside_at : (cs : List ClassDef) (v : ℕ) (ds : List WordDef) (k : ℕ) → kind_beside (v + k) (pairs_from cs v ds) ≡ kind_by cs (slice_get ds k)
+beside_at cs v [] k = refl
+beside_at cs v (d ∷ ds) zero =
+    let n : v + 0 ≡ v = omega arith in
+    ap (λ (w : ℕ). kind_beside w (pairs_from cs v (d ∷ ds))) n ∙ own_beside v (pairs_from cs (suc v) ds) (sort_kind cs d.sort) (beside_below cs (suc v) v ds (omega arith))
+beside_at cs v (d ∷ ds) (suc k) =
+    let n : v + suc k ≡ suc v + k = omega arith in
+    other_beside (v + suc k) v (pairs_from cs (suc v) ds) (sort_kind cs d.sort) (λ e. omega (arith, e)) ∙ ap (λ (w : ℕ). kind_beside w (pairs_from cs (suc v) ds)) n ∙ beside_at cs (suc v) ds k
 
 module _ (P C : Program) (templates : List Template) (heights : List (Option Height)) (M : Image) (b : IsBuilt P) (closes : Closes P C templates) (is_plain : IsPlain C templates heights M) where
   abbrev T : Tables
   T = tables_of M
 
   -- texts
-  text_there : (k : ℕ) (cs : List ℕ) → slice_get (table_texts P) k ≡ Some cs → text_of T k ≡ cs
-  text_there k cs e =
-      ap or_empty (front_there (table_texts C) M.texts k cs (tables_begin P C templates heights M b closes is_plain) (ap (λ (ts : List (List ℕ)). slice_get ts k) (texts_same P C templates closes) ∙ e))
+  text_is : (s : List ℕ) → IsAmong (program_texts C templates) s → text_of T (text_number C templates s) ≡ s
+  text_is s h = ap or_empty (text_in P C templates heights M b closes is_plain s h)
 
-  word_text : (w : ℕ) (d : WordDef) → slice_get P.words w ≡ Some d → text_of T w ≡ d.name.name
-  word_text w d e =
-      let own : slice_get (word_names P.words) w ≡ Some d.name.name = slice_get-map (λ (d : WordDef). d.name.name) P.words w ∙ ap (option_map (λ (d : WordDef). d.name.name)) e in
-      text_there w d.name.name (get_front (word_names P.words ++ slot_names P) (kind_names P.classes) w d.name.name (get_front (word_names P.words) (slot_names P) w d.name.name own))
-
-  kind_text : (j : ℕ) (cs : List ℕ) → slice_get (kind_names P.classes) j ≡ Some cs → text_of T (length P.words + length (slot_names P) + j) ≡ cs
-  kind_text j cs e =
-      let front = word_names P.words ++ slot_names P in
-      text_there (length P.words + length (slot_names P) + j) cs (ap (λ (n : ℕ). slice_get (front ++ kind_names P.classes) (n + j)) (sym many) ∙ get_more front (kind_names P.classes) j ∙ e)
-    where
-      many : length (word_names P.words ++ slot_names P) ≡ length P.words + length (slot_names P)
-      many = length-append (word_names P.words) (slot_names P) ∙ ap (λ (n : ℕ). n + length (slot_names P)) (length-map P.words (λ (d : WordDef). d.name.name))
-
-  slot_texts : (ss : List (List ℕ)) → AreAmong (slot_names P) ss → map (text_of T) (map (slot_number P) ss) ≡ ss
+  slot_texts : (ss : List (List ℕ)) → AreAmong (program_texts C templates) ss → map (text_of T) (map (text_number C templates) ss) ≡ ss
   slot_texts [] h = refl
-  slot_texts (s ∷ ss) h = rw (text_there (slot_number P s) s (slot_text P s h.0), slot_texts ss h.1) refl
+  slot_texts (s ∷ ss) h = rw (text_is s h.0, slot_texts ss h.1) refl
 
   -- Words.
-  row_kind : (w : ℕ) → own_kind_of T w ≡ kind_if P.classes (sort_of P w)
-  row_kind w = by (slice_get P.words w) refl
+  row_kind : (w : ℕ) → own_kind_of T w ≡ kind_if C.classes (sort_of P w)
+  row_kind w =
+      let n : w ≡ 0 + w = omega arith in
+      ap (kind_beside w) is_plain.pairs ∙ ap (λ (v : ℕ). kind_beside v (program_pairs C)) n ∙ beside_at C.classes 0 C.words w ∙ by (slice_get P.words w) refl
     where
-      by : (o : Option WordDef) → slice_get P.words w ≡ o → own_kind_of T w ≡ kind_if P.classes (elim o [ Some d ↦ Some d.sort | None ↦ None ])
-      by None e =
-          ap (λ (rs : List WordRow). elim (slice_get rs w) [ Some r ↦ r.kind | None ↦ None ]) is_plain.word_rows_are
-          ∙ ap (λ (o : Option WordRow). elim o [ Some r ↦ r.kind | None ↦ None ]) (no_rows C templates _ _ 0 C.words w (word_closed_none P C templates closes w e))
+      by : (o : Option WordDef) → slice_get P.words w ≡ o → kind_by C.classes (slice_get C.words w) ≡ kind_if C.classes (elim o [ Some d ↦ Some d.sort | None ↦ None ])
+      by None e = ap (kind_by C.classes) (word_closed_none P C templates closes w e)
+      by (Some d) e =
+          let found = word_closed P C templates closes w d e in
+          ap (kind_by C.classes) found.at ∙ kind_alike C.classes d.sort found.closed.sort (alike P w d.sort found.closed.sort found.closes.sort)
+
+  -- what its row names it
+  abbrev full_name : Option WordRow → Option (List ℕ × List ℕ)
+  full_name o = elim o [ Some r ↦ Some (text_of T r.vocab, text_of T r.name) | None ↦ None ]
+
+  pub word_fully_named : (w : ℕ) → image_full_name M w ≡ full_name_of P w
+  word_fully_named w = by (slice_get P.words w) refl
+    where
+      by : (o : Option WordDef) → slice_get P.words w ≡ o → full_name (slice_get M.words w) ≡ elim o [ Some d ↦ Some (d.name.vocab, d.name.name) | None ↦ None ]
+      by None e = ap (λ (rs : List WordRow). full_name (slice_get rs w)) is_plain.word_rows_are ∙ ap full_name (no_rows C templates _ 0 C.words w (word_closed_none P C templates closes w e))
       by (Some d) e =
           let p = word_put P C templates heights M b closes is_plain w d e in
-          ap (λ (o : Option WordRow). elim o [ Some r ↦ r.kind | None ↦ None ]) p.row ∙ kind_alike C d.sort p.closed.sort (alike P w d.sort p.closed.sort p.closes_word.sort) ∙ ap (λ (cs : List ClassDef). kind_if cs (Some d.sort)) closes.classes
+          let named = word_named C templates w p.closed p.at in
+          let vocab = text_is p.closed.name.vocab named.0 ∙ ap (λ (n : Name). n.vocab) p.closes_word.name in
+          let name = text_is p.closed.name.name named.1.0 ∙ ap (λ (n : Name). n.name) p.closes_word.name in
+          ap full_name p.row ∙ ap (λ (v : List ℕ). let x : List ℕ × List ℕ = (v, text_of T (text_number C templates p.closed.name.name)) in Some x) vocab ∙ ap (λ (n : List ℕ). let x : List ℕ × List ℕ = (d.name.vocab, n) in Some x) name
 
-  word_named : (w : ℕ) → (image_names M).word_name w ≡ (names P).word_name w
-  word_named w = by (slice_get P.words w) refl
+  word_named_so : (w : ℕ) → (image_names M).word_name w ≡ (names P).word_name w
+  word_named_so w = seen (slice_get M.words w) ∙ ap (λ (o : Option (List ℕ × List ℕ)). elim o [ Some x ↦ x.1 | None ↦ [] ]) (word_fully_named w) ∙ said (slice_get P.words w)
     where
-      by : (o : Option WordDef) → slice_get P.words w ≡ o → (image_names M).word_name w ≡ elim o [ Some d ↦ d.name.name | None ↦ [] ]
-      by None e =
-          ap (λ (rs : List WordRow). elim (slice_get rs w) [ Some r ↦ text_of T r.name | None ↦ [] ]) is_plain.word_rows_are
-          ∙ ap (λ (o : Option WordRow). elim o [ Some r ↦ text_of T r.name | None ↦ [] ]) (no_rows C templates _ _ 0 C.words w (word_closed_none P C templates closes w e))
-      by (Some d) e = let p = word_put P C templates heights M b closes is_plain w d e in ap (λ (o : Option WordRow). elim o [ Some r ↦ text_of T r.name | None ↦ [] ]) p.row ∙ word_text w d e
+      seen : (o : Option WordRow) → ◌≡◌ {A = List ℕ} (elim o [ Some r ↦ text_of T r.name | None ↦ [] ]) (elim (full_name o) [ Some x ↦ x.1 | None ↦ [] ])
+      seen None = refl
+      seen (Some r) = refl
+
+      said : (o : Option WordDef) → ◌≡◌ {A = List ℕ} (elim (elim o as (λ q. Option (List ℕ × List ℕ)) [ Some d ↦ Some (d.name.vocab, d.name.name) | None ↦ None ]) [ Some x ↦ x.1 | None ↦ [] ]) (elim o [ Some d ↦ d.name.name | None ↦ [] ])
+      said None = refl
+      said (Some d) = refl
 
   -- Kinds.
-  abbrev first_name : ℕ
-  first_name = length P.words + length (slot_names P)
 
   -- the row of a kind, or none, with the class
   data KindSeen (k : ℕ) : Type 0 where
-    seen_kind : (j : ℕ) (o : KindOf P first_name 0 P.classes j) → kind_row T k ≡ Some (record { name = first_name + j; slots = slot_numbers P (0 + o.place) o.def.shape }) → class_with 0 P.classes k ≡ Some (0 + o.place) → KindSeen k
-    unseen_kind : kind_row T k ≡ None → class_with 0 P.classes k ≡ None → KindSeen k
+    seen_kind : (j : ℕ) (o : KindOf C templates 0 C.classes j) → kind_row T k ≡ Some (kind_row_of C templates o.place o.def) → class_with 0 C.classes k ≡ Some o.place → KindSeen k
+    unseen_kind : kind_row T k ≡ None → class_with 0 C.classes k ≡ None → KindSeen k
 
-  rows_are : (j : ℕ) → slice_get M.kinds j ≡ slice_get (kinds_from P first_name 0 P.classes) j
-  rows_are j = ap (λ (rows : List KindRow). slice_get rows j) (is_plain.kinds ∙ kind_rows_same P C templates closes)
+  rows_are : (j : ℕ) → slice_get M.kinds j ≡ slice_get (kinds_from C templates 0 C.classes) j
+  rows_are j = ap (λ (rows : List KindRow). slice_get rows j) is_plain.kinds
 
   behind_first : (k : ℕ) → 8 ≤ k → kind_row T k ≡ slice_get M.kinds (k - 8)
   behind_first k ge = ap (λ (q : Bool). elim q [ true ↦ None | false ↦ slice_get M.kinds (k - 8) ]) (not_less k ge)
@@ -128,128 +155,132 @@ module _ (P C : Program) (templates : List Template) (heights : List (Option Hei
       not_less : (k : ℕ) → 8 ≤ k → nat_lt k 8 ≡ false
       not_less k ge = grind arith
 
-  seen_by : (k : ℕ) → 8 + (k - 8) ≡ k → kind_row T k ≡ slice_get M.kinds (k - 8) → FindsKind P first_name 0 P.classes (k - 8) → KindSeen k
-  seen_by k n row (k_found o) = seen_kind (k - 8) o (row ∙ rows_are (k - 8) ∙ o.row) (ap (class_with 0 P.classes) (sym n) ∙ o.owner)
-  seen_by k n row (k_none e f) = unseen_kind (row ∙ rows_are (k - 8) ∙ e) (ap (class_with 0 P.classes) (sym n) ∙ f)
+  seen_by : (k : ℕ) → 8 + (k - 8) ≡ k → kind_row T k ≡ slice_get M.kinds (k - 8) → FindsKind C templates 0 C.classes (k - 8) → KindSeen k
+  seen_by k n row (k_found o) =
+      let m : 0 + o.place ≡ o.place = omega arith in
+      seen_kind (k - 8) o (row ∙ rows_are (k - 8) ∙ o.row_is ∙ ap (λ (c : ℕ). Some (kind_row_of C templates c o.def)) m) (ap (class_with 0 C.classes) (sym n) ∙ o.owner ∙ ap Some m)
+  seen_by k n row (k_none e f) = unseen_kind (row ∙ rows_are (k - 8) ∙ e) (ap (class_with 0 C.classes) (sym n) ∙ f)
 
   kind_seen_so : (k : ℕ) → KindSeen k
   kind_seen_so k =
       elim (cases_lt k 8) [
-        | inl lt ↦ unseen_kind (ap (λ (q : Bool). elim q [ true ↦ None | false ↦ slice_get M.kinds (k - 8) ]) (lt-ltb k 8 lt)) (no_class 0 k P.classes lt)
-        | inr ge ↦ seen_by k (omega (arith, ge)) (behind_first k ge) (finds_kind P first_name 0 P.classes (k - 8))
+        | inl lt ↦ unseen_kind (ap (λ (q : Bool). elim q [ true ↦ None | false ↦ slice_get M.kinds (k - 8) ]) (lt-ltb k 8 lt)) (no_class 0 k C.classes lt)
+        | inr ge ↦ seen_by k (omega (arith, ge)) (behind_first k ge) (finds_kind C templates 0 C.classes (k - 8))
       ]
 
+  abbrev kind_name_by : List ClassDef → Option ℕ → List ℕ
+  kind_name_by cs o = elim o [ Some c ↦ elim (slice_get cs c) [ Some d ↦ d.name.name | None ↦ [] ] | None ↦ [] ]
+
   kind_named : (k : ℕ) → (image_names M).kind_name k ≡ (names P).kind_name k
-  kind_named k = by (kind_seen_so k)
+  kind_named k = by (kind_seen_so k) ∙ ap (λ (cs : List ClassDef). kind_name_by cs (class_with 0 cs k)) closes.classes
     where
-      by : KindSeen k → (image_names M).kind_name k ≡ (names P).kind_name k
+      by : KindSeen k → (image_names M).kind_name k ≡ kind_name_by C.classes (class_with 0 C.classes k)
       by (seen_kind j o row owner) =
-          let n : 0 + o.place ≡ o.place = omega arith in
-          ap (λ (r : Option KindRow). elim r [ Some r ↦ text_of T r.name | None ↦ [] ]) row ∙ kind_text j o.def.name.name o.named
-          ∙ sym (ap (λ (c : Option ℕ). elim c [ Some c ↦ elim (slice_get P.classes c) [ Some d ↦ d.name.name | None ↦ [] ] | None ↦ [] ]) owner ∙ ap (λ (x : Option ClassDef). elim x [ Some d ↦ d.name.name | None ↦ [] ]) (ap (slice_get P.classes) n ∙ o.there))
-      by (unseen_kind row owner) =
-          ap (λ (r : Option KindRow). elim r [ Some r ↦ text_of T r.name | None ↦ [] ]) row
-          ∙ sym (ap (λ (c : Option ℕ). elim c [ Some c ↦ elim (slice_get P.classes c) [ Some d ↦ d.name.name | None ↦ [] ] | None ↦ [] ]) owner)
+          ap (λ (r : Option KindRow). elim r [ Some r ↦ text_of T r.name | None ↦ [] ]) row ∙ text_is o.def.name.name (class_named C templates o.place o.def o.there).1.0
+          ∙ sym (ap (kind_name_by C.classes) owner ∙ ap (λ (x : Option ClassDef). elim x [ Some d ↦ d.name.name | None ↦ [] ]) o.there)
+      by (unseen_kind row owner) = ap (λ (r : Option KindRow). elim r [ Some r ↦ text_of T r.name | None ↦ [] ]) row ∙ sym (ap (kind_name_by C.classes) owner)
 
   -- slots
-  none_within : (n c : ℕ) (o : Option Shape) → shape_at P.classes c ≡ o → is_tuple o ≡ false → slots_within n P.classes c ≡ []
+  none_within : (n c : ℕ) (o : Option Shape) → shape_at C.classes c ≡ o → is_tuple o ≡ false → slots_within n C.classes c ≡ []
   none_within zero c o e h = refl
-  none_within (suc n) c o e h = ap (λ (o : Option Shape). elim o [ None ↦ [] | Some s ↦ elim s [ tuple_class p ss ↦ elim p [ None ↦ ss | Some q ↦ slots_within n P.classes q ++ ss ] | _ ↦ [] ] ]) e ∙ by o h
+  none_within (suc n) c o e h = ap (λ (o : Option Shape). elim o [ None ↦ [] | Some s ↦ elim s [ tuple_class p ss ↦ elim p [ None ↦ ss | Some q ↦ slots_within n C.classes q ++ ss ] | _ ↦ [] ] ]) e ∙ by o h
     where
-      by : (o : Option Shape) → is_tuple o ≡ false → ◌≡◌ {A = List (List ℕ)} (elim o [ None ↦ [] | Some s ↦ elim s [ tuple_class p ss ↦ elim p [ None ↦ ss | Some q ↦ slots_within n P.classes q ++ ss ] | _ ↦ [] ] ]) []
+      by : (o : Option Shape) → is_tuple o ≡ false → ◌≡◌ {A = List (List ℕ)} (elim o [ None ↦ [] | Some s ↦ elim s [ tuple_class p ss ↦ elim p [ None ↦ ss | Some q ↦ slots_within n C.classes q ++ ss ] | _ ↦ [] ] ]) []
       by None h = refl
       by (Some (tuple_class p ss)) h = never_true (sym h)
       by (Some (built_in j)) h = refl
       by (Some (union ms)) h = refl
       by (Some single) h = refl
 
+  abbrev slots_by_class : List ClassDef → ℕ → List (List ℕ)
+  slots_by_class cs c = slots_within (length cs) cs c
+
   abbrev all_slots : ℕ → List (List ℕ)
-  all_slots c = slots_within (length P.classes) P.classes c
+  all_slots c = slots_by_class C.classes c
 
-  slots_by : (c : ℕ) (s : Shape) → shape_at P.classes c ≡ Some s → elim (slot_numbers P c s) [ Some ss ↦ map (text_of T) ss | None ↦ [] ] ≡ all_slots c
-  slots_by c (tuple_class p ss) e = slot_texts (all_slots c) (class_named P (length P.classes) c)
-  slots_by c (built_in j) e = sym (none_within (length P.classes) c (Some (built_in j)) e refl)
-  slots_by c (union ms) e = sym (none_within (length P.classes) c (Some (union ms)) e refl)
-  slots_by c single e = sym (none_within (length P.classes) c (Some single) e refl)
+  slots_by : (c : ℕ) (s : Shape) → shape_at C.classes c ≡ Some s → elim (slot_numbers C templates c s) [ Some ss ↦ map (text_of T) ss | None ↦ [] ] ≡ all_slots c
+  slots_by c (tuple_class p ss) e = slot_texts (all_slots c) (slots_named C templates (length C.classes) c)
+  slots_by c (built_in j) e = sym (none_within (length C.classes) c (Some (built_in j)) e refl)
+  slots_by c (union ms) e = sym (none_within (length C.classes) c (Some (union ms)) e refl)
+  slots_by c single e = sym (none_within (length C.classes) c (Some single) e refl)
 
-  slots_named : (k : ℕ) → (image_names M).kind_slots k ≡ (names P).kind_slots k
-  slots_named k = by (kind_seen_so k)
+  shape_is : (c : ℕ) (d : ClassDef) → slice_get C.classes c ≡ Some d → shape_at C.classes c ≡ Some d.shape
+  shape_is c d e = ap (λ (x : Option ClassDef). elim x [ Some d ↦ Some d.shape | None ↦ None ]) e
+
+  kind_slots_named : (k : ℕ) → (image_names M).kind_slots k ≡ (names P).kind_slots k
+  kind_slots_named k = by (kind_seen_so k) ∙ ap (λ (cs : List ClassDef). elim (class_with 0 cs k) [ Some c ↦ slots_by_class cs c | None ↦ [] ]) closes.classes
     where
-      by : KindSeen k → (image_names M).kind_slots k ≡ (names P).kind_slots k
+      by : KindSeen k → (image_names M).kind_slots k ≡ elim (class_with 0 C.classes k) [ Some c ↦ all_slots c | None ↦ [] ]
       by (seen_kind j o row owner) =
-          let n : 0 + o.place ≡ o.place = omega arith in
-          let shape : shape_at P.classes (0 + o.place) ≡ Some o.def.shape = ap (λ (c : Option ClassDef). elim c [ Some d ↦ Some d.shape | None ↦ None ]) (ap (slice_get P.classes) n ∙ o.there) in
-          ap (λ (r : Option KindRow). elim (row_slots T r) [ Some ss ↦ map (text_of T) ss | None ↦ [] ]) row ∙ slots_by (0 + o.place) o.def.shape shape ∙ sym (ap (λ (c : Option ℕ). elim c [ Some c ↦ all_slots c | None ↦ [] ]) owner)
+          ap (λ (r : Option KindRow). elim (row_slots T r) [ Some ss ↦ map (text_of T) ss | None ↦ [] ]) row ∙ slots_by o.place o.def.shape (shape_is o.place o.def o.there) ∙ sym (ap (λ (c : Option ℕ). elim c [ Some c ↦ all_slots c | None ↦ [] ]) owner)
       by (unseen_kind row owner) =
           ap (λ (r : Option KindRow). elim (row_slots T r) [ Some ss ↦ map (text_of T) ss | None ↦ [] ]) row ∙ sym (ap (λ (c : Option ℕ). elim c [ Some c ↦ all_slots c | None ↦ [] ]) owner)
 
   -- The kind of a class's word.
-  own_seen : (c k : ℕ) → own_kind 8 P.classes c ≡ Some k → (d : ClassDef) × (j : ℕ) × (slice_get P.classes c ≡ Some d) × (kind_row T k ≡ Some (record { name = j; slots = slot_numbers P c d.shape })) × (has_own d.shape ≡ true)
+  own_seen : (c k : ℕ) → own_kind 8 C.classes c ≡ Some k → (d : ClassDef) × (slice_get C.classes c ≡ Some d) × (kind_row T k ≡ Some (kind_row_of C templates c d)) × (has_own d.shape ≡ true)
   own_seen c k e =
-      let o = own_of P first_name 0 P.classes c 8 k e in
+      let o = own_of C templates 0 C.classes c 8 k e in
       let number = o.number in
       let n : 0 + c ≡ c = omega arith in
       let m : k - 8 ≡ o.place = omega (arith, number) in
-      (o.def, first_name + o.place, o.there, behind_first k (omega (arith, number)) ∙ ap (slice_get M.kinds) m ∙ rows_are o.place ∙ o.row ∙ ap (λ (x : ℕ). Some (record { name = first_name + o.place; slots = slot_numbers P x o.def.shape })) n, o.owns)
+      (o.def, o.there, behind_first k (omega (arith, number)) ∙ ap (slice_get M.kinds) m ∙ rows_are o.place ∙ o.row_is ∙ ap (λ (x : ℕ). Some (kind_row_of C templates x o.def)) n, o.owns)
 
   -- of a singleton
-  word_kind_by : (c : ℕ) (o : Option ℕ) → own_kind 8 P.classes c ≡ o → ◌≡◌ {A = ℕ} (elim o [ Some k ↦ single_kind T k (kind_row T k) | None ↦ 5 ]) (elim (is_single (shape_at P.classes c)) [ true ↦ own_or_word o | false ↦ 5 ])
-  word_kind_by c None e = by (is_single (shape_at P.classes c))
+  word_kind_by : (c : ℕ) (o : Option ℕ) → own_kind 8 C.classes c ≡ o → ◌≡◌ {A = ℕ} (elim o [ Some k ↦ single_kind T k (kind_row T k) | None ↦ 5 ]) (elim (is_single (shape_at C.classes c)) [ true ↦ own_or_word o | false ↦ 5 ])
+  word_kind_by c None e = by (is_single (shape_at C.classes c))
     where
       by : (q : Bool) → ◌≡◌ {A = ℕ} 5 (elim q [ true ↦ 5 | false ↦ 5 ])
       by true = refl
       by false = refl
   word_kind_by c (Some k) e =
       let seen = own_seen c k e in
-      let shape : shape_at P.classes c ≡ Some seen.0.shape = ap (λ (x : Option ClassDef). elim x [ Some d ↦ Some d.shape | None ↦ None ]) seen.2 in
-      ap (single_kind T k) seen.3 ∙ by seen.0.shape seen.4 ∙ sym (ap (λ (s : Option Shape). elim (is_single s) [ true ↦ k | false ↦ 5 ]) shape)
+      ap (single_kind T k) seen.2 ∙ by seen.0.shape seen.3 ∙ sym (ap (λ (s : Option Shape). elim (is_single s) [ true ↦ k | false ↦ 5 ]) (shape_is c seen.0 seen.1))
     where
-      by : (s : Shape) → has_own s ≡ true → ◌≡◌ {A = ℕ} (elim (slot_numbers P c s) [ None ↦ k | Some ss ↦ 5 ]) (elim (is_single (Some s)) [ true ↦ k | false ↦ 5 ])
+      by : (s : Shape) → has_own s ≡ true → ◌≡◌ {A = ℕ} (elim (slot_numbers C templates c s) [ None ↦ k | Some ss ↦ 5 ]) (elim (is_single (Some s)) [ true ↦ k | false ↦ 5 ])
       by (tuple_class p ss) h = refl
       by single h = refl
       by (built_in j) h = never_true h
       by (union ms) h = never_true h
 
   -- of a tuple class, with the number of its slots
-  tuple_by : (c : ℕ) (o : Option ℕ) → own_kind 8 P.classes c ≡ o →
-      ◌≡◌ {A = Option (ℕ × ℕ)} (elim o [ Some k ↦ with_count T k (row_slots T (kind_row T k)) | None ↦ None ]) (elim (is_tuple (shape_at P.classes c)) [ true ↦ elim o [ Some k ↦ Some (k, length (all_slots c)) | None ↦ None ] | false ↦ None ])
-  tuple_by c None e = by (is_tuple (shape_at P.classes c))
+  tuple_by : (c : ℕ) (o : Option ℕ) → own_kind 8 C.classes c ≡ o →
+      ◌≡◌ {A = Option (ℕ × ℕ)} (elim o [ Some k ↦ with_count T k (row_slots T (kind_row T k)) | None ↦ None ]) (elim (is_tuple (shape_at C.classes c)) [ true ↦ elim o [ Some k ↦ Some (k, length (all_slots c)) | None ↦ None ] | false ↦ None ])
+  tuple_by c None e = by (is_tuple (shape_at C.classes c))
     where
       by : (q : Bool) → ◌≡◌ {A = Option (ℕ × ℕ)} None (elim q [ true ↦ None | false ↦ None ])
       by true = refl
       by false = refl
   tuple_by c (Some k) e =
       let seen = own_seen c k e in
-      let shape : shape_at P.classes c ≡ Some seen.0.shape = ap (λ (x : Option ClassDef). elim x [ Some d ↦ Some d.shape | None ↦ None ]) seen.2 in
-      ap (λ (r : Option KindRow). with_count T k (row_slots T r)) seen.3 ∙ by seen.0.shape seen.4 ∙ sym (ap (λ (s : Option Shape). elim (is_tuple s) [ true ↦ Some (k, length (all_slots c)) | false ↦ None ]) shape)
+      ap (λ (r : Option KindRow). with_count T k (row_slots T r)) seen.2 ∙ by seen.0.shape seen.3 ∙ sym (ap (λ (s : Option Shape). elim (is_tuple s) [ true ↦ Some (k, length (all_slots c)) | false ↦ None ]) (shape_is c seen.0 seen.1))
     where
-      by : (s : Shape) → has_own s ≡ true → ◌≡◌ {A = Option (ℕ × ℕ)} (with_count T k (slot_numbers P c s)) (elim (is_tuple (Some s)) [ true ↦ Some (k, length (all_slots c)) | false ↦ None ])
-      by (tuple_class p ss) h = ap (λ (n : ℕ). Some (k, n)) (length-map (all_slots c) (slot_number P))
+      by : (s : Shape) → has_own s ≡ true → ◌≡◌ {A = Option (ℕ × ℕ)} (with_count T k (slot_numbers C templates c s)) (elim (is_tuple (Some s)) [ true ↦ Some (k, length (all_slots c)) | false ↦ None ])
+      by (tuple_class p ss) h = ap (λ (n : ℕ). Some (k, n)) (length-map (all_slots c) (text_number C templates))
       by single h = refl
       by (built_in j) h = never_true h
       by (union ms) h = never_true h
 
-  abbrev word_kind_of : Option Sort → ℕ
-  word_kind_of o = elim (class_if o) [ Some c ↦ elim (is_single (shape_at P.classes c)) [ true ↦ own_or_word (own_kind 8 P.classes c) | false ↦ 5 ] | None ↦ 5 ]
+  abbrev word_kind_in : List ClassDef → Option Sort → ℕ
+  word_kind_in cs o = elim (class_if o) [ Some c ↦ elim (is_single (shape_at cs c)) [ true ↦ own_or_word (own_kind 8 cs c) | false ↦ 5 ] | None ↦ 5 ]
 
-  sort_kinds : (o : Option Sort) → ◌≡◌ {A = ℕ} (elim (kind_if P.classes o) [ Some k ↦ single_kind T k (kind_row T k) | None ↦ 5 ]) (word_kind_of o)
+  sort_kinds : (o : Option Sort) → ◌≡◌ {A = ℕ} (elim (kind_if C.classes o) [ Some k ↦ single_kind T k (kind_row T k) | None ↦ 5 ]) (word_kind_in C.classes o)
   sort_kinds None = refl
-  sort_kinds (Some (class c)) = word_kind_by c (own_kind 8 P.classes c) refl
+  sort_kinds (Some (class c)) = word_kind_by c (own_kind 8 C.classes c) refl
   sort_kinds (Some _) = refl
 
-  abbrev tuple_class_of : Option Sort → Option (ℕ × ℕ)
-  tuple_class_of o = elim (class_if o) [ Some c ↦ elim (is_tuple (shape_at P.classes c)) [ true ↦ elim (own_kind 8 P.classes c) [ Some k ↦ Some (k, length (all_slots c)) | None ↦ None ] | false ↦ None ] | None ↦ None ]
+  abbrev tuple_class_in : List ClassDef → Option Sort → Option (ℕ × ℕ)
+  tuple_class_in cs o = elim (class_if o) [ Some c ↦ elim (is_tuple (shape_at cs c)) [ true ↦ elim (own_kind 8 cs c) [ Some k ↦ Some (k, length (slots_by_class cs c)) | None ↦ None ] | false ↦ None ] | None ↦ None ]
 
-  sort_tuples : (o : Option Sort) → ◌≡◌ {A = Option (ℕ × ℕ)} (elim (kind_if P.classes o) [ Some k ↦ with_count T k (row_slots T (kind_row T k)) | None ↦ None ]) (tuple_class_of o)
+  sort_tuples : (o : Option Sort) → ◌≡◌ {A = Option (ℕ × ℕ)} (elim (kind_if C.classes o) [ Some k ↦ with_count T k (row_slots T (kind_row T k)) | None ↦ None ]) (tuple_class_in C.classes o)
   sort_tuples None = refl
-  sort_tuples (Some (class c)) = tuple_by c (own_kind 8 P.classes c) refl
+  sort_tuples (Some (class c)) = tuple_by c (own_kind 8 C.classes c) refl
   sort_tuples (Some _) = refl
 
   word_kinds : (w : ℕ) → (image_names M).word_kind w ≡ (names P).word_kind w
-  word_kinds w = ap (λ (o : Option ℕ). elim o [ Some k ↦ single_kind T k (kind_row T k) | None ↦ 5 ]) (row_kind w) ∙ sort_kinds (sort_of P w)
+  word_kinds w = ap (λ (o : Option ℕ). elim o [ Some k ↦ single_kind T k (kind_row T k) | None ↦ 5 ]) (row_kind w) ∙ sort_kinds (sort_of P w) ∙ ap (λ (cs : List ClassDef). word_kind_in cs (sort_of P w)) closes.classes
 
   tuple_classes : (w : ℕ) → (image_names M).tuple_class w ≡ (names P).tuple_class w
-  tuple_classes w = ap (λ (o : Option ℕ). elim o [ Some k ↦ with_count T k (row_slots T (kind_row T k)) | None ↦ None ]) (row_kind w) ∙ sort_tuples (sort_of P w)
+  tuple_classes w = ap (λ (o : Option ℕ). elim o [ Some k ↦ with_count T k (row_slots T (kind_row T k)) | None ↦ None ]) (row_kind w) ∙ sort_tuples (sort_of P w) ∙ ap (λ (cs : List ClassDef). tuple_class_in cs (sort_of P w)) closes.classes
 
   pub image_named : image_names M ≡ names P
-  image_named = λ i. record { word_name = λ w. word_named w i; kind_name = λ k. kind_named k i; kind_slots = λ k. slots_named k i; word_kind = λ w. word_kinds w i; tuple_class = λ w. tuple_classes w i }
+  image_named = λ i. record { word_name = λ w. word_named_so w i; kind_name = λ k. kind_named k i; kind_slots = λ k. kind_slots_named k i; word_kind = λ w. word_kinds w i; tuple_class = λ w. tuple_classes w i }

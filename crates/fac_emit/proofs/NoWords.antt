@@ -13,7 +13,7 @@ use Rattle.fac_lang.specs.Equality.{plain_eq, Equal, equal, not_comparable, too_
 use Rattle.fac_lang.specs.Numbers.{in_range, is_zero, shifted, integer_in}
 use Rattle.fac_lang.specs.Procedures.{repeated, Procedure, leaves, answers, answers_array, answers_tuple, curries, composes, fails, looks, adds, opens, puts, compares, prints, asks, writes, reads}
 use Rattle.fac_lang.specs.Sequences.{Sequence, characters, numbers, elements, sequence_length, both_strings, one_string, number, numbers_from}
-use Rattle.fac_lang.specs.Primitives.{seen_integer, seen_string, seen_word, seen_array, seen_no, natural, index_below, range_within, truth_of, or_fails, unless_fails, want_integer, want_string, sequence_seen, want_sequence, with_elements, short_enough, nonzero, on_integers, integer_or, answers_truth, unless_no, element_at, appended, cut, reversed, chosen, line_read, equality, identity, set_element, written, divide, remainder, bit_not, show, new, number_to_string, string_to_number, length_of, nth, set_nth, make_iota, append, suffix, subsequence, turn_round, select, make_array, to_array, write, print, read_line, Primitive, built_primitives, later_primitives, prim_numbered}
+use Rattle.fac_lang.specs.Primitives.{seen_integer, seen_string, seen_word, seen_array, seen_no, natural, index_below, range_within, truth_of, or_fails, unless_fails, want_integer, want_string, sequence_seen, want_sequence, with_elements, short_enough, nonzero, on_integers, integer_or, answers_truth, unless_no, element_at, appended, cut, reversed, chosen, line_read, equality, identity, set_element, written, divide, remainder, bit_not, show, new, number_to_string, string_to_number, length_of, nth, set_nth, make_iota, append, suffix, subsequence, turn_round, select, make_array, to_array, write, print, read_line, Primitive, built_primitives, prim_numbered}
 
 -- a plain value that is no word
 abbrev pub IsNoWord : Plain → Type 0
@@ -351,7 +351,7 @@ built_make = (
                                                                                             iota_makes,
                                                                                             (
                                                                                               append_makes,
-                                                                                              (suffix_makes, (subsequence_makes, (turn_round_makes, (select_makes, (array_makes, (tt, (tt, (to_array_makes, (write_makes, (print_makes, (tt, (show_makes, (tt, tt))))))))))))),
+                                                                                              (suffix_makes, (subsequence_makes, (turn_round_makes, (select_makes, (array_makes, (tt, (tt, (to_array_makes, (write_makes, (print_makes, (tt, (read_line_makes, (show_makes, (tt, tt)))))))))))))),
                                                                                             ),
                                                                                           ),
                                                                                         ),
@@ -400,13 +400,6 @@ built_make = (
   ),
 )
 
-later_make : MakeNoWords later_primitives
-later_make = (read_line_makes, tt)
-
-make_more : (ps qs : List Primitive) → MakeNoWords ps → MakeNoWords qs → MakeNoWords (ps ++ qs)
-make_more [] qs h g = g
-make_more (p ∷ ps) qs h g = (h.0, make_more ps qs h.1 g)
-
 one_makes : (ps : List Primitive) → MakeNoWords ps → (k : ℕ) (p : Primitive) → slice_get ps k ≡ Some p → MakesNoWord p.does
 one_makes [] h k p e = absurd (cc)
 one_makes (q ∷ ps) h zero p e = let same : q ≡ p = cc in subst (λ (x : Primitive). MakesNoWord x.does) same h.0
@@ -415,4 +408,4 @@ one_makes (q ∷ ps) h (suc k) p e = one_makes ps h.1 k p e
 -- No primitive makes one.
 pub no_words : (k : ℕ) (p : Primitive) → prim_numbered k ≡ Some p → MakesNoWord p.does
 unfolding prim_numbered
-no_words k p e = one_makes (built_primitives ++ later_primitives) (make_more built_primitives later_primitives built_make later_make) k p e
+no_words k p e = one_makes built_primitives built_make k p e

@@ -14,10 +14,8 @@ use Rattle.fac_code.specs.declared.image.Instr.TheVariants.{Ret}
 use Rattle.fac_code.specs.declared.image.TemplateRow.{TemplateRow}
 use Rattle.fac_code.specs.declared.image.WordRow.{WordRow}
 use Rattle.fac_store.specs.CallableHeights.{height_there}
-use Rattle.fac_emit.specs.ProgramTables.{table_texts}
-use Rattle.fac_emit.specs.ProgramCode.{made_instr, phrase_code, phrase_texts, templates_code, templates_texts, row_at, template_rows, sort_texts, words_texts, word_row, word_code, code_from, words_from, program_code, program_texts, program_words}
+use Rattle.fac_emit.specs.ProgramCode.{made_instr, phrase_code, templates_code, row_at, template_rows, word_row, word_code, code_from, words_from, program_code, program_templates, program_words}
 use Rattle.fac_emit.specs.Stands.{making}
-use Rattle.fac_emit.proofs.TextLists.{Begins, begins_same, begins_on, templates_behind, words_behind}
 use Rattle.fac_emit.proofs.LiteralWords.{in_a_word, is_listed}
 use Rattle.fac_emit.proofs.Closings.{drop_behind, get_at}
 
@@ -35,15 +33,13 @@ pub regroup : (code xs ys zs : List Instr) → code ≡ (xs ++ ys) ++ zs → cod
 regroup code xs ys zs e = e ∙ append_assoc xs ys zs
 
 -- Where the rows of templates are, and the code of each.
-module _ (C : Program) (templates : List Template) (code : List Instr) (pool : List (List ℕ)) where
+module _ (C : Program) (templates : List Template) (code : List Instr) where
   pub record IsRowOf (r : TemplateRow) (t : Template) : Type 0 where
     pub at : ℕ
     pub height : Option Height
     pub row : r ≡ row_at height at t
-    pub texts : List (List ℕ)
-    pub begins : Begins (phrase_texts texts t.body) pool
     pub more : List Instr
-    pub there : drop at code ≡ phrase_code C templates Ret texts t.body ++ more
+    pub there : drop at code ≡ phrase_code C templates Ret t.body ++ more
 
   abbrev pub Rows : List TemplateRow → List Template → Type 0
   Rows [] [] = Unit {0}
@@ -75,71 +71,64 @@ module _ (C : Program) (templates : List Template) (code : List Instr) (pool : L
   template_at (q ∷ rs) (u ∷ ts) (suc k) r h e = let later = template_at rs ts k r h.1 e in record { template = later.template; there = later.there; of = later.of }
 
   -- templates whose code stands one behind the other
-  pub rows_placed : (heights : List (Option Height)) (texts : List (List ℕ)) (at q : ℕ) (ts : List Template) (more : List Instr) → Begins (templates_texts texts ts) pool → drop at code ≡ templates_code C templates texts ts ++ more → Rows (template_rows C templates heights texts at q ts) ts
-  rows_placed heights texts at q [] more b e = tt
-  rows_placed heights texts at q (t ∷ ts) more b e =
-      let own = phrase_code C templates Ret texts t.body in
-      let next = phrase_texts texts t.body in
-      let there = regroup (drop at code) own (templates_code C templates next ts) more e in (
-        record { at = at; height = height_there (slice_get heights q); row = refl; texts = texts; begins = begins_on next (templates_texts next ts) pool (templates_behind next ts) b; more = templates_code C templates next ts ++ more; there = there },
-        rows_placed heights next (at + length own) (suc q) ts more b (drop_behind code at own (templates_code C templates next ts ++ more) there),
+  pub rows_placed : (heights : List (Option Height)) (at q : ℕ) (ts : List Template) (more : List Instr) → drop at code ≡ templates_code C templates ts ++ more → Rows (template_rows C templates heights at q ts) ts
+  rows_placed heights at q [] more e = tt
+  rows_placed heights at q (t ∷ ts) more e =
+      let own = phrase_code C templates Ret t.body in
+      let there = regroup (drop at code) own (templates_code C templates ts) more e in (
+        record { at = at; height = height_there (slice_get heights q); row = refl; more = templates_code C templates ts ++ more; there = there },
+        rows_placed heights (at + length own) (suc q) ts more (drop_behind code at own (templates_code C templates ts ++ more) there),
       )
 
-module _ (C : Program) (templates : List Template) (code : List Instr) (pool : List (List ℕ)) where
+module _ (C : Program) (templates : List Template) (code : List Instr) where
   -- a word's row, and the place of its code
   pub record Placed (rows : List WordRow) (w v : ℕ) (d : WordDef) : Type 0 where
     pub at : ℕ
-    pub row : slice_get rows w ≡ Some (word_row C at v d)
-    pub texts : List (List ℕ)
-    pub begins : Begins (sort_texts texts d.sort) pool
+    pub row : slice_get rows w ≡ Some (word_row C templates at v d)
     pub more : List Instr
-    pub there : drop at code ≡ word_code C templates texts v d ++ more
+    pub there : drop at code ≡ word_code C templates v d ++ more
 
-  pub placed : (texts : List (List ℕ)) (at v : ℕ) (ds : List WordDef) (w : ℕ) (d : WordDef) → Begins (words_texts texts ds) pool → drop at code ≡ code_from C templates texts v ds → slice_get ds w ≡ Some d → Placed (words_from C templates texts at v ds) w (v + w) d
-  placed texts at v [] w d b e found = absurd (cc)
-  placed texts at v (x ∷ ds) zero d b e found =
+  pub placed : (at v : ℕ) (ds : List WordDef) (w : ℕ) (d : WordDef) → drop at code ≡ code_from C templates v ds → slice_get ds w ≡ Some d → Placed (words_from C templates at v ds) w (v + w) d
+  placed at v [] w d e found = absurd (cc)
+  placed at v (x ∷ ds) zero d e found =
       let same : x ≡ d = cc in
       let number : v + zero ≡ v = omega arith in
-      let next = sort_texts texts x.sort in
-      let others = code_from C templates next (suc v) ds in
+      let others = code_from C templates (suc v) ds in
       record {
         at = at;
-        row = ap (λ (d : WordDef). Some (word_row C at v d)) same ∙ ap (λ (k : ℕ). Some (word_row C at k d)) (sym number);
-        texts = texts;
-        begins = subst (λ (d : WordDef). Begins (sort_texts texts d.sort) pool) same (begins_on next (words_texts next ds) pool (words_behind next ds) b);
+        row = ap (λ (d : WordDef). Some (word_row C templates at v d)) same ∙ ap (λ (k : ℕ). Some (word_row C templates at k d)) (sym number);
         more = others;
-        there = e ∙ ap (λ (d : WordDef). word_code C templates texts v d ++ others) same ∙ ap (λ (k : ℕ). word_code C templates texts k d ++ others) (sym number);
+        there = e ∙ ap (λ (d : WordDef). word_code C templates v d ++ others) same ∙ ap (λ (k : ℕ). word_code C templates k d ++ others) (sym number);
       }
-  placed texts at v (x ∷ ds) (suc w) d b e found =
-      let own = word_code C templates texts v x in
-      let next = sort_texts texts x.sort in
-      let later = placed next (at + length own) (suc v) ds w d b (drop_behind code at own (code_from C templates next (suc v) ds) e) found in
+  placed at v (x ∷ ds) (suc w) d e found =
+      let own = word_code C templates v x in
+      let later = placed (at + length own) (suc v) ds w d (drop_behind code at own (code_from C templates (suc v) ds) e) found in
       let number : suc v + w ≡ v + suc w = omega arith in
-      record { at = later.at; row = later.row ∙ ap (λ (k : ℕ). Some (word_row C later.at k d)) number; texts = later.texts; begins = later.begins; more = later.more; there = later.there ∙ ap (λ (k : ℕ). word_code C templates later.texts k d ++ later.more) number }
+      record { at = later.at; row = later.row ∙ ap (λ (k : ℕ). Some (word_row C templates later.at k d)) number; more = later.more; there = later.there ∙ ap (λ (k : ℕ). word_code C templates k d ++ later.more) number }
 
 -- all words, behind the templates
-pub behind_templates : (C : Program) (templates : List Template) (code : List Instr) → code ≡ program_code C templates → drop (length (templates_code C templates (table_texts C) templates)) code ≡ code_from C templates (templates_texts (table_texts C) templates) 0 C.words
+pub behind_templates : (C : Program) (templates : List Template) (code : List Instr) → code ≡ program_code C templates → drop (length (templates_code C templates templates)) code ≡ code_from C templates 0 C.words
 behind_templates C templates code e =
-    let first = templates_code C templates (table_texts C) templates in
+    let first = templates_code C templates templates in
     let front : 0 + length first ≡ length first = omega arith in
-    ap (λ (k : ℕ). drop k code) (sym front) ∙ drop_behind code 0 first (code_from C templates (templates_texts (table_texts C) templates) 0 C.words) e
+    ap (λ (k : ℕ). drop k code) (sym front) ∙ drop_behind code 0 first (code_from C templates 0 C.words) e
 
-pub words_placed : (C : Program) (templates : List Template) (w : ℕ) (d : WordDef) → slice_get C.words w ≡ Some d → Placed C templates (program_code C templates) (program_texts C templates) (program_words C templates) w (0 + w) d
-words_placed C templates w d found =
-    let texts = templates_texts (table_texts C) templates in
-    placed C templates (program_code C templates) (program_texts C templates) texts (length (templates_code C templates (table_texts C) templates)) 0 C.words w d (begins_same (program_texts C templates)) (behind_templates C templates (program_code C templates) refl) found
+pub words_placed : (C : Program) (templates : List Template) (code : List Instr) → code ≡ program_code C templates → (w : ℕ) (d : WordDef) → slice_get C.words w ≡ Some d → Placed C templates code (program_words C templates) w w d
+words_placed C templates code is w d found =
+    let n : 0 + w ≡ w = omega arith in
+    subst (λ (v : ℕ). Placed C templates code (program_words C templates) w v d) n (placed C templates code (length (templates_code C templates templates)) 0 C.words w d (behind_templates C templates code is) found)
 
 -- The effect in the row of each template.
 pub row_height_is :
-    (C : Program) (templates : List Template) (heights : List (Option Height)) (texts : List (List ℕ)) (at q : ℕ) (ts : List Template) (k : ℕ) (r : TemplateRow) → slice_get (template_rows C templates heights texts at q ts) k ≡ Some r → r.height ≡ height_there (slice_get heights (q + k))
-row_height_is C templates heights texts at q [] k r e = absurd (cc)
-row_height_is C templates heights texts at q (t ∷ ts) zero r e =
+    (C : Program) (templates : List Template) (heights : List (Option Height)) (at q : ℕ) (ts : List Template) (k : ℕ) (r : TemplateRow) → slice_get (template_rows C templates heights at q ts) k ≡ Some r → r.height ≡ height_there (slice_get heights (q + k))
+row_height_is C templates heights at q [] k r e = absurd (cc)
+row_height_is C templates heights at q (t ∷ ts) zero r e =
     let same : row_at (height_there (slice_get heights q)) at t ≡ r = cc in
     let number : q ≡ q + 0 = omega arith in
     sym (ap (λ (x : TemplateRow). x.height) same) ∙ ap (λ (j : ℕ). height_there (slice_get heights j)) number
-row_height_is C templates heights texts at q (t ∷ ts) (suc k) r e =
+row_height_is C templates heights at q (t ∷ ts) (suc k) r e =
     let number : suc q + k ≡ q + suc k = omega arith in
-    row_height_is C templates heights (phrase_texts texts t.body) (at + length (phrase_code C templates Ret texts t.body)) (suc q) ts k r e ∙ ap (λ (j : ℕ). height_there (slice_get heights j)) number
+    row_height_is C templates heights (at + length (phrase_code C templates Ret t.body)) (suc q) ts k r e ∙ ap (λ (j : ℕ). height_there (slice_get heights j)) number
 
 -- The rows of the templates of a closed program.
 module _ (P C : Program) (templates : List Template) (closes : Closes P C templates) where
@@ -147,12 +136,9 @@ module _ (P C : Program) (templates : List Template) (closes : Closes P C templa
   pub literal_of : (q : ℕ) (t : Template) → slice_get templates q ≡ Some t → (literal_numbered P q).at.word < length P.words
   literal_of q t e = let found = get_other templates (literals P) q t (templates_count P C templates closes) e in subst (λ (l : Quoted). l.at.word < length P.words) (sym (ap (literal_or P q) found.1)) (in_a_word P q found.0 found.1)
 
-  module _ (heights : List (Option Height)) (code : List Instr) (pool : List (List ℕ)) (rows : List TemplateRow) (code_is : code ≡ program_code C templates) (pool_begins : Begins (program_texts C templates) pool) (rows_are : rows ≡ template_rows C templates heights (table_texts C) 0 0 templates) where
-    pub all_rows : Rows C templates code pool rows templates
-    all_rows =
-        let texts = templates_texts (table_texts C) templates in
-        let begins : Begins texts pool = begins_on texts (program_texts C templates) pool (words_behind texts C.words) pool_begins in
-        subst (λ (rs : List TemplateRow). Rows C templates code pool rs templates) (sym rows_are) (rows_placed C templates code pool heights (table_texts C) 0 0 templates (code_from C templates texts 0 C.words) begins code_is)
+  module _ (heights : List (Option Height)) (code : List Instr) (rows : List TemplateRow) (code_is : code ≡ program_code C templates) (rows_are : rows ≡ program_templates C templates heights) where
+    pub all_rows : Rows C templates code rows templates
+    all_rows = subst (λ (rs : List TemplateRow). Rows C templates code rs templates) (sym rows_are) (rows_placed C templates code heights 0 0 templates (code_from C templates 0 C.words) code_is)
 
     -- the template of a literal, and its row
     pub record RowFor (q : ℕ) (l : Quoted) : Type 0 where
@@ -166,7 +152,7 @@ module _ (P C : Program) (templates : List Template) (closes : Closes P C templa
     row_or : (q : ℕ) (l : Quoted) (o : Option Template) → slice_get (literals P) q ≡ Some l → slice_get templates q ≡ o → RowFor q l
     row_or q l None listed e = let none = template_closed_none P C templates closes q e in absurd (let clash : None ≡ Some l = sym none ∙ listed in cc)
     row_or q l (Some t) listed e =
-        let found = row_of C templates code pool rows templates q t all_rows e in
+        let found = row_of C templates code rows templates q t all_rows e in
         let closed = subst (λ (m : Quoted). ClosesLiteral P m t) (ap (literal_or P q) listed) (template_closed P C templates closes q t e) in
         record { template = t; found = e; row = found.row; there = found.there; cells = ap (λ (r : TemplateRow). r.cells) found.of.row ∙ closed.captures; holes = ap (λ (r : TemplateRow). r.holes) found.of.row ∙ closed.holes }
 

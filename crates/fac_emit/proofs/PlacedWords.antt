@@ -24,27 +24,28 @@ use Rattle.fac_code.specs.declared.image.MethodRow.{MethodRow}
 use Rattle.fac_code.specs.declared.image.WordRow.{WordRow}
 use Rattle.fac_generic.specs.Methods.{methods_in_order, first_with}
 use Rattle.fac_vm.specs.Machine.{set_has, method_for, method_after}
-use Rattle.fac_emit.specs.ProgramTables.{table_texts, generics_among, generic_number, method_row, generics_from}
-use Rattle.fac_emit.specs.ProgramCode.{phrase_code, phrase_texts, templates_code, templates_texts, last_instr, sort_action, sort_code, sort_texts, word_row, word_code, program_texts, program_words, code_place, program_generics, IsPlain}
+use Rattle.fac_emit.specs.ProgramTexts.{own_texts, sort_texts, program_texts, text_number}
+use Rattle.fac_emit.specs.ProgramTables.{generics_among, generic_number, method_row, generics_from}
+use Rattle.fac_emit.specs.ProgramCode.{phrase_code, last_instr, sort_action, sort_code, word_row, word_code, program_words, code_place, program_generics, IsPlain}
 use Rattle.fac_emit.specs.Stands.{RunsPhrase, HasCode, SameMethod}
 use Rattle.fac_emit.proofs.ClassSets.{set_same}
 use Rattle.fac_emit.proofs.Closings.{Alike, a_same, a_body, a_past, a_method, alike, Closing, closing}
 use Rattle.fac_generic.specs.Methods.{MethodLaws}
-use Rattle.fac_emit.proofs.Placed.{placed, behind_templates}
+use Rattle.fac_emit.proofs.Placed.{words_placed}
 use Rattle.fac_emit.proofs.RunningPhrases.{RunsAs}
 use Rattle.fac_emit.proofs.TableNumbers.{order_same, sets_same}
-use Rattle.fac_emit.proofs.TextLists.{Begins, begins_on, templates_behind, words_behind, arrays_behind}
+use Rattle.fac_emit.proofs.TextLemmas.{IsAmong, AreAmong, text_there, body_among}
 
-pub action_alike : (C : Program) (w at : ℕ) (s c : Sort) → Alike s c → sort_action C w at c ≡ sort_action C w at s
-action_alike C w at s c (a_same t) = refl
-action_alike C w at s c (a_body t u) = refl
-action_alike C w at s c (a_past t u) = refl
-action_alike C w at s c (a_method n g t u) = refl
+pub action_alike : (C : Program) (templates : List Template) (w at : ℕ) (s c : Sort) → Alike s c → sort_action C templates w at c ≡ sort_action C templates w at s
+action_alike C templates w at s c (a_same t) = refl
+action_alike C templates w at s c (a_body t u) = refl
+action_alike C templates w at s c (a_past t u) = refl
+action_alike C templates w at s c (a_method n g t u) = refl
 
-does_code : (C : Program) (w at : ℕ) (s : Sort) → RunsPhrase (Some s) → sort_action C w at s ≡ action.Code at
-does_code C w at (body t) h = refl
-does_code C w at (method c g t) h = refl
-does_code C w at _ h = absurd h
+pub does_code : (C : Program) (templates : List Template) (w at : ℕ) (s : Sort) → RunsPhrase (Some s) → sort_action C templates w at s ≡ action.Code at
+does_code C templates w at (body t) h = refl
+does_code C templates w at (method c g t) h = refl
+does_code C templates w at _ h = absurd h
 
 -- where a number is found there is one below it
 pub found_below : {A : Type 0} (xs : List A) (k : ℕ) (x : A) → slice_get xs k ≡ Some x → k < length xs
@@ -122,25 +123,22 @@ with_phrase s u = s
 -- the phrase that word w of this sort runs, and its closed one, which stands in the code
 pub record Ran (P C : Program) (templates : List Template) (w : ℕ) (s c : Sort) : Type 0 where
   pub phrase : Phrase
-  pub code_is : (is_top : Bool) (texts : List (List ℕ)) → sort_code C templates is_top texts c ≡ phrase_code C templates (last_instr is_top) texts phrase
-  pub texts_are : (texts : List (List ℕ)) → sort_texts texts c ≡ phrase_texts texts phrase
+  pub code_is : (is_top : Bool) → sort_code C templates is_top c ≡ phrase_code C templates (last_instr is_top) phrase
+  pub named : AreAmong (program_texts C templates) (own_texts phrase)
   pub sort_is : c ≡ with_phrase s phrase
   pub closes : Closing P [] (first_of_word w) (sort_phrase P w (Some s)) phrase
 
-pub ran : (P C : Program) (templates : List Template) (w : ℕ) (s c : Sort) → RunsPhrase (Some s) → ClosesSort P w s c → RunsAs P w s → Ran P C templates w s c
-ran P C templates w (body t) c h cl r = record { phrase = cl.0; code_is = λ is_top texts. ap (sort_code C templates is_top texts) cl.1; texts_are = λ texts. ap (sort_texts texts) cl.1; sort_is = cl.1; closes = closing P [] (first_of_word w) t cl.0 cl.2 r }
-ran P C templates w (method n g t) c h cl r = record { phrase = cl.0; code_is = λ is_top texts. ap (sort_code C templates is_top texts) cl.1; texts_are = λ texts. ap (sort_texts texts) cl.1; sort_is = cl.1; closes = closing P [] (first_of_word w) _ cl.0 cl.2 r }
-ran P C templates w _ c h cl r = absurd h
+pub ran : (P C : Program) (templates : List Template) (w : ℕ) (s c : Sort) → RunsPhrase (Some s) → ClosesSort P w s c → RunsAs P w s → AreAmong (program_texts C templates) (sort_texts C templates c) → Ran P C templates w s c
+ran P C templates w (body t) c h cl r n =
+    record { phrase = cl.0; code_is = λ is_top. ap (sort_code C templates is_top) cl.1; named = body_among C templates cl.0 (subst (λ (c : Sort). AreAmong (program_texts C templates) (sort_texts C templates c)) cl.1 n); sort_is = cl.1; closes = closing P [] (first_of_word w) t cl.0 cl.2 r }
+ran P C templates w (method m g t) c h cl r n =
+    record { phrase = cl.0; code_is = λ is_top. ap (sort_code C templates is_top) cl.1; named = body_among C templates cl.0 (subst (λ (c : Sort). AreAmong (program_texts C templates) (sort_texts C templates c)) cl.1 n); sort_is = cl.1; closes = closing P [] (first_of_word w) _ cl.0 cl.2 r }
+ran P C templates w _ c h cl r n = absurd h
 
 module _ (P C : Program) (templates : List Template) (heights : List (Option Height)) (M : Image) (b : IsBuilt P) (closes : Closes P C templates) (is_plain : IsPlain C templates heights M) where
-  pub texts_begin : Begins (program_texts C templates) M.texts
-  texts_begin = rw is_plain.texts (arrays_behind (program_texts C templates) C.arrays)
-
-  pub tables_begin : Begins (table_texts C) M.texts
-  tables_begin =
-      let first = table_texts C in
-      let texts = templates_texts first templates in
-      begins_on first texts M.texts (templates_behind first templates) (begins_on texts (program_texts C templates) M.texts (words_behind texts C.words) texts_begin)
+  -- the text of a number
+  pub text_in : (s : List ℕ) → IsAmong (program_texts C templates) s → slice_get M.texts (text_number C templates s) ≡ Some s
+  text_in s h = ap (λ (ts : List (List ℕ)). slice_get ts (text_number C templates s)) is_plain.texts ∙ text_there C templates s h
 
   -- a word with its closed one, its row and the place of its code
   pub record WordPut (w : ℕ) (d : WordDef) : Type 0 where
@@ -148,49 +146,43 @@ module _ (P C : Program) (templates : List Template) (heights : List (Option Hei
     pub at : slice_get C.words w ≡ Some closed
     pub closes_word : ClosesWord P w d closed
     pub place : ℕ
-    pub row : slice_get M.words w ≡ Some (word_row C place w closed)
-    pub texts : List (List ℕ)
-    pub begins : Begins (sort_texts texts closed.sort) M.texts
+    pub row : slice_get M.words w ≡ Some (word_row C templates place w closed)
     pub more : List Instr
-    pub there : drop place M.code ≡ word_code C templates texts w closed ++ more
+    pub there : drop place M.code ≡ word_code C templates w closed ++ more
 
   pub word_put : (w : ℕ) (d : WordDef) → slice_get P.words w ≡ Some d → WordPut w d
   word_put w d e =
       let found = word_closed P C templates closes w d e in
-      let texts = templates_texts (table_texts C) templates in
-      let put = placed C templates M.code M.texts texts (length (templates_code C templates (table_texts C) templates)) 0 C.words w found.closed texts_begin (behind_templates C templates M.code is_plain.code) found.at in
-      let n : 0 + w ≡ w = omega arith in
+      let put = words_placed C templates M.code is_plain.code w found.closed found.at in
       record {
         closed = found.closed;
         at = found.at;
         closes_word = found.closes;
         place = put.at;
-        row = ap (λ (rs : List WordRow). slice_get rs w) is_plain.word_rows_are ∙ put.row ∙ ap (λ (k : ℕ). Some (word_row C put.at k found.closed)) n;
-        texts = put.texts;
-        begins = put.begins;
+        row = ap (λ (rs : List WordRow). slice_get rs w) is_plain.word_rows_are ∙ put.row;
         more = put.more;
-        there = put.there ∙ ap (λ (k : ℕ). word_code C templates put.texts k found.closed ++ put.more) n;
+        there = put.there;
       }
 
   -- it does what its sort says
-  pub word_does : (w : ℕ) (d : WordDef) (p : WordPut w d) → (word_row C p.place w p.closed).action ≡ sort_action C w p.place d.sort
-  word_does w d p = action_alike C w p.place d.sort p.closed.sort (alike P w d.sort p.closed.sort p.closes_word.sort)
+  pub word_does : (w : ℕ) (d : WordDef) (p : WordPut w d) → (word_row C templates p.place w p.closed).action ≡ sort_action C templates w p.place d.sort
+  word_does w d p = action_alike C templates w p.place d.sort p.closed.sort (alike P w d.sort p.closed.sort p.closes_word.sort)
 
   pub has_code : (w : ℕ) (d : WordDef) (p : WordPut w d) → slice_get P.words w ≡ Some d → w < P.top → RunsPhrase (Some d.sort) → HasCode P M w p.place
-  has_code w d p e lt runs = record { below = lt; runs = subst RunsPhrase (sym (sort_at P w d e)) runs; row = word_row C p.place w p.closed; there = p.row; does = word_does w d p ∙ does_code C w p.place d.sort runs }
+  has_code w d p e lt runs = record { below = lt; runs = subst RunsPhrase (sym (sort_at P w d e)) runs; row = word_row C templates p.place w p.closed; there = p.row; does = word_does w d p ∙ does_code C templates w p.place d.sort runs }
 
   -- the one place at which a word has its code
   pub one_place : (w a : ℕ) (d : WordDef) (p : WordPut w d) → RunsPhrase (Some d.sort) → HasCode P M w a → p.place ≡ a
   one_place w a d p runs h =
-      let same : word_row C p.place w p.closed ≡ h.row = let one = p.row in let two = h.there in cc in
-      let does : action.Code p.place ≡ action.Code a = sym (word_does w d p ∙ does_code C w p.place d.sort runs) ∙ ap (λ (r : WordRow). r.action) same ∙ h.does in
+      let same : word_row C templates p.place w p.closed ≡ h.row = let one = p.row in let two = h.there in cc in
+      let does : action.Code p.place ≡ action.Code a = sym (word_does w d p ∙ does_code C templates w p.place d.sort runs) ∙ ap (λ (r : WordRow). r.action) same ∙ h.does in
       cc
 
   -- Methods of the machine and those of the program.
   abbrev place_of : ℕ → ℕ
   place_of = places C templates
 
-  place_by : (w a : ℕ) (r : WordRow) → slice_get M.words w ≡ Some r → r.action ≡ action.Code a → place_of w ≡ a
+  pub place_by : (w a : ℕ) (r : WordRow) → slice_get M.words w ≡ Some r → r.action ≡ action.Code a → place_of w ≡ a
   place_by w a r e does =
       ap (λ (rs : List WordRow). code_place rs w) (sym is_plain.word_rows_are) ∙ ap (λ (o : Option WordRow). elim o [ Some r ↦ elim r.action [ action.Code a ↦ a | _ ↦ 0 ] | None ↦ 0 ]) e ∙ ap (λ (x : _). elim x [ action.Code a ↦ a | _ ↦ 0 ]) does
 

@@ -1,12 +1,12 @@
 -- The plain code of a phrase is code in which a quotation is made where it is pushed, whatever stands behind it.
-use Rattle.std.proofs.Common.{◌≡◌, ◌<◌, ℕ, zero, suc, ◌+◌, List, [], ◌∷◌, ◌++◌, length, Option, Some, true, false, refl, arith}
+use Rattle.std.proofs.Common.{◌≡◌, ℕ, zero, ◌+◌, List, [], ◌∷◌, ◌++◌, length, Option, Some, true, false}
 use Rattle.std.proofs.lemmas.Bool.{ltb-true}
 use Rattle.std.specs.Prelude.{slice_get}
 use Rattle.fac_lang.specs.declared.phrase.Place.{Place}
 use Rattle.fac_lang.specs.declared.program.Program.{Program}
 use Rattle.fac_lang.specs.Phrases.{Phrase, then, Item, held}
 use Rattle.fac_lang.specs.Substitution.{put_local}
-use Rattle.fac_lang.specs.Primitives.{Primitive, prim_numbered, is_built_primitive, built_primitives, later_primitives, built_count}
+use Rattle.fac_lang.specs.Primitives.{Primitive, prim_numbered, is_built_primitive, built_primitives, built_count}
 use Rattle.fac_code.specs.declared.image.Instr.{Instr}
 use Rattle.fac_code.specs.declared.image.Instr.TheVariants.{Ret}
 use Rattle.fac_code.specs.declared.image.Image.{Image}
@@ -16,17 +16,13 @@ use Rattle.fac_emit.specs.MachineView.{Templates, template_phrases, value_view, 
 use Rattle.fac_emit.specs.Symbols.{Sym, here, Task, do_phrase, heres, AllHere, all_none, all_more, ins, outs, Special}
 use Rattle.fac_emit.specs.Expanded.{Code, c_last, c_make, c_trim, c_end, c_off, c_int, c_true, c_false, c_text, c_array, c_reference, c_symbol, c_prim, c_accessor, c_isa, c_boa, c_held, c_bind, c_fry, c_stuck, c_word, c_call, c_dip, c_if, c_execute, c_call_effect, c_execute_effect, c_generic, c_next, EachCalled, ExpandedCode}
 use Rattle.fac_emit.specs.Stands.{Calling, l_word, l_call, l_if, l_execute, l_call_effect, l_execute_effect, l_generic, l_next, Translates, t_int, t_true, t_false, t_text, t_array, t_reference, t_symbol, t_held, t_quot, t_fry, t_prim, t_accessor, t_isa, t_dip, t_boa, t_stuck, t_calling, Stands, s_end, s_item, s_bind, Coded, PlainCode}
+use Rattle.fac_emit.proofs.PlacedWords.{element_at}
 use Rattle.fac_emit.proofs.SymbolicStacks.{needs_any, all_heres}
-
-in_front : {A : Type 0} (xs ys : List A) (k : ℕ) → k < length xs → (x : A) × (slice_get (xs ++ ys) k ≡ Some x)
-in_front [] ys k lt = absurd (omega (arith, lt))
-in_front (x ∷ xs) ys zero lt = (x, refl)
-in_front (x ∷ xs) ys (suc k) lt = in_front xs ys k (omega (arith, lt))
 
 -- a primitive that is built
 pub built_there : (k : ℕ) → is_built_primitive k ≡ true → (q : Primitive) × (prim_numbered k ≡ Some q)
 unfolding prim_numbered built_count
-built_there k h = in_front built_primitives later_primitives k (ltb-true k (length built_primitives) h)
+built_there k h = element_at built_primitives k (ltb-true k (length built_primitives) h)
 
 module _ (P : Program) (M : Image) (T : Templates) where
   calling_code : (Γ : List Special) (last : Option Instr) (F : List MValue) (i : Item) (x : Instr) (p : Place) (t : Phrase) (K : List Task) (pc : ℕ) → slice_get M.code pc ≡ Some x → Calling P M false i x →
@@ -38,7 +34,7 @@ module _ (P : Program) (M : Image) (T : Templates) where
   calling_code Γ last F i x p t K pc e (l_call_effect h) rest = c_call_effect h all_none e rest
   calling_code Γ last F i x p t K pc e (l_execute_effect h) rest = c_execute_effect h all_none e rest
   calling_code Γ last F i x p t K pc e (l_generic w n r es er ew same) rest = c_generic w n r es er ew same all_none e rest
-  calling_code Γ last F i x p t K pc e (l_next m n j r er ew same) rest = c_next m n j r er ew same all_none e rest
+  calling_code Γ last F i x p t K pc e (l_next m n j r em er ew same) rest = c_next m n j r em er ew same all_none e rest
 
   -- an item before code that stands for any stack on which nothing is put off
   item_code : (Γ : List Special) (last : Option Instr) (F : List MValue) (i : Item) (x : Instr) (p : Place) (t : Phrase) (K : List Task) (pc : ℕ) → slice_get M.code pc ≡ Some x → Translates P M T F i x →

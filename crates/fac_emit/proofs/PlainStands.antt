@@ -1,5 +1,5 @@
 -- The plain code of a closed program stands for the phrases of its program.
-use Rattle.std.proofs.Common.{◌≡◌, ◌<◌, ℕ, zero, suc, ◌+◌, List, [], ◌∷◌, ◌++◌, length, drop, map, Bool, true, false, Option, Some, None, refl, ap, sym, subst, ◌∙◌, arith}
+use Rattle.std.proofs.Common.{◌≡◌, ◌<◌, ℕ, zero, suc, ◌+◌, List, [], ◌∷◌, ◌++◌, length, drop, map, Bool, true, false, Option, Some, refl, ap, sym, subst, ◌∙◌, arith}
 use Rattle.std.proofs.lemmas.Bool.{ne_eqb}
 use Rattle.std.specs.Prelude.{nat_eq, slice_get}
 use Rattle.fac_lang.specs.declared.phrase.Height.{Height}
@@ -23,9 +23,11 @@ use Rattle.fac_locals.specs.Frames.{ArePut, items_at, template_phrase, IsPlain a
 use Rattle.fac_locals.specs.OpenedPrograms.{OpensSort, OpensProgram}
 use Rattle.fac_locals.proofs.OpeningLaws.{programs_open}
 use Rattle.fac_locals.proofs.Lookups.{word_closed, template_closed}
+use Rattle.fac_code.specs.Code.{is_core_action}
 use Rattle.fac_code.specs.declared.image.Instr.{Instr}
 use Rattle.fac_code.specs.declared.image.Instr.TheVariants.{Halt, Quot, Bind, Local, Callw, Ret, Boa}
 use Rattle.fac_code.specs.declared.image.Action.TheVariants as action
+use Rattle.fac_code.specs.declared.image.GenericRow.{GenericRow}
 use Rattle.fac_code.specs.declared.image.Image.{Image}
 use Rattle.fac_code.specs.declared.image.TemplateRow.{TemplateRow}
 use Rattle.fac_code.specs.declared.image.WordRow.{WordRow}
@@ -33,22 +35,22 @@ use Rattle.fac_generic.specs.Methods.{methods_in_order}
 use Rattle.fac_store.specs.MachineValues.{MValue, kept_list, cells_at}
 use Rattle.fac_emit.specs.Accessors.{Accessor, getting, setting, putting, accessor_sort, accessor_instr, accessor_action}
 use Rattle.fac_emit.specs.MachineView.{Templates, template_phrases, value_view, values_view}
-use Rattle.fac_vm.specs.Machine.{method_after}
-use Rattle.fac_emit.specs.ProgramTables.{table_texts, slot_names, slot_number, accessed, generic_number, method_number, method_row}
-use Rattle.fac_emit.specs.ProgramCode.{core_instr, sort_instr, made_instr, item_instr, with_text, phrase_code, phrase_texts, last_instr, sort_action, sort_code, sort_texts, word_row, code_place, program_words, IsPlain}
-use Rattle.fac_emit.specs.Stands.{RunsPhrase, making, SameMethod, l_word, l_call, l_if, l_execute, l_call_effect, l_execute_effect, l_generic, l_next, Acting, a_itself, a_prim, a_accessor, a_isa, a_core, a_code, a_generic, HasAction, Translates, t_int, t_true, t_false, t_text, t_array, t_reference, t_symbol, t_held, t_quot, t_fry, t_prim, t_accessor, t_isa, t_dip, t_boa, t_stuck, t_calling, Stands, s_end, s_item, s_bind, Coded, PlainCode}
-use Rattle.fac_emit.proofs.Closings.{closing, closed_runs}
+use Rattle.fac_vm.specs.Machine.{method_after, method_place}
+use Rattle.fac_emit.specs.ProgramTexts.{own_texts, own_item_texts, program_texts, text_number}
+use Rattle.fac_emit.specs.ProgramTables.{generic_number, method_row}
+use Rattle.fac_emit.specs.ProgramCode.{core_instr, core_action, sort_instr, made_instr, item_instr, phrase_code, last_instr, sort_action, sort_code, word_row, code_place, program_words, program_generics, IsPlain}
+use Rattle.fac_emit.specs.Stands.{RunsPhrase, making, SameMethod, l_word, l_call, l_if, l_execute, l_call_effect, l_execute_effect, l_generic, l_next, Acting, a_itself, a_prim, a_accessor, a_isa, a_core, a_stuck, a_code, a_generic, HasAction, Translates, t_int, t_true, t_false, t_text, t_array, t_reference, t_symbol, t_held, t_quot, t_fry, t_prim, t_accessor, t_isa, t_dip, t_boa, t_stuck, t_calling, Stands, s_end, s_item, s_bind, Coded, PlainCode}
+use Rattle.fac_emit.proofs.Closings.{alike, closing, closed_runs}
 use Rattle.fac_emit.proofs.HeldFrames.{helds, helds_put, helds_count, helds_more, held_at, captured_values, kept_list_view}
-use Rattle.fac_emit.proofs.FirstWords.{DoAsSorts, first_prim, first_accessor}
+use Rattle.fac_emit.proofs.FirstWords.{Named, named_alike, accessor_slot, word_slot, DoAsSorts, first_prim, first_accessor}
 use Rattle.fac_generic.specs.Methods.{MethodLaws}
 use Rattle.fac_emit.proofs.NextMethods.{method_found}
 use Rattle.fac_emit.proofs.Placed.{Rows, code_at, row_of, template_at, all_rows}
-use Rattle.fac_emit.proofs.PlacedWords.{found_below, element_at, Ran, ran, texts_begin, tables_begin, WordPut, word_put, word_does, has_code, one_place, in_set, picked_same, next_same, generic_row}
+use Rattle.fac_emit.proofs.PlacedWords.{found_below, element_at, Ran, ran, text_in, WordPut, word_put, word_does, place_by, has_code, one_place, in_set, picked_same, next_same, generic_row}
 use Rattle.fac_emit.proofs.TopPhrases.{no_top, before_top}
 use Rattle.fac_emit.proofs.RunningPhrases.{IsMethod, IsRun, IsRunItem, word_runs, literal_runs}
-use Rattle.fac_emit.proofs.TableLemmas.{IsAmong, AreAmong, accessor_named, slot_text}
-use Rattle.fac_emit.proofs.TableNumbers.{slot_same, texts_same, generic_of_same, method_same}
-use Rattle.fac_emit.proofs.TextLists.{Begins, front_there, text_there}
+use Rattle.fac_emit.proofs.TableNumbers.{order_same}
+use Rattle.fac_emit.proofs.TextLemmas.{AreAmong, both_among, word_named, template_named}
 
 -- A plain image of a closed program that stands for a built one.
 module _ (P C : Program) (templates : List Template) (heights : List (Option Height)) (M : Image) (b : IsBuilt P) (whole : IsWhole P) (laws : MethodLaws P) (closes : Closes P C templates) (is_plain : IsPlain C templates heights M) where
@@ -59,16 +61,15 @@ module _ (P C : Program) (templates : List Template) (heights : List (Option Hei
   row_place = code_place (program_words C templates)
 
   -- what each word does, by its row
-  does : DoAsSorts P C M.words
-  does w d e = let p = put w d e in (word_row C p.place w p.closed, p.place, p.row, word_does P C templates heights M b closes is_plain w d p)
+  does : DoAsSorts C templates P M.words
+  does w d e = let p = put w d e in (word_row C templates p.place w p.closed, p.place, p.row, word_does P C templates heights M b closes is_plain w d p)
 
   present : (j w : ℕ) (d : WordDef) → j < w → slice_get P.words w ≡ Some d → (x : WordDef) × (slice_get P.words j ≡ Some x)
   present j w d lt e = let below = found_below P.words w d e in element_at P.words j (omega (arith, lt, below))
 
-  slot_there : (s : List ℕ) → IsAmong (slot_names P) s → slice_get M.texts (slot_number C s) ≡ Some s
-  slot_there s h =
-      front_there (table_texts C) M.texts (slot_number C s) s (tables_begin P C templates heights M b closes is_plain)
-      (ap (slice_get (table_texts C)) (slot_same P C templates closes s) ∙ ap (λ (ts : List (List ℕ)). slice_get ts (slot_number P s)) (texts_same P C templates closes) ∙ slot_text P s h)
+  -- where the slot of each accessor is among the texts
+  slots : (w : ℕ) (d : WordDef) → slice_get P.words w ≡ Some d → Named C templates d.sort
+  slots w d e = let found = word_closed P C templates closes w d e in named_alike C templates d.sort found.closed.sort (alike P w d.sort found.closed.sort found.closes.sort) (word_slot C templates w found.closed found.at)
 
   -- The instruction of a word's item.
   abbrev Does : List MValue → ℕ → Instr → Type 0
@@ -83,58 +84,65 @@ module _ (P C : Program) (templates : List Template) (heights : List (Option Hei
   core_does F w (suc (suc (suc (suc zero)))) h e = t_boa w 4 e refl
   core_does F w (suc (suc (suc (suc (suc k))))) h e = t_stuck Boa (λ fits callable_height st. ap (λ (o : Option Sort). sort_act P w o st) e)
 
-  accessor_does : (F : List MValue) (x : Accessor) (w : ℕ) (s : List ℕ) (d : WordDef) → slice_get P.words w ≡ Some d → d.sort ≡ accessor_sort x s → AreAmong (slot_names P) (s ∷ []) → Does F w (accessor_instr x (slot_number C s))
-  accessor_does F x w s d at is named =
-      t_accessor x w (slot_number C s) s (sort_at P w d at ∙ ap Some is) (slot_there s named.0) (first_accessor P C M.words whole.words_differ does present (slot_same P C templates closes) x s w d at is)
+  slot_of : (x : Accessor) (w : ℕ) (s : List ℕ) (d : WordDef) → slice_get P.words w ≡ Some d → d.sort ≡ accessor_sort x s → slice_get M.texts (text_number C templates s) ≡ Some s
+  slot_of x w s d at is = text_in P C templates heights M b closes is_plain s (accessor_slot C templates x s (subst (Named C templates) is (slots w d at)))
 
-  accessed_slot : (x : Accessor) (s : List ℕ) → accessed (accessor_sort x s) ≡ s ∷ []
-  accessed_slot getting s = refl
-  accessed_slot setting s = refl
-  accessed_slot putting s = refl
-
-  slot_of : (x : Accessor) (w : ℕ) (s : List ℕ) (d : WordDef) → slice_get P.words w ≡ Some d → d.sort ≡ accessor_sort x s → AreAmong (slot_names P) (s ∷ [])
-  slot_of x w s d at is = subst (AreAmong (slot_names P)) (ap accessed is ∙ accessed_slot x s) (accessor_named P w d at)
+  accessor_does : (F : List MValue) (x : Accessor) (w : ℕ) (s : List ℕ) (d : WordDef) → slice_get P.words w ≡ Some d → d.sort ≡ accessor_sort x s → Does F w (accessor_instr x (text_number C templates s))
+  accessor_does F x w s d at is = t_accessor x w (text_number C templates s) s (sort_at P w d at ∙ ap Some is) (slot_of x w s d at is) (first_accessor C templates P M.words whole.words_differ does present slots x s w d at is)
 
   phrase_does : (F : List MValue) (w : ℕ) (d : WordDef) → w < P.top → (e : slice_get P.words w ≡ Some d) → RunsPhrase (Some d.sort) → Does F w (Callw w false)
   phrase_does F w d lt e runs = let p = put w d e in t_calling (l_word w p.place (has_code P C templates heights M b closes is_plain w d p e lt runs))
 
-  sort_does : (F : List MValue) (w : ℕ) (d c : WordDef) (s : Sort) → w < P.top → (e : slice_get P.words w ≡ Some d) → slice_get C.words w ≡ Some c → d.sort ≡ s → ClosesSort P w s c.sort → IsBuiltSort P.top d s → Does F w (sort_instr C w c.sort)
-  sort_does F w d c (prim_sort k) lt e at is h built = rw h (t_prim w k (sort_at P w d e ∙ ap Some is) built.is_built (first_prim P C M.words whole.words_differ does present w k d e is))
+  sort_does : (F : List MValue) (w : ℕ) (d c : WordDef) (s : Sort) → w < P.top → (e : slice_get P.words w ≡ Some d) → slice_get C.words w ≡ Some c → d.sort ≡ s → ClosesSort P w s c.sort → IsBuiltSort P.top d s → Does F w (sort_instr C templates w c.sort)
+  sort_does F w d c (prim_sort k) lt e at is h built = rw h (t_prim w k (sort_at P w d e ∙ ap Some is) built.is_built (first_prim C templates P M.words whole.words_differ does present w k d e is))
   sort_does F w d c (core_sort k) lt e at is h built = rw h (core_does F w k built.is_built (sort_at P w d e ∙ ap Some is))
   sort_does F w d c (body t) lt e at is h built = rw h.1 (phrase_does F w d lt e (subst (λ (s : Sort). RunsPhrase (Some s)) (sym is) tt))
   sort_does F w d c (method n g t) lt e at is h built = rw h.1 (phrase_does F w d lt e (subst (λ (s : Sort). RunsPhrase (Some s)) (sym is) tt))
-  sort_does F w d c itself lt e at is h built = let p = put w d e in rw h (t_symbol w (word_row C p.place w p.closed) (rw (sort_at P w d e ∙ ap Some is) tt) (no_top P b w lt) p.row)
-  sort_does F w d c (class n) lt e at is h built = let p = put w d e in rw h (t_symbol w (word_row C p.place w p.closed) (rw (sort_at P w d e ∙ ap Some is) tt) (no_top P b w lt) p.row)
+  sort_does F w d c itself lt e at is h built = let p = put w d e in rw h (t_symbol w (word_row C templates p.place w p.closed) (rw (sort_at P w d e ∙ ap Some is) tt) (no_top P b w lt) p.row)
+  sort_does F w d c (class n) lt e at is h built = let p = put w d e in rw h (t_symbol w (word_row C templates p.place w p.closed) (rw (sort_at P w d e ∙ ap Some is) tt) (no_top P b w lt) p.row)
   sort_does F w d c (isa n) lt e at is h built = rw h (t_isa w n n (sort_at P w d e ∙ ap Some is) (in_set P C templates heights M b closes is_plain n))
-  sort_does F w d c (getter s) lt e at is h built = rw h (accessor_does F getting w s d e is (slot_of getting w s d e is))
-  sort_does F w d c (setter s) lt e at is h built = rw h (accessor_does F setting w s d e is (slot_of setting w s d e is))
-  sort_does F w d c (putter s) lt e at is h built = rw h (accessor_does F putting w s d e is (slot_of putting w s d e is))
+  sort_does F w d c (getter s) lt e at is h built = rw h (accessor_does F getting w s d e is)
+  sort_does F w d c (setter s) lt e at is h built = rw h (accessor_does F setting w s d e is)
+  sort_does F w d c (putter s) lt e at is h built = rw h (accessor_does F putting w s d e is)
   sort_does F w d c generic lt e at is h built =
       rw h (t_calling (l_generic w (generic_number C w) _ (sort_at P w d e ∙ ap Some is) (generic_row P C templates heights M b closes is_plain w c at h) refl (picked_same P C templates heights M b closes is_plain laws w)))
   sort_does F w d c _ lt e at is h built = absurd built
 
-  word_does_so : (F : List MValue) (n w : ℕ) → w < P.top → Does F w (item_instr C templates n (word w))
-  word_does_so F n w lt =
+  word_does_so : (F : List MValue) (w : ℕ) → w < P.top → Does F w (item_instr C templates (word w))
+  word_does_so F w lt =
       let found = word_below P b w lt in
       let closed = word_closed P C templates closes w found.def found.at in
       rw closed.at (sort_does F w found.def closed.closed found.def.sort lt found.at closed.at refl closed.closes.sort found.built)
 
   -- the row of a word, whatever it does
   row_there : (w : ℕ) → w < P.top → (r : WordRow) × (slice_get M.words w ≡ Some r)
-  row_there w lt = let found = word_below P b w lt in let p = put w found.def found.at in (word_row C p.place w p.closed, p.row)
+  row_there w lt = let found = word_below P b w lt in let p = put w found.def found.at in (word_row C templates p.place w p.closed, p.row)
 
   -- What a word does is what its row says.
-  accessor_acts : (x : Accessor) (w : ℕ) (s : List ℕ) (d : WordDef) → slice_get P.words w ≡ Some d → d.sort ≡ accessor_sort x s → Acting P M w (accessor_action x (slot_number C s))
-  accessor_acts x w s d at is =
-      let named = slot_of x w s d at is in
-      a_accessor x (slot_number C s) s (sort_at P w d at ∙ ap Some is) (slot_there s named.0) (first_accessor P C M.words whole.words_differ does present (slot_same P C templates closes) x s w d at is)
+  accessor_acts : (x : Accessor) (w : ℕ) (s : List ℕ) (d : WordDef) → slice_get P.words w ≡ Some d → d.sort ≡ accessor_sort x s → Acting P M w (accessor_action x (text_number C templates s))
+  accessor_acts x w s d at is = a_accessor x (text_number C templates s) s (sort_at P w d at ∙ ap Some is) (slot_of x w s d at is) (first_accessor C templates P M.words whole.words_differ does present slots x s w d at is)
+
+  no_core : (k : ℕ) → core_action (suc (suc (suc (suc (suc k))))) ≡ action.Itself
+  no_core k = ap (λ (q : Bool). elim q [ true ↦ action.Core (suc (suc (suc (suc (suc k))))) | false ↦ action.Itself ]) (above k)
+    where
+      above : (k : ℕ) → is_core_action (suc (suc (suc (suc (suc k))))) ≡ false
+      above k = grind arith
+
+  core_acts : (w k : ℕ) → sort_of P w ≡ Some (core_sort k) → Acting P M w (core_action k)
+  unfolding core_numbered
+  core_acts w zero e = a_core 0 e
+  core_acts w (suc zero) e = a_core 1 e
+  core_acts w (suc (suc zero)) e = a_core 2 e
+  core_acts w (suc (suc (suc zero))) e = a_core 3 e
+  core_acts w (suc (suc (suc (suc zero)))) e = a_core 4 e
+  core_acts w (suc (suc (suc (suc (suc k))))) e = rw (no_core k) (a_stuck action.Itself (λ fits callable_height st. ap (λ (o : Option Sort). sort_act P w o st) e))
 
   phrase_acts : (w : ℕ) (d : WordDef) → w < P.top → (e : slice_get P.words w ≡ Some d) → RunsPhrase (Some d.sort) → Acting P M w (action.Code (put w d e).place)
   phrase_acts w d lt e runs = let p = put w d e in a_code p.place (has_code P C templates heights M b closes is_plain w d p e lt runs)
 
-  sort_acts : (w : ℕ) (d c : WordDef) (s : Sort) → w < P.top → (e : slice_get P.words w ≡ Some d) → slice_get C.words w ≡ Some c → d.sort ≡ s → ClosesSort P w s c.sort → IsBuiltSort P.top d s → Acting P M w (sort_action C w (put w d e).place c.sort)
-  sort_acts w d c (prim_sort k) lt e at is h built = rw h (a_prim k (sort_at P w d e ∙ ap Some is) built.is_built (first_prim P C M.words whole.words_differ does present w k d e is))
-  sort_acts w d c (core_sort k) lt e at is h built = rw h (a_core k (sort_at P w d e ∙ ap Some is))
+  sort_acts : (w : ℕ) (d c : WordDef) (s : Sort) → w < P.top → (e : slice_get P.words w ≡ Some d) → slice_get C.words w ≡ Some c → d.sort ≡ s → ClosesSort P w s c.sort → IsBuiltSort P.top d s → Acting P M w (sort_action C templates w (put w d e).place c.sort)
+  sort_acts w d c (prim_sort k) lt e at is h built = rw h (a_prim k (sort_at P w d e ∙ ap Some is) built.is_built (first_prim C templates P M.words whole.words_differ does present w k d e is))
+  sort_acts w d c (core_sort k) lt e at is h built = rw h (core_acts w k (sort_at P w d e ∙ ap Some is))
   sort_acts w d c (body t) lt e at is h built = rw h.1 (phrase_acts w d lt e (subst (λ (s : Sort). RunsPhrase (Some s)) (sym is) tt))
   sort_acts w d c (method n g t) lt e at is h built = rw h.1 (phrase_acts w d lt e (subst (λ (s : Sort). RunsPhrase (Some s)) (sym is) tt))
   sort_acts w d c itself lt e at is h built = rw h (a_itself (rw (sort_at P w d e ∙ ap Some is) tt))
@@ -151,25 +159,24 @@ module _ (P C : Program) (templates : List Template) (heights : List (Option Hei
   action_there w lt =
       let found = word_below P b w lt in
       let p = put w found.def found.at in
-      record { row = word_row C p.place w p.closed; there = p.row; acts = sort_acts w found.def p.closed found.def.sort lt found.at p.at refl p.closes_word.sort found.built }
+      record { row = word_row C templates p.place w p.closed; there = p.row; acts = sort_acts w found.def p.closed found.def.sort lt found.at p.at refl p.closes_word.sort found.built }
 
   -- That of a next method.
-  abbrev NextSame : ℕ → ℕ → ℕ → ℕ → Type 0
-  NextSame g m k j = SameMethod P M (method_after M.sets k (drop j (map (method_row row_place) (methods_in_order P g)))) (next P m k)
-
-  next_does : (F : List MValue) (n m : ℕ) → IsMethod (sort_of P m) → Translates P M (template_phrases P) F (next_after m) (item_instr C templates n (next_after m))
-  next_does F n m is =
-      let found = method_found P C templates b whole laws closes m is in
+  next_does : (F : List MValue) (m : ℕ) → IsMethod (sort_of P m) → Translates P M (template_phrases P) F (next_after m) (item_instr C templates (next_after m))
+  next_does F m is =
+      let found = method_found P C templates b whole laws closes row_place m is in
       let g = generic_of P (sort_of P m) in
-      let row = ap (λ (g : ℕ). slice_get M.generics (generic_number C g)) (generic_of_same P C templates closes m) ∙ generic_row P C templates heights M b closes is_plain g found.closed found.at found.is_generic_word in
-      t_calling (l_next m (generic_number C (generic_of C (sort_of C m))) (method_number C m) _ row refl
-      (λ k. subst (λ (j : ℕ). NextSame g m k j) (sym (method_same P C templates closes m)) (next_same P C templates heights M b closes is_plain laws g (method_number P m) m found.class_of k found.there)))
+      let rows = map (method_row row_place) in
+      t_calling (l_next m (0 + found.number) found.place_of (record { word = g; methods = rows (methods_in_order C g) }) (ap (method_place m) is_plain.generics ∙ found.found)
+      (ap (λ (gs : List GenericRow). slice_get gs (0 + found.number)) is_plain.generics ∙ ap (slice_get (program_generics C templates)) (let n : 0 + found.number ≡ found.number = omega arith in n) ∙ found.row) refl
+      (λ k. subst (λ (ms : List (ℕ × ℕ)). SameMethod P M (method_after M.sets k (drop found.place_of (rows ms))) (next P m k)) (sym (order_same P C templates closes g))
+      (next_same P C templates heights M b closes is_plain laws g found.place_of m found.class_of k found.there)))
 
   abbrev T : Templates
   T = template_phrases P
 
-  rows : Rows C templates M.code M.texts M.templates templates
-  rows = all_rows P C templates closes heights M.code M.texts M.templates is_plain.code (texts_begin P C templates heights M b closes is_plain) is_plain.template_rows_are
+  rows : Rows C templates M.code M.templates templates
+  rows = all_rows P C templates closes heights M.code M.templates is_plain.code is_plain.template_rows_are
 
   opens : OpensProgram P C templates
   opens = programs_open P C templates closes
@@ -181,7 +188,7 @@ module _ (P C : Program) (templates : List Template) (heights : List (Option Hei
 
   quotation_does : (F : List MValue) (q : ℕ) (t : Template) (is : List Item) → slice_get templates q ≡ Some t → t.holes ≡ 0 → items_at t.captures (helds T F) ≡ Some is → Translates P M T F (quot (template_phrase P q is)) (made_instr q (slice_get templates q))
   quotation_does F q t is et eh ei =
-      let found = row_of C templates M.code M.texts M.templates templates q t rows et in
+      let found = row_of C templates M.code M.templates templates q t rows et in
       let row = found.of.row in
       let kept = captured_values T t.captures F is ei in
       let cells : cells_at found.row.cells F ≡ Some kept.0 = ap (λ (r : TemplateRow). cells_at r.cells F) row ∙ kept.1 in
@@ -194,7 +201,7 @@ module _ (P C : Program) (templates : List Template) (heights : List (Option Hei
       (F : List MValue) (q : ℕ) (t : Template) (is : List Item) (u : Phrase) → slice_get templates q ≡ Some t → items_at t.captures (helds T F) ≡ Some is →
       ((js : List Item) → ArePut js → length js ≡ t.holes → put_holes js u ≡ template_phrase P q (is ++ js)) → Translates P M T F (fry u t.holes) (made_instr q (slice_get templates q))
   fry_does F q t is u et ei puts =
-      let found = row_of C templates M.code M.texts M.templates templates q t rows et in
+      let found = row_of C templates M.code M.templates templates q t rows et in
       let row = found.of.row in
       let kept = captured_values T t.captures F is ei in
       let cells : cells_at found.row.cells F ≡ Some kept.0 = ap (λ (r : TemplateRow). cells_at r.cells F) row ∙ kept.1 in
@@ -203,85 +210,66 @@ module _ (P C : Program) (templates : List Template) (heights : List (Option Hei
       λ us n. puts (helds T us) (helds_put T us) (helds_count T us ∙ n ∙ holes) ∙ ap (λ (js : List Item). template_phrase P q (js ++ helds T us)) kept.2 ∙ ap (template_phrase P q) (sym (helds_more T kept.0 us)) ∙ sym (template_held q (kept.0 ++ us)) in
       rw (ap (made_instr q) et) (subst (λ (n : ℕ). Translates P M T F (fry u n) (making q n)) holes (t_fry q found.row kept.0 u found.there cells put))
 
-  plain_does : (F : List MValue) (texts : List (List ℕ)) (i : Item) (c : Phrase) → IsPlainItem P i → IsRunItem P i → Begins (phrase_texts (with_text texts i) c) M.texts → Translates P M T F i (item_instr C templates (length texts) i)
-  plain_does F texts (lit (int z)) c h r begins = t_int z
-  plain_does F texts (lit yes) c h r begins = t_true
-  plain_does F texts (lit no) c h r begins = t_false
-  plain_does F texts (lit (str cs)) c h r begins = t_text cs (length texts) (text_there texts M.texts cs c begins)
-  plain_does F texts (lit (wrd w)) c h r begins = let there = row_there w r in t_reference w there.0 (no_top P b w r) there.1
-  plain_does F texts (lit_arr a) c h r begins = t_array a
-  plain_does F texts (word w) c h r begins = word_does_so F (length texts) w r
-  plain_does F texts next_method c h r begins = t_stuck Boa (λ fits callable_height st. refl)
-  plain_does F texts (next_after m) c h r begins = next_does F (length texts) m r
-  plain_does F texts (lit _) c h r begins = absurd r
-  plain_does F texts (call_eff k) c h r begins = t_calling (l_call_effect k)
-  plain_does F texts (exec_eff k) c h r begins = t_calling (l_execute_effect k)
-  plain_does F texts _ c h r begins = absurd h
+  plain_does : (F : List MValue) (i : Item) → IsPlainItem P i → IsRunItem P i → AreAmong (program_texts C templates) (own_item_texts i) → Translates P M T F i (item_instr C templates i)
+  plain_does F (lit (int z)) h r n = t_int z
+  plain_does F (lit yes) h r n = t_true
+  plain_does F (lit no) h r n = t_false
+  plain_does F (lit (str cs)) h r n = t_text cs (text_number C templates cs) (text_in P C templates heights M b closes is_plain cs n.0)
+  plain_does F (lit (wrd w)) h r n = let there = row_there w r in t_reference w there.0 (no_top P b w r) there.1
+  plain_does F (lit_arr a) h r n = t_array a
+  plain_does F (word w) h r n = word_does_so F w r
+  plain_does F next_method h r n = t_stuck Boa (λ fits callable_height st. refl)
+  plain_does F (next_after m) h r n = next_does F m r
+  plain_does F (lit _) h r n = absurd r
+  plain_does F (call_eff k) h r n = t_calling (l_call_effect k)
+  plain_does F (exec_eff k) h r n = t_calling (l_execute_effect k)
+  plain_does F _ h r n = absurd h
 
   local_does : (F : List MValue) (k : ℕ) (i : Item) → slice_get (helds T F) k ≡ Some i → Translates P M T F i (Local k)
   local_does F k i e = let found = held_at T F k i e in subst (λ (j : Item). Translates P M T F j (Local k)) (sym found.2) (t_held k found.0 found.1)
 
   -- an item of a closed phrase under a frame
-  item_does : (F : List MValue) (at : Literal) (texts : List (List ℕ)) (j i : Item) (c : Phrase) → OpensItem P templates (helds T F) at j i → IsRunItem P j → Begins (phrase_texts (with_text texts j) c) M.texts →
-      Translates P M T F i (item_instr C templates (length texts) j)
-  item_does F at texts j i c (o_plain x h) r begins = plain_does F texts x c h r begins
-  item_does F at texts j i c (o_local k x e put) r begins = local_does F k x e
-  item_does F at texts j i c (o_quotation k t is et eh where_at ei) r begins = quotation_does F k t is et eh ei
-  item_does F at texts j i c (o_fry k t is u et where_at ei puts) r begins = fry_does F k t is u et ei puts
+  item_does : (F : List MValue) (at : Literal) (j i : Item) → OpensItem P templates (helds T F) at j i → IsRunItem P j → AreAmong (program_texts C templates) (own_item_texts j) → Translates P M T F i (item_instr C templates j)
+  item_does F at j i (o_plain x h) r n = plain_does F x h r n
+  item_does F at j i (o_local k x e put) r n = local_does F k x e
+  item_does F at j i (o_quotation k t is et eh where_at ei) r n = quotation_does F k t is et eh ei
+  item_does F at j i (o_fry k t is u et where_at ei puts) r n = fry_does F k t is u et ei puts
 
   -- The code of a closed phrase stands for the phrase that it opens to under a frame, whatever comes behind.
   phrase_stands :
-      (last : Instr) (F : List MValue) (frame : List Item) (pc : ℕ) (at : Literal) (texts : List (List ℕ)) (c t : Phrase) (more : List Instr) → frame ≡ helds T F → Opens P templates frame at c t → IsRun P c → Begins (phrase_texts texts c) M.texts →
-      drop pc M.code ≡ phrase_code C templates last texts c ++ more → Stands P M T last F pc t
-  phrase_stands last F frame pc at texts c t more is o_end r begins e = s_end (code_at M.code pc last more e).0
-  phrase_stands last F frame pc at texts c t more is (o_item {j = j} {i = i} {c = d} h later) r begins e =
-      let x = item_instr C templates (length texts) j in
-      let found = code_at M.code pc x (phrase_code C templates last (with_text texts j) d ++ more) e in
-      s_item x found.0 (item_does F at texts j i d (subst (λ (fs : List Item). OpensItem P templates fs at j i) is h) r.0 begins) (phrase_stands last F frame (pc + 1) (behind at i) (with_text texts j) d _ more is later r.1 begins found.1)
-  phrase_stands last F frame pc at texts c t more is (o_bind {x = y} {c = d} {t = u} later) r begins e =
-      let found = code_at M.code pc Bind (phrase_code C templates last texts d ++ more) e in
-      s_bind found.0 (λ v whole. phrase_stands last (F ++ v ∷ []) (frame ++ held (value_view T v) ∷ []) (pc + 1) (behind at (bind y)) texts d (put_local y (held (value_view T v)) u) more
-      (ap (λ (fs : List Item). fs ++ held (value_view T v) ∷ []) is ∙ sym (helds_more T F (v ∷ []))) (later (held (value_view T v)) tt) r.1 begins found.1)
+      (last : Instr) (F : List MValue) (frame : List Item) (pc : ℕ) (at : Literal) (c t : Phrase) (more : List Instr) → frame ≡ helds T F → Opens P templates frame at c t → IsRun P c → AreAmong (program_texts C templates) (own_texts c) →
+      drop pc M.code ≡ phrase_code C templates last c ++ more → Stands P M T last F pc t
+  phrase_stands last F frame pc at c t more is o_end r n e = s_end (code_at M.code pc last more e).0
+  phrase_stands last F frame pc at c t more is (o_item {j = j} {i = i} {c = d} h later) r n e =
+      let x = item_instr C templates j in
+      let found = code_at M.code pc x (phrase_code C templates last d ++ more) e in
+      let named = both_among (program_texts C templates) (own_item_texts j) (own_texts d) n in
+      s_item x found.0 (item_does F at j i (subst (λ (fs : List Item). OpensItem P templates fs at j i) is h) r.0 named.0) (phrase_stands last F frame (pc + 1) (behind at i) d _ more is later r.1 named.1 found.1)
+  phrase_stands last F frame pc at c t more is (o_bind {x = y} {c = d} {t = u} later) r n e =
+      let found = code_at M.code pc Bind (phrase_code C templates last d ++ more) e in
+      s_bind found.0 (λ v whole. phrase_stands last (F ++ v ∷ []) (frame ++ held (value_view T v) ∷ []) (pc + 1) (behind at (bind y)) d (put_local y (held (value_view T v)) u) more
+      (ap (λ (fs : List Item). fs ++ held (value_view T v) ∷ []) is ∙ sym (helds_more T F (v ∷ []))) (later (held (value_view T v)) tt) r.1 n found.1)
 
   -- the closed phrase of a word that runs a phrase
-  pub record Opened (w : ℕ) (s c : Sort) : Type 0 where
-    pub phrase : Phrase
-    pub code_is : (is_top : Bool) (texts : List (List ℕ)) → sort_code C templates is_top texts c ≡ phrase_code C templates (last_instr is_top) texts phrase
-    pub texts_are : (texts : List (List ℕ)) → sort_texts texts c ≡ phrase_texts texts phrase
-    pub opens_to : Opens P templates [] (first_of_word w) phrase (sort_phrase P w (Some s))
-    pub runs : IsRun P phrase
-
-  opened_as : (w : ℕ) (s c : Sort) → RunsPhrase (Some s) → OpensSort P templates w s c → Ran P C templates w s c → Opened w s c
-  opened_as w (body t) c h o r = record {
-    phrase = o.0;
-    code_is = λ is_top texts. ap (sort_code C templates is_top texts) o.1;
-    texts_are = λ texts. ap (sort_texts texts) o.1;
-    opens_to = o.2;
-    runs = let same : body r.phrase ≡ body o.0 = sym r.sort_is ∙ o.1 in let phrases : r.phrase ≡ o.0 = cc in subst (IsRun P) phrases (closed_runs P [] (first_of_word w) t r.phrase r.closes);
-  }
-  opened_as w (method n g t) c h o r = record {
-    phrase = o.0;
-    code_is = λ is_top texts. ap (sort_code C templates is_top texts) o.1;
-    texts_are = λ texts. ap (sort_texts texts) o.1;
-    opens_to = o.2;
-    runs = let same : method n g r.phrase ≡ method n g o.0 = sym r.sort_is ∙ o.1 in let phrases : r.phrase ≡ o.0 = cc in subst (IsRun P) phrases (closed_runs P [] (first_of_word w) _ r.phrase r.closes);
-  }
+  opened_as : (w : ℕ) (s c : Sort) → RunsPhrase (Some s) → OpensSort P templates w s c → (r : Ran P C templates w s c) → Opens P templates [] (first_of_word w) r.phrase (sort_phrase P w (Some s))
+  opened_as w (body t) c h o r = let same : body r.phrase ≡ body o.0 = sym r.sort_is ∙ o.1 in let phrases : r.phrase ≡ o.0 = cc in subst (λ (u : Phrase). Opens P templates [] (first_of_word w) u (sort_phrase P w (Some (body t)))) (sym phrases) o.2
+  opened_as w (method n g t) c h o r = let same : method n g r.phrase ≡ method n g o.0 = sym r.sort_is ∙ o.1 in let phrases : r.phrase ≡ o.0 = cc in subst (λ (u : Phrase). Opens P templates [] (first_of_word w) u (sort_phrase P w (Some (method n g t)))) (sym phrases) o.2
   opened_as w _ c h o r = absurd h
 
   -- the code of a word that runs a phrase
   word_stands : (w : ℕ) (d : WordDef) (is_top : Bool) → nat_eq w C.top ≡ is_top → (e : slice_get P.words w ≡ Some d) → RunsPhrase (Some d.sort) → Stands P M T (last_instr is_top) [] (put w d e).place (sort_phrase P w (Some d.sort))
   word_stands w d is_top which e runs =
       let p = put w d e in
-      let own = opened_as w d.sort p.closed.sort runs (opens.words w d p.closed e p.at) (ran P C templates w d.sort p.closed.sort runs p.closes_word.sort (word_runs P b w d e)) in
-      let there : drop p.place M.code ≡ phrase_code C templates (last_instr is_top) p.texts own.phrase ++ p.more =
-      p.there ∙ ap (λ (q : Bool). sort_code C templates q p.texts p.closed.sort ++ p.more) which ∙ ap (λ (c : List Instr). c ++ p.more) (own.code_is is_top p.texts) in
-      let pool : Begins (phrase_texts p.texts own.phrase) M.texts = subst (λ (ts : List (List ℕ)). Begins ts M.texts) (own.texts_are p.texts) p.begins in
-      phrase_stands (last_instr is_top) [] [] p.place (first_of_word w) p.texts own.phrase (sort_phrase P w (Some d.sort)) p.more refl own.opens_to own.runs pool there
+      let own = ran P C templates w d.sort p.closed.sort runs p.closes_word.sort (word_runs P b w d e) (word_named C templates w p.closed p.at).1.1 in
+      let opens_to = opened_as w d.sort p.closed.sort runs (opens.words w d p.closed e p.at) own in
+      let there : drop p.place M.code ≡ phrase_code C templates (last_instr is_top) own.phrase ++ p.more =
+      p.there ∙ ap (λ (q : Bool). sort_code C templates q p.closed.sort ++ p.more) which ∙ ap (λ (c : List Instr). c ++ p.more) (own.code_is is_top) in
+      phrase_stands (last_instr is_top) [] [] p.place (first_of_word w) own.phrase (sort_phrase P w (Some d.sort)) p.more refl opens_to (closed_runs P [] (first_of_word w) (sort_phrase P w (Some d.sort)) own.phrase own.closes) own.named there
 
   -- the code of a template, under the values that its callables keep
   template_stands : (q : ℕ) (r : TemplateRow) (vs : List MValue) → slice_get M.templates q ≡ Some r → length vs ≡ length r.cells + r.holes → Stands P M T Ret vs r.entry (T q (values_view T vs))
   template_stands q r vs e n =
-      let found = template_at C templates M.code M.texts M.templates templates q r rows e in
+      let found = template_at C templates M.code M.templates templates q r rows e in
       let l : Quoted = literal_numbered P q in
       let t = found.template in
       let cells = inner_cells l.cells l.item in
@@ -292,7 +280,7 @@ module _ (P C : Program) (templates : List Template) (heights : List (Option Hei
       let open_body = opens.bodies q t (helds T vs) found.there (helds_put T vs) (helds_count T vs ∙ n ∙ many) in
       subst (λ (u : Phrase). Stands P M T Ret vs r.entry u) (sym (template_held q vs))
       (subst (λ (a : ℕ). Stands P M T Ret vs a (template_phrase P q (helds T vs))) entry
-      (phrase_stands Ret vs (helds T vs) found.of.at (first_of_literal l.at) found.of.texts t.body (template_phrase P q (helds T vs)) found.of.more refl open_body runs found.of.begins found.of.there))
+      (phrase_stands Ret vs (helds T vs) found.of.at (first_of_literal l.at) t.body (template_phrase P q (helds T vs)) found.of.more refl open_body runs (template_named C templates q t found.there) found.of.there))
 
   coded : Coded P M (template_phrases P)
   coded = record {
@@ -316,10 +304,8 @@ module _ (P C : Program) (templates : List Template) (heights : List (Option Hei
       let runs = subst (λ (s : Sort). RunsPhrase (Some s)) (sym b.last_word_is.sort_is) tt in
       let stands = word_stands P.top b.last_word true same at runs in
       let p = put P.top b.last_word at in
-      let begins : slice_get M.words P.top ≡ Some (record { name = C.top; action = action.Code M.start; kind = None; height = None }) = ap (slice_get M.words) (sym closes.top) ∙ is_plain.begins in
-      let row : word_row C p.place P.top p.closed ≡ record { name = C.top; action = action.Code M.start; kind = None; height = None } = let one = p.row in cc in
-      let code : action.Code p.place ≡ action.Code M.start = sym (word_does P C templates heights M b closes is_plain P.top b.last_word p ∙ ap (λ (s : Sort). sort_action C P.top p.place s) b.last_word_is.sort_is) ∙ ap (λ (r : WordRow). r.action) row in
-      let place : p.place ≡ M.start = cc in
+      let action : (word_row C templates p.place P.top p.closed).action ≡ action.Code p.place = word_does P C templates heights M b closes is_plain P.top b.last_word p ∙ ap (λ (s : Sort). sort_action C templates P.top p.place s) b.last_word_is.sort_is in
+      let place : p.place ≡ M.start = sym (is_plain.starts ∙ ap row_place closes.top ∙ place_by P C templates heights M b closes is_plain P.top p.place (word_row C templates p.place P.top p.closed) p.row action) in
       subst (λ (t : Phrase). Stands P M (template_phrases P) Halt [] M.start t) (ap (sort_phrase P P.top) (sym (sort_at P P.top b.last_word at)))
       (subst (λ (a : ℕ). Stands P M (template_phrases P) Halt [] a (sort_phrase P P.top (Some b.last_word.sort))) place stands)
 

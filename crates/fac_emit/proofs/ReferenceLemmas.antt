@@ -1,5 +1,5 @@
 -- Each number in plain code and its tables names something.
-use Rattle.std.proofs.Common.{◌≡◌, ◌<◌, ◌≤◌, ℕ, zero, suc, ◌+◌, List, [], ◌∷◌, ◌++◌, length, map, drop, Bool, true, ◌&&◌, Option, Some, None, refl, ap, sym, subst, ◌∙◌, arith, length-append}
+use Rattle.std.proofs.Common.{◌≡◌, ◌<◌, ℕ, zero, suc, ◌+◌, List, [], ◌∷◌, ◌++◌, length, map, drop, Bool, true, false, ◌&&◌, Option, Some, None, refl, ap, sym, subst, ◌∙◌, arith}
 use Rattle.std.proofs.lemmas.Bool.{lt-ltb, ltb-true}
 use Rattle.std.proofs.lemmas.List.{length-map, append-nil}
 use Rattle.std.proofs.lemmas.List.Folds.{list_all-append}
@@ -7,7 +7,6 @@ use Rattle.std.specs.Prelude.{nat_eq, nat_lt, slice_get}
 use Rattle.std.specs.List.{list_all}
 use Rattle.fac_lang.specs.declared.phrase.Height.{Height}
 use Rattle.fac_lang.specs.declared.phrase.Template.{Template}
-use Rattle.fac_lang.specs.declared.program.ClassDef.{ClassDef}
 use Rattle.fac_lang.specs.declared.program.Lit.{Lit}
 use Rattle.fac_lang.specs.declared.program.Lit.TheVariants.{Int as l_int, True as l_yes, False as l_no, Str as l_str, Arr as l_arr, Wref as l_word, Quot as l_quot, Made as l_made}
 use Rattle.fac_lang.specs.declared.program.Program.{Program}
@@ -15,43 +14,45 @@ use Rattle.fac_lang.specs.declared.program.WordDef.{WordDef}
 use Rattle.fac_lang.specs.declared.program.Sort.{Sort}
 use Rattle.fac_lang.specs.declared.program.Sort.TheVariants.{Prim as prim_sort, Core as core_sort, Body as body, Past as past, Itself as itself, Class as class, Isa as isa, Getter as getter, Setter as setter, Putter as putter, Generic as generic, Method as method}
 use Rattle.fac_lang.specs.Phrases.{Literal, Phrase, quot, fry}
-use Rattle.fac_lang.specs.Classes.{own_kind}
 use Rattle.fac_lang.specs.Forms.{IsBuilt, IsBuiltElement, AreBuiltElements, AreBuiltArrays}
 use Rattle.fac_lang.specs.Meaning.{sort_of, generic_of, array_method}
 use Rattle.fac_lang.specs.Whole.{IsWhole, sort_fits, names_earlier, each_numbered, arrays_in, arrays_named}
 use Rattle.fac_captures.specs.declared.cell.Cell.{Cell}
 use Rattle.fac_captures.specs.Cells.{inner_cells, hole_count}
 use Rattle.fac_locals.specs.Literals.{Quoted, quoted_phrase, behind, first_of_word, first_of_literal, first_in_array, element_item, literal_numbered}
-use Rattle.fac_locals.specs.Closed.{IsMadeBy, Closes, ClosesSort, ClosesElement, CloseElements, CloseArrays}
+use Rattle.fac_locals.specs.Closed.{IsMadeBy, Closes, ClosesElement, CloseElements, CloseArrays}
 use Rattle.fac_locals.proofs.Lookups.{word_open, word_closed, template_closed}
-use Rattle.fac_lang.proofs.FormsLemmas.{word_below}
+use Rattle.fac_lang.proofs.FormsLemmas.{word_below, top_word}
 use Rattle.fac_code.specs.declared.image.Instr.{Instr}
 use Rattle.fac_code.specs.declared.image.Instr.TheVariants.{Ret}
+use Rattle.fac_code.specs.declared.image.Action.{Action}
 use Rattle.fac_code.specs.declared.image.Action.TheVariants as action
 use Rattle.fac_code.specs.declared.image.GenericRow.{GenericRow}
 use Rattle.fac_code.specs.declared.image.MethodRow.{MethodRow}
 use Rattle.fac_code.specs.declared.image.Tables.{Tables}
 use Rattle.fac_code.specs.declared.image.TemplateRow.{TemplateRow}
 use Rattle.fac_code.specs.declared.image.WordRow.{WordRow}
-use Rattle.fac_code.specs.References.{is_code, names_code, names_method, names_constant, elem_refers, arrays_refer, instr_refers, action_refers, own_refers, word_refers, template_refers, kind_refers, set_refers, method_refers, generic_refers, tables_refer, refers}
+use Rattle.fac_code.specs.Code.{is_core_action}
+use Rattle.fac_code.specs.References.{is_code, names_code, has_method, names_method, names_constant, elem_refers, arrays_refer, instr_refers, places_refer, pairs_refer, action_refers, word_refers, template_refers, kind_refers, set_refers, method_refers, generic_refers, tables_refer, refers}
 use Rattle.fac_generic.specs.Methods.{methods_in_order}
-use Rattle.fac_emit.specs.ProgramTables.{word_names, kind_names, slot_names, slot_number, table_texts, generic_number, method_number, method_row, generics_from, program_kinds}
-use Rattle.fac_emit.specs.ProgramCode.{sort_instr, word_instr, made_instr, phrase_code, phrase_texts, templates_code, templates_texts, last_instr, sort_action, sort_kind, word_row, sort_code, sort_texts, words_texts, word_code, code_from, words_from, program_code, program_texts, program_tables, elem_of, with_element_text, elems_of, elements_texts, arrays_of, arrays_texts}
-use Rattle.fac_emit.specs.Stands.{making}
-use Rattle.fac_emit.proofs.BuiltCode.{and_true}
-use Rattle.fac_emit.proofs.Closings.{drop_behind, Closing, c_end, c_int, c_true, c_false, c_text, c_array, c_ref, c_word, c_quot, c_fry, c_bind, c_local, c_hole, c_call_effect, c_execute_effect, c_outside, c_next, closing}
+use Rattle.fac_emit.specs.ProgramTexts.{own_texts, own_elements_texts, sort_texts, arrays_texts, program_texts, text_number}
+use Rattle.fac_emit.specs.ProgramTables.{generic_number, method_row, generics_from}
+use Rattle.fac_emit.specs.ProgramCode.{core_action, sort_instr, word_instr, made_instr, phrase_code, templates_code, last_instr, sort_action, word_row, sort_code, word_code, code_from, words_from, program_code, program_tables, elem_of, elems_of}
+use Rattle.fac_emit.specs.Stands.{RunsPhrase, making}
+use Rattle.fac_emit.proofs.BuiltCode.{and_true, code_plain, places_of}
+use Rattle.fac_emit.proofs.FirstWords.{any_there}
+use Rattle.fac_emit.proofs.Closings.{alike, drop_behind, Closing, c_end, c_int, c_true, c_false, c_text, c_array, c_ref, c_word, c_quot, c_fry, c_bind, c_local, c_hole, c_call_effect, c_execute_effect, c_outside, c_next, closing}
 use Rattle.fac_emit.proofs.MadeArrays.{has_first}
 use Rattle.fac_generic.specs.Methods.{MethodLaws}
 use Rattle.fac_emit.proofs.NamedArrays.{NamesArrays, word_names_arrays, literal_names_arrays}
-use Rattle.fac_emit.proofs.NextMethods.{all_at, method_fits, method_found}
-use Rattle.fac_emit.proofs.TextLists.{Begins, begins_same, begins_on, begins_length, front_there, templates_behind, words_behind, arrays_behind, text_there, element_there}
+use Rattle.fac_emit.proofs.NextMethods.{all_at, method_fits, generic_there, listed}
 use Rattle.fac_emit.proofs.Placed.{Rows, behind_templates, words_placed, literal_of, all_rows, listed_row, literal_row, literal_instr}
-use Rattle.fac_emit.proofs.PlacedWords.{places, row_of, generic_at, word_there}
+use Rattle.fac_emit.proofs.PlacedWords.{action_alike, does_code, places, row_of, generic_at, word_there}
 use Rattle.fac_emit.proofs.LiteralWords.{is_listed_in_array}
 use Rattle.fac_emit.proofs.RunningPhrases.{IsMethod, word_runs, literal_runs}
-use Rattle.fac_emit.proofs.TableLemmas.{IsAmong, accessor_named, slot_text}
-use Rattle.fac_emit.proofs.TableNumbers.{slot_same, texts_same, kind_rows_same, generic_of_same, method_same, order_same, sets_same}
-use Rattle.fac_emit.proofs.TableReferences.{sets_many, kinds_refer, own_refers_so, sets_refer}
+use Rattle.fac_emit.proofs.TextLemmas.{AreAmong, both_among, first_element, text_below, word_named, template_named, all_arrays_named, body_among}
+use Rattle.fac_emit.proofs.TableNumbers.{order_same}
+use Rattle.fac_emit.proofs.TableReferences.{sets_many, kinds_refer, sets_refer, pairs_refer_so}
 use Rattle.fac_emit.proofs.ClosedWords.{found_within, both_pass, first_true, one_passes, begins_within, core_refers, last_refers, word_doable, ClosedAs, closed_as}
 
 module _ (P C : Program) (templates : List Template) (heights : List (Option Height)) (built : IsBuilt P) (whole : IsWhole P) (laws : MethodLaws P) (closes : Closes P C templates) where
@@ -61,25 +62,12 @@ module _ (P C : Program) (templates : List Template) (heights : List (Option Hei
   abbrev T : Tables
   T = program_tables C templates heights
 
-  pool_begins : Begins (program_texts C templates) T.texts
-  pool_begins = arrays_behind (program_texts C templates) C.arrays
-
-  tables_begin : Begins (table_texts C) T.texts
-  tables_begin =
-      let first = table_texts C in
-      let texts = templates_texts first templates in
-      begins_on first texts T.texts (templates_behind first templates) (begins_on texts (program_texts C templates) T.texts (words_behind texts C.words) pool_begins)
-
-  as_many : (texts : List (List ℕ)) (lss : List (List Lit)) → length (arrays_of texts lss) ≡ length lss
-  as_many texts [] = refl
-  as_many texts (ls ∷ lss) = ap suc (as_many (elements_texts texts ls) lss)
-
   closed_many : (a : ℕ) (lss cs : List (List Lit)) → CloseArrays P a lss cs → length cs ≡ length lss
   closed_many a [] cs h = ap length h
   closed_many a (ls ∷ lss) cs h = ap length h.3 ∙ ap suc (closed_many (suc a) lss h.2 h.5)
 
   all_arrays : length T.arrays ≡ length P.arrays
-  all_arrays = as_many (program_texts C templates) C.arrays ∙ closed_many 0 P.arrays C.arrays closes.arrays
+  all_arrays = length-map C.arrays (elems_of C templates) ∙ closed_many 0 P.arrays C.arrays closes.arrays
 
   all_sets : length T.sets ≡ length P.classes
   all_sets = sets_many C.classes 0 C.classes ∙ ap length closes.classes
@@ -92,53 +80,45 @@ module _ (P C : Program) (templates : List Template) (heights : List (Option Hei
       let found = word_open P C templates closes w c e in
       let d = found.def in
       closed_as P w d.sort c.sort found.closes.sort (word_doable P built w d found.at) (word_runs P built w d found.at) (found_within P.words w d found.at) (word_names_arrays P whole w d found.at)
-      (all_at (λ (d : WordDef). sort_fits P d.sort) P.words w d whole.sorts_fit found.at) (accessor_named P w d found.at)
+      (all_at (λ (d : WordDef). sort_fits P d.sort) P.words w d whole.sorts_fit found.at)
 
   -- a word that is there has a row
   word_row_there : (w : ℕ) (c : WordDef) → slice_get C.words w ≡ Some c → nat_lt w (length T.words) ≡ true
-  word_row_there w c e = let put = words_placed C templates w c e in lt-ltb w (length T.words) (found_within T.words w _ put.row)
+  word_row_there w c e = let put = words_placed C templates code refl w c e in lt-ltb w (length T.words) (found_within T.words w _ put.row)
 
-  slot_below : (s : List ℕ) → IsAmong (slot_names P) s → nat_lt (slot_number C s) (length T.texts) ≡ true
-  slot_below s h =
-      let there = front_there (table_texts C) T.texts (slot_number C s) s tables_begin (ap (slice_get (table_texts C)) (slot_same P C templates closes s) ∙ ap (λ (ts : List (List ℕ)). slice_get ts (slot_number P s)) (texts_same P C templates closes) ∙ slot_text P s h) in
-      lt-ltb (slot_number C s) (length T.texts) (found_within T.texts (slot_number C s) s there)
+  abbrev Named : List (List ℕ) → Type 0
+  Named ts = AreAmong (program_texts C templates) ts
 
   generic_below : (g : ℕ) (c : WordDef) → slice_get C.words g ≡ Some c → c.sort ≡ generic → nat_lt (generic_number C g) (length T.generics) ≡ true
   generic_below g c e is = lt-ltb (generic_number C g) (length T.generics) (found_within T.generics (generic_number C g) (row_of C templates g) (generic_at C templates g c e is))
 
   -- instructions
-  code_named : (w : ℕ) (c : WordDef) (s : Sort) → slice_get C.words w ≡ Some c → c.sort ≡ s → ((at : ℕ) → is_code (sort_action C (0 + w) at s) ≡ true) → names_code (slice_get T.words w) ≡ true
-  code_named w c s e is h = let put = words_placed C templates w c e in ap names_code put.row ∙ ap (λ (s : Sort). is_code (sort_action C (0 + w) put.at s)) is ∙ h put.at
+  code_named : (w : ℕ) (c : WordDef) (s : Sort) → slice_get C.words w ≡ Some c → c.sort ≡ s → ((at : ℕ) → is_code (sort_action C templates w at s) ≡ true) → names_code (slice_get T.words w) ≡ true
+  code_named w c s e is h = let put = words_placed C templates code refl w c e in ap names_code put.row ∙ ap (λ (s : Sort). is_code (sort_action C templates w put.at s)) is ∙ h put.at
 
-  sort_refers : (w : ℕ) (c : WordDef) (s : Sort) → slice_get C.words w ≡ Some c → c.sort ≡ s → ClosedAs P w s → instr_refers T (sort_instr C w s) ≡ true
-  sort_refers w c (prim_sort k) e is h = refl
-  sort_refers w c (core_sort k) e is h = core_refers T k
-  sort_refers w c (body t) e is h = code_named w c (body t) e is (λ at. refl)
-  sort_refers w c (past t) e is h = absurd h
-  sort_refers w c (method n g t) e is h = code_named w c (method n g t) e is (λ at. refl)
-  sort_refers w c itself e is h = word_row_there w c e
-  sort_refers w c (class n) e is h = word_row_there w c e
-  sort_refers w c (isa n) e is h = set_below n h
-  sort_refers w c (getter s) e is h = slot_below s h
-  sort_refers w c (setter s) e is h = slot_below s h
-  sort_refers w c (putter s) e is h = slot_below s h
-  sort_refers w c generic e is h = generic_below w c e is
+  sort_refers : (w : ℕ) (c : WordDef) (s : Sort) → slice_get C.words w ≡ Some c → c.sort ≡ s → ClosedAs P w s → Named (sort_texts C templates s) → instr_refers T (sort_instr C templates w s) ≡ true
+  sort_refers w c (prim_sort k) e is h n = refl
+  sort_refers w c (core_sort k) e is h n = core_refers T k
+  sort_refers w c (body t) e is h n = code_named w c (body t) e is (λ at. refl)
+  sort_refers w c (past t) e is h n = absurd h
+  sort_refers w c (method m g t) e is h n = code_named w c (method m g t) e is (λ at. refl)
+  sort_refers w c itself e is h n = word_row_there w c e
+  sort_refers w c (class m) e is h n = word_row_there w c e
+  sort_refers w c (isa m) e is h n = set_below m h
+  sort_refers w c (getter s) e is h n = text_below C templates s n.0
+  sort_refers w c (setter s) e is h n = text_below C templates s n.0
+  sort_refers w c (putter s) e is h n = text_below C templates s n.0
+  sort_refers w c generic e is h n = generic_below w c e is
 
-  word_refers_to : (w : ℕ) (o : Option WordDef) → slice_get C.words w ≡ o → instr_refers T (word_instr C w o) ≡ true
+  word_refers_to : (w : ℕ) (o : Option WordDef) → slice_get C.words w ≡ o → instr_refers T (word_instr C templates w o) ≡ true
   word_refers_to w None e = refl
-  word_refers_to w (Some c) e = sort_refers w c c.sort e refl (word_is w c e)
+  word_refers_to w (Some c) e = sort_refers w c c.sort e refl (word_is w c e) (word_named C templates w c e).1.1
 
-  next_refers : (n m : ℕ) → IsMethod (sort_of P m) → names_method (slice_get T.generics (generic_number C (generic_of C (sort_of C m)))) (method_number C m) ≡ true
-  next_refers n m is =
-      let found = method_found P C templates built whole laws closes m is in
+  next_refers : (m : ℕ) → IsMethod (sort_of P m) → names_method T.generics m ≡ true
+  next_refers m is =
       let g = generic_of P (sort_of P m) in
-      let ms = methods_in_order P g in
-      let lt = found_within ms (method_number P m) (m, found.class_of) found.there in
-      let many : length (map (method_row (places C templates)) (methods_in_order C g)) ≡ length ms = length-map (methods_in_order C g) (method_row (places C templates)) ∙ ap length (order_same P C templates closes g) in
-      ap (λ (g : ℕ). names_method (slice_get T.generics (generic_number C g)) (method_number C m)) (generic_of_same P C templates closes m)
-      ∙ ap (λ (o : Option GenericRow). names_method o (method_number C m)) (generic_at C templates g found.closed found.at found.is_generic_word)
-      ∙ ap (λ (j : ℕ). nat_lt j (length (map (method_row (places C templates)) (methods_in_order C g)))) (method_same P C templates closes m)
-      ∙ ap (nat_lt (method_number P m)) many ∙ lt-ltb (method_number P m) (length ms) lt
+      let word_of = generic_there P C templates built whole laws closes (places C templates) m is in
+      any_there (has_method m) T.generics (generic_number C g) (row_of C templates g) (generic_at C templates g word_of.0 word_of.1 word_of.2) (listed P C templates built whole laws closes (places C templates) m is)
 
   -- the instruction of a quotation or fry
   making_refers : (q n : ℕ) (r : TemplateRow) → slice_get T.templates q ≡ Some r → r.holes ≡ n → instr_refers T (making q n) ≡ true
@@ -147,58 +127,52 @@ module _ (P C : Program) (templates : List Template) (heights : List (Option Hei
 
   literal_refers : (q : ℕ) (l : Quoted) → l.at.word < length P.words → literal_numbered P q ≡ l → instr_refers T (made_instr q (slice_get templates q)) ≡ true
   literal_refers q l lt e =
-      let found = literal_row P C templates closes heights code T.texts T.templates refl pool_begins refl q l lt e in rw (literal_instr P C templates closes q l lt e) (making_refers q (hole_count l.item) found.row found.there found.holes)
+      let found = literal_row P C templates closes heights code T.templates refl refl q l lt e in rw (literal_instr P C templates closes q l lt e) (making_refers q (hole_count l.item) found.row found.there found.holes)
 
   abbrev Refers : List Instr → Type 0
   Refers is = list_all (instr_refers T) is ≡ true
 
-  phrase_refers : (last : Instr) (cells : List Cell) (at : Literal) (texts : List (List ℕ)) (t c : Phrase) → instr_refers T last ≡ true → Closing P cells at t c → at.word < length P.words → Begins (phrase_texts texts c) T.texts → NamesArrays P t →
-      Refers (phrase_code C templates last texts c)
-  phrase_refers last cells at texts t c l c_end lt b f = and_true (instr_refers T last) true l refl
-  phrase_refers last cells at texts t c l (c_int z h) lt b f = phrase_refers last _ _ texts _ _ l h lt b f.1
-  phrase_refers last cells at texts t c l (c_true h) lt b f = phrase_refers last _ _ texts _ _ l h lt b f.1
-  phrase_refers last cells at texts t c l (c_false h) lt b f = phrase_refers last _ _ texts _ _ l h lt b f.1
-  phrase_refers last cells at texts t c l (c_text {c = d} cs h) lt b f =
-      let next = texts ++ cs ∷ [] in
-      let there = lt-ltb (length texts) (length T.texts) (found_within T.texts (length texts) cs (text_there texts T.texts cs d b)) in
-      and_true (nat_lt (length texts) (length T.texts)) (list_all (instr_refers T) (phrase_code C templates last next d)) there (phrase_refers last _ _ next _ d l h lt b f.1)
-  phrase_refers last cells at texts t c l (c_array {c = d} a h) lt b f = and_true (nat_lt a (length T.arrays)) (list_all (instr_refers T) (phrase_code C templates last texts d)) (ap (nat_lt a) all_arrays ∙ f.0) (phrase_refers last _ _ texts _ d l h lt b f.1)
-  phrase_refers last cells at texts t c l (c_ref {c = d} w below h) lt b f =
+  phrase_refers : (last : Instr) (cells : List Cell) (at : Literal) (t c : Phrase) → instr_refers T last ≡ true → Closing P cells at t c → at.word < length P.words → Named (own_texts c) → NamesArrays P t → Refers (phrase_code C templates last c)
+  phrase_refers last cells at t c l c_end lt n f = and_true (instr_refers T last) true l refl
+  phrase_refers last cells at t c l (c_int z h) lt n f = phrase_refers last _ _ _ _ l h lt n f.1
+  phrase_refers last cells at t c l (c_true h) lt n f = phrase_refers last _ _ _ _ l h lt n f.1
+  phrase_refers last cells at t c l (c_false h) lt n f = phrase_refers last _ _ _ _ l h lt n f.1
+  phrase_refers last cells at t c l (c_text {c = d} cs h) lt n f =
+      and_true (nat_lt (text_number C templates cs) (length T.texts)) (list_all (instr_refers T) (phrase_code C templates last d)) (text_below C templates cs n.0) (phrase_refers last _ _ _ d l h lt n.1 f.1)
+  phrase_refers last cells at t c l (c_array {c = d} a h) lt n f = and_true (nat_lt a (length T.arrays)) (list_all (instr_refers T) (phrase_code C templates last d)) (ap (nat_lt a) all_arrays ∙ f.0) (phrase_refers last _ _ _ d l h lt n f.1)
+  phrase_refers last cells at t c l (c_ref {c = d} w below h) lt n f =
       let found = word_below P built w below in
       let closed = word_closed P C templates closes w found.def found.at in
-      and_true (nat_lt w (length T.words)) (list_all (instr_refers T) (phrase_code C templates last texts d)) (word_row_there w closed.closed closed.at) (phrase_refers last _ _ texts _ d l h lt b f.1)
-  phrase_refers last cells at texts t c l (c_word {c = d} w below h) lt b f =
-      and_true (instr_refers T (word_instr C w (slice_get C.words w))) (list_all (instr_refers T) (phrase_code C templates last texts d)) (word_refers_to w (slice_get C.words w) refl) (phrase_refers last _ _ texts _ d l h lt b f.1)
-  phrase_refers last cells at texts t c l (c_quot {c = d} u q is h) lt b f =
-      and_true (instr_refers T (made_instr q (slice_get templates q))) (list_all (instr_refers T) (phrase_code C templates last texts d)) (literal_refers q (record { at = at; cells = cells; item = quot u }) lt is) (phrase_refers last _ _ texts _ d l h lt b f.1)
-  phrase_refers last cells at texts t c l (c_fry {c = d} u n q is h) lt b f =
-      and_true (instr_refers T (made_instr q (slice_get templates q))) (list_all (instr_refers T) (phrase_code C templates last texts d)) (literal_refers q (record { at = at; cells = cells; item = fry u n }) lt is) (phrase_refers last _ _ texts _ d l h lt b f.1)
-  phrase_refers last cells at texts t c l (c_bind x h) lt b f = phrase_refers last _ _ texts _ _ l h lt b f.1
-  phrase_refers last cells at texts t c l (c_local x k is h) lt b f = phrase_refers last _ _ texts _ _ l h lt b f.1
-  phrase_refers last cells at texts t c l (c_hole j k is h) lt b f = phrase_refers last _ _ texts _ _ l h lt b f.1
-  phrase_refers last cells at texts t c l (c_call_effect k h) lt b f = phrase_refers last _ _ texts _ _ l h lt b f.1
-  phrase_refers last cells at texts t c l (c_execute_effect k h) lt b f = phrase_refers last _ _ texts _ _ l h lt b f.1
-  phrase_refers last cells at texts t c l (c_outside h) lt b f = phrase_refers last _ _ texts _ _ l h lt b f.1
-  phrase_refers last cells at texts t c l (c_next {c = d} m is h) lt b f =
-      and_true (names_method (slice_get T.generics (generic_number C (generic_of C (sort_of C m)))) (method_number C m)) (list_all (instr_refers T) (phrase_code C templates last texts d)) (next_refers 0 m is) (phrase_refers last _ _ texts _ d l h lt b f.1)
+      and_true (nat_lt w (length T.words)) (list_all (instr_refers T) (phrase_code C templates last d)) (word_row_there w closed.closed closed.at) (phrase_refers last _ _ _ d l h lt n f.1)
+  phrase_refers last cells at t c l (c_word {c = d} w below h) lt n f =
+      and_true (instr_refers T (word_instr C templates w (slice_get C.words w))) (list_all (instr_refers T) (phrase_code C templates last d)) (word_refers_to w (slice_get C.words w) refl) (phrase_refers last _ _ _ d l h lt n f.1)
+  phrase_refers last cells at t c l (c_quot {c = d} u q is h) lt n f =
+      and_true (instr_refers T (made_instr q (slice_get templates q))) (list_all (instr_refers T) (phrase_code C templates last d)) (literal_refers q (record { at = at; cells = cells; item = quot u }) lt is) (phrase_refers last _ _ _ d l h lt n f.1)
+  phrase_refers last cells at t c l (c_fry {c = d} u k q is h) lt n f =
+      and_true (instr_refers T (made_instr q (slice_get templates q))) (list_all (instr_refers T) (phrase_code C templates last d)) (literal_refers q (record { at = at; cells = cells; item = fry u k }) lt is) (phrase_refers last _ _ _ d l h lt n f.1)
+  phrase_refers last cells at t c l (c_bind x h) lt n f = phrase_refers last _ _ _ _ l h lt n f.1
+  phrase_refers last cells at t c l (c_local x k is h) lt n f = phrase_refers last _ _ _ _ l h lt n f.1
+  phrase_refers last cells at t c l (c_hole j k is h) lt n f = phrase_refers last _ _ _ _ l h lt n f.1
+  phrase_refers last cells at t c l (c_call_effect k h) lt n f = phrase_refers last _ _ _ _ l h lt n f.1
+  phrase_refers last cells at t c l (c_execute_effect k h) lt n f = phrase_refers last _ _ _ _ l h lt n f.1
+  phrase_refers last cells at t c l (c_outside h) lt n f = phrase_refers last _ _ _ _ l h lt n f.1
+  phrase_refers last cells at t c l (c_next {c = d} m is h) lt n f = and_true (names_method T.generics m) (list_all (instr_refers T) (phrase_code C templates last d)) (next_refers m is) (phrase_refers last _ _ _ d l h lt n f.1)
 
-  template_refers_to : (q : ℕ) (t : Template) (texts : List (List ℕ)) → slice_get templates q ≡ Some t → Begins (phrase_texts texts t.body) T.texts → Refers (phrase_code C templates Ret texts t.body)
-  template_refers_to q t texts e begins =
+  template_refers_to : (q : ℕ) (t : Template) → slice_get templates q ≡ Some t → Refers (phrase_code C templates Ret t.body)
+  template_refers_to q t e =
       let l : Quoted = literal_numbered P q in
       let cells = inner_cells l.cells l.item in
       let closed = template_closed P C templates closes q t e in
-      phrase_refers Ret cells (first_of_literal l.at) texts (quoted_phrase l) t.body refl (closing P cells (first_of_literal l.at) (quoted_phrase l) t.body closed.body (literal_runs P built q)) (literal_of P C templates closes q t e) begins (literal_names_arrays P whole q)
+      phrase_refers Ret cells (first_of_literal l.at) (quoted_phrase l) t.body refl (closing P cells (first_of_literal l.at) (quoted_phrase l) t.body closed.body (literal_runs P built q)) (literal_of P C templates closes q t e) (template_named C templates q t e) (literal_names_arrays P whole q)
 
-  templates_refer : (texts : List (List ℕ)) (ts : List Template) → Begins (templates_texts texts ts) T.texts → ((k : ℕ) (t : Template) (texts : List (List ℕ)) → slice_get ts k ≡ Some t → Begins (phrase_texts texts t.body) T.texts → Refers (phrase_code C templates Ret texts t.body)) → Refers (templates_code C templates texts ts)
-  templates_refer texts [] begins h = refl
-  templates_refer texts (t ∷ ts) begins h =
-      let next = phrase_texts texts t.body in
-      both_pass (instr_refers T) (phrase_code C templates Ret texts t.body) (templates_code C templates next ts) (h 0 t texts refl (begins_on next (templates_texts next ts) T.texts (templates_behind next ts) begins)) (templates_refer next ts begins (λ k u us e. h (suc k) u us e))
+  templates_refer : (ts : List Template) → ((k : ℕ) (t : Template) → slice_get ts k ≡ Some t → Refers (phrase_code C templates Ret t.body)) → Refers (templates_code C templates ts)
+  templates_refer [] h = refl
+  templates_refer (t ∷ ts) h = both_pass (instr_refers T) (phrase_code C templates Ret t.body) (templates_code C templates ts) (h 0 t refl) (templates_refer ts (λ k u e. h (suc k) u e))
 
-  word_code_refers : (w : ℕ) (is_top : Bool) (texts : List (List ℕ)) (s : Sort) → ClosedAs P w s → Begins (sort_texts texts s) T.texts → Refers (sort_code C templates is_top texts s)
-  word_code_refers w is_top texts (body c) h begins = phrase_refers (last_instr is_top) [] (first_of_word w) texts h.phrase c (last_refers T is_top) h.closes h.below begins h.names
-  word_code_refers w is_top texts (method n g c) h begins = phrase_refers (last_instr is_top) [] (first_of_word w) texts h.phrase c (last_refers T is_top) h.closes h.below begins h.names
-  word_code_refers w is_top texts _ h begins = refl
+  word_code_refers : (w : ℕ) (is_top : Bool) (s : Sort) → ClosedAs P w s → Named (sort_texts C templates s) → Refers (sort_code C templates is_top s)
+  word_code_refers w is_top (body c) h n = phrase_refers (last_instr is_top) [] (first_of_word w) h.phrase c (last_refers T is_top) h.closes h.below (body_among C templates c n) h.names
+  word_code_refers w is_top (method m g c) h n = phrase_refers (last_instr is_top) [] (first_of_word w) h.phrase c (last_refers T is_top) h.closes h.below (body_among C templates c n) h.names
+  word_code_refers w is_top _ h n = refl
 
   -- words from number w on
   abbrev AreClosed : ℕ → List WordDef → Type 0
@@ -210,86 +184,74 @@ module _ (P C : Program) (templates : List Template) (heights : List (Option Hei
   rest_closed : (w : ℕ) (d : WordDef) (ds : List WordDef) → AreClosed w (d ∷ ds) → AreClosed (suc w) ds
   rest_closed w d ds h = λ k c e. let n : w + suc k ≡ suc w + k = omega arith in subst (λ (v : ℕ). (slice_get C.words v ≡ Some c) × ClosedAs P v c.sort) n (h (suc k) c e)
 
-  words_refer : (texts : List (List ℕ)) (w : ℕ) (ds : List WordDef) → AreClosed w ds → Begins (words_texts texts ds) T.texts → Refers (code_from C templates texts w ds)
-  words_refer texts w [] h begins = refl
-  words_refer texts w (d ∷ ds) h begins =
-      let next = sort_texts texts d.sort in
-      both_pass (instr_refers T) (word_code C templates texts w d) (code_from C templates next (suc w) ds)
-      (word_code_refers w (nat_eq w C.top) texts d.sort (first_closed w d ds h).1 (begins_on next (words_texts next ds) T.texts (words_behind next ds) begins)) (words_refer next (suc w) ds (rest_closed w d ds h) begins)
+  words_refer : (w : ℕ) (ds : List WordDef) → AreClosed w ds → Refers (code_from C templates w ds)
+  words_refer w [] h = refl
+  words_refer w (d ∷ ds) h =
+      let first = first_closed w d ds h in
+      both_pass (instr_refers T) (word_code C templates w d) (code_from C templates (suc w) ds) (word_code_refers w (nat_eq w C.top) d.sort first.1 (word_named C templates w d first.0).1.1) (words_refer (suc w) ds (rest_closed w d ds h))
 
   -- rows of words
-  action_within : (at w : ℕ) (is_top : Bool) (texts : List (List ℕ)) (c : WordDef) (s : Sort) (more : List Instr) → slice_get C.words w ≡ Some c → c.sort ≡ s → ClosedAs P w s → drop at code ≡ sort_code C templates is_top texts s ++ more → action_refers T (length code) (sort_action C w at s) ≡ true
-  action_within at w is_top texts c (prim_sort k) more e is h there = h
-  action_within at w is_top texts c (core_sort k) more e is h there = h
-  action_within at w is_top texts c (body t) more e is h there = begins_within code C templates (last_instr is_top) texts t at more there
-  action_within at w is_top texts c (past t) more e is h there = absurd h
-  action_within at w is_top texts c (method n g t) more e is h there = begins_within code C templates (last_instr is_top) texts t at more there
-  action_within at w is_top texts c itself more e is h there = refl
-  action_within at w is_top texts c (class n) more e is h there = refl
-  action_within at w is_top texts c (isa n) more e is h there = set_below n h
-  action_within at w is_top texts c (getter s) more e is h there = slot_below s h
-  action_within at w is_top texts c (setter s) more e is h there = slot_below s h
-  action_within at w is_top texts c (putter s) more e is h there = slot_below s h
-  action_within at w is_top texts c generic more e is h there = generic_below w c e is
+  core_within : (k : ℕ) → action_refers T (length code) (core_action k) ≡ true
+  core_within k = by (is_core_action k) refl
+    where
+      by : (q : Bool) → is_core_action k ≡ q → action_refers T (length code) (elim q [ true ↦ action.Core k | false ↦ action.Itself ]) ≡ true
+      by true e = e
+      by false e = refl
 
-  kinds_are : T.kinds ≡ program_kinds P
-  kinds_are = kind_rows_same P C templates closes
+  action_within : (at w : ℕ) (is_top : Bool) (c : WordDef) (s : Sort) (more : List Instr) → slice_get C.words w ≡ Some c → c.sort ≡ s → ClosedAs P w s → Named (sort_texts C templates s) → drop at code ≡ sort_code C templates is_top s ++ more → action_refers T (length code) (sort_action C templates w at s) ≡ true
+  action_within at w is_top c (prim_sort k) more e is h n there = h
+  action_within at w is_top c (core_sort k) more e is h n there = core_within k
+  action_within at w is_top c (body t) more e is h n there = begins_within code C templates (last_instr is_top) t at more there
+  action_within at w is_top c (past t) more e is h n there = absurd h
+  action_within at w is_top c (method m g t) more e is h n there = begins_within code C templates (last_instr is_top) t at more there
+  action_within at w is_top c itself more e is h n there = refl
+  action_within at w is_top c (class m) more e is h n there = refl
+  action_within at w is_top c (isa m) more e is h n there = set_below m h
+  action_within at w is_top c (getter s) more e is h n there = text_below C templates s n.0
+  action_within at w is_top c (setter s) more e is h n there = text_below C templates s n.0
+  action_within at w is_top c (putter s) more e is h n there = text_below C templates s n.0
+  action_within at w is_top c generic more e is h n there = generic_below w c e is
 
-  texts_long : length (table_texts P) ≤ length T.texts
-  texts_long = let long = begins_length (table_texts C) T.texts tables_begin in let same = ap length (texts_same P C templates closes) in omega (arith, long, same)
-
-  sort_own : (s : Sort) → own_refers T (sort_kind C s) ≡ true
-  sort_own (class c) = subst (λ (cs : List ClassDef). own_refers T (own_kind 8 cs c) ≡ true) (sym closes.classes) (own_refers_so P T kinds_are texts_long c)
-  sort_own _ = refl
-
-  words_within : (texts : List (List ℕ)) (at w : ℕ) (ds : List WordDef) → AreClosed w ds → w + length ds ≤ length T.texts → drop at code ≡ code_from C templates texts w ds → list_all (word_refers T (length code)) (words_from C templates texts at w ds) ≡ true
-  words_within texts at w [] h le e = refl
-  words_within texts at w (d ∷ ds) h le e =
-      let own = word_code C templates texts w d in
-      let next = sort_texts texts d.sort in
-      let others = code_from C templates next (suc w) ds in
-      let named = lt-ltb w (length T.texts) (omega (arith, le)) in
+  words_within : (at w : ℕ) (ds : List WordDef) → AreClosed w ds → drop at code ≡ code_from C templates w ds → list_all (word_refers T (length code)) (words_from C templates at w ds) ≡ true
+  words_within at w [] h e = refl
+  words_within at w (d ∷ ds) h e =
+      let own = word_code C templates w d in
+      let others = code_from C templates (suc w) ds in
       let first = first_closed w d ds h in
-      let acts = action_within at w (nat_eq w C.top) texts d d.sort others first.0 refl first.1 e in
-      and_true (nat_lt w (length T.texts) && (action_refers T (length code) (sort_action C w at d.sort) && own_refers T (sort_kind C d.sort))) (list_all (word_refers T (length code)) (words_from C templates next (at + length own) (suc w) ds))
-      (and_true (nat_lt w (length T.texts)) (action_refers T (length code) (sort_action C w at d.sort) && own_refers T (sort_kind C d.sort)) named (and_true (action_refers T (length code) (sort_action C w at d.sort)) (own_refers T (sort_kind C d.sort)) acts (sort_own d.sort)))
-      (words_within next (at + length own) (suc w) ds (rest_closed w d ds h) (omega (arith, le)) (drop_behind code at own others e))
+      let named = word_named C templates w d first.0 in
+      let vocab = nat_lt (text_number C templates d.name.vocab) (length T.texts) in
+      let name = nat_lt (text_number C templates d.name.name) (length T.texts) in
+      let acts = action_refers T (length code) (sort_action C templates w at d.sort) in
+      and_true (vocab && (name && acts)) (list_all (word_refers T (length code)) (words_from C templates (at + length own) (suc w) ds))
+      (and_true vocab (name && acts) (text_below C templates d.name.vocab named.0) (and_true name acts (text_below C templates d.name.name named.1.0) (action_within at w (nat_eq w C.top) d d.sort others first.0 refl first.1 named.1.1 e)))
+      (words_within (at + length own) (suc w) ds (rest_closed w d ds h) (drop_behind code at own others e))
 
   all_closed : AreClosed 0 C.words
   all_closed k c e = let n : k ≡ 0 + k = omega arith in subst (λ (v : ℕ). (slice_get C.words v ≡ Some c) × ClosedAs P v c.sort) n (e, word_is k c e)
 
-  words_short : length C.words ≤ length (table_texts C)
-  words_short =
-      let front = length-append (word_names C.words ++ slot_names C) (kind_names C.classes) in
-      let names = length-append (word_names C.words) (slot_names C) in
-      let many = length-map C.words (λ (d : WordDef). d.name.name) in
-      omega (arith, front, names, many)
-
   all_words_within : list_all (word_refers T (length code)) T.words ≡ true
-  all_words_within =
-      let first = table_texts C in
-      let texts = templates_texts first templates in
-      let long = texts_long in
-      let same = ap length (texts_same P C templates closes) in
-      words_within texts (length (templates_code C templates first templates)) 0 C.words all_closed (let short = words_short in omega (arith, long, same, short)) (behind_templates C templates code refl)
+  all_words_within = words_within (length (templates_code C templates templates)) 0 C.words all_closed (behind_templates C templates code refl)
 
   -- rows of generics
   abbrev place_of : ℕ → ℕ
   place_of = places C templates
 
+  -- the place of a word that runs a phrase
+  place_within : (w : ℕ) (d : WordDef) → slice_get P.words w ≡ Some d → RunsPhrase (Some d.sort) → nat_lt (place_of w) (length code) ≡ true
+  place_within w d e runs =
+      let closed = word_closed P C templates closes w d e in
+      let c = closed.closed in
+      let put = words_placed C templates code refl w c closed.at in
+      let acts : sort_action C templates w put.at c.sort ≡ action.Code put.at = action_alike C templates w put.at d.sort c.sort (alike P w d.sort c.sort closed.closes.sort) ∙ does_code C templates w put.at d.sort runs in
+      let passes = one_passes (word_refers T (length code)) T.words w (word_row C templates put.at w c) all_words_within put.row in
+      let vocab = nat_lt (text_number C templates c.name.vocab) (length T.texts) in
+      let name = nat_lt (text_number C templates c.name.name) (length T.texts) in
+      let refers = first_true name (action_refers T (length code) (sort_action C templates w put.at c.sort)) (first_true vocab (name && action_refers T (length code) (sort_action C templates w put.at c.sort)) passes).1 in
+      let place : place_of w ≡ put.at = ap (λ (o : Option WordRow). elim o [ Some r ↦ elim r.action [ action.Code a ↦ a | _ ↦ 0 ] | None ↦ 0 ]) put.row ∙ ap (λ (x : Action). elim x [ action.Code a ↦ a | _ ↦ 0 ]) acts in
+      ap (λ (a : ℕ). nat_lt a (length code)) place ∙ sym (ap (action_refers T (length code)) acts) ∙ refers.1
+
   entry_within : (m c g : ℕ) (t : Phrase) → sort_of P m ≡ Some (method c g t) → nat_lt (place_of m) (length code) ≡ true
-  entry_within m c g t e =
-      let found = word_there P built m (method c g t) e in
-      let closed = word_closed P C templates closes m found.0 found.1 in
-      let sort = subst (λ (s : Sort). ClosesSort P m s closed.closed.sort) found.2 closed.closes.sort in
-      let put = words_placed C templates m closed.closed closed.at in
-      let row : slice_get T.words m ≡ Some (word_row C put.at (0 + m) closed.closed) = put.row in
-      let passes = one_passes (word_refers T (length code)) T.words m (word_row C put.at (0 + m) closed.closed) all_words_within row in
-      let refers = ap (λ (s : Sort). nat_lt (0 + m) (length T.texts) && (action_refers T (length code) (sort_action C (0 + m) put.at s) && own_refers T (sort_kind C s))) (sym sort.1) ∙ passes in
-      let parts = first_true (nat_lt (0 + m) (length T.texts)) (nat_lt put.at (length code) && true) refers in
-      let within_code = first_true (nat_lt put.at (length code)) true parts.1 in
-      let place : place_of m ≡ put.at = ap (λ (o : Option WordRow). elim o [ Some r ↦ elim r.action [ action.Code a ↦ a | _ ↦ 0 ] | None ↦ 0 ]) row ∙ ap (λ (s : Sort). elim (sort_action C (0 + m) put.at s) [ action.Code a ↦ a | _ ↦ 0 ]) sort.1 in
-      ap (λ (a : ℕ). nat_lt a (length code)) place ∙ within_code.0
+  entry_within m c g t e = let found = word_there P built m (method c g t) e in place_within m found.0 found.1 (subst (λ (s : Sort). RunsPhrase (Some s)) (sym found.2) tt)
 
   rows_pass : (test : MethodRow → Bool) (ms : List (ℕ × ℕ)) → ((j : ℕ) (m : ℕ × ℕ) → slice_get ms j ≡ Some m → test (method_row place_of m) ≡ true) → list_all test (map (method_row place_of) ms) ≡ true
   rows_pass test [] h = refl
@@ -313,39 +275,36 @@ module _ (P C : Program) (templates : List Template) (heights : List (Option Hei
   generics_within g (d ∷ ds) h = generics_by g d.sort (generics_from C place_of (suc g) ds) (word_row_there g d (first_closed g d ds h).0) (generics_within (suc g) ds (rest_closed g d ds h))
 
   -- rows of templates
-  rows_within : (rs : List TemplateRow) (ts : List Template) → Rows C templates code T.texts rs ts → list_all (template_refers T (length code)) rs ≡ true
+  rows_within : (rs : List TemplateRow) (ts : List Template) → Rows C templates code rs ts → list_all (template_refers T (length code)) rs ≡ true
   rows_within [] [] h = refl
   rows_within [] (t ∷ ts) h = absurd h
   rows_within (r ∷ rs) [] h = absurd h
   rows_within (r ∷ rs) (t ∷ ts) h =
-      and_true (template_refers T (length code) r) (list_all (template_refers T (length code)) rs) (ap (template_refers T (length code)) h.0.row ∙ begins_within code C templates Ret h.0.texts t.body h.0.at h.0.more h.0.there) (rows_within rs ts h.1)
+      and_true (template_refers T (length code) r) (list_all (template_refers T (length code)) rs) (ap (template_refers T (length code)) h.0.row ∙ begins_within code C templates Ret t.body h.0.at h.0.more h.0.there) (rows_within rs ts h.1)
 
   -- elements of literal arrays
   template_constant : (m : Option ℕ) (q i : ℕ) (is : List ℕ) (at : Literal) (u : Phrase) → at.around ≡ i ∷ is → IsMadeBy P [] at (quot u) q → names_constant (slice_get T.templates q) ≡ true
   template_constant m q i is at u around e =
       let l : Quoted = record { at = at; cells = []; item = quot u } in
       let listed = is_listed_in_array P q l i is around e in
-      let found = listed_row P C templates closes heights code T.texts T.templates refl pool_begins refl q l listed in
+      let found = listed_row P C templates closes heights code T.templates refl refl q l listed in
       rw found.there (and_true (nat_eq (length found.row.cells) 0) (nat_eq found.row.holes 0) (rw found.cells refl) (rw found.holes refl))
 
   abbrev Earlier : ℕ → List Lit → Type 0
   Earlier a ls = list_all (λ b. nat_lt b a) (arrays_in ls) ≡ true
 
-  element_refers : (m : Option ℕ) (i : ℕ) (is : List ℕ) (a : ℕ) (at : Literal) (texts : List (List ℕ)) (l c : Lit) (ls : List Lit) → at.around ≡ i ∷ is → ClosesElement P m at l c → IsBuiltElement P.top l → Earlier a (l ∷ []) →
-      Begins (elements_texts (with_element_text texts c) ls) T.texts → elem_refers T a (elem_of (length texts) c) ≡ true
-  element_refers m i is a at texts (l_int z) c ls around h ok earlier b = rw h refl
-  element_refers m i is a at texts l_yes c ls around h ok earlier b = rw h refl
-  element_refers m i is a at texts l_no c ls around h ok earlier b = rw h refl
-  element_refers m i is a at texts (l_str bs) c ls around h ok earlier b =
-      let begins : Begins (elements_texts (texts ++ bs ∷ []) ls) T.texts = subst (λ (l : Lit). Begins (elements_texts (with_element_text texts l) ls) T.texts) h b in
-      rw h (lt-ltb (length texts) (length T.texts) (found_within T.texts (length texts) bs (element_there texts T.texts bs ls begins)))
-  element_refers m i is a at texts (l_arr d) c ls around h ok earlier b = rw h (first_true (nat_lt d a) true earlier).0
-  element_refers m i is a at texts (l_word w) c ls around h ok earlier b =
+  element_refers : (m : Option ℕ) (i : ℕ) (is : List ℕ) (a : ℕ) (at : Literal) (l c : Lit) → at.around ≡ i ∷ is → ClosesElement P m at l c → IsBuiltElement P.top l → Earlier a (l ∷ []) → Named (own_elements_texts (c ∷ [])) → elem_refers T a (elem_of C templates c) ≡ true
+  element_refers m i is a at (l_int z) c around h ok earlier n = rw h refl
+  element_refers m i is a at l_yes c around h ok earlier n = rw h refl
+  element_refers m i is a at l_no c around h ok earlier n = rw h refl
+  element_refers m i is a at (l_str bs) c around h ok earlier n = let own = subst (λ (l : Lit). Named (own_elements_texts (l ∷ []))) h n in rw h (text_below C templates bs own.0)
+  element_refers m i is a at (l_arr d) c around h ok earlier n = rw h (first_true (nat_lt d a) true earlier).0
+  element_refers m i is a at (l_word w) c around h ok earlier n =
       let found = word_below P built w (ltb-true w P.top ok) in
       let closed = word_closed P C templates closes w found.def found.at in
       rw h (word_row_there w closed.closed closed.at)
-  element_refers m i is a at texts (l_quot t) c ls around h ok earlier b = rw h.1 (template_constant m h.0 i is at _ around h.2)
-  element_refers m i is a at texts (l_made k) c ls around h ok earlier b = absurd h
+  element_refers m i is a at (l_quot t) c around h ok earlier n = rw h.1 (template_constant m h.0 i is at _ around h.2)
+  element_refers m i is a at (l_made k) c around h ok earlier n = absurd h
 
   first_arrays : (l : Lit) (ls : List Lit) → arrays_in (l ∷ ls) ≡ arrays_in (l ∷ []) ++ arrays_in ls
   first_arrays (l_arr a) ls = refl
@@ -363,45 +322,49 @@ module _ (P C : Program) (templates : List Template) (heights : List (Option Hei
       let split : list_all test (arrays_in (l ∷ [])) && list_all test (arrays_in ls) ≡ true = sym (ap (list_all test) (first_arrays l ls) ∙ list_all-append test (arrays_in (l ∷ [])) (arrays_in ls)) ∙ h in
       first_true (list_all test (arrays_in (l ∷ []))) (list_all test (arrays_in ls)) split
 
-  elements_refer : (m : Option ℕ) (i : ℕ) (is : List ℕ) (a : ℕ) (at : Literal) (texts : List (List ℕ)) (ls cs : List Lit) → at.around ≡ i ∷ is → CloseElements P m at ls cs → AreBuiltElements P.top ls → Earlier a ls → Begins (elements_texts texts cs) T.texts →
-      list_all (elem_refers T a) (elems_of texts cs) ≡ true
-  elements_refer m i is a at texts [] cs around h ok earlier b = rw h refl
-  elements_refer m i is a at texts (l ∷ ls) cs around h ok earlier b =
+  elements_refer : (m : Option ℕ) (i : ℕ) (is : List ℕ) (a : ℕ) (at : Literal) (ls cs : List Lit) → at.around ≡ i ∷ is → CloseElements P m at ls cs → AreBuiltElements P.top ls → Earlier a ls → Named (own_elements_texts cs) → list_all (elem_refers T a) (elems_of C templates cs) ≡ true
+  elements_refer m i is a at [] cs around h ok earlier n = rw h refl
+  elements_refer m i is a at (l ∷ ls) cs around h ok earlier n =
       let parts = both_earlier a l ls earlier in
-      let begins : Begins (elements_texts (with_element_text texts h.0) h.1) T.texts = subst (λ (xs : List Lit). Begins (elements_texts texts xs) T.texts) h.2 b in
-      rw h.2 (and_true (elem_refers T a (elem_of (length texts) h.0)) (list_all (elem_refers T a) (elems_of (with_element_text texts h.0) h.1))
-      (element_refers m i is a at texts l h.0 h.1 around h.3 ok.0 parts.0 begins) (elements_refer m i is a (behind at (element_item m l)) (with_element_text texts h.0) ls h.1 around h.4 ok.1 parts.1 begins))
+      let named = first_element C templates h.0 h.1 (subst (λ (xs : List Lit). Named (own_elements_texts xs)) h.2 n) in
+      rw h.2 (and_true (elem_refers T a (elem_of C templates h.0)) (list_all (elem_refers T a) (elems_of C templates h.1))
+      (element_refers m i is a at l h.0 around h.3 ok.0 parts.0 named.0) (elements_refer m i is a (behind at (element_item m l)) ls h.1 around h.4 ok.1 parts.1 named.1))
 
-  arrays_refer_so : (a : ℕ) (texts : List (List ℕ)) (lss css : List (List Lit)) → CloseArrays P a lss css → AreBuiltArrays P.top lss → each_numbered names_earlier a lss ≡ true → Begins (arrays_texts texts css) T.texts → arrays_refer T a (arrays_of texts css) ≡ true
-  arrays_refer_so a texts [] css h ok earlier b = rw h refl
-  arrays_refer_so a texts (ls ∷ lss) css h ok earlier b =
-      let next = elements_texts texts h.1 in
+  arrays_refer_so : (a : ℕ) (lss css : List (List Lit)) → CloseArrays P a lss css → AreBuiltArrays P.top lss → each_numbered names_earlier a lss ≡ true → Named (arrays_texts css) → arrays_refer T a (map (elems_of C templates) css) ≡ true
+  arrays_refer_so a [] css h ok earlier n = rw h refl
+  arrays_refer_so a (ls ∷ lss) css h ok earlier n =
       let parts = first_true (names_earlier a ls) (each_numbered names_earlier (suc a) lss) earlier in
-      let begins : Begins (arrays_texts next h.2) T.texts = subst (λ (xss : List (List Lit)). Begins (arrays_texts texts xss) T.texts) h.3 b in
+      let named = both_among (program_texts C templates) (own_elements_texts h.1) (arrays_texts h.2) (subst (λ (xss : List (List Lit)). Named (arrays_texts xss)) h.3 n) in
       let first = has_first h.0.around h.0.index in
-      rw h.3 (and_true (list_all (elem_refers T a) (elems_of texts h.1)) (arrays_refer T (suc a) (arrays_of next h.2))
-      (elements_refer (array_method P (length P.arrays) a) first.0 first.1 a (first_in_array h.0) texts ls h.1 first.2 h.4 ok.0 parts.0 (begins_on next (arrays_texts next h.2) T.texts (arrays_behind next h.2) begins))
-      (arrays_refer_so (suc a) next lss h.2 h.5 ok.1 parts.1 begins))
+      rw h.3 (and_true (list_all (elem_refers T a) (elems_of C templates h.1)) (arrays_refer T (suc a) (map (elems_of C templates) h.2))
+      (elements_refer (array_method P (length P.arrays) a) first.0 first.1 a (first_in_array h.0) ls h.1 first.2 h.4 ok.0 parts.0 named.0) (arrays_refer_so (suc a) lss h.2 h.5 ok.1 parts.1 named.1))
 
-  -- the plain code, which starts at a word's place
-  pub plain_refers : (start : ℕ) → slice_get T.words C.top ≡ Some (record { name = C.top; action = action.Code start; kind = None; height = None }) → refers T code start ≡ true
-  plain_refers start e =
-      let first = table_texts C in
-      let own = templates_code C templates first templates in
-      let texts = templates_texts first templates in
+  as_many : (at w : ℕ) (ds : List WordDef) → length (words_from C templates at w ds) ≡ length ds
+  as_many at w [] = refl
+  as_many at w (d ∷ ds) = ap suc (as_many (at + length (word_code C templates w d)) (suc w) ds)
+
+  many_words : length T.words ≡ length C.words
+  many_words = as_many (length (templates_code C templates templates)) 0 C.words
+
+  -- the plain code, which starts at the place of the top-level phrase
+  pub plain_refers : (start : ℕ) → start ≡ place_of C.top → refers T code start ≡ true
+  plain_refers start is =
       let size = length code in
-      let of_words = begins_on texts (program_texts C templates) T.texts (words_behind texts C.words) pool_begins in
-      let instrs = both_pass (instr_refers T) own (code_from C templates texts 0 C.words) (templates_refer first templates of_words template_refers_to) (words_refer texts 0 C.words all_closed pool_begins) in
-      let top = one_passes (word_refers T size) T.words C.top (record { name = C.top; action = action.Code start; kind = None; height = None }) all_words_within e in
-      let started = first_true (nat_lt start size) true (first_true (nat_lt C.top (length T.texts)) (nat_lt start size && true) top).1 in
-      let arrays = arrays_refer_so 0 (program_texts C templates) P.arrays C.arrays closes.arrays built.arrays_built whole.arrays_earlier (begins_same T.texts) in
-      let kinds = kinds_refer P T kinds_are texts_long in
-      let sets = ap (list_all (set_refers T 0)) (sets_same P C templates closes) ∙ sets_refer P T kinds_are texts_long in
-      let rows = rows_within T.templates templates (all_rows P C templates closes heights code T.texts T.templates refl pool_begins refl) in
+      let instrs = both_pass (instr_refers T) (templates_code C templates templates) (code_from C templates 0 C.words) (templates_refer templates template_refers_to) (words_refer 0 C.words all_closed) in
+      let started : nat_lt start size ≡ true = ap (λ (a : ℕ). nat_lt a size) (is ∙ ap place_of closes.top) ∙ place_within P.top built.last_word (top_word P built) (subst (λ (s : Sort). RunsPhrase (Some s)) (sym built.last_word_is.sort_is) tt) in
+      let arrays = arrays_refer_so 0 P.arrays C.arrays closes.arrays built.arrays_built whole.arrays_earlier (all_arrays_named C templates) in
+      let kinds = kinds_refer C templates T refl refl many_words in
+      let sets = sets_refer C templates T refl refl many_words in
+      let rows = rows_within T.templates templates (all_rows P C templates closes heights code T.templates refl refl) in
       let generics = generics_within 0 C.words all_closed in
-      let last = and_true (list_all (word_refers T size) T.words) (list_all (generic_refers T size) T.generics) all_words_within generics in
-      let behind_sets = and_true (list_all (template_refers T size) T.templates) (list_all (word_refers T size) T.words && list_all (generic_refers T size) T.generics) rows last in
-      let behind_kinds = and_true (list_all (set_refers T 0) T.sets) (list_all (template_refers T size) T.templates && (list_all (word_refers T size) T.words && list_all (generic_refers T size) T.generics)) sets behind_sets in
-      let behind_arrays = and_true (list_all (kind_refers T) T.kinds) (list_all (set_refers T 0) T.sets && (list_all (template_refers T size) T.templates && (list_all (word_refers T size) T.words && list_all (generic_refers T size) T.generics))) kinds behind_kinds in
-      let tables = and_true (arrays_refer T 0 T.arrays) (list_all (kind_refers T) T.kinds && (list_all (set_refers T 0) T.sets && (list_all (template_refers T size) T.templates && (list_all (word_refers T size) T.words && list_all (generic_refers T size) T.generics)))) arrays behind_arrays in
-      and_true (tables_refer T size) (list_all (instr_refers T) code && nat_lt start size) tables (and_true (list_all (instr_refers T) code) (nat_lt start size) instrs started.0)
+      let pairs = pairs_refer_so C templates T refl refl many_words in
+      let gp = list_all (generic_refers T size) T.generics && pairs_refer T 0 T.pairs in
+      let wgp = list_all (word_refers T size) T.words && gp in
+      let twgp = list_all (template_refers T size) T.templates && wgp in
+      let stwgp = list_all (set_refers T 0) T.sets && twgp in
+      let kstwgp = list_all (kind_refers T) T.kinds && stwgp in
+      let tables = and_true (arrays_refer T 0 T.arrays) kstwgp arrays (and_true (list_all (kind_refers T) T.kinds) stwgp kinds (and_true (list_all (set_refers T 0) T.sets) twgp sets
+      (and_true (list_all (template_refers T size) T.templates) wgp rows (and_true (list_all (word_refers T size) T.words) gp all_words_within (and_true (list_all (generic_refers T size) T.generics) (pairs_refer T 0 T.pairs) generics pairs))))) in
+      let placed = places_of size 0 code (code_plain P C templates built closes) in
+      and_true (tables_refer T size) (list_all (instr_refers T) code && (places_refer size 0 code && nat_lt start size)) tables
+      (and_true (list_all (instr_refers T) code) (places_refer size 0 code && nat_lt start size) instrs (and_true (places_refer size 0 code) (nat_lt start size) placed started))

@@ -232,7 +232,7 @@ module _ (T : Templates) where
         ap (λ (v : Value). followed meaning_values N (go (printed meaning_values N (world_view T w) v)) (map V vs) (world_view T w)) (at_same vs k) ∙ ap (λ (l : List ℕ). followed meaning_values N (go l) (map V vs) (world_view T w)) (shown_same N MOST_PRINTED_LEVELS w (value_at machine_values vs k)) ∙ followed_same (go (printed machine_values N w (value_at machine_values vs k))) vs w
     followed_same (asks a go) vs w = followed_same (go (N.tuple_class a)) vs w
     followed_same (writes bs p) vs w = followed_same p vs (record w { output = w.output ++ bs })
-    followed_same (reads go) vs w = followed_same (go (line_in w.input)) vs (record w { input = behind_line w.input })
+    followed_same (reads go) vs w = followed_same (go (line_in w.input)) vs (record w { input = behind_line w.input; asked = suc w.asked })
 
     inputs_same : {o : Option ℕ} (n : ℕ) (p : Procedure o) → Same (by_inputs machine_values N n p) (by_inputs meaning_values N n p)
     inputs_same zero p = λ w. followed_same p [] w

@@ -123,8 +123,8 @@ module _ (Y : Setting) where
       g_execute_effect Y f F tpl (word_called f below each [] all_none) each.actions last h p t S K1 pc a e (main f below each tpl Γ last F zero [] (do_phrase t ∷ K1) (pc + 1) c v)
   main f below each tpl Γ last F d S K pc (c_generic {p = p} {t = t} {K = K1} wd n r es er ew same a e c) v =
       g_generic Y f F last wd n r p t S K1 pc es er ew same a e (word_called f below each S a) (main f below each tpl Γ last F zero [] (do_phrase t ∷ K1) (pc + 1) c v)
-  main f below each tpl Γ last F d S K pc (c_next {p = p} {t = t} {K = K1} m n j r er ew same a e c) v =
-      g_next Y f F last m n j r p t S K1 pc er ew same a e (word_called f below each S a) (main f below each tpl Γ last F zero [] (do_phrase t ∷ K1) (pc + 1) c v)
+  main f below each tpl Γ last F d S K pc (c_next {p = p} {t = t} {K = K1} m n j r em er ew same a e c) v =
+      g_next Y f F last m n j r p t S K1 pc em er ew same a e (word_called f below each S a) (main f below each tpl Γ last F zero [] (do_phrase t ∷ K1) (pc + 1) c v)
 
   below_all : EachCalled P M T → (f : ℕ) → Below f
   below_all each zero g lt = absurd (omega (arith, lt))

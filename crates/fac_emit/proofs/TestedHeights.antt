@@ -23,12 +23,11 @@ use Rattle.fac_store.specs.CallableHeights.{height_there}
 use Rattle.fac_vm.specs.Machine.{fits_in, row_height}
 use Rattle.fac_emit.specs.Heights.{HasHeights}
 use Rattle.fac_emit.specs.MachineView.{template_phrases}
-use Rattle.fac_emit.specs.ProgramTables.{table_texts}
 use Rattle.fac_emit.specs.ProgramCode.{IsPlain}
 use Rattle.fac_emit.proofs.Closings.{Alike, a_same, a_body, a_past, a_method, alike}
 use Rattle.fac_emit.proofs.NamedImages.{no_rows}
 use Rattle.fac_emit.proofs.Placed.{Rows, template_at, all_rows, row_height_is}
-use Rattle.fac_emit.proofs.PlacedWords.{texts_begin, word_put}
+use Rattle.fac_emit.proofs.PlacedWords.{word_put}
 
 past_alike : (s c : Sort) → Alike s c → is_past (Some c) ≡ is_past (Some s)
 past_alike s c (a_same t) = refl
@@ -68,7 +67,7 @@ module _ (P C : Program) (templates : List Template) (heights : List (Option Hei
       by : (o : Option WordDef) → slice_get P.words w ≡ o → fits_in h (row_height (slice_get M.words w)) ≡ (not (is_top_phrase P w) && elim o [ Some d ↦ elim (word_height d) [ Some k ↦ fits k h | None ↦ false ] | None ↦ false ])
       by None e =
           ap (λ (rs : List WordRow). fits_in h (row_height (slice_get rs w))) is_plain.word_rows_are
-          ∙ ap (λ (o : Option WordRow). fits_in h (row_height o)) (no_rows C templates _ _ 0 C.words w (word_closed_none P C templates closes w e)) ∙ none_fits (not (is_top_phrase P w))
+          ∙ ap (λ (o : Option WordRow). fits_in h (row_height o)) (no_rows C templates _ 0 C.words w (word_closed_none P C templates closes w e)) ∙ none_fits (not (is_top_phrase P w))
       by (Some d) e =
           let p = word_put P C templates heights M b closes is_plain w d e in
           let c = p.closed in
@@ -82,8 +81,8 @@ module _ (P C : Program) (templates : List Template) (heights : List (Option Hei
           ∙ ap (λ (o : Option Height). fits_in h (elim (is_top_phrase P w) [ true ↦ None | false ↦ o ])) promise
           ∙ tested_by h (is_top_phrase P w) (word_height d)
 
-  rows : Rows C templates M.code M.texts M.templates templates
-  rows = all_rows P C templates closes heights M.code M.texts M.templates is_plain.code (texts_begin P C templates heights M b closes is_plain) is_plain.template_rows_are
+  rows : Rows C templates M.code M.templates templates
+  rows = all_rows P C templates closes heights M.code M.templates is_plain.code is_plain.template_rows_are
 
   -- the effect of a literal callable is in its template's row
   pub literals_tested :
@@ -91,9 +90,9 @@ module _ (P C : Program) (templates : List Template) (heights : List (Option Hei
       callable_height (of_phrase (template_phrases P q vs)) ≡ r.height
   unfolding template_phrases
   literals_tested callable_height effects q r vs e n =
-      let found = template_at C templates M.code M.texts M.templates templates q r rows e in
+      let found = template_at C templates M.code M.templates templates q r rows e in
       let t = found.template in
       let many : length r.cells + r.holes ≡ length t.captures + t.holes = ap (λ (r : TemplateRow). length r.cells + r.holes) found.of.row in
-      let own = row_height_is C templates heights (table_texts C) 0 0 templates q r (ap (λ (rs : List TemplateRow). slice_get rs q) (sym is_plain.template_rows_are) ∙ e) in
+      let own = row_height_is C templates heights 0 0 templates q r (ap (λ (rs : List TemplateRow). slice_get rs q) (sym is_plain.template_rows_are) ∙ e) in
       let number : 0 + q ≡ q = omega arith in
       effects.literal q t vs found.there (n ∙ many) ∙ ap (λ (j : ℕ). height_there (slice_get heights j)) (sym number) ∙ sym own

@@ -1,5 +1,5 @@
 -- When an image carries a program: its machine ends as the program does.
-use Rattle.std.specs.Prelude.{◌≡◌, ℕ, List, length, Option}
+use Rattle.std.specs.Prelude.{◌≡◌, ℕ, List, length, Option, Some, None, slice_get}
 use Rattle.fac_lang.specs.declared.phrase.Height.{Height}
 use Rattle.fac_lang.specs.declared.program.Program.{Program}
 use Rattle.fac_lang.specs.Phrases.{Value, Callable}
@@ -13,7 +13,8 @@ use Rattle.fac_lang.specs.Whole.{IsWhole}
 use Rattle.fac_locals.specs.Closed.{Closes}
 use Rattle.fac_locals.specs.declared.closing.Closed.{Closed}
 use Rattle.fac_code.specs.declared.image.Image.{Image}
-use Rattle.fac_code.specs.ImageNames.{image_names}
+use Rattle.fac_code.specs.Images.{tables_of}
+use Rattle.fac_code.specs.ImageNames.{text_of, image_names}
 use Rattle.fac_store.specs.MachineValues.{MValue}
 use Rattle.fac_vm.specs.Machine.{End, done, failed, spent, Ends, starting, first_world}
 use Rattle.fac_emit.specs.MachineView.{Templates, template_phrases, values_view, state_view, world_view, error_view}
@@ -35,6 +36,13 @@ top_run P callable_height values w n = run P fits callable_height n (word_phrase
 abbrev pub IsNeverStuck : (ℕ → Result) → Type 0
 IsNeverStuck go = (m : ℕ) → IsNotStuck (go m)
 
+-- the vocabulary and the name of a word, as an image and as a program has them
+abbrev pub image_full_name : Image → ℕ → Option (List ℕ × List ℕ)
+image_full_name M w = elim (slice_get M.words w) [ Some r ↦ Some (text_of (tables_of M) r.vocab, text_of (tables_of M) r.name) | None ↦ None ]
+
+abbrev pub full_name_of : Program → ℕ → Option (List ℕ × List ℕ)
+full_name_of P w = elim (slice_get P.words w) [ Some d ↦ Some (d.name.vocab, d.name.name) | None ↦ None ]
+
 pub record Carries (P : Program) (callable_height : Callable → Option Height) (count : ℕ) (M : Image) : Type 0 where
   -- From every list of so many values and in every world, whose callables are of the image's templates and whose words are no top-level phrases, and at every
   -- budget, where the top-level phrase is stuck at no budget from the values and in the world for which these stand: the machine ends as that phrase does. Done:
@@ -47,6 +55,8 @@ pub record Carries (P : Program) (callable_height : Callable → Option Height) 
   pub first_whole : (input : List ℕ) → WholeObjects P M (first_world M input).objects
   -- What the image says of words and kinds is what the program says, so that printed forms are alike.
   pub same_names : image_names M ≡ names P
+  -- The image has the program's words, each with its vocabulary and its name.
+  pub same_full_names : (w : ℕ) → image_full_name M w ≡ full_name_of P w
 
 -- The image carries each built and whole program for which a closed one stands, from as many values as that starts on, where these are the effects of its templates.
 abbrev pub CarriesEach : Closed → List (Option Height) → Image → Type 0

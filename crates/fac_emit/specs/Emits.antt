@@ -17,7 +17,7 @@ use Rattle.fac_code.specs.declared.image.Instr.{Instr}
 use Rattle.fac_code.specs.declared.image.Instr.TheVariants.{Int, True, False, Text, Array, Word, Quot, Bind, Prim, Callw, Call, Dip, If, Execute, CallEffect, ExecuteEffect, Ret, Boa, Isa, Generic, Next}
 use Rattle.fac_code.specs.declared.image.Instr.TheVariants as instr
 use Rattle.fac_emit.specs.Accessors.{Accessor, accessor_sort, accessor_instr}
-use Rattle.fac_emit.specs.ProgramTables.{slot_number, generic_number, method_number}
+use Rattle.fac_emit.specs.ProgramTables.{generic_number}
 use Rattle.fac_emit.specs.ProgramCode.{last_instr, stuck_instr}
 use Rattle.fac_emit.specs.Stands.{RunsPhrase, PushesItself, IsStuck, making}
 
@@ -35,7 +35,7 @@ HasNoCell (hole k) = ⊥
 HasNoCell _ = Unit {0}
 
 module _ (P : Program) (texts : List (List ℕ)) where
-  -- The instruction of an item that stands here under these cells, among these texts. A string is one of them; a literal array has the number of the program's; a quotation or fry is made by the template of its literal, a local that is bound gets the next cell of the frame, and a local and a hole are in their cells; what a word does is done in place, a word that runs a phrase is called, and a word as a value, a symbol and the word of a class are pushed. A slot, a class, a generic and a method have their numbers in the program's tables.
+  -- The instruction of an item that stands here under these cells, among these texts. A string is one of them; a literal array has the number of the program's; a quotation or fry is made by the template of its literal, a local that is bound gets the next cell of the frame, and a local and a hole are in their cells; what a word does is done in place, a word that runs a phrase is called, and a word as a value, a symbol and the word of a class are pushed. A slot is named as one of the texts too, and a class and a generic by their numbers in the program's tables.
   pub data ItemEmits (cells : List Cell) (at : Literal) : Item → Instr → Type 0 where
     e_int : (z : ℤ) → ItemEmits cells at (lit (int z)) (Int z)
     e_true : ItemEmits cells at (lit yes) True
@@ -50,11 +50,11 @@ module _ (P : Program) (texts : List (List ℕ)) where
     e_local : (x k : ℕ) → cell_number cells (Local x) ≡ Some k → ItemEmits cells at (local x) (instr.Local k)
     e_hole : (h k : ℕ) → cell_number cells (Hole h) ≡ Some k → ItemEmits cells at (hole h) (instr.Local k)
     e_prim : (w k : ℕ) → sort_of P w ≡ Some (prim_sort k) → is_built_primitive k ≡ true → ItemEmits cells at (word w) (Prim k)
-    e_accessor : (x : Accessor) (w : ℕ) (s : List ℕ) → sort_of P w ≡ Some (accessor_sort x s) → ItemEmits cells at (word w) (accessor_instr x (slot_number P s))
+    e_accessor : (x : Accessor) (w : ℕ) (s : List ℕ) (k : ℕ) → sort_of P w ≡ Some (accessor_sort x s) → slice_get texts k ≡ Some s → ItemEmits cells at (word w) (accessor_instr x k)
     e_isa : (w c : ℕ) → sort_of P w ≡ Some (isa c) → ItemEmits cells at (word w) (Isa c)
     e_word : (w : ℕ) → RunsPhrase (sort_of P w) → ItemEmits cells at (word w) (Callw w false)
     e_generic : (w : ℕ) → sort_of P w ≡ Some generic → ItemEmits cells at (word w) (Generic (generic_number P w) false)
-    e_next : (m c g : ℕ) (t : Phrase) → sort_of P m ≡ Some (method c g t) → ItemEmits cells at (next_after m) (Next (generic_number P g) (method_number P m) false)
+    e_next : (m c g : ℕ) (t : Phrase) → sort_of P m ≡ Some (method c g t) → ItemEmits cells at (next_after m) (Next m false)
     e_call : (w k : ℕ) → sort_of P w ≡ Some (core_sort k) → core_numbered k ≡ Some c_call → ItemEmits cells at (word w) (Call false)
     e_dip : (w k : ℕ) → sort_of P w ≡ Some (core_sort k) → core_numbered k ≡ Some c_dip → ItemEmits cells at (word w) Dip
     e_if : (w k : ℕ) → sort_of P w ≡ Some (core_sort k) → core_numbered k ≡ Some c_if → ItemEmits cells at (word w) (If false)

@@ -6,8 +6,10 @@ pub mod Accessors
 pub mod Stands
 pub mod Symbols
 pub mod Expanded
+pub mod ProgramTexts
 pub mod ProgramTables
 pub mod ProgramCode
+pub mod Numbered
 pub mod Emits
 pub mod PrintedForms
 pub mod inner

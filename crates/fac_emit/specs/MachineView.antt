@@ -39,7 +39,7 @@ module _ (T : Templates) where
   object_view (tuple k vs) = tuple k (values_view vs)
 
   abbrev pub world_view : World MValue → World Value
-  world_view w = record { objects = map object_view w.objects; literals = w.literals; input = w.input; output = w.output }
+  world_view w = record { objects = map object_view w.objects; literals = w.literals; input = w.input; asked = w.asked; output = w.output }
 
   abbrev pub state_view : List MValue → World MValue → State Value
   state_view stack w = record { stack = values_view stack; world = world_view w }

@@ -24,7 +24,7 @@ use Rattle.fac_code.specs.declared.image.WordRow.{WordRow}
 use Rattle.fac_code.specs.declared.image.GenericRow.{GenericRow}
 use Rattle.fac_code.specs.declared.image.MethodRow.{MethodRow}
 use Rattle.fac_store.specs.MachineValues.{MValue, Kept, kept_list, cells_at}
-use Rattle.fac_vm.specs.Machine.{word_with, set_has, method_for, method_after}
+use Rattle.fac_vm.specs.Machine.{word_with, set_has, method_for, method_after, method_place}
 use Rattle.fac_emit.specs.Accessors.{Accessor, accessor_sort, accessor_instr, accessor_action}
 use Rattle.fac_emit.specs.MachineView.{Templates, template_phrases, value_view, values_view, kept_view}
 use Rattle.fac_emit.specs.WholeValues.{Whole, WholeKept}
@@ -73,10 +73,10 @@ module _ (P : Program) (M : Image) where
     l_generic :
         (w n : ℕ) (r : GenericRow) → sort_of P w ≡ Some generic → slice_get M.generics n ≡ Some r → r.word ≡ w → ((k : ℕ) → SameMethod (method_for M.sets k r.methods) (pick P w k)) → Calling tail (word w) (Generic n tail)
     l_next :
-        (m n j : ℕ) (r : GenericRow) → slice_get M.generics n ≡ Some r → r.word ≡ generic_of P (sort_of P m) → ((k : ℕ) → SameMethod (method_after M.sets k (drop j r.methods)) (next P m k)) → Calling tail (next_after m) (Next n j tail)
+        (m n j : ℕ) (r : GenericRow) → method_place m M.generics ≡ Some (n, j) → slice_get M.generics n ≡ Some r → r.word ≡ generic_of P (sort_of P m) → ((k : ℕ) → SameMethod (method_after M.sets k (drop j r.methods)) (next P m k)) → Calling tail (next_after m) (Next m tail)
 
   -- What a word does, and what its row says that it does. A run error of a primitive or an accessor names the first word of the image that does it, so
-  -- that is to be the word.
+  -- that is to be the word. No run does what nothing can do.
   pub data Acting (w : ℕ) : Action → Type 0 where
     a_itself : PushesItself (sort_of P w) → Acting w action.Itself
     a_prim : (k : ℕ) → sort_of P w ≡ Some (prim_sort k) → is_built_primitive k ≡ true → word_with (action.Prim k) 0 M.words ≡ w → Acting w (action.Prim k)
@@ -84,6 +84,7 @@ module _ (P : Program) (M : Image) where
         (x : Accessor) (k : ℕ) (s : List ℕ) → sort_of P w ≡ Some (accessor_sort x s) → slice_get M.texts k ≡ Some s → word_with (accessor_action x k) 0 M.words ≡ w → Acting w (accessor_action x k)
     a_isa : (c k : ℕ) → sort_of P w ≡ Some (isa c) → ((j : ℕ) → set_has (slice_get M.sets k) j ≡ has_kind P.classes c j) → Acting w (action.Isa k)
     a_core : (k : ℕ) → sort_of P w ≡ Some (core_sort k) → Acting w (action.Core k)
+    a_stuck : (x : Action) → IsStuck P (word w) → Acting w x
     a_code : (a : ℕ) → HasCode w a → Acting w (action.Code a)
     a_generic : (n : ℕ) (r : GenericRow) → sort_of P w ≡ Some generic → slice_get M.generics n ≡ Some r → r.word ≡ w → ((k : ℕ) → SameMethod (method_for M.sets k r.methods) (pick P w k)) → Acting w (action.Generic n)
 

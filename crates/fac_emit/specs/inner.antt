@@ -3,7 +3,7 @@ pub mod AddedTemplates
 pub mod FoundCode
 pub mod Parts
 pub mod Coded
-pub mod Numbered
+pub mod NumberedWords
 pub mod OwnRows
 pub mod Dispatch
 pub mod Promised

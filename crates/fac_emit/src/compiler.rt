@@ -1,37 +1,46 @@
 //! The compiler: the code of the templates and the words is linked to an image.
-ghost use Rattle.std.specs.Prelude.{◌≡◌, ◌<◌, ◌+◌, ◌^◌, ◌++◌, [], ℕ, true, nat_eq, nat_le, length, Some, IfOk, OnOk};
+ghost use Rattle.std.specs.Prelude.{◌≡◌, ℕ, true, nat_eq, nat_le, Some, IfOk, OnOk};
 ghost use Rattle.std.specs.List.{list_all};
 ghost use Rattle.fac_lang.specs.declared.program.Program.{Program as Source};
 ghost use Rattle.fac_lang.specs.Forms.{IsBuilt};
 ghost use Rattle.fac_lang.specs.Whole.{IsWhole};
-ghost use Rattle.fac_lang.specs.Classes.{own_kind};
 ghost use Rattle.fac_lang.specs.Effects.{effect_height};
 ghost use Rattle.fac_lang.specs.Meaning.{sort_of};
 ghost use Rattle.fac_locals.specs.Closed.{Closes};
 ghost use Rattle.fac_classes.specs.ClassKinds.{CanBeBuilt};
 ghost use Rattle.fac_generic.specs.Methods.{HasMethods, MethodLaws};
-ghost use Rattle.fac_emit.specs.ProgramTables.{slot_names, table_texts, word_numbers};
 ghost use Rattle.fac_emit.specs.Carries.{CarriesEach};
+ghost use Rattle.fac_emit.specs.Numbered.{IsNumbering};
 ghost use Rattle.fac_emit.specs.Stands.{PlainCode};
-ghost use Rattle.fac_emit.specs.ProgramCode.{sort_kind, word_row, code_place, program_words, IsPlain};
-ghost use Rattle.fac_emit.specs.inner.Coded.{body_is_coded, word_body_is_coded, has_few_inputs};
-ghost use Rattle.fac_emit.specs.inner.Numbered.{numbered_action};
+ghost use Rattle.fac_emit.specs.ProgramCode.{core_action, word_row, program_words, program_generics, IsPlain};
+ghost use Rattle.fac_emit.specs.inner.Coded.{has_few_inputs, array_is_coded};
+ghost use Rattle.fac_emit.specs.inner.NumberedWords.{numbered_action};
 ghost use Rattle.fac_emit.specs.inner.Promised.{declared_height, promised_height, height_where};
 ghost use Rattle.fac_emit.specs.inner.Parts.{AreParts, AreTables, PlacesWord, PlacesWords};
 
-use crate::arrays::add_arrays;
-use crate::dispatch::{generics_of, places_of};
-use crate::emitter::{Piece, add_templates, add_word};
-use crate::numbers::{number_of, numbers_of, texts_of};
+use crate::arrays::arrays_of;
+use crate::dispatch::generics_of;
+use crate::emitter::{add_templates, add_word};
+use crate::numbers::{Numbering, number_of, numbering_of};
 use crate::rows::place_of;
-use crate::slots::{Slots, slots_of};
-use crate::tables::{kinds_of, sets_of};
+use crate::tables::{kinds_of, pairs_of, sets_of};
 use fac_classes::Classes;
-use fac_code::{Action, Elem, GenericRow, Image, KindRow, TemplateRow, WordRow};
-use fac_generic::{Tables, methods_are_lawful, tables as method_tables};
-use fac_lang::{Effect, Height, List, Memory, Program, Sort, Template, Text, WordDef};
+use fac_code::{Action, Elem, GenericRow, Image, Instr, KindRow, TemplateRow, WordRow};
+use fac_generic::{methods_are_lawful, tables as method_tables};
+use fac_lang::{Effect, Height, List, Memory, Sort, Text, WordDef};
 use fac_locals::Closed;
 use std::alloc::Global;
+
+// What the core word with this number does.
+fn action_of_core(core: u32) -> Action
+    ensures { result ≡ core_action core }
+{
+    if core < 5 {
+        Action::Core(core)
+    } else {
+        Action::Itself
+    }
+}
 
 // What a word with this number in the tables does, whose code, where it has code, stands at a place.
 fn action_of(number: u32, place: u32, sort: &Sort) -> Action
@@ -39,7 +48,7 @@ fn action_of(number: u32, place: u32, sort: &Sort) -> Action
 {
     match sort {
         Sort::Prim(primitive) => Action::Prim(*primitive),
-        Sort::Core(core) => Action::Core(*core),
+        Sort::Core(core) => action_of_core(*core),
         Sort::Itself => Action::Itself,
         Sort::Class(_) => Action::Itself,
         Sort::Isa(class) => Action::Isa(*class),
@@ -48,28 +57,6 @@ fn action_of(number: u32, place: u32, sort: &Sort) -> Action
         Sort::Putter(_) => Action::Put(number),
         Sort::Generic => Action::Generic(number),
         _ => Action::Code(place),
-    }
-}
-
-// The kind that a class has as its own.
-fn own_kind_of(classes: &Classes, class: u32) -> Option<u32>
-    ensures { result ≡ own_kind 8 classes.now class }
-{
-    if class < classes.len() {
-        classes.kind_of(class)
-    } else {
-        None
-    }
-}
-
-// The kind of the class whose word this is.
-fn kind_of(program: &Program, classes: &Classes, sort: &Sort) -> Option<u32>
-    requires { classes.now ≡ program.now.classes }
-    ensures { result ≡ sort_kind program.now sort.now }
-{
-    match sort {
-        Sort::Class(class) => own_kind_of(classes, *class),
-        _ => None,
     }
 }
 
@@ -126,263 +113,214 @@ fn height_of(is_top: bool, word: &WordDef) -> Option<Height>
 
 // The row of a word, whose code, where it has code, stands at a place.
 fn row_of(
-    program: &Program,
-    numbers: &List<u32>,
-    classes: &Classes,
+    closed: &Closed,
+    numbering: &Numbering,
     number: u32,
     place: u32,
     word: &WordDef,
 ) -> WordRow
-    requires numbers { numbers.now ≡ word_numbers program.now }
-    requires classes { classes.now ≡ program.now.classes }
-    requires sort { sort_of program.now number ≡ Some word.now.sort }
+    requires numbering { IsNumbering closed.now.program closed.now.templates numbering.now }
+    requires sort { sort_of closed.now.program number ≡ Some word.now.sort }
     requires few { has_few_inputs word.now ≡ true }
-    ensures { result ≡ word_row program.now place number word.now }
+    ensures { result ≡ word_row closed.now.program closed.now.templates place number word.now }
 {
-    let is_top = number == program.top;
+    let is_top = number == closed.program.top;
     WordRow {
-        name: number,
-        action: action_of(number_of(numbers, number), place, &word.sort),
-        kind: kind_of(program, classes, &word.sort),
+        vocab: numbering.texts.number(&word.name.vocab),
+        name: numbering.texts.number(&word.name.name),
+        action: action_of(number_of(numbering, number), place, &word.sort),
         height: height_of(is_top, word),
     }
 }
 
-// The parts of an image.
+// The code of a program, and the rows of its templates and words.
 #[derive(Drop)]
 struct Parts {
-    arrays: List<List<Elem>>,
-    piece: Piece,
+    code: List<Instr>,
     templates: List<TemplateRow>,
     words: List<WordRow>,
 }
 
 // Adds the code of a word, and its row.
 fn place_word(
-    alloc: Global,
     parts: &mut Parts,
-    program: &Program,
-    templates: &List<Template>,
-    numbers: &List<u32>,
-    classes: &Classes,
+    closed: &Closed,
+    numbering: &Numbering,
     number: u32,
     word: &WordDef,
 ) -> Result<(), Memory>
-    requires numbers { numbers.now ≡ word_numbers program.now }
-    requires classes { classes.now ≡ program.now.classes }
-    requires sort { sort_of program.now number ≡ Some word.now.sort }
-    requires coded { body_is_coded program.now word.now.sort ≡ true }
+    requires numbering { IsNumbering closed.now.program closed.now.templates numbering.now }
+    requires sort { sort_of closed.now.program number ≡ Some word.now.sort }
     requires few { has_few_inputs word.now ≡ true }
-    ensures { OnOk result (PlacesWord program.now templates.now number (nat_eq number program.now.top) word.now parts.old parts.new) }
+    ensures { OnOk result (PlacesWord closed.now.program closed.now.templates number (nat_eq number closed.now.program.top) word.now parts.old parts.new) }
 {
-    let place = parts.piece.code.len();
+    let place = parts.code.len();
     parts
         .words
-        .push(row_of(program, numbers, classes, number, place, word))?;
-    add_word(
-        alloc,
-        &mut parts.piece,
-        program,
-        templates,
-        numbers,
-        number == program.top,
-        &word.sort,
-    )
+        .push(row_of(closed, numbering, number, place, word))?;
+    let is_top = number == closed.program.top;
+    add_word(&mut parts.code, closed, numbering, is_top, &word.sort)
 }
 
 // Adds the code and the rows of the words.
-fn add_words(
-    alloc: Global,
-    parts: &mut Parts,
-    program: &Program,
-    templates: &List<Template>,
-    numbers: &List<u32>,
-    classes: &Classes,
-) -> Result<(), Memory>
-    requires numbers { numbers.now ≡ word_numbers program.now }
-    requires classes { classes.now ≡ program.now.classes }
-    requires coded { list_all (word_body_is_coded program.now) program.now.words ≡ true }
-    requires few { list_all has_few_inputs program.now.words ≡ true }
-    ensures { OnOk result (PlacesWords program.now templates.now parts.old parts.new) }
+fn add_words(parts: &mut Parts, closed: &Closed, numbering: &Numbering) -> Result<(), Memory>
+    requires numbering { IsNumbering closed.now.program closed.now.templates numbering.now }
+    requires few { list_all has_few_inputs closed.now.program.words ≡ true }
+    ensures { OnOk result (PlacesWords closed.now.program closed.now.templates parts.old parts.new) }
 {
-    let _count = program.words.len();
+    let _count = closed.program.words.len();
     let mut number = 0u32;
-    for word in program.words.as_slice() {
-        place_word(
-            alloc, parts, program, templates, numbers, classes, number, word,
-        )?;
+    for word in closed.program.words.as_slice() {
+        place_word(parts, closed, numbering, number, word)?;
         number += 1;
     }
     Ok(())
 }
 
-// The code of a closed program behind these texts, that of its templates, which have these effects, first and then that of its words, its literal
-// arrays and its tables.
-fn link(
+// The code of a closed program, that of its templates, which have these effects, first and then that of its words.
+fn parts_of(
     alloc: Global,
     closed: &Closed,
-    texts: List<Text>,
-    numbers: &List<u32>,
-    classes: &Classes,
+    numbering: &Numbering,
     heights: &[Option<Height>],
 ) -> Result<Parts, Memory>
     requires closed { (P : Source) × Closes P closed.now.program closed.now.templates × IsBuilt P × IsWhole P }
-    requires texts { texts ≡ table_texts closed.now.program }
-    requires numbers { numbers.now ≡ word_numbers closed.now.program }
-    requires classes { classes.now ≡ closed.now.program.classes }
+    requires numbering { IsNumbering closed.now.program closed.now.templates numbering.now }
     ensures { IfOk result (AreParts closed.now.program closed.now.templates heights.now) }
 {
-    let code = List::new(alloc);
     let mut parts = Parts {
-        arrays: List::new(alloc),
-        piece: Piece { code, texts },
+        code: List::new(alloc),
         templates: List::new(alloc),
         words: List::new(alloc),
     };
-    let program = &closed.program;
     add_templates(
         alloc,
-        &mut parts.piece,
+        &mut parts.code,
         &mut parts.templates,
-        program,
-        &closed.templates,
-        numbers,
+        closed,
+        numbering,
         heights,
     )?;
-    add_words(
-        alloc,
-        &mut parts,
-        program,
-        &closed.templates,
-        numbers,
-        classes,
-    )?;
-    add_arrays(
-        alloc,
-        &mut parts.arrays,
-        &mut parts.piece.texts,
-        &program.arrays,
-    )?;
+    add_words(&mut parts, closed, numbering)?;
     Ok(parts)
 }
 
-// The tables of an image that no phrase is in.
+// The other tables of an image.
 #[derive(Drop)]
-struct ClassTables {
+struct OtherTables {
+    texts: List<Text>,
+    arrays: List<List<Elem>>,
     kinds: List<KindRow>,
     sets: List<List<u32>>,
     generics: List<GenericRow>,
+    pairs: List<(u32, u32)>,
+}
+
+// The rows of the generics, where the words have these rows.
+fn generics_for(
+    alloc: Global,
+    closed: &Closed,
+    classes: &Classes,
+    rows: &List<WordRow>,
+) -> Result<List<GenericRow>, Memory>
+    requires classes { classes.now ≡ closed.now.program.classes }
+    requires methods { HasMethods closed.now.program }
+    requires rows { rows.now ≡ program_words closed.now.program closed.now.templates }
+    ensures { IfOk result (λ generics. generics ≡ program_generics closed.now.program closed.now.templates) }
+{
+    let methods = method_tables(alloc, &closed.program, classes)?;
+    generics_of(alloc, &closed.program, &methods, rows)
+}
+
+// The other tables of a closed program's image, where its words have these rows.
+fn tables_of(
+    alloc: Global,
+    closed: &Closed,
+    numbering: &Numbering,
+    classes: &Classes,
+    rows: &List<WordRow>,
+) -> Result<OtherTables, Memory>
+    requires coded { list_all array_is_coded closed.now.program.arrays ≡ true }
+    requires numbering { IsNumbering closed.now.program closed.now.templates numbering.now }
+    requires classes { classes.now ≡ closed.now.program.classes }
+    requires methods { HasMethods closed.now.program }
+    requires rows { rows.now ≡ program_words closed.now.program closed.now.templates }
+    ensures { IfOk result (AreTables closed.now.program closed.now.templates) }
+{
+    let texts = numbering.texts.list(alloc)?;
+    let arrays = arrays_of(alloc, &numbering.texts, closed)?;
+    let kinds = kinds_of(alloc, &numbering.texts, closed, classes)?;
+    let sets = sets_of(alloc, classes)?;
+    let generics = generics_for(alloc, closed, classes, rows)?;
+    let pairs = pairs_of(alloc, closed, classes)?;
+    Ok(OtherTables {
+        texts,
+        arrays,
+        kinds,
+        sets,
+        generics,
+        pairs,
+    })
 }
 
 // The image of these parts and tables, where the templates have these effects.
-fn image_of(closed: &Closed, heights: &[Option<Height>], parts: Parts, tables: ClassTables) -> Image
+fn image_of(closed: &Closed, heights: &[Option<Height>], parts: Parts, tables: OtherTables) -> Image
     requires closed { (P : Source) × Closes P closed.now.program closed.now.templates × IsBuilt P × IsWhole P × MethodLaws P }
     requires parts { AreParts closed.now.program closed.now.templates heights.now parts }
     requires tables { AreTables closed.now.program closed.now.templates tables }
     ensures { IsPlain closed.now.program closed.now.templates heights.now result }
 {
     let Parts {
-        arrays,
-        piece,
+        code,
         templates,
         words,
     } = parts;
-    let ClassTables {
+    let OtherTables {
+        texts,
+        arrays,
         kinds,
         sets,
         generics,
+        pairs,
     } = tables;
-    let Piece { code, texts } = piece;
     let start = place_of(&words, closed.program.top);
     Image {
+        texts,
         arrays,
         kinds,
         sets,
         templates,
         words,
         generics,
-        texts,
+        pairs,
         code,
         start,
     }
 }
 
-// The code of a closed program behind these texts, with its literal arrays and its tables, where these are its methods and slots.
-fn parts_of(
-    alloc: Global,
-    closed: &Closed,
-    classes: &Classes,
-    methods: &Tables,
-    slots: &Slots,
-    heights: &[Option<Height>],
-    texts: List<Text>,
-) -> Result<Parts, Memory>
-    requires closed { (P : Source) × Closes P closed.now.program closed.now.templates × IsBuilt P × IsWhole P }
-    requires classes { classes.now ≡ closed.now.program.classes }
-    requires fits { HasMethods closed.now.program }
-    requires methods { methods.now ≡ closed.now.program }
-    requires slots { slots.now ≡ slot_names closed.now.program }
-    requires short { length closed.now.program.words + length slots.now < 2 ^ 32 }
-    requires texts { texts ≡ table_texts closed.now.program }
-    ensures { IfOk result (AreParts closed.now.program closed.now.templates heights.now) }
-{
-    let places = places_of(alloc, &closed.program, methods)?;
-    let numbers = numbers_of(alloc, &closed.program, slots, &places)?;
-    link(alloc, closed, texts, &numbers, classes, heights)
-}
-
-// The tables of a program that no phrase is in, where these are its methods and slots, and its words have these rows.
-fn tables_of(
-    alloc: Global,
-    closed: &Closed,
-    classes: &Classes,
-    methods: &Tables,
-    slots: &Slots,
-    rows: &List<WordRow>,
-) -> Result<ClassTables, Memory>
-    requires classes { classes.now ≡ closed.now.program.classes }
-    requires fits { HasMethods closed.now.program }
-    requires methods { methods.now ≡ closed.now.program }
-    requires slots { slots.now ≡ slot_names closed.now.program }
-    requires short { length (table_texts closed.now.program) < 2 ^ 32 }
-    requires rows { rows.now ≡ program_words closed.now.program closed.now.templates }
-    ensures { IfOk result (AreTables closed.now.program closed.now.templates) }
-{
-    let kinds = kinds_of(alloc, &closed.program, classes, slots)?;
-    let sets = sets_of(alloc, classes)?;
-    let generics = generics_of(alloc, &closed.program, methods, rows)?;
-    Ok(ClassTables {
-        kinds,
-        sets,
-        generics,
-    })
-}
-
 // The image of a closed program, whose templates have these effects.
 fn plain_image(alloc: Global, closed: &Closed, heights: &[Option<Height>]) -> Result<Image, Memory>
     requires closed { (P : Source) × Closes P closed.now.program closed.now.templates × IsBuilt P × IsWhole P × MethodLaws P }
+    requires coded { list_all array_is_coded closed.now.program.arrays ≡ true }
     requires classes { CanBeBuilt closed.now.program }
     requires methods { HasMethods closed.now.program }
     ensures { IfOk result (IsPlain closed.now.program closed.now.templates heights.now) }
 {
-    let program = &closed.program;
-    let classes = Classes::build(alloc, program)?;
-    let methods = method_tables(alloc, program, &classes)?;
-    let slots = slots_of(alloc, program)?;
-    let texts = texts_of(alloc, program, &slots)?;
-    let _count = texts.len();
-    let parts = parts_of(alloc, closed, &classes, &methods, &slots, heights, texts)?;
-    let tables = tables_of(alloc, closed, &classes, &methods, &slots, &parts.words)?;
+    let classes = Classes::build(alloc, &closed.program)?;
+    let numbering = numbering_of(alloc, closed)?;
+    let parts = parts_of(alloc, closed, &numbering, heights)?;
+    let tables = tables_of(alloc, closed, &numbering, &classes, &parts.words)?;
     Ok(image_of(closed, heights, parts, tables))
 }
 
-/// The image of a closed program of the built forms, where its templates have these effects, by their numbers. It carries the program that this
-/// one stands for, on every list of as many values as the closed program starts on and in every world, whose callables are of the image's
-/// templates and whose words are no top-level phrases, and at every budget, where that program is stuck at none; and its literal arrays, as a machine makes them, are those of that program before its first item. Its code stands for the
-/// phrases of that program, item by item, and is plain: the code of the templates and behind it that of the words, each in their order, with
-/// the names of the words, the slots and the kinds, the texts of its strings in the order of their instructions and behind them those of its
-/// literal arrays, a row for each template, word, kind and generic, and the kinds of each class; it starts at the top-level phrase. Want of
-/// memory is the one error, also where there are more kinds or texts than numbers for them.
+/// The image of a closed program of the built forms, where its templates have these effects, by their numbers. It carries the program that
+/// this one stands for, on every list of as many values as the closed program starts on and in every world, whose callables are of the
+/// image's templates and whose words are no top-level phrases, and at every budget, where that program is stuck at none; and its literal
+/// arrays, as a machine makes them, are those of that program before its first item. Its code stands for the phrases of that program, item by
+/// item, and is plain: the code of the templates and behind it that of the words, each in their order, with the texts of the program, each
+/// once and word by word in the order in which they are met, the literal arrays, a row for each template, word, kind and generic, the kinds
+/// of each class, and the words of classes with their kinds; it starts at the top-level phrase. Want of memory is the one error, also where
+/// there are more kinds or texts than numbers for them.
 pub fn compile(alloc: Global, closed: &Closed, heights: &[Option<Height>]) -> Result<Image, Memory>
     requires { (P : Source) × Closes P closed.now.program closed.now.templates × IsBuilt P × IsWhole P }
     ensures carries { IfOk result (CarriesEach closed.now heights.now) }

@@ -1,43 +1,15 @@
-//! The methods of generics: their places and their rows.
-ghost use Rattle.std.specs.Prelude.{◌≡◌, ◌<◌, ◌++◌, ◌∷◌, [], length, map, OnOk, IfOk};
-ghost use Rattle.fac_generic.specs.Methods.{HasMethods, methods_in_order};
+//! The rows of generics and their methods.
+ghost use Rattle.std.specs.Prelude.{◌≡◌, ◌<◌, ◌++◌, length, map, OnOk, IfOk};
+ghost use Rattle.fac_generic.specs.Methods.{HasMethods};
 ghost use Rattle.fac_emit.specs.ProgramTables.{method_row, generics_from};
 ghost use Rattle.fac_emit.specs.ProgramCode.{code_place};
-ghost use Rattle.fac_emit.specs.inner.Numbered.{HasPlaces};
-ghost use Rattle.fac_emit.specs.inner.Dispatch.{AreBelow, class_in, generic_rows, placed};
+ghost use Rattle.fac_emit.specs.inner.Dispatch.{class_in, generic_rows};
 
 use crate::rows::place_of;
 use fac_code::{GenericRow, MethodRow, WordRow};
 use fac_generic::Tables;
 use fac_lang::{List, Memory, Program, Sort};
 use std::alloc::Global;
-
-// Puts the place of each of these methods. Of one that is there more than once it is the last.
-fn put_places(places: &mut Vec<u32>, methods: &List<u32>)
-    requires { AreBelow (length places.old.items) methods.now }
-    ensures { places.new.items ≡ placed methods.now 0 places.old.items }
-{
-    let _count = methods.len();
-    let mut place = 0u32;
-    for method in methods.as_slice() {
-        let index = *method as usize;
-        places[index] = place;
-        place += 1;
-    }
-}
-
-/// The places of methods among those of their generics, by their words.
-pub fn places_of(alloc: Global, program: &Program, tables: &Tables) -> Result<List<u32>, Memory>
-    requires methods { HasMethods program.now }
-    requires tables { tables.now ≡ program.now }
-    ensures { IfOk result (HasPlaces program.now) }
-{
-    let mut places = vec![in alloc; 0; program.words.len() as usize]?;
-    for generic in 0..program.words.len() {
-        put_places(&mut places, tables.methods(generic));
-    }
-    List::from_vec(places)
-}
 
 // The class of a method.
 fn class_of(program: &Program, method: u32) -> u32
@@ -64,6 +36,7 @@ fn rows_of(
     let mut found = List::new(alloc);
     for method in methods.as_slice() {
         found.push(MethodRow {
+            number: *method,
             set: class_of(program, *method),
             entry: place_of(rows, *method),
         })?;

@@ -1,37 +1,25 @@
 //! The plain code of words and templates.
-ghost use Rattle.std.specs.Prelude.{◌≡◌, ◌<◌, ◌++◌, ◌∷◌, [], length, slice_get, true, false, IfOk, OnOk};
-ghost use Rattle.std.specs.List.{list_all};
+ghost use Rattle.std.specs.Prelude.{◌≡◌, ◌<◌, ◌++◌, ◌∷◌, [], length, slice_get, IfOk, OnOk};
 ghost use Rattle.fac_lang.specs.PhraseView.{what_item};
 ghost use Rattle.fac_lang.specs.declared.program.Program.{Program as Source};
 ghost use Rattle.fac_lang.specs.Forms.{IsBuilt};
-ghost use Rattle.fac_lang.specs.Whole.{IsWhole};
-ghost use Rattle.fac_lang.specs.Meaning.{sort_of, generic_of};
+ghost use Rattle.fac_lang.specs.Meaning.{sort_of};
 ghost use Rattle.fac_locals.specs.Closed.{Closes};
-ghost use Rattle.fac_code.specs.declared.image.Instr.TheVariants as instr;
 ghost use Rattle.fac_store.specs.CallableHeights.{height_there};
-ghost use Rattle.fac_emit.specs.ProgramTables.{generic_number, method_number, word_numbers};
+ghost use Rattle.fac_emit.specs.ProgramTexts.{program_texts};
 ghost use Rattle.fac_emit.specs.Stands.{making};
-ghost use Rattle.fac_emit.specs.ProgramCode.{core_instr, word_instr, made_instr, item_instr, with_text, phrase_code, phrase_texts, last_instr, sort_code, sort_texts};
+ghost use Rattle.fac_emit.specs.ProgramCode.{core_instr, word_instr, made_instr, item_instr, phrase_code, last_instr, sort_code};
+ghost use Rattle.fac_emit.specs.Numbered.{IsNumbering};
 ghost use Rattle.fac_emit.specs.inner.AddedTemplates.{AddsTemplate, AddsTemplates};
-ghost use Rattle.fac_emit.specs.inner.Coded.{is_method, item_is_coded, phrase_is_coded, template_is_coded, body_is_coded};
-ghost use Rattle.fac_emit.specs.inner.FoundCode.{IsCodeOf, found_code, found_texts, found_template, found_template_texts};
-ghost use Rattle.fac_emit.specs.inner.Numbered.{numbered_instr};
+ghost use Rattle.fac_emit.specs.inner.FoundCode.{found_code, found_template};
+ghost use Rattle.fac_emit.specs.inner.NumberedWords.{numbered_instr};
 ghost use Rattle.fac_emit.specs.Emits.{Emits, TemplateEmits};
 
-use crate::numbers::number_of;
+use crate::numbers::{Numbering, number_of};
 use fac_code::{Instr, TemplateRow};
-use fac_lang::{Duplicate, Height, List, Memory, Phrase, Program, Sort, Template, Text, What};
+use fac_lang::{Duplicate, Height, List, Memory, Phrase, Sort, Template, What};
 use fac_locals::Closed;
 use std::alloc::Global;
-
-/// Plain code, with the texts that it names.
-#[derive(Drop)]
-pub struct Piece {
-    /// The instructions.
-    pub code: List<Instr>,
-    /// The texts that they name by their numbers: those of the strings, in the order of their instructions.
-    pub texts: List<Text>,
-}
 
 // The instruction of the core word with this number.
 fn instr_of_core(number: u32) -> Instr
@@ -70,32 +58,13 @@ fn instr_of_sort(number: u32, word: u32, sort: &Sort) -> Instr
 }
 
 // The instruction of the word with this number.
-fn instr_of_word(program: &Program, numbers: &List<u32>, word: u32) -> Instr
-    requires { numbers.now ≡ word_numbers program.now }
-    ensures { result ≡ word_instr program.now word (slice_get program.now.words word) }
+fn instr_of_word(closed: &Closed, numbering: &Numbering, word: u32) -> Instr
+    requires { IsNumbering closed.now.program closed.now.templates numbering.now }
+    ensures { result ≡ word_instr closed.now.program closed.now.templates word (slice_get closed.now.program.words word) }
 {
-    match program.words.get(word as usize) {
-        Some(def) => instr_of_sort(number_of(numbers, word), word, &def.sort),
+    match closed.program.words.get(word as usize) {
+        Some(def) => instr_of_sort(number_of(numbering, word), word, &def.sort),
         None => Instr::Boa,
-    }
-}
-
-// The instruction of what is next after a method.
-fn instr_after(program: &Program, numbers: &List<u32>, method: u32) -> Instr
-    requires numbers { numbers.now ≡ word_numbers program.now }
-    requires method { is_method program.now (sort_of program.now method) ≡ true }
-    ensures { result ≡ instr.Next (generic_number program.now (generic_of program.now (sort_of program.now method))) (method_number program.now method) false }
-{
-    match program.words.get(method as usize) {
-        Some(def) => match &def.sort {
-            Sort::Method { generic, .. } => Instr::Next {
-                generic: number_of(numbers, *generic),
-                method: number_of(numbers, method),
-                tail: false,
-            },
-            _ => unreachable!(),
-        },
-        None => unreachable!(),
     }
 }
 
@@ -119,28 +88,24 @@ fn instr_of_made(templates: &List<Template>, number: u32) -> Instr
     }
 }
 
-// The instruction of an item. A string is the text with this number.
-fn instr_of(
-    program: &Program,
-    templates: &List<Template>,
-    numbers: &List<u32>,
-    text: u32,
-    what: &What,
-) -> Instr
-    requires numbers { numbers.now ≡ word_numbers program.now }
-    requires coded { item_is_coded program.now (what_item what.now) ≡ true }
-    ensures { result ≡ item_instr program.now templates.now text (what_item what.now) }
+// The instruction of an item.
+fn instr_of(closed: &Closed, numbering: &Numbering, what: &What) -> Instr
+    requires { IsNumbering closed.now.program closed.now.templates numbering.now }
+    ensures { result ≡ item_instr closed.now.program closed.now.templates (what_item what.now) }
 {
     match what {
         What::Int(value) => Instr::Int(*value),
         What::True => Instr::True,
         What::False => Instr::False,
-        What::Str(_) => Instr::Text(text),
+        What::Str(text) => Instr::Text(numbering.texts.number(text)),
         What::Arr(array) => Instr::Array(*array),
         What::Wref(word) => Instr::Word(*word),
-        What::Word(word) => instr_of_word(program, numbers, *word),
-        What::NextAfter(method) => instr_after(program, numbers, *method),
-        What::Made(number) => instr_of_made(templates, *number),
+        What::Word(word) => instr_of_word(closed, numbering, *word),
+        What::NextAfter(method) => Instr::Next {
+            method: *method,
+            tail: false,
+        },
+        What::Made(number) => instr_of_made(&closed.templates, *number),
         What::Bind(_) => Instr::Bind,
         What::Local(cell) => Instr::Local(*cell),
         What::CallEff(height) => Instr::CallEffect {
@@ -155,54 +120,21 @@ fn instr_of(
     }
 }
 
-// Adds the text of an item, where it is a string.
-fn add_text(alloc: Global, texts: &mut List<Text>, what: &What) -> Result<(), Memory>
-    ensures { OnOk result (texts.new ≡ with_text texts.old (what_item what.now)) }
-{
-    match what {
-        What::Str(text) => texts.push(text.copy(alloc)?),
-        _ => Ok(()),
-    }
-}
-
-// Adds the code of an item, and its text.
-fn add_item(
-    alloc: Global,
-    piece: &mut Piece,
-    program: &Program,
-    templates: &List<Template>,
-    numbers: &List<u32>,
-    what: &What,
-) -> Result<(), Memory>
-    requires numbers { numbers.now ≡ word_numbers program.now }
-    requires coded { item_is_coded program.now (what_item what.now) ≡ true }
-    ensures { OnOk result ((piece.new.code ≡ piece.old.code ++ item_instr program.now templates.now (length piece.old.texts) (what_item what.now) ∷ []) × (piece.new.texts ≡ with_text piece.old.texts (what_item what.now))) }
-{
-    let number = piece.texts.len();
-    piece
-        .code
-        .push(instr_of(program, templates, numbers, number, what))?;
-    add_text(alloc, &mut piece.texts, what)
-}
-
-// Adds the code of a phrase, and its texts.
+// Adds the code of a phrase.
 fn add_phrase(
-    alloc: Global,
-    piece: &mut Piece,
-    program: &Program,
-    templates: &List<Template>,
-    numbers: &List<u32>,
+    code: &mut List<Instr>,
+    closed: &Closed,
+    numbering: &Numbering,
     phrase: &Phrase,
     last: Instr,
 ) -> Result<(), Memory>
-    requires numbers { numbers.now ≡ word_numbers program.now }
-    requires coded { phrase_is_coded program.now phrase.now ≡ true }
-    ensures { OnOk result ((piece.new.code ≡ piece.old.code ++ phrase_code program.now templates.now last piece.old.texts phrase.now) × (piece.new.texts ≡ phrase_texts piece.old.texts phrase.now)) }
+    requires { IsNumbering closed.now.program closed.now.templates numbering.now }
+    ensures { OnOk result (code.new ≡ code.old ++ phrase_code closed.now.program closed.now.templates last phrase.now) }
 {
     for item in &phrase.items {
-        add_item(alloc, piece, program, templates, numbers, &item.what)?;
+        code.push(instr_of(closed, numbering, &item.what))?;
     }
-    piece.code.push(last)
+    code.push(last)
 }
 
 // The effect of the template with this number.
@@ -215,22 +147,20 @@ fn height_of(heights: &[Option<Height>], template: u32) -> Option<Height>
     }
 }
 
-// Adds a template with this effect: its code with its texts, and its row.
+// Adds a template with this effect: its code and its row.
 fn add_template(
     alloc: Global,
-    piece: &mut Piece,
+    code: &mut List<Instr>,
     rows: &mut List<TemplateRow>,
-    program: &Program,
-    templates: &List<Template>,
-    numbers: &List<u32>,
+    closed: &Closed,
+    numbering: &Numbering,
     height: Option<Height>,
     template: &Template,
 ) -> Result<(), Memory>
-    requires numbers { numbers.now ≡ word_numbers program.now }
-    requires coded { template_is_coded program.now template.now ≡ true }
-    ensures { OnOk result (AddsTemplate program.now templates.now height template.now piece.old piece.new rows.old rows.new) }
+    requires { IsNumbering closed.now.program closed.now.templates numbering.now }
+    ensures { OnOk result (AddsTemplate closed.now.program closed.now.templates height template.now code.old code.new rows.old rows.new) }
 {
-    let entry = piece.code.len();
+    let entry = code.len();
     let cells = template.captures.copy(alloc)?;
     rows.push(TemplateRow {
         entry,
@@ -238,38 +168,26 @@ fn add_template(
         holes: template.holes,
         height,
     })?;
-    add_phrase(
-        alloc,
-        piece,
-        program,
-        templates,
-        numbers,
-        &template.body,
-        Instr::Ret,
-    )
+    add_phrase(code, closed, numbering, &template.body, Instr::Ret)
 }
 
-/// Adds the code of these templates with its texts, and their rows with these effects, in their order.
+/// Adds the code of the templates, and their rows with these effects, in their order.
 pub fn add_templates(
     alloc: Global,
-    piece: &mut Piece,
+    code: &mut List<Instr>,
     rows: &mut List<TemplateRow>,
-    program: &Program,
-    templates: &List<Template>,
-    numbers: &List<u32>,
+    closed: &Closed,
+    numbering: &Numbering,
     heights: &[Option<Height>],
 ) -> Result<(), Memory>
-    requires numbers { numbers.now ≡ word_numbers program.now }
-    requires coded { list_all (template_is_coded program.now) templates.now ≡ true }
-    ensures { OnOk result (AddsTemplates program.now templates.now heights.now piece.old piece.new rows.old rows.new) }
+    requires { IsNumbering closed.now.program closed.now.templates numbering.now }
+    ensures { OnOk result (AddsTemplates closed.now.program closed.now.templates heights.now code.old code.new rows.old rows.new) }
 {
-    let _count = templates.len();
+    let _count = closed.templates.len();
     let mut number = 0u32;
-    for template in templates.as_slice() {
+    for template in closed.templates.as_slice() {
         let height = height_of(heights, number);
-        add_template(
-            alloc, piece, rows, program, templates, numbers, height, template,
-        )?;
+        add_template(alloc, code, rows, closed, numbering, height, template)?;
         number += 1;
     }
     Ok(())
@@ -282,52 +200,21 @@ fn last(is_top: bool) -> Instr
     if is_top { Instr::Halt } else { Instr::Ret }
 }
 
-/// Adds the code of a word of this sort with its texts, where it runs a phrase.
+/// Adds the code of a word of this sort, where it runs a phrase.
 pub fn add_word(
-    alloc: Global,
-    piece: &mut Piece,
-    program: &Program,
-    templates: &List<Template>,
-    numbers: &List<u32>,
+    code: &mut List<Instr>,
+    closed: &Closed,
+    numbering: &Numbering,
     is_top: bool,
     sort: &Sort,
 ) -> Result<(), Memory>
-    requires numbers { numbers.now ≡ word_numbers program.now }
-    requires coded { body_is_coded program.now sort.now ≡ true }
-    ensures { OnOk result ((piece.new.code ≡ piece.old.code ++ sort_code program.now templates.now is_top piece.old.texts sort.now) × (piece.new.texts ≡ sort_texts piece.old.texts sort.now)) }
+    requires { IsNumbering closed.now.program closed.now.templates numbering.now }
+    ensures { OnOk result (code.new ≡ code.old ++ sort_code closed.now.program closed.now.templates is_top sort.now) }
 {
     match sort {
-        Sort::Body(phrase) => add_phrase(
-            alloc,
-            piece,
-            program,
-            templates,
-            numbers,
-            phrase,
-            last(is_top),
-        ),
-        Sort::Method { body, .. } => {
-            add_phrase(
-                alloc,
-                piece,
-                program,
-                templates,
-                numbers,
-                body,
-                last(is_top),
-            )
-        }
+        Sort::Body(phrase) => add_phrase(code, closed, numbering, phrase, last(is_top)),
+        Sort::Method { body, .. } => add_phrase(code, closed, numbering, body, last(is_top)),
         _ => Ok(()),
-    }
-}
-
-/// A piece with no code.
-pub fn no_code(alloc: Global) -> Piece
-    ensures { (result.code ≡ []) × (result.texts ≡ []) }
-{
-    Piece {
-        code: List::new(alloc),
-        texts: List::new(alloc),
     }
 }
 
@@ -335,86 +222,71 @@ pub fn no_code(alloc: Global) -> Piece
 fn code_of_word(
     alloc: Global,
     closed: &Closed,
-    numbers: &List<u32>,
+    numbering: &Numbering,
     word: u32,
-) -> Result<Piece, Memory>
-    requires closed { (P : Source) × Closes P closed.now.program closed.now.templates × IsBuilt P × IsWhole P }
-    requires numbers { numbers.now ≡ word_numbers closed.now.program }
-    requires word { word < length closed.now.program.words }
-    ensures { IfOk result (IsCodeOf (found_code closed.now.program closed.now.templates word (slice_get closed.now.program.words word)) (found_texts (slice_get closed.now.program.words word))) }
+) -> Result<List<Instr>, Memory>
+    requires { IsNumbering closed.now.program closed.now.templates numbering.now }
+    ensures { IfOk result (λ code. code ≡ found_code closed.now.program closed.now.templates word (slice_get closed.now.program.words word)) }
 {
-    let mut piece = no_code(alloc);
+    let mut code = List::new(alloc);
     match closed.program.words.get(word as usize) {
         Some(def) => add_word(
-            alloc,
-            &mut piece,
-            &closed.program,
-            &closed.templates,
-            numbers,
+            &mut code,
+            closed,
+            numbering,
             word == closed.program.top,
             &def.sort,
         )?,
-        None => unreachable!(),
+        None => {}
     }
-    Ok(piece)
+    Ok(code)
 }
 
 // The code of the template with this number.
 fn code_of_template(
     alloc: Global,
     closed: &Closed,
-    numbers: &List<u32>,
+    numbering: &Numbering,
     template: u32,
-) -> Result<Piece, Memory>
-    requires closed { (P : Source) × Closes P closed.now.program closed.now.templates × IsBuilt P × IsWhole P }
-    requires numbers { numbers.now ≡ word_numbers closed.now.program }
-    requires template { template < length closed.now.templates }
-    ensures { IfOk result (IsCodeOf (found_template closed.now.program closed.now.templates (slice_get closed.now.templates template)) (found_template_texts (slice_get closed.now.templates template))) }
+) -> Result<List<Instr>, Memory>
+    requires { IsNumbering closed.now.program closed.now.templates numbering.now }
+    ensures { IfOk result (λ code. code ≡ found_template closed.now.program closed.now.templates (slice_get closed.now.templates template)) }
 {
-    let mut piece = no_code(alloc);
+    let mut code = List::new(alloc);
     match closed.templates.get(template as usize) {
-        Some(found) => add_phrase(
-            alloc,
-            &mut piece,
-            &closed.program,
-            &closed.templates,
-            numbers,
-            &found.body,
-            Instr::Ret,
-        )?,
-        None => unreachable!(),
+        Some(found) => add_phrase(&mut code, closed, numbering, &found.body, Instr::Ret)?,
+        None => {}
     }
-    Ok(piece)
+    Ok(code)
 }
 
-/// The plain code of the word with this number, as a piece: an instruction for each item of its phrase, and behind them a `ret`, or a `halt`
-/// for the top-level phrase. A word that runs no phrase has none. Want of memory is the one error.
+/// The plain code of the word with this number: an instruction for each item of its phrase, and behind them a `ret`, or a `halt` for the
+/// top-level phrase. A word that runs no phrase has none. Strings and slots are named as texts of the program's image. Want of memory is the one
+/// error.
 pub fn emit_word(
     alloc: Global,
     closed: &Closed,
-    numbers: &List<u32>,
+    numbering: &Numbering,
     word: u32,
-) -> Result<Piece, Memory>
-    requires closed { (P : Source) × Closes P closed.now.program closed.now.templates × IsBuilt P × IsWhole P }
-    requires numbers { numbers.now ≡ word_numbers closed.now.program }
+) -> Result<List<Instr>, Memory>
+    requires numbering { IsNumbering closed.now.program closed.now.templates numbering.now }
     requires word { word < length closed.now.program.words }
-    ensures { IfOk result (λ piece. (P : Source) → Closes P closed.now.program closed.now.templates → IsBuilt P → Emits P piece.texts word (sort_of P word) piece.code) }
+    ensures { IfOk result (λ code. (P : Source) → Closes P closed.now.program closed.now.templates → IsBuilt P → Emits P (program_texts closed.now.program closed.now.templates) word (sort_of P word) code) }
 {
-    code_of_word(alloc, closed, numbers, word)
+    code_of_word(alloc, closed, numbering, word)
 }
 
-/// The plain code of the template with this number, as a piece: an instruction for each item of its quotation or fry, and behind them a `ret`.
-/// Want of memory is the one error.
+/// The plain code of the template with this number: an instruction for each item of its quotation or fry, and behind them a `ret`. Strings and
+/// slots are named as texts of the program's image. Want of memory is the one error.
 pub fn emit_template(
     alloc: Global,
     closed: &Closed,
-    numbers: &List<u32>,
+    numbering: &Numbering,
     template: u32,
-) -> Result<Piece, Memory>
-    requires closed { (P : Source) × Closes P closed.now.program closed.now.templates × IsBuilt P × IsWhole P }
-    requires numbers { numbers.now ≡ word_numbers closed.now.program }
+) -> Result<List<Instr>, Memory>
+    requires numbering { IsNumbering closed.now.program closed.now.templates numbering.now }
     requires template { template < length closed.now.templates }
-    ensures { IfOk result (λ piece. (P : Source) → Closes P closed.now.program closed.now.templates → IsBuilt P → TemplateEmits P piece.texts template piece.code) }
+    ensures { IfOk result (λ code. (P : Source) → Closes P closed.now.program closed.now.templates → IsBuilt P → TemplateEmits P (program_texts closed.now.program closed.now.templates) template code) }
 {
-    code_of_template(alloc, closed, numbers, template)
+    code_of_template(alloc, closed, numbering, template)
 }

@@ -6,13 +6,14 @@ mod compiler;
 mod dispatch;
 mod emitter;
 mod laws;
-mod numbering;
 mod numbers;
 mod rows;
-mod slots;
+mod sequence;
 mod tables;
+mod texts;
 
 pub use compiler::compile;
-pub use emitter::{Piece, emit_template, emit_word};
+pub use emitter::{emit_template, emit_word};
 pub use laws::printed_forms_are_equal;
-pub use numbering::word_numbers_of;
+pub use numbers::{Numbering, numbering_of};
+pub use texts::Texts;

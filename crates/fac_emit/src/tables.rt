@@ -1,53 +1,52 @@
-//! The rows of kinds, and the class sets.
-ghost use Rattle.std.specs.Prelude.{◌≡◌, ◌<◌, ◌+◌, ◌^◌, ◌++◌, ◌∷◌, [], length, map, OnOk, IfOk};
-ghost use Rattle.fac_lang.specs.Classes.{has_own};
-ghost use Rattle.fac_emit.specs.ProgramTables.{slot_names, slot_number, slot_numbers, table_texts, program_kinds, sets_from};
-ghost use Rattle.fac_emit.specs.inner.OwnRows.{own_rows};
+//! The rows of kinds, the class sets, and the words of classes with their kinds.
+ghost use Rattle.std.specs.Prelude.{◌≡◌, ◌<◌, ◌++◌, length, map, OnOk, IfOk};
+ghost use Rattle.fac_lang.specs.Classes.{has_own, own_kind};
+ghost use Rattle.fac_emit.specs.ProgramTexts.{program_texts, text_number};
+ghost use Rattle.fac_emit.specs.ProgramTables.{slot_numbers, program_kinds, sets_from, sort_kind, program_pairs};
+ghost use Rattle.fac_emit.specs.inner.OwnRows.{own_rows, own_pairs};
 
-use crate::numbers::number_of_slot;
-use crate::slots::Slots;
+use crate::texts::Texts;
 use fac_classes::Classes;
 use fac_code::KindRow;
-use fac_lang::{List, Memory, Program, Shape, Text};
+use fac_lang::{ClassDef, List, Memory, Shape, Sort, Text};
+use fac_locals::Closed;
 use std::alloc::Global;
 
-// The numbers of the texts of slots.
+// The numbers of slots as texts.
 fn numbers_of_slots(
     alloc: Global,
-    program: &Program,
-    slots: &Slots,
-    names: &List<Text>,
+    texts: &Texts,
+    closed: &Closed,
+    slots: &List<Text>,
 ) -> Result<List<u32>, Memory>
-    requires slots { slots.now ≡ slot_names program.now }
-    requires short { length program.now.words + length slots.now < 2 ^ 32 }
-    ensures { IfOk result (λ numbers. numbers ≡ map (slot_number program.now) names.now) }
+    requires { texts.now ≡ program_texts closed.now.program closed.now.templates }
+    ensures { IfOk result (λ numbers. numbers ≡ map (text_number closed.now.program closed.now.templates) slots.now) }
 {
     let mut numbers = List::new(alloc);
-    for name in names.as_slice() {
-        numbers.push(number_of_slot(program, slots, name))?;
+    for slot in slots.as_slice() {
+        numbers.push(texts.number(slot))?;
     }
     Ok(numbers)
 }
 
-// The numbers of the texts of all slots of a class of this shape.
+// Those of all slots of a class of this shape.
 fn slots_of_class(
     alloc: Global,
-    program: &Program,
+    texts: &Texts,
+    closed: &Closed,
     classes: &Classes,
-    slots: &Slots,
     class: u32,
     shape: &Shape,
 ) -> Result<Option<List<u32>>, Memory>
-    requires classes { classes.now ≡ program.now.classes }
-    requires slots { slots.now ≡ slot_names program.now }
-    requires short { length program.now.words + length slots.now < 2 ^ 32 }
+    requires texts { texts.now ≡ program_texts closed.now.program closed.now.templates }
+    requires classes { classes.now ≡ closed.now.program.classes }
     requires class { class < length classes.now }
-    ensures { IfOk result (λ numbers. numbers ≡ slot_numbers program.now class shape.now) }
+    ensures { IfOk result (λ numbers. numbers ≡ slot_numbers closed.now.program closed.now.templates class shape.now) }
 {
     match shape {
         Shape::Tuple { .. } => {
             let names = classes.slots(alloc, class)?;
-            Ok(Some(numbers_of_slots(alloc, program, slots, &names)?))
+            Ok(Some(numbers_of_slots(alloc, texts, closed, &names)?))
         }
         _ => Ok(None),
     }
@@ -64,30 +63,27 @@ fn has_own_kind(shape: &Shape) -> bool
     }
 }
 
-// Adds the row of a class of this shape, where it has a kind of its own. The names of the kinds stand among the texts from a place on.
+// Adds the row of a class, where it has a kind of its own.
 fn add_kind(
     alloc: Global,
     rows: &mut List<KindRow>,
-    program: &Program,
+    texts: &Texts,
+    closed: &Closed,
     classes: &Classes,
-    slots: &Slots,
-    first: u32,
-    class: u32,
-    shape: &Shape,
+    number: u32,
+    class: &ClassDef,
 ) -> Result<(), Memory>
-    requires classes { classes.now ≡ program.now.classes }
-    requires slots { slots.now ≡ slot_names program.now }
-    requires short { length program.now.words + length slots.now < 2 ^ 32 }
-    requires class { class < length classes.now }
-    requires name { first + length rows.old < 2 ^ 32 }
-    ensures { OnOk result (rows.new ≡ rows.old ++ own_rows program.now (first + length rows.old) class shape.now) }
+    requires texts { texts.now ≡ program_texts closed.now.program closed.now.templates }
+    requires classes { classes.now ≡ closed.now.program.classes }
+    requires class { number < length classes.now }
+    ensures { OnOk result (rows.new ≡ rows.old ++ own_rows closed.now.program closed.now.templates number class.now) }
 {
-    if has_own_kind(shape) {
-        let name = first + rows.len();
-        let numbers = slots_of_class(alloc, program, classes, slots, class, shape)?;
+    if has_own_kind(&class.shape) {
+        let slots = slots_of_class(alloc, texts, closed, classes, number, &class.shape)?;
         rows.push(KindRow {
-            name,
-            slots: numbers,
+            vocab: texts.number(&class.name.vocab),
+            name: texts.number(&class.name.name),
+            slots,
         })?;
     }
     Ok(())
@@ -96,30 +92,19 @@ fn add_kind(
 /// The rows of the kinds of a program.
 pub fn kinds_of(
     alloc: Global,
-    program: &Program,
+    texts: &Texts,
+    closed: &Closed,
     classes: &Classes,
-    slots: &Slots,
 ) -> Result<List<KindRow>, Memory>
-    requires classes { classes.now ≡ program.now.classes }
-    requires slots { slots.now ≡ slot_names program.now }
-    requires short { length (table_texts program.now) < 2 ^ 32 }
-    ensures { IfOk result (λ kinds. kinds ≡ program_kinds program.now) }
+    requires texts { texts.now ≡ program_texts closed.now.program closed.now.templates }
+    requires classes { classes.now ≡ closed.now.program.classes }
+    ensures { IfOk result (λ kinds. kinds ≡ program_kinds closed.now.program closed.now.templates) }
 {
-    let _count = program.classes.len();
-    let first = program.words.len() + slots.len();
+    let _count = closed.program.classes.len();
     let mut rows = List::new(alloc);
     let mut number = 0u32;
-    for class in program.classes.as_slice() {
-        add_kind(
-            alloc,
-            &mut rows,
-            program,
-            classes,
-            slots,
-            first,
-            number,
-            &class.shape,
-        )?;
+    for class in closed.program.classes.as_slice() {
+        add_kind(alloc, &mut rows, texts, closed, classes, number, class)?;
         number += 1;
     }
     Ok(rows)
@@ -134,4 +119,59 @@ pub fn sets_of(alloc: Global, classes: &Classes) -> Result<List<List<u32>>, Memo
         sets.push(classes.kinds(alloc, class)?)?;
     }
     Ok(sets)
+}
+
+// The kind that a class has as its own.
+fn own_kind_of(classes: &Classes, class: u32) -> Option<u32>
+    ensures { result ≡ own_kind 8 classes.now class }
+{
+    if class < classes.len() {
+        classes.kind_of(class)
+    } else {
+        None
+    }
+}
+
+// The kind of the class whose word this is.
+fn kind_of(classes: &Classes, sort: &Sort) -> Option<u32>
+    ensures { result ≡ sort_kind classes.now sort.now }
+{
+    match sort {
+        Sort::Class(class) => own_kind_of(classes, *class),
+        _ => None,
+    }
+}
+
+// Adds a word of this sort with its kind, where it is that of a class that has one.
+fn add_pair(
+    pairs: &mut List<(u32, u32)>,
+    classes: &Classes,
+    word: u32,
+    sort: &Sort,
+) -> Result<(), Memory>
+    ensures { OnOk result (pairs.new ≡ pairs.old ++ own_pairs word (sort_kind classes.now sort.now)) }
+{
+    match kind_of(classes, sort) {
+        Some(kind) => pairs.push((word, kind)),
+        None => Ok(()),
+    }
+}
+
+/// The words of classes that have a kind of their own, each with that kind.
+pub fn pairs_of(
+    alloc: Global,
+    closed: &Closed,
+    classes: &Classes,
+) -> Result<List<(u32, u32)>, Memory>
+    requires { classes.now ≡ closed.now.program.classes }
+    ensures { IfOk result (λ pairs. pairs ≡ program_pairs closed.now.program) }
+{
+    let _count = closed.program.words.len();
+    let mut pairs = List::new(alloc);
+    let mut number = 0u32;
+    for word in closed.program.words.as_slice() {
+        add_pair(&mut pairs, classes, number, &word.sort)?;
+        number += 1;
+    }
+    Ok(pairs)
 }

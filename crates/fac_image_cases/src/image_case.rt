@@ -20,30 +20,44 @@
 //!     @kind N K ..            the next kind, that of a tuple class, where all names so far are counted from 0: its name and its slots' names
 //!     @set K ..               a class set of these kinds
 //!     @generic W              a generic whose word is W
-//!     @method S N             a method of the last generic, for class set S, with the code at the place N
+//!     @method S N             a method of the last generic, for class set S, with the code at the place N. Its number is how many stand before it
+//!     @method-number N        the number of the last method
 //!     @text TEXT              a text of the image, with a `|` for each end of a line in it
+//!     @input TEXT             a part of the input, with a `|` for each end of a line in it
+//!     @read N                 the read of the input with this number fails
 //!     @output N M             the write of this number fails after M bytes
 //!     @run N M                runs the code from the place N, with M ticks
 //!     @twice N M              runs it so two times on one machine
+ghost use Rattle.std.specs.Prelude.{◌≡◌, false, IfOk};
+
 use crate::instructions::instr;
 use crate::told_rows::Rows;
 use crate::told_runs::told;
 use crate::told_tables::tables;
 use fac_code::{Image, Instr};
-use fac_io::MemSink;
-use fac_lang::{List, Memory, Text};
+use fac_io::{MemSink, MemSource};
+use fac_lang::{Bytes, List, Memory, Text};
+use fac_lines::Lines;
 use fac_vm::Machine;
 use std::alloc::Global;
 
 // The most bytes that the sink takes.
 const ROOM: u64 = 20;
 
-/// An image and the writes that fail.
+// The input, the reads of it that fail, and the writes that fail.
+#[derive(Drop)]
+struct Channels {
+    input: Vec<u8>,
+    reads: Vec<u64>,
+    writes: Vec<(u64, u64)>,
+}
+
+/// An image, what its runs read, and the reads and writes that fail.
 #[derive(Drop)]
 pub struct Case {
     rows: Rows,
     code: Vec<Instr>,
-    output: Vec<(u64, u64)>,
+    channels: Channels,
 }
 
 // The two numbers of a text.
@@ -63,29 +77,40 @@ fn sink(alloc: Global, fails: &[(u64, u64)]) -> Result<MemSink, Memory> {
     MemSink::new(alloc, ROOM, List::from_vec(Vec::from_slice(alloc, fails)?)?)
 }
 
+// The lines of the input.
+fn lines(alloc: Global, channels: &Channels) -> Result<Lines<MemSource>, Memory>
+    ensures { IfOk result (λ lines. lines.ended ≡ false) }
+{
+    let bytes = Bytes::from_slice(alloc, channels.input.as_slice())?;
+    let fails = List::from_vec(Vec::from_slice(alloc, channels.reads.as_slice())?)?;
+    Ok(Lines::new(alloc, MemSource::new(bytes, fails)))
+}
+
 // Lets a machine run, and tells how the run ended.
 fn run_told(
     alloc: Global,
     machine: &mut Machine,
+    channels: &Channels,
     out: &mut MemSink,
     budget: u64,
 ) -> Result<Text, Memory> {
-    let stop = machine.run(alloc, out, budget);
+    let mut input = lines(alloc, channels)?;
+    let stop = machine.run(alloc, &mut input, out, budget);
     told(alloc, stop, machine, out.taken())
 }
 
-// Lets a machine run, once or twice, and tells how each run ended.
+// Lets a machine run, once or twice, and tells how each run ended. Each reads the input from its start.
 fn runs_told(
     alloc: Global,
     machine: &mut Machine,
-    fails: &[(u64, u64)],
+    channels: &Channels,
     budget: u64,
     again: bool,
 ) -> Result<Text, Memory> {
-    let mut out = sink(alloc, fails)?;
-    let mut ends = run_told(alloc, machine, &mut out, budget)?;
+    let mut out = sink(alloc, channels.writes.as_slice())?;
+    let mut ends = run_told(alloc, machine, channels, &mut out, budget)?;
     if again {
-        ends.push_str(run_told(alloc, machine, &mut out, budget)?.as_str())?;
+        ends.push_str(run_told(alloc, machine, channels, &mut out, budget)?.as_str())?;
     }
     Ok(ends)
 }
@@ -94,12 +119,12 @@ fn runs_told(
 fn run(
     alloc: Global,
     image: Image,
-    fails: &[(u64, u64)],
+    channels: &Channels,
     budget: u64,
     again: bool,
 ) -> Result<Text, Memory> {
     let mut machine = Machine::new(alloc, image)?;
-    runs_told(alloc, &mut machine, fails, budget, again)
+    runs_told(alloc, &mut machine, channels, budget, again)
 }
 
 impl Case {
@@ -108,7 +133,11 @@ impl Case {
         Case {
             rows: Rows::new(alloc),
             code: Vec::new(alloc),
-            output: Vec::new(alloc),
+            channels: Channels {
+                input: Vec::new(alloc),
+                reads: Vec::new(alloc),
+                writes: Vec::new(alloc),
+            },
         }
     }
 
@@ -120,6 +149,8 @@ impl Case {
                 ("run", text) => return self.run(alloc, text, false),
                 ("twice", text) => return self.run(alloc, text, true),
                 ("about", _) => true,
+                ("input", text) => self.add_input(text)?,
+                ("read", text) => self.add_read(text)?,
                 ("output", text) => self.add_output(text)?,
                 (name, text) => self.rows.take(alloc, name, text)?,
             },
@@ -138,11 +169,31 @@ impl Case {
         Ok(true)
     }
 
+    // Adds a part of the input.
+    fn add_input(&mut self, text: &str) -> Result<bool, Memory> {
+        for byte in text.as_bytes() {
+            let byte = if *byte == b'|' { b'\n' } else { *byte };
+            self.channels.input.push(byte)?;
+        }
+        Ok(true)
+    }
+
+    // Adds a read that fails.
+    fn add_read(&mut self, text: &str) -> Result<bool, Memory> {
+        match text.parse::<u64>() {
+            Ok(number) => {
+                self.channels.reads.push(number)?;
+                Ok(true)
+            }
+            Err(_) => Ok(false),
+        }
+    }
+
     // Adds a write that fails.
     fn add_output(&mut self, text: &str) -> Result<bool, Memory> {
         match pair(text) {
             Some(pair) => {
-                self.output.push(pair)?;
+                self.channels.writes.push(pair)?;
                 Ok(true)
             }
             None => Ok(false),
@@ -152,7 +203,7 @@ impl Case {
     // The image that begins at a place. None where the tables and the code are none.
     fn image(&self, alloc: Global, start: u32) -> Result<Option<Image>, Memory> {
         let code = List::from_vec(Vec::from_slice(alloc, self.code.as_slice())?)?;
-        Ok(Image::new(tables(alloc, &self.rows)?, code, start))
+        Ok(Image::new(alloc, tables(alloc, &self.rows)?, code, start))
     }
 
     // Runs the image, once or twice, and tells how each run ended.
@@ -161,7 +212,7 @@ impl Case {
             return Text::from_str(alloc, "  not taken\n");
         };
         match self.image(alloc, start)? {
-            Some(image) => run(alloc, image, self.output.as_slice(), budget, again),
+            Some(image) => run(alloc, image, &self.channels, budget, again),
             None => Text::from_str(alloc, "  no image\n"),
         }
     }

@@ -34,6 +34,8 @@ fn plain(name: &str) -> Option<Instr> {
         "execute" => Some(Instr::Execute { tail: false }),
         "tail-execute" => Some(Instr::Execute { tail: true }),
         "ret" => Some(Instr::Ret),
+        "hold" => Some(Instr::Hold),
+        "back" => Some(Instr::Back),
         "boa" => Some(Instr::Boa),
         "bind" => Some(Instr::Bind),
         _ => None,
@@ -43,6 +45,25 @@ fn plain(name: &str) -> Option<Instr> {
 // The instruction of a word and the number behind it.
 fn with_number(name: &str, number: u32) -> Option<Instr> {
     match name {
+        "tick" => Some(Instr::Tick(number)),
+        "jump" => Some(Instr::Jump(number)),
+        "branch" => Some(Instr::Branch(number)),
+        "callp" => Some(Instr::Callp {
+            place: number,
+            tail: false,
+        }),
+        "tail-callp" => Some(Instr::Callp {
+            place: number,
+            tail: true,
+        }),
+        "next" => Some(Instr::Next {
+            method: number,
+            tail: false,
+        }),
+        "tail-next" => Some(Instr::Next {
+            method: number,
+            tail: true,
+        }),
         "text" => Some(Instr::Text(number)),
         "array" => Some(Instr::Array(number)),
         "word" => Some(Instr::Word(number)),
@@ -72,16 +93,6 @@ fn with_number(name: &str, number: u32) -> Option<Instr> {
         }),
         _ => None,
     }
-}
-
-// The next method behind the one whose generic and place two numbers tell.
-fn next(text: &str, tail: bool) -> Option<Instr> {
-    let (generic, method) = text.split_once(' ')?;
-    Some(Instr::Next {
-        generic: generic.parse::<u32>().ok()?,
-        method: method.parse::<u32>().ok()?,
-        tail,
-    })
 }
 
 // How many values are left, or a `*` where that never comes.
@@ -123,8 +134,6 @@ pub fn instr(text: &str) -> Option<Instr> {
         None => plain(text),
         Some(("int", number)) => Some(Instr::Int(number.parse::<i128>().ok()?)),
         Some(("prim", name)) => Some(Instr::Prim(primitive(name)?)),
-        Some(("next", numbers)) => next(numbers, false),
-        Some(("tail-next", numbers)) => next(numbers, true),
         Some(("call-effect", told)) => call_effect(told, false),
         Some(("tail-call-effect", told)) => call_effect(told, true),
         Some(("execute-effect", told)) => execute_effect(told, false),
@@ -185,10 +194,11 @@ pub fn class(text: &str) -> Option<(u32, &str)> {
     Some((kind.parse::<u32>().ok()?, name))
 }
 
-/// The method that two numbers tell: its class set and the place of its code.
-pub fn method(text: &str) -> Option<MethodRow> {
+/// The method that two numbers tell, with its own number: its class set and the place of its code.
+pub fn method(text: &str, number: u32) -> Option<MethodRow> {
     let (set, entry) = text.split_once(' ')?;
     Some(MethodRow {
+        number,
         set: set.parse::<u32>().ok()?,
         entry: entry.parse::<u32>().ok()?,
     })

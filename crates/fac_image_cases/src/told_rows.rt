@@ -39,6 +39,10 @@ pub struct Rows {
     pub heights: Vec<Option<Height>>,
     /// The words.
     pub words: Vec<WordRow>,
+    /// The words of classes, each with its kind.
+    pub pairs: Vec<(u32, u32)>,
+    /// How many methods there are.
+    pub methods: u32,
     /// The names of words, kinds and slots.
     pub names: List<Text>,
     /// The texts.
@@ -98,6 +102,8 @@ impl Rows {
             templates: Vec::new(alloc),
             heights: Vec::new(alloc),
             words: Vec::new(alloc),
+            pairs: Vec::new(alloc),
+            methods: 0,
             names: List::new(alloc),
             texts: List::new(alloc),
         }
@@ -118,6 +124,7 @@ impl Rows {
             "set" => self.add_set(alloc, text),
             "generic" => self.add_generic(alloc, text),
             "method" => self.add_method(text),
+            "method-number" => Ok(self.set_number(text)),
             "text" => self.add_text(alloc, text),
             _ => Ok(false),
         }
@@ -171,28 +178,22 @@ impl Rows {
         Ok(number)
     }
 
-    // Adds a word that does this and has this kind.
-    fn name_word(
-        &mut self,
-        alloc: Global,
-        name: &str,
-        action: Action,
-        kind: Option<u32>,
-    ) -> Result<bool, Memory> {
+    // Adds a word that does this. Its vocabulary has the word's name too.
+    fn name_word(&mut self, alloc: Global, name: &str, action: Action) -> Result<bool, Memory> {
         let name = self.add_name(alloc, name)?;
         self.words.push(WordRow {
+            vocab: name,
             name,
             action,
-            kind,
             height: None,
         })?;
         Ok(true)
     }
 
-    // Adds a word without a kind.
+    // Adds a word that is told so.
     fn add_word(&mut self, alloc: Global, text: &str) -> Result<bool, Memory> {
         match action(text) {
-            Some((action, name)) => self.name_word(alloc, name, action, None),
+            Some((action, name)) => self.name_word(alloc, name, action),
             None => Ok(false),
         }
     }
@@ -200,7 +201,13 @@ impl Rows {
     // Adds the word of a class.
     fn add_class(&mut self, alloc: Global, text: &str) -> Result<bool, Memory> {
         match class(text) {
-            Some((kind, name)) => self.name_word(alloc, name, Action::Itself, Some(kind)),
+            Some((kind, name)) => {
+                let Ok(word) = u32::try_from(self.words.len()) else {
+                    return Ok(false);
+                };
+                self.pairs.push((word, kind))?;
+                self.name_word(alloc, name, Action::Itself)
+            }
             None => Ok(false),
         }
     }
@@ -266,11 +273,25 @@ impl Rows {
 
     // Adds a method to the last generic. False where there is none.
     fn add_method(&mut self, text: &str) -> Result<bool, Memory> {
-        let (Some(row), Some(generic)) = (method(text), self.generics.last_mut()) else {
+        let (Some(row), Some(generic)) = (method(text, self.methods), self.generics.last_mut())
+        else {
             return Ok(false);
         };
         generic.methods.push(row)?;
+        self.methods = self.methods.saturating_add(1);
         Ok(true)
+    }
+
+    // Sets the number of the last method. False where there is none.
+    fn set_number(&mut self, text: &str) -> bool {
+        let (Ok(number), Some(generic)) = (text.parse::<u32>(), self.generics.last_mut()) else {
+            return false;
+        };
+        let Some(row) = generic.methods.last_mut() else {
+            return false;
+        };
+        row.number = number;
+        true
     }
 
     // Adds a text.

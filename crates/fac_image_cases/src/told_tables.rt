@@ -46,9 +46,9 @@ fn words(alloc: Global, told: &[WordRow], first: u32) -> Result<List<WordRow>, M
     let mut words = List::new(alloc);
     for row in told {
         words.push(WordRow {
+            vocab: first.saturating_add(row.vocab),
             name: first.saturating_add(row.name),
             action: row.action,
-            kind: row.kind,
             height: row.height,
         })?;
     }
@@ -67,6 +67,7 @@ fn slots(alloc: Global, names: &[u32], first: u32) -> Result<List<u32>, Memory> 
 // The row of a kind.
 fn kind_row(alloc: Global, kind: &Kind, first: u32) -> Result<KindRow, Memory> {
     Ok(KindRow {
+        vocab: first.saturating_add(kind.name),
         name: first.saturating_add(kind.name),
         slots: match &kind.slots {
             Some(names) => Some(slots(alloc, names.as_slice(), first)?),
@@ -123,12 +124,13 @@ fn texts(alloc: Global, texts: &List<Text>, names: &List<Text>) -> Result<List<T
 pub fn tables(alloc: Global, rows: &Rows) -> Result<Tables, Memory> {
     let first = rows.texts.len();
     Ok(Tables {
+        texts: texts(alloc, &rows.texts, &rows.names)?,
         arrays: arrays(alloc, rows.arrays.as_slice())?,
         kinds: kinds(alloc, rows.kinds.as_slice(), first)?,
         sets: sets(alloc, rows.sets.as_slice())?,
         templates: templates(alloc, rows.templates.as_slice(), rows.heights.as_slice())?,
         words: words(alloc, rows.words.as_slice(), first)?,
         generics: generics(alloc, rows.generics.as_slice())?,
-        texts: texts(alloc, &rows.texts, &rows.names)?,
+        pairs: List::from_vec(Vec::from_slice(alloc, rows.pairs.as_slice())?)?,
     })
 }

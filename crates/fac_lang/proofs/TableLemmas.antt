@@ -4,29 +4,23 @@ use Rattle.std.specs.Prelude.{map, slice_get, get_or, nat_lt}
 use Rattle.std.specs.Option.{option_map}
 use Rattle.std.proofs.lemmas.Option.{slice_get-map, slice_get-get_or}
 use Rattle.std.proofs.lemmas.List.{length-map}
-use Rattle.fac_lang.specs.Primitives.{Primitive, prim_numbered, built_primitives, later_primitives, built_count, is_built_primitive}
+use Rattle.fac_lang.specs.Primitives.{Primitive, prim_numbered, built_primitives, built_count, is_built_primitive}
 use Rattle.fac_lang.specs.Operations.{RowSeen, row_seen, rows_seen, primitive_does, primitive_seen, doing_numbered, IsOperationOf}
 use Rattle.fac_lang.specs.declared.primitive_table.PrimitiveRow.{PrimitiveRow}
 
--- a primitive that is built has the number of its row
-first_of : {A : Type 0} (xs ys : List A) (k : ℕ) → k < length xs → slice_get (xs ++ ys) k ≡ slice_get xs k
-first_of [] ys k less = absurd (omega arith)
-first_of (x ∷ xs) ys zero less = refl
-first_of (x ∷ xs) ys (suc k) less = first_of xs ys k (omega arith)
-
-doing_of_row : (number : ℕ) → number < built_count → doing_numbered number ≡ option_map (λ (r : RowSeen). r.doing) (slice_get rows_seen number)
-unfolding rows_seen prim_numbered built_count
-doing_of_row number less =
-    ap (option_map primitive_does) (first_of built_primitives later_primitives number less) ∙ sym (ap (option_map (λ (r : RowSeen). r.doing)) (slice_get-map primitive_seen built_primitives number) ∙ option_twice (slice_get built_primitives number))
+doing_of_row : (number : ℕ) → doing_numbered number ≡ option_map (λ (r : RowSeen). r.doing) (slice_get rows_seen number)
+unfolding rows_seen prim_numbered
+doing_of_row number =
+    sym (ap (option_map (λ (r : RowSeen). r.doing)) (slice_get-map primitive_seen built_primitives number) ∙ option_twice (slice_get built_primitives number))
   where
     option_twice : (o : Option Primitive) → option_map (λ (r : RowSeen). r.doing) (option_map primitive_seen o) ≡ option_map primitive_does o
     option_twice None = refl
     option_twice (Some p) = refl
 
 -- what a row says is what the primitive of its number does
-pub row_is : (rows : List PrimitiveRow) (number : ℕ) (row : PrimitiveRow) → map row_seen rows ≡ rows_seen → number < built_count → number < length rows → row ≡ get_or rows number row → IsOperationOf number row.does
-row_is rows number row same built less is =
-    doing_of_row number built ∙ ap (λ (seen : List RowSeen). option_map (λ (r : RowSeen). r.doing) (slice_get seen number)) (sym same) ∙ ap (option_map (λ (r : RowSeen). r.doing)) (slice_get-map row_seen rows number ∙ ap (option_map row_seen) (slice_get-get_or rows number row less ∙ ap Some (sym is)))
+pub row_is : (rows : List PrimitiveRow) (number : ℕ) (row : PrimitiveRow) → map row_seen rows ≡ rows_seen → number < length rows → row ≡ get_or rows number row → IsOperationOf number row.does
+row_is rows number row same less is =
+    doing_of_row number ∙ ap (λ (seen : List RowSeen). option_map (λ (r : RowSeen). r.doing) (slice_get seen number)) (sym same) ∙ ap (option_map (λ (r : RowSeen). r.doing)) (slice_get-map row_seen rows number ∙ ap (option_map row_seen) (slice_get-get_or rows number row less ∙ ap Some (sym is)))
 
 -- the table has as many rows
 pub row_count : (rows : List PrimitiveRow) → map row_seen rows ≡ rows_seen → length rows ≡ built_count

@@ -4,6 +4,9 @@
 /// The most bytes that the files of a command have together. Those of the prelude don't count.
 pub const MOST_SOURCE_BYTES: u64 = 4_194_304;
 
+/// The most bytes of an image that is built or loaded.
+pub const MOST_IMAGE_BYTES: u64 = 268_435_456;
+
 /// The ticks that a program may use, where the command doesn't say how many.
 pub const TICKS: u64 = 100_000_000;
 

@@ -108,6 +108,8 @@ pub enum Operation {
     Print,
     /// `nl`
     NewLine,
+    /// `readln`
+    ReadLine,
     /// `.`
     Show,
     /// `(no-cond)`
@@ -115,7 +117,7 @@ pub enum Operation {
 }
 
 #[rattlefmt::skip]
-static PRIMITIVES: [PrimitiveRow; 60] = [
+static PRIMITIVES: [PrimitiveRow; 61] = [
     PrimitiveRow { word: WordRow { vocab: "kernel", name: "drop", ins: &["x"], outs: Some(&[]) }, does: Operation::Shuffle { takes: 1, leaves: &[] } },
     PrimitiveRow { word: WordRow { vocab: "kernel", name: "dup", ins: &["x"], outs: Some(&["x", "x"]) }, does: Operation::Shuffle { takes: 1, leaves: &[0, 0] } },
     PrimitiveRow { word: WordRow { vocab: "kernel", name: "swap", ins: &["x", "y"], outs: Some(&["y", "x"]) }, does: Operation::Shuffle { takes: 2, leaves: &[1, 0] } },
@@ -174,6 +176,7 @@ static PRIMITIVES: [PrimitiveRow; 60] = [
     PrimitiveRow { word: WordRow { vocab: "io", name: "write", ins: &["str"], outs: Some(&[]) }, does: Operation::Write },
     PrimitiveRow { word: WordRow { vocab: "io", name: "print", ins: &["str"], outs: Some(&[]) }, does: Operation::Print },
     PrimitiveRow { word: WordRow { vocab: "io", name: "nl", ins: &[], outs: Some(&[]) }, does: Operation::NewLine },
+    PrimitiveRow { word: WordRow { vocab: "io", name: "readln", ins: &[], outs: Some(&["str/f"]) }, does: Operation::ReadLine },
     PrimitiveRow { word: WordRow { vocab: "prettyprint", name: ".", ins: &["x"], outs: Some(&[]) }, does: Operation::Show },
     PrimitiveRow { word: WordRow { vocab: "combinators.private", name: "(no-cond)", ins: &[], outs: None }, does: Operation::NoCond },
 ];

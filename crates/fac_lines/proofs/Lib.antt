@@ -1,4 +1,6 @@
 pub mod LineLemmas
 pub mod CutLemmas
 pub mod AnswerLemmas
+pub mod MeantLemmas
+pub mod InputLemmas
 pub mod ExamplesOfLines

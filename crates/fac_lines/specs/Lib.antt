@@ -1,4 +1,6 @@
 pub mod LineReads
 pub mod LineAnswers
+pub mod MeantLines
 pub mod SeenLines
+pub mod Inputs
 pub mod inner

@@ -1,7 +1,7 @@
 -- What a call for a line answers and leaves.
-use Rattle.std.specs.Prelude.{◌≡◌, ◌≤◌, ◌<◌, ℕ, List, [], ◌∷◌, ◌++◌, length, take, None, Some, Result, Ok, Err, ⊤}
+use Rattle.std.specs.Prelude.{◌≡◌, ◌≤◌, ◌<◌, ℕ, List, [], ◌∷◌, ◌++◌, length, take, Bool, true, None, Some, Result, Ok, Err, ⊤}
 use Rattle.std.specs.declared.option.Option.{Option}
-use Rattle.std.specs.Io.KnownBytes.{prepend_known, Consumes}
+use Rattle.std.specs.Io.KnownBytes.{prepend_known, Consumes, IsAtEnd}
 use Rattle.fac_io.specs.Faults.{Rose}
 use Rattle.fac_lines.specs.declared.line_fault.LineFault.{LineFault}
 use Rattle.fac_lines.specs.declared.line_fault.LineFault.TheVariants as fault
@@ -24,12 +24,25 @@ abbrev pub AreWanted : List ℕ → List ℕ → Type 0
 AreWanted kept [] = ⊤
 AreWanted kept (b ∷ bs) = (n : ℕ) × (n < length (b ∷ bs)) × IsFront (kept ++ take n (b ∷ bs))
 
--- the answer is that of the bytes that were kept, and then of those that the source gave in the call
-pub record AnswersFrom (before after : Option (List ℕ)) (kept : List ℕ) (answer : Result (Option (List ℕ)) LineFault) (now : List ℕ) : Type 0 where
+-- what may come behind the bytes that a source gave: nothing where it answered that nothing is left
+abbrev pub MayCome : Bool → List ℕ → Type 0
+MayCome ended more = ended ≡ true → more ≡ []
+
+-- where a source answered that nothing is left, it has nothing left, if it tells what is left
+abbrev pub AtEnd : Bool → Option (List ℕ) → Type 0
+AtEnd ended left = ended ≡ true → IsAtEnd left
+
+-- an end that was reached stays, and the source isn't read again
+abbrev pub StaysAtEnd : {S : Type 0} → Bool → Bool → S → S → Type 0
+StaysAtEnd before now source source' = before ≡ true → (now ≡ true) × (source' ≡ source)
+
+-- The answer is that of the bytes that were kept, those that the source gave in the call, and all others that may come behind them; what is kept now and these are left.
+pub record AnswersFrom (before after : Option (List ℕ)) (was_ended is_ended : Bool) (kept : List ℕ) (answer : Result (Option (List ℕ)) LineFault) (now : List ℕ) : Type 0 where
   pub given : List ℕ
   pub consumed : Consumes before after given
   pub wanted : AreWanted kept given
-  pub answers : LineAnswers (kept ++ given) answer now
+  pub none : was_ended ≡ true → given ≡ []
+  pub answers : (more : List ℕ) → MayCome is_ended more → LineAnswers ((kept ++ given) ++ more) answer (now ++ more)
 
 -- where the source failed, the front of a line is kept
 abbrev pub FrontWhereFailed : List ℕ → Result (Option (List ℕ)) LineFault → Type 0

@@ -5,9 +5,9 @@ ghost use Rattle.fac_lines.specs.LineReads.{is_newline, line_length, IsFront};
 ghost use Rattle.fac_lines.specs.inner.Cutting.{Cuts, CutsRest};
 
 use crate::LineFault;
-use crate::lines::MOST_LINE_BYTES;
 use crate::piece::Piece;
 use fac_lang::Bytes;
+use fac_lang::limits::MOST_LINE_BYTES;
 use std::alloc::Global;
 use std::mem;
 

@@ -8,4 +8,4 @@ mod piece;
 mod reading;
 
 pub use line_fault::LineFault;
-pub use lines::{Lines, MOST_LINE_BYTES};
+pub use lines::Lines;

@@ -1,8 +1,8 @@
 //! The lines of a source.
-ghost use Rattle.std.specs.Prelude.{◌≡◌, ◌+◌, [], length, ◌⊎◌};
+ghost use Rattle.std.specs.Prelude.{◌≡◌, ◌+◌, [], length, false, ◌⊎◌};
 ghost use Rattle.fac_io.specs.Told.{Told};
 ghost use Rattle.fac_lines.specs.LineReads.{IsFront};
-ghost use Rattle.fac_lines.specs.LineAnswers.{bytes_left, LineAnswers, AnswersFrom, LineCounts, LineFalls, FrontWhereFailed};
+ghost use Rattle.fac_lines.specs.LineAnswers.{bytes_left, LineAnswers, AtEnd, StaysAtEnd, AnswersFrom, LineCounts, LineFalls, FrontWhereFailed};
 
 use crate::LineFault;
 use crate::piece::Piece;
@@ -11,9 +11,6 @@ use fac_io::Source;
 use fac_lang::Bytes;
 use std::alloc::Global;
 use std::marker::Model;
-
-/// The most bytes of a line, its newline apart. It is this profile's own rule.
-pub const MOST_LINE_BYTES: usize = 4_000_000;
 
 /// The lines of a source: the bytes that were read of it and not given out, and the source.
 #[derive(Drop)]
@@ -24,6 +21,8 @@ pub struct Lines<S> {
     front: Bytes,
     // The bytes behind it.
     piece: Piece,
+    // Whether the source answered that nothing is left.
+    ended: bool,
 }
 
 impl<S> Model for Lines<S> {
@@ -35,7 +34,7 @@ impl<S> Model for Lines<S> {
 
     ghost coded = { lines_code S.code };
 
-    ghost view = { λ l. record { kept = l.front ++ l.piece; source = l.source } };
+    ghost view = { λ l. record { kept = l.front ++ l.piece; source = l.source; ended = l.ended } };
 
     ghost invariant = { λ l. IsFront l.front };
 }
@@ -45,12 +44,14 @@ impl<S> Lines<S> {
     pub fn new(alloc: Global, source: S) -> Self
         ensures kept { result.kept ≡ [] }
         ensures source { result.source ≡ source }
+        ensures ended { result.ended ≡ false }
     {
         Lines {
             alloc,
             source,
             front: Bytes::new(alloc),
             piece: Piece::new(alloc),
+            ended: false,
         }
     }
 }
@@ -58,12 +59,17 @@ impl<S> Lines<S> {
 impl<S: Source> Lines<S> {
     /// The next line without its newline, or `None` where no byte is left. The last line needs no newline.
     ///
+    /// Once the source answered that nothing is left it isn't read again, and that is the end of the lines.
+    ///
     /// That a line has at most 4,000,000 bytes is this profile's own rule. Want of memory may come at any call that
     /// reads or gives a line, and loses no byte.
-    #[tactic(auto, using(crate::proofs::AnswerLemmas::told_answer, crate::proofs::AnswerLemmas::given_answer, crate::proofs::AnswerLemmas::failed_front))]
+    #[tactic(auto, using(crate::proofs::AnswerLemmas::told_answer))]
     pub fn line(&mut self) -> Result<Option<Bytes>, LineFault>
+        requires { AtEnd self.old.ended (S.left self.old.source) }
         ensures answer { Told (bytes_left self.old.kept (S.left self.old.source)) (bytes_left self.new.kept (S.left self.new.source)) (λ before now. LineAnswers before result now) }
-        ensures given { AnswersFrom (S.left self.old.source) (S.left self.new.source) self.old.kept result self.new.kept }
+        ensures given { AnswersFrom (S.left self.old.source) (S.left self.new.source) self.old.ended self.new.ended self.old.kept result self.new.kept }
+        ensures at_end { AtEnd self.new.ended (S.left self.new.source) }
+        ensures ended { StaysAtEnd self.old.ended self.new.ended self.old.source self.new.source }
         ensures failed { FrontWhereFailed self.new.kept result }
         ensures unread { IsFront self.old.kept ⊎ (self.new.source ≡ self.old.source) }
         ensures counts { LineCounts (S.faults self.old.source) (S.faults self.new.source) result }
@@ -74,6 +80,7 @@ impl<S: Source> Lines<S> {
             &mut self.front,
             &mut self.piece,
             &mut self.source,
+            &mut self.ended,
         )
     }
 }

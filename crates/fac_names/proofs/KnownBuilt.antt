@@ -8,7 +8,7 @@ use Rattle.std.proofs.lemmas.List.{length_push, length-map}
 use Rattle.fac_lang.specs.BuiltInClasses.{BuiltInClass, built_in_classes}
 use Rattle.fac_lang.specs.CoreWords.{CoreWord, core_word, built_core_words, is_built_core}
 use Rattle.fac_lang.specs.Forms.{AreBuiltWords, has_no_repeats, primitive_numbers}
-use Rattle.fac_lang.specs.Primitives.{Primitive, built_primitives, later_primitives, built_primitive_words, prim_numbered, primitive_word, built_count, is_built_primitive}
+use Rattle.fac_lang.specs.Primitives.{Primitive, built_primitives, built_primitive_words, prim_numbered, primitive_word, built_count, is_built_primitive}
 use Rattle.fac_lang.specs.Whole.{times_in}
 use Rattle.fac_lang.specs.declared.program.WordDef.{WordDef}
 use Rattle.fac_refusal.specs.Toks.{number}
@@ -41,9 +41,8 @@ next_at (q ∷ ps) rest p = next_at ps rest p
 primitive_at : (ps rest : List Primitive) (p : Primitive) → ps ++ p ∷ rest ≡ built_primitives → primitive_word (length ps) ≡ Some p.word
 unfolding prim_numbered
 primitive_at ps rest p e =
-    ap (λ (all : List Primitive). option_map (λ (q : Primitive). q.word) (slice_get (all ++ later_primitives) (length ps))) (sym e)
-    ∙ ap (λ (all : List Primitive). option_map (λ (q : Primitive). q.word) (slice_get all (length ps))) (append_assoc ps (p ∷ rest) later_primitives)
-    ∙ ap (option_map (λ (q : Primitive). q.word)) (next_at ps (rest ++ later_primitives) p)
+    ap (λ (all : List Primitive). option_map (λ (q : Primitive). q.word) (slice_get all (length ps))) (sym e)
+    ∙ ap (option_map (λ (q : Primitive). q.word)) (next_at ps rest p)
 
 is_numbered : (ps rest : List Primitive) (p : Primitive) → ps ++ p ∷ rest ≡ built_primitives → is_built_primitive (length ps) ≡ true
 unfolding built_count

@@ -11,5 +11,7 @@ some_bytes names (report.Name fault) = omega arith
 some_bytes names (report.Check refusal word) = omega arith
 some_bytes names (report.Error name word value) = omega arith
 some_bytes names (report.Spent ticks) = omega arith
+some_bytes names (report.Image at) = omega arith
+some_bytes names (report.Trap pc why) = omega arith
 some_bytes names (report.File name) = omega arith
 some_bytes names (report.TooLong name limit) = omega arith

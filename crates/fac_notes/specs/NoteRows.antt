@@ -1,4 +1,4 @@
--- The tables of notes: what is told of each fault, kind of name, rule and run error.
+-- The tables of notes: what is told of each fault, kind of name, rule, run error and trap.
 use Rattle.std.specs.Prelude.{ℕ, List, ◌++◌, codes, decimal}
 use Rattle.fac_parse.specs.declared.reader.Why.{Why}
 use Rattle.fac_parse.specs.declared.reader.Why.TheVariants as why
@@ -6,6 +6,8 @@ use Rattle.fac_refusal.specs.declared.refusal.NameKind.{NameKind}
 use Rattle.fac_refusal.specs.declared.refusal.NameKind.TheVariants as kind
 use Rattle.fac_abs.specs.declared.rule.Rule.{Rule}
 use Rattle.fac_abs.specs.declared.rule.Rule.TheVariants as rule
+use Rattle.fac_code.specs.declared.names.TrapWhy.{TrapWhy}
+use Rattle.fac_code.specs.declared.names.TrapWhy.TheVariants as trap
 use Rattle.fac_lang.specs.declared.error_name.ErrorName.{ErrorName}
 use Rattle.fac_lang.specs.declared.error_name.ErrorName.TheVariants as error
 use Rattle.fac_notes.specs.declared.report.ByteFault.{ByteFault}
@@ -77,3 +79,11 @@ error_text error.NoCond = codes "no-cond"
 error_text error.NoCompare = codes "no-compare"
 error_text error.CompareTooLarge = codes "compare-too-large"
 error_text error.TextTooLong = codes "text-too-long"
+
+abbrev pub trap_text : TrapWhy → List ℕ
+trap_text trap.Stack = codes "stack"
+trap_text trap.Kind = codes "kind"
+trap_text trap.Retain = codes "retain"
+trap_text trap.Frame = codes "frame"
+trap_text trap.Return = codes "return"
+trap_text trap.End = codes "end"

@@ -6,13 +6,14 @@ use Rattle.fac_refusal.specs.declared.refusal.NameFault.{NameFault}
 use Rattle.fac_refusal.specs.declared.refusal.NameKind.{NameKind}
 use Rattle.fac_refusal.specs.declared.refusal.NameKind.TheVariants.{Ambiguous}
 use Rattle.fac_check.specs.declared.refusal.Refusal.{Refusal}
+use Rattle.fac_code.specs.declared.names.TrapWhy.{TrapWhy}
 use Rattle.fac_lang.specs.declared.error_name.ErrorName.{ErrorName}
 use Rattle.fac_lang.specs.declared.program.Name.{Name}
 use Rattle.fac_notes.specs.declared.report.ByteFault.{ByteFault}
 use Rattle.fac_notes.specs.declared.report.Report.{Report}
 use Rattle.fac_notes.specs.declared.report.Report.TheVariants as report
 use Rattle.fac_notes.specs.WordNames.{name_text}
-use Rattle.fac_notes.specs.NoteRows.{byte_text, why_text, kind_text, rule_text, error_text}
+use Rattle.fac_notes.specs.NoteRows.{byte_text, why_text, kind_text, rule_text, error_text, trap_text}
 
 -- the name of a file by its number; nothing where no file has it
 abbrev pub name_if : Option (List ℕ) → List ℕ
@@ -50,6 +51,9 @@ check_line name refusal word = codes "check: " ++ word ++ codes ", " ++ place_te
 abbrev pub error_line : ErrorName → Name → Option (List ℕ) → List ℕ
 error_line name word value = codes "error: " ++ error_text name ++ codes " in " ++ name_text word ++ value_text value ++ codes "\n"
 
+abbrev pub trap_line : ℕ → TrapWhy → List ℕ
+trap_line pc why = codes "image: trap at " ++ decimal pc ++ codes ": " ++ trap_text why ++ codes "\n"
+
 abbrev pub too_long_line : List ℕ → ℕ → List ℕ
 too_long_line name most = codes "too long: " ++ name ++ codes ", more than " ++ decimal most ++ codes " bytes\n"
 
@@ -61,6 +65,8 @@ line_of names (report.Name fault) = name_line (file_name names fault.place.file)
 line_of names (report.Check refusal word) = check_line (file_name names refusal.place.file) refusal word
 line_of names (report.Error name word value) = error_line name word value
 line_of names (report.Spent ticks) = codes "spent: " ++ decimal ticks ++ codes " ticks\n"
+line_of names (report.Image at) = codes "image: byte " ++ decimal at ++ codes "\n"
+line_of names (report.Trap pc why) = trap_line pc why
 line_of names (report.File name) = codes "file: " ++ name ++ codes "\n"
 line_of names (report.TooLong name most) = too_long_line name most
 

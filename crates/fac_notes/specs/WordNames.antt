@@ -8,6 +8,10 @@ use Rattle.fac_lang.specs.declared.program.ClassDef.{ClassDef}
 use Rattle.fac_lang.specs.declared.program.Sort.{Sort}
 use Rattle.fac_lang.specs.declared.program.Sort.TheVariants.{Method as method}
 use Rattle.fac_lang.specs.Meaning.{word_call, word_execute}
+use Rattle.fac_code.specs.declared.image.Image.{Image}
+use Rattle.fac_code.specs.declared.image.WordRow.{WordRow}
+use Rattle.fac_code.specs.Images.{tables_of}
+use Rattle.fac_code.specs.ImageNames.{text_of}
 
 -- the name of a number that no word has: the tests of `call( )` and `execute( )` have the two greatest numbers
 abbrev pub name_without_word : ℕ → List ℕ
@@ -38,6 +42,15 @@ name_or P w None = record { vocab = []; name = name_without_word w }
 
 abbrev pub word_name : Program → ℕ → Name
 word_name P w = name_or P w (slice_get P.words w)
+
+-- the name of a word by its row in an image, which has it whole
+abbrev pub name_in : Image → ℕ → Option WordRow → Name
+name_in M w (Some r) = record { vocab = text_of (tables_of M) r.vocab; name = text_of (tables_of M) r.name }
+name_in M w None = record { vocab = []; name = name_without_word w }
+
+-- the name of a word of an image by its number, where its program isn't at hand
+abbrev pub image_word_name : Image → ℕ → Name
+image_word_name M w = name_in M w (slice_get M.words w)
 
 -- how a name is told: vocabulary, colon and name, and without a colon where the vocabulary is empty
 abbrev pub text_by : List ℕ → List ℕ → List ℕ

@@ -1,12 +1,13 @@
 //! The note of a report, a line.
 ghost use Rattle.std.specs.Prelude.{◌≡◌, ◌++◌, IfOk, OnOk};
 ghost use Rattle.fac_notes.specs.Notes.{line_of, file_name as name_of_file, place_text, value_text, words_text};
-ghost use Rattle.fac_notes.specs.Notes.{bytes_line as bytes_line_of, syntax_line as syntax_line_of, name_line as name_line_of, check_line as check_line_of, error_line as error_line_of, too_long_line as too_long_line_of};
+ghost use Rattle.fac_notes.specs.Notes.{bytes_line as bytes_line_of, syntax_line as syntax_line_of, name_line as name_line_of, check_line as check_line_of, error_line as error_line_of, trap_line as trap_line_of, too_long_line as too_long_line_of};
 
-use crate::rows::{byte_fault, error, name_kind, push_number, push_rule, why};
+use crate::rows::{byte_fault, error, name_kind, push_number, push_rule, trap, why};
 use crate::word_names::push_name;
 use crate::{ByteFault, Report};
 use fac_check::Refusal;
+use fac_code::TrapWhy;
 use fac_lang::{ErrorName, List, Memory, Name, Text};
 use fac_parse::Why;
 use fac_refusal::{NameFault, NameKind};
@@ -130,6 +131,18 @@ fn error_line(
     Ok(line)
 }
 
+// The line of a trap.
+fn trap_line(alloc: Global, pc: u32, reason: TrapWhy) -> Result<Text, Memory>
+    ensures { IfOk result (λ line. line ≡ trap_line_of pc reason) }
+{
+    let mut line = Text::from_str(alloc, "image: trap at ")?;
+    push_number(&mut line, u64::from(pc))?;
+    line.push_str(": ")?;
+    line.push_str(trap(reason))?;
+    line.push_str("\n")?;
+    Ok(line)
+}
+
 // The line of a file that is too long.
 fn too_long_line(alloc: Global, name: &str, limit: u64) -> Result<Text, Memory>
     ensures { IfOk result (λ line. line ≡ too_long_line_of name.now limit) }
@@ -160,6 +173,8 @@ pub fn note(alloc: Global, report: &Report, files: &List<Text>) -> Result<Text, 
         Report::Spent { ticks } => Ok(Text::from_string(format!(in alloc;
             "spent: {ticks} ticks\n"
         )?)),
+        Report::Image { at } => Ok(Text::from_string(format!(in alloc; "image: byte {at}\n")?)),
+        Report::Trap { pc, why } => trap_line(alloc, *pc, *why),
         Report::File { name } => {
             let name = name.as_str();
             Ok(Text::from_string(format!(in alloc; "file: {name}\n")?))

@@ -3,6 +3,7 @@ ghost use Rattle.std.specs.Prelude.{◌≡◌};
 ghost use Rattle.fac_notes.specs.Statuses.{status_of};
 
 use fac_check::Refusal;
+use fac_code::TrapWhy;
 use fac_lang::{ErrorName, Name, Text};
 use fac_parse::Why;
 use fac_refusal::NameFault;
@@ -52,6 +53,15 @@ pub enum Report {
     Spent {
         ticks: u64,
     },
+    /// Bytes are no image. `at` is the place of the first byte with which none goes on, or their length.
+    Image {
+        at: u64,
+    },
+    /// The machine could not do the instruction at this place.
+    Trap {
+        pc: u32,
+        why: TrapWhy,
+    },
     /// A file was not read.
     File {
         name: Text,
@@ -75,6 +85,8 @@ impl Report {
             Report::Name(_) => 4,
             Report::Check { .. } => 5,
             Report::Spent { .. } => 6,
+            Report::Image { .. } => 7,
+            Report::Trap { .. } => 7,
             Report::File { .. } => 8,
             Report::TooLong { .. } => 11,
         }

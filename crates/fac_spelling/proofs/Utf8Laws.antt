@@ -3,13 +3,13 @@ use Rattle.std.proofs.Common.{◌≡◌, ℕ, zero, suc, ◌+◌, ◌-◌, ◌*�
 use Rattle.std.specs.Prelude.{nat_eq, nat_lt, ◌||◌}
 use Rattle.std.specs.Str.{IsUtf8}
 use Rattle.std.proofs.lemmas.Bool.{both_ways, and_parts, or_cases, or_left, or_right, and_from, ltb-true, ltb-false, eqb-true, eqb-false, cases_lt, cases_eq, lt-ltb, le-ltb, le-leb}
-use Rattle.std.proofs.lemmas.List.{take-append-drop, length-append}
+use Rattle.std.proofs.lemmas.List.{take-append-drop, length-append, length-take-le}
 use Rattle.std.proofs.lemmas.Str.{IsUtf8-append, IsUtf8-nil, IsUtf8-encode, length-encode, len_utf8_bounds}
 use Rattle.std.specs.Char.{IsScalar}
 use lib.Utf8.{encode, encodes, scalar, scalars, scalar_cases}
 use Rattle.fac_spelling.proofs.NumberLaws.{stands_within, within_stands}
 use Rattle.fac_spelling.specs.Formats.{Right}
-use Rattle.fac_spelling.proofs.TextLaws.{characters_exact, second_of, character_size, pair_at}
+use Rattle.fac_spelling.proofs.TextLaws.{characters_exact, characters_spell, second_of, character_size, pair_at}
 use Rattle.fac_spelling.specs.Bytes.{Range, continues, in_ranges}
 use Rattle.fac_spelling.specs.Numbers.{IsWithin, in_range}
 use Rattle.fac_spelling.specs.Texts.{second_range, others, character, width, characters, text}
@@ -253,3 +253,12 @@ pub read_utf8 : (n : ℕ) (bytes front rest : List ℕ) → (characters n n).rea
 read_utf8 n bytes front rest is =
     let r : Right (characters n n) bytes (Ok (front, rest)) = subst (Right (characters n n) bytes) is ((characters_exact n n).right bytes) in
     characters_utf8 n n front (omega arith) r.fits
+
+-- UTF-8 at the front is read whole
+pub utf8_read : (n : ℕ) (bytes : List ℕ) → n ≤ length bytes → IsUtf8 (take n bytes) → (characters n n).read bytes ≡ Ok (take n bytes, drop n bytes)
+utf8_read n bytes le u =
+    let size : length (take n bytes) ≡ n = length-take-le n bytes le in
+    let fits : (characters n n).Fits (take n bytes) = subst (λ (k : ℕ). (characters k k).Fits (take n bytes)) size (subst (λ (z : List ℕ). (characters (length z) (length z)).Fits z) u.1.1 (encodes_fit u.0 (length (encodes u.0)) u.1.0 (omega arith))) in
+    let s : (characters n n).spell (take n bytes) ≡ take n bytes = characters_spell n n (take n bytes) (omega arith) fits in
+    let whole : take n bytes ++ drop n bytes ≡ bytes = take-append-drop n bytes in
+    ap (characters n n).read (sym whole) ∙ (ap (λ (z : List ℕ). (characters n n).read (z ++ drop n bytes)) (sym s) ∙ (characters_exact n n).again (take n bytes) (drop n bytes) fits)

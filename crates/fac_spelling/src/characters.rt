@@ -88,12 +88,26 @@ fn past_characters(bytes: &[u8], size: usize) -> Result<&[u8], ReadFault>
     Ok(rest)
 }
 
-/// The characters of so many bytes at the front, and the bytes behind them.
-pub fn read_characters(bytes: &[u8], size: usize) -> Result<(&str, &[u8]), ReadFault>
+// The same, character by character, with the place of the fault.
+fn read_one_by_one(bytes: &[u8], size: usize) -> Result<(&str, &[u8]), ReadFault>
     ensures exact { Gives (λ x. (x.0.now, x.1.now)) result ((characters size size).read bytes.now) }
     ensures plain { NoMemory result }
 {
     past_characters(bytes, size)?;
     let (front, rest) = bytes.split_at(size);
     Ok((unsafe { std::str::from_utf8_unchecked(front) }, rest))
+}
+
+/// The characters of so many bytes at the front, and the bytes behind them.
+pub fn read_characters(bytes: &[u8], size: usize) -> Result<(&str, &[u8]), ReadFault>
+    ensures exact { Gives (λ x. (x.0.now, x.1.now)) result ((characters size size).read bytes.now) }
+    ensures plain { NoMemory result }
+{
+    if size <= bytes.len() {
+        let (front, rest) = bytes.split_at(size);
+        if let Ok(text) = str::from_utf8(front) {
+            return Ok((text, rest));
+        }
+    }
+    read_one_by_one(bytes, size)
 }

@@ -41,12 +41,18 @@ pub fn read_wide(bytes: &[u8], low: u128, high: u128) -> Result<(u128, &[u8]), R
     }
 }
 
-/// The number at the front, from `low` to `high`, and the bytes behind it.
+/// The number at the front, from `low` to `high`, and the bytes behind it. Most numbers have one byte.
 pub fn read_number(bytes: &[u8], low: u32, high: u32) -> Result<(u32, &[u8]), ReadFault>
     ensures within { IfOk result (λ x. IsWithin low high x.0) }
     ensures exact { Gives (λ x. (x.0, x.1.now)) result (number_at low high bytes.now) }
     ensures plain { NoMemory result }
 {
+    if let [byte, rest @ ..] = bytes {
+        let number = u32::from(*byte);
+        if number < 128 && low <= number && number <= high {
+            return Ok((number, rest));
+        }
+    }
     let (number, rest) = read_wide(bytes, u128::from(low), u128::from(high))?;
     Ok((number as u32, rest))
 }

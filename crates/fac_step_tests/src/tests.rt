@@ -206,14 +206,24 @@ fn has_just(image: &Image, set: u32, kinds: &[u32]) -> bool {
     }
 }
 
-// Whether the one kind is that of `p`, whose slot has the first text behind the names of the words.
-fn kind_is_told(image: &Image, p: u32) -> bool {
-    let slot = image.words.len();
+// The number of a text.
+fn number_of(image: &Image, text: &str) -> Option<u32> {
+    for (number, found) in image.texts.as_slice().iter().enumerate() {
+        if found.as_str() == text {
+            return u32::try_from(number).ok();
+        }
+    }
+    None
+}
+
+// Whether the one kind is that of `p`, whose slot is the text with this number.
+fn kind_is_told(image: &Image, p: u32, slot: u32) -> bool {
     match image.kinds.as_slice() {
         [row] => match (&row.slots, image.words.get(p as usize)) {
             (Some(slots), Some(word)) => {
                 slots.as_slice() == [slot].as_slice()
-                    && word.kind == Some(8)
+                    && (row.vocab, row.name) == (word.vocab, word.name)
+                    && image.pairs.as_slice() == [(p, 8)].as_slice()
                     && word.action == Action::Itself
             }
             _ => false,
@@ -222,12 +232,18 @@ fn kind_is_told(image: &Image, p: u32) -> bool {
     }
 }
 
+// The number of the word so far before the end, where the top-level phrase is one before it.
+fn before(image: &Image, behind: u32) -> u32 {
+    image.words.len().saturating_sub(behind)
+}
+
 // Whether the one generic is `g`, and asks the method on `p` before the one on all values.
 fn generic_is_told(image: &Image, g: u32) -> bool {
     match image.generics.as_slice() {
         [row] => match row.methods.as_slice() {
             [first, second] => {
                 row.word == g
+                    && (first.number, second.number) == (before(image, 2), before(image, 3))
                     && (first.entry, second.entry) == (3, 0)
                     && has_just(image, first.set, &[8])
                     && has_just(image, second.set, &[0, 1, 2, 3, 4, 5, 6, 7, 8])
@@ -239,14 +255,13 @@ fn generic_is_told(image: &Image, g: u32) -> bool {
 }
 
 // Whether the code of the methods and then that of the run is as it should be. `drop`, `dup` and `swap` are the first primitives.
-fn methods_are_coded(image: &Image, p: u32) -> bool {
+fn methods_are_coded(image: &Image, p: u32, slot: u32) -> bool {
     let code = [
         Instr::Prim(0),
         Instr::Int(3),
         Instr::Ret,
         Instr::Next {
-            generic: 0,
-            method: 0,
+            method: before(image, 2),
             tail: false,
         },
         Instr::Ret,
@@ -259,7 +274,7 @@ fn methods_are_coded(image: &Image, p: u32) -> bool {
             tail: false,
         },
         Instr::Prim(2),
-        Instr::Get(image.words.len()),
+        Instr::Get(slot),
         Instr::Halt,
     ];
     image.code.as_slice() == code.as_slice() && image.start == 5
@@ -273,8 +288,9 @@ fn classes_are_compiled(rt: HostRuntime) -> Result<(), Fail> {
     let image = image_of(rt.alloc(), text)?;
     let p = word_named(&image, "p").unwrap_or(0);
     let g = word_named(&image, "g").unwrap_or(0);
-    assert!(rt; kind_is_told(&image, p));
+    let slot = number_of(&image, "x").unwrap_or(0);
+    assert!(rt; kind_is_told(&image, p, slot));
     assert!(rt; generic_is_told(&image, g));
-    assert!(rt; methods_are_coded(&image, p));
+    assert!(rt; methods_are_coded(&image, p, slot));
     Ok(())
 }

@@ -1,4 +1,7 @@
 //! Tests of the lines of a source.
+ghost use Rattle.std.specs.Prelude.{◌≡◌, Some, false, IfOk};
+ghost use Rattle.fac_lines.specs.LineAnswers.{AtEnd};
+
 use fac_io::MemSource;
 use fac_lang::{Bytes, List, Memory};
 use fac_lines::{LineFault, Lines};
@@ -6,13 +9,18 @@ use std::alloc::Global;
 use std::test::Fail;
 
 // The lines of these bytes, where the reads of the listed numbers fail.
-fn lines_of(alloc: Global, bytes: Bytes, fails: &[u64]) -> Result<Lines<MemSource>, Memory> {
+fn lines_of(alloc: Global, bytes: Bytes, fails: &[u64]) -> Result<Lines<MemSource>, Memory>
+    ensures { IfOk result (λ lines. lines.ended ≡ false) }
+{
     let fails = List::from_vec(Vec::from_slice(alloc, fails)?)?;
     Ok(Lines::new(alloc, MemSource::new(bytes, fails)))
 }
 
 // What a call comes to: whether it gives this line, or why it gives none.
-fn gives(lines: &mut Lines<MemSource>, line: &[u8]) -> &'static str {
+fn gives(lines: &mut Lines<MemSource>, line: &[u8]) -> &'static str
+    requires { AtEnd lines.old.ended (Some lines.old.source.left) }
+    ensures { AtEnd lines.new.ended (Some lines.new.source.left) }
+{
     match lines.line() {
         Ok(Some(given)) => if given.as_slice() == line {
             "this"
@@ -27,7 +35,9 @@ fn gives(lines: &mut Lines<MemSource>, line: &[u8]) -> &'static str {
 }
 
 // Whether these lines come, and none behind them.
-fn gives_all(lines: &mut Lines<MemSource>, each: &[&str]) -> bool {
+fn gives_all(lines: &mut Lines<MemSource>, each: &[&str]) -> bool
+    requires { AtEnd lines.old.ended (Some lines.old.source.left) }
+{
     for line in each {
         if gives(lines, line.as_bytes()) != "this" {
             return false;

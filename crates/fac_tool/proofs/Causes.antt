@@ -2,13 +2,19 @@
 use Rattle.std.proofs.Common.{◌≡◌, ◌≢◌, ℕ, List, None, Some, ◌⊎◌, inl, inr, refl, ap, sym, subst, ◌∙◌, arith}
 use Rattle.std.specs.declared.option.Option.{Option}
 use Rattle.fac_io.specs.Faults.{Rose}
-use Rattle.fac_tool.specs.declared.command.Command.{Command}
+use Rattle.fac_command.specs.declared.command.Command.{Command}
 use Rattle.fac_tool.specs.declared.ended.Ended.{Ended}
-use Rattle.fac_tool.specs.SeenObjects.{SinkSeen, FilesSeen}
-use Rattle.fac_tool.specs.Command.{names_of}
-use Rattle.fac_tool.specs.Answer.{answer_on, come_to, accepted}
-use Rattle.fac_tool.specs.Ends.{ending_of, EndsBy, work_of}
-use Rattle.fac_tool.specs.Answers.{Tells, LoadsEnd, ReachesBy, Loaded, AnswersBy, TellsUsage, numbered_names}
+use Rattle.fac_tool.specs.SeenObjects.{SinkSeen, FilesSeen, InputSeen}
+use Rattle.fac_command.specs.declared.command.Command.TheVariants as command
+use Rattle.fac_command.specs.Command.{names_of, name_at}
+use Rattle.fac_lang.specs.declared.program.Program.{Program}
+use Rattle.fac_code.specs.declared.image.Image.{Image}
+use Rattle.fac_tool.specs.Answer.{Answer, answer_on, come_to, accepted}
+use Rattle.fac_tool.specs.Ends.{ending_of, EndsBy, EndsAs, Work, idle, work_of}
+use Rattle.fac_tool.specs.ImageLoads.{ImageLoadEnds}
+use Rattle.fac_tool.specs.Saved.{since, Saves}
+use Rattle.fac_tool.specs.Executed.{BadImage, NoImageMemory, ExecutesBy, Executes, ExecutesBytes, not_run, run, ListsBytes, not_listed, listed, listed_answer}
+use Rattle.fac_tool.specs.Answers.{Tells, LoadsEnd, ReachesBy, ReachesAs, Builds, ExecutesImage, ListsImage, AnswersBy, TellsUsage, numbered_names}
 
 -- a status that is neither a write fault nor want of memory is the one that was reached
 status-Tells : (n : ℕ) (names : List (List ℕ)) (reached : Ended) (notes : SinkSeen) (ended : Ended) → n ≢ 10 → n ≢ 12 → Tells names reached notes ended → ended.status ≡ n → reached.status ≡ n
@@ -28,48 +34,133 @@ of_usage : (notes : SinkSeen) (ended : Ended) → TellsUsage notes ended → (en
 of_usage notes ended (inl whole) = inl (ap (λ (x : Ended). x.status) whole.same)
 of_usage notes ended (inr part) = inr (part.status, part.rose)
 
--- the ending of the work on texts at a given status
-loaded_ends :
-    (status : ℕ) (names : List (List ℕ)) (command : Command) (files : FilesSeen) (out : SinkSeen) (ended : Ended) (h : Loaded names command files out ended) → ended.status ≡ status →
-    EndsBy (ending_of status) (answer_on command (come_to h.sources)) (work_of command (accepted (come_to h.sources))) out ended
-loaded_ends status names command files out ended h e =
-    subst (λ (n : ℕ). EndsBy (ending_of n) (answer_on command (come_to h.sources)) (work_of command (accepted (come_to h.sources))) out ended) e h.ends
+-- what the work of a command says of causes: it never tells of usage, and a fault that it tells was counted
+record Causes (files : FilesSeen) (seen : InputSeen) (out : SinkSeen) (ended : Ended) : Type 0 where
+  usage : ended.status ≡ 2 → ⊥
+  file : ended.status ≡ 8 → Rose files.faults_before files.faults_now
+  input : ended.status ≡ 9 → Rose seen.faults_before seen.faults_now
+  write : ended.status ≡ 10 → Rose out.faults_before out.faults_now
 
--- the statuses of loads that end the call
-load_rises : (names : List (List ℕ)) (files : FilesSeen) (ended : Ended) → LoadsEnd names files ended → ended.status ≡ 8 → Rose files.faults_before files.faults_now
-load_rises names files ended (inl none) e = absurd (omega (arith, none.status, e))
-load_rises names files ended (inr (inl fails)) e = fails.rose
-load_rises names files ended (inr (inr long)) e = absurd (omega (arith, long.status, e))
+-- another status has no cause
+no_cause : (n : ℕ) (files : FilesSeen) (seen : InputSeen) (out : SinkSeen) (ended : Ended) → n ≢ 2 → n ≢ 8 → n ≢ 9 → n ≢ 10 → ended.status ≡ n → Causes files seen out ended
+no_cause n files seen out ended a b c d is =
+    record { usage = λ e. a (sym is ∙ e); file = λ e. absurd (b (sym is ∙ e)); input = λ e. absurd (c (sym is ∙ e)); write = λ e. absurd (d (sym is ∙ e)) }
 
-no_load : (n : ℕ) (names : List (List ℕ)) (files : FilesSeen) (ended : Ended) → n ≢ 8 → n ≢ 11 → n ≢ 12 → LoadsEnd names files ended → ended.status ≡ n → ⊥
-no_load n names files ended a b c (inl none) e = c (sym e ∙ none.status)
-no_load n names files ended a b c (inr (inl fails)) e = a (sym e ∙ fails.status)
-no_load n names files ended a b c (inr (inr long)) e = b (sym e ∙ long.status)
+no_memory : (files : FilesSeen) (seen : InputSeen) (out : SinkSeen) (ended : Ended) → ended.status ≡ 12 → Causes files seen out ended
+no_memory files seen out ended is = no_cause 12 files seen out ended (omega arith) (omega arith) (omega arith) (omega arith) is
 
-files_rise : (names : List (List ℕ)) (command : Command) (files : FilesSeen) (out : SinkSeen) (ended : Ended) → ReachesBy names command files out ended → ended.status ≡ 8 → Rose files.faults_before files.faults_now
-files_rise names command files out ended (inl none) e = load_rises names files ended none.ends e
-files_rise names command files out ended (inr h) e = absurd (loaded_ends 8 names command files out ended h e)
+too_long : (files : FilesSeen) (seen : InputSeen) (out : SinkSeen) (ended : Ended) → ended.status ≡ 11 → Causes files seen out ended
+too_long files seen out ended is = no_cause 11 files seen out ended (omega arith) (omega arith) (omega arith) (omega arith) is
 
-out_rises : (names : List (List ℕ)) (command : Command) (files : FilesSeen) (out : SinkSeen) (ended : Ended) → ReachesBy names command files out ended → ended.status ≡ 10 → Rose out.faults_before out.faults_now
-out_rises names command files out ended (inl none) e = absurd (no_load 10 names files ended (omega arith) (omega arith) (omega arith) none.ends e)
-out_rises names command files out ended (inr h) e = (loaded_ends 10 names command files out ended h e).0
+file_failed : (files : FilesSeen) (seen : InputSeen) (out : SinkSeen) (ended : Ended) → ended.status ≡ 8 → Rose files.faults_before files.faults_now → Causes files seen out ended
+file_failed files seen out ended is rose =
+    record { usage = λ e. omega (arith, is, e); file = λ e. rose; input = λ e. absurd (omega (arith, is, e)); write = λ e. absurd (omega (arith, is, e)) }
 
-no_usage : (names : List (List ℕ)) (command : Command) (files : FilesSeen) (out : SinkSeen) (ended : Ended) → ReachesBy names command files out ended → ended.status ≡ 2 → ⊥
-no_usage names command files out ended (inl none) e = no_load 2 names files ended (omega arith) (omega arith) (omega arith) none.ends e
-no_usage names command files out ended (inr h) e = loaded_ends 2 names command files out ended h e
+-- the ending of work at a given status
+ends_at : (n : ℕ) (answer : Answer) (work : Work) (seen : InputSeen) (out : SinkSeen) (left : List ℕ) (ended : Ended) → EndsAs answer work out seen left ended → ended.status ≡ n → EndsBy (ending_of n) answer work out seen left ended
+ends_at n answer work seen out left ended h e = subst (λ (m : ℕ). EndsBy (ending_of m) answer work out seen left ended) e h
 
-pub file_cause : (c : Option Command) (words : List (List ℕ)) (files : FilesSeen) (out notes : SinkSeen) (ended : Ended) → AnswersBy c words files out notes ended → ended.status ≡ 8 → Rose files.faults_before files.faults_now
-file_cause None words files out notes ended h e = elim (of_usage notes ended h.1) [ inl r ↦ absurd (omega (arith, r, e)) | inr r ↦ absurd (omega (arith, r.0, e)) ]
-file_cause (Some command) words files out notes ended h e =
-    files_rise (names_of words command) command files out h.0 h.1.ending (status-Tells 8 (numbered_names (names_of words command)) h.0 notes ended (omega arith) (omega arith) h.2 e)
+of_ends : (answer : Answer) (work : Work) (files : FilesSeen) (seen : InputSeen) (out : SinkSeen) (left : List ℕ) (ended : Ended) → EndsAs answer work out seen left ended → Causes files seen out ended
+of_ends answer work files seen out left ended h = record {
+  usage = λ e. ends_at 2 answer work seen out left ended h e;
+  file = λ e. absurd (ends_at 8 answer work seen out left ended h e);
+  input = λ e. (ends_at 9 answer work seen out left ended h e).0;
+  write = λ e. (ends_at 10 answer work seen out left ended h e).0;
+}
+
+-- likewise of the run of an image
+executes_at : (n : ℕ) (M : Image) (budget : ℕ) (input left : List ℕ) (seen : InputSeen) (out : SinkSeen) (ended : Ended) → Executes M budget input left seen out ended → ended.status ≡ n → ExecutesBy (ending_of n) M budget input left seen out ended
+executes_at n M budget input left seen out ended h e = subst (λ (m : ℕ). ExecutesBy (ending_of m) M budget input left seen out ended) e h
+
+of_execution : (M : Image) (budget : ℕ) (input left : List ℕ) (files : FilesSeen) (seen : InputSeen) (out : SinkSeen) (ended : Ended) → Executes M budget input left seen out ended → Causes files seen out ended
+of_execution M budget input left files seen out ended h = record {
+  usage = λ e. executes_at 2 M budget input left seen out ended h e;
+  file = λ e. absurd (executes_at 8 M budget input left seen out ended h e);
+  input = λ e. (executes_at 9 M budget input left seen out ended h e).0;
+  write = λ e. (executes_at 10 M budget input left seen out ended h e).0;
+}
+
+-- loads that end the call
+of_loads : (names : List (List ℕ)) (files : FilesSeen) (seen : InputSeen) (out : SinkSeen) (ended : Ended) → LoadsEnd names files ended → Causes files seen out ended
+of_loads names files seen out ended (inl none) = no_memory files seen out ended none.status
+of_loads names files seen out ended (inr (inl fails)) = file_failed files seen out ended fails.status fails.rose
+of_loads names files seen out ended (inr (inr long)) = too_long files seen out ended long.status
+
+of_image_load : (name : List ℕ) (files : FilesSeen) (seen : InputSeen) (out : SinkSeen) (ended : Ended) → ImageLoadEnds name files ended → Causes files seen out ended
+of_image_load name files seen out ended (inl none) = no_memory files seen out ended none.status
+of_image_load name files seen out ended (inr (inl fails)) = file_failed files seen out ended fails.status fails.rose
+of_image_load name files seen out ended (inr (inr long)) = too_long files seen out ended long.status
+
+-- bytes that weren't decoded
+of_bytes : (bytes : List ℕ) (files : FilesSeen) (seen : InputSeen) (out : SinkSeen) (ended : Ended) → BadImage bytes ended ⊎ NoImageMemory ended → Causes files seen out ended
+of_bytes bytes files seen out ended (inl bad) = no_cause 7 files seen out ended (omega arith) (omega arith) (omega arith) (omega arith) bad.status
+of_bytes bytes files seen out ended (inr none) = no_memory files seen out ended none.status
+
+-- the work of each command
+of_files : (names : List (List ℕ)) (c : Command) (files : FilesSeen) (seen : InputSeen) (out : SinkSeen) (ended : Ended) → ReachesBy names c files seen out ended → Causes files seen out ended
+of_files names c files seen out ended (inl none) = of_loads names files seen out ended none.ends
+of_files names c files seen out ended (inr h) = of_ends (answer_on c (come_to h.sources) h.ends.input) (work_of c (accepted (come_to h.sources)) h.ends.input) files seen out h.ends.left ended h.ends.holds.ends
+
+of_save : (P : Program) (name : List ℕ) (files : FilesSeen) (seen : InputSeen) (out : SinkSeen) (ended : Ended) → Saves P name files ended → Causes files seen out ended
+of_save P name files seen out ended (inl saved) = no_cause 0 files seen out ended (omega arith) (omega arith) (omega arith) (omega arith) saved.status
+of_save P name files seen out ended (inr (inl fails)) = file_failed files seen out ended fails.status fails.rose
+of_save P name files seen out ended (inr (inr none)) = no_memory files seen out ended none.status
+
+-- files that nothing but this part of the work failed on
+earlier : (before mid now : ℕ) → mid ≡ before → Rose mid now → Rose before now
+earlier before mid now same rose = subst (λ (n : ℕ). Rose n now) same rose
+
+of_build : (names : List (List ℕ)) (image : List ℕ) (c : Command) (files : FilesSeen) (seen : InputSeen) (out : SinkSeen) (ended : Ended) → Builds names image c files seen out ended → Causes files seen out ended
+of_build names image c files seen out ended (inl none) = of_loads names files seen out ended none.ends
+of_build names image c files seen out ended (inr built) =
+    elim built.ends [
+      | inl not ↦ of_ends (answer_on c (come_to built.sources) not.ends.input) idle files seen out not.ends.left ended not.ends.holds.ends
+      | inr builds ↦
+          let causes = of_save builds.P image (since files built.loaded) seen out ended builds.saves in
+          record { usage = causes.usage; file = λ e. earlier files.faults_before built.loaded.faults files.faults_now built.loads.faults (causes.file e); input = causes.input; write = causes.write }
+    ]
+
+of_executed : (bytes : List ℕ) (budget : ℕ) (files : FilesSeen) (seen : InputSeen) (out : SinkSeen) (ended : Ended) → ExecutesBytes bytes budget seen out ended → Causes files seen out ended
+of_executed bytes budget files seen out ended (not_run none unread) = of_bytes bytes files seen out ended none.why
+of_executed bytes budget files seen out ended (run M spelled on) = of_execution M budget on.input on.left files seen out ended on.holds
+
+of_listed : (bytes : List ℕ) (files : FilesSeen) (seen : InputSeen) (out : SinkSeen) (ended : Ended) → ListsBytes bytes seen out ended → Causes files seen out ended
+of_listed bytes files seen out ended (not_listed none unread) = of_bytes bytes files seen out ended none.why
+of_listed bytes files seen out ended (listed M spelled on) = of_ends (listed_answer M on.input) idle files seen out on.left ended on.holds.ends
+
+of_exec : (name : List ℕ) (budget : ℕ) (files : FilesSeen) (seen : InputSeen) (out : SinkSeen) (ended : Ended) → ExecutesImage name budget files seen out ended → Causes files seen out ended
+of_exec name budget files seen out ended (inl none) = of_image_load name files seen out ended none.ends
+of_exec name budget files seen out ended (inr on) = of_executed on.bytes budget files seen out ended on.does
+
+of_list : (name : List ℕ) (files : FilesSeen) (seen : InputSeen) (out : SinkSeen) (ended : Ended) → ListsImage name files seen out ended → Causes files seen out ended
+of_list name files seen out ended (inl none) = of_image_load name files seen out ended none.ends
+of_list name files seen out ended (inr on) = of_listed on.bytes files seen out ended on.does
+
+of_command : (words : List (List ℕ)) (c : Command) (files : FilesSeen) (seen : InputSeen) (out : SinkSeen) (ended : Ended) → ReachesAs words c files seen out ended → Causes files seen out ended
+of_command words (command.Check first end) files seen out ended h = of_files (names_of words (command.Check first end)) (command.Check first end) files seen out ended h
+of_command words (command.Run steps first end) files seen out ended h = of_files (names_of words (command.Run steps first end)) (command.Run steps first end) files seen out ended h
+of_command words (command.RunStack steps first end) files seen out ended h = of_files (names_of words (command.RunStack steps first end)) (command.RunStack steps first end) files seen out ended h
+of_command words (command.Build first end image) files seen out ended h = of_build (names_of words (command.Build first end image)) (name_at words image) (command.Build first end image) files seen out ended h
+of_command words (command.Exec steps image) files seen out ended h = of_exec (name_at words image) steps files seen out ended h
+of_command words (command.List image) files seen out ended h = of_list (name_at words image) files seen out ended h
+
+pub file_cause : (c : Option Command) (words : List (List ℕ)) (files : FilesSeen) (seen : InputSeen) (out notes : SinkSeen) (ended : Ended) → AnswersBy c words files seen out notes ended → ended.status ≡ 8 → Rose files.faults_before files.faults_now
+file_cause None words files seen out notes ended h e = elim (of_usage notes ended h.1) [ inl r ↦ absurd (omega (arith, r, e)) | inr r ↦ absurd (omega (arith, r.0, e)) ]
+file_cause (Some c) words files seen out notes ended h e =
+    (of_command words c files seen out h.0 h.1.ending).file (status-Tells 8 (numbered_names (names_of words c)) h.0 notes ended (omega arith) (omega arith) h.2 e)
+
+pub input_cause : (c : Option Command) (words : List (List ℕ)) (files : FilesSeen) (seen : InputSeen) (out notes : SinkSeen) (ended : Ended) → AnswersBy c words files seen out notes ended → ended.status ≡ 9 → Rose seen.faults_before seen.faults_now
+input_cause None words files seen out notes ended h e = elim (of_usage notes ended h.1) [ inl r ↦ absurd (omega (arith, r, e)) | inr r ↦ absurd (omega (arith, r.0, e)) ]
+input_cause (Some c) words files seen out notes ended h e =
+    (of_command words c files seen out h.0 h.1.ending).input (status-Tells 9 (numbered_names (names_of words c)) h.0 notes ended (omega arith) (omega arith) h.2 e)
 
 pub write_cause :
-    (c : Option Command) (words : List (List ℕ)) (files : FilesSeen) (out notes : SinkSeen) (ended : Ended) → AnswersBy c words files out notes ended → ended.status ≡ 10 → Rose out.faults_before out.faults_now ⊎ Rose notes.faults_before notes.faults_now
-write_cause None words files out notes ended h e = elim (of_usage notes ended h.1) [ inl r ↦ absurd (omega (arith, r, e)) | inr r ↦ inr r.1 ]
-write_cause (Some command) words files out notes ended h e =
-    elim (ten_of (numbered_names (names_of words command)) h.0 notes ended h.2 e) [ inl r ↦ inl (out_rises (names_of words command) command files out h.0 h.1.ending r) | inr r ↦ inr r ]
+    (c : Option Command) (words : List (List ℕ)) (files : FilesSeen) (seen : InputSeen) (out notes : SinkSeen) (ended : Ended) → AnswersBy c words files seen out notes ended → ended.status ≡ 10 → Rose out.faults_before out.faults_now ⊎ Rose notes.faults_before notes.faults_now
+write_cause None words files seen out notes ended h e = elim (of_usage notes ended h.1) [ inl r ↦ absurd (omega (arith, r, e)) | inr r ↦ inr r.1 ]
+write_cause (Some c) words files seen out notes ended h e =
+    elim (ten_of (numbered_names (names_of words c)) h.0 notes ended h.2 e) [ inl r ↦ inl ((of_command words c files seen out h.0 h.1.ending).write r) | inr r ↦ inr r ]
 
-pub usage_cause : (c : Option Command) (words : List (List ℕ)) (files : FilesSeen) (out notes : SinkSeen) (ended : Ended) → AnswersBy c words files out notes ended → ended.status ≡ 2 → c ≡ None
-usage_cause None words files out notes ended h e = refl
-usage_cause (Some command) words files out notes ended h e =
-    absurd (no_usage (names_of words command) command files out h.0 h.1.ending (status-Tells 2 (numbered_names (names_of words command)) h.0 notes ended (omega arith) (omega arith) h.2 e))
+pub usage_cause : (c : Option Command) (words : List (List ℕ)) (files : FilesSeen) (seen : InputSeen) (out notes : SinkSeen) (ended : Ended) → AnswersBy c words files seen out notes ended → ended.status ≡ 2 → c ≡ None
+usage_cause None words files seen out notes ended h e = refl
+usage_cause (Some c) words files seen out notes ended h e =
+    absurd ((of_command words c files seen out h.0 h.1.ending).usage (status-Tells 2 (numbered_names (names_of words c)) h.0 notes ended (omega arith) (omega arith) h.2 e))

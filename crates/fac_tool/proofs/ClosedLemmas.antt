@@ -79,7 +79,7 @@ safe_one closed P kept start stands = record { closes = stands.closes; built = s
 carried_by : SafeAreNotStuck → (P : Program) (M : Image) (count : ℕ) → IsSafe P 0 → count ≡ 0 → Carries P (callable_height P) count M → Carried P M
 carried_by never P M count safe none carries = record {
   carries = subst (λ k. Carries P (callable_height P) k M) none carries;
-  not_stuck = λ n. never P 0 safe n (start P []) refl (safe.begins []);
+  not_stuck = λ input n. never P 0 safe n (start P input) refl (safe.begins input);
 }
 
 -- the effects of a closed program's templates are those of its callables

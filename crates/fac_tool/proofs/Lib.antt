@@ -1,6 +1,7 @@
 mod Causes
 pub mod EarlyEnds
 pub mod EndLemmas
+pub mod InputLemmas
 pub mod LoadLemmas
 pub mod ReadingLemmas
 pub mod CheckedLemmas
@@ -12,4 +13,6 @@ pub mod NoteLemmas
 pub mod ClosedLemmas
 pub mod ListedLemmas
 pub mod Composing
-pub mod CommandLemmas
+pub mod ExecutedLemmas
+pub mod SavedLemmas
+pub mod ListingLemmas

@@ -11,15 +11,15 @@ use Rattle.fac_lang.specs.World.{State}
 use Rattle.fac_lang.specs.Eval.{Result as Run, Done, Failed, Spent, Stuck}
 use Rattle.fac_tool.specs.declared.ended.Ended.{Ended}
 use Rattle.fac_tool.specs.Answer.{Answer, meaning, of_run, run_answer, stack_answer, shown, stack_lines, lines_if, with_lines}
-use Rattle.fac_tool.specs.SeenObjects.{SinkSeen}
+use Rattle.fac_tool.specs.SeenObjects.{SinkSeen, InputSeen}
 use Rattle.fac_tool.specs.Answers.{NotePart}
-use Rattle.fac_tool.specs.Ends.{Ending, Told, Usage, FileFault, WriteFault, TooLong, NoMemory, ending_of, EndsBy, EndsAs, Matches, runs, runs_and_lists, StopsWithin, RunPieces, FaultBehindRun}
+use Rattle.fac_tool.specs.Ends.{Ending, Told, Usage, FileFault, InputFault, WriteFault, TooLong, NoMemory, ending_of, EndsBy, EndsAs, Matches, runs, runs_and_lists, StopsWithin, RunPieces, FaultBehindRun}
 use Rattle.fac_tool.specs.inner.StepEnds.{bare, still}
 use Rattle.fac_tool.specs.inner.ListedStacks.{Lists, ListsStack}
 
 -- a sink from one state to another
-abbrev seen : SinkTold → SinkTold → ℕ → ℕ → SinkSeen
-seen before now faults faults' = record { before = before; now = now; faults_before = faults; faults_now = faults' }
+abbrev sink : SinkTold → SinkTold → ℕ → ℕ → SinkSeen
+sink before now faults faults' = record { before = before; now = now; faults_before = faults; faults_now = faults' }
 
 grows_on : {A : Type 0} (old mid new : Option (List A)) (first then all : List A) → first ++ then ≡ all → Grows old mid first → Grows mid new then → Grows old new all
 grows_on None mid new first then all e g h = tt
@@ -28,8 +28,8 @@ grows_on (Some xs) (Some ys) None first then all e g h = absurd h
 grows_on (Some xs) (Some ys) (Some zs) first then all e g h = h ∙ ap (λ (l : List _). l ++ then) g ∙ append_assoc xs first then ∙ ap (λ (l : List _). xs ++ l) e
 
 -- the lines come behind the pieces of the run
-pieces_on : (P : Program) (ticks : ℕ) (last : List ℕ) (b m n : SinkTold) (i j k : ℕ) → RunPieces P ticks [] (seen b m i j) → TookWhole m n last → RunPieces P ticks last (seen b n i k)
-pieces_on P ticks last b m n i j k run took = record {
+pieces_on : (P : Program) (input : List ℕ) (ticks : ℕ) (last : List ℕ) (b m n : SinkTold) (i j k : ℕ) → RunPieces P input ticks [] (sink b m i j) → TookWhole m n last → RunPieces P input ticks last (sink b n i k)
+pieces_on P input ticks last b m n i j k run took = record {
   wrote_in = run.wrote_in;
   within = run.within;
   taken = grows_on b.taken m.taken n.taken _ last _ (ap (λ (l : List ℕ). l ++ last) (append-nil _)) run.taken took.taken;
@@ -37,61 +37,64 @@ pieces_on P ticks last b m n i j k run took = record {
 }
 
 -- an ending without a stack has no lines
-no_lines : (P : Program) (budget : ℕ) (answer : Answer) (out : SinkSeen) (reached : Ended) (e : Ending) → reached.stack ≡ None → EndsBy e answer (runs P budget) out reached → EndsBy e (with_lines answer) (runs_and_lists P budget) out reached
-no_lines P budget answer out reached Told none h =
+no_lines : (P : Program) (input : List ℕ) (budget : ℕ) (answer : Answer) (out : SinkSeen) (seen : InputSeen) (left : List ℕ) (reached : Ended) (e : Ending) → reached.stack ≡ None →
+    EndsBy e answer (runs P input budget) out seen left reached → EndsBy e (with_lines answer) (runs_and_lists P input budget) out seen left reached
+no_lines P input budget answer out seen left reached Told none h =
     let empty : answer.stack ≡ None = sym h.0.stack ∙ none in
     let same : answer.output ≡ answer.output ++ lines_if answer.stack = sym (ap (λ (s : Option (List (List ℕ))). answer.output ++ lines_if s) empty ∙ append-nil answer.output) in (
-      record { status = h.0.status; ticks = h.0.ticks; stack = h.0.stack; refusal = h.0.refusal; output = subst (λ (xs : List ℕ). Grows out.before.taken out.now.taken xs) same h.0.output },
-      subst (λ (s : Option (List (List ℕ))). RunPieces P reached.ticks (lines_if s) out) (sym empty) h.1,
+      record { status = h.0.status; ticks = h.0.ticks; stack = h.0.stack; refusal = h.0.refusal; output = subst (λ (xs : List ℕ). Grows out.before.taken out.now.taken xs) same h.0.output; rest = h.0.rest },
+      subst (λ (s : Option (List (List ℕ))). RunPieces P input reached.ticks (lines_if s) out) (sym empty) h.1,
     )
-no_lines P budget answer out reached Usage none h = h
-no_lines P budget answer out reached FileFault none h = h
-no_lines P budget answer out reached WriteFault none h = (h.0, h.1, inl h.2)
-no_lines P budget answer out reached TooLong none h = h
-no_lines P budget answer out reached NoMemory none h = h
+no_lines P input budget answer out seen left reached Usage none h = h
+no_lines P input budget answer out seen left reached FileFault none h = h
+no_lines P input budget answer out seen left reached InputFault none h = h
+no_lines P input budget answer out seen left reached WriteFault none h = (h.0, h.1, inl h.2)
+no_lines P input budget answer out seen left reached TooLong none h = h
+no_lines P input budget answer out seen left reached NoMemory none h = h
 
 -- one with a stack is that of a run which is done
 has_stack :
-    (P : Program) (budget : ℕ) (answer : Answer) (out : SinkSeen) (reached : Ended) (texts : List (List ℕ)) (e : Ending) →
-    reached.stack ≡ Some texts → EndsBy e answer (runs P budget) out reached → (e ≡ Told) × Matches answer out reached × RunPieces P reached.ticks [] out
-has_stack P budget answer out reached texts Told some h = (refl, h.0, h.1)
-has_stack P budget answer out reached texts Usage some h = absurd h
-has_stack P budget answer out reached texts FileFault some h = absurd h
-has_stack P budget answer out reached texts WriteFault some h = let none = h.1.stack in absurd (cc)
-has_stack P budget answer out reached texts TooLong some h = absurd h
-has_stack P budget answer out reached texts NoMemory some h = let none = h.0.stack in absurd (cc)
+    (P : Program) (input : List ℕ) (budget : ℕ) (answer : Answer) (out : SinkSeen) (seen : InputSeen) (left : List ℕ) (reached : Ended) (texts : List (List ℕ)) (e : Ending) →
+    reached.stack ≡ Some texts → EndsBy e answer (runs P input budget) out seen left reached → (e ≡ Told) × Matches answer out left reached × RunPieces P input reached.ticks [] out
+has_stack P input budget answer out seen left reached texts Told some h = (refl, h.0, h.1)
+has_stack P input budget answer out seen left reached texts Usage some h = absurd h
+has_stack P input budget answer out seen left reached texts FileFault some h = absurd h
+has_stack P input budget answer out seen left reached texts InputFault some h = let none = h.1.stack in absurd (cc)
+has_stack P input budget answer out seen left reached texts WriteFault some h = let none = h.1.stack in absurd (cc)
+has_stack P input budget answer out seen left reached texts TooLong some h = absurd h
+has_stack P input budget answer out seen left reached texts NoMemory some h = let none = h.0.stack in absurd (cc)
 
 -- its lines are written whole
 lists_whole :
-    (P : Program) (budget : ℕ) (answer : Answer) (b m n : SinkTold) (i j k : ℕ) (reached : Ended) (texts : List (List ℕ)) → reached.stack ≡ Some texts →
-    Matches answer (seen b m i j) reached → RunPieces P reached.ticks [] (seen b m i j) → TookWhole m n (stack_lines texts) → EndsBy Told (with_lines answer) (runs_and_lists P budget) (seen b n i k) reached
-lists_whole P budget answer b m n i j k reached texts some h pieces took =
+    (P : Program) (input : List ℕ) (budget : ℕ) (answer : Answer) (b m n : SinkTold) (i j k : ℕ) (seen : InputSeen) (left : List ℕ) (reached : Ended) (texts : List (List ℕ)) → reached.stack ≡ Some texts →
+    Matches answer (sink b m i j) left reached → RunPieces P input reached.ticks [] (sink b m i j) → TookWhole m n (stack_lines texts) → EndsBy Told (with_lines answer) (runs_and_lists P input budget) (sink b n i k) seen left reached
+lists_whole P input budget answer b m n i j k seen left reached texts some h pieces took =
     let there : answer.stack ≡ Some texts = sym h.stack ∙ some in
     let lines : stack_lines texts ≡ lines_if answer.stack = ap lines_if (sym there) in (
-      record { status = h.status; ticks = h.ticks; stack = h.stack; refusal = h.refusal; output = grows_on b.taken m.taken n.taken answer.output (stack_lines texts) _ (ap (λ (l : List ℕ). answer.output ++ l) lines) h.output took.taken },
-      subst (λ (l : List ℕ). RunPieces P reached.ticks l (seen b n i k)) lines (pieces_on P reached.ticks (stack_lines texts) b m n i j k pieces took),
+      record { status = h.status; ticks = h.ticks; stack = h.stack; refusal = h.refusal; output = grows_on b.taken m.taken n.taken answer.output (stack_lines texts) _ (ap (λ (l : List ℕ). answer.output ++ l) lines) h.output took.taken; rest = h.rest },
+      subst (λ (l : List ℕ). RunPieces P input reached.ticks l (sink b n i k)) lines (pieces_on P input reached.ticks (stack_lines texts) b m n i j k pieces took),
     )
 
 -- a run whose answer has a stack is done
 done_of :
-    (P : Program) (budget : ℕ) (texts : List (List ℕ)) (r : Run) → (of_run P budget r).stack ≡ Some texts → (st : State Value) × (left : ℕ) × (r ≡ Done st left) × (texts ≡ map (shown P st.world) (reverse st.stack))
-done_of P budget texts (Done st left) e = let same : map (shown P st.world) (reverse st.stack) ≡ texts = cc in (st, left, refl, sym same)
+    (P : Program) (budget : ℕ) (texts : List (List ℕ)) (r : Run) → (of_run P budget r).stack ≡ Some texts → (st : State Value) × (more : ℕ) × (r ≡ Done st more) × (texts ≡ map (shown P st.world) (reverse st.stack))
+done_of P budget texts (Done st more) e = let same : map (shown P st.world) (reverse st.stack) ≡ texts = cc in (st, more, refl, sym same)
 done_of P budget texts (Failed x st left) e = absurd (cc)
 done_of P budget texts (Spent st i) e = absurd (cc)
 done_of P budget texts Stuck e = absurd (cc)
 
 -- the write of its lines fails
 lists_front :
-    (P : Program) (budget : ℕ) (b m n : SinkTold) (i j k : ℕ) (reached ended : Ended) (texts : List (List ℕ)) → reached.stack ≡ Some texts →
-    Matches (run_answer P budget) (seen b m i j) reached → RunPieces P reached.ticks [] (seen b m i j) → NotePart (stack_lines texts) reached (seen m n j k) ended → FaultBehindRun P budget ended.ticks (seen b n i k)
-lists_front P budget b m n i j k reached ended texts some h pieces part =
-    let there : (run_answer P budget).stack ≡ Some texts = sym h.stack ∙ some in
-    let done = done_of P budget texts (meaning P budget) there in
+    (P : Program) (input : List ℕ) (budget : ℕ) (b m n : SinkTold) (i j k : ℕ) (left : List ℕ) (reached ended : Ended) (texts : List (List ℕ)) → reached.stack ≡ Some texts →
+    Matches (run_answer P input budget) (sink b m i j) left reached → RunPieces P input reached.ticks [] (sink b m i j) → NotePart (stack_lines texts) reached (sink m n j k) ended → FaultBehindRun P input budget ended.ticks (sink b n i k)
+lists_front P input budget b m n i j k left reached ended texts some h pieces part =
+    let there : (run_answer P input budget).stack ≡ Some texts = sym h.stack ∙ some in
+    let done = done_of P budget texts (meaning P input budget) there in
     let answer = ap (of_run P budget) done.2 in
     let front = part.note_is.front in
     record {
       state = done.0;
-      left = done.1;
+      more = done.1;
       done = done.2;
       used = part.ticks ∙ h.ticks ∙ ap (λ (a : Answer). a.ticks) answer;
       lines = stack_lines texts;
@@ -100,44 +103,44 @@ lists_front P budget b m n i j k reached ended texts some h pieces part =
       count = part.note_is.count;
       most = part.note_is.most;
       taken = grows_on b.taken m.taken n.taken _ (take part.note_is.count (stack_lines texts)) _ (ap (λ (a : Answer). a.output ++ take part.note_is.count (stack_lines texts)) answer) h.output front.taken;
-      pieces = subst (λ (t : ℕ). RunPieces P t (take part.note_is.count (stack_lines texts)) (seen b n i k)) (sym part.ticks) (pieces_on P reached.ticks _ b m n i j k pieces front);
+      pieces = subst (λ (t : ℕ). RunPieces P input t (take part.note_is.count (stack_lines texts)) (sink b n i k)) (sym part.ticks) (pieces_on P input reached.ticks _ b m n i j k pieces front);
     }
 
 rose_later : (i j k : ℕ) → i ≤ j → Rose j k → Rose i k
 rose_later i j k le rose = omega (arith, le, rose)
 
 lists_some :
-    (P : Program) (budget : ℕ) (b m n : SinkTold) (i j k : ℕ) (reached ended : Ended) (texts : List (List ℕ)) → i ≤ j → reached.stack ≡ Some texts → StopsWithin P budget reached.ticks (seen b m i j) →
-    (ending_of reached.status ≡ Told) × Matches (run_answer P budget) (seen b m i j) reached × RunPieces P reached.ticks [] (seen b m i j) → Lists (Some texts) reached (seen m n j k) ended → EndsAs (stack_answer P budget) (runs_and_lists P budget) (seen b n i k) ended
-lists_some P budget b m n i j k reached ended texts le some within done (inl none) =
-    let memory : EndsAs (stack_answer P budget) (runs_and_lists P budget) (seen b m i j) (bare 12 reached.ticks) = (record { stack = refl; refusal = refl }, record { stops = within; pieces = done.2 }) in
+    (P : Program) (input : List ℕ) (budget : ℕ) (b m n : SinkTold) (i j k : ℕ) (seen : InputSeen) (left : List ℕ) (reached ended : Ended) (texts : List (List ℕ)) → i ≤ j → reached.stack ≡ Some texts → StopsWithin P input budget reached.ticks (sink b m i j) →
+    (ending_of reached.status ≡ Told) × Matches (run_answer P input budget) (sink b m i j) left reached × RunPieces P input reached.ticks [] (sink b m i j) → Lists (Some texts) reached (sink m n j k) ended → EndsAs (stack_answer P input budget) (runs_and_lists P input budget) (sink b n i k) seen left ended
+lists_some P input budget b m n i j k seen left reached ended texts le some within done (inl none) =
+    let memory : EndsAs (stack_answer P input budget) (runs_and_lists P input budget) (sink b m i j) seen left (bare 12 reached.ticks) = (record { stack = refl; refusal = refl }, record { stops = within; pieces = done.2 }) in
     let told : n ≡ m = ap (λ (o : SinkSeen). o.now) none.0 in
     let count : k ≡ j = ap (λ (o : SinkSeen). o.faults_now) none.0 in
-    subst (λ (x : Ended). EndsAs (stack_answer P budget) (runs_and_lists P budget) (seen b n i k) x) (sym none.1)
-    (subst (λ (t : SinkTold). EndsAs (stack_answer P budget) (runs_and_lists P budget) (seen b t i k) (bare 12 reached.ticks)) (sym told)
-    (subst (λ (f : ℕ). EndsAs (stack_answer P budget) (runs_and_lists P budget) (seen b m i f) (bare 12 reached.ticks)) (sym count) memory))
-lists_some P budget b m n i j k reached ended texts le some within done (inr (inl whole)) =
-    let ends = lists_whole P budget (run_answer P budget) b m n i j k reached texts some done.1 done.2 whole.note_is in
-    subst (λ (x : Ended). EndsAs (stack_answer P budget) (runs_and_lists P budget) (seen b n i k) x) (sym whole.same)
-    (subst (λ (e : Ending). EndsBy e (stack_answer P budget) (runs_and_lists P budget) (seen b n i k) reached) (sym done.0) ends)
-lists_some P budget b m n i j k reached ended texts le some within done (inr (inr part)) =
-    let front = lists_front P budget b m n i j k reached ended texts some done.1 done.2 part in
-    subst (λ (s : ℕ). EndsBy (ending_of s) (stack_answer P budget) (runs_and_lists P budget) (seen b n i k) ended) (sym part.status) (rose_later i j k le part.rose, part.bare, inr front)
+    subst (λ (x : Ended). EndsAs (stack_answer P input budget) (runs_and_lists P input budget) (sink b n i k) seen left x) (sym none.1)
+    (subst (λ (t : SinkTold). EndsAs (stack_answer P input budget) (runs_and_lists P input budget) (sink b t i k) seen left (bare 12 reached.ticks)) (sym told)
+    (subst (λ (f : ℕ). EndsAs (stack_answer P input budget) (runs_and_lists P input budget) (sink b m i f) seen left (bare 12 reached.ticks)) (sym count) memory))
+lists_some P input budget b m n i j k seen left reached ended texts le some within done (inr (inl whole)) =
+    let ends = lists_whole P input budget (run_answer P input budget) b m n i j k seen left reached texts some done.1 done.2 whole.note_is in
+    subst (λ (x : Ended). EndsAs (stack_answer P input budget) (runs_and_lists P input budget) (sink b n i k) seen left x) (sym whole.same)
+    (subst (λ (e : Ending). EndsBy e (stack_answer P input budget) (runs_and_lists P input budget) (sink b n i k) seen left reached) (sym done.0) ends)
+lists_some P input budget b m n i j k seen left reached ended texts le some within done (inr (inr part)) =
+    let front = lists_front P input budget b m n i j k left reached ended texts some done.1 done.2 part in
+    subst (λ (s : ℕ). EndsBy (ending_of s) (stack_answer P input budget) (runs_and_lists P input budget) (sink b n i k) seen left ended) (sym part.status) (rose_later i j k le part.rose, part.bare, inr front)
 
 lists_by :
-    (P : Program) (budget : ℕ) (b m n : SinkTold) (i j k : ℕ) (reached ended : Ended) (s : Option (List (List ℕ))) → i ≤ j → reached.stack ≡ s → StopsWithin P budget reached.ticks (seen b m i j) →
-    EndsAs (run_answer P budget) (runs P budget) (seen b m i j) reached → Lists s reached (seen m n j k) ended → EndsAs (stack_answer P budget) (runs_and_lists P budget) (seen b n i k) ended
-lists_by P budget b m n i j k reached ended None le is within ends (still, same) =
+    (P : Program) (input : List ℕ) (budget : ℕ) (b m n : SinkTold) (i j k : ℕ) (seen : InputSeen) (left : List ℕ) (reached ended : Ended) (s : Option (List (List ℕ))) → i ≤ j → reached.stack ≡ s → StopsWithin P input budget reached.ticks (sink b m i j) →
+    EndsAs (run_answer P input budget) (runs P input budget) (sink b m i j) seen left reached → Lists s reached (sink m n j k) ended → EndsAs (stack_answer P input budget) (runs_and_lists P input budget) (sink b n i k) seen left ended
+lists_by P input budget b m n i j k seen left reached ended None le is within ends (still, same) =
     let told : n ≡ m = ap (λ (o : SinkSeen). o.now) still in
     let count : k ≡ j = ap (λ (o : SinkSeen). o.faults_now) still in
-    subst (λ (x : Ended). EndsAs (stack_answer P budget) (runs_and_lists P budget) (seen b n i k) x) (sym same)
-    (subst (λ (t : SinkTold). EndsAs (stack_answer P budget) (runs_and_lists P budget) (seen b t i k) reached) (sym told)
-    (subst (λ (f : ℕ). EndsAs (stack_answer P budget) (runs_and_lists P budget) (seen b m i f) reached) (sym count) (no_lines P budget (run_answer P budget) (seen b m i j) reached (ending_of reached.status) is ends)))
-lists_by P budget b m n i j k reached ended (Some texts) le is within ends h =
-    lists_some P budget b m n i j k reached ended texts le is within (has_stack P budget (run_answer P budget) (seen b m i j) reached texts (ending_of reached.status) is ends) h
+    subst (λ (x : Ended). EndsAs (stack_answer P input budget) (runs_and_lists P input budget) (sink b n i k) seen left x) (sym same)
+    (subst (λ (t : SinkTold). EndsAs (stack_answer P input budget) (runs_and_lists P input budget) (sink b t i k) seen left reached) (sym told)
+    (subst (λ (f : ℕ). EndsAs (stack_answer P input budget) (runs_and_lists P input budget) (sink b m i f) seen left reached) (sym count) (no_lines P input budget (run_answer P input budget) (sink b m i j) seen left reached (ending_of reached.status) is ends)))
+lists_by P input budget b m n i j k seen left reached ended (Some texts) le is within ends h =
+    lists_some P input budget b m n i j k seen left reached ended texts le is within (has_stack P input budget (run_answer P input budget) (sink b m i j) seen left reached texts (ending_of reached.status) is ends) h
 
 -- how a run ends behind which the lines of its stack are written
 pub ends_listed :
-    (P : Program) (budget : ℕ) (b m n : SinkTold) (i j k : ℕ) (reached ended : Ended) → i ≤ j → StopsWithin P budget reached.ticks (seen b m i j) →
-    EndsAs (run_answer P budget) (runs P budget) (seen b m i j) reached → ListsStack reached (seen m n j k) ended → EndsAs (stack_answer P budget) (runs_and_lists P budget) (seen b n i k) ended
-ends_listed P budget b m n i j k reached ended le within ends h = lists_by P budget b m n i j k reached ended reached.stack le refl within ends h
+    (P : Program) (input : List ℕ) (budget : ℕ) (b m n : SinkTold) (i j k : ℕ) (seen : InputSeen) (left : List ℕ) (reached ended : Ended) → i ≤ j → StopsWithin P input budget reached.ticks (sink b m i j) →
+    EndsAs (run_answer P input budget) (runs P input budget) (sink b m i j) seen left reached → ListsStack reached (sink m n j k) ended → EndsAs (stack_answer P input budget) (runs_and_lists P input budget) (sink b n i k) seen left ended
+ends_listed P input budget b m n i j k seen left reached ended le within ends h = lists_by P input budget b m n i j k seen left reached ended reached.stack le refl within ends h

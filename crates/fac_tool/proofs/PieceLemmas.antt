@@ -1,25 +1,26 @@
 -- The pieces that a machine's run writes are those of the program's run, tick by tick.
-use Rattle.std.proofs.Common.{◌≡◌, ◌<◌, ◌≤◌, ℕ, zero, suc, ◌+◌, List, [], ◌∷◌, ◌++◌, Some, refl, ap, sym, subst, ◌∙◌, arith}
+use Rattle.std.proofs.Common.{◌≡◌, ◌<◌, ◌≤◌, ℕ, zero, suc, ◌+◌, ◌-◌, List, [], ◌∷◌, ◌++◌, Some, refl, ap, sym, subst, ◌∙◌, arith}
 use Rattle.std.proofs.lemmas.List.{append-nil, append_cancel_left}
 use Rattle.std.proofs.lemmas.List.Folds.{concat-append}
 use Rattle.std.proofs.Math.Seq.{drop-append_seam}
 use Rattle.std.specs.Prelude.{length, drop, ⊤}
 use Rattle.std.specs.List.{concat}
 use Rattle.std.specs.declared.option.Option.{Option}
-use Rattle.fac_io.specs.Told.{one_piece}
+use Rattle.fac_io.specs.Told.{Grows, one_piece}
 use Rattle.fac_lang.specs.declared.program.Program.{Program}
 use Rattle.fac_code.specs.declared.image.Image.{Image}
+use Rattle.fac_store.specs.ValueTrees.{Trees}
 use Rattle.fac_vm.specs.declared.machine.StopKind.{StopKind}
 use Rattle.fac_vm.specs.declared.machine.StopKind.TheVariants as stop
 use Rattle.fac_vm.specs.MachineLaws.{RunsHaveOneEnd}
 use Rattle.fac_vm.specs.Machine.{Machine, End, spent, Step, goes_on, ends, step, stepped, steps, Leads, Ends, Writes, w_none, w_silent, w_piece}
-use Rattle.fac_vm.specs.Runs.{Held, begun, InPieces as InMachinePieces, end_world}
+use Rattle.fac_vm.specs.Runs.{Held, begun, InPieces as InMachinePieces, end_world, step_world, AsksAt, RunsOn}
 use Rattle.fac_tool.specs.Answer.{meaning}
 use Rattle.fac_tool.specs.SeenObjects.{SinkSeen}
-use Rattle.fac_tool.specs.Ends.{run_output, tick_output, pieces_in, RunPieces}
-use Rattle.fac_tool.specs.inner.Stops.{Carried, TakesPieces, first_state}
-use Rattle.fac_tool.proofs.StepTicks.{StepsAt, GoesAt, step_at}
-use Rattle.fac_tool.proofs.StopLemmas.{carried_end, same_end, output_is}
+use Rattle.fac_tool.specs.Ends.{run_output, run_asked, tick_output, pieces_in, RunPieces, AskedInTick}
+use Rattle.fac_tool.specs.inner.Stops.{Carried, TakesPieces, RunIs, first_state}
+use Rattle.fac_tool.proofs.StepTicks.{Mark, mark_in, StepsAt, GoesAt, step_at}
+use Rattle.fac_tool.proofs.StopLemmas.{carried_end, same_end, run_mark, mark_is, stops, within}
 
 concat_one : (piece : List ℕ) → concat (one_piece piece) ≡ piece
 concat_one [] = refl
@@ -49,83 +50,90 @@ module _ (M : Image) where
   later e (suc k) zero le s n p = absurd (omega arith)
   later e (suc k) (suc j) le s n p = later_step (steps M k) (steps M j) e (later e k j (omega arith)) (step M s n) p
 
-  -- without ticks nothing is written
+  -- without ticks nothing is read and nothing is written
   without_by :
-      (count : ℕ) → ((s : Machine) (e : End) → steps M count s 0 ≡ Some e → (end_world e).output ≡ s.world.output) →
-      (s : Machine) (e : End) (x : Step) → StepsAt ⊤ (step M s) s.world.output 0 x → stepped M (steps M count) x ≡ Some e → (end_world e).output ≡ s.world.output
-  without_by count h s e (ends e') at p = let same : e' ≡ e = cc in ap (λ (e : End). (end_world e).output) (sym same) ∙ at tt refl
+      (count : ℕ) → ((s : Machine) (e : End) → steps M count s 0 ≡ Some e → mark_in (end_world e) ≡ mark_in s.world) →
+      (s : Machine) (e : End) (x : Step) → StepsAt ⊤ (step M s) (mark_in s.world) 0 x → stepped M (steps M count) x ≡ Some e → mark_in (end_world e) ≡ mark_in s.world
+  without_by count h s e (ends e') at p = let same : e' ≡ e = cc in ap (λ (e : End). mark_in (end_world e)) (sym same) ∙ at tt refl
   without_by count h s e (goes_on t m) at p =
       let none : at.took ≡ 0 = omega (arith, at.sum) in
       let last : m ≡ 0 = omega (arith, at.sum) in
       h t e (ap (steps M count t) (sym last) ∙ p) ∙ at.free tt none
 
-  without_ticks : (count : ℕ) (s : Machine) (e : End) → steps M count s 0 ≡ Some e → (end_world e).output ≡ s.world.output
+  without_ticks : (count : ℕ) (s : Machine) (e : End) → steps M count s 0 ≡ Some e → mark_in (end_world e) ≡ mark_in s.world
   without_ticks zero s e p = absurd (cc)
   without_ticks (suc count) s e p = without_by count (without_ticks count) s e (step M s 0) (step_at M s 0) p
 
--- the machine of a program's image comes from its start to a state in so many ticks, whatever more ticks there are
-abbrev Comes : Program → Image → ℕ → Machine → Type 0
-Comes P M u t = (k : ℕ) → Leads M (first_state M) (u + k) t k
+-- the machine of a program's image comes from its start on this input to a state in so many ticks, whatever more ticks there are
+abbrev Comes : Image → List ℕ → ℕ → Machine → Type 0
+Comes M input u t = (k : ℕ) → Leads M (first_state M input) (u + k) t k
 
-module _ (law : RunsHaveOneEnd) (P : Program) (M : Image) (carries : Carried P M) where
-  -- and what the program wrote in these is the output there
-  wrote_at : (u : ℕ) (t : Machine) → Comes P M u t → run_output (meaning P u) ≡ t.world.output
-  wrote_at u t comes =
-      let last = carried_end P M u carries in
+module _ (law : RunsHaveOneEnd) (P : Program) (M : Image) (input : List ℕ) (carries : Carried P M) where
+  -- and what the program read and wrote in these is what the world there tells
+  marked_at : (u : ℕ) (t : Machine) → Comes M input u t → run_mark (meaning P input u) ≡ mark_in t.world
+  marked_at u t comes =
+      let last = carried_end P M input u carries in
       let way = (comes 0).by last.1.count in
       let all : u + 0 ≡ u = omega arith in
-      let there : steps M way.0 (first_state M) u ≡ Some last.0 = later M last.0 last.1.count way.0 way.1 (first_state M) u last.1.there in
-      let here : steps M last.1.count t 0 ≡ Some last.0 = sym way.2 ∙ ap (steps M way.0 (first_state M)) all ∙ there in
-      sym (output_is P (meaning P u) last.0 last.2) ∙ without_ticks M last.1.count t last.0 here
+      let there : steps M way.0 (first_state M input) u ≡ Some last.0 = later M last.0 last.1.count way.0 way.1 (first_state M input) u last.1.there in
+      let here : steps M last.1.count t 0 ≡ Some last.0 = sym way.2 ∙ ap (steps M way.0 (first_state M input)) all ∙ there in
+      sym (mark_is P (meaning P input u) last.0 last.2) ∙ without_ticks M last.1.count t last.0 here
 
-  -- likewise with a few more, in which it is spent there
-  wrote_between : (u j : ℕ) (t stood : Machine) → Comes P M u t → step M t j ≡ ends (spent stood) → stood.world.output ≡ t.world.output → run_output (meaning P (u + j)) ≡ t.world.output
-  wrote_between u j t stood comes is same =
+  wrote_at : (u : ℕ) (t : Machine) → Comes M input u t → run_output (meaning P input u) ≡ t.world.output
+  wrote_at u t comes = ap (λ (m : Mark). m.1.1) (marked_at u t comes)
+
+  -- an end behind one more step
+  ends_behind : (u j : ℕ) (t : Machine) (e : End) → Comes M input u t → step M t j ≡ ends e → run_mark (meaning P input (u + j)) ≡ mark_in (end_world e)
+  ends_behind u j t e comes is =
       let way = (comes j).by 1 in
-      let over : Ends M (first_state M) (u + j) (spent stood) = record { count = way.0; there = way.2 ∙ ap (stepped M (steps M 0)) is } in
-      sym (output_is P (meaning P (u + j)) (spent stood) (same_end law P M (u + j) carries (spent stood) over)) ∙ same
+      let over : Ends M (first_state M input) (u + j) e = record { count = way.0; there = way.2 ∙ ap (stepped M (steps M 0)) is } in
+      sym (mark_is P (meaning P input (u + j)) e (same_end law P M input (u + j) carries e over))
+
+  -- likewise with a few more ticks, in which it is spent there
+  wrote_between : (u j : ℕ) (t stood : Machine) → Comes M input u t → step M t j ≡ ends (spent stood) → mark_in stood.world ≡ mark_in t.world → run_output (meaning P input (u + j)) ≡ t.world.output
+  wrote_between u j t stood comes is same = ap (λ (m : Mark). m.1.1) (ends_behind u j t (spent stood) comes is ∙ same)
 
   -- ticks in which nothing is written have no piece
-  silent_ticks : (u j : ℕ) (out : List ℕ) → ((k : ℕ) → k ≤ j → run_output (meaning P (u + k)) ≡ out) → pieces_in P (u + j) ≡ pieces_in P u
-  silent_ticks u zero out same = let all : u + 0 ≡ u = omega arith in ap (pieces_in P) all
+  silent_ticks : (u j : ℕ) (out : List ℕ) → ((k : ℕ) → k ≤ j → run_output (meaning P input (u + k)) ≡ out) → pieces_in P input (u + j) ≡ pieces_in P input u
+  silent_ticks u zero out same = let all : u + 0 ≡ u = omega arith in ap (pieces_in P input) all
   silent_ticks u (suc j) out same =
       let next : u + suc j ≡ suc (u + j) = omega arith in
       let before = same j (omega arith) in
-      let behind : run_output (meaning P (suc (u + j))) ≡ out = ap (λ (n : ℕ). run_output (meaning P n)) (sym next) ∙ same (suc j) (omega arith) in
-      let none : tick_output P (suc (u + j)) ≡ [] = rw (before, behind) (ap (drop (length out)) (sym (append-nil out)) ∙ drop-append_seam out []) in
-      ap (pieces_in P) next ∙ rw none (append-nil (pieces_in P (u + j))) ∙ silent_ticks u j out (λ k le. same k (omega (arith, le)))
+      let behind : run_output (meaning P input (suc (u + j))) ≡ out = ap (λ (n : ℕ). run_output (meaning P input n)) (sym next) ∙ same (suc j) (omega arith) in
+      let none : tick_output P input (suc (u + j)) ≡ [] = rw (before, behind) (ap (drop (length out)) (sym (append-nil out)) ∙ drop-append_seam out []) in
+      ap (pieces_in P input) next ∙ rw none (append-nil (pieces_in P input (u + j))) ∙ silent_ticks u j out (λ k le. same k (omega (arith, le)))
 
   -- the last of some ticks has the piece that is written in them
-  last_tick : (u j : ℕ) (out piece : List ℕ) → ((k : ℕ) → k ≤ j → run_output (meaning P (u + k)) ≡ out) → run_output (meaning P (suc (u + j))) ≡ out ++ piece → pieces_in P (suc (u + j)) ≡ pieces_in P u ++ one_piece piece
+  last_tick : (u j : ℕ) (out piece : List ℕ) → ((k : ℕ) → k ≤ j → run_output (meaning P input (u + k)) ≡ out) → run_output (meaning P input (suc (u + j))) ≡ out ++ piece → pieces_in P input (suc (u + j)) ≡ pieces_in P input u ++ one_piece piece
   last_tick u j out piece same last =
-      let made : tick_output P (suc (u + j)) ≡ piece = rw (same j (omega arith), last) (drop-append_seam out piece) in
+      let made : tick_output P input (suc (u + j)) ≡ piece = rw (same j (omega arith), last) (drop-append_seam out piece) in
       rw (made, silent_ticks u j out same) refl
 
   -- where a run of the machine stands that wrote these pieces
   record Walked (b : ℕ) (pieces : List (List ℕ)) (t : Machine) (m : ℕ) : Type 0 where
     used : ℕ
     sum : b ≡ used + m
-    comes : Comes P M used t
-    are : pieces ≡ pieces_in P used
+    comes : Comes M input used t
+    are : pieces ≡ pieces_in P input used
 
   same_by :
-      (u took : ℕ) (t : Machine) → Comes P M u t → ((k : ℕ) → k < took → (stood : Machine) × (step M t k ≡ ends (spent stood)) × (stood.world.output ≡ t.world.output)) →
-      (k : ℕ) → k < took → run_output (meaning P (u + k)) ≡ t.world.output
+      (u took : ℕ) (t : Machine) → Comes M input u t → ((k : ℕ) → k < took → (stood : Machine) × (step M t k ≡ ends (spent stood)) × (mark_in stood.world ≡ mark_in t.world)) →
+      (k : ℕ) → k < took → run_output (meaning P input (u + k)) ≡ t.world.output
   same_by u took t comes sooner k lt = let was = sooner k lt in wrote_between u k t was.0 comes was.1 was.2
 
   pieces_by :
-      (u took : ℕ) (t t' : Machine) (piece : List ℕ) → Comes P M u t → Comes P M (u + took) t' →
-      ((k : ℕ) → k < took → (stood : Machine) × (step M t k ≡ ends (spent stood)) × (stood.world.output ≡ t.world.output)) →
-      (took ≡ 0 → t'.world.output ≡ t.world.output) → t'.world.output ≡ t.world.output ++ piece → pieces_in P u ++ one_piece piece ≡ pieces_in P (u + took)
+      (u took : ℕ) (t t' : Machine) (piece : List ℕ) → Comes M input u t → Comes M input (u + took) t' →
+      ((k : ℕ) → k < took → (stood : Machine) × (step M t k ≡ ends (spent stood)) × (mark_in stood.world ≡ mark_in t.world)) →
+      (took ≡ 0 → t'.world.output ≡ t.world.output) → t'.world.output ≡ t.world.output ++ piece → pieces_in P input u ++ one_piece piece ≡ pieces_in P input (u + took)
   pieces_by u zero t t' piece comes comes' sooner free more =
-      let all : u + 0 ≡ u = omega arith in no_piece (pieces_in P u) t.world.output piece (sym more ∙ free refl) ∙ ap (pieces_in P) (sym all)
+      let all : u + 0 ≡ u = omega arith in no_piece (pieces_in P input u) t.world.output piece (sym more ∙ free refl) ∙ ap (pieces_in P input) (sym all)
   pieces_by u (suc took) t t' piece comes comes' sooner free more =
       let next : u + suc took ≡ suc (u + took) = omega arith in
-      let last : run_output (meaning P (suc (u + took))) ≡ t.world.output ++ piece = ap (λ (n : ℕ). run_output (meaning P n)) (sym next) ∙ wrote_at (u + suc took) t' comes' ∙ more in
-      sym (ap (pieces_in P) next ∙ last_tick u took t.world.output piece (λ k le. same_by u (suc took) t comes sooner k (omega (arith, le))) last)
+      let last : run_output (meaning P input (suc (u + took))) ≡ t.world.output ++ piece = ap (λ (n : ℕ). run_output (meaning P input n)) (sym next) ∙ wrote_at (u + suc took) t' comes' ∙ more in
+      sym (ap (pieces_in P input) next ∙ last_tick u took t.world.output piece (λ k le. same_by u (suc took) t comes sooner k (omega (arith, le))) last)
 
   -- on a step
-  comes_on : (u took : ℕ) (t t' : Machine) → Comes P M u t → ((k : ℕ) → step M t (took + k) ≡ goes_on t' k) → Comes P M (u + took) t'
+  comes_on : (u took : ℕ) (t t' : Machine) → Comes M input u t → ((k : ℕ) → step M t (took + k) ≡ goes_on t' k) → Comes M input (u + took) t'
   comes_on u took t t' comes later k = record {
     by = λ c.
         let way = (comes (took + k)).by (suc c) in
@@ -134,39 +142,39 @@ module _ (law : RunsHaveOneEnd) (P : Program) (M : Image) (carries : Carried P M
   }
 
   walked_on :
-      (b : ℕ) (pieces : List (List ℕ)) (t t' : Machine) (m m' : ℕ) (piece : List ℕ) → Walked b pieces t m → GoesAt ⊤ (step M t) t.world.output m t' m' → t'.world.output ≡ t.world.output ++ piece → Walked b (pieces ++ one_piece piece) t' m'
+      (b : ℕ) (pieces : List (List ℕ)) (t t' : Machine) (m m' : ℕ) (piece : List ℕ) → Walked b pieces t m → GoesAt ⊤ (step M t) (mark_in t.world) m t' m' → t'.world.output ≡ t.world.output ++ piece → Walked b (pieces ++ one_piece piece) t' m'
   walked_on b pieces t t' m m' piece w at more =
       let comes' = comes_on w.used at.took t t' w.comes at.later in
       record {
         used = w.used + at.took;
         sum = omega (arith, w.sum, at.sum);
         comes = comes';
-        are = ap (λ (ps : List (List ℕ)). ps ++ one_piece piece) w.are ∙ pieces_by w.used at.took t t' piece w.comes comes' at.sooner (at.free tt) more;
+        are = ap (λ (ps : List (List ℕ)). ps ++ one_piece piece) w.are ∙ pieces_by w.used at.took t t' piece w.comes comes' at.sooner (λ none. ap (λ (m : Mark). m.1.1) (at.free tt none)) more;
       }
 
-  goes_at : (t t' : Machine) (m m' : ℕ) → step M t m ≡ goes_on t' m' → GoesAt ⊤ (step M t) t.world.output m t' m'
-  goes_at t t' m m' is = subst (λ (x : Step). StepsAt ⊤ (step M t) t.world.output m x) is (step_at M t m)
+  goes_at : (t t' : Machine) (m m' : ℕ) → step M t m ≡ goes_on t' m' → GoesAt ⊤ (step M t) (mark_in t.world) m t' m'
+  goes_at t t' m m' is = subst (λ (x : Step). StepsAt ⊤ (step M t) (mark_in t.world) m x) is (step_at M t m)
 
-  walked : (b : ℕ) (pieces : List (List ℕ)) (t : Machine) (m : ℕ) → Writes M (first_state M) b pieces t m → Walked b pieces t m
+  walked : (b : ℕ) (pieces : List (List ℕ)) (t : Machine) (m : ℕ) → Writes M (first_state M input) b pieces t m → Walked b pieces t m
   walked b pieces t m w_none = record { used = 0; sum = omega arith; comes = λ k. let all : 0 + k ≡ k = omega arith in rw all (record { by = λ c. (c, omega arith, refl) }); are = refl }
   walked b pieces t m (w_silent {ps} u u' k k' before is same) =
       let on = walked_on b ps u u' k k' [] (walked b ps u k before) (goes_at u u' k k' is) (same ∙ sym (append-nil u.world.output)) in
       subst (λ (qs : List (List ℕ)). Walked b qs u' k') (append-nil ps) on
   walked b pieces t m (w_piece {ps} u u' k k' piece before is more) = walked_on b ps u u' k k' piece (walked b ps u k before) (goes_at u u' k k' is) more
 
-  module _ (old : Held) (begin : begun M old ≡ first_state M) where
+  module _ (old : Held) (begin : begun M input old ≡ first_state M input) where
     -- what a run wrote in so many ticks, whatever more there were
-    are_pieces : (used : ℕ) (pieces : List (List ℕ)) (stood : Machine) → ((more : ℕ) → Writes M (begun M old) (used + more) pieces stood more) → pieces ≡ pieces_in P used
+    are_pieces : (used : ℕ) (pieces : List (List ℕ)) (stood : Machine) → ((more : ℕ) → Writes M (begun M input old) (used + more) pieces stood more) → pieces ≡ pieces_in P input used
     are_pieces used pieces stood writes =
         let w = walked (used + 0) pieces stood 0 (subst (λ (s : Machine). Writes M s (used + 0) pieces stood 0) begin (writes 0)) in
         let same : w.used ≡ used = omega (arith, w.sum) in
-        w.are ∙ ap (pieces_in P) same
+        w.are ∙ ap (pieces_in P input) same
 
     run_pieces :
-        (ticks : ℕ) (out : SinkSeen) (what : StopKind) (last : List ℕ) (h : InMachinePieces M old ticks out.before out.now what) → h.last ≡ last → RunPieces P ticks last out
+        (ticks : ℕ) (out : SinkSeen) (what : StopKind) (last : List ℕ) (h : InMachinePieces M input old ticks out.before out.now what) → h.last ≡ last → RunPieces P input ticks last out
     run_pieces ticks out what last h is =
         let are = are_pieces h.used h.pieces h.stood h.writes in
-        let output : h.stood.world.output ≡ concat (pieces_in P h.used) = all_pieces M (begun M old) (h.used + 0) refl h.pieces h.stood 0 (h.writes 0) ∙ ap concat are in
+        let output : h.stood.world.output ≡ concat (pieces_in P input h.used) = all_pieces M (begun M input old) (h.used + 0) refl h.pieces h.stood 0 (h.writes 0) ∙ ap concat are in
         record {
           wrote_in = h.used;
           within = h.within;
@@ -174,12 +182,13 @@ module _ (law : RunsHaveOneEnd) (P : Program) (M : Image) (carries : Carried P M
           pieces = rw (← are, ← is) h.in_pieces;
         }
 
-    takes_by : (ticks : ℕ) (out : SinkSeen) (what : StopKind) → InMachinePieces M old ticks out.before out.now what → TakesPieces P ticks out what
+    takes_by : (ticks : ℕ) (out : SinkSeen) (what : StopKind) → InMachinePieces M input old ticks out.before out.now what → TakesPieces P input ticks out what
     unfolding run_pieces
     takes_by ticks out stop.Done h = run_pieces ticks out stop.Done [] h h.only_at_fault
     takes_by ticks out (stop.Failed e) h = run_pieces ticks out (stop.Failed e) [] h h.only_at_fault
     takes_by ticks out stop.Spent h = run_pieces ticks out stop.Spent [] h h.only_at_fault
     takes_by ticks out (stop.Trap pc y) h = run_pieces ticks out (stop.Trap pc y) [] h h.only_at_fault
+    takes_by ticks out stop.InputFault h = run_pieces ticks out stop.InputFault [] h h.only_at_fault
     takes_by ticks out stop.WriteFault h =
         let fault = h.only_at_fault in
         record {
@@ -193,8 +202,44 @@ module _ (law : RunsHaveOneEnd) (P : Program) (M : Image) (carries : Carried P M
         }
     takes_by ticks out stop.Memory h = run_pieces ticks out stop.Memory [] h h.only_at_fault
 
--- the run of a fresh machine
-pub takes_pieces :
-    RunsHaveOneEnd → (P : Program) (M : Image) (old : Held) (ticks : ℕ) (out : SinkSeen) (what : StopKind) →
-    Carried P M → begun M old ≡ first_state M → InMachinePieces M old ticks out.before out.now what → TakesPieces P ticks out what
-takes_pieces law P M old ticks out what carries begin h = takes_by law P M carries old begin ticks out what h
+    -- A step that asks for a line and writes nothing took one tick: there is no other way for what it tells to change.
+    asks_by :
+        (u : ℕ) (t : Machine) (x : Step) → Comes M input u t → step M t 1 ≡ x → StepsAt ⊤ (step M t) (mark_in t.world) 1 x → (step_world x).asked ≡ suc t.world.asked → (step_world x).output ≡ t.world.output →
+        (run_asked (meaning P input (suc u)) ≡ suc t.world.asked) × (run_output (meaning P input (suc u)) ≡ t.world.output)
+    asks_by u t (ends e) comes is at asks silent =
+        let next : u + 1 ≡ suc u = omega arith in
+        let mark = ap (λ (n : ℕ). run_mark (meaning P input n)) (sym next) ∙ ends_behind u 1 t e comes is in
+        (ap (λ (m : Mark). m.1.0) mark ∙ asks, ap (λ (m : Mark). m.1.1) mark ∙ silent)
+    asks_by u t (goes_on b zero) comes is at asks silent =
+        let next : u + at.took ≡ suc u = omega (arith, at.sum) in
+        let mark = ap (λ (n : ℕ). run_mark (meaning P input n)) (sym next) ∙ marked_at (u + at.took) b (comes_on u at.took t b comes at.later) in
+        (ap (λ (m : Mark). m.1.0) mark ∙ asks, ap (λ (m : Mark). m.1.1) mark ∙ silent)
+    asks_by u t (goes_on b (suc m)) comes is at asks silent =
+        let none : at.took ≡ 0 = omega (arith, at.sum) in
+        let same : b.world.asked ≡ t.world.asked = ap (λ (m : Mark). m.1.0) (at.free tt none) in
+        absurd (omega (arith, asks, same))
+
+    asked_in_tick : (new : Held) (ticks : ℕ) (out : SinkSeen) (rest : List ℕ) → AsksAt M input rest old new ticks out.before.taken out.now.taken → AskedInTick P input rest ticks out
+    asked_in_tick new ticks out rest h =
+        let t = h.stood in
+        let comes : Comes M input h.used t = λ k. subst (λ (s : Machine). Leads M s (h.used + k) t k) begin (h.leads k) in
+        let before = marked_at h.used t comes in
+        let asks = h.asks 0 in
+        let now = asks_by h.used t (step M t 1) comes refl (step_at M t 1) asks.0 asks.1 in
+        let less : ticks - 1 ≡ h.used = omega (arith, h.one_more) in
+        record {
+          some = omega (arith, h.one_more);
+          asked = rw (less, h.one_more) (now.0 ∙ ap suc (sym (ap (λ (m : Mark). m.1.0) before)));
+          rest = rw less (sym h.left ∙ sym (ap (λ (m : Mark). m.0) before));
+          output = subst (λ (bytes : List ℕ). Grows out.before.taken out.now.taken bytes) (sym (ap (λ (n : ℕ). run_output (meaning P input n)) h.one_more ∙ now.1)) h.wrote;
+        }
+
+-- all that is said of the run of a fresh machine
+pub run_is :
+    RunsHaveOneEnd → (P : Program) (M : Image) (budget : ℕ) (T : Trees) (old new : Held) (ticks : ℕ) (out : SinkSeen) (what : StopKind) (input rest : List ℕ) →
+    Carried P M → begun M input old ≡ first_state M input → ticks ≤ budget → RunsOn M T old new budget ticks out.before out.now what input rest → RunIs P budget T new ticks out what input rest
+run_is law P M budget T old new ticks out what input rest carries begin most h = record {
+  within = within law P M input budget old ticks out carries begin most h.reaches;
+  stops = stops law P M input rest budget T old new ticks out what carries begin (asked_in_tick law P M input carries old begin new ticks out rest) h.runs;
+  pieces = takes_by law P M input carries old begin ticks out what h.pieces;
+}

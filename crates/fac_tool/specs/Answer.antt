@@ -1,4 +1,4 @@
--- What a command answers, as a function of what its files come to.
+-- What a command answers, as a function of what its files come to and of its input.
 use Rattle.std.specs.Prelude.{ℕ, ◌+◌, ◌-◌, Bool, true, false, List, [], ◌∷◌, ◌++◌, drop, length, map, reverse, None, Some, codes, decimal, nat_le, Result, Ok, Err, if◌then◌else◌}
 use Rattle.std.specs.List.{concat, count_by, sum_by}
 use Rattle.std.specs.declared.option.Option.{Option}
@@ -25,8 +25,8 @@ use Rattle.fac_notes.specs.declared.report.Report.{Report}
 use Rattle.fac_notes.specs.declared.report.Report.TheVariants as report
 use Rattle.fac_notes.specs.Statuses.{status_of}
 use Rattle.fac_notes.specs.WordNames.{word_name, name_text}
-use Rattle.fac_tool.specs.declared.command.Command.{Command}
-use Rattle.fac_tool.specs.declared.command.Command.TheVariants as command
+use Rattle.fac_command.specs.declared.command.Command.{Command}
+use Rattle.fac_command.specs.declared.command.Command.TheVariants as command
 use Rattle.fac_tool.specs.Refusals.{refusal_of}
 
 -- the most bytes of the files of a command together; those of the prelude don't count
@@ -57,21 +57,22 @@ together read file (tree forms ∷ sources) = together (read ++ forms ∷ []) (f
 abbrev pub come_to : List Source → Sources
 come_to sources = together [] 0 sources
 
--- a status with the ticks of the run, the stack's texts from the bottom to the top, the refusal, and the bytes that are written
+-- a status with the ticks of the run, the stack's texts from the bottom to the top, the refusal, the bytes that are written, and those that are left of the input
 pub record Answer : Type 0 where
   pub status : ℕ
   pub ticks : ℕ
   pub stack : Option (List (List ℕ))
   pub refusal : Option Report
   pub output : List ℕ
+  pub left : List ℕ
 
--- nothing runs and nothing is written
-abbrev pub refused : Report → Answer
-refused why = record { status = status_of why; ticks = 0; stack = None; refusal = Some why; output = [] }
+-- nothing runs, nothing is written, and nothing is taken of this input
+abbrev pub refused : Report → List ℕ → Answer
+refused why input = record { status = status_of why; ticks = 0; stack = None; refusal = Some why; output = []; left = input }
 
--- a run of the top-level phrase with so many ticks, where callables are tested by the effects that the checker finds
-abbrev pub meaning : Program → ℕ → Run
-meaning P n = run P fits (callable_height P) n (word_phrase P P.top) (start P [])
+-- a run of the top-level phrase on this input with so many ticks, where callables are tested by the effects that the checker finds
+abbrev pub meaning : Program → List ℕ → ℕ → Run
+meaning P input n = run P fits (callable_height P) n (word_phrase P P.top) (start P input)
 
 -- a printed form, or three dots where it has more than 1,000 bytes
 abbrev pub shown_text : List ℕ → List ℕ
@@ -85,14 +86,14 @@ error_report P w e = report.Error e.name (word_name P e.word) (option_map (shown
 
 -- the answer of a run with this budget; an accepted program is never stuck
 abbrev pub of_run : Program → ℕ → Run → Answer
-of_run P budget (Done st left) = record { status = 0; ticks = budget - left; stack = Some (map (shown P st.world) (reverse st.stack)); refusal = None; output = st.world.output }
-of_run P budget (Failed e st left) = record { status = 1; ticks = budget - left; stack = None; refusal = Some (error_report P st.world e); output = st.world.output }
-of_run P budget (Spent st i) = record { status = 6; ticks = budget; stack = None; refusal = Some (report.Spent budget); output = st.world.output }
-of_run P budget Stuck = record { status = 7; ticks = 0; stack = None; refusal = None; output = [] }
+of_run P budget (Done st more) = record { status = 0; ticks = budget - more; stack = Some (map (shown P st.world) (reverse st.stack)); refusal = None; output = st.world.output; left = st.world.input }
+of_run P budget (Failed e st more) = record { status = 1; ticks = budget - more; stack = None; refusal = Some (error_report P st.world e); output = st.world.output; left = st.world.input }
+of_run P budget (Spent st i) = record { status = 6; ticks = budget; stack = None; refusal = Some (report.Spent budget); output = st.world.output; left = st.world.input }
+of_run P budget Stuck = record { status = 7; ticks = 0; stack = None; refusal = None; output = []; left = [] }
 
--- the answer of a program's run with this budget
-abbrev pub run_answer : Program → ℕ → Answer
-run_answer P budget = of_run P budget (meaning P budget)
+-- the answer of a program's run on this input with this budget
+abbrev pub run_answer : Program → List ℕ → ℕ → Answer
+run_answer P input budget = of_run P budget (meaning P input budget)
 
 -- texts as lines, one behind the other
 abbrev pub stack_lines : List (List ℕ) → List ℕ
@@ -105,11 +106,11 @@ lines_if (Some texts) = stack_lines texts
 
 -- the answer of a run that then writes its stack, from the bottom to the top, where it is done
 abbrev pub with_lines : Answer → Answer
-with_lines answer = record { status = answer.status; ticks = answer.ticks; stack = answer.stack; refusal = answer.refusal; output = answer.output ++ lines_if answer.stack }
+with_lines answer = record { status = answer.status; ticks = answer.ticks; stack = answer.stack; refusal = answer.refusal; output = answer.output ++ lines_if answer.stack; left = answer.left }
 
--- that of a program's run with this budget
-abbrev pub stack_answer : Program → ℕ → Answer
-stack_answer P budget = with_lines (run_answer P budget)
+-- that of a program's run on this input with this budget
+abbrev pub stack_answer : Program → List ℕ → ℕ → Answer
+stack_answer P input budget = with_lines (run_answer P input budget)
 
 -- whether a row defines a word that has a phrase
 abbrev pub gives_phrase : FormKind → Bool
@@ -137,30 +138,36 @@ own_definitions files = definitions_in (drop 1 files)
 abbrev pub checked_line : ℕ → List ℕ
 checked_line count = codes "checked " ++ decimal count ++ codes " definitions\n"
 
-abbrev pub checked_answer : ℕ → Answer
-checked_answer count = record { status = 0; ticks = 0; stack = None; refusal = None; output = checked_line count }
+abbrev pub checked_answer : ℕ → List ℕ → Answer
+checked_answer count input = record { status = 0; ticks = 0; stack = None; refusal = None; output = checked_line count; left = input }
 
--- an accepted program of files with so many definitions
-abbrev pub on_accepted : Command → ℕ → Program → Answer
-on_accepted (command.Check first end) count P = checked_answer count
-on_accepted (command.Run steps first end) count P = run_answer P steps
-on_accepted (command.RunStack steps first end) count P = stack_answer P steps
+-- What `build` does with an accepted program is no function: the image is one of those that carry it. So without it there is only want of memory. The commands on
+-- images have no files.
+abbrev pub no_answer : List ℕ → Answer
+no_answer input = record { status = 12; ticks = 0; stack = None; refusal = None; output = []; left = input }
+
+-- an accepted program of files with so many definitions, on this input
+abbrev pub on_accepted : Command → ℕ → Program → List ℕ → Answer
+on_accepted (command.Check first end) count P input = checked_answer count input
+on_accepted (command.Run steps first end) count P input = run_answer P input steps
+on_accepted (command.RunStack steps first end) count P input = stack_answer P input steps
+on_accepted _ count P input = no_answer input
 
 -- the first refused word by its number, with its refusal, or an accepted program
-abbrev pub on_verdict : Command → ℕ → Program → Option (ℕ × Refusal) → Answer
-on_verdict c count P (Some first) = refused (report.Check (refusal_of first) (name_text (word_name P first.0)))
-on_verdict c count P None = on_accepted c count P
+abbrev pub on_verdict : Command → ℕ → Program → Option (ℕ × Refusal) → List ℕ → Answer
+on_verdict c count P (Some first) input = refused (report.Check (refusal_of first) (name_text (word_name P first.0))) input
+on_verdict c count P None input = on_accepted c count P input
 
 -- a refused name, or a program, whose top-level phrase starts from no value
-abbrev pub on_resolved : Command → ℕ → Result Program NameFault → Answer
-on_resolved c count (Err fault) = refused (report.Name fault)
-on_resolved c count (Ok P) = on_verdict c count P (verdict P 0)
+abbrev pub on_resolved : Command → ℕ → Result Program NameFault → List ℕ → Answer
+on_resolved c count (Err fault) input = refused (report.Name fault) input
+on_resolved c count (Ok P) input = on_verdict c count P (verdict P 0) input
 
--- by what the files come to
-abbrev pub answer_on : Command → Sources → Answer
-answer_on c (no_tokens_in file at why) = refused (report.Bytes file at why)
-answer_on c (no_tree_in file at why) = refused (report.Syntax file at why)
-answer_on c (trees files) = on_resolved c (own_definitions files) (resolved files)
+-- by what the files come to, on this input
+abbrev pub answer_on : Command → Sources → List ℕ → Answer
+answer_on c (no_tokens_in file at why) input = refused (report.Bytes file at why) input
+answer_on c (no_tree_in file at why) input = refused (report.Syntax file at why) input
+answer_on c (trees files) input = on_resolved c (own_definitions files) (resolved files) input
 
 -- the accepted program of the files, where there is one
 abbrev pub if_accepted : Program → Option (ℕ × Refusal) → Option Program

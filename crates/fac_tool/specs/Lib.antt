@@ -1,9 +1,11 @@
-pub mod Command
 pub mod SeenObjects
 pub mod Refusals
 pub mod Answer
 pub mod Sources
 pub mod ToldNotes
 pub mod Ends
+pub mod Saved
+pub mod ImageLoads
+pub mod Executed
 pub mod Answers
 pub mod inner

@@ -1,9 +1,11 @@
 -- What a call did to the objects that it was handed.
-use Rattle.std.specs.Prelude.{ℕ, List}
+use Rattle.std.specs.Prelude.{◌≡◌, ℕ, List}
 use Rattle.std.specs.declared.option.Option.{Option}
 use Rattle.fac_io.specs.declared.files.Asked.{Asked}
 use Rattle.fac_io.specs.Names.{Held}
-use Rattle.fac_io.specs.Told.{SinkTold, sink_tells}
+use Rattle.fac_io.specs.Told.{SinkTold, sink_tells, Told, Stays}
+use Rattle.fac_lines.specs.LineAnswers.{bytes_left}
+use Rattle.fac_lines.specs.SeenLines.{LinesSeen}
 
 -- a sink: what it tells of the bytes that it took and of their pieces, and its count of faults, before the call and now
 pub record SinkSeen : Type 0 where
@@ -30,3 +32,31 @@ pub record FilesSeen : Type 0 where
 abbrev pub files_seen : {F : Type 0} → (F → Option Held) → (F → Option (List Asked)) → (F → ℕ) → F → F → FilesSeen
 files_seen held asked faults old new =
     record { held_before = held old; held_now = held new; asked_before = asked old; asked_now = asked new; faults_before = faults old; faults_now = faults new }
+
+-- the lines of an input: the bytes that are left, where that is told, and the count of faults, before the call and now
+pub record InputSeen : Type 0 where
+  pub before : Option (List ℕ)
+  pub now : Option (List ℕ)
+  pub faults_before : ℕ
+  pub faults_now : ℕ
+
+-- lines of a source of some kind, which tells these, as they were and as they are
+abbrev pub input_seen : {S : Type 0} → (S → Option (List ℕ)) → (S → ℕ) → LinesSeen S → LinesSeen S → InputSeen
+input_seen left faults old new =
+    record { before = bytes_left old.kept (left old.source); now = bytes_left new.kept (left new.source); faults_before = faults old.source; faults_now = faults new.source }
+
+-- where the bytes are told, these were left before, and these are left now
+abbrev pub IsInput : InputSeen → List ℕ → List ℕ → Type 0
+IsInput seen input left = Told seen.before seen.now (λ before now. (before ≡ input) × (now ≡ left))
+
+-- nothing was taken of the input, and it didn't fail
+pub record IsUnread (seen : InputSeen) : Type 0 where
+  pub left : Stays seen.before seen.now
+  pub count : seen.faults_now ≡ seen.faults_before
+
+-- There is an input, of which something is left, with which this holds. Where the bytes are told it is theirs.
+pub record OnInput (seen : InputSeen) (Holds : List ℕ → List ℕ → Type 0) : Type 0 where
+  pub input : List ℕ
+  pub left : List ℕ
+  pub is_input : IsInput seen input left
+  pub holds : Holds input left

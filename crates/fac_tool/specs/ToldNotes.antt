@@ -10,12 +10,15 @@ memory_note = codes "out of memory\n"
 abbrev pub usage_note : List ℕ
 usage_note = codes "usage: factorc check, run, build, exec, list, listen or gen\n"
 
+abbrev pub input_fault_note : ℕ → List ℕ
+input_fault_note ticks = codes "input fault after " ++ decimal ticks ++ codes " ticks\n"
+
 abbrev pub write_fault_note : ℕ → List ℕ
 write_fault_note ticks = codes "write fault after " ++ decimal ticks ++ codes " ticks\n"
 
 -- the note of a status that comes without a report; usage has a note of its own
 abbrev pub note_of_status : ℕ → ℕ → List ℕ
-note_of_status status ticks = (if status == 10 then write_fault_note ticks else if status == 12 then memory_note else [])
+note_of_status status ticks = (if status == 9 then input_fault_note ticks else if status == 10 then write_fault_note ticks else if status == 12 then memory_note else [])
 
 abbrev pub note_of : List (List ℕ) → ℕ → ℕ → Option Report → List ℕ
 note_of names status ticks None = note_of_status status ticks

@@ -1,4 +1,5 @@
 -- What only the contracts of inner functions cite.
 pub mod Stops
 pub mod StepEnds
+pub mod ImageSteps
 pub mod ListedStacks

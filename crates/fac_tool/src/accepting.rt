@@ -7,7 +7,7 @@ ghost use Rattle.fac_check.specs.Judged.{OfEach, StandsForBuilt, refusal_if, ref
 ghost use Rattle.fac_check.specs.Verdicts.{verdict};
 ghost use Rattle.fac_names.specs.Resolution.{resolved};
 ghost use Rattle.fac_parse.specs.Trees.{AreWellFormed, forms_of};
-ghost use Rattle.fac_tool.specs.declared.command.Command.{Command as CommandSeen};
+ghost use Rattle.fac_command.specs.declared.command.Command.{Command as CommandSeen};
 ghost use Rattle.fac_tool.specs.Answer.{on_resolved, on_verdict, own_definitions};
 ghost use Rattle.fac_tool.specs.inner.Stops.{SameNames, StandsFor, StandsForSafe};
 ghost use Rattle.fac_tool.specs.inner.StepEnds.{Accepts, EndsEarly, Steps, StepsOn};

@@ -1,11 +1,11 @@
 //! The definitions of a command's files, and the line that tells how many there are.
-ghost use Rattle.std.specs.Prelude.{◌≡◌, ◌≤◌, length, IfOk};
+ghost use Rattle.std.specs.Prelude.{◌≡◌, ◌≤◌, ℕ, List, length, IfOk};
 ghost use Rattle.std.specs.List.{count_by};
 ghost use Rattle.fac_io.specs.Faults.{HasCause};
 ghost use Rattle.fac_parse.specs.Trees.{forms_of};
 ghost use Rattle.fac_tool.specs.Answer.{checked_answer, checked_line as line_of_checked, definitions_in as defined_in, gives_phrase, is_definition as is_defined, own_definitions};
 ghost use Rattle.fac_tool.specs.Ends.{EndsAs, idle};
-ghost use Rattle.fac_tool.specs.SeenObjects.{sink_seen};
+ghost use Rattle.fac_tool.specs.SeenObjects.{sink_seen, InputSeen};
 
 use crate::Ended;
 use crate::ended::bare;
@@ -98,7 +98,7 @@ fn checked_line(alloc: Global, definitions: u64) -> Result<Text, Memory>
 
 /// Tells that files with so many definitions were checked, in one write.
 pub fn tell_checked<K: Sink>(alloc: Global, definitions: u64, out: &mut K) -> Ended
-    ensures ends { EndsAs (checked_answer definitions) idle (sink_seen K.taken K.pieces K.faults out.old out.new) result }
+    ensures ends { (input : List ℕ) (seen : InputSeen) → EndsAs (checked_answer definitions input) idle (sink_seen K.taken K.pieces K.faults out.old out.new) seen input result }
     ensures counts { K.faults out.old ≤ K.faults out.new }
 {
     match checked_line(alloc, definitions) {

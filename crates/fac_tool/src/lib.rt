@@ -2,20 +2,23 @@
 #![tactic(auto)]
 
 mod accepting;
-mod command;
 mod definitions;
 mod ended;
+mod executing;
+mod images;
 mod laws;
+mod linking;
 mod listing;
 mod loading;
 mod program_run;
 mod reading;
+mod saving;
 mod telling;
 mod tool;
 mod work;
 
-pub use command::{Command, read_words};
 pub use ended::Ended;
+pub use fac_command::{Command, read_words};
 pub use fac_notes::{ByteFault, Report};
 pub use laws::{every_text_is_a_source, one_source};
 pub use telling::tell_no_words;

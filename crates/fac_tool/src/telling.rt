@@ -38,7 +38,9 @@ fn status_note(alloc: Global, status: u8, ticks: u64) -> Result<Text, Memory>
     ensures note { IfOk result (λ note. note ≡ note_of_status status ticks) }
     ensures some { OnErr result (0 < length (note_of_status status ticks)) }
 {
-    let note = if status == 10 {
+    let note = if status == 9 {
+        format!(in alloc; "input fault after {ticks} ticks\n")?
+    } else if status == 10 {
         format!(in alloc; "write fault after {ticks} ticks\n")?
     } else if status == 12 {
         format!(in alloc; "out of memory\n")?

@@ -1,52 +1,61 @@
 //! The top call.
-ghost use Rattle.std.specs.Prelude.{◌≡◌, ◌⊎◌, None, map, string_bytes};
+ghost use Rattle.std.specs.Prelude.{◌≡◌, ◌⊎◌, None, length, map, string_bytes};
 ghost use Rattle.fac_io.specs.Faults.{Rose};
-ghost use Rattle.fac_tool.specs.Command.{command_of};
-ghost use Rattle.fac_tool.specs.SeenObjects.{sink_seen, files_seen};
+ghost use Rattle.fac_lines.specs.LineAnswers.{AtEnd};
+ghost use Rattle.fac_command.specs.Command.{StandAmong, command_of};
+ghost use Rattle.fac_tool.specs.SeenObjects.{sink_seen, files_seen, input_seen};
 ghost use Rattle.fac_tool.specs.Answers.{Answers, Works};
 
 use crate::telling::{tell, tell_usage};
 use crate::work::work;
 use crate::{Command, Ended, read_words};
-use fac_io::{Files, Sink};
+use fac_io::{Files, Sink, Source};
+use fac_lines::Lines;
 use std::alloc::Global;
 
-// Does the work of a command on the files of these names, and tells how it ended.
-fn work_and_tell<F: Files, K: Sink, N: Sink>(
+// Does the work of the command of these words, and tells how it ended.
+fn work_and_tell<F: Files, S: Source, K: Sink, N: Sink>(
     alloc: Global,
     command: Command,
-    names: &[String],
+    words: &[String],
     files: &mut F,
+    input: &mut Lines<S>,
     out: &mut K,
     notes: &mut N,
 ) -> Ended
-    ensures { Works (map string_bytes names.now) command
+    requires among { StandAmong (length words.now) command }
+    requires at_end { AtEnd input.old.ended (S.left input.old.source) }
+    ensures { Works (map string_bytes words.now) command
         (files_seen F.held F.asked F.faults files.old files.new)
+        (input_seen S.left S.faults input.old input.new)
         (sink_seen K.taken K.pieces K.faults out.old out.new)
         (sink_seen N.taken N.pieces N.faults notes.old notes.new)
         result }
 {
-    let reached = work(alloc, command, names, files, out);
-    tell(alloc, names, reached, notes)
+    let reached = work(alloc, command, words, files, input, out);
+    tell(alloc, command.names(words), reached, notes)
 }
 
 // Does what the words of a command line ask for, and tells how it ended.
-fn answer<F: Files, K: Sink, N: Sink>(
+fn answer<F: Files, S: Source, K: Sink, N: Sink>(
     alloc: Global,
     words: &[String],
     files: &mut F,
+    input: &mut Lines<S>,
     out: &mut K,
     notes: &mut N,
 ) -> Ended
+    requires { AtEnd input.old.ended (S.left input.old.source) }
     ensures { Answers (map string_bytes words.now)
         (files_seen F.held F.asked F.faults files.old files.new)
+        (input_seen S.left S.faults input.old input.new)
         (sink_seen K.taken K.pieces K.faults out.old out.new)
         (sink_seen N.taken N.pieces N.faults notes.old notes.new)
         result }
 {
     match read_words(words) {
         None => tell_usage(notes),
-        Some(command) => work_and_tell(alloc, command, command.names(words), files, out, notes),
+        Some(command) => work_and_tell(alloc, command, words, files, input, out, notes),
     }
 }
 
@@ -56,20 +65,26 @@ fn answer<F: Files, K: Sink, N: Sink>(
 /// which, run alone, writes exactly the bytes and ends with the stack, named error or spent budget of the source's concatenative meaning; and
 /// no accepted program underflows a stack or changes its height other than its declared effects say.
 ///
-/// The clause `answer` says what is answered, by cases on the command and on what the prelude and its files come to: of `run`, at every budget
-/// of at most 1,000,000,000,000 ticks, and of `check`, on files of at most 4,194,304 bytes together, and of programs that read no input. That
-/// a run goes through code isn't in it: `compile` and `Machine::run` promise that. Want of memory may be answered at any point; a fault only
-/// where the object that was handed in counted one.
-pub fn factor_top<F: Files, K: Sink, N: Sink>(
+/// The clause `answer` says what is answered, by cases on the command and on what the prelude and its files come to: of `check`, `run` and `build`,
+/// on files of at most 4,194,304 bytes together, of `run` on every input and at every budget of at most 1,000,000,000,000 ticks; and of `exec` and
+/// `list`, by cases on the bytes of their image. What `build` saves is the image of code that carries the program, and what `exec` answers is the
+/// run of the image of its bytes. That `run` goes through code isn't in it: `compile` and `Machine::run` promise that. Want of memory may be
+/// answered at any point; a fault only where the object that was handed in counted one.
+pub fn factor_top<F: Files, S: Source, K: Sink, N: Sink>(
     alloc: Global,
     words: &[String],
     files: &mut F,
+    input: &mut Lines<S>,
     out: &mut K,
     notes: &mut N,
 ) -> Ended
-    // The status, the ticks, the stack, the refusal, the output in its pieces and the note, by the command and the bytes of its files.
+    // Where it is known that the input has ended, its source has nothing left.
+    requires { AtEnd input.old.ended (S.left input.old.source) }
+    // The status, the ticks, the stack, the refusal, the output in its pieces, what is left of the input, and the note, by the command, the bytes
+    // of its files and the input.
     ensures answer { Answers (map string_bytes words.now)
         (files_seen F.held F.asked F.faults files.old files.new)
+        (input_seen S.left S.faults input.old input.new)
         (sink_seen K.taken K.pieces K.faults out.old out.new)
         (sink_seen N.taken N.pieces N.faults notes.old notes.new)
         result }
@@ -77,7 +92,8 @@ pub fn factor_top<F: Files, K: Sink, N: Sink>(
     // The causes, each by itself. They follow from `answer`.
     ensures usage { result.status ≡ 2 → command_of (map string_bytes words.now) ≡ None }
     ensures file_fault { result.status ≡ 8 → Rose (F.faults files.old) (F.faults files.new) }
+    ensures input_fault { result.status ≡ 9 → Rose (S.faults input.old.source) (S.faults input.new.source) }
     ensures write_fault { result.status ≡ 10 → Rose (K.faults out.old) (K.faults out.new) ⊎ Rose (N.faults notes.old) (N.faults notes.new) }
 {
-    answer(alloc, words, files, out, notes)
+    answer(alloc, words, files, input, out, notes)
 }

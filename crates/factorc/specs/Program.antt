@@ -6,7 +6,7 @@ use Rattle.std.specs.declared.process.ExitCode.{ExitCode}
 use Rattle.std.specs.declared.vec.IntoIter.{IntoIter}
 use Rattle.std.specs.declared.string.String.{String}
 use Rattle.fac_tool.specs.declared.ended.Ended.{Ended}
-use Rattle.fac_tool.specs.SeenObjects.{SinkSeen, FilesSeen}
+use Rattle.fac_tool.specs.SeenObjects.{SinkSeen, FilesSeen, InputSeen}
 use Rattle.fac_tool.specs.Answers.{Answers, IsIdle, TellsNoWords}
 
 -- the words of a command line behind the program's name; no words, where one of them isn't text
@@ -14,10 +14,10 @@ abbrev pub words_given : {Z E : Type 0} → Result (IntoIter (String Z) Z) E →
 words_given (Ok words) = drop 1 (map string_bytes (into_iter_items words))
 words_given (Err error) = []
 
--- the top call was made on these words, with these files, this output and these notes, and the program ends with its status
-pub record Calls (words : List (List ℕ)) (files : FilesSeen) (out notes : SinkSeen) (code : ExitCode) : Type 0 where
+-- the top call was made on these words, with these files, this input, this output and these notes, and the program ends with its status
+pub record Calls (words : List (List ℕ)) (files : FilesSeen) (seen : InputSeen) (out notes : SinkSeen) (code : ExitCode) : Type 0 where
   pub ended : Ended
-  pub answers : Answers words files out notes ended
+  pub answers : Answers words files seen out notes ended
   pub status : exit_status code ≡ ended.status
 
 -- that there was no memory for the words was told, and the program ends with the status of that
@@ -27,5 +27,5 @@ pub record TellsCode (notes : SinkSeen) (code : ExitCode) : Type 0 where
   pub status : exit_status code ≡ ended.status
 
 -- what the program does on the words that it is given; without memory for them it does nothing else than tell that
-abbrev pub ProgramRuns : List (List ℕ) → FilesSeen → SinkSeen → SinkSeen → ExitCode → Type 0
-ProgramRuns words files out notes code = Calls words files out notes code ⊎ (IsIdle files out × TellsCode notes code)
+abbrev pub ProgramRuns : List (List ℕ) → FilesSeen → InputSeen → SinkSeen → SinkSeen → ExitCode → Type 0
+ProgramRuns words files seen out notes code = Calls words files seen out notes code ⊎ (IsIdle files seen out × TellsCode notes code)

@@ -1,26 +1,12 @@
--- The methods of generics: their places and their rows.
-use Rattle.std.specs.Prelude.{◌≡◌, ◌<◌, ℕ, suc, List, [], ◌∷◌, map, length, get_or, slice_set, Option, Some}
+-- The methods of generics: their rows.
+use Rattle.std.specs.Prelude.{ℕ, List, [], ◌∷◌, map, Option, Some}
 use Rattle.fac_lang.specs.declared.program.Program.{Program}
 use Rattle.fac_lang.specs.declared.program.Sort.{Sort}
 use Rattle.fac_lang.specs.declared.program.Sort.TheVariants.{Generic as generic, Method as method}
-use Rattle.fac_lang.specs.Meaning.{sort_of, generic_of}
+use Rattle.fac_lang.specs.Meaning.{sort_of}
 use Rattle.fac_code.specs.declared.image.GenericRow.{GenericRow}
 use Rattle.fac_generic.specs.Methods.{methods_in_order}
-use Rattle.fac_emit.specs.ProgramTables.{method_number, method_row}
-use Rattle.fac_emit.specs.inner.Numbered.{IsMethod, number_at}
-
--- each number is below this one
-abbrev pub AreBelow : ℕ → List ℕ → Type 0
-AreBelow n ms = (i : ℕ) → i < length ms → get_or ms i 0 < n
-
--- these places with those of methods, of which the first has this place
-abbrev pub placed : List ℕ → ℕ → List ℕ → List ℕ
-placed [] j ns = ns
-placed (m ∷ ms) j ns = placed ms (suc j) (slice_set ns m j)
-
--- the places of the methods of those generics whose words are below word g, among those of their generics, by their words
-abbrev pub HasPlacesBelow : Program → ℕ → List ℕ → Type 0
-HasPlacesBelow C g ns = (m : ℕ) → IsMethod (sort_of C m) → generic_of C (sort_of C m) < g → number_at ns m ≡ method_number C m
+use Rattle.fac_emit.specs.ProgramTables.{method_row}
 
 -- the class of a method
 abbrev pub class_by : Option Sort → ℕ

@@ -1,32 +1,18 @@
--- The code of a word and of a template that were looked up, and their texts.
-use Rattle.std.specs.Prelude.{◌≡◌, ℕ, List, [], Option, Some, None}
+-- The code of a word and of a template that were looked up.
+use Rattle.std.specs.Prelude.{ℕ, List, [], Option, Some, None}
 use Rattle.fac_lang.specs.declared.phrase.Template.{Template}
 use Rattle.fac_lang.specs.declared.program.Program.{Program}
 use Rattle.fac_lang.specs.declared.program.WordDef.{WordDef}
 use Rattle.fac_code.specs.declared.image.Instr.{Instr}
 use Rattle.fac_code.specs.declared.image.Instr.TheVariants.{Ret}
-use Rattle.fac_emit.specs.declared.emitter.Piece.{Piece}
-use Rattle.fac_emit.specs.ProgramCode.{phrase_code, phrase_texts, sort_texts, word_code}
-
--- a piece with this code and these texts
-abbrev pub IsCodeOf : List Instr → List (List ℕ) → Piece → Type 0
-IsCodeOf code texts piece = (piece.code ≡ code) × (piece.texts ≡ texts)
+use Rattle.fac_emit.specs.ProgramCode.{phrase_code, word_code}
 
 -- a number that no word has has no code
 abbrev pub found_code : Program → List Template → ℕ → Option WordDef → List Instr
 found_code C templates w None = []
-found_code C templates w (Some d) = word_code C templates [] w d
-
--- its texts
-abbrev pub found_texts : Option WordDef → List (List ℕ)
-found_texts None = []
-found_texts (Some d) = sort_texts [] d.sort
+found_code C templates w (Some d) = word_code C templates w d
 
 -- likewise for templates
 abbrev pub found_template : Program → List Template → Option Template → List Instr
 found_template C templates None = []
-found_template C templates (Some t) = phrase_code C templates Ret [] t.body
-
-abbrev pub found_template_texts : Option Template → List (List ℕ)
-found_template_texts None = []
-found_template_texts (Some t) = phrase_texts [] t.body
+found_template C templates (Some t) = phrase_code C templates Ret t.body

@@ -1,11 +1,17 @@
--- The row that the kinds of an image have for a class.
-use Rattle.std.specs.Prelude.{ℕ, List, [], ◌∷◌, true, false}
+-- The row that the kinds of an image have for a class, and the pair that a word has.
+use Rattle.std.specs.Prelude.{ℕ, List, [], ◌∷◌, true, false, Option, Some, None}
+use Rattle.fac_lang.specs.declared.phrase.Template.{Template}
+use Rattle.fac_lang.specs.declared.program.ClassDef.{ClassDef}
 use Rattle.fac_lang.specs.declared.program.Program.{Program}
-use Rattle.fac_lang.specs.declared.program.Shape.{Shape}
 use Rattle.fac_lang.specs.Classes.{has_own}
 use Rattle.fac_code.specs.declared.image.KindRow.{KindRow}
-use Rattle.fac_emit.specs.ProgramTables.{slot_numbers}
+use Rattle.fac_emit.specs.ProgramTables.{kind_row_of}
 
--- that of class c, whose name is this text, where it has a kind of its own
-abbrev pub own_rows : Program → ℕ → ℕ → Shape → List KindRow
-own_rows C at c s = elim (has_own s) [ true ↦ record { name = at; slots = slot_numbers C c s } ∷ [] | false ↦ [] ]
+-- that of class c, where it has a kind of its own
+abbrev pub own_rows : Program → List Template → ℕ → ClassDef → List KindRow
+own_rows C templates c d = elim (has_own d.shape) [ true ↦ kind_row_of C templates c d ∷ [] | false ↦ [] ]
+
+-- that of a word, where it is that of a class with this kind
+abbrev pub own_pairs : ℕ → Option ℕ → List (ℕ × ℕ)
+own_pairs w None = []
+own_pairs w (Some k) = (w, k) ∷ []

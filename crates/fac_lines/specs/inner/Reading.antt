@@ -1,11 +1,11 @@
 -- Reading for a line.
-use Rattle.std.specs.Prelude.{◌≡◌, ◌≤◌, ◌+◌, ℕ, List, [], ◌++◌, length, Result, Ok, Err, IfSome}
+use Rattle.std.specs.Prelude.{◌≡◌, ◌≤◌, ◌+◌, ℕ, List, [], ◌++◌, length, Bool, Result, Ok, Err}
 use Rattle.std.specs.declared.option.Option.{Option}
 use Rattle.std.specs.Io.KnownBytes.{Consumes, Keeps, IsAtEnd}
 use Rattle.fac_io.specs.Faults.{Rose}
 use Rattle.fac_lines.specs.declared.line_fault.LineFault.{LineFault}
 use Rattle.fac_lines.specs.declared.line_fault.LineFault.TheVariants as fault
-use Rattle.fac_lines.specs.LineAnswers.{LineAnswers, AreWanted, FrontWhereFailed}
+use Rattle.fac_lines.specs.LineAnswers.{AreWanted, AnswersFrom, FrontWhereFailed}
 
 -- a piece has the bytes of one read
 abbrev pub Fills : Option (List ℕ) → Option (List ℕ) → Result ℕ LineFault → List ℕ → Type 0
@@ -32,10 +32,6 @@ pub record ReadsOn (before after : Option (List ℕ)) (front front' : List ℕ) 
   pub all : front' ≡ front ++ given
 
 -- the answer where bytes were read behind the front of a line, and the bytes that are kept then
-pub record ReadsLine (before after : Option (List ℕ)) (front : List ℕ) (answer : Result (Option (List ℕ)) LineFault) (now : List ℕ) : Type 0 where
-  pub given : List ℕ
-  pub consumed : Consumes before after given
-  pub wanted : AreWanted front given
-  pub answers : LineAnswers (front ++ given) answer now
-  pub further : IfSome after (λ behind. LineAnswers ((front ++ given) ++ behind) answer (now ++ behind))
+pub record ReadsLine (before after : Option (List ℕ)) (was_ended is_ended : Bool) (front : List ℕ) (answer : Result (Option (List ℕ)) LineFault) (now : List ℕ) : Type 0 where
+  pub from : AnswersFrom before after was_ended is_ended front answer now
   pub failed : FrontWhereFailed now answer

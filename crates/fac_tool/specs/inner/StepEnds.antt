@@ -12,18 +12,31 @@ use Rattle.fac_notes.specs.declared.report.ByteFault.TheVariants as byte
 use Rattle.fac_notes.specs.declared.report.Report.{Report}
 use Rattle.fac_notes.specs.declared.report.Report.TheVariants as report
 use Rattle.fac_notes.specs.Statuses.{status_of}
-use Rattle.fac_tool.specs.declared.command.Command.{Command}
+use Rattle.std.specs.declared.option.Option.{Option}
+use Rattle.fac_command.specs.declared.command.Command.{Command}
+use Rattle.fac_command.specs.declared.command.Command.TheVariants as command
 use Rattle.fac_tool.specs.declared.ended.Ended.{Ended}
 use Rattle.fac_tool.specs.declared.accepting.Accepted.{Accepted}
-use Rattle.fac_tool.specs.Answer.{Answer, Source, tree, trees, together, come_to, answer_on, limit, own_definitions}
+use Rattle.fac_tool.specs.Answer.{Answer, Source, tree, trees, together, come_to, answer_on, limit, own_definitions, run_answer}
 use Rattle.fac_tool.specs.Sources.{IsReadAs, AreReadWithPrelude}
 use Rattle.fac_io.specs.declared.files.Asked.TheVariants.{Load}
 use Rattle.fac_io.specs.Faults.{Rose}
 use Rattle.fac_io.specs.Told.{SinkTold, Stays, Grows}
-use Rattle.fac_tool.specs.SeenObjects.{SinkSeen, FilesSeen}
-use Rattle.fac_tool.specs.Ends.{Work, EndsAs}
+use Rattle.fac_tool.specs.SeenObjects.{SinkSeen, FilesSeen, InputSeen}
+use Rattle.fac_tool.specs.Ends.{Work, runs, StopsWithin, EndsAs, EndsOn}
 use Rattle.fac_tool.specs.inner.Stops.{StandsForSafe}
 use Rattle.fac_tool.specs.Answers.{LoadsGive, LoadsEnd}
+
+-- a command that asks for something on an accepted program
+abbrev pub AsksProgram : Command → Type 0
+AsksProgram (command.Check first end) = Unit {0}
+AsksProgram (command.Run steps first end) = Unit {0}
+AsksProgram (command.RunStack steps first end) = Unit {0}
+AsksProgram _ = ⊥
+
+abbrev pub IsBuild : Command → Type 0
+IsBuild (command.Build first end image) = Unit {0}
+IsBuild _ = ⊥
 
 -- an ending with neither a stack nor a refusal
 abbrev pub bare : ℕ → ℕ → Ended
@@ -45,29 +58,37 @@ fault_ending file token.Memory = bare 12 0
 abbrev pub still : SinkTold → ℕ → SinkSeen
 still told faults = record { before = told; now = told; faults_before = faults; faults_now = faults }
 
--- an ending before anything is written and whatever the work was to be: the answer, or want of memory
-abbrev pub EndsEarly : Answer → Ended → Type 0
-EndsEarly answer ended = (work : Work) (told : SinkTold) (faults : ℕ) → EndsAs answer work (still told faults) ended
+-- an input that stays as it was
+abbrev pub still_input : Option (List ℕ) → ℕ → InputSeen
+still_input told faults = record { before = told; now = told; faults_before = faults; faults_now = faults }
 
--- a step of work that has these answers, by the command: it gives a result of which this holds, or the work ends
-abbrev pub Steps : {A : Type 0} → (A → Type 0) → (Command → Answer) → Result A Ended → Type 0
+-- an ending before anything is read or written, whatever the work was to be and on whatever input: the answer, or want of memory
+abbrev pub EndsEarly : (List ℕ → Answer) → Ended → Type 0
+EndsEarly answer ended = (input : List ℕ) (work : Work) (told : SinkTold) (faults : ℕ) (seen : InputSeen) → EndsAs (answer input) work (still told faults) seen input ended
+
+-- a step of work that has these answers, by the command and the input: it gives a result of which this holds, or the work ends
+abbrev pub Steps : {A : Type 0} → (A → Type 0) → (Command → List ℕ → Answer) → Result A Ended → Type 0
 Steps holds answer (Ok result) = holds result
 Steps holds answer (Err ended) = (command : Command) → EndsEarly (answer command) ended
 
 -- a step that ends the work for want of memory alone
 abbrev pub StepsOn : {A : Type 0} → (A → Type 0) → Result A Ended → Type 0
 StepsOn holds (Ok result) = holds result
-StepsOn holds (Err ended) = (answer : Answer) → EndsEarly answer ended
+StepsOn holds (Err ended) = (answer : List ℕ → Answer) → EndsEarly answer ended
 
--- the last step ends the work, as the steps before it may
-abbrev pub StepsEnd : Answer → Work → SinkSeen → Result Ended Ended → Type 0
-StepsEnd answer work out (Ok ended) = EndsAs answer work out ended
-StepsEnd answer work out (Err ended) = EndsAs answer work out ended
+-- how a run of a program ends, and how far it came
+pub record EndsRun (P : Program) (budget : ℕ) (out : SinkSeen) (seen : InputSeen) (ended : Ended) (input left : List ℕ) : Type 0 where
+  pub within : StopsWithin P input budget ended.ticks out
+  pub ends : EndsAs (run_answer P input budget) (runs P input budget) out seen left ended
 
 -- the ending of steps
 abbrev pub ended_by : Result Ended Ended → Ended
 ended_by (Ok ended) = ended
 ended_by (Err ended) = ended
+
+-- the last step ends the work, as the steps before it may
+abbrev pub StepsEnd : (List ℕ → Answer) → (List ℕ → Work) → SinkSeen → InputSeen → Result Ended Ended → List ℕ → List ℕ → Type 0
+StepsEnd answer work out seen result input left = EndsOn answer work out seen (ended_by result) input left
 
 -- a load gave this text, of at most so many bytes
 pub record LoadGives (name : List ℕ) (room : ℕ) (files : FilesSeen) (text : List ℕ) : Type 0 where

@@ -33,7 +33,7 @@ use Rattle.fac_notes.specs.declared.report.Report.TheVariants as report
 use Rattle.fac_notes.specs.WordNames.{word_name}
 use Rattle.fac_tool.specs.Answer.{meaning, shown_text}
 use Rattle.fac_tool.specs.SeenObjects.{SinkSeen}
-use Rattle.fac_tool.specs.Ends.{RunPieces, RunFront}
+use Rattle.fac_tool.specs.Ends.{StopsWithin, AskedInTick, RunPieces, RunFront}
 
 -- the program for which a closed one stands
 pub record StandsFor (closed : Closed) (P : Program) : Type 0 where
@@ -56,7 +56,7 @@ SameNames P C = (w : ℕ) → word_name C w ≡ word_name P w
 -- with the checker's test of effects the image carries the program, whose top-level phrase isn't stuck from no value
 pub record Carried (P : Program) (M : Image) : Type 0 where
   pub carries : Carries P (callable_height P) 0 M
-  pub not_stuck : (n : ℕ) → IsNotStuck (meaning P n)
+  pub not_stuck : (input : List ℕ) (n : ℕ) → IsNotStuck (meaning P input n)
 
 -- a machine that holds no value, and no objects but the literal arrays of its image as they were made
 pub record IsFresh (machine : MachineSeen) : Type 0 where
@@ -64,32 +64,41 @@ pub record IsFresh (machine : MachineSeen) : Type 0 where
   pub objects : objects_of machine.store ≡ (first_world machine.image []).objects
   pub literals : machine.literals ≡ (first_world machine.image []).literals
 
--- where its run begins
-abbrev pub first_state : Image → Machine
-first_state M = starting M [] (first_world M [])
+-- where its run on this input begins
+abbrev pub first_state : Image → List ℕ → Machine
+first_state M input = starting M [] (first_world M input)
 
--- How a run with this budget stopped that left this, where the machine's callables are these. The world of the meaning is that of the machine, which has
--- the objects that are held.
-abbrev pub StopsAs : Program → ℕ → Trees → Held → ℕ → SinkSeen → StopKind → Type 0
-StopsAs P budget T held ticks out stop.Done =
-    (st : State Value) × (left : ℕ) × (meaning P budget ≡ Done st left) × (ticks ≡ budget - left) × Grows out.before.taken out.now.taken st.world.output ×
+-- How a run on this input with this budget stopped that left this, where the machine's callables are these. The world of the meaning is that of the machine,
+-- which has the objects that are held.
+abbrev pub StopsAs : Program → List ℕ → List ℕ → ℕ → Trees → Held → ℕ → SinkSeen → StopKind → Type 0
+StopsAs P input left budget T held ticks out stop.Done =
+    (st : State Value) × (more : ℕ) × (meaning P input budget ≡ Done st more) × (ticks ≡ budget - more) × (left ≡ st.world.input) × Grows out.before.taken out.now.taken st.world.output ×
     (w : World MValue) × (w.objects ≡ held.objects) × (st ≡ state_view (template_phrases P) held.stack w)
-StopsAs P budget T held ticks out (stop.Failed e) =
-    (x : Error Value) × (st : State Value) × (left : ℕ) × (meaning P budget ≡ Failed x st left) × (ticks ≡ budget - left) × Grows out.before.taken out.now.taken st.world.output ×
+StopsAs P input left budget T held ticks out (stop.Failed e) =
+    (x : Error Value) × (st : State Value) × (more : ℕ) × (meaning P input budget ≡ Failed x st more) × (ticks ≡ budget - more) × (left ≡ st.world.input) × Grows out.before.taken out.now.taken st.world.output ×
     (w : World MValue) × (w.objects ≡ held.objects) × (st.world ≡ world_view (template_phrases P) w) × (x ≡ error_view (template_phrases P) (error_of T e))
-StopsAs P budget T held ticks out stop.Spent = (st : State Value) × (i : Option Item) × (meaning P budget ≡ Spent st i) × (ticks ≡ budget) × Grows out.before.taken out.now.taken st.world.output
-StopsAs P budget T held ticks out (stop.Trap pc why) = ⊥
-StopsAs P budget T held ticks out stop.WriteFault = Unit {0}
-StopsAs P budget T held ticks out stop.Memory = Unit {0}
+StopsAs P input left budget T held ticks out stop.Spent =
+    (st : State Value) × (i : Option Item) × (meaning P input budget ≡ Spent st i) × (ticks ≡ budget) × (left ≡ st.world.input) × Grows out.before.taken out.now.taken st.world.output
+StopsAs P input left budget T held ticks out (stop.Trap pc why) = ⊥
+StopsAs P input left budget T held ticks out stop.InputFault = AskedInTick P input left ticks out
+StopsAs P input left budget T held ticks out stop.WriteFault = Unit {0}
+StopsAs P input left budget T held ticks out stop.Memory = Unit {0}
 
 -- in which pieces its output was taken: those of the items that wrote, and at a write fault a front of the next one
-abbrev pub TakesPieces : Program → ℕ → SinkSeen → StopKind → Type 0
-TakesPieces P ticks out stop.Done = RunPieces P ticks [] out
-TakesPieces P ticks out (stop.Failed e) = RunPieces P ticks [] out
-TakesPieces P ticks out stop.Spent = RunPieces P ticks [] out
-TakesPieces P ticks out (stop.Trap pc why) = RunPieces P ticks [] out
-TakesPieces P ticks out stop.WriteFault = RunFront P ticks out
-TakesPieces P ticks out stop.Memory = RunPieces P ticks [] out
+abbrev pub TakesPieces : Program → List ℕ → ℕ → SinkSeen → StopKind → Type 0
+TakesPieces P input ticks out stop.Done = RunPieces P input ticks [] out
+TakesPieces P input ticks out (stop.Failed e) = RunPieces P input ticks [] out
+TakesPieces P input ticks out stop.Spent = RunPieces P input ticks [] out
+TakesPieces P input ticks out (stop.Trap pc why) = RunPieces P input ticks [] out
+TakesPieces P input ticks out stop.InputFault = RunPieces P input ticks [] out
+TakesPieces P input ticks out stop.WriteFault = RunFront P input ticks out
+TakesPieces P input ticks out stop.Memory = RunPieces P input ticks [] out
+
+-- all that is said of the run, on this input, of which this is left
+pub record RunIs (P : Program) (budget : ℕ) (T : Trees) (held : Held) (ticks : ℕ) (out : SinkSeen) (what : StopKind) (input left : List ℕ) : Type 0 where
+  pub within : StopsWithin P input budget ticks out
+  pub stops : StopsAs P input left budget T held ticks out what
+  pub pieces : TakesPieces P input ticks out what
 
 -- the text of a value of a machine of this image as it is told, where this is the world
 abbrev pub machine_text : Image → World MValue → MValue → List ℕ

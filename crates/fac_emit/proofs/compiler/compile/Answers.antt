@@ -2,6 +2,7 @@ use Rattle.std.proofs.lemmas.Result.{IfOk-weaker}
 use Rattle.fac_generic.proofs.WholeMethods.{whole_has}
 use Rattle.fac_emit.specs.ProgramCode.{IsPlain}
 use Rattle.fac_emit.proofs.Carrying.{carries}
+use Rattle.fac_emit.proofs.CodedItems.{arrays_coded}
 use Rattle.fac_emit.proofs.ClosedTables.{can_be_built, has_methods}
 use Rattle.fac_emit.proofs.PlainStands.{plain_code}
 use Rattle.fac_emit.proofs.compiler.compile.Goals as goal
@@ -11,6 +12,7 @@ plain_image-requires c =
     let given = c.requires in
     let closed = c.args.closed.now in
     record {
+      coded = arrays_coded given.0 closed.program closed.templates given.1;
       closed = (given.0, given.1, given.2, given.3, c.methods_are_lawful.ensures given.0 (whole_has given.0 given.3));
       classes = can_be_built given.0 closed.program closed.templates given.1 given.3;
       methods = has_methods given.0 closed.program closed.templates given.1 given.3;

@@ -1,7 +1,7 @@
 use Rattle.std.proofs.Common.{◌≡◌, ◌++◌, List, OnOk, subst}
 use Rattle.fac_code.specs.declared.image.GenericRow.{GenericRow}
 use Rattle.fac_emit.specs.ProgramCode.{code_place}
-use Rattle.fac_emit.proofs.MethodPlaces.{generic_row}
+use Rattle.fac_emit.proofs.MethodRows.{generic_row}
 use Rattle.fac_emit.proofs.dispatch.add_generic.Goals as goal
 
 pub returns-in_ok-methods-in-Generic : goal.returns-in_ok-methods-in-Generic

@@ -1,13 +1,13 @@
 use Rattle.std.proofs.Common.{ap, sym, ◌∙◌}
 use Rattle.std.specs.Prelude.{ℕ}
 use Rattle.fac_emit.specs.ProgramCode.{word_instr}
-use Rattle.fac_emit.specs.inner.Numbered.{numbered_instr}
+use Rattle.fac_emit.specs.inner.NumberedWords.{numbered_instr}
 use Rattle.fac_emit.proofs.NumberLemmas.{number_of_word, instr_numbered}
 use Rattle.fac_emit.proofs.emitter.instr_of_word.Goals as goal
 
 pub returns-in-Some : goal.returns-in-Some
 returns-in-Some c =
-    let C = c.args.program.now in
+    let closed = c.args.closed.now in
     let d = c.in-Some.def.now in
-    let number = c.number_of.ensures ∙ number_of_word C c.args.numbers.now c.args.word d c.requires (sym c.in-Some.ensures) in
-    c.instr_of_sort.ensures ∙ ap (λ (n : ℕ). numbered_instr n c.args.word d.sort) number ∙ instr_numbered C c.args.word d.sort ∙ ap (word_instr C c.args.word) c.in-Some.ensures
+    let number = c.number_of.ensures ∙ number_of_word closed.program closed.templates c.args.numbering.now.words c.args.word d c.requires.words (sym c.in-Some.ensures) in
+    c.instr_of_sort.ensures ∙ ap (λ (n : ℕ). numbered_instr n c.args.word d.sort) number ∙ instr_numbered closed.program closed.templates c.args.word d.sort ∙ ap (word_instr closed.program closed.templates c.args.word) c.in-Some.ensures

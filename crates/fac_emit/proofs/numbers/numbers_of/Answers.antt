@@ -1,16 +1,10 @@
 use Rattle.std.proofs.Common.{ℕ, ◌+◌, ◌≤◌, length, ap, arith, subst, sym}
 use Rattle.fac_emit.specs.ProgramTables.{word_numbers}
-use Rattle.fac_emit.proofs.CountLemmas.{sort_there, generics_step, numbers_step, few_generics}
+use Rattle.fac_emit.proofs.CountLemmas.{generics_step, numbers_step, few_generics}
 use Rattle.fac_emit.proofs.numbers.numbers_of.Goals as goal
 
 pub number_of_sort-requires-clause-generics : goal.number_of_sort-requires-clause-generics
 number_of_sort-requires-clause-generics c = c.loop-word.invariant.generics_are
-
-pub number_of_sort-requires-clause-sort : goal.number_of_sort-requires-clause-sort
-number_of_sort-requires-clause-sort c =
-    let at = c.loop-word in
-    let items = c.as_slice-word-items in
-    sort_there c.args.program.now at.word-index c.word-item.result items.result.now items.ensures c.loop-word-test.true c.word-item.is at.number at.invariant.count
 
 pub behind-generics-requires : goal.behind-generics-requires
 behind-generics-requires c =
@@ -23,7 +17,8 @@ behind-generics-requires c =
 
 pub loop-word-preserved : goal.loop-word-preserved
 loop-word-preserved c =
-    let C = c.args.program.now in
+    let C = c.args.closed.now.program in
+    let ts = c.args.closed.now.templates in
     let at = c.loop-word in
     let inv = at.invariant in
     let items = c.as_slice-word-items in
@@ -35,5 +30,5 @@ loop-word-preserved c =
       count = omega (arith, count);
       generics_are = generics;
       few = subst (λ (g : ℕ). g ≤ at.number + 1) (sym generics) (few_generics C (at.number + 1));
-      numbers_are = numbers_step C i c.word-item.result items.result.now items.ensures lt c.word-item.is at.number c.number_of_sort.result (word_numbers C) at.numbers _ count inv.numbers_are c.number_of_sort.ensures c.in_ok-push.ensures.ok;
+      numbers_are = numbers_step C i c.word-item.result items.result.now items.ensures lt c.word-item.is ts at.number c.number_of_sort.result (word_numbers C ts) at.numbers _ count inv.numbers_are c.number_of_sort.ensures c.in_ok-push.ensures.ok;
     }

@@ -5,7 +5,7 @@ use Rattle.fac_emit.proofs.numbers.numbers_of.Given as goal
 abbrev pub invariant-loop-word : goal.invariant-loop-word
 invariant-loop-word l = record {
   count : l.number ≡ l.word-index;
-  generics_are : l.generics ≡ generic_number l.program l.number;
+  generics_are : l.generics ≡ generic_number l.closed.program l.number;
   few : l.generics ≤ l.number;
-  numbers_are : word_numbers l.program ≡ l.numbers ++ numbers_from l.program l.number (drop l.word-index l.program.words);
+  numbers_are : word_numbers l.closed.program l.closed.templates ≡ l.numbers ++ numbers_from l.closed.program l.closed.templates l.number (drop l.word-index l.closed.program.words);
 }

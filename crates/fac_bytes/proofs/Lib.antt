@@ -1,0 +1,10 @@
+pub mod InstructionLaws
+pub mod RowLaws
+pub mod GenericLaws
+pub mod ImageLaws
+pub mod FitLaws
+pub mod Written
+pub mod PlainLaws
+pub mod DecodingLaws
+pub mod MethodLoops
+mod Examples

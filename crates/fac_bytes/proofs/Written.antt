@@ -1,0 +1,13 @@
+-- What one write or several have added.
+use Rattle.std.proofs.Common.{◌≡◌, ℕ, List, [], ◌++◌, sym, ap, ◌∙◌, append_assoc}
+use Rattle.std.proofs.lemmas.List.{append-nil}
+
+pub written_one : (a b c : List ℕ) → b ≡ a ++ c → b ≡ a ++ (c ++ [])
+written_one a b c p = p ∙ ap (λ (z : List ℕ). a ++ z) (sym (append-nil c))
+
+-- parts of a row, with nothing behind the last
+pub row_three : (a b c d e f : List ℕ) → b ≡ a ++ c → d ≡ b ++ e → d ++ f ≡ a ++ (c ++ (e ++ f))
+row_three a b c d e f p q = ap (λ (z : List ℕ). z ++ f) q ∙ append_assoc b e f ∙ ap (λ (z : List ℕ). z ++ (e ++ f)) p ∙ append_assoc a c (e ++ f)
+
+pub row_four : (a b c d e f g h : List ℕ) → b ≡ a ++ c → d ≡ b ++ e → f ≡ d ++ g → f ++ h ≡ a ++ (c ++ (e ++ (g ++ h)))
+row_four a b c d e f g h p q r = row_three b d e f g h q r ∙ ap (λ (z : List ℕ). z ++ (e ++ (g ++ h))) p ∙ append_assoc a c (e ++ (g ++ h))

@@ -1,0 +1,6 @@
+pub mod InstructionBytes
+pub mod RowBytes
+pub mod GenericBytes
+pub mod ImageBytes
+pub mod Answers
+pub mod Laws

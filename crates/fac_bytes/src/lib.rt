@@ -1,0 +1,23 @@
+//! Images as bytes: each image has one spelling, and bytes that are none's are refused at the exact place.
+#![tactic(auto)]
+
+mod decoding;
+mod encoding;
+mod generics;
+mod instructions;
+mod laws;
+mod lists;
+mod operands;
+mod pairs;
+mod part;
+mod parts;
+mod rows;
+mod tables;
+
+pub use decoding::{DecodeFault, decode};
+pub use encoding::{EncodeFault, encode};
+pub use laws::{
+    encoded_is_decoded, fronts_are_broken, images_are_exact, one_image, one_place,
+    spelled_or_broken,
+};
+pub use parts::ImageParts;

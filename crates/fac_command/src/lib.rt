@@ -1,0 +1,6 @@
+//! What the words of a command line ask for.
+#![tactic(auto)]
+
+mod command;
+
+pub use command::{Command, name_in, read_words};

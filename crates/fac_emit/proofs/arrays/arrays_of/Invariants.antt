@@ -1,0 +1,6 @@
+use Rattle.std.proofs.Common.{◌≡◌, drop, ◌++◌, map}
+use Rattle.fac_emit.specs.ProgramCode.{elems_of, program_arrays}
+use Rattle.fac_emit.proofs.arrays.arrays_of.Given as goal
+
+abbrev pub invariant-loop-lits : goal.invariant-loop-lits
+invariant-loop-lits l = program_arrays l.closed.program l.closed.templates ≡ l.arrays ++ map (elems_of l.closed.program l.closed.templates) (drop l.lits-index l.closed.program.arrays)

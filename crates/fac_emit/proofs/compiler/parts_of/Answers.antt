@@ -1,0 +1,8 @@
+use Rattle.fac_emit.proofs.CodedItems.{words_few}
+use Rattle.fac_emit.proofs.compiler.parts_of.Goals as goal
+
+pub add_words-requires : goal.add_words-requires
+add_words-requires c =
+    let given = c.requires.closed in
+    let closed = c.args.closed.now in
+    record { numbering = c.requires.numbering; few = words_few given.0 closed.program closed.templates given.3 given.1 }

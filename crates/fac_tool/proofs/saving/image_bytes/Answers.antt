@@ -1,0 +1,6 @@
+use Rattle.fac_tool.proofs.saving.image_bytes.Goals as goal
+
+pub returns : goal.returns
+returns c =
+    let linked = c.in_ok-linked.ensures in
+    λ P stands. record { image = c.in_ok-linked.linked.image; spelled = linked.0.spelled; carries = (linked.1 P stands).carries; short = linked.0.short }

@@ -1,0 +1,73 @@
+-- What `build` saves.
+use Rattle.std.specs.Prelude.{◌≡◌, ◌≤◌, ◌⊎◌, ℕ, List, [], ◌∷◌, length, None, Some}
+use Rattle.std.specs.declared.option.Option.{Option}
+use Rattle.fac_io.specs.declared.files.Asked.{Asked}
+use Rattle.fac_io.specs.declared.files.Asked.TheVariants.{Save}
+use Rattle.fac_io.specs.Faults.{Rose}
+use Rattle.fac_io.specs.Names.{Held, Holds, OthersKept}
+use Rattle.fac_io.specs.Told.{Told, Stays, Grows}
+use Rattle.fac_lang.specs.declared.limits.TheConstants.{MOST_IMAGE_BYTES}
+use Rattle.fac_lang.specs.declared.program.Program.{Program}
+use Rattle.fac_check.specs.CallableEffects.{callable_height}
+use Rattle.fac_code.specs.declared.image.Image.{Image}
+use Rattle.fac_spelling.specs.Whole.{Spells}
+use Rattle.fac_bytes.specs.ImageBytes.{image as image_format, parts_of}
+use Rattle.fac_emit.specs.Carries.{Carries}
+use Rattle.fac_notes.specs.declared.report.Report.TheVariants as report
+use Rattle.fac_tool.specs.declared.ended.Ended.{Ended}
+use Rattle.fac_tool.specs.SeenObjects.{FilesSeen}
+use Rattle.fac_tool.specs.Ends.{IsBare}
+
+-- The bytes are those of an image that carries the program, from no value, at every budget and on every input. They are no more than `exec` loads.
+pub record CarriesSaved (P : Program) (bytes : List ℕ) : Type 0 where
+  pub image : Image
+  pub spelled : Spells image_format bytes (parts_of image)
+  pub carries : Carries P (callable_height P) 0 image
+  pub short : length bytes ≤ MOST_IMAGE_BYTES
+
+-- the image was saved under this name
+pub record Saved (P : Program) (name : List ℕ) (files : FilesSeen) (ended : Ended) : Type 0 where
+  pub status : ended.status ≡ 0
+  pub ticks : ended.ticks ≡ 0
+  pub bare : IsBare ended
+  pub bytes : List ℕ
+  pub carries : CarriesSaved P bytes
+  pub held : Told files.held_before files.held_now (Holds name bytes)
+  pub asked : Grows files.asked_before files.asked_now (Save name ∷ [])
+  pub faults : files.faults_now ≡ files.faults_before
+
+-- the save failed: of this one name nothing is known then
+pub record SaveFails (name : List ℕ) (files : FilesSeen) (ended : Ended) : Type 0 where
+  pub status : ended.status ≡ 8
+  pub ticks : ended.ticks ≡ 0
+  pub stack : ended.stack ≡ None
+  pub refusal : ended.refusal ≡ Some (report.File name)
+  pub held : Told files.held_before files.held_now (OthersKept name)
+  pub asked : Grows files.asked_before files.asked_now (Save name ∷ [])
+  pub rose : Rose files.faults_before files.faults_now
+
+-- memory was wanted, and nothing was saved
+pub record NotSaved (files : FilesSeen) (ended : Ended) : Type 0 where
+  pub status : ended.status ≡ 12
+  pub ticks : ended.ticks ≡ 0
+  pub bare : IsBare ended
+  pub held : Stays files.held_before files.held_now
+  pub asked : Stays files.asked_before files.asked_now
+  pub faults : files.faults_now ≡ files.faults_before
+
+-- the one save of the image of a program
+abbrev pub Saves : Program → List ℕ → FilesSeen → Ended → Type 0
+Saves P name files ended = Saved P name files ended ⊎ (SaveFails name files ended ⊎ NotSaved files ended)
+
+-- what files tell at one moment
+pub record FilesTold : Type 0 where
+  pub held : Option Held
+  pub asked : Option (List Asked)
+  pub faults : ℕ
+
+-- what was done up to a moment, and from it on
+abbrev pub until : FilesSeen → FilesTold → FilesSeen
+until files mid = record { held_before = files.held_before; held_now = mid.held; asked_before = files.asked_before; asked_now = mid.asked; faults_before = files.faults_before; faults_now = mid.faults }
+
+abbrev pub since : FilesSeen → FilesTold → FilesSeen
+since files mid = record { held_before = mid.held; held_now = files.held_now; asked_before = mid.asked; asked_now = files.asked_now; faults_before = mid.faults; faults_now = files.faults_now }

@@ -1,0 +1,131 @@
+//! The run of an image without its source.
+ghost use Rattle.std.specs.Prelude.{◌≡◌, ◌≤◌, IfOk};
+ghost use Rattle.fac_io.specs.Faults.{HasCause};
+ghost use Rattle.fac_lines.specs.LineAnswers.{AtEnd};
+ghost use Rattle.fac_vm.specs.SeenMachine.{callables_in, held_in};
+ghost use Rattle.fac_tool.specs.Executed.{Executes, ExecutesBytes};
+ghost use Rattle.fac_tool.specs.SeenObjects.{input_seen, sink_seen, OnInput};
+ghost use Rattle.fac_tool.specs.inner.ImageSteps.{IsImageReportOf, MakesMachine, RunsFirst};
+ghost use Rattle.fac_tool.specs.inner.Stops.{IsFresh};
+
+use crate::ended::{bare, reported};
+use crate::images::image_of_bytes;
+use crate::program_run::{stack_texts, value_text};
+use crate::{Ended, Report};
+use fac_io::{Sink, Source as Reader};
+use fac_lang::Memory;
+use fac_lines::Lines;
+use fac_notes::name_in_image;
+use fac_vm::{Machine, RunError, Stop, StopKind};
+use std::alloc::Global;
+
+// The report of a run error. Words are named by the image.
+fn error_report(alloc: Global, machine: &Machine, error: RunError) -> Result<Report, Memory>
+    ensures { IfOk result (IsImageReportOf machine.now error) }
+{
+    let image = machine.image();
+    let word = name_in_image(alloc, image, error.word)?;
+    match error.value {
+        None => Ok(Report::Error {
+            name: error.name,
+            word,
+            value: None,
+        }),
+        Some(value) => {
+            let text = value_text(alloc, image, machine.store(), value)?;
+            Ok(Report::Error {
+                name: error.name,
+                word,
+                value: Some(text),
+            })
+        }
+    }
+}
+
+// Runs a fresh machine for the first time.
+fn run_first<S: Reader, K: Sink>(
+    alloc: Global,
+    machine: &mut Machine,
+    budget: u64,
+    input: &mut Lines<S>,
+    out: &mut K,
+) -> Stop
+    requires fresh { IsFresh machine.old }
+    requires at_end { AtEnd input.old.ended (S.left input.old.source) }
+    ensures runs { OnInput (input_seen S.left S.faults input.old input.new) (λ bytes left.
+        RunsFirst machine.old.image budget (callables_in machine.new) (held_in machine.new) result.ticks (sink_seen K.taken K.pieces K.faults out.old out.new) result.what bytes left) }
+    ensures image { machine.new.image ≡ machine.old.image }
+    ensures cause { HasCause (K.faults out.old) (K.faults out.new) (result.what ≡ StopKind.WriteFault) }
+    ensures input_cause { HasCause (S.faults input.old.source) (S.faults input.new.source) (result.what ≡ StopKind.InputFault) }
+{
+    machine.run(alloc, input, out, budget)
+}
+
+// Runs a fresh machine and answers.
+fn run_image<S: Reader, K: Sink>(
+    alloc: Global,
+    machine: &mut Machine,
+    budget: u64,
+    input: &mut Lines<S>,
+    out: &mut K,
+) -> Ended
+    requires fresh { IsFresh machine.old }
+    requires at_end { AtEnd input.old.ended (S.left input.old.source) }
+    ensures ends { OnInput (input_seen S.left S.faults input.old input.new) (λ bytes left.
+        Executes machine.old.image budget bytes left (input_seen S.left S.faults input.old input.new) (sink_seen K.taken K.pieces K.faults out.old out.new) result) }
+    ensures counts { K.faults out.old ≤ K.faults out.new }
+    ensures input_counts { S.faults input.old.source ≤ S.faults input.new.source }
+{
+    let stop = run_first(alloc, machine, budget, input, out);
+    let ticks = stop.ticks;
+    match stop.what {
+        StopKind::Done => match stack_texts(alloc, machine) {
+            Ok(texts) => Ended {
+                status: 0,
+                ticks,
+                stack: Some(texts),
+                refusal: None,
+            },
+            Err(_) => bare(12, ticks),
+        },
+        StopKind::Failed(error) => match error_report(alloc, machine, error) {
+            Ok(report) => reported(ticks, report),
+            Err(_) => bare(12, ticks),
+        },
+        StopKind::Spent => reported(ticks, Report::Spent { ticks }),
+        StopKind::Trap { pc, why } => reported(ticks, Report::Trap { pc, why }),
+        StopKind::InputFault => bare(9, ticks),
+        StopKind::WriteFault => bare(10, ticks),
+        StopKind::Memory => bare(12, ticks),
+    }
+}
+
+// A machine of the image of bytes.
+fn machine_of_bytes(alloc: Global, bytes: &[u8]) -> Result<Machine, Ended>
+    ensures { MakesMachine bytes.now result }
+{
+    let image = image_of_bytes(alloc, bytes)?;
+    match Machine::new(alloc, image) {
+        Ok(machine) => Ok(machine),
+        Err(_) => Err(bare(12, 0)),
+    }
+}
+
+/// Runs the image of bytes on the lines of an input with this budget of ticks.
+pub fn execute<S: Reader, K: Sink>(
+    alloc: Global,
+    bytes: &[u8],
+    budget: u64,
+    input: &mut Lines<S>,
+    out: &mut K,
+) -> Ended
+    requires { AtEnd input.old.ended (S.left input.old.source) }
+    ensures ends { ExecutesBytes bytes.now budget (input_seen S.left S.faults input.old input.new) (sink_seen K.taken K.pieces K.faults out.old out.new) result }
+    ensures counts { K.faults out.old ≤ K.faults out.new }
+    ensures input_counts { S.faults input.old.source ≤ S.faults input.new.source }
+{
+    match machine_of_bytes(alloc, bytes) {
+        Ok(mut machine) => run_image(alloc, &mut machine, budget, input, out),
+        Err(ended) => ended,
+    }
+}

@@ -1,0 +1,42 @@
+//! The image of an accepted program is linked and saved.
+ghost use Rattle.std.specs.Prelude.{◌≤◌, IfOk};
+ghost use Rattle.fac_lang.specs.declared.program.Program.{Program as Source};
+ghost use Rattle.fac_tool.specs.Saved.{CarriesSaved, Saves};
+ghost use Rattle.fac_tool.specs.SeenObjects.{files_seen};
+ghost use Rattle.fac_tool.specs.inner.Stops.{Carried, StandsForSafe};
+
+use crate::ended::{bare, reported};
+use crate::linking::link;
+use crate::{Ended, Report};
+use fac_check::Checked;
+use fac_io::{Files, SaveFault};
+use fac_lang::{Bytes, Memory, Text};
+use std::alloc::Global;
+
+// The bytes of the image of an accepted program.
+fn image_bytes(alloc: Global, checked: &Checked) -> Result<Bytes, Memory>
+    requires { (P : Source) × StandsForSafe checked.now.closed P }
+    ensures { IfOk result (λ bytes. (P : Source) → StandsForSafe checked.now.closed P → CarriesSaved P bytes) }
+{
+    let linked = link(alloc, checked)?;
+    Ok(linked.bytes)
+}
+
+/// Saves the image of an accepted program under a name.
+pub fn save_image<F: Files>(alloc: Global, checked: &Checked, name: &str, files: &mut F) -> Ended
+    requires { (P : Source) × StandsForSafe checked.now.closed P }
+    ensures saves { (P : Source) → StandsForSafe checked.now.closed P → Saves P name.now (files_seen F.held F.asked F.faults files.old files.new) result }
+    ensures count { F.faults files.old ≤ F.faults files.new }
+{
+    let Ok(bytes) = image_bytes(alloc, checked) else {
+        return bare(12, 0);
+    };
+    let Ok(file) = Text::from_str(alloc, name) else {
+        return bare(12, 0);
+    };
+    match files.save(alloc, name, bytes.as_slice()) {
+        Ok(()) => bare(0, 0),
+        Err(SaveFault::Failed) => reported(0, Report::File { name: file }),
+        Err(SaveFault::Memory) => bare(12, 0),
+    }
+}
