@@ -1,8 +1,8 @@
 -- Command lines, with the commands that they ask for.
-use Rattle.std.proofs.Common.{◌≡◌, List, [], ◌∷◌, None, Some, refl}
+use Rattle.std.proofs.Common.{◌≡◌, [], ◌∷◌, None, Some, refl}
 use Rattle.std.specs.Prelude.{codes}
-use Rattle.fac_command.specs.Command.{command_of, names_of, name_at}
-use Rattle.fac_command.specs.declared.command.Command.TheVariants.{Check, Run, RunStack, Build, Exec, List as ListCode}
+use Rattle.fac_command.specs.Command.{command_of, names_of}
+use Rattle.fac_command.specs.declared.command.Command.TheVariants.{Check, Run, Build, Exec, List as ListCode}
 
 -- check a b
 pub checks : command_of (codes "check" ∷ codes "a" ∷ codes "b" ∷ []) ≡ Some (Check 1 3)

@@ -5,7 +5,7 @@ ghost use Rattle.fac_lang.specs.PhraseView.{items_phrase, what_item};
 ghost use Rattle.fac_lang.specs.RunningLaws.{append};
 ghost use Rattle.fac_items.specs.inner.TakenBits.{content_seen, elements_in, phrase_in, with_array, with_fresh, with_item, with_literal, with_reference};
 
-use fac_lang::{Item, List, Lit, Memory, Phrase, Place, Text, What};
+use fac_lang::{Integer, Item, List, Lit, Memory, Phrase, Place, Text, What};
 use std::alloc::Global;
 
 /// What a phrase or an array has so far.
@@ -113,7 +113,7 @@ pub fn keep_array(
 }
 
 /// Adds an integer.
-pub fn add_int(content: &mut Content, value: i128, place: Place) -> Result<(), Memory>
+pub fn add_int(content: &mut Content, value: Integer, place: Place) -> Result<(), Memory>
     ensures { OnOk result (content_seen content.new ≡ with_literal (int value) place (content_seen content.old)) }
 {
     match content {

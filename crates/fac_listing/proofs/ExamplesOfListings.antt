@@ -1,8 +1,7 @@
 -- Lines of listings.
-use Rattle.std.proofs.Common.{◌≡◌, ◌++◌, [], ◌∷◌, refl}
+use Rattle.std.proofs.Common.{◌≡◌, [], ◌∷◌, refl}
 use Rattle.std.specs.Prelude.{codes, negsuc, true, false, None, Some}
 use Rattle.std.specs.Fmt.{digits}
-use Rattle.fac_lang.specs.declared.phrase.Height.{Height}
 use Rattle.fac_code.specs.declared.image.Instr.TheVariants.{Halt, Int, CallEffect, Callw, Jump}
 use Rattle.fac_listing.specs.Listings.{instr_line, lines_from, start_line}
 

@@ -2,7 +2,6 @@
 use Rattle.std.specs.Prelude.{ℕ, suc, ◌+◌, ◌-◌, List, [], ◌∷◌, ◌++◌, length, map, Bool, true, false, Option, Some, None, codes, decimal, replicate}
 use Rattle.std.specs.List.{concat}
 use Rattle.std.specs.Fmt.{signed_decimal}
-use Rattle.fac_lang.specs.declared.phrase.Height.{Height}
 use Rattle.fac_code.specs.declared.image.Instr.{Instr}
 use Rattle.fac_code.specs.declared.image.Instr.TheVariants.{Halt, Tick, Int, True, False, Text, Array, Word, Quot, Fry, Prim, Callw, Call, Dip, If, Execute, CallEffect, ExecuteEffect, Callp, Generic, Next, Ret, Hold, Back, Jump, Branch, Bind, Local, Unbind, Boa, Get, Set, Put, Isa}
 use Rattle.fac_code.specs.declared.image.Image.{Image}

@@ -27,7 +27,7 @@ use crate::parts::{
 };
 use crate::so_far::SoFar;
 use fac_endings::plain_effect;
-use fac_lang::{Form, FormKind, List, Memory, Parent, Part, Token, Tree};
+use fac_lang::{Boxed, Form, FormKind, List, Memory, Parent, Part, Token, Tree};
 use std::alloc::Global;
 
 // Takes the definition of a word.
@@ -88,11 +88,11 @@ fn take_constant(alloc: Global, so_far: &mut SoFar, parts: &[Part]) -> Result<()
 }
 
 // The name of a parent, where one is written.
-fn parent_name(parent: &Option<Parent>) -> Option<&Token>
+fn parent_name(parent: &Option<Boxed<Parent>>) -> Option<&Token>
     ensures { option_tok (option_copied result) ≡ parent_name parent.now }
 {
     match parent {
-        Some(parent) => Some(&parent.class),
+        Some(parent) => Some(&parent.get().class),
         None => None,
     }
 }

@@ -7,7 +7,7 @@ ghost use Rattle.fac_parse.specs.Trees.{FillAll};
 ghost use Rattle.fac_names.specs.FromFlat.{is_inline, is_recursive};
 ghost use Rattle.fac_names.specs.inner.Parts.{AreBrought, IsConstant, IsDefinition, IsLocals, IsMethod, IsNamesPart, IsTuple, IsUnion};
 
-use fac_lang::{Element, Mark, Parent, Part, Token, WrittenEffect};
+use fac_lang::{Boxed, Element, Mark, Parent, Part, Token, WrittenEffect};
 
 /// The one name of a row.
 pub fn sole_name(parts: &[Part]) -> &Token
@@ -90,7 +90,7 @@ pub fn definition_parts(parts: &[Part]) -> Definition<'_>
             Part::Marks(marks),
         ] => Definition {
             name,
-            written,
+            written: written.get(),
             elements: elements.as_slice(),
             marks: marks.as_slice(),
         },
@@ -111,7 +111,7 @@ pub fn locals_parts(parts: &[Part]) -> Definition<'_>
             Part::Marks(marks),
         ] => Definition {
             name,
-            written,
+            written: written.get(),
             elements: elements.as_slice(),
             marks: marks.as_slice(),
         },
@@ -136,7 +136,7 @@ pub fn generic_parts(parts: &[Part]) -> (&Token, &WrittenEffect)
     ensures { parts.now ≡ part.Name result.0.now ∷ part.Effect result.1.now ∷ [] }
 {
     match parts {
-        [Part::Name(name), Part::Effect(written)] => (name, written),
+        [Part::Name(name), Part::Effect(written)] => (name, written.get()),
         _ => unreachable!(),
     }
 }
@@ -145,7 +145,7 @@ pub fn generic_parts(parts: &[Part]) -> (&Token, &WrittenEffect)
 #[derive(Clone, Copy)]
 pub struct TupleParts<'a> {
     pub name: &'a Token,
-    pub parent: &'a Option<Parent>,
+    pub parent: &'a Option<Boxed<Parent>>,
     pub slots: &'a [Token],
 }
 

@@ -18,8 +18,8 @@ use crate::run::{Growth, Run, Unfinished};
 use fac_effect::{EffectReader, Spelling, Taken, classify, effect_from, may_stand, text};
 use fac_lang::limits::MOST_SLOTS;
 use fac_lang::{
-    Bracket, Element, Form, FormKind, Key, List, Mark, Memory, Parent, Part, Place, Term, Token,
-    Tree, WrittenEffect,
+    Boxed, Bracket, Element, Form, FormKind, Key, List, Mark, Memory, Parent, Part, Place, Term,
+    Token, Tree, WrittenEffect,
 };
 use std::alloc::Global;
 use std::mem;
@@ -168,12 +168,22 @@ fn begins_literal(element: &Element) -> bool
     }
 }
 
+// The parent of a tuple class, where one is written, moved to the heap.
+fn boxed_parent(alloc: Global, parent: Option<Parent>) -> Result<Option<Boxed<Parent>>, Memory>
+    ensures { IfOk result (λ boxed. boxed ≡ parent) }
+{
+    match parent {
+        Some(parent) => Ok(Some(Boxed::new(alloc, parent)?)),
+        None => Ok(None),
+    }
+}
+
 // The inputs of an effect, and of no other part.
 fn inputs(part: &Part) -> usize
     ensures { result ≡ inputs_of part.now }
 {
     match part {
-        Part::Effect(written) => written.effect.inputs(),
+        Part::Effect(written) => written.get().effect.inputs(),
         _ => 0,
     }
 }
@@ -490,8 +500,8 @@ impl Reader {
     fn end_slots(&mut self, alloc: Global, head: Head, ends: Place) -> Result<(), Memory>
         ensures { OnOk result (state_of self.new ≡ with_part self.old.forms (begun_at head self.old.parts) (part.Slots self.old.parent self.old.names ends)) }
     {
+        let parent = boxed_parent(alloc, mem::replace(&mut self.parent, None))?;
         let names = cut(mem::replace(&mut self.names, List::new(alloc)));
-        let parent = mem::replace(&mut self.parent, None);
         self.add_part(
             alloc,
             head,
@@ -583,7 +593,8 @@ impl Reader {
     {
         let effect = effect_from(alloc, self.names.as_slice())?;
         let tokens = cut(mem::replace(&mut self.names, List::new(alloc)));
-        self.add_part(alloc, head, Part::Effect(WrittenEffect { tokens, effect }))
+        let written = Boxed::new(alloc, WrittenEffect { tokens, effect })?;
+        self.add_part(alloc, head, Part::Effect(written))
     }
 
     // Takes a token of an effect.

@@ -12,7 +12,7 @@ ghost use Rattle.fac_parse.specs.inner.Reader.{may_end as ends_there, is_literal
 use crate::cut::cut;
 use crate::levels::Levels;
 use fac_effect::{EffectReader, Spelling, Taken, declared_height, is_local_name, is_no_row, text};
-use fac_lang::{Bracket, Callee, Element, List, Memory, Place, Term, Token};
+use fac_lang::{Bracket, Callee, Element, Integer, List, Memory, Place, Term, Token};
 use std::alloc::Global;
 use std::mem;
 
@@ -62,7 +62,7 @@ fn element(spelling: Spelling, token: Token) -> Option<Element>
     ensures { result ≡ element_of spelling token }
 {
     match spelling {
-        Spelling::Integer(value) => Some(Element::Item(Term::Integer(token, value))),
+        Spelling::Integer(value) => Some(Element::Item(Term::Integer(token, Integer::new(value)))),
         Spelling::String => Some(Element::Item(Term::Text(token))),
         Spelling::Name => Some(Element::Item(Term::Name(token))),
         Spelling::True => Some(Element::Item(Term::True(token.place))),

@@ -6,7 +6,7 @@ use Rattle.fac_io.specs.Told.{Stays, TookWhole, TookFront}
 use Rattle.fac_code.specs.declared.image.Image.{Image}
 use Rattle.fac_spelling.specs.Whole.{Spells}
 use Rattle.fac_bytes.specs.ImageBytes.{image as image_format, parts_of}
-use Rattle.fac_listing.specs.Listings.{listing, lines_from, start_line}
+use Rattle.fac_listing.specs.Listings.{listing}
 use Rattle.fac_tool.specs.declared.ended.Ended.{Ended}
 use Rattle.fac_tool.specs.SeenObjects.{SinkSeen, InputSeen, OnInput, IsUnread}
 use Rattle.fac_tool.specs.Ends.{EndsAs, idle}

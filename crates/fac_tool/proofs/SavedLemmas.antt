@@ -1,9 +1,7 @@
 -- The work of `build`: its files are read, and the image of their program is saved.
-use Rattle.std.proofs.Common.{◌≡◌, ◌≤◌, ℕ, List, Some, None, Result, Ok, Err, refl, sym, subst, inl, inr}
+use Rattle.std.proofs.Common.{◌≡◌, ℕ, List, Result, Ok, Err, refl, sym, subst, inl, inr}
 use Rattle.std.specs.Result.{IsErrAnd}
 use Rattle.std.specs.declared.option.Option.{Option}
-use Rattle.fac_io.specs.declared.files.Asked.{Asked}
-use Rattle.fac_io.specs.Names.{Held}
 use Rattle.fac_io.specs.Told.{SinkTold, Stays-same, TookNothing-same}
 use Rattle.fac_lang.specs.declared.program.Program.{Program}
 use Rattle.fac_names.specs.Resolution.{ResolvedAreWhole}
@@ -11,7 +9,6 @@ use Rattle.fac_check.specs.Promises.{AcceptedAreSafe}
 use Rattle.fac_command.specs.declared.command.Command.{Command}
 use Rattle.fac_tool.specs.declared.accepting.Accepted.{Accepted}
 use Rattle.fac_tool.specs.declared.ended.Ended.{Ended}
-use Rattle.fac_tool.specs.Answer.{come_to}
 use Rattle.fac_tool.specs.SeenObjects.{FilesSeen}
 use Rattle.fac_tool.specs.Ends.{idle}
 use Rattle.fac_tool.specs.Saved.{FilesTold, until, since, Saves}

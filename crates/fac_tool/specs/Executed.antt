@@ -1,6 +1,5 @@
 -- What `exec` answers: the run of an image without its source.
 use Rattle.std.specs.Prelude.{◌≡◌, ◌≤◌, ◌⊎◌, ◌-◌, ℕ, List, [], map, reverse, None, Some}
-use Rattle.std.specs.declared.option.Option.{Option}
 use Rattle.std.specs.Option.{option_map}
 use Rattle.fac_io.specs.Faults.{Rose}
 use Rattle.fac_io.specs.Told.{TookNothing}
@@ -11,7 +10,7 @@ use Rattle.fac_code.specs.ImageNames.{image_names}
 use Rattle.fac_store.specs.MachineValues.{MValue, machine_values}
 use Rattle.fac_vm.specs.declared.machine.StopKind.{StopKind}
 use Rattle.fac_vm.specs.declared.machine.StopKind.TheVariants as stop
-use Rattle.fac_vm.specs.Machine.{Machine, End, done, failed, spent, trap, Ends, first_world}
+use Rattle.fac_vm.specs.Machine.{End, done, failed, spent, trap, Ends, first_world}
 use Rattle.fac_vm.specs.Runs.{Held, begun, Reaches, InPieces, AsksAt}
 use Rattle.fac_spelling.specs.Whole.{Spells, IsRefused}
 use Rattle.fac_bytes.specs.ImageBytes.{image as image_format, are_image, parts_of}

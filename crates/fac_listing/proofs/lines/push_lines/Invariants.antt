@@ -1,4 +1,4 @@
-use Rattle.std.proofs.Common.{◌≡◌, ◌≤◌, ◌++◌, drop}
+use Rattle.std.proofs.Common.{◌≡◌, ◌++◌, drop}
 use Rattle.fac_listing.specs.Listings.{lines_from}
 use Rattle.fac_listing.proofs.lines.push_lines.Given as goal
 
