@@ -2,6 +2,7 @@ pub mod InstructionLaws
 pub mod RowLaws
 pub mod GenericLaws
 pub mod ImageLaws
+pub mod SameImages
 pub mod FitLaws
 pub mod Written
 pub mod PlainLaws

@@ -7,7 +7,7 @@ use Rattle.fac_bytes.specs.ImageBytes.{image, are_image, parts_of}
 
 -- no two images have the same bytes
 abbrev pub OneImage : Type 0
-OneImage = (bytes : List ℕ) (M N : Image) → Spells image bytes (parts_of M) → Spells image bytes (parts_of N) → parts_of M ≡ parts_of N
+OneImage = (bytes : List ℕ) (M N : Image) → Spells image bytes (parts_of M) → Spells image bytes (parts_of N) → M ≡ N
 
 -- an image's bytes are those of parts that are an image
 abbrev pub EncodedIsDecoded : Type 0

@@ -43,6 +43,14 @@ name_or P w None = record { vocab = []; name = name_without_word w }
 abbrev pub word_name : Program → ℕ → Name
 word_name P w = name_or P w (slice_get P.words w)
 
+-- the name under which a word is defined, also a method, by its number
+abbrev pub defined_or : ℕ → Option WordDef → Name
+defined_or w (Some d) = d.name
+defined_or w None = record { vocab = []; name = name_without_word w }
+
+abbrev pub defined_as : Program → ℕ → Name
+defined_as P w = defined_or w (slice_get P.words w)
+
 -- the name of a word by its row in an image, which has it whole
 abbrev pub name_in : Image → ℕ → Option WordRow → Name
 name_in M w (Some r) = record { vocab = text_of (tables_of M) r.vocab; name = text_of (tables_of M) r.name }

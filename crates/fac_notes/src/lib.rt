@@ -11,4 +11,4 @@ mod word_names;
 pub use laws::notes_are_not_empty;
 pub use line::note;
 pub use report::{ByteFault, Report};
-pub use word_names::{name_in_image, name_of_word, word_name};
+pub use word_names::{name_in_image, word_name};

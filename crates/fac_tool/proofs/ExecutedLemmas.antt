@@ -21,10 +21,10 @@ use Rattle.fac_notes.specs.declared.report.Report.TheVariants as report
 use Rattle.fac_notes.specs.WordNames.{image_word_name}
 use Rattle.fac_tool.specs.declared.ended.Ended.{Ended}
 use Rattle.fac_tool.specs.SeenObjects.{SinkSeen, InputSeen, OnInput}
-use Rattle.fac_tool.specs.Executed.{fresh_held, image_shown, Executes, ExecutesWithin}
+use Rattle.fac_tool.specs.Executed.{fresh_held, image_shown, ExecutesWithin}
 use Rattle.fac_tool.specs.inner.StepEnds.{bare, reported}
 use Rattle.fac_tool.specs.inner.Stops.{IsFresh, AreStackTexts, IsTextOf}
-use Rattle.fac_tool.specs.inner.ImageSteps.{IsImageReportOf, RunsFirst}
+use Rattle.fac_tool.specs.inner.ImageSteps.{IsImageReportOf, RunsFirst, RunsImage}
 
 -- a fresh machine holds what is held before the first run
 fresh_is : (machine : MachineSeen) → IsFresh machine → held_in machine ≡ fresh_held machine.image
@@ -63,13 +63,17 @@ module _ (M : Image) (machine : MachineSeen) (budget ticks : ℕ) (seen : InputS
 
   pub done_execution :
       (texts : List (List ℕ)) (what : StopKind) → machine.image ≡ M → AreStackTexts machine texts → what ≡ stop.Done → Stopped what →
-      Executes M budget input left seen out (record { status = 0; ticks = ticks; stack = Some texts; refusal = None })
+      RunsImage M budget seen out (record { status = 0; ticks = ticks; stack = Some texts; refusal = None }) input left
   done_execution texts what same are is r =
-      let h = (subst Stopped is r).runs.runs in
+      let first = subst Stopped is r in
+      let h = first.runs.runs in
       let s = h.0 in
       let shown : texts ≡ map (image_shown M s.world) (reverse s.stack) =
       are s.world (sym h.4.2.objects) ∙ ap (λ (N : Image). map (image_shown N s.world) (reverse (held_in machine).stack)) same ∙ ap (λ (vs : List MValue). map (image_shown M s.world) (reverse vs)) h.4.2.stack in
-      (done s h.1, h.4.0, record { status = refl; ticks = left_is ticks h.1 budget h.2; stack = ap Some shown; refusal = refl; output = h.3; rest = sym h.4.1 }, (subst Stopped is r).runs.pieces)
+      record {
+        within = first.within;
+        ends = (done s h.1, h.4.0, record { status = refl; ticks = left_is ticks h.1 budget h.2; stack = ap Some shown; refusal = refl; output = h.3; rest = sym h.4.1 }, first.runs.pieces);
+      }
 
   mapped : (w : World MValue) (v : Option Value) → option_map (λ v. image_shown M w (value_in (trees_of machine.store) v)) v ≡ option_map (image_shown M w) (option_map (value_in (trees_of machine.store)) v)
   mapped w None = refl
@@ -77,7 +81,7 @@ module _ (M : Image) (machine : MachineSeen) (budget ticks : ℕ) (seen : InputS
 
   pub failed_execution :
       (err : RunError) (why : Report) (what : StopKind) (ended : Ended) → machine.image ≡ M → IsImageReportOf machine err why → what ≡ stop.Failed err → ended ≡ reported ticks why → Stopped what →
-      Executes M budget input left seen out ended
+      RunsImage M budget seen out ended input left
   failed_execution err why what ended same told is e r =
       let first = subst Stopped is r in
       let h = first.runs.runs in
@@ -87,53 +91,53 @@ module _ (M : Image) (machine : MachineSeen) (budget ticks : ℕ) (seen : InputS
       told s.world (sym h.4.2.objects)
       ∙ ap (λ (N : Image). report.Error err.name (image_word_name N err.word) (option_map (λ v. image_shown N s.world (value_in (trees_of machine.store) v)) err.value)) same
       ∙ ap (λ v. report.Error err.name (image_word_name M err.word) v) (mapped s.world err.value) in
-      subst (λ (ended : Ended). Executes M budget input left seen out ended) (sym (e ∙ ap (reported ticks) text))
-      (failed x s h.1, h.4.0, record { status = refl; ticks = left_is ticks h.1 budget h.2; stack = refl; refusal = refl; output = h.3; rest = sym h.4.1 }, pieces_as (stop.Failed err) stop.Done (λ ps last none. none) first.runs.pieces)
+      subst (λ (ended : Ended). RunsImage M budget seen out ended input left) (sym (e ∙ ap (reported ticks) text))
+      (record { within = first.within; ends = (failed x s h.1, h.4.0, record { status = refl; ticks = left_is ticks h.1 budget h.2; stack = refl; refusal = refl; output = h.3; rest = sym h.4.1 }, pieces_as (stop.Failed err) stop.Done (λ ps last none. none) first.runs.pieces) })
 
-  pub spent_execution : (what : StopKind) (ended : Ended) → what ≡ stop.Spent → ended ≡ reported ticks (report.Spent ticks) → Stopped what → Executes M budget input left seen out ended
+  pub spent_execution : (what : StopKind) (ended : Ended) → what ≡ stop.Spent → ended ≡ reported ticks (report.Spent ticks) → Stopped what → RunsImage M budget seen out ended input left
   spent_execution what ended is e r =
       let first = subst Stopped is r in
       let h = first.runs.runs in
       let all : ticks ≡ budget = omega (arith, h.2, h.4.1) in
-      subst (λ (ended : Ended). Executes M budget input left seen out ended) (sym e)
-      (spent h.0, h.4.0, record { status = refl; ticks = all; stack = refl; refusal = ap (λ (n : ℕ). Some (report.Spent n)) all; output = h.3; rest = sym h.4.2 }, pieces_as stop.Spent stop.Done (λ ps last none. none) first.runs.pieces)
+      subst (λ (ended : Ended). RunsImage M budget seen out ended input left) (sym e)
+      (record { within = first.within; ends = (spent h.0, h.4.0, record { status = refl; ticks = all; stack = refl; refusal = ap (λ (n : ℕ). Some (report.Spent n)) all; output = h.3; rest = sym h.4.2 }, pieces_as stop.Spent stop.Done (λ ps last none. none) first.runs.pieces) })
 
-  pub trap_execution : (pc : ℕ) (why : TrapWhy) (what : StopKind) (ended : Ended) → what ≡ stop.Trap pc why → ended ≡ reported ticks (report.Trap pc why) → Stopped what → Executes M budget input left seen out ended
+  pub trap_execution : (pc : ℕ) (why : TrapWhy) (what : StopKind) (ended : Ended) → what ≡ stop.Trap pc why → ended ≡ reported ticks (report.Trap pc why) → Stopped what → RunsImage M budget seen out ended input left
   trap_execution pc why what ended is e r =
       let first = subst Stopped is r in
       let h = first.runs.runs in
-      subst (λ (ended : Ended). Executes M budget input left seen out ended) (sym e)
-      (trap why h.0 h.1, h.4.0, record { status = refl; ticks = left_is ticks h.1 budget h.2; stack = refl; refusal = ap (λ (n : ℕ). Some (report.Trap n why)) (sym h.4.1); output = h.3; rest = sym h.4.2 }, pieces_as (stop.Trap pc why) stop.Done (λ ps last none. none) first.runs.pieces)
+      subst (λ (ended : Ended). RunsImage M budget seen out ended input left) (sym e)
+      (record { within = first.within; ends = (trap why h.0 h.1, h.4.0, record { status = refl; ticks = left_is ticks h.1 budget h.2; stack = refl; refusal = ap (λ (n : ℕ). Some (report.Trap n why)) (sym h.4.1); output = h.3; rest = sym h.4.2 }, pieces_as (stop.Trap pc why) stop.Done (λ ps last none. none) first.runs.pieces) })
 
   pub input_fault_execution :
-      (what : StopKind) (ended : Ended) → what ≡ stop.InputFault → Rose seen.faults_before seen.faults_now → ended ≡ bare 9 ticks → Stopped what → Executes M budget input left seen out ended
+      (what : StopKind) (ended : Ended) → what ≡ stop.InputFault → Rose seen.faults_before seen.faults_now → ended ≡ bare 9 ticks → Stopped what → RunsImage M budget seen out ended input left
   input_fault_execution what ended is rose e r =
       let first = subst Stopped is r in
-      subst (λ (ended : Ended). Executes M budget input left seen out ended) (sym e) (rose, record { stack = refl; refusal = refl }, first.within, first.runs.pieces, (held_in machine, first.runs.runs))
+      subst (λ (ended : Ended). RunsImage M budget seen out ended input left) (sym e) (record { within = first.within; ends = (rose, record { stack = refl; refusal = refl }, first.within, first.runs.pieces, (held_in machine, first.runs.runs)) })
 
   pub write_fault_execution :
-      (what : StopKind) (ended : Ended) → what ≡ stop.WriteFault → Rose out.faults_before out.faults_now → ended ≡ bare 10 ticks → Stopped what → Executes M budget input left seen out ended
+      (what : StopKind) (ended : Ended) → what ≡ stop.WriteFault → Rose out.faults_before out.faults_now → ended ≡ bare 10 ticks → Stopped what → RunsImage M budget seen out ended input left
   write_fault_execution what ended is rose e r =
       let first = subst Stopped is r in
-      subst (λ (ended : Ended). Executes M budget input left seen out ended) (sym e) (rose, record { stack = refl; refusal = refl }, first.within, first.runs.pieces)
+      subst (λ (ended : Ended). RunsImage M budget seen out ended input left) (sym e) (record { within = first.within; ends = (rose, record { stack = refl; refusal = refl }, first.within, first.runs.pieces) })
 
   -- memory was wanted in the run, or behind it for what is told
-  memory_behind : (ended : Ended) → ended ≡ bare 12 ticks → ExecutesWithin M budget input ticks out → Pieces stop.Memory → Executes M budget input left seen out ended
-  memory_behind ended e within pieces = subst (λ (ended : Ended). Executes M budget input left seen out ended) (sym e) (record { stack = refl; refusal = refl }, within, pieces)
+  memory_behind : (ended : Ended) → ended ≡ bare 12 ticks → ExecutesWithin M budget input ticks out → Pieces stop.Memory → RunsImage M budget seen out ended input left
+  memory_behind ended e within pieces = subst (λ (ended : Ended). RunsImage M budget seen out ended input left) (sym e) (record { within = within; ends = (record { stack = refl; refusal = refl }, within, pieces) })
 
-  pub memory_execution : (what : StopKind) (ended : Ended) → what ≡ stop.Memory → ended ≡ bare 12 ticks → Stopped what → Executes M budget input left seen out ended
+  pub memory_execution : (what : StopKind) (ended : Ended) → what ≡ stop.Memory → ended ≡ bare 12 ticks → Stopped what → RunsImage M budget seen out ended input left
   memory_execution what ended is e r = let first = subst Stopped is r in memory_behind ended e first.within first.runs.pieces
 
-  pub no_stack_texts : (what : StopKind) (ended : Ended) → what ≡ stop.Done → ended ≡ bare 12 ticks → Stopped what → Executes M budget input left seen out ended
+  pub no_stack_texts : (what : StopKind) (ended : Ended) → what ≡ stop.Done → ended ≡ bare 12 ticks → Stopped what → RunsImage M budget seen out ended input left
   no_stack_texts what ended is e r = let first = subst Stopped is r in memory_behind ended e first.within (pieces_as stop.Done stop.Memory (λ ps last none. none) first.runs.pieces)
 
-  pub no_report : (err : RunError) (what : StopKind) (ended : Ended) → what ≡ stop.Failed err → ended ≡ bare 12 ticks → Stopped what → Executes M budget input left seen out ended
+  pub no_report : (err : RunError) (what : StopKind) (ended : Ended) → what ≡ stop.Failed err → ended ≡ bare 12 ticks → Stopped what → RunsImage M budget seen out ended input left
   no_report err what ended is e r = let first = subst Stopped is r in memory_behind ended e first.within (pieces_as (stop.Failed err) stop.Memory (λ ps last none. none) first.runs.pieces)
 
 -- a run that is done has its answer
 pub done_on :
     (M : Image) (machine : MachineSeen) (budget ticks : ℕ) (seen : InputSeen) (out : SinkSeen) (texts : List (List ℕ)) (what : StopKind) → machine.image ≡ M → AreStackTexts machine texts → what ≡ stop.Done →
     OnInput seen (λ input left. RunsFirst M budget (callables_in machine) (held_in machine) ticks out what input left) →
-    OnInput seen (λ input left. Executes M budget input left seen out (record { status = 0; ticks = ticks; stack = Some texts; refusal = None }))
+    OnInput seen (RunsImage M budget seen out (record { status = 0; ticks = ticks; stack = Some texts; refusal = None }))
 done_on M machine budget ticks seen out texts what same are is h =
     record { input = h.input; left = h.left; is_input = h.is_input; holds = done_execution M machine budget ticks seen out h.input h.left texts what same are is h.holds }

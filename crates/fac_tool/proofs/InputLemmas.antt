@@ -2,9 +2,10 @@
 use Rattle.std.proofs.Common.{ℕ, List, [], ◌++◌, Bool, None, Some, refl, ap, sym, ◌∙◌}
 use Rattle.std.proofs.lemmas.List.{append_assoc}
 use Rattle.std.specs.declared.option.Option.{Option}
+use Rattle.fac_io.specs.Told.{Stays}
 use Rattle.fac_lines.specs.LineAnswers.{bytes_left, AtEnd}
 use Rattle.fac_vm.specs.Runs.{ReadsInput}
-use Rattle.fac_tool.specs.SeenObjects.{InputSeen, OnInput}
+use Rattle.fac_tool.specs.SeenObjects.{InputSeen, OnInput, IsUnread}
 use Rattle.fac_tool.specs.inner.StepEnds.{still_input}
 
 -- what holds on an input leads to more
@@ -15,6 +16,15 @@ onward f h = record { input = h.input; left = h.left; is_input = h.is_input; hol
 pub on_still : (told : Option (List ℕ)) (m : ℕ) {Holds : List ℕ → List ℕ → Type 0} → ((input : List ℕ) → Holds input input) → OnInput (still_input told m) Holds
 on_still None m h = record { input = []; left = []; is_input = tt; holds = h [] }
 on_still (Some bytes) m h = record { input = bytes; left = bytes; is_input = (refl, refl); holds = h bytes }
+
+-- likewise of one of which nothing was taken
+unread_by : (before now : Option (List ℕ)) (m n : ℕ) {Holds : List ℕ → List ℕ → Type 0} → Stays before now → ((input : List ℕ) → Holds input input) → OnInput (record { before = before; now = now; faults_before = m; faults_now = n }) Holds
+unread_by None now m n same h = record { input = []; left = []; is_input = tt; holds = h [] }
+unread_by (Some xs) None m n same h = absurd same
+unread_by (Some xs) (Some ys) m n same h = record { input = xs; left = xs; is_input = (refl, same); holds = h xs }
+
+pub on_unread : (seen : InputSeen) {Holds : List ℕ → List ℕ → Type 0} → IsUnread seen → ((input : List ℕ) → Holds input input) → OnInput seen Holds
+on_unread seen unread h = unread_by seen.before seen.now seen.faults_before seen.faults_now unread.left h
 
 -- an input as lines tell it
 abbrev pub lines_tell : Option (List ℕ) → Option (List ℕ) → List ℕ → List ℕ → ℕ → ℕ → InputSeen

@@ -16,3 +16,5 @@ pub mod Composing
 pub mod ExecutedLemmas
 pub mod SavedLemmas
 pub mod ListingLemmas
+pub mod CarriedRuns
+pub mod SavedRunLemmas

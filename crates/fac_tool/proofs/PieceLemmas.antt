@@ -9,18 +9,17 @@ use Rattle.std.specs.declared.option.Option.{Option}
 use Rattle.fac_io.specs.Told.{Grows, one_piece}
 use Rattle.fac_lang.specs.declared.program.Program.{Program}
 use Rattle.fac_code.specs.declared.image.Image.{Image}
-use Rattle.fac_store.specs.ValueTrees.{Trees}
 use Rattle.fac_vm.specs.declared.machine.StopKind.{StopKind}
 use Rattle.fac_vm.specs.declared.machine.StopKind.TheVariants as stop
 use Rattle.fac_vm.specs.MachineLaws.{RunsHaveOneEnd}
 use Rattle.fac_vm.specs.Machine.{Machine, End, spent, Step, goes_on, ends, step, stepped, steps, Leads, Ends, Writes, w_none, w_silent, w_piece}
-use Rattle.fac_vm.specs.Runs.{Held, begun, InPieces as InMachinePieces, end_world, step_world, AsksAt, RunsOn}
+use Rattle.fac_vm.specs.Runs.{Held, begun, InPieces as InMachinePieces, end_world, step_world, AsksAt}
 use Rattle.fac_tool.specs.Answer.{meaning}
 use Rattle.fac_tool.specs.SeenObjects.{SinkSeen}
-use Rattle.fac_tool.specs.Ends.{run_output, run_asked, tick_output, pieces_in, RunPieces, AskedInTick}
-use Rattle.fac_tool.specs.inner.Stops.{Carried, TakesPieces, RunIs, first_state}
+use Rattle.fac_tool.specs.Ends.{run_output, run_asked, tick_output, pieces_in, RunPieces, RunFront, AskedInTick}
+use Rattle.fac_tool.specs.inner.Stops.{Carried, first_state}
 use Rattle.fac_tool.proofs.StepTicks.{Mark, mark_in, StepsAt, GoesAt, step_at}
-use Rattle.fac_tool.proofs.StopLemmas.{carried_end, same_end, run_mark, mark_is, stops, within}
+use Rattle.fac_tool.proofs.StopLemmas.{carried_end, same_end, run_mark, mark_is}
 
 concat_one : (piece : List ℕ) → concat (one_piece piece) ≡ piece
 concat_one [] = refl
@@ -170,7 +169,8 @@ module _ (law : RunsHaveOneEnd) (P : Program) (M : Image) (input : List ℕ) (ca
         let same : w.used ≡ used = omega (arith, w.sum) in
         w.are ∙ ap (pieces_in P input) same
 
-    run_pieces :
+    -- what was taken of its output was taken in the pieces of the program's items
+    pub run_pieces :
         (ticks : ℕ) (out : SinkSeen) (what : StopKind) (last : List ℕ) (h : InMachinePieces M input old ticks out.before out.now what) → h.last ≡ last → RunPieces P input ticks last out
     run_pieces ticks out what last h is =
         let are = are_pieces h.used h.pieces h.stood h.writes in
@@ -182,14 +182,10 @@ module _ (law : RunsHaveOneEnd) (P : Program) (M : Image) (input : List ℕ) (ca
           pieces = rw (← are, ← is) h.in_pieces;
         }
 
-    takes_by : (ticks : ℕ) (out : SinkSeen) (what : StopKind) → InMachinePieces M input old ticks out.before out.now what → TakesPieces P input ticks out what
+    -- likewise where the last write failed
+    pub front_pieces : (ticks : ℕ) (out : SinkSeen) → InMachinePieces M input old ticks out.before out.now stop.WriteFault → RunFront P input ticks out
     unfolding run_pieces
-    takes_by ticks out stop.Done h = run_pieces ticks out stop.Done [] h h.only_at_fault
-    takes_by ticks out (stop.Failed e) h = run_pieces ticks out (stop.Failed e) [] h h.only_at_fault
-    takes_by ticks out stop.Spent h = run_pieces ticks out stop.Spent [] h h.only_at_fault
-    takes_by ticks out (stop.Trap pc y) h = run_pieces ticks out (stop.Trap pc y) [] h h.only_at_fault
-    takes_by ticks out stop.InputFault h = run_pieces ticks out stop.InputFault [] h h.only_at_fault
-    takes_by ticks out stop.WriteFault h =
+    front_pieces ticks out h =
         let fault = h.only_at_fault in
         record {
           last = h.last;
@@ -200,7 +196,6 @@ module _ (law : RunsHaveOneEnd) (P : Program) (M : Image) (input : List ℕ) (ca
           count = fault.count;
           front = fault.front;
         }
-    takes_by ticks out stop.Memory h = run_pieces ticks out stop.Memory [] h h.only_at_fault
 
     -- A step that asks for a line and writes nothing took one tick: there is no other way for what it tells to change.
     asks_by :
@@ -219,7 +214,8 @@ module _ (law : RunsHaveOneEnd) (P : Program) (M : Image) (input : List ℕ) (ca
         let same : b.world.asked ≡ t.world.asked = ap (λ (m : Mark). m.1.0) (at.free tt none) in
         absurd (omega (arith, asks, same))
 
-    asked_in_tick : (new : Held) (ticks : ℕ) (out : SinkSeen) (rest : List ℕ) → AsksAt M input rest old new ticks out.before.taken out.now.taken → AskedInTick P input rest ticks out
+    -- where the input failed
+    pub asked_in_tick : (new : Held) (ticks : ℕ) (out : SinkSeen) (rest : List ℕ) → AsksAt M input rest old new ticks out.before.taken out.now.taken → AskedInTick P input rest ticks out
     asked_in_tick new ticks out rest h =
         let t = h.stood in
         let comes : Comes M input h.used t = λ k. subst (λ (s : Machine). Leads M s (h.used + k) t k) begin (h.leads k) in
@@ -233,13 +229,3 @@ module _ (law : RunsHaveOneEnd) (P : Program) (M : Image) (input : List ℕ) (ca
           rest = rw less (sym h.left ∙ sym (ap (λ (m : Mark). m.0) before));
           output = subst (λ (bytes : List ℕ). Grows out.before.taken out.now.taken bytes) (sym (ap (λ (n : ℕ). run_output (meaning P input n)) h.one_more ∙ now.1)) h.wrote;
         }
-
--- all that is said of the run of a fresh machine
-pub run_is :
-    RunsHaveOneEnd → (P : Program) (M : Image) (budget : ℕ) (T : Trees) (old new : Held) (ticks : ℕ) (out : SinkSeen) (what : StopKind) (input rest : List ℕ) →
-    Carried P M → begun M input old ≡ first_state M input → ticks ≤ budget → RunsOn M T old new budget ticks out.before out.now what input rest → RunIs P budget T new ticks out what input rest
-run_is law P M budget T old new ticks out what input rest carries begin most h = record {
-  within = within law P M input budget old ticks out carries begin most h.reaches;
-  stops = stops law P M input rest budget T old new ticks out what carries begin (asked_in_tick law P M input carries old begin new ticks out rest) h.runs;
-  pieces = takes_by law P M input carries old begin ticks out what h.pieces;
-}

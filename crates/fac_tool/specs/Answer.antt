@@ -24,7 +24,7 @@ use Rattle.fac_notes.specs.declared.report.ByteFault.{ByteFault}
 use Rattle.fac_notes.specs.declared.report.Report.{Report}
 use Rattle.fac_notes.specs.declared.report.Report.TheVariants as report
 use Rattle.fac_notes.specs.Statuses.{status_of}
-use Rattle.fac_notes.specs.WordNames.{word_name, name_text}
+use Rattle.fac_notes.specs.WordNames.{defined_as, word_name, name_text}
 use Rattle.fac_command.specs.declared.command.Command.{Command}
 use Rattle.fac_command.specs.declared.command.Command.TheVariants as command
 use Rattle.fac_tool.specs.Refusals.{refusal_of}
@@ -81,8 +81,9 @@ shown_text text = (if nat_le (length text) MOST_SHOWN_BYTES then text else codes
 abbrev pub shown : Program → World Value → Value → List ℕ
 shown P w v = shown_text (printed meaning_values (names P) w v)
 
+-- No run error is that of a method, so a word has the name here under which it is defined.
 abbrev pub error_report : Program → World Value → Error Value → Report
-error_report P w e = report.Error e.name (word_name P e.word) (option_map (shown P w) e.value)
+error_report P w e = report.Error e.name (defined_as P e.word) (option_map (shown P w) e.value)
 
 -- the answer of a run with this budget; an accepted program is never stuck
 abbrev pub of_run : Program → ℕ → Run → Answer

@@ -7,5 +7,6 @@ pub mod Ends
 pub mod Saved
 pub mod ImageLoads
 pub mod Executed
+pub mod SavedRuns
 pub mod Answers
 pub mod inner

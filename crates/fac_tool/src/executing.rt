@@ -3,14 +3,14 @@ ghost use Rattle.std.specs.Prelude.{◌≡◌, ◌≤◌, IfOk};
 ghost use Rattle.fac_io.specs.Faults.{HasCause};
 ghost use Rattle.fac_lines.specs.LineAnswers.{AtEnd};
 ghost use Rattle.fac_vm.specs.SeenMachine.{callables_in, held_in};
-ghost use Rattle.fac_tool.specs.Executed.{Executes, ExecutesBytes};
+ghost use Rattle.fac_tool.specs.Executed.{ExecutesBytes};
 ghost use Rattle.fac_tool.specs.SeenObjects.{input_seen, sink_seen, OnInput};
-ghost use Rattle.fac_tool.specs.inner.ImageSteps.{IsImageReportOf, MakesMachine, RunsFirst};
+ghost use Rattle.fac_tool.specs.inner.ImageSteps.{IsImageReportOf, MakesMachine, RunsFirst, RunsImage};
 ghost use Rattle.fac_tool.specs.inner.Stops.{IsFresh};
 
 use crate::ended::{bare, reported};
 use crate::images::image_of_bytes;
-use crate::program_run::{stack_texts, value_text};
+use crate::value_texts::{stack_texts, value_text};
 use crate::{Ended, Report};
 use fac_io::{Sink, Source as Reader};
 use fac_lang::Memory;
@@ -57,12 +57,13 @@ fn run_first<S: Reader, K: Sink>(
     ensures image { machine.new.image ≡ machine.old.image }
     ensures cause { HasCause (K.faults out.old) (K.faults out.new) (result.what ≡ StopKind.WriteFault) }
     ensures input_cause { HasCause (S.faults input.old.source) (S.faults input.new.source) (result.what ≡ StopKind.InputFault) }
+    ensures at_end { AtEnd input.new.ended (S.left input.new.source) }
 {
     machine.run(alloc, input, out, budget)
 }
 
-// Runs a fresh machine and answers.
-fn run_image<S: Reader, K: Sink>(
+/// Runs a fresh machine for the first time and answers. What is told of the run is told by its image alone.
+pub fn run_image<S: Reader, K: Sink>(
     alloc: Global,
     machine: &mut Machine,
     budget: u64,
@@ -71,8 +72,9 @@ fn run_image<S: Reader, K: Sink>(
 ) -> Ended
     requires fresh { IsFresh machine.old }
     requires at_end { AtEnd input.old.ended (S.left input.old.source) }
-    ensures ends { OnInput (input_seen S.left S.faults input.old input.new) (λ bytes left.
-        Executes machine.old.image budget bytes left (input_seen S.left S.faults input.old input.new) (sink_seen K.taken K.pieces K.faults out.old out.new) result) }
+    ensures ends { OnInput (input_seen S.left S.faults input.old input.new)
+        (RunsImage machine.old.image budget (input_seen S.left S.faults input.old input.new) (sink_seen K.taken K.pieces K.faults out.old out.new) result) }
+    ensures at_end { AtEnd input.new.ended (S.left input.new.source) }
     ensures counts { K.faults out.old ≤ K.faults out.new }
     ensures input_counts { S.faults input.old.source ≤ S.faults input.new.source }
 {
@@ -120,6 +122,7 @@ pub fn execute<S: Reader, K: Sink>(
     out: &mut K,
 ) -> Ended
     requires { AtEnd input.old.ended (S.left input.old.source) }
+    ensures at_end { AtEnd input.new.ended (S.left input.new.source) }
     ensures ends { ExecutesBytes bytes.now budget (input_seen S.left S.faults input.old input.new) (sink_seen K.taken K.pieces K.faults out.old out.new) result }
     ensures counts { K.faults out.old ≤ K.faults out.new }
     ensures input_counts { S.faults input.old.source ≤ S.faults input.new.source }

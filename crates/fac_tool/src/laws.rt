@@ -1,8 +1,13 @@
 //! Laws of what files come to, each on the contract of a function that does nothing but call on laws below.
 ghost use Rattle.fac_tool.specs.Sources.{OneSource, EverySource};
+ghost use Rattle.fac_tool.specs.SavedRuns.{SavedCodeRunsAsItsSource};
 
+use fac_bytes::{encoded_is_decoded, images_are_exact, one_image};
+use fac_check::safe_programs_are_not_stuck;
+use fac_emit::printed_forms_are_equal;
 use fac_parse::{one_place, one_tree, some_place, tree_or_none};
 use fac_token::{every_file_has_an_answer, one_answer};
+use fac_vm::runs_have_one_end;
 
 /// No texts come to two things. So what a command answers on files is a function of their bytes.
 pub fn one_source()
@@ -20,4 +25,17 @@ pub fn every_text_is_a_source()
     every_file_has_an_answer();
     tree_or_none();
     some_place();
+}
+
+/// Code runs alone as its source does: whatever `exec` answers on bytes that `build` may have saved is what `run` answers on the sources. Both are
+/// as the clause `answer` of `factor_top` has them.
+pub fn saved_code_runs_as_its_source()
+    ensures { SavedCodeRunsAsItsSource }
+{
+    runs_have_one_end();
+    printed_forms_are_equal();
+    safe_programs_are_not_stuck();
+    one_image();
+    images_are_exact();
+    encoded_is_decoded();
 }

@@ -25,7 +25,8 @@ fn work_and_tell<F: Files, S: Source, K: Sink, N: Sink>(
 ) -> Ended
     requires among { StandAmong (length words.now) command }
     requires at_end { AtEnd input.old.ended (S.left input.old.source) }
-    ensures { Works (map string_bytes words.now) command
+    ensures at_end { AtEnd input.new.ended (S.left input.new.source) }
+    ensures works { Works (map string_bytes words.now) command
         (files_seen F.held F.asked F.faults files.old files.new)
         (input_seen S.left S.faults input.old input.new)
         (sink_seen K.taken K.pieces K.faults out.old out.new)
@@ -46,7 +47,8 @@ fn answer<F: Files, S: Source, K: Sink, N: Sink>(
     notes: &mut N,
 ) -> Ended
     requires { AtEnd input.old.ended (S.left input.old.source) }
-    ensures { Answers (map string_bytes words.now)
+    ensures at_end { AtEnd input.new.ended (S.left input.new.source) }
+    ensures answers { Answers (map string_bytes words.now)
         (files_seen F.held F.asked F.faults files.old files.new)
         (input_seen S.left S.faults input.old input.new)
         (sink_seen K.taken K.pieces K.faults out.old out.new)
@@ -78,8 +80,9 @@ pub fn factor_top<F: Files, S: Source, K: Sink, N: Sink>(
     out: &mut K,
     notes: &mut N,
 ) -> Ended
-    // Where it is known that the input has ended, its source has nothing left.
+    // Where it is known that the input has ended, its source has nothing left. This holds behind the call too.
     requires { AtEnd input.old.ended (S.left input.old.source) }
+    ensures at_end { AtEnd input.new.ended (S.left input.new.source) }
     // The status, the ticks, the stack, the refusal, the output in its pieces, what is left of the input, and the note, by the command, the bytes
     // of its files and the input.
     ensures answer { Answers (map string_bytes words.now)

@@ -42,6 +42,7 @@ fn carry_out<S: Reader, K: Sink>(
         StepsEnd (on_accepted command accepted.now.definitions P) (work_of command (Some P)) (sink_seen K.taken K.pieces K.faults out.old out.new) (input_seen S.left S.faults input.old input.new) result bytes left) }
     ensures counts { K.faults out.old ≤ K.faults out.new }
     ensures input_counts { S.faults input.old.source ≤ S.faults input.new.source }
+    ensures at_end { AtEnd input.new.ended (S.left input.new.source) }
 {
     match command {
         Command::Check { .. } => Ok(tell_checked(alloc, accepted.definitions, out)),
@@ -72,6 +73,7 @@ fn steps<F: Files, S: Reader, K: Sink>(
     requires at_end { AtEnd input.old.ended (S.left input.old.source) }
     ensures files_count { F.faults files.old ≤ F.faults files.new }
     ensures input_count { S.faults input.old.source ≤ S.faults input.new.source }
+    ensures at_end { AtEnd input.new.ended (S.left input.new.source) }
     ensures out_count { K.faults out.old ≤ K.faults out.new }
     ensures ending { ReachesBy (map string_bytes names.now) command (files_seen F.held F.asked F.faults files.old files.new) (input_seen S.left S.faults input.old input.new) (sink_seen K.taken K.pieces K.faults out.old out.new) (ended_by result) }
 {
@@ -112,6 +114,7 @@ fn execute_steps<F: Files, S: Reader, K: Sink>(
     requires { AtEnd input.old.ended (S.left input.old.source) }
     ensures files_count { F.faults files.old ≤ F.faults files.new }
     ensures input_count { S.faults input.old.source ≤ S.faults input.new.source }
+    ensures at_end { AtEnd input.new.ended (S.left input.new.source) }
     ensures out_count { K.faults out.old ≤ K.faults out.new }
     ensures ending { ExecutesImage name.now budget (files_seen F.held F.asked F.faults files.old files.new) (input_seen S.left S.faults input.old input.new) (sink_seen K.taken K.pieces K.faults out.old out.new) (ended_by result) }
 {
@@ -147,6 +150,7 @@ fn command_steps<F: Files, S: Reader, K: Sink>(
     requires at_end { AtEnd input.old.ended (S.left input.old.source) }
     ensures files_count { F.faults files.old ≤ F.faults files.new }
     ensures input_count { S.faults input.old.source ≤ S.faults input.new.source }
+    ensures at_end { AtEnd input.new.ended (S.left input.new.source) }
     ensures out_count { K.faults out.old ≤ K.faults out.new }
     ensures ending { ReachesAs (map string_bytes words.now) command (files_seen F.held F.asked F.faults files.old files.new) (input_seen S.left S.faults input.old input.new) (sink_seen K.taken K.pieces K.faults out.old out.new) (ended_by result) }
 {
@@ -175,7 +179,8 @@ pub fn work<F: Files, S: Reader, K: Sink>(
 ) -> Ended
     requires among { StandAmong (length words.now) command }
     requires at_end { AtEnd input.old.ended (S.left input.old.source) }
-    ensures { Reaches (map string_bytes words.now) command (files_seen F.held F.asked F.faults files.old files.new) (input_seen S.left S.faults input.old input.new) (sink_seen K.taken K.pieces K.faults out.old out.new) result }
+    ensures at_end { AtEnd input.new.ended (S.left input.new.source) }
+    ensures reaches { Reaches (map string_bytes words.now) command (files_seen F.held F.asked F.faults files.old files.new) (input_seen S.left S.faults input.old input.new) (sink_seen K.taken K.pieces K.faults out.old out.new) result }
 {
     match command_steps(alloc, command, words, files, input, out) {
         Ok(ended) => ended,

@@ -15,9 +15,9 @@ use Rattle.fac_notes.specs.declared.report.Report.TheVariants as report
 use Rattle.fac_notes.specs.WordNames.{image_word_name}
 use Rattle.fac_tool.specs.declared.ended.Ended.{Ended}
 use Rattle.fac_tool.specs.declared.linking.Linked.{Linked}
-use Rattle.fac_tool.specs.SeenObjects.{FilesSeen, SinkSeen}
+use Rattle.fac_tool.specs.SeenObjects.{FilesSeen, SinkSeen, InputSeen}
 use Rattle.fac_tool.specs.ImageLoads.{ImageLoads, ImageLoadEnds}
-use Rattle.fac_tool.specs.Executed.{BadImage, NoImageMemory, fresh_held, image_shown, ExecutesWithin}
+use Rattle.fac_tool.specs.Executed.{BadImage, NoImageMemory, fresh_held, image_shown, ExecutesWithin, Executes}
 use Rattle.fac_tool.specs.inner.Stops.{InStore, IsFresh}
 
 -- the step that loads the image of this name
@@ -50,6 +50,11 @@ pub record IsMachineOf (bytes : List ℕ) (machine : MachineSeen) : Type 0 where
 abbrev pub MakesMachine : List ℕ → Result MachineSeen Ended → Type 0
 MakesMachine bytes (Ok machine) = IsMachineOf bytes machine
 MakesMachine bytes (Err ended) = NoImageOf bytes ended
+
+-- the first run of a machine of this image ended so, and came so far, on this input, of which this is left
+pub record RunsImage (M : Image) (budget : ℕ) (seen : InputSeen) (out : SinkSeen) (ended : Ended) (input left : List ℕ) : Type 0 where
+  pub within : ExecutesWithin M budget input ended.ticks out
+  pub ends : Executes M budget input left seen out ended
 
 -- the first run of a machine of this image, on this input, of which this is left
 pub record RunsFirst (M : Image) (budget : ℕ) (T : Trees) (held : Held) (ticks : ℕ) (out : SinkSeen) (what : StopKind) (input left : List ℕ) : Type 0 where

@@ -1,13 +1,8 @@
--- A run of the machine that carries a program, in terms of the program's meaning.
+-- The program for which a closed one stands, the image that carries it, and a machine before its first run.
 use Rattle.std.specs.Prelude.{◌≡◌, ℕ, ◌-◌, List, [], map, reverse}
-use Rattle.std.specs.declared.option.Option.{Option}
-use Rattle.std.specs.Option.{option_map}
-use Rattle.fac_io.specs.Told.{Grows}
 use Rattle.fac_lang.specs.declared.program.Program.{Program}
-use Rattle.fac_lang.specs.Phrases.{Item, Value}
 use Rattle.fac_lang.specs.Printed.{printed}
-use Rattle.fac_lang.specs.World.{World, State, Error}
-use Rattle.fac_lang.specs.Eval.{Done, Failed, Spent}
+use Rattle.fac_lang.specs.World.{World}
 use Rattle.fac_lang.specs.RunningLaws.{IsNotStuck}
 use Rattle.fac_lang.specs.Forms.{IsBuilt}
 use Rattle.fac_lang.specs.Whole.{IsWhole}
@@ -18,22 +13,13 @@ use Rattle.fac_check.specs.Promises.{IsSafe}
 use Rattle.fac_code.specs.declared.image.Image.{Image}
 use Rattle.fac_code.specs.ImageNames.{image_names}
 use Rattle.fac_store.specs.MachineValues.{MValue, machine_values}
-use Rattle.fac_store.specs.ValueTrees.{Trees, StoreSeen, objects_of, trees_of, value_in}
+use Rattle.fac_store.specs.ValueTrees.{StoreSeen, objects_of, trees_of, value_in}
 use Rattle.fac_store.specs.declared.value.Value.{Value as MachineValue}
-use Rattle.fac_vm.specs.declared.machine.RunError.{RunError}
-use Rattle.fac_vm.specs.declared.machine.StopKind.{StopKind}
-use Rattle.fac_vm.specs.declared.machine.StopKind.TheVariants as stop
 use Rattle.fac_vm.specs.Machine.{Machine, starting, first_world}
 use Rattle.fac_vm.specs.SeenMachine.{MachineSeen, stack_in}
-use Rattle.fac_vm.specs.Runs.{Held, error_of}
 use Rattle.fac_emit.specs.Carries.{Carries}
-use Rattle.fac_emit.specs.MachineView.{template_phrases, state_view, world_view, error_view}
-use Rattle.fac_notes.specs.declared.report.Report.{Report}
-use Rattle.fac_notes.specs.declared.report.Report.TheVariants as report
 use Rattle.fac_notes.specs.WordNames.{word_name}
 use Rattle.fac_tool.specs.Answer.{meaning, shown_text}
-use Rattle.fac_tool.specs.SeenObjects.{SinkSeen}
-use Rattle.fac_tool.specs.Ends.{StopsWithin, AskedInTick, RunPieces, RunFront}
 
 -- the program for which a closed one stands
 pub record StandsFor (closed : Closed) (P : Program) : Type 0 where
@@ -68,38 +54,6 @@ pub record IsFresh (machine : MachineSeen) : Type 0 where
 abbrev pub first_state : Image → List ℕ → Machine
 first_state M input = starting M [] (first_world M input)
 
--- How a run on this input with this budget stopped that left this, where the machine's callables are these. The world of the meaning is that of the machine,
--- which has the objects that are held.
-abbrev pub StopsAs : Program → List ℕ → List ℕ → ℕ → Trees → Held → ℕ → SinkSeen → StopKind → Type 0
-StopsAs P input left budget T held ticks out stop.Done =
-    (st : State Value) × (more : ℕ) × (meaning P input budget ≡ Done st more) × (ticks ≡ budget - more) × (left ≡ st.world.input) × Grows out.before.taken out.now.taken st.world.output ×
-    (w : World MValue) × (w.objects ≡ held.objects) × (st ≡ state_view (template_phrases P) held.stack w)
-StopsAs P input left budget T held ticks out (stop.Failed e) =
-    (x : Error Value) × (st : State Value) × (more : ℕ) × (meaning P input budget ≡ Failed x st more) × (ticks ≡ budget - more) × (left ≡ st.world.input) × Grows out.before.taken out.now.taken st.world.output ×
-    (w : World MValue) × (w.objects ≡ held.objects) × (st.world ≡ world_view (template_phrases P) w) × (x ≡ error_view (template_phrases P) (error_of T e))
-StopsAs P input left budget T held ticks out stop.Spent =
-    (st : State Value) × (i : Option Item) × (meaning P input budget ≡ Spent st i) × (ticks ≡ budget) × (left ≡ st.world.input) × Grows out.before.taken out.now.taken st.world.output
-StopsAs P input left budget T held ticks out (stop.Trap pc why) = ⊥
-StopsAs P input left budget T held ticks out stop.InputFault = AskedInTick P input left ticks out
-StopsAs P input left budget T held ticks out stop.WriteFault = Unit {0}
-StopsAs P input left budget T held ticks out stop.Memory = Unit {0}
-
--- in which pieces its output was taken: those of the items that wrote, and at a write fault a front of the next one
-abbrev pub TakesPieces : Program → List ℕ → ℕ → SinkSeen → StopKind → Type 0
-TakesPieces P input ticks out stop.Done = RunPieces P input ticks [] out
-TakesPieces P input ticks out (stop.Failed e) = RunPieces P input ticks [] out
-TakesPieces P input ticks out stop.Spent = RunPieces P input ticks [] out
-TakesPieces P input ticks out (stop.Trap pc why) = RunPieces P input ticks [] out
-TakesPieces P input ticks out stop.InputFault = RunPieces P input ticks [] out
-TakesPieces P input ticks out stop.WriteFault = RunFront P input ticks out
-TakesPieces P input ticks out stop.Memory = RunPieces P input ticks [] out
-
--- all that is said of the run, on this input, of which this is left
-pub record RunIs (P : Program) (budget : ℕ) (T : Trees) (held : Held) (ticks : ℕ) (out : SinkSeen) (what : StopKind) (input left : List ℕ) : Type 0 where
-  pub within : StopsWithin P input budget ticks out
-  pub stops : StopsAs P input left budget T held ticks out what
-  pub pieces : TakesPieces P input ticks out what
-
 -- the text of a value of a machine of this image as it is told, where this is the world
 abbrev pub machine_text : Image → World MValue → MValue → List ℕ
 machine_text M w v = shown_text (printed machine_values (image_names M) w v)
@@ -119,7 +73,3 @@ AreTextsOf M store vs texts = InStore store (λ w. texts ≡ map (λ v. machine_
 -- these are the texts of a machine's stack, from the bottom to the top
 abbrev pub AreStackTexts : MachineSeen → List (List ℕ) → Type 0
 AreStackTexts machine texts = InStore machine.store (λ w. texts ≡ map (machine_text machine.image w) (reverse (stack_in machine)))
-
--- this is the report of a run error of a machine, where the words have the names of this program
-abbrev pub IsReportOf : MachineSeen → Program → RunError → Report → Type 0
-IsReportOf machine C e why = InStore machine.store (λ w. why ≡ report.Error e.name (word_name C e.word) (option_map (λ v. machine_text machine.image w (value_in (trees_of machine.store) v)) e.value))

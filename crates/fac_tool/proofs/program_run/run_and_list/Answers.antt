@@ -1,7 +1,6 @@
 use Rattle.std.proofs.Common.{List, ℕ}
 use Rattle.fac_tool.specs.Answer.{stack_answer}
 use Rattle.fac_tool.specs.Ends.{runs_and_lists}
-use Rattle.fac_tool.proofs.ClosedLemmas.{same_names}
 use Rattle.fac_tool.proofs.EarlyEnds.{no_memory_before_run}
 use Rattle.fac_tool.proofs.InputLemmas.{onward, on_still}
 use Rattle.fac_tool.proofs.ListedLemmas.{ends_listed}
@@ -9,10 +8,9 @@ use Rattle.fac_tool.proofs.program_run.run_and_list.Goals as goal
 
 pub returns-in-Ok-clause-ends : goal.returns-in-Ok-clause-ends
 returns-in-Ok-clause-ends g c =
-    let C = c.args.checked.now.closed in
-    let ran = c.run_and_answer-ended in
+    let ran = c.run_carried-ended in
     onward (λ input left h P stands.
-    let run = h P (same_names P C.program C.templates stands.closes) (c.in-Ok.ensures.1 P stands) in
+    let run = h P (c.in-Ok.ensures.1 P stands) in
     record { ends = ends_listed P input c.args.budget _ _ _ _ _ _ _ left ran.result c.list_stack.result ran.ensures.counts run.within run.ends c.list_stack.ensures.lists; unread = tt })
     ran.ensures.ends
 

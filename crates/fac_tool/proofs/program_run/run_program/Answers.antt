@@ -1,17 +1,13 @@
 use Rattle.std.proofs.Common.{List, ℕ}
 use Rattle.fac_tool.specs.Answer.{run_answer}
 use Rattle.fac_tool.specs.Ends.{runs}
-use Rattle.fac_tool.proofs.ClosedLemmas.{same_names}
 use Rattle.fac_tool.proofs.EarlyEnds.{no_memory_before_run}
 use Rattle.fac_tool.proofs.InputLemmas.{onward, on_still}
 use Rattle.fac_tool.proofs.program_run.run_program.Goals as goal
 
 pub returns-in-Ok-clause-ends : goal.returns-in-Ok-clause-ends
 returns-in-Ok-clause-ends g c =
-    let C = c.args.checked.now.closed in
-    onward (λ input left h P stands.
-    let run = h P (same_names P C.program C.templates stands.closes) (c.in-Ok.ensures.1 P stands) in record { ends = run.ends; unread = tt })
-    c.run_and_answer.ensures.ends
+    onward (λ input left h P stands. let run = h P (c.in-Ok.ensures.1 P stands) in record { ends = run.ends; unread = tt }) c.run_carried.ensures.ends
 
 pub returns-in-Err-clause-ends : goal.returns-in-Err-clause-ends
 returns-in-Err-clause-ends g c =

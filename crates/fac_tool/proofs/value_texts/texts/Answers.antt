@@ -4,7 +4,7 @@ use Rattle.fac_tool.proofs.EndLemmas.{one_text_more}
 use Rattle.fac_tool.specs.inner.Stops.{machine_text}
 use Rattle.fac_store.specs.ValueTrees.{trees_of, value_in}
 use Rattle.fac_store.specs.declared.value.Value.{Value as MachineValue}
-use Rattle.fac_tool.proofs.program_run.texts.Goals as goal
+use Rattle.fac_tool.proofs.value_texts.texts.Goals as goal
 
 pub loop-value-preserved : goal.loop-value-preserved
 loop-value-preserved c = λ w same.

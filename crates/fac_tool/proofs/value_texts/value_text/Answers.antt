@@ -1,5 +1,5 @@
 use Rattle.fac_tool.proofs.EndLemmas.{shown_whole, dots_told}
-use Rattle.fac_tool.proofs.program_run.value_text.Goals as goal
+use Rattle.fac_tool.proofs.value_texts.value_text.Goals as goal
 
 pub returns-in-Ok : goal.returns-in-Ok
 returns-in-Ok c = λ w same. let is = c.in-Ok.ensures w same in shown_whole _ _ is.0 is.1

@@ -1,6 +1,6 @@
 use Rattle.std.proofs.Common.{take}
 use Rattle.fac_tool.specs.inner.Stops.{AreTextsOf}
-use Rattle.fac_tool.proofs.program_run.texts.Given as goal
+use Rattle.fac_tool.proofs.value_texts.texts.Given as goal
 
 abbrev pub invariant-loop-value : goal.invariant-loop-value
 invariant-loop-value l = AreTextsOf l.image l.store (take l.value-index l.values) l.texts

@@ -1,6 +1,0 @@
-use Rattle.fac_tool.proofs.EndLemmas.{report_told}
-use Rattle.fac_tool.proofs.program_run.error_report.Goals as goal
-
-pub returns-in_ok-text-in-Some : goal.returns-in_ok-text-in-Some
-returns-in_ok-text-in-Some c =
-    report_told c.args.machine.now c.args.program.now c.args.error c.in_ok-word.word c.in-Some.value c.in_ok-text-in-Some.text c.image.result.now c.store.result.now c.image.ensures c.store.ensures c.in_ok-word.ensures c.in-Some.is c.in_ok-text-in-Some.ensures
