@@ -7,7 +7,7 @@ ghost use Rattle.fac_bytes.specs.InstructionBytes.{instr as instr_format, last_p
 use crate::operands::{flag_number, write_flag, write_none, write_one, write_one_flag};
 use crate::part::{Part, Writable};
 use fac_code::Instr;
-use fac_lang::{Bytes, Height, Integer, Memory};
+use fac_lang::{Bytes, Height, Memory};
 use fac_spelling::{ReadFault, read_number, read_wide, unzigzag, write_number, zigzag};
 use std::alloc::Global;
 
@@ -112,7 +112,7 @@ impl Writable for Instr {
         match *self {
             Instr::Halt => write_none(out, 0),
             Instr::Tick(ticks) => write_one(out, 1, u128::from(ticks)),
-            Instr::Int(integer) => write_one(out, 2, zigzag(integer.get())),
+            Instr::Int(integer) => write_one(out, 2, zigzag(integer)),
             Instr::True => write_none(out, 3),
             Instr::False => write_none(out, 4),
             Instr::Text(text) => write_one(out, 5, u128::from(text)),
@@ -160,7 +160,7 @@ impl Part for Instr {
             }
             2 => {
                 let (number, rest) = read_wide(rest, 0, u128::MAX)?;
-                Ok((Instr::Int(Integer::new(unzigzag(number))), rest))
+                Ok((Instr::Int(unzigzag(number)), rest))
             }
             3 => Ok((Instr::True, rest)),
             4 => Ok((Instr::False, rest)),

@@ -9,7 +9,7 @@ use crate::instructions::last_primitive;
 use crate::operands::{write_none, write_one, write_two};
 use crate::part::{Part, Writable};
 use fac_code::{Action, Elem, KindRow, TemplateRow, WordRow};
-use fac_lang::{Bytes, Height, Integer, List, Memory};
+use fac_lang::{Bytes, Height, List, Memory};
 use fac_spelling::{
     ReadFault, Spelled, Writes, number_fits, numbers_fit, read_number, read_wide, unzigzag,
     write_number, zigzag,
@@ -24,7 +24,7 @@ impl Writable for Elem {
 
     fn write(&self, out: &mut Bytes) -> Result<(), Memory> {
         match *self {
-            Elem::Int(integer) => write_one(out, 0, zigzag(integer.get())),
+            Elem::Int(integer) => write_one(out, 0, zigzag(integer)),
             Elem::True => write_none(out, 1),
             Elem::False => write_none(out, 2),
             Elem::Text(text) => write_one(out, 3, u128::from(text)),
@@ -57,7 +57,7 @@ impl Part for Elem {
         match tag {
             0 => {
                 let (number, rest) = read_wide(rest, 0, u128::MAX)?;
-                Ok((Elem::Int(Integer::new(unzigzag(number))), rest))
+                Ok((Elem::Int(unzigzag(number)), rest))
             }
             1 => Ok((Elem::True, rest)),
             2 => Ok((Elem::False, rest)),

@@ -3,7 +3,7 @@ ghost use Rattle.std.specs.Prelude.{◌≡◌, true};
 ghost use Rattle.fac_code.specs.Code.{has_built_code};
 ghost use Rattle.fac_code.specs.References.{refers as all_refer};
 
-use fac_lang::{Height, Integer, List, Text};
+use fac_lang::{Height, List, Text};
 
 /// An instruction.
 #[derive(Clone, Copy, Debug, PartialEq, Eq)]
@@ -13,7 +13,7 @@ pub enum Instr {
     /// Does nothing. It costs so many ticks.
     Tick(u32),
     /// Pushes an integer, at a tick.
-    Int(Integer),
+    Int(i128),
     /// Pushes `t`, at a tick.
     True,
     /// Pushes `f`, at a tick.
@@ -208,7 +208,7 @@ pub struct TemplateRow {
 #[derive(Clone, Copy, Debug, PartialEq, Eq)]
 pub enum Elem {
     /// An integer.
-    Int(Integer),
+    Int(i128),
     /// `t`.
     True,
     /// `f`.

@@ -18,7 +18,7 @@ fn elem(texts: &Texts, closed: &Closed, lit: &Lit) -> Elem
     ensures { result ≡ elem_of closed.now.program closed.now.templates lit.now }
 {
     match lit {
-        Lit::Int(value) => Elem::Int(*value),
+        Lit::Int(value) => Elem::Int(value.get()),
         Lit::True => Elem::True,
         Lit::False => Elem::False,
         Lit::Str(text) => Elem::Text(texts.number(text)),

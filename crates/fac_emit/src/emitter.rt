@@ -94,7 +94,7 @@ fn instr_of(closed: &Closed, numbering: &Numbering, what: &What) -> Instr
     ensures { result ≡ item_instr closed.now.program closed.now.templates (what_item what.now) }
 {
     match what {
-        What::Int(value) => Instr::Int(*value),
+        What::Int(value) => Instr::Int(value.get()),
         What::True => Instr::True,
         What::False => Instr::False,
         What::Str(text) => Instr::Text(numbering.texts.number(text)),

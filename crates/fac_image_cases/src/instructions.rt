@@ -1,6 +1,6 @@
 //! Instructions, elements of literal arrays and what words do, as texts tell them.
 use fac_code::{Action, Elem, Instr, MethodRow};
-use fac_lang::{Height, Integer, primitives};
+use fac_lang::{Height, primitives};
 
 // The number of the primitive with this name.
 fn numbered(name: &str) -> Option<u32> {
@@ -132,7 +132,7 @@ fn execute_effect(text: &str, tail: bool) -> Option<Instr> {
 pub fn instr(text: &str) -> Option<Instr> {
     match text.split_once(' ') {
         None => plain(text),
-        Some(("int", number)) => Some(Instr::Int(Integer::new(number.parse::<i128>().ok()?))),
+        Some(("int", number)) => Some(Instr::Int(number.parse::<i128>().ok()?)),
         Some(("prim", name)) => Some(Instr::Prim(primitive(name)?)),
         Some(("call-effect", told)) => call_effect(told, false),
         Some(("tail-call-effect", told)) => call_effect(told, true),
@@ -161,7 +161,7 @@ pub fn elem(text: &str) -> Option<Elem> {
             "false" => Some(Elem::False),
             _ => None,
         },
-        Some(("int", number)) => Some(Elem::Int(Integer::new(number.parse::<i128>().ok()?))),
+        Some(("int", number)) => Some(Elem::Int(number.parse::<i128>().ok()?)),
         Some((name, number)) => numbered_elem(name, number.parse::<u32>().ok()?),
     }
 }

@@ -125,7 +125,7 @@ fn push_instr(text: &mut Text, instr: Instr) -> Result<(), Memory>
     match instr {
         Instr::Halt => push_none(text, "halt"),
         Instr::Tick(ticks) => push_one(text, "tick", ticks),
-        Instr::Int(value) => push_integer(text, value.get()),
+        Instr::Int(value) => push_integer(text, value),
         Instr::True => push_none(text, "true"),
         Instr::False => push_none(text, "false"),
         Instr::Text(number) => push_one(text, "text", number),

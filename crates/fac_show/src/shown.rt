@@ -181,11 +181,11 @@ fn add_value(
     ensures { Adds printing.entry.limit (string_bytes line.old) (stored_form printing.entry.store.now (image_names printing.entry.image.now) levels value) (string_bytes line.new) result }
 {
     match value {
-        Value::Int(number) => add_integer(line, printing.limit, number.get()),
+        Value::Int(number) => add_integer(line, printing.limit, number),
         Value::True => add(line, printing.limit, "t"),
         Value::False => add(line, printing.limit, "f"),
         Value::Text(number) => add_quoted(line, printing.limit, printing.store.text(number)),
-        Value::Iota(number) => add_iota(line, printing.limit, number.get()),
+        Value::Iota(number) => add_iota(line, printing.limit, number),
         Value::Word(word) => add(line, printing.limit, printing.image.word_name(word)),
         Value::Array(number) => add_object(line, printing, number, levels),
         Value::Tuple(number) => add_object(line, printing, number, levels),
