@@ -5,6 +5,7 @@ import random
 import re
 from dataclasses import dataclass
 
+import image_model
 import model
 
 FILE = "source.factor"
@@ -1930,6 +1931,9 @@ def command_lines(chance):
     words += chance.sample(names, chance.choice([0, 1, 1, 1, 1, 2, 2, 2, 3, 4]))
     if happens(chance, 0.05):
         words.insert(chance.randrange(len(words) + 1), chance.choice(FILE_NAMES + NUMBERS_OF_STEPS))
+    if image_model.read_words(words):
+        # bench/images.py makes the commands on images
+        words[0] = "run"
     return Case(words if happens(chance, 0.98) else [], files)
 
 

@@ -7,8 +7,9 @@ PROGRAM is the built program, by default crates/factorc/out/factorc. The script 
 `PROGRAM check FILE` on each several times, and prints the shortest time, the longest time and the greatest peak of memory. It ends
 with status 1 where a run answers wrongly or a limit is passed: where a sort of source stands in two sizes, the larger is four times
 the smaller and may take at most five times as long; and each sort has a most of seconds for its larger size. The first example of
-README is run with little memory too. Last, a thousand files are checked beside one file with the same text, and may take a tenth
-longer. What needs forms or commands that aren't built, as model.BUILT tells, is left out.
+README is run with little memory too. Images of many instructions are executed, and one is built from a large source. Last, a thousand
+files are checked beside one file with the same text, and may take a tenth longer. What needs forms or commands that aren't built, as
+model.BUILT tells, is left out.
 
 The peak is what the system counts for the process. It is never less than this script's own size, some twenty megabytes.
 """
@@ -388,6 +389,27 @@ RECURSION_THROUGH_IF = b"USING: kernel ; : spin ( ? -- ) [ t spin ] [ ] if ; t s
 COMPOSING = b"USING: kernel ; : grow ( q -- q ) [ ] compose grow ; [ ] grow\n"
 
 
+def number(value):
+    """The bytes of a number in an image."""
+    spelled = b""
+    while value > 127:
+        spelled += bytes([value % 128 + 128])
+        value //= 128
+    return spelled + bytes([value])
+
+
+def image_that_halts(path, count):
+    """An image of so many instructions: integers of two bytes, and the `halt` behind them at which it starts."""
+    integers = [b"\x02" + number(128 + value) for value in range(16_256)]
+    whole, rest = divmod(count - 1, len(integers))
+    with open(path, "wb") as file:
+        file.write(b"FCI1" + bytes(8) + number(count))
+        for _ in range(whole):
+            file.write(b"".join(integers))
+        file.write(b"".join(integers[:rest]) + b"\x00" + number(count - 1))
+    return 0, b"", b""
+
+
 def mebibytes(size):
     return f"{size >> 20} MiB"
 
@@ -432,6 +454,15 @@ SORTS = [
 ]
 
 
+# Images that are executed: their name, what makes one, its numbers of instructions, and the most seconds for the last.
+IMAGES = [
+    ("image", image_that_halts, (5_592_000, 22_368_000), 4.0),
+    ("small image", image_that_halts, (1,), 0.004),
+]
+# The most seconds in which the image of numbers and `drop`s is built.
+MOST_SECONDS_OF_BUILD = 2.0
+
+
 def run_once(words, folder):
     """Runs a program with its words: its time in seconds, its peak in KiB, its status, what it printed and its note."""
     out = os.path.join(folder, "out")
@@ -450,14 +481,14 @@ def run_once(words, folder):
     return seconds, used.ru_maxrss, status, printed, noted
 
 
-def measure(words, make, size, folder):
-    """The length of the file of this size, and the times and the greatest peak of several runs of these words on it. A wrong answer
-    ends the script."""
+def measure(words, make, size, folder, behind=()):
+    """The length of the file of this size, and the times and the greatest peak of several runs of these words on it, with the words
+    behind its name. A wrong answer ends the script."""
     source = os.path.join(folder, "source.factor")
     wanted = make(source, size)
     times, peak = [], 0
     for _ in range(RUNS):
-        seconds, memory, status, printed, noted = run_once(words + [source], folder)
+        seconds, memory, status, printed, noted = run_once([*words, source, *behind], folder)
         if (status, printed, noted) != wanted:
             sys.exit(f"wrong answer: status {status}, output {printed[:80]!r}, note {noted[:80]!r}")
         times.append(seconds)
@@ -495,6 +526,33 @@ def compare_files(program, folder, failed):
     print(f"{'files':<20}{FILES:,} files take {many:.3f} s and one of the same text {one:.3f} s, {many / one:.2f} times as long")
     if many > MOST_RATIO_OF_FILES * one:
         failed.append(f"files: {many / one:.2f} times as long, more than {MOST_RATIO_OF_FILES:g}")
+
+
+def show(name, told, length, times, peak):
+    """Prints what was measured."""
+    print(f"{name:<20}{told:>14}{length:>10}{min(times):>10.3f} s{max(times):>10.3f} s{peak / 1024:>10.1f} MiB")
+
+
+def measure_images(program, folder, failed):
+    """Measures the images, and how long one takes to be built."""
+    for name, make, counts, most_seconds in IMAGES:
+        shortest = []
+        for count in counts:
+            length, times, peak = measure([program, "exec"], make, count, folder)
+            shortest.append(min(times))
+            show(name, f"{count:,} instr.", length, times, peak)
+        if len(counts) == 2:
+            compare(name, shortest, failed)
+        limit(name, shortest[-1], most_seconds, failed)
+    length, times, peak = measure([program, "build"], numbers_and_drops, LARGE, folder, ["-o", os.path.join(folder, "image")])
+    show("building", mebibytes(LARGE), length, times, peak)
+    limit("building", min(times), MOST_SECONDS_OF_BUILD, failed)
+
+
+def limit(name, seconds, most_seconds, failed):
+    """Adds a failure where the shortest time isn't below the most seconds."""
+    if seconds >= most_seconds:
+        failed.append(f"{name}: {seconds:.3f} s, not below {most_seconds:g} s")
 
 
 def built(path):
@@ -542,11 +600,11 @@ def main():
             for size in sizes:
                 length, times, peak = measure([program, command], make, size, folder)
                 shortest.append(min(times))
-                print(f"{name:<20}{told(size):>14}{length:>10}{min(times):>10.3f} s{max(times):>10.3f} s{peak / 1024:>10.1f} MiB")
+                show(name, told(size), length, times, peak)
             if len(sizes) == 2:
                 compare(name, shortest, failed)
-            if shortest[-1] >= most_seconds:
-                failed.append(f"{name}: {shortest[-1]:.3f} s, not below {most_seconds:g} s")
+            limit(name, shortest[-1], most_seconds, failed)
+        measure_images(program, folder, failed)
         measure([*WITH_LITTLE_MEMORY, program, "run"], first_example, None, folder)
         if model.BUILT.issuperset(["files", "check"]):
             compare_files(program, folder, failed)

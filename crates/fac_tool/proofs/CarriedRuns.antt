@@ -14,7 +14,7 @@ use Rattle.fac_code.specs.Images.{tables_of}
 use Rattle.fac_code.specs.ImageNames.{text_of}
 use Rattle.fac_store.specs.MachineValues.{MValue}
 use Rattle.fac_vm.specs.declared.machine.StopKind.TheVariants as stop
-use Rattle.fac_vm.specs.Machine.{End, done, failed, spent, trap, Ends}
+use Rattle.fac_vm.specs.Machine.{Machine, End, done, failed, spent, trap, Ends}
 use Rattle.fac_vm.specs.MachineLaws.{RunsHaveOneEnd}
 use Rattle.fac_vm.specs.Runs.{begun}
 use Rattle.fac_emit.specs.Carries.{image_full_name, full_name_of}
@@ -65,9 +65,9 @@ module _ (law : PrintedFormsAreEqual) (P : Program) (M : Image) (carries : Carri
   answer_by : (budget : ℕ) (r : Run) (e : End) → EndsSame P r e → of_end M budget e ≡ of_run P budget r
   answer_by budget (Done st m) (done s left) same =
       let texts = stack_same law P M carries.carries.same_names s.world s.stack in
-      let shown : of_end M budget (done s left) ≡ of_run P budget (Done (state_view (template_phrases P) s.stack s.world) left) =
+      let told : of_end M budget (done s left) ≡ of_run P budget (Done (state_view (template_phrases P) s.stack s.world) left) =
       ap (λ (ts : List (List ℕ)). record { status = 0; ticks = budget - left; stack = Some ts; refusal = None; output = s.world.output; left = s.world.input }) texts in
-      shown ∙ ap (λ (x : State Value). of_run P budget (Done x left)) same.0 ∙ ap (λ (n : ℕ). of_run P budget (Done st n)) same.1
+      told ∙ ap (λ (x : State Value). of_run P budget (Done x left)) same.0 ∙ ap (λ (n : ℕ). of_run P budget (Done st n)) same.1
   answer_by budget (Done st m) (failed x s left) same = absurd same
   answer_by budget (Done st m) (spent s) same = absurd same
   answer_by budget (Done st m) (trap y s left) same = absurd same
@@ -95,7 +95,7 @@ module _ (one_end : RunsHaveOneEnd) (law : PrintedFormsAreEqual) (P : Program) (
   begin = begins M input (fresh_held M) refl refl refl
 
   same_answer : (e : End) → Ends M (begun M input (fresh_held M)) budget e → of_end M budget e ≡ run_answer P input budget
-  same_answer e there = answer_by law P M carries budget (meaning P input budget) e (same_end one_end P M input budget carries e (subst (λ s. Ends M s budget e) begin there))
+  same_answer e there = answer_by law P M carries budget (meaning P input budget) e (same_end one_end P M input budget carries e (subst (λ (s : Machine). Ends M s budget e) begin there))
 
   stops_within : (ticks : ℕ) → ExecutesWithin M budget input ticks out → StopsWithin P input budget ticks out
   stops_within ticks h = within one_end P M input budget (fresh_held M) ticks out carries begin h.within h.reaches

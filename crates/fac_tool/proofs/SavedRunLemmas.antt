@@ -1,5 +1,6 @@
 -- The code which `build` saves runs as its source.
-use Rattle.std.proofs.Common.{◌≡◌, ◌⊎◌, ℕ, List, None, Some, Ok, Err, Result, inl, inr, refl, ap, sym, subst}
+use Rattle.std.proofs.Common.{◌≡◌, ℕ, List, None, Some, Ok, Err, Result, inl, inr, refl, ap, sym, subst}
+use Rattle.std.specs.Prelude.{◌⊎◌}
 use Rattle.std.specs.declared.option.Option.{Option}
 use Rattle.fac_io.specs.Told.{TookNothing}
 use Rattle.fac_lang.specs.declared.program.Program.{Program}
