@@ -3,14 +3,17 @@
 
     python3 bench/kept.py [--proofs] [--lanes N] [NAME ..]     the gate for these crates and those below them (none: all of them)
     python3 bench/kept.py --seed                               puts kept libraries where `rt check` finds them
+    python3 bench/kept.py --seed-from CLONE                    puts those there that a `rt ci` in that clone has built so far
 
-It is for toolchains whose `rt ci` proves everything from nothing each time, takes no names and keeps nothing. It runs the tasks of that
+All but the last is for toolchains whose `rt ci` proves everything from nothing each time, takes no names and keeps nothing. It runs the tasks of that
 `rt ci` itself, the proof of each crate from nothing, its tests, each edit that must be refused and each program, and leaves out a task
 that passed with the same files: those of the crate and of all below it, and of an edit its own. With `--proofs` no edits are tried. With
 `--lanes` so many tasks run side by side, by default one a processor.
 
 What it keeps lies in the folder that FACTORC_KEPT names, by default /tmp/factorc-kept, and serves every clone on the machine: what one
 clone proved none proves again. `--seed` gives a clone the libraries that are kept, so that its first `rt check` builds none of them.
+With `--seed-from` they come from a clone in which the gate runs or ran, of each crate with the same files and the same crates below it:
+what `rt ci` proves serves no `rt check` by itself, which would prove all of it again.
 The gate itself is a plain `rt ci`: run it on a clean clone before anything is handed in.
 """
 import argparse
@@ -184,6 +187,21 @@ def seed():
     return 0
 
 
+def seed_from(clone):
+    """Puts the libraries that a run of the gate built in another clone where `rt check` finds them."""
+    there = {crate.name: (crate.rlib, crate.stamp()) for crate in RT.rtlib.crates_below(clone)}
+    for crate in RT.rtlib.crates_below(ROOT):
+        built, stamp = there.get(crate.name, ("", ""))
+        if os.path.isfile(f"{built}/format") and stamp == crate.stamp() and not crate.is_built():
+            made = f"{crate.folder}/out/rlib"
+            shutil.rmtree(made, ignore_errors=True)
+            shutil.copytree(built, f"{made}/{os.path.basename(built)}")
+            with open(f"{made}/stamp", "w", encoding="utf-8") as file:
+                file.write(stamp)
+            print(f"{crate.name}: its library is that of {clone}")
+    return 0
+
+
 def main():
     """Does what the words of the command line say."""
     parser = argparse.ArgumentParser(description="The gate over what passed before.")
@@ -191,8 +209,11 @@ def main():
     parser.add_argument("--proofs", action="store_true")
     parser.add_argument("--lanes", type=int, default=0)
     parser.add_argument("--seed", action="store_true")
+    parser.add_argument("--seed-from", metavar="CLONE")
     words = parser.parse_args()
     os.chdir(ROOT)
+    if words.seed_from:
+        return seed_from(os.path.abspath(words.seed_from))
     os.makedirs(KEPT, exist_ok=True)
     return seed() if words.seed else gate(words.names, words.lanes, not words.proofs)
 
