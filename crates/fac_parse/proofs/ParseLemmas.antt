@@ -1,6 +1,6 @@
 -- The reader's loop, over plain variables.
-use Rattle.std.proofs.Common.{ℕ, ◌≡◌, ◌+◌, ◌<◌, ◌≤◌, Bool, true, false, List, [], ◌∷◌, ◌++◌, map, Option, Some, None, Ok, Err, refl, sym, ◌∙◌, ap, subst, arith, take, length, length-append, append_assoc, append-nil, get_or, ◌⊎◌, inl, inr}
-use Rattle.std.proofs.lemmas.List.{take_more, length_push}
+use Rattle.std.proofs.Common.{ℕ, ◌≡◌, ◌+◌, ◌<◌, ◌≤◌, Bool, true, false, List, [], ◌∷◌, ◌++◌, Option, Some, None, Ok, Err, refl, sym, ◌∙◌, ap, subst, arith, take, drop, suc, reverse, add-one, drop-cons, length, length-append, length-drop, append_assoc, append-nil, get_or, ◌⊎◌, inl, inr}
+use Rattle.std.proofs.lemmas.List.{take_more, length_push, reverse-append, take-append-drop}
 use Rattle.std.proofs.lemmas.Bool.Decides.{Decides-ltb}
 use Rattle.std.specs.Prelude.{nat_lt}
 use Rattle.fac_lang.specs.declared.token.Token.{Token}
@@ -15,19 +15,9 @@ use Rattle.fac_parse.proofs.ReaderReads.{steps-append}
 use Rattle.fac_parse.proofs.ExactPlaces.{reads_tree, refused_at, refused_end}
 use Rattle.fac_parse.proofs.ExactPlaces as exact
 
-map_same : (ts : List Token) → map (λ (t : Token). t) ts ≡ ts
-map_same [] = refl
-map_same (t ∷ ts) = ap (λ (us : List Token). t ∷ us) (map_same ts)
-
 one_more : (ts : List Token) (s next : State) (t : Token) (b : Bool) → steps (Some start) ts ≡ Some s → Goes (step s t) next (Ok b) → b ≡ true → steps (Some start) (ts ++ t ∷ []) ≡ Some next
 one_more ts s next t true h g e = steps-append (Some start) ts (t ∷ []) ∙ ap (λ (o : Option State). steps o (t ∷ [])) h ∙ g
 one_more ts s next t false h g e = cc
-
-pub goes_on : (ts : List Token) (s next : State) (t : Token) (b : Bool) → steps (Some start) ts ≡ Some s → Goes (step s t) next (Ok b) → b ≡ true → steps (Some start) (ts ++ t ∷ []) ≡ Some next
-goes_on ts s next t b h g e = one_more ts s next t b h g e
-
-pub counts_on : (ts : List Token) (t : Token) (n : ℕ) → n ≡ length ts → n + 1 ≡ length (ts ++ t ∷ [])
-counts_on ts t n e = let pushed = length_push ts t in omega (arith, e, pushed)
 
 fault_parses : (ts : List Token) (n : ℕ) (f : ParseFault) → Refused ts n → n < length ts → IsSyntax n Other f → Parses ts (Err f)
 fault_parses ts n (Syntax at Other) r h e = (n, e.0, (r, h))
@@ -38,19 +28,52 @@ none_with : (ts : List Token) (s next : State) (t : Token) (b : Bool) → steps 
 none_with ts s next t false h g e = steps-append (Some start) ts (t ∷ []) ∙ ap (λ (o : Option State). steps o (t ∷ [])) h ∙ g
 none_with ts s next t true h g e = cc
 
+-- the token behind so many of a list that were taken, where those behind it lie from the last to the first
+record IsNext (all fewer : List Token) (n : ℕ) (t : Token) : Type 0 where
+  pub within : n < length all
+  pub taken : take (n + 1) all ≡ take n all ++ t ∷ []
+  pub left : reverse fewer ≡ drop (n + 1) all
+
+is_next : (all rest fewer : List Token) (n : ℕ) (t : Token) → reverse rest ≡ drop n all → rest ≡ fewer ++ t ∷ [] → IsNext all fewer n t
+is_next all rest fewer n t left e =
+    let here : t ∷ reverse fewer ≡ drop n all = sym (reverse-append fewer (t ∷ [])) ∙ ap reverse (sym e) ∙ left in
+    let within : n < length all = omega (arith, ap length here, length-drop n all) in
+    let both : t ∷ reverse fewer ≡ get_or all n t ∷ drop (suc n) all = here ∙ drop-cons all n t within in
+    let same : t ≡ get_or all n t = cc in
+    let behind : reverse fewer ≡ drop (suc n) all = cc in
+    record {
+      within = within;
+      taken = take_more all n t within ∙ ap (λ (u : Token). take n all ++ u ∷ []) (sym same);
+      left = rw add-one behind;
+    }
+
+pub is_within : (all rest fewer : List Token) (n : ℕ) (t : Token) → reverse rest ≡ drop n all → rest ≡ fewer ++ t ∷ [] → n < length all
+is_within all rest fewer n t left e = (is_next all rest fewer n t left e).within
+
+pub fewer_left : (all rest fewer : List Token) (n : ℕ) (t : Token) → reverse rest ≡ drop n all → rest ≡ fewer ++ t ∷ [] → reverse fewer ≡ drop (n + 1) all
+fewer_left all rest fewer n t left e = (is_next all rest fewer n t left e).left
+
+pub goes_on :
+    (all rest fewer : List Token) (s next : State) (n : ℕ) (t : Token) (b : Bool) → reverse rest ≡ drop n all → rest ≡ fewer ++ t ∷ [] →
+    steps (Some start) (take n all) ≡ Some s → Goes (step s t) next (Ok b) → b ≡ true → steps (Some start) (take (n + 1) all) ≡ Some next
+goes_on all rest fewer s next n t b left e h g is = ap (steps (Some start)) (is_next all rest fewer n t left e).taken ∙ one_more (take n all) s next t b h g is
+
 -- no tree goes on with this token
 pub stops :
-    (ts all : List Token) (s next : State) (t : Token) (b : Bool) (n : ℕ) (f : ParseFault) → map (λ (t : Token). t) ts ≡ take (length ts) all → (length ts < length all) × (t ≡ get_or all (length ts) t) →
-    steps (Some start) ts ≡ Some s → Goes (step s t) next (Ok b) → b ≡ false → n ≡ length ts → IsSyntax n Other f → Parses all (Err f)
-stops ts all s next t b n f so_far here h g e count is =
-    let m = length ts in
-    let before : take m all ≡ ts = sym so_far ∙ map_same ts in
-    let with_it : take (m + 1) all ≡ ts ++ t ∷ [] = take_more all m t here.0 ∙ ap (λ (u : Token). take m all ++ u ∷ []) (sym here.1) ∙ ap (λ (us : List Token). us ++ t ∷ []) before in
-    let refused = refused_at all m s here.0 (ap (steps (Some start)) before ∙ h) (ap (steps (Some start)) with_it ∙ none_with ts s next t b h g e) in
-    fault_parses all m f refused here.0 (subst (λ (k : ℕ). IsSyntax k Other f) count is)
+    (all rest fewer : List Token) (s next : State) (n : ℕ) (t : Token) (b : Bool) (f : ParseFault) → reverse rest ≡ drop n all → rest ≡ fewer ++ t ∷ [] →
+    steps (Some start) (take n all) ≡ Some s → Goes (step s t) next (Ok b) → b ≡ false → IsSyntax n Other f → Parses all (Err f)
+stops all rest fewer s next n t b f left e h g is fault =
+    let i = is_next all rest fewer n t left e in
+    fault_parses all n f (refused_at all n s i.within h (ap (steps (Some start)) i.taken ∙ none_with (take n all) s next t b h g is)) i.within fault
 
-pub takes_all : (ts all : List Token) (s : State) → map (λ (t : Token). t) ts ≡ all → steps (Some start) ts ≡ Some s → TakesAll all s (Ok tt)
-takes_all ts all s same h = ap (steps (Some start)) (sym same ∙ map_same ts) ∙ h
+none_left : (rest : List Token) → length rest ≡ 0 → reverse rest ≡ []
+none_left [] e = refl
+none_left (t ∷ rest) e = cc
+
+pub takes_all : (all rest : List Token) (s : State) (n : ℕ) → reverse rest ≡ drop n all → length rest ≡ 0 → steps (Some start) (take n all) ≡ Some s → TakesAll all s (Ok tt)
+takes_all all rest s n left none h =
+    let whole : take n all ≡ all = sym (append-nil (take n all)) ∙ ap (λ (ts : List Token). take n all ++ ts) (sym (none_left rest none) ∙ left) ∙ take-append-drop n all in
+    ap (steps (Some start)) (sym whole) ∙ h
 
 -- all tokens are taken, and the forms are whole
 pub parses : (ts : List Token) (s : State) (forms : List Form) → steps (Some start) ts ≡ Some s → ended s ≡ Some forms → Reads ts forms

@@ -25,6 +25,9 @@ use std::alloc::Global;
 use std::mem;
 use thiserror::Error;
 
+// The room for so many tokens isn't worth giving back.
+const SMALL_ROOM: usize = 64;
+
 /// Why a source gives no tree.
 #[derive(Clone, Copy, Debug, PartialEq, Eq, Error)]
 pub enum ParseFault {
@@ -255,6 +258,15 @@ fn syntax(count: usize, why: Why) -> ParseFault
     match u32::try_from(count) {
         Ok(count) if count < u32::MAX => ParseFault::Syntax { at: count + 1, why },
         _ => ParseFault::Memory,
+    }
+}
+
+// Gives the room of tokens that were taken back to memory, and only where at least half of the room is free: so all calls together take linear time.
+fn give_back(tokens: &mut Vec<Token>)
+    ensures { tokens.new.items ≡ tokens.old.items }
+{
+    if tokens.capacity() > SMALL_ROOM && tokens.len() <= tokens.capacity() / 2 {
+        tokens.shrink_to_fit();
     }
 }
 
@@ -815,12 +827,15 @@ impl Reader {
         requires { state_of self.now ≡ start }
         ensures { TakesAll tokens (state_of self.new) result }
     {
+        let mut rest = tokens.into_vec();
+        rest.reverse();
         let mut taken = 0;
-        for token in tokens.into_vec() {
+        while let Some(token) = rest.pop() {
             if !self.take(alloc, token)? {
                 return Err(syntax(taken, Why::Other));
             }
             taken += 1;
+            give_back(&mut rest);
         }
         Ok(())
     }
