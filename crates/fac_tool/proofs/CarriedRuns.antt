@@ -35,12 +35,23 @@ use Rattle.fac_tool.proofs.EndLemmas.{text_same, stack_same}
 use Rattle.fac_tool.proofs.StopLemmas.{EndsSame, begins, same_end, within}
 use Rattle.fac_tool.proofs.PieceLemmas.{run_pieces, front_pieces, asked_in_tick}
 
+-- the vocabulary and the name of a word, by its row in an image and as it is defined
+abbrev row_pair : Image → WordRow → List ℕ × List ℕ
+row_pair M r = (text_of (tables_of M) r.vocab, text_of (tables_of M) r.name)
+
+abbrev definition_pair : WordDef → List ℕ × List ℕ
+definition_pair d = (d.name.vocab, d.name.name)
+
+abbrev row_name : Image → Option WordRow → Option (List ℕ × List ℕ)
+row_name M r = elim r [ Some r ↦ Some (row_pair M r) | None ↦ None ]
+
+abbrev definition_name : Option WordDef → Option (List ℕ × List ℕ)
+definition_name d = elim d [ Some d ↦ Some (definition_pair d) | None ↦ None ]
+
 -- a word has the same name in both
-named_by :
-    (M : Image) (w : ℕ) (r : Option WordRow) (d : Option WordDef) →
-    elim r [ Some r ↦ Some (text_of (tables_of M) r.vocab, text_of (tables_of M) r.name) | None ↦ None ] ≡ elim d [ Some d ↦ Some (d.name.vocab, d.name.name) | None ↦ None ] → name_in M w r ≡ defined_or w d
+named_by : (M : Image) (w : ℕ) (r : Option WordRow) (d : Option WordDef) → row_name M r ≡ definition_name d → name_in M w r ≡ defined_or w d
 named_by M w (Some r) (Some d) e =
-    let same : (text_of (tables_of M) r.vocab, text_of (tables_of M) r.name) ≡ (d.name.vocab, d.name.name) = cc in λ i. record { vocab = (same i).0; name = (same i).1 }
+    let same : row_pair M r ≡ definition_pair d = cc in λ i. record { vocab = (same i).0; name = (same i).1 }
 named_by M w (Some r) None e = absurd (cc)
 named_by M w None (Some d) e = absurd (cc)
 named_by M w None None e = refl

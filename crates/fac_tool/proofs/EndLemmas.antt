@@ -25,7 +25,6 @@ use Rattle.fac_emit.specs.MachineView.{template_phrases, value_view, values_view
 use Rattle.fac_emit.specs.PrintedForms.{PrintedFormsAreEqual}
 use Rattle.fac_tool.specs.Answer.{shown, shown_text}
 use Rattle.fac_tool.specs.inner.Stops.{machine_text, IsTextOf, AreTextsOf, AreStackTexts}
-use Rattle.fac_tool.specs.Ends.{runs}
 
 -- a printed form as it is told
 pub shown_whole : (text form : List ℕ) → text ≡ form → length form ≤ MOST_SHOWN_BYTES → text ≡ shown_text form

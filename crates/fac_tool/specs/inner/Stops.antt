@@ -1,5 +1,5 @@
 -- The program for which a closed one stands, the image that carries it, and a machine before its first run.
-use Rattle.std.specs.Prelude.{◌≡◌, ℕ, ◌-◌, List, [], map, reverse}
+use Rattle.std.specs.Prelude.{◌≡◌, ℕ, List, [], map, reverse}
 use Rattle.fac_lang.specs.declared.program.Program.{Program}
 use Rattle.fac_lang.specs.Printed.{printed}
 use Rattle.fac_lang.specs.World.{World}
