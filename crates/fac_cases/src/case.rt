@@ -119,6 +119,7 @@ fn call<F: Files, S: Source, K: Sink, N: Sink>(
     note: &mut N,
 ) -> Ended
     requires { AtEnd input.old.ended (S.left input.old.source) }
+    ensures { AtEnd input.new.ended (S.left input.new.source) }
 {
     factor_top(alloc, words, files, input, output, note)
 }

@@ -1,5 +1,7 @@
 //! How the end of a call and the tokens of a file are told.
-use fac_io::{Asked, MemSource};
+ghost use Rattle.fac_lines.specs.LineAnswers.{AtEnd};
+
+use fac_io::{Asked, MemSource, Source};
 use fac_lang::{Bytes, Memory, Text, TokKind, Token};
 use fac_lines::Lines;
 use fac_token::{TokenFault, tokens};
@@ -84,7 +86,9 @@ pub fn tell_left(
     alloc: Global,
     told: &mut Text,
     input: &mut Lines<MemSource>,
-) -> Result<(), Memory> {
+) -> Result<(), Memory>
+    requires { AtEnd input.old.ended (⟦<MemSource as Source>⟧.left input.old.source) }
+{
     let mut left = Bytes::new(alloc);
     for _ in 0..MOST_LINES {
         let Ok(Some(line)) = input.line() else {
