@@ -82,11 +82,7 @@ pub fn tell_bytes(told: &mut Text, what: &str, bytes: &[u8]) -> Result<(), Memor
 }
 
 /// Tells the lines that are left of an input, each with a newline, up to one that can't be had.
-pub fn tell_left(
-    alloc: Global,
-    told: &mut Text,
-    input: &mut Lines<MemSource>,
-) -> Result<(), Memory>
+pub fn tell_left(alloc: Global, told: &mut Text, input: &mut Lines<MemSource>) -> Result<(), Memory>
     requires { AtEnd input.old.ended (⟦<MemSource as Source>⟧.left input.old.source) }
 {
     let mut left = Bytes::new(alloc);
