@@ -37,6 +37,14 @@ impl<T> Boxed<T> {
     {
         &*self.value
     }
+
+    /// The value, moved from the heap.
+    pub fn into_value(self) -> T
+        ensures { result ≡ self }
+    {
+        let Boxed { value } = self;
+        Box::into_inner(value)
+    }
 }
 
 impl<T: Duplicate + Drop> Duplicate for Boxed<T> {
