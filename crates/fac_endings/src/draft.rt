@@ -1,5 +1,5 @@
 //! Words and classes as forms tell them: what is only known at the end of the program is kept open.
-use fac_lang::{ClassDef, List, WordDef};
+use fac_lang::{Boxed, ClassDef, List, WordDef};
 use fac_refusal::{Ref, Tok};
 
 /// What of a word is settled at the end of the program.
@@ -10,9 +10,9 @@ pub enum Late {
     /// All of it: the word is only deferred.
     Deferred,
     /// Its effect, by the class of a `C:`.
-    Maker(Ref),
+    Maker(Boxed<Ref>),
     /// The class and the generic of an `M:`, whose items are the word's phrase.
-    Method(Ref, Ref),
+    Method(Boxed<Ref>, Boxed<Ref>),
 }
 
 /// A word as far as it is told.

@@ -34,7 +34,7 @@ fn add_input(alloc: Global, inputs: &mut Vec<Input>, name: &str) -> Result<(), M
 pub fn inputs(alloc: Global, names: &[&str]) -> Result<Vec<Input>, Memory>
     ensures { IfOk result (λ inputs. inputs.items ≡ map plain_input (map (λ name. name.now) names.now)) }
 {
-    let mut inputs = Vec::new(alloc);
+    let mut inputs = Vec::with_capacity(alloc, names.len())?;
     for name in names {
         add_input(alloc, &mut inputs, name)?;
     }
@@ -45,7 +45,7 @@ pub fn inputs(alloc: Global, names: &[&str]) -> Result<Vec<Input>, Memory>
 fn listed_inputs(alloc: Global, names: &[Text]) -> Result<Vec<Input>, Memory>
     ensures { IfOk result (λ inputs. inputs.items ≡ map plain_input names.now) }
 {
-    let mut inputs = Vec::new(alloc);
+    let mut inputs = Vec::with_capacity(alloc, names.len())?;
     for name in names {
         add_input(alloc, &mut inputs, name.as_str())?;
     }
@@ -59,11 +59,21 @@ fn add_text(alloc: Global, texts: &mut List<Text>, text: &str) -> Result<(), Mem
     texts.push(Text::from_str(alloc, text)?)
 }
 
+// An empty list with room for so many texts.
+fn room_for_texts(alloc: Global, count: usize) -> Result<List<Text>, Memory>
+    ensures { IfOk result (λ list. list ≡ []) }
+{
+    match u32::try_from(count) {
+        Ok(count) => List::with_room(alloc, count),
+        Err(_) => Err(Memory),
+    }
+}
+
 /// Copies of texts.
 pub fn texts(alloc: Global, names: &[&str]) -> Result<List<Text>, Memory>
     ensures { IfOk result (λ texts. texts ≡ map (λ name. name.now) names.now) }
 {
-    let mut texts = List::new(alloc);
+    let mut texts = room_for_texts(alloc, names.len())?;
     for name in names {
         add_text(alloc, &mut texts, name)?;
     }

@@ -111,20 +111,6 @@ fn with_phrase(
     })
 }
 
-// The literal arrays, in no more memory than they take.
-fn whole_arrays(arrays: List<List<Lit>>) -> List<List<Lit>>
-    ensures { result ≡ arrays }
-{
-    // The count shows that the list is short enough to be one again.
-    let _count = arrays.len();
-    let mut items = arrays.into_vec();
-    items.shrink_to_fit();
-    match List::from_vec(items) {
-        Ok(arrays) => arrays,
-        Err(_) => unreachable!(),
-    }
-}
-
 // The program of these words and classes.
 fn program(
     alloc: Global,
@@ -136,13 +122,7 @@ fn program(
     ensures { IfOk result (λ program. program ≡ program_with (map (finished drafts.items classes) drafts.items) arrays classes (items_phrase items.items)) }
 {
     match finished_words(alloc, drafts, &classes) {
-        Ok(words) => with_phrase(
-            alloc,
-            words,
-            whole_arrays(arrays),
-            classes,
-            Phrase { items },
-        ),
+        Ok(words) => with_phrase(alloc, words, arrays.cut(), classes, Phrase { items }),
         Err(Memory) => Err(Memory),
     }
 }

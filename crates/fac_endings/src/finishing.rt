@@ -1,6 +1,7 @@
 //! Words as they are at the end of the program.
 ghost use Rattle.std.specs.Prelude.{◌≡◌, ◌++◌, ◌∷◌, [], length, map, Some, IfOk, OnOk};
 ghost use Rattle.fac_lang.specs.Classes.{slots_within};
+ghost use Rattle.fac_lang.specs.Whole.{plain_effect};
 ghost use Rattle.fac_endings.specs.ClassTable.{class_at, word_at};
 ghost use Rattle.fac_refusal.specs.Toks.{number};
 ghost use Rattle.fac_endings.specs.FinishedWords.{as_method, effect_of_word, finished, with_maker};
@@ -9,7 +10,7 @@ ghost use Rattle.fac_endings.specs.inner.Finishes.{AreFinishes, AreSlots, Finish
 use crate::draft::{Draft, Late, Table};
 use crate::effects::{no_effect, one_output};
 use crate::lookup::{class_at, number_of, parent_of, slots_at, word_at};
-use fac_lang::{ClassDef, Duplicate, Effect, List, Memory, Sort, Text, WordDef};
+use fac_lang::{Boxed, ClassDef, Duplicate, Effect, List, Memory, Queue, Sort, Text, WordDef};
 use fac_refusal::Ref;
 use std::alloc::Global;
 
@@ -69,21 +70,21 @@ pub fn all_slots(alloc: Global, classes: &List<ClassDef>) -> Result<List<List<Te
 #[derive(Drop)]
 enum Finish {
     Nothing,
-    Effect(Effect),
+    Effect(Boxed<Effect>),
     Method {
         class: u32,
         generic: u32,
-        effect: Effect,
+        effect: Boxed<Effect>,
     },
 }
 
 // The effect of the word of a name.
-fn effect_at(alloc: Global, drafts: &[Draft], name: &Ref) -> Result<Effect, Memory>
+fn effect_at(alloc: Global, drafts: &[Draft], name: &Ref) -> Result<Boxed<Effect>, Memory>
     ensures { IfOk result (λ effect. effect ≡ effect_of_word (word_at drafts.now name.now)) }
 {
     match word_at(drafts, name) {
-        Some(word) => word.effect.copy(alloc),
-        None => Ok(no_effect(alloc)),
+        Some(word) => Boxed::new(alloc, word.effect.copy(alloc)?),
+        None => Boxed::new(alloc, no_effect(alloc)),
     }
 }
 
@@ -116,6 +117,19 @@ fn slots_listed(slots: &[List<Text>], class: u32) -> &[Text]
     }
 }
 
+// The effect of a word that makes tuples of the class of a name and number, by the table of slots.
+fn maker_effect(
+    alloc: Global,
+    slots: &[List<Text>],
+    class: &Ref,
+    number: u32,
+) -> Result<Boxed<Effect>, Memory>
+    ensures { IfOk result (λ effect. effect ≡ plain_effect (slots_listed slots.now number) (class.now.tok.text ∷ [])) }
+{
+    let effect = one_output(alloc, slots_listed(slots, number), class.tok.text.as_str())?;
+    Boxed::new(alloc, effect)
+}
+
 // What is settled of a word that makes tuples.
 fn finish_maker(
     alloc: Global,
@@ -127,11 +141,7 @@ fn finish_maker(
     ensures { IfOk result (λ finish. FinishesBy finish (with_maker table.entry.classes.now class.now (class_at table.entry.drafts.now class.now))) }
 {
     match class_at(table.drafts, class) {
-        Some(number) => Ok(Finish::Effect(one_output(
-            alloc,
-            slots_listed(slots, number),
-            class.tok.text.as_str(),
-        )?)),
+        Some(number) => Ok(Finish::Effect(maker_effect(alloc, slots, class, number)?)),
         None => Ok(Finish::Nothing),
     }
 }
@@ -149,8 +159,13 @@ fn finish_of(
     match &draft.late {
         Late::Settled => Ok(Finish::Nothing),
         Late::Deferred => Ok(Finish::Nothing),
-        Late::Maker(class) => finish_maker(alloc, table, slots, class),
-        Late::Method(class, generic) => finish_method(alloc, table.drafts, class, generic),
+        Late::Maker(class) => finish_maker(alloc, table, slots, class.get()),
+        Late::Method(class, generic) => finish_method(
+            alloc,
+            table.drafts,
+            class.get(),
+            generic.get(),
+        ),
     }
 }
 
@@ -211,18 +226,18 @@ fn finished(word: WordDef, finish: Finish) -> WordDef
     match finish {
         Finish::Nothing => word,
         Finish::Effect(effect) => {
-            word.effect = effect;
+            word.effect = effect.into_value();
             word
         }
         Finish::Method {
             class,
             generic,
             effect,
-        } => as_method(word, class, generic, effect),
+        } => as_method(word, class, generic, effect.into_value()),
     }
 }
 
-// The words as they are at the end.
+// The words as they are at the end. The memory of drafts is given back meanwhile.
 fn words_with(
     alloc: Global,
     drafts: Vec<Draft>,
@@ -232,9 +247,10 @@ fn words_with(
     ensures { IfOk result (λ words. words ≡ finished_with drafts.items finishes.items) }
 {
     let mut words = List::new(alloc);
-    let mut rest = finishes.into_iter();
-    for draft in drafts {
-        match rest.next() {
+    let mut rest = Queue::new(drafts);
+    let mut finishes = Queue::new(finishes);
+    while let Some(draft) = rest.take() {
+        match finishes.take() {
             Some(finish) => words.push(finished(draft.word, finish))?,
             None => unreachable!(),
         }

@@ -49,8 +49,8 @@ fn key_of(drafts: &[Draft], draft: &Draft) -> Option<MethodKey>
 {
     match &draft.late {
         Late::Method(class, generic) => key_by(
-            class_at(drafts, class),
-            number_of(generic),
+            class_at(drafts, class.get()),
+            number_of(generic.get()),
             &draft.word.sort,
         ),
         Late::Settled => key_by(None, 0, &draft.word.sort),
@@ -128,11 +128,19 @@ fn refuse_late(
             draft.word.place,
         ),
         Late::Maker(class) => {
+            let class = class.get();
             let is_tuple = is_tuple_class(table.classes, class_at(table.drafts, class));
             refuse_if(alloc, first, !is_tuple, NameKind::NotClass, &class.tok)
         }
         Late::Method(class, generic) => {
-            refuse_method(alloc, first, table.drafts, is_second, class, generic)
+            refuse_method(
+                alloc,
+                first,
+                table.drafts,
+                is_second,
+                class.get(),
+                generic.get(),
+            )
         }
     }
 }

@@ -13,7 +13,9 @@ ghost use Rattle.fac_locals.specs.inner.Numbering.{method_of, next_what, cell_wh
 
 use crate::counting::{behind_array, count_arrays, count_words, one_more};
 use fac_captures::{AllAsked, Cell, Kept, asked_in, keep, number_of};
-use fac_lang::{Item, List, Lit, Memory, Phrase, Place, Program, Sort, Template, What, WordDef};
+use fac_lang::{
+    Item, List, Lit, Memory, Phrase, Place, Program, Queue, Sort, Template, What, WordDef,
+};
 use fac_slots::slot_counts;
 use std::alloc::Global;
 use std::mem;
@@ -245,7 +247,7 @@ fn close_phrase(
     ensures { IfOk result (λ closed. ClosesTree counts.now method cells closing.old phrase closed closing.new) }
 {
     let mut cells = cells;
-    let mut items = Vec::new(alloc);
+    let mut items = Vec::with_capacity(alloc, phrase.items.len())?;
     for item in phrase.items {
         let Item { what, place } = item;
         let what = close_what(what, alloc, closing, counts, place, method, &mut cells)?;
@@ -326,7 +328,7 @@ fn close_word(
     })
 }
 
-// The words of a program with their phrases closed.
+// The words of a program with their phrases closed. Their room is given back to memory meanwhile.
 fn close_words(
     alloc: Global,
     closing: &mut Closing,
@@ -336,7 +338,8 @@ fn close_words(
     ensures { IfOk result (λ closed. (closed ≡ closed_words counts.now 0 closing.old.next words.items) × WordsPassed counts.now 0 closing.old words.items closing.new) }
 {
     let mut closed = List::new(alloc);
-    for word in words {
+    let mut rest = Queue::new(words);
+    while let Some(word) = rest.take() {
         let number = closed.len();
         closed.push(close_word(alloc, closing, counts, number, word)?)?;
     }

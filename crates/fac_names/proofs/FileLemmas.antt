@@ -6,17 +6,23 @@ use Rattle.fac_lang.specs.declared.tree.FormKind.{FormKind}
 use Rattle.fac_lang.specs.declared.tree.FormKind.TheVariants.{In, Use, Using, From, QualifiedWith, Defer, Symbol, Constant, Private, Public, Main, Define, DefineLocals, Tuple, Union, Singleton, Generic, Method, Maker}
 use Rattle.fac_lang.specs.declared.tree.Part.{Part}
 use Rattle.fac_lang.specs.declared.tree.Tree.{Tree}
-use Rattle.fac_parse.specs.Trees.{AreWellFormed, IsForm, IsWellFormed, MayStandBefore, forms_of}
+use Rattle.fac_parse.specs.Trees.{AreForms, AreWellFormed, IsForm, IsWellFormed, MayStandBefore, forms_of}
+use Rattle.fac_vocab.specs.Scopes.{begun}
 use Rattle.fac_items.specs.Written.{Nodes, Form, f_items}
 use Rattle.fac_items.specs.Readings.{read_form, read_forms, with_items}
-use Rattle.fac_names.specs.Forms.{Reading, take, take_file}
+use Rattle.fac_names.specs.Forms.{Reading, scoped, take, take_file}
 use Rattle.fac_names.specs.FromFlat.{form_of, row}
 use Rattle.fac_items.specs.FromElements.{nested}
+use Rattle.fac_names.specs.Taken.{take_flat, take_front}
 use Rattle.fac_names.specs.inner.Taking.{take_all}
 
 -- the next form of those that are left
-pub next_form : (left rest : List Flat) (f : Flat) → IsWellFormed left → left ≡ f ∷ rest → IsForm f × IsWellFormed rest
-next_form left rest f h e = let fits = subst IsWellFormed e h in (fits.0, fits.2)
+pub next_form : (left rest : List Flat) (f : Flat) → AreForms left → left ≡ f ∷ rest → IsForm f × AreForms rest
+next_form left rest f h e = subst AreForms e h
+
+-- a form more is taken
+pub form_taken : (r q : Reading) (left rest : List Flat) (f : Flat) → left ≡ f ∷ rest → q ≡ take_flat r f → fold take_flat r left ≡ fold take_flat q rest
+form_taken r q left rest f next is = ap (fold take_flat r) next ∙ sym (ap (λ (x : Reading). fold take_flat x rest) is)
 
 -- Rows aren't items.
 
@@ -76,21 +82,30 @@ read_one (Items es) (Row kind opens parts ∷ forms) before =
 pub take_one : (r : Reading) (f : Flat) (forms : List Flat) → IsWellFormed (f ∷ forms) → take_all r (map form_of (f ∷ forms)) ≡ take_all (take (read_form (form_of f)) r) (map form_of forms)
 take_one r f forms h = ap (fold (λ q form. take form q) r) (read_one f forms h.1)
 
--- a form more is taken
-pub form_taken : (r q : Reading) (left rest : List Flat) (f : Flat) → IsWellFormed left → left ≡ f ∷ rest → q ≡ take (read_form (form_of f)) r → take_all r (map form_of left) ≡ take_all q (map form_of rest)
-form_taken r q left rest f h next is =
-    ap (λ (fs : List Flat). take_all r (map form_of fs)) next
-    ∙ take_one r f rest (subst IsWellFormed next h)
-    ∙ sym (ap (λ (x : Reading). take_all x (map form_of rest)) is)
+-- one behind the other
+forms_taken : (forms : List Flat) (r : Reading) → IsWellFormed forms → take_all r (map form_of forms) ≡ fold take_flat r forms
+forms_taken [] r h = refl
+forms_taken (f ∷ forms) r h = take_one r f forms h ∙ forms_taken forms (take_flat r f) h.2
+
+-- and each of them is a form
+are_forms : (forms : List Flat) → IsWellFormed forms → AreForms forms
+are_forms [] h = tt
+are_forms (f ∷ forms) h = (h.0, are_forms forms h.2)
 
 -- Files.
 
--- the next file of those that are left
-pub next_tree : (left rest : List Tree) (t : Tree) → AreWellFormed (forms_of left) → left ≡ t ∷ rest → IsWellFormed t.forms × AreWellFormed (forms_of rest)
-next_tree left rest t h e = subst (λ (ts : List Tree). AreWellFormed (forms_of ts)) e h
+pub files_taken : (files : List (List Flat)) (r : Reading) → AreWellFormed files → fold take_front r files ≡ fold (take_file false) r (map (map form_of) files)
+files_taken [] r h = refl
+files_taken (forms ∷ files) r h =
+    files_taken files (take_front r forms) h.1
+    ∙ sym (ap (λ (x : Reading). fold (take_file false) x (map (map form_of) files)) (forms_taken forms (scoped begun r) h.0))
 
-pub tree_taken : (r q : Reading) (left rest : List Tree) (t : Tree) → left ≡ t ∷ rest → q ≡ take_file false r (map form_of t.forms) →
-    fold (take_file false) r (map (map form_of) (forms_of left)) ≡ fold (take_file false) q (map (map form_of) (forms_of rest))
+-- the next file of those that are left
+pub next_tree : (left rest : List Tree) (t : Tree) → AreWellFormed (forms_of left) → left ≡ t ∷ rest → AreForms t.forms × AreWellFormed (forms_of rest)
+next_tree left rest t h e = let fits = subst (λ (ts : List Tree). AreWellFormed (forms_of ts)) e h in (are_forms t.forms fits.0, fits.1)
+
+pub tree_taken : (r q : Reading) (left rest : List Tree) (t : Tree) → left ≡ t ∷ rest → q ≡ take_front r t.forms →
+    fold take_front r (forms_of left) ≡ fold take_front q (forms_of rest)
 tree_taken r q left rest t next is =
-    ap (λ (ts : List Tree). fold (take_file false) r (map (map form_of) (forms_of ts))) next
-    ∙ sym (ap (λ (x : Reading). fold (take_file false) x (map (map form_of) (forms_of rest))) is)
+    ap (λ (ts : List Tree). fold take_front r (forms_of ts)) next
+    ∙ sym (ap (λ (x : Reading). fold take_front x (forms_of rest)) is)

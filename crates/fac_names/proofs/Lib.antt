@@ -26,6 +26,7 @@ pub mod Distinct
 pub mod WholePrograms
 pub mod Together
 pub mod BuiltPrograms
+pub mod TakenLemmas
 pub mod WrittenSources
 pub mod ExamplesOfNames
 pub mod ExamplesOfClasses

@@ -4,6 +4,7 @@ pub mod WrittenInputs
 pub mod FromFlat
 pub mod KnownWords
 pub mod Resolution
+pub mod Taken
 pub mod Signs
 pub mod Laws
 pub mod inner

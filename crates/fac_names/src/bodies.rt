@@ -22,7 +22,9 @@ use crate::so_far::SoFar;
 use fac_effect::text;
 use fac_endings::{Late, no_effect};
 use fac_items::{NameAt, phrase_of, refer};
-use fac_lang::{Effect, Element, Item, Memory, Name, Phrase, Place, Sort, Text, Token, What};
+use fac_lang::{
+    Boxed, Effect, Element, Item, Memory, Name, Phrase, Place, Sort, Text, Token, What,
+};
 use fac_refusal::Ref;
 use std::alloc::Global;
 
@@ -110,22 +112,31 @@ fn method_name(alloc: Global, generic: &Token) -> Result<Name, Memory>
     })
 }
 
+// Two names, moved to the heap.
+fn both_boxed(alloc: Global, class: Ref, generic: Ref) -> Result<(Boxed<Ref>, Boxed<Ref>), Memory>
+    ensures { IfOk result (λ both. (both.0 ≡ class) × (both.1 ≡ generic)) }
+{
+    let class = Boxed::new(alloc, class)?;
+    match Boxed::new(alloc, generic) {
+        Ok(generic) => Ok((class, generic)),
+        Err(Memory) => Err(Memory),
+    }
+}
+
 // The class and the generic of a method.
 fn refer_both(
     alloc: Global,
     so_far: &mut SoFar,
     class: &Token,
     generic: &Token,
-) -> Result<(Ref, Ref), Memory>
+) -> Result<(Boxed<Ref>, Boxed<Ref>), Memory>
     ensures class { IfOk result (λ both. both.0 ≡ ref so_far.old.scope (tok class.now)) }
     ensures generic { IfOk result (λ both. both.1 ≡ ref so_far.old.scope (tok generic.now)) }
     ensures refused { OnOk result (reading_of so_far.new ≡ refused (search_faults so_far.old.scope (tok class.now ∷ tok generic.now ∷ [])) (reading_of so_far.old)) }
 {
     let class = refer(alloc, &so_far.scope, &mut so_far.first, class)?;
-    match refer(alloc, &so_far.scope, &mut so_far.first, generic) {
-        Ok(generic) => Ok((class, generic)),
-        Err(Memory) => Err(Memory),
-    }
+    let generic = refer(alloc, &so_far.scope, &mut so_far.first, generic)?;
+    both_boxed(alloc, class, generic)
 }
 
 // A new word for a method.
@@ -196,9 +207,10 @@ pub fn maker(alloc: Global, so_far: &mut SoFar, name: &Token, class: &Token) -> 
     let number = own(alloc, so_far, name)?;
     let class = refer(alloc, &so_far.scope, &mut so_far.first, class)?;
     let body = maker_phrase(alloc, number_of(&class), boa_number(so_far), name.place)?;
+    let boxed = Boxed::new(alloc, class)?;
     so_far
         .drafts
-        .tell(number, late_body(alloc, body, Late::Maker(class)))
+        .tell(number, late_body(alloc, body, Late::Maker(boxed)))
 }
 
 /// Adds items behind others.

@@ -1,17 +1,17 @@
 //! Forms and files, in order.
-ghost use Rattle.std.specs.Prelude.{◌≡◌, fold, map, false, OnOk};
+ghost use Rattle.std.specs.Prelude.{◌≡◌, fold, OnOk};
 ghost use Rattle.fac_lang.specs.declared.tree.FormKind.TheVariants.{Constant, Define, DefineLocals, Generic, Method, Tuple, Union};
 ghost use Rattle.fac_parse.specs.Rows.{slots_of};
-ghost use Rattle.fac_parse.specs.Trees.{AreWellFormed, FillAll, IsForm, IsWellFormed, forms_of};
+ghost use Rattle.fac_parse.specs.Trees.{AreForms, AreWellFormed, FillAll, IsForm, forms_of};
 ghost use Rattle.fac_items.specs.FromElements.{nested, tok};
 ghost use Rattle.fac_items.specs.Readings.{read_form};
 ghost use Rattle.fac_items.specs.Written.{f_constant, f_define, given};
-ghost use Rattle.fac_names.specs.Forms.{take, take_file};
+ghost use Rattle.fac_names.specs.Forms.{take};
 ghost use Rattle.fac_names.specs.FromFlat.{first_node, form_of, is_inline, is_recursive, parent_name, row};
 ghost use Rattle.std.specs.Option.{option_copied};
 ghost use Rattle.fac_names.specs.inner.Named.{option_tok};
 ghost use Rattle.fac_names.specs.inner.State.{reading_of};
-ghost use Rattle.fac_names.specs.inner.Taking.{take_all};
+ghost use Rattle.fac_names.specs.Taken.{take_flat, take_front};
 
 use crate::accessors::accessors;
 use crate::bodies::{define, maker, method, take_items};
@@ -197,10 +197,10 @@ fn take_form(alloc: Global, so_far: &mut SoFar, form: &Form) -> Result<(), Memor
     }
 }
 
-// Takes the forms of a file. Each is given back to memory when it is taken.
-fn take_forms(alloc: Global, so_far: &mut SoFar, forms: List<Form>) -> Result<(), Memory>
-    requires { IsWellFormed forms }
-    ensures { OnOk result (reading_of so_far.new ≡ take_all (reading_of so_far.old) (map form_of forms)) }
+/// Takes the next forms of a file. Each is given back to memory when it is taken.
+pub fn take_forms(alloc: Global, so_far: &mut SoFar, forms: List<Form>) -> Result<(), Memory>
+    requires { AreForms forms }
+    ensures { OnOk result (reading_of so_far.new ≡ fold take_flat (reading_of so_far.old) forms) }
 {
     for form in forms.into_vec() {
         take_form(alloc, so_far, &form)?;
@@ -210,8 +210,8 @@ fn take_forms(alloc: Global, so_far: &mut SoFar, forms: List<Form>) -> Result<()
 
 // Takes a file.
 fn take_tree(alloc: Global, so_far: &mut SoFar, tree: Tree) -> Result<(), Memory>
-    requires { IsWellFormed tree.forms }
-    ensures { OnOk result (reading_of so_far.new ≡ take_file false (reading_of so_far.old) (map form_of tree.forms)) }
+    requires { AreForms tree.forms }
+    ensures { OnOk result (reading_of so_far.new ≡ take_front (reading_of so_far.old) tree.forms) }
 {
     begin_file(alloc, so_far)?;
     take_forms(alloc, so_far, tree.forms)
@@ -220,7 +220,7 @@ fn take_tree(alloc: Global, so_far: &mut SoFar, tree: Tree) -> Result<(), Memory
 /// Takes files, in order. Their trees are given back to memory form by form.
 pub fn take_trees(alloc: Global, so_far: &mut SoFar, trees: List<Tree>) -> Result<(), Memory>
     requires { AreWellFormed (forms_of trees) }
-    ensures { OnOk result (reading_of so_far.new ≡ fold (take_file false) (reading_of so_far.old) (map (map form_of) (forms_of trees))) }
+    ensures { OnOk result (reading_of so_far.new ≡ fold take_front (reading_of so_far.old) (forms_of trees)) }
 {
     for tree in trees.into_vec() {
         take_tree(alloc, so_far, tree)?;

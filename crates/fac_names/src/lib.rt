@@ -1,4 +1,4 @@
-//! Names: trees to a program, in which each name is replaced by the number of its word.
+//! Names: forms to a program, in which each name is replaced by the number of its word.
 #![tactic(auto)]
 
 mod accessors;
@@ -17,4 +17,4 @@ mod so_far;
 
 pub use fac_refusal::{NameFault, NameKind, ResolveFault};
 pub use laws::{phrases_are_written_as_items, resolved_programs_are_whole};
-pub use resolver::resolve;
+pub use resolver::{Resolver, resolve};

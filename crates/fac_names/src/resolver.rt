@@ -1,19 +1,22 @@
-//! Trees to a program.
-ghost use Rattle.std.specs.Prelude.{◌≡◌, ◌++◌, ◌∷◌, [], map, IfOk, OnOk};
+//! Forms to a program.
+ghost use Rattle.std.specs.Prelude.{◌≡◌, ◌++◌, ◌∷◌, [], map, IfOk, List as Items, OnOk};
 ghost use Rattle.fac_lang.specs.Forms.{IsBuilt};
 ghost use Rattle.fac_lang.specs.Whole.{IsWhole};
-ghost use Rattle.fac_parse.specs.Trees.{AreWellFormed, forms_of};
+ghost use Rattle.fac_lang.specs.declared.tree.Form.{Form};
+ghost use Rattle.fac_parse.specs.Trees.{AreForms, AreWellFormed, forms_of};
 ghost use Rattle.fac_names.specs.Resolution.{Resolves, first_reading, settled_draft};
+ghost use Rattle.fac_names.specs.Taken.{HasTaken};
 ghost use Rattle.fac_names.specs.inner.Ended.{EndsReading};
 ghost use Rattle.fac_names.specs.inner.State.{reading_of};
 
 use crate::bodies::add_items;
 use crate::drafts::Drafts;
-use crate::files::take_trees;
+use crate::files::{take_forms, take_trees};
+use crate::forms::begin_file;
 use crate::known_words::{first_classes, first_words};
 use crate::so_far::SoFar;
 use fac_endings::{Draft, Gathered, Late, ended};
-use fac_lang::{Item, List, Memory, Program, Tree, WordDef};
+use fac_lang::{Form, Item, List, Memory, Program, Tree, WordDef};
 use fac_refusal::ResolveFault;
 use fac_vocab::Scope;
 use std::alloc::Global;
@@ -102,31 +105,67 @@ fn end(alloc: Global, so_far: SoFar) -> Result<Program, ResolveFault>
     }
 }
 
-// The program of files.
-#[tactic(auto, using(crate::proofs::EndingLemmas::resolves))]
-fn program_of(alloc: Global, trees: List<Tree>) -> Result<Program, ResolveFault>
-    requires { AreWellFormed (forms_of trees) }
-    ensures { Resolves (forms_of trees) result }
-{
-    match first(alloc) {
-        Ok(mut so_far) => match take_trees(alloc, &mut so_far, trees) {
-            Ok(()) => end(alloc, so_far),
-            Err(Memory) => Err(ResolveFault::Memory),
-        },
-        Err(Memory) => Err(ResolveFault::Memory),
+/// Names while files are read: it takes their forms one behind the other, in lists as short as they come, so that no tree stands in memory.
+/// The words that are known come first, then those that forms name, in their order, each file beginning in `scratchpad` with `syntax` alone used.
+/// Its calls speak of all files so far, of each as far as its forms were taken, whatever the lists in which they came. Once memory was wanted they
+/// promise nothing more.
+#[derive(Drop)]
+pub struct Resolver {
+    // What the forms so far come to.
+    so_far: SoFar,
+}
+
+impl Resolver {
+    /// Before the first file. Want of memory is the one error.
+    pub fn new(alloc: Global) -> Result<Resolver, Memory>
+        ensures { IfOk result (λ resolver. HasTaken [] resolver) }
+    {
+        match first(alloc) {
+            Ok(so_far) => Ok(Resolver { so_far }),
+            Err(Memory) => Err(Memory),
+        }
+    }
+
+    /// A file begins, in `scratchpad` with `syntax` alone used.
+    pub fn begin_file(&mut self, alloc: Global) -> Result<(), Memory>
+        ensures { (files : Items (Items Form)) → HasTaken files self.old → OnOk result (HasTaken (files ++ [] ∷ []) self.new) }
+    {
+        begin_file(alloc, &mut self.so_far)
+    }
+
+    /// Takes the next forms of the file, each of which is given back to memory when it is taken.
+    pub fn take(&mut self, alloc: Global, forms: List<Form>) -> Result<(), Memory>
+        requires { AreForms forms }
+        ensures { (files : Items (Items Form)) (before : Items Form) → HasTaken (files ++ before ∷ []) self.old → OnOk result (HasTaken (files ++ (before ++ forms) ∷ []) self.new) }
+    {
+        take_forms(alloc, &mut self.so_far, forms)
+    }
+
+    /// The program of all files, or the first name by place that is refused; at one token the order of the kinds of refusals decides. The last
+    /// word is the top-level phrase: the items of all files, and behind them the word of the last `MAIN:`.
+    pub fn end(self, alloc: Global) -> Result<Program, ResolveFault>
+        ensures program { (files : Items (Items Form)) → AreWellFormed files → HasTaken files self → Resolves files result }
+        ensures built { (files : Items (Items Form)) → AreWellFormed files → HasTaken files self → IfOk result (λ program. IsBuilt program) }
+        ensures whole { (files : Items (Items Form)) → AreWellFormed files → HasTaken files self → IfOk result (λ program. IsWhole program) }
+    {
+        let Resolver { so_far } = self;
+        end(alloc, so_far)
     }
 }
 
-/// The program of the trees of files, in order, or the first name by place that is refused; at one token the order of the kinds of refusals
-/// decides. The words that are known come first, then those that forms name, in their order, each file beginning in `scratchpad` with `syntax`
-/// alone used. The last word is the top-level phrase: the items of all files, and behind them the word of the last `MAIN:`. Each form is given
-/// back to memory when it is taken, so trees and program don't stand side by side.
-#[tactic(auto, using(crate::proofs::BuiltPrograms::resolved_built, crate::proofs::BuiltPrograms::resolved_whole))]
+/// The program of the trees of files, in order, or the first name by place that is refused, as `Resolver` answers it. Each form is given back to
+/// memory when it is taken, so trees and program don't stand side by side.
 pub fn resolve(alloc: Global, trees: List<Tree>) -> Result<Program, ResolveFault>
     requires { AreWellFormed (forms_of trees) }
     ensures program { Resolves (forms_of trees) result }
     ensures built { IfOk result (λ program. IsBuilt program) }
     ensures whole { IfOk result (λ program. IsWhole program) }
 {
-    program_of(alloc, trees)
+    match Resolver::new(alloc) {
+        Ok(mut resolver) => match take_trees(alloc, &mut resolver.so_far, trees) {
+            Ok(()) => resolver.end(alloc),
+            Err(Memory) => Err(ResolveFault::Memory),
+        },
+        Err(Memory) => Err(ResolveFault::Memory),
+    }
 }

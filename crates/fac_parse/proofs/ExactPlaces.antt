@@ -85,6 +85,10 @@ open_read forms (top es contexts h) g = half_read contexts h g.1
 pub is_read : (ts : List Token) (s : State) → steps (Some start) ts ≡ Some s → IsRead s.open_part
 is_read ts s h = open_read s.forms s.open_part (known ts s h).0.opens
 
+-- the forms so far are whole
+pub whole_forms : (ts : List Token) (s : State) → steps (Some start) ts ≡ Some s → IsWellFormed s.forms
+whole_forms ts s h = (known ts s h).0.fits
+
 -- tokens that may end where they do are those of a tree
 pub reads_tree : (ts : List Token) (s : State) (forms : List Form) → steps (Some start) ts ≡ Some s → ended s ≡ Some forms → Reads ts forms
 reads_tree ts s forms h e =

@@ -6,6 +6,7 @@ pub mod ReaderKeeps
 pub mod ReaderReads
 pub mod ReaderCompletes
 pub mod ExactPlaces
+pub mod FormsBehind
 pub mod ParseLemmas
 pub mod ExamplesOfArrays
 pub mod ExamplesOfClasses

@@ -1,6 +1,6 @@
--- The reader's loop, over plain variables.
-use Rattle.std.proofs.Common.{ℕ, ◌≡◌, ◌+◌, ◌<◌, ◌≤◌, Bool, true, false, List, [], ◌∷◌, ◌++◌, Option, Some, None, Ok, Err, refl, sym, ◌∙◌, ap, subst, arith, take, drop, suc, reverse, add-one, drop-cons, length, length-append, length-drop, append_assoc, append-nil, get_or, ◌⊎◌, inl, inr}
-use Rattle.std.proofs.lemmas.List.{take_more, length_push, reverse-append, take-append-drop}
+-- Tokens that are taken, and forms that are handed out, over plain variables.
+use Rattle.std.proofs.Common.{ℕ, ◌≡◌, ◌+◌, ◌<◌, ◌≤◌, ◌^◌, Bool, true, false, List, [], ◌∷◌, ◌++◌, Option, Some, None, Result, Ok, Err, refl, sym, ◌∙◌, ap, subst, arith, take, drop, suc, add-one, drop-cons, length, length-append, length-drop, append_assoc, append-nil, get_or, ◌⊎◌, inl, inr}
+use Rattle.std.proofs.lemmas.List.{take_more, length_push, take-append-drop}
 use Rattle.std.proofs.lemmas.Bool.Decides.{Decides-ltb}
 use Rattle.std.specs.Prelude.{nat_lt}
 use Rattle.fac_lang.specs.declared.token.Token.{Token}
@@ -9,10 +9,18 @@ use Rattle.fac_parse.specs.declared.reader.ParseFault.{ParseFault}
 use Rattle.fac_parse.specs.declared.reader.ParseFault.TheVariants.{Syntax, Memory}
 use Rattle.fac_parse.specs.declared.reader.Why.{Why}
 use Rattle.fac_parse.specs.declared.reader.Why.TheVariants.{End, Other}
-use Rattle.fac_parse.specs.Trees.{Reads, Refused, RefusedFor, Misses, Parses, OneTree, TreeOrNone, OnePlace, SomePlace, flatten}
-use Rattle.fac_parse.specs.inner.Reader.{State, step, steps, start, ended, Goes, IsSyntax, TakesAll, GivesForms}
+use Rattle.fac_parse.specs.declared.parser.Parser.{Parser}
+use Rattle.fac_parse.specs.declared.reader.At.{At}
+use Rattle.fac_parse.specs.declared.reader.At.TheVariants as at
+use Rattle.fac_parse.specs.declared.reader.Reader.{Reader}
+use Rattle.fac_parse.specs.inner.Handing.{TakesMore}
+use Rattle.std.specs.Result.{IsErrAnd}
+use Rattle.fac_parse.specs.Trees.{AreForms, IsWellFormed, Reads, Refused, RefusedFor, Misses, Parses, OneTree, TreeOrNone, OnePlace, SomePlace, flatten}
+use Rattle.fac_parse.specs.Handed.{behind_forms, HandedBy, HasHandedOut, IsTaking}
+use Rattle.fac_parse.specs.inner.Reader.{State, in_state, step, steps, start, ended, open_of, state_of, Goes, IsRead, IsSyntax}
+use Rattle.fac_parse.proofs.FormsBehind.{behind_next, behind_ended, step_behind, ended_behind}
 use Rattle.fac_parse.proofs.ReaderReads.{steps-append}
-use Rattle.fac_parse.proofs.ExactPlaces.{reads_tree, refused_at, refused_end}
+use Rattle.fac_parse.proofs.ExactPlaces.{is_read, reads_tree, refused_at, refused_end, whole_forms}
 use Rattle.fac_parse.proofs.ExactPlaces as exact
 
 one_more : (ts : List Token) (s next : State) (t : Token) (b : Bool) → steps (Some start) ts ≡ Some s → Goes (step s t) next (Ok b) → b ≡ true → steps (Some start) (ts ++ t ∷ []) ≡ Some next
@@ -28,62 +36,150 @@ none_with : (ts : List Token) (s next : State) (t : Token) (b : Bool) → steps 
 none_with ts s next t false h g e = steps-append (Some start) ts (t ∷ []) ∙ ap (λ (o : Option State). steps o (t ∷ [])) h ∙ g
 none_with ts s next t true h g e = cc
 
--- the token behind so many of a list that were taken, where those behind it lie from the last to the first
-record IsNext (all fewer : List Token) (n : ℕ) (t : Token) : Type 0 where
+-- the token behind so many of a list that were taken
+record IsNext (all left : List Token) (n : ℕ) (t : Token) : Type 0 where
   pub within : n < length all
   pub taken : take (n + 1) all ≡ take n all ++ t ∷ []
-  pub left : reverse fewer ≡ drop (n + 1) all
+  pub left_is : left ≡ drop (n + 1) all
 
-is_next : (all rest fewer : List Token) (n : ℕ) (t : Token) → reverse rest ≡ drop n all → rest ≡ fewer ++ t ∷ [] → IsNext all fewer n t
-is_next all rest fewer n t left e =
-    let here : t ∷ reverse fewer ≡ drop n all = sym (reverse-append fewer (t ∷ [])) ∙ ap reverse (sym e) ∙ left in
+is_next : (all left : List Token) (n : ℕ) (t : Token) → t ∷ left ≡ drop n all → IsNext all left n t
+is_next all left n t here =
     let within : n < length all = omega (arith, ap length here, length-drop n all) in
-    let both : t ∷ reverse fewer ≡ get_or all n t ∷ drop (suc n) all = here ∙ drop-cons all n t within in
+    let both : t ∷ left ≡ get_or all n t ∷ drop (suc n) all = here ∙ drop-cons all n t within in
     let same : t ≡ get_or all n t = cc in
-    let behind : reverse fewer ≡ drop (suc n) all = cc in
+    let behind : left ≡ drop (suc n) all = cc in
     record {
       within = within;
       taken = take_more all n t within ∙ ap (λ (u : Token). take n all ++ u ∷ []) (sym same);
-      left = rw add-one behind;
+      left_is = rw add-one behind;
     }
 
-pub is_within : (all rest fewer : List Token) (n : ℕ) (t : Token) → reverse rest ≡ drop n all → rest ≡ fewer ++ t ∷ [] → n < length all
-is_within all rest fewer n t left e = (is_next all rest fewer n t left e).within
+goes_behind : (g : List Form) (s next : State) (t : Token) (b : Bool) → Goes (step s t) next (Ok b) → Goes (step (behind_forms g s) t) (behind_forms g next) (Ok b)
+goes_behind g s next t true h = step_behind g s t ∙ ap (behind_next g) h
+goes_behind g s next t false h = step_behind g s t ∙ ap (behind_next g) h
 
-pub fewer_left : (all rest fewer : List Token) (n : ℕ) (t : Token) → reverse rest ≡ drop n all → rest ≡ fewer ++ t ∷ [] → reverse fewer ≡ drop (n + 1) all
-fewer_left all rest fewer n t left e = (is_next all rest fewer n t left e).left
+-- before the first token
+pub before_first : (tokens : List Token) (p : Parser) → state_of p.reader ≡ start → p.rest ≡ tokens → p.taken ≡ 0 → p.is_whole ≡ false → length tokens < 2 ^ 32 → HasHandedOut tokens [] p
+before_first tokens p is rest none going few =
+    let at : take p.taken tokens ≡ [] = ap (λ (n : ℕ). take n tokens) none in
+    let left : drop p.taken tokens ≡ tokens = ap (λ (n : ℕ). drop n tokens) none in
+    subst (λ (b : Bool). HandedBy b tokens [] p) (sym going)
+    (record {
+      so_far = ap (steps (Some start)) at ∙ ap Some (sym is);
+      left = rest ∙ sym left;
+      within = omega (arith, none);
+      few = few;
+    })
 
-pub goes_on :
-    (all rest fewer : List Token) (s next : State) (n : ℕ) (t : Token) (b : Bool) → reverse rest ≡ drop n all → rest ≡ fewer ++ t ∷ [] →
-    steps (Some start) (take n all) ≡ Some s → Goes (step s t) next (Ok b) → b ≡ true → steps (Some start) (take (n + 1) all) ≡ Some next
-goes_on all rest fewer s next n t b left e h g is = ap (steps (Some start)) (is_next all rest fewer n t left e).taken ∙ one_more (take n all) s next t b h g is
+-- one more token is taken
+pub takes_one :
+    (tokens : List Token) (before : List Form) (p q : Parser) (t : Token) (b : Bool) → p.rest ≡ t ∷ q.rest → q.taken ≡ p.taken + 1 → Goes (step (state_of p.reader) t) (state_of q.reader) (Ok b) → b ≡ true →
+    IsTaking tokens before p → IsTaking tokens before q
+takes_one tokens before p q t b rest more goes is h =
+    let i = is_next tokens q.rest p.taken t (sym rest ∙ h.left) in
+    let taken : take q.taken tokens ≡ take p.taken tokens ++ t ∷ [] = ap (λ (n : ℕ). take n tokens) more ∙ i.taken in
+    record {
+      so_far =
+          ap (steps (Some start)) taken
+          ∙ one_more (take p.taken tokens) (behind_forms before (state_of p.reader)) (behind_forms before (state_of q.reader)) t b h.so_far (goes_behind before (state_of p.reader) (state_of q.reader) t b goes) is;
+      left = i.left_is ∙ sym (ap (λ (n : ℕ). drop n tokens) more);
+      within = let w = i.within in omega (arith, w, more);
+      few = h.few;
+    }
+
+-- so many tokens can be counted
+pub may_count : (tokens : List Token) (before : List Form) (p : Parser) (t : Token) (left : List Token) → p.rest ≡ t ∷ left → IsTaking tokens before p → p.taken + 1 < 2 ^ 32
+may_count tokens before p t left rest h = let w = (is_next tokens left p.taken t (sym rest ∙ h.left)).within in let few = h.few in omega (arith, w, few)
 
 -- no tree goes on with this token
 pub stops :
-    (all rest fewer : List Token) (s next : State) (n : ℕ) (t : Token) (b : Bool) (f : ParseFault) → reverse rest ≡ drop n all → rest ≡ fewer ++ t ∷ [] →
-    steps (Some start) (take n all) ≡ Some s → Goes (step s t) next (Ok b) → b ≡ false → IsSyntax n Other f → Parses all (Err f)
-stops all rest fewer s next n t b f left e h g is fault =
-    let i = is_next all rest fewer n t left e in
-    fault_parses all n f (refused_at all n s i.within h (ap (steps (Some start)) i.taken ∙ none_with (take n all) s next t b h g is)) i.within fault
+    (tokens : List Token) (before : List Form) (p : Parser) (left : List Token) (next : State) (t : Token) (b : Bool) (f : ParseFault) → p.rest ≡ t ∷ left → Goes (step (state_of p.reader) t) next (Ok b) → b ≡ false → IsSyntax p.taken Other f →
+    IsTaking tokens before p → Parses tokens (Err f)
+stops tokens before p left next t b f rest goes is fault h =
+    let n = p.taken in
+    let s = behind_forms before (state_of p.reader) in
+    let i = is_next tokens left n t (sym rest ∙ h.left) in
+    fault_parses tokens n f (refused_at tokens n s i.within h.so_far (ap (steps (Some start)) i.taken ∙ none_with (take n tokens) s (behind_forms before next) t b h.so_far (goes_behind before (state_of p.reader) next t b goes) is)) i.within fault
 
-none_left : (rest : List Token) → length rest ≡ 0 → reverse rest ≡ []
-none_left [] e = refl
-none_left (t ∷ rest) e = cc
+-- where an effect is open, it is read as far as its tokens
+pub taking_read : (tokens : List Token) (before : List Form) (p : Parser) → IsTaking tokens before p → IsRead (open_of p.reader.at p.reader)
+taking_read tokens before p h = is_read (take p.taken tokens) (behind_forms before (state_of p.reader)) h.so_far
 
-pub takes_all : (all rest : List Token) (s : State) (n : ℕ) → reverse rest ≡ drop n all → length rest ≡ 0 → steps (Some start) (take n all) ≡ Some s → TakesAll all s (Ok tt)
-takes_all all rest s n left none h =
-    let whole : take n all ≡ all = sym (append-nil (take n all)) ∙ ap (λ (ts : List Token). take n all ++ ts) (sym (none_left rest none) ∙ left) ∙ take-append-drop n all in
-    ap (steps (Some start)) (sym whole) ∙ h
+-- what a `?` returns is the fault of its call
+pub passed_on : (tokens : List Token) (before : List Form) (p : Parser) (r : Result Unit ParseFault) (fault : ParseFault) → IsErrAnd r (λ other. other ≡ fault) → Parses tokens (Err fault) → TakesMore tokens before p r
+passed_on tokens before p (Ok done) fault h k = absurd h
+passed_on tokens before p (Err other) fault h k = subst (λ (f : ParseFault). Parses tokens (Err f)) (sym h) k
 
--- all tokens are taken, and the forms are whole
-pub parses : (ts : List Token) (s : State) (forms : List Form) → steps (Some start) ts ≡ Some s → ended s ≡ Some forms → Reads ts forms
-parses ts s forms h e = reads_tree ts s forms h e
+-- Forms that are handed out.
+
+-- what is open doesn't hang on the forms that are whole
+pub open_kept : (a : At) (r : Reader) (fs : List Form) → open_of a (record r { forms = fs }) ≡ open_of a r
+open_kept at.Top r fs = refl
+open_kept (at.Name head k) r fs = refl
+open_kept (at.Names head k) r fs = refl
+open_kept (at.Slots head) r fs = refl
+open_kept (at.Parent head sign) r fs = refl
+open_kept (at.Fixed head key) r fs = refl
+open_kept (at.Effect head k) r fs = refl
+open_kept (at.Items head k) r fs = refl
+open_kept (at.Literal head) r fs = refl
+open_kept (at.Marks head k) r fs = refl
+
+are_forms : (fs : List Form) → IsWellFormed fs → AreForms fs
+are_forms [] h = tt
+are_forms (f ∷ fs) h = (h.0, are_forms fs h.2)
+
+pub forms_behind : (fs gs : List Form) → IsWellFormed (fs ++ gs) → AreForms gs
+forms_behind [] gs h = are_forms gs h
+forms_behind (f ∷ fs) gs h = forms_behind fs gs h.2
+
+-- the forms of a state, which are whole, are handed out
+pub hands_out :
+    (tokens : List Token) (before forms : List Form) (p q : Parser) → forms ≡ p.reader.forms → state_of q.reader ≡ in_state [] (open_of p.reader.at p.reader) → q.rest ≡ p.rest → q.taken ≡ p.taken →
+    IsTaking tokens before p → AreForms forms × IsTaking tokens (before ++ forms) q
+hands_out tokens before forms p q is state rest taken h =
+    let fits = whole_forms (take p.taken tokens) (behind_forms before (state_of p.reader)) h.so_far in
+    let whole : before ++ p.reader.forms ≡ (before ++ forms) ++ [] = sym (append-nil (before ++ p.reader.forms)) ∙ ap (λ (fs : List Form). (before ++ fs) ++ []) (sym is) in (
+      forms_behind before forms (subst (λ (fs : List Form). IsWellFormed (before ++ fs)) (sym is) fits),
+      record {
+        so_far =
+            ap (λ (n : ℕ). steps (Some start) (take n tokens)) taken
+            ∙ h.so_far
+            ∙ ap (λ (fs : List Form). Some (in_state fs (open_of p.reader.at p.reader))) whole
+            ∙ ap (λ (s : State). Some (behind_forms (before ++ forms) s)) (sym state);
+        left = rest ∙ h.left ∙ ap (λ (n : ℕ). drop n tokens) (sym taken);
+        within = let w = h.within in omega (arith, w, taken);
+        few = h.few;
+      },
+    )
+
+all_taken : (tokens : List Token) (n : ℕ) → [] ≡ drop n tokens → take n tokens ≡ tokens
+all_taken tokens n none = sym (append-nil (take n tokens)) ∙ ap (λ (ts : List Token). take n tokens ++ ts) none ∙ take-append-drop n tokens
+
+all_counted : (tokens : List Token) (n : ℕ) → n ≤ length tokens → [] ≡ drop n tokens → n ≡ length tokens
+all_counted tokens n within none = let e = ap length none in let d = length-drop n tokens in omega (arith, within, e, d)
+
+-- all tokens are taken, and the last forms are whole
+pub ends_whole :
+    (tokens : List Token) (before forms : List Form) (p : Parser) → p.rest ≡ [] → ended (state_of p.reader) ≡ Some forms → IsTaking tokens before p → AreForms forms × Reads tokens (before ++ forms)
+ends_whole tokens before forms p rest e h =
+    let s = behind_forms before (state_of p.reader) in
+    let whole = all_taken tokens p.taken (sym rest ∙ h.left) in
+    let reads = reads_tree tokens s (before ++ forms) (ap (steps (Some start)) (sym whole) ∙ h.so_far) (ended_behind before (state_of p.reader) ∙ ap (behind_ended before) e) in
+    (forms_behind before forms reads.fits, reads)
+
+end_parses : (tokens : List Token) (n : ℕ) (f : ParseFault) → Refused tokens (length tokens) → n ≡ length tokens → IsSyntax n End f → Parses tokens (Err f)
+end_parses tokens n (Syntax at End) r count e = (length tokens, e.0 ∙ ap (λ (k : ℕ). k + 1) count, (r, refl))
+end_parses tokens n (Syntax at Other) r count e = let d = e.1 in cc
+end_parses tokens n Memory r count e = tt
 
 -- or something is open
-pub ends_open : (ts : List Token) (s : State) (n : ℕ) (f : ParseFault) → steps (Some start) ts ≡ Some s → GivesForms (ended s) n (Err f) → n ≡ length ts → Parses ts (Err f)
-ends_open ts s n (Syntax at End) h g count = (length ts, g.1 ∙ ap (λ (k : ℕ). k + 1) count, (refused_end ts s h g.0, refl))
-ends_open ts s n (Syntax at Other) h g count = let d = g.2 in cc
-ends_open ts s n Memory h g count = tt
+pub ends_open : (tokens : List Token) (before : List Form) (p : Parser) (f : ParseFault) → p.rest ≡ [] → ended (state_of p.reader) ≡ None → IsSyntax p.taken End f → IsTaking tokens before p → Parses tokens (Err f)
+ends_open tokens before p f rest e fault h =
+    let s = behind_forms before (state_of p.reader) in
+    let none = sym rest ∙ h.left in
+    let whole = all_taken tokens p.taken none in
+    end_parses tokens p.taken f (refused_end tokens s (ap (steps (Some start)) (sym whole) ∙ h.so_far) (ended_behind before (state_of p.reader) ∙ ap (behind_ended before) e)) (all_counted tokens p.taken h.within none) fault
 
 -- Laws.
 

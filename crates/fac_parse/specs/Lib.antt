@@ -1,4 +1,5 @@
 pub mod Rows
 pub mod Contexts
 pub mod Trees
+pub mod Handed
 pub mod inner

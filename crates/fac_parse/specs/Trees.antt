@@ -248,6 +248,11 @@ abbrev pub IsForm : Form → Type 0
 IsForm (Row kind opens parts) = FillAll (slots_of kind) parts
 IsForm (Items elements) = AreSome elements × AreItems None elements
 
+-- each of these is a form
+abbrev pub AreForms : List Form → Type 0
+AreForms [] = Unit {0}
+AreForms (form ∷ forms) = IsForm form × AreForms forms
+
 -- no two runs of items stand beside one another
 abbrev pub MayStandBefore : Form → List Form → Type 0
 MayStandBefore (Items elements) (Items others ∷ forms) = ⊥

@@ -2,12 +2,13 @@
 #![tactic(auto)]
 
 mod context;
-mod cut;
 mod laws;
 mod levels;
+mod parser;
 mod reader;
 mod rows;
 mod run;
 
 pub use laws::{one_place, one_tree, some_place, tree_or_none};
-pub use reader::{ParseFault, Why, parse};
+pub use parser::{Parser, parse};
+pub use reader::{ParseFault, Why};

@@ -1,32 +1,28 @@
-//! The tree of a source's tokens.
+//! The forms of a source's tokens, token by token.
 ghost use Rattle.std.specs.Prelude.{◌≡◌, ◌++◌, ◌∷◌, [], OnOk, IfOk};
-ghost use Rattle.fac_parse.specs.Trees.{Parses, inputs_of, file_of};
+ghost use Rattle.fac_parse.specs.Trees.{inputs_of};
 ghost use Rattle.fac_parse.specs.Trees.{named as is_named, is_parent_sign as is_sign};
 ghost use Rattle.fac_parse.specs.inner.Reader.{in_state, row, begin, begun_at, row_ended, go_on as goes_on, with_part, with_run, more, written, last_inputs};
 ghost use Rattle.fac_parse.specs.inner.Reader.{begin_row as row_begins, begins, is_semi, end_items as items_end, mark_of, begins_literal as literal_begins, grown, literal_grown};
 ghost use Rattle.fac_parse.specs.inner.Reader.{top_step, name_step, names_step, sign_step, add_slot as slot_added, slots_step, parent_step};
 ghost use Rattle.fac_parse.specs.inner.Reader.{key_step, fixed_step, may_take as fits_taking, effect_step, items_step, literal_step};
 ghost use Rattle.fac_parse.specs.inner.Reader.{may_follow as may_stand_behind, with_mark, marks_step, step, ended, ended_top, start};
-ghost use Rattle.fac_parse.specs.inner.Reader.{contexts_of, half_of, run_ends, open_of, state_of, IsHalfRead, IsRead, Goes, Finishes, IsSyntax, TakesAll, GivesForms};
+ghost use Rattle.fac_parse.specs.inner.Reader.{contexts_of, half_of, run_ends, open_of, state_of, IsHalfRead, IsRead, Goes, Finishes, IsSyntax};
 ghost use Rattle.fac_lang.specs.declared.tree.Part.TheVariants as part;
 ghost use Rattle.fac_effect.specs.Spellings.{token_spelling};
 ghost use Rattle.fac_effect.specs.EffectReading.{reads as reading, whole, after};
 
-use crate::cut::cut;
 use crate::rows::{Marked, Naming, Slot, Taking, slot_at};
 use crate::run::{Growth, Run, Unfinished};
 use fac_effect::{EffectReader, Spelling, Taken, classify, effect_from, may_stand, text};
 use fac_lang::limits::MOST_SLOTS;
 use fac_lang::{
     Boxed, Bracket, Element, Form, FormKind, Key, List, Mark, Memory, Parent, Part, Place, Term,
-    Token, Tree, WrittenEffect,
+    Token, WrittenEffect,
 };
 use std::alloc::Global;
 use std::mem;
 use thiserror::Error;
-
-// The room for so many tokens isn't worth giving back.
-const SMALL_ROOM: usize = 64;
 
 /// Why a source gives no tree.
 #[derive(Clone, Copy, Debug, PartialEq, Eq, Error)]
@@ -251,8 +247,8 @@ fn may_follow(marked: Marked, marks: &List<Mark>, mark: Mark) -> bool
     }
 }
 
-// A refusal behind so many tokens.
-fn syntax(count: usize, why: Why) -> ParseFault
+/// A refusal behind so many tokens.
+pub fn syntax(count: usize, why: Why) -> ParseFault
     ensures { IsSyntax count why result }
 {
     match u32::try_from(count) {
@@ -261,18 +257,9 @@ fn syntax(count: usize, why: Why) -> ParseFault
     }
 }
 
-// Gives the room of tokens that were taken back to memory, and only where at least half of the room is free: so all calls together take linear time.
-fn give_back(tokens: &mut Vec<Token>)
-    ensures { tokens.new.items ≡ tokens.old.items }
-{
-    if tokens.capacity() > SMALL_ROOM && tokens.len() <= tokens.capacity() / 2 {
-        tokens.shrink_to_fit();
-    }
-}
-
 impl Reader {
-    // Before the first token.
-    fn new(alloc: Global) -> Reader
+    /// Before the first token.
+    pub fn new(alloc: Global) -> Reader
         ensures { state_of result ≡ start }
     {
         Reader {
@@ -352,7 +339,7 @@ impl Reader {
         ensures ended { OnOk result (state_of self.new ≡ row_ended self.old.forms (begun_at head self.old.parts)) }
         ensures none_begun { OnOk result (self.new.run.unfinished ≡ Unfinished.Nothing) }
     {
-        let parts = cut(mem::replace(&mut self.parts, List::new(alloc)));
+        let parts = mem::replace(&mut self.parts, List::new(alloc)).cut();
         self.run = Run::new(alloc, None);
         self.at = At::Top;
         self.forms.push(Form::Row {
@@ -449,7 +436,7 @@ impl Reader {
     fn end_names(&mut self, alloc: Global, head: Head, ends: Place) -> Result<(), Memory>
         ensures { OnOk result (state_of self.new ≡ with_part self.old.forms (begun_at head self.old.parts) (part.Names self.old.names ends)) }
     {
-        let names = cut(mem::replace(&mut self.names, List::new(alloc)));
+        let names = mem::replace(&mut self.names, List::new(alloc)).cut();
         self.add_part(alloc, head, Part::Names { names, ends })
     }
 
@@ -513,7 +500,7 @@ impl Reader {
         ensures { OnOk result (state_of self.new ≡ with_part self.old.forms (begun_at head self.old.parts) (part.Slots self.old.parent self.old.names ends)) }
     {
         let parent = boxed_parent(alloc, mem::replace(&mut self.parent, None))?;
-        let names = cut(mem::replace(&mut self.names, List::new(alloc)));
+        let names = mem::replace(&mut self.names, List::new(alloc)).cut();
         self.add_part(
             alloc,
             head,
@@ -604,7 +591,7 @@ impl Reader {
         ensures { OnOk result (state_of self.new ≡ with_part self.old.forms (begun_at head self.old.parts) (part.Effect (written self.old.names))) }
     {
         let effect = effect_from(alloc, self.names.as_slice())?;
-        let tokens = cut(mem::replace(&mut self.names, List::new(alloc)));
+        let tokens = mem::replace(&mut self.names, List::new(alloc)).cut();
         let written = Boxed::new(alloc, WrittenEffect { tokens, effect })?;
         self.add_part(alloc, head, Part::Effect(written))
     }
@@ -748,7 +735,7 @@ impl Reader {
         ensures ended { OnOk result (state_of self.new ≡ row_ended self.old.forms (more (begun_at head self.old.parts) (part.Marks self.old.marks))) }
         ensures none_begun { OnOk result (self.new.run.unfinished ≡ Unfinished.Nothing) }
     {
-        let marks = cut(mem::replace(&mut self.marks, List::new(alloc)));
+        let marks = mem::replace(&mut self.marks, List::new(alloc)).cut();
         self.parts.push(Part::Marks(marks))?;
         self.end_row(alloc, head)
     }
@@ -775,8 +762,8 @@ impl Reader {
         }
     }
 
-    // Takes a token. False where no tree goes on with it.
-    fn take(&mut self, alloc: Global, token: Token) -> Result<bool, Memory>
+    /// Takes a token. False where no tree goes on with it.
+    pub fn take(&mut self, alloc: Global, token: Token) -> Result<bool, Memory>
         requires { IsRead (open_of self.now.at self.now) }
         ensures { Goes (step (state_of self.old) token) (state_of self.new) result }
     {
@@ -808,8 +795,8 @@ impl Reader {
         Ok(true)
     }
 
-    // Ends what may end where the tokens end. False where something is open.
-    fn finish(&mut self, alloc: Global) -> Result<bool, Memory>
+    /// Ends what may end where the tokens end. False where something is open.
+    pub fn finish(&mut self, alloc: Global) -> Result<bool, Memory>
         ensures { Finishes (ended (state_of self.old)) self.new.forms result }
     {
         match self.at {
@@ -820,85 +807,5 @@ impl Reader {
             }
             _ => Ok(false),
         }
-    }
-
-    // Takes tokens, one behind the other.
-    fn take_all(&mut self, alloc: Global, tokens: List<Token>) -> Result<(), ParseFault>
-        requires { state_of self.now ≡ start }
-        ensures { TakesAll tokens (state_of self.new) result }
-    {
-        let mut rest = tokens.into_vec();
-        rest.reverse();
-        let mut taken = 0;
-        while let Some(token) = rest.pop() {
-            if !self.take(alloc, token)? {
-                return Err(syntax(taken, Why::Other));
-            }
-            taken += 1;
-            give_back(&mut rest);
-        }
-        Ok(())
-    }
-
-    // The forms where so many tokens end.
-    fn into_forms(mut self, alloc: Global, count: usize) -> Result<List<Form>, ParseFault>
-        ensures { GivesForms (ended (state_of self)) count result }
-    {
-        if self.finish(alloc)? {
-            let Reader { forms, .. } = self;
-            Ok(forms)
-        } else {
-            Err(syntax(count, Why::End))
-        }
-    }
-}
-
-// The number of the file.
-fn file(tokens: &[Token]) -> u32
-    ensures { result ≡ file_of tokens.now }
-{
-    match tokens.first() {
-        Some(token) => token.place.file,
-        None => 0,
-    }
-}
-
-/// The tree of a file's tokens: any number of forms. A form is one of these rows, or a run of items. `n`, `v`, `p` and `s` are names, a `c` is a name,
-/// `t` or `f`, and a star means any number, none included.
-///
-/// - `IN: v`, `USE: v`, `USING: v* ;`, `FROM: v => n* ;`, `QUALIFIED-WITH: v p`
-/// - `DEFER: n`, `SYMBOL: n`, `MAIN: n`, `<PRIVATE`, `PRIVATE>`
-/// - `CONSTANT: n` with a literal behind it: an integer, a string, `t`, `f`, `\ n`, a quotation or an array
-/// - `: n effect item* ;` and `:: n effect item* ;` with `inline` and `recursive` behind it, each at most once, in any order
-/// - `TUPLE: n s* ;`, `TUPLE: n < n s* ;` with at most 64 slots `s`, of which none is `<`
-/// - `UNION: n c* ;`, `SINGLETON: n`, `C: n n`
-/// - `GENERIC: n effect`, `M: c n item* ;` with at most one `inline` behind it
-///
-/// An item is a name, an integer, a string, `t`, `f`, `call-next-method`, a quotation `[ item* ]`, a quotation `[| n* | item* ]` whose inputs are
-/// locals, a fry `'[ item* ]`, `:> n`, which binds a local, a hole `_` or `@`, `\ n`, which is a word as a value, `call( entry* -- entry* )` or
-/// `execute( entry* -- entry* )`, or an array `{ element* }`, whose elements are integers, strings, `t`, `f`, `\ n`, quotations `[ item* ]`, arrays and
-/// names. All brackets nest at most 256 deep, counted together. An array has at most 1,000,000 elements: those that stand directly in it.
-///
-/// `:> n` stands only in `::`, in a quotation with locals, and in what stands in one of these. The local is in scope to the end of what it stands
-/// directly in, and so are the inputs of `::` and of a quotation with locals. At most 64 are in scope, hidden ones and those around an array counted:
-/// where 64 are, `:>` stands nowhere, nor does a name before the `|`. The name of a local doesn't end in `!`; that of an input of `::` has no colon.
-///
-/// A hole stands only in a fry, in a quotation in one, and so on, and not in an array in it. A fry has at most 64 holes, those of a fry in it not counted.
-///
-/// An effect is `( entry* -- entry* )`. An entry is a name that ends in no colon, or a name that ends in one and what describes it: a name that ends in
-/// no colon, or an effect. A name that begins with two dots is only the first entry of its side. An effect has at most 64 names, with those of the
-/// effects in it. Behind `call(` and `execute(` no entry is a name that begins with two dots, nor is one of the effects in it.
-///
-/// No tokens make the empty tree of file 0.
-pub fn parse(alloc: Global, tokens: List<Token>) -> Result<Tree, ParseFault>
-    ensures { Parses tokens result }
-{
-    let file = file(tokens.as_slice());
-    let count = tokens.len() as usize;
-    let mut reader = Reader::new(alloc);
-    reader.take_all(alloc, tokens)?;
-    match reader.into_forms(alloc, count) {
-        Ok(forms) => Ok(Tree { file, forms }),
-        Err(fault) => Err(fault),
     }
 }

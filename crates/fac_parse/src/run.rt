@@ -9,7 +9,6 @@ ghost use Rattle.fac_effect.specs.RowlessEffects.{behind_opens};
 ghost use Rattle.fac_parse.specs.inner.Reader.{element_of, grown, grown_if, is_local as local_there, begin_element, bind_step, heading_step, wrap_step, call_of, call_step, grow as grown_by};
 ghost use Rattle.fac_parse.specs.inner.Reader.{may_end as ends_there, is_literal_half, contexts_of, half_of, IsHalfRead, IsGrowth, Grows, Adds, Holds};
 
-use crate::cut::cut;
 use crate::levels::Levels;
 use fac_effect::{EffectReader, Spelling, Taken, declared_height, is_local_name, is_no_row, text};
 use fac_lang::{Bracket, Callee, Element, Integer, List, Memory, Place, Term, Token};
@@ -224,7 +223,7 @@ impl Run {
     fn end_locals(&mut self, alloc: Global, opens: Place, bar: Place) -> Growth
         ensures { Grows (grown (OpensLocals opens self.old.names bar)) self.old self.new (Ok result) }
     {
-        let names = cut(mem::replace(&mut self.names, List::new(alloc)));
+        let names = mem::replace(&mut self.names, List::new(alloc)).cut();
         self.unfinished = Unfinished::Nothing;
         Growth::Whole(Element::OpensLocals { opens, names, bar })
     }
@@ -268,7 +267,7 @@ impl Run {
         ensures kept { (self.new.elements ≡ self.old.elements) × (self.new.levels ≡ self.old.levels) }
     {
         let height = declared_height(alloc, self.names.as_slice())?;
-        let tokens = cut(mem::replace(&mut self.names, List::new(alloc)));
+        let tokens = mem::replace(&mut self.names, List::new(alloc)).cut();
         self.unfinished = Unfinished::Nothing;
         Ok(Element::Item(Term::EffectCall {
             callee,
@@ -360,6 +359,6 @@ impl Run {
     pub fn take_elements(&mut self, alloc: Global) -> List<Element>
         ensures { result ≡ self.old.elements }
     {
-        cut(mem::replace(&mut self.elements, List::new(alloc)))
+        mem::replace(&mut self.elements, List::new(alloc)).cut()
     }
 }

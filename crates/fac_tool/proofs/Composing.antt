@@ -1,14 +1,17 @@
 -- The steps of a command, one behind the other.
-use Rattle.std.proofs.Common.{◌≡◌, ℕ, List, Some, None, Result, Ok, Err, refl, sym, ap, subst, inl, inr}
+use Rattle.std.proofs.Common.{◌≡◌, ℕ, List, Some, None, Result, Ok, Err, refl, sym, ap, subst, inl, inr, ◌∙◌}
 use Rattle.std.specs.Result.{IsErrAnd}
 use Rattle.fac_lang.specs.declared.program.Program.{Program}
 use Rattle.fac_lang.specs.declared.tree.Form.{Form}
+use Rattle.fac_refusal.specs.declared.refusal.NameFault.{NameFault}
 use Rattle.fac_names.specs.Resolution.{resolved, ResolvedAreWhole}
 use Rattle.fac_check.specs.Verdicts.{verdict}
 use Rattle.fac_check.specs.Promises.{AcceptedAreSafe}
 use Rattle.std.specs.declared.option.Option.{Option}
 use Rattle.fac_io.specs.Told.{SinkTold, Stays-same, TookNothing-same}
 use Rattle.fac_tool.specs.declared.accepting.Accepted.{Accepted}
+use Rattle.fac_tool.specs.declared.accepting.NamedProgram.{NamedProgram}
+use Rattle.fac_notes.specs.declared.report.Report.TheVariants as report
 use Rattle.fac_command.specs.declared.command.Command.{Command}
 use Rattle.fac_tool.specs.declared.ended.Ended.{Ended}
 use Rattle.fac_tool.specs.Answer.{Sources, trees, come_to, accepted, answer_on, own_definitions, on_accepted, on_resolved, on_verdict}
@@ -16,9 +19,16 @@ use Rattle.fac_tool.specs.SeenObjects.{SinkSeen, FilesSeen, InputSeen, OnInput}
 use Rattle.fac_tool.specs.Ends.{Work, idle, runs, runs_and_lists, EndsOn, UnreadBy, work_of}
 use Rattle.fac_tool.specs.inner.Stops.{StandsForSafe}
 use Rattle.fac_tool.specs.Answers.{LoadsGive, LoadsEnd, NoTexts, Loaded, ReachesBy}
-use Rattle.fac_tool.specs.inner.StepEnds.{still, still_input, EndsEarly, StepsEnd, ended_by, EndsRead, AreTrees, AreAccepted}
+use Rattle.fac_tool.specs.inner.StepEnds.{reported, still, still_input, EndsEarly, StepsEnd, ended_by, EndsRead, AreTrees, AreAccepted}
+use Rattle.fac_tool.specs.inner.FormsTaken.{AreNamed}
+use Rattle.fac_tool.proofs.EarlyEnds.{is_refused}
 use Rattle.fac_tool.proofs.InputLemmas.{onward, on_still}
 use Rattle.fac_tool.proofs.SourceLemmas.{accepted_safe}
+
+-- a refused name is the answer
+pub ends_on_name :
+    (command : Command) (files : List (List Form)) (fault : NameFault) (ended : Ended) → resolved files ≡ Err fault → ended ≡ reported 0 (report.Name fault) → EndsEarly (on_resolved command (own_definitions files) (resolved files)) ended
+ends_on_name command files fault ended e is = rw e (is_refused (report.Name fault) ended refl is)
 
 -- names that don't resolve, a refusal and want of memory end the work on the trees of texts
 pub ends_on_trees : (texts : List (List ℕ)) (files : List (List Form)) (ended : Ended) → AreTrees texts files → ((command : Command) → EndsEarly (on_resolved command (own_definitions files) (resolved files)) ended) → EndsRead texts ended
@@ -36,9 +46,10 @@ passed_on (Err other) ended h = ap Err h
 
 -- the last step of reading
 pub accepts_checked :
-    (texts : List (List ℕ)) (files : List (List Form)) (P : Program) (accepted : Accepted) →
-    AreTrees texts files → resolved files ≡ Ok P → (verdict P 0 ≡ None) × StandsForSafe accepted.checked.closed P → accepted.definitions ≡ own_definitions files → AreAccepted texts accepted
-accepts_checked texts files P accepted are resolves h count = record { files = files; P = P; are_trees = are; resolves = resolves; accepts = h.0; stands = h.1; count = count }
+    (texts : List (List ℕ)) (named : NamedProgram) (accepted : Accepted) →
+    AreNamed texts named → (verdict named.program 0 ≡ None) × StandsForSafe accepted.checked.closed named.program → accepted.definitions ≡ named.definitions → AreAccepted texts accepted
+accepts_checked texts named accepted are h same =
+    record { files = are.files; P = named.program; are_trees = are.are_trees; resolves = are.resolves; accepts = h.0; stands = h.1; count = same ∙ are.counts }
 
 -- an accepted program has the answer of what is done with it
 accepted_ends :

@@ -1,21 +1,27 @@
--- Texts that are read to their trees, one behind the other.
-use Rattle.std.proofs.Common.{◌≡◌, ◌+◌, ℕ, List, [], ◌∷◌, ◌++◌, Ok, Err, refl, sym, ap, subst, ◌∙◌}
+-- Texts whose forms go to the names, one behind the other.
+use Rattle.std.proofs.Common.{◌≡◌, ◌+◌, ℕ, List, [], ◌∷◌, ◌++◌, Result, Ok, Err, cond, refl, sym, ap, subst, ◌∙◌, arith}
+use Rattle.std.proofs.lemmas.List.Sums.{sum_by-append, sum_by_push}
+use Rattle.std.specs.List.{count_by}
 use Rattle.fac_lang.specs.declared.token.Token.{Token}
 use Rattle.fac_lang.specs.declared.tree.Form.{Form}
-use Rattle.fac_lang.specs.declared.tree.Tree.{Tree}
 use Rattle.fac_token.specs.declared.fault.TokenFault.{TokenFault}
 use Rattle.fac_token.specs.declared.fault.TokenFault.TheVariants as token
 use Rattle.fac_token.specs.Tokens.{Tokenizes}
-use Rattle.fac_parse.specs.declared.reader.Why.{Why}
-use Rattle.fac_parse.specs.Trees.{Misses, forms_of}
+use Rattle.fac_parse.specs.declared.reader.ParseFault.{ParseFault}
+use Rattle.fac_parse.specs.declared.reader.ParseFault.TheVariants as parse
+use Rattle.fac_parse.specs.declared.parser.Parser.{Parser}
+use Rattle.fac_parse.specs.Handed.{HandsOut}
+use Rattle.fac_names.specs.declared.resolver.Resolver.{Resolver}
+use Rattle.fac_names.specs.Taken.{HasTaken}
 use Rattle.fac_prelude.specs.PreludeText.{prelude_text}
 use Rattle.fac_notes.specs.declared.report.ByteFault.{ByteFault}
 use Rattle.fac_notes.specs.declared.report.ByteFault.TheVariants as byte
 use Rattle.fac_notes.specs.declared.report.Report.TheVariants as report
 use Rattle.fac_tool.specs.declared.ended.Ended.{Ended}
-use Rattle.fac_tool.specs.Answer.{Source, no_tokens, no_tree, tree, Sources, together, answer_on}
+use Rattle.fac_tool.specs.Answer.{Source, no_tokens, no_tree, tree, Sources, together, come_to, answer_on, is_definition, definitions_in}
 use Rattle.fac_tool.specs.Sources.{token_fault, IsReadAs, AreReadAs, EverySource}
-use Rattle.fac_tool.specs.inner.StepEnds.{bare, reported, fault_ending, EndsEarly, EndsFile, TreeAdds, ReadSoFar, EndsRead, AreTrees}
+use Rattle.fac_tool.specs.inner.StepEnds.{bare, reported, fault_ending, tree_ending, EndsEarly, EndsFile, ReadSoFar, EndsRead}
+use Rattle.fac_tool.specs.inner.FormsTaken.{LastGrows, FileAdds, TakesSome, FileTaken, TakesFile, TextsTaken}
 use Rattle.fac_tool.proofs.EarlyEnds.{no_memory, is_refused}
 
 -- one text comes to something
@@ -40,52 +46,110 @@ has_no_tokens law file text (token.BadEscape at) ended has is = has_fault file t
 has_no_tokens law file text (token.StuckQuote at) ended has is = has_fault file text at byte.StuckQuote ended has is
 has_no_tokens law file text token.Memory ended has is = wanted_for_text law file text ended is
 
-pub has_no_tree : (file : ℕ) (text : List ℕ) (tokens : List Token) (at : ℕ) (why : Why) (ended : Ended) → Tokenizes file text (Ok tokens) → Misses tokens at why → ended ≡ reported 0 (report.Syntax file at why) → EndsFile file text ended
-has_no_tree file text tokens at why ended are none e = record { source = no_tree at why; is_read = (tokens, are, none); ends = λ command before sources. is_refused (report.Syntax file at why) ended refl e }
+-- its tokens end the work, or memory was wanted for its forms
+pub has_no_tree :
+    EverySource → (file : ℕ) (tokens : List Token) (so_far : List Form) (parser : Parser) (fault : ParseFault) (ended : Ended) → HandsOut tokens so_far parser (Err fault) → ended ≡ tree_ending file fault →
+    (text : List ℕ) → Tokenizes file text (Ok tokens) → EndsFile file text ended
+has_no_tree law file tokens so_far parser (parse.Syntax at why) ended none e text are =
+    record { source = no_tree at why; is_read = (tokens, are, none); ends = λ command before sources. is_refused (report.Syntax file at why) ended refl e }
+has_no_tree law file tokens so_far parser parse.Memory ended none e text are = wanted_for_text law file text ended e
 
-pub forms_of-append : (before : List Tree) (one : Tree) → forms_of (before ++ one ∷ []) ≡ forms_of before ++ one.forms ∷ []
-forms_of-append [] one = refl
-forms_of-append (t ∷ ts) one = ap (λ (fs : List (List Form)). t.forms ∷ fs) (forms_of-append ts one)
+counts_both : (count sum both : ℕ) (so_far forms : List Form) → sum ≡ count + count_by is_definition so_far → both ≡ sum + count_by is_definition forms → both ≡ count + count_by is_definition (so_far ++ forms)
+counts_both count sum both so_far forms e f =
+    let join : count_by is_definition (so_far ++ forms) ≡ count_by is_definition so_far + count_by is_definition forms = sum_by-append (λ (form : Form). cond (is_definition form) 1 0) so_far forms in
+    omega (arith, join, e, f)
 
-pub adds_tree : (file : ℕ) (text : List ℕ) (before now : List Tree) (one : Tree) → IsReadAs file text (tree one.forms) → now ≡ before ++ one ∷ [] → TreeAdds file text before now
-adds_tree file text before now one read e = record { forms = one.forms; is_read = read; added = ap forms_of e ∙ forms_of-append before one }
+-- a file goes on with more forms
+pub file_goes_on :
+    (tokens : List Token) (count sum both : ℕ) (parser next : Parser) (first before now : Resolver) →
+    (so_far : TakesSome tokens [] count parser first before sum) → TakesSome tokens so_far.forms sum next before now both → TakesSome tokens [] count next first now both
+file_goes_on tokens count sum both parser next first before now so_far more =
+    record {
+      forms = so_far.forms ++ more.forms;
+      handed = more.handed;
+      grows = λ files h. more.grows files (so_far.grows files h);
+      counts = counts_both count sum both so_far.forms more.forms so_far.counts more.counts;
+    }
+
+-- what was begun is a file behind others
+pub adds_file :
+    (file : ℕ) (text : List ℕ) (count : ℕ) (before begun now : Resolver) (r : Result ℕ Ended) →
+    FileAdds [] before begun → TakesFile file text count (λ forms. LastGrows [] forms begun now) r → TakesFile file text count (λ forms. FileAdds forms before now) r
+adds_file file text count before begun now (Ok sum) begins taken = record { forms = taken.forms; is_read = taken.is_read; given = λ files h. taken.given files (begins files h); counts = taken.counts }
+adds_file file text count before begun now (Err ended) begins ends = ends
 
 -- what those from this number on come to decides
 abbrev pub Onward : List (List ℕ) → List (List ℕ) → ℕ → List (List Form) → Type 0
 Onward texts left file before = (sources : List Source) → AreReadAs file left sources → ReadSoFar texts file before sources
 
--- those of the command do, once the prelude is read
-pub begins : (texts left : List (List ℕ)) (before now : List Tree) → left ≡ texts → before ≡ [] → TreeAdds 0 prelude_text before now → Onward texts left 1 (forms_of now)
-begins texts left before now e none adds sources are =
-    let added = adds.added ∙ ap (λ (ts : List Tree). forms_of ts ++ adds.forms ∷ []) none in
-    record {
-      whole = tree adds.forms ∷ sources;
-      are_read = (adds.is_read, subst (λ (ts : List (List ℕ)). AreReadAs 1 ts sources) e are);
-      same = ap (λ (fs : List (List Form)). together fs 1 sources) (sym added);
-    }
+-- files were taken up to those of the texts that are left: the prelude and some behind it
+pub record TakenUpTo (texts left : List (List ℕ)) (file count : ℕ) (resolver : Resolver) : Type 0 where
+  pub prelude : List Form
+  pub files : List (List Form)
+  pub taken : HasTaken (prelude ∷ files) resolver
+  pub onward : Onward texts left file (prelude ∷ files)
+  pub counts : count ≡ definitions_in files
 
--- or the prelude ends the work
+-- memory was wanted before the first file
+pub wanted_for_texts : EverySource → (texts : List (List ℕ)) (ended : Ended) → ended ≡ bare 12 0 → EndsRead texts ended
+wanted_for_texts law texts ended e =
+    let all = law 0 (prelude_text ∷ texts) in
+    record { sources = all.0; are_read = all.1; ends = λ command. no_memory (answer_on command (come_to all.0)) ended e }
+
+-- the prelude ends the work
 pub ends_prelude : EverySource → (texts : List (List ℕ)) (ended : Ended) → EndsFile 0 prelude_text ended → EndsRead texts ended
 ends_prelude law texts ended ends =
     let behind = law 1 texts in
     record { sources = ends.source ∷ behind.0; are_read = (ends.is_read, behind.1); ends = λ command. ends.ends command [] behind.0 }
 
+-- or it is the first file
+pub begins :
+    (texts left : List (List ℕ)) (before now : Resolver) (sum : ℕ) →
+    left ≡ texts → HasTaken [] before → FileTaken 0 prelude_text 0 (λ forms. FileAdds forms before now) sum → TakenUpTo texts left 1 0 now
+begins texts left before now sum e none adds =
+    record {
+      prelude = adds.forms;
+      files = [];
+      taken = adds.given [] none;
+      onward = λ sources are. record { whole = tree adds.forms ∷ sources; are_read = (adds.is_read, subst (λ (ts : List (List ℕ)). AreReadAs 1 ts sources) e are); same = refl };
+      counts = refl;
+    }
+
+-- one file more
 pub goes_on :
-    (texts left rest : List (List ℕ)) (file : ℕ) (text : List ℕ) (before now : List Tree) →
-    left ≡ text ∷ rest → Onward texts left file (forms_of before) → TreeAdds file text before now → Onward texts rest (file + 1) (forms_of now)
-goes_on texts left rest file text before now e onward adds sources are =
-    let so_far = onward (tree adds.forms ∷ sources) (subst (λ (ts : List (List ℕ)). AreReadAs file ts (tree adds.forms ∷ sources)) (sym e) (adds.is_read, are)) in
-    record { whole = so_far.whole; are_read = so_far.are_read; same = so_far.same ∙ ap (λ (fs : List (List Form)). together fs (file + 1) sources) (sym adds.added) }
+    (texts left rest : List (List ℕ)) (file count sum : ℕ) (text : List ℕ) (before now : Resolver) →
+    left ≡ text ∷ rest → TakenUpTo texts left file count before → FileTaken file text count (λ forms. FileAdds forms before now) sum → TakenUpTo texts rest (file + 1) sum now
+goes_on texts left rest file count sum text before now e so_far adds =
+    record {
+      prelude = so_far.prelude;
+      files = so_far.files ++ adds.forms ∷ [];
+      taken = adds.given (so_far.prelude ∷ so_far.files) so_far.taken;
+      onward = λ sources are.
+          let reached = so_far.onward (tree adds.forms ∷ sources) (subst (λ (ts : List (List ℕ)). AreReadAs file ts (tree adds.forms ∷ sources)) (sym e) (adds.is_read, are)) in
+          record { whole = reached.whole; are_read = reached.are_read; same = reached.same };
+      counts = adds.counts ∙ ap (λ (n : ℕ). n + count_by is_definition adds.forms) so_far.counts ∙ sym (sum_by_push (λ (forms : List Form). count_by is_definition forms) so_far.files adds.forms);
+    }
 
-pub ends_trees :
-    EverySource → (texts left rest : List (List ℕ)) (file : ℕ) (text : List ℕ) (before : List (List Form)) (ended : Ended) →
-    left ≡ text ∷ rest → Onward texts left file before → EndsFile file text ended → EndsRead texts ended
-ends_trees law texts left rest file text before ended e onward ends =
+-- or a file ends the work
+pub ends_texts :
+    EverySource → (texts left rest : List (List ℕ)) (file count : ℕ) (text : List ℕ) (resolver : Resolver) (ended : Ended) →
+    left ≡ text ∷ rest → TakenUpTo texts left file count resolver → EndsFile file text ended → EndsRead texts ended
+ends_texts law texts left rest file count text resolver ended e so_far ends =
     let behind = law (file + 1) rest in
-    let so_far = onward (ends.source ∷ behind.0) (subst (λ (ts : List (List ℕ)). AreReadAs file ts (ends.source ∷ behind.0)) (sym e) (ends.is_read, behind.1)) in
-    record { sources = so_far.whole; are_read = so_far.are_read; ends = λ command. subst (λ (s : Sources). EndsEarly (answer_on command s) ended) (sym so_far.same) (ends.ends command before behind.0) }
+    let reached = so_far.onward (ends.source ∷ behind.0) (subst (λ (ts : List (List ℕ)). AreReadAs file ts (ends.source ∷ behind.0)) (sym e) (ends.is_read, behind.1)) in
+    record {
+      sources = reached.whole;
+      are_read = reached.are_read;
+      ends = λ command. subst (λ (s : Sources). EndsEarly (answer_on command s) ended) (sym reached.same) (ends.ends command (so_far.prelude ∷ so_far.files) behind.0);
+    }
 
-pub all_read : (texts left : List (List ℕ)) (file : ℕ) (before : List (List Form)) → left ≡ [] → Onward texts left file before → AreTrees texts before
-all_read texts left file before e onward =
-    let so_far = onward [] (subst (λ (ts : List (List ℕ)). AreReadAs file ts []) (sym e) tt) in
-    record { sources = so_far.whole; are_read = so_far.are_read; come = so_far.same }
+-- or all were taken
+pub all_taken : (texts left : List (List ℕ)) (file count : ℕ) (resolver : Resolver) → left ≡ [] → TakenUpTo texts left file count resolver → TextsTaken texts resolver count
+all_taken texts left file count resolver e so_far =
+    let reached = so_far.onward [] (subst (λ (ts : List (List ℕ)). AreReadAs file ts []) (sym e) tt) in
+    record {
+      files = so_far.prelude ∷ so_far.files;
+      are_trees = record { sources = reached.whole; are_read = reached.are_read; come = reached.same };
+      taken = so_far.taken;
+      counts = so_far.counts;
+    }

@@ -1,5 +1,6 @@
 -- What only the contracts of inner functions cite.
 pub mod Stops
 pub mod StepEnds
+pub mod FormsTaken
 pub mod ImageSteps
 pub mod ListedStacks

@@ -1,30 +1,39 @@
 //! The steps of every command from the texts of its files to an accepted program.
-ghost use Rattle.std.specs.Prelude.{◌≡◌, Some, None, Ok, ℕ};
+ghost use Rattle.std.specs.Prelude.{◌≡◌, Some, None, Ok, ℕ, [], List as Items};
 ghost use Rattle.fac_lang.specs.declared.program.Program.{Program as Source};
+ghost use Rattle.fac_lang.specs.declared.tree.Form.{Form};
 ghost use Rattle.fac_lang.specs.Forms.{IsBuilt};
 ghost use Rattle.fac_lang.specs.Whole.{IsWhole};
 ghost use Rattle.fac_check.specs.Judged.{OfEach, StandsForBuilt, refusal_if, refusal_seen};
 ghost use Rattle.fac_check.specs.Verdicts.{verdict};
 ghost use Rattle.fac_names.specs.Resolution.{resolved};
-ghost use Rattle.fac_parse.specs.Trees.{AreWellFormed, forms_of};
+ghost use Rattle.fac_names.specs.Taken.{HasTaken};
+ghost use Rattle.fac_parse.specs.Trees.{AreWellFormed};
 ghost use Rattle.fac_command.specs.declared.command.Command.{Command as CommandSeen};
 ghost use Rattle.fac_tool.specs.Answer.{on_resolved, on_verdict, own_definitions};
 ghost use Rattle.fac_tool.specs.inner.Stops.{SameNames, StandsFor, StandsForSafe};
 ghost use Rattle.fac_tool.specs.inner.StepEnds.{Accepts, EndsEarly, Steps, StepsOn};
+ghost use Rattle.fac_tool.specs.inner.FormsTaken.{ReadsProgram};
 
-use crate::definitions::definitions;
 use crate::ended::{bare, reported};
-use crate::reading::read_trees;
-use crate::{Ended, Report};
+use crate::reading::take_texts;
+use crate::{Ended, Report, every_text_is_a_source};
 use fac_check::{Checked, Refusal, accept, check_words, first_refusal_is_verdict, first_refused};
-use fac_lang::{Bytes, List, Program, Tree};
+use fac_lang::{Bytes, List, Program};
 use fac_locals::{Closed, close};
-use fac_names::{ResolveFault, resolve};
+use fac_names::{ResolveFault, Resolver};
 use fac_notes::word_name;
 use std::alloc::Global;
 
 // The number of values that the top-level phrase starts from.
 const START: u64 = 0;
+
+/// A program, and how many definitions the files of the command have.
+#[derive(Drop)]
+pub struct NamedProgram {
+    pub program: Program,
+    pub definitions: u64,
+}
 
 /// An accepted program, and how many definitions the files of the command have.
 #[derive(Drop)]
@@ -33,15 +42,46 @@ pub struct Accepted {
     pub definitions: u64,
 }
 
-// The program of trees, which are given back to memory.
-fn resolve_trees(alloc: Global, trees: List<Tree>) -> Result<Program, Ended>
-    requires { AreWellFormed (forms_of trees) }
-    ensures { Steps (λ program. (resolved (forms_of trees) ≡ Ok program) × IsBuilt program × IsWhole program) (λ command. on_resolved command (own_definitions (forms_of trees)) (resolved (forms_of trees))) result }
+// The program of the files that names were taken of.
+fn end_names(alloc: Global, resolver: Resolver) -> Result<Program, Ended>
+    ensures { (files : Items (Items Form)) → AreWellFormed files → HasTaken files resolver → Steps (λ program. (resolved files ≡ Ok program) × IsBuilt program × IsWhole program) (λ command. on_resolved command (own_definitions files) (resolved files)) result }
 {
-    match resolve(alloc, trees) {
+    match resolver.end(alloc) {
         Err(ResolveFault::Memory) => Err(bare(12, 0)),
         Err(ResolveFault::Name(fault)) => Err(reported(0, Report::Name(fault))),
         Ok(program) => Ok(program),
+    }
+}
+
+// The program of the prelude and of texts, where no names were taken yet.
+fn name_texts(
+    alloc: Global,
+    texts: List<Bytes>,
+    mut resolver: Resolver,
+) -> Result<NamedProgram, Ended>
+    requires { HasTaken [] resolver }
+    ensures { ReadsProgram texts result }
+{
+    match take_texts(alloc, texts, &mut resolver) {
+        Err(ended) => Err(ended),
+        Ok(definitions) => match end_names(alloc, resolver) {
+            Err(ended) => Err(ended),
+            Ok(program) => Ok(NamedProgram {
+                program,
+                definitions,
+            }),
+        },
+    }
+}
+
+// The program of the prelude and of the texts of a command's files.
+fn read_program(alloc: Global, texts: List<Bytes>) -> Result<NamedProgram, Ended>
+    ensures { ReadsProgram texts result }
+{
+    every_text_is_a_source();
+    match Resolver::new(alloc) {
+        Err(_) => Err(bare(12, 0)),
+        Ok(resolver) => name_texts(alloc, texts, resolver),
     }
 }
 
@@ -95,9 +135,10 @@ fn check_closed(alloc: Global, closed: Closed) -> Result<Checked, Ended>
 pub fn accepted_program(alloc: Global, texts: List<Bytes>) -> Result<Accepted, Ended>
     ensures { Accepts texts result }
 {
-    let trees = read_trees(alloc, texts)?;
-    let definitions = definitions(&trees);
-    let program = resolve_trees(alloc, trees)?;
+    let NamedProgram {
+        program,
+        definitions,
+    } = read_program(alloc, texts)?;
     let closed = close_program(alloc, program)?;
     let checked = check_closed(alloc, closed)?;
     Ok(Accepted {

@@ -1,16 +1,14 @@
 //! The definitions of a command's files, and the line that tells how many there are.
-ghost use Rattle.std.specs.Prelude.{◌≡◌, ◌≤◌, ℕ, List, length, IfOk};
+ghost use Rattle.std.specs.Prelude.{◌≡◌, ◌≤◌, ℕ, List, IfOk};
 ghost use Rattle.std.specs.List.{count_by};
-ghost use Rattle.fac_io.specs.Faults.{HasCause};
-ghost use Rattle.fac_parse.specs.Trees.{forms_of};
-ghost use Rattle.fac_tool.specs.Answer.{checked_answer, checked_line as line_of_checked, definitions_in as defined_in, gives_phrase, is_definition as is_defined, own_definitions};
+ghost use Rattle.fac_tool.specs.Answer.{checked_answer, checked_line as line_of_checked, gives_phrase, is_definition as is_defined};
 ghost use Rattle.fac_tool.specs.Ends.{EndsAs, idle};
 ghost use Rattle.fac_tool.specs.SeenObjects.{sink_seen, InputSeen};
 
 use crate::Ended;
 use crate::ended::bare;
 use fac_io::Sink;
-use fac_lang::{Form, FormKind, List, Memory, Text, Tree};
+use fac_lang::{Form, FormKind, List, Memory, Text};
 use std::alloc::Global;
 
 // Whether a row defines a word that has a phrase.
@@ -50,12 +48,10 @@ fn is_definition(form: &Form) -> bool
     }
 }
 
-// How many of the forms are definitions.
-fn definitions_of(forms: &List<Form>) -> u64
-    ensures count { result ≡ count_by is_defined forms.now }
-    ensures few { result ≤ 4294967295 }
+/// How many of the forms are definitions.
+pub fn definitions_of(forms: &List<Form>) -> u64
+    ensures { result ≡ count_by is_defined forms.now }
 {
-    let _count = forms.len();
     let mut count = 0u64;
     for form in forms.as_slice() {
         if is_definition(form) {
@@ -63,29 +59,6 @@ fn definitions_of(forms: &List<Form>) -> u64
         }
     }
     count
-}
-
-// How many definitions the files of these trees have.
-fn definitions_in(trees: &[Tree]) -> u64
-    requires { length trees.now ≤ 4294967295 }
-    ensures { result ≡ defined_in (forms_of trees.now) }
-{
-    let mut count = 0u64;
-    for tree in trees {
-        count += definitions_of(&tree.forms);
-    }
-    count
-}
-
-/// How many definitions the files of a command have. Their trees stand behind that of the prelude.
-pub fn definitions(trees: &List<Tree>) -> u64
-    ensures { result ≡ own_definitions (forms_of trees.now) }
-{
-    let _count = trees.len();
-    match trees.as_slice() {
-        [_prelude, files @ ..] => definitions_in(files),
-        [] => 0,
-    }
 }
 
 // The line that tells so many definitions.

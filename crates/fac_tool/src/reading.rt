@@ -1,13 +1,23 @@
-//! The steps of every command from the texts of its files to their trees.
-ghost use Rattle.std.specs.Prelude.{◌≡◌};
+//! The steps of every command from the texts of its files to their names. Each file is read form by form, and its forms go to the names at once, so no tree
+//! stands in memory.
+ghost use Rattle.std.specs.Prelude.{◌≡◌, ◌<◌, List as Items, ℕ, Ok, [], IfOk, IfSome};
+ghost use Rattle.fac_lang.specs.declared.token.Token.{Token as TokenSeen};
+ghost use Rattle.fac_lang.specs.declared.tree.Form.{Form as FormSeen};
+ghost use Rattle.fac_token.specs.Tokens.{Tokenizes};
+ghost use Rattle.fac_parse.specs.Trees.{AreForms};
+ghost use Rattle.fac_parse.specs.Handed.{HasHandedOut, calls_left};
+ghost use Rattle.fac_names.specs.Taken.{HasTaken};
 ghost use Rattle.fac_prelude.specs.PreludeText.{prelude_text};
-ghost use Rattle.fac_notes.specs.declared.report.Report.TheVariants.{Bytes as bytes_report, Syntax as syntax_report};
-ghost use Rattle.fac_tool.specs.inner.StepEnds.{ReadsTree, ReadsNext, ReadsTrees, fault_ending, reported as reported_ending};
+ghost use Rattle.fac_notes.specs.declared.report.Report.TheVariants.{Bytes as bytes_report};
+ghost use Rattle.fac_tool.specs.inner.StepEnds.{fault_ending, tree_ending, reported as reported_ending};
+ghost use Rattle.fac_tool.specs.inner.FormsTaken.{HasTokens, HandsOn, TakesNext, TakesFile, TakesTexts, LastGrows, FileAdds};
 
+use crate::definitions::definitions_of;
 use crate::ended::{bare, reported};
 use crate::{ByteFault, Ended, Report, every_text_is_a_source};
-use fac_lang::{Bytes, List, Tree};
-use fac_parse::{ParseFault, Why, parse};
+use fac_lang::{Bytes, Form, List, Memory, Queue, Token};
+use fac_names::Resolver;
+use fac_parse::{ParseFault, Parser};
 use fac_token::{TokenFault, tokens};
 use std::alloc::Global;
 
@@ -31,73 +41,155 @@ fn no_tokens(file: u32, fault: TokenFault) -> Ended
     }
 }
 
-// The refusal of a file that has no tree.
-fn no_tree(file: u32, at: u32, why: Why) -> Ended
-    ensures { result ≡ reported_ending 0 (syntax_report file at why) }
+// The ending of a file that has no tree.
+fn no_tree(file: u32, fault: ParseFault) -> Ended
+    ensures { result ≡ tree_ending file fault }
 {
-    reported(0, Report::Syntax { file, at, why })
+    match fault {
+        ParseFault::Syntax { at, why } => reported(0, Report::Syntax { file, at, why }),
+        ParseFault::Memory => bare(12, 0),
+    }
 }
 
-// The tree of the text of the file with this number. Its tokens are given back to memory.
-fn read_tree(alloc: Global, file: u32, text: &[u8]) -> Result<Tree, Ended>
-    ensures { ReadsTree file text.now result }
+// The tokens of the text of the file with this number.
+fn tokens_of(alloc: Global, file: u32, text: &[u8]) -> Result<List<Token>, Ended>
+    ensures { HasTokens file text.now result }
 {
     every_text_is_a_source();
     match tokens(alloc, file, text) {
         Err(fault) => Err(no_tokens(file, fault)),
-        Ok(tokens) => match parse(alloc, tokens) {
-            Err(ParseFault::Memory) => Err(bare(12, 0)),
-            Err(ParseFault::Syntax { at, why }) => Err(no_tree(file, at, why)),
-            Ok(tree) => Ok(tree),
+        Ok(tokens) => Ok(tokens),
+    }
+}
+
+// The tokens of a text, which is given back to memory.
+fn tokens_of_text(alloc: Global, file: u32, text: Bytes) -> Result<List<Token>, Ended>
+    ensures { HasTokens file text result }
+{
+    tokens_of(alloc, file, text.as_slice())
+}
+
+// Gives forms to the names, and adds their definitions to a number.
+fn hand_on(
+    alloc: Global,
+    forms: List<Form>,
+    count: u64,
+    resolver: &mut Resolver,
+) -> Result<u64, Memory>
+    requires { AreForms forms }
+    ensures { HandsOn forms count resolver.old resolver.new result }
+{
+    match count.checked_add(definitions_of(&forms)) {
+        None => Err(Memory),
+        Some(sum) => {
+            resolver.take(alloc, forms)?;
+            Ok(sum)
+        }
+    }
+}
+
+// Gives the next forms of a file to the names, and adds their definitions to a number. None where the file ends.
+fn take_next(
+    alloc: Global,
+    file: u32,
+    count: u64,
+    parser: &mut Parser,
+    resolver: &mut Resolver,
+) -> Result<Option<u64>, Ended>
+    requires { (tokens : Items TokenSeen) × (so_far : Items FormSeen) × HasHandedOut tokens so_far parser.old }
+    ensures takes { (tokens : Items TokenSeen) (so_far : Items FormSeen) → HasHandedOut tokens so_far parser.old → TakesNext file tokens so_far count parser.new resolver.old resolver.new result }
+    ensures falls { IfOk result (λ given. IfSome given (λ sum. calls_left parser.new < calls_left parser.old)) }
+{
+    every_text_is_a_source();
+    match parser.next(alloc) {
+        Err(fault) => Err(no_tree(file, fault)),
+        Ok(given) => match given {
+            None => Ok(None),
+            Some(forms) => match hand_on(alloc, forms, count, resolver) {
+                Err(_) => Err(bare(12, 0)),
+                Ok(sum) => Ok(Some(sum)),
+            },
         },
     }
 }
 
-// Puts the tree of a text behind others.
-fn read_next(alloc: Global, file: u32, text: &[u8], trees: &mut List<Tree>) -> Result<(), Ended>
-    ensures { ReadsNext file text.now trees.old trees.new result }
+// Gives the forms of a file's tokens to the names, where the file was begun, and adds their definitions to a number.
+fn take_forms(
+    alloc: Global,
+    file: u32,
+    tokens: List<Token>,
+    count: u64,
+    resolver: &mut Resolver,
+) -> Result<u64, Ended>
+    ensures { (text : Items ℕ) → Tokenizes file text (Ok tokens) → TakesFile file text count (λ forms. LastGrows [] forms resolver.old resolver.new) result }
+{
+    let mut parser = Parser::new(alloc, tokens);
+    let mut sum = count;
+    'forms: while let Some(more) = take_next(alloc, file, sum, &mut parser, resolver)? {
+        sum = more;
+    }
+    Ok(sum)
+}
+
+// Gives a file of these tokens to the names, and adds its definitions to a number.
+fn take_file(
+    alloc: Global,
+    file: u32,
+    tokens: List<Token>,
+    count: u64,
+    resolver: &mut Resolver,
+) -> Result<u64, Ended>
+    ensures { (text : Items ℕ) → Tokenizes file text (Ok tokens) → TakesFile file text count (λ forms. FileAdds forms resolver.old resolver.new) result }
 {
     every_text_is_a_source();
-    let tree = read_tree(alloc, file, text)?;
-    match trees.push(tree) {
-        Ok(()) => Ok(()),
+    match resolver.begin_file(alloc) {
         Err(_) => Err(bare(12, 0)),
+        Ok(()) => take_forms(alloc, file, tokens, count, resolver),
     }
 }
 
-// Puts the tree of the prelude behind these trees; it is called where there are none yet.
-fn read_prelude(alloc: Global, trees: &mut List<Tree>) -> Result<(), Ended>
-    ensures { ReadsNext 0 prelude_text trees.old trees.new result }
+// Gives the file of a text to the names, and adds its definitions to a number. The text is given back to memory before its forms are read.
+fn take_text(
+    alloc: Global,
+    file: u32,
+    text: Bytes,
+    count: u64,
+    resolver: &mut Resolver,
+) -> Result<u64, Ended>
+    ensures { TakesFile file text count (λ forms. FileAdds forms resolver.old resolver.new) result }
 {
-    read_next(alloc, 0, fac_prelude::text().as_bytes(), trees)
+    let tokens = tokens_of_text(alloc, file, text)?;
+    take_file(alloc, file, tokens, count, resolver)
 }
 
-// The trees of the prelude and of texts.
-fn trees_of(alloc: Global, texts: &List<Bytes>) -> Result<List<Tree>, Ended>
-    ensures { ReadsTrees texts.now result }
+// Gives the prelude to the names. How many definitions it has, which count for no command.
+fn take_prelude(alloc: Global, resolver: &mut Resolver) -> Result<u64, Ended>
+    ensures { TakesFile 0 prelude_text 0 (λ forms. FileAdds forms resolver.old resolver.new) result }
+{
+    let tokens = tokens_of(alloc, 0, fac_prelude::text().as_bytes())?;
+    take_file(alloc, 0, tokens, 0, resolver)
+}
+
+/// Gives the prelude, which is file 0, to the names, and the texts of a command's files, which are numbered from 1. How many definitions the texts have.
+pub fn take_texts(alloc: Global, texts: List<Bytes>, resolver: &mut Resolver) -> Result<u64, Ended>
+    requires { HasTaken [] resolver.old }
+    ensures { TakesTexts texts resolver.new result }
 {
     every_text_is_a_source();
     let _count = texts.len();
-    let mut trees = List::new(alloc);
-    match read_prelude(alloc, &mut trees) {
-        Ok(()) => {}
+    match take_prelude(alloc, resolver) {
         Err(ended) => return Err(ended),
+        Ok(_) => {}
     }
+    let mut left = Queue::new(texts.into_vec());
     let mut file = 0u32;
-    for text in texts.as_slice() {
+    let mut count = 0u64;
+    'texts: while let Some(text) = left.take() {
         file += 1;
-        match read_next(alloc, file, text.as_slice(), &mut trees) {
-            Ok(()) => {}
+        match take_text(alloc, file, text, count, resolver) {
             Err(ended) => return Err(ended),
+            Ok(sum) => count = sum,
         }
     }
-    Ok(trees)
-}
-
-/// The trees of the prelude, which is file 0, and of the texts of a command's files, which are numbered from 1. The texts are given back to
-/// memory.
-pub fn read_trees(alloc: Global, texts: List<Bytes>) -> Result<List<Tree>, Ended>
-    ensures { ReadsTrees texts result }
-{
-    trees_of(alloc, &texts)
+    Ok(count)
 }

@@ -43,7 +43,6 @@ use Rattle.fac_parse.specs.declared.reader.Reader.{Reader}
 use Rattle.fac_parse.specs.declared.reader.ParseFault.{ParseFault}
 use Rattle.fac_parse.specs.declared.reader.ParseFault.TheVariants.{Syntax}
 use Rattle.fac_parse.specs.declared.reader.Why.{Why}
-use Rattle.fac_parse.specs.declared.reader.Why.TheVariants.{End}
 use Rattle.fac_parse.specs.Rows.{slots_of}
 use Rattle.fac_effect.specs.declared.effect_reader.EffectReader.{EffectReader}
 use Rattle.fac_effect.specs.Spellings.{token_spelling, token_text}
@@ -53,7 +52,7 @@ use Rattle.fac_effect.specs.SaidEffects.{effect_of}
 use Rattle.fac_effect.specs.RowlessEffects.{opened_tokens, behind_opens, is_no_row}
 use Rattle.fac_lang.specs.Effects.{effect_height}
 use Rattle.fac_parse.specs.Contexts.{items_in, counted, uncounted, bound, opened_locals, behind}
-use Rattle.fac_parse.specs.Trees.{named, most_slots, is_parent_sign, inputs_of, Parses}
+use Rattle.fac_parse.specs.Trees.{named, most_slots, is_parent_sign, inputs_of}
 
 -- how far an element is read that has several tokens
 pub data Half : Type 0 where
@@ -545,14 +544,3 @@ Finishes last forms (Err e) = Unit {0}
 abbrev pub IsSyntax : ℕ → Why → ParseFault → Type 0
 IsSyntax n why (Syntax at reason) = (at ≡ n + 1) × (reason ≡ why)
 IsSyntax n why _ = Unit {0}
-
--- what taking all tokens answers, with the state behind them
-abbrev pub TakesAll : List Token → State → Result Unit ParseFault → Type 0
-TakesAll tokens s (Ok done) = steps (Some start) tokens ≡ Some s
-TakesAll tokens s (Err fault) = Parses tokens (Err fault)
-
--- what ending behind so many tokens answers
-abbrev pub GivesForms : Option (List Form) → ℕ → Result (List Form) ParseFault → Type 0
-GivesForms last n (Ok forms) = last ≡ Some forms
-GivesForms last n (Err (Syntax at why)) = (last ≡ None) × (at ≡ n + 1) × (why ≡ End)
-GivesForms last n (Err fault) = Unit {0}

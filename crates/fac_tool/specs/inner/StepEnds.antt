@@ -2,8 +2,8 @@
 use Rattle.std.specs.Prelude.{◌≡◌, ◌≤◌, ◌<◌, ◌+◌, ◌⊎◌, ℕ, List, [], ◌∷◌, ◌++◌, length, None, Some, Result, Ok, Err, IfSome, IsSomeAnd}
 use Rattle.fac_lang.specs.declared.program.Program.{Program}
 use Rattle.fac_lang.specs.declared.tree.Form.{Form}
-use Rattle.fac_lang.specs.declared.tree.Tree.{Tree}
-use Rattle.fac_parse.specs.Trees.{forms_of}
+use Rattle.fac_parse.specs.declared.reader.ParseFault.{ParseFault}
+use Rattle.fac_parse.specs.declared.reader.ParseFault.TheVariants as parse
 use Rattle.fac_names.specs.Resolution.{resolved}
 use Rattle.fac_check.specs.Verdicts.{verdict}
 use Rattle.fac_token.specs.declared.fault.TokenFault.{TokenFault}
@@ -17,7 +17,7 @@ use Rattle.fac_command.specs.declared.command.Command.{Command}
 use Rattle.fac_command.specs.declared.command.Command.TheVariants as command
 use Rattle.fac_tool.specs.declared.ended.Ended.{Ended}
 use Rattle.fac_tool.specs.declared.accepting.Accepted.{Accepted}
-use Rattle.fac_tool.specs.Answer.{Answer, Source, tree, trees, together, come_to, answer_on, limit, own_definitions, run_answer}
+use Rattle.fac_tool.specs.Answer.{Answer, Source, trees, together, come_to, answer_on, limit, own_definitions, run_answer}
 use Rattle.fac_tool.specs.Sources.{IsReadAs, AreReadWithPrelude}
 use Rattle.fac_io.specs.declared.files.Asked.TheVariants.{Load}
 use Rattle.fac_io.specs.Faults.{Rose}
@@ -53,6 +53,11 @@ fault_ending file (token.OpenString at) = reported 0 (report.Bytes file at byte.
 fault_ending file (token.BadEscape at) = reported 0 (report.Bytes file at byte.BadEscape)
 fault_ending file (token.StuckQuote at) = reported 0 (report.Bytes file at byte.StuckQuote)
 fault_ending file token.Memory = bare 12 0
+
+-- the ending by a fault of the forms of the file with this number
+abbrev pub tree_ending : ℕ → ParseFault → Ended
+tree_ending file (parse.Syntax at why) = reported 0 (report.Syntax file at why)
+tree_ending file parse.Memory = bare 12 0
 
 -- a sink that stays as it was
 abbrev pub still : SinkTold → ℕ → SinkSeen
@@ -158,21 +163,6 @@ pub record EndsFile (file : ℕ) (text : List ℕ) (ended : Ended) : Type 0 wher
   pub is_read : IsReadAs file text source
   pub ends : (command : Command) (read : List (List Form)) (sources : List Source) → EndsEarly (answer_on command (together read file (source ∷ sources))) ended
 
--- the steps from a text to its tree
-abbrev pub ReadsTree : ℕ → List ℕ → Result Tree Ended → Type 0
-ReadsTree file text (Ok read) = IsReadAs file text (tree read.forms)
-ReadsTree file text (Err ended) = EndsFile file text ended
-
--- one more tree behind others
-pub record TreeAdds (file : ℕ) (text : List ℕ) (read now : List Tree) : Type 0 where
-  pub forms : List Form
-  pub is_read : IsReadAs file text (tree forms)
-  pub added : forms_of now ≡ forms_of read ++ forms ∷ []
-
-abbrev pub ReadsNext : {A : Type 0} → ℕ → List ℕ → List Tree → List Tree → Result A Ended → Type 0
-ReadsNext file text read now (Ok done) = TreeAdds file text read now
-ReadsNext file text read now (Err ended) = EndsFile file text ended
-
 -- Texts come to something that those from this number on decide, which come to these, where the ones before have these forms.
 pub record ReadSoFar (texts : List (List ℕ)) (file : ℕ) (read : List (List Form)) (sources : List Source) : Type 0 where
   pub whole : List Source
@@ -190,11 +180,6 @@ pub record AreTrees (texts : List (List ℕ)) (files : List (List Form)) : Type 
   pub sources : List Source
   pub are_read : AreReadWithPrelude texts sources
   pub come : come_to sources ≡ trees files
-
--- the steps from texts to their trees
-abbrev pub ReadsTrees : List (List ℕ) → Result (List Tree) Ended → Type 0
-ReadsTrees texts (Ok read) = AreTrees texts (forms_of read)
-ReadsTrees texts (Err ended) = EndsRead texts ended
 
 -- texts come to trees whose program is accepted, and this closed program stands for that one
 pub record AreAccepted (texts : List (List ℕ)) (accepted : Accepted) : Type 0 where

@@ -22,5 +22,5 @@ returns c =
     (c.in_ok-body.ensures
     ∙ ap (λ n. then (word n) place (then (word c.boa_number.result) place end)) (c.number_of.ensures ∙ ap (λ (r : Ref). number r.word) named)
     ∙ ap (λ n. then (word (number (ref mid.scope (tok c.args.class.now)).word)) place (then (word n) place end)) c.boa_number.ensures)
-    (told_parts c.late_body.result (body c.in_ok-body.body) no_effect false false (maker (ref mid.scope (tok c.args.class.now))) c.in_ok-number.number mid.drafts c.tell.new.self told.sort told.effect told.inline told.recursive (told.late ∙ ap maker named) more))
+    (told_parts c.late_body.result (body c.in_ok-body.body) no_effect false false (maker (ref mid.scope (tok c.args.class.now))) c.in_ok-number.number mid.drafts c.tell.new.self told.sort told.effect told.inline told.recursive (told.late ∙ ap maker (c.in_ok-boxed.ensures ∙ named)) more))
     c.tell.ensures

@@ -16,6 +16,6 @@ loop-form-preserved c =
     let gone = c.in-Some.ensures.steps.1 in
     let short = ap length next in (
       (next_form _ _ f at.invariant.0 next).1,
-      at.invariant.1 ∙ form_taken (reading_of at.so_far) (reading_of c.take_form.new.so_far) (into_iter_items at.form-iterator) (into_iter_items c.next.new.self) f at.invariant.0 next c.in_ok-take_form.ensures,
+      at.invariant.1 ∙ form_taken (reading_of at.so_far) (reading_of c.take_form.new.so_far) (into_iter_items at.form-iterator) (into_iter_items c.next.new.self) f next c.in_ok-take_form.ensures,
       omega (arith, was, gone, short),
     )
