@@ -7,9 +7,10 @@ PROGRAM is the built program, by default crates/factorc/out/factorc. The script 
 functions for wat2wasm, which reads, validates and writes them, and for luac, which reads them; either is left out where it isn't
 installed (Debian has them as wabt and lua5.4). Each is run several times, and the shortest time is told.
 
-The memory of factorc is told in bytes for each byte of source: how much more a file of four times as many words takes, by how much
-longer it is. So what the system counts for each process, however small, doesn't matter. The script ends with status 1 where factorc
-takes longer than wat2wasm, or more than 30 bytes for each byte.
+The memory of factorc is told in bytes for each byte of source: how much more 80,000 words take than 40,000, by how much longer their
+file is. So what the system counts for each process, however small, doesn't matter, as long as both take more than this script itself,
+which the system counts for what it starts. The script ends with status 1 where factorc takes longer than wat2wasm, or more than 30
+bytes for each byte.
 """
 
 import os
@@ -21,6 +22,8 @@ import model
 import speed
 
 WORDS = 10_000
+# Two files by which memory is told: the smaller one takes more than this script, and the larger one is as long as a source may be.
+WORDS_FOR_MEMORY = (40_000, 80_000)
 MOST_BYTES_A_BYTE = 30.0
 
 # The body of a function in each language: the first two call none, and each other one calls the two before it.
@@ -71,9 +74,9 @@ def main():
     words = [program, "check" if "check" in model.BUILT else "run"]
     failed = []
     with tempfile.TemporaryDirectory() as folder:
-        length, own, peak = measure(words, factor_source(WORDS), folder)
-        longer, _, higher = measure(words, factor_source(4 * WORDS), folder)
-        per_byte = (higher - peak) * 1024 / (longer - length)
+        length, own, _ = measure(words, factor_source(WORDS), folder)
+        (short, _, peak), (long, _, higher) = (measure(words, factor_source(count), folder) for count in WORDS_FOR_MEMORY)
+        per_byte = (higher - peak) * 1024 / (long - short)
         print(f"{'factorc':<10}{length:>10} bytes{own:>10.3f} s, {per_byte:.1f} bytes of memory for each byte")
         if per_byte > MOST_BYTES_A_BYTE:
             failed.append(f"memory: {per_byte:.1f} bytes for each byte of source, more than {MOST_BYTES_A_BYTE:g}")

@@ -199,7 +199,7 @@ def strings(path, size):
             file.write(b'"the string with the number %d, \\"%d\\"" drop\n' % (count, count))
             count += 1
         file.write(b";\n")
-    return 0, b"", b""
+    return 0, b"checked %d definitions\n" % -(-count // UNITS_IN_A_WORD), b""
 
 
 def comments(path, size):
@@ -432,7 +432,7 @@ SORTS = [
     ("cycle", in_a_cycle, (25_000, 100_000), words, 1.0, ["DEFER:"]),
     ("led to a cycle", led_to_a_cycle, (25_000, 100_000), words, 1.0, ["DEFER:"]),
     ("vocabularies", many_vocabularies, (SMALL, LARGE), mebibytes, 0.8, ["IN:", "check"]),
-    ("strings", strings, (SMALL, LARGE), mebibytes, 0.2, ["string"]),
+    ("strings", strings, (SMALL, LARGE), mebibytes, 0.2, ["string", "check"]),
     ("comments", comments, (SMALL, LARGE), mebibytes, 0.2, []),
     ("dup compose", composed_twice, (63,), words, 0.5, []),
     ("loops", loops, (2_500, 10_000), words, 1.0, ["rows", "prelude", "check"]),
