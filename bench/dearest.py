@@ -10,8 +10,11 @@ with the values that its returns drop, `Proof` what grows with its goals.
 """
 import collections
 import os
+import pathlib
 import re
 import sys
+
+ROOT = pathlib.Path(__file__).resolve().parent.parent
 
 # The module's own name behind the path of its function.
 PART = re.compile(r"^(Lts|Proof|Tie|Code|Met|Statement|Kinds|Carried|Answers|Invariants|Given|Goals|Reads|Layout|The\w+)(-|$)")
@@ -39,7 +42,7 @@ def function_of(name, crate):
 def main():
     crate, most = sys.argv[1], int(sys.argv[2]) if len(sys.argv) > 2 else 30
     sums = collections.defaultdict(collections.Counter)
-    for name, seconds in times(f"crates/{crate}/out/incremental"):
+    for name, seconds in times(ROOT / "crates" / crate / "out/incremental"):
         function, part = function_of(name, crate)
         sums[function][part] += seconds
     print(f"{sum(sum(row.values()) for row in sums.values()):.1f} seconds\n\n| Seconds | Lts | Proof | Function |\n|---|---|---|---|")

@@ -1,23 +1,38 @@
 #!/usr/bin/env python3
-"""Measures the gate: runs `rt ci` with the words of the command line, and tells at the end the processor minutes that each crate's
-proof, tests and must-fail edits took, as the table of docs/PROVING.md.
+"""Measures the gate: runs `rt ci` at the top of the repository, and tells at the end the processor minutes that each crate's proof, its
+tests and its must-fail edits took.
 
-    python3 bench/gate.py >gate.log 2>&1        the whole gate, from nothing
+    python3 bench/gate.py --anew --write docs/GATE.md >gate.log 2>&1
 
-A toolchain whose `rt ci` keeps what it proved before takes the word --anew for a run from nothing.
+Each word but --write and the file behind it goes to `rt ci`. A toolchain whose `rt ci` keeps what passed takes --anew, and then proves and
+tries everything from nothing; one that keeps nothing does so each time and takes no word. With --write the file gets a page with the
+table, where the gate passed and nothing of it was kept from an earlier run; otherwise it stays as it is. Run it on a machine that does
+nothing else: beside other work every figure is up to twice as large.
 
 The times are those of the prover's own processes, read five times a second from /proc. What the rest took (linking, and the tests and
 programs themselves) stands in a line of its own: it is the difference to what the system counted for all of them.
 """
+import argparse
 import os
+import pathlib
+import re
 import resource
 import subprocess
 import sys
 import threading
 import time
 
+ROOT = pathlib.Path(__file__).resolve().parent.parent
 KINDS = ("proof", "tests", "edits")
 TICKS = os.sysconf("SC_CLK_TCK")
+
+PAGE = """# What the gate takes
+
+Processor minutes of each crate from nothing: its proof, its tests, and its must-fail edits. "The gate" in `docs/PROVING.md` says what
+decides them, and how much they may be together. This page is written by
+
+    python3 bench/gate.py --anew --write docs/GATE.md
+"""
 
 
 def processes():
@@ -70,30 +85,80 @@ def watch(top, seen, ended):
                 seen[pid, began] = (work, used)
 
 
-def tell(seen, minutes, whole):
-    """Prints the table."""
+class Log:
+    """What the gate said of itself: how much passed and failed, its edits, and whether all of it was done in this run."""
+
+    def __init__(self):
+        self.passed, self.failed, self.refused, self.is_whole, self.crates = None, None, 0, True, set()
+
+    def take(self, line):
+        """Takes a line."""
+        edit = re.match(r"rt: must-fail (\w+)/\S+: refused", line)
+        ended = re.match(r"(\d+) passed, (\d+) failed(.*)", line)
+        if edit:
+            self.refused += 1
+            self.crates.add(edit[1])
+        elif ended:
+            self.passed, self.failed = int(ended[1]), int(ended[2])
+        if "not the gate" in line or re.search(r"\bearlier runs?\b", line):
+            self.is_whole = False
+
+
+def run(words, seen):
+    """Runs the gate, and gives its status and what it said, which is written as it comes."""
+    log, ended = Log(), threading.Event()
+    how = {"stdin": subprocess.DEVNULL, "stdout": subprocess.PIPE, "stderr": subprocess.STDOUT, "text": True, "errors": "replace"}
+    with subprocess.Popen(["rt", "ci", *words], cwd=ROOT, **how) as child:
+        watcher = threading.Thread(target=watch, args=(child.pid, seen, ended))
+        watcher.start()
+        for line in child.stdout:
+            print(line, end="", flush=True)
+            log.take(line)
+        status = child.wait()
+        ended.set()
+        watcher.join()
+    return status, log
+
+
+def table(seen, whole):
+    """The table of the crates, of which the dearest comes first. The whole is what the system counted, in minutes."""
     sums = {}
     for (crate, kind), used in seen.values():
         sums.setdefault(crate, dict.fromkeys(KINDS, 0.0))[kind] += used / 60
-    print("\n| Crate | Proof | Tests | Edits | Together |\n|---|---|---|---|---|")
+    lines = ["| Crate | Proof | Tests | Edits | Together |", "|---|---|---|---|---|"]
     for crate, row in sorted(sums.items(), key=lambda it: -sum(it[1].values())):
-        print(f"| `{crate}` | " + " | ".join(f"{row[kind]:.1f}" for kind in KINDS) + f" | {sum(row.values()):.1f} |")
+        lines.append(f"| `{crate}` | " + " | ".join(f"{row[kind]:.1f}" for kind in KINDS) + f" | {sum(row.values()):.1f} |")
     columns = [sum(row[kind] for row in sums.values()) for kind in KINDS]
-    print(f"| linking, and what the tests and programs took themselves | | | | {max(0.0, whole - sum(columns)):.1f} |")
-    print("| **together** | " + " | ".join(f"{it:.1f}" for it in columns) + f" | **{max(whole, sum(columns)):.1f}** |")
-    print(f"\nIn {minutes:.1f} minutes on {os.cpu_count()} processors.")
+    lines.append(f"| linking, and what the tests and programs took themselves | | | | {max(0.0, whole - sum(columns)):.1f} |")
+    lines.append("| **together** | " + " | ".join(f"{it:.1f}" for it in columns) + f" | **{max(whole, sum(columns)):.1f}** |")
+    return "\n".join(lines)
+
+
+def summary(log, minutes):
+    """What stands under the table."""
+    version = subprocess.run(["rt", "version"], stdout=subprocess.PIPE, text=True, check=False).stdout.strip()
+    counts = "it ended without its last line" if log.passed is None else f"{log.passed} passed, {log.failed} failed"
+    edits = f"{log.refused} must-fail edits in {len(log.crates)} crates were refused"
+    return f"In {minutes:.1f} minutes on {os.cpu_count()} processors, by `{version}`: {counts}. {edits}."
 
 
 def main():
-    began, seen, ended = time.monotonic(), {}, threading.Event()
-    child = subprocess.Popen(["rt", "ci", *sys.argv[1:]])
-    watcher = threading.Thread(target=watch, args=(child.pid, seen, ended))
-    watcher.start()
-    status = child.wait()
-    ended.set()
-    watcher.join()
-    used = resource.getrusage(resource.RUSAGE_CHILDREN)
-    tell(seen, (time.monotonic() - began) / 60, (used.ru_utime + used.ru_stime) / 60)
+    """Does what the words of the command line say."""
+    parser = argparse.ArgumentParser(description="Measures the gate.", allow_abbrev=False)
+    parser.add_argument("--write", metavar="FILE", type=lambda it: pathlib.Path(it).resolve())
+    words, for_gate = parser.parse_known_args()
+    began, seen = time.monotonic(), {}
+    status, log = run(for_gate, seen)
+    minutes, used = (time.monotonic() - began) / 60, resource.getrusage(resource.RUSAGE_CHILDREN)
+    told = table(seen, (used.ru_utime + used.ru_stime) / 60) + "\n\n" + summary(log, minutes)
+    print("\n" + told)
+    if words.write and status:
+        print(f"The gate didn't pass, so {words.write} stays as it is.")
+    elif words.write and not log.is_whole:
+        print(f"Not all of the gate was done in this run, so {words.write} stays as it is.")
+        return 1
+    elif words.write:
+        words.write.write_text(f"{PAGE}\n{told}\n", encoding="utf-8")
     return status
 
 

@@ -1,6 +1,12 @@
 #!/usr/bin/env python3
-"""Lists what the gate would refuse before any proof, in seconds: crates whose files aren't in the layout of `rt fmt`, and must-fail edits that
-can't be applied, since an old text doesn't stand exactly once in its file or since no file is there. Ends with status 1 where there is any.
+"""Lists in seconds what the gate would refuse before any proof, and what it shouldn't be given:
+
+- crates whose files aren't in the layout of `rt fmt`;
+- edits that can't be applied, since an old text doesn't stand exactly once in its file or since no file is there, both of those that
+  the gate tries and of those of bench/edits/;
+- more edits for the gate, or in more crates, than docs/PROVING.md grants it.
+
+Ends with status 1 where there is any.
 
     python3 bench/ready.py
 """
@@ -10,48 +16,39 @@ import subprocess
 import sys
 import tempfile
 
-ROOT = pathlib.Path(__file__).resolve().parent.parent
+from edits import ROOT, by_hand, crates, fault_of, of_gate
 
-
-def faults_of(edit):
-    """What keeps an edit from being applied."""
-    folder, texts, path, old, pairs = edit.parent.parent, {}, None, None, 0
-    for line in edit.read_text(encoding="utf-8").split("\n"):
-        if line.startswith("file: "):
-            path = line[len("file: "):].strip()
-            if not (folder / path).is_file():
-                return f"there is no file {path}"
-            texts.setdefault(path, (folder / path).read_text(encoding="utf-8"))
-        elif line.startswith("old: "):
-            old = line[len("old: "):]
-        elif line.startswith("new:"):
-            if path is None or old is None:
-                return "a new text stands before its file or its old text"
-            found = texts[path].count(old)
-            if found != 1:
-                return f"an old text stands {found} times in {path}"
-            texts[path] = texts[path].replace(old, line[len("new:"):].removeprefix(" "))
-            old, pairs = None, pairs + 1
-    return None if pairs else "it has no old and new text"
+# The gate tries at most so many edits, in at most so many crates.
+MOST_EDITS, MOST_CRATES = 40, 12
 
 
 def out_of_layout(crate, room):
     """The files of a crate that `rt fmt` changes, tried on a copy in a folder that has the repository's crates.txt."""
-    copied = room / "crates" / crate.name
-    shutil.copytree(crate, copied, ignore=shutil.ignore_patterns("out"))
+    copied = room / "crates" / crate
+    shutil.copytree(ROOT / "crates" / crate, copied, ignore=shutil.ignore_patterns("out"))
     ran = subprocess.run(["rt", "fmt"], cwd=copied, stdin=subprocess.DEVNULL, capture_output=True, text=True, errors="replace")
     said = [it.removeprefix("rt: formatted ") for it in (ran.stdout + ran.stderr).split("\n") if it.startswith("rt: formatted ")]
     return said or (["what rt fmt can't read"] if ran.returncode else [])
 
 
+def too_many():
+    """What the gate has too much of."""
+    counts = [len(of_gate(it)) for it in crates()]
+    found = [(sum(counts), MOST_EDITS, "must-fail edits"), (sum(map(bool, counts)), MOST_CRATES, "crates with must-fail edits")]
+    return [f"the gate has {much} {of}, and at most {most} are granted" for much, most, of in found if much > most]
+
+
 def main():
-    faults = []
+    """Looks at all of it."""
+    faults = too_many()
+    strangers = [it for it in sorted((ROOT / "bench/edits").iterdir()) if it.name not in crates()]
+    faults += [f"{it.relative_to(ROOT)}: there is no such crate" for it in strangers]
     with tempfile.TemporaryDirectory() as room:
         room = pathlib.Path(room)
         shutil.copy(ROOT / "crates.txt", room)
-        for crate in sorted(it for it in (ROOT / "crates").iterdir() if it.is_dir()):
-            faults += [f"{crate.name}/{it} isn't in the layout" for it in out_of_layout(crate, room)]
-            faults += [f"{crate.name}/{it.name}: {why}" for it in sorted(crate.glob("must-fail/*.edit")) for why in [faults_of(it)] if why]
+        for crate in crates():
+            faults += [f"{crate}/{it} isn't in the layout" for it in out_of_layout(crate, room)]
+            faults += [f"{it.relative_to(ROOT)}: {why}" for it in of_gate(crate) + by_hand(crate) for why in [fault_of(it)] if why]
     print(*faults, f"{len(faults)} found", sep="\n")
     return 1 if faults else 0
 
