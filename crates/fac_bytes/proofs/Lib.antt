@@ -5,6 +5,7 @@ pub mod ImageLaws
 pub mod SameImages
 pub mod FitLaws
 pub mod Written
+pub mod Counted
 pub mod PlainLaws
 pub mod DecodingLaws
 pub mod MethodLoops

@@ -3,8 +3,9 @@ ghost use Rattle.std.specs.Prelude.{◌≡◌, ◌++◌, IfOk, MatchBool, OnOk};
 ghost use Rattle.fac_spelling.specs.Lists.{counted};
 ghost use Rattle.fac_bytes.specs.InstructionBytes.{instr};
 ghost use Rattle.fac_bytes.specs.ImageBytes.{image as image_format, parts_of};
-ghost use Rattle.fac_bytes.specs.Answers.{Encodes};
+ghost use Rattle.fac_bytes.specs.Answers.{Encodes, Measures};
 
+use crate::counting::length_of;
 use crate::part::{list_has_spelling, write_list};
 use crate::parts::FIRST_BYTES;
 use crate::tables::{tables_have_spelling, write_tables};
@@ -68,4 +69,16 @@ pub fn encode(alloc: Global, image: &Image) -> Result<Bytes, EncodeFault>
     let mut bytes = Bytes::new(alloc);
     write(image, &mut bytes)?;
     Ok(bytes)
+}
+
+/// How many bytes `encode` would answer, which aren't made: the memory that this takes is that of the largest part of the image, as a text or
+/// an instruction.
+pub fn spelled_length(alloc: Global, image: &Image) -> Result<u64, EncodeFault>
+    ensures { Measures image.now result }
+{
+    if !has_spelling(alloc, image)? {
+        return Err(EncodeFault::NoSpelling);
+    }
+    let length = length_of(alloc, image)?;
+    Ok(length)
 }

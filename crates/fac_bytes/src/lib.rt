@@ -1,6 +1,7 @@
 //! Images as bytes: each image has one spelling, and bytes that are none's are refused at the exact place.
 #![tactic(auto)]
 
+mod counting;
 mod decoding;
 mod encoding;
 mod generics;
@@ -15,7 +16,7 @@ mod rows;
 mod tables;
 
 pub use decoding::{DecodeFault, decode};
-pub use encoding::{EncodeFault, encode};
+pub use encoding::{EncodeFault, encode, spelled_length};
 pub use laws::{
     encoded_is_decoded, fronts_are_broken, images_are_exact, one_image, one_place,
     spelled_or_broken,

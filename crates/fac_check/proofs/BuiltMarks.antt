@@ -1,4 +1,4 @@
--- No mark stands in the phrases of built programs as they run.
+-- No mark stands in the phrases of whole programs as they run.
 use Rattle.std.proofs.Common.{◌≡◌, ℕ, refl}
 use Rattle.std.specs.Prelude.{max}
 use Rattle.fac_lang.specs.declared.program.Program.{Program}

@@ -71,24 +71,24 @@ abbrev pub VerdictsSo : Closed → List Verdict → ℕ → Type 0
 VerdictsSo closed vs n = OfEach closed (λ P. map verdict_seen vs ++ verdicts_from P closed.start n (drop n P.words) ≡ all_verdicts P closed.start)
 
 pub verdicts_next : (closed : Closed) (vs : List Verdict) (v : Verdict) (n : ℕ) → n < length closed.program.words → IsVerdict closed n v → VerdictsSo closed vs n → VerdictsSo closed (vs ++ v ∷ []) (n + 1)
-verdicts_next closed vs v n l is so = λ P closes built.
+verdicts_next closed vs v n l is so = λ P closes whole.
     let count : length closed.program.words ≡ length P.words = words_closed_count P closed.program closed.templates closes in
     let word = there P.words n (omega (arith, l, count)) in
     let next : drop n P.words ≡ word.0 ∷ drop (n + 1) P.words = rw add-one (dropped P.words n word.0 word.1) in
     one_more vs v (verdicts_from P closed.start (n + 1) (drop (n + 1) P.words))
-    ∙ ap (λ x. map verdict_seen vs ++ x ∷ verdicts_from P closed.start (n + 1) (drop (n + 1) P.words)) (is P closes built word.0 word.1)
+    ∙ ap (λ x. map verdict_seen vs ++ x ∷ verdicts_from P closed.start (n + 1) (drop (n + 1) P.words)) (is P closes whole word.0 word.1)
     ∙ step P word.0 next
-    ∙ so P closes built
+    ∙ so P closes whole
   where
     step : (P : Program) (d : WordDef) → drop n P.words ≡ d ∷ drop (n + 1) P.words → map verdict_seen vs ++ numbered n (word_verdict P closed.start n d) ∷ verdicts_from P closed.start (n + 1) (drop (n + 1) P.words) ≡ map verdict_seen vs ++ verdicts_from P closed.start n (drop n P.words)
     step P d e = (let s : n + 1 ≡ suc n = omega arith in ap (λ m. map verdict_seen vs ++ numbered n (word_verdict P closed.start n d) ∷ verdicts_from P closed.start m (drop (n + 1) P.words)) s ∙ ap (λ ds. map verdict_seen vs ++ verdicts_from P closed.start n ds) (sym e))
 
 pub verdicts_done : (closed : Closed) (vs : List Verdict) (n : ℕ) → length closed.program.words ≤ n → VerdictsSo closed vs n → AreVerdicts closed vs
-verdicts_done closed vs n l so = λ P closes built.
+verdicts_done closed vs n l so = λ P closes whole.
     let count : length closed.program.words ≡ length P.words = words_closed_count P closed.program closed.templates closes in
     let none : drop n P.words ≡ [] = all_dropped P.words n (omega (arith, l, count)) in
-    sym (no_more (map verdict_seen vs)) ∙ ap (λ ds. map verdict_seen vs ++ verdicts_from P closed.start n ds) (sym none) ∙ so P closes built
+    sym (no_more (map verdict_seen vs)) ∙ ap (λ ds. map verdict_seen vs ++ verdicts_from P closed.start n ds) (sym none) ∙ so P closes whole
 
 -- what the first refusal says of the program
 pub judged_by : (closed : Closed) (vs : List Verdict) (found : Option Numbered) → AreVerdicts closed vs → found ≡ first_of (map verdict_seen vs) → OfEach closed (λ P. verdict P closed.start ≡ found)
-judged_by closed vs found are e = λ P closes built. sym (verdict_first P closed.start) ∙ ap first_of (sym (are P closes built)) ∙ sym e
+judged_by closed vs found are e = λ P closes whole. sym (verdict_first P closed.start) ∙ ap first_of (sym (are P closes whole)) ∙ sym e

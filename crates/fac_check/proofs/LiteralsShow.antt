@@ -1,4 +1,4 @@
--- Each literal of a built program shows the cells under which it begins.
+-- Each literal of a whole program shows the cells under which it begins.
 use Rattle.std.proofs.Common.{◌≡◌, ℕ, zero, suc, List, [], ◌∷◌, ◌++◌, length, map, Bool, true, ◌&&◌, Option, Some, None, refl, sym, ap, ◌∙◌}
 use Rattle.std.proofs.lemmas.List.Folds.{list_all-append}
 use Rattle.std.specs.Prelude.{slice_get, ◌||◌}
@@ -12,9 +12,9 @@ use Rattle.fac_lang.specs.declared.program.Sort.{Sort}
 use Rattle.fac_lang.specs.declared.program.Sort.TheVariants.{Body as body, Past as past, Method as method}
 use Rattle.fac_lang.specs.Phrases.{Literal, Phrase, end, then, Item, lit_arr, quot, fry}
 use Rattle.fac_lang.specs.Substitution.{of_method, of_method_item}
-use Rattle.fac_lang.specs.Forms.{IsBuilt, has_hole, item_has_hole, has_holes, has_its_holes}
+use Rattle.fac_lang.proofs.SourcePrograms.{source_of_whole}
 use Rattle.fac_lang.specs.Meaning.{of_method_if, array_method, nowhere}
-use Rattle.fac_lang.specs.Whole.{each_item, each_inner, word_phrases, quotations, joined}
+use Rattle.fac_lang.specs.Whole.{IsWhole, each_item, each_inner, has_hole, item_has_hole, has_holes, has_its_holes, word_phrases, quotations, joined}
 use Rattle.fac_captures.specs.declared.cell.Cell.{Cell}
 use Rattle.fac_captures.specs.Cells.{cells_behind, inner_cells}
 use Rattle.fac_locals.specs.Literals.{Quoted, quoted_phrase, behind, first_of_word, first_of_literal, first_in_array, elements_phrase, array_or_none, array_phrase, literals_in, literals_at, array_literals, sort_literals, word_literals, literals, literal_or, literal_numbered}
@@ -130,9 +130,9 @@ module _ (arrays : ℕ → Literal → List Quoted) (arrays_show : (a : ℕ) (at
     item_literals cells at (lit_arr a) h = arrays_show a at
     item_literals cells at _ h = tt
 
-module _ (P : Program) (b : IsBuilt P) where
+module _ (P : Program) (whole : IsWhole P) where
   split_phrases : (list_all (each_item has_its_holes) (word_phrases P.words) && list_all (each_item has_its_holes) (joined (map quotations P.arrays))) ≡ true
-  split_phrases = sym (list_all-append (each_item has_its_holes) (word_phrases P.words) (joined (map quotations P.arrays))) ∙ b.holes_stand
+  split_phrases = sym (list_all-append (each_item has_its_holes) (word_phrases P.words) (joined (map quotations P.arrays))) ∙ whole.holes_stand
 
   words_pass : list_all (each_item has_its_holes) (word_phrases P.words) ≡ true
   words_pass = and_first (list_all (each_item has_its_holes) (word_phrases P.words)) (list_all (each_item has_its_holes) (joined (map quotations P.arrays))) split_phrases
@@ -165,5 +165,5 @@ module _ (P : Program) (b : IsBuilt P) where
   pub literal_shows : (k : ℕ) → Shows (literal_numbered P k)
   literal_shows k = literal_shows_at k k (literals P) (word_literals_show 0 P.words words_pass)
 
-pub shows_cells : (P : Program) → IsBuilt P → ShowsCells P
-shows_cells P b = shows_by P b (λ k. literal_shows P b k)
+pub shows_cells : (P : Program) → IsWhole P → ShowsCells P
+shows_cells P whole = shows_by P (source_of_whole P whole) (λ k. literal_shows P whole k)

@@ -82,7 +82,7 @@ abbrev pub carried : {A B : Subject} → B ≡ A → Opened A.closed.now.program
 carried e O = record {
   program = O.program;
   closes = subst (λ (c : Subject). Closes O.program c.closed.now.program c.closed.now.templates) (sym e) O.closes;
-  built = O.built;
+  whole = O.whole;
   naming = O.naming;
   literal_is = subst (λ (c : Subject). (k : ℕ) → k < length c.closed.now.templates → O.naming.literal k ≡ (literal_numbered O.program k).at) (sym e) O.literal_is;
   template_is = subst (λ (c : Subject). (k : ℕ) (t : Template) → slice_get c.closed.now.templates k ≡ Some t → NamesTemplate O.program O.naming k k t) (sym e) O.template_is;

@@ -4,7 +4,7 @@ use Rattle.std.specs.List.{list_any}
 use Rattle.std.proofs.lemmas.Bool.{eqb-true}
 use Rattle.std.proofs.lemmas.List.Folds.{list_any-append}
 use Rattle.fac_lang.specs.Phrases.{Phrase, end, Item, quot, fry}
-use Rattle.fac_lang.specs.Forms.{has_hole, has_holes}
+use Rattle.fac_lang.specs.Whole.{has_hole, has_holes}
 use Rattle.fac_captures.specs.declared.cell.Cell.{Cell}
 use Rattle.fac_captures.specs.declared.cell.Cell.TheVariants.{Local, Hole}
 use Rattle.fac_captures.specs.Cells.{same_cell, number_from, asks, item_asks, keeps_cell, kept_cells, hole_cells, inner_cells}

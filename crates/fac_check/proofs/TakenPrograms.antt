@@ -1,8 +1,9 @@
--- The walk takes each closed program that stands for a built and whole one.
-use Rattle.std.proofs.Common.{◌≡◌, ◌<◌, ◌≤◌, ℕ, zero, suc, List, [], ◌∷◌, ◌++◌, drop, length, Bool, true, Some, None, refl, sym, ap, subst, arith}
+-- The walk takes each closed program that stands for a whole one.
+use Rattle.std.proofs.Common.{◌≡◌, ◌<◌, ◌≤◌, ℕ, zero, suc, List, [], ◌∷◌, ◌++◌, drop, length, Bool, true, false, Option, Some, None, refl, sym, ap, ◌∙◌, subst, arith}
 use Rattle.std.specs.Prelude.{◌&&◌, nat_lt, nat_le, slice_get}
 use Rattle.std.specs.List.{list_all}
 use Rattle.std.proofs.lemmas.Bool.{leb-true, le-leb}
+use Rattle.std.proofs.lemmas.List.Folds.{list_all-append}
 use Rattle.fac_lang.specs.declared.phrase.Item.{Item as PlacedItem}
 use Rattle.fac_lang.specs.declared.phrase.Template.{Template}
 use Rattle.fac_lang.specs.declared.program.Program.{Program}
@@ -16,7 +17,7 @@ use Rattle.fac_lang.specs.Effects.{effect_height, inputs_count}
 use Rattle.fac_lang.specs.Primitives.{built_count}
 use Rattle.fac_lang.specs.CoreWords.{is_built_core}
 use Rattle.fac_lang.specs.Substitution.{of_method}
-use Rattle.fac_lang.specs.Forms.{IsBuilt}
+use Rattle.fac_lang.proofs.SourcePrograms.{IsSourceProgram, source_of_whole}
 use Rattle.fac_lang.specs.Whole.{IsWhole, name_count, inputs_name_count}
 use Rattle.fac_captures.specs.declared.cell.Cell.{Cell}
 use Rattle.fac_captures.specs.Cells.{cells_behind, inner_cells}
@@ -26,7 +27,7 @@ use Rattle.fac_locals.proofs.RunningPhrases.{IsRun, IsRunItem, RunsAs, word_runs
 use Rattle.fac_locals.specs.Literals.{Quoted, quoted_phrase, literal_numbered, first_of_literal, first_of_word, behind}
 use Rattle.fac_abs.proofs.EqualMarks.{and_first, and_second}
 use Rattle.fac_abs.proofs.SeenLemmas.{both, is_below, below_is}
-use Rattle.fac_check.specs.inner.UndeclaredRecursion.{named_word, made_template}
+use Rattle.fac_check.specs.inner.UndeclaredRecursion.{named_word, made_template, one_if, number_from, are_below, are_from, item_makes, phrase_makes, template_makes, level_makes}
 use Rattle.fac_check.specs.inner.Taken.{takes_item, takes_phrase, takes_template, takes_sort, takes_word, takes_all}
 use Rattle.fac_check.proofs.BuiltWords.{HasBuiltNumber, built_number}
 use Rattle.fac_check.proofs.LiteralNumbers.{template_of_words, made_there}
@@ -99,7 +100,7 @@ one_longer (w ∷ ws) d = ap suc (one_longer ws d)
 longer : (ws : List WordDef) (d : WordDef) → nat_lt (length ws) (length (ws ++ d ∷ [])) ≡ true
 longer ws d = (let e = one_longer ws d in below_is (length ws) (length (ws ++ d ∷ [])) (omega (arith, e)))
 
-module _ (P C : Program) (templates : List Template) (closes : Closes P C templates) (built : IsBuilt P) (whole : IsWhole P) where
+module _ (P C : Program) (templates : List Template) (closes : Closes P C templates) (built : IsSourceProgram P) (whole : IsWhole P) where
   numbered : (cells : List Cell) (at : Literal) (i : Item) (k : ℕ) → at.word < length P.words → IsMadeBy P cells at i k → nat_lt k (length templates) ≡ true
   numbered = made_there P C templates closes
 
@@ -107,7 +108,7 @@ module _ (P C : Program) (templates : List Template) (closes : Closes P C templa
   taken_word w c e =
       let there = word_open P C templates closes w c e in
       let d = there.def in
-      both (takes_sort P.top (length templates) c.sort) (nat_le (effect_height c.effect).ins 65) (taken_sort P (length templates) numbered w d.sort c.sort (number_below P.words w d there.at) there.closes.sort (word_runs P built w d there.at) (built_number P built w d there.at)) (subst (λ x. nat_le (effect_height x).ins 65 ≡ true) (sym there.closes.effect) (few_inputs d.effect (one_there (λ x. nat_le (name_count x.effect) 65) P.words w d whole.few_names there.at)))
+      both (takes_sort P.top (length templates) c.sort) (nat_le (effect_height c.effect).ins 65) (taken_sort P (length templates) numbered w d.sort c.sort (number_below P.words w d there.at) there.closes.sort (word_runs P built w d there.at) (built_number P whole w d there.at)) (subst (λ x. nat_le (effect_height x).ins 65 ≡ true) (sym there.closes.effect) (few_inputs d.effect (one_there (λ x. nat_le (name_count x.effect) 65) P.words w d whole.few_names there.at)))
 
   taken_template : (k : ℕ) (t : Template) → slice_get templates k ≡ Some t → takes_template P.top (length templates) t ≡ true
   taken_template k t e = let l : Quoted = literal_numbered P k in taken_phrase P (length templates) numbered (inner_cells l.cells l.item) (first_of_literal l.at) (quoted_phrase l) t.body (template_of_words P C templates closes k t e) (template_closed P C templates closes k t e).body (literal_runs P built k)
@@ -115,11 +116,14 @@ module _ (P C : Program) (templates : List Template) (closes : Closes P C templa
   top_there : nat_lt C.top (length C.words) ≡ true
   top_there = rw (closes.top, built.top_is, words_closed_count P C templates closes, built.words_are) (longer built.words built.last_word)
 
-  pub taken_program : takes_all C templates ≡ true
-  taken_program =
+  all_taken : takes_all C templates ≡ true
+  all_taken =
       both _ _ top_there
       (subst (λ top. (list_all (takes_word top (length templates)) C.words && list_all (takes_template top (length templates)) templates) ≡ true) (sym closes.top)
       (both _ _ (all_there (takes_word P.top (length templates)) C.words taken_word) (all_there (takes_template P.top (length templates)) templates taken_template)))
+
+pub taken_program : (P C : Program) (templates : List Template) → Closes P C templates → IsWhole P → takes_all C templates ≡ true
+taken_program P C templates closes whole = all_taken P C templates closes (source_of_whole P whole) whole
 
 -- what the test of a whole program says of its parts
 module _ (C : Program) (templates : List Template) (taken : takes_all C templates ≡ true) where
@@ -215,3 +219,86 @@ first_taken top count i is h = and_first _ _ h
 
 pub others_taken : (top count : ℕ) (i : PlacedItem) (is : List PlacedItem) → takes_phrase top count (items_phrase (i ∷ is)) ≡ true → takes_phrase top count (items_phrase is) ≡ true
 others_taken top count i is h = and_second (takes_item top count (what_item i.what)) _ h
+
+-- the templates that a phrase makes have numbers in the range
+makes_below : (top count from : ℕ) (t : Phrase) → takes_phrase top count t ≡ true → are_below count (phrase_makes from t) ≡ true
+makes_below top count from end h = refl
+makes_below top count from (then i p t) h =
+    list_all-append (λ k. nat_lt k count) (item_makes from i) (phrase_makes from t) ∙ both _ _ (item_below i (and_first _ _ h)) (makes_below top count from t (and_second (takes_item top count i) _ h))
+  where
+    one_below : (b : Bool) (k : ℕ) → nat_lt k count ≡ true → are_below count (one_if b k) ≡ true
+    one_below true k l = both _ _ l refl
+    one_below false k l = refl
+
+    item_below : (i : Item) → takes_item top count i ≡ true → are_below count (item_makes from i) ≡ true
+    item_below (made k) l = one_below (nat_le from k) k l
+    item_below (word w) l = refl
+    item_below (lit p) l = refl
+    item_below (quot t) l = refl
+    item_below (lit_arr a) l = refl
+    item_below (bind x) l = refl
+    item_below (local x) l = refl
+    item_below (fry t n) l = refl
+    item_below (hole n) l = refl
+    item_below (call_eff g) l = refl
+    item_below (exec_eff g) l = refl
+    item_below next_method l = refl
+    item_below (next_after m) l = refl
+    item_below (held v) l = refl
+    item_below (known m) l = refl
+
+pub phrase_makes_below : (top count : ℕ) (phrase : Phrase) (deeper : List ℕ) → takes_phrase top count phrase ≡ true → deeper ≡ phrase_makes 0 phrase → are_below count deeper ≡ true
+phrase_makes_below top count phrase deeper h is = rw is (makes_below top count 0 phrase h)
+
+pub level_makes_below : (C : Program) (templates : List Template) → takes_all C templates ≡ true → (from : ℕ) (level deeper : List ℕ) → deeper ≡ level_makes from templates level → are_below (length templates) deeper ≡ true
+level_makes_below C templates taken from level deeper is = rw is (below level)
+  where
+    of_template : (k : ℕ) (o : Option Template) → slice_get templates k ≡ o → are_below (length templates) (template_makes from o) ≡ true
+    of_template k None e = refl
+    of_template k (Some t) e = makes_below C.top (length templates) from t.body (template_taken C templates taken k t e)
+
+    below : (ks : List ℕ) → are_below (length templates) (level_makes from templates ks) ≡ true
+    below [] = refl
+    below (k ∷ ks) = list_all-append (λ j. nat_lt j (length templates)) (template_makes from (slice_get templates k)) (level_makes from templates ks) ∙ both _ _ (of_template k (slice_get templates k) refl) (below ks)
+
+-- and none that was left out
+pub level_makes_from : (templates : List Template) (from : ℕ) (level deeper : List ℕ) → deeper ≡ level_makes from templates level → are_from from deeper ≡ true
+level_makes_from templates from level deeper is = rw is (of_level level)
+  where
+    one_from : (b : Bool) (k : ℕ) → nat_le from k ≡ b → are_from from (one_if b k) ≡ true
+    one_from true k l = both _ _ l refl
+    one_from false k l = refl
+
+    of_number : (o : Option ℕ) → are_from from (number_from from o) ≡ true
+    of_number None = refl
+    of_number (Some k) = one_from (nat_le from k) k refl
+
+    of_phrase : (t : Phrase) → are_from from (phrase_makes from t) ≡ true
+    of_phrase end = refl
+    of_phrase (then i p t) = list_all-append (λ j. nat_le from j) (item_makes from i) (phrase_makes from t) ∙ both _ _ (of_number (made_template i)) (of_phrase t)
+
+    of_template : (o : Option Template) → are_from from (template_makes from o) ≡ true
+    of_template None = refl
+    of_template (Some t) = of_phrase t.body
+
+    of_level : (ks : List ℕ) → are_from from (level_makes from templates ks) ≡ true
+    of_level [] = refl
+    of_level (k ∷ ks) = list_all-append (λ j. nat_le from j) (template_makes from (slice_get templates k)) (level_makes from templates ks) ∙ both _ _ (of_template (slice_get templates k)) (of_level ks)
+
+-- a level has fewer templates around it than there are
+pub level_within : (count depth : ℕ) (level : List ℕ) → 0 < length level → are_below count level ≡ true → are_from depth level ≡ true → depth < count
+level_within count depth [] l below least = absurd (omega (arith, l))
+level_within count depth (k ∷ ks) l below least =
+    let low = leb-true depth k (and_first _ _ least) in
+    let high = is_below k count (and_first _ _ below) in
+    omega (arith, low, high)
+
+pub all_from : (ks : List ℕ) → are_from 0 ks ≡ true
+all_from [] = refl
+all_from (k ∷ ks) = both _ _ (le-leb 0 k (omega arith)) (all_from ks)
+
+pub first_below : (count k : ℕ) (ks : List ℕ) → are_below count (k ∷ ks) ≡ true → k < count
+first_below count k ks h = is_below k count (and_first _ _ h)
+
+pub others_below : (count k : ℕ) (ks : List ℕ) → are_below count (k ∷ ks) ≡ true → are_below count ks ≡ true
+others_below count k ks h = and_second (nat_lt k count) _ h

@@ -6,7 +6,8 @@ use Rattle.fac_lang.specs.declared.phrase.Height.{Height}
 use Rattle.fac_lang.specs.declared.phrase.Place.{Place}
 use Rattle.fac_lang.specs.declared.phrase.Template.{Template}
 use Rattle.fac_lang.specs.declared.program.Program.{Program}
-use Rattle.fac_lang.specs.Forms.{IsBuilt}
+use Rattle.fac_lang.proofs.SourcePrograms.{source_of_whole}
+use Rattle.fac_lang.specs.Whole.{IsWhole}
 use Rattle.fac_lang.specs.Phrases.{Literal, Phrase, end, then, Item, lit, lit_arr, quot, word, bind, local, fry, hole, call_eff, exec_eff, next_method, made, next_after, held, known, Value, Mark, any}
 use Rattle.fac_captures.specs.declared.cell.Cell.{Cell}
 use Rattle.fac_captures.specs.declared.cell.Cell.TheVariants.{Local, Hole}
@@ -105,13 +106,13 @@ items_unknown : (n : ℕ) (vs : List Value) → length vs ≡ n → unknown_item
 items_unknown n vs e = all_unknown vs ∙ ap (λ (k : ℕ). map known (unknowns k [])) e ∙ ap (map known) (sym (piled_unknowns n []))
 
 -- a template's phrase whose values are forgotten
-module _ (P : Program) (built : IsBuilt P) where
+module _ (P : Program) (whole : IsWhole P) where
   phrase_forgotten : (q n : ℕ) (vs : List Value) → length vs ≡ n → template_phrase P q (items_of (unknowns n [])) ≡ forgotten (template_phrase P q (map held vs))
   phrase_forgotten q n vs e =
       let l : Quoted = literal_numbered P q in
       let cells = inner_cells l.cells l.item in
       ap (template_phrase P q) (sym (items_unknown n vs e))
-      ∙ sym (filled_forgotten P (item_for cells (map held vs)) (item_for cells (unknown_items vs)) (inner_phrase l.item) (literal_runs P built q) (λ c. found_forgotten (cell_item c) (cell_forgotten c) vs (cell_number cells c)))
+      ∙ sym (filled_forgotten P (item_for cells (map held vs)) (item_for cells (unknown_items vs)) (inner_phrase l.item) (literal_runs P (source_of_whole P whole) q) (λ c. found_forgotten (cell_item c) (cell_forgotten c) vs (cell_number cells c)))
 
 itself : (n : ℕ) → nat_eq n n ≡ true
 itself n = grind arith
@@ -128,22 +129,22 @@ abbrev pub WalksAlone : Program → List Template → Option ℕ → ℕ → Phr
 WalksAlone C templates own inner body M K frame s W =
     (O : Opened C templates own inner) (at here : Literal) (t : Phrase) (f : ℕ) → StandsAt O.program inner O.first true at here → Opens O.program templates (items_of (frame_of O.naming M frame)) at body t → 200000 < f → walked_seen O.naming K W ≡ go_at O f here 64 t None (stack_of O.naming M s) 200000
 
-module _ (P C : Program) (templates : List Template) (closes : Closes P C templates) (built : IsBuilt P) (q : ℕ) (names : NamesLiterals P templates (suc q) (first_of_literal (literal_numbered P q).at)) where
+module _ (P C : Program) (templates : List Template) (closes : Closes P C templates) (whole : IsWhole P) (q : ℕ) (names : NamesLiterals P templates (suc q) (first_of_literal (literal_numbered P q).at)) where
   pub alone_is :
       (t : Template) (M K : MarksSeen) (frame s n i inner : ℕ) (W : Walked) (height : Option Height) (vs : List Value) → slice_get templates q ≡ Some t → length vs ≡ length t.captures + t.holes → n ≡ length t.captures + t.holes → inner ≡ suc q →
       WalksAlone C templates None inner t.body M K frame s W → ((N : Naming) → frame_of N M frame ≡ unknowns n []) → ((N : Naming) → stack_of N M s ≡ unknowns i []) → ((N : Naming) → height ≡ found_height i (walked_seen N K W)) →
       height ≡ found_height i (walked_alone P i (forgotten (template_phrase P q (map held vs))))
   alone_is t M K frame s n i inner W height vs there many count next walks cells stack found =
       let first = first_of_literal (literal_numbered P q).at in
-      let O = opened P C templates None (suc q) first closes built names in
+      let O = opened P C templates None (suc q) first closes whole names in
       let N = O.naming in
       let fs = frame_of N M frame in
-      let whole = subst (λ (k : ℕ). WalksAlone C templates None k t.body M K frame s W) next walks in
+      let walks_whole = subst (λ (k : ℕ). WalksAlone C templates None k t.body M K frame s W) next walks in
       let start = first_of_word (length P.words) in
       let phrase = template_phrase P q (items_of fs) in
       let as_many : length (items_of fs) ≡ length t.captures + t.holes = items_length fs ∙ ap length (cells N) ∙ many_unknown n ∙ count in
       let opens = O.opens.bodies q t (items_of fs) there (known_put (piled fs [])) as_many in
       found N
-      ∙ ap (found_height i) (whole O first start phrase most_steps ((λ k e. let more = literal_behind P k q e in omega (arith, more)), starts_nowhere P first) opens (omega arith)
+      ∙ ap (found_height i) (walks_whole O first start phrase most_steps ((λ k e. let more = literal_behind P k q e in omega (arith, more)), starts_nowhere P first) opens (omega arith)
       ∙ ap (λ (ms : List Mark). go_at O most_steps start 64 phrase None ms 200000) (stack N)
-      ∙ ap (λ (u : Phrase). go_at O most_steps start 64 u None (unknowns i []) 200000) (ap (λ (xs : List Mark). template_phrase P q (items_of xs)) (cells N) ∙ phrase_forgotten P built q n vs (many ∙ sym count)))
+      ∙ ap (λ (u : Phrase). go_at O most_steps start 64 u None (unknowns i []) 200000) (ap (λ (xs : List Mark). template_phrase P q (items_of xs)) (cells N) ∙ phrase_forgotten P whole q n vs (many ∙ sym count)))

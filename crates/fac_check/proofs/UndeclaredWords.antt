@@ -12,7 +12,7 @@ use Rattle.fac_lang.specs.declared.program.WordDef.{WordDef}
 use Rattle.fac_lang.specs.declared.program.Sort.{Sort}
 use Rattle.fac_lang.specs.declared.program.Sort.TheVariants.{Prim as prim, Core as core, Body as body, Past as past, Itself as itself, Class as class, Isa as isa, Getter as getter, Setter as setter, Putter as putter, Generic as generic, Method as method}
 use Rattle.fac_check.specs.Verdicts.{more_of, inline_body, inline_words, item_words, body_words, named_by, led_to, without, leads_back, undeclared}
-use Rattle.fac_check.specs.inner.UndeclaredRecursion.{one_if, inline_phrase, inline_word, phrase_edges, inline_edges, sort_edges, word_edges, edges_from, AreEdges}
+use Rattle.fac_check.specs.inner.UndeclaredRecursion.{one_if, inline_phrase, inline_word, phrase_edges, inline_edges, sort_edges, word_edges, edges_from, SameNumbers, SameEdges, AreEdges}
 use Rattle.fac_check.specs.Judged.{undeclared_from, AreUndeclared}
 use Rattle.fac_check.proofs.NamedWords.{inline_same}
 
@@ -289,8 +289,36 @@ module _ (P : Program) where
   flags_from w (d ∷ ds) (b ∷ flags) e all =
       ap (λ (c : Bool). c ∷ flags) (all 0 w b d (omega arith) refl refl) ∙ ap (λ (fs : List Bool). undeclared P w d ∷ fs) (flags_from (suc w) ds flags (omega (arith, e)) (λ k u c x is at found. all (suc k) u c x (omega (arith, is)) at found))
 
+edges_as_many : (es fs : List (List ℕ)) → SameEdges es fs → length es ≡ length fs
+edges_as_many [] [] h = refl
+edges_as_many [] (ws ∷ fs) h = absurd h
+edges_as_many (vs ∷ es) [] h = absurd h
+edges_as_many (vs ∷ es) (ws ∷ fs) h = ap suc (edges_as_many es fs h.1)
+
+same_successors : (es fs : List (List ℕ)) → SameEdges es fs → (u : ℕ) → SameNumbers (successors es u) (successors fs u)
+same_successors [] [] h u v = refl
+same_successors [] (ws ∷ fs) h u v = absurd h
+same_successors (vs ∷ es) [] h u v = absurd h
+same_successors (vs ∷ es) (ws ∷ fs) h zero v = h.0 v
+same_successors (vs ∷ es) (ws ∷ fs) h (suc u) v = same_successors es fs h.1 u v
+
+module _ (es fs : List (List ℕ)) (same : (u v : ℕ) → IsOneOf v (successors es u) → IsOneOf v (successors fs u)) (u : ℕ) where
+  same_paths : (v : ℕ) → LeadsTo es u v → LeadsTo fs u v
+  same_paths v (by_edge e) = by_edge (same u v e)
+  same_paths v (and_edge w p e) = and_edge w (same_paths w p) (same w v e)
+
+-- what leads back by the same numbers
+same_back : (es fs : List (List ℕ)) (flags : List Bool) → SameEdges es fs → AreLeadingBack es flags → AreLeadingBack fs flags
+same_back es fs flags h decides = record {
+  same_length = decides.same_length ∙ edges_as_many es fs h;
+  each = λ u b at. (let tells = decides.each u b at in (
+    (λ e. same_paths es fs (λ x v f. sym (same_successors es fs h x v) ∙ f) u u (tells.0 e)),
+    (λ p. tells.1 (same_paths fs es (λ x v f. same_successors es fs h x v ∙ f) u u p)),
+  ));
+}
+
 -- the flags of all words
 pub flags_are : (C : Program) (ts : List Template) (edges : List (List ℕ)) (flags : List Bool) → AreEdges C ts edges → AreLeadingBack edges flags → AreUndeclared C ts flags
 flags_are C ts edges flags are decides = λ P h. (
-    let all = subst (λ (es : List (List ℕ)). AreLeadingBack es flags) (are P h) decides in flags_from P 0 P.words flags (all.same_length ∙ edges_count P 0 P.words) (λ k u b d is at found. let here : k ≡ u = omega (arith, is) in decides_word P u d b (ap (slice_get P.words) (sym here) ∙ found) (all.each u b (ap (slice_get flags) (sym here) ∙ at)))
+    let all = same_back edges (edges_from P 0 P.words) flags (are P h) decides in flags_from P 0 P.words flags (all.same_length ∙ edges_count P 0 P.words) (λ k u b d is at found. let here : k ≡ u = omega (arith, is) in decides_word P u d b (ap (slice_get P.words) (sym here) ∙ found) (all.each u b (ap (slice_get flags) (sym here) ∙ at)))
     )

@@ -13,7 +13,7 @@ use Rattle.fac_lang.specs.Meaning.{nowhere}
 use Rattle.fac_lang.specs.Signatures.{Signature, signature}
 use Rattle.fac_lang.specs.Effects.{effect_height, inputs_count}
 use Rattle.fac_lang.specs.Substitution.{of_method}
-use Rattle.fac_lang.specs.Forms.{IsBuilt}
+use Rattle.fac_lang.specs.Whole.{IsWhole}
 use Rattle.fac_locals.specs.Literals.{first_of_word, literal_numbered}
 use Rattle.fac_locals.specs.Closed.{Closes, ClosesSort, ClosesWord}
 use Rattle.fac_locals.specs.Frames.{Opens}
@@ -51,12 +51,12 @@ pub record NamesLiterals (P : Program) (templates : List Template) (inner : ℕ)
   pub template_apart_is : (k : ℕ) (t : Template) → inner ≤ k → slice_get templates k ≡ Some t → NamesTemplate P naming (length templates + k) k t
   pub none_is : (n : ℕ) → length templates ≤ n → n < length templates + inner → (ms : List Mark) → (rest : Phrase) × (naming.phrase n ms ≡ then (made 0) nowhere rest)
 
--- The templates of a built program's closed one name its literals, and the bases of a walk name the rows of the word that is checked.
-abbrev pub opened : (P C : Program) (templates : List Template) (own : Option ℕ) (inner : ℕ) (first : Literal) → Closes P C templates → IsBuilt P → NamesLiterals P templates inner first → Opened C templates own inner
-opened P C templates own inner first closes built names = record {
+-- The templates of a whole program's closed one name its literals, and the bases of a walk name the rows of the word that is checked.
+abbrev pub opened : (P C : Program) (templates : List Template) (own : Option ℕ) (inner : ℕ) (first : Literal) → Closes P C templates → IsWhole P → NamesLiterals P templates inner first → Opened C templates own inner
+opened P C templates own inner first closes whole names = record {
   program = P;
   closes = closes;
-  built = built;
+  whole = whole;
   opens = programs_open P C templates closes;
   naming = naming_for names.naming (own_effect C own);
   literal_is = names.literal_is;
@@ -86,7 +86,7 @@ WalksWhole C templates own inner phrase M K base s W =
 abbrev pub IsKeptOn : WordDef → MarksSeen → Walked → Option ℕ → Option (Place × Rule) → Type 0
 IsKeptOn c K W row b = (Q : Program) (N : Naming) → breach_seen b ≡ end_of Q (walked_seen N K W) (kept_word Q (effect_leaving c.effect) (base_seen N row) c.place)
 
-module _ (P C : Program) (templates : List Template) (closes : Closes P C templates) (built : IsBuilt P) (inner : ℕ) (first : Literal) (names : NamesLiterals P templates inner first) where
+module _ (P C : Program) (templates : List Template) (closes : Closes P C templates) (whole : IsWhole P) (inner : ℕ) (first : Literal) (names : NamesLiterals P templates inner first) where
   -- a phrase that opens under the empty frame does under one with no marks
   under : {at : Literal} {c t : Phrase} (fs : List Mark) → fs ≡ [] → Opens P templates [] at c t → Opens P templates (items_of fs) at c t
   under {at} {c} {t} fs e h = subst (λ (xs : List Mark). Opens P templates (items_of xs) at c t) (sym e) h
@@ -98,7 +98,7 @@ module _ (P C : Program) (templates : List Template) (closes : Closes P C templa
       WalksWhole C templates None inner phrase M K None s W → ((N : Naming) → frame_of N M 0 ≡ []) → ((N : Naming) → stack_of N M s ≡ unknowns ins []) → ins ≡ (effect_height c.effect).ins →
       breach_seen b ≡ ordinary_verdict P w t d
   ordinary_is w d c t phrase M K s ins W b word text kept walks empty stack many =
-      let O = opened P C templates None inner first closes built names in
+      let O = opened P C templates None inner first closes whole names in
       let N = O.naming in
       let count : ins ≡ inputs_count (effect_inputs d.effect) = many ∙ ap (λ e. (effect_height e).ins) word.effect ∙ height_inputs d.effect in
       kept P N
@@ -112,7 +112,7 @@ module _ (P C : Program) (templates : List Template) (closes : Closes P C templa
       WalksWhole C templates None inner phrase M K None s W → ((N : Naming) → frame_of N M 0 ≡ []) → ((N : Naming) → stack_of N M s ≡ unknowns start []) →
       breach_seen b ≡ top_verdict P start w t
   top_is w t phrase M K s start W b text kept walks empty stack =
-      let O = opened P C templates None inner first closes built names in
+      let O = opened P C templates None inner first closes whole names in
       let N = O.naming in
       kept P N K ∙ ap (λ x. end_of P x (λ A. None)) (walks O (first_of_word w) (first_of_word w) t most_steps refl (under (frame_of N M 0) (empty N) text) (omega arith) ∙ ap (λ ms. go_at O most_steps (first_of_word w) 64 t None ms 200000) (stack N))
 
@@ -128,7 +128,7 @@ module _ (P C : Program) (templates : List Template) (closes : Closes P C templa
       ((N : Naming) → NamesRows N c.effect → base_seen N base ≡ outer_in c.effect) → ((N : Naming) → NamesRows N c.effect → base_seen N row ≡ outer_out c.effect) →
       breach_seen b ≡ row_verdict P w t d
   row_is w d c t phrase M K base row s W b at word text kept walks empty stack begins ends =
-      let O = opened P C templates (Some w) inner first closes built names in
+      let O = opened P C templates (Some w) inner first closes whole names in
       let N = O.naming in
       let own = own_is w d at in
       let names : NamesRows N c.effect = subst (λ e. NamesRows N e) (sym word.effect) (subst (λ o. NamesOwn N o) own O.rows) in

@@ -1,4 +1,4 @@
--- What the items of a built program's words do in the checker's walk.
+-- What the items of a whole program's words do in the checker's walk.
 use Rattle.std.proofs.Common.{◌≡◌, ◌≢◌, ℕ, List, [], ◌∷◌, ◌++◌, length, Bool, true, false, Option, Some, None, refl, sym, ap, subst, ◌∙◌, arith, Result, Ok, Err}
 use Rattle.std.specs.Prelude.{not, nat_eq, slice_get, IfOk}
 use Rattle.std.proofs.lemmas.Bool.{ne_eqb}
@@ -14,7 +14,7 @@ use Rattle.fac_lang.specs.Effects.{effect_height}
 use Rattle.fac_lang.specs.PrimitiveWords.{outputs_of, written_effect}
 use Rattle.fac_lang.specs.Primitives.{Primitive, prim_numbered}
 use Rattle.fac_lang.specs.Meaning.{core_numbered, c_call, c_dip, c_if, c_execute, c_boa}
-use Rattle.fac_lang.specs.Forms.{IsBuilt}
+use Rattle.fac_lang.proofs.SourcePrograms.{IsSourceProgram}
 use Rattle.fac_locals.specs.Closed.{Closes, ClosesWord}
 use Rattle.fac_locals.proofs.Lookups.{word_open_none}
 use Rattle.fac_lang.specs.RowVariables.{Row, is_row}
@@ -64,7 +64,7 @@ itself : (n : ℕ) → nat_eq n n ≡ true
 itself n = grind arith
 
 -- the top-level phrase is never an item
-pub top_item : (P : Program) → IsBuilt P → (own : Option ℕ) (b : Option Row) (ms : List Mark) → breaks NotKnown ≡ word_doing P own P.top (slice_get P.words P.top) b ms
+pub top_item : (P : Program) → IsSourceProgram P → (own : Option ℕ) (b : Option Row) (ms : List Mark) → breaks NotKnown ≡ word_doing P own P.top (slice_get P.words P.top) b ms
 top_item P built own b ms =
     let d = built.last_word in
     let at : slice_get P.words P.top ≡ Some d = ap (λ (k : ℕ). slice_get P.words k) built.top_is ∙ ap (λ (ws : List WordDef). slice_get ws (length built.words)) built.words_are ∙ last_at built.words d in

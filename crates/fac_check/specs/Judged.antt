@@ -5,7 +5,6 @@ use Rattle.fac_lang.specs.declared.phrase.Place.{Place}
 use Rattle.fac_lang.specs.declared.phrase.Template.{Template}
 use Rattle.fac_lang.specs.declared.program.Program.{Program}
 use Rattle.fac_lang.specs.declared.program.WordDef.{WordDef}
-use Rattle.fac_lang.specs.Forms.{IsBuilt}
 use Rattle.fac_lang.specs.Whole.{IsWhole}
 use Rattle.fac_locals.specs.Closed.{Closes}
 use Rattle.fac_locals.specs.declared.closing.Closed.{Closed}
@@ -57,13 +56,13 @@ verdicts_from P start w (d ∷ ds) = numbered w (word_verdict P start w d) ∷ v
 abbrev pub all_verdicts : Program → ℕ → List (Option Numbered)
 all_verdicts P start = verdicts_from P start 0 P.words
 
--- a closed program stands for a built and whole one
-abbrev pub StandsForBuilt : Closed → Type 0
-StandsForBuilt closed = (P : Program) × Closes P closed.program closed.templates × IsBuilt P × IsWhole P
+-- a closed program stands for a whole one
+abbrev pub StandsForWhole : Closed → Type 0
+StandsForWhole closed = (P : Program) × Closes P closed.program closed.templates × IsWhole P
 
--- something that holds of each built program for which a closed one stands
+-- something that holds of each whole program for which a closed one stands
 abbrev pub OfEach : Closed → (Program → Type 0) → Type 0
-OfEach closed holds = (P : Program) → Closes P closed.program closed.templates → IsBuilt P → holds P
+OfEach closed holds = (P : Program) → Closes P closed.program closed.templates → IsWhole P → holds P
 
 -- the verdict on the word of this number
 abbrev pub IsVerdict : Closed → ℕ → Verdict → Type 0

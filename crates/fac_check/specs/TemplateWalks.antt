@@ -21,7 +21,7 @@ found_height i (found dead n) = Some (record { ins = i; outs = None })
 found_height i (found (on b ms) n) = Some (record { ins = i; outs = Some (length ms) })
 found_height i (refused r p) = None
 
--- That of the template with this number in each built program for which the closed one stands, whatever values it holds in its cells.
+-- That of the template with this number in each whole program for which the closed one stands, whatever values it holds in its cells.
 abbrev pub IsFoundHeight : Closed → ℕ → ℕ → Option Height → Type 0
 IsFoundHeight closed k i height =
     OfEach closed (λ P. (t : Template) (vs : List Value) → slice_get closed.templates k ≡ Some t → length vs ≡ length t.captures + t.holes → height ≡ found_height i (walked_alone P i (forgotten (template_phrase P k (map held vs)))))

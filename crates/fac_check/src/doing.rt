@@ -785,7 +785,8 @@ pub fn item_doing(
         What::NextAfter(method) => next_after(subject.closed, marks, stack, *method),
         What::CallEff(height) => effect_call(marks, stack, *height),
         What::ExecEff(height) => effect_call(marks, stack, *height),
-        What::Bind(_) | What::Quot(_) | What::Fry(_, _) | What::Hole(_) => unreachable!(),
+        What::Bind(_) | What::Quot(_) | What::Choices(_) | What::Fry(_, _) | What::Hole(_) =>
+            unreachable!(),
     }
 }
 

@@ -1,6 +1,6 @@
 //! The verdict on a program.
 ghost use Rattle.std.specs.Prelude.{◌≡◌, ◌<◌, length, map, slice_get, Some, IfOk};
-ghost use Rattle.fac_check.specs.Judged.{StandsForBuilt, AreUndeclared, AreVerdicts, IsVerdict, IsAccepted, verdict_seen, refusal_if, first_of};
+ghost use Rattle.fac_check.specs.Judged.{StandsForWhole, AreUndeclared, AreVerdicts, IsVerdict, IsAccepted, verdict_seen, refusal_if, first_of};
 ghost use Rattle.fac_check.specs.Checks.{IsKept, Checks, Gathers};
 
 use crate::Checked;
@@ -30,7 +30,7 @@ pub fn check_word(
     undeclared: &List<bool>,
     number: u32,
 ) -> Result<Verdict, Memory>
-    requires stands { StandsForBuilt closed.now }
+    requires stands { StandsForWhole closed.now }
     requires undeclared { AreUndeclared closed.now.program closed.now.templates undeclared.now }
     requires number { number < length closed.now.program.words }
     ensures { IfOk result (IsVerdict closed.now number) }
@@ -52,7 +52,7 @@ pub fn check_word(
 /// as many unknown values as the closed program says, and a row word from its input row, where each quotation input does what its effect
 /// declares. An expanded word is walked where it is used.
 pub fn check_words(alloc: Global, closed: &Closed) -> Result<List<Verdict>, Memory>
-    requires { StandsForBuilt closed.now }
+    requires { StandsForWhole closed.now }
     ensures { IfOk result (AreVerdicts closed.now) }
 {
     let undeclared = undeclared_words(alloc, closed)?;
@@ -80,7 +80,7 @@ pub fn first_refused(verdicts: &List<Verdict>) -> Option<Refusal>
 /// word leaves what its effect declares, and so does each row word, whatever lists its rows stand for, where what is handed in does as its
 /// effect says.
 pub fn accept(closed: Closed) -> Checked
-    requires stands { StandsForBuilt closed }
+    requires stands { StandsForWhole closed }
     requires accepted { IsAccepted closed }
     ensures closed { result.closed ≡ closed }
     ensures kept { IsKept closed }
@@ -90,7 +90,7 @@ pub fn accept(closed: Closed) -> Checked
 
 /// Accepts a program, or names its first refused word, by the verdicts on its words in their order.
 pub fn gather(closed: Closed, verdicts: &List<Verdict>) -> Result<Checked, Refusal>
-    requires stands { StandsForBuilt closed }
+    requires stands { StandsForWhole closed }
     requires verdicts { AreVerdicts closed verdicts.now }
     ensures { Gathers closed result }
 {
@@ -105,7 +105,7 @@ pub fn gather(closed: Closed, verdicts: &List<Verdict>) -> Result<Checked, Refus
 /// Factor Handbook's chapter on stack effect checking; the rules of callables, how row variables are bound, and which word and place is
 /// named first, are this profile's own. What is accepted is safe, as at `accept`, with row words and without.
 pub fn check(alloc: Global, closed: Closed) -> Result<Checked, CheckFault>
-    requires { StandsForBuilt closed }
+    requires { StandsForWhole closed }
     ensures { Checks closed result }
 {
     let verdicts = check_words(alloc, &closed)?;

@@ -4,7 +4,7 @@ ghost use Rattle.fac_abs.specs.Marks.{unknowns};
 ghost use Rattle.fac_abs.specs.MarkTrees.{Naming};
 ghost use Rattle.fac_abs.specs.MarkPromises.{IsFrameOf};
 ghost use Rattle.fac_abs.specs.SeenMarks.{Grows, IsFrame};
-ghost use Rattle.fac_check.specs.Judged.{StandsForBuilt};
+ghost use Rattle.fac_check.specs.Judged.{StandsForWhole};
 ghost use Rattle.fac_check.specs.TemplateWalks.{IsFoundHeight, found_height};
 ghost use Rattle.fac_check.specs.inner.Walking.{IsWalked, walked_seen};
 
@@ -73,7 +73,7 @@ pub fn walk_template(
     template: u32,
     inputs: u32,
 ) -> Result<Option<Height>, Memory>
-    requires stands { StandsForBuilt closed.now }
+    requires stands { StandsForWhole closed.now }
     requires template { template < length closed.now.templates }
     ensures { IfOk result (IsFoundHeight closed.now template inputs) }
 {

@@ -9,7 +9,6 @@ use Rattle.fac_effect.specs.declared.effect_reader.EffectWhy.TheVariants.{RowPla
 use Rattle.fac_effect.specs.Spellings.{plain_token, spelling_of, has_integer_form, word_spelling, sign_spelling, is_reserved, is_reserved_sign, is_reserved_form, is_reserved_word, is_left_out}
 use Rattle.fac_effect.specs.EffectReading.{reads, whole, refused, after}
 use Rattle.fac_effect.specs.SaidEffects.{effect_of}
-use Rattle.fac_effect.specs.ParsedEffects.{reason}
 
 abbrev pub w : List ℕ → Token
 w text = plain_token (record { file = 1; token = 1 }) text
@@ -110,15 +109,3 @@ class_65 = refl
 effect_at_64 : after (opens ∷ replicate 63 (w (codes "x")) ++ w (codes "y:") ∷ opens ∷ dashes ∷ closes ∷ dashes ∷ closes ∷ []) ≡ whole
 unfolding spelling_of has_integer_form word_spelling sign_spelling is_reserved is_reserved_sign is_reserved_form is_reserved_word is_left_out
 effect_at_64 = refl
-
--- Why no effect goes on.
-reason_row : reason (opens ∷ w (codes "x") ∷ []) (Some (w (codes "..a"))) ≡ RowPlace
-unfolding spelling_of has_integer_form word_spelling sign_spelling is_reserved is_reserved_sign is_reserved_form is_reserved_word is_left_out
-reason_row = refl
-
-reason_names : reason (opens ∷ replicate 64 (w (codes "x"))) (Some (w (codes "x"))) ≡ TooWide
-unfolding spelling_of has_integer_form word_spelling sign_spelling is_reserved is_reserved_sign is_reserved_form is_reserved_word is_left_out
-reason_names = refl
-
-reason_end : reason (opens ∷ w (codes "x") ∷ []) None ≡ Form
-reason_end = refl

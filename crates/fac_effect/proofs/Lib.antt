@@ -6,7 +6,6 @@ pub mod WholeEffects
 pub mod EffectLemmas
 pub mod PassLemmas
 pub mod PartLemmas
-pub mod EffectEndLemmas
 pub mod ExamplesOfEffects
 pub mod LocalNameLemmas
 pub mod RowlessLemmas

@@ -5,5 +5,4 @@ pub mod SaidEffects
 pub mod LocalNames
 pub mod RowlessEffects
 pub mod EffectLaws
-pub mod ParsedEffects
 pub mod inner

@@ -1,7 +1,6 @@
 //! What a token is to the grammar, and stack effects: how they are read, which row variables can be bound, and the arithmetic of heights.
 #![tactic(auto)]
 
-mod effect_parser;
 mod effect_parts;
 mod effect_reader;
 mod heights;
@@ -10,7 +9,6 @@ mod local_names;
 mod row_variables;
 mod spelling;
 
-pub use effect_parser::{EffectFault, parse_effect};
 pub use effect_parts::{declared_height, effect_from};
 pub use effect_reader::{EffectReader, EffectWhy, Side, Spot, Taken, is_no_row};
 pub use heights::{curried, fits, then};

@@ -41,6 +41,7 @@ use Rattle.fac_emit.specs.MachineView.{Templates, value_view, callable_view, val
 use Rattle.fac_emit.specs.Stands.{PushesItself, HasCode, SameMethod, Acting, a_itself, a_prim, a_accessor, a_isa, a_core, a_stuck, a_code, a_generic, HasAction}
 use Rattle.fac_emit.specs.Symbols.{Sym, here, Task, do_phrase, heres, AllHere, all_none, all_more, ins, outs}
 use Rattle.fac_emit.specs.WholeValues as whole
+use Rattle.fac_emit.proofs.AskedEffects.{TestsCallables}
 use Rattle.fac_emit.proofs.RunLaws.{free, spares, live_first}
 use Rattle.fac_emit.proofs.SymbolicStacks.{Left, l_phrase, r_here, lies_none, lies_more, Keeps, keeps_phrase, needs_any, all_heres, needed, all_here}
 use Rattle.fac_emit.proofs.HeldFrames.{kept_list_view}
@@ -95,20 +96,20 @@ module _ (Y : Setting) where
   abbrev pub alone : ℕ → Phrase
   alone wd = one_item (word wd)
 
-  -- The effect of a callable of the machine is that of the one for which it stands.
+  -- Where the code tests callables, the effect of one of the machine is that of the one for which it stands.
   abbrev machine_height : MCallable → Option Height
   machine_height c = callable_height (template_heights M) c
 
-  heights_same : (c : MCallable) → WholeCallable c → Y.callable_height (callable_view T c) ≡ machine_height c
-  heights_same (m_lit q k) h =
+  heights_same : TestsCallables M → (c : MCallable) → WholeCallable c → Y.callable_height (callable_view T c) ≡ machine_height c
+  heights_same tests (m_lit q k) h =
       let many : length (kept_view T k) ≡ length h.0.cells + h.0.holes = ap length (kept_list_view T k) ∙ length-map (kept_list k) (value_view T) ∙ h.2 in
-      Y.literals q h.0 (kept_view T k) h.1 many ∙ sym (ap height_there (slice_get-map (λ (r : TemplateRow). r.height) M.templates q ∙ ap (option_map (λ (r : TemplateRow). r.height)) h.1))
-  heights_same (m_cur v c) h = Y.curried (value_view T v) (callable_view T c) ∙ ap curried_height (heights_same c h.1)
-  heights_same (m_com c d) h =
-      Y.composed (callable_view T c) (callable_view T d) ∙ ap (λ (o : Option Height). composed_height o (Y.callable_height (callable_view T d))) (heights_same c h.0) ∙ ap (composed_height (machine_height c)) (heights_same d h.1)
+      Y.literals tests q h.0 (kept_view T k) h.1 many ∙ sym (ap height_there (slice_get-map (λ (r : TemplateRow). r.height) M.templates q ∙ ap (option_map (λ (r : TemplateRow). r.height)) h.1))
+  heights_same tests (m_cur v c) h = Y.curried (value_view T v) (callable_view T c) ∙ ap curried_height (heights_same tests c h.1)
+  heights_same tests (m_com c d) h =
+      Y.composed (callable_view T c) (callable_view T d) ∙ ap (λ (o : Option Height). composed_height o (Y.callable_height (callable_view T d))) (heights_same tests c h.0) ∙ ap (composed_height (machine_height c)) (heights_same tests d h.1)
 
-  callables_tested : (h : Height) (c : MCallable) → WholeCallable c → callable_fits P fits Y.callable_height h (callable_view T c) ≡ fits_in h (machine_height c)
-  callables_tested h c hc = ap (λ (o : Option Height). elim o [ Some k ↦ fits k h | None ↦ false ]) (heights_same c hc) ∙ sym (fits_so h (machine_height c))
+  callables_tested : TestsCallables M → (h : Height) (c : MCallable) → WholeCallable c → callable_fits P fits Y.callable_height h (callable_view T c) ≡ fits_in h (machine_height c)
+  callables_tested tests h c hc = ap (λ (o : Option Height). elim o [ Some k ↦ fits k h | None ↦ false ]) (heights_same tests c hc) ∙ sym (fits_so h (machine_height c))
 
   -- Where an action gives something, that goes on as at `ret`.
   abbrev to_ret : ℕ → Machine → ℕ → Step
@@ -377,7 +378,7 @@ module _ (Y : Setting) where
           let st' = state_view T ms w in
           let cv = callable_view T c in
           let b = fits_in q (machine_height c) in
-          by b c ms vs (rw is (ap (λ (b : Bool). either b (runs cv st' []) (error WrongValues (fun cv) word_call st')) (callables_tested q c ok.values.0))) refl ok lv
+          by b c ms vs (rw is (ap (λ (b : Bool). either b (runs cv st' []) (error WrongValues (fun cv) word_call st')) (callables_tested (record { place = pc; height = q; tail = false; there = e }) q c ok.values.0))) refl ok lv
 
   -- a word that is tested
   pub g_execute_effect : (f : ℕ) (F : List MValue) → Templated Y f → ((m a : ℕ) → HasCode P M m a → CallsTo Y (Some Ret) f [] a [] (word_phrase P m)) → ((a : ℕ) (d : WordDef) → slice_get P.words a ≡ Some d → is_top_phrase P a ≡ false → HasAction P M a) →

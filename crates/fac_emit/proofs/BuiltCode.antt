@@ -9,7 +9,7 @@ use Rattle.fac_lang.specs.declared.program.WordDef.{WordDef}
 use Rattle.fac_lang.specs.declared.program.Sort.{Sort}
 use Rattle.fac_lang.specs.declared.program.Sort.TheVariants.{Prim as prim, Core as core, Body as body, Method as method}
 use Rattle.fac_lang.specs.Phrases.{int, yes, no, str, wrd, Phrase, end, then, Item, lit, lit_arr, word, made}
-use Rattle.fac_lang.specs.Forms.{IsBuilt, IsBuiltSort, AreBuiltWords}
+use Rattle.fac_lang.proofs.SourcePrograms.{IsSourceProgram, IsSourceSort, AreSourceWords}
 use Rattle.fac_lang.specs.Primitives.{is_built_primitive}
 use Rattle.fac_locals.specs.Closed.{Closes}
 use Rattle.fac_code.specs.declared.image.Instr.{Instr}
@@ -40,18 +40,18 @@ all_alike [] cs h f = rw h tt
 all_alike (d ∷ ds) cs h f = rw h.2 (fits_alike d.sort h.0.sort h.3.sort f.0, all_alike ds h.1 h.4 f.1)
 
 module _ (P : Program) where
-  built_fits : (d : WordDef) (s : Sort) → IsBuiltSort P.top d s → Fits s
+  built_fits : (d : WordDef) (s : Sort) → IsSourceSort P.top d s → Fits s
   built_fits d (prim k) h = h.is_built
   built_fits d _ h = tt
 
-  built_fit : (ds : List WordDef) (d : WordDef) → AreBuiltWords P.top ds → Fits d.sort → AllFit (ds ++ d ∷ [])
+  built_fit : (ds : List WordDef) (d : WordDef) → AreSourceWords P.top ds → Fits d.sort → AllFit (ds ++ d ∷ [])
   built_fit [] d h f = (f, tt)
   built_fit (x ∷ ds) d h f = (built_fits x x.sort h.0, built_fit ds d h.1 f)
 
-  all_fit : (C : Program) (templates : List Template) → IsBuilt P → Closes P C templates → AllFit C.words
+  all_fit : (C : Program) (templates : List Template) → IsSourceProgram P → Closes P C templates → AllFit C.words
   all_fit C templates b closes =
       let phrase : Fits b.last_word.sort = rw b.last_word_is.sort_is tt in
-      all_alike P.words C.words (alike_words P 0 P.words C.words closes.words) (subst AllFit (sym b.words_are) (built_fit b.words b.last_word b.built phrase))
+      all_alike P.words C.words (alike_words P 0 P.words C.words closes.words) (subst AllFit (sym b.words_are) (built_fit b.words b.last_word b.words_from_source phrase))
 
 pub and_true : (b c : Bool) → b ≡ true → c ≡ true → (b && c) ≡ true
 and_true true c e h = h
@@ -133,7 +133,7 @@ module _ (C : Program) (templates : List Template) where
     words_plain w [] = refl
     words_plain w (d ∷ ds) = both_plain (sort_code C templates (nat_eq w C.top) d.sort) (code_from C templates (suc w) ds) (sort_code_plain (nat_eq w C.top) d.sort) (words_plain (suc w) ds)
 
-pub code_plain : (P C : Program) (templates : List Template) → IsBuilt P → Closes P C templates → ArePlain (program_code C templates)
+pub code_plain : (P C : Program) (templates : List Template) → IsSourceProgram P → Closes P C templates → ArePlain (program_code C templates)
 code_plain P C templates b closes =
     let fit = all_fit P C templates b closes in
     both_plain (templates_code C templates templates) (code_from C templates 0 C.words) (templates_plain C templates fit templates) (words_plain C templates fit 0 C.words)
@@ -161,5 +161,5 @@ places_of size at (i ∷ is) h =
     let parts = both_true (is_plain i) (list_all is_plain is) h in
     and_true (place_refers size at i) (places_refer size (suc at) is) (placed_by size at i (both_true (is_built_instr i) (not (names_place i)) parts.0).1) (places_of size (suc at) is parts.1)
 
-pub code_built : (P C : Program) (templates : List Template) → IsBuilt P → Closes P C templates → has_built_code (program_code C templates) ≡ true
+pub code_built : (P C : Program) (templates : List Template) → IsSourceProgram P → Closes P C templates → has_built_code (program_code C templates) ≡ true
 code_built P C templates b closes = built_of (program_code C templates) (code_plain P C templates b closes)

@@ -4,7 +4,7 @@ use Rattle.fac_lang.specs.declared.phrase.Height.{Height}
 use Rattle.fac_lang.specs.declared.phrase.Template.{Template}
 use Rattle.fac_lang.specs.declared.program.Program.{Program}
 use Rattle.fac_lang.specs.Phrases.{Callable}
-use Rattle.fac_lang.specs.Forms.{IsBuilt}
+use Rattle.fac_lang.proofs.SourcePrograms.{source_of_whole}
 use Rattle.fac_lang.specs.Whole.{IsWhole}
 use Rattle.fac_lang.specs.Eval.{Result, Done, Failed, Spent, Stuck}
 use Rattle.fac_lang.specs.Meaning.{word_phrase}
@@ -32,8 +32,9 @@ not_stuck Stuck h e = absurd h
 
 pub carries :
     (P C : Program) (templates : List Template) (heights : List (Option Height)) (M : Image) (callable_height : Callable → Option Height) (count : ℕ) →
-    IsBuilt P → IsWhole P → MethodLaws P → Closes P C templates → IsPlain C templates heights M → HasHeights P templates heights callable_height → Carries P callable_height count M
-carries P C templates heights M callable_height count b whole laws closes is_plain effects =
+    IsWhole P → MethodLaws P → Closes P C templates → IsPlain C templates heights M → HasHeights P C templates heights callable_height → Carries P callable_height count M
+carries P C templates heights M callable_height count whole laws closes is_plain effects =
+    let b = source_of_whole P whole in
     let made = arrays_made P C templates heights M b closes is_plain in
     let named = image_named P C templates heights M b closes is_plain in
     record {

@@ -11,7 +11,7 @@ use Rattle.fac_lang.specs.declared.program.Sort.{Sort}
 use Rattle.fac_lang.specs.declared.program.Sort.TheVariants.{Prim as prim_sort, Core as core_sort, Body as body, Past as past, Isa as isa, Method as method}
 use Rattle.fac_lang.specs.Phrases.{Phrase, end, then}
 use Rattle.fac_lang.specs.Substitution.{of_method}
-use Rattle.fac_lang.specs.Forms.{IsBuilt, IsBuiltSort, AreBuiltWords}
+use Rattle.fac_lang.proofs.SourcePrograms.{IsSourceProgram, IsSourceSort, AreSourceWords}
 use Rattle.fac_lang.specs.Whole.{sort_fits}
 use Rattle.fac_lang.specs.CoreWords.{is_built_core}
 use Rattle.fac_lang.specs.Primitives.{is_built_primitive}
@@ -83,22 +83,22 @@ module _ (P : Program) where
   Doable (past t) = ⊥
   Doable _ = Unit {0}
 
-  sort_doable : (d : WordDef) (s : Sort) → IsBuiltSort P.top d s → Doable s
+  sort_doable : (d : WordDef) (s : Sort) → IsSourceSort P.top d s → Doable s
   sort_doable d (prim_sort k) h = h.is_built
   sort_doable d (core_sort k) h = h.is_built
   sort_doable d (past t) h = absurd h
   sort_doable d _ h = tt
 
-  among : (ds : List WordDef) (d : WordDef) (w : ℕ) (x : WordDef) → AreBuiltWords P.top ds → Doable d.sort → slice_get (ds ++ d ∷ []) w ≡ Some x → Doable x.sort
+  among : (ds : List WordDef) (d : WordDef) (w : ℕ) (x : WordDef) → AreSourceWords P.top ds → Doable d.sort → slice_get (ds ++ d ∷ []) w ≡ Some x → Doable x.sort
   among [] d zero x h f e = let same : d ≡ x = cc in subst (λ (y : WordDef). Doable y.sort) same f
   among [] d (suc w) x h f e = absurd (cc)
   among (y ∷ ds) d zero x h f e = let same : y ≡ x = cc in subst (λ (z : WordDef). Doable z.sort) same (sort_doable y y.sort h.0)
   among (y ∷ ds) d (suc w) x h f e = among ds d w x h.1 f e
 
-  pub word_doable : IsBuilt P → (w : ℕ) (d : WordDef) → slice_get P.words w ≡ Some d → Doable d.sort
+  pub word_doable : IsSourceProgram P → (w : ℕ) (d : WordDef) → slice_get P.words w ≡ Some d → Doable d.sort
   word_doable b w d e =
       let phrase : Doable b.last_word.sort = rw b.last_word_is.sort_is tt in
-      among b.words b.last_word w d b.built phrase (subst (λ (ds : List WordDef). slice_get ds w ≡ Some d) b.words_are e)
+      among b.words b.last_word w d b.words_from_source phrase (subst (λ (ds : List WordDef). slice_get ds w ≡ Some d) b.words_are e)
 
   -- a closed phrase that stands in the code of word w
   pub record RunsIn (w : ℕ) (c : Phrase) : Type 0 where

@@ -25,6 +25,7 @@ use Rattle.fac_vm.proofs.Leading.{leads_on, leads_step, ends_after, ends_step}
 use Rattle.fac_emit.specs.MachineView.{Templates, kept_view, world_view, state_view, error_view}
 use Rattle.fac_emit.specs.WholeValues as whole
 use Rattle.fac_emit.specs.Symbols.{Sym, Task, Special}
+use Rattle.fac_emit.proofs.AskedEffects.{TestsCallables}
 use Rattle.fac_emit.proofs.RunLaws.{free, unfolds, then_again, Stays, stays_then, stays_phrase, stays_call}
 use Rattle.fac_emit.proofs.SymbolicStacks.{Left, l_phrase, l_back, l_call, Lies, Keeps}
 
@@ -36,9 +37,9 @@ pub record Setting : Type 0 where
   pub texts : Templates
   -- the image says of words and kinds what the program says
   pub named : image_names image ≡ names program
-  -- the image tests words as the program does, and has the effects of literals, and those of other callables go by arithmetic
+  -- the image tests words as the program does, where its code tests callables it has the effects of literals, and those of other callables go by arithmetic
   pub words : (w : ℕ) (h : Height) → fits_in h (row_height (slice_get image.words w)) ≡ word_fits program fits h w
-  pub literals : (q : ℕ) (r : TemplateRow) (vs : List Value) → slice_get image.templates q ≡ Some r → length vs ≡ length r.cells + r.holes → callable_height (of_phrase (texts q vs)) ≡ r.height
+  pub literals : TestsCallables image → (q : ℕ) (r : TemplateRow) (vs : List Value) → slice_get image.templates q ≡ Some r → length vs ≡ length r.cells + r.holes → callable_height (of_phrase (texts q vs)) ≡ r.height
   pub curried : (v : Value) (c : Callable) → callable_height (cur v c) ≡ curried_height (callable_height c)
   pub composed : (c d : Callable) → callable_height (both c d) ≡ composed_height (callable_height c) (callable_height d)
 

@@ -5,6 +5,7 @@ pub mod RunLaws
 pub mod GivenValues
 pub mod WholeValueLemmas
 pub mod SymbolicStacks
+pub mod AskedEffects
 pub mod Following
 pub mod AccessorLemmas
 pub mod CaseLemmas
@@ -38,7 +39,6 @@ pub mod NextMethods
 pub mod ClosedWords
 pub mod ReferenceLemmas
 pub mod EmitLemmas
-pub mod Emitted
 pub mod CodedItems
 pub mod NumberLemmas
 pub mod PromisedLemmas

@@ -11,7 +11,7 @@ use Rattle.fac_lang.specs.declared.program.Lit.TheVariants.{Int as l_int, True a
 use Rattle.fac_lang.specs.Phrases.{str, Literal, Phrase, quot, Value, plain, fun, of_phrase}
 use Rattle.fac_lang.specs.World.{Object, array, World}
 use Rattle.fac_lang.specs.Printed.{or_empty}
-use Rattle.fac_lang.specs.Forms.{IsBuilt, IsBuiltElement, AreBuiltElements, AreBuiltArrays}
+use Rattle.fac_lang.proofs.SourcePrograms.{IsSourceProgram, IsSourceElement, AreSourceElements, AreSourceArrays}
 use Rattle.fac_lang.specs.Meaning.{array_method, of_method_if, literal_value, with_arrays as meaning_arrays, start}
 use Rattle.fac_locals.specs.Literals.{Quoted, behind, first_in_array, element_item}
 use Rattle.fac_locals.specs.Closed.{IsMadeBy, Closes, ClosesElement, CloseElements, CloseArrays}
@@ -36,7 +36,7 @@ pub has_first : (xs : List ℕ) (x : ℕ) → (i : ℕ) × (is : List ℕ) × (x
 has_first [] x = (x, [], refl)
 has_first (y ∷ xs) x = (y, xs ++ x ∷ [], refl)
 
-module _ (P C : Program) (templates : List Template) (heights : List (Option Height)) (M : Image) (b : IsBuilt P) (closes : Closes P C templates) (is_plain : IsPlain C templates heights M) where
+module _ (P C : Program) (templates : List Template) (heights : List (Option Height)) (M : Image) (b : IsSourceProgram P) (closes : Closes P C templates) (is_plain : IsPlain C templates heights M) where
   abbrev T : Templates
   T = template_phrases P
 
@@ -86,7 +86,7 @@ module _ (P C : Program) (templates : List Template) (heights : List (Option Hei
       let holes : row.row.holes ≡ 0 = row.holes in
       (row.row, row.there, omega (arith, cells, holes), tt)
 
-  element_whole : (m : Option ℕ) (addresses : List ℕ) (i : ℕ) (is : List ℕ) (at : Literal) (l c : Lit) → at.around ≡ i ∷ is → IsBuiltElement P.top l → ClosesElement P m at l c → Whole P M (element_value M addresses (elem_of C templates c))
+  element_whole : (m : Option ℕ) (addresses : List ℕ) (i : ℕ) (is : List ℕ) (at : Literal) (l c : Lit) → at.around ≡ i ∷ is → IsSourceElement P.top l → ClosesElement P m at l c → Whole P M (element_value M addresses (elem_of C templates c))
   element_whole m addresses i is at (l_int z) c around g h = rw h tt
   element_whole m addresses i is at l_yes c around g h = rw h tt
   element_whole m addresses i is at l_no c around g h = rw h tt
@@ -96,11 +96,11 @@ module _ (P C : Program) (templates : List Template) (heights : List (Option Hei
   element_whole m addresses i is at (l_quot t) c around g h = rw h.1 (template_whole i is at _ h.0 around h.2)
   element_whole m addresses i is at (l_made k) c around g h = absurd h
 
-  elements_whole : (m : Option ℕ) (addresses : List ℕ) (i : ℕ) (is : List ℕ) (at : Literal) (ls cs : List Lit) → at.around ≡ i ∷ is → AreBuiltElements P.top ls → CloseElements P m at ls cs → AllWhole P M (map (element_value M addresses) (elems_of C templates cs))
+  elements_whole : (m : Option ℕ) (addresses : List ℕ) (i : ℕ) (is : List ℕ) (at : Literal) (ls cs : List Lit) → at.around ≡ i ∷ is → AreSourceElements P.top ls → CloseElements P m at ls cs → AllWhole P M (map (element_value M addresses) (elems_of C templates cs))
   elements_whole m addresses i is at [] cs around g h = rw h tt
   elements_whole m addresses i is at (l ∷ ls) cs around g h = rw h.2 (element_whole m addresses i is at l h.0 around g.0 h.3, elements_whole m addresses i is (behind at (element_item m l)) ls h.1 around g.1 h.4)
 
-  all_whole : (a : ℕ) (lss css : List (List Lit)) → AreBuiltArrays P.top lss → CloseArrays P a lss css → (w : World MValue) → WholeObjects P M w.objects → WholeObjects P M (with_arrays M (map (elems_of C templates) css) w).objects
+  all_whole : (a : ℕ) (lss css : List (List Lit)) → AreSourceArrays P.top lss → CloseArrays P a lss css → (w : World MValue) → WholeObjects P M w.objects → WholeObjects P M (with_arrays M (map (elems_of C templates) css) w).objects
   all_whole a [] css g h w os = rw h os
   all_whole a (ls ∷ lss) css g h w os =
       let m = array_method P (length P.arrays) a in
@@ -119,5 +119,5 @@ module _ (P C : Program) (templates : List Template) (heights : List (Option Hei
       let empty : World MValue = record { objects = []; literals = []; input = input; asked = 0; output = [] } in
       record {
         same = ap (λ (ess : List (List Elem)). world_view T (with_arrays M ess empty)) is_plain.arrays ∙ same_made 0 P.arrays C.arrays closes.arrays (all_arrays_named C templates) empty;
-        whole = subst (λ (ess : List (List Elem)). WholeObjects P M (with_arrays M ess empty).objects) (sym is_plain.arrays) (all_whole 0 P.arrays C.arrays b.arrays_built closes.arrays empty tt);
+        whole = subst (λ (ess : List (List Elem)). WholeObjects P M (with_arrays M ess empty).objects) (sym is_plain.arrays) (all_whole 0 P.arrays C.arrays b.arrays_from_source closes.arrays empty tt);
       }

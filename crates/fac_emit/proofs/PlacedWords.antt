@@ -9,7 +9,7 @@ use Rattle.fac_lang.specs.declared.program.WordDef.{WordDef}
 use Rattle.fac_lang.specs.declared.program.Sort.{Sort}
 use Rattle.fac_lang.specs.declared.program.Sort.TheVariants.{Body as body, Generic as generic, Method as method}
 use Rattle.fac_lang.specs.Phrases.{Phrase}
-use Rattle.fac_lang.specs.Forms.{IsBuilt}
+use Rattle.fac_lang.proofs.SourcePrograms.{IsSourceProgram}
 use Rattle.fac_lang.specs.Classes.{has_kind, word_in, pick, next}
 use Rattle.fac_lang.specs.Meaning.{sort_of, sort_phrase}
 use Rattle.fac_lang.proofs.FormsLemmas.{sort_at, top_sort}
@@ -63,8 +63,8 @@ get_dropped xs zero j = let n : 0 + j ≡ j = omega arith in rw n refl
 get_dropped [] (suc i) j = refl
 get_dropped (x ∷ xs) (suc i) j = let n : suc i + j ≡ suc (i + j) = omega arith in rw n (get_dropped xs i j)
 
--- a word of a built program by its sort
-module _ (P : Program) (b : IsBuilt P) where
+-- a word of a whole program by its sort
+module _ (P : Program) (b : IsSourceProgram P) where
   pub word_count : length P.words ≡ suc P.top
   word_count = let n = ap length b.words_are ∙ length-append b.words (b.last_word ∷ []) in let top = b.top_is in omega (arith, n, top)
 
@@ -135,7 +135,7 @@ ran P C templates w (method m g t) c h cl r n =
     record { phrase = cl.0; code_is = λ is_top. ap (sort_code C templates is_top) cl.1; named = body_among C templates cl.0 (subst (λ (c : Sort). AreAmong (program_texts C templates) (sort_texts C templates c)) cl.1 n); sort_is = cl.1; closes = closing P [] (first_of_word w) _ cl.0 cl.2 r }
 ran P C templates w _ c h cl r n = absurd h
 
-module _ (P C : Program) (templates : List Template) (heights : List (Option Height)) (M : Image) (b : IsBuilt P) (closes : Closes P C templates) (is_plain : IsPlain C templates heights M) where
+module _ (P C : Program) (templates : List Template) (heights : List (Option Height)) (M : Image) (b : IsSourceProgram P) (closes : Closes P C templates) (is_plain : IsPlain C templates heights M) where
   -- the text of a number
   pub text_in : (s : List ℕ) → IsAmong (program_texts C templates) s → slice_get M.texts (text_number C templates s) ≡ Some s
   text_in s h = ap (λ (ts : List (List ℕ)). slice_get ts (text_number C templates s)) is_plain.texts ∙ text_there C templates s h

@@ -10,7 +10,7 @@ use Rattle.fac_lang.specs.declared.program.Sort.{Sort}
 use Rattle.fac_lang.specs.declared.program.Sort.TheVariants.{Prim as prim_sort, Core as core_sort, Body as body, Itself as itself, Class as class, Isa as isa, Getter as getter, Setter as setter, Putter as putter, Generic as generic, Method as method}
 use Rattle.fac_lang.specs.Phrases.{int, yes, no, str, wrd, Literal, Phrase, Item, lit, lit_arr, quot, word, bind, fry, call_eff, exec_eff, next_method, next_after, held, Value}
 use Rattle.fac_lang.specs.Substitution.{put_local, put_holes}
-use Rattle.fac_lang.specs.Forms.{IsBuilt, IsBuiltSort}
+use Rattle.fac_lang.proofs.SourcePrograms.{IsSourceProgram, IsSourceSort}
 use Rattle.fac_lang.specs.Whole.{IsWhole}
 use Rattle.fac_lang.specs.CoreWords.{is_built_core}
 use Rattle.fac_lang.specs.Classes.{next}
@@ -53,7 +53,7 @@ use Rattle.fac_emit.proofs.TableNumbers.{order_same}
 use Rattle.fac_emit.proofs.TextLemmas.{AreAmong, both_among, word_named, template_named}
 
 -- A plain image of a closed program that stands for a built one.
-module _ (P C : Program) (templates : List Template) (heights : List (Option Height)) (M : Image) (b : IsBuilt P) (whole : IsWhole P) (laws : MethodLaws P) (closes : Closes P C templates) (is_plain : IsPlain C templates heights M) where
+module _ (P C : Program) (templates : List Template) (heights : List (Option Height)) (M : Image) (b : IsSourceProgram P) (whole : IsWhole P) (laws : MethodLaws P) (closes : Closes P C templates) (is_plain : IsPlain C templates heights M) where
   abbrev put : (w : ℕ) (d : WordDef) → slice_get P.words w ≡ Some d → WordPut P C templates heights M b closes is_plain w d
   put w d e = word_put P C templates heights M b closes is_plain w d e
 
@@ -93,7 +93,7 @@ module _ (P C : Program) (templates : List Template) (heights : List (Option Hei
   phrase_does : (F : List MValue) (w : ℕ) (d : WordDef) → w < P.top → (e : slice_get P.words w ≡ Some d) → RunsPhrase (Some d.sort) → Does F w (Callw w false)
   phrase_does F w d lt e runs = let p = put w d e in t_calling (l_word w p.place (has_code P C templates heights M b closes is_plain w d p e lt runs))
 
-  sort_does : (F : List MValue) (w : ℕ) (d c : WordDef) (s : Sort) → w < P.top → (e : slice_get P.words w ≡ Some d) → slice_get C.words w ≡ Some c → d.sort ≡ s → ClosesSort P w s c.sort → IsBuiltSort P.top d s → Does F w (sort_instr C templates w c.sort)
+  sort_does : (F : List MValue) (w : ℕ) (d c : WordDef) (s : Sort) → w < P.top → (e : slice_get P.words w ≡ Some d) → slice_get C.words w ≡ Some c → d.sort ≡ s → ClosesSort P w s c.sort → IsSourceSort P.top d s → Does F w (sort_instr C templates w c.sort)
   sort_does F w d c (prim_sort k) lt e at is h built = rw h (t_prim w k (sort_at P w d e ∙ ap Some is) built.is_built (first_prim C templates P M.words whole.words_differ does present w k d e is))
   sort_does F w d c (core_sort k) lt e at is h built = rw h (core_does F w k built.is_built (sort_at P w d e ∙ ap Some is))
   sort_does F w d c (body t) lt e at is h built = rw h.1 (phrase_does F w d lt e (subst (λ (s : Sort). RunsPhrase (Some s)) (sym is) tt))
@@ -112,7 +112,7 @@ module _ (P C : Program) (templates : List Template) (heights : List (Option Hei
   word_does_so F w lt =
       let found = word_below P b w lt in
       let closed = word_closed P C templates closes w found.def found.at in
-      rw closed.at (sort_does F w found.def closed.closed found.def.sort lt found.at closed.at refl closed.closes.sort found.built)
+      rw closed.at (sort_does F w found.def closed.closed found.def.sort lt found.at closed.at refl closed.closes.sort found.from_source)
 
   -- the row of a word, whatever it does
   row_there : (w : ℕ) → w < P.top → (r : WordRow) × (slice_get M.words w ≡ Some r)
@@ -140,7 +140,7 @@ module _ (P C : Program) (templates : List Template) (heights : List (Option Hei
   phrase_acts : (w : ℕ) (d : WordDef) → w < P.top → (e : slice_get P.words w ≡ Some d) → RunsPhrase (Some d.sort) → Acting P M w (action.Code (put w d e).place)
   phrase_acts w d lt e runs = let p = put w d e in a_code p.place (has_code P C templates heights M b closes is_plain w d p e lt runs)
 
-  sort_acts : (w : ℕ) (d c : WordDef) (s : Sort) → w < P.top → (e : slice_get P.words w ≡ Some d) → slice_get C.words w ≡ Some c → d.sort ≡ s → ClosesSort P w s c.sort → IsBuiltSort P.top d s → Acting P M w (sort_action C templates w (put w d e).place c.sort)
+  sort_acts : (w : ℕ) (d c : WordDef) (s : Sort) → w < P.top → (e : slice_get P.words w ≡ Some d) → slice_get C.words w ≡ Some c → d.sort ≡ s → ClosesSort P w s c.sort → IsSourceSort P.top d s → Acting P M w (sort_action C templates w (put w d e).place c.sort)
   sort_acts w d c (prim_sort k) lt e at is h built = rw h (a_prim k (sort_at P w d e ∙ ap Some is) built.is_built (first_prim C templates P M.words whole.words_differ does present w k d e is))
   sort_acts w d c (core_sort k) lt e at is h built = rw h (core_acts w k (sort_at P w d e ∙ ap Some is))
   sort_acts w d c (body t) lt e at is h built = rw h.1 (phrase_acts w d lt e (subst (λ (s : Sort). RunsPhrase (Some s)) (sym is) tt))
@@ -159,7 +159,7 @@ module _ (P C : Program) (templates : List Template) (heights : List (Option Hei
   action_there w lt =
       let found = word_below P b w lt in
       let p = put w found.def found.at in
-      record { row = word_row C templates p.place w p.closed; there = p.row; acts = sort_acts w found.def p.closed found.def.sort lt found.at p.at refl p.closes_word.sort found.built }
+      record { row = word_row C templates p.place w p.closed; there = p.row; acts = sort_acts w found.def p.closed found.def.sort lt found.at p.at refl p.closes_word.sort found.from_source }
 
   -- That of a next method.
   next_does : (F : List MValue) (m : ℕ) → IsMethod (sort_of P m) → Translates P M (template_phrases P) F (next_after m) (item_instr C templates (next_after m))

@@ -14,7 +14,7 @@ use Rattle.fac_lang.specs.declared.program.WordDef.{WordDef}
 use Rattle.fac_lang.specs.declared.program.Sort.{Sort}
 use Rattle.fac_lang.specs.declared.program.Sort.TheVariants.{Prim as prim_sort, Core as core_sort, Body as body, Past as past, Itself as itself, Class as class, Isa as isa, Getter as getter, Setter as setter, Putter as putter, Generic as generic, Method as method}
 use Rattle.fac_lang.specs.Phrases.{Literal, Phrase, quot, fry}
-use Rattle.fac_lang.specs.Forms.{IsBuilt, IsBuiltElement, AreBuiltElements, AreBuiltArrays}
+use Rattle.fac_lang.proofs.SourcePrograms.{IsSourceProgram, IsSourceElement, AreSourceElements, AreSourceArrays}
 use Rattle.fac_lang.specs.Meaning.{sort_of, generic_of, array_method}
 use Rattle.fac_lang.specs.Whole.{IsWhole, sort_fits, names_earlier, each_numbered, arrays_in, arrays_named}
 use Rattle.fac_captures.specs.declared.cell.Cell.{Cell}
@@ -55,7 +55,7 @@ use Rattle.fac_emit.proofs.TableNumbers.{order_same}
 use Rattle.fac_emit.proofs.TableReferences.{sets_many, kinds_refer, sets_refer, pairs_refer_so}
 use Rattle.fac_emit.proofs.ClosedWords.{found_within, both_pass, first_true, one_passes, begins_within, core_refers, last_refers, word_doable, ClosedAs, closed_as}
 
-module _ (P C : Program) (templates : List Template) (heights : List (Option Height)) (built : IsBuilt P) (whole : IsWhole P) (laws : MethodLaws P) (closes : Closes P C templates) where
+module _ (P C : Program) (templates : List Template) (heights : List (Option Height)) (built : IsSourceProgram P) (whole : IsWhole P) (laws : MethodLaws P) (closes : Closes P C templates) where
   abbrev code : List Instr
   code = program_code C templates
 
@@ -293,7 +293,7 @@ module _ (P C : Program) (templates : List Template) (heights : List (Option Hei
   abbrev Earlier : ℕ → List Lit → Type 0
   Earlier a ls = list_all (λ b. nat_lt b a) (arrays_in ls) ≡ true
 
-  element_refers : (m : Option ℕ) (i : ℕ) (is : List ℕ) (a : ℕ) (at : Literal) (l c : Lit) → at.around ≡ i ∷ is → ClosesElement P m at l c → IsBuiltElement P.top l → Earlier a (l ∷ []) → Named (own_elements_texts (c ∷ [])) → elem_refers T a (elem_of C templates c) ≡ true
+  element_refers : (m : Option ℕ) (i : ℕ) (is : List ℕ) (a : ℕ) (at : Literal) (l c : Lit) → at.around ≡ i ∷ is → ClosesElement P m at l c → IsSourceElement P.top l → Earlier a (l ∷ []) → Named (own_elements_texts (c ∷ [])) → elem_refers T a (elem_of C templates c) ≡ true
   element_refers m i is a at (l_int z) c around h ok earlier n = rw h refl
   element_refers m i is a at l_yes c around h ok earlier n = rw h refl
   element_refers m i is a at l_no c around h ok earlier n = rw h refl
@@ -322,7 +322,7 @@ module _ (P C : Program) (templates : List Template) (heights : List (Option Hei
       let split : list_all test (arrays_in (l ∷ [])) && list_all test (arrays_in ls) ≡ true = sym (ap (list_all test) (first_arrays l ls) ∙ list_all-append test (arrays_in (l ∷ [])) (arrays_in ls)) ∙ h in
       first_true (list_all test (arrays_in (l ∷ []))) (list_all test (arrays_in ls)) split
 
-  elements_refer : (m : Option ℕ) (i : ℕ) (is : List ℕ) (a : ℕ) (at : Literal) (ls cs : List Lit) → at.around ≡ i ∷ is → CloseElements P m at ls cs → AreBuiltElements P.top ls → Earlier a ls → Named (own_elements_texts cs) → list_all (elem_refers T a) (elems_of C templates cs) ≡ true
+  elements_refer : (m : Option ℕ) (i : ℕ) (is : List ℕ) (a : ℕ) (at : Literal) (ls cs : List Lit) → at.around ≡ i ∷ is → CloseElements P m at ls cs → AreSourceElements P.top ls → Earlier a ls → Named (own_elements_texts cs) → list_all (elem_refers T a) (elems_of C templates cs) ≡ true
   elements_refer m i is a at [] cs around h ok earlier n = rw h refl
   elements_refer m i is a at (l ∷ ls) cs around h ok earlier n =
       let parts = both_earlier a l ls earlier in
@@ -330,7 +330,7 @@ module _ (P C : Program) (templates : List Template) (heights : List (Option Hei
       rw h.2 (and_true (elem_refers T a (elem_of C templates h.0)) (list_all (elem_refers T a) (elems_of C templates h.1))
       (element_refers m i is a at l h.0 around h.3 ok.0 parts.0 named.0) (elements_refer m i is a (behind at (element_item m l)) ls h.1 around h.4 ok.1 parts.1 named.1))
 
-  arrays_refer_so : (a : ℕ) (lss css : List (List Lit)) → CloseArrays P a lss css → AreBuiltArrays P.top lss → each_numbered names_earlier a lss ≡ true → Named (arrays_texts css) → arrays_refer T a (map (elems_of C templates) css) ≡ true
+  arrays_refer_so : (a : ℕ) (lss css : List (List Lit)) → CloseArrays P a lss css → AreSourceArrays P.top lss → each_numbered names_earlier a lss ≡ true → Named (arrays_texts css) → arrays_refer T a (map (elems_of C templates) css) ≡ true
   arrays_refer_so a [] css h ok earlier n = rw h refl
   arrays_refer_so a (ls ∷ lss) css h ok earlier n =
       let parts = first_true (names_earlier a ls) (each_numbered names_earlier (suc a) lss) earlier in
@@ -352,7 +352,7 @@ module _ (P C : Program) (templates : List Template) (heights : List (Option Hei
       let size = length code in
       let instrs = both_pass (instr_refers T) (templates_code C templates templates) (code_from C templates 0 C.words) (templates_refer templates template_refers_to) (words_refer 0 C.words all_closed) in
       let started : nat_lt start size ≡ true = ap (λ (a : ℕ). nat_lt a size) (is ∙ ap place_of closes.top) ∙ place_within P.top built.last_word (top_word P built) (subst (λ (s : Sort). RunsPhrase (Some s)) (sym built.last_word_is.sort_is) tt) in
-      let arrays = arrays_refer_so 0 P.arrays C.arrays closes.arrays built.arrays_built whole.arrays_earlier (all_arrays_named C templates) in
+      let arrays = arrays_refer_so 0 P.arrays C.arrays closes.arrays built.arrays_from_source whole.arrays_earlier (all_arrays_named C templates) in
       let kinds = kinds_refer C templates T refl refl many_words in
       let sets = sets_refer C templates T refl refl many_words in
       let rows = rows_within T.templates templates (all_rows P C templates closes heights code T.templates refl refl) in

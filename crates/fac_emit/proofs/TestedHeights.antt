@@ -11,7 +11,7 @@ use Rattle.fac_lang.specs.Phrases.{Value, Callable, of_phrase}
 use Rattle.fac_lang.specs.Signatures.{Signature}
 use Rattle.fac_lang.specs.Effects.{effect_height, word_height}
 use Rattle.fac_lang.specs.HeightArithmetic.{fits}
-use Rattle.fac_lang.specs.Forms.{IsBuilt}
+use Rattle.fac_lang.proofs.SourcePrograms.{IsSourceProgram}
 use Rattle.fac_lang.specs.Meaning.{is_past, is_top_phrase, word_fits}
 use Rattle.fac_lang.proofs.FormsLemmas.{sort_at}
 use Rattle.fac_locals.specs.Closed.{Closes}
@@ -24,6 +24,7 @@ use Rattle.fac_vm.specs.Machine.{fits_in, row_height}
 use Rattle.fac_emit.specs.Heights.{HasHeights}
 use Rattle.fac_emit.specs.MachineView.{template_phrases}
 use Rattle.fac_emit.specs.ProgramCode.{IsPlain}
+use Rattle.fac_emit.proofs.AskedEffects.{TestsCallables, code_asks}
 use Rattle.fac_emit.proofs.Closings.{Alike, a_same, a_body, a_past, a_method, alike}
 use Rattle.fac_emit.proofs.NamedImages.{no_rows}
 use Rattle.fac_emit.proofs.Placed.{Rows, template_at, all_rows, row_height_is}
@@ -59,7 +60,7 @@ tested_by : (h : Height) (q : Bool) (o : Option Height) → fits_in h (elim q [ 
 tested_by h true o = refl
 tested_by h false o = fits_so h o
 
-module _ (P C : Program) (templates : List Template) (heights : List (Option Height)) (M : Image) (b : IsBuilt P) (closes : Closes P C templates) (is_plain : IsPlain C templates heights M) where
+module _ (P C : Program) (templates : List Template) (heights : List (Option Height)) (M : Image) (b : IsSourceProgram P) (closes : Closes P C templates) (is_plain : IsPlain C templates heights M) where
   -- a word fits by its row as it fits in the meaning
   pub words_tested : (w : ℕ) (h : Height) → fits_in h (row_height (slice_get M.words w)) ≡ word_fits P fits h w
   words_tested w h = by (slice_get P.words w) refl
@@ -84,15 +85,15 @@ module _ (P C : Program) (templates : List Template) (heights : List (Option Hei
   rows : Rows C templates M.code M.templates templates
   rows = all_rows P C templates closes heights M.code M.templates is_plain.code is_plain.template_rows_are
 
-  -- the effect of a literal callable is in its template's row
+  -- where the code tests callables, the effect of a literal one is in its template's row
   pub literals_tested :
-      (callable_height : Callable → Option Height) → HasHeights P templates heights callable_height → (q : ℕ) (r : TemplateRow) (vs : List Value) → slice_get M.templates q ≡ Some r → length vs ≡ length r.cells + r.holes →
+      (callable_height : Callable → Option Height) → HasHeights P C templates heights callable_height → TestsCallables M → (q : ℕ) (r : TemplateRow) (vs : List Value) → slice_get M.templates q ≡ Some r → length vs ≡ length r.cells + r.holes →
       callable_height (of_phrase (template_phrases P q vs)) ≡ r.height
   unfolding template_phrases
-  literals_tested callable_height effects q r vs e n =
+  literals_tested callable_height effects tests q r vs e n =
       let found = template_at C templates M.code M.templates templates q r rows e in
       let t = found.template in
       let many : length r.cells + r.holes ≡ length t.captures + t.holes = ap (λ (r : TemplateRow). length r.cells + r.holes) found.of.row in
       let own = row_height_is C templates heights 0 0 templates q r (ap (λ (rs : List TemplateRow). slice_get rs q) (sym is_plain.template_rows_are) ∙ e) in
       let number : 0 + q ≡ q = omega arith in
-      effects.literal q t vs found.there (n ∙ many) ∙ ap (λ (j : ℕ). height_there (slice_get heights j)) (sym number) ∙ sym own
+      effects.literal (code_asks C templates M is_plain.code tests) q t vs found.there (n ∙ many) ∙ ap (λ (j : ℕ). height_there (slice_get heights j)) (sym number) ∙ sym own

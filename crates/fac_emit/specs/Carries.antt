@@ -8,7 +8,6 @@ use Rattle.fac_lang.specs.HeightArithmetic.{fits}
 use Rattle.fac_lang.specs.Eval.{Result, Done, Failed, Spent}
 use Rattle.fac_lang.specs.Meaning.{run, start, word_phrase, names}
 use Rattle.fac_lang.specs.RunningLaws.{IsNotStuck}
-use Rattle.fac_lang.specs.Forms.{IsBuilt}
 use Rattle.fac_lang.specs.Whole.{IsWhole}
 use Rattle.fac_locals.specs.Closed.{Closes}
 use Rattle.fac_locals.specs.declared.closing.Closed.{Closed}
@@ -58,8 +57,8 @@ pub record Carries (P : Program) (callable_height : Callable → Option Height) 
   -- The image has the program's words, each with its vocabulary and its name.
   pub same_full_names : (w : ℕ) → image_full_name M w ≡ full_name_of P w
 
--- The image carries each built and whole program for which a closed one stands, from as many values as that starts on, where these are the effects of its templates.
+-- The image carries each whole program for which a closed one stands, from as many values as that starts on, where these are the effects of its templates or it asks for none.
 abbrev pub CarriesEach : Closed → List (Option Height) → Image → Type 0
 CarriesEach closed heights M =
     (P : Program) (callable_height : Callable → Option Height) →
-    Closes P closed.program closed.templates → IsBuilt P → IsWhole P → HasHeights P closed.templates heights callable_height → Carries P callable_height closed.start M
+    Closes P closed.program closed.templates → IsWhole P → HasHeights P closed.program closed.templates heights callable_height → Carries P callable_height closed.start M

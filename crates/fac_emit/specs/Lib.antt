@@ -10,6 +10,5 @@ pub mod ProgramTexts
 pub mod ProgramTables
 pub mod ProgramCode
 pub mod Numbered
-pub mod Emits
 pub mod PrintedForms
 pub mod inner

@@ -2,7 +2,6 @@
 ghost use Rattle.std.specs.Prelude.{◌≡◌, ℕ, true, nat_eq, nat_le, Some, IfOk, OnOk};
 ghost use Rattle.std.specs.List.{list_all};
 ghost use Rattle.fac_lang.specs.declared.program.Program.{Program as Source};
-ghost use Rattle.fac_lang.specs.Forms.{IsBuilt};
 ghost use Rattle.fac_lang.specs.Whole.{IsWhole};
 ghost use Rattle.fac_lang.specs.Effects.{effect_height};
 ghost use Rattle.fac_lang.specs.Meaning.{sort_of};
@@ -184,7 +183,7 @@ fn parts_of(
     numbering: &Numbering,
     heights: &[Option<Height>],
 ) -> Result<Parts, Memory>
-    requires closed { (P : Source) × Closes P closed.now.program closed.now.templates × IsBuilt P × IsWhole P }
+    requires closed { (P : Source) × Closes P closed.now.program closed.now.templates × IsWhole P }
     requires numbering { IsNumbering closed.now.program closed.now.templates numbering.now }
     ensures { IfOk result (AreParts closed.now.program closed.now.templates heights.now) }
 {
@@ -265,7 +264,7 @@ fn tables_of(
 
 // The image of these parts and tables, where the templates have these effects.
 fn image_of(closed: &Closed, heights: &[Option<Height>], parts: Parts, tables: OtherTables) -> Image
-    requires closed { (P : Source) × Closes P closed.now.program closed.now.templates × IsBuilt P × IsWhole P × MethodLaws P }
+    requires closed { (P : Source) × Closes P closed.now.program closed.now.templates × IsWhole P × MethodLaws P }
     requires parts { AreParts closed.now.program closed.now.templates heights.now parts }
     requires tables { AreTables closed.now.program closed.now.templates tables }
     ensures { IsPlain closed.now.program closed.now.templates heights.now result }
@@ -300,7 +299,7 @@ fn image_of(closed: &Closed, heights: &[Option<Height>], parts: Parts, tables: O
 
 // The image of a closed program, whose templates have these effects.
 fn plain_image(alloc: Global, closed: &Closed, heights: &[Option<Height>]) -> Result<Image, Memory>
-    requires closed { (P : Source) × Closes P closed.now.program closed.now.templates × IsBuilt P × IsWhole P × MethodLaws P }
+    requires closed { (P : Source) × Closes P closed.now.program closed.now.templates × IsWhole P × MethodLaws P }
     requires coded { list_all array_is_coded closed.now.program.arrays ≡ true }
     requires classes { CanBeBuilt closed.now.program }
     requires methods { HasMethods closed.now.program }
@@ -313,8 +312,8 @@ fn plain_image(alloc: Global, closed: &Closed, heights: &[Option<Height>]) -> Re
     Ok(image_of(closed, heights, parts, tables))
 }
 
-/// The image of a closed program of the built forms, where its templates have these effects, by their numbers. It carries the program that
-/// this one stands for, on every list of as many values as the closed program starts on and in every world, whose callables are of the
+/// The image of a closed program, where its templates have these effects, by their numbers, or where it asks for none (`asks_effects`). It
+/// carries the program that this one stands for, on every list of as many values as the closed program starts on and in every world, whose callables are of the
 /// image's templates and whose words are no top-level phrases, and at every budget, where that program is stuck at none; and its literal
 /// arrays, as a machine makes them, are those of that program before its first item. Its code stands for the phrases of that program, item by
 /// item, and is plain: the code of the templates and behind it that of the words, each in their order, with the texts of the program, each
@@ -322,9 +321,9 @@ fn plain_image(alloc: Global, closed: &Closed, heights: &[Option<Height>]) -> Re
 /// of each class, and the words of classes with their kinds; it starts at the top-level phrase. Want of memory is the one error, also where
 /// there are more kinds or texts than numbers for them.
 pub fn compile(alloc: Global, closed: &Closed, heights: &[Option<Height>]) -> Result<Image, Memory>
-    requires { (P : Source) × Closes P closed.now.program closed.now.templates × IsBuilt P × IsWhole P }
+    requires { (P : Source) × Closes P closed.now.program closed.now.templates × IsWhole P }
     ensures carries { IfOk result (CarriesEach closed.now heights.now) }
-    ensures stands { IfOk result (λ image. (P : Source) → Closes P closed.now.program closed.now.templates → IsBuilt P → IsWhole P → PlainCode P image) }
+    ensures stands { IfOk result (λ image. (P : Source) → Closes P closed.now.program closed.now.templates → IsWhole P → PlainCode P image) }
     ensures plain { IfOk result (IsPlain closed.now.program closed.now.templates heights.now) }
 {
     methods_are_lawful();

@@ -1,19 +1,12 @@
 //! The plain code of words and templates.
-ghost use Rattle.std.specs.Prelude.{◌≡◌, ◌<◌, ◌++◌, ◌∷◌, [], length, slice_get, IfOk, OnOk};
+ghost use Rattle.std.specs.Prelude.{◌≡◌, ◌++◌, ◌∷◌, [], slice_get, OnOk};
 ghost use Rattle.fac_lang.specs.PhraseView.{what_item};
-ghost use Rattle.fac_lang.specs.declared.program.Program.{Program as Source};
-ghost use Rattle.fac_lang.specs.Forms.{IsBuilt};
-ghost use Rattle.fac_lang.specs.Meaning.{sort_of};
-ghost use Rattle.fac_locals.specs.Closed.{Closes};
 ghost use Rattle.fac_store.specs.CallableHeights.{height_there};
-ghost use Rattle.fac_emit.specs.ProgramTexts.{program_texts};
 ghost use Rattle.fac_emit.specs.Stands.{making};
 ghost use Rattle.fac_emit.specs.ProgramCode.{core_instr, word_instr, made_instr, item_instr, phrase_code, last_instr, sort_code};
 ghost use Rattle.fac_emit.specs.Numbered.{IsNumbering};
 ghost use Rattle.fac_emit.specs.inner.AddedTemplates.{AddsTemplate, AddsTemplates};
-ghost use Rattle.fac_emit.specs.inner.FoundCode.{found_code, found_template};
 ghost use Rattle.fac_emit.specs.inner.NumberedWords.{numbered_instr};
-ghost use Rattle.fac_emit.specs.Emits.{Emits, TemplateEmits};
 
 use crate::numbers::{Numbering, number_of};
 use fac_code::{Instr, TemplateRow};
@@ -216,77 +209,4 @@ pub fn add_word(
         Sort::Method { body, .. } => add_phrase(code, closed, numbering, body, last(is_top)),
         _ => Ok(()),
     }
-}
-
-// The code of the word with this number.
-fn code_of_word(
-    alloc: Global,
-    closed: &Closed,
-    numbering: &Numbering,
-    word: u32,
-) -> Result<List<Instr>, Memory>
-    requires { IsNumbering closed.now.program closed.now.templates numbering.now }
-    ensures { IfOk result (λ code. code ≡ found_code closed.now.program closed.now.templates word (slice_get closed.now.program.words word)) }
-{
-    let mut code = List::new(alloc);
-    match closed.program.words.get(word as usize) {
-        Some(def) => add_word(
-            &mut code,
-            closed,
-            numbering,
-            word == closed.program.top,
-            &def.sort,
-        )?,
-        None => {}
-    }
-    Ok(code)
-}
-
-// The code of the template with this number.
-fn code_of_template(
-    alloc: Global,
-    closed: &Closed,
-    numbering: &Numbering,
-    template: u32,
-) -> Result<List<Instr>, Memory>
-    requires { IsNumbering closed.now.program closed.now.templates numbering.now }
-    ensures { IfOk result (λ code. code ≡ found_template closed.now.program closed.now.templates (slice_get closed.now.templates template)) }
-{
-    let mut code = List::new(alloc);
-    match closed.templates.get(template as usize) {
-        Some(found) => add_phrase(&mut code, closed, numbering, &found.body, Instr::Ret)?,
-        None => {}
-    }
-    Ok(code)
-}
-
-/// The plain code of the word with this number: an instruction for each item of its phrase, and behind them a `ret`, or a `halt` for the
-/// top-level phrase. A word that runs no phrase has none. Strings and slots are named as texts of the program's image. Want of memory is the one
-/// error.
-pub fn emit_word(
-    alloc: Global,
-    closed: &Closed,
-    numbering: &Numbering,
-    word: u32,
-) -> Result<List<Instr>, Memory>
-    requires numbering { IsNumbering closed.now.program closed.now.templates numbering.now }
-    requires word { word < length closed.now.program.words }
-    ensures { IfOk result (λ code. (P : Source) → Closes P closed.now.program closed.now.templates → IsBuilt P → Emits P (program_texts closed.now.program closed.now.templates) word (sort_of P word) code) }
-{
-    code_of_word(alloc, closed, numbering, word)
-}
-
-/// The plain code of the template with this number: an instruction for each item of its quotation or fry, and behind them a `ret`. Strings and
-/// slots are named as texts of the program's image. Want of memory is the one error.
-pub fn emit_template(
-    alloc: Global,
-    closed: &Closed,
-    numbering: &Numbering,
-    template: u32,
-) -> Result<List<Instr>, Memory>
-    requires numbering { IsNumbering closed.now.program closed.now.templates numbering.now }
-    requires template { template < length closed.now.templates }
-    ensures { IfOk result (λ code. (P : Source) → Closes P closed.now.program closed.now.templates → IsBuilt P → TemplateEmits P (program_texts closed.now.program closed.now.templates) template code) }
-{
-    code_of_template(alloc, closed, numbering, template)
 }

@@ -2,6 +2,7 @@
 #![tactic(auto)]
 
 mod arrays;
+mod asked;
 mod compiler;
 mod dispatch;
 mod emitter;
@@ -12,8 +13,6 @@ mod sequence;
 mod tables;
 mod texts;
 
+pub use asked::asks_effects;
 pub use compiler::compile;
-pub use emitter::{emit_template, emit_word};
 pub use laws::printed_forms_are_equal;
-pub use numbers::{Numbering, numbering_of};
-pub use texts::Texts;

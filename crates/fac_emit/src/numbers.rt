@@ -74,8 +74,8 @@ fn numbers_of(alloc: Global, texts: &Texts, closed: &Closed) -> Result<List<u32>
     Ok(numbers)
 }
 
-/// The numbers by which the code of a closed program names its texts and what its words are, as `emit_word` and `emit_template` take them. Want
-/// of memory is the one error, also where there are more texts than numbers for them.
+/// The numbers by which the code of a closed program names its texts and what its words are. Want of memory is the one error, also where
+/// there are more texts than numbers for them.
 pub fn numbering_of(alloc: Global, closed: &Closed) -> Result<Numbering, Memory>
     ensures { IfOk result (IsNumbering closed.now.program closed.now.templates) }
 {

@@ -4,11 +4,13 @@ ghost use Rattle.fac_items.specs.FromElements.{node};
 ghost use Rattle.fac_items.specs.inner.TakenBits.{added_behind, array_closed, around_closed, around_seen, bracket_closed, case_closed, cases_ended, closed_at, closed_times, content_seen, fresh_closed, leaf_at, locals_seen, nest_seen, quotation_closed, with_no_cond};
 
 use crate::added::Added;
-use crate::content::{Content, add_array, add_fresh, add_what, keep_array, whole_phrase};
+use crate::content::{
+    Content, add_array, add_fresh, add_what, keep_array, whole_phrase, whole_quotation,
+};
 use crate::locals::keep;
 use crate::nest::{Around, At, Nest, Spot, add_word, open_quotation, take_inside};
 use crate::spelled::NameAt;
-use fac_lang::{Memory, Place, Term, What};
+use fac_lang::{Memory, Place, Term};
 use fac_vocab::Scope;
 use std::alloc::Global;
 use std::mem;
@@ -41,11 +43,7 @@ fn close_quotation(
     let inner = mem::replace(&mut nest.content, before);
     nest.at = at;
     keep(&mut nest.locals, count);
-    add_what(
-        &mut nest.content,
-        What::Quot(whole_phrase(alloc, inner)),
-        place,
-    )
+    add_what(&mut nest.content, whole_quotation(alloc, inner)?, place)
 }
 
 // Closes a fry, or a quotation in an array.

@@ -1,10 +1,11 @@
 //! What a phrase or an array has so far.
 ghost use Rattle.std.specs.Prelude.{◌≡◌, ◌++◌, ◌∷◌, [], length, IfOk, OnOk};
-ghost use Rattle.fac_lang.specs.Phrases.{end, int, no, str, then, yes};
+ghost use Rattle.fac_lang.specs.Phrases.{end, int, no, quot, str, then, yes};
 ghost use Rattle.fac_lang.specs.PhraseView.{items_phrase, what_item};
 ghost use Rattle.fac_lang.specs.RunningLaws.{append};
 ghost use Rattle.fac_items.specs.inner.TakenBits.{content_seen, elements_in, phrase_in, with_array, with_fresh, with_item, with_literal, with_reference};
 
+use crate::choices::quotation_of;
 use fac_lang::{Integer, Item, List, Lit, Memory, Phrase, Place, Text, What};
 use std::alloc::Global;
 
@@ -81,6 +82,18 @@ pub fn whole_phrase(alloc: Global, content: Content) -> Phrase
         Content::Elements(_) => Phrase {
             items: Vec::new(alloc),
         },
+    }
+}
+
+/// A quotation of all its items.
+pub fn whole_quotation(alloc: Global, content: Content) -> Result<What, Memory>
+    ensures { IfOk result (λ what. what_item what ≡ quot (phrase_in (content_seen content))) }
+{
+    match content {
+        Content::Items(items) => quotation_of(alloc, items),
+        Content::Elements(_) => Ok(What::Quot(Phrase {
+            items: Vec::new(alloc),
+        })),
     }
 }
 

@@ -4,6 +4,7 @@
 mod added;
 mod behind;
 mod cases;
+mod choices;
 mod closing;
 mod content;
 mod items;

@@ -13,7 +13,7 @@ use Rattle.fac_lang.specs.declared.program.Program.{Program}
 use Rattle.fac_lang.specs.declared.program.WordDef.{WordDef}
 use Rattle.fac_lang.specs.declared.program.Sort.{Sort}
 use Rattle.fac_lang.specs.declared.program.Sort.TheVariants.{Body as body, Past as past, Method as method}
-use Rattle.fac_lang.specs.Forms.{IsBuilt}
+use Rattle.fac_lang.proofs.SourcePrograms.{IsSourceProgram}
 use Rattle.fac_lang.specs.Whole.{IsWhole, times_in, each_numbered, names_earlier, arrays_named, arrays_named_by, arrays_in, joined, word_phrases, all_arrays_named}
 use Rattle.fac_captures.specs.declared.cell.Cell.{Cell}
 use Rattle.fac_captures.specs.declared.cell.Cell.TheVariants.{Local, Hole}
@@ -392,7 +392,7 @@ module _ (P : Program) (counts : List ℕ) (X : ℕ → Literal → Place → Li
         done = λ (b : ℕ) (xs : List Lit) (le : a ≤ b) (is_b : slice_get P.arrays b ≡ Some xs). done_now b xs le is_b (cases_eq b a);
       }
 
-    module _ (built : IsBuilt P) (whole : IsWhole P) (unfolds : (a : ℕ) (at : Literal) (p : Place) (ls : List Lit) → slice_get P.arrays a ≡ Some ls → a < length P.arrays → X a at p ≡ placed_in X [] (first_in_array at) (in_method (array_method P (length P.arrays) a) (plain_phrase p ls))) where
+    module _ (built : IsSourceProgram P) (whole : IsWhole P) (unfolds : (a : ℕ) (at : Literal) (p : Place) (ls : List Lit) → slice_get P.arrays a ≡ Some ls → a < length P.arrays → X a at p ≡ placed_in X [] (first_in_array at) (in_method (array_method P (length P.arrays) a) (plain_phrase p ls))) where
       step : (a : ℕ) (s : Stage) → a < length P.arrays → ClosedFrom (suc a) s → ClosedFrom a (array_closed counts a s)
       step a s within h =
           let here = found P.arrays a within in
@@ -498,7 +498,7 @@ mapped_at f [] k x e = absurd cc
 mapped_at f (y ∷ xs) zero x e = ap (λ z. Some (f z)) (some_same y x e)
 mapped_at f (y ∷ xs) (suc k) x e = mapped_at f xs k x e
 
-module _ (P : Program) (b : IsBuilt P) (w : IsWhole P) where
+module _ (P : Program) (b : IsSourceProgram P) (w : IsWhole P) where
   numbered : (k : ℕ) (l : Placed) → slice_get (program_placed P) k ≡ Some l → literal_numbered P k ≡ l.0
   numbered k l is = ap (literal_or P k) (ap (λ (ls : List Quoted). slice_get ls k) (sym (placed_literals P b w)) ∙ mapped_at quoted_of (program_placed P) k l is)
 

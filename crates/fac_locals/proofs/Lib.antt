@@ -1,5 +1,6 @@
 pub mod Puts
 pub mod TemplateNumbers
+pub mod ChoiceTemplates
 pub mod ArraySteps
 pub mod LiteralArrays
 pub mod AskedCells

@@ -1,4 +1,4 @@
--- The literal arrays of a built program: each names only earlier ones, and so many quotations are counted in each.
+-- The literal arrays of a whole program: each names only earlier ones, and so many quotations are counted in each.
 use Rattle.std.proofs.Common.{◌≡◌, ◌<◌, ◌≤◌, ℕ, zero, suc, ◌+◌, List, [], ◌∷◌, ◌++◌, length, get_or, Option, Some, None, true, refl, sym, ap, ◌∙◌, subst, length-append, arith}
 use Rattle.std.specs.Prelude.{map, slice_get, nat_lt, ◌&&◌}
 use Rattle.std.specs.List.{list_all}
@@ -15,16 +15,16 @@ use Rattle.fac_lang.specs.declared.program.Program.{Program}
 use Rattle.fac_lang.specs.declared.program.WordDef.{WordDef}
 use Rattle.fac_lang.specs.declared.program.Sort.{Sort}
 use Rattle.fac_lang.specs.declared.program.Sort.TheVariants.{Body as body, Past as past, Method as method}
-use Rattle.fac_lang.specs.Forms.{IsBuilt, IsBuiltPhrase, IsBuiltItem, IsBuiltSort, AreBuiltWords, AreBuiltElements, AreBuiltArrays}
+use Rattle.fac_lang.proofs.SourcePrograms.{IsSourceProgram, IsSourcePhrase, IsSourceItem, IsSourceSort, AreSourceWords, AreSourceElements, AreSourceArrays}
 use Rattle.fac_lang.specs.Whole.{IsWhole, each_item, each_inner, item_fits, word_phrases, quotations, joined, arrays_named, arrays_named_by, arrays_in, each_numbered, names_earlier}
 use Rattle.fac_locals.specs.Literals.{array_phrase, array_or_none, elements_phrase}
 use Rattle.fac_locals.specs.inner.Numbering.{phrase_behind, item_behind, plain_phrase, phrase_of, method_of, next_in, elements_count, counts_from}
 
--- the phrase of a word, where it has one, is of the built forms
+-- the phrase of a word, where it has one, has the items that a source can have
 abbrev pub HasBuiltPhrase : ℕ → Sort → Type 0
-HasBuiltPhrase bound (body t) = IsBuiltPhrase bound t
+HasBuiltPhrase bound (body t) = IsSourcePhrase bound t
 HasBuiltPhrase bound (past t) = ⊥
-HasBuiltPhrase bound (method c g t) = IsBuiltPhrase bound t
+HasBuiltPhrase bound (method c g t) = IsSourcePhrase bound t
 HasBuiltPhrase bound _ = Unit {0}
 
 -- likewise the phrases of words
@@ -32,21 +32,21 @@ abbrev pub HaveBuiltPhrases : ℕ → List WordDef → Type 0
 HaveBuiltPhrases bound [] = Unit {0}
 HaveBuiltPhrases bound (d ∷ ds) = HasBuiltPhrase bound d.sort × HaveBuiltPhrases bound ds
 
-sort_built : (bound : ℕ) (d : WordDef) (s : Sort) → IsBuiltSort bound d s → HasBuiltPhrase bound s
+sort_built : (bound : ℕ) (d : WordDef) (s : Sort) → IsSourceSort bound d s → HasBuiltPhrase bound s
 sort_built bound d (body t) h = h
 sort_built bound d (past t) h = absurd h
 sort_built bound d (method c g t) h = h.1
 sort_built bound d _ h = tt
 
-phrases_built : (bound : ℕ) (ds : List WordDef) (d : WordDef) → AreBuiltWords bound ds → HasBuiltPhrase bound d.sort → HaveBuiltPhrases bound (ds ++ d ∷ [])
+phrases_built : (bound : ℕ) (ds : List WordDef) (d : WordDef) → AreSourceWords bound ds → HasBuiltPhrase bound d.sort → HaveBuiltPhrases bound (ds ++ d ∷ [])
 phrases_built bound [] d hs h = (h, tt)
 phrases_built bound (x ∷ ds) d hs h = (sort_built bound x x.sort hs.0, phrases_built bound ds d hs.1 h)
 
--- each phrase of a program of the built forms is of the built forms
-pub built_phrases : (P : Program) → IsBuilt P → HaveBuiltPhrases P.top P.words
-built_phrases P b = rw b.words_are (phrases_built P.top b.words b.last_word b.built (rw b.last_word_is.sort_is b.last_word_is.phrase_built))
+-- each phrase of a whole program has such items
+pub built_phrases : (P : Program) → IsSourceProgram P → HaveBuiltPhrases P.top P.words
+built_phrases P b = rw b.words_are (phrases_built P.top b.words b.last_word b.words_from_source (rw b.last_word_is.sort_is b.last_word_is.from_source))
 
--- a phrase of the built forms that names only literal arrays before this one
+-- a phrase with such items that names only literal arrays before this one
 abbrev mutual
   pub IsClosable : ℕ → Phrase → Type 0
   IsClosable a end = Unit {0}
@@ -154,13 +154,13 @@ mutual
 
 -- a phrase whose items fit
 mutual
-  fitting_closable : (P : Program) (bound : ℕ) (t : Phrase) → IsBuiltPhrase bound t → each_item (item_fits P) t ≡ true → IsClosable (length P.arrays) t
+  fitting_closable : (P : Program) (bound : ℕ) (t : Phrase) → IsSourcePhrase bound t → each_item (item_fits P) t ≡ true → IsClosable (length P.arrays) t
   fitting_closable P bound end h e = tt
   fitting_closable P bound (then i p t) h e =
       let later = and_parts _ (each_item (item_fits P) t) e in
       (fitting_item P bound i h.0 later.0, fitting_closable P bound t h.1 later.1)
 
-  fitting_item : (P : Program) (bound : ℕ) (i : Item) → IsBuiltItem bound i → (item_fits P i && each_inner (item_fits P) i) ≡ true → IsClosableItem (length P.arrays) i
+  fitting_item : (P : Program) (bound : ℕ) (i : Item) → IsSourceItem bound i → (item_fits P i && each_inner (item_fits P) i) ≡ true → IsClosableItem (length P.arrays) i
   fitting_item P bound (lit q) h e = tt
   fitting_item P bound (lit_arr b) h e = ltb-true b (length P.arrays) (and_parts (nat_lt b (length P.arrays)) true e).0
   fitting_item P bound (word w) h e = tt
@@ -184,19 +184,19 @@ words_closable P bound (d ∷ ds) h e = let both = go d.sort h.0 e in (both.0, w
   go _ h e = (tt, e)
 
 -- the phrases of a built and whole program name only arrays that are there
-pub program_closable : (P : Program) → IsBuilt P → IsWhole P → AreClosable (length P.arrays) P.words
+pub program_closable : (P : Program) → IsSourceProgram P → IsWhole P → AreClosable (length P.arrays) P.words
 program_closable P b w =
     words_closable P P.top P.words (built_phrases P b) (and_parts _ _ (sym (list_all-append (each_item (item_fits P)) (word_phrases P.words) (joined (map quotations P.arrays))) ∙ w.items_fit)).0
 
 -- a phrase whose arrays are all before this one
 mutual
-  naming_closable : (bound a : ℕ) (t : Phrase) → IsBuiltPhrase bound t → list_all (λ (b : ℕ). nat_lt b a) (arrays_named t) ≡ true → IsClosable a t
+  naming_closable : (bound a : ℕ) (t : Phrase) → IsSourcePhrase bound t → list_all (λ (b : ℕ). nat_lt b a) (arrays_named t) ≡ true → IsClosable a t
   naming_closable bound a end h e = tt
   naming_closable bound a (then i p t) h e =
       let both = and_parts _ _ (sym (list_all-append (λ (b : ℕ). nat_lt b a) (arrays_named_by i) (arrays_named t)) ∙ e) in
       (naming_item bound a i h.0 both.0, naming_closable bound a t h.1 both.1)
 
-  naming_item : (bound a : ℕ) (i : Item) → IsBuiltItem bound i → list_all (λ (b : ℕ). nat_lt b a) (arrays_named_by i) ≡ true → IsClosableItem a i
+  naming_item : (bound a : ℕ) (i : Item) → IsSourceItem bound i → list_all (λ (b : ℕ). nat_lt b a) (arrays_named_by i) ≡ true → IsClosableItem a i
   naming_item bound a (lit q) h e = tt
   naming_item bound a (lit_arr b) h e = ltb-true b a (and_parts (nat_lt b a) true e).0
   naming_item bound a (word w) h e = tt
@@ -210,7 +210,7 @@ mutual
   naming_item bound a (exec_eff g) h e = tt
   naming_item bound a _ h e = absurd h
 
-elements_closable : (bound a : ℕ) (p : Place) (ls : List Lit) → AreBuiltElements bound ls → list_all (λ (b : ℕ). nat_lt b a) (arrays_in ls) ≡ true → IsClosable a (plain_phrase p ls)
+elements_closable : (bound a : ℕ) (p : Place) (ls : List Lit) → AreSourceElements bound ls → list_all (λ (b : ℕ). nat_lt b a) (arrays_in ls) ≡ true → IsClosable a (plain_phrase p ls)
 elements_closable bound a p [] h e = tt
 elements_closable bound a p (l_int z ∷ ls) h e = (tt, elements_closable bound a p ls h.1 e)
 elements_closable bound a p (l_yes ∷ ls) h e = (tt, elements_closable bound a p ls h.1 e)
@@ -223,7 +223,7 @@ elements_closable bound a p (l_quot t ∷ ls) h e =
     (naming_closable bound a t h.0 both.0, elements_closable bound a p ls h.1 both.1)
 elements_closable bound a p (l_made k ∷ ls) h e = absurd h.0
 
-arrays_closable : (bound k a j : ℕ) (p : Place) (lss : List (List Lit)) (ls : List Lit) → AreBuiltArrays bound lss → each_numbered names_earlier k lss ≡ true → a ≡ k + j → slice_get lss j ≡ Some ls → IsClosable a (plain_phrase p ls)
+arrays_closable : (bound k a j : ℕ) (p : Place) (lss : List (List Lit)) (ls : List Lit) → AreSourceArrays bound lss → each_numbered names_earlier k lss ≡ true → a ≡ k + j → slice_get lss j ≡ Some ls → IsClosable a (plain_phrase p ls)
 arrays_closable bound k a j p [] ls h e is at = absurd cc
 arrays_closable bound k a zero p (xs ∷ lss) ls h e is at =
     let same : xs ≡ ls = cc in
@@ -233,8 +233,8 @@ arrays_closable bound k a zero p (xs ∷ lss) ls h e is at =
 arrays_closable bound k a (suc j) p (xs ∷ lss) ls h e is at = arrays_closable bound (suc k) a j p lss ls h.1 (and_parts (names_earlier k xs) _ e).1 (omega (arith, is)) at
 
 -- the elements of a literal array name only earlier ones
-pub array_closable : (P : Program) → IsBuilt P → IsWhole P → (a : ℕ) (p : Place) (ls : List Lit) → slice_get P.arrays a ≡ Some ls → IsClosable a (plain_phrase p ls)
-array_closable P b w a p ls at = arrays_closable P.top 0 a a p P.arrays ls b.arrays_built w.arrays_earlier (omega arith) at
+pub array_closable : (P : Program) → IsSourceProgram P → IsWhole P → (a : ℕ) (p : Place) (ls : List Lit) → slice_get P.arrays a ≡ Some ls → IsClosable a (plain_phrase p ls)
+array_closable P b w a p ls at = arrays_closable P.top 0 a a p P.arrays ls b.arrays_from_source w.arrays_earlier (omega arith) at
 
 -- the items of a literal array that stands in a method, or in none
 pub elements_in : (a : ℕ) (m : Option ℕ) (p : Place) (ls : List Lit) → IsClosable a (plain_phrase p ls) → in_method m (plain_phrase p ls) ≡ elements_phrase m p ls
@@ -248,7 +248,7 @@ elements_in a m p (l_word w ∷ ls) h = ap (then (lit (wrd w)) p) (elements_in a
 elements_in a m p (l_quot t ∷ ls) h = both_items (quot (in_method m t)) (quot (of_method_if m t)) p (in_method m (plain_phrase p ls)) (elements_phrase m p ls) (ap quot (in_method_is a m t h.0)) (elements_in a m p ls h.1)
 elements_in a m p (l_made k ∷ ls) h = absurd h.0
 
-pub array_phrase_is : (P : Program) → IsBuilt P → IsWhole P → (a : ℕ) (p : Place) (ls : List Lit) → slice_get P.arrays a ≡ Some ls → array_phrase P a p ≡ in_method (array_method P (length P.arrays) a) (plain_phrase p ls)
+pub array_phrase_is : (P : Program) → IsSourceProgram P → IsWhole P → (a : ℕ) (p : Place) (ls : List Lit) → slice_get P.arrays a ≡ Some ls → array_phrase P a p ≡ in_method (array_method P (length P.arrays) a) (plain_phrase p ls)
 array_phrase_is P b w a p ls at = ap (λ (o : Option (List Lit)). elements_phrase (array_method P (length P.arrays) a) p (array_or_none o)) at ∙ sym (elements_in a (array_method P (length P.arrays) a) p ls (array_closable P b w a p ls at))
 
 -- Counts.
@@ -297,5 +297,5 @@ counts_at P k a zero cs (xs ∷ lss) ls long is at h =
 counts_at P k a (suc j) cs (xs ∷ lss) ls long is at h = counts_at P (suc k) a j (cs ++ elements_count cs xs ∷ []) lss ls (one_longer cs (elements_count cs xs) k long) (omega (arith, is)) at h
 
 -- so many quotations are counted in a literal array as its elements have
-pub counted_elements : (P : Program) → IsBuilt P → IsWhole P → (a : ℕ) (ls : List Lit) → slice_get P.arrays a ≡ Some ls → get_or (counts_from [] P.arrays) a 0 ≡ elements_count (counts_from [] P.arrays) ls
+pub counted_elements : (P : Program) → IsSourceProgram P → IsWhole P → (a : ℕ) (ls : List Lit) → slice_get P.arrays a ≡ Some ls → get_or (counts_from [] P.arrays) a 0 ≡ elements_count (counts_from [] P.arrays) ls
 counted_elements P b w a ls at = counts_at P 0 a a [] P.arrays ls refl (omega arith) at (array_closable P b w a nowhere ls at)

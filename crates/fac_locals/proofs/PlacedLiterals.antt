@@ -11,7 +11,7 @@ use Rattle.fac_lang.specs.declared.program.Program.{Program}
 use Rattle.fac_lang.specs.declared.program.WordDef.{WordDef}
 use Rattle.fac_lang.specs.declared.program.Sort.{Sort}
 use Rattle.fac_lang.specs.declared.program.Sort.TheVariants.{Body as body, Past as past, Method as method}
-use Rattle.fac_lang.specs.Forms.{IsBuilt}
+use Rattle.fac_lang.proofs.SourcePrograms.{IsSourceProgram}
 use Rattle.fac_lang.specs.Whole.{IsWhole}
 use Rattle.fac_captures.specs.declared.cell.Cell.{Cell}
 use Rattle.fac_captures.specs.Cells.{cells_behind, inner_cells}
@@ -148,10 +148,10 @@ place_array P (suc n) a at p = place_in (array_placed P n) (array_places P n) (p
 abbrev pub program_placed : Program → List Placed
 program_placed P = placed_words (array_placed P (length P.arrays)) 0 P.words
 
-pub placed_literals : (P : Program) → IsBuilt P → IsWhole P → map quoted_of (program_placed P) ≡ literals P
+pub placed_literals : (P : Program) → IsSourceProgram P → IsWhole P → map quoted_of (program_placed P) ≡ literals P
 placed_literals P b w = quoted_words (array_placed P (length P.arrays)) (array_literals P (length P.arrays)) (quoted_array P (length P.arrays)) P P.top (length P.arrays) 0 P.words refl (built_phrases P b) (program_closable P b w)
 
-pub placed_places : (P : Program) → IsBuilt P → IsWhole P → map place_at (program_placed P) ≡ literal_places P
+pub placed_places : (P : Program) → IsSourceProgram P → IsWhole P → map place_at (program_placed P) ≡ literal_places P
 placed_places P b w = place_words (array_placed P (length P.arrays)) (array_places P (length P.arrays)) (place_array P (length P.arrays)) P P.top (length P.arrays) 0 P.words refl (built_phrases P b) (program_closable P b w)
 
 -- A phrase has so many.
@@ -233,7 +233,7 @@ behind_anywhere : (counts : List ℕ) (n : ℕ) (p q : Place) (ls : List Lit) �
 behind_anywhere counts n p q [] = refl
 behind_anywhere counts n p q (l ∷ ls) = behind_anywhere counts (item_behind counts n (plain_item l)) p q ls
 
-module _ (P : Program) (b : IsBuilt P) (w : IsWhole P) where
+module _ (P : Program) (b : IsSourceProgram P) (w : IsWhole P) where
   -- the method in which a literal array stands
   abbrev around : ℕ → Option ℕ
   around a = array_method P (length P.arrays) a

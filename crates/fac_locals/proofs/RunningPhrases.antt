@@ -1,4 +1,4 @@
--- The phrases of a built program as they run: which items stand in those of its words and of its literals.
+-- The phrases of a whole program as they run: which items stand in those of its words and of its literals.
 use Rattle.std.proofs.Common.{◌≡◌, ◌<◌, ℕ, zero, suc, ◌+◌, List, [], ◌∷◌, ◌++◌, length, Bool, true, false, Option, Some, None, refl, ap, sym, subst, ◌∙◌, arith}
 use Rattle.std.proofs.lemmas.Bool.{ltb-true}
 use Rattle.std.specs.Prelude.{slice_get}
@@ -11,7 +11,7 @@ use Rattle.fac_lang.specs.declared.program.Sort.{Sort}
 use Rattle.fac_lang.specs.declared.program.Sort.TheVariants.{Body as body, Past as past, Method as method}
 use Rattle.fac_lang.specs.Phrases.{int, yes, no, str, wrd, Literal, Phrase, end, then, Item, lit, lit_arr, quot, word, bind, local, fry, hole, call_eff, exec_eff, next_method, next_after}
 use Rattle.fac_lang.specs.Substitution.{of_method, of_method_item}
-use Rattle.fac_lang.specs.Forms.{IsBuilt, IsBuiltPhrase, IsBuiltItem, IsBuiltSort, AreBuiltWords, AreBuiltElements, AreBuiltArrays}
+use Rattle.fac_lang.proofs.SourcePrograms.{IsSourceProgram, IsSourcePhrase, IsSourceItem, IsSourceSort, AreSourceWords, AreSourceElements, AreSourceArrays}
 use Rattle.fac_lang.specs.Meaning.{sort_of, of_method_if, method_naming, array_naming, array_method, phrase_names, nowhere}
 use Rattle.fac_lang.proofs.FormsLemmas.{sort_at}
 use Rattle.fac_captures.specs.declared.cell.Cell.{Cell}
@@ -49,13 +49,13 @@ module _ (P : Program) where
     IsRunItem (exec_eff g) = Unit {0}
     IsRunItem _ = ⊥
 
-  -- a phrase of the built forms
+  -- a phrase with the items that a source can have
   mutual
-    pub built_runs : (t : Phrase) → IsBuiltPhrase P.top t → IsRun t
+    pub built_runs : (t : Phrase) → IsSourcePhrase P.top t → IsRun t
     built_runs end h = tt
     built_runs (then i p t) h = (built_item_runs i h.0, built_runs t h.1)
 
-    built_item_runs : (i : Item) → IsBuiltItem P.top i → IsRunItem i
+    built_item_runs : (i : Item) → IsSourceItem P.top i → IsRunItem i
     built_item_runs (lit (int z)) h = tt
     built_item_runs (lit yes) h = tt
     built_item_runs (lit no) h = tt
@@ -76,11 +76,11 @@ module _ (P : Program) where
   -- in a method
   module _ (m : ℕ) (is : IsMethod (sort_of P m)) where
     mutual
-      pub method_runs : (t : Phrase) → IsBuiltPhrase P.top t → IsRun (of_method m t)
+      pub method_runs : (t : Phrase) → IsSourcePhrase P.top t → IsRun (of_method m t)
       method_runs end h = tt
       method_runs (then i p t) h = (method_item_runs i h.0, method_runs t h.1)
 
-      method_item_runs : (i : Item) → IsBuiltItem P.top i → IsRunItem (of_method_item m i)
+      method_item_runs : (i : Item) → IsSourceItem P.top i → IsRunItem (of_method_item m i)
       method_item_runs (lit (int z)) h = tt
       method_item_runs (lit yes) h = tt
       method_item_runs (lit no) h = tt
@@ -105,20 +105,20 @@ module _ (P : Program) where
   RunsAs w (method c g t) = IsRun (of_method w t)
   RunsAs w _ = Unit {0}
 
-  -- a sort with a phrase of the built forms, where it has one
+  -- a sort with such a phrase, where it has one
   abbrev HasBuilt : Sort → Type 0
-  HasBuilt (body t) = IsBuiltPhrase P.top t
+  HasBuilt (body t) = IsSourcePhrase P.top t
   HasBuilt (past t) = ⊥
-  HasBuilt (method c g t) = IsBuiltPhrase P.top t
+  HasBuilt (method c g t) = IsSourcePhrase P.top t
   HasBuilt _ = Unit {0}
 
-  sort_built : (d : WordDef) (s : Sort) → IsBuiltSort P.top d s → HasBuilt s
+  sort_built : (d : WordDef) (s : Sort) → IsSourceSort P.top d s → HasBuilt s
   sort_built d (body t) h = h
   sort_built d (past t) h = absurd h
   sort_built d (method c g t) h = h.1
   sort_built d _ h = tt
 
-  among : (ds : List WordDef) (d : WordDef) (w : ℕ) (x : WordDef) → AreBuiltWords P.top ds → HasBuilt d.sort → slice_get (ds ++ d ∷ []) w ≡ Some x → HasBuilt x.sort
+  among : (ds : List WordDef) (d : WordDef) (w : ℕ) (x : WordDef) → AreSourceWords P.top ds → HasBuilt d.sort → slice_get (ds ++ d ∷ []) w ≡ Some x → HasBuilt x.sort
   among [] d zero x h f e = let same : d ≡ x = cc in subst (λ (y : WordDef). HasBuilt y.sort) same f
   among [] d (suc w) x h f e = absurd (cc)
   among (y ∷ ds) d zero x h f e = let same : y ≡ x = cc in subst (λ (z : WordDef). HasBuilt z.sort) same (sort_built y y.sort h.0)
@@ -130,11 +130,11 @@ module _ (P : Program) where
   runs_as w (method c g t) e h = method_runs w (rw e tt) t h
   runs_as w _ e h = tt
 
-  module _ (b : IsBuilt P) where
+  module _ (b : IsSourceProgram P) where
     pub word_runs : (w : ℕ) (d : WordDef) → slice_get P.words w ≡ Some d → RunsAs w d.sort
     word_runs w d e =
-        let last : HasBuilt b.last_word.sort = rw b.last_word_is.sort_is b.last_word_is.phrase_built in
-        runs_as w d.sort (sort_at P w d e) (among b.words b.last_word w d b.built last (subst (λ (ds : List WordDef). slice_get ds w ≡ Some d) b.words_are e))
+        let last : HasBuilt b.last_word.sort = rw b.last_word_is.sort_is b.last_word_is.from_source in
+        runs_as w d.sort (sort_at P w d e) (among b.words b.last_word w d b.words_from_source last (subst (λ (ds : List WordDef). slice_get ds w ≡ Some d) b.words_are e))
 
     -- Literal arrays. One may stand in a method.
     abbrev pub IsMethodIf : Option ℕ → Type 0
@@ -165,11 +165,11 @@ module _ (P : Program) where
     array_method_is zero a = naming_is a 0 P.words (λ j d e. let n : 0 + j ≡ j = omega arith in ap (slice_get P.words) n ∙ e)
     array_method_is (suc n) a = around_is n (method_naming P a 0 P.words) (array_naming P a 0 P.arrays) (naming_is a 0 P.words (λ j d e. let n : 0 + j ≡ j = omega arith in ap (slice_get P.words) n ∙ e)) (array_method_is n)
 
-    pub quoted_runs : (m : Option ℕ) → IsMethodIf m → (t : Phrase) → IsBuiltPhrase P.top t → IsRun (of_method_if m t)
+    pub quoted_runs : (m : Option ℕ) → IsMethodIf m → (t : Phrase) → IsSourcePhrase P.top t → IsRun (of_method_if m t)
     quoted_runs None is t h = built_runs t h
     quoted_runs (Some m) is t h = method_runs m is t h
 
-    elements_run : (m : Option ℕ) → IsMethodIf m → (p : Place) (ls : List Lit) → AreBuiltElements P.top ls → IsRun (elements_phrase m p ls)
+    elements_run : (m : Option ℕ) → IsMethodIf m → (p : Place) (ls : List Lit) → AreSourceElements P.top ls → IsRun (elements_phrase m p ls)
     elements_run m is p [] h = tt
     elements_run m is p (l_int z ∷ ls) h = (tt, elements_run m is p ls h.1)
     elements_run m is p (l_yes ∷ ls) h = (tt, elements_run m is p ls h.1)
@@ -180,13 +180,13 @@ module _ (P : Program) where
     elements_run m is p (l_quot t ∷ ls) h = (quoted_runs m is t h.0, elements_run m is p ls h.1)
     elements_run m is p (l_made k ∷ ls) h = absurd h.0
 
-    array_built : (a : ℕ) (lss : List (List Lit)) → AreBuiltArrays P.top lss → AreBuiltElements P.top (array_or_none (slice_get lss a))
+    array_built : (a : ℕ) (lss : List (List Lit)) → AreSourceArrays P.top lss → AreSourceElements P.top (array_or_none (slice_get lss a))
     array_built a [] h = tt
     array_built zero (ls ∷ lss) h = h.0
     array_built (suc a) (ls ∷ lss) h = array_built a lss h.1
 
     array_runs : (a : ℕ) (p : Place) → IsRun (array_phrase P a p)
-    array_runs a p = elements_run (array_method P (length P.arrays) a) (array_method_is (length P.arrays) a) p (array_or_none (slice_get P.arrays a)) (array_built a P.arrays b.arrays_built)
+    array_runs a p = elements_run (array_method P (length P.arrays) a) (array_method_is (length P.arrays) a) p (array_or_none (slice_get P.arrays a)) (array_built a P.arrays b.arrays_from_source)
 
   -- Literals.
   abbrev AllRun : List Quoted → Type 0
@@ -209,7 +209,7 @@ module _ (P : Program) where
       item_literals cells at (lit_arr a) h = arrays_run a at
       item_literals cells at _ h = tt
 
-  module _ (b : IsBuilt P) where
+  module _ (b : IsSourceProgram P) where
     array_literals_run : (n a : ℕ) (at : Literal) → AllRun (array_literals P n a at)
     array_literals_run zero a at = tt
     array_literals_run (suc n) a at = phrase_literals (array_literals P n) (array_literals_run n) [] (first_in_array at) (array_phrase P a nowhere) (array_runs b a nowhere)

@@ -5,7 +5,7 @@ use Rattle.fac_lang.specs.Phrases.{Phrase, end, then, Item, quot, fry}
 use Rattle.fac_lang.specs.declared.phrase.Place.{Place}
 use Rattle.fac_lang.specs.declared.phrase.Item.{Item as PlacedItem}
 use Rattle.fac_lang.specs.declared.phrase.What.{What}
-use Rattle.fac_lang.specs.declared.phrase.What.TheVariants.{Int, True, False, Str, Arr, Wref, Quot, Word, Bind, Local as LocalValue, Fry, Hole as HoleValue, CallEff, ExecEff, NextMethod, NextAfter, Made}
+use Rattle.fac_lang.specs.declared.phrase.What.TheVariants.{Int, True, False, Str, Arr, Wref, Quot, Choices, Word, Bind, Local as LocalValue, Fry, Hole as HoleValue, CallEff, ExecEff, NextMethod, NextAfter, Made}
 use Rattle.fac_lang.specs.declared.phrase.Template.{Template}
 use Rattle.fac_lang.specs.declared.program.Lit.{Lit}
 use Rattle.fac_lang.specs.declared.program.Lit.TheVariants.{Int as l_int, True as l_yes, False as l_no, Str as l_str, Arr as l_arr, Wref as l_word, Quot as l_quot, Made as l_made}
@@ -61,6 +61,7 @@ module _ (counts : List ℕ) (m : Option ℕ) where
   what_closed cells n (Arr a) = refl
   what_closed cells n (Wref w) = refl
   what_closed cells n (Quot t) = refl
+  what_closed cells n (Choices c) = refl
   what_closed cells n (Word w) = refl
   what_closed cells n (Bind x) = refl
   what_closed cells n (LocalValue x) = cell_closed (LocalValue x) (cell_number cells (Local x))
@@ -143,6 +144,12 @@ module _ (counts : List ℕ) (m : Option ℕ) where
         passing = pass_on first start (items_phrase whole) cells before (items_phrase rest) behind (what_item i.what) i.place (items_phrase left) so_far.passing (ap items_phrase is_next) closed.passed;
         left = closed.left;
       })
+
+  pub item_asked :
+      (t : Phrase) (first cells : List Cell) (start now : Closing) (whole items rest left : List PlacedItem) (i : PlacedItem) → items_phrase whole ≡ t → rest ≡ i ∷ left →
+      ((is : List Item) → AreAskedBy (quotations_in (items_phrase whole) ++ is) start.asked → ItemsClosed counts m first start whole items cells now rest is) → AreAsked (quotations_in t) start.asked → AreAsked (quotations_at (what_item i.what)) now.asked
+  item_asked t first cells start now whole items rest left i same is_next closes asked =
+      (quotations_in (items_phrase left) ++ asked.0, next_asked asked.0 rest left now.asked i is_next (closes asked.0 (subst (λ (u : Phrase). AreAskedBy (quotations_in u ++ asked.0) start.asked) (sym same) asked.1)).left)
 
   pub none_left : (is : List PlacedItem) → length is ≡ 0 → is ≡ []
   none_left [] e = refl

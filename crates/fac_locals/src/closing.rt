@@ -1,20 +1,20 @@
 //! Programs whose quotations and fries are numbered templates.
-ghost use Rattle.std.specs.Prelude.{◌≡◌, ◌+◌, ◌<◌, [], length, set, suc, IfOk, OnOk};
-ghost use Rattle.fac_lang.specs.Forms.{IsBuilt};
+ghost use Rattle.std.specs.Prelude.{◌≡◌, ◌+◌, ◌<◌, [], ◌∷◌, length, reverse, set, suc, Some, MatchOption, IfOk, OnOk};
 ghost use Rattle.fac_lang.specs.Whole.{IsWhole};
-ghost use Rattle.fac_lang.specs.PhraseView.{what_item};
-ghost use Rattle.fac_lang.specs.Phrases.{bind};
+ghost use Rattle.fac_lang.specs.PhraseView.{choices_behind, choices_phrase, items_phrase, what_item};
+ghost use Rattle.fac_lang.specs.Phrases.{append, end, quot, bind};
 ghost use Rattle.fac_slots.specs.Slots.{slot_counts};
 ghost use Rattle.fac_captures.specs.Cells.{cell_number, cells_behind};
 ghost use Rattle.fac_captures.specs.Asked.{quotations_in, quotations_at};
 ghost use Rattle.fac_locals.specs.Closed.{Closes};
-ghost use Rattle.fac_locals.specs.inner.Numbering.{ItemPassed, PhrasePassed, ArrayPassed, WordsPassed, ClosesWhat, ClosesTree, IsAsked, AreAsked, NumberTaken, KeptTaken, PartsClosed, closed_phrase, closed_element, closed_elements, closed_sort, closed_word, closed_words};
-ghost use Rattle.fac_locals.specs.inner.Numbering.{method_of, next_what, cell_what, phrase_of, plain_item, plain_phrase, array_closed, arrays_closed, stage_of};
+ghost use Rattle.fac_locals.specs.inner.Numbering.{ItemPassed, PhrasePassed, ArrayPassed, WordsPassed, ClosesWhat, ClosesTree, IsAsked, AreAsked, NumberTaken, KeptTaken, IsEnteredAsked, EntersLevel, EntersInside, ClosesChoices, PartsClosed, closed_phrase, closed_element, closed_elements, closed_sort, closed_word, closed_words};
+ghost use Rattle.fac_locals.specs.inner.Numbering.{put_all, method_of, next_what, cell_what, phrase_of, plain_item, plain_phrase, phrase_cells, choice_in, level_templates, array_closed, arrays_closed, stage_of};
 
 use crate::counting::{behind_array, count_arrays, count_words, one_more};
 use fac_captures::{AllAsked, Cell, Kept, asked_in, keep, number_of};
 use fac_lang::{
-    Item, List, Lit, Memory, Phrase, Place, Program, Queue, Sort, Template, What, WordDef,
+    Choices, Item, List, Lit, Memory, Phrase, Place, Program, Queue, Sort, Stack, Template, What,
+    WordDef,
 };
 use fac_slots::slot_counts;
 use std::alloc::Global;
@@ -54,6 +54,15 @@ struct Closing {
     starts: Vec<ArrayStart>,
     // What the quotations and fries of the phrase ask for that are still to be closed.
     asked: AllAsked,
+}
+
+// A quotation that was gone into. All of its phrase is closed but the choice behind it, where it has one.
+#[derive(Drop)]
+struct Level {
+    number: u32,
+    place: Place,
+    captures: List<u32>,
+    body: Phrase,
 }
 
 // So many templates, whose phrases are still to be put.
@@ -173,6 +182,110 @@ fn bind_cell(cells: &mut List<Cell>, local: u32) -> Result<u32, Memory>
     Ok(number)
 }
 
+// Takes the outermost of choices, which stand with the innermost first. None where there is none left.
+fn take_outer(phrases: &mut Vec<Phrase>) -> Option<Phrase>
+    ensures { MatchOption result ((reverse phrases.old.items ≡ []) × (reverse phrases.new.items ≡ [])) (λ t. reverse phrases.old.items ≡ t ∷ reverse phrases.new.items) }
+{
+    phrases.pop()
+}
+
+// Takes the outermost phrase of choices. Where there is none, it is the empty one.
+fn take_outermost(alloc: Global, choices: &mut Choices) -> Phrase
+    ensures { choices_phrase choices.old ≡ append result (choices_behind choices.new.word choices.new.place (reverse choices.new.phrases.items)) }
+{
+    match take_outer(&mut choices.phrases) {
+        Some(phrase) => phrase,
+        None => Phrase {
+            items: Vec::new(alloc),
+        },
+    }
+}
+
+// Adds the quotation of this number and the word that chooses.
+fn add_choice(items: &mut Vec<Item>, number: u32, word: u32, place: Place) -> Result<(), Memory>
+    ensures { OnOk result (items_phrase items.new.items ≡ append (items_phrase items.old.items) (choice_in word place (Some number))) }
+{
+    items.push(Item {
+        what: What::Made(number),
+        place,
+    })?;
+    items.push(Item {
+        what: What::Word(word),
+        place,
+    })?;
+    Ok(())
+}
+
+// A phrase with the choice behind it whose quotation has this number.
+fn chosen(phrase: Phrase, number: u32, word: u32, place: Place) -> Result<Phrase, Memory>
+    ensures { IfOk result (λ whole. whole ≡ append phrase (choice_in word place (Some number))) }
+{
+    let Phrase { items } = phrase;
+    let mut items = items;
+    add_choice(&mut items, number, word, place)?;
+    Ok(Phrase { items })
+}
+
+// A phrase with the choice behind it whose quotation has this number, or with none.
+fn with_choice(
+    phrase: Phrase,
+    inside: Option<u32>,
+    word: u32,
+    place: Place,
+) -> Result<Phrase, Memory>
+    ensures { IfOk result (λ whole. whole ≡ append phrase (choice_in word place inside)) }
+{
+    match inside {
+        Some(number) => chosen(phrase, number, word, place),
+        None => Ok(phrase),
+    }
+}
+
+// Puts the template of a quotation that was gone into, where the one inside it has this number or there is none.
+fn leave_level(
+    templates: &mut Vec<Template>,
+    level: Level,
+    inside: Option<u32>,
+    word: u32,
+    place: Place,
+) -> Result<u32, Memory>
+    ensures left { OnOk result (templates.new.items ≡ set templates.old.items level.number (record { body = append level.body (choice_in word place inside); captures = level.captures; holes = 0; place = level.place })) }
+    ensures number { IfOk result (λ number. number ≡ level.number) }
+{
+    let Level {
+        number,
+        place: own,
+        captures,
+        body,
+    } = level;
+    let whole = with_choice(body, inside, word, place)?;
+    let template = Template {
+        body: whole,
+        captures,
+        holes: 0,
+        place: own,
+    };
+    put(templates, number, template);
+    Ok(number)
+}
+
+// Puts the templates of quotations inside one another, the innermost first.
+fn leave_levels(
+    templates: &mut Vec<Template>,
+    levels: Stack<Level>,
+    word: u32,
+    place: Place,
+) -> Result<(), Memory>
+    ensures { OnOk result (templates.new.items ≡ put_all templates.old.items (level_templates word place levels end)) }
+{
+    let mut left = levels;
+    let mut inside = None;
+    while let Some(level) = left.pop() {
+        inside = Some(leave_level(templates, level, inside, word, place)?);
+    }
+    Ok(())
+}
+
 // An item under these cells with a template in place of its quotation or fry, in the phrase of this method or in none.
 #[cycle(closing)]
 fn close_what(
@@ -195,7 +308,8 @@ fn close_what(
                 captures,
                 cells: own,
             } = take_kept(alloc, closing, cells, 0)?;
-            let body = close_phrase(inner, alloc, closing, counts, method, own)?;
+            let mut own = own;
+            let body = close_phrase(inner, alloc, closing, counts, method, &mut own)?;
             let template = Template {
                 body,
                 captures,
@@ -205,13 +319,19 @@ fn close_what(
             put(&mut closing.templates, number, template);
             Ok(What::Made(number))
         }
+        What::Choices(choices) => {
+            let number = closing.next;
+            close_choices(choices, alloc, closing, counts, place, method, cells)?;
+            Ok(What::Made(number))
+        }
         What::Fry(inner, holes) => {
             let number = take_number(closing)?;
             let Kept {
                 captures,
                 cells: own,
             } = take_kept(alloc, closing, cells, holes)?;
-            let body = close_phrase(inner, alloc, closing, counts, method, own)?;
+            let mut own = own;
+            let body = close_phrase(inner, alloc, closing, counts, method, &mut own)?;
             let template = Template {
                 body,
                 captures,
@@ -241,19 +361,101 @@ fn close_phrase(
     closing: &mut Closing,
     counts: &[u32],
     method: Option<u32>,
-    cells: List<Cell>,
+    cells: &mut List<Cell>,
 ) -> Result<Phrase, Memory>
     requires { AreAsked (quotations_in phrase) closing.old.asked }
-    ensures { IfOk result (λ closed. ClosesTree counts.now method cells closing.old phrase closed closing.new) }
+    ensures closed { IfOk result (λ closed. ClosesTree counts.now method cells.old closing.old phrase closed closing.new) }
+    ensures cells { OnOk result (cells.new ≡ phrase_cells cells.old phrase) }
 {
-    let mut cells = cells;
     let mut items = Vec::with_capacity(alloc, phrase.items.len())?;
     for item in phrase.items {
         let Item { what, place } = item;
-        let what = close_what(what, alloc, closing, counts, place, method, &mut cells)?;
+        let what = close_what(what, alloc, closing, counts, place, method, cells)?;
         items.push(Item { what, place })?;
     }
     Ok(Phrase { items })
+}
+
+// Goes into a quotation that stands at this place under these cells, where this is its phrase up to the choice behind it, and tells the cells
+// of its frame there.
+#[cycle(closing)]
+fn enter(
+    phrase: Phrase,
+    alloc: Global,
+    closing: &mut Closing,
+    counts: &[u32],
+    place: Place,
+    method: Option<u32>,
+    cells: &List<Cell>,
+) -> Result<(Level, List<Cell>), Memory>
+    requires { IsEnteredAsked phrase closing.old.asked }
+    ensures { IfOk result (λ entered. EntersLevel counts.now method cells.now closing.old place phrase entered.0 entered.1 closing.new) }
+{
+    let number = take_number(closing)?;
+    let Kept {
+        captures,
+        cells: own,
+    } = take_kept(alloc, closing, cells, 0)?;
+    let mut inner = own;
+    let body = close_phrase(phrase, alloc, closing, counts, method, &mut inner)?;
+    let level = Level {
+        number,
+        place,
+        captures,
+        body,
+    };
+    Ok((level, inner))
+}
+
+// Goes into the quotations of choices inside one another, an outer one first.
+#[cycle(closing)]
+fn enter_inside(
+    choices: Choices,
+    alloc: Global,
+    closing: &mut Closing,
+    counts: &[u32],
+    method: Option<u32>,
+    levels: &mut Stack<Level>,
+    cells: List<Cell>,
+) -> Result<(), Memory>
+    requires { AreAsked (quotations_in (choices_behind choices.word choices.place (reverse choices.phrases.items))) closing.old.asked }
+    ensures { OnOk result (EntersInside counts.now method choices.word choices.place levels.old cells closing.old (reverse choices.phrases.items) levels.new closing.new) }
+{
+    let Choices { phrases, place, .. } = choices;
+    let mut rest = phrases;
+    let mut inner = cells;
+    while let Some(phrase) = take_outer(&mut rest) {
+        let (level, own) = enter(phrase, alloc, closing, counts, place, method, &inner)?;
+        levels.push(level)?;
+        inner = own;
+    }
+    Ok(())
+}
+
+// Closes choices inside one another, whose outermost quotation stands at this place under these cells.
+#[cycle(closing)]
+fn close_choices(
+    choices: Choices,
+    alloc: Global,
+    closing: &mut Closing,
+    counts: &[u32],
+    place: Place,
+    method: Option<u32>,
+    cells: &List<Cell>,
+) -> Result<(), Memory>
+    requires { AreAsked (quotations_at (quot (choices_phrase choices))) closing.old.asked }
+    ensures { OnOk result (ClosesChoices counts.now method cells.now closing.old place (choices_phrase choices) closing.new) }
+{
+    let mut rest = choices;
+    let outermost = take_outermost(alloc, &mut rest);
+    let word = rest.word;
+    let at = rest.place;
+    let (level, inner) = enter(outermost, alloc, closing, counts, place, method, cells)?;
+    let mut levels = Stack::new(alloc);
+    levels.push(level)?;
+    enter_inside(rest, alloc, closing, counts, method, &mut levels, inner)?;
+    leave_levels(&mut closing.templates, levels, word, at)?;
+    Ok(())
 }
 
 // A phrase under no cells with templates in place of its quotations and fries.
@@ -267,7 +469,8 @@ fn close_whole(
     ensures { IfOk result (λ closed. (closed ≡ closed_phrase counts.now method [] closing.old.next phrase) × PhrasePassed counts.now method [] closing.old phrase closing.new) }
 {
     closing.asked = asked_in(alloc, &phrase)?;
-    let closed = close_phrase(phrase, alloc, closing, counts, method, List::new(alloc))?;
+    let mut cells = List::new(alloc);
+    let closed = close_phrase(phrase, alloc, closing, counts, method, &mut cells)?;
     Ok(closed)
 }
 
@@ -460,8 +663,7 @@ fn close_parts(
 /// `call-next-method` of a method by the next one after that method. Templates are numbered from 0, word by word, an outer quotation before
 /// those in it, and those of a literal array where the array stands. Want of memory is the one error.
 pub fn close(alloc: Global, program: Program, start: u64) -> Result<Closed, Memory>
-    requires built { IsBuilt program }
-    requires whole { IsWhole program }
+    requires { IsWhole program }
     ensures { IfOk result (λ closed. Closes program closed.program closed.templates × (closed.start ≡ start)) }
 {
     let Program {

@@ -1,10 +1,11 @@
 //! How many quotations and fries there are.
-ghost use Rattle.std.specs.Prelude.{◌≡◌, ◌+◌, [], suc, slice_index_or, IfOk};
+ghost use Rattle.std.specs.Prelude.{◌≡◌, ◌+◌, ℕ, [], suc, reverse, slice_index_or, IfOk};
 ghost use Rattle.fac_lang.specs.Meaning.{nowhere};
-ghost use Rattle.fac_lang.specs.PhraseView.{what_item};
+ghost use Rattle.fac_lang.specs.declared.phrase.Place.{Place};
+ghost use Rattle.fac_lang.specs.PhraseView.{choices_behind, choices_phrase, what_item};
 ghost use Rattle.fac_locals.specs.inner.Numbering.{phrase_behind, item_behind, plain_item, plain_phrase, elements_count, counts_from, words_behind, phrase_of};
 
-use fac_lang::{List, Lit, Memory, Phrase, Sort, What, WordDef};
+use fac_lang::{Choices, List, Lit, Memory, Phrase, Sort, What, WordDef};
 use std::alloc::Global;
 
 /// The number behind this one.
@@ -37,6 +38,7 @@ fn behind_what(what: &What, counts: &[u32], number: u32) -> Result<u32, Memory>
 {
     match what {
         What::Quot(inner) => behind_phrase(inner, counts, one_more(number)?),
+        What::Choices(choices) => behind_choices(choices, counts, one_more(number)?),
         What::Fry(inner, _) => behind_phrase(inner, counts, one_more(number)?),
         What::Arr(array) => behind_array(*array, counts, number),
         _ => Ok(number),
@@ -53,6 +55,35 @@ fn behind_phrase(phrase: &Phrase, counts: &[u32], number: u32) -> Result<u32, Me
         behind = behind_what(&item.what, counts, behind)?;
     }
     Ok(behind)
+}
+
+// The number behind those of choices inside one another and of the quotations around them, an outer one first.
+#[cycle(counting)]
+fn behind_inside(phrases: &[Phrase], counts: &[u32], number: u32) -> Result<u32, Memory>
+    ensures { IfOk result (λ n. (w : ℕ) (p : Place) → n ≡ phrase_behind counts.now number (choices_behind w p (reverse phrases.now))) }
+{
+    let mut behind = number;
+    let mut rest = phrases;
+    while let Some((phrase, inner)) = rest.split_last() {
+        behind = behind_phrase(phrase, counts, one_more(behind)?)?;
+        rest = inner;
+    }
+    Ok(behind)
+}
+
+// The number behind those of the quotations in the phrase that choices inside one another are.
+#[cycle(counting)]
+fn behind_choices(choices: &Choices, counts: &[u32], number: u32) -> Result<u32, Memory>
+    ensures { IfOk result (λ n. n ≡ phrase_behind counts.now number (choices_phrase choices.now)) }
+{
+    match choices.phrases.split_last() {
+        Some((outermost, inner)) => {
+            let behind = behind_phrase(outermost, counts, number)?;
+            let last = behind_inside(inner, counts, behind)?;
+            Ok(last)
+        }
+        None => Ok(number),
+    }
 }
 
 // The number behind those of an element's quotations.

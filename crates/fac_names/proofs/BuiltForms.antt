@@ -1,8 +1,9 @@
--- Each form keeps what is read of the forms built.
+-- Behind each form what was read is made of what sources have.
 use Rattle.std.proofs.Common.{◌≡◌, ◌+◌, ℕ, suc, List, [], ◌∷◌, ◌++◌, map, length, fold, Option, Some, None, Bool, true, false, refl, sym, ◌∙◌, subst, arith}
 use Rattle.std.specs.Prelude.{if◌then◌else◌, ◌&&◌, nat_le, nat_lt, codes}
 use Rattle.std.specs.Option.{option_map}
-use Rattle.fac_lang.specs.Forms.{IsBuiltPhrase, IsBuiltSort, numbers_before}
+use Rattle.fac_lang.proofs.SourcePrograms.{IsSourcePhrase, IsSourceSort}
+use Rattle.fac_names.proofs.PrimitiveNumbers.{numbers_before}
 use Rattle.fac_lang.specs.Phrases.{Phrase}
 use Rattle.fac_lang.specs.Signatures.{Signature}
 use Rattle.fac_lang.specs.Whole.{name_count, plain_effect}
@@ -94,7 +95,7 @@ declared_ok : (k : ℕ) (s : Scope) (e : Declared) (u : Phrase) (inline recursiv
 declared_ok k s (given e) u inline recursive h = h
 declared_ok k s (makes t) u inline recursive h = refl
 
-declared_built : (bound : ℕ) (s : Scope) (e : Declared) (u : Phrase) (inline recursive : Bool) (d : WordDef) → IsFewDeclared e inline recursive → IsBuiltPhrase bound u → IsBuiltLate bound (record d { sort = body u; effect = declared_effect e; inline = inline; recursive = recursive }) (declared_late s e)
+declared_built : (bound : ℕ) (s : Scope) (e : Declared) (u : Phrase) (inline recursive : Bool) (d : WordDef) → IsFewDeclared e inline recursive → IsSourcePhrase bound u → IsBuiltLate bound (record d { sort = body u; effect = declared_effect e; inline = inline; recursive = recursive }) (declared_late s e)
 declared_built bound s (given e) u inline recursive d h is = is
 declared_built bound s (makes t) u inline recursive d h is = record { built = is; not_inline = h.0; not_recursive = h.1 }
 
@@ -227,7 +228,7 @@ class_form_built t searched names r few b =
 record IsAccessor (s : Sort) (ins outs : List (List ℕ)) (text : List ℕ) : Type 0 where
   no_primitive : (ks : List ℕ) → numbers_before s ks ≡ ks
   no_arrays : names_by s ≡ []
-  built : (bound : ℕ) (d : WordDef) → IsBuiltSort bound (record d { sort = s; effect = plain_effect ins outs; inline = false; recursive = false }) s
+  built : (bound : ℕ) (d : WordDef) → IsSourceSort bound (record d { sort = s; effect = plain_effect ins outs; inline = false; recursive = false }) s
   ok : (k : ℕ) → ((class_in k s && late_in s settled) && nat_le (name_count (plain_effect ins outs)) 65) ≡ true
   text_is : accessor_text s ≡ Some text
 

@@ -1,8 +1,8 @@
--- Phrases and arrays that items come to are of the forms built.
+-- Phrases and arrays that items come to have what sources have.
 use Rattle.std.proofs.Common.{◌≡◌, ◌<◌, ◌≤◌, ℕ, List, [], ◌∷◌, ◌++◌, Option, Some, None, Bool, true, false, suc, arith}
 use Rattle.std.specs.Prelude.{nat_lt}
 use Rattle.std.proofs.lemmas.Bool.Decides.{Decides-ltb}
-use Rattle.fac_lang.specs.Forms.{AreBuiltArrays, AreBuiltElements, IsBuiltItem, IsBuiltPhrase}
+use Rattle.fac_lang.proofs.SourcePrograms.{AreSourceArrays, AreSourceElements, IsSourceItem, IsSourcePhrase}
 use Rattle.fac_lang.specs.Phrases.{int, yes, no, str, Phrase, end, then as placed, local, word}
 use Rattle.fac_lang.specs.RunningLaws.{append}
 use Rattle.fac_lang.specs.declared.program.Lit.{Lit}
@@ -15,11 +15,11 @@ use Rattle.fac_names.proofs.BuiltScopes.{ScopeBelow, WordBelow, word_below_held,
 
 -- Phrases and arrays.
 
-arrays_with : (bound : ℕ) (arrays : List (List Lit)) (ls : List Lit) → AreBuiltArrays bound arrays → AreBuiltElements bound ls → AreBuiltArrays bound (arrays ++ ls ∷ [])
+arrays_with : (bound : ℕ) (arrays : List (List Lit)) (ls : List Lit) → AreSourceArrays bound arrays → AreSourceElements bound ls → AreSourceArrays bound (arrays ++ ls ∷ [])
 arrays_with bound [] ls h k = (k, tt)
 arrays_with bound (xs ∷ arrays) ls h k = (h.0, arrays_with bound arrays ls h.1 k)
 
-pub append_built : (bound : ℕ) (t u : Phrase) → IsBuiltPhrase bound t → IsBuiltPhrase bound u → IsBuiltPhrase bound (append t u)
+pub append_built : (bound : ℕ) (t u : Phrase) → IsSourcePhrase bound t → IsSourcePhrase bound u → IsSourcePhrase bound (append t u)
 append_built bound end u h k = k
 append_built bound (placed i p t) u h k = (h.0, append_built bound t u h.1 k)
 
@@ -34,13 +34,13 @@ held_below : (n bound : ℕ) (s : Scope) (vocab name : List ℕ) → 0 < n → n
 held_below n bound s vocab name some few h = number_below n bound (word_held s.table vocab name) some few (word_below_held n s.table vocab name h.table)
 
 -- a local or a word
-name_built : (n bound : ℕ) (s : Scope) (t : Tok) (o : Option ℕ) → 0 < n → n ≤ bound → ScopeBelow n s → IsBuiltItem bound (elim o [ Some x ↦ local x | None ↦ word (word_of s t) ])
+name_built : (n bound : ℕ) (s : Scope) (t : Tok) (o : Option ℕ) → 0 < n → n ≤ bound → ScopeBelow n s → IsSourceItem bound (elim o [ Some x ↦ local x | None ↦ word (word_of s t) ])
 name_built n bound s t (Some x) some few h = tt
 name_built n bound s t None some few h = found_below n bound s t some few h
 
 mutual
-  pub phrase_built : (n bound : ℕ) (s : Scope) (locals : List (List ℕ)) (fry : Bool) (ns : Nodes) (arrays : List (List Lit)) (holes : ℕ) → 0 < n → n ≤ bound → ScopeBelow n s → ArePlain fry ns → AreBuiltArrays bound arrays →
-      IsBuiltPhrase bound (phrase_of s locals ns arrays holes).phrase × AreBuiltArrays bound (phrase_of s locals ns arrays holes).arrays
+  pub phrase_built : (n bound : ℕ) (s : Scope) (locals : List (List ℕ)) (fry : Bool) (ns : Nodes) (arrays : List (List Lit)) (holes : ℕ) → 0 < n → n ≤ bound → ScopeBelow n s → ArePlain fry ns → AreSourceArrays bound arrays →
+      IsSourcePhrase bound (phrase_of s locals ns arrays holes).phrase × AreSourceArrays bound (phrase_of s locals ns arrays holes).arrays
   phrase_built n bound s locals fry nothing arrays holes some few h plain k = (tt, k)
   phrase_built n bound s locals fry (more (n_lit (int z) p) ns) arrays holes some few h plain k = let rest = phrase_built n bound s locals fry ns arrays holes some few h plain.1 k in ((tt, rest.0), rest.1)
   phrase_built n bound s locals fry (more (n_lit yes p) ns) arrays holes some few h plain k = let rest = phrase_built n bound s locals fry ns arrays holes some few h plain.1 k in ((tt, rest.0), rest.1)
@@ -78,8 +78,8 @@ mutual
       (append_built bound m.phrase (phrase_of s locals ns m.arrays m.holes).phrase inner.0 rest.0, rest.1)
   phrase_built n bound s locals fry (more x ns) arrays holes some few h plain k = absurd plain.0
 
-  pub elements_built : (n bound : ℕ) (s : Scope) (ns : Nodes) (arrays : List (List Lit)) → 0 < n → n ≤ bound → ScopeBelow n s → AreElements ns → AreBuiltArrays bound arrays →
-      AreBuiltElements bound (elements_of s ns arrays).elements × AreBuiltArrays bound (elements_of s ns arrays).arrays
+  pub elements_built : (n bound : ℕ) (s : Scope) (ns : Nodes) (arrays : List (List Lit)) → 0 < n → n ≤ bound → ScopeBelow n s → AreElements ns → AreSourceArrays bound arrays →
+      AreSourceElements bound (elements_of s ns arrays).elements × AreSourceArrays bound (elements_of s ns arrays).arrays
   elements_built n bound s nothing arrays some few h plain k = (tt, k)
   elements_built n bound s (more (n_lit (int z) p) ns) arrays some few h plain k = let rest = elements_built n bound s ns arrays some few h plain.1 k in ((tt, rest.0), rest.1)
   elements_built n bound s (more (n_lit yes p) ns) arrays some few h plain k = let rest = elements_built n bound s ns arrays some few h plain.1 k in ((tt, rest.0), rest.1)

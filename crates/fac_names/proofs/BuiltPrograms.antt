@@ -1,4 +1,4 @@
--- Every resolved program is of the forms built, and whole.
+-- Every resolved program is whole.
 use Rattle.std.proofs.Common.{◌≡◌, ◌≤◌, ◌+◌, ℕ, List, [], ◌∷◌, ◌++◌, map, length, fold, Option, Some, None, Result, Ok, Err, true, false, refl, ap, sym, ◌∙◌, subst, arith, length-append}
 use Rattle.std.specs.Prelude.{IfOk, nat_le, not}
 use Rattle.std.specs.List.{list_all}
@@ -6,7 +6,8 @@ use Rattle.std.specs.Str.{bytes_eq}
 use Rattle.std.proofs.lemmas.List.{length-map}
 use Rattle.std.proofs.lemmas.List.Folds.{list_all-append}
 use Rattle.fac_lang.specs.Classes.{slots_within}
-use Rattle.fac_lang.specs.Forms.{IsBuilt, has_no_repeats}
+use Rattle.fac_lang.proofs.SourcePrograms.{IsSourceProgram}
+use Rattle.fac_names.proofs.PrimitiveNumbers.{has_no_repeats, numbers_alone}
 use Rattle.fac_lang.specs.Phrases.{Phrase}
 use Rattle.fac_lang.specs.RunningLaws.{append}
 use Rattle.fac_lang.specs.Whole.{IsWhole, all_arrays_named, all_phrases, quotations, arrays_in, arrays_named, has_generic_effect, joined, name_count, no_two, reaches, times_in, word_phrases}
@@ -16,7 +17,6 @@ use Rattle.fac_lang.specs.declared.program.Sort.{Sort}
 use Rattle.fac_lang.specs.declared.program.Sort.TheVariants.{Body as body, Past as past, Method as method}
 use Rattle.fac_lang.specs.declared.program.WordDef.{WordDef}
 use Rattle.fac_lang.specs.declared.tree.Form.{Form as Flat}
-use Rattle.fac_lang.proofs.FormsLemmas.{all_distinct}
 use Rattle.fac_parse.specs.Trees.{AreWellFormed, IsWellFormed}
 use Rattle.fac_vocab.specs.Scopes.{begun}
 use Rattle.fac_refusal.specs.declared.refusal.NameFault.{NameFault}
@@ -132,7 +132,7 @@ ended r b h =
       finishes = finishes_of r.words cs [] r.words fits (λ c. slots_few (length cs) cs c tested.ends tested.slots (omega arith)) fits none.0;
     }
 
--- The program is of the forms built.
+-- The program is made of what sources have.
 
 abbrev phrase_in : Reading → Phrase
 phrase_in r = append r.top r.main
@@ -146,8 +146,8 @@ all_sound r c h =
     let words = words_closed r.words (all_classes r) r.words (top_word (phrase_in r)) h.finishes c.words (append_sound r.top r.main c.top c.main) in
     list_all-append is_sound (word_phrases (program_of false r).words) (joined (map quotations r.arrays)) ∙ and_true (list_all is_sound (word_phrases (program_of false r).words)) (are_sound r.arrays) words c.arrays
 
-is_built : (r : Reading) → BuiltUp r → Closed r → IsEnded r → IsBuilt (program_of false r)
-is_built r b c h =
+from_source : (r : Reading) → BuiltUp r → IsEnded r → IsSourceProgram (program_of false r)
+from_source r b h =
     let n = length r.words in
     record {
       words = words_in r;
@@ -155,11 +155,9 @@ is_built r b c h =
       phrase = phrase_in r;
       words_are = refl;
       top_is = sym (length-map r.words (finished r.words (all_classes r)));
-      last_word_is = record { sort_is = refl; phrase_built = append_built n r.top r.main (b.top n (omega arith)) (b.main n (omega arith)); effect_is = refl; not_inline = refl; not_recursive = refl };
-      built = words_built n r.words (all_classes r) r.words h.finishes (b.words n (omega arith));
-      distinct = ap has_no_repeats (numbers_same r.words (all_classes r) r.words h.finishes) ∙ b.distinct;
-      arrays_built = b.arrays n (omega arith);
-      holes_stand = sound_stands (all_phrases (program_of false r)) (all_sound r c h);
+      last_word_is = record { sort_is = refl; from_source = append_built n r.top r.main (b.top n (omega arith)) (b.main n (omega arith)); effect_is = refl; not_inline = refl; not_recursive = refl };
+      words_from_source = words_built n r.words (all_classes r) r.words h.finishes (b.words n (omega arith));
+      arrays_from_source = b.arrays n (omega arith);
     }
 
 -- The arrays that words name.
@@ -206,9 +204,9 @@ is_together r b c h =
     let cs = all_classes r in
     let last = top_word (phrase_in r) in
     let held = b.held h.first in
-    let built = is_built r b c h in
     record {
       closed = sound_closed (all_phrases (program_of false r)) (all_sound r c h);
+      holes_stand = sound_stands (all_phrases (program_of false r)) (all_sound r c h);
       few = all_pass ds cs (λ (d : WordDef). nat_le (name_count d.effect) 65) last (few_pass (length cs) ds h.ok) refl h.ok h.finishes;
       once = named_once r h.finishes b.counted;
       earlier = b.counted.earlier;
@@ -219,42 +217,28 @@ is_together r b c h =
       few_slots = each_below_is (λ c. nat_le (length (slots_within (length cs) cs c)) 64) (length cs) (λ c less. is_small (length (slots_within (length cs) cs c)) (slots_few (length cs) cs c h.tested.ends h.tested.slots (omega arith)));
       class_names_differ = classes_differ ds r.scope.table r.old_classes r.classes held.0 held.1;
       classes_end = each_below_is (λ c. not (reaches (length cs) cs c c)) (length cs) (λ c less. ap not (h.tested.ends c));
-      words_differ = words_differ r.scope.table P.words (all_distinct P built) (accessor_words ds cs r.scope.table 0 ds last refl h.finishes b.accessors);
+      words_differ = words_differ r.scope.table P.words (ap has_no_repeats (numbers_alone (words_in r) last (phrase_in r) refl ∙ numbers_same ds cs ds h.finishes) ∙ b.distinct) (accessor_words ds cs r.scope.table 0 ds last refl h.finishes b.accessors);
       methods_differ = methods_differ (words_in r) last (phrase_in r) refl (words_apart ds cs [] ds h.fits h.words);
     }
 
 -- Resolved programs.
 
-record IsSound (P : Program) : Type 0 where
-  built : IsBuilt P
-  whole : IsWhole P
+sound : (r : Reading) → BuiltUp r → Closed r → first_fault r ≡ None → IsWhole (program_of false r)
+sound r b c h = let end = ended r b h in whole (program_of false r) (from_source r b end) (is_together r b c end)
 
-sound : (r : Reading) → BuiltUp r → Closed r → first_fault r ≡ None → IsSound (program_of false r)
-sound r b c h =
-    let end = ended r b h in
-    let built = is_built r b c end in
-    record { built = built; whole = whole (program_of false r) built (is_together r b c end) }
-
-answered : (r : Reading) (o : Option NameFault) (P : Program) → BuiltUp r → Closed r → first_fault r ≡ o → program_alone (answer false r o) ≡ Ok P → IsSound P
+answered : (r : Reading) (o : Option NameFault) (P : Program) → BuiltUp r → Closed r → first_fault r ≡ o → program_alone (answer false r o) ≡ Ok P → IsWhole P
 answered r (Some f) P b c is h = absurd (err_ok f P h)
   where
     err_ok : (f : NameFault) (P : Program) → Err f ≡ Ok P → ⊥
     err_ok f P e = cc
-answered r None P b c is h = subst IsSound (ap (λ (x : Result Program NameFault). elim x [ Ok Q ↦ Q | Err f ↦ P ]) h) (sound r b c is)
+answered r None P b c is h = subst IsWhole (ap (λ (x : Result Program NameFault). elim x [ Ok Q ↦ Q | Err f ↦ P ]) h) (sound r b c is)
 
-resolved_sound : (files : List (List Flat)) (P : Program) → AreWellFormed files → resolved files ≡ Ok P → IsSound P
+pub resolved_are_whole : (files : List (List Flat)) (P : Program) → AreWellFormed files → resolved files ≡ Ok P → IsWhole P
 unfolding resolved
-resolved_sound files P fits h =
+resolved_are_whole files P fits h =
     let r = fold (take_file false) first_reading (map (map form_of) files) in
     answered r (first_fault r) P (files_built files first_reading fits first_built) (files_closed files first_reading fits first_closed) refl h
 
-pub resolved_are_whole : (files : List (List Flat)) (P : Program) → AreWellFormed files → resolved files ≡ Ok P → IsWhole P
-resolved_are_whole files P fits h = (resolved_sound files P fits h).whole
-
-pub resolved_built : (files : List (List Flat)) (e : Result Program ResolveFault) → AreWellFormed files → Resolves files e → IfOk e (λ P. IsBuilt P)
-resolved_built files (Ok P) fits h = (resolved_sound files P fits h).built
-resolved_built files (Err f) fits h = tt
-
 pub resolved_whole : (files : List (List Flat)) (e : Result Program ResolveFault) → AreWellFormed files → Resolves files e → IfOk e (λ P. IsWhole P)
-resolved_whole files (Ok P) fits h = (resolved_sound files P fits h).whole
+resolved_whole files (Ok P) fits h = resolved_are_whole files P fits h
 resolved_whole files (Err f) fits h = tt

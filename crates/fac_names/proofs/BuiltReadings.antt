@@ -1,10 +1,11 @@
--- What forms come to is of the forms built.
+-- What forms come to is made of what sources have.
 use Rattle.std.proofs.Common.{◌≡◌, ◌<◌, ◌≤◌, ◌+◌, ℕ, zero, suc, List, [], ◌∷◌, ◌++◌, length, Option, Some, None, Bool, true, false, refl, ap, sym, ◌∙◌, subst, arith}
 use Rattle.std.specs.Prelude.{◌&&◌, nat_le, codes}
 use Rattle.std.specs.List.{list_all}
 use Rattle.std.proofs.lemmas.List.{length_push}
 use Rattle.std.proofs.lemmas.List.Folds.{list_all-append}
-use Rattle.fac_lang.specs.Forms.{AreBuiltArrays, IsBuiltPhrase, IsBuiltSort, has_no_repeats, numbers_before}
+use Rattle.fac_lang.proofs.SourcePrograms.{AreSourceArrays, IsSourcePhrase, IsSourceSort}
+use Rattle.fac_names.proofs.PrimitiveNumbers.{has_no_repeats, numbers_before, numbers_in, numbers_with, numbers_placed, told_distinct}
 use Rattle.fac_lang.specs.Phrases.{Phrase}
 use Rattle.fac_lang.specs.RunningLaws.{append}
 use Rattle.fac_lang.specs.Signatures.{Signature}
@@ -30,19 +31,18 @@ use Rattle.fac_names.specs.KnownWords.{known_classes}
 use Rattle.fac_names.proofs.ArrayReadings.{Begins, Counted, items_counted, main_counted, names_by, refused_counted, scoped_counted, told_counted}
 use Rattle.fac_names.proofs.BuiltScopes.{ScopeBelow, brought_more, entries_defined, entries_more, entries_with}
 use Rattle.fac_names.proofs.HeldNames.{AccessorAt, AccessorsHeld, AreNamed, KeepsHeld, KeepsNames, KeepsTold, NewHeld, OldHeld, WordHeld, accessors_kept, accessors_placed, accessors_push, accessors_told, held_defined, held_same, named_defined, named_kept, names_changed, names_push, new_kept, new_with, old_kept, told_other, told_placed, told_push}
-use Rattle.fac_names.proofs.PrimitiveNumbers.{numbers_in, numbers_with, numbers_with, numbers_placed, told_distinct}
 
 -- Words.
 
 -- a word whose phrase has an effect that the end gives it
 pub record IsLateBody (bound : ℕ) (d : WordDef) : Type 0 where
-  pub built : IsBuiltSort bound d d.sort
+  pub built : IsSourceSort bound d d.sort
   pub not_inline : d.inline ≡ false
   pub not_recursive : d.recursive ≡ false
 
--- a word is of the forms built, where it isn't only deferred
+-- a word is one that a source can have, where it isn't only deferred
 abbrev pub IsBuiltLate : ℕ → WordDef → Late → Type 0
-IsBuiltLate bound d settled = IsBuiltSort bound d d.sort
+IsBuiltLate bound d settled = IsSourceSort bound d d.sort
 IsBuiltLate bound d deferred = Unit {0}
 IsBuiltLate bound d (maker r) = IsLateBody bound d
 IsBuiltLate bound d (method_of c g) = IsLateBody bound d
@@ -65,8 +65,8 @@ pub record Built (k c : ℕ) (r : Reading) : Type 0 where
   pub scope : ScopeBelow (length r.words) r.scope
   pub words : (bound : ℕ) → length r.words ≤ bound → DraftsBuilt bound r.words
   pub ok : list_all (draft_ok k) r.words ≡ true
-  pub top : (bound : ℕ) → length r.words ≤ bound → IsBuiltPhrase bound r.top
-  pub main : (bound : ℕ) → length r.words ≤ bound → IsBuiltPhrase bound r.main
+  pub top : (bound : ℕ) → length r.words ≤ bound → IsSourcePhrase bound r.top
+  pub main : (bound : ℕ) → length r.words ≤ bound → IsSourcePhrase bound r.main
   pub distinct : has_no_repeats (numbers_in r.words) ≡ true
   pub old : r.old_classes ≡ known_classes
   pub own : list_all (λ (d : NewClass). own_few d.names) r.classes ≡ true
@@ -74,7 +74,7 @@ pub record Built (k c : ℕ) (r : Reading) : Type 0 where
   pub named : AreNamed r.words r.scope.table
   pub accessors : AccessorsHeld r.scope.table 0 r.words
   pub held : r.first ≡ None → AreHeld r
-  pub arrays : (bound : ℕ) → length r.words ≤ bound → AreBuiltArrays bound r.arrays
+  pub arrays : (bound : ℕ) → length r.words ≤ bound → AreSourceArrays bound r.arrays
   pub counted : Counted r
 
 -- the same but for the first refusal
@@ -203,7 +203,7 @@ drafts_changed bound f zero (d ∷ ds) keeps h = (keeps d h.0, h.1)
 drafts_changed bound f (suc n) (d ∷ ds) keeps h = (h.0, drafts_changed bound f n ds keeps h.1)
 
 -- the place of a word is no part of what is built
-placed_sort : (bound : ℕ) (d : WordDef) (p : Place) (s : Sort) → IsBuiltSort bound d s → IsBuiltSort bound (record d { place = p }) s
+placed_sort : (bound : ℕ) (d : WordDef) (p : Place) (s : Sort) → IsSourceSort bound d s → IsSourceSort bound (record d { place = p }) s
 placed_sort bound d p (prim k) h = record { row = h.row; row_is = h.row_is; is_built = h.is_built; effect_is = h.effect_is; not_inline = h.not_inline; not_recursive = h.not_recursive }
 placed_sort bound d p (core k) h = record { row = h.row; row_is = h.row_is; is_built = h.is_built; effect_is = h.effect_is; not_inline = h.not_inline; not_recursive = h.not_recursive }
 placed_sort bound d p (body t) h = h
@@ -275,7 +275,7 @@ told_keeps n s e inline recursive late arrays first before begins =
     record { names = names_changed (with_told s e inline recursive late) (λ d. refl) n.word n.reading.words; words = told_other (with_told s e inline recursive late) n.word n.reading.words (λ d at. (begins.fresh.untold d at).1); table = held_same n.reading.scope.table; first = before }
 
 pub told_built : (k c : ℕ) (n : Numbered) (s : Sort) (e : Signature) (inline recursive : Bool) (late : Late) (arrays : List (List Lit)) (first : Option NameFault) → IsTold k n s e inline recursive late → (first ≡ None → n.reading.first ≡ None) →
-    ((bound : ℕ) → length n.reading.words ≤ bound → AreBuiltArrays bound arrays) → Adds n.reading.arrays arrays (names_by s) → Begins n → Built k c n.reading → Built k c (told s e inline recursive late (record { word = n.word; reading = record n.reading { arrays = arrays; first = first } }))
+    ((bound : ℕ) → length n.reading.words ≤ bound → AreSourceArrays bound arrays) → Adds n.reading.arrays arrays (names_by s) → Begins n → Built k c n.reading → Built k c (told s e inline recursive late (record { word = n.word; reading = record n.reading { arrays = arrays; first = first } }))
 told_built k c n s e inline recursive late arrays first t before is_built adds begins b =
     let r = n.reading in
     let w = n.word in
@@ -303,12 +303,12 @@ told_built k c n s e inline recursive late arrays first t before is_built adds b
 
 -- The top-level phrase.
 
-pub with_top : (k c : ℕ) (r : Reading) (t : Phrase) (arrays : List (List Lit)) (first : Option NameFault) → (first ≡ None → r.first ≡ None) → ((bound : ℕ) → length r.words ≤ bound → IsBuiltPhrase bound (append r.top t)) → ((bound : ℕ) → length r.words ≤ bound → AreBuiltArrays bound arrays) → Adds r.arrays arrays (arrays_named t) →
+pub with_top : (k c : ℕ) (r : Reading) (t : Phrase) (arrays : List (List Lit)) (first : Option NameFault) → (first ≡ None → r.first ≡ None) → ((bound : ℕ) → length r.words ≤ bound → IsSourcePhrase bound (append r.top t)) → ((bound : ℕ) → length r.words ≤ bound → AreSourceArrays bound arrays) → Adds r.arrays arrays (arrays_named t) →
     Built k c r → Built k c (record r { top = append r.top t; arrays = arrays; first = first })
 with_top k c r t arrays first before h is_built adds b =
     record { some = b.some; scope = b.scope; words = b.words; ok = b.ok; top = h; main = b.main; distinct = b.distinct; old = b.old; own = b.own; count = b.count; named = b.named; accessors = b.accessors; held = λ none. b.held (before none); arrays = is_built; counted = items_counted r t arrays first adds b.counted }
 
-pub with_main : (k c : ℕ) (r : Reading) (t : Phrase) (first : Option NameFault) → (first ≡ None → r.first ≡ None) → ((bound : ℕ) → length r.words ≤ bound → IsBuiltPhrase bound t) → arrays_named t ≡ [] → Built k c r → Built k c (record r { main = t; first = first })
+pub with_main : (k c : ℕ) (r : Reading) (t : Phrase) (first : Option NameFault) → (first ≡ None → r.first ≡ None) → ((bound : ℕ) → length r.words ≤ bound → IsSourcePhrase bound t) → arrays_named t ≡ [] → Built k c r → Built k c (record r { main = t; first = first })
 with_main k c r t first before h none b =
     record { some = b.some; scope = b.scope; words = b.words; ok = b.ok; top = b.top; main = h; distinct = b.distinct; old = b.old; own = b.own; count = b.count; named = b.named; accessors = b.accessors; held = λ is_none. b.held (before is_none); arrays = b.arrays; counted = main_counted r t first none b.counted }
 

@@ -5,7 +5,7 @@ use Rattle.std.specs.List.{list_any}
 use Rattle.std.specs.Option.{option_map}
 use Rattle.std.specs.Str.{bytes_eq}
 use Rattle.std.proofs.lemmas.Slice.Eq.{bytes_eq-Decides}
-use Rattle.fac_lang.specs.Forms.{has_no_repeats, is_member, numbers_before, primitive_numbers}
+use Rattle.fac_names.proofs.PrimitiveNumbers.{has_no_repeats, is_member, numbers_before, primitive_numbers}
 use Rattle.fac_lang.specs.Whole.{no_two, same_class_name, same_name, same_word}
 use Rattle.fac_lang.specs.declared.program.ClassDef.{ClassDef}
 use Rattle.fac_lang.specs.declared.program.Name.{Name as FullName}

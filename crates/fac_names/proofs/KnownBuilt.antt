@@ -1,4 +1,4 @@
--- What there is before the first file is of the forms built.
+-- What there is before the first file is made of what sources have.
 use Rattle.std.proofs.Common.{◌≡◌, ◌+◌, ◌≤◌, ℕ, suc, List, [], ◌∷◌, ◌++◌, map, length, Option, Some, None, Bool, true, false, refl, ap, sym, ◌∙◌, subst, arith, length-append, append_assoc}
 use Rattle.std.specs.Prelude.{is_some, nat_lt, not, slice_get}
 use Rattle.std.specs.List.{list_all}
@@ -7,7 +7,8 @@ use Rattle.std.proofs.lemmas.Bool.Decides.{Decides-ltb}
 use Rattle.std.proofs.lemmas.List.{length_push, length-map}
 use Rattle.fac_lang.specs.BuiltInClasses.{BuiltInClass, built_in_classes}
 use Rattle.fac_lang.specs.CoreWords.{CoreWord, core_word, built_core_words, is_built_core}
-use Rattle.fac_lang.specs.Forms.{AreBuiltWords, has_no_repeats, primitive_numbers}
+use Rattle.fac_lang.proofs.SourcePrograms.{AreSourceWords}
+use Rattle.fac_names.proofs.PrimitiveNumbers.{has_no_repeats, primitive_numbers, words_in}
 use Rattle.fac_lang.specs.Primitives.{Primitive, built_primitives, built_primitive_words, prim_numbered, primitive_word, built_count, is_built_primitive}
 use Rattle.fac_lang.specs.Whole.{times_in}
 use Rattle.fac_lang.specs.declared.program.WordDef.{WordDef}
@@ -23,13 +24,12 @@ use Rattle.fac_names.proofs.EntryLemmas.{known_ascending}
 use Rattle.fac_names.proofs.ClosedForms.{Closed, drafts_closed}
 use Rattle.fac_names.proofs.BuiltForms.{BuiltUp, up}
 use Rattle.fac_names.proofs.BuiltReadings.{DraftsBuilt, draft_ok}
-use Rattle.fac_names.proofs.PrimitiveNumbers.{words_in}
 use Rattle.fac_names.proofs.BuiltScopes.{EntriesBelow}
 use Rattle.fac_names.proofs.HeldNames.{AccessorsHeld, AreNamed, ClassHeld, OldHeld, accessor_text, name_at, no_accessor}
 
 -- Words.
 
-built_with : (bound : ℕ) (ds es : List WordDef) → AreBuiltWords bound ds → AreBuiltWords bound es → AreBuiltWords bound (ds ++ es)
+built_with : (bound : ℕ) (ds es : List WordDef) → AreSourceWords bound ds → AreSourceWords bound es → AreSourceWords bound (ds ++ es)
 built_with bound [] es h k = k
 built_with bound (d ∷ ds) es h k = (h.0, built_with bound ds es h.1 k)
 
@@ -50,7 +50,7 @@ is_numbered ps rest p e =
     let count = sym (length-append ps (p ∷ rest)) ∙ ap length e in
     (Decides-ltb (length ps) (length built_primitives)).1 (omega (arith, count))
 
-primitives_built : (bound n : ℕ) (ps rest : List Primitive) → n ≡ length ps → ps ++ rest ≡ built_primitives → AreBuiltWords bound (primitives_from n (map (λ (p : Primitive). p.word) rest))
+primitives_built : (bound n : ℕ) (ps rest : List Primitive) → n ≡ length ps → ps ++ rest ≡ built_primitives → AreSourceWords bound (primitives_from n (map (λ (p : Primitive). p.word) rest))
 primitives_built bound n ps [] same e = tt
 primitives_built bound n ps (p ∷ rest) same e = (
   record { row = p.word; row_is = ap primitive_word same ∙ primitive_at ps rest p e; is_built = ap is_built_primitive same ∙ is_numbered ps rest p e; effect_is = refl; not_inline = refl; not_recursive = refl },
@@ -62,20 +62,20 @@ abbrev AreCoreRows : List CoreWord → Type 0
 AreCoreRows [] = Unit {0}
 AreCoreRows (row ∷ rows) = (core_word row.number ≡ Some row.word) × (is_built_core row.number ≡ true) × AreCoreRows rows
 
-cores_built : (bound : ℕ) (rows : List CoreWord) → AreCoreRows rows → AreBuiltWords bound (core_words_of rows)
+cores_built : (bound : ℕ) (rows : List CoreWord) → AreCoreRows rows → AreSourceWords bound (core_words_of rows)
 cores_built bound [] h = tt
 cores_built bound (row ∷ rows) h = (record { row = row.word; row_is = h.0; is_built = h.1; effect_is = refl; not_inline = refl; not_recursive = refl }, cores_built bound rows h.2)
 
-predicate_built : (bound k : ℕ) (row : BuiltInClass) (b : Bool) → AreBuiltWords bound (predicates_if b row k)
+predicate_built : (bound k : ℕ) (row : BuiltInClass) (b : Bool) → AreSourceWords bound (predicates_if b row k)
 predicate_built bound k row true = (record { effect_is = refl; not_inline = refl; not_recursive = refl }, tt)
 predicate_built bound k row false = tt
 
-classes_built : (bound k : ℕ) (rows : List BuiltInClass) → AreBuiltWords bound (class_words_from k rows)
+classes_built : (bound k : ℕ) (rows : List BuiltInClass) → AreSourceWords bound (class_words_from k rows)
 classes_built bound k [] = tt
 classes_built bound k (row ∷ rows) =
     (record { effect_is = refl; not_inline = refl; not_recursive = refl }, built_with bound (predicates_if row.has_predicate row k) (class_words_from (k + 1) rows) (predicate_built bound k row row.has_predicate) (classes_built bound (k + 1) rows))
 
-known_built : (bound : ℕ) → AreBuiltWords bound known_words
+known_built : (bound : ℕ) → AreSourceWords bound known_words
 unfolding known_words built_primitive_words
 known_built bound =
     built_with bound (primitives_from 0 built_primitive_words ++ core_words_of built_core_words) (class_words_from 0 built_in_classes)
@@ -95,7 +95,7 @@ known_ok : list_all (draft_ok 12) (map settled_draft known_words) ≡ true
 unfolding known_words built_primitive_words
 known_ok = refl
 
-settled_built : (bound : ℕ) (ds : List WordDef) → AreBuiltWords bound ds → DraftsBuilt bound (map settled_draft ds)
+settled_built : (bound : ℕ) (ds : List WordDef) → AreSourceWords bound ds → DraftsBuilt bound (map settled_draft ds)
 settled_built bound [] h = tt
 settled_built bound (d ∷ ds) h = (h.0, settled_built bound ds h.1)
 

@@ -1,15 +1,38 @@
 -- The primitives of words, by their numbers: no two words are the same one.
 use Rattle.std.proofs.Common.{◌≡◌, ℕ, zero, suc, List, [], ◌∷◌, ◌++◌, map, Bool, true, false, refl, ap, ◌∙◌}
 use Rattle.std.specs.Prelude.{◌&&◌, ◌||◌, not, nat_eq}
-use Rattle.fac_lang.specs.Forms.{has_no_repeats, is_member, numbers_before, primitive_numbers}
+use Rattle.fac_lang.specs.Phrases.{Phrase}
 use Rattle.fac_lang.specs.declared.phrase.Place.{Place}
 use Rattle.fac_lang.specs.declared.program.Sort.{Sort}
-use Rattle.fac_lang.specs.declared.program.Sort.TheVariants.{Prim as prim}
+use Rattle.fac_lang.specs.declared.program.Sort.TheVariants.{Prim as prim, Body as body}
 use Rattle.fac_lang.specs.declared.program.WordDef.{WordDef}
 use Rattle.fac_items.specs.Written.{Tok}
 use Rattle.fac_endings.specs.declared.draft.Draft.{Draft}
 use Rattle.fac_endings.proofs.Apart.{and_true}
 use Rattle.fac_names.specs.Forms.{at_place, changed, draft_of}
+
+-- whether a number is in a list
+abbrev pub is_member : ℕ → List ℕ → Bool
+is_member k [] = false
+is_member k (x ∷ xs) = nat_eq k x || is_member k xs
+
+abbrev pub has_no_repeats : List ℕ → Bool
+has_no_repeats [] = true
+has_no_repeats (k ∷ ks) = not (is_member k ks) && has_no_repeats ks
+
+-- the primitives of words, by their numbers
+abbrev pub numbers_before : Sort → List ℕ → List ℕ
+numbers_before (prim k) ks = k ∷ ks
+numbers_before _ ks = ks
+
+abbrev pub primitive_numbers : List WordDef → List ℕ
+primitive_numbers [] = []
+primitive_numbers (d ∷ ds) = numbers_before d.sort (primitive_numbers ds)
+
+-- the word of a top-level phrase is none
+pub numbers_alone : (ds : List WordDef) (d : WordDef) (t : Phrase) → d.sort ≡ body t → primitive_numbers (ds ++ d ∷ []) ≡ primitive_numbers ds
+numbers_alone [] d t e = rw e refl
+numbers_alone (x ∷ ds) d t e = ap (numbers_before x.sort) (numbers_alone ds d t e)
 
 abbrev pub words_in : List Draft → List WordDef
 words_in ds = map (λ (d : Draft). d.word) ds

@@ -2,7 +2,6 @@
 use Rattle.std.proofs.Common.{◌≡◌, List, [], ◌∷◌, ◌++◌, fold, Result, ap, sym, ◌∙◌}
 use Rattle.std.proofs.lemmas.List.Sums.{fold-append}
 use Rattle.std.specs.Prelude.{IfOk}
-use Rattle.fac_lang.specs.Forms.{IsBuilt}
 use Rattle.fac_lang.specs.Whole.{IsWhole}
 use Rattle.fac_lang.specs.declared.program.Program.{Program}
 use Rattle.fac_lang.specs.declared.tree.Form.{Form as Flat}
@@ -15,7 +14,7 @@ use Rattle.fac_names.specs.Taken.{HasTaken, take_flat, take_front, taken}
 use Rattle.fac_names.specs.declared.resolver.Resolver.{Resolver}
 use Rattle.fac_names.specs.inner.Ended.{EndsReading}
 use Rattle.fac_names.specs.inner.State.{reading_of}
-use Rattle.fac_names.proofs.BuiltPrograms.{resolved_built, resolved_whole}
+use Rattle.fac_names.proofs.BuiltPrograms.{resolved_whole}
 use Rattle.fac_names.proofs.EndingLemmas.{resolves}
 use Rattle.fac_names.proofs.FileLemmas.{files_taken}
 
@@ -51,9 +50,6 @@ all_taken old new files is h = is ∙ ap (λ (r : Reading). fold take_front r fi
 pub taken_resolves : (now : Resolver) (e : Result Program ResolveFault) → EndsReading (reading_of now.so_far) e → (files : List (List Flat)) → AreWellFormed files → HasTaken files now → Resolves files e
 unfolding HasTaken taken
 taken_resolves now e ends files fits h = resolves files (reading_of now.so_far) e (h ∙ files_taken files first_reading fits) ends
-
-pub taken_built : (now : Resolver) (e : Result Program ResolveFault) → EndsReading (reading_of now.so_far) e → (files : List (List Flat)) → AreWellFormed files → HasTaken files now → IfOk e (λ P. IsBuilt P)
-taken_built now e ends files fits h = resolved_built files e fits (taken_resolves now e ends files fits h)
 
 pub taken_whole : (now : Resolver) (e : Result Program ResolveFault) → EndsReading (reading_of now.so_far) e → (files : List (List Flat)) → AreWellFormed files → HasTaken files now → IfOk e (λ P. IsWhole P)
 taken_whole now e ends files fits h = resolved_whole files e fits (taken_resolves now e ends files fits h)

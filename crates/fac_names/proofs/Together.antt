@@ -5,7 +5,8 @@ use Rattle.std.specs.List.{list_all, list_any}
 use Rattle.std.specs.Str.{bytes_eq}
 use Rattle.std.proofs.lemmas.List.Folds.{list_all-append, list_any-append}
 use Rattle.std.proofs.lemmas.Slice.Eq.{bytes_eq-Decides}
-use Rattle.fac_lang.specs.Forms.{AreBuiltWords, IsBuiltSort, numbers_before, primitive_numbers}
+use Rattle.fac_lang.proofs.SourcePrograms.{AreSourceWords, IsSourceSort}
+use Rattle.fac_names.proofs.PrimitiveNumbers.{numbers_before, primitive_numbers, numbers_in}
 use Rattle.fac_lang.specs.Phrases.{Phrase}
 use Rattle.fac_lang.specs.Signatures.{Signature, signature, Inputs, no_inputs, value, quoted, Leaving, never, leaves}
 use Rattle.fac_lang.specs.Whole.{arrays_named, effect_eq, has_generic_effect, inputs_eq, is_effect, is_generic, joined, leaving_eq, name_count, names_eq, no_two, same_method, side_eq, word_phrases}
@@ -25,7 +26,6 @@ use Rattle.fac_endings.proofs.EndedClasses.{class_in, draft_fits}
 use Rattle.fac_endings.proofs.EndedWords.{FinishOf, stays, makes, methods, FinishesOf, methods_turn}
 use Rattle.fac_names.proofs.ArrayReadings.{named_in, names_by}
 use Rattle.fac_names.proofs.BuiltReadings.{DraftsBuilt, IsBuiltLate, draft_ok}
-use Rattle.fac_names.proofs.PrimitiveNumbers.{numbers_in}
 use Rattle.fac_names.proofs.Distinct.{AccessorWords}
 use Rattle.fac_names.proofs.HeldNames.{AccessorAt, AccessorsHeld, accessor_text, no_accessor}
 use Rattle.fac_names.proofs.WholePrograms.{sort_named}
@@ -58,16 +58,16 @@ mutual
 
 -- Words at the end are built.
 
-body_built : (bound : ℕ) (d e : WordDef) (s : Sort) (t : Phrase) → s ≡ body t → IsBuiltSort bound d s → IsBuiltSort bound e s
-body_built bound d e s t is h = subst (IsBuiltSort bound e) (sym is) (subst (IsBuiltSort bound d) is h)
+body_built : (bound : ℕ) (d e : WordDef) (s : Sort) (t : Phrase) → s ≡ body t → IsSourceSort bound d s → IsSourceSort bound e s
+body_built bound d e s t is h = subst (IsSourceSort bound e) (sym is) (subst (IsSourceSort bound d) is h)
 
-word_built : (bound n : ℕ) (ds : List Draft) (w e : WordDef) (l : Late) → FinishOf ds n w l e → IsBuiltLate bound w l → IsBuiltSort bound e e.sort
+word_built : (bound n : ℕ) (ds : List Draft) (w e : WordDef) (l : Late) → FinishOf ds n w l e → IsBuiltLate bound w l → IsSourceSort bound e e.sort
 word_built bound n ds w e settled stays h = h
 word_built bound n ds w e deferred f h = elim f [ ]
 word_built bound n ds w e (maker q) (makes r t s is few) h = body_built bound w (record w { effect = s }) w.sort t is h.built
-word_built bound n ds w e (method_of p q) (methods x y t c g d is less at called) h = (record { not_inline = h.not_inline; not_recursive = h.not_recursive }, subst (IsBuiltSort bound w) is h.built)
+word_built bound n ds w e (method_of p q) (methods x y t c g d is less at called) h = (record { not_inline = h.not_inline; not_recursive = h.not_recursive }, subst (IsSourceSort bound w) is h.built)
 
-pub words_built : (bound : ℕ) (ds : List Draft) (cs : List ClassDef) (xs : List Draft) → FinishesOf ds cs xs → DraftsBuilt bound xs → AreBuiltWords bound (map (finished ds cs) xs)
+pub words_built : (bound : ℕ) (ds : List Draft) (cs : List ClassDef) (xs : List Draft) → FinishesOf ds cs xs → DraftsBuilt bound xs → AreSourceWords bound (map (finished ds cs) xs)
 words_built bound ds cs [] h k = tt
 words_built bound ds cs (x ∷ xs) h k = (word_built bound (length cs) ds x.word (finished ds cs x) x.late h.0 k.0, words_built bound ds cs xs h.1 k.1)
 

@@ -1,4 +1,4 @@
--- Every program of the forms built is whole where its classes and its words are so together.
+-- A program that is made of what sources have is whole where its classes and its words are so together.
 use Rattle.std.proofs.Common.{◌≡◌, ℕ, suc, ◌<◌, ◌≤◌, Bool, true, false, not, ◌&&◌, ◌||◌, List, [], ◌∷◌, ◌++◌, Option, Some, None, length, refl, ap, sym, ◌∙◌, subst, arith, map}
 use Rattle.std.proofs.lemmas.Bool.Decides.{Decides-ltb}
 use Rattle.std.proofs.lemmas.List.{length_push}
@@ -7,11 +7,12 @@ use Rattle.std.proofs.lemmas.Slice.Eq.{bytes_eq-Decides}
 use Rattle.std.specs.Prelude.{◌+◌, ℤ, nat_lt, nat_le, nat_eq, codes}
 use Rattle.std.specs.List.{list_all}
 use Rattle.std.specs.Str.{bytes_eq}
-use Rattle.fac_lang.specs.Forms.{IsBuilt, IsBuiltPhrase, IsBuiltSort, AreBuiltArrays, AreBuiltElements, AreBuiltWords, IsTopPhrase}
+use Rattle.fac_lang.proofs.SourcePrograms.{IsSourceProgram, IsSourcePhrase, IsSourceSort, AreSourceArrays, AreSourceElements, AreSourceWords, IsTopPhrase}
 use Rattle.fac_lang.specs.Meaning.{sort_of, is_past}
 use Rattle.fac_lang.specs.PrimitiveWords.{PrimitiveWord, plain_inputs, plain_leaving, written_effect}
 use Rattle.fac_lang.specs.Phrases.{Phrase, end, then, Item, lit, int, yes, no, str, wrd, lit_arr, quot, word, bind, local, fry, hole, call_eff, exec_eff, next_method}
-use Rattle.fac_lang.specs.Whole.{IsWhole, all_arrays_named, all_phrases, arrays_in, arrays_named, joined, literal_fits, literal_spares, names_earlier, quotations, times_in, each_item, each_numbered, locals_bound, holes_within, item_fits, item_spares, is_body, tests_small, word_phrases, sort_fits, has_written_effect, has_generic_effect, marks_fit, effect_eq, inputs_eq, leaving_eq, names_eq, name_count, no_two, same_word, same_method, is_class, is_generic, shape_fits, slots_of, reaches, same_class_name, each_below, plain_effect}
+use Rattle.fac_lang.specs.Signatures.{Signature}
+use Rattle.fac_lang.specs.Whole.{IsWhole, all_arrays_named, all_phrases, arrays_in, arrays_named, joined, literal_fits, literal_spares, names_earlier, quotations, times_in, each_item, each_numbered, locals_bound, holes_within, item_fits, item_spares, is_body, tests_small, word_phrases, sort_fits, has_written_effect, has_generic_effect, marks_fit, effect_eq, inputs_eq, leaving_eq, names_eq, name_count, no_two, same_word, same_method, is_class, is_effect, is_generic, effect_of, has_its_holes, shape_fits, slots_of, reaches, same_class_name, each_below, plain_effect}
 use Rattle.fac_lang.specs.declared.phrase.Height.{Height}
 use Rattle.fac_lang.specs.declared.program.ClassDef.{ClassDef}
 use Rattle.fac_lang.specs.declared.program.Lit.{Lit}
@@ -22,7 +23,7 @@ use Rattle.fac_lang.specs.declared.program.Sort.TheVariants.{Prim as prim, Core 
 use Rattle.fac_lang.specs.declared.program.WordDef.{WordDef}
 use Rattle.fac_items.proofs.LocalNumbers.{is_closed}
 use Rattle.fac_items.proofs.ArrayNumbers.{all_below, all_named_below, all_once, below}
-use Rattle.fac_lang.proofs.FormsLemmas.{word_below, sort_at, top_sort}
+use Rattle.fac_lang.proofs.FormsLemmas.{word_below, sort_at, top_word, top_sort}
 
 -- Phrases.
 
@@ -57,7 +58,7 @@ record Passes (bound count : ℕ) (f : Item → Bool) : Type 0 where
 split_below : (n : ℕ) (xs ys : List ℕ) → all_below n (xs ++ ys) ≡ true → (all_below n xs ≡ true) × (all_below n ys ≡ true)
 split_below n xs ys h = both_true (all_below n xs) (all_below n ys) (sym (list_all-append (λ (b : ℕ). nat_lt b n) xs ys) ∙ h)
 
-items_pass : (bound count : ℕ) (f : Item → Bool) → Passes bound count f → (t : Phrase) → IsBuiltPhrase bound t → all_below count (arrays_named t) ≡ true → each_item f t ≡ true
+items_pass : (bound count : ℕ) (f : Item → Bool) → Passes bound count f → (t : Phrase) → IsSourcePhrase bound t → all_below count (arrays_named t) ≡ true → each_item f t ≡ true
 items_pass bound count f p end h k = refl
 items_pass bound count f p (then (lit (int z)) place t) h k = three_true (f (lit (int z))) true (each_item f t) (p.ints z) refl (items_pass bound count f p t h.1 k)
 items_pass bound count f p (then (lit yes) place t) h k = three_true (f (lit yes)) true (each_item f t) p.truth refl (items_pass bound count f p t h.1 k)
@@ -102,14 +103,14 @@ closed_tests (t ∷ ts) h =
 
 -- Words.
 
-words_pass : (bound : ℕ) (f : WordDef → Bool) → ((d : WordDef) → IsBuiltSort bound d d.sort → f d ≡ true) → (ds : List WordDef) → AreBuiltWords bound ds → list_all f ds ≡ true
+words_pass : (bound : ℕ) (f : WordDef → Bool) → ((d : WordDef) → IsSourceSort bound d d.sort → f d ≡ true) → (ds : List WordDef) → AreSourceWords bound ds → list_all f ds ≡ true
 words_pass bound f each [] h = refl
 words_pass bound f each (d ∷ ds) h = both_are (f d) (list_all f ds) (each d h.0) (words_pass bound f each ds h.1)
 
 -- built phrases that name arrays below a number alone
 abbrev GoodPhrases : ℕ → ℕ → List Phrase → Type 0
 GoodPhrases bound count [] = Unit {0}
-GoodPhrases bound count (t ∷ ts) = IsBuiltPhrase bound t × (all_below count (arrays_named t) ≡ true) × GoodPhrases bound count ts
+GoodPhrases bound count (t ∷ ts) = IsSourcePhrase bound t × (all_below count (arrays_named t) ≡ true) × GoodPhrases bound count ts
 
 good_both : (bound count : ℕ) (ts us : List Phrase) → GoodPhrases bound count ts → GoodPhrases bound count us → GoodPhrases bound count (ts ++ us)
 good_both bound count [] us h k = k
@@ -119,19 +120,19 @@ good_both bound count (t ∷ ts) us h k = (h.0, h.1, good_both bound count ts us
 abbrev with_phrase_of : Sort → List Phrase → List Phrase
 with_phrase_of s ts = elim s [ body t ↦ t ∷ ts | past t ↦ t ∷ ts | method c g t ↦ t ∷ ts | _ ↦ ts ]
 
-good_word : (bound count : ℕ) (d : WordDef) (s : Sort) (ts : List Phrase) → IsBuiltSort bound d s → (all_below count (joined (map arrays_named ts)) ≡ true → GoodPhrases bound count ts) →
+good_word : (bound count : ℕ) (d : WordDef) (s : Sort) (ts : List Phrase) → IsSourceSort bound d s → (all_below count (joined (map arrays_named ts)) ≡ true → GoodPhrases bound count ts) →
     all_below count (joined (map arrays_named (with_phrase_of s ts))) ≡ true → GoodPhrases bound count (with_phrase_of s ts)
 good_word bound count d (body t) ts h rest k = let both = split_below count (arrays_named t) (joined (map arrays_named ts)) k in (h, both.0, rest both.1)
 good_word bound count d (method c g t) ts h rest k = let both = split_below count (arrays_named t) (joined (map arrays_named ts)) k in (h.1, both.0, rest both.1)
 good_word bound count d (past t) ts h rest k = absurd h
 good_word bound count d s ts h rest k = rest k
 
-good_words : (bound count : ℕ) (ds : List WordDef) → AreBuiltWords bound ds → all_below count (joined (map arrays_named (word_phrases ds))) ≡ true → GoodPhrases bound count (word_phrases ds)
+good_words : (bound count : ℕ) (ds : List WordDef) → AreSourceWords bound ds → all_below count (joined (map arrays_named (word_phrases ds))) ≡ true → GoodPhrases bound count (word_phrases ds)
 good_words bound count [] h k = tt
 good_words bound count (d ∷ ds) h k = good_word bound count d d.sort (word_phrases ds) h.0 (λ inside. good_words bound count ds h.1 inside) k
 
 -- the quotations in arrays
-good_elements : (bound count : ℕ) (ls : List Lit) → AreBuiltElements bound ls → all_below count (arrays_in ls) ≡ true → GoodPhrases bound count (quotations ls)
+good_elements : (bound count : ℕ) (ls : List Lit) → AreSourceElements bound ls → all_below count (arrays_in ls) ≡ true → GoodPhrases bound count (quotations ls)
 good_elements bound count [] h k = tt
 good_elements bound count (l_int z ∷ ls) h k = good_elements bound count ls h.1 k
 good_elements bound count (l_yes ∷ ls) h k = good_elements bound count ls h.1 k
@@ -142,13 +143,13 @@ good_elements bound count (l_word w ∷ ls) h k = good_elements bound count ls h
 good_elements bound count (l_quot t ∷ ls) h k = let both = split_below count (arrays_named t) (arrays_in ls) k in (h.0, both.0, good_elements bound count ls h.1 both.1)
 good_elements bound count (l_made n ∷ ls) h k = absurd h.0
 
-good_arrays : (bound count : ℕ) (lss : List (List Lit)) → AreBuiltArrays bound lss → all_below count (joined (map arrays_in lss)) ≡ true → GoodPhrases bound count (joined (map quotations lss))
+good_arrays : (bound count : ℕ) (lss : List (List Lit)) → AreSourceArrays bound lss → all_below count (joined (map arrays_in lss)) ≡ true → GoodPhrases bound count (joined (map quotations lss))
 good_arrays bound count [] h k = tt
 good_arrays bound count (ls ∷ lss) h k =
     let both = split_below count (arrays_in ls) (joined (map arrays_in lss)) k in
     good_both bound count (quotations ls) (joined (map quotations lss)) (good_elements bound count ls h.0 both.0) (good_arrays bound count lss h.1 both.1)
 
-phrases_pass : (bound count : ℕ) (f : Phrase → Bool) → ((t : Phrase) → IsBuiltPhrase bound t → all_below count (arrays_named t) ≡ true → f t ≡ true) → (ts : List Phrase) → GoodPhrases bound count ts → list_all f ts ≡ true
+phrases_pass : (bound count : ℕ) (f : Phrase → Bool) → ((t : Phrase) → IsSourcePhrase bound t → all_below count (arrays_named t) ≡ true → f t ≡ true) → (ts : List Phrase) → GoodPhrases bound count ts → list_all f ts ≡ true
 phrases_pass bound count f each [] h = refl
 phrases_pass bound count f each (t ∷ ts) h = both_are (f t) (list_all f ts) (each t h.0 h.1) (phrases_pass bound count f each ts h.2)
 
@@ -165,7 +166,7 @@ record PassesElements (bound count : ℕ) (f : Lit → Bool) : Type 0 where
   words : (w : ℕ) → nat_lt w bound ≡ true → f (l_word w) ≡ true
   quotations : (t : Phrase) → f (l_quot t) ≡ true
 
-elements_pass : (bound count : ℕ) (f : Lit → Bool) → PassesElements bound count f → (ls : List Lit) → AreBuiltElements bound ls → all_below count (arrays_in ls) ≡ true → list_all f ls ≡ true
+elements_pass : (bound count : ℕ) (f : Lit → Bool) → PassesElements bound count f → (ls : List Lit) → AreSourceElements bound ls → all_below count (arrays_in ls) ≡ true → list_all f ls ≡ true
 elements_pass bound count f p [] h k = refl
 elements_pass bound count f p (l_int z ∷ ls) h k = both_are (f (l_int z)) (list_all f ls) (p.ints z) (elements_pass bound count f p ls h.1 k)
 elements_pass bound count f p (l_yes ∷ ls) h k = both_are (f l_yes) (list_all f ls) p.truth (elements_pass bound count f p ls h.1 k)
@@ -177,20 +178,20 @@ elements_pass bound count f p (l_word w ∷ ls) h k = both_are (f (l_word w)) (l
 elements_pass bound count f p (l_quot t ∷ ls) h k = both_are (f (l_quot t)) (list_all f ls) (p.quotations t) (elements_pass bound count f p ls h.1 (split_below count (arrays_named t) (arrays_in ls) k).1)
 elements_pass bound count f p (l_made n ∷ ls) h k = absurd h.0
 
-arrays_pass : (bound count : ℕ) (f : Lit → Bool) → PassesElements bound count f → (lss : List (List Lit)) → AreBuiltArrays bound lss → all_below count (joined (map arrays_in lss)) ≡ true → list_all f (joined lss) ≡ true
+arrays_pass : (bound count : ℕ) (f : Lit → Bool) → PassesElements bound count f → (lss : List (List Lit)) → AreSourceArrays bound lss → all_below count (joined (map arrays_in lss)) ≡ true → list_all f (joined lss) ≡ true
 arrays_pass bound count f p [] h k = refl
 arrays_pass bound count f p (ls ∷ lss) h k =
     let both = split_below count (arrays_in ls) (joined (map arrays_in lss)) k in
     list_all-append f ls (joined lss) ∙ both_are (list_all f ls) (list_all f (joined lss)) (elements_pass bound count f p ls h.0 both.0) (arrays_pass bound count f p lss h.1 both.1)
 
 -- the words with the top-level phrase
-all_built : (P : Program) (b : IsBuilt P) → AreBuiltWords P.top P.words
-all_built P b = subst (AreBuiltWords P.top) (sym b.words_are) (phrase_last P.top b.words b.last_word b.phrase b.built b.last_word_is)
+all_built : (P : Program) (b : IsSourceProgram P) → AreSourceWords P.top P.words
+all_built P b = subst (AreSourceWords P.top) (sym b.words_are) (phrase_last P.top b.words b.last_word b.phrase b.words_from_source b.last_word_is)
   where
-    phrase_built : (bound : ℕ) (p : WordDef) (t : Phrase) → IsTopPhrase bound p t → IsBuiltSort bound p p.sort
-    phrase_built bound p t h = subst (IsBuiltSort bound p) (sym h.sort_is) h.phrase_built
+    phrase_built : (bound : ℕ) (p : WordDef) (t : Phrase) → IsTopPhrase bound p t → IsSourceSort bound p p.sort
+    phrase_built bound p t h = subst (IsSourceSort bound p) (sym h.sort_is) h.from_source
 
-    phrase_last : (bound : ℕ) (ds : List WordDef) (p : WordDef) (t : Phrase) → AreBuiltWords bound ds → IsTopPhrase bound p t → AreBuiltWords bound (ds ++ p ∷ [])
+    phrase_last : (bound : ℕ) (ds : List WordDef) (p : WordDef) (t : Phrase) → AreSourceWords bound ds → IsTopPhrase bound p t → AreSourceWords bound (ds ++ p ∷ [])
     phrase_last bound [] p t h is = (phrase_built bound p t is, tt)
     phrase_last bound (d ∷ ds) p t h is = (h.0, phrase_last bound ds p t h.1 is)
 
@@ -203,7 +204,7 @@ sort_named P (isa c) = is_class P c
 sort_named P (method c g t) = is_class P c && is_generic (sort_of P g)
 sort_named P _ = true
 
-sort_passes : (P : Program) (bound : ℕ) (d : WordDef) (s : Sort) → IsBuiltSort bound d s → sort_named P s ≡ true → sort_fits P s ≡ true
+sort_passes : (P : Program) (bound : ℕ) (d : WordDef) (s : Sort) → IsSourceSort bound d s → sort_named P s ≡ true → sort_fits P s ≡ true
 sort_passes P bound d (prim k) h fits = rw h.row_is refl
 sort_passes P bound d (core k) h fits = rw h.row_is refl
 sort_passes P bound d (class c) h fits = fits
@@ -211,7 +212,7 @@ sort_passes P bound d (isa c) h fits = fits
 sort_passes P bound d (method c g t) h fits = fits
 sort_passes P bound d s h fits = refl
 
-sorts_pass : (P : Program) (bound : ℕ) (ds : List WordDef) → AreBuiltWords bound ds → list_all (λ (d : WordDef). sort_named P d.sort) ds ≡ true → list_all (λ (d : WordDef). sort_fits P d.sort) ds ≡ true
+sorts_pass : (P : Program) (bound : ℕ) (ds : List WordDef) → AreSourceWords bound ds → list_all (λ (d : WordDef). sort_named P d.sort) ds ≡ true → list_all (λ (d : WordDef). sort_fits P d.sort) ds ≡ true
 sorts_pass P bound [] h fits = refl
 sorts_pass P bound (d ∷ ds) h fits =
     let both = both_true (sort_named P d.sort) (list_all (λ (e : WordDef). sort_named P e.sort) ds) fits in
@@ -235,7 +236,7 @@ effect_same row = both_are (inputs_eq (plain_inputs row.ins) (plain_inputs row.i
 plain_same : (ins outs : List (List ℕ)) → effect_eq (plain_effect ins outs) (plain_effect ins outs) ≡ true
 plain_same ins outs = both_are (inputs_eq (plain_inputs ins) (plain_inputs ins)) (names_eq outs outs) (inputs_same ins) (names_same outs)
 
-effect_passes : (bound : ℕ) (d : WordDef) (s : Sort) → d.sort ≡ s → IsBuiltSort bound d s → has_written_effect d ≡ true
+effect_passes : (bound : ℕ) (d : WordDef) (s : Sort) → d.sort ≡ s → IsSourceSort bound d s → has_written_effect d ≡ true
 effect_passes bound d (prim k) is p = rw (is, p.row_is, p.effect_is) (effect_same p.row)
 effect_passes bound d (core k) is p = rw (is, p.row_is, p.effect_is) (effect_same p.row)
 effect_passes bound d (body t) is p = rw is refl
@@ -263,7 +264,7 @@ with_body : (P : Program) (n : ℕ) (d : WordDef) (t : Phrase) → d.sort ≡ bo
 with_body P n d t is below =
     or_true (not (d.inline || d.recursive)) (is_body (Some d.sort) && not (nat_eq n P.top)) (both_are (is_body (Some d.sort)) (not (nat_eq n P.top)) (ap (λ (s : Sort). is_body (Some s)) is) (ap not (is_other n P.top below)))
 
-mark_passes : (P : Program) (bound n : ℕ) (d : WordDef) (s : Sort) → d.sort ≡ s → IsBuiltSort bound d s → n < P.top → marks_fit P n d ≡ true
+mark_passes : (P : Program) (bound n : ℕ) (d : WordDef) (s : Sort) → d.sort ≡ s → IsSourceSort bound d s → n < P.top → marks_fit P n d ≡ true
 mark_passes P bound n d (body t) is p below = with_body P n d t is below
 mark_passes P bound n d (prim k) is p below = without_marks P n d p.not_inline p.not_recursive
 mark_passes P bound n d (core k) is p below = without_marks P n d p.not_inline p.not_recursive
@@ -277,43 +278,49 @@ mark_passes P bound n d generic is p below = without_marks P n d p.not_inline p.
 mark_passes P bound n d (method c g t) is p below = without_marks P n d p.0.not_inline p.0.not_recursive
 mark_passes P bound n d (past t) is p below = absurd p
 
-marks_pass : (P : Program) (bound n : ℕ) (ds : List WordDef) (last : WordDef) → AreBuiltWords bound ds → n + length ds ≤ P.top → last.inline ≡ false → last.recursive ≡ false → each_numbered (marks_fit P) n (ds ++ last ∷ []) ≡ true
+marks_pass : (P : Program) (bound n : ℕ) (ds : List WordDef) (last : WordDef) → AreSourceWords bound ds → n + length ds ≤ P.top → last.inline ≡ false → last.recursive ≡ false → each_numbered (marks_fit P) n (ds ++ last ∷ []) ≡ true
 marks_pass P bound n [] last h few i r = both_are (marks_fit P n last) true (without_marks P n last i r) refl
 marks_pass P bound n (d ∷ ds) last h few i r =
     both_are (marks_fit P n d) (each_numbered (marks_fit P) (suc n) (ds ++ last ∷ [])) (mark_passes P bound n d d.sort refl h.0 (omega (arith, few))) (marks_pass P bound (suc n) ds last h.1 (omega (arith, few)) i r)
 
-all_marks : (P : Program) (b : IsBuilt P) → each_numbered (marks_fit P) 0 P.words ≡ true
+all_marks : (P : Program) (b : IsSourceProgram P) → each_numbered (marks_fit P) 0 P.words ≡ true
 all_marks P b =
     ap (each_numbered (marks_fit P) 0) b.words_are
-    ∙ marks_pass P P.top 0 b.words b.last_word b.built (let top = b.top_is in omega (arith, top)) b.last_word_is.not_inline b.last_word_is.not_recursive
+    ∙ marks_pass P P.top 0 b.words b.last_word b.words_from_source (let top = b.top_is in omega (arith, top)) b.last_word_is.not_inline b.last_word_is.not_recursive
 
 -- Numbers of words.
 
-not_past : (bound : ℕ) (d : WordDef) (s : Sort) → IsBuiltSort bound d s → is_past (Some s) ≡ false
+not_past : (bound : ℕ) (d : WordDef) (s : Sort) → IsSourceSort bound d s → is_past (Some s) ≡ false
 not_past bound d (past t) h = absurd h
 not_past bound d s h = refl
 
-words_counted : (P : Program) → IsBuilt P → length P.words ≡ suc P.top
+words_counted : (P : Program) → IsSourceProgram P → length P.words ≡ suc P.top
 words_counted P b = let all = ap length b.words_are ∙ length_push b.words b.last_word in let top = b.top_is in omega (arith, all, top)
 
-word_fits : (P : Program) → IsBuilt P → (w : ℕ) → nat_lt w P.top ≡ true → item_fits P (word w) ≡ true
+word_fits : (P : Program) → IsSourceProgram P → (w : ℕ) → nat_lt w P.top ≡ true → item_fits P (word w) ≡ true
 word_fits P b w h = let below = (Decides-ltb w P.top).0 h in let all = words_counted P b in (Decides-ltb w (length P.words)).1 (omega (arith, below, all))
 
 neither : (a b : Bool) → a ≡ false → b ≡ false → not (a || b) ≡ true
 neither a b e h = rw (e, h) refl
 
-word_spares : (P : Program) → IsBuilt P → (w : ℕ) → nat_lt w P.top ≡ true → item_spares P (word w) ≡ true
+word_spares : (P : Program) → IsSourceProgram P → (w : ℕ) → nat_lt w P.top ≡ true → item_spares P (word w) ≡ true
 word_spares P b w h =
     let below = (Decides-ltb w P.top).0 h in
     let there = word_below P b w below in
-    neither (nat_eq w P.top) (is_past (sort_of P w)) (is_other w P.top below) (ap is_past (sort_at P w there.def there.at) ∙ not_past P.top there.def there.def.sort there.built)
+    neither (nat_eq w P.top) (is_past (sort_of P w)) (is_other w P.top below) (ap is_past (sort_at P w there.def there.at) ∙ not_past P.top there.def there.def.sort there.from_source)
 
-literal_word_spares : (P : Program) → IsBuilt P → (w : ℕ) → nat_lt w P.top ≡ true → literal_spares P (l_word w) ≡ true
+literal_word_spares : (P : Program) → IsSourceProgram P → (w : ℕ) → nat_lt w P.top ≡ true → literal_spares P (l_word w) ≡ true
 literal_word_spares P b w h = word_spares P b w h
+
+top_effect_passes : (P : Program) (b : IsSourceProgram P) → is_effect (effect_of P P.top) (plain_effect [] []) ≡ true
+top_effect_passes P b =
+    ap (λ (o : Option WordDef). is_effect (elim o [ Some d ↦ Some d.effect | None ↦ None ]) (plain_effect [] [])) (top_word P b)
+    ∙ ap (λ (e : Signature). effect_eq e (plain_effect [] [])) b.last_word_is.effect_is
 
 -- what holds of the classes and of all words together
 pub record IsTogether (P : Program) : Type 0 where
   pub closed : list_all is_closed (all_phrases P) ≡ true
+  pub holes_stand : list_all (each_item has_its_holes) (all_phrases P) ≡ true
   pub few : list_all (λ (d : WordDef). nat_le (name_count d.effect) 65) P.words ≡ true
   pub once : (a : ℕ) → times_in a (all_arrays_named P) ≡ below (length P.arrays) a
   pub earlier : each_numbered names_earlier 0 P.arrays ≡ true
@@ -327,26 +334,29 @@ pub record IsTogether (P : Program) : Type 0 where
   pub words_differ : no_two same_word P.words ≡ true
   pub methods_differ : no_two same_method P.words ≡ true
 
-pub whole : (P : Program) → IsBuilt P → IsTogether P → IsWhole P
+pub whole : (P : Program) → IsSourceProgram P → IsTogether P → IsWhole P
 whole P b h =
     let top = P.top in
     let n = length P.arrays in
     let all = all_built P b in
     let named = split_below n (joined (map arrays_named (word_phrases P.words))) (joined (map arrays_in P.arrays)) (all_named_below n (all_arrays_named P) (all_arrays_named P) h.once (λ a. omega arith)) in
-    let good = good_both top n (word_phrases P.words) (joined (map quotations P.arrays)) (good_words top n P.words all named.0) (good_arrays top n P.arrays b.arrays_built named.1) in
+    let good = good_both top n (word_phrases P.words) (joined (map quotations P.arrays)) (good_words top n P.words all named.0) (good_arrays top n P.arrays b.arrays_from_source named.1) in
     record {
       items_fit = all_items_pass top n (item_fits P) (record { ints = λ z. refl; truth = refl; falsity = refl; strings = λ cs. refl; references = word_fits P b; arrays = λ a k. k; quotations = λ t. refl; words = word_fits P b; calls = λ h. refl; executes = λ h. refl; next = refl; binds = λ x. refl; locals = λ x. refl; fries = λ t n. refl; holes = λ k. refl }) (all_phrases P) good;
-      literals_fit = arrays_pass top n (literal_fits P) (record { ints = λ z. refl; truth = refl; falsity = refl; strings = λ cs. refl; arrays = λ a k. k; words = word_fits P b; quotations = λ t. refl }) P.arrays b.arrays_built named.1;
+      literals_fit = arrays_pass top n (literal_fits P) (record { ints = λ z. refl; truth = refl; falsity = refl; strings = λ cs. refl; arrays = λ a k. k; words = word_fits P b; quotations = λ t. refl }) P.arrays b.arrays_from_source named.1;
       sorts_fit = sorts_pass P top P.words all h.names_fit;
       shapes_fit = h.shapes_fit;
       arrays_earlier = h.earlier;
       arrays_once = all_once n (all_arrays_named P) h.once;
       top_last = words_counted P b;
       top_phrase = ap is_body (top_sort P b);
+      top_effect = top_effect_passes P b;
+      no_past = words_pass top (λ (d : WordDef). not (is_past (Some d.sort))) (λ d is. ap not (not_past top d d.sort is)) P.words all;
       items_spare = all_items_pass top n (item_spares P) (record { ints = λ z. refl; truth = refl; falsity = refl; strings = λ cs. refl; references = word_spares P b; arrays = λ a k. refl; quotations = λ t. refl; words = word_spares P b; calls = λ h. refl; executes = λ h. refl; next = refl; binds = λ x. refl; locals = λ x. refl; fries = λ t n. refl; holes = λ k. refl }) (all_phrases P) good;
-      literals_spare = arrays_pass top n (literal_spares P) (record { ints = λ z. refl; truth = refl; falsity = refl; strings = λ cs. refl; arrays = λ a k. refl; words = literal_word_spares P b; quotations = λ t. refl }) P.arrays b.arrays_built named.1;
+      literals_spare = arrays_pass top n (literal_spares P) (record { ints = λ z. refl; truth = refl; falsity = refl; strings = λ cs. refl; arrays = λ a k. refl; words = literal_word_spares P b; quotations = λ t. refl }) P.arrays b.arrays_from_source named.1;
       bound = closed_bound (all_phrases P) h.closed;
       holes_in_fries = closed_holes (all_phrases P) h.closed;
+      holes_stand = h.holes_stand;
       written_effects = words_pass top has_written_effect (λ d is. effect_passes top d d.sort refl is) P.words all;
       method_effects = h.method_effects;
       marks_of_bodies = all_marks P b;

@@ -2,7 +2,7 @@
 ghost use Rattle.std.specs.Prelude.{◌≡◌, fold, OnOk};
 ghost use Rattle.fac_lang.specs.declared.tree.FormKind.TheVariants.{Constant, Define, DefineLocals, Generic, Method, Tuple, Union};
 ghost use Rattle.fac_parse.specs.Rows.{slots_of};
-ghost use Rattle.fac_parse.specs.Trees.{AreForms, AreWellFormed, FillAll, IsForm, forms_of};
+ghost use Rattle.fac_parse.specs.Trees.{AreForms, FillAll, IsForm};
 ghost use Rattle.fac_items.specs.FromElements.{nested, tok};
 ghost use Rattle.fac_items.specs.Readings.{read_form};
 ghost use Rattle.fac_items.specs.Written.{f_constant, f_define, given};
@@ -11,14 +11,14 @@ ghost use Rattle.fac_names.specs.FromFlat.{first_node, form_of, is_inline, is_re
 ghost use Rattle.std.specs.Option.{option_copied};
 ghost use Rattle.fac_names.specs.inner.Named.{option_tok};
 ghost use Rattle.fac_names.specs.inner.State.{reading_of};
-ghost use Rattle.fac_names.specs.Taken.{take_flat, take_front};
+ghost use Rattle.fac_names.specs.Taken.{take_flat};
 
 use crate::accessors::accessors;
 use crate::bodies::{define, maker, method, take_items};
 use crate::classes::{singleton, tuple, union};
 use crate::forms::{
-    begin_file, close_private, enter, from, generic, open_private, qualify, symbol, take_defer,
-    take_main, use_all, use_vocab,
+    close_private, enter, from, generic, open_private, qualify, symbol, take_defer, take_main,
+    use_all, use_vocab,
 };
 use crate::inputs::written_inputs;
 use crate::parts::{
@@ -27,7 +27,7 @@ use crate::parts::{
 };
 use crate::so_far::SoFar;
 use fac_endings::plain_effect;
-use fac_lang::{Boxed, Form, FormKind, List, Memory, Parent, Part, Token, Tree};
+use fac_lang::{Boxed, Form, FormKind, List, Memory, Parent, Part, Token};
 use std::alloc::Global;
 
 // Takes the definition of a word.
@@ -204,26 +204,6 @@ pub fn take_forms(alloc: Global, so_far: &mut SoFar, forms: List<Form>) -> Resul
 {
     for form in forms.into_vec() {
         take_form(alloc, so_far, &form)?;
-    }
-    Ok(())
-}
-
-// Takes a file.
-fn take_tree(alloc: Global, so_far: &mut SoFar, tree: Tree) -> Result<(), Memory>
-    requires { AreForms tree.forms }
-    ensures { OnOk result (reading_of so_far.new ≡ take_front (reading_of so_far.old) tree.forms) }
-{
-    begin_file(alloc, so_far)?;
-    take_forms(alloc, so_far, tree.forms)
-}
-
-/// Takes files, in order. Their trees are given back to memory form by form.
-pub fn take_trees(alloc: Global, so_far: &mut SoFar, trees: List<Tree>) -> Result<(), Memory>
-    requires { AreWellFormed (forms_of trees) }
-    ensures { OnOk result (reading_of so_far.new ≡ fold take_front (reading_of so_far.old) (forms_of trees)) }
-{
-    for tree in trees.into_vec() {
-        take_tree(alloc, so_far, tree)?;
     }
     Ok(())
 }

@@ -17,4 +17,4 @@ mod so_far;
 
 pub use fac_refusal::{NameFault, NameKind, ResolveFault};
 pub use laws::{phrases_are_written_as_items, resolved_programs_are_whole};
-pub use resolver::{Resolver, resolve};
+pub use resolver::Resolver;

@@ -1,9 +1,8 @@
 //! Forms to a program.
 ghost use Rattle.std.specs.Prelude.{◌≡◌, ◌++◌, ◌∷◌, [], map, IfOk, List as Items, OnOk};
-ghost use Rattle.fac_lang.specs.Forms.{IsBuilt};
 ghost use Rattle.fac_lang.specs.Whole.{IsWhole};
 ghost use Rattle.fac_lang.specs.declared.tree.Form.{Form};
-ghost use Rattle.fac_parse.specs.Trees.{AreForms, AreWellFormed, forms_of};
+ghost use Rattle.fac_parse.specs.Trees.{AreForms, AreWellFormed};
 ghost use Rattle.fac_names.specs.Resolution.{Resolves, first_reading, settled_draft};
 ghost use Rattle.fac_names.specs.Taken.{HasTaken};
 ghost use Rattle.fac_names.specs.inner.Ended.{EndsReading};
@@ -11,12 +10,12 @@ ghost use Rattle.fac_names.specs.inner.State.{reading_of};
 
 use crate::bodies::add_items;
 use crate::drafts::Drafts;
-use crate::files::{take_forms, take_trees};
+use crate::files::take_forms;
 use crate::forms::begin_file;
 use crate::known_words::{first_classes, first_words};
 use crate::so_far::SoFar;
 use fac_endings::{Draft, Gathered, Late, ended};
-use fac_lang::{Form, Item, List, Memory, Program, Tree, WordDef};
+use fac_lang::{Form, Item, List, Memory, Program, WordDef};
 use fac_refusal::ResolveFault;
 use fac_vocab::Scope;
 use std::alloc::Global;
@@ -145,27 +144,9 @@ impl Resolver {
     /// word is the top-level phrase: the items of all files, and behind them the word of the last `MAIN:`.
     pub fn end(self, alloc: Global) -> Result<Program, ResolveFault>
         ensures program { (files : Items (Items Form)) → AreWellFormed files → HasTaken files self → Resolves files result }
-        ensures built { (files : Items (Items Form)) → AreWellFormed files → HasTaken files self → IfOk result (λ program. IsBuilt program) }
         ensures whole { (files : Items (Items Form)) → AreWellFormed files → HasTaken files self → IfOk result (λ program. IsWhole program) }
     {
         let Resolver { so_far } = self;
         end(alloc, so_far)
-    }
-}
-
-/// The program of the trees of files, in order, or the first name by place that is refused, as `Resolver` answers it. Each form is given back to
-/// memory when it is taken, so trees and program don't stand side by side.
-pub fn resolve(alloc: Global, trees: List<Tree>) -> Result<Program, ResolveFault>
-    requires { AreWellFormed (forms_of trees) }
-    ensures program { Resolves (forms_of trees) result }
-    ensures built { IfOk result (λ program. IsBuilt program) }
-    ensures whole { IfOk result (λ program. IsWhole program) }
-{
-    match Resolver::new(alloc) {
-        Ok(mut resolver) => match take_trees(alloc, &mut resolver.so_far, trees) {
-            Ok(()) => resolver.end(alloc),
-            Err(Memory) => Err(ResolveFault::Memory),
-        },
-        Err(Memory) => Err(ResolveFault::Memory),
     }
 }

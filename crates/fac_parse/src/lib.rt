@@ -10,5 +10,5 @@ mod rows;
 mod run;
 
 pub use laws::{one_place, one_tree, some_place, tree_or_none};
-pub use parser::{Parser, parse};
+pub use parser::Parser;
 pub use reader::{ParseFault, Why};

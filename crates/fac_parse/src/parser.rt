@@ -3,12 +3,12 @@ ghost use Rattle.std.specs.Prelude.{◌≡◌, ◌++◌, ◌<◌, ◌≤◌, Lis
 ghost use Rattle.fac_lang.specs.declared.token.Token.{Token as Read};
 ghost use Rattle.fac_lang.specs.declared.tree.Form.{Form as Whole};
 ghost use Rattle.fac_parse.specs.Handed.{HandsOut, HasHandedOut, IsTaking, calls_left};
-ghost use Rattle.fac_parse.specs.Trees.{AreForms, Parses, file_of};
+ghost use Rattle.fac_parse.specs.Trees.{AreForms};
 ghost use Rattle.fac_parse.specs.inner.Reader.{state_of};
 ghost use Rattle.fac_parse.specs.inner.Handing.{Ends, FallsIf, GoesOn, TakesMore, TakesNext};
 
 use crate::reader::{ParseFault, Reader, Why, syntax};
-use fac_lang::{Form, List, Memory, Queue, Token, Tree};
+use fac_lang::{Form, List, Queue, Token};
 use std::alloc::Global;
 use std::mem;
 
@@ -16,7 +16,33 @@ use std::mem;
 const MANY_FORMS: u32 = 64;
 
 /// The tree of a file's tokens, read form by form. The tokens that were taken are given back to memory, and forms that were handed out aren't
-/// kept, so neither all tokens nor a whole tree stand in memory. `parse` has the grammar.
+/// kept, so neither all tokens nor a whole tree stand in memory.
+///
+/// A tree is any number of forms. A form is one of these rows, or a run of items. `n`, `v`, `p` and `s` are names, a `c` is a name,
+/// `t` or `f`, and a star means any number, none included.
+///
+/// - `IN: v`, `USE: v`, `USING: v* ;`, `FROM: v => n* ;`, `QUALIFIED-WITH: v p`
+/// - `DEFER: n`, `SYMBOL: n`, `MAIN: n`, `<PRIVATE`, `PRIVATE>`
+/// - `CONSTANT: n` with a literal behind it: an integer, a string, `t`, `f`, `\ n`, a quotation or an array
+/// - `: n effect item* ;` and `:: n effect item* ;` with `inline` and `recursive` behind it, each at most once, in any order
+/// - `TUPLE: n s* ;`, `TUPLE: n < n s* ;` with at most 64 slots `s`, of which none is `<`
+/// - `UNION: n c* ;`, `SINGLETON: n`, `C: n n`
+/// - `GENERIC: n effect`, `M: c n item* ;` with at most one `inline` behind it
+///
+/// An item is a name, an integer, a string, `t`, `f`, `call-next-method`, a quotation `[ item* ]`, a quotation `[| n* | item* ]` whose inputs are
+/// locals, a fry `'[ item* ]`, `:> n`, which binds a local, a hole `_` or `@`, `\ n`, which is a word as a value, `call( entry* -- entry* )` or
+/// `execute( entry* -- entry* )`, or an array `{ element* }`, whose elements are integers, strings, `t`, `f`, `\ n`, quotations `[ item* ]`, arrays and
+/// names. All brackets nest at most 256 deep, counted together. An array has at most 1,000,000 elements: those that stand directly in it.
+///
+/// `:> n` stands only in `::`, in a quotation with locals, and in what stands in one of these. The local is in scope to the end of what it stands
+/// directly in, and so are the inputs of `::` and of a quotation with locals. At most 64 are in scope, hidden ones and those around an array counted:
+/// where 64 are, `:>` stands nowhere, nor does a name before the `|`. The name of a local doesn't end in `!`; that of an input of `::` has no colon.
+///
+/// A hole stands only in a fry, in a quotation in one, and so on, and not in an array in it. A fry has at most 64 holes, those of a fry in it not counted.
+///
+/// An effect is `( entry* -- entry* )`. An entry is a name that ends in no colon, or a name that ends in one and what describes it: a name that ends in
+/// no colon, or an effect. A name that begins with two dots is only the first entry of its side. An effect has at most 64 names, with those of the
+/// effects in it. Behind `call(` and `execute(` no entry is a name that begins with two dots, nor is one of the effects in it.
 #[derive(Drop)]
 pub struct Parser {
     pub reader: Reader,
@@ -110,8 +136,8 @@ impl Parser {
         Ok(self.hand_out(alloc))
     }
 
-    /// The next forms, behind those that were handed out before: some, or none where the next form is a long one. None behind the last form.
-    /// A file whose tokens are in no tree is refused at the exact place, as by `parse`, though forms before that place were handed out.
+    /// The next forms, behind those that were handed out before: some, or none where the last tokens make none by themselves. None behind the last form.
+    /// A file whose tokens are in no tree is refused at the exact place, though forms before that place were handed out.
     pub fn next(&mut self, alloc: Global) -> Result<Option<List<Form>>, ParseFault>
         requires { (tokens : Items Read) × (before : Items Whole) × HasHandedOut tokens before self.now }
         ensures hands { (tokens : Items Read) (before : Items Whole) → HasHandedOut tokens before self.old → HandsOut tokens before self.new result }
@@ -125,65 +151,5 @@ impl Parser {
         } else {
             Ok(Some(self.end(alloc)?))
         }
-    }
-}
-
-// The number of the file.
-fn file(tokens: &[Token]) -> u32
-    ensures { result ≡ file_of tokens.now }
-{
-    match tokens.first() {
-        Some(token) => token.place.file,
-        None => 0,
-    }
-}
-
-// Adds forms behind others.
-fn add_forms(forms: &mut Vec<Form>, more: List<Form>) -> Result<(), Memory>
-    ensures { OnOk result (forms.new.items ≡ forms.old.items ++ more) }
-{
-    forms.append(&mut more.into_vec())?;
-    Ok(())
-}
-
-/// The tree of a file's tokens: any number of forms. A form is one of these rows, or a run of items. `n`, `v`, `p` and `s` are names, a `c` is a name,
-/// `t` or `f`, and a star means any number, none included.
-///
-/// - `IN: v`, `USE: v`, `USING: v* ;`, `FROM: v => n* ;`, `QUALIFIED-WITH: v p`
-/// - `DEFER: n`, `SYMBOL: n`, `MAIN: n`, `<PRIVATE`, `PRIVATE>`
-/// - `CONSTANT: n` with a literal behind it: an integer, a string, `t`, `f`, `\ n`, a quotation or an array
-/// - `: n effect item* ;` and `:: n effect item* ;` with `inline` and `recursive` behind it, each at most once, in any order
-/// - `TUPLE: n s* ;`, `TUPLE: n < n s* ;` with at most 64 slots `s`, of which none is `<`
-/// - `UNION: n c* ;`, `SINGLETON: n`, `C: n n`
-/// - `GENERIC: n effect`, `M: c n item* ;` with at most one `inline` behind it
-///
-/// An item is a name, an integer, a string, `t`, `f`, `call-next-method`, a quotation `[ item* ]`, a quotation `[| n* | item* ]` whose inputs are
-/// locals, a fry `'[ item* ]`, `:> n`, which binds a local, a hole `_` or `@`, `\ n`, which is a word as a value, `call( entry* -- entry* )` or
-/// `execute( entry* -- entry* )`, or an array `{ element* }`, whose elements are integers, strings, `t`, `f`, `\ n`, quotations `[ item* ]`, arrays and
-/// names. All brackets nest at most 256 deep, counted together. An array has at most 1,000,000 elements: those that stand directly in it.
-///
-/// `:> n` stands only in `::`, in a quotation with locals, and in what stands in one of these. The local is in scope to the end of what it stands
-/// directly in, and so are the inputs of `::` and of a quotation with locals. At most 64 are in scope, hidden ones and those around an array counted:
-/// where 64 are, `:>` stands nowhere, nor does a name before the `|`. The name of a local doesn't end in `!`; that of an input of `::` has no colon.
-///
-/// A hole stands only in a fry, in a quotation in one, and so on, and not in an array in it. A fry has at most 64 holes, those of a fry in it not counted.
-///
-/// An effect is `( entry* -- entry* )`. An entry is a name that ends in no colon, or a name that ends in one and what describes it: a name that ends in
-/// no colon, or an effect. A name that begins with two dots is only the first entry of its side. An effect has at most 64 names, with those of the
-/// effects in it. Behind `call(` and `execute(` no entry is a name that begins with two dots, nor is one of the effects in it.
-///
-/// No tokens make the empty tree of file 0.
-pub fn parse(alloc: Global, tokens: List<Token>) -> Result<Tree, ParseFault>
-    ensures { Parses tokens result }
-{
-    let file = file(tokens.as_slice());
-    let mut parser = Parser::new(alloc, tokens);
-    let mut forms = Vec::new(alloc);
-    while let Some(more) = parser.next(alloc)? {
-        add_forms(&mut forms, more)?;
-    }
-    match List::from_vec(forms) {
-        Ok(forms) => Ok(Tree { file, forms }),
-        Err(Memory) => Err(ParseFault::Memory),
     }
 }

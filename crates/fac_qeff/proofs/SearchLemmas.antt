@@ -32,13 +32,13 @@ pub narrowed_found : (closed : Closed) (k low high i : ℕ) (o : Option Height) 
 narrowed_found closed k low high i o h from under most s is = record {
   ordered = from;
   below = s.below;
-  best = (refl, omega (arith, under, most), λ P closes built t vs at many. inputs_are i h (walked_alone P i (forgotten (template_phrase P k (map held vs)))) (is P closes built t vs at many));
+  best = (refl, omega (arith, under, most), λ P closes whole t vs at many. inputs_are i h (walked_alone P i (forgotten (template_phrase P k (map held vs)))) (is P closes whole t vs at many));
 }
 
 pub narrowed_none : (closed : Closed) (k low high i : ℕ) (o : Option Height) → low ≤ i → i < high → Narrowed closed k low high o → IsFoundHeight closed k i None → Narrowed closed k (i + 1) high o
 narrowed_none closed k low high i o from under s is = record {
   ordered = omega (arith, under);
-  below = λ j lt P closes built t vs at many. none_with_fewer P (forgotten (template_phrase P k (map held vs))) j i (omega (arith, lt)) (is P closes built t vs at many);
+  below = λ j lt P closes whole t vs at many. none_with_fewer P (forgotten (template_phrase P k (map held vs))) j i (omega (arith, lt)) (is P closes whole t vs at many);
   best = s.best;
 }
 
@@ -55,14 +55,14 @@ narrowed_last closed k low high (Some h) over s =
 
 -- The least one is the effect.
 pub effect_found : (closed : Closed) (k : ℕ) (h : Height) → IsLeast closed k (Some h) → IsEffect closed k (within_outs h.outs h)
-effect_found closed k h s = λ P closes built t vs at many. (
+effect_found closed k h s = λ P closes whole t vs at many. (
     let u = forgotten (template_phrase P k (map held vs)) in
     let few = s.1 in
-    sym (least_found P u h.ins (suc most_inputs) 0 h.ins h (omega arith) (omega (arith, few)) (λ j le lt. s.0 j lt P closes built t vs at many) (s.2 P closes built t vs at many))
+    sym (least_found P u h.ins (suc most_inputs) 0 h.ins h (omega arith) (omega (arith, few)) (λ j le lt. s.0 j lt P closes whole t vs at many) (s.2 P closes whole t vs at many))
     )
 
 pub effect_none : (closed : Closed) (k : ℕ) → IsLeast closed k None → IsEffect closed k None
-effect_none closed k s = λ P closes built t vs at many. (
+effect_none closed k s = λ P closes whole t vs at many. (
     let u = forgotten (template_phrase P k (map held vs)) in
-    sym (none_of_all P u (suc most_inputs) 0 (λ j le lt. s j (omega (arith, lt)) P closes built t vs at many))
+    sym (none_of_all P u (suc most_inputs) 0 (λ j le lt. s j (omega (arith, lt)) P closes whole t vs at many))
     )

@@ -15,7 +15,7 @@ abbrev pub within_outs : Option ℕ → Height → Option Height
 within_outs None h = Some h
 within_outs (Some o) h = elim (nat_le o most_values) [ true ↦ Some h | false ↦ None ]
 
--- That of the template with this number: in each built program for which the closed one stands, and whatever values a callable of it holds, the effect of that callable.
+-- That of the template with this number: in each whole program for which the closed one stands, and whatever values a callable of it holds, the effect of that callable.
 abbrev pub IsEffect : Closed → ℕ → Option Height → Type 0
 IsEffect closed k height =
     OfEach closed (λ P. (t : Template) (vs : List Value) → slice_get closed.templates k ≡ Some t → length vs ≡ length t.captures + t.holes → height ≡ callable_height P (of_phrase (template_phrase P k (map held vs))))

@@ -4,4 +4,4 @@
 mod searching;
 mod template_effects;
 
-pub use template_effects::{effect, effects};
+pub use template_effects::effects;

@@ -1,7 +1,7 @@
 //! The least number of inputs with which the phrase of a template breaks no rule. What it finds with some inputs it finds with more, so the
 //! number is looked for between one that breaks a rule and one that doesn't.
 ghost use Rattle.std.specs.Prelude.{◌<◌, ◌≤◌, length, IfOk};
-ghost use Rattle.fac_check.specs.Judged.{StandsForBuilt};
+ghost use Rattle.fac_check.specs.Judged.{StandsForWhole};
 ghost use Rattle.fac_qeff.specs.inner.Searching.{IsLeast};
 
 use fac_check::walk_template;
@@ -31,7 +31,7 @@ fn tried(low: u32, high: u32, any: bool) -> u32
 /// The height with the least number of inputs up to 1,024 with which the phrase of the template with this number, walked by itself, breaks no
 /// rule. None where it breaks one with each.
 pub fn least(alloc: Global, closed: &Closed, template: u32) -> Result<Option<Height>, Memory>
-    requires stands { StandsForBuilt closed.now }
+    requires stands { StandsForWhole closed.now }
     requires template { template < length closed.now.templates }
     ensures { IfOk result (IsLeast closed.now template) }
 {

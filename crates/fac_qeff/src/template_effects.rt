@@ -1,6 +1,6 @@
 //! The effects of templates.
 ghost use Rattle.std.specs.Prelude.{◌≡◌, ◌<◌, length, IfOk};
-ghost use Rattle.fac_check.specs.Judged.{StandsForBuilt};
+ghost use Rattle.fac_check.specs.Judged.{StandsForWhole};
 ghost use Rattle.fac_qeff.specs.TemplateEffects.{AreEffects, IsEffect, within_outs};
 
 use crate::searching::least;
@@ -24,11 +24,9 @@ fn within(height: Height) -> Option<Height>
     }
 }
 
-/// The effect of each callable that the template with this number makes, whatever values it holds for what it captures and for its holes:
-/// the least number of inputs up to 1,024 from which its phrase breaks no rule of the checker, and how many values it leaves then. None
-/// where there is no such number, or where more than a million values are left.
-pub fn effect(alloc: Global, closed: &Closed, template: u32) -> Result<Option<Height>, Memory>
-    requires stands { StandsForBuilt closed.now }
+// That of the template with this number.
+fn effect(alloc: Global, closed: &Closed, template: u32) -> Result<Option<Height>, Memory>
+    requires stands { StandsForWhole closed.now }
     requires template { template < length closed.now.templates }
     ensures { IfOk result (IsEffect closed.now template) }
 {
@@ -38,9 +36,11 @@ pub fn effect(alloc: Global, closed: &Closed, template: u32) -> Result<Option<He
     }
 }
 
-/// The effect of each template, in their order, as at `effect`. Each is found by a few walks of its phrase.
+/// The effects of the templates, in their order: of each callable that a template makes, whatever values it holds for what it captures and for
+/// its holes, the least number of inputs up to 1,024 from which its phrase breaks no rule of the checker, and how many values it leaves then.
+/// None where there is no such number, or where more than a million values are left. Each is found by a few walks of its phrase.
 pub fn effects(alloc: Global, closed: &Closed) -> Result<List<Option<Height>>, Memory>
-    requires { StandsForBuilt closed.now }
+    requires { StandsForWhole closed.now }
     ensures { IfOk result (AreEffects closed.now) }
 {
     let mut heights = List::new(alloc);

@@ -1,7 +1,7 @@
 -- What a closed program keeps of the one for which it stands, and the checker's refusals both ways.
 use Rattle.std.proofs.Common.{◌≡◌, ℕ, zero, suc, List, [], ◌∷◌, Result, Ok, Err, IfOk, refl, ap, sym, subst, ◌∙◌, ◌<◌}
 use Rattle.std.proofs.lemmas.Option.{slice_get_within, slice_get-get_or}
-use Rattle.std.specs.Prelude.{None, slice_get}
+use Rattle.std.specs.Prelude.{◌+◌, None, Some, length, map, slice_get}
 use Rattle.std.specs.declared.option.Option.{Option}
 use Rattle.fac_lang.specs.declared.memory.Memory.{Memory}
 use Rattle.fac_lang.specs.declared.phrase.Template.{Template}
@@ -11,6 +11,8 @@ use Rattle.fac_lang.specs.declared.program.Sort.{Sort}
 use Rattle.fac_lang.specs.declared.program.Sort.TheVariants as sort
 use Rattle.fac_lang.specs.declared.program.WordDef.{WordDef}
 use Rattle.fac_lang.specs.Meaning.{start}
+use Rattle.fac_lang.specs.Phrases.{held, Value, of_phrase}
+use Rattle.fac_locals.specs.Frames.{template_phrase}
 use Rattle.fac_locals.specs.Closed.{Closes, CloseWords, ClosesSort}
 use Rattle.fac_locals.specs.declared.closing.Closed.{Closed}
 use Rattle.fac_check.specs.CallableEffects.{callable_height}
@@ -26,6 +28,7 @@ use Rattle.fac_code.specs.declared.image.Image.{Image}
 use Rattle.fac_emit.specs.Carries.{Carries, CarriesEach}
 use Rattle.fac_notes.specs.WordNames.{bare_word, method_name, name_as, name_or}
 use Rattle.fac_tool.specs.Refusals.{refusal_of}
+use Rattle.fac_tool.specs.inner.ImageSteps.{AreEffectsIfAsked}
 use Rattle.fac_tool.specs.inner.Stops.{SameNames, Carried, StandsFor, StandsForSafe}
 
 -- each word of a closed program is defined under the name of the word for which it stands
@@ -73,7 +76,7 @@ refusal_back r = refl
 
 -- an accepted program is safe
 pub safe_one : (closed : Closed) (P : Program) → IsKept closed → closed.start ≡ 0 → StandsFor closed P → StandsForSafe closed P
-safe_one closed P kept start stands = record { closes = stands.closes; built = stands.built; whole = stands.whole; safe = subst (λ count. IsSafe P count) start (kept P stands.closes stands.built stands.whole); start = start }
+safe_one closed P kept start stands = record { closes = stands.closes; whole = stands.whole; safe = subst (λ count. IsSafe P count) start (kept P stands.closes stands.whole); start = start }
 
 -- so its image carries it with the checker's test of effects, and it isn't stuck
 carried_by : SafeAreNotStuck → (P : Program) (M : Image) (count : ℕ) → IsSafe P 0 → count ≡ 0 → Carries P (callable_height P) count M → Carried P M
@@ -83,19 +86,24 @@ carried_by never P M count safe none carries = record {
 }
 
 -- the effects of a closed program's templates are those of its callables
-pub has_heights : (closed : Closed) (heights : List (Option Height)) (P : Program) → AreEffects closed heights → StandsForSafe closed P → HasHeights P closed.templates heights (callable_height P)
+effects_there :
+    (closed : Closed) (heights : List (Option Height)) (P : Program) → AreEffects closed heights → StandsForSafe closed P → (q : ℕ) (t : Template) (vs : List Value) → slice_get closed.templates q ≡ Some t → length vs ≡ length t.captures + t.holes →
+    callable_height P (of_phrase (template_phrase P q (map held vs))) ≡ height_there (slice_get heights q)
+effects_there closed heights P effects stands q t vs found count =
+    let there = slice_get-get_or heights q None (subst (λ n. q < n) (sym effects.count) (slice_get_within closed.templates q t found)) in
+    sym (effects.each q _ there P stands.closes stands.whole t vs found count) ∙ sym (ap height_there there)
+
+pub has_heights : (closed : Closed) (heights : List (Option Height)) (P : Program) → AreEffectsIfAsked closed heights → StandsForSafe closed P → HasHeights P closed.program closed.templates heights (callable_height P)
 has_heights closed heights P effects stands = record {
-  literal = λ q t vs found count.
-      let there = slice_get-get_or heights q None (subst (λ n. q < n) (sym effects.count) (slice_get_within closed.templates q t found)) in
-      sym (effects.each q _ there P stands.closes stands.built t vs found count) ∙ sym (ap height_there there);
+  literal = λ asked. effects_there closed heights P (effects asked) stands;
   curried = λ v c. refl;
   composed = λ c d. refl;
 }
 
 pub if_carried :
-    SafeAreNotStuck → (closed : Closed) (heights : List (Option Height)) (r : Result Image Memory) → AreEffects closed heights →
+    SafeAreNotStuck → (closed : Closed) (heights : List (Option Height)) (r : Result Image Memory) → AreEffectsIfAsked closed heights →
     IfOk r (CarriesEach closed heights) →
     IfOk r (λ image. (P : Program) → StandsForSafe closed P → Carried P image)
 if_carried never closed heights (Ok image) effects h =
-    λ P stands. carried_by never P image closed.start stands.safe stands.start (h P (callable_height P) stands.closes stands.built stands.whole (has_heights closed heights P effects stands))
+    λ P stands. carried_by never P image closed.start stands.safe stands.start (h P (callable_height P) stands.closes stands.whole (has_heights closed heights P effects stands))
 if_carried never closed heights (Err e) effects h = tt

@@ -2,9 +2,8 @@
 ghost use Rattle.std.specs.Prelude.{◌≡◌, Some, None, Ok, ℕ, [], List as Items};
 ghost use Rattle.fac_lang.specs.declared.program.Program.{Program as Source};
 ghost use Rattle.fac_lang.specs.declared.tree.Form.{Form};
-ghost use Rattle.fac_lang.specs.Forms.{IsBuilt};
 ghost use Rattle.fac_lang.specs.Whole.{IsWhole};
-ghost use Rattle.fac_check.specs.Judged.{OfEach, StandsForBuilt, refusal_if, refusal_seen};
+ghost use Rattle.fac_check.specs.Judged.{OfEach, StandsForWhole, refusal_if, refusal_seen};
 ghost use Rattle.fac_check.specs.Verdicts.{verdict};
 ghost use Rattle.fac_names.specs.Resolution.{resolved};
 ghost use Rattle.fac_names.specs.Taken.{HasTaken};
@@ -44,7 +43,7 @@ pub struct Accepted {
 
 // The program of the files that names were taken of.
 fn end_names(alloc: Global, resolver: Resolver) -> Result<Program, Ended>
-    ensures { (files : Items (Items Form)) → AreWellFormed files → HasTaken files resolver → Steps (λ program. (resolved files ≡ Ok program) × IsBuilt program × IsWhole program) (λ command. on_resolved command (own_definitions files) (resolved files)) result }
+    ensures { (files : Items (Items Form)) → AreWellFormed files → HasTaken files resolver → Steps (λ program. (resolved files ≡ Ok program) × IsWhole program) (λ command. on_resolved command (own_definitions files) (resolved files)) result }
 {
     match resolver.end(alloc) {
         Err(ResolveFault::Memory) => Err(bare(12, 0)),
@@ -87,8 +86,7 @@ fn read_program(alloc: Global, texts: List<Bytes>) -> Result<NamedProgram, Ended
 
 // A program with its quotations as templates.
 fn close_program(alloc: Global, program: Program) -> Result<Closed, Ended>
-    requires built { IsBuilt program }
-    requires whole { IsWhole program }
+    requires { IsWhole program }
     ensures { StepsOn (λ closed. StandsFor closed program × (closed.start ≡ 0)) result }
 {
     match close(alloc, program, START) {
@@ -99,7 +97,7 @@ fn close_program(alloc: Global, program: Program) -> Result<Closed, Ended>
 
 // The first refusal of a closed program.
 fn refusal_of(alloc: Global, closed: &Closed) -> Result<Option<Refusal>, Ended>
-    requires { StandsForBuilt closed.now }
+    requires { StandsForWhole closed.now }
     ensures { StepsOn (λ refusal. OfEach closed.now (λ P. verdict P closed.now.start ≡ refusal_if refusal)) result }
 {
     first_refusal_is_verdict();

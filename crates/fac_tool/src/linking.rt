@@ -1,15 +1,18 @@
-//! Linking: the image of an accepted program, with its bytes.
-ghost use Rattle.std.specs.Prelude.{◌≡◌, ◌≤◌, IfOk};
+//! Linking: the image of an accepted program, and how long its bytes are.
+ghost use Rattle.std.specs.Prelude.{◌≡◌, ◌≤◌, true, IfOk};
 ghost use Rattle.fac_lang.specs.declared.program.Program.{Program as Source};
+ghost use Rattle.fac_check.specs.Judged.{StandsForWhole};
+ghost use Rattle.fac_qeff.specs.TemplateEffects.{AreEffects};
 ghost use Rattle.fac_tool.specs.inner.Stops.{Carried, StandsForSafe};
-ghost use Rattle.fac_tool.specs.inner.ImageSteps.{IsLinked};
+ghost use Rattle.fac_tool.specs.inner.ImageSteps.{AreEffectsIfAsked, IsLinked, IsShort};
 
-use fac_bytes::encode;
+use fac_bytes::{encode, spelled_length};
 use fac_check::{Checked, safe_programs_are_not_stuck};
 use fac_code::Image;
-use fac_emit::compile;
+use fac_emit::{asks_effects, compile};
 use fac_lang::limits::MOST_IMAGE_BYTES;
-use fac_lang::{Bytes, Memory};
+use fac_lang::{Bytes, Height, List, Memory};
+use fac_locals::Closed;
 use fac_qeff::effects;
 use std::alloc::Global;
 
@@ -22,14 +25,45 @@ pub struct Linked {
     pub bytes: Bytes,
 }
 
-// The image of an accepted program.
-fn image_of(alloc: Global, checked: &Checked) -> Result<Image, Memory>
-    requires { (P : Source) × StandsForSafe checked.now.closed P }
+// The effects of a program's templates where it asks for any, and none where it doesn't.
+fn asked_effects(alloc: Global, closed: &Closed) -> Result<List<Option<Height>>, Memory>
+    requires { StandsForWhole closed.now }
+    ensures { IfOk result (AreEffectsIfAsked closed.now) }
+{
+    if !asks_effects(closed) {
+        return Ok(List::new(alloc));
+    }
+    let heights = effects(alloc, closed)?;
+    Ok(heights)
+}
+
+// The image of an accepted program with these effects of its templates.
+#[tactic(auto, using(crate::proofs::ClosedLemmas::if_carried))]
+fn image_with(alloc: Global, checked: &Checked, heights: &[Option<Height>]) -> Result<Image, Memory>
+    requires stands { (P : Source) × StandsForSafe checked.now.closed P }
+    requires effects { AreEffectsIfAsked checked.now.closed heights.now }
     ensures { IfOk result (λ image. (P : Source) → StandsForSafe checked.now.closed P → Carried P image) }
 {
     safe_programs_are_not_stuck();
+    compile(alloc, &checked.closed, heights)
+}
+
+// The image of an accepted program, with the effects of all of its templates.
+fn whole_image(alloc: Global, checked: &Checked) -> Result<Image, Memory>
+    requires { (P : Source) × StandsForSafe checked.now.closed P }
+    ensures { IfOk result (λ image. (P : Source) → StandsForSafe checked.now.closed P → Carried P image) }
+{
     let heights = effects(alloc, &checked.closed)?;
-    compile(alloc, &checked.closed, heights.as_slice())
+    image_with(alloc, checked, heights.as_slice())
+}
+
+// The image of an accepted program, with the effects of its templates where a run asks for any.
+fn image_to_run(alloc: Global, checked: &Checked) -> Result<Image, Memory>
+    requires { (P : Source) × StandsForSafe checked.now.closed P }
+    ensures { IfOk result (λ image. (P : Source) → StandsForSafe checked.now.closed P → Carried P image) }
+{
+    let heights = asked_effects(alloc, &checked.closed)?;
+    image_with(alloc, checked, heights.as_slice())
 }
 
 /// The image of an accepted program, which carries it, and its bytes. Want of memory is the one error, also where the image would have more
@@ -38,13 +72,31 @@ pub fn link(alloc: Global, checked: &Checked) -> Result<Linked, Memory>
     requires { (P : Source) × StandsForSafe checked.now.closed P }
     ensures { IfOk result (λ linked. IsLinked linked × ((P : Source) → StandsForSafe checked.now.closed P → Carried P linked.image)) }
 {
-    let image = image_of(alloc, checked)?;
+    let image = whole_image(alloc, checked)?;
     match encode(alloc, &image) {
         Ok(bytes) => {
             if bytes.len() as u64 > MOST_IMAGE_BYTES {
                 return Err(Memory);
             }
             Ok(Linked { image, bytes })
+        }
+        Err(_) => Err(Memory),
+    }
+}
+
+/// An image of an accepted program that is only run, with no bytes: its templates have no effects where the run asks for none. Want of
+/// memory is the one error, also where the image would have more bytes than one may have.
+pub fn link_to_run(alloc: Global, checked: &Checked) -> Result<Image, Memory>
+    requires { (P : Source) × StandsForSafe checked.now.closed P }
+    ensures { IfOk result (λ image. IsShort image × ((P : Source) → StandsForSafe checked.now.closed P → Carried P image)) }
+{
+    let image = image_to_run(alloc, checked)?;
+    match spelled_length(alloc, &image) {
+        Ok(length) => {
+            if length > MOST_IMAGE_BYTES {
+                return Err(Memory);
+            }
+            Ok(image)
         }
         Err(_) => Err(Memory),
     }

@@ -11,7 +11,7 @@ ghost use Rattle.fac_tool.specs.inner.StepEnds.{StepsEnd, EndsRun};
 use crate::Ended;
 use crate::ended::bare;
 use crate::executing::run_image;
-use crate::linking::link;
+use crate::linking::link_to_run;
 use crate::listing::list_stack;
 use fac_check::Checked;
 use fac_emit::printed_forms_are_equal;
@@ -43,12 +43,13 @@ fn run_carried<S: Reader, K: Sink>(
 }
 
 // A fresh machine for an accepted program.
+#[tactic(auto, using(crate::proofs::StopLemmas::made_fresh))]
 fn machine_of(alloc: Global, checked: &Checked) -> Result<Machine, Memory>
     requires { (P : Source) × StandsForSafe checked.now.closed P }
     ensures { IfOk result (λ machine. IsFresh machine × ((P : Source) → StandsForSafe checked.now.closed P → Carried P machine.image)) }
 {
-    match link(alloc, checked) {
-        Ok(linked) => Machine::new(alloc, linked.image),
+    match link_to_run(alloc, checked) {
+        Ok(image) => Machine::new(alloc, image),
         Err(_) => Err(Memory),
     }
 }

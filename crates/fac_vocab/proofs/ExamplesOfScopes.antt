@@ -3,7 +3,7 @@ use Rattle.std.proofs.Common.{◌≡◌, ℕ, true, false, List, [], ◌∷◌, 
 use Rattle.std.specs.Prelude.{codes}
 use Rattle.fac_vocab.specs.declared.answers.Standing.TheVariants.{New, Deferred, Defined}
 use Rattle.fac_vocab.specs.Scopes.{Entry, named, prefixed, Scope, word_held, the, unknown, ambiguous, found, exists, begun, entered, with_private, using_vocab, using_all, bringing, home, holders, now_defined, first_scope}
-use Rattle.fac_vocab.specs.ScopeCalls.{names_differ, standing_of, scope_defining, scope_deferring, bringing_all}
+use Rattle.fac_vocab.specs.ScopeCalls.{names_differ, standing_of, scope_defining, scope_deferring, bringing_word}
 
 abbrev entry : List ℕ → List ℕ → ℕ → Entry
 entry vocab name word = record { vocab = vocab; name = name; word = word; is_defined = true }
@@ -66,7 +66,7 @@ private_outside : found (using_vocab (codes "a") scope) (codes "y") ≡ unknown
 unfolding found
 private_outside = refl
 
-private_not_brought : bringing_all (codes "a") scope (codes "y" ∷ []) ≡ None
+private_not_brought : bringing_word scope (codes "y") (word_held scope.table (codes "a") (codes "y")) ≡ None
 private_not_brought = refl
 
 -- a companion that is used by its name gives its names

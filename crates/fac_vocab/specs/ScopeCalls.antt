@@ -95,15 +95,3 @@ bringing_word s name None = None
 
 abbrev pub BringsOne : Scope → List ℕ → List ℕ → Scope → Result Unit ScopeFault → Type 0
 BringsOne old vocab name new result = Changes old new result (bringing_word old name (word_held old.table vocab name)) Missing
-
--- all names or none
-abbrev pub bringing_all : List ℕ → Scope → List (List ℕ) → Option Scope
-bringing_all vocab s [] = Some s
-bringing_all vocab s (n ∷ ns) = elim (word_held s.table vocab n) [ Some w ↦ bringing_all vocab (bringing (named n w) s) ns | None ↦ None ]
-
-abbrev pub brings_where : Bool → Scope → List ℕ → List (List ℕ) → Scope → Result Unit ScopeFault → Type 0
-brings_where true old vocab names new result = Changes old new result (bringing_all vocab old names) Missing
-brings_where false old vocab names new result = Changes old new result None NoVocab
-
-abbrev pub Brings : Scope → List ℕ → List (List ℕ) → Scope → Result Unit ScopeFault → Type 0
-Brings old vocab names new result = brings_where (exists old vocab) old vocab names new result

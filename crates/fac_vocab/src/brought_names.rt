@@ -198,27 +198,6 @@ fn note_behind(
     }
 }
 
-// Keeps the numbers of several forms behind forms whose numbers are kept, and whether that was done.
-fn note_all(
-    alloc: Global,
-    is_indexed: bool,
-    names: &mut IndexMap<String, Vec<u32>>,
-    prefixes: &mut IndexMap<String, Vec<u32>>,
-    forms: &[Brought],
-    more: &[Brought],
-) -> bool
-    requires { IndexedWhere is_indexed names.old prefixes.old forms.now }
-    ensures { IndexedWhere result names.new prefixes.new (forms.now ++ more.now) }
-{
-    let mut is_noted = is_indexed;
-    let mut number = forms.len();
-    for form in more {
-        is_noted = note_behind(alloc, is_noted, names, prefixes, form, number);
-        number += 1;
-    }
-    is_noted
-}
-
 impl BroughtNames {
     /// Nothing is brought.
     pub fn new(alloc: Global) -> BroughtNames
@@ -259,26 +238,6 @@ impl BroughtNames {
         );
         self.is_indexed = false;
         self.forms.push(form)?;
-        self.is_indexed = is_noted;
-        Ok(())
-    }
-
-    /// Adds what several forms bring, the latest being the last: all or none of it.
-    pub fn add_all(&mut self, alloc: Global, forms: Vec<Brought>) -> Result<(), Memory>
-        ensures ok { OnOk result (self.new ≡ reverse forms.items ++ self.old) }
-        ensures err { OnErr result (self.new ≡ self.old) }
-    {
-        let is_noted = note_all(
-            alloc,
-            self.is_indexed,
-            &mut self.names,
-            &mut self.prefixes,
-            self.forms.as_slice(),
-            forms.as_slice(),
-        );
-        self.is_indexed = false;
-        let mut more = forms;
-        self.forms.append(&mut more)?;
         self.is_indexed = is_noted;
         Ok(())
     }

@@ -1,8 +1,8 @@
 //! Scopes: what a file's names find.
 ghost use Rattle.std.specs.Prelude.{◌≡◌, ◌++◌, ◌∷◌, [], false, true, IfOk, OnOk, OnErr};
 ghost use Rattle.fac_vocab.specs.Scopes.{or_else, word_held, companion, latest, found, exists as vocab_exists, home as home_of, first_scope, entries_from, begun, entered, with_private, named, prefixed};
-ghost use Rattle.fac_vocab.specs.inner.Rows.{all_named, AllNamed, numbers_named};
-ghost use Rattle.fac_vocab.specs.ScopeCalls.{names_differ, Finds, names_between, Stands, Defines, Defers, Uses, Qualifies, BringsOne, Brings};
+ghost use Rattle.fac_vocab.specs.inner.Rows.{numbers_named};
+ghost use Rattle.fac_vocab.specs.ScopeCalls.{names_differ, Finds, names_between, Stands, Defines, Defers, Uses, Qualifies, BringsOne};
 
 use crate::answers::{Found, ScopeFault, Standing};
 use crate::brought::Brought;
@@ -79,35 +79,6 @@ fn named_word(alloc: Global, name: &str, word: u32) -> Result<Brought, Memory>
     ensures { IfOk result (λ form. form ≡ named name.now word) }
 {
     Ok(Brought::Named(Text::from_str(alloc, name)?, word))
-}
-
-// Adds what a `FROM:` brings by one name.
-fn add_named(alloc: Global, forms: &mut Vec<Brought>, name: &str, word: u32) -> Result<(), Memory>
-    ensures { OnOk result (forms.new.items ≡ forms.old.items ++ named name.now word ∷ []) }
-{
-    forms.push(named_word(alloc, name, word)?)?;
-    Ok(())
-}
-
-// What these names of a vocabulary bring.
-fn all_words(
-    alloc: Global,
-    table: &Table,
-    vocab: &str,
-    names: &[Text],
-) -> Result<Vec<Brought>, ScopeFault>
-    ensures { AllNamed (all_named table.now vocab.now names.now) result }
-{
-    let mut forms = Vec::new(alloc);
-    for name in names {
-        match table.word(vocab, name.as_str()) {
-            Some(word) => add_named(alloc, &mut forms, name.as_str(), word)?,
-            None => {
-                return Err(ScopeFault::Unknown);
-            }
-        }
-    }
-    Ok(forms)
 }
 
 impl Scope {
@@ -313,22 +284,6 @@ impl Scope {
                 Ok(())
             }
             None => Err(ScopeFault::Unknown),
-        }
-    }
-
-    /// Brings names of a vocabulary, as the words that it has now: all of them or none.
-    pub fn from(&mut self, alloc: Global, vocab: &str, names: &List<Text>) -> Result<(), ScopeFault>
-        ensures { Brings self.old vocab.now names.now self.new result }
-    {
-        if !self.exists(vocab) {
-            return Err(ScopeFault::NoVocab);
-        }
-        match all_words(alloc, &self.table, vocab, names.as_slice()) {
-            Ok(forms) => {
-                self.brought.add_all(alloc, forms)?;
-                Ok(())
-            }
-            Err(fault) => Err(fault),
         }
     }
 }

@@ -1,4 +1,4 @@
--- What a word breaks, in each built program for which its closed one stands.
+-- What a word breaks, in each whole program for which its closed one stands.
 use Rattle.std.specs.Prelude.{◌≡◌, ℕ, [], Bool, true, false, ◌&&◌, not, Option, Some, None, nat_eq, slice_get}
 use Rattle.fac_lang.specs.declared.phrase.Place.{Place}
 use Rattle.fac_lang.specs.declared.program.WordDef.{WordDef}

@@ -14,7 +14,7 @@ use Rattle.fac_lang.specs.declared.effect.Input.{Input}
 use Rattle.fac_lang.specs.Effects.{inputs_count}
 use Rattle.fac_lang.specs.PrimitiveWords.{outputs_of}
 use Rattle.fac_lang.specs.Primitives.{Primitive, prim_numbered}
-use Rattle.fac_lang.specs.Forms.{IsBuilt}
+use Rattle.fac_lang.specs.Whole.{IsWhole}
 use Rattle.fac_locals.specs.Literals.{literal_numbered, first_of_word, first_of_literal, behind}
 use Rattle.fac_locals.specs.Frames.{items_at, template_phrase, Opens, OpensItem}
 use Rattle.fac_locals.specs.OpenedPrograms.{OpensProgram}
@@ -207,7 +207,7 @@ pub record NamesTemplate (P : Program) (N : Naming) (n k : ℕ) (t : Template) :
 pub record Opened (C : Program) (templates : List Template) (own : Option ℕ) (inner : ℕ) : Type 0 where
   pub program : Program
   pub closes : Closes program C templates
-  pub built : IsBuilt program
+  pub whole : IsWhole program
   pub opens : OpensProgram program C templates
   pub naming : Naming
   pub literal_is : (k : ℕ) → k < length templates → naming.literal k ≡ (literal_numbered program k).at
@@ -442,7 +442,7 @@ NamesWhereOwn N own w e = own ≡ Some w → NamesRows N e
 -- likewise that of a word that is closed so
 abbrev pub DoesWordSo : Closed → MarksSeen → MarksSeen → Option ℕ → Option ℕ → ℕ → ℕ → WordDef → Doing → Type 0
 DoesWordSo closed M L own b s w c D =
-    (P : Program) (d : WordDef) → Closes P closed.program closed.templates → w ≢ P.top → slice_get P.words w ≡ Some d → IsBuilt P → ClosesWord P w d c → (N : Naming) → NamesWhereOwn N own w c.effect → doing_seen N L (slice_get P.words) (base_seen N b) D ≡ word_doing P own w (Some d) (base_seen N b) (stack_of N M s)
+    (P : Program) (d : WordDef) → Closes P closed.program closed.templates → w ≢ P.top → slice_get P.words w ≡ Some d → IsWhole P → ClosesWord P w d c → (N : Naming) → NamesWhereOwn N own w c.effect → doing_seen N L (slice_get P.words) (base_seen N b) D ≡ word_doing P own w (Some d) (base_seen N b) (stack_of N M s)
 
 -- a word that is defined by a phrase: an inline one is expanded, unless it is a row word, and every other one goes by its effect
 abbrev pub DoesDefined : MarksSeen → MarksSeen → Option ℕ → Option ℕ → ℕ → ℕ → WordDef → Doing → Type 0

@@ -1,18 +1,18 @@
 -- How closing goes through a program: the numbers that its templates get, word by word, an outer quotation or fry before those in it and those of a literal array where the array stands, and the cells of their frames. The words come first, and then the arrays from the last one to the first: what names an array comes before it.
 use Rattle.std.specs.Prelude.{◌≡◌, ℕ, zero, suc, ◌+◌, List, [], ◌∷◌, ◌++◌, length, set, slice_index_or, Option, Some, None}
-use Rattle.fac_lang.specs.Phrases.{Phrase, end, then, Item, lit_arr, quot, bind, local, fry, hole, next_method, made, next_after}
+use Rattle.fac_lang.specs.Phrases.{Phrase, end, then, append, Item, lit_arr, quot, word, bind, local, fry, hole, next_method, made, next_after}
 use Rattle.fac_lang.specs.Meaning.{nowhere}
 use Rattle.fac_lang.specs.declared.phrase.Place.{Place}
 use Rattle.fac_lang.specs.declared.phrase.Item.{Item as PlacedItem}
 use Rattle.fac_lang.specs.declared.phrase.What.{What}
-use Rattle.fac_lang.specs.declared.phrase.What.TheVariants.{Quot, Bind, Local as LocalValue, Fry, Hole as HoleValue, NextMethod, NextAfter, Made}
+use Rattle.fac_lang.specs.declared.phrase.What.TheVariants.{Quot, Choices, Bind, Local as LocalValue, Fry, Hole as HoleValue, NextMethod, NextAfter, Made}
 use Rattle.fac_lang.specs.declared.phrase.Template.{Template}
 use Rattle.fac_lang.specs.declared.program.WordDef.{WordDef}
 use Rattle.fac_lang.specs.declared.program.Sort.{Sort}
 use Rattle.fac_lang.specs.declared.program.Sort.TheVariants.{Body as body, Method as method}
 use Rattle.fac_lang.specs.declared.program.Lit.{Lit}
 use Rattle.fac_lang.specs.declared.program.Lit.TheVariants.{Quot as l_quot, Made as l_made}
-use Rattle.fac_lang.specs.PhraseView.{what_item, items_phrase}
+use Rattle.fac_lang.specs.PhraseView.{choices_behind, what_item, items_phrase}
 use Rattle.fac_captures.specs.declared.cell.Cell.{Cell}
 use Rattle.fac_captures.specs.declared.cell.Cell.TheVariants.{Local, Hole}
 use Rattle.fac_captures.specs.declared.asking.Asked.{Asked}
@@ -22,6 +22,7 @@ use Rattle.fac_captures.specs.Asked.{AreAskedBy, quotations_in, quotations_at}
 use Rattle.fac_locals.specs.Literals.{element_item, elements_phrase}
 use Rattle.fac_locals.specs.declared.closing.ArrayStart.{ArrayStart}
 use Rattle.fac_locals.specs.declared.closing.Closing.{Closing}
+use Rattle.fac_locals.specs.declared.closing.Level.{Level}
 
 -- a list after these elements were put at their numbers, one after the other
 abbrev pub put_all : {A : Type 0} → List A → List (ℕ × A) → List A
@@ -63,6 +64,21 @@ next_in (Some m) = next_after m
 abbrev pub next_what : Option ℕ → What
 next_what None = NextMethod
 next_what (Some m) = NextAfter m
+
+-- the cells behind a phrase that stands under these
+abbrev pub phrase_cells : List Cell → Phrase → List Cell
+phrase_cells cells end = cells
+phrase_cells cells (then i p t) = phrase_cells (cells_behind cells i) t
+
+-- the choice behind a phrase whose quotation has this number, with the word that chooses, or none
+abbrev pub choice_in : ℕ → Place → Option ℕ → Phrase
+choice_in w p None = end
+choice_in w p (Some k) = then (made k) p (then (word w) p end)
+
+-- The templates of quotations inside one another that were gone into, the innermost first, where this stands behind the phrase of the innermost one, and behind each other one the choice of what is inside it.
+abbrev pub level_templates : ℕ → Place → List Level → Phrase → List (ℕ × Template)
+level_templates w p [] t = []
+level_templates w p (l ∷ ls) t = (l.number, record { body = append l.body t; captures = l.captures; holes = 0; place = l.place }) ∷ level_templates w p ls (choice_in w p (Some l.number))
 
 -- an item for the cell of this number, or another where there is none
 abbrev pub cell_or : Item → Option ℕ → Item
@@ -144,6 +160,7 @@ module _ (counts : List ℕ) where
     -- the same item in a list of items
     abbrev pub closed_what : List Cell → ℕ → What → What
     closed_what cells n (Quot t) = Made n
+    closed_what cells n (Choices c) = Made n
     closed_what cells n (Fry t k) = Made n
     closed_what cells n (Bind x) = Bind (length cells)
     closed_what cells n (LocalValue x) = cell_what (LocalValue x) (cell_number cells (Local x))
@@ -270,6 +287,45 @@ pub record KeptTaken (cells : List Cell) (holes : ℕ) (before : Closing) (kept 
   pub templates_stay : behind.templates.items ≡ before.templates.items
   pub starts_stay : behind.starts.items ≡ before.starts.items
   pub kept_is : (i : Item) (is : List Item) → hole_count i ≡ holes → AreAskedBy (i ∷ is) before.asked → KeptIs cells i kept behind is
+
+-- A quotation was gone into that stands here under these cells: this is its phrase up to what is behind it, which is still to be closed under the inner cells.
+pub record LevelEntered (counts : List ℕ) (m : Option ℕ) (cells : List Cell) (before : Closing) (p : Place) (t behind_it : Phrase) (level : Level) (inner : List Cell) (behind : Closing) (is : List Item) : Type 0 where
+  pub number_is : level.number ≡ before.next
+  pub place_is : level.place ≡ p
+  pub captures_are : level.captures ≡ captured cells (quot (append t behind_it))
+  pub body_is : level.body ≡ closed_phrase counts m (inner_cells cells (quot (append t behind_it))) (suc before.next) t
+  pub cells_are : inner ≡ phrase_cells (inner_cells cells (quot (append t behind_it))) t
+  pub next_is : behind.next ≡ phrase_behind counts (suc before.next) t
+  pub templates_are : behind.templates.items ≡ put_all before.templates.items (phrase_templates counts m (inner_cells cells (quot (append t behind_it))) (suc before.next) t)
+  pub starts_are : behind.starts.items ≡ put_all before.starts.items (phrase_starts counts m (suc before.next) t)
+  pub left : AreAskedBy (quotations_in behind_it ++ is) behind.asked
+
+-- whatever stands behind its phrase, where what it and the quotations in it ask for comes first
+abbrev pub EntersLevel : List ℕ → Option ℕ → List Cell → Closing → Place → Phrase → Level → List Cell → Closing → Type 0
+EntersLevel counts m cells before p t level inner behind = (u : Phrase) (is : List Item) → AreAskedBy (quotations_at (quot (append t u)) ++ is) before.asked → LevelEntered counts m cells before p t u level inner behind is
+
+abbrev pub IsEnteredAsked : Phrase → List Asked → Type 0
+IsEnteredAsked t all = (u : Phrase) × AreAsked (quotations_at (quot (append t u))) all
+
+-- Quotations inside one another, of which these were gone into, the innermost first: what comes of the item from the start under its cells comes of what is left behind the phrase of the innermost one under the inner cells, and then of the templates of those that were gone into.
+pub record Inside (counts : List ℕ) (m : Option ℕ) (w : ℕ) (q : Place) (outer : List Cell) (start : Closing) (p : Place) (i : Item) (levels : List Level) (inner : List Cell) (now : Closing) (left : Phrase) (is : List Item) : Type 0 where
+  pub next_is : item_behind counts start.next i ≡ phrase_behind counts now.next left
+  pub templates_are : put_all start.templates.items (item_templates counts m outer start.next p i) ≡ put_all now.templates.items (phrase_templates counts m inner now.next left ++ level_templates w q levels (closed_phrase counts m inner now.next left))
+  pub starts_are : put_all start.starts.items (item_starts counts m start.next p i) ≡ put_all now.starts.items (phrase_starts counts m now.next left)
+  pub asked : AreAskedBy (quotations_in left ++ is) now.asked
+
+-- one goes from where these choices are left to where none is
+abbrev pub EntersInside : List ℕ → Option ℕ → ℕ → Place → List Level → List Cell → Closing → List Phrase → List Level → Closing → Type 0
+EntersInside counts m w q levels cells before ts now behind =
+    (outer : List Cell) (start : Closing) (p : Place) (i : Item) (is : List Item) → Inside counts m w q outer start p i levels cells before (choices_behind w q ts) is → Inside counts m w q outer start p i now [] behind end is
+
+-- A quotation is passed, and what the quotations behind it ask for, which are these, is left.
+pub record QuotationPassed (counts : List ℕ) (m : Option ℕ) (cells : List Cell) (before : Closing) (p : Place) (t : Phrase) (behind : Closing) (is : List Item) : Type 0 where
+  pub passed : ItemPassed counts m cells before p (quot t) behind
+  pub left : AreAskedBy is behind.asked
+
+abbrev pub ClosesChoices : List ℕ → Option ℕ → List Cell → Closing → Place → Phrase → Closing → Type 0
+ClosesChoices counts m cells before p t behind = (is : List Item) → AreAskedBy (quotations_at (quot t) ++ is) before.asked → QuotationPassed counts m cells before p t behind is
 
 -- likewise words, from word w on
 pub record WordsPassed (counts : List ℕ) (w : ℕ) (before : Closing) (ds : List WordDef) (behind : Closing) : Type 0 where

@@ -4,7 +4,6 @@ use Rattle.std.specs.List.{count_by}
 use Rattle.std.specs.declared.option.Option.{Option}
 use Rattle.fac_lang.specs.declared.token.Token.{Token}
 use Rattle.fac_lang.specs.declared.tree.Form.{Form}
-use Rattle.fac_lang.specs.Forms.{IsBuilt}
 use Rattle.fac_lang.specs.Whole.{IsWhole}
 use Rattle.fac_token.specs.Tokens.{Tokenizes}
 use Rattle.fac_parse.specs.declared.parser.Parser.{Parser}
@@ -77,7 +76,6 @@ pub record AreNamed (texts : List (List ℕ)) (named : NamedProgram) : Type 0 wh
   pub files : List (List Form)
   pub are_trees : AreTrees texts files
   pub resolves : resolved files ≡ Ok named.program
-  pub built : IsBuilt named.program
   pub whole : IsWhole named.program
   pub counts : named.definitions ≡ own_definitions files
 

@@ -1,10 +1,15 @@
 -- Inner contracts: how the steps on an image end.
-use Rattle.std.specs.Prelude.{◌≡◌, ◌≤◌, ◌⊎◌, List, ℕ, length, Result, Ok, Err}
+use Rattle.std.specs.Prelude.{◌≡◌, ◌≤◌, ◌⊎◌, List, ℕ, length, true, Result, Ok, Err}
+use Rattle.std.specs.declared.option.Option.{Option}
 use Rattle.std.specs.Option.{option_map}
 use Rattle.fac_lang.specs.declared.limits.TheConstants.{MOST_IMAGE_BYTES}
+use Rattle.fac_lang.specs.declared.phrase.Height.{Height}
+use Rattle.fac_locals.specs.declared.closing.Closed.{Closed}
+use Rattle.fac_qeff.specs.TemplateEffects.{AreEffects}
 use Rattle.fac_spelling.specs.Whole.{Spells}
 use Rattle.fac_code.specs.declared.image.Image.{Image}
 use Rattle.fac_bytes.specs.ImageBytes.{image as image_format, parts_of}
+use Rattle.fac_emit.specs.Heights.{asks_effects}
 use Rattle.fac_store.specs.ValueTrees.{Trees, trees_of, value_in}
 use Rattle.fac_vm.specs.declared.machine.RunError.{RunError}
 use Rattle.fac_vm.specs.declared.machine.StopKind.{StopKind}
@@ -24,6 +29,16 @@ use Rattle.fac_tool.specs.inner.Stops.{InStore, IsFresh}
 abbrev pub LoadsImage : List ℕ → FilesSeen → Result (List ℕ) Ended → Type 0
 LoadsImage name files (Ok bytes) = ImageLoads name files bytes
 LoadsImage name files (Err ended) = ImageLoadEnds name files ended
+
+-- the effects of a closed program's templates, where it asks for any
+abbrev pub AreEffectsIfAsked : Closed → List (Option Height) → Type 0
+AreEffectsIfAsked closed heights = asks_effects closed.program closed.templates ≡ true → AreEffects closed heights
+
+-- an image that has bytes, no more than one may have
+pub record IsShort (M : Image) : Type 0 where
+  pub bytes : List ℕ
+  pub spelled : Spells image_format bytes (parts_of M)
+  pub short : length bytes ≤ MOST_IMAGE_BYTES
 
 -- an image with its bytes, which are no more than one may have
 pub record IsLinked (linked : Linked) : Type 0 where

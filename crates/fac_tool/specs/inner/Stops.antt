@@ -4,7 +4,6 @@ use Rattle.fac_lang.specs.declared.program.Program.{Program}
 use Rattle.fac_lang.specs.Printed.{printed}
 use Rattle.fac_lang.specs.World.{World}
 use Rattle.fac_lang.specs.RunningLaws.{IsNotStuck}
-use Rattle.fac_lang.specs.Forms.{IsBuilt}
 use Rattle.fac_lang.specs.Whole.{IsWhole}
 use Rattle.fac_locals.specs.Closed.{Closes}
 use Rattle.fac_locals.specs.declared.closing.Closed.{Closed}
@@ -24,13 +23,11 @@ use Rattle.fac_tool.specs.Answer.{meaning, shown_text}
 -- the program for which a closed one stands
 pub record StandsFor (closed : Closed) (P : Program) : Type 0 where
   pub closes : Closes P closed.program closed.templates
-  pub built : IsBuilt P
   pub whole : IsWhole P
 
 -- which is accepted, so that it is safe, and starts on no value
 pub record StandsForSafe (closed : Closed) (P : Program) : Type 0 where
   pub closes : Closes P closed.program closed.templates
-  pub built : IsBuilt P
   pub whole : IsWhole P
   pub safe : IsSafe P 0
   pub start : closed.start ≡ 0

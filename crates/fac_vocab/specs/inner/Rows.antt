@@ -123,24 +123,3 @@ defined_at (suc n) (e ∷ es) = e ∷ defined_at n es
 abbrev pub with_vocabs : List (List ℕ) → List (List ℕ) → List (List ℕ)
 with_vocabs texts [] = texts
 with_vocabs texts (t ∷ ts) = with_vocabs (with_vocab texts t) ts
-
-abbrev pub behind_word : List ℕ → Option ℕ → Option (List Brought) → Option (List Brought)
-behind_word name (Some w) (Some forms) = Some (named name w ∷ forms)
-behind_word name (Some w) None = None
-behind_word name None forms = None
-
--- what these names of a vocabulary bring, where it holds all of them
-abbrev pub all_named : List Entry → List ℕ → List (List ℕ) → Option (List Brought)
-all_named table vocab [] = Some []
-all_named table vocab (n ∷ ns) = behind_word n (word_held table vocab n) (all_named table vocab ns)
-
-abbrev pub AllNamed : Option (List Brought) → Result (Vec Brought) ScopeFault → Type 0
-AllNamed forms (Ok made) = forms ≡ Some made.items
-AllNamed forms (Err Missing) = forms ≡ None
-AllNamed forms (Err Memory) = Unit {0}
-AllNamed forms (Err other) = ⊥
-
--- forms behind others
-abbrev pub behind_forms : List Brought → Option (List Brought) → Option (List Brought)
-behind_forms made None = None
-behind_forms made (Some forms) = Some (made ++ forms)

@@ -7,9 +7,9 @@ use Rattle.fac_check.proofs.checker.inline_breach.Goals as goal
 pub returns-then-is_row_word : goal.returns-then-is_row_word
 returns-then-is_row_word c =
     ok_maps c.row_breach.result
-    (λ b breach P closes built d t at word text. row_word_is P c.args.number d t (breach_seen b) (row_mark_is P c.args.number d c.args.word.now word ∙ sym c.is_row_word.ensures ∙ c.if-is_row_word.true) (breach P closes built d t at word text))
+    (λ b breach P closes whole d t at word text. row_word_is P c.args.number d t (breach_seen b) (row_mark_is P c.args.number d c.args.word.now word ∙ sym c.is_row_word.ensures ∙ c.if-is_row_word.true) (breach P closes whole d t at word text))
     c.row_breach.ensures
 
 pub returns : goal.returns
-returns c = λ P closes built d t at word text.
+returns c = λ P closes whole d t at word text.
     expanded_is P c.args.number d t (row_mark_is P c.args.number d c.args.word.now word ∙ sym c.is_row_word.ensures ∙ c.if-is_row_word.false)

@@ -7,6 +7,6 @@ use Rattle.fac_check.proofs.checker.phrase_breach.Goals as goal
 pub returns-then-word : goal.returns-then-word
 returns-then-word c =
     ok_maps c.inline_breach.result
-    (λ b breach P closes built d t at word text.
-    inline_is P c.args.number d c.args.closed.now.start t (breach_seen b) (λ e. c.if-number-closed.false (e ∙ sym closes.top)) (sym word.inline ∙ c.if-word.true) (breach P closes built d t at word text))
+    (λ b breach P closes whole d t at word text.
+    inline_is P c.args.number d c.args.closed.now.start t (breach_seen b) (λ e. c.if-number-closed.false (e ∙ sym closes.top)) (sym word.inline ∙ c.if-word.true) (breach P closes whole d t at word text))
     c.inline_breach.ensures

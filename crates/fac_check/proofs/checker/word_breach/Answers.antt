@@ -18,30 +18,30 @@ pub ordinary_breach-requires-clause-phrase : goal.ordinary_breach-requires-claus
 ordinary_breach-requires-clause-phrase c = subst (λ x. takes_sort c.args.closed.now.program.top (length c.args.closed.now.templates) x ≡ true) c.in-Method.is (and_first _ _ c.requires.word)
 
 pub returns-then-has_bad_rows : goal.returns-then-has_bad_rows
-returns-then-has_bad_rows c = λ P closes built d at word opens leads.
+returns-then-has_bad_rows c = λ P closes whole d at word opens leads.
     let rows = bad_rows_are P c.args.number d c.args.word.now word c.args.closed.now.program.top closes.top in
     rows_refused P c.args.closed.now.start c.args.number d c.args.word.now word (sym c.if-leads_back.false ∙ leads) (sym rows ∙ sym c.has_bad_rows.ensures ∙ c.if-has_bad_rows.true)
 
 pub returns-in-Body : goal.returns-in-Body
 returns-in-Body c =
     ok_maps c.phrase_breach.result
-    (λ b breach P closes built d at word opens leads.
+    (λ b breach P closes whole d at word opens leads.
     let sort = opens_body P c.args.closed.now.templates c.args.number d.sort c.args.word.now.sort _ opens c.in-Body.is in
     let rows = bad_rows_are P c.args.number d c.args.word.now word c.args.closed.now.program.top closes.top in
-    body_verdict_is P c.args.number d c.args.closed.now.start sort.0 _ sort.1 (sym c.if-leads_back.false ∙ leads) (sym rows ∙ sym c.has_bad_rows.ensures ∙ c.if-has_bad_rows.false) (breach P closes built d sort.0 at word sort.2))
+    body_verdict_is P c.args.number d c.args.closed.now.start sort.0 _ sort.1 (sym c.if-leads_back.false ∙ leads) (sym rows ∙ sym c.has_bad_rows.ensures ∙ c.if-has_bad_rows.false) (breach P closes whole d sort.0 at word sort.2))
     c.phrase_breach.ensures
 
 pub returns-in-Method : goal.returns-in-Method
 returns-in-Method c =
     ok_maps c.ordinary_breach.result
-    (λ b breach P closes built d at word opens leads.
+    (λ b breach P closes whole d at word opens leads.
     let sort = opens_method P c.args.closed.now.templates c.args.number d.sort c.args.word.now.sort _ _ _ opens c.in-Method.is in
     let rows = bad_rows_are P c.args.number d c.args.word.now word c.args.closed.now.program.top closes.top in
-    method_verdict_is P c.args.number d c.args.closed.now.start _ _ sort.0 _ sort.1 (sym c.if-leads_back.false ∙ leads) (sym rows ∙ sym c.has_bad_rows.ensures ∙ c.if-has_bad_rows.false) (breach P closes built c.args.number d (of_method c.args.number sort.0) word sort.2))
+    method_verdict_is P c.args.number d c.args.closed.now.start _ _ sort.0 _ sort.1 (sym c.if-leads_back.false ∙ leads) (sym rows ∙ sym c.has_bad_rows.ensures ∙ c.if-has_bad_rows.false) (breach P closes whole c.args.number d (of_method c.args.number sort.0) word sort.2))
     c.ordinary_breach.ensures
 
 pub returns-in-Generic : goal.returns-in-Generic
-returns-in-Generic c = λ P closes built d at word opens leads.
+returns-in-Generic c = λ P closes whole d at word opens leads.
     let w = c.args.word.now in
     let sort = plain_sort P c.args.number d w word _ c.in-Generic.is refl in
     let rows = bad_rows_are P c.args.number d w word c.args.closed.now.program.top closes.top in
@@ -49,6 +49,6 @@ returns-in-Generic c = λ P closes built d at word opens leads.
     (c.generic_breach.ensures ∙ ap (λ (e : Signature). generic_refusal (no_generic_effect e) w.place) word.effect ∙ ap (λ (p : Place). generic_refusal (no_generic_effect d.effect) p) word.place)
 
 pub returns-in_default : goal.returns-in_default
-returns-in_default c = λ P closes built d at word opens leads.
+returns-in_default c = λ P closes whole d at word opens leads.
     let rows = bad_rows_are P c.args.number d c.args.word.now word c.args.closed.now.program.top closes.top in
     no_phrase_verdict P c.args.number d c.args.closed.now.start c.args.word.now word c.in_default.not-Body c.in_default.not-Method c.in_default.not-Generic (sym c.if-leads_back.false ∙ leads) (sym rows ∙ sym c.has_bad_rows.ensures ∙ c.if-has_bad_rows.false)

@@ -1,6 +1,7 @@
 use Rattle.std.proofs.Common.{◌≡◌, ℕ, length, Some, sym, ◌∙◌, ap, subst}
 use Rattle.std.specs.Prelude.{slice_get}
 use Rattle.fac_abs.specs.SeenMarks.{stack_of, base_seen}
+use Rattle.fac_lang.proofs.SourcePrograms.{source_of_whole}
 use Rattle.fac_locals.proofs.Lookups.{word_open}
 use Rattle.fac_check.specs.Flow.{breaks, word_doing}
 use Rattle.fac_abs.specs.declared.rule.Rule.TheVariants.{NotKnown}
@@ -23,7 +24,7 @@ returns-in-Some-clause-does c =
     ok_maps c.word_item.result
     (λ r does O.
     let there = word_open O.program C.program C.templates O.closes c.args.number c.in-Some.word.now (sym c.in-Some.ensures) in
-    does O.program there.def O.closes (λ e. c.if-number-subject.false (e ∙ sym O.closes.top)) there.at O.built there.closes O.naming (named_own O c.args.number c.in-Some.word.now (sym c.in-Some.ensures))
+    does O.program there.def O.closes (λ e. c.if-number-subject.false (e ∙ sym O.closes.top)) there.at O.whole there.closes O.naming (named_own O c.args.number c.in-Some.word.now (sym c.in-Some.ensures))
     ∙ ap (λ q. word_doing O.program q c.args.number (Some there.def) (base_seen O.naming c.args.base) (stack_of O.naming c.args.marks.now c.args.stack)) (sym O.word_is)
     ∙ ap (λ o. word_doing O.program O.word c.args.number o (base_seen O.naming c.args.base) (stack_of O.naming c.args.marks.now c.args.stack)) (sym there.at))
     c.word_item.ensures.does
@@ -32,7 +33,7 @@ pub returns-then-number-subject-clause-does : goal.returns-then-number-subject-c
 returns-then-number-subject-clause-does c = λ O.
     let base = base_seen O.naming c.args.base in
     let marks = stack_of O.naming c.args.marks.now c.args.stack in
-    subst (λ (w : ℕ). breaks NotKnown ≡ word_doing O.program O.word w (slice_get O.program.words w) base marks) (sym (c.if-number-subject.true ∙ O.closes.top)) (top_item O.program O.built O.word base marks)
+    subst (λ (w : ℕ). breaks NotKnown ≡ word_doing O.program O.word w (slice_get O.program.words w) base marks) (sym (c.if-number-subject.true ∙ O.closes.top)) (top_item O.program (source_of_whole O.program O.whole) O.word base marks)
 
 pub returns-in-None-clause-does : goal.returns-in-None-clause-does
 returns-in-None-clause-does c = λ O.

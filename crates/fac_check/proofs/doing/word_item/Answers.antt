@@ -28,9 +28,9 @@ returns-in-Prim-clause-does c =
     let k = c.in-Prim.primitive_number in
     let w = c.args.word.now in
     ok_maps c.primitive.result
-    (λ r does P d whole low at built closes N own.
+    (λ r does P d stands low at whole closes N own.
     let sort = plain_sort P c.args.number d w closes (prim k) c.in-Prim.is refl in
-    let there = built_primitive_word P built c.args.number d at k sort in
+    let there = built_primitive_word P whole c.args.number d at k sort in
     let ins = prim_ins P c.args.number d w closes there.0 _ there.2 (ap (λ (h : Height). h.ins) c.height_of.ensures) in
     let outs = prim_outs P c.args.number d w closes there.0 _ there.2 (ap (λ (h : Height). h.outs) c.height_of.ensures) in
     prim_item P c.args.subject.own c.args.number d w closes k there.0 _ (base_seen N c.args.base) (stack_of N c.args.marks.now c.args.stack) sort there.1 (does there.0 there.1 ins outs N (slice_get P.words) (base_seen N c.args.base)))
@@ -44,15 +44,15 @@ returns-in-Core-clause-does c =
     let k = c.in-Core.core_number in
     let w = c.args.word.now in
     ok_maps c.core.result
-    (λ r does P d whole low at built closes N own.
-    item_of P c.args.subject.own c.args.number d w closes (core k) _ (base_seen N c.args.base) (stack_of N c.args.marks.now c.args.stack) (plain_sort P c.args.number d w closes (core k) c.in-Core.is refl) (does P whole N (slice_get P.words) (base_seen N c.args.base)))
+    (λ r does P d stands low at whole closes N own.
+    item_of P c.args.subject.own c.args.number d w closes (core k) _ (base_seen N c.args.base) (stack_of N c.args.marks.now c.args.stack) (plain_sort P c.args.number d w closes (core k) c.in-Core.is refl) (does P stands N (slice_get P.words) (base_seen N c.args.base)))
     c.core.ensures.does
 
 pub returns-in-Body-clause-does : goal.returns-in-Body-clause-does
 returns-in-Body-clause-does c =
     let w = c.args.word.now in
     ok_maps c.defined.result
-    (λ r does P d whole low at built closes N own.
+    (λ r does P d stands low at whole closes N own.
     let sort = is_body P c.args.number d w closes _ c.in-Body.is in
     body_item P c.args.subject.own c.args.number d w closes sort.0 _ (base_seen N c.args.base) (stack_of N c.args.marks.now c.args.stack) at sort.1 low (does P N (slice_get P.words) (ap effect_of at ∙ sym closes.effect) own))
     c.defined.ensures.does

@@ -12,13 +12,13 @@ pub word_breach-requires-clause-program : goal.word_breach-requires-clause-progr
 word_breach-requires-clause-program c =
     let C = c.args.closed.now in
     let stands = c.requires.stands in
-    taken_program stands.0 C.program C.templates stands.1 stands.2 stands.3
+    taken_program stands.0 C.program C.templates stands.1 stands.2
 
 pub word_breach-requires-clause-word : goal.word_breach-requires-clause-word
 word_breach-requires-clause-word c =
     let C = c.args.closed.now in
     let stands = c.requires.stands in
-    word_taken C.program C.templates (taken_program stands.0 C.program C.templates stands.1 stands.2 stands.3) c.args.number c.in-Some.word.now (sym c.in-Some.ensures)
+    word_taken C.program C.templates (taken_program stands.0 C.program C.templates stands.1 stands.2) c.args.number c.in-Some.word.now (sym c.in-Some.ensures)
 
 pub flag-requires : goal.flag-requires
 flag-requires c =
@@ -27,19 +27,19 @@ flag-requires c =
     flag_exists stands.0 C.program C.templates stands.1 c.args.undeclared.now c.requires.undeclared c.args.number c.requires.number
 
 pub returns-in-Some-2 : goal.returns-in-Some-2
-returns-in-Some-2 c = λ P closes built d at.
+returns-in-Some-2 c = λ P closes whole d at.
     let C = c.args.closed.now in
     let w = c.args.number in
     let there = word_open P C.program C.templates closes w c.in-Some.word.now (sym c.in-Some.ensures) in
     let same : there.def ≡ d = (let e = there.at in cc) in
-    let breach = c.in_ok-place.ensures P closes built d at (subst (λ x. ClosesWord P w x c.in-Some.word.now) same there.closes) ((programs_open P C.program C.templates closes).words w d c.in-Some.word.now at (sym c.in-Some.ensures)) (flag_is P C.program C.templates closes c.args.undeclared.now c.requires.undeclared w d c.flag.result at c.flag.ensures) in
+    let breach = c.in_ok-place.ensures P closes whole d at (subst (λ x. ClosesWord P w x c.in-Some.word.now) same there.closes) ((programs_open P C.program C.templates closes).words w d c.in-Some.word.now at (sym c.in-Some.ensures)) (flag_is P C.program C.templates closes c.args.undeclared.now c.requires.undeclared w d c.flag.result at c.flag.ensures) in
     ap (numbered w) (subst (λ b. breach_seen b ≡ word_verdict P C.start w d) c.in-Some-2.is breach)
 
 pub returns-in-None : goal.returns-in-None
-returns-in-None c = λ P closes built d at.
+returns-in-None c = λ P closes whole d at.
     let C = c.args.closed.now in
     let w = c.args.number in
     let there = word_open P C.program C.templates closes w c.in-Some.word.now (sym c.in-Some.ensures) in
     let same : there.def ≡ d = (let e = there.at in cc) in
-    let breach = c.in_ok-place.ensures P closes built d at (subst (λ x. ClosesWord P w x c.in-Some.word.now) same there.closes) ((programs_open P C.program C.templates closes).words w d c.in-Some.word.now at (sym c.in-Some.ensures)) (flag_is P C.program C.templates closes c.args.undeclared.now c.requires.undeclared w d c.flag.result at c.flag.ensures) in
+    let breach = c.in_ok-place.ensures P closes whole d at (subst (λ x. ClosesWord P w x c.in-Some.word.now) same there.closes) ((programs_open P C.program C.templates closes).words w d c.in-Some.word.now at (sym c.in-Some.ensures)) (flag_is P C.program C.templates closes c.args.undeclared.now c.requires.undeclared w d c.flag.result at c.flag.ensures) in
     ap (numbered w) (subst (λ b. breach_seen b ≡ word_verdict P C.start w d) c.in-None.is breach)

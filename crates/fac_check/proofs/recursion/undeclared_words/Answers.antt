@@ -15,4 +15,4 @@ pub edges_of-requires : goal.edges_of-requires
 edges_of-requires c =
     let C = c.args.closed.now in
     let stands = c.requires in
-    taken_program stands.0 C.program C.templates stands.1 stands.2 stands.3
+    taken_program stands.0 C.program C.templates stands.1 stands.2

@@ -12,4 +12,4 @@ pub returns-in-Ok-end_names : goal.returns-in-Ok-end_names
 returns-in-Ok-end_names c =
     let read = c.in-Ok.ensures in
     let is = c.in-Ok-end_names.ensures read.files (trees_fit c.args.texts read.files read.are_trees) read.taken in
-    record { files = read.files; are_trees = read.are_trees; resolves = is.0; built = is.1; whole = is.2; counts = read.counts }
+    record { files = read.files; are_trees = read.are_trees; resolves = is.0; whole = is.1; counts = read.counts }

@@ -1,0 +1,391 @@
+-- What a whole program is made of: phrases with the items that a source can have, words with the effects that are written for them, and the top-level phrase as the last word. Proofs take a whole program apart so.
+use Rattle.std.proofs.Common.{◌≡◌, ◌<◌, ◌+◌, ℕ, zero, suc, List, [], ◌∷◌, ◌++◌, map, length, Bool, true, false, not, ◌&&◌, ◌||◌, Option, Some, None, refl, sym, ap, subst, ◌∙◌, true≢false, arith}
+use Rattle.std.proofs.lemmas.Bool.Decides.{Decides-ltb}
+use Rattle.std.proofs.lemmas.List.Folds.{list_all-append}
+use Rattle.std.specs.List.{list_all, list_any}
+use Rattle.std.specs.Option.{option_map}
+use Rattle.std.specs.Prelude.{nat_eq, nat_lt, slice_get, is_some, codes}
+use Rattle.fac_lang.specs.CoreWords.{CoreWord, core_in, core_word, built_core_words, is_built_core}
+use Rattle.fac_lang.specs.Meaning.{sort_of, is_past}
+use Rattle.fac_lang.specs.Phrases.{int, yes, no, str, iota, wrd, arr, tup, Phrase, end, then, Item, lit, lit_arr, quot, word, bind, local, fry, hole, call_eff, exec_eff, next_method}
+use Rattle.fac_lang.specs.PrimitiveWords.{PrimitiveWord, written_effect}
+use Rattle.fac_lang.specs.Primitives.{Primitive, prim_numbered, primitive_word, built_primitives, built_count, is_built_primitive}
+use Rattle.fac_lang.specs.Signatures.{Signature, signature, no_inputs, leaves}
+use Rattle.fac_lang.specs.Whole.{IsWhole, is_word, is_nameable, item_fits, item_spares, literal_fits, literal_spares, each_item, each_inner, each_numbered, word_phrases, quotations, joined, all_phrases, sort_fits, is_body, is_effect, effect_eq, effect_of, effect_written, has_written_effect, plain_effect, marks_fit}
+use Rattle.fac_lang.specs.declared.program.Lit.{Lit}
+use Rattle.fac_lang.specs.declared.program.Lit.TheVariants.{Int as l_int, True as l_yes, False as l_no, Str as l_str, Arr as l_arr, Wref as l_word, Quot as l_quot, Made as l_made}
+use Rattle.fac_lang.specs.declared.program.Program.{Program}
+use Rattle.fac_lang.specs.declared.program.Sort.{Sort}
+use Rattle.fac_lang.specs.declared.program.Sort.TheVariants.{Prim as prim, Core as core, Body as body, Past as past, Itself as itself, Class as class, Isa as isa, Getter as getter, Setter as setter, Putter as putter, Generic as generic, Method as method}
+use Rattle.fac_lang.specs.declared.program.WordDef.{WordDef}
+use Rattle.fac_lang.proofs.WholeLemmas.{same_effect}
+
+-- a phrase with the items that a source can have, where words have numbers below a bound
+abbrev mutual
+  pub IsSourcePhrase : ℕ → Phrase → Type 0
+  IsSourcePhrase bound end = Unit {0}
+  IsSourcePhrase bound (then i p t) = IsSourceItem bound i × IsSourcePhrase bound t
+
+  pub IsSourceItem : ℕ → Item → Type 0
+  IsSourceItem bound (lit (int z)) = Unit {0}
+  IsSourceItem bound (lit yes) = Unit {0}
+  IsSourceItem bound (lit no) = Unit {0}
+  IsSourceItem bound (lit (str cs)) = Unit {0}
+  IsSourceItem bound (lit (wrd w)) = nat_lt w bound ≡ true
+  IsSourceItem bound (lit_arr a) = Unit {0}
+  IsSourceItem bound (quot t) = IsSourcePhrase bound t
+  IsSourceItem bound (word w) = nat_lt w bound ≡ true
+  IsSourceItem bound next_method = Unit {0}
+  IsSourceItem bound (bind x) = Unit {0}
+  IsSourceItem bound (local x) = Unit {0}
+  IsSourceItem bound (fry t n) = IsSourcePhrase bound t
+  IsSourceItem bound (hole k) = Unit {0}
+  IsSourceItem bound (call_eff h) = Unit {0}
+  IsSourceItem bound (exec_eff h) = Unit {0}
+  IsSourceItem bound _ = ⊥
+
+-- an element of a literal array, likewise
+abbrev pub IsSourceElement : ℕ → Lit → Type 0
+IsSourceElement bound (l_quot t) = IsSourcePhrase bound t
+IsSourceElement bound (l_word w) = nat_lt w bound ≡ true
+IsSourceElement bound (l_made k) = ⊥
+IsSourceElement bound _ = Unit {0}
+
+abbrev pub AreSourceElements : ℕ → List Lit → Type 0
+AreSourceElements bound [] = Unit {0}
+AreSourceElements bound (l ∷ ls) = IsSourceElement bound l × AreSourceElements bound ls
+
+-- literal arrays with such elements
+abbrev pub AreSourceArrays : ℕ → List (List Lit) → Type 0
+AreSourceArrays bound [] = Unit {0}
+AreSourceArrays bound (ls ∷ lss) = AreSourceElements bound ls × AreSourceArrays bound lss
+
+-- a primitive word with its number and the effect as it is written
+pub record IsPrimitiveWord (d : WordDef) (k : ℕ) : Type 0 where
+  pub row : PrimitiveWord
+  pub row_is : primitive_word k ≡ Some row
+  pub is_built : is_built_primitive k ≡ true
+  pub effect_is : d.effect ≡ written_effect row
+  pub not_inline : d.inline ≡ false
+  pub not_recursive : d.recursive ≡ false
+
+-- likewise a core word
+pub record IsCoreWord (d : WordDef) (k : ℕ) : Type 0 where
+  pub row : PrimitiveWord
+  pub row_is : core_word k ≡ Some row
+  pub is_built : is_built_core k ≡ true
+  pub effect_is : d.effect ≡ written_effect row
+  pub not_inline : d.inline ≡ false
+  pub not_recursive : d.recursive ≡ false
+
+-- a word that pushes itself
+pub record IsSymbolWord (d : WordDef) : Type 0 where
+  pub effect_is : d.effect ≡ signature None no_inputs (leaves None (codes "value" ∷ []))
+  pub not_inline : d.inline ≡ false
+  pub not_recursive : d.recursive ≡ false
+
+-- a word of a class's predicate or of an accessor, with its effect
+pub record IsPlainWord (ins outs : List (List ℕ)) (d : WordDef) : Type 0 where
+  pub effect_is : d.effect ≡ plain_effect ins outs
+  pub not_inline : d.inline ≡ false
+  pub not_recursive : d.recursive ≡ false
+
+-- a generic or a method, with any effect
+pub record IsUnmarked (d : WordDef) : Type 0 where
+  pub not_inline : d.inline ≡ false
+  pub not_recursive : d.recursive ≡ false
+
+-- a word of this sort, where words have numbers below a bound; one that is defined by its phrase has any effect and any marks
+abbrev pub IsSourceSort : ℕ → WordDef → Sort → Type 0
+IsSourceSort bound d (prim k) = IsPrimitiveWord d k
+IsSourceSort bound d (core k) = IsCoreWord d k
+IsSourceSort bound d (body t) = IsSourcePhrase bound t
+IsSourceSort bound d itself = IsSymbolWord d
+IsSourceSort bound d (class c) = IsSymbolWord d
+IsSourceSort bound d (isa c) = IsPlainWord (codes "object" ∷ []) (codes "?" ∷ []) d
+IsSourceSort bound d (getter s) = IsPlainWord (codes "object" ∷ []) (codes "value" ∷ []) d
+IsSourceSort bound d (setter s) = IsPlainWord (codes "object" ∷ codes "value" ∷ []) (codes "object" ∷ []) d
+IsSourceSort bound d (putter s) = IsPlainWord (codes "value" ∷ codes "object" ∷ []) [] d
+IsSourceSort bound d generic = IsUnmarked d
+IsSourceSort bound d (method c g t) = IsUnmarked d × IsSourcePhrase bound t
+IsSourceSort bound d _ = ⊥
+
+-- each of these words is of such a sort
+abbrev pub AreSourceWords : ℕ → List WordDef → Type 0
+AreSourceWords bound [] = Unit {0}
+AreSourceWords bound (d ∷ ds) = IsSourceSort bound d d.sort × AreSourceWords bound ds
+
+-- the word of a top-level phrase, which takes and leaves nothing by its effect
+pub record IsTopPhrase (bound : ℕ) (d : WordDef) (t : Phrase) : Type 0 where
+  pub sort_is : d.sort ≡ body t
+  pub from_source : IsSourcePhrase bound t
+  pub effect_is : d.effect ≡ signature None no_inputs (leaves None [])
+  pub not_inline : d.inline ≡ false
+  pub not_recursive : d.recursive ≡ false
+
+pub record IsSourceProgram (P : Program) : Type 0 where
+  -- the words, and behind them that of the top-level phrase, which no phrase names
+  pub words : List WordDef
+  pub last_word : WordDef
+  pub phrase : Phrase
+  pub words_are : P.words ≡ words ++ last_word ∷ []
+  pub top_is : P.top ≡ length words
+  pub last_word_is : IsTopPhrase P.top last_word phrase
+  pub words_from_source : AreSourceWords P.top words
+  pub arrays_from_source : AreSourceArrays P.top P.arrays
+
+-- A whole program is one.
+
+not_true : {A : Type 0} → false ≡ true → A
+not_true h = absurd (true≢false (sym h))
+
+both_true : (a b : Bool) → (a && b) ≡ true → (a ≡ true) × (b ≡ true)
+both_true true b h = (refl, h)
+both_true false b h = not_true h
+
+split_all : {A : Type 0} (f : A → Bool) (xs ys : List A) → list_all f (xs ++ ys) ≡ true → (list_all f xs ≡ true) × (list_all f ys ≡ true)
+split_all f xs ys h = both_true (list_all f xs) (list_all f ys) (sym (list_all-append f xs ys) ∙ h)
+
+first_false : (a b : Bool) → not (a || b) ≡ true → a ≡ false
+first_false true b h = not_true h
+first_false false b h = refl
+
+under : (w k : ℕ) → nat_eq w k ≡ false → w < suc k → w < k
+under w k other less = grind arith
+
+-- the numbers of primitives and core words
+some_there : (ps : List Primitive) (k : ℕ) → is_some (option_map (λ (p : Primitive). p.word) (slice_get ps k)) ≡ true → k < length ps
+some_there [] k h = not_true h
+some_there (p ∷ ps) zero h = omega arith
+some_there (p ∷ ps) (suc k) h = let less = some_there ps k h in omega (arith, less)
+
+primitive_there : (k : ℕ) → is_some (primitive_word k) ≡ true → is_built_primitive k ≡ true
+unfolding prim_numbered built_count
+primitive_there k h = (Decides-ltb k (length built_primitives)).1 (some_there built_primitives k h)
+
+core_there_in : (cs : List CoreWord) (k : ℕ) → is_some (core_in cs k) ≡ true → list_any (λ (c : CoreWord). nat_eq k c.number) cs ≡ true
+core_there_in [] k h = not_true h
+core_there_in (c ∷ cs) k h = one (nat_eq k c.number) (λ e. core_there_in cs k e) h
+  where
+    one : (b : Bool) → (is_some (core_in cs k) ≡ true → list_any (λ (c : CoreWord). nat_eq k c.number) cs ≡ true) → is_some (elim b [ true ↦ Some c.word | false ↦ core_in cs k ]) ≡ true → (b || list_any (λ (c : CoreWord). nat_eq k c.number) cs) ≡ true
+    one true later e = refl
+    one false later e = later e
+
+core_there : (k : ℕ) → is_some (core_word k) ≡ true → is_built_core k ≡ true
+core_there k h = core_there_in built_core_words k h
+
+row_written : (o : Option PrimitiveWord) (e : Signature) → is_some o ≡ true → is_effect (effect_written o) e ≡ true → (row : PrimitiveWord) × (o ≡ Some row) × (e ≡ written_effect row)
+row_written None e h k = not_true h
+row_written (Some row) e h k = (row, refl, sym (same_effect (written_effect row) e k))
+
+-- words without marks
+unmarked : (i r : Bool) → (not (i || r) || false) ≡ true → (i ≡ false) × (r ≡ false)
+unmarked true r h = not_true h
+unmarked false true h = not_true h
+unmarked false false h = (refl, refl)
+
+unmarked_last : (i r b same : Bool) → same ≡ true → (not (i || r) || (b && not same)) ≡ true → (i ≡ false) × (r ≡ false)
+unmarked_last i r true true e h = unmarked i r h
+unmarked_last i r false true e h = unmarked i r h
+unmarked_last i r b false e h = not_true e
+
+-- what of a word hangs on its sort
+abbrev written : Sort → Signature → Bool
+written s e =
+    elim s [
+      | prim k ↦ is_effect (effect_written (primitive_word k)) e
+      | core k ↦ is_effect (effect_written (core_word k)) e
+      | itself ↦ effect_eq (plain_effect [] (codes "value" ∷ [])) e
+      | class c ↦ effect_eq (plain_effect [] (codes "value" ∷ [])) e
+      | isa c ↦ effect_eq (plain_effect (codes "object" ∷ []) (codes "?" ∷ [])) e
+      | getter x ↦ effect_eq (plain_effect (codes "object" ∷ []) (codes "value" ∷ [])) e
+      | setter x ↦ effect_eq (plain_effect (codes "object" ∷ codes "value" ∷ []) (codes "object" ∷ [])) e
+      | putter x ↦ effect_eq (plain_effect (codes "value" ∷ codes "object" ∷ []) []) e
+      | _ ↦ true
+    ]
+
+abbrev with_phrase : Sort → List Phrase → List Phrase
+with_phrase s ts = elim s [ body t ↦ t ∷ ts | past t ↦ t ∷ ts | method c g t ↦ t ∷ ts | _ ↦ ts ]
+
+rest_pass : (f : Phrase → Bool) (s : Sort) (ts : List Phrase) → list_all f (with_phrase s ts) ≡ true → list_all f ts ≡ true
+rest_pass f (body t) ts h = (both_true (f t) (list_all f ts) h).1
+rest_pass f (past t) ts h = (both_true (f t) (list_all f ts) h).1
+rest_pass f (method c g t) ts h = (both_true (f t) (list_all f ts) h).1
+rest_pass f s ts h = h
+
+body_of : (s : Sort) → is_body (Some s) ≡ true → (t : Phrase) × (s ≡ body t)
+body_of (body t) h = (t, refl)
+body_of s h = not_true h
+
+pub last_of : (ds : List WordDef) (d : WordDef) → slice_get (ds ++ d ∷ []) (length ds) ≡ Some d
+last_of [] d = refl
+last_of (e ∷ ds) d = last_of ds d
+
+last_at : (ws front : List WordDef) (last : WordDef) (n : ℕ) → ws ≡ front ++ last ∷ [] → n ≡ length front → slice_get ws n ≡ Some last
+last_at ws front last n are count = rw (are, count) (last_of front last)
+
+-- the words before the last one, and that one
+record Split (ds : List WordDef) (n : ℕ) : Type 0 where
+  front : List WordDef
+  last : WordDef
+  are : ds ≡ front ++ last ∷ []
+  count : n ≡ length front
+
+split : (ds : List WordDef) (n : ℕ) → length ds ≡ suc n → Split ds n
+split [] n h = absurd (omega (arith, h))
+split (d ∷ []) n h = record { front = []; last = d; are = refl; count = omega (arith, h) }
+split (d ∷ e ∷ ds) zero h = absurd (omega (arith, h))
+split (d ∷ e ∷ ds) (suc n) h = let rest = split (e ∷ ds) n (omega (arith, h)) in record { front = d ∷ rest.front; last = rest.last; are = ap (λ (xs : List WordDef). d ∷ xs) rest.are; count = ap suc rest.count }
+
+front_words : (bound : ℕ) (ds : List WordDef) (d : WordDef) → AreSourceWords bound (ds ++ d ∷ []) → AreSourceWords bound ds
+front_words bound [] d h = tt
+front_words bound (e ∷ ds) d h = (h.0, front_words bound ds d h.1)
+
+last_sort : (bound : ℕ) (ds : List WordDef) (d : WordDef) → AreSourceWords bound (ds ++ d ∷ []) → IsSourceSort bound d d.sort
+last_sort bound [] d h = h.0
+last_sort bound (e ∷ ds) d h = last_sort bound ds d h.1
+
+last_numbered : (test : ℕ → WordDef → Bool) (k n : ℕ) (ds : List WordDef) (d : WordDef) → n ≡ k + length ds → each_numbered test k (ds ++ d ∷ []) ≡ true → test n d ≡ true
+last_numbered test k n [] d e h = let same : k ≡ n = omega (arith, e) in subst (λ (m : ℕ). test m d ≡ true) same (both_true (test k d) true h).0
+last_numbered test k n (x ∷ ds) d e h = last_numbered test (suc k) n ds d (omega (arith, e)) (both_true (test k x) (each_numbered test (suc k) (ds ++ d ∷ [])) h).1
+
+same_number : (n : ℕ) → nat_eq n n ≡ true
+same_number n = grind arith
+
+module _ (P : Program) (whole : IsWhole P) where
+  word_under : (w : ℕ) → is_word P w ≡ true → is_nameable P w ≡ true → nat_lt w P.top ≡ true
+  word_under w fits spare =
+      let less = (Decides-ltb w (length P.words)).0 fits in
+      let count = whole.top_last in
+      (Decides-ltb w P.top).1 (under w P.top (first_false (nat_eq w P.top) (is_past (sort_of P w)) spare) (omega (arith, less, count)))
+
+  mutual
+    phrase_from : (t : Phrase) → each_item (item_fits P) t ≡ true → each_item (item_spares P) t ≡ true → IsSourcePhrase P.top t
+    phrase_from end h k = tt
+    phrase_from (then i p t) h k =
+        let q = both_true (item_fits P i && each_inner (item_fits P) i) (each_item (item_fits P) t) h in
+        let r = both_true (item_spares P i && each_inner (item_spares P) i) (each_item (item_spares P) t) k in
+        (item_from i q.0 r.0, phrase_from t q.1 r.1)
+
+    item_from : (i : Item) → (item_fits P i && each_inner (item_fits P) i) ≡ true → (item_spares P i && each_inner (item_spares P) i) ≡ true → IsSourceItem P.top i
+    item_from (lit (int z)) h k = tt
+    item_from (lit yes) h k = tt
+    item_from (lit no) h k = tt
+    item_from (lit (str cs)) h k = tt
+    item_from (lit (wrd w)) h k = word_under w (both_true (is_word P w) true h).0 (both_true (is_nameable P w) true k).0
+    item_from (lit_arr a) h k = tt
+    item_from (quot t) h k = phrase_from t h k
+    item_from (word w) h k = word_under w (both_true (is_word P w) true h).0 (both_true (is_nameable P w) true k).0
+    item_from next_method h k = tt
+    item_from (bind x) h k = tt
+    item_from (local x) h k = tt
+    item_from (fry t n) h k = phrase_from t h k
+    item_from (hole n) h k = tt
+    item_from (call_eff e) h k = tt
+    item_from (exec_eff e) h k = tt
+    item_from i h k = not_true h
+
+  elements_from : (ls : List Lit) → list_all (literal_fits P) ls ≡ true → list_all (literal_spares P) ls ≡ true → list_all (each_item (item_fits P)) (quotations ls) ≡ true → list_all (each_item (item_spares P)) (quotations ls) ≡ true → AreSourceElements P.top ls
+  elements_from [] a b c d = tt
+  elements_from (l_int z ∷ ls) a b c d = (tt, elements_from ls a b c d)
+  elements_from (l_yes ∷ ls) a b c d = (tt, elements_from ls a b c d)
+  elements_from (l_no ∷ ls) a b c d = (tt, elements_from ls a b c d)
+  elements_from (l_str cs ∷ ls) a b c d = (tt, elements_from ls a b c d)
+  elements_from (l_arr n ∷ ls) a b c d = (tt, elements_from ls (both_true (literal_fits P (l_arr n)) (list_all (literal_fits P) ls) a).1 b c d)
+  elements_from (l_word w ∷ ls) a b c d =
+      let q = both_true (is_word P w) (list_all (literal_fits P) ls) a in
+      let r = both_true (is_nameable P w) (list_all (literal_spares P) ls) b in
+      (word_under w q.0 r.0, elements_from ls q.1 r.1 c d)
+  elements_from (l_quot t ∷ ls) a b c d =
+      let q = both_true (each_item (item_fits P) t) (list_all (each_item (item_fits P)) (quotations ls)) c in
+      let r = both_true (each_item (item_spares P) t) (list_all (each_item (item_spares P)) (quotations ls)) d in
+      (phrase_from t q.0 r.0, elements_from ls a b q.1 r.1)
+  elements_from (l_made n ∷ ls) a b c d = not_true a
+
+  arrays_from : (lss : List (List Lit)) → list_all (literal_fits P) (joined lss) ≡ true → list_all (literal_spares P) (joined lss) ≡ true → list_all (each_item (item_fits P)) (joined (map quotations lss)) ≡ true → list_all (each_item (item_spares P)) (joined (map quotations lss)) ≡ true → AreSourceArrays P.top lss
+  arrays_from [] a b c d = tt
+  arrays_from (ls ∷ lss) a b c d =
+      let p = split_all (literal_fits P) ls (joined lss) a in
+      let q = split_all (literal_spares P) ls (joined lss) b in
+      let r = split_all (each_item (item_fits P)) (quotations ls) (joined (map quotations lss)) c in
+      let s = split_all (each_item (item_spares P)) (quotations ls) (joined (map quotations lss)) d in
+      (elements_from ls p.0 q.0 r.0 s.0, arrays_from lss p.1 q.1 r.1 s.1)
+
+  word_from : (d : WordDef) (s : Sort) (m : Bool) (ts : List Phrase) → sort_fits P s ≡ true → written s d.effect ≡ true → (not (d.inline || d.recursive) || (is_body (Some s) && m)) ≡ true → not (is_past (Some s)) ≡ true →
+      list_all (each_item (item_fits P)) (with_phrase s ts) ≡ true → list_all (each_item (item_spares P)) (with_phrase s ts) ≡ true → IsSourceSort P.top d s
+  word_from d (prim k) m ts fits effect marks none h i =
+      let row = row_written (primitive_word k) d.effect fits effect in
+      let plain = unmarked d.inline d.recursive marks in
+      record { row = row.0; row_is = row.1; is_built = primitive_there k fits; effect_is = row.2; not_inline = plain.0; not_recursive = plain.1 }
+  word_from d (core k) m ts fits effect marks none h i =
+      let row = row_written (core_word k) d.effect fits effect in
+      let plain = unmarked d.inline d.recursive marks in
+      record { row = row.0; row_is = row.1; is_built = core_there k fits; effect_is = row.2; not_inline = plain.0; not_recursive = plain.1 }
+  word_from d (body t) m ts fits effect marks none h i =
+      phrase_from t (both_true (each_item (item_fits P) t) (list_all (each_item (item_fits P)) ts) h).0 (both_true (each_item (item_spares P) t) (list_all (each_item (item_spares P)) ts) i).0
+  word_from d (past t) m ts fits effect marks none h i = not_true none
+  word_from d itself m ts fits effect marks none h i =
+      let plain = unmarked d.inline d.recursive marks in record { effect_is = sym (same_effect (plain_effect [] (codes "value" ∷ [])) d.effect effect); not_inline = plain.0; not_recursive = plain.1 }
+  word_from d (class c) m ts fits effect marks none h i =
+      let plain = unmarked d.inline d.recursive marks in record { effect_is = sym (same_effect (plain_effect [] (codes "value" ∷ [])) d.effect effect); not_inline = plain.0; not_recursive = plain.1 }
+  word_from d (isa c) m ts fits effect marks none h i =
+      let plain = unmarked d.inline d.recursive marks in record { effect_is = sym (same_effect (plain_effect (codes "object" ∷ []) (codes "?" ∷ [])) d.effect effect); not_inline = plain.0; not_recursive = plain.1 }
+  word_from d (getter x) m ts fits effect marks none h i =
+      let plain = unmarked d.inline d.recursive marks in record { effect_is = sym (same_effect (plain_effect (codes "object" ∷ []) (codes "value" ∷ [])) d.effect effect); not_inline = plain.0; not_recursive = plain.1 }
+  word_from d (setter x) m ts fits effect marks none h i =
+      let plain = unmarked d.inline d.recursive marks in record { effect_is = sym (same_effect (plain_effect (codes "object" ∷ codes "value" ∷ []) (codes "object" ∷ [])) d.effect effect); not_inline = plain.0; not_recursive = plain.1 }
+  word_from d (putter x) m ts fits effect marks none h i =
+      let plain = unmarked d.inline d.recursive marks in record { effect_is = sym (same_effect (plain_effect (codes "value" ∷ codes "object" ∷ []) []) d.effect effect); not_inline = plain.0; not_recursive = plain.1 }
+  word_from d generic m ts fits effect marks none h i = let plain = unmarked d.inline d.recursive marks in record { not_inline = plain.0; not_recursive = plain.1 }
+  word_from d (method c g t) m ts fits effect marks none h i =
+      let plain = unmarked d.inline d.recursive marks in (
+        record { not_inline = plain.0; not_recursive = plain.1 },
+        phrase_from t (both_true (each_item (item_fits P) t) (list_all (each_item (item_fits P)) ts) h).0 (both_true (each_item (item_spares P) t) (list_all (each_item (item_spares P)) ts) i).0,
+      )
+
+  words_from : (k : ℕ) (ds : List WordDef) → list_all (λ (d : WordDef). sort_fits P d.sort) ds ≡ true → list_all has_written_effect ds ≡ true → each_numbered (marks_fit P) k ds ≡ true → list_all (λ (d : WordDef). not (is_past (Some d.sort))) ds ≡ true →
+      list_all (each_item (item_fits P)) (word_phrases ds) ≡ true → list_all (each_item (item_spares P)) (word_phrases ds) ≡ true → AreSourceWords P.top ds
+  words_from k [] fits effects marks none h i = tt
+  words_from k (d ∷ ds) fits effects marks none h i =
+      let f = both_true (sort_fits P d.sort) (list_all (λ (d : WordDef). sort_fits P d.sort) ds) fits in
+      let e = both_true (has_written_effect d) (list_all has_written_effect ds) effects in
+      let m = both_true (marks_fit P k d) (each_numbered (marks_fit P) (suc k) ds) marks in
+      let n = both_true (not (is_past (Some d.sort))) (list_all (λ (d : WordDef). not (is_past (Some d.sort))) ds) none in
+      (word_from d d.sort (not (nat_eq k P.top)) (word_phrases ds) f.0 e.0 m.0 n.0 h i, words_from (suc k) ds f.1 e.1 m.1 n.1 (rest_pass (each_item (item_fits P)) d.sort (word_phrases ds) h) (rest_pass (each_item (item_spares P)) d.sort (word_phrases ds) i))
+
+  all_words : AreSourceWords P.top P.words
+  all_words =
+      words_from 0 P.words whole.sorts_fit whole.written_effects whole.marks_of_bodies whole.no_past
+      (split_all (each_item (item_fits P)) (word_phrases P.words) (joined (map quotations P.arrays)) whole.items_fit).0
+      (split_all (each_item (item_spares P)) (word_phrases P.words) (joined (map quotations P.arrays)) whole.items_spare).0
+
+  pub source_of_whole : IsSourceProgram P
+  source_of_whole =
+      let parts = split P.words P.top whole.top_last in
+      let at : slice_get P.words P.top ≡ Some parts.last = last_at P.words parts.front parts.last P.top parts.are parts.count in
+      let sort : sort_of P P.top ≡ Some parts.last.sort = ap (λ (o : Option WordDef). elim o [ Some d ↦ Some d.sort | None ↦ None ]) at in
+      let effect : effect_of P P.top ≡ Some parts.last.effect = ap (λ (o : Option WordDef). elim o [ Some d ↦ Some d.effect | None ↦ None ]) at in
+      let t = body_of parts.last.sort (sym (ap is_body sort) ∙ whole.top_phrase) in
+      let all = subst (AreSourceWords P.top) parts.are all_words in
+      let marks = last_numbered (marks_fit P) 0 P.top parts.front parts.last (let count = parts.count in omega (arith, count)) (sym (ap (each_numbered (marks_fit P) 0) parts.are) ∙ whole.marks_of_bodies) in
+      let plain = unmarked_last parts.last.inline parts.last.recursive (is_body (Some parts.last.sort)) (nat_eq P.top P.top) (same_number P.top) marks in
+      record {
+        words = parts.front;
+        last_word = parts.last;
+        phrase = t.0;
+        words_are = parts.are;
+        top_is = parts.count;
+        last_word_is =
+            record {
+              sort_is = t.1;
+              from_source = subst (IsSourceSort P.top parts.last) t.1 (last_sort P.top parts.front parts.last all);
+              effect_is = same_effect parts.last.effect (plain_effect [] []) (sym (ap (λ (o : Option Signature). is_effect o (plain_effect [] [])) effect) ∙ whole.top_effect);
+              not_inline = plain.0;
+              not_recursive = plain.1;
+            };
+        words_from_source = front_words P.top parts.front parts.last all;
+        arrays_from_source =
+            arrays_from P.arrays whole.literals_fit whole.literals_spare
+            (split_all (each_item (item_fits P)) (word_phrases P.words) (joined (map quotations P.arrays)) whole.items_fit).1
+            (split_all (each_item (item_spares P)) (word_phrases P.words) (joined (map quotations P.arrays)) whole.items_spare).1;
+      }
