@@ -1,5 +1,6 @@
 #!/usr/bin/env python3
-"""Runs the programs of this folder, the tests of the library and the listings of the tutorial, and tells whether each writes what it should.
+"""Runs the programs of this folder, the tests of the library, the listings of the tutorial and the examples of notes, and tells whether each
+writes what it should.
 
     python3 examples/check.py [PROGRAM]         on the built program, by default crates/factorc/out/factorc
     python3 examples/check.py --model           on the model of the language, bench/model.py
@@ -12,6 +13,9 @@ A listing of docs/TUTORIAL.md is a block that begins with "```factor", perhaps w
 that, and with the word `image` before them where it is built as an image too, which is executed then. It is run as `a.factor`, behind these.
 A block behind it that begins with "```input" is its input. The next block, which begins with "```text", has what it writes, with its note at
 the end, and behind that word `status=N` where it ends with another status than 0.
+
+An example of docs/REFUSALS.md is an item of a list that begins with a note and, behind `of`, a source, both between backticks. The source is run as
+`a.factor`, and has to write this note alone and to end with its status. Each text of the tables of notes has to stand in that document.
 
 The script ends with status 1 where one ends otherwise or writes something else.
 """
@@ -43,6 +47,12 @@ LISTING = re.compile(
     rb"^```factor([^\n]*)\n" + BLOCK + rb"\n+(?:```input\n" + BLOCK + rb"\n+)?```text([^\n]*)\n" + BLOCK, re.MULTILINE
 )
 
+REFUSALS = "docs/REFUSALS.md"
+EXAMPLE = re.compile(rb"^- `([^`\n]+)` of\s+`([^`\n]+)`", re.MULTILINE)
+STATUSES = {b"error": 1, b"syntax": 3, b"name": 4, b"check": 5}
+NOTES = ["crates/fac_notes/specs/NoteRows.antt", "crates/fac_notes/specs/Notes.antt", "crates/fac_tool/specs/ToldNotes.antt"]
+NOTE = re.compile(rb'codes "([^"]*)"')
+
 
 @dataclass
 class Program:
@@ -72,7 +82,7 @@ def stored(names):
 
 
 def programs():
-    """The programs of this folder, the tests of the library and the listings of the tutorial."""
+    """The programs of this folder, the tests of the library, the listings of the tutorial and the examples of notes."""
     for folder in ("examples", "lib"):
         for name in sorted(os.listdir(os.path.join(TOP, folder))):
             tested = name.removesuffix("-tests.factor")
@@ -88,6 +98,14 @@ def programs():
         texts = {name: read(name) for name in names} | {"a.factor": text}
         status = int(status.partition(b"status=")[2] or 0)
         yield Program(f"listing {number} of {TUTORIAL}", [*names, "a.factor"], texts, status, wanted, given or b"", image)
+    for note, text in EXAMPLE.findall(read(REFUSALS)):
+        yield Program(f"the example {text.decode()} of {REFUSALS}", ["a.factor"], {"a.factor": text}, STATUSES[note.partition(b":")[0]], note + b"\n")
+
+
+def unexplained():
+    """The texts of notes that docs/REFUSALS.md doesn't have."""
+    texts = [text.replace(b"\\n", b"").strip() for name in NOTES for text in NOTE.findall(read(name))]
+    return [f"{REFUSALS} has nothing on the note {text.decode()}" for text in texts if text not in read(REFUSALS)]
 
 
 def run_built(built, program):
@@ -131,7 +149,7 @@ def difference(got, program):
 def main():
     on_model = sys.argv[1:] == ["--model"]
     built = None if on_model else speed.program_or(speed.DEFAULT)
-    failed = []
+    failed = unexplained()
     count = 0
     for program in programs():
         count += 1
@@ -141,7 +159,7 @@ def main():
             told = f"takes more than {MOST_SECONDS:g} seconds"
         if told:
             failed.append(f"{program.title} {told}")
-    print(f"{count} programs run, of which {len(failed)} failed")
+    print(f"{count} programs run, and {len(failed)} faults found")
     return speed.finish(failed)
 
 
