@@ -1,5 +1,5 @@
 -- Phrases that stand behind one another, and the numbers and templates of choices inside one another.
-use Rattle.std.proofs.Common.{◌≡◌, ◌≤◌, ◌+◌, ℕ, suc, List, [], ◌∷◌, ◌++◌, drop, reverse, Option, Some, None, refl, sym, ap, ◌∙◌, subst, append_assoc, append-nil, arith}
+use Rattle.std.proofs.Common.{◌≡◌, ◌≤◌, ℕ, suc, List, [], ◌∷◌, ◌++◌, reverse, Option, Some, refl, sym, ap, ◌∙◌, subst, append_assoc, append-nil, arith}
 use Rattle.std.proofs.lemmas.List.{reverse-append}
 use Rattle.fac_lang.specs.declared.phrase.Choices.{Choices}
 use Rattle.fac_lang.specs.declared.phrase.Place.{Place}
@@ -7,7 +7,7 @@ use Rattle.fac_lang.specs.declared.phrase.Item.{Item as PlacedItem}
 use Rattle.fac_lang.specs.declared.phrase.What.{What}
 use Rattle.fac_lang.specs.declared.phrase.What.TheVariants.{Quot, Choices as ChoicesValue, Word, Made}
 use Rattle.fac_lang.specs.declared.phrase.Template.{Template}
-use Rattle.fac_lang.specs.Phrases.{Phrase, end, then, append, Item, quot, word, made, phrase_depth, item_depth}
+use Rattle.fac_lang.specs.Phrases.{Phrase, end, then, append, Item, quot, phrase_depth, item_depth}
 use Rattle.fac_lang.specs.PhraseView.{what_item, items_phrase, choices_behind, choices_from, choices_phrase}
 use Rattle.fac_lang.specs.Meaning.{nowhere}
 use Rattle.fac_lang.specs.inner.PhraseFalls.{first_falls, second_falls}
@@ -19,8 +19,8 @@ use Rattle.fac_captures.specs.Asked.{AreAskedBy, quotations_in, quotations_at}
 use Rattle.fac_locals.specs.declared.closing.ArrayStart.{ArrayStart}
 use Rattle.fac_locals.specs.declared.closing.Closing.{Closing}
 use Rattle.fac_locals.specs.declared.closing.Level.{Level}
-use Rattle.fac_locals.specs.inner.Numbering.{put_all, phrase_behind, item_behind, closed_item, closed_phrase, closed_template, closed_what, template_of, phrase_templates, item_templates, phrase_starts, item_starts, phrase_cells, choice_in, level_templates}
-use Rattle.fac_locals.specs.inner.Numbering.{ClosesWhat, ClosesTree, ItemPassed, AreAsked, IsAsked, NumberTaken, KeptTaken, LevelEntered, EntersLevel, IsEnteredAsked, Inside, EntersInside, QuotationPassed, ClosesChoices}
+use Rattle.fac_locals.specs.inner.Numbering.{put_all, phrase_behind, item_behind, closed_item, closed_phrase, closed_template, template_of, phrase_templates, item_templates, phrase_starts, item_starts, phrase_cells, choice_in, level_templates}
+use Rattle.fac_locals.specs.inner.Numbering.{ClosesWhat, ClosesTree, AreAsked, IsAsked, NumberTaken, KeptTaken, LevelEntered, EntersLevel, IsEnteredAsked, Inside, EntersInside, ClosesChoices}
 use Rattle.fac_locals.proofs.TemplateNumbers.{put_both, template_with, quotation_asked, inside_quotation}
 
 -- One phrase behind another.
@@ -29,7 +29,7 @@ pub append_end : (t : Phrase) → append t end ≡ t
 append_end end = refl
 append_end (then i p t) = ap (λ (u : Phrase). then i p u) (append_end t)
 
-pub items_both : (is js : List PlacedItem) → items_phrase (is ++ js) ≡ append (items_phrase is) (items_phrase js)
+items_both : (is js : List PlacedItem) → items_phrase (is ++ js) ≡ append (items_phrase is) (items_phrase js)
 items_both [] js = refl
 items_both (i ∷ is) js = ap (λ (u : Phrase). then (what_item i.what) i.place u) (items_both is js)
 
@@ -46,7 +46,7 @@ quotations_both : (t u : Phrase) → quotations_in (append t u) ≡ quotations_i
 quotations_both end u = refl
 quotations_both (then i p t) u = ap (λ (is : List Item). quotations_at i ++ is) (quotations_both t u) ∙ sym (append_assoc (quotations_at i) (quotations_in t) (quotations_in u))
 
-pub behind_both : (counts : List ℕ) (n : ℕ) (t u : Phrase) → phrase_behind counts n (append t u) ≡ phrase_behind counts (phrase_behind counts n t) u
+behind_both : (counts : List ℕ) (n : ℕ) (t u : Phrase) → phrase_behind counts n (append t u) ≡ phrase_behind counts (phrase_behind counts n t) u
 behind_both counts n end u = refl
 behind_both counts n (then i p t) u = behind_both counts (item_behind counts n i) t u
 
@@ -88,7 +88,7 @@ pub outermost_depth : (whole t u : Phrase) → whole ≡ append t u → (phrase_
 outermost_depth whole t u e = (omega (arith, ap phrase_depth e, first_falls t u), omega (arith, ap phrase_depth e, second_falls t u))
 
 -- how deep choices are doesn't depend on the word and the place
-pub behind_depth : (w v : ℕ) (p q : Place) (ts : List Phrase) → phrase_depth (choices_behind w p ts) ≡ phrase_depth (choices_behind v q ts)
+behind_depth : (w v : ℕ) (p q : Place) (ts : List Phrase) → phrase_depth (choices_behind w p ts) ≡ phrase_depth (choices_behind v q ts)
 behind_depth w v p q [] = refl
 behind_depth w v p q (t ∷ ts) = omega (arith, append_depth t (choices_behind w p ts) (choices_behind v q ts) (behind_depth w v p q ts))
 
@@ -124,7 +124,7 @@ module _ (counts : List ℕ) (m : Option ℕ) where
 
   -- One quotation is gone into.
 
-  abbrev pub level_of : ℕ → Place → List ℕ → Phrase → Level
+  abbrev level_of : ℕ → Place → List ℕ → Phrase → Level
   level_of n p ks t = record { number = n; place = p; captures = ks; body = t }
 
   pub level_asked : (t : Phrase) (before taken : Closing) (number : ℕ) → NumberTaken before number taken → IsEnteredAsked t before.asked → IsAsked taken.asked
@@ -189,7 +189,7 @@ module _ (counts : List ℕ) (m : Option ℕ) where
   level_next_is n k t u is_next = behind_both counts (suc n) t u ∙ sym (ap (λ (j : ℕ). phrase_behind counts j u) is_next)
 
   -- the outermost one
-  pub first_inside :
+  first_inside :
       (w : ℕ) (q : Place) (cells : List Cell) (before : Closing) (p : Place) (t u : Phrase) (level : Level) (inner : List Cell) (behind : Closing) (is : List Item) → LevelEntered counts m cells before p t u level inner behind is →
       Inside counts m w q cells before p (quot (append t u)) (level ∷ []) inner behind u is
   first_inside w q cells before p t u level inner behind is e = record {
@@ -202,7 +202,7 @@ module _ (counts : List ℕ) (m : Option ℕ) where
   }
 
   -- what the next one and the quotations in it ask for comes first then
-  pub next_asked : (w : ℕ) (q : Place) (ts us : List Phrase) (t : Phrase) (is : List Item) (all : List Asked) → ts ≡ t ∷ us → AreAskedBy (quotations_in (choices_behind w q ts) ++ is) all → AreAskedBy (quotations_at (quot (append t (choices_behind w q us))) ++ is) all
+  next_asked : (w : ℕ) (q : Place) (ts us : List Phrase) (t : Phrase) (is : List Item) (all : List Asked) → ts ≡ t ∷ us → AreAskedBy (quotations_in (choices_behind w q ts) ++ is) all → AreAskedBy (quotations_at (quot (append t (choices_behind w q us))) ++ is) all
   next_asked w q ts us t is all e asked =
       let own = quotations_at (quot (append t (choices_behind w q us))) in
       subst (λ (js : List Item). AreAskedBy (js ++ is) all) (append-nil own) (subst (λ (vs : List Phrase). AreAskedBy (quotations_in (choices_behind w q vs) ++ is) all) e asked)

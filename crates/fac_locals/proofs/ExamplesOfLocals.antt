@@ -8,8 +8,9 @@ use Rattle.fac_lang.specs.declared.program.Lit.{Lit}
 use Rattle.fac_lang.specs.declared.program.Lit.TheVariants.{Quot as l_quot, Made as l_made}
 use Rattle.fac_lang.specs.declared.program.Sort.TheVariants.{Body as body, Method as method}
 use Rattle.fac_lang.specs.Signatures.{signature, no_inputs, leaves}
-use Rattle.fac_lang.specs.Phrases.{Item, lit_arr, bind, local, fry, hole, next_method, made, next_after}
+use Rattle.fac_lang.specs.Phrases.{Item, lit_arr, quot, word, bind, local, fry, hole, next_method, made, next_after}
 use Rattle.fac_lang.specs.Meaning.{nowhere}
+use Rattle.fac_lang.specs.PhraseView.{choices_from}
 use Rattle.fac_lang.proofs.DemoWords.{phrase, number, quotation}
 use Rattle.fac_lang.proofs.DemoPrelude.{word_of}
 use Rattle.fac_captures.specs.declared.cell.Cell.{Cell}
@@ -76,6 +77,16 @@ hiding_closed_is = refl
 
 pub hiding_templates_are : made_templates (written hiding) [] ≡ template (local 0 ∷ []) (slot 1) 0 ∷ template (bind 0 ∷ local 0 ∷ []) [] 0 ∷ []
 hiding_templates_are = refl
+
+-- Choices inside one another.
+
+-- :> a [ 1 [ a [ 2 ] w ] w ] as choices, where w is word 5
+abbrev choosing : List Item
+choosing = bind 0 ∷ quot (choices_from 5 nowhere (phrase (number 1 ∷ []) ∷ phrase (local 0 ∷ []) ∷ phrase (number 2 ∷ []) ∷ [])) ∷ []
+
+-- Each choice is a quotation with a number of its own, and what an inner one asks for goes through the outer ones.
+pub choosing_templates_are : made_templates (written choosing) [] ≡ template (number 1 ∷ made 1 ∷ word 5 ∷ []) (slot 0) 0 ∷ template (local 0 ∷ made 2 ∷ word 5 ∷ []) (slot 0) 0 ∷ template (number 2 ∷ []) [] 0 ∷ []
+choosing_templates_are = refl
 
 -- Literal arrays and methods.
 

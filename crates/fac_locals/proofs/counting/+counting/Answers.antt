@@ -1,6 +1,6 @@
 use Rattle.std.proofs.Common.{◌∙◌, sym, reverse, arith}
 use Rattle.fac_lang.specs.Meaning.{nowhere}
-use Rattle.fac_locals.proofs.ChoiceTemplates.{outer_first, inside_one, choices_one, outer_depth, outermost_depth, choices_are}
+use Rattle.fac_locals.proofs.ChoiceTemplates.{outer_first, inside_one, choices_one, outer_depth, choices_are}
 use Rattle.fac_locals.proofs.counting.+counting.Goals as goal
 
 pub behind_inside-behind_phrase-requires : goal.behind_inside-behind_phrase-requires
