@@ -25,7 +25,8 @@ use Rattle.fac_lang.specs.Whole.{IsWhole, each_item, each_inner, item_fits, word
 use Rattle.fac_lang.proofs.WholeLemmas.{same_effect}
 use Rattle.fac_lang.specs.RowVariables.{has_rows, bindable, is_row, outer_in, outer_out, effect_inputs, effect_leaving}
 use Rattle.fac_rows.specs.RowBinding.{leaving_on, inputs_marks}
-use Rattle.fac_check.specs.Verdicts.{Refusal, any_quoted, is_inline_body, inline_verdict, row_verdict, undeclared, bad_rows, bad_generic, no_generic_effect, ordinary_verdict, body_verdict, top_verdict, phrase_verdict, sort_verdict, ruled_verdict, word_verdict, verdict_from, verdict}
+use Rattle.fac_check.specs.declared.refusal.Broken.{Broken}
+use Rattle.fac_check.specs.Verdicts.{any_quoted, is_inline_body, inline_verdict, row_verdict, undeclared, bad_rows, bad_generic, no_generic_effect, ordinary_verdict, body_verdict, top_verdict, phrase_verdict, sort_verdict, ruled_verdict, word_verdict, verdict_from, verdict}
 use Rattle.fac_abs.proofs.EqualMarks.{never_true, and_first, and_second}
 use Rattle.fac_check.proofs.StandingLaws.{Unmarked, UnmarkedItem}
 use Rattle.fac_lang.specs.HeightArithmetic.{fits}
@@ -127,13 +128,13 @@ module _ (P : Program) where
   unmarked_word whole w d u e q = unmarked_phrase u (phrase_passes (each_item (item_fits P)) P.words (front_passes (each_item (item_fits P)) (word_phrases P.words) (joined (map quotations P.arrays)) whole.items_fit) w d u e q)
 
   -- An accepted program has no refused word.
-  abbrev first_refusal : Option Refusal → ℕ → Option (ℕ × Refusal) → Option (ℕ × Refusal)
+  abbrev first_refusal : Option Broken → ℕ → Option (ℕ × Broken) → Option (ℕ × Broken)
   first_refusal o w next = elim o [ Some r ↦ Some (w, r) | None ↦ next ]
 
   some_refusal : {X : Type 0} (r : X) → (let o : Option X = Some r in o ≡ None) → ⊥
   some_refusal r e = never_true (ap (λ o. elim o [ Some x ↦ false | None ↦ true ]) e)
 
-  none_first : (o : Option Refusal) (w : ℕ) (next : Option (ℕ × Refusal)) → first_refusal o w next ≡ None → (o ≡ None) × (next ≡ None)
+  none_first : (o : Option Broken) (w : ℕ) (next : Option (ℕ × Broken)) → first_refusal o w next ≡ None → (o ≡ None) × (next ≡ None)
   none_first None w next e = (refl, e)
   none_first (Some r) w next e = absurd (some_refusal (w, r) e)
 

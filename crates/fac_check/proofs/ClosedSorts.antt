@@ -11,7 +11,7 @@ use Rattle.fac_locals.specs.Literals.{first_of_word}
 use Rattle.fac_locals.specs.Closed.{ClosesWord, ClosesSort, ClosesPhrase}
 use Rattle.fac_locals.specs.Frames.{Opens}
 use Rattle.fac_locals.specs.OpenedPrograms.{OpensSort}
-use Rattle.fac_check.specs.inner.Breaches.{is_past_sort}
+use Rattle.fac_check.specs.inner.BrokenRules.{is_past_sort}
 
 -- whether a word of this sort has a phrase
 abbrev pub has_phrase : Sort → Bool

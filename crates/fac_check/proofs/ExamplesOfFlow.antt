@@ -21,8 +21,9 @@ use Rattle.fac_abs.specs.Marks.{AbstractStack, dead, on, mark_eq}
 use Rattle.fac_abs.specs.declared.rule.Rule.{Rule}
 use Rattle.fac_abs.specs.declared.rule.Rule.TheVariants.{Underflow, NotKnown, NotAClass, Branches, RecursiveInput, Rows, UndeclaredRecursion, RowDeclaration, MethodEffect, TooDeep, TooLarge, Outputs, MustReturn}
 use Rattle.fac_locals.specs.Literals.{first_of_word}
+use Rattle.fac_check.specs.declared.refusal.Broken.{Broken}
 use Rattle.fac_check.specs.Flow.{Walked, found, refused, walk, doing, most_nested}
-use Rattle.fac_check.specs.Verdicts.{Refusal, verdict, verdict_from}
+use Rattle.fac_check.specs.Verdicts.{verdict, verdict_from}
 use Rattle.fac_lang.specs.HeightArithmetic.{curried_height, composed_height, fits}
 use Rattle.fac_check.specs.CallableEffects.{least_height, callable_height}
 use Rattle.fac_check.specs.TemplateWalks.{walked_alone, found_height}
@@ -99,18 +100,18 @@ abbrev program_of : List ClassDef → List WordDef → List Item → Program
 program_of classes words is = record { words = shared_words ++ words ++ top_level is ∷ []; arrays = []; classes = built_in_classes ++ classes; top = 82 + length words }
 
 -- the verdict on its words, from the first of its own on, where the top-level phrase starts on so many values
-abbrev verdict_on : ℕ → List ClassDef → List WordDef → List Item → Option (ℕ × Refusal)
+abbrev verdict_on : ℕ → List ClassDef → List WordDef → List Item → Option (ℕ × Broken)
 verdict_on start classes words is = verdict_from (program_of classes words is) start 82 (words ++ top_level is ∷ [])
 
-abbrev verdict_of : List WordDef → List Item → Option (ℕ × Refusal)
+abbrev verdict_of : List WordDef → List Item → Option (ℕ × Broken)
 verdict_of words is = verdict_on 0 [] words is
 
 -- with these literal arrays, each of which counts as one token
-abbrev array_verdict : List (List Lit) → List WordDef → List Item → Option (ℕ × Refusal)
+abbrev array_verdict : List (List Lit) → List WordDef → List Item → Option (ℕ × Broken)
 array_verdict arrays words is = verdict_from (record (program_of [] words is) { arrays = arrays }) 0 82 (words ++ top_level is ∷ [])
 
 -- word number k of its own breaks a rule at a token; the top-level phrase is the one behind them
-abbrev refuses : ℕ → Rule → ℕ → Option (ℕ × Refusal)
+abbrev refuses : ℕ → Rule → ℕ → Option (ℕ × Broken)
 refuses k rule n = Some (82 + k, record { rule = rule; place = token n })
 
 -- the shared words of all examples are accepted, so the verdict on a program is that on its own words

@@ -94,4 +94,4 @@ act_there words M (Uses w s r) f h = h
 -- fewer items may be walked than any more
 pub below_more : (m n : ℕ) (W : Walked) → m ≤ n → IsBelow m W → IsBelow n W
 below_more m n (Found A k) le h = omega (arith, le, h)
-below_more m n (Refused r p) le h = tt
+below_more m n (Refused b) le h = tt

@@ -6,7 +6,8 @@ use Rattle.fac_lang.specs.declared.program.WordDef.{WordDef}
 use Rattle.fac_locals.specs.Closed.{Closes}
 use Rattle.fac_locals.specs.declared.closing.Closed.{Closed}
 use Rattle.fac_locals.proofs.Lookups.{words_closed_count}
-use Rattle.fac_check.specs.Verdicts.{Refusal as RefusalSeen, undeclared, word_verdict, verdict_from, verdict}
+use Rattle.fac_check.specs.declared.refusal.Broken.{Broken}
+use Rattle.fac_check.specs.Verdicts.{undeclared, word_verdict, verdict_from, verdict}
 use Rattle.fac_check.specs.Judged.{undeclared_from, AreUndeclared, OfEach, IsVerdict, AreVerdicts, Numbered, first_of, numbered, verdicts_from, all_verdicts, verdict_seen}
 use Rattle.fac_check.specs.declared.checker.Verdict.{Verdict}
 
@@ -34,7 +35,7 @@ first_from : (P : Program) (start w : ℕ) (ds : List WordDef) → first_of (ver
 first_from P start w [] = refl
 first_from P start w (d ∷ ds) = by_case (word_verdict P start w d) (first_from P start (suc w) ds)
   where
-    by_case : (o : Option RefusalSeen) → first_of (verdicts_from P start (suc w) ds) ≡ verdict_from P start (suc w) ds → first_of (numbered w o ∷ verdicts_from P start (suc w) ds) ≡ (elim o [ Some r ↦ Some (w, r) | None ↦ verdict_from P start (suc w) ds ])
+    by_case : (o : Option Broken) → first_of (verdicts_from P start (suc w) ds) ≡ verdict_from P start (suc w) ds → first_of (numbered w o ∷ verdicts_from P start (suc w) ds) ≡ (elim o [ Some r ↦ Some (w, r) | None ↦ verdict_from P start (suc w) ds ])
     by_case None more = more
     by_case (Some r) more = refl
 

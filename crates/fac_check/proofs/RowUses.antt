@@ -13,8 +13,9 @@ use Rattle.fac_abs.specs.Marks.{AbstractStack, dead, on, base_eq, unknowns}
 use Rattle.fac_abs.specs.declared.rule.Rule.TheVariants.{Outputs, MustReturn}
 use Rattle.fac_rows.specs.RowBinding.{Binding, leaving_on, row_result, inputs_marks}
 use Rattle.fac_locals.specs.Literals.{first_of_word}
+use Rattle.fac_check.specs.declared.refusal.Broken.{Broken}
 use Rattle.fac_check.specs.Flow.{Walked, found, refused, and_then, Walk, walked, most_walked, most_steps, most_nested}
-use Rattle.fac_check.specs.Verdicts.{Refusal, refusal, end_of, kept_word, row_verdict}
+use Rattle.fac_check.specs.Verdicts.{broken_at, end_of, kept_word, row_verdict}
 use Rattle.fac_check.proofs.ValuesOfMarks.{StandsPhrase, StandsOn, EndsSo}
 use Rattle.fac_abs.proofs.EqualMarks.{and_first, and_second, length_same, base_same}
 use Rattle.fac_check.proofs.WalksFit.{Context, OnState, StackState, Fits}
@@ -37,7 +38,7 @@ module _ (P : Program) (C : Context) where
   kept_row never out p (on b ms) st e h = absurd (some_none P MustReturn p e)
   kept_row (leaves x names) out p (on b ms) st e h = kept (base_eq b out && nat_eq (length ms) (length names)) refl e
     where
-      kept : (q : Bool) → (base_eq b out && nat_eq (length ms) (length names)) ≡ q → (let o : Option Refusal = elim q [ true ↦ None | false ↦ refusal (Outputs (length names) (length ms)) p ] in o ≡ None) → StackState P C (on out (unknowns (length names) [])) st
+      kept : (q : Bool) → (base_eq b out && nat_eq (length ms) (length names)) ≡ q → (let o : Option Broken = elim q [ true ↦ None | false ↦ broken_at (Outputs (length names) (length ms)) p ] in o ≡ None) → StackState P C (on out (unknowns (length names) [])) st
       kept true q z =
           (let w = marks_on b ms st.stack h.0 in (over_unknowns P C (length names) out [] w.0 st.stack (subst (λ k. Over k w.0 st.stack) (length_same (length ms) (length names) (and_second (base_eq b out) (nat_eq (length ms) (length names)) q)) w.1) (subst (λ y. C.row y w.0) (base_same b out (and_first (base_eq b out) (nat_eq (length ms) (length names)) q)) w.2), h.1))
       kept false q z = absurd (some_none P (Outputs (length names) (length ms)) p z)

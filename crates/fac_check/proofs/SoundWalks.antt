@@ -15,10 +15,11 @@ use Rattle.fac_abs.specs.Marks.{AbstractStack, dead, on, base_eq, unknowns}
 use Rattle.fac_abs.specs.declared.rule.Rule.{Rule}
 use Rattle.fac_abs.specs.declared.rule.Rule.TheVariants.{Outputs, MustReturn}
 use Rattle.fac_locals.specs.Literals.{first_of_word, behind}
+use Rattle.fac_check.specs.declared.refusal.Broken.{Broken}
 use Rattle.fac_check.specs.Flow.{Walked, found, refused, walk, doing, walked, most_walked, most_steps, most_nested}
 use Rattle.fac_lang.specs.HeightArithmetic.{fits}
 use Rattle.fac_check.specs.CallableEffects.{callable_height}
-use Rattle.fac_check.specs.Verdicts.{Refusal, refusal, end_of, kept_word, ordinary_verdict, top_verdict}
+use Rattle.fac_check.specs.Verdicts.{broken_at, end_of, kept_word, ordinary_verdict, top_verdict}
 use Rattle.fac_check.specs.Promises.{Valid}
 use Rattle.fac_check.proofs.ValuesOfMarks.{StandsPhrase, StandsOn, EndsSo}
 use Rattle.fac_lang.proofs.Laws.{within}
@@ -68,7 +69,7 @@ module _ (P : Program) where
   over_marks s zero r h = h
   over_marks s (suc n) r h = (h.0, h.1, h.2, tt, over_marks s n h.1 h.3)
 
-  pub some_none : (r : Rule) (p : Place) → refusal r p ≡ None → ⊥
+  pub some_none : (r : Rule) (p : Place) → broken_at r p ≡ None → ⊥
   some_none r p e = never_true (ap (λ o. elim o [ Some x ↦ false | None ↦ true ]) e)
 
   -- an accepted phrase leaves what is declared
@@ -77,7 +78,7 @@ module _ (P : Program) where
   kept_ends s never p (on b ms) st e h = absurd (some_none MustReturn p e)
   kept_ends s (leaves x names) p (on b ms) st e h = kept (base_eq b None && nat_eq (length ms) (length names)) refl e
     where
-      kept : (q : Bool) → (base_eq b None && nat_eq (length ms) (length names)) ≡ q → (let o : Option Refusal = elim q [ true ↦ None | false ↦ refusal (Outputs (length names) (length ms)) p ] in o ≡ None) → Leaves P (Some (length names)) s st
+      kept : (q : Bool) → (base_eq b None && nat_eq (length ms) (length names)) ≡ q → (let o : Option Broken = elim q [ true ↦ None | false ↦ broken_at (Outputs (length names) (length ms)) p ] in o ≡ None) → Leaves P (Some (length names)) s st
       kept true q z = (rw (sym (length_same (length ms) (length names) (and_second (base_eq b None) (nat_eq (length ms) (length names)) q))) (marks_over s b ms st.stack h.0), h.1)
       kept false q z = absurd (some_none (Outputs (length names) (length ms)) p z)
 

@@ -22,6 +22,7 @@ use Rattle.fac_rows.specs.SeenBindings.{binding_seen, IsBinding, IsStart, IsTie}
 use Rattle.fac_rows.proofs.BindingLemmas.{binding_same}
 use Rattle.fac_check.specs.declared.walker.Step.{Step}
 use Rattle.fac_check.specs.declared.walker.Walked.{Walked as Ended}
+use Rattle.fac_check.specs.declared.refusal.Broken.{Broken}
 use Rattle.fac_check.specs.declared.walker.Walked.TheVariants.{Found, Refused}
 use Rattle.fac_check.specs.declared.walker.InputsWalked.{InputsWalked}
 use Rattle.fac_check.specs.Flow.{Walked, refused, and_then, started, tied_on, Walk, walk_mark, walk_from, walk_inputs, start_rule, use_rule}
@@ -102,8 +103,8 @@ module _ {C : Program} {templates : List Template} {own : Option ℕ} {inner : �
     ended : (V : Ended) → W ≡ V → and_then (walked_seen O.naming K V) tied_after ≡ quotation_walk M s k e m bs more O go
     ended V is = ap (λ x. and_then (walked_seen O.naming K x) tied_after) (sym is) ∙ ap (λ x. and_then x tied_after) walks ∙ walked_from A grows there starts
 
-    pub quotation_refused : (r : Rule) (p : Place) → W ≡ Refused r p → refused r p ≡ quotation_walk M s k e m bs more O go
-    quotation_refused r p is = ended (Refused r p) is
+    pub quotation_refused : (b : Broken) → W ≡ Refused b → refused b.rule b.place ≡ quotation_walk M s k e m bs more O go
+    quotation_refused b is = ended (Refused b) is
 
     module _ (B : Reached) (n : ℕ) (is : W ≡ Found B n) (later : Grows M K) (bound : IsBinding M bs) (cs : List (Row × Reached)) where
       same_rows : tie k (row_name e) (effect_leaving e) (reached_seen O.naming K B) (binding_seen O.naming K bs) ≡ tie k (row_name e) (effect_leaving e) (reached_seen O.naming K B) (binding_seen O.naming M bs)

@@ -28,15 +28,15 @@ use Rattle.fac_abs.specs.declared.rule.Rule.TheVariants.{RowDeclaration, MethodE
 use Rattle.fac_rows.specs.RowBinding.{inputs_marks}
 use Rattle.fac_rows.specs.RowNumbers.{NamesRows, NamesOwn}
 use Rattle.fac_rows.proofs.NamingRows.{naming_for, naming_for_names}
+use Rattle.fac_check.specs.declared.refusal.Broken.{Broken}
 use Rattle.fac_check.specs.declared.walker.Walked.{Walked}
 use Rattle.fac_check.specs.Flow.{Walked as WalkedPhrase, most_steps, walk, doing, walked}
-use Rattle.fac_check.specs.Verdicts.{Refusal, refusal, end_of, kept_word, ordinary_verdict, row_verdict, top_verdict, inline_verdict, body_verdict, phrase_verdict, sort_verdict, ruled_verdict, word_verdict, undeclared, bad_rows, bad_generic, no_generic_effect}
+use Rattle.fac_check.specs.Verdicts.{broken_at, end_of, kept_word, ordinary_verdict, row_verdict, top_verdict, inline_verdict, body_verdict, phrase_verdict, sort_verdict, ruled_verdict, word_verdict, undeclared, bad_rows, bad_generic, no_generic_effect}
 use Rattle.fac_check.specs.inner.Walking.{Opened, NamesTemplate, items_of, walked_seen, go_at}
 use Rattle.fac_check.specs.inner.Alone.{placed_alone}
 use Rattle.fac_check.specs.inner.OwnEffects.{effect_where, own_effect}
 use Rattle.fac_check.specs.inner.UndeclaredRecursion.{NumbersFrom, inline_phrase}
-use Rattle.fac_check.specs.inner.Breaches.{bad_rows_so, is_past_sort, generic_refusal}
-use Rattle.fac_check.specs.Judged.{breach_seen}
+use Rattle.fac_check.specs.inner.BrokenRules.{bad_rows_so, is_past_sort, generic_rule}
 use Rattle.fac_check.proofs.ClosedSorts.{past_same}
 use Rattle.fac_check.proofs.NamedWords.{closes_inline}
 
@@ -83,8 +83,8 @@ WalksWhole C templates own inner phrase M K base s W =
     (O : Opened C templates own inner) (at here : Literal) (t : Phrase) (f : ℕ) → here ≡ at → Opens O.program templates (items_of (frame_of O.naming M 0)) at phrase t → 200000 < f → walked_seen O.naming K W ≡ go_at O f here 64 t (base_seen O.naming base) (stack_of O.naming M s) 200000
 
 -- what a word breaks whose walk ends so, and that must leave its outputs on this row, as the code's calls tell it
-abbrev pub IsKeptOn : WordDef → MarksSeen → Walked → Option ℕ → Option (Place × Rule) → Type 0
-IsKeptOn c K W row b = (Q : Program) (N : Naming) → breach_seen b ≡ end_of Q (walked_seen N K W) (kept_word Q (effect_leaving c.effect) (base_seen N row) c.place)
+abbrev pub IsKeptOn : WordDef → MarksSeen → Walked → Option ℕ → Option Broken → Type 0
+IsKeptOn c K W row b = (Q : Program) (N : Naming) → b ≡ end_of Q (walked_seen N K W) (kept_word Q (effect_leaving c.effect) (base_seen N row) c.place)
 
 module _ (P C : Program) (templates : List Template) (closes : Closes P C templates) (whole : IsWhole P) (inner : ℕ) (first : Literal) (names : NamesLiterals P templates inner first) where
   -- a phrase that opens under the empty frame does under one with no marks
@@ -92,11 +92,11 @@ module _ (P C : Program) (templates : List Template) (closes : Closes P C templa
   under {at} {c} {t} fs e h = subst (λ (xs : List Mark). Opens P templates (items_of xs) at c t) (sym e) h
 
   pub ordinary_is :
-      (w : ℕ) (d c : WordDef) (t phrase : Phrase) (M K : MarksSeen) (s ins : ℕ) (W : Walked) (b : Option (Place × Rule)) →
+      (w : ℕ) (d c : WordDef) (t phrase : Phrase) (M K : MarksSeen) (s ins : ℕ) (W : Walked) (b : Option Broken) →
       ClosesWord P w d c → Opens P templates [] (first_of_word w) phrase t →
       IsKeptOn c K W None b →
       WalksWhole C templates None inner phrase M K None s W → ((N : Naming) → frame_of N M 0 ≡ []) → ((N : Naming) → stack_of N M s ≡ unknowns ins []) → ins ≡ (effect_height c.effect).ins →
-      breach_seen b ≡ ordinary_verdict P w t d
+      b ≡ ordinary_verdict P w t d
   ordinary_is w d c t phrase M K s ins W b word text kept walks empty stack many =
       let O = opened P C templates None inner first closes whole names in
       let N = O.naming in
@@ -107,10 +107,10 @@ module _ (P C : Program) (templates : List Template) (closes : Closes P C templa
       ∙ ap (λ p. end_of P (go_at O most_steps (first_of_word w) 64 t None (unknowns (inputs_count (effect_inputs d.effect)) []) 200000) (kept_word P (effect_leaving d.effect) None p)) word.place
 
   pub top_is :
-      (w : ℕ) (t phrase : Phrase) (M K : MarksSeen) (s start : ℕ) (W : Walked) (b : Option (Place × Rule)) →
-      Opens P templates [] (first_of_word w) phrase t → ((Q : Program) (N : Naming) (L : MarksSeen) → breach_seen b ≡ end_of Q (walked_seen N L W) (λ A. None)) →
+      (w : ℕ) (t phrase : Phrase) (M K : MarksSeen) (s start : ℕ) (W : Walked) (b : Option Broken) →
+      Opens P templates [] (first_of_word w) phrase t → ((Q : Program) (N : Naming) (L : MarksSeen) → b ≡ end_of Q (walked_seen N L W) (λ A. None)) →
       WalksWhole C templates None inner phrase M K None s W → ((N : Naming) → frame_of N M 0 ≡ []) → ((N : Naming) → stack_of N M s ≡ unknowns start []) →
-      breach_seen b ≡ top_verdict P start w t
+      b ≡ top_verdict P start w t
   top_is w t phrase M K s start W b text kept walks empty stack =
       let O = opened P C templates None inner first closes whole names in
       let N = O.naming in
@@ -121,12 +121,12 @@ module _ (P C : Program) (templates : List Template) (closes : Closes P C templa
   own_is w d at = (let found = word_closed P C templates closes w d at in ap effect_where found.at ∙ ap (λ e. Some e) found.closes.effect)
 
   pub row_is :
-      (w : ℕ) (d c : WordDef) (t phrase : Phrase) (M K : MarksSeen) (base row : Option ℕ) (s : ℕ) (W : Walked) (b : Option (Place × Rule)) →
+      (w : ℕ) (d c : WordDef) (t phrase : Phrase) (M K : MarksSeen) (base row : Option ℕ) (s : ℕ) (W : Walked) (b : Option Broken) →
       slice_get P.words w ≡ Some d → ClosesWord P w d c → Opens P templates [] (first_of_word w) phrase t →
       IsKeptOn c K W row b →
       WalksWhole C templates (Some w) inner phrase M K base s W → ((N : Naming) → frame_of N M 0 ≡ []) → ((N : Naming) → stack_of N M s ≡ inputs_marks 1 (effect_inputs c.effect) []) →
       ((N : Naming) → NamesRows N c.effect → base_seen N base ≡ outer_in c.effect) → ((N : Naming) → NamesRows N c.effect → base_seen N row ≡ outer_out c.effect) →
-      breach_seen b ≡ row_verdict P w t d
+      b ≡ row_verdict P w t d
   row_is w d c t phrase M K base row s W b at word text kept walks empty stack begins ends =
       let O = opened P C templates (Some w) inner first closes whole names in
       let N = O.naming in
@@ -147,13 +147,13 @@ module _ (P C : Program) (templates : List Template) (closes : Closes P C templa
 
 module _ (P : Program) (w : ℕ) (d : WordDef) where
   -- a row word is walked, and an expanded word isn't
-  pub row_word_is : (t : Phrase) (x : Option Refusal) → is_row d.recursive d.effect ≡ true → x ≡ row_verdict P w t d → x ≡ inline_verdict P (is_row d.recursive d.effect) w t d
+  pub row_word_is : (t : Phrase) (x : Option Broken) → is_row d.recursive d.effect ≡ true → x ≡ row_verdict P w t d → x ≡ inline_verdict P (is_row d.recursive d.effect) w t d
   row_word_is t x e h = h ∙ ap (λ r. inline_verdict P r w t d) (sym e)
 
   pub expanded_is : (t : Phrase) → is_row d.recursive d.effect ≡ false → None ≡ inline_verdict P (is_row d.recursive d.effect) w t d
   expanded_is t e = sym (ap (λ r. inline_verdict P r w t d) e)
 
-  pub inline_is : (start : ℕ) (t : Phrase) (x : Option Refusal) → w ≢ P.top → d.inline ≡ true → x ≡ inline_verdict P (is_row d.recursive d.effect) w t d → x ≡ phrase_verdict P (nat_eq w P.top) start w t d
+  pub inline_is : (start : ℕ) (t : Phrase) (x : Option Broken) → w ≢ P.top → d.inline ≡ true → x ≡ inline_verdict P (is_row d.recursive d.effect) w t d → x ≡ phrase_verdict P (nat_eq w P.top) start w t d
   inline_is start t x other inline h = h ∙ ap (λ i. body_verdict P i w t d) (sym inline) ∙ ap (λ q. phrase_verdict P q start w t d) (sym (ne_eqb w P.top other))
 
 module _ (P : Program) (w : ℕ) (d c : WordDef) (closes : ClosesWord P w d c) where
@@ -188,8 +188,8 @@ module _ (P : Program) (w : ℕ) (d c : WordDef) (closes : ClosesWord P w d c) w
 
 module _ (P : Program) (w : ℕ) (d : WordDef) (start : ℕ) where
   -- the verdict where no rule is broken that comes before that of generics
-  abbrev verdict_by : Bool → Sort → Option Refusal
-  verdict_by true s = refusal MethodEffect d.place
+  abbrev verdict_by : Bool → Sort → Option Broken
+  verdict_by true s = broken_at MethodEffect d.place
   verdict_by false s = sort_verdict P start w d s
 
   ruled : (u r g : Bool) → false ≡ u → r ≡ false → verdict_by g d.sort ≡ ruled_verdict P u r g start w d
@@ -199,21 +199,21 @@ module _ (P : Program) (w : ℕ) (d : WordDef) (start : ℕ) where
   ruled false true g e f = absurd (cc)
 
   -- the verdict on a word of this sort
-  pub sorted_verdict : (s : Sort) (x : Option Refusal) → d.sort ≡ s → false ≡ undeclared P w d → bad_rows P w d ≡ false → x ≡ verdict_by (bad_generic s d.effect) s → x ≡ word_verdict P start w d
+  pub sorted_verdict : (s : Sort) (x : Option Broken) → d.sort ≡ s → false ≡ undeclared P w d → bad_rows P w d ≡ false → x ≡ verdict_by (bad_generic s d.effect) s → x ≡ word_verdict P start w d
   sorted_verdict s x is e f h = h ∙ ap (λ q. verdict_by (bad_generic q d.effect) q) (sym is) ∙ ruled (undeclared P w d) (bad_rows P w d) (bad_generic d.sort d.effect) e f
 
-  pub body_verdict_is : (t : Phrase) (x : Option Refusal) → d.sort ≡ body t → false ≡ undeclared P w d → bad_rows P w d ≡ false → x ≡ phrase_verdict P (nat_eq w P.top) start w t d → x ≡ word_verdict P start w d
+  pub body_verdict_is : (t : Phrase) (x : Option Broken) → d.sort ≡ body t → false ≡ undeclared P w d → bad_rows P w d ≡ false → x ≡ phrase_verdict P (nat_eq w P.top) start w t d → x ≡ word_verdict P start w d
   body_verdict_is t x is e f h = sorted_verdict (body t) x is e f h
 
   -- a method is walked as an ordinary word
-  pub method_verdict_is : (k g : ℕ) (t : Phrase) (x : Option Refusal) → d.sort ≡ method k g t → false ≡ undeclared P w d → bad_rows P w d ≡ false → x ≡ ordinary_verdict P w (of_method w t) d → x ≡ word_verdict P start w d
+  pub method_verdict_is : (k g : ℕ) (t : Phrase) (x : Option Broken) → d.sort ≡ method k g t → false ≡ undeclared P w d → bad_rows P w d ≡ false → x ≡ ordinary_verdict P w (of_method w t) d → x ≡ word_verdict P start w d
   method_verdict_is k g t x is e f h = sorted_verdict (method k g t) x is e f h
 
-  generic_by : (b : Bool) → generic_refusal b d.place ≡ verdict_by b generic
+  generic_by : (b : Bool) → generic_rule b d.place ≡ verdict_by b generic
   generic_by true = refl
   generic_by false = refl
 
-  pub generic_verdict_is : (x : Option Refusal) → d.sort ≡ generic → false ≡ undeclared P w d → bad_rows P w d ≡ false → x ≡ generic_refusal (no_generic_effect d.effect) d.place → x ≡ word_verdict P start w d
+  pub generic_verdict_is : (x : Option Broken) → d.sort ≡ generic → false ≡ undeclared P w d → bad_rows P w d ≡ false → x ≡ generic_rule (no_generic_effect d.effect) d.place → x ≡ word_verdict P start w d
   generic_verdict_is x is e f h = sorted_verdict generic x is e f (h ∙ generic_by (no_generic_effect d.effect))
 
   none_by : (s : Sort) → ((t : Phrase) → s ≡ body t → ⊥) → ((k g : ℕ) (t : Phrase) → s ≡ method k g t → ⊥) → (s ≡ generic → ⊥) → None ≡ verdict_by (bad_generic s d.effect) s
@@ -233,6 +233,6 @@ module _ (P : Program) (w : ℕ) (d : WordDef) (start : ℕ) where
       by_sort s is k = sorted_verdict s None is e r (none_by s (λ t q. f t (k ∙ q)) (λ j i t q. g j i t (k ∙ q)) (λ q. h (k ∙ q)))
 
 -- a word whose rows can't be bound, where its phrase doesn't lead back to it
-pub rows_refused : (P : Program) (start w : ℕ) (d c : WordDef) → ClosesWord P w d c → false ≡ undeclared P w d → bad_rows P w d ≡ true → refusal RowDeclaration c.place ≡ word_verdict P start w d
+pub rows_refused : (P : Program) (start w : ℕ) (d c : WordDef) → ClosesWord P w d c → false ≡ undeclared P w d → bad_rows P w d ≡ true → broken_at RowDeclaration c.place ≡ word_verdict P start w d
 rows_refused P start w d c closes e f =
-    ap (refusal RowDeclaration) closes.place ∙ ap (λ u. ruled_verdict P u true (bad_generic d.sort d.effect) start w d) e ∙ ap (λ r. ruled_verdict P (undeclared P w d) r (bad_generic d.sort d.effect) start w d) (sym f)
+    ap (broken_at RowDeclaration) closes.place ∙ ap (λ u. ruled_verdict P u true (bad_generic d.sort d.effect) start w d) e ∙ ap (λ r. ruled_verdict P (undeclared P w d) r (bad_generic d.sort d.effect) start w d) (sym f)

@@ -93,7 +93,7 @@ module _ {C : Program} {templates : List Template} {own : Option ℕ} {inner : �
     abbrev pub Behind : (e : Option Row) (ms : List Mark) (most : ℕ) (K : MarksSeen) (g : ℕ) (items : List PlacedItem) → Walked → Type 0
     Behind e ms most K g items (Found Dead n) = go_at O f start nested t e ms most ≡ found dead n
     Behind e ms most K g items (Found (On b s) n) = Onward alone start t f nested e ms most K b s g items n
-    Behind e ms most K g items (Refused r p) = go_at O f start nested t e ms most ≡ refused r p
+    Behind e ms most K g items (Refused b) = go_at O f start nested t e ms most ≡ refused b.rule b.place
 
     -- at the end
     pub onward_end : (e : Option Row) (ms : List Mark) (most : ℕ) (M : MarksSeen) (b : Option ℕ) (s g n : ℕ) → Onward alone start t f nested e ms most M b s g [] n → found (on (base_seen O.naming b) (stack_of O.naming M s)) n ≡ go_at O f start nested t e ms most
@@ -130,11 +130,11 @@ module _ (subject : Subject) (O : Opened subject.closed.now.program subject.clos
     goes_on : (V : Walked) (k : ℕ) (at here : Literal) (u : Phrase) → n < suc k → IsBelow n V → StandsAt O.program subject.inner O.first alone at here → Opens O.program subject.closed.now.templates (frame_at K g') at (items_phrase items) u → go_at O f start nested t e ms most ≡ and_then (walked_seen N K V) (rest O.effect (go_at O k) nested here u) → Goes V
     goes_on (Found Dead r) k at here u l low stands opens same = same
     goes_on (Found (On c q) r) k at here u l low stands opens same = record { at = at; here = here; stands = stands; phrase = u; steps = k; opens = opens; enough = omega (arith, low, l); same = same }
-    goes_on (Refused r q) k at here u l low stands opens same = same
+    goes_on (Refused b) k at here u l low stands opens same = same
 
     refuses : (V : Walked) (r : Rule) (q : Place) → walked_seen N K V ≡ refused r q → go_at O f start nested t e ms most ≡ refused r q → Goes V
     refuses (Found A k) r q same here = absurd (cc)
-    refuses (Refused x y) r q same here = here ∙ sym same
+    refuses (Refused b) r q same here = here ∙ sym same
 
     module _ (walks : IsWalkOfOne subject L K (what_item i.what) step W) (below : IsBelow n W) (behind_is : frame_of N K g' ≡ frame_behind (what_item i.what) (stack_of N L s) (frame_of N L g)) where
       first_goes : (k : ℕ) (at here : Literal) (u : Phrase) → n < suc k → StandsAt O.program subject.inner O.first alone at here → OpensFirst O (frame_at L g) at (what_item i.what) i.place (items_phrase items) u → go_at O f start nested t e ms most ≡ go_at O (suc k) here nested u (base_seen N b) (stack_of N L s) n → Goes W

@@ -1,32 +1,24 @@
 -- What the checker's answers say of a program.
 use Rattle.std.specs.Prelude.{◌≡◌, ℕ, suc, List, [], ◌∷◌, map, Bool, Some, None, slice_get}
 use Rattle.std.specs.declared.option.Option.{Option}
-use Rattle.fac_lang.specs.declared.phrase.Place.{Place}
 use Rattle.fac_lang.specs.declared.phrase.Template.{Template}
 use Rattle.fac_lang.specs.declared.program.Program.{Program}
 use Rattle.fac_lang.specs.declared.program.WordDef.{WordDef}
 use Rattle.fac_lang.specs.Whole.{IsWhole}
 use Rattle.fac_locals.specs.Closed.{Closes}
 use Rattle.fac_locals.specs.declared.closing.Closed.{Closed}
-use Rattle.fac_check.specs.Verdicts.{Refusal as RefusalSeen, undeclared, word_verdict, verdict}
-use Rattle.fac_abs.specs.declared.rule.Rule.{Rule}
+use Rattle.fac_check.specs.Verdicts.{undeclared, word_verdict, verdict}
+use Rattle.fac_check.specs.declared.refusal.Broken.{Broken}
 use Rattle.fac_check.specs.declared.refusal.Refusal.{Refusal}
 use Rattle.fac_check.specs.declared.checker.Verdict.{Verdict}
 use Rattle.fac_check.specs.declared.checker.Verdict.TheVariants.{Accepted, Refused}
 
--- a refusal with the number of its word
+-- a broken rule, and where, with the number of the word that breaks it
 abbrev pub Numbered : Type 0
-Numbered = ℕ × RefusalSeen
-
-abbrev pub broken : Place × Rule → RefusalSeen
-broken b = record { rule = b.1; place = b.0 }
-
-abbrev pub breach_seen : Option (Place × Rule) → Option RefusalSeen
-breach_seen None = None
-breach_seen (Some b) = Some (broken b)
+Numbered = ℕ × Broken
 
 abbrev pub refusal_seen : Refusal → Numbered
-refusal_seen r = (r.word, record { rule = r.rule; place = r.place })
+refusal_seen r = (r.word, r.broken)
 
 abbrev pub refusal_if : Option Refusal → Option Numbered
 refusal_if None = None
@@ -43,7 +35,7 @@ first_of (None ∷ rest) = first_of rest
 first_of (Some r ∷ rest) = Some r
 
 -- the verdict on word w, with its number
-abbrev pub numbered : ℕ → Option RefusalSeen → Option Numbered
+abbrev pub numbered : ℕ → Option Broken → Option Numbered
 numbered w None = None
 numbered w (Some r) = Some (w, r)
 

@@ -15,16 +15,12 @@ use Rattle.fac_abs.specs.declared.rule.Rule.{Rule}
 use Rattle.fac_abs.specs.declared.rule.Rule.TheVariants.{UndeclaredRecursion, RowDeclaration, MethodEffect, Outputs, MustReturn}
 use Rattle.fac_rows.specs.RowBinding.{inputs_marks}
 use Rattle.fac_graph.specs.Paths.{one_of}
+use Rattle.fac_check.specs.declared.refusal.Broken.{Broken}
 use Rattle.fac_check.specs.Flow.{Walked, found, refused, walked}
 
--- a broken rule, and where
-pub record Refusal : Type 0 where
-  pub rule : Rule
-  pub place : Place
-
--- refused by this rule
-abbrev pub refusal : Rule → Place → Option Refusal
-refusal r p = Some (record { rule = r; place = p })
+-- this rule is broken there
+abbrev pub broken_at : Rule → Place → Option Broken
+broken_at r p = Some (record { rule = r; place = p })
 
 -- the numbers of the first list that aren't in the second, put before it
 abbrev pub more_of : List ℕ → List ℕ → List ℕ
@@ -102,65 +98,65 @@ module _ (P : Program) where
   bad_rows w d = elim d.sort [ past t ↦ false | _ ↦ not (nat_eq w P.top) && (has_rows d.effect && not (is_inline_body d && bindable d.effect)) ]
 
   -- What a word breaks that leaves this stack, where it declares to leave these outputs on this row. What never returns leaves what any word declares.
-  abbrev pub kept_word : Leaving → Option Row → Place → AbstractStack → Option Refusal
+  abbrev pub kept_word : Leaving → Option Row → Place → AbstractStack → Option Broken
   kept_word l r p dead = None
-  kept_word never r p (on b ms) = refusal MustReturn p
-  kept_word (leaves s names) r p (on b ms) = elim (base_eq b r && nat_eq (length ms) (length names)) [ true ↦ None | false ↦ refusal (Outputs (length names) (length ms)) p ]
+  kept_word never r p (on b ms) = broken_at MustReturn p
+  kept_word (leaves s names) r p (on b ms) = elim (base_eq b r && nat_eq (length ms) (length names)) [ true ↦ None | false ↦ broken_at (Outputs (length names) (length ms)) p ]
 
   -- the verdict on a walk
-  abbrev pub end_of : Walked AbstractStack → (AbstractStack → Option Refusal) → Option Refusal
+  abbrev pub end_of : Walked AbstractStack → (AbstractStack → Option Broken) → Option Broken
   end_of (found A n) go = go A
-  end_of (refused r p) go = refusal r p
+  end_of (refused r p) go = broken_at r p
 
   -- an ordinary word or a method starts from its inputs, of which nothing is known, over no base
-  abbrev pub ordinary_verdict : ℕ → Phrase → WordDef → Option Refusal
+  abbrev pub ordinary_verdict : ℕ → Phrase → WordDef → Option Broken
   ordinary_verdict w t d = end_of (walked P None None w t None (unknowns (inputs_count (effect_inputs d.effect)) [])) (kept_word (effect_leaving d.effect) None d.place)
 
   -- a row word starts from its input row, with a mark of its own for each quotation input
-  abbrev pub row_verdict : ℕ → Phrase → WordDef → Option Refusal
+  abbrev pub row_verdict : ℕ → Phrase → WordDef → Option Broken
   row_verdict w t d = end_of (walked P (Some d.effect) (Some w) w t (outer_in d.effect) (inputs_marks 1 (effect_inputs d.effect) [])) (kept_word (effect_leaving d.effect) (outer_out d.effect) d.place)
 
   -- an expanded word isn't walked at its definition
-  abbrev pub inline_verdict : Bool → ℕ → Phrase → WordDef → Option Refusal
+  abbrev pub inline_verdict : Bool → ℕ → Phrase → WordDef → Option Broken
   inline_verdict true w t d = row_verdict w t d
   inline_verdict false w t d = None
 
   -- a word with a phrase, by its mark `inline`
-  abbrev pub body_verdict : Bool → ℕ → Phrase → WordDef → Option Refusal
+  abbrev pub body_verdict : Bool → ℕ → Phrase → WordDef → Option Broken
   body_verdict true w t d = inline_verdict (is_row d.recursive d.effect) w t d
   body_verdict false w t d = ordinary_verdict w t d
 
   -- the top-level phrase starts on so many values, and promises nothing
-  abbrev pub top_verdict : ℕ → ℕ → Phrase → Option Refusal
+  abbrev pub top_verdict : ℕ → ℕ → Phrase → Option Broken
   top_verdict start w t = end_of (walked P None None w t None (unknowns start [])) (λ A. None)
 
   -- the top-level word, or another with a phrase
-  abbrev pub phrase_verdict : Bool → ℕ → ℕ → Phrase → WordDef → Option Refusal
+  abbrev pub phrase_verdict : Bool → ℕ → ℕ → Phrase → WordDef → Option Broken
   phrase_verdict true start w t d = top_verdict start w t
   phrase_verdict false start w t d = body_verdict d.inline w t d
 
   -- by the walk of the word's phrase; earlier top-level phrases are accepted, and words without a phrase have none to walk
-  abbrev pub sort_verdict : ℕ → ℕ → WordDef → Sort → Option Refusal
+  abbrev pub sort_verdict : ℕ → ℕ → WordDef → Sort → Option Broken
   sort_verdict start w d (body t) = phrase_verdict (nat_eq w P.top) start w t d
   sort_verdict start w d (method c g t) = ordinary_verdict w (of_method w t) d
   sort_verdict start w d _ = None
 
   -- the rules that need no walk come first, and stand at the word's name
-  abbrev pub ruled_verdict : Bool → Bool → Bool → ℕ → ℕ → WordDef → Option Refusal
-  ruled_verdict true r g start w d = refusal UndeclaredRecursion d.place
-  ruled_verdict false true g start w d = refusal RowDeclaration d.place
-  ruled_verdict false false true start w d = refusal MethodEffect d.place
+  abbrev pub ruled_verdict : Bool → Bool → Bool → ℕ → ℕ → WordDef → Option Broken
+  ruled_verdict true r g start w d = broken_at UndeclaredRecursion d.place
+  ruled_verdict false true g start w d = broken_at RowDeclaration d.place
+  ruled_verdict false false true start w d = broken_at MethodEffect d.place
   ruled_verdict false false false start w d = sort_verdict start w d d.sort
 
   -- the verdict on word w
-  abbrev pub word_verdict : ℕ → ℕ → WordDef → Option Refusal
+  abbrev pub word_verdict : ℕ → ℕ → WordDef → Option Broken
   word_verdict start w d = ruled_verdict (undeclared w d) (bad_rows w d) (bad_generic d.sort d.effect) start w d
 
   -- the first refused word, counted from w
-  abbrev pub verdict_from : ℕ → ℕ → List WordDef → Option (ℕ × Refusal)
+  abbrev pub verdict_from : ℕ → ℕ → List WordDef → Option (ℕ × Broken)
   verdict_from start w [] = None
   verdict_from start w (d ∷ ds) = elim (word_verdict start w d) [ Some r ↦ Some (w, r) | None ↦ verdict_from start (suc w) ds ]
 
   -- accepted, or the first refused word in the order of numbers with its first rule and place; the top-level phrase starts on so many values
-  abbrev pub verdict : ℕ → Option (ℕ × Refusal)
+  abbrev pub verdict : ℕ → Option (ℕ × Broken)
   verdict start = verdict_from start 0 P.words

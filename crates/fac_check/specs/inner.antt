@@ -6,4 +6,4 @@ pub mod KnownClasses
 pub mod Walking
 pub mod UndeclaredRecursion
 pub mod Alone
-pub mod Breaches
+pub mod BrokenRules

@@ -1,6 +1,7 @@
 //! The verdict on each word.
 ghost use Rattle.std.specs.Prelude.{◌≡◌, ◌≤◌, true, false, length, None, IfOk};
 ghost use Rattle.fac_lang.specs.declared.program.Program.{Program as ProgramSeen};
+ghost use Rattle.fac_lang.specs.declared.limits.TheConstants.{MOST_APPLICATIONS, MOST_ITEMS};
 ghost use Rattle.fac_abs.specs.Marks.{on};
 ghost use Rattle.fac_abs.specs.SeenMarks.{MarksSeen, IsStack, stack_of, base_seen};
 ghost use Rattle.fac_abs.specs.MarkTrees.{Naming};
@@ -8,13 +9,12 @@ ghost use Rattle.fac_lang.specs.Effects.{effect_height};
 ghost use Rattle.fac_lang.specs.RowVariables.{effect_leaving};
 ghost use Rattle.fac_lang.specs.EffectView.{inputs_tree};
 ghost use Rattle.fac_check.specs.Verdicts.{any_quoted, end_of, kept_word, no_generic_effect};
-ghost use Rattle.fac_check.specs.Judged.{breach_seen};
-ghost use Rattle.fac_check.specs.inner.Breaches.{IsOrdinaryBreach, IsRowBreach, IsTopBreach, IsInlineBreach, IsPhraseBreach, IsWordBreach, bad_rows_so, generic_refusal, is_past_sort};
+ghost use Rattle.fac_check.specs.inner.BrokenRules.{IsOrdinaryBroken, IsRowBroken, IsTopBroken, IsInlineBroken, IsPhraseBroken, IsWordBroken, bad_rows_so, generic_rule, is_past_sort};
 ghost use Rattle.fac_check.specs.inner.Taken.{takes_all, takes_phrase, takes_word};
 ghost use Rattle.fac_check.specs.inner.Walking.{IsWalked, walked_seen};
 
 use crate::recursion::is_inline;
-use crate::refusal::Refusal;
+use crate::refusal::{Broken, Refusal};
 use crate::subject::Subject;
 use crate::walker::{Step, Walked, Walker};
 use fac_abs::{Marks, Reached, Rule, same_base};
@@ -35,12 +35,12 @@ pub enum Verdict {
 }
 
 // What a word breaks whose walk ends so, and that must leave on this row what its effect declares.
-fn kept(marks: &Marks, word: &WordDef, row: Option<u32>, walked: Walked) -> Option<(Place, Rule)>
+fn kept(marks: &Marks, word: &WordDef, row: Option<u32>, walked: Walked) -> Option<Broken>
     requires { IsWalked marks.now walked }
-    ensures { (P : ProgramSeen) (N : Naming) → breach_seen result ≡ end_of P (walked_seen N marks.now walked) (kept_word P (effect_leaving word.now.effect) (base_seen N row) word.now.place) }
+    ensures { (P : ProgramSeen) (N : Naming) → result ≡ end_of P (walked_seen N marks.now walked) (kept_word P (effect_leaving word.now.effect) (base_seen N row) word.now.place) }
 {
     match walked {
-        Walked::Refused(rule, place) => Some((place, rule)),
+        Walked::Refused(broken) => Some(broken),
         Walked::Found(reached, _) => match reached {
             Reached::Dead => None,
             Reached::On { base, stack } => kept_outputs(marks, word, row, base, stack),
@@ -55,9 +55,9 @@ fn kept_outputs(
     row: Option<u32>,
     base: Option<u32>,
     stack: u32,
-) -> Option<(Place, Rule)>
+) -> Option<Broken>
     requires { IsStack marks.now stack }
-    ensures { (P : ProgramSeen) (N : Naming) → breach_seen result ≡ kept_word P (effect_leaving word.now.effect) (base_seen N row) word.now.place (on (base_seen N base) (stack_of N marks.now stack)) }
+    ensures { (P : ProgramSeen) (N : Naming) → result ≡ kept_word P (effect_leaving word.now.effect) (base_seen N row) word.now.place (on (base_seen N base) (stack_of N marks.now stack)) }
 {
     let found = marks.height(stack);
     match word.effect.outputs() {
@@ -65,15 +65,21 @@ fn kept_outputs(
             if same_base(base, row) && found == declared {
                 return None;
             }
-            Some((word.place, Rule::Outputs { declared, found }))
+            Some(Broken {
+                rule: Rule::Outputs { declared, found },
+                place: word.place,
+            })
         }
-        None => Some((word.place, Rule::MustReturn)),
+        None => Some(Broken {
+            rule: Rule::MustReturn,
+            place: word.place,
+        }),
     }
 }
 
 // Where the walk of a word begins, with all that a word may enter and walk, under the frame with no cells.
 fn first_step(place: Place, base: Option<u32>, stack: u32) -> Step
-    ensures { result ≡ record { place = place; nested = 64; base = base; stack = stack; frame = 0; left = 200000; alone = false } }
+    ensures { result ≡ record { place = place; nested = MOST_APPLICATIONS; base = base; stack = stack; frame = 0; left = MOST_ITEMS; alone = false } }
 {
     Step {
         place,
@@ -87,25 +93,25 @@ fn first_step(place: Place, base: Option<u32>, stack: u32) -> Step
 }
 
 // What the top-level phrase breaks whose walk ends so: it may leave any stack.
-fn top_kept(walked: Walked) -> Option<(Place, Rule)>
-    ensures { (P : ProgramSeen) (N : Naming) (M : MarksSeen) → breach_seen result ≡ end_of P (walked_seen N M walked) (λ A. None) }
+fn top_kept(walked: Walked) -> Option<Broken>
+    ensures { (P : ProgramSeen) (N : Naming) (M : MarksSeen) → result ≡ end_of P (walked_seen N M walked) (λ A. None) }
 {
     match walked {
-        Walked::Refused(rule, place) => Some((place, rule)),
+        Walked::Refused(broken) => Some(broken),
         Walked::Found(_, _) => None,
     }
 }
 
 // What an ordinary word with this phrase breaks, which starts from its inputs.
-fn ordinary_breach(
+fn ordinary_broken(
     alloc: Global,
     closed: &Closed,
     word: &WordDef,
     phrase: &Phrase,
-) -> Result<Option<(Place, Rule)>, Memory>
+) -> Result<Option<Broken>, Memory>
     requires program { takes_all closed.now.program closed.now.templates ≡ true }
     requires phrase { takes_phrase closed.now.program.top (length closed.now.templates) phrase.now ≡ true }
-    ensures { IfOk result (λ breach. IsOrdinaryBreach closed.now word.now phrase.now breach) }
+    ensures { IfOk result (λ broken. IsOrdinaryBroken closed.now word.now phrase.now broken) }
 {
     let own = None;
     let inner = closed.templates.len();
@@ -118,17 +124,17 @@ fn ordinary_breach(
 
 // What a row word with this phrase breaks, which starts from its input row with a mark of its own for each quotation input, and must leave its
 // outputs on its output row.
-fn row_breach(
+fn row_broken(
     alloc: Global,
     closed: &Closed,
     number: u32,
     word: &WordDef,
     phrase: &Phrase,
-) -> Result<Option<(Place, Rule)>, Memory>
+) -> Result<Option<Broken>, Memory>
     requires program { takes_all closed.now.program closed.now.templates ≡ true }
     requires few { (effect_height word.now.effect).ins ≤ 65 }
     requires phrase { takes_phrase closed.now.program.top (length closed.now.templates) phrase.now ≡ true }
-    ensures { IfOk result (λ breach. IsRowBreach closed.now number word.now phrase.now breach) }
+    ensures { IfOk result (λ broken. IsRowBroken closed.now number word.now phrase.now broken) }
 {
     let own = Some(number);
     let inner = closed.templates.len();
@@ -140,15 +146,15 @@ fn row_breach(
 }
 
 // What the top-level word with this phrase breaks, which starts from so many values.
-fn top_breach(
+fn top_broken(
     alloc: Global,
     closed: &Closed,
     place: Place,
     phrase: &Phrase,
-) -> Result<Option<(Place, Rule)>, Memory>
+) -> Result<Option<Broken>, Memory>
     requires program { takes_all closed.now.program closed.now.templates ≡ true }
     requires phrase { takes_phrase closed.now.program.top (length closed.now.templates) phrase.now ≡ true }
-    ensures { IfOk result (λ breach. IsTopBreach closed.now phrase.now breach) }
+    ensures { IfOk result (λ broken. IsTopBroken closed.now phrase.now broken) }
 {
     let own = None;
     let inner = closed.templates.len();
@@ -160,44 +166,44 @@ fn top_breach(
 }
 
 // What an inline word with this phrase breaks. An expanded word isn't walked at its definition.
-fn inline_breach(
+fn inline_broken(
     alloc: Global,
     closed: &Closed,
     number: u32,
     word: &WordDef,
     phrase: &Phrase,
-) -> Result<Option<(Place, Rule)>, Memory>
+) -> Result<Option<Broken>, Memory>
     requires program { takes_all closed.now.program closed.now.templates ≡ true }
     requires few { (effect_height word.now.effect).ins ≤ 65 }
     requires phrase { takes_phrase closed.now.program.top (length closed.now.templates) phrase.now ≡ true }
-    ensures { IfOk result (λ breach. IsInlineBreach closed.now number word.now phrase.now breach) }
+    ensures { IfOk result (λ broken. IsInlineBroken closed.now number word.now phrase.now broken) }
 {
     if is_row_word(word) {
-        return row_breach(alloc, closed, number, word, phrase);
+        return row_broken(alloc, closed, number, word, phrase);
     }
     Ok(None)
 }
 
 // What a word with this phrase breaks by its walk.
-fn phrase_breach(
+fn phrase_broken(
     alloc: Global,
     closed: &Closed,
     number: u32,
     word: &WordDef,
     phrase: &Phrase,
-) -> Result<Option<(Place, Rule)>, Memory>
+) -> Result<Option<Broken>, Memory>
     requires program { takes_all closed.now.program closed.now.templates ≡ true }
     requires few { (effect_height word.now.effect).ins ≤ 65 }
     requires phrase { takes_phrase closed.now.program.top (length closed.now.templates) phrase.now ≡ true }
-    ensures { IfOk result (λ breach. IsPhraseBreach closed.now number word.now phrase.now breach) }
+    ensures { IfOk result (λ broken. IsPhraseBroken closed.now number word.now phrase.now broken) }
 {
     if number == closed.program.top {
-        return top_breach(alloc, closed, word.place, phrase);
+        return top_broken(alloc, closed, word.place, phrase);
     }
     if word.inline {
-        return inline_breach(alloc, closed, number, word, phrase);
+        return inline_broken(alloc, closed, number, word, phrase);
     }
-    ordinary_breach(alloc, closed, word, phrase)
+    ordinary_broken(alloc, closed, word, phrase)
 }
 
 // Whether a word is an earlier top-level phrase.
@@ -244,37 +250,46 @@ fn is_no_generic_effect(effect: &Effect) -> bool
 }
 
 // What a generic breaks.
-fn generic_breach(word: &WordDef) -> Option<(Place, Rule)>
-    ensures { breach_seen result ≡ generic_refusal (no_generic_effect word.now.effect) word.now.place }
+fn generic_broken(word: &WordDef) -> Option<Broken>
+    ensures { result ≡ generic_rule (no_generic_effect word.now.effect) word.now.place }
 {
     if is_no_generic_effect(&word.effect) {
-        return Some((word.place, Rule::MethodEffect));
+        return Some(Broken {
+            rule: Rule::MethodEffect,
+            place: word.place,
+        });
     }
     None
 }
 
 /// What the word with this number breaks, where it is known whether its phrase leads back to it.
-pub fn word_breach(
+pub fn word_broken(
     alloc: Global,
     closed: &Closed,
     leads_back: bool,
     number: u32,
     word: &WordDef,
-) -> Result<Option<(Place, Rule)>, Memory>
+) -> Result<Option<Broken>, Memory>
     requires program { takes_all closed.now.program closed.now.templates ≡ true }
     requires word { takes_word closed.now.program.top (length closed.now.templates) word.now ≡ true }
-    ensures { IfOk result (λ breach. IsWordBreach closed.now leads_back number word.now breach) }
+    ensures { IfOk result (λ broken. IsWordBroken closed.now leads_back number word.now broken) }
 {
     if leads_back {
-        return Ok(Some((word.place, Rule::UndeclaredRecursion)));
+        return Ok(Some(Broken {
+            rule: Rule::UndeclaredRecursion,
+            place: word.place,
+        }));
     }
     if has_bad_rows(closed.program.top, number, word) {
-        return Ok(Some((word.place, Rule::RowDeclaration)));
+        return Ok(Some(Broken {
+            rule: Rule::RowDeclaration,
+            place: word.place,
+        }));
     }
     match &word.sort {
-        Sort::Body(phrase) => phrase_breach(alloc, closed, number, word, phrase),
-        Sort::Method { body, .. } => ordinary_breach(alloc, closed, word, body),
-        Sort::Generic => Ok(generic_breach(word)),
+        Sort::Body(phrase) => phrase_broken(alloc, closed, number, word, phrase),
+        Sort::Method { body, .. } => ordinary_broken(alloc, closed, word, body),
+        Sort::Generic => Ok(generic_broken(word)),
         _ => Ok(None),
     }
 }

@@ -4,7 +4,7 @@ ghost use Rattle.fac_check.specs.Judged.{StandsForWhole, AreUndeclared, AreVerdi
 ghost use Rattle.fac_check.specs.Checks.{IsKept, Checks, Gathers};
 
 use crate::Checked;
-use crate::checker::{Verdict, word_breach};
+use crate::checker::{Verdict, word_broken};
 use crate::recursion::undeclared_words;
 use crate::refusal::{CheckFault, Refusal};
 use fac_lang::{List, Memory};
@@ -38,11 +38,10 @@ pub fn check_word(
     let Some(word) = closed.program.words.get(number as usize) else {
         unreachable!()
     };
-    match word_breach(alloc, closed, flag(undeclared, number), number, word)? {
-        Some((place, rule)) => Ok(Verdict::Refused(Refusal {
+    match word_broken(alloc, closed, flag(undeclared, number), number, word)? {
+        Some(broken) => Ok(Verdict::Refused(Refusal {
             word: number,
-            place,
-            rule,
+            broken,
         })),
         None => Ok(Verdict::Accepted),
     }

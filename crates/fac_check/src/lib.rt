@@ -22,5 +22,5 @@ pub use laws::{
     safe_programs_are_not_stuck,
 };
 pub use recursion::undeclared_words;
-pub use refusal::{CheckFault, Refusal};
+pub use refusal::{Broken, CheckFault, Refusal};
 pub use template_walk::walk_template;

@@ -1,17 +1,24 @@
-//! Refusals.
+//! Broken rules and refusals.
 use fac_abs::Rule;
 use fac_lang::{Memory, Place};
 use thiserror::Error;
+
+/// A broken rule, and where.
+#[derive(Clone, Copy, Debug, PartialEq, Eq)]
+pub struct Broken {
+    /// The rule, with its numbers.
+    pub rule: Rule,
+    /// The place of the item that breaks the rule, or of the word's name where the rule says so.
+    pub place: Place,
+}
 
 /// A refused word, with the first rule that it breaks.
 #[derive(Clone, Copy, Debug, PartialEq, Eq)]
 pub struct Refusal {
     /// The number of the word.
     pub word: u32,
-    /// The place of the item that breaks the rule, or of the word's name where the rule says so.
-    pub place: Place,
-    /// The rule, with its numbers.
-    pub rule: Rule,
+    /// The rule, and where.
+    pub broken: Broken,
 }
 
 /// Why a program is not accepted.

@@ -1,5 +1,6 @@
 //! Templates whose phrases are walked by themselves.
 ghost use Rattle.std.specs.Prelude.{◌≡◌, ◌<◌, [], true, length, None, IfOk};
+ghost use Rattle.fac_lang.specs.declared.limits.TheConstants.{MOST_APPLICATIONS, MOST_ITEMS};
 ghost use Rattle.fac_abs.specs.Marks.{unknowns};
 ghost use Rattle.fac_abs.specs.MarkTrees.{Naming};
 ghost use Rattle.fac_abs.specs.MarkPromises.{IsFrameOf};
@@ -31,7 +32,7 @@ fn unknown_cells(marks: &mut Marks, count: u64) -> Result<u32, Memory>
 
 // Where the walk of a template by itself begins, with all that may be entered and walked.
 fn first_step(place: Place, frame: u32, stack: u32) -> Step
-    ensures { result ≡ record { place = place; nested = 64; base = None; stack = stack; frame = frame; left = 200000; alone = true } }
+    ensures { result ≡ record { place = place; nested = MOST_APPLICATIONS; base = None; stack = stack; frame = frame; left = MOST_ITEMS; alone = true } }
 {
     Step {
         place,
@@ -50,7 +51,7 @@ fn height_of(marks: &Marks, inputs: u32, walked: Walked) -> Option<Height>
     ensures { (N : Naming) → result ≡ found_height inputs (walked_seen N marks.now walked) }
 {
     match walked {
-        Walked::Refused(_, _) => None,
+        Walked::Refused(_) => None,
         Walked::Found(reached, _) => match reached {
             Reached::Dead => Some(Height {
                 ins: inputs,

@@ -18,6 +18,7 @@ ghost use Rattle.fac_lang.specs.Effects.{effect_height};
 ghost use Rattle.fac_rows.specs.SeenBindings.{IsBinding};
 
 use crate::doing::{Doing, Executed, count, follow, item_doing};
+use crate::refusal::Broken;
 use crate::subject::Subject;
 use fac_abs::{MarkNode, Marks, Reached, Rule};
 use fac_lang::{Effect, Input, Memory, Phrase, Place, Sort, Template, What};
@@ -74,7 +75,7 @@ pub enum Walked {
     /// With this stack, and so many items that may still be walked.
     Found(Reached, u32),
     /// At the first broken rule.
-    Refused(Rule, Place),
+    Refused(Broken),
 }
 
 /// How the walk of the inputs of a use ends.
@@ -83,7 +84,7 @@ enum InputsWalked {
     // With their rows bound, and so many items that may still be walked.
     Bound(u32),
     // At the first broken rule.
-    Broken(Rule, Place),
+    Unbound(Broken),
 }
 
 // What an item breaks by entering a phrase, before it counts.
@@ -182,13 +183,13 @@ fn joined(marks: &mut Marks, first: Reached, second: Reached, step: Step) -> Res
     let lower = height(marks, second);
     match marks.join(first, second)? {
         Some(reached) => Ok(Walked::Found(reached, step.left)),
-        None => Ok(Walked::Refused(
-            Rule::Branches {
+        None => Ok(Walked::Refused(Broken {
+            rule: Rule::Branches {
                 first: upper,
                 second: lower,
             },
-            step.place,
-        )),
+            place: step.place,
+        })),
     }
 }
 
@@ -200,9 +201,15 @@ fn named(marks: &Marks, step: Step) -> Walked
     ensures walks { NamesLocal marks.now step result }
 {
     match marks.pop(step.stack) {
-        None => Walked::Refused(Rule::Underflow { needs: 1, has: 0 }, step.place),
+        None => Walked::Refused(Broken {
+            rule: Rule::Underflow { needs: 1, has: 0 },
+            place: step.place,
+        }),
         Some((_, stack)) => match count(step.left) {
-            None => Walked::Refused(Rule::TooLarge, step.place),
+            None => Walked::Refused(Broken {
+                rule: Rule::TooLarge,
+                place: step.place,
+            }),
             Some(left) => Walked::Found(
                 Reached::On {
                     base: step.base,
@@ -397,7 +404,10 @@ impl<'a> Walker<'a> {
     {
         let own = self.subject.own_effect();
         match par(&mut self.marks, own, input, step.base, step.stack)? {
-            Called::Breaks(rule) => Ok(Walked::Refused(rule, step.place)),
+            Called::Breaks(rule) => Ok(Walked::Refused(Broken {
+                rule,
+                place: step.place,
+            })),
             Called::Leaves(reached) => Ok(Walked::Found(reached, step.left)),
         }
     }
@@ -416,10 +426,16 @@ impl<'a> Walker<'a> {
         ensures walks { IfOk result (λ walked. IsWalkOf self.old.subject self.new.marks step walked (literal_walk self.old.marks step literal frame)) }
     {
         if step.nested == 0 {
-            return Ok(Walked::Refused(Rule::TooDeep, step.place));
+            return Ok(Walked::Refused(Broken {
+                rule: Rule::TooDeep,
+                place: step.place,
+            }));
         }
         match template_of(self.subject, literal) {
-            None => Ok(Walked::Refused(Rule::NotKnown, nowhere())),
+            None => Ok(Walked::Refused(Broken {
+                rule: Rule::NotKnown,
+                place: nowhere(),
+            })),
             Some((template, alone)) => self.walk_body(
                 literal,
                 template,
@@ -452,7 +468,10 @@ impl<'a> Walker<'a> {
         match closed.templates.get(template as usize) {
             Some(found) => {
                 if self.marks.cells(frame) as u64 != cells_of(found) {
-                    return Ok(Walked::Refused(Rule::NotKnown, nowhere()));
+                    return Ok(Walked::Refused(Broken {
+                        rule: Rule::NotKnown,
+                        place: nowhere(),
+                    }));
                 }
                 let inner = Step {
                     frame,
@@ -476,7 +495,10 @@ impl<'a> Walker<'a> {
         ensures walks { IfOk result (λ walked. IsWalkOf self.old.subject self.new.marks step walked (word_walk self.old.marks step word)) }
     {
         if step.nested == 0 {
-            return Ok(Walked::Refused(Rule::TooDeep, step.place));
+            return Ok(Walked::Refused(Broken {
+                rule: Rule::TooDeep,
+                place: step.place,
+            }));
         }
         let closed = self.subject.closed;
         match closed.program.words.get(word as usize) {
@@ -516,9 +538,15 @@ impl<'a> Walker<'a> {
         ensures walks { IfOk result (λ walked. IsWalkOf self.old.subject self.new.marks step walked (curried_walk self.old.marks step value callable)) }
     {
         match count(step.left) {
-            None => Ok(Walked::Refused(Rule::TooLarge, step.place)),
+            None => Ok(Walked::Refused(Broken {
+                rule: Rule::TooLarge,
+                place: step.place,
+            })),
             Some(rest) => match inside(&self.marks, callable, step.nested) {
-                Err(rule) => Ok(Walked::Refused(rule, step.place)),
+                Err(rule) => Ok(Walked::Refused(Broken {
+                    rule,
+                    place: step.place,
+                })),
                 Ok(deeper) => {
                     let stack = self.marks.push(step.stack, value)?;
                     let inner = Step {
@@ -546,7 +574,10 @@ impl<'a> Walker<'a> {
         ensures walks { IfOk result (λ walked. IsWalkOf self.old.subject self.new.marks step walked (part_walk self.old.marks step part)) }
     {
         match inside(&self.marks, part, step.nested) {
-            Err(rule) => Ok(Walked::Refused(rule, step.place)),
+            Err(rule) => Ok(Walked::Refused(Broken {
+                rule,
+                place: step.place,
+            })),
             Ok(deeper) => {
                 let inner = Step {
                     nested: deeper,
@@ -578,11 +609,14 @@ impl<'a> Walker<'a> {
         ensures walks { IfOk result (λ walked. IsWalkOf self.old.subject self.new.marks step walked (composed_walk self.old.marks step first second)) }
     {
         match count(step.left) {
-            None => Ok(Walked::Refused(Rule::TooLarge, step.place)),
+            None => Ok(Walked::Refused(Broken {
+                rule: Rule::TooLarge,
+                place: step.place,
+            })),
             Some(rest) => {
                 let inner = Step { left: rest, ..step };
                 match self.walk_part(whole, first, inner)? {
-                    Walked::Refused(rule, place) => Ok(Walked::Refused(rule, place)),
+                    Walked::Refused(broken) => Ok(Walked::Refused(broken)),
                     Walked::Found(Reached::Dead, rest) => Ok(Walked::Found(Reached::Dead, rest)),
                     Walked::Found(Reached::On { base, stack }, rest) => {
                         let next = Step {
@@ -614,8 +648,14 @@ impl<'a> Walker<'a> {
             MarkNode::Cur(value, callable) => self.walk_curried(mark, value, callable, step),
             MarkNode::Com(first, second) => self.walk_composed(mark, first, second, step),
             MarkNode::Par(input) => self.call_input(input, step),
-            MarkNode::Any => Ok(Walked::Refused(Rule::NotKnown, step.place)),
-            MarkNode::Wrd(_) => Ok(Walked::Refused(Rule::NotKnown, step.place)),
+            MarkNode::Any => Ok(Walked::Refused(Broken {
+                rule: Rule::NotKnown,
+                place: step.place,
+            })),
+            MarkNode::Wrd(_) => Ok(Walked::Refused(Broken {
+                rule: Rule::NotKnown,
+                place: step.place,
+            })),
         }
     }
 
@@ -632,7 +672,7 @@ impl<'a> Walker<'a> {
         ensures walks { IfOk result (λ walked. IsWalkOf self.old.subject self.new.marks step walked (callable_walk self.old.marks step mark back)) }
     {
         match self.walk_mark(mark, step)? {
-            Walked::Refused(rule, place) => Ok(Walked::Refused(rule, place)),
+            Walked::Refused(broken) => Ok(Walked::Refused(broken)),
             Walked::Found(reached, rest) => {
                 Ok(Walked::Found(put_back(&mut self.marks, reached, back)?, rest))
             }
@@ -652,11 +692,11 @@ impl<'a> Walker<'a> {
         ensures walks { IfOk result (λ walked. IsWalkOf self.old.subject self.new.marks step walked (fork_walk self.old.marks step first second)) }
     {
         match self.walk_mark(first, step)? {
-            Walked::Refused(rule, place) => Ok(Walked::Refused(rule, place)),
+            Walked::Refused(broken) => Ok(Walked::Refused(broken)),
             Walked::Found(upper, rest) => {
                 let next = Step { left: rest, ..step };
                 match self.walk_mark(second, next)? {
-                    Walked::Refused(rule, place) => Ok(Walked::Refused(rule, place)),
+                    Walked::Refused(broken) => Ok(Walked::Refused(broken)),
                     Walked::Found(lower, rest) => {
                         let end = Step { left: rest, ..step };
                         joined(&mut self.marks, upper, lower, end)
@@ -709,20 +749,23 @@ impl<'a> Walker<'a> {
         ensures walks { IfOk result (λ walked. IsWalkedQuotation self.old.subject self.old.marks self.new.marks step number effect.now mark binding.old binding.new walked) }
     {
         match binding.start(&mut self.marks, effect)? {
-            None => Ok(InputsWalked::Broken(
-                Rule::Rows {
+            None => Ok(InputsWalked::Unbound(Broken {
+                rule: Rule::Rows {
                     input: number,
                     expected: 0,
                     found: 0,
                 },
-                step.place,
-            )),
+                place: step.place,
+            })),
             Some(start) => match self.walk_from(mark, start, step)? {
-                Walked::Refused(rule, place) => Ok(InputsWalked::Broken(rule, place)),
+                Walked::Refused(broken) => Ok(InputsWalked::Unbound(broken)),
                 Walked::Found(reached, left) => {
                     match binding.bind(&self.marks, number, effect, reached)? {
                         None => Ok(InputsWalked::Bound(left)),
-                        Some(rule) => Ok(InputsWalked::Broken(rule, step.place)),
+                        Some(rule) => Ok(InputsWalked::Unbound(Broken {
+                            rule,
+                            place: step.place,
+                        })),
                     }
                 }
             },
@@ -776,12 +819,15 @@ impl<'a> Walker<'a> {
         let mut number = 0;
         for input in list {
             let Some((mark, rest)) = self.marks.pop(marks) else {
-                return Ok(InputsWalked::Broken(Rule::NotKnown, step.place));
+                return Ok(InputsWalked::Unbound(Broken {
+                    rule: Rule::NotKnown,
+                    place: step.place,
+                }));
             };
             number += 1;
             let here = Step { left, ..step };
             match self.walk_input(number, input, mark, binding, here)? {
-                InputsWalked::Broken(rule, place) => return Ok(InputsWalked::Broken(rule, place)),
+                InputsWalked::Unbound(broken) => return Ok(InputsWalked::Unbound(broken)),
                 InputsWalked::Bound(kept) => {
                     marks = rest;
                     left = kept;
@@ -809,7 +855,7 @@ impl<'a> Walker<'a> {
         };
         let mut binding = Binding::new(self.alloc, effect, below)?;
         match self.walk_inputs(&effect.ins, inputs, &mut binding, step)? {
-            InputsWalked::Broken(rule, place) => Ok(Walked::Refused(rule, place)),
+            InputsWalked::Unbound(broken) => Ok(Walked::Refused(broken)),
             InputsWalked::Bound(left) => Ok(Walked::Found(
                 binding.leaves(&mut self.marks, effect)?,
                 left,
@@ -882,7 +928,10 @@ impl<'a> Walker<'a> {
         ensures walks { IfOk result (λ walked. IsWalkOfCounted self.old.subject self.old.marks self.new.marks doing step walked) }
     {
         match doing {
-            Doing::Breaks(rule) => Ok(Walked::Refused(rule, step.place)),
+            Doing::Breaks(rule) => Ok(Walked::Refused(Broken {
+                rule,
+                place: step.place,
+            })),
             Doing::Ends => Ok(Walked::Found(Reached::Dead, step.left)),
             Doing::Gives { stack } => Ok(Walked::Found(
                 Reached::On {
@@ -927,7 +976,10 @@ impl<'a> Walker<'a> {
     {
         match admitted(self.item_rule(doing, step)?, step.left) {
             Ok(left) => self.walk_counted(doing, Step { left, ..step }),
-            Err(rule) => Ok(Walked::Refused(rule, step.place)),
+            Err(rule) => Ok(Walked::Refused(Broken {
+                rule,
+                place: step.place,
+            })),
         }
     }
 
@@ -944,7 +996,10 @@ impl<'a> Walker<'a> {
         let subject = self.subject;
         match follow(subject, &mut self.marks, doing, step)? {
             Executed::Does(last, left) => self.walk_item(last, Step { left, ..step }),
-            Executed::Stops(rule) => Ok(Walked::Refused(rule, step.place)),
+            Executed::Stops(rule) => Ok(Walked::Refused(Broken {
+                rule,
+                place: step.place,
+            })),
         }
     }
 
@@ -1015,7 +1070,7 @@ impl<'a> Walker<'a> {
             };
             let behind = self.frame_behind(&item.what, here)?;
             match self.walk_one(&item.what, here)? {
-                Walked::Refused(rule, place) => return Ok(Walked::Refused(rule, place)),
+                Walked::Refused(broken) => return Ok(Walked::Refused(broken)),
                 Walked::Found(Reached::Dead, rest) => return Ok(Walked::Found(Reached::Dead, rest)),
                 Walked::Found(
                     Reached::On {

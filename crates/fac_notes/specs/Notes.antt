@@ -46,7 +46,7 @@ abbrev pub name_line : List ℕ → NameFault → List ℕ
 name_line name fault = codes "name: " ++ place_text name fault.place.token ++ kind_text fault.kind ++ codes " " ++ fault.name ++ words_text fault.kind ++ codes "\n"
 
 abbrev pub check_line : List ℕ → Refusal → List ℕ → List ℕ
-check_line name refusal word = codes "check: " ++ word ++ codes ", " ++ place_text name refusal.place.token ++ rule_text refusal.rule ++ codes "\n"
+check_line name refusal word = codes "check: " ++ word ++ codes ", " ++ place_text name refusal.broken.place.token ++ rule_text refusal.broken.rule ++ codes "\n"
 
 abbrev pub error_line : ErrorName → Name → Option (List ℕ) → List ℕ
 error_line name word value = codes "error: " ++ error_text name ++ codes " in " ++ name_text word ++ value_text value ++ codes "\n"
@@ -62,7 +62,7 @@ abbrev pub line_of : List (List ℕ) → Report → List ℕ
 line_of names (report.Bytes file at why) = bytes_line (file_name names file) at why
 line_of names (report.Syntax file at why) = syntax_line (file_name names file) at why
 line_of names (report.Name fault) = name_line (file_name names fault.place.file) fault
-line_of names (report.Check refusal word) = check_line (file_name names refusal.place.file) refusal word
+line_of names (report.Check refusal word) = check_line (file_name names refusal.broken.place.file) refusal word
 line_of names (report.Error name word value) = error_line name word value
 line_of names (report.Spent ticks) = codes "spent: " ++ decimal ticks ++ codes " ticks\n"
 line_of names (report.Image at) = codes "image: byte " ++ decimal at ++ codes "\n"

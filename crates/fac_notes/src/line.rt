@@ -94,8 +94,8 @@ fn check_line(alloc: Global, name: &str, refusal: Refusal, word: &str) -> Result
     let mut line = Text::from_str(alloc, "check: ")?;
     line.push_str(word)?;
     line.push_str(", ")?;
-    push_place(&mut line, name, refusal.place.token)?;
-    push_rule(&mut line, refusal.rule)?;
+    push_place(&mut line, name, refusal.broken.place.token)?;
+    push_rule(&mut line, refusal.broken.rule)?;
     line.push_str("\n")?;
     Ok(line)
 }
@@ -165,7 +165,7 @@ pub fn note(alloc: Global, report: &Report, files: &List<Text>) -> Result<Text, 
         Report::Name(fault) => name_line(alloc, file_name(files, fault.place.file), fault),
         Report::Check { refusal, word } => check_line(
             alloc,
-            file_name(files, refusal.place.file),
+            file_name(files, refusal.broken.place.file),
             *refusal,
             word.as_str(),
         ),

@@ -14,7 +14,8 @@ use Rattle.fac_bytes.specs.Laws.{OneImage, EncodedIsDecoded}
 use Rattle.fac_refusal.specs.declared.refusal.NameFault.{NameFault}
 use Rattle.fac_names.specs.Resolution.{resolved}
 use Rattle.fac_check.specs.Promises.{IsSafe, SafeAreNotStuck}
-use Rattle.fac_check.specs.Verdicts.{Refusal, verdict}
+use Rattle.fac_check.specs.Verdicts.{verdict}
+use Rattle.fac_check.specs.declared.refusal.Broken.{Broken}
 use Rattle.fac_emit.specs.PrintedForms.{PrintedFormsAreEqual}
 use Rattle.fac_vm.specs.MachineLaws.{RunsHaveOneEnd}
 use Rattle.fac_command.specs.declared.command.Command.{Command}
@@ -32,7 +33,7 @@ use Rattle.fac_tool.proofs.EarlyEnds.{memory_first}
 use Rattle.fac_tool.proofs.CarriedRuns.{executes_as_run}
 
 -- what is done with an accepted program is the answer of its sources
-verdict_answer : (c : Command) (count : ℕ) (Q P : Program) (v : Option (ℕ × Refusal)) (input : List ℕ) → if_accepted Q v ≡ Some P → on_verdict c count Q v input ≡ on_accepted c count P input
+verdict_answer : (c : Command) (count : ℕ) (Q P : Program) (v : Option (ℕ × Broken)) (input : List ℕ) → if_accepted Q v ≡ Some P → on_verdict c count Q v input ≡ on_accepted c count P input
 verdict_answer c count Q P (Some first) input e = absurd (cc)
 verdict_answer c count Q P None input e = let same : Q ≡ P = cc in ap (λ (x : Program). on_accepted c count x input) same
 

@@ -14,7 +14,8 @@ use Rattle.fac_refusal.specs.declared.refusal.NameFault.{NameFault}
 use Rattle.fac_parse.specs.Trees.{IsWellFormed, AreWellFormed, Reads, Misses, OneTree, TreeOrNone, OnePlace, SomePlace}
 use Rattle.fac_parse.specs.declared.reader.Why.{Why}
 use Rattle.fac_names.specs.Resolution.{resolved, ResolvedAreWhole}
-use Rattle.fac_check.specs.Verdicts.{Refusal, verdict}
+use Rattle.fac_check.specs.Verdicts.{verdict}
+use Rattle.fac_check.specs.declared.refusal.Broken.{Broken}
 use Rattle.fac_check.specs.Promises.{IsSafe, AcceptedAreSafe}
 use Rattle.fac_prelude.specs.PreludeText.{prelude_text}
 use Rattle.fac_notes.specs.declared.report.ByteFault.{ByteFault}
@@ -134,7 +135,7 @@ one_source answer place law file (text ∷ texts) (a ∷ as') (b ∷ bs) h k =
     let rest : as' ≡ bs = one_source answer place law (file + 1) texts as' bs h.1 k.1 in
     cc
 
-verdict_safe : AcceptedAreSafe → (P : Program) (v : Option (ℕ × Refusal)) → IsWhole P → verdict P 0 ≡ v → IfSome (if_accepted P v) (λ Q. IsSafe Q 0)
+verdict_safe : AcceptedAreSafe → (P : Program) (v : Option (ℕ × Broken)) → IsWhole P → verdict P 0 ≡ v → IfSome (if_accepted P v) (λ Q. IsSafe Q 0)
 verdict_safe law P (Some first) whole e = tt
 verdict_safe law P None whole e = law P 0 whole e
 

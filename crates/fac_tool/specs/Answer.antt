@@ -19,7 +19,8 @@ use Rattle.fac_refusal.specs.declared.refusal.NameFault.{NameFault}
 use Rattle.fac_names.specs.Resolution.{resolved}
 use Rattle.fac_check.specs.CallableEffects.{callable_height}
 use Rattle.fac_lang.specs.HeightArithmetic.{fits}
-use Rattle.fac_check.specs.Verdicts.{Refusal, verdict}
+use Rattle.fac_check.specs.Verdicts.{verdict}
+use Rattle.fac_check.specs.declared.refusal.Broken.{Broken}
 use Rattle.fac_notes.specs.declared.report.ByteFault.{ByteFault}
 use Rattle.fac_notes.specs.declared.report.Report.{Report}
 use Rattle.fac_notes.specs.declared.report.Report.TheVariants as report
@@ -155,7 +156,7 @@ on_accepted (command.RunStack steps first end) count P input = stack_answer P in
 on_accepted _ count P input = no_answer input
 
 -- the first refused word by its number, with its refusal, or an accepted program
-abbrev pub on_verdict : Command → ℕ → Program → Option (ℕ × Refusal) → List ℕ → Answer
+abbrev pub on_verdict : Command → ℕ → Program → Option (ℕ × Broken) → List ℕ → Answer
 on_verdict c count P (Some first) input = refused (report.Check (refusal_of first) (name_text (word_name P first.0))) input
 on_verdict c count P None input = on_accepted c count P input
 
@@ -171,7 +172,7 @@ answer_on c (no_tree_in file at why) input = refused (report.Syntax file at why)
 answer_on c (trees files) input = on_resolved c (own_definitions files) (resolved files) input
 
 -- the accepted program of the files, where there is one
-abbrev pub if_accepted : Program → Option (ℕ × Refusal) → Option Program
+abbrev pub if_accepted : Program → Option (ℕ × Broken) → Option Program
 if_accepted P (Some first) = None
 if_accepted P None = Some P
 

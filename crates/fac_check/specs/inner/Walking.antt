@@ -45,7 +45,7 @@ use Rattle.fac_check.specs.declared.walker.Walked.TheVariants.{Found, Refused}
 use Rattle.fac_check.specs.declared.doing.Executed.{Executed}
 use Rattle.fac_check.specs.declared.doing.Executed.TheVariants.{Does, Stops}
 use Rattle.fac_check.specs.declared.walker.InputsWalked.{InputsWalked}
-use Rattle.fac_check.specs.declared.walker.InputsWalked.TheVariants.{Bound, Broken}
+use Rattle.fac_check.specs.declared.walker.InputsWalked.TheVariants.{Bound, Unbound}
 
 -- the phrase of a word that is defined by one
 abbrev pub sort_phrase : Sort → Phrase
@@ -81,12 +81,12 @@ marks_of_option mark (Some m) = mark m ∷ []
 module _ (N : Naming) (M : MarksSeen) where
   abbrev pub walked_seen : Walked → WalkedPhrase AbstractStack
   walked_seen (Found A n) = found (reached_seen N M A) n
-  walked_seen (Refused r p) = refused r p
+  walked_seen (Refused b) = refused b.rule b.place
 
   -- with the rows that are bound then
   abbrev pub inputs_seen : List (Row × Reached) → InputsWalked → WalkedPhrase Binding
   inputs_seen bs (Bound n) = found (binding_seen N M bs) n
-  inputs_seen bs (Broken r p) = refused r p
+  inputs_seen bs (Unbound b) = refused b.rule b.place
 
   -- with the words by their numbers, and the base of the stack
   abbrev pub doing_seen : (ℕ → Option WordDef) → Option Row → Doing → DoingAtOnce
@@ -103,7 +103,7 @@ module _ (N : Naming) (M : MarksSeen) where
 -- The numbers of an answer are those of marks and stacks that are there.
 abbrev pub IsWalked : MarksSeen → Walked → Type 0
 IsWalked M (Found A n) = IsReached M A
-IsWalked M (Refused r p) = Unit {0}
+IsWalked M (Refused b) = Unit {0}
 
 abbrev pub AreMarks : MarksSeen → Option ℕ → Type 0
 AreMarks M None = Unit {0}
@@ -168,21 +168,21 @@ PopsBranches M s (Some (m, n, r)) = IsMark M m × IsMark M n × IsStack M r × (
 -- no more items may be walked than before
 abbrev pub IsWithin : ℕ → Walked → Type 0
 IsWithin most (Found A n) = n ≤ most
-IsWithin most (Refused r p) = Unit {0}
+IsWithin most (Refused b) = Unit {0}
 
 abbrev pub AreWithin : ℕ → InputsWalked → Type 0
 AreWithin most (Bound n) = n ≤ most
-AreWithin most (Broken r p) = Unit {0}
+AreWithin most (Unbound b) = Unit {0}
 
 -- the rows are bound to stacks that are there
 abbrev pub AreBound : MarksSeen → List (Row × Reached) → InputsWalked → Type 0
 AreBound M bs (Bound n) = IsBinding M bs
-AreBound M bs (Broken r p) = Unit {0}
+AreBound M bs (Unbound b) = Unit {0}
 
 -- fewer items may be walked than before
 abbrev pub IsBelow : ℕ → Walked → Type 0
 IsBelow most (Found A n) = n < most
-IsBelow most (Refused r p) = Unit {0}
+IsBelow most (Refused b) = Unit {0}
 
 -- an item is counted, unless it broke a rule before
 abbrev pub Admits : Option Rule → ℕ → Result ℕ Rule → Type 0

@@ -135,13 +135,13 @@ pub walk_composed-returns-in-Refused-clause-walks : goal.walk_composed-returns-i
 walk_composed-returns-in-Refused-clause-walks t c = λ O f l.
     let N = O.naming in
     let M = c.args.self.now.marks in
-    sym (composed_ends O.effect (go_at O f) c.args.step.place c.args.step.nested (base_seen O.naming c.args.step.base) (stack_of N M c.args.step.stack) c.args.step.left c.in-Some.rest c.in-Some.ensures N c.walk_part.new.self.marks (mark_of N M c.args.first) (mark_of N M c.args.second) _ _ c.in-Refused.is (c.in_ok-rule-in-Some.ensures.walks O f (omega (arith, c.in-Some.ensures, l))))
+    sym (composed_ends O.effect (go_at O f) c.args.step.place c.args.step.nested (base_seen O.naming c.args.step.base) (stack_of N M c.args.step.stack) c.args.step.left c.in-Some.rest c.in-Some.ensures N c.walk_part.new.self.marks (mark_of N M c.args.first) (mark_of N M c.args.second) _ _ c.in-Refused.is (c.in_ok-broken-in-Some.ensures.walks O f (omega (arith, c.in-Some.ensures, l))))
 
 pub walk_composed-returns-in-Found-Dead-default-clause-walks : goal.walk_composed-returns-in-Found-Dead-default-clause-walks
 walk_composed-returns-in-Found-Dead-default-clause-walks t c = λ O f l.
     let N = O.naming in
     let M = c.args.self.now.marks in
-    sym (composed_ends O.effect (go_at O f) c.args.step.place c.args.step.nested (base_seen O.naming c.args.step.base) (stack_of N M c.args.step.stack) c.args.step.left c.in-Some.rest c.in-Some.ensures N c.walk_part.new.self.marks (mark_of N M c.args.first) (mark_of N M c.args.second) _ _ (c.in-Found-Dead-default.is ∙ ap (λ A. Found A c.in-Found-Dead-default.rest) c.in-Found-Dead-default.field-0-is) (c.in_ok-rule-in-Some.ensures.walks O f (omega (arith, c.in-Some.ensures, l))))
+    sym (composed_ends O.effect (go_at O f) c.args.step.place c.args.step.nested (base_seen O.naming c.args.step.base) (stack_of N M c.args.step.stack) c.args.step.left c.in-Some.rest c.in-Some.ensures N c.walk_part.new.self.marks (mark_of N M c.args.first) (mark_of N M c.args.second) _ _ (c.in-Found-Dead-default.is ∙ ap (λ A. Found A c.in-Found-Dead-default.rest) c.in-Found-Dead-default.field-0-is) (c.in_ok-broken-in-Some.ensures.walks O f (omega (arith, c.in-Some.ensures, l))))
 
 pub walk_composed-returns-in-Found-On-default-clause-walks : goal.walk_composed-returns-in-Found-On-default-clause-walks
 walk_composed-returns-in-Found-On-default-clause-walks t c =
@@ -151,10 +151,10 @@ walk_composed-returns-in-Found-On-default-clause-walks t c =
     let M = c.args.self.now.marks in
     let ms = stack_of N M c.args.step.stack in
     let is = c.in-Found-On-default.is ∙ ap (λ A. Found A c.in-Found-On-default.rest) c.in-Found-On-default.field-0-is in
-    let same = c.in_ok-rule-in-Some.ensures.subject in
-    walks (carried same O) f (omega (arith, c.in-Some.ensures, l, subst (IsWithin c.in-Some.rest) c.in-Found-On-default.is c.in_ok-rule-in-Some.ensures.within))
-    ∙ ap (λ m. inside m c.args.step.place c.args.step.nested (λ d. walk_mark O.effect (go_at O f) m c.args.step.place d (base_seen N c.in-Found-On-default.base) (stack_of N c.walk_part.new.self.marks c.in-Found-On-default.stack) c.in-Found-On-default.rest)) (c.in_ok-rule-in-Some.ensures.grows.same_mark N c.args.second c.requires.second)
-    ∙ sym (composed_ends O.effect (go_at O f) c.args.step.place c.args.step.nested (base_seen O.naming c.args.step.base) ms c.args.step.left c.in-Some.rest c.in-Some.ensures N c.walk_part.new.self.marks (mark_of N M c.args.first) (mark_of N M c.args.second) _ _ is (c.in_ok-rule-in-Some.ensures.walks O f (omega (arith, c.in-Some.ensures, l)))))
+    let same = c.in_ok-broken-in-Some.ensures.subject in
+    walks (carried same O) f (omega (arith, c.in-Some.ensures, l, subst (IsWithin c.in-Some.rest) c.in-Found-On-default.is c.in_ok-broken-in-Some.ensures.within))
+    ∙ ap (λ m. inside m c.args.step.place c.args.step.nested (λ d. walk_mark O.effect (go_at O f) m c.args.step.place d (base_seen N c.in-Found-On-default.base) (stack_of N c.walk_part.new.self.marks c.in-Found-On-default.stack) c.in-Found-On-default.rest)) (c.in_ok-broken-in-Some.ensures.grows.same_mark N c.args.second c.requires.second)
+    ∙ sym (composed_ends O.effect (go_at O f) c.args.step.place c.args.step.nested (base_seen O.naming c.args.step.base) ms c.args.step.left c.in-Some.rest c.in-Some.ensures N c.walk_part.new.self.marks (mark_of N M c.args.first) (mark_of N M c.args.second) _ _ is (c.in_ok-broken-in-Some.ensures.walks O f (omega (arith, c.in-Some.ensures, l)))))
     c.walk_part-in-Found-On-default.ensures.walks
 
 pub walk_one-returns-in-Bind-clause-walks : goal.walk_one-returns-in-Bind-clause-walks
@@ -221,14 +221,14 @@ walk_phrase-returns-in-Refused-clause-walks t c = λ O at here u f stands opens 
     let items = c.deref-item-items.result.now in
     let i = c.loop-item.item-index in
     let next : drop i items ≡ c.item-item.result ∷ drop (suc i) items = drop-cons items i c.item-item.result c.loop-item-test.true ∙ ap (λ (x : PlacedItem). x ∷ drop (suc i) items) (sym c.item-item.is) in
-    sym (behind_from c.args.self.now.subject O c.args.step.alone here u f c.args.step.nested (base_seen O.naming c.args.step.base) (stack_of O.naming c.args.self.now.marks c.args.step.stack) c.args.step.left c.loop-item.self.marks c.frame_behind.new.self.marks c.walk_one.new.self.marks c.loop-item.base c.loop-item.stack c.loop-item.frame c.in_ok-behind.behind c.loop-item.left c.item-item.result (drop i items) (drop (suc i) items) c.in_ok-rule.field-0 _ next c.in-Refused.is c.in_ok-behind.ensures.grows c.in_ok-rule.ensures.grows c.loop-item.invariant.stack c.loop-item.invariant.frame c.in_ok-behind.ensures.made (subst (λ (x : Subject). IsWalkOfOne x c.frame_behind.new.self.marks c.walk_one.new.self.marks (what_item c.item-item.result.what) (record { place = c.item-item.result.place; nested = c.args.step.nested; base = c.loop-item.base; stack = c.loop-item.stack; frame = c.loop-item.frame; left = c.loop-item.left; alone = c.args.step.alone }) c.in_ok-rule.field-0) (c.in_ok-behind.ensures.subject ∙ c.loop-item.invariant.same) c.in_ok-rule.ensures.walks) c.in_ok-rule.ensures.below (c.loop-item.invariant.onward O at here u f stands opens l))
+    sym (behind_from c.args.self.now.subject O c.args.step.alone here u f c.args.step.nested (base_seen O.naming c.args.step.base) (stack_of O.naming c.args.self.now.marks c.args.step.stack) c.args.step.left c.loop-item.self.marks c.frame_behind.new.self.marks c.walk_one.new.self.marks c.loop-item.base c.loop-item.stack c.loop-item.frame c.in_ok-behind.behind c.loop-item.left c.item-item.result (drop i items) (drop (suc i) items) c.in_ok-broken.field-0 _ next c.in-Refused.is c.in_ok-behind.ensures.grows c.in_ok-broken.ensures.grows c.loop-item.invariant.stack c.loop-item.invariant.frame c.in_ok-behind.ensures.made (subst (λ (x : Subject). IsWalkOfOne x c.frame_behind.new.self.marks c.walk_one.new.self.marks (what_item c.item-item.result.what) (record { place = c.item-item.result.place; nested = c.args.step.nested; base = c.loop-item.base; stack = c.loop-item.stack; frame = c.loop-item.frame; left = c.loop-item.left; alone = c.args.step.alone }) c.in_ok-broken.field-0) (c.in_ok-behind.ensures.subject ∙ c.loop-item.invariant.same) c.in_ok-broken.ensures.walks) c.in_ok-broken.ensures.below (c.loop-item.invariant.onward O at here u f stands opens l))
 
 pub walk_phrase-returns-in-Found-Dead-default-clause-walks : goal.walk_phrase-returns-in-Found-Dead-default-clause-walks
 walk_phrase-returns-in-Found-Dead-default-clause-walks t c = λ O at here u f stands opens l.
     let items = c.deref-item-items.result.now in
     let i = c.loop-item.item-index in
     let next : drop i items ≡ c.item-item.result ∷ drop (suc i) items = drop-cons items i c.item-item.result c.loop-item-test.true ∙ ap (λ (x : PlacedItem). x ∷ drop (suc i) items) (sym c.item-item.is) in
-    sym (behind_from c.args.self.now.subject O c.args.step.alone here u f c.args.step.nested (base_seen O.naming c.args.step.base) (stack_of O.naming c.args.self.now.marks c.args.step.stack) c.args.step.left c.loop-item.self.marks c.frame_behind.new.self.marks c.walk_one.new.self.marks c.loop-item.base c.loop-item.stack c.loop-item.frame c.in_ok-behind.behind c.loop-item.left c.item-item.result (drop i items) (drop (suc i) items) c.in_ok-rule.field-0 _ next (c.in-Found-Dead-default.is ∙ ap (λ A. Found A c.in-Found-Dead-default.rest) c.in-Found-Dead-default.field-0-is) c.in_ok-behind.ensures.grows c.in_ok-rule.ensures.grows c.loop-item.invariant.stack c.loop-item.invariant.frame c.in_ok-behind.ensures.made (subst (λ (x : Subject). IsWalkOfOne x c.frame_behind.new.self.marks c.walk_one.new.self.marks (what_item c.item-item.result.what) (record { place = c.item-item.result.place; nested = c.args.step.nested; base = c.loop-item.base; stack = c.loop-item.stack; frame = c.loop-item.frame; left = c.loop-item.left; alone = c.args.step.alone }) c.in_ok-rule.field-0) (c.in_ok-behind.ensures.subject ∙ c.loop-item.invariant.same) c.in_ok-rule.ensures.walks) c.in_ok-rule.ensures.below (c.loop-item.invariant.onward O at here u f stands opens l))
+    sym (behind_from c.args.self.now.subject O c.args.step.alone here u f c.args.step.nested (base_seen O.naming c.args.step.base) (stack_of O.naming c.args.self.now.marks c.args.step.stack) c.args.step.left c.loop-item.self.marks c.frame_behind.new.self.marks c.walk_one.new.self.marks c.loop-item.base c.loop-item.stack c.loop-item.frame c.in_ok-behind.behind c.loop-item.left c.item-item.result (drop i items) (drop (suc i) items) c.in_ok-broken.field-0 _ next (c.in-Found-Dead-default.is ∙ ap (λ A. Found A c.in-Found-Dead-default.rest) c.in-Found-Dead-default.field-0-is) c.in_ok-behind.ensures.grows c.in_ok-broken.ensures.grows c.loop-item.invariant.stack c.loop-item.invariant.frame c.in_ok-behind.ensures.made (subst (λ (x : Subject). IsWalkOfOne x c.frame_behind.new.self.marks c.walk_one.new.self.marks (what_item c.item-item.result.what) (record { place = c.item-item.result.place; nested = c.args.step.nested; base = c.loop-item.base; stack = c.loop-item.stack; frame = c.loop-item.frame; left = c.loop-item.left; alone = c.args.step.alone }) c.in_ok-broken.field-0) (c.in_ok-behind.ensures.subject ∙ c.loop-item.invariant.same) c.in_ok-broken.ensures.walks) c.in_ok-broken.ensures.below (c.loop-item.invariant.onward O at here u f stands opens l))
 
 pub walk_phrase-loop-item-preserved : goal.walk_phrase-loop-item-preserved
 walk_phrase-loop-item-preserved t c =
@@ -237,23 +237,23 @@ walk_phrase-loop-item-preserved t c =
     let is = c.in-Found-On-default.is ∙ ap (λ A. Found A c.in-Found-On-default.rest) c.in-Found-On-default.field-0-is in
     let next : drop i items ≡ c.item-item.result ∷ drop (i + 1) items = rw add-one (drop-cons items i c.item-item.result c.loop-item-test.true ∙ ap (λ (x : PlacedItem). x ∷ drop (suc i) items) (sym c.item-item.is)) in
     record {
-      same = c.in_ok-rule.ensures.subject ∙ c.in_ok-behind.ensures.subject ∙ c.loop-item.invariant.same;
-      grows = grows_trans _ _ _ c.loop-item.invariant.grows (grows_trans _ _ _ c.in_ok-behind.ensures.grows c.in_ok-rule.ensures.grows);
-      stack = subst (IsWalked c.walk_one.new.self.marks) is c.in_ok-rule.ensures.there;
-      frame = c.in_ok-rule.ensures.grows.frames c.in_ok-behind.behind c.in_ok-behind.ensures.made.valid;
-      within = omega (arith, c.loop-item.invariant.within, subst (IsBelow c.loop-item.left) is c.in_ok-rule.ensures.below);
+      same = c.in_ok-broken.ensures.subject ∙ c.in_ok-behind.ensures.subject ∙ c.loop-item.invariant.same;
+      grows = grows_trans _ _ _ c.loop-item.invariant.grows (grows_trans _ _ _ c.in_ok-behind.ensures.grows c.in_ok-broken.ensures.grows);
+      stack = subst (IsWalked c.walk_one.new.self.marks) is c.in_ok-broken.ensures.there;
+      frame = c.in_ok-broken.ensures.grows.frames c.in_ok-behind.behind c.in_ok-behind.ensures.made.valid;
+      within = omega (arith, c.loop-item.invariant.within, subst (IsBelow c.loop-item.left) is c.in_ok-broken.ensures.below);
       taken = others_taken c.args.self.now.subject.closed.now.program.top (length c.args.self.now.subject.closed.now.templates) c.item-item.result (drop (i + 1) items) (subst (λ (q : List PlacedItem). takes_phrase c.args.self.now.subject.closed.now.program.top (length c.args.self.now.subject.closed.now.templates) (items_phrase q) ≡ true) next c.loop-item.invariant.taken);
       onward = λ O at here u f stands opens l.
-          behind_from c.args.self.now.subject O c.args.step.alone here u f c.args.step.nested (base_seen O.naming c.args.step.base) (stack_of O.naming c.args.self.now.marks c.args.step.stack) c.args.step.left c.loop-item.self.marks c.frame_behind.new.self.marks c.walk_one.new.self.marks c.loop-item.base c.loop-item.stack c.loop-item.frame c.in_ok-behind.behind c.loop-item.left c.item-item.result (drop i items) (drop (i + 1) items) c.in_ok-rule.field-0 _ next is c.in_ok-behind.ensures.grows c.in_ok-rule.ensures.grows c.loop-item.invariant.stack c.loop-item.invariant.frame c.in_ok-behind.ensures.made (subst (λ (x : Subject). IsWalkOfOne x c.frame_behind.new.self.marks c.walk_one.new.self.marks (what_item c.item-item.result.what) (record { place = c.item-item.result.place; nested = c.args.step.nested; base = c.loop-item.base; stack = c.loop-item.stack; frame = c.loop-item.frame; left = c.loop-item.left; alone = c.args.step.alone }) c.in_ok-rule.field-0) (c.in_ok-behind.ensures.subject ∙ c.loop-item.invariant.same) c.in_ok-rule.ensures.walks) c.in_ok-rule.ensures.below (c.loop-item.invariant.onward O at here u f stands opens l);
+          behind_from c.args.self.now.subject O c.args.step.alone here u f c.args.step.nested (base_seen O.naming c.args.step.base) (stack_of O.naming c.args.self.now.marks c.args.step.stack) c.args.step.left c.loop-item.self.marks c.frame_behind.new.self.marks c.walk_one.new.self.marks c.loop-item.base c.loop-item.stack c.loop-item.frame c.in_ok-behind.behind c.loop-item.left c.item-item.result (drop i items) (drop (i + 1) items) c.in_ok-broken.field-0 _ next is c.in_ok-behind.ensures.grows c.in_ok-broken.ensures.grows c.loop-item.invariant.stack c.loop-item.invariant.frame c.in_ok-behind.ensures.made (subst (λ (x : Subject). IsWalkOfOne x c.frame_behind.new.self.marks c.walk_one.new.self.marks (what_item c.item-item.result.what) (record { place = c.item-item.result.place; nested = c.args.step.nested; base = c.loop-item.base; stack = c.loop-item.stack; frame = c.loop-item.frame; left = c.loop-item.left; alone = c.args.step.alone }) c.in_ok-broken.field-0) (c.in_ok-behind.ensures.subject ∙ c.loop-item.invariant.same) c.in_ok-broken.ensures.walks) c.in_ok-broken.ensures.below (c.loop-item.invariant.onward O at here u f stands opens l);
     }
 
 pub walk_fork-returns-in-Refused-2-clause-walks : goal.walk_fork-returns-in-Refused-2-clause-walks
 walk_fork-returns-in-Refused-2-clause-walks t c = λ O f l.
     let s = c.args.step in
-    let within = subst (IsWithin s.left) c.in-Found.is c.in_ok-rule.ensures.within in
-    let same = c.in_ok-rule.ensures.subject in
+    let within = subst (IsWithin s.left) c.in-Found.is c.in_ok-broken.ensures.within in
+    let same = c.in_ok-broken.ensures.subject in
     let K = c.walk_mark-in-Found.new.self.marks in
-    forked O (go_at O f) c.args.self.now.marks c.walk_mark.new.self.marks K s c.args.first c.args.second _ _ c.in-Found.upper c.in-Found.rest _ c.in_ok-rule.ensures.grows c.requires.second c.requires.stack c.in-Found.is (c.in_ok-rule.ensures.walks O f l) (c.in_ok-rule-in-Found.ensures.walks (carried same O) f (omega (arith, within, l)))
+    forked O (go_at O f) c.args.self.now.marks c.walk_mark.new.self.marks K s c.args.first c.args.second _ _ c.in-Found.upper c.in-Found.rest _ c.in_ok-broken.ensures.grows c.requires.second c.requires.stack c.in-Found.is (c.in_ok-broken.ensures.walks O f l) (c.in_ok-broken-in-Found.ensures.walks (carried same O) f (omega (arith, within, l)))
     (ap (λ w. and_then (walked_seen O.naming K w) (λ B j. join (reached_seen O.naming c.walk_mark.new.self.marks c.in-Found.upper) B s.place j)) (sym c.in-Refused-2.is))
 
 pub walk_fork-returns-in-Found-2-clause-walks : goal.walk_fork-returns-in-Found-2-clause-walks
@@ -261,13 +261,13 @@ walk_fork-returns-in-Found-2-clause-walks t c =
     let s = c.args.step in
     let L = c.walk_mark.new.self.marks in
     let K = c.walk_mark-in-Found.new.self.marks in
-    let within = subst (IsWithin s.left) c.in-Found.is c.in_ok-rule.ensures.within in
-    let there = subst (IsWalked L) c.in-Found.is c.in_ok-rule.ensures.there in
-    let same = c.in_ok-rule.ensures.subject in
+    let within = subst (IsWithin s.left) c.in-Found.is c.in_ok-broken.ensures.within in
+    let there = subst (IsWalked L) c.in-Found.is c.in_ok-broken.ensures.there in
+    let same = c.in_ok-broken.ensures.subject in
     ok_maps c.joined.result
     (λ r joins O f l.
-    forked O (go_at O f) c.args.self.now.marks L K s c.args.first c.args.second _ _ c.in-Found.upper c.in-Found.rest _ c.in_ok-rule.ensures.grows c.requires.second c.requires.stack c.in-Found.is (c.in_ok-rule.ensures.walks O f l) (c.in_ok-rule-in-Found.ensures.walks (carried same O) f (omega (arith, within, l)))
-    (joins O.naming ∙ ap (λ A. join A (reached_seen O.naming K c.in-Found-2.lower) s.place c.in-Found-2.rest) (reached_stays O.naming L K c.in-Found.upper c.in_ok-rule-in-Found.ensures.grows there) ∙ ap (λ w. and_then (walked_seen O.naming K w) (λ B j. join (reached_seen O.naming L c.in-Found.upper) B s.place j)) (sym c.in-Found-2.is)))
+    forked O (go_at O f) c.args.self.now.marks L K s c.args.first c.args.second _ _ c.in-Found.upper c.in-Found.rest _ c.in_ok-broken.ensures.grows c.requires.second c.requires.stack c.in-Found.is (c.in_ok-broken.ensures.walks O f l) (c.in_ok-broken-in-Found.ensures.walks (carried same O) f (omega (arith, within, l)))
+    (joins O.naming ∙ ap (λ A. join A (reached_seen O.naming K c.in-Found-2.lower) s.place c.in-Found-2.rest) (reached_stays O.naming L K c.in-Found.upper c.in_ok-broken-in-Found.ensures.grows there) ∙ ap (λ w. and_then (walked_seen O.naming K w) (λ B j. join (reached_seen O.naming L c.in-Found.upper) B s.place j)) (sym c.in-Found-2.is)))
     c.joined.ensures.joins
 
 pub walk_effect-walk_inputs-requires : goal.walk_effect-walk_inputs-requires
@@ -284,13 +284,13 @@ walk_use-walk_effect-requires t c =
     (omega (arith, c.decreases), (inputs_below C.program.top (length C.templates) c.in-Some.found.now (word_taken C.program C.templates c.args.self.now.taken c.args.word c.in-Some.found.now (sym c.in-Some.ensures)), (c.requires.inputs, c.requires.stack)))
 
 pub walk_quotation-bind-requires-clause-there : goal.walk_quotation-bind-requires-clause-there
-walk_quotation-bind-requires-clause-there t c = binding_later _ _ c.args.binding.now (grows_trans _ _ _ c.in_ok-start.ensures.grows c.in_ok-rule-in-Some.ensures.grows) c.requires.binding
+walk_quotation-bind-requires-clause-there t c = binding_later _ _ c.args.binding.now (grows_trans _ _ _ c.in_ok-start.ensures.grows c.in_ok-broken-in-Some.ensures.grows) c.requires.binding
 
 pub walk_quotation-returns-in-Refused-clause-walks : goal.walk_quotation-returns-in-Refused-clause-walks
 walk_quotation-returns-in-Refused-clause-walks t c = λ O f more l.
     let M = c.args.self.now.marks in
     let starts = subst (IsStart M c.start.new.marks c.args.binding.now c.args.effect.now) c.in-Some.is c.in_ok-start.ensures.starts in
-    quotation_refused O (go_at O f) M c.start.new.marks c.walk_from.new.self.marks c.args.step c.args.number c.args.effect.now c.args.mark c.args.binding.now more c.in-Some.start c.in_ok-start.ensures.grows c.requires.mark starts _ (c.in_ok-rule-in-Some.ensures.walks O f l) c.in-Refused.rule c.in-Refused.place c.in-Refused.is
+    quotation_refused O (go_at O f) M c.start.new.marks c.walk_from.new.self.marks c.args.step c.args.number c.args.effect.now c.args.mark c.args.binding.now more c.in-Some.start c.in_ok-start.ensures.grows c.requires.mark starts _ (c.in_ok-broken-in-Some.ensures.walks O f l) c.in-Refused.broken c.in-Refused.is
 
 pub walk_quotation-returns-in-None-2-clause-walks : goal.walk_quotation-returns-in-None-2-clause-walks
 walk_quotation-returns-in-None-2-clause-walks t c = λ O f more l.
@@ -298,7 +298,7 @@ walk_quotation-returns-in-None-2-clause-walks t c = λ O f more l.
     let K = c.walk_from.new.self.marks in
     let starts = subst (IsStart M c.start.new.marks c.args.binding.now c.args.effect.now) c.in-Some.is c.in_ok-start.ensures.starts in
     let ties = subst (IsTie K c.args.number c.args.effect.now c.in-Found.reached c.args.binding.now c.bind.new.self) c.in-None-2.is c.in_ok-bind-in-Found.ensures.ties in
-    quotation_tied O (go_at O f) M c.start.new.marks K c.args.step c.args.number c.args.effect.now c.args.mark c.args.binding.now more c.in-Some.start c.in_ok-start.ensures.grows c.requires.mark starts _ (c.in_ok-rule-in-Some.ensures.walks O f l) c.in-Found.reached c.in-Found.left c.in-Found.is (grows_trans _ _ _ c.in_ok-start.ensures.grows c.in_ok-rule-in-Some.ensures.grows) c.requires.binding c.bind.new.self ties
+    quotation_tied O (go_at O f) M c.start.new.marks K c.args.step c.args.number c.args.effect.now c.args.mark c.args.binding.now more c.in-Some.start c.in_ok-start.ensures.grows c.requires.mark starts _ (c.in_ok-broken-in-Some.ensures.walks O f l) c.in-Found.reached c.in-Found.left c.in-Found.is (grows_trans _ _ _ c.in_ok-start.ensures.grows c.in_ok-broken-in-Some.ensures.grows) c.requires.binding c.bind.new.self ties
 
 pub walk_quotation-returns-in-Some-2-clause-walks : goal.walk_quotation-returns-in-Some-2-clause-walks
 walk_quotation-returns-in-Some-2-clause-walks t c = λ O f more l.
@@ -306,10 +306,10 @@ walk_quotation-returns-in-Some-2-clause-walks t c = λ O f more l.
     let K = c.walk_from.new.self.marks in
     let starts = subst (IsStart M c.start.new.marks c.args.binding.now c.args.effect.now) c.in-Some.is c.in_ok-start.ensures.starts in
     let ties = subst (IsTie K c.args.number c.args.effect.now c.in-Found.reached c.args.binding.now c.bind.new.self) c.in-Some-2.is c.in_ok-bind-in-Found.ensures.ties in
-    quotation_untied O (go_at O f) M c.start.new.marks K c.args.step c.args.number c.args.effect.now c.args.mark c.args.binding.now more c.in-Some.start c.in_ok-start.ensures.grows c.requires.mark starts _ (c.in_ok-rule-in-Some.ensures.walks O f l) c.in-Found.reached c.in-Found.left c.in-Found.is (grows_trans _ _ _ c.in_ok-start.ensures.grows c.in_ok-rule-in-Some.ensures.grows) c.requires.binding c.bind.new.self c.in-Some-2.rule ties
+    quotation_untied O (go_at O f) M c.start.new.marks K c.args.step c.args.number c.args.effect.now c.args.mark c.args.binding.now more c.in-Some.start c.in_ok-start.ensures.grows c.requires.mark starts _ (c.in_ok-broken-in-Some.ensures.walks O f l) c.in-Found.reached c.in-Found.left c.in-Found.is (grows_trans _ _ _ c.in_ok-start.ensures.grows c.in_ok-broken-in-Some.ensures.grows) c.requires.binding c.bind.new.self c.in-Some-2.rule ties
 
-pub walk_inputs-returns-in-Broken-clause-walks : goal.walk_inputs-returns-in-Broken-clause-walks
-walk_inputs-returns-in-Broken-clause-walks t c = λ O f l.
+pub walk_inputs-returns-in-Unbound-clause-walks : goal.walk_inputs-returns-in-Unbound-clause-walks
+walk_inputs-returns-in-Unbound-clause-walks t c = λ O f l.
     let M = c.loop-input.self.marks in
     let K = c.walk_input.new.self.marks in
     let list = c.args.list.now in
@@ -317,18 +317,18 @@ walk_inputs-returns-in-Broken-clause-walks t c = λ O f l.
     let step : Step = record { place = c.args.step.place; nested = c.args.step.nested; base = c.args.step.base; stack = c.args.step.stack; frame = c.args.step.frame; left = c.loop-input.left; alone = c.args.step.alone } in
     let next : drop i list ≡ c.input-item.result ∷ drop (suc i) list = drop-cons list i c.input-item.result c.loop-input-test.true ∙ ap (λ (x : Input). x ∷ drop (suc i) list) (sym c.input-item.is) in
     let number : c.loop-input.number + 1 ≡ suc i = omega (arith, c.loop-input.invariant.number) in
-    inputs_next O (go_at O f) M K step (suc i) (c.loop-input.number + 1) c.input-item.result (drop i list) (drop (suc i) list) c.loop-input.marks c.in-Some.mark c.in-Some.rest c.loop-input.binding c.walk_input.new.binding _ _ next c.in-Some.ensures number c.in-Broken.is (λ more. c.in_ok-rule.ensures.walks (carried c.loop-input.invariant.same O) f more (omega (arith, c.loop-input.invariant.within, l)))
+    inputs_next O (go_at O f) M K step (suc i) (c.loop-input.number + 1) c.input-item.result (drop i list) (drop (suc i) list) c.loop-input.marks c.in-Some.mark c.in-Some.rest c.loop-input.binding c.walk_input.new.binding _ _ next c.in-Some.ensures number c.in-Unbound.is (λ more. c.in_ok-broken.ensures.walks (carried c.loop-input.invariant.same O) f more (omega (arith, c.loop-input.invariant.within, l)))
     ∙ sym (c.loop-input.invariant.onward O f l)
 
 pub walk_inputs-loop-input-preserved : goal.walk_inputs-loop-input-preserved
 walk_inputs-loop-input-preserved t c =
     let top = c.in-Some.ensures in
     record {
-      same = c.in_ok-rule.ensures.subject ∙ c.loop-input.invariant.same;
-      grows = grows_trans _ _ _ c.loop-input.invariant.grows c.in_ok-rule.ensures.grows;
-      marks = c.in_ok-rule.ensures.grows.stacks c.in-Some.rest top.rest;
-      binding = subst (AreBound c.walk_input.new.self.marks c.walk_input.new.binding) c.in-Bound.is c.in_ok-rule.ensures.there;
-      within = omega (arith, c.loop-input.invariant.within, subst (AreWithin c.loop-input.left) c.in-Bound.is c.in_ok-rule.ensures.within);
+      same = c.in_ok-broken.ensures.subject ∙ c.loop-input.invariant.same;
+      grows = grows_trans _ _ _ c.loop-input.invariant.grows c.in_ok-broken.ensures.grows;
+      marks = c.in_ok-broken.ensures.grows.stacks c.in-Some.rest top.rest;
+      binding = subst (AreBound c.walk_input.new.self.marks c.walk_input.new.binding) c.in-Bound.is c.in_ok-broken.ensures.there;
+      within = omega (arith, c.loop-input.invariant.within, subst (AreWithin c.loop-input.left) c.in-Bound.is c.in_ok-broken.ensures.within);
       number = ap (λ n. n + 1) c.loop-input.invariant.number;
       onward = λ O f l.
           let M = c.loop-input.self.marks in
@@ -340,8 +340,8 @@ walk_inputs-loop-input-preserved t c =
           let one : suc i ≡ i + 1 = omega arith in
           c.loop-input.invariant.onward O f l
           ∙ ap (λ k. walk_inputs O.effect (go_at O f) k (inputs_tree (drop i list)) (stack_of O.naming M c.loop-input.marks) c.args.step.place c.args.step.nested (binding_seen O.naming M c.loop-input.binding) c.loop-input.left) one
-          ∙ sym (inputs_next O (go_at O f) M K step (i + 1) (c.loop-input.number + 1) c.input-item.result (drop i list) (drop (i + 1) list) c.loop-input.marks c.in-Some.mark c.in-Some.rest c.loop-input.binding c.walk_input.new.binding _ _ next top (ap (λ n. n + 1) c.loop-input.invariant.number) c.in-Bound.is (λ more. c.in_ok-rule.ensures.walks (carried c.loop-input.invariant.same O) f more (omega (arith, c.loop-input.invariant.within, l))))
-          ∙ ap (λ ms. walk_inputs O.effect (go_at O f) (suc (i + 1)) (inputs_tree (drop (i + 1) list)) ms c.args.step.place c.args.step.nested (binding_seen O.naming K c.walk_input.new.binding) c.in-Bound.kept) (sym (c.in_ok-rule.ensures.grows.same_stack O.naming c.in-Some.rest top.rest));
+          ∙ sym (inputs_next O (go_at O f) M K step (i + 1) (c.loop-input.number + 1) c.input-item.result (drop i list) (drop (i + 1) list) c.loop-input.marks c.in-Some.mark c.in-Some.rest c.loop-input.binding c.walk_input.new.binding _ _ next top (ap (λ n. n + 1) c.loop-input.invariant.number) c.in-Bound.is (λ more. c.in_ok-broken.ensures.walks (carried c.loop-input.invariant.same O) f more (omega (arith, c.loop-input.invariant.within, l))))
+          ∙ ap (λ ms. walk_inputs O.effect (go_at O f) (suc (i + 1)) (inputs_tree (drop (i + 1) list)) ms c.args.step.place c.args.step.nested (binding_seen O.naming K c.walk_input.new.binding) c.in-Bound.kept) (sym (c.in_ok-broken.ensures.grows.same_stack O.naming c.in-Some.rest top.rest));
     }
 
 pub walk_counted-returns-in-Uses-clause-walks : goal.walk_counted-returns-in-Uses-clause-walks

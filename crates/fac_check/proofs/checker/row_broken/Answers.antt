@@ -7,7 +7,7 @@ use Rattle.fac_locals.specs.Literals.{first_of_word}
 use Rattle.fac_check.proofs.NamedLiterals.{words_named}
 use Rattle.fac_check.proofs.LiteralsShow.{shows_cells}
 use Rattle.fac_check.proofs.VerdictLemmas.{WalksWhole, row_is}
-use Rattle.fac_check.proofs.checker.row_breach.Goals as goal
+use Rattle.fac_check.proofs.checker.row_broken.Goals as goal
 
 pub walk_phrase-requires-clause-taken : goal.walk_phrase-requires-clause-taken
 walk_phrase-requires-clause-taken c = subst (λ (s : Subject). takes_phrase s.closed.now.program.top (length s.closed.now.templates) c.args.phrase.now ≡ true) (sym c.in_ok-walker.ensures.subject) c.requires.phrase
