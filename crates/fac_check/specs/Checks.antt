@@ -6,8 +6,6 @@ use Rattle.fac_check.specs.Promises.{IsSafe}
 use Rattle.fac_check.specs.Judged.{OfEach, IsAccepted, refusal_seen}
 use Rattle.fac_check.specs.declared.accepted.Checked.{Checked}
 use Rattle.fac_check.specs.declared.refusal.Refusal.{Refusal}
-use Rattle.fac_check.specs.declared.refusal.CheckFault.{CheckFault}
-use Rattle.fac_check.specs.declared.refusal.CheckFault.TheVariants.{Refused, Memory}
 
 -- each whole program for which this stands is safe, with its top-level phrase on as many values as this starts on
 abbrev pub IsKept : Closed → Type 0
@@ -17,9 +15,3 @@ IsKept closed = OfEach closed (λ P. IsSafe P closed.start)
 abbrev pub Gathers : Closed → Result Checked Refusal → Type 0
 Gathers closed (Ok checked) = (checked.closed ≡ closed) × IsAccepted closed × IsKept closed
 Gathers closed (Err refusal) = OfEach closed (λ P. verdict P closed.start ≡ Some (refusal_seen refusal))
-
--- likewise, or want of memory
-abbrev pub Checks : Closed → Result Checked CheckFault → Type 0
-Checks closed (Ok checked) = (checked.closed ≡ closed) × IsAccepted closed × IsKept closed
-Checks closed (Err (Refused refusal)) = OfEach closed (λ P. verdict P closed.start ≡ Some (refusal_seen refusal))
-Checks closed (Err Memory) = Unit {0}

@@ -1,12 +1,12 @@
 //! The verdict on a program.
 ghost use Rattle.std.specs.Prelude.{◌≡◌, ◌<◌, length, map, slice_get, Some, IfOk};
 ghost use Rattle.fac_check.specs.Judged.{StandsForWhole, AreUndeclared, AreVerdicts, IsVerdict, IsAccepted, verdict_seen, refusal_if, first_of};
-ghost use Rattle.fac_check.specs.Checks.{IsKept, Checks, Gathers};
+ghost use Rattle.fac_check.specs.Checks.{IsKept, Gathers};
 
 use crate::Checked;
 use crate::checker::{Verdict, word_broken};
 use crate::recursion::undeclared_words;
-use crate::refusal::{CheckFault, Refusal};
+use crate::refusal::Refusal;
 use fac_lang::{List, Memory};
 use fac_locals::Closed;
 use std::alloc::Global;
@@ -87,7 +87,11 @@ pub fn accept(closed: Closed) -> Checked
     Checked { closed }
 }
 
-/// Accepts a program, or names its first refused word, by the verdicts on its words in their order.
+/// Accepts a program, or names its first refused word with the first place and rule that it breaks, by the verdicts on its words in their
+/// order. An item that takes more values than are there is refused before anything runs, and so is a word that leaves another number of
+/// values than its effect declares, as in the Factor Handbook's chapter on stack effect checking; the rules of callables, how row variables
+/// are bound, and which word and place is named first, are this profile's own. What is accepted is safe, as at `accept`, with row words and
+/// without.
 pub fn gather(closed: Closed, verdicts: &List<Verdict>) -> Result<Checked, Refusal>
     requires stands { StandsForWhole closed }
     requires verdicts { AreVerdicts closed verdicts.now }
@@ -96,20 +100,5 @@ pub fn gather(closed: Closed, verdicts: &List<Verdict>) -> Result<Checked, Refus
     match first_refused(verdicts) {
         Some(refusal) => Err(refusal),
         None => Ok(accept(closed)),
-    }
-}
-
-/// Accepts a program, or names its first refused word with the first place and rule that it breaks. An item that takes more values than
-/// are there is refused before anything runs, and so is a word that leaves another number of values than its effect declares, as in the
-/// Factor Handbook's chapter on stack effect checking; the rules of callables, how row variables are bound, and which word and place is
-/// named first, are this profile's own. What is accepted is safe, as at `accept`, with row words and without.
-pub fn check(alloc: Global, closed: Closed) -> Result<Checked, CheckFault>
-    requires { StandsForWhole closed }
-    ensures { Checks closed result }
-{
-    let verdicts = check_words(alloc, &closed)?;
-    match gather(closed, &verdicts) {
-        Ok(checked) => Ok(checked),
-        Err(refusal) => Err(CheckFault::Refused(refusal)),
     }
 }

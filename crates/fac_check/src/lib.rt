@@ -16,11 +16,11 @@ mod walker;
 pub use accepted::Checked;
 pub use checker::Verdict;
 pub use fac_abs::Rule;
-pub use judge::{accept, check, check_word, check_words, first_refused, gather};
+pub use judge::{accept, check_word, check_words, first_refused, gather};
 pub use laws::{
     accepted_programs_are_safe, first_refusal_is_verdict, marks_below_stay,
     safe_programs_are_not_stuck,
 };
 pub use recursion::undeclared_words;
-pub use refusal::{Broken, CheckFault, Refusal};
+pub use refusal::{Broken, Refusal};
 pub use template_walk::walk_template;

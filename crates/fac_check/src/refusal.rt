@@ -1,7 +1,6 @@
 //! Broken rules and refusals.
 use fac_abs::Rule;
-use fac_lang::{Memory, Place};
-use thiserror::Error;
+use fac_lang::Place;
 
 /// A broken rule, and where.
 #[derive(Clone, Copy, Debug, PartialEq, Eq)]
@@ -19,26 +18,4 @@ pub struct Refusal {
     pub word: u32,
     /// The rule, and where.
     pub broken: Broken,
-}
-
-/// Why a program is not accepted.
-#[derive(Debug, Drop, Error)]
-pub enum CheckFault {
-    /// The program breaks a rule.
-    #[error("the program is refused")]
-    Refused(Refusal),
-    /// A growth was refused.
-    #[error("out of memory")]
-    Memory,
-}
-
-impl From<Memory> for CheckFault {
-    ghost use Rattle.std.specs.Prelude.{◌≡◌};
-    ghost use Rattle.fac_check.specs.declared.refusal.CheckFault.TheVariants.{Memory};
-
-    ghost from_gives = { λ _ fault. fault ≡ Memory };
-
-    fn from(_: Memory) -> Self {
-        CheckFault::Memory
-    }
 }
