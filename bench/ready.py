@@ -1,10 +1,12 @@
 #!/usr/bin/env python3
-"""Lists in seconds what the gate would refuse before any proof, and what it shouldn't be given:
+"""Lists in a minute what the gate would refuse before any proof, and what it shouldn't be given:
 
 - crates whose files aren't in the layout of `rt fmt`;
 - edits that can't be applied, since an old text doesn't stand exactly once in its file or since no file is there, both of those that
   the gate tries and of those of bench/edits/;
-- more edits for the gate, or in more crates, than docs/PROVING.md grants it.
+- more edits for the gate, or in more crates, than docs/PROVING.md grants it;
+- documents that don't fit the repository: docs/MAP.md and docs/WORDS.md aren't what their scripts write, a row of docs/ARCHITECTURE.md
+  misses a file, a line is longer than 160 characters.
 
 Ends with status 1 where there is any.
 
@@ -20,6 +22,9 @@ from edits import ROOT, by_hand, crates, fault_of, of_gate
 
 # The gate tries at most so many edits, in at most so many crates.
 MOST_EDITS, MOST_CRATES = 40, 12
+
+# A line of a document has at most so many characters.
+MOST_CHARACTERS = 160
 
 
 def out_of_layout(crate, room):
@@ -38,9 +43,23 @@ def too_many():
     return [f"the gate has {much} {of}, and at most {most} are granted" for much, most, of in found if much > most]
 
 
+def documents():
+    """What the documents have wrong."""
+    faults = []
+    for script in (["map.py", "--check"], ["words.py", "--check"], ["rows.py"]):
+        ran = subprocess.run([sys.executable, str(ROOT / "bench" / script[0]), *script[1:]], capture_output=True, text=True, errors="replace")
+        if ran.returncode:
+            said = (ran.stdout + ran.stderr).strip().split("\n")
+            faults += [f"bench/{' '.join(script)}: {it}" for it in said]
+    for page in [ROOT / "README.md", *sorted((ROOT / "docs").glob("*.md")), *sorted((ROOT / "examples").glob("*.md"))]:
+        lines = page.read_text(encoding="utf-8").split("\n")
+        faults += [f"{page.relative_to(ROOT)}:{at}: {len(it)} characters" for at, it in enumerate(lines, 1) if len(it) > MOST_CHARACTERS]
+    return faults
+
+
 def main():
     """Looks at all of it."""
-    faults = too_many()
+    faults = too_many() + documents()
     strangers = [it for it in sorted((ROOT / "bench/edits").iterdir()) if it.name not in crates()]
     faults += [f"{it.relative_to(ROOT)}: there is no such crate" for it in strangers]
     with tempfile.TemporaryDirectory() as room:
