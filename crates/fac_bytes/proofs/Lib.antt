@@ -10,4 +10,3 @@ pub mod PlainLaws
 pub mod DecodingLaws
 pub mod MethodLoops
 mod Examples
-pub mod ExamplesOfListings

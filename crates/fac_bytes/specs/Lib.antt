@@ -4,4 +4,3 @@ pub mod GenericBytes
 pub mod ImageBytes
 pub mod Answers
 pub mod Laws
-pub mod Listings

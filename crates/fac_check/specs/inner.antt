@@ -7,4 +7,3 @@ pub mod Walking
 pub mod UndeclaredRecursion
 pub mod Alone
 pub mod BrokenRules
-pub mod Searching

@@ -1,6 +1,6 @@
 //! Broken rules and refusals.
 use fac_abs::Rule;
-use fac_base::Place;
+use fac_lang::Place;
 
 /// A broken rule, and where.
 #[derive(Clone, Copy, Debug, PartialEq, Eq)]

@@ -9,8 +9,7 @@ ghost use Rattle.fac_classes.specs.inner.Visits.{IsOrder};
 use crate::cells::join;
 use crate::shapes::members_of;
 use crate::visits::class_order;
-use fac_base::Memory;
-use fac_lang::ClassDef;
+use fac_lang::{ClassDef, Memory};
 use std::alloc::Global;
 
 // Whether the row of a member was last joined to that of this union.

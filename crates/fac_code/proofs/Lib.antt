@@ -1,4 +1,3 @@
 pub mod ExamplesOfReferences
 pub mod ExamplesOfNames
-pub mod InstrRowLemmas
 mod LookupLemmas

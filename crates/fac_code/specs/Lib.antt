@@ -1,5 +1,3 @@
-pub mod InstrRows
-pub mod TrapTexts
 pub mod Code
 pub mod References
 pub mod Images

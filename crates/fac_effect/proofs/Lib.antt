@@ -1,4 +1,4 @@
-pub mod ReservedLemmas
+pub mod BoundRowLemmas
 pub mod SpellingLemmas
 pub mod EffectRuns
 pub mod EffectsReadBack

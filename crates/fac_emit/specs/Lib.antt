@@ -1,7 +1,14 @@
-pub mod CarriedPrograms
+pub mod MachineView
+pub mod Carries
+pub mod WholeValues
 pub mod Heights
+pub mod Accessors
+pub mod Stands
+pub mod Symbols
+pub mod Expanded
 pub mod ProgramTexts
 pub mod ProgramTables
 pub mod ProgramCode
 pub mod Numbered
+pub mod PrintedForms
 pub mod inner

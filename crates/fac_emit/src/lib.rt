@@ -6,6 +6,7 @@ mod asked;
 mod compiler;
 mod dispatch;
 mod emitter;
+mod laws;
 mod numbers;
 mod rows;
 mod sequence;
@@ -14,3 +15,4 @@ mod texts;
 
 pub use asked::asks_effects;
 pub use compiler::compile;
+pub use laws::printed_forms_are_equal;

@@ -1,4 +1,3 @@
 pub mod Paths
 pub mod Laws
-pub mod Slots
 pub mod inner

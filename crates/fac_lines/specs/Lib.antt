@@ -3,5 +3,4 @@ pub mod LineAnswers
 pub mod MeantLines
 pub mod SeenLines
 pub mod Inputs
-pub mod Channels
 pub mod inner

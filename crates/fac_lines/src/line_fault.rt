@@ -1,7 +1,7 @@
 //! Why there is no line.
 ghost use Rattle.std.specs.Prelude.{◌≡◌};
 
-use fac_base::Memory;
+use fac_lang::Memory;
 use std::alloc::AllocError;
 use thiserror::Error;
 

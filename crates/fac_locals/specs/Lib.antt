@@ -1,6 +1,3 @@
-pub mod Cells
-pub mod Sets
-pub mod Asked
 pub mod Literals
 pub mod Closed
 pub mod Frames

@@ -1,3 +1,4 @@
+pub mod Rows
 pub mod Contexts
 pub mod Trees
 pub mod Handed

@@ -1,4 +1,3 @@
-pub mod BoundRowLemmas
 pub mod BindingLemmas
 mod CallLemmas
 mod TakingLemmas

@@ -1,4 +1,3 @@
-pub mod BoundRows
 pub mod Bounds
 pub mod InputCalls
 pub mod Ties

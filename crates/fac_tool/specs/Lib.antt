@@ -5,9 +5,8 @@ pub mod Sources
 pub mod ToldNotes
 pub mod Ends
 pub mod Saved
-pub mod Loads
+pub mod ImageLoads
 pub mod Executed
-pub mod Plans
 pub mod SavedRuns
 pub mod Answers
 pub mod inner

@@ -4,4 +4,3 @@ pub mod StepEnds
 pub mod FormsTaken
 pub mod ImageSteps
 pub mod ListedStacks
-pub mod Tasks

@@ -7,9 +7,8 @@ ghost use Rattle.fac_tool.specs.inner.ListedStacks.{ListsStack};
 use crate::Ended;
 use crate::ended::bare;
 use crate::telling::tell_by;
-use fac_base::{List, Memory, Text};
 use fac_io::Sink;
-use fac_notes::status::NO_MEMORY;
+use fac_lang::{List, Memory, Text};
 use std::alloc::Global;
 
 // Adds a text as a line.
@@ -41,7 +40,7 @@ pub fn list_stack<K: Sink>(alloc: Global, ended: Ended, out: &mut K) -> Ended
     match &ended.stack {
         None => ended,
         Some(texts) => match lines(alloc, texts) {
-            Err(_) => bare(NO_MEMORY, ticks),
+            Err(_) => bare(12, ticks),
             Ok(lines) => tell_by(lines.as_bytes(), ended, out),
         },
     }

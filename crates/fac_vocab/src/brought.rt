@@ -1,5 +1,5 @@
 //! What forms bring beside used vocabularies.
-use fac_base::Text;
+use fac_lang::Text;
 
 /// What a `FROM:` or a `QUALIFIED-WITH:` brought.
 #[derive(Drop)]

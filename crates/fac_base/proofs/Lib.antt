@@ -1,3 +1,0 @@
-pub mod ExamplesOfNumbers
-pub mod EffectLemmas
-pub mod SameBytes

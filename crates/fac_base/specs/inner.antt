@@ -1,2 +1,0 @@
-pub mod EffectFalls
-pub mod IntegerHalves

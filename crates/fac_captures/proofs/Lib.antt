@@ -1,0 +1,5 @@
+pub mod SetLemmas
+pub mod CellLemmas
+pub mod AskLemmas
+pub mod MethodCells
+pub mod ExamplesOfAsked

@@ -1,4 +1,0 @@
-mod ExamplesOfFrames
-mod ExamplesOfJumps
-mod ExamplesOfWords
-pub mod Leading

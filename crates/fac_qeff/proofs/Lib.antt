@@ -1,0 +1,5 @@
+pub mod FewerInputs
+pub mod LeastHeights
+pub mod SearchLemmas
+pub mod EffectLists
+mod ExamplesOfEffects

@@ -1,0 +1,2 @@
+pub mod TemplateEffects
+pub mod inner

@@ -1,0 +1,3 @@
+pub mod Toks
+pub mod Refusals
+pub mod inner

@@ -1,4 +1,0 @@
-pub mod Toks
-pub mod Refusals
-pub mod inner
-pub mod FormRows
